@@ -1,196 +1,192 @@
-use lagjobs::{explain_digits, explain_script, explain_unread, explain_utf8};
+use lagjobs::{digits_text, script_text, unread_text, utf8_text};
 use lagworld::{EntryFault, ScriptFault};
-use std::alloc::Global;
-use std::cell::RefCell;
-use std::fmt::Display;
-use std::fs::Files;
+use std::alloc::Allocator;
+use std::fs::{File, Files, Metadata, OpenOptions};
 use std::io;
+use std::io::ErrorKind;
 use std::process::Abort;
+use std::test::Fail;
 
-/// A standard error that keeps what it is told, beside memory.
-#[derive(Drop)]
-struct Told {
-    said: RefCell<String>,
-    memory: Global,
-}
+/// Files that all fail with an error of this kind.
+#[derive(Clone, Copy, Drop)]
+struct Failing(ErrorKind);
 
-impl Alloc for Told {
-    type A = Global;
-
-    fn alloc(&self) -> Global {
-        self.memory
+impl Failing {
+    fn error(&self) -> io::Error {
+        io::Error::from(self.0)
     }
 }
 
-impl Eprint for Told {
-    fn eprint<D: Display + Drop>(&self, value: D) -> io::Result<()> {
-        if let Ok(mut said) = self.said.try_borrow_mut() {
-            let _ = write!(*said, "{value}");
-        }
-        Ok(())
+impl Files for Failing {
+    type File = File;
+
+    type Dir = File;
+
+    fn open_file(&self, _how: &OpenOptions, _path: &str) -> io::Result<File> {
+        Err(self.error())
     }
 
-    fn eprintln<D: Display + Drop>(&self, value: D) -> io::Result<()> {
-        self.eprint(value)
+    fn open_dir(&self, _path: &str) -> io::Result<File> {
+        Err(self.error())
     }
-}
 
-fn listening(alloc: Global) -> Told {
-    Told {
-        said: RefCell::new(String::new(alloc)),
-        memory: alloc,
+    fn metadata(&self, _path: &str) -> io::Result<Metadata> {
+        Err(self.error())
     }
-}
 
-/// What was told is this text.
-fn wants(rt: &impl Abort, to: Told, text: &str) {
-    let said = to.said.into_inner();
-    assert_eq!(rt; said.as_str(), text);
+    fn symlink_metadata(&self, _path: &str) -> io::Result<Metadata> {
+        Err(self.error())
+    }
+
+    fn copy(&self, _from: &str, _to: &str) -> io::Result<u64> {
+        Err(self.error())
+    }
+
+    fn rename(&self, _from: &str, _to: &str) -> io::Result<()> {
+        Err(self.error())
+    }
+
+    fn remove_file(&self, _path: &str) -> io::Result<()> {
+        Err(self.error())
+    }
+
+    fn create_dir(&self, _path: &str) -> io::Result<()> {
+        Err(self.error())
+    }
+
+    fn remove_dir(&self, _path: &str) -> io::Result<()> {
+        Err(self.error())
+    }
+
+    fn remove_dir_all<B: Allocator>(&self, _alloc: B, _path: &str) -> io::Result<()> {
+        Err(self.error())
+    }
 }
 
 /// A file that cannot be read is explained so.
-fn unread(rt: &(impl Abort + AllocGlobal + Files), file: &str, text: &str) {
-    let to = listening(rt.alloc());
-    explain_unread(&to, rt, file);
-    wants(rt, to, text);
+fn unread(
+    rt: &(impl Abort + AllocGlobal),
+    files: &impl Files,
+    file: &str,
+    text: &str,
+) -> Result<(), Fail> {
+    let said = unread_text(rt.alloc(), files, file)?;
+    assert_eq!(rt; said.as_str(), text);
+    Ok(())
+}
+
+#[test]
+fn files_that_fail(rt: HostRuntime) -> Result<(), Fail> {
+    for (kind, text) in [
+        (ErrorKind::NotFound, "a b: no such file"),
+        (ErrorKind::PermissionDenied, "a b: permission denied"),
+        (ErrorKind::IsADirectory, "a b: is a folder"),
+    ] {
+        unread(&rt, &Failing(kind), "a b", text)?;
+    }
+    Ok(())
 }
 
 /// A word is explained so, which `wanted` says of its digits.
-fn digits(rt: &(impl Abort + AllocGlobal), (name, wanted): (&str, &str), word: &str, text: &str) {
-    let to = listening(rt.alloc());
-    explain_digits(&to, name, word, wanted);
-    wants(rt, to, text);
+fn digits(
+    rt: &(impl Abort + AllocGlobal),
+    (name, wanted): (&str, &str),
+    word: &str,
+    text: &str,
+) -> Result<(), Fail> {
+    let said = digits_text(rt.alloc(), name, word, wanted)?;
+    assert_eq!(rt; said.as_str(), text);
+    Ok(())
 }
 
 #[test]
-fn files_that_cannot_be_read(rt: HostRuntime) {
+fn files_that_cannot_be_read(rt: HostRuntime) -> Result<(), Fail> {
     for (file, text) in [
-        ("-", "lagtool: standard input: reading failed"),
-        ("/", "lagtool: /: is a folder"),
-        ("/dev/null", "lagtool: /dev/null: reading failed"),
-        ("/no/file", "lagtool: /no/file: no such file"),
+        ("-", "standard input: reading failed"),
+        ("/", "/: is a folder"),
+        ("/dev/null", "/dev/null: reading failed"),
+        ("/no/file", "/no/file: no such file"),
     ] {
-        unread(&rt, file, text);
+        unread(&rt, &rt, file, text)?;
     }
+    Ok(())
 }
 
 #[test]
-fn octets_that_are_not_utf8(rt: HostRuntime) {
-    let rows: [(&str, &[u8], usize, &str); 5] = [
+fn octets_that_are_not_utf8(rt: HostRuntime) -> Result<(), Fail> {
+    let rows: [(&str, &[u8], &str); 5] = [
+        ("a.toml", b"", "a.toml:1:1: octet 1 is not UTF-8"),
+        ("-", b"ab\n", "standard input:2:1: octet 4 is not UTF-8"),
         (
             "a.toml",
-            b"\xff",
-            0,
-            "lagtool: a.toml:1:1: octet 1 is not UTF-8",
+            b"k = 1\nx\xc3\xbc",
+            "a.toml:2:3: octet 10 is not UTF-8",
         ),
-        (
-            "-",
-            b"ab\n\xc3",
-            3,
-            "lagtool: standard input:2:1: octet 4 is not UTF-8",
-        ),
-        (
-            "a.toml",
-            b"k = 1\nx\xc3\xbc\x80",
-            9,
-            "lagtool: a.toml:2:3: octet 10 is not UTF-8",
-        ),
-        (
-            "a.toml",
-            b"\n\n\xfe\n",
-            2,
-            "lagtool: a.toml:3:1: octet 3 is not UTF-8",
-        ),
-        (
-            "a.toml",
-            b"abc\xf0",
-            3,
-            "lagtool: a.toml:1:4: octet 4 is not UTF-8",
-        ),
+        ("a.toml", b"\n\n", "a.toml:3:1: octet 3 is not UTF-8"),
+        ("a.toml", b"abc", "a.toml:1:4: octet 4 is not UTF-8"),
     ];
-    for (file, octets, valid, text) in rows {
-        let to = listening(rt.alloc());
-        explain_utf8(&to, file, octets, valid);
-        wants(&rt, to, text);
+    for (file, before, text) in rows {
+        let said = utf8_text(rt.alloc(), file, before)?;
+        assert_eq!(rt; said.as_str(), text);
     }
+    Ok(())
 }
 
 #[test]
-fn words_that_are_not_hexadecimal(rt: HostRuntime) {
+fn words_that_are_not_hexadecimal(rt: HostRuntime) -> Result<(), Fail> {
     for (word, text) in [
-        (
-            "zz",
-            "lagtool: HEX: character 1 'z' is no hexadecimal digit",
-        ),
-        (
-            "00fFg0",
-            "lagtool: HEX: character 5 'g' is no hexadecimal digit",
-        ),
-        (
-            "01 1",
-            "lagtool: HEX: character 3 ' ' is no hexadecimal digit",
-        ),
+        ("zz", "HEX: character 1 'z' is no hexadecimal digit"),
+        ("00fFg0", "HEX: character 5 'g' is no hexadecimal digit"),
+        ("01 1", "HEX: character 3 ' ' is no hexadecimal digit"),
         (
             "a\u{fc}:",
-            "lagtool: HEX: character 2 '\u{fc}' is no hexadecimal digit",
+            "HEX: character 2 '\u{fc}' is no hexadecimal digit",
         ),
-        (
-            "010",
-            "lagtool: HEX: 3 hexadecimal digits: wanted is an even number",
-        ),
+        ("010", "HEX: 3 hexadecimal digits: wanted is an even number"),
     ] {
-        digits(&rt, ("HEX", "is an even number"), word, text);
+        digits(&rt, ("HEX", "is an even number"), word, text)?;
     }
+    Ok(())
 }
 
 #[test]
-fn words_that_are_no_address(rt: HostRuntime) {
+fn words_that_are_no_address(rt: HostRuntime) -> Result<(), Fail> {
     for (word, text) in [
         (
             "02:00:00:00:00:01",
-            "lagtool: MAC: character 3 ':' is no hexadecimal digit",
+            "MAC: character 3 ':' is no hexadecimal digit",
         ),
         (
             "02000000000O",
-            "lagtool: MAC: character 12 'O' is no hexadecimal digit",
+            "MAC: character 12 'O' is no hexadecimal digit",
         ),
-        (
-            "02000000001",
-            "lagtool: MAC: 11 hexadecimal digits: wanted are 12",
-        ),
-        (
-            "0200000000001",
-            "lagtool: MAC: 13 hexadecimal digits: wanted are 12",
-        ),
-        ("", "lagtool: MAC: 0 hexadecimal digits: wanted are 12"),
+        ("02000000001", "MAC: 11 hexadecimal digits: wanted are 12"),
+        ("0200000000001", "MAC: 13 hexadecimal digits: wanted are 12"),
+        ("", "MAC: 0 hexadecimal digits: wanted are 12"),
     ] {
-        digits(&rt, ("MAC", "are 12"), word, text);
+        digits(&rt, ("MAC", "are 12"), word, text)?;
     }
+    Ok(())
 }
 
 /// A script whose third entry names no event.
 const NO_EVENT: &str = "events = [\"tick 1 1\", \"tick 2 1\", \"tic 1 10\"]\n";
 
-/// A script that is refused so is explained so.
-fn script(rt: &(impl Abort + AllocGlobal), file: &str, fault: ScriptFault, text: &str) {
-    let to = listening(rt.alloc());
-    explain_script(&to, file, NO_EVENT, fault);
-    wants(rt, to, text);
-}
-
 #[test]
-fn scripts_that_are_refused(rt: HostRuntime) {
+fn scripts_that_are_refused(rt: HostRuntime) -> Result<(), Fail> {
     let fault = ScriptFault::Entry(3, EntryFault::Word);
-    script(
-        &rt,
-        "lag.toml",
-        fault,
-        "lagtool: lag.toml: event 3 \"tic 1 10\": no event has this name; did you mean tick?",
-    );
-    script(
-        &rt,
-        "-",
-        fault,
-        "lagtool: standard input: event 3 \"tic 1 10\": no event has this name; did you mean tick?",
-    );
+    for (file, text) in [
+        (
+            "lag.toml",
+            "lag.toml: event 3 \"tic 1 10\": no event has this name; did you mean tick?",
+        ),
+        (
+            "-",
+            "standard input: event 3 \"tic 1 10\": no event has this name; did you mean tick?",
+        ),
+    ] {
+        let said = script_text(rt.alloc(), file, NO_EVENT, fault)?;
+        assert_eq!(rt; said.as_str(), text);
+    }
+    Ok(())
 }

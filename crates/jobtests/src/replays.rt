@@ -3,8 +3,8 @@ use crate::pieces::one_text;
 use crate::slow::sink_of;
 use crate::telling::told;
 use lagjobs::{
-    ALONE, ALONE_TEXT, FaultText, ONE_CABLE, Summary, ToolFault, UP, UP_TEXT, failures, replay,
-    vectors, vectors_text,
+    ALONE, ALONE_TEXT, Expectation, FaultText, ONE_CABLE, Summary, ToolFault, UP, UP_TEXT, VECTORS,
+    replay, run_vectors, vectors,
 };
 use lagstreams::Sink;
 use lagworld::{EntryFault, ScriptFault};
@@ -527,13 +527,19 @@ vectors 10 failed 0
 
 #[test]
 fn a_vector_that_fails_is_told(rt: HostRuntime) -> Result<(), Fail> {
-    let passed = [true, false, true];
-    let failed = failures(&passed);
-    assert_eq!(rt; failed, 1);
-    let text = vectors_text(rt.alloc(), &passed, failed)?;
+    let alloc = rt.alloc();
+    let wrong = [Expectation::Replays {
+        events: ALONE,
+        text: UP_TEXT,
+    }];
+    let vectors = [VECTORS[0], wrong.as_slice(), VECTORS[1]];
+    let mut sink = Sink::new(Vec::new(alloc));
+    let summary = run_vectors(alloc, &vectors, &mut sink)?;
+    let (checked, faults) = (3, 1);
+    assert_eq!(rt; summary, Summary { checked, faults });
     assert_eq!(rt;
-        text.as_str(),
-        "V1 ok\nV2 failed\nV3 ok\nvectors 3 failed 1\n"
+        sink.into_inner().as_slice(),
+        b"V1 ok\nV2 failed\nV3 ok\nvectors 3 failed 1\n".as_slice()
     );
     Ok(())
 }

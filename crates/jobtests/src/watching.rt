@@ -9,12 +9,14 @@ use std::io;
 use std::test::Fail;
 use std::time::{Clock, Duration};
 
-/// A clock that goes on by so many milliseconds each time that it is read, and a standard error that keeps what it is told,
-/// or takes nothing.
+/// A clock that goes on by so many milliseconds each time that it is read, but for readings that fail, and a standard error that
+/// keeps what it is told, or takes nothing.
 #[derive(Drop)]
 struct Fake {
     millis: Cell<u64>,
     step: u64,
+    /// The clock cannot be read from this time on, until that one.
+    unread: (u64, u64),
     fails: bool,
     said: RefCell<String>,
 }
@@ -23,6 +25,7 @@ fn fake_with(alloc: Global, step: u64, fails: bool) -> Fake {
     Fake {
         millis: Cell::new(0),
         step,
+        unread: (0, 0),
         fails,
         said: RefCell::new(String::new(alloc)),
     }
@@ -32,6 +35,10 @@ impl Clock for Fake {
     fn monotonic(&self) -> io::Result<Duration> {
         let now = self.millis.get();
         self.millis.set(now.saturating_add(self.step));
+        let (first, behind) = self.unread;
+        if first <= now && now < behind {
+            return Err(io::Error::from(io::ErrorKind::Unsupported));
+        }
         Ok(Duration::from_millis(now))
     }
 
@@ -79,6 +86,34 @@ fn signs_are_apart_and_go(rt: HostRuntime) {
     ] {
         let said = shown(rt.alloc(), step, is_asked);
         assert_eq!(rt; said.as_str(), text, "{step}");
+    }
+}
+
+/// What is shown of five entries, where each reading of the clock is 60 milliseconds later, and it cannot be read between these.
+fn shown_without(alloc: Global, unread: (u64, u64)) -> String {
+    let mut fake = fake_with(alloc, 60, false);
+    fake.unread = unread;
+    let progress = Progress::new(&fake, true, "entry");
+    for done in 1..6u64 {
+        progress.show(done);
+    }
+    progress.clear();
+    fake.said.into_inner()
+}
+
+#[test]
+fn nothing_is_shown_where_the_clock_fails(rt: HostRuntime) {
+    for (unread, text) in [
+        ((0, u64::MAX), ""),
+        // The time when the work began is not known.
+        ((0, 1), ""),
+        ((60, u64::MAX), ""),
+        // The clock fails where the first sign was due, or the second.
+        ((120, 121), "\rlagtool: entry 3\rlagtool: entry 5\r\x1b[K"),
+        ((240, u64::MAX), "\rlagtool: entry 2\r\x1b[K"),
+    ] {
+        let said = shown_without(rt.alloc(), unread);
+        assert_eq!(rt; said.as_str(), text, "{unread:?}");
     }
 }
 

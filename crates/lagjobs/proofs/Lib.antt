@@ -8,3 +8,4 @@ mod HeadlineLemmas
 mod OfferedLemmas
 mod NamingLemmas
 mod PlayingLemmas
+mod ExplainedLemmas

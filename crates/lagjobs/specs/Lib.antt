@@ -12,3 +12,4 @@ pub mod Offered
 pub mod ReplayReport
 pub mod ReplaySteps
 pub mod Vectors
+pub mod Explained

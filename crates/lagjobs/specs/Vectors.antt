@@ -24,14 +24,14 @@ abbrev pub vectors_text : List Bool → List ℕ
 vectors_text passed = vector_lines_from 1 passed ++ (codes "vectors "
     ++ (decimal (length passed) ++ (codes " failed " ++ (decimal (failures passed) ++ 10 ∷ []))))
 
--- what `vectors` returns and has written, if these ten say whether each vector passes
-abbrev pub RunsVectors : {W : Type 0} → (W → Option (List ℕ)) → SinkState W → SinkState W → Result Summary ToolFault → Type 0
-RunsVectors contents old new (Ok summary) =
-    (passed : List Bool) × (length passed ≡ 10) × WritesWhole contents old new (vectors_text passed)
-    × (summary ≡ record { checked = 10; faults = failures passed })
-RunsVectors contents old new (Err Write) = (passed : List Bool) × (length passed ≡ 10) × WritesPart contents old new (vectors_text passed)
-RunsVectors contents old new (Err NoMemory) = new ≡ old
-RunsVectors contents old new (Err Read) = ⊥
-RunsVectors contents old new (Err (Script fault)) = ⊥
-RunsVectors contents old new (Err NotHex) = ⊥
-RunsVectors contents old new (Err NotMac) = ⊥
+-- what `run_vectors` returns and has written for so many vectors, if as many answers say whether each of them passes
+abbrev pub RunsVectors : {W : Type 0} → (W → Option (List ℕ)) → ℕ → SinkState W → SinkState W → Result Summary ToolFault → Type 0
+RunsVectors contents count old new (Ok summary) =
+    (passed : List Bool) × (length passed ≡ count) × WritesWhole contents old new (vectors_text passed)
+    × (summary ≡ record { checked = count; faults = failures passed })
+RunsVectors contents count old new (Err Write) = (passed : List Bool) × (length passed ≡ count) × WritesPart contents old new (vectors_text passed)
+RunsVectors contents count old new (Err NoMemory) = new ≡ old
+RunsVectors contents count old new (Err Read) = ⊥
+RunsVectors contents count old new (Err (Script fault)) = ⊥
+RunsVectors contents count old new (Err NotHex) = ⊥
+RunsVectors contents count old new (Err NotMac) = ⊥

@@ -1,4 +1,7 @@
-//! The inputs and the expected results of the vectors.
+//! The vectors: their inputs and what they expect.
+
+use crate::expectation::Expectation;
+use slowpdu::WireFault;
 
 /// A text in hexadecimal: its pieces, and how often each is repeated.
 pub type Pieces = &'static [(&'static str, usize)];
@@ -82,6 +85,14 @@ pub const RESPONSE_FRAME: Pieces = &[
     ("0180c20000020200000000028809", 1),
     ("020102100001020000000001ffffffff", 1),
     ("00", 94),
+];
+
+/// What `reply` prints for the marker in `MARKER_FRAME`.
+pub const RESPONSE_LINE: Pieces = &[
+    ("0180c20000020200000000028809", 1),
+    ("020102100001020000000001ffffffff", 1),
+    ("00", 94),
+    ("\n", 1),
 ];
 
 /// A data frame.
@@ -190,3 +201,93 @@ pub const UP_TEXT: &str = "1 sense 1 1 -> up
 20 deliver 1 2 -> took
 cable 1 agreement same
 ";
+
+/// V1 to V10: each passes if all that it expects is so (profile).
+pub const VECTORS: [&[Expectation<'static>]; 10] = [
+    // V1: an LACPDU is read, and encoded as it was.
+    &[
+        Expectation::Shows {
+            payload: LACPDU,
+            accepted: true,
+            text: LACPDU_TEXT,
+        },
+        Expectation::Encodes(LACPDU),
+    ],
+    // V2: another version, other TLV types and reserved octets are read alike.
+    &[Expectation::Shows {
+        payload: LACPDU_OF_VERSION_2,
+        accepted: true,
+        text: LACPDU_TEXT,
+    }],
+    // V3: a payload that is too short, one with more octets at the end, and an empty one.
+    &[
+        Expectation::Shows {
+            payload: SHORT,
+            accepted: false,
+            text: "refused 1 short have 109\n",
+        },
+        Expectation::Shows {
+            payload: LACPDU_AND_MORE,
+            accepted: true,
+            text: LACPDU_TEXT,
+        },
+        Expectation::Shows {
+            payload: &[],
+            accepted: false,
+            text: "refused 1 short have 0\n",
+        },
+    ],
+    // V4: of two wrong lengths the first is told.
+    &[Expectation::Shows {
+        payload: TWO_BAD_LENGTHS,
+        accepted: false,
+        text: "refused 3 length at 23 found 19\n",
+    }],
+    // V5: another subtype is refused, and a system ignores it.
+    &[
+        Expectation::Shows {
+            payload: SUBTYPE_3,
+            accepted: false,
+            text: "refused 2 subtype 3\n",
+        },
+        Expectation::Ignores {
+            payloads: &[SUBTYPE_3],
+            cause: WireFault::OtherSubtype(3),
+        },
+    ],
+    // V6: a marker gets a response.
+    &[Expectation::Replies {
+        frame: MARKER_FRAME,
+        answered: true,
+        text: RESPONSE_LINE,
+    }],
+    // V7: a Marker Response and a data frame get none.
+    &[
+        Expectation::Replies {
+            frame: RESPONSE_FRAME,
+            answered: false,
+            text: &[("no answer marker-response\n", 1)],
+        },
+        Expectation::Replies {
+            frame: DATA_FRAME,
+            answered: false,
+            text: &[("no answer data\n", 1)],
+        },
+    ],
+    // V8: a marker of another type is refused.
+    &[Expectation::Shows {
+        payload: MARKER_OF_TYPE_3,
+        accepted: false,
+        text: "refused 4 marker-tlv 3\n",
+    }],
+    // V9: a port without a peer.
+    &[Expectation::Replays {
+        events: ALONE,
+        text: ALONE_TEXT,
+    }],
+    // V10: both ends of a cable come to distribute.
+    &[Expectation::Replays {
+        events: UP,
+        text: UP_TEXT,
+    }],
+];

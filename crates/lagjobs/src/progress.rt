@@ -1,6 +1,6 @@
 //! How far long work is, shown on standard error, which `--progress` asks for. A watch is shown numbers and gives nothing
 //! back: nothing else can change by it. `Progress` has standard error and a clock, and no more.
-ghost use Rattle.std.specs.Prelude.{◌≡◌, Some};
+ghost use Rattle.std.specs.Prelude.{◌≡◌, None, Some, false};
 ghost use Rattle.std.specs.Time.{instant_nanos};
 ghost use Rattle.lagjobs.specs.Signs.{is_due, sign_text};
 
@@ -60,14 +60,19 @@ pub struct Progress<'a, R> {
     rt: &'a R,
     /// What is counted.
     noun: &'static str,
-    /// When the last sign was shown, at first when the work began; None where nothing is to be shown.
+    /// When the work began; None where nothing is to be shown.
+    began: Option<Instant>,
+    /// When the last sign was shown; None before the first.
     last: Cell<Option<Instant>>,
     is_shown: Cell<bool>,
 }
 
 impl<'a, R: Eprint + Clock> Progress<'a, R> {
-    /// Work that begins now. It is shown only where that is asked for.
-    pub fn new(rt: &'a R, is_asked: bool, noun: &'static str) -> Progress<'a, R> {
+    /// Work that begins now. It is shown only where that is asked for, and this clock can be read.
+    pub fn new(rt: &'a R, is_asked: bool, noun: &'static str) -> Progress<'a, R>
+        ensures noun { result.noun.now ≡ noun.now }
+        ensures unasked { is_asked ≡ false → result.began ≡ None }
+    {
         let began = if is_asked {
             Instant::now(rt).ok()
         } else {
@@ -76,7 +81,8 @@ impl<'a, R: Eprint + Clock> Progress<'a, R> {
         Progress {
             rt,
             noun,
-            last: Cell::new(began),
+            began,
+            last: Cell::new(None),
             is_shown: Cell::new(false),
         }
     }
@@ -84,12 +90,13 @@ impl<'a, R: Eprint + Clock> Progress<'a, R> {
 
 impl<R: Eprint + Clock> Watch for Progress<'_, R> {
     fn show(&self, done: u64) {
-        let Some(last) = self.last.get() else {
+        let Some(began) = self.began else {
             return;
         };
         let Ok(now) = Instant::now(self.rt) else {
             return;
         };
+        let last = self.last.get().unwrap_or(began);
         if is_due(last, now) {
             self.last.set(Some(now));
             self.is_shown.set(true);

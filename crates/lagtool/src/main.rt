@@ -8,11 +8,12 @@ ghost use Rattle.std.specs.Prelude.{◌≡◌, ◌<◌};
 ghost use Rattle.distributor.specs.Calls.{index_by_number};
 
 use lagjobs::{
-    FaultText, Progress, ToolFault, Watch, check_watched, explain_digits, explain_script,
-    explain_unread, explain_utf8, replay_watched, reply, show, status_of, vectors,
+    FaultText, Progress, ToolFault, Watch, check_watched, digits_text, replay_watched, reply,
+    script_text, show, status_of, unread_text, utf8_text, vectors,
 };
 use lagline::{Job, LineFault, Options, read_line, read_options};
 use lagstreams::{Sink, Source};
+use std::alloc::AllocError;
 use std::fmt::Display;
 use std::fs::{File, Files};
 use std::io::{Input, Read};
@@ -59,6 +60,13 @@ fn ended(rt: &impl Eprint, file: &str, accepted: Result<bool, ToolFault>) -> Exi
     ExitCode::from(status)
 }
 
+/// Says a second line on standard error; none where memory for it was refused.
+fn say_more(rt: &impl Eprint, line: Result<String, AllocError>) {
+    if let Ok(line) = line {
+        let _ = eprintln!(rt; "lagtool: {line}");
+    }
+}
+
 /// Checks a file, or standard input for `-`; returns whether no line is a fault. The watch is shown how many have ended.
 fn check_file<R: Print + Files + Input + AllocGlobal, P: Watch>(
     rt: &R,
@@ -88,7 +96,7 @@ fn status_of_check<R: Print + Eprint + Files + Input + Clock + AllocGlobal>(
     progress.clear();
     let status = ended(rt, file, checked);
     if options.explain && checked == Err(ToolFault::Read) {
-        explain_unread(rt, rt, file);
+        say_more(rt, unread_text(rt.alloc(), rt, file));
     }
     status
 }
@@ -129,7 +137,7 @@ fn status_of_script<R: Print + Eprint + Clock + AllocGlobal>(
             if let ToolFault::Script(fault) = fault
                 && options.explain
             {
-                explain_script(rt, file, text, fault);
+                say_more(rt, script_text(rt.alloc(), file, text, fault));
             }
             status
         }
@@ -147,7 +155,7 @@ fn status_of_replay<R: Print + Eprint + Files + Input + Clock + AllocGlobal>(
         Err(fault) => {
             let status = ended(rt, file, Err(fault));
             if options.explain && fault == ToolFault::Read {
-                explain_unread(rt, rt, file);
+                say_more(rt, unread_text(rt.alloc(), rt, file));
             }
             return status;
         }
@@ -157,7 +165,8 @@ fn status_of_replay<R: Print + Eprint + Files + Input + Clock + AllocGlobal>(
         Err(error) => {
             let status = ended(rt, file, Err(ToolFault::Read));
             if options.explain {
-                explain_utf8(rt, file, &octets, error.valid_up_to());
+                let before = octets.get(..error.valid_up_to()).unwrap_or(&[]);
+                say_more(rt, utf8_text(rt.alloc(), file, before));
             }
             status
         }
@@ -166,7 +175,7 @@ fn status_of_replay<R: Print + Eprint + Files + Input + Clock + AllocGlobal>(
 
 /// The exit status for the result of `decode` or `respond`; standard error says why one could not be done.
 fn ended_with_words(
-    rt: &impl Eprint,
+    rt: &(impl Eprint + AllocGlobal),
     options: Options,
     mac: &str,
     hex: &str,
@@ -174,9 +183,12 @@ fn ended_with_words(
 ) -> ExitCode {
     let status = ended(rt, "", accepted);
     if options.explain {
+        let alloc = rt.alloc();
         match accepted {
-            Err(ToolFault::NotHex) => explain_digits(rt, "HEX", hex, "is an even number"),
-            Err(ToolFault::NotMac) => explain_digits(rt, "MAC", mac, "are 12"),
+            Err(ToolFault::NotHex) => {
+                say_more(rt, digits_text(alloc, "HEX", hex, "is an even number"));
+            }
+            Err(ToolFault::NotMac) => say_more(rt, digits_text(alloc, "MAC", mac, "are 12")),
             _ => {}
         }
     }
