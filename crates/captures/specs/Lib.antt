@@ -1,0 +1,13 @@
+pub mod Numbers
+pub mod Faults
+pub mod Links
+pub mod Times
+pub mod Reading
+pub mod Wanted
+pub mod Pcap
+pub mod Pcapng
+pub mod Descriptions
+pub mod Blocks
+pub mod Formats
+pub mod Steps
+pub mod Writing

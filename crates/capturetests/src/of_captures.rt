@@ -1,0 +1,393 @@
+ghost use Rattle.std.specs.Prelude.{◌<◌, length};
+
+use captures::{
+    Cause, LinkType, MOST_CAPTURED, Order, Reader, Stop, Unit, put_file_header, put_packet,
+};
+use std::alloc::{AllocError, Global};
+
+/// A file of pcap with microseconds and two packets, the least significant octet first.
+const LITTLE: [u8; 63] = [
+    // the number of microseconds, the least significant octet first
+    0xd4, 0xc3, 0xb2, 0xa1,
+    // version 2.4
+    0x02, 0x00, 0x04, 0x00,
+    // reserved
+    0x00, 0x00, 0x00, 0x00, 0x00, 0x00, 0x00, 0x00,
+    // snapshot length 65535
+    0xff, 0xff, 0x00, 0x00,
+    // Ethernet
+    0x01, 0x00, 0x00, 0x00,
+    // second 1597647644
+    0x1c, 0x2b, 0x3a, 0x5f,
+    // microsecond 654321
+    0xf1, 0xfb, 0x09, 0x00,
+    // 5 octets captured
+    0x05, 0x00, 0x00, 0x00,
+    // of 124
+    0x7c, 0x00, 0x00, 0x00,
+    // the captured octets
+    0x01, 0x80, 0xc2, 0x00, 0x00,
+    // a second later
+    0x1d, 0x2b, 0x3a, 0x5f,
+    // microsecond 7
+    0x07, 0x00, 0x00, 0x00,
+    // 2 octets captured
+    0x02, 0x00, 0x00, 0x00,
+    // of 60
+    0x3c, 0x00, 0x00, 0x00,
+    // the captured octets
+    0xaa, 0xbb,
+];
+
+/// A file of pcap with nanoseconds and one packet, the most significant octet first.
+const BIG: [u8; 44] = [
+    // the number of nanoseconds, the most significant octet first
+    0xa1, 0xb2, 0x3c, 0x4d,
+    // version 2.4
+    0x00, 0x02, 0x00, 0x04,
+    // reserved
+    0x00, 0x00, 0x00, 0x00, 0x00, 0x00, 0x00, 0x00,
+    // snapshot length 96
+    0x00, 0x00, 0x00, 0x60,
+    // Linux cooked 2, 276
+    0x00, 0x00, 0x01, 0x14,
+    // second 3
+    0x00, 0x00, 0x00, 0x03,
+    // nanosecond 999999999
+    0x3b, 0x9a, 0xc9, 0xff,
+    // 4 octets captured
+    0x00, 0x00, 0x00, 0x04,
+    // of 126
+    0x00, 0x00, 0x00, 0x7e,
+    // the captured octets
+    0x88, 0x09, 0x01, 0x02,
+];
+
+/// A file of pcapng with two sections, one of each order of octets.
+const BLOCKS: [u8; 308] = [
+    // a section, 32 octets, the most significant octet first, version 1.0, its length not told, the end of the options
+    0x0a, 0x0d, 0x0d, 0x0a, 0x00, 0x00, 0x00, 0x20, 0x1a, 0x2b, 0x3c, 0x4d, 0x00, 0x01, 0x00, 0x00,
+    0xff, 0xff, 0xff, 0xff, 0xff, 0xff, 0xff, 0xff, 0x00, 0x00, 0x00, 0x00, 0x00, 0x00, 0x00, 0x20,
+    // an interface: 44 octets, Ethernet, at most 6 octets of a packet
+    0x00, 0x00, 0x00, 0x01, 0x00, 0x00, 0x00, 0x2c, 0x00, 0x01, 0x00, 0x00, 0x00, 0x00, 0x00, 0x06,
+    // its option if_name, eth10, filled up to 8 octets
+    0x00, 0x02, 0x00, 0x05, 0x65, 0x74, 0x68, 0x31, 0x30, 0x00, 0x00, 0x00,
+    // its option if_tsresol: 10^-9
+    0x00, 0x09, 0x00, 0x01, 0x09, 0x00, 0x00, 0x00,
+    // the end of the options
+    0x00, 0x00, 0x00, 0x00,
+    // the second length
+    0x00, 0x00, 0x00, 0x2c,
+    // a block of an unknown type
+    0x00, 0x00, 0x0b, 0xad, 0x00, 0x00, 0x00, 0x10, 0x01, 0x02, 0x03, 0x04, 0x00, 0x00, 0x00, 0x10,
+    // an enhanced packet block: 40 octets, interface 0, upper and lower half of the time in nanoseconds, 5 octets of 124
+    0x00, 0x00, 0x00, 0x06, 0x00, 0x00, 0x00, 0x28, 0x00, 0x00, 0x00, 0x00, 0x16, 0x30, 0x7f, 0xd0,
+    0x40, 0x31, 0xcd, 0x15, 0x00, 0x00, 0x00, 0x05, 0x00, 0x00, 0x00, 0x7c,
+    // the captured octets, filled up
+    0x01, 0x80, 0xc2, 0x00, 0x00, 0x00, 0x00, 0x00,
+    // the second length
+    0x00, 0x00, 0x00, 0x28,
+    // a simple packet block: 24 octets; the packet had 70 octets, of which the interface lets 6 be captured
+    0x00, 0x00, 0x00, 0x03, 0x00, 0x00, 0x00, 0x18, 0x00, 0x00, 0x00, 0x46,
+    // the captured octets, filled up
+    0xa1, 0xa2, 0xa3, 0xa4, 0xa5, 0xa6, 0x00, 0x00,
+    // the second length
+    0x00, 0x00, 0x00, 0x18,
+    // a section with the least significant octet first, 28 octets
+    0x0a, 0x0d, 0x0d, 0x0a, 0x1c, 0x00, 0x00, 0x00, 0x4d, 0x3c, 0x2b, 0x1a, 0x01, 0x00, 0x00, 0x00,
+    0xff, 0xff, 0xff, 0xff, 0xff, 0xff, 0xff, 0xff, 0x1c, 0x00, 0x00, 0x00,
+    // an interface: Linux cooked 2, no limit, and no options
+    0x01, 0x00, 0x00, 0x00, 0x14, 0x00, 0x00, 0x00, 0x14, 0x01, 0x00, 0x00, 0x00, 0x00, 0x00, 0x00,
+    0x14, 0x00, 0x00, 0x00,
+    // an interface: Linux cooked 1
+    0x01, 0x00, 0x00, 0x00, 0x20, 0x00, 0x00, 0x00, 0x71, 0x00, 0x00, 0x00, 0x00, 0x00, 0x00, 0x00,
+    // if_tsresol: 2^-10
+    0x09, 0x00, 0x01, 0x00, 0x8a, 0x00, 0x00, 0x00,
+    // the end of the options
+    0x00, 0x00, 0x00, 0x00,
+    // the second length
+    0x20, 0x00, 0x00, 0x00,
+    // a packet block: 36 octets, interface 1, 9 packets lost, 1536 units of 1/1024 s, 4 octets of 85
+    0x02, 0x00, 0x00, 0x00, 0x24, 0x00, 0x00, 0x00, 0x01, 0x00, 0x09, 0x00, 0x00, 0x00, 0x00, 0x00,
+    0x00, 0x06, 0x00, 0x00, 0x04, 0x00, 0x00, 0x00, 0x55, 0x00, 0x00, 0x00,
+    // the captured octets
+    0xb1, 0xb2, 0xb3, 0xb4,
+    // the second length
+    0x24, 0x00, 0x00, 0x00,
+    // an enhanced packet block of interface 0: 2^32 + 2 microseconds, 1 octet of 77
+    0x06, 0x00, 0x00, 0x00, 0x24, 0x00, 0x00, 0x00, 0x00, 0x00, 0x00, 0x00, 0x01, 0x00, 0x00, 0x00,
+    0x02, 0x00, 0x00, 0x00, 0x01, 0x00, 0x00, 0x00, 0x4d, 0x00, 0x00, 0x00,
+    // the captured octet, filled up
+    0xc1, 0x00, 0x00, 0x00,
+    // the second length
+    0x24, 0x00, 0x00, 0x00,
+];
+
+/// What was read of a packet.
+#[derive(Debug, Drop, PartialEq)]
+struct Seen {
+    interface: u32,
+    link: LinkType,
+    time: Option<u64>,
+    original: u32,
+    octets: Vec<u8>,
+}
+
+/// What was read of a capture: its packets, and the offset and the cause of the refusal, if there is one.
+#[derive(Drop)]
+struct Capture {
+    packets: Vec<Seen>,
+    fault: Option<(usize, Cause)>,
+}
+
+/// Reads a whole capture.
+fn read(alloc: Global, octets: &[u8]) -> Result<Capture, AllocError> {
+    let mut reader = Reader::new();
+    let mut packets = Vec::new(alloc);
+    let mut rest = octets;
+    for _ in 0..1000 {
+        let at = octets.len().wrapping_sub(rest.len());
+        match reader.read(rest) {
+            Ok(step) => {
+                if let Some(packet) = step.packet {
+                    packets.push(Seen {
+                        interface: packet.interface,
+                        link: packet.link,
+                        time: packet.time,
+                        original: packet.original,
+                        octets: Vec::from_slice(alloc, packet.octets(rest))?,
+                    })?;
+                }
+                if step.taken > rest.len() {
+                    let fault = Some((octets.len(), Cause::CutShort));
+                    return Ok(Capture { packets, fault });
+                }
+                rest = &rest[step.taken..];
+            }
+            Err(Stop::Wants(_)) => {
+                let fault = match reader.end(rest.len()) {
+                    Ok(()) => None,
+                    Err(fault) => Some((at.wrapping_add(fault.at), fault.cause)),
+                };
+                return Ok(Capture { packets, fault });
+            }
+            Err(Stop::Refused(fault)) => {
+                let fault = Some((at.wrapping_add(fault.at), fault.cause));
+                return Ok(Capture { packets, fault });
+            }
+        }
+    }
+    Ok(Capture {
+        packets,
+        fault: None,
+    })
+}
+
+/// A packet that is expected.
+fn expected_of(
+    alloc: Global,
+    interface: u32,
+    link: LinkType,
+    time: Option<u64>,
+    original: u32,
+    octets: &[u8],
+) -> Result<Seen, AllocError> {
+    Ok(Seen {
+        interface,
+        link,
+        time,
+        original,
+        octets: Vec::from_slice(alloc, octets)?,
+    })
+}
+
+#[test]
+fn pcap_is_read_in_both_orders(rt: HostRuntime) -> Result<(), AllocError> {
+    let alloc = rt.alloc();
+    let ethernet = LinkType::Ethernet;
+    let little = read(alloc, &LITTLE)?;
+    let octets = [0x01, 0x80, 0xc2, 0, 0];
+    let first = expected_of(
+        alloc,
+        0,
+        ethernet,
+        Some(1_597_647_644_654_321_000),
+        124,
+        &octets,
+    )?;
+    let second = expected_of(
+        alloc,
+        0,
+        ethernet,
+        Some(1_597_647_645_000_007_000),
+        60,
+        &[0xaa, 0xbb],
+    )?;
+    assert_eq!(rt;
+        little.packets.as_slice(),
+        vec![in alloc; first, second]?.as_slice()
+    );
+    assert_eq!(rt; little.fault, None);
+    let big = read(alloc, &BIG)?;
+    let octets = [0x88, 0x09, 0x01, 0x02];
+    let only = expected_of(
+        alloc,
+        0,
+        LinkType::Cooked2,
+        Some(3_999_999_999),
+        126,
+        &octets,
+    )?;
+    assert_eq!(rt; big.packets.as_slice(), vec![in alloc; only]?.as_slice());
+    assert_eq!(rt; big.fault, None);
+    Ok(())
+}
+
+#[test]
+fn pcapng_is_read_section_by_section(rt: HostRuntime) -> Result<(), AllocError> {
+    let alloc = rt.alloc();
+    let ethernet = LinkType::Ethernet;
+    let blocks = read(alloc, &BLOCKS)?;
+    let octets = [0x01, 0x80, 0xc2, 0, 0];
+    let enhanced = expected_of(
+        alloc,
+        0,
+        ethernet,
+        Some(1_598_918_400_123_456_789),
+        124,
+        &octets,
+    )?;
+    let octets = [0xa1, 0xa2, 0xa3, 0xa4, 0xa5, 0xa6];
+    let simple = expected_of(alloc, 0, ethernet, None, 70, &octets)?;
+    let octets = [0xb1, 0xb2, 0xb3, 0xb4];
+    let older = expected_of(alloc, 1, LinkType::Cooked, Some(1_500_000_000), 85, &octets)?;
+    let last = expected_of(
+        alloc,
+        0,
+        LinkType::Cooked2,
+        Some(4_294_967_298_000),
+        77,
+        &[0xc1],
+    )?;
+    let expected = vec![in alloc; enhanced, simple, older, last]?;
+    assert_eq!(rt; blocks.packets.as_slice(), expected.as_slice());
+    assert_eq!(rt; blocks.fault, None);
+    Ok(())
+}
+
+#[test]
+fn a_capture_is_cut_at_every_length(rt: HostRuntime) -> Result<(), AllocError> {
+    let alloc = rt.alloc();
+    for n in 0..LITTLE.len() {
+        let whole = n == 24 || n == 45;
+        let fault = if whole {
+            None
+        } else {
+            Some((n, Cause::CutShort))
+        };
+        assert_eq!(rt; read(alloc, &LITTLE[..n])?.fault, fault);
+    }
+    let ends = [32, 76, 92, 132, 156, 184, 204, 236, 272];
+    for n in 0..BLOCKS.len() {
+        let fault = if ends.contains(&n) {
+            None
+        } else {
+            Some((n, Cause::CutShort))
+        };
+        assert_eq!(rt; read(alloc, &BLOCKS[..n])?.fault, fault);
+    }
+    Ok(())
+}
+
+/// The refusal of a file in which one octet is another.
+fn with_octet(
+    alloc: Global,
+    file: &[u8],
+    at: usize,
+    octet: u8,
+) -> Result<Option<(usize, Cause)>, AllocError> {
+    let mut changed = Vec::from_slice(alloc, file)?;
+    if let Some(place) = changed.get_mut(at) {
+        *place = octet;
+    }
+    Ok(read(alloc, &changed)?.fault)
+}
+
+#[test]
+fn each_fault_has_its_offset(rt: HostRuntime) -> Result<(), AllocError> {
+    let alloc = rt.alloc();
+    let of_little = [
+        (0, 0xd5, 0, Cause::Format(0xd5c3_b2a1)),
+        (4, 3, 4, Cause::Version(3, 4)),
+        (6, 3, 4, Cause::Version(2, 3)),
+        (20, 2, 20, Cause::LinkType(2)),
+        (34, 4, 32, Cause::Captured(262_149)),
+    ];
+    for (at, octet, offset, cause) in of_little {
+        assert_eq!(rt;
+            with_octet(alloc, &LITTLE, at, octet)?,
+            Some((offset, cause))
+        );
+    }
+    let of_blocks = [
+        (8, 0x1b, 8, Cause::SectionOrder(0x1b2b_3c4d)),
+        (13, 2, 12, Cause::Version(2, 0)),
+        (7, 34, 4, Cause::Length(34)),
+        (7, 24, 4, Cause::Length(24)),
+        (31, 36, 28, Cause::SecondLength(36)),
+        (37, 4, 36, Cause::Description(262_188)),
+        (41, 105, 40, Cause::LinkType(105)),
+        (51, 32, 50, Cause::Length(32)),
+        (63, 2, 62, Cause::Length(2)),
+        (64, 20, 64, Cause::Resolution(20)),
+        (64, 192, 64, Cause::Resolution(192)),
+        (103, 1, 100, Cause::Interface(1)),
+        (115, 9, 112, Cause::Length(9)),
+        (47, 9, 140, Cause::Length(9)),
+        (287, 0x40, 284, Cause::Time),
+    ];
+    for (at, octet, offset, cause) in of_blocks {
+        assert_eq!(rt;
+            with_octet(alloc, &BLOCKS, at, octet)?,
+            Some((offset, cause))
+        );
+    }
+    let gzip = [0x1f, 0x8b, 8, 0];
+    assert_eq!(rt; read(alloc, &gzip)?.fault, Some((0, Cause::Gzip)));
+    Ok(())
+}
+
+#[test]
+fn a_section_describes_64_interfaces(rt: HostRuntime) -> Result<(), AllocError> {
+    let alloc = rt.alloc();
+    let mut file = Vec::from_slice(alloc, &BLOCKS[156..204])?;
+    for _ in 0..63 {
+        file.extend_from_slice(&BLOCKS[184..204])?;
+    }
+    assert_eq!(rt; read(alloc, &file)?.fault, None);
+    file.extend_from_slice(&BLOCKS[184..204])?;
+    assert_eq!(rt; read(alloc, &file)?.fault, Some((1308, Cause::Interfaces)));
+    Ok(())
+}
+
+#[test]
+fn the_writer_writes_the_format(rt: HostRuntime) -> Result<(), AllocError> {
+    let alloc = rt.alloc();
+    let mut file = Vec::new(alloc);
+    put_file_header(&mut file, Order::Little, Unit::Micro, LinkType::Ethernet)?;
+    let octets = [0x01, 0x80, 0xc2, 0, 0];
+    put_packet(
+        &mut file,
+        Order::Little,
+        1_597_647_644,
+        654_321,
+        124,
+        &octets,
+    )?;
+    assert_eq!(rt; &file[..16], &LITTLE[..16]);
+    assert_eq!(rt; &file[16..20], &MOST_CAPTURED.to_le_bytes()[..]);
+    assert_eq!(rt; &file[20..], &LITTLE[20..45]);
+    assert_eq!(rt; LinkType::Cooked.number(), 113);
+    assert_eq!(rt; Cause::CutShort.number(), 14);
+    Ok(())
+}
