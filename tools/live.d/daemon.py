@@ -1,4 +1,4 @@
-"""One daemon examples/c/lagd: its start, its lines, its status and its end."""
+"""One daemon `lagd`: its start, its lines, its status and its end."""
 
 import glob
 import json
@@ -88,8 +88,8 @@ class Daemon:
 class Part:
     """The daemons of a part; each stands in a list, so that all are ended."""
 
-    def __init__(self, program, folder):
-        self.program, self.folder, self.running = program, folder, []
+    def __init__(self, program, folder, refusing=None):
+        self.program, self.folder, self.refusing, self.running = program, folder, refusing, []
 
     def start(self, space, system, key, *names, **more):
         self.running.append(Daemon(self.program, self.folder, space, system, key, *names, **more))

@@ -1,4 +1,4 @@
-"""The daemon examples/c/lagd over veth pairs: against itself, alone, with a stranger on the wire, and against the bonding driver."""
+"""The daemon `lagd` over veth pairs: against itself, alone, with a stranger on the wire, and against the bonding driver."""
 
 import array
 import fcntl
@@ -132,7 +132,7 @@ def wrong_words(part):
     wrong = [["7x", system, "a0"], ["65536", system, "a0"], ["", system, "a0"], ["7", SYSTEM, "a0"], ["7", f"-1,{SYSTEM}", "a0"]]
     macs = (" 2:00:00:00:00:aa", "-2:00:00:00:00:aa", "2:0:0:0:0:a", SYSTEM + ":01", "", "01:00:00:00:00:aa", "00:00:00:00:00:00")
     wrong += [["7", f"32768,{mac}", "a0"] for mac in macs]
-    wrong += [["7", system, "a0", "a1", "a0"], ["7", system, "a0/b"], ["7", system, ""], ["7", system, "a" * 16], ["7", system, "lo"]]
+    wrong += [["7", system, "a0", "a1", "a0"], ["7", system, "a0/b"], ["7", system, ""], ["7", system, "a" * 128], ["7", system, "lo"]]
     wrong += [["7", system], ["7", system, *(f"a{port}" for port in range(65))], ["--status", "a0"], ["--json", "7", system, "a0"]]
     wrong += [[*words, "7", system, "a0"] for words in (["-m", "65"], ["-p", "65536"], ["-t", "fast"], ["-a", "yes"], ["-x"], ["--no"])]
     wrong += [["7", system, f"a0:{word}"] for word in ("key", "key=", "key=65536", "priority=x", "fast", "short,slow")]
@@ -157,7 +157,8 @@ def lone_daemon(part):
     missing = "the interface is missing, aggregator 0, no partner"
     check(within(ENDS, lambda: daemon.last_line("a0") == missing), "a missing one is waited for", daemon.printed())
     status, line = part.refused("7", f"32768,{OTHER}", "a1")
-    check((status, line) == (1, "lagd: another lagd has the interface: a1\n"), "no second daemon takes the same interface", line)
+    wanted = f"lagd: another lagd has the interface, process {daemon.process.pid} of user 0: a1\n"
+    check((status, line) == (1, wanted), "no second daemon takes the same interface", line)
     ip(THEIRS, "link", "set", "b1", "down")
     check(within(ENDS, lambda: daemon.port("a1")["link"] == "down"), "it says that its link is down", daemon.text())
     make_pair(0)
@@ -287,17 +288,17 @@ def full_queue(part):
     daemon = part.ours("a0")
     check(within(ENDS, lambda: daemon.port("a0")["link"] == "up"), "a daemon alone", daemon.printed())
     daemon.process.send_signal(signal.SIGSTOP)
-    asker = socket.socket(socket.AF_UNIX, socket.SOCK_DGRAM | socket.SOCK_NONBLOCK)
-    asker.connect(daemon.socket())
-    sent = 0
+    askers = []
     try:
-        while sent < 100000:
-            sent += asker.send(b"text") > 0
+        while len(askers) < 1000:
+            askers.append(socket.socket(socket.AF_UNIX, socket.SOCK_STREAM | socket.SOCK_NONBLOCK))
+            askers[-1].connect(daemon.socket())
+            askers[-1].send(b"text\n")
     except BlockingIOError:
         pass
     status, line = part.refused("--status")
     told = (status, line[:22]) == (1, "lagd: no lagd answers ")
-    check(sent and told, f"stopped, with {sent} questions unanswered, it keeps nobody waiting", line)
+    check(len(askers) > 1 and told, f"stopped, with {len(askers)} questions unanswered, it keeps nobody waiting", line)
     daemon.process.send_signal(signal.SIGCONT)
     check(within(ENDS, lambda: daemon.port("a0")["link"] == "up"), "it answers again", daemon.printed())
     daemon.ends("the daemon")
@@ -359,7 +360,7 @@ def reasons(part):
     check(within(ENDS, lambda: sees(SYSTEM, "the partner is this very system")), "its own system is no partner", daemon.text())
     check(within(ENDS, says("no LACPDU came in time")), "a link that falls silent says so", daemon.text())
     told = daemon.text()
-    check("port 1 a0: no LACPDU came in time\n" in told and "current_while" in told, "so does the status as text", told)
+    check("  status: no LACPDU came in time\n" in told and "current_while" in told, "so does the status as text", told)
     daemon.ends("the daemon")
 
 
@@ -418,8 +419,10 @@ def not_root(part):
     os.chmod(part.folder, 0o755)
     part.folder = os.path.join(part.folder, "not-root")
     os.makedirs(os.path.join(part.folder, "run"))
-    os.chmod(os.path.join(part.folder, "run"), 0o777)
-    ours, theirs = part.ours(before=words), part.theirs()
+    os.chown(os.path.join(part.folder, "run"), int(NOBODY), int(NOBODY))
+    ours = part.ours(before=words)
+    part.folder = os.path.dirname(part.folder)
+    theirs = part.theirs()
     both_up(ours, theirs, "not as root, both links distribute")
     found = [it.getsockopt(socket.SOL_SOCKET, socket.SO_PRIORITY) for it in packet_sockets(ours.process.pid)]
     check(found == [CONTROL, CONTROL], "its frames have the priority of control frames, too", found)

@@ -5,11 +5,12 @@ import os
 import shutil
 
 from checking import Failed, check, command
-from repository import CC, CRATES, RT, TOP, WARNINGS, Missing, runtime, want
+from library import FOR_EACH_PROCESSOR
+from repository import CC, CRATES, RT, TOP, WARNINGS, Missing, daemon_words, runtime, want
 
 CRATE = os.path.join(CRATES, "lagffi")
 INCLUDE = f"-I{CRATE}/include"
-DAEMON = os.path.join(TOP, "examples", "c", "lagd")
+DAEMON = os.path.join(TOP, "lagd")
 STRICT = ["-std=c11", *WARNINGS]
 
 
@@ -26,7 +27,7 @@ def build_library():
         return [given, *beside()]
     want(RT)
     print("building the library; what is not yet proved is proved first", flush=True)
-    built = command(RT, "lib", cwd=CRATE)
+    built = command(RT, "lib", FOR_EACH_PROCESSOR, cwd=CRATE)
     if built.returncode:
         raise Failed(f"{RT} lib builds the library", built.stdout + built.stderr)
     return [f"{CRATE}/out/liblagffi.a", runtime()]
@@ -58,14 +59,21 @@ def daemon_sources():
     return sorted(glob.glob(f"{DAEMON}/*.c"))
 
 
-def build_daemon(folder, libraries):
+def build_daemon(folder, libraries, name="lagd", more=(), words=()):
     """Builds the daemon; answers its path."""
-    return build(os.path.join(folder, "lagd"), daemon_sources(), libraries, *STRICT)
+    compiled, linked = daemon_words()
+    return build(os.path.join(folder, name), [*daemon_sources(), *more], [*libraries, *linked], *STRICT, *compiled, *words)
+
+
+def build_refusing(folder, libraries):
+    """Builds a daemon whose library refuses each tick after SIGUSR1; answers its path."""
+    more = [f"{TOP}/tools/live.d/refusing.c"]
+    return build_daemon(folder, libraries, "lagd-refusing", more, ["-Wl,--wrap=lagffi_tick"])
 
 
 def check_warnings():
     """gcc and clang, where they are here, find no fault with the daemon."""
     sources = daemon_sources()
     for compiler in filter(shutil.which, ("gcc", "clang")):
-        read = command(compiler, *STRICT, "-O2", INCLUDE, "-fsyntax-only", *sources)
+        read = command(compiler, *STRICT, "-O2", INCLUDE, *daemon_words()[0], "-fsyntax-only", *sources)
         check(read.returncode == 0, f"{compiler} has no warning for the {len(sources)} files of the daemon", read.stderr)

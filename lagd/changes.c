@@ -3,8 +3,10 @@
 #include <errno.h>
 #include <linux/netlink.h>
 #include <linux/rtnetlink.h>
+#include <net/if.h>
 #include <net/if_arp.h>
 #include <poll.h>
+#include <stdio.h>
 #include <string.h>
 #include <sys/socket.h>
 #include <unistd.h>
@@ -21,6 +23,8 @@ struct interface {
     int index;
     unsigned flags, type;
     char name[IFNAMSIZ];
+    const uint8_t *others; /* its other names, as attributes */
+    size_t others_length;
     uint8_t mac[6];
     bool has_mac, counts_losses;
     uint32_t losses;
@@ -62,6 +66,25 @@ static void take_attribute(struct interface *interface, unsigned type, const uin
         memcpy(&interface->losses, value, length);
         interface->counts_losses = true;
     }
+    if (type == IFLA_PROP_LIST) {
+        interface->others = value;
+        interface->others_length = length;
+    }
+}
+
+/* Whether an interface has a name, as its own or as one of its other names. */
+static bool is_named(const struct interface *interface, const char *name) {
+    struct rtattr head;
+    size_t length = strlen(name) + 1;
+    if (strcmp(interface->name, name) == 0) return true;
+    for (size_t at = 0; at + sizeof head <= interface->others_length; at += RTA_ALIGN((size_t)head.rta_len)) {
+        memcpy(&head, interface->others + at, sizeof head);
+        if (head.rta_len < sizeof head || head.rta_len > interface->others_length - at) return false;
+        if ((head.rta_type & (unsigned)NLA_TYPE_MASK) == IFLA_ALT_IFNAME && head.rta_len == sizeof head + length
+            && memcmp(interface->others + at + sizeof head, name, length) == 0)
+            return true;
+    }
+    return false;
 }
 
 /* Reads a message of `length` octets, which tells of an interface. */
@@ -82,6 +105,14 @@ static struct interface read_interface(const uint8_t *message, size_t length) {
     return interface;
 }
 
+/* At the start an interface cannot be taken up. */
+static _Noreturn void refuse_link(const struct link *link) {
+    char what[128];
+    if (link->trouble != EADDRINUSE) stop(REFUSED, link->name, strerror(link->trouble));
+    snprintf(what, sizeof what, "another lagd has the interface, %s", holder_of(link->index));
+    stop(REFUSED, what, link->name);
+}
+
 /* Takes up an interface that has the name of a port. At the start, what is wrong with one ends the program. */
 static bool take_up(struct link *link, const struct interface *interface) {
     if (interface->type != ARPHRD_ETHER) {
@@ -89,12 +120,17 @@ static bool take_up(struct link *link, const struct interface *interface) {
         return false;
     }
     if (!open_link(link, interface->index)) {
-        if (!started) stop(REFUSED, link->name, strerror(link->trouble));
+        if (!started) refuse_link(link);
         ask_again = true;
         return false;
     }
     link->kernel_losses = interface->losses;
     return true;
+}
+
+/* How often the carrier went since the kernel told `before`. A count that is less than that one was begun anew. */
+static uint32_t losses_since(uint32_t before, uint32_t now) {
+    return now >= before ? now - before : now;
 }
 
 /* Follows an interface of a port. Its carrier may have gone and come back, of which the kernel tells at once: it counts how often
@@ -103,9 +139,10 @@ static void follow(struct link *link, const struct interface *interface) {
     uint16_t port = link->settings.number;
     if (interface->has_mac) memcpy(link->mac, interface->mac, sizeof link->mac);
     if (interface->counts_losses && interface->losses != link->kernel_losses) {
-        link->counts[LOSSES] += interface->losses - link->kernel_losses - (link->up ? 1 : 0);
+        uint32_t lost = losses_since(link->kernel_losses, interface->losses);
         link->kernel_losses = interface->losses;
-        set_link(port, false);
+        if (lost > 0) link->counts[LOSSES] += lost - (link->up ? 1 : 0);
+        if (lost > 0) set_link(port, false);
     }
     set_link(port, (interface->flags & IFF_UP) && (interface->flags & IFF_RUNNING));
 }
@@ -114,8 +151,8 @@ static void follow(struct link *link, const struct interface *interface) {
 static void take_present(const struct interface *interface) {
     for (uint16_t i = 0; i < link_count; i++) {
         struct link *link = &links[i];
-        bool named = strcmp(link->name, interface->name) == 0;
-        if (link->socket >= 0 && (link->index == interface->index) != named) lose_link(link);
+        bool named = is_named(interface, link->name), same = link->socket >= 0 && link->index == interface->index;
+        if (link->socket >= 0 && (same != named || (same && !is_bound(link)))) lose_link(link);
         if (!named || (link->socket < 0 && !take_up(link, interface))) continue;
         link->present = true;
         follow(link, interface);
@@ -161,7 +198,7 @@ static void take_message(const uint8_t *message, const struct nlmsghdr *head) {
 }
 
 /* Takes the messages of `length` octets, in their order. */
-static void take_messages(const uint8_t *messages, size_t length) {
+void take_messages(const uint8_t *messages, size_t length) {
     struct nlmsghdr head;
     for (size_t at = 0; at + sizeof head <= length; at += NLMSG_ALIGN((size_t)head.nlmsg_len)) {
         memcpy(&head, messages + at, sizeof head);

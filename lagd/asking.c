@@ -1,0 +1,176 @@
+/* Asks the daemons of this network namespace: for their status, for their counts, or for each change. */
+#define _GNU_SOURCE
+#include <dirent.h>
+#include <errno.h>
+#include <poll.h>
+#include <stdio.h>
+#include <stdlib.h>
+#include <string.h>
+#include <sys/socket.h>
+#include <sys/stat.h>
+#include <sys/un.h>
+#include <unistd.h>
+
+#include "lagd.h"
+
+/* How long a daemon may take for its answer, in milliseconds. */
+#define PATIENCE 2000
+/* The most daemons that are asked, and the most octets of their answers together. */
+#define MOST_DAEMONS 256
+#define MOST_ANSWERED 8388608
+
+/* The daemons that are asked. */
+static struct {
+    char path[512];
+    int fd;
+    char *answer; /* whole, with a zero behind it */
+} daemons[MOST_DAEMONS];
+static unsigned count;
+static const char *denied; /* what may not be looked at, if there is something */
+
+/* Whether a file is the status socket of a daemon of this namespace. */
+static bool is_socket(const char *name) {
+    char head[32];
+    size_t length = (size_t)snprintf(head, sizeof head, "%lu.", network_namespace()), whole = strlen(name);
+    return strncmp(name, head, length) == 0 && whole > length + 5 && strcmp(name + whole - 5, ".sock") == 0;
+}
+
+static int is_visible(const struct dirent *entry) {
+    return entry->d_name[0] != '.';
+}
+
+/* Finds the status sockets in a folder, and in the folders in it. */
+static void find_sockets(const char *folder, bool deeper) {
+    struct dirent **entries = NULL;
+    int found = scandir(folder, &entries, is_visible, alphasort);
+    if (found < 0 && errno == EACCES) denied = strdup(folder);
+    for (int i = 0; i < found; i++) {
+        char path[sizeof daemons->path];
+        bool fits = snprintf(path, sizeof path, "%s/%s", folder, entries[i]->d_name) < (int)sizeof path;
+        struct stat file;
+        if (fits && is_socket(entries[i]->d_name) && count < MOST_DAEMONS)
+            strcpy(daemons[count++].path, path);
+        else if (fits && deeper && lstat(path, &file) == 0 && S_ISDIR(file.st_mode))
+            find_sockets(path, false);
+        free(entries[i]);
+    }
+    free(entries);
+}
+
+/* Connects with a daemon and asks it; or -1, and errno. It waits no longer than PATIENCE: one that is stopped may answer nobody. */
+static int ask(const char *path, const char *question) {
+    struct sockaddr_un to = {.sun_family = AF_UNIX};
+    struct timeval patience = {PATIENCE / 1000, 0};
+    int opened = strlen(path) < sizeof to.sun_path ? socket(AF_UNIX, SOCK_STREAM | SOCK_CLOEXEC, 0) : -1, fault;
+    if (opened < 0) return -1;
+    strcpy(to.sun_path, path);
+    (void)setsockopt(opened, SOL_SOCKET, SO_SNDTIMEO, &patience, sizeof patience);
+    if (connect(opened, (struct sockaddr *)&to, sizeof to) == 0
+        && send(opened, question, strlen(question), MSG_NOSIGNAL) == (ssize_t)strlen(question))
+        return opened;
+    fault = errno;
+    close(opened);
+    errno = fault;
+    return -1;
+}
+
+/* Reads until the daemon ends the connection; NULL where it does not in time. */
+static char *read_answer(int fd) {
+    char *whole = NULL;
+    size_t size = 0, used = 0;
+    ssize_t got = -1;
+    do {
+        if (size - used < 65536 && (size += 65536) <= MOST_ANSWERED && !(whole = realloc(whole, size + 1)))
+            stop(REFUSED, "no memory", "for an answer");
+        if (size > MOST_ANSWERED || poll(&(struct pollfd){fd, POLLIN, 0}, 1, PATIENCE) != 1) break;
+        got = recv(fd, whole + used, size - used, 0);
+        if (got > 0) used += (size_t)got;
+    } while (got > 0);
+    if (whole) whole[used] = 0;
+    if (got == 0 && used > 0) return whole;
+    free(whole);
+    return NULL;
+}
+
+/* Prints text of a daemon. Whoever made a socket in the folder may be no daemon: a terminal only shows what it says. */
+static void print(const char *text, size_t length) {
+    static char line[4096];
+    while (length > 0) {
+        size_t part = length < 1000 ? length : 1000;
+        fwrite(line, 1, escape(line, sizeof line, text, part, true), stdout);
+        text += part;
+        length -= part;
+    }
+}
+
+/* Prints the metrics of all: each metric has one head, and the values of all daemons below it. */
+static void print_metrics(void) {
+    const char *at[MOST_DAEMONS];
+    for (unsigned i = 0; i < count; i++) at[i] = daemons[i].answer ? daemons[i].answer : "";
+    for (bool more = true; more;) {
+        more = false;
+        for (unsigned i = 0; i < count; i++) {
+            bool first = !more && *at[i];
+            const char *next;
+            for (unsigned line = 0; *at[i] && (line < 2 || *at[i] != '#'); line++, at[i] = *next ? next + 1 : next) {
+                next = at[i] + strcspn(at[i], "\n");
+                if (line >= 2 || first) print(at[i], (size_t)(next - at[i]) + (*next != 0));
+            }
+            more = more || first;
+        }
+    }
+}
+
+/* Ends the program where no daemon answers. */
+static _Noreturn void refuse_all(const char *folder) {
+    if (denied) stop(REFUSED, "permission denied", denied);
+    stop(REFUSED, "no lagd answers in", folder);
+}
+
+/* Prints what the daemons say, one after the other as each has a line, until they end. */
+static int print_changes_of_all(void) {
+    struct pollfd waits[MOST_DAEMONS];
+    char text[4096];
+    unsigned left = 0;
+    for (unsigned i = 0; i < count; i++) {
+        waits[i] = (struct pollfd){daemons[i].fd, POLLIN, 0};
+        left += daemons[i].fd >= 0;
+    }
+    while (left > 0 && poll(waits, count, -1) > 0) {
+        for (unsigned i = 0; i < count; i++) {
+            ssize_t got;
+            if (!waits[i].revents) continue;
+            got = recv(waits[i].fd, text, sizeof text, 0);
+            if (got > 0) print(text, (size_t)got);
+            if (got <= 0) waits[i].fd = -1;
+            left -= got <= 0;
+        }
+        if (fflush(stdout) != 0) return REFUSED;
+    }
+    return DONE;
+}
+
+static const char *question_of(const struct options *options) {
+    if (options->action == METRICS) return "metrics\n";
+    if (options->action == WATCH) return options->json ? "watch-json\n" : "watch\n";
+    return options->json ? "json\n" : "text\n";
+}
+
+/* Asks the daemons, and prints what they answer; answers how the program ends. */
+int ask_daemons(const struct options *options) {
+    const char *question = question_of(options);
+    unsigned answers = 0;
+    find_sockets(options->folder, true);
+    for (unsigned i = 0; i < count; i++) {
+        daemons[i].fd = ask(daemons[i].path, question);
+        if (daemons[i].fd < 0 && (errno == EACCES || errno == EPERM)) denied = daemons[i].path;
+        if (daemons[i].fd >= 0 && options->action != WATCH) daemons[i].answer = read_answer(daemons[i].fd);
+        answers += options->action == WATCH ? daemons[i].fd >= 0 : daemons[i].answer != NULL;
+    }
+    if (answers == 0) refuse_all(options->folder);
+    if (options->action == WATCH) return print_changes_of_all();
+    if (options->action == METRICS) print_metrics();
+    for (unsigned i = 0; options->action == SHOW && i < count; i++)
+        if (daemons[i].answer) print(daemons[i].answer, strlen(daemons[i].answer));
+    return fflush(stdout) == 0 ? DONE : REFUSED;
+}

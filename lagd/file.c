@@ -1,0 +1,138 @@
+/* A file of a bundle, in the form of systemd's units: a section [Bundle] and a section [Port INTERFACE] for each port. */
+#define _GNU_SOURCE
+#include <errno.h>
+#include <fcntl.h>
+#include <ini.h>
+#include <stdio.h>
+#include <stdlib.h>
+#include <string.h>
+#include <sys/stat.h>
+#include <unistd.h>
+
+#include "lagd.h"
+
+/* The most octets of a file and of a line. The library takes lines of 197 octets. */
+#define LONGEST_FILE 65536
+#define LONGEST_LINE 190
+
+enum section { NO_SECTION, WRONG_SECTION, BUNDLE_SECTION, PORT_SECTION };
+
+/* A file that is being read. */
+struct reading {
+    FILE *file;
+    const char *path;
+    unsigned line; /* from 1 */
+    unsigned faults;
+    enum section section;
+    struct settings *settings;
+};
+
+static void expect(struct reading *reading, const char *expected, const char *found) {
+    reading->faults++;
+    complain("%s:%u: expected %s: %s", reading->path, reading->line, expected, found);
+}
+
+/* Takes the head of a section: `line` begins with a bracket. */
+static void take_section(struct reading *reading, const char *line) {
+    const char *end = strchr(line, ']'), *fault = "[Bundle] or [Port INTERFACE]";
+    reading->section = WRONG_SECTION;
+    if (end && !end[1] && strcmp(line, "[Bundle]") == 0) {
+        fault = NULL;
+        reading->section = BUNDLE_SECTION;
+    } else if (end && !end[1] && strncmp(line, "[Port ", 6) == 0) {
+        fault = add_port(reading->settings, line + 6, (size_t)(end - line) - 6);
+        if (!fault) reading->section = PORT_SECTION;
+    }
+    if (fault) expect(reading, fault, line);
+}
+
+/* What is wrong with a line, before its key and value are looked at, or NULL. The library would cut a line that is too long, take one
+ * that begins with a space as the rest of the one before, and take a colon for '='. */
+static const char *fault_of(const char *line, size_t length) {
+    if (length > LONGEST_LINE) return "a line of at most 190 octets";
+    if (strlen(line) != length) return "no octet of zero in a line";
+    if (line[0] == ' ' || line[0] == '\t') return line[strspn(line, " \t")] ? "a line that does not begin with a space" : NULL;
+    if (!line[0] || strchr("[#;", line[0]) || strchr(line, '=')) return NULL;
+    return "KEY=VALUE";
+}
+
+/* Hands the library the next line; an empty one in place of the head of a section, and of one that is wrong. */
+static char *next_line(char *into, int room, void *given) {
+    struct reading *reading = given;
+    char *line = NULL;
+    size_t size = 0;
+    ssize_t got = getline(&line, &size, reading->file);
+    const char *fault;
+    if (got >= 0) {
+        reading->line++;
+        while (got > 0 && (line[got - 1] == '\n' || line[got - 1] == '\r' || line[got - 1] == ' ')) line[--got] = 0;
+        fault = fault_of(line, (size_t)got);
+        if (fault) expect(reading, fault, line);
+        if (!fault && line[0] == '[') take_section(reading, line);
+        snprintf(into, (size_t)room, "%s\n", fault || line[0] == '[' ? "" : line);
+    }
+    free(line);
+    return got >= 0 ? into : NULL;
+}
+
+/* Takes a key and its value, of the section that came last. */
+static int take_pair(void *given, const char *section, const char *name, const char *value) {
+    struct reading *reading = given;
+    struct settings *settings = reading->settings;
+    const char *expected = NULL;
+    (void)section; /* the library cuts long ones */
+    switch (reading->section) {
+    case BUNDLE_SECTION: expected = set_bundle(settings, name, value); break;
+    case PORT_SECTION: expected = set_port(&settings->ports[settings->port_count - 1], name, value); break;
+    case WRONG_SECTION: break;
+    default: expected = "[Bundle] or [Port INTERFACE] before keys"; break;
+    }
+    if (expected) {
+        char found[2 * LONGEST_LINE];
+        snprintf(found, sizeof found, "%s=%s", name, value);
+        expect(reading, expected, found);
+    }
+    return expected == NULL;
+}
+
+/* Names the bundle for its file: what stands before .conf. */
+static void name_bundle(const char *path, struct settings *settings) {
+    const char *slash = strrchr(path, '/'), *name = slash ? slash + 1 : path;
+    size_t length = strlen(name);
+    if (length > 5 && strcmp(name + length - 5, ".conf") == 0) length -= 5;
+    snprintf(settings->name, sizeof settings->name, "%.*s", (int)length, name);
+}
+
+/* Opens a file, if it is a regular one of no more than LONGEST_FILE octets; else NULL, and a line. */
+static FILE *open_file(const char *path) {
+    struct stat found;
+    int opened = open(path, O_RDONLY | O_CLOEXEC | O_NONBLOCK | O_NOCTTY);
+    const char *fault = NULL;
+    FILE *file = NULL;
+    if (opened < 0 || fstat(opened, &found) < 0)
+        fault = strerror(errno);
+    else if (!S_ISREG(found.st_mode) || found.st_size > LONGEST_FILE)
+        fault = "expected a regular file of at most 65536 octets";
+    else if (!(file = fdopen(opened, "r")))
+        fault = strerror(errno);
+    if (fault) complain("%s: %s", path, fault);
+    if (fault && opened >= 0) close(opened);
+    return file;
+}
+
+/* Reads a file; answers whether it is right. There is a line for each fault. */
+bool read_file(const char *path, struct settings *settings) {
+    struct reading reading = {.path = path, .settings = settings};
+    const char *lack;
+    *settings = usual_settings();
+    name_bundle(path, settings);
+    reading.file = open_file(path);
+    if (!reading.file) return false;
+    ini_allow_multiline = false;
+    ini_allow_inline_comments = false;
+    (void)ini_parse_stream(next_line, &reading, take_pair, &reading);
+    fclose(reading.file);
+    lack = reading.faults ? NULL : lack_of(settings);
+    if (lack) complain("%s: expected %s", path, lack);
+    return reading.faults == 0 && !lack;
+}

@@ -1,0 +1,32 @@
+/* The folder of status sockets. */
+#define _GNU_SOURCE
+#include <errno.h>
+#include <fcntl.h>
+#include <string.h>
+#include <sys/stat.h>
+#include <unistd.h>
+
+#include "lagd.h"
+
+/* The network namespace that this process is in. */
+unsigned long network_namespace(void) {
+    struct stat file;
+    return stat("/proc/self/ns/net", &file) == 0 ? (unsigned long)file.st_ino : 0;
+}
+
+/* Opens the folder, and makes it where it is missing. One of another user, one that others may write, and a symbolic link to one are
+ * refused: whoever has it could put a link or a socket of his own in it. */
+int open_folder(const char *folder) {
+    struct stat found;
+    bool made = mkdir(folder, 0755) == 0;
+    int opened;
+    if (!made && errno != EEXIST) stop(REFUSED, folder, strerror(errno));
+    opened = open(folder, O_RDONLY | O_DIRECTORY | O_NOFOLLOW | O_CLOEXEC);
+    if (opened < 0 && (errno == ELOOP || errno == ENOTDIR)) stop(REFUSED, "a symbolic link, or no folder", folder);
+    if (opened < 0 || fstat(opened, &found) < 0) stop(REFUSED, folder, strerror(errno));
+    if (made) (void)fchmod(opened, 0755); /* whatever the umask is */
+    if (made) (void)fstat(opened, &found);
+    if (found.st_uid != 0 && found.st_uid != geteuid()) stop(REFUSED, "the folder belongs to another user", folder);
+    if (found.st_mode & (S_IWGRP | S_IWOTH)) stop(REFUSED, "other users may write the folder", folder);
+    return opened;
+}

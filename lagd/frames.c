@@ -1,0 +1,165 @@
+/* Frames of the slow protocols that come: which are looked at, whose LACPDUs are taken, and what becomes of them. */
+#define _GNU_SOURCE
+#include <inttypes.h>
+#include <linux/if_packet.h>
+#include <net/ethernet.h>
+#include <string.h>
+#include <sys/socket.h>
+
+#include "lagd.h"
+
+#define LONGEST_FRAME 2048
+/* Where an LACPDU has its subtype, and its actor's system priority and system (IEEE 802.1AX-2014, 6.4.2.3). */
+#define SUBTYPE ETH_HLEN
+#define ACTOR_SYSTEM (ETH_HLEN + 4)
+#define LACP 1
+/* The octets of a PDU behind the Ethernet header. What has fewer is for the library to refuse. */
+#define PDU 110
+/* How many ticks there are between two lines about strangers on a link. */
+#define STRANGERS_TICKS (10 * SECOND)
+
+static const uint8_t GROUP[6] = {0x01, 0x80, 0xc2, 0x00, 0x00, 0x02};
+
+/* What a frame counts as. */
+static enum count kind_of(const struct niw_received *received) {
+    switch (received->what) {
+    case NIW_RECEIVED_DISABLED: return DISABLED_RECEIVED;
+    case NIW_RECEIVED_TOOK_LACPDU: return LACPDUS_RECEIVED;
+    case NIW_RECEIVED_RESPOND: return MARKERS_RECEIVED;
+    case NIW_RECEIVED_RELEASED: return RESPONSES_RECEIVED;
+    default: return REFUSED_RECEIVED;
+    }
+}
+
+static bool is_same_system(const struct system_id *one, const struct system_id *other) {
+    return one->priority == other->priority && memcmp(one->mac, other->mac, sizeof one->mac) == 0;
+}
+
+static bool is_own(const struct system_id *system) {
+    struct system_id own = {.priority = settings.config.priority};
+    memcpy(own.mac, settings.config.mac, sizeof own.mac);
+    return is_same_system(system, &own);
+}
+
+/* The system that an LACPDU names as its actor; answers whether the frame is one. */
+static bool actor_of(const struct arrival *arrival, struct system_id *actor) {
+    const uint8_t *at = arrival->frame + ACTOR_SYSTEM;
+    if (arrival->length < ETH_HLEN + PDU || arrival->frame[SUBTYPE] != LACP) return false;
+    actor->priority = (uint16_t)(at[0] << 8 | at[1]);
+    memcpy(actor->mac, at + 2, sizeof actor->mac);
+    return true;
+}
+
+/* The link went down: who speaks first next is the partner, where that holds. */
+void forget_partner(struct link *link) {
+    link->pinned = settings.policy == PARTNER_GIVEN;
+    if (link->pinned) link->partner = settings.partner;
+    link->heard = false;
+}
+
+/* An LACPDU names another system than the partner. */
+static void note_stranger(struct link *link, const struct system_id *system, const uint8_t *source) {
+    link->strangers.seen = true;
+    link->strangers.system = *system;
+    memcpy(link->strangers.source, source, sizeof link->strangers.source);
+}
+
+/* An LACPDU of this system was taken. */
+static void note_actor(struct link *link, const struct system_id *actor, const uint8_t *source) {
+    if (link->heard && !is_same_system(&link->actor, actor)) {
+        link->counts[PARTNER_CHANGES]++;
+        note_stranger(link, &link->actor, link->source);
+    }
+    link->heard = true;
+    link->actor = *actor;
+    memcpy(link->source, source, sizeof link->source);
+    if (settings.policy != PARTNER_FIRST || link->pinned || is_own(actor)) return;
+    link->pinned = true;
+    link->partner = *actor;
+}
+
+/* Hands a frame to the library, and sends the response to a marker, if there were not too many in this second. */
+static void hand_over(struct link *link, const struct arrival *arrival, const struct system_id *actor) {
+    uint8_t response[NIW_FRAME];
+    struct niw_received received = niw_receive(&own_system, link->settings.number, arrival->frame, arrival->length, response,
+        sizeof response);
+    refuse(received.status, "niw_receive");
+    if (received.status != NIW_OK) return;
+    link->counts[kind_of(&received)]++;
+    if (received.what == NIW_RECEIVED_TOOK_LACPDU && actor) note_actor(link, actor, arrival->frame + 6);
+    if (received.what != NIW_RECEIVED_RESPOND) return;
+    if (link->responses == 0) {
+        link->counts[RESPONSES_UNSENT]++;
+        return;
+    }
+    link->responses--;
+    send_frame(link, RESPONSES_SENT, response);
+}
+
+/* Takes a frame. The slow protocols have one address, which no bridge passes on: a frame to any other one comes from anybody. Their
+ * frames have no VLAN tag. The kernel calls one with a tag another host's, or shows it as a frame of the VLAN's interface. */
+void take_frame(struct link *link, const struct arrival *arrival) {
+    struct system_id actor;
+    bool is_lacpdu;
+    if (arrival->length < ETH_HLEN || memcmp(arrival->frame, GROUP, sizeof GROUP) != 0) {
+        link->counts[ELSEWHERE_RECEIVED]++;
+        return;
+    }
+    if (arrival->packet_type != PACKET_MULTICAST || arrival->index != link->index || arrival->tagged) {
+        link->counts[TAGGED_RECEIVED]++;
+        return;
+    }
+    is_lacpdu = actor_of(arrival, &actor);
+    if (is_lacpdu && link->up && link->pinned && !is_same_system(&actor, &link->partner)) {
+        link->counts[FOREIGN_RECEIVED]++;
+        note_stranger(link, &actor, arrival->frame + 6);
+        return;
+    }
+    hand_over(link, arrival, is_lacpdu ? &actor : NULL);
+}
+
+/* Whether the kernel took a VLAN tag from a frame. */
+static bool is_tagged(struct msghdr *message) {
+    for (struct cmsghdr *head = CMSG_FIRSTHDR(message); head; head = CMSG_NXTHDR(message, head)) {
+        struct tpacket_auxdata aux;
+        if (head->cmsg_level != SOL_PACKET || head->cmsg_type != PACKET_AUXDATA || head->cmsg_len < CMSG_LEN(sizeof aux)) continue;
+        memcpy(&aux, CMSG_DATA(head), sizeof aux);
+        if (aux.tp_status & TP_STATUS_VLAN_VALID) return true;
+    }
+    return false;
+}
+
+/* Takes the frames that wait at an interface, MOST_TAKEN of them at most. */
+void take_frames(uint16_t port) {
+    struct link *link = &links[port - 1];
+    uint8_t frame[LONGEST_FRAME];
+    for (int turn = 0; turn < MOST_TAKEN && link->socket >= 0; turn++) {
+        union {
+            struct cmsghdr head;
+            uint8_t room[CMSG_SPACE(sizeof(struct tpacket_auxdata))];
+        } more;
+        struct sockaddr_ll from = {0};
+        struct iovec part = {frame, sizeof frame};
+        struct msghdr message = {&from, sizeof from, &part, 1, &more, sizeof more, 0};
+        ssize_t got = recvmsg(link->socket, &message, 0);
+        struct arrival arrival = {frame, (size_t)got, from.sll_pkttype, from.sll_ifindex, false};
+        if (got < 0) return;
+        if (from.sll_pkttype == PACKET_OUTGOING) continue; /* an old kernel shows what was sent */
+        arrival.tagged = is_tagged(&message);
+        take_frame(link, &arrival);
+    }
+}
+
+/* Tells of strangers on a link, if there are more than were told of: at once, and then every 10 s at most. */
+void tell_strangers(struct link *link) {
+    struct strangers *strangers = &link->strangers;
+    uint64_t foreign = link->counts[FOREIGN_RECEIVED], changes = link->counts[PARTNER_CHANGES];
+    char system[32], source[32];
+    if (foreign + changes == strangers->told || ticks_passed() < strangers->tell_at) return;
+    if (!say(LOG_WARNING, "port %u %s: another system speaks, last %s from %s: %" PRIu64 " LACPDUs not taken, %" PRIu64
+            " changes of the partner", link->settings.number, link->name, system_text(&strangers->system, system),
+            mac_text(strangers->source, source), foreign, changes))
+        return;
+    strangers->told = foreign + changes;
+    strangers->tell_at = ticks_passed() + STRANGERS_TICKS;
+}

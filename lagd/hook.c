@@ -1,0 +1,51 @@
+/* The program that is run where the bundle is up, degraded or down. Nobody waits for it. */
+#define _GNU_SOURCE
+#include <fcntl.h>
+#include <signal.h>
+#include <spawn.h>
+#include <stdio.h>
+#include <string.h>
+#include <unistd.h>
+
+#include "lagd.h"
+
+/* It has no signal blocked or ignored, and a session of its own. */
+static void set_attributes(posix_spawnattr_t *attributes) {
+    sigset_t none, all;
+    sigemptyset(&none);
+    sigfillset(&all);
+    posix_spawnattr_init(attributes);
+    posix_spawnattr_setsigmask(attributes, &none);
+    posix_spawnattr_setsigdefault(attributes, &all);
+    posix_spawnattr_setflags(attributes, POSIX_SPAWN_SETSIGMASK | POSIX_SPAWN_SETSIGDEF | POSIX_SPAWN_SETSID);
+}
+
+/* It reads nothing, and what it prints goes to standard error. */
+static void set_files(posix_spawn_file_actions_t *files) {
+    posix_spawn_file_actions_init(files);
+    posix_spawn_file_actions_addopen(files, STDIN_FILENO, "/dev/null", O_RDONLY, 0);
+    posix_spawn_file_actions_adddup2(files, STDERR_FILENO, STDOUT_FILENO);
+}
+
+/* Runs the hook, with the state of the bundle in its environment. */
+void run_hook(const char *path, enum bundle_state before) {
+    char name[NAME_ROOM + 16], state[32], previous[32], links_text[32], carrying[32], aggregator[32];
+    char *words[] = {(char *)(uintptr_t)path, NULL};
+    char *environment[] = {"PATH=/usr/sbin:/usr/bin:/sbin:/bin", name, state, previous, links_text, carrying, aggregator, NULL};
+    posix_spawnattr_t attributes;
+    posix_spawn_file_actions_t files;
+    pid_t child;
+    int fault;
+    snprintf(name, sizeof name, "LAGD_BUNDLE=%s", settings.name);
+    snprintf(state, sizeof state, "LAGD_STATE=%s", bundle_state_text(bundle.state));
+    snprintf(previous, sizeof previous, "LAGD_PREVIOUS=%s", bundle_state_text(before));
+    snprintf(links_text, sizeof links_text, "LAGD_LINKS=%u", link_count);
+    snprintf(carrying, sizeof carrying, "LAGD_CARRYING=%u", bundle.carrying);
+    snprintf(aggregator, sizeof aggregator, "LAGD_AGGREGATOR=%u", bundle.aggregator);
+    set_attributes(&attributes);
+    set_files(&files);
+    fault = posix_spawn(&child, path, &files, &attributes, words, environment);
+    if (fault) (void)say(LOG_WARNING, "hook %s: %s", path, strerror(fault));
+    posix_spawn_file_actions_destroy(&files);
+    posix_spawnattr_destroy(&attributes);
+}

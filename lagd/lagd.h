@@ -1,0 +1,280 @@
+/* What the files of lagd share: its ports, and the calls of each file. */
+#ifndef LAGD_H
+#define LAGD_H
+
+#include <stdbool.h>
+#include <stddef.h>
+#include <stdint.h>
+#include <syslog.h>
+#include <time.h>
+
+#include "lag.h"
+#include "settings.h"
+
+#define VERSION NIW_VERSION_TEXT
+
+/* The statuses of a port: those of the library, and more. */
+enum {
+    MISSING = NIW_PORT_STATUS_PARTNER_NOT_SYNCHRONIZED + 1, /* its interface is missing */
+    WITHOUT_PARTNER,                                        /* it distributes on defaults */
+    PARTNER_WANTED,                                         /* so it does, but partner-required is given */
+    STATUSES,
+};
+
+/* How the program ends. */
+enum { DONE = 0, REFUSED = 1, WRONG_WORD = 2 };
+
+/* What is counted of a port. */
+enum count {
+    LACPDUS_RECEIVED,
+    MARKERS_RECEIVED,
+    RESPONSES_RECEIVED, /* marker responses */
+    REFUSED_RECEIVED,   /* of the slow protocols, and neither an LACPDU nor a Marker PDU */
+    ELSEWHERE_RECEIVED, /* to another address than that of the slow protocols: not looked at */
+    TAGGED_RECEIVED,    /* with a VLAN tag: not looked at */
+    FOREIGN_RECEIVED,   /* LACPDUs of a system that is not the partner: not taken */
+    DISABLED_RECEIVED,  /* while the link was down */
+    LACPDUS_SENT,
+    RESPONSES_SENT,
+    RESPONSES_UNSENT, /* above marker-responses in a second */
+    FAILED_SENT,      /* the kernel did not take them */
+    LOSSES,           /* how often the link went down */
+    PARTNER_CHANGES,  /* how often an LACPDU of another system than the one before was taken */
+    EXPIRED,          /* how often no LACPDU came in time */
+    DEFAULTED,        /* how often it came to run on defaults */
+    DISTRIBUTED,      /* how often it came to distribute */
+    COUNTS
+};
+
+/* The most frames, or messages of the kernel, that are taken of a socket in a turn, so that no flood stops the clock. */
+#define MOST_TAKEN 64
+/* How many lines of a port, or of the bundle, time and frames may cause at once; one more each second. Each change of a link has its
+ * line. */
+#define MOST_LINES 10
+/* The ticks of a second. */
+#define SECOND 10
+
+/* What is printed of a port. */
+struct facts {
+    uint8_t status; /* NIW_PORT_STATUS_.., or MISSING and so on */
+    uint16_t aggregator;
+    bool defaulted;
+    struct system_id partner;
+    uint16_t partner_key, partner_port;
+    int trouble;
+};
+
+/* The other systems that speak on a link. */
+struct strangers {
+    struct system_id system; /* the last one */
+    uint8_t source[6];       /* of its frame */
+    uint64_t told;           /* how many frames and changes of the partner a line told of */
+    uint64_t tell_at;        /* the tick at which the next line may come */
+    bool seen;
+};
+
+/* An interface. Link i is port i + 1 of the system. */
+struct link {
+    const char *name;
+    struct niw_port settings;
+    int lock;   /* by which no other lagd has the interface; -1 while it is missing */
+    int socket; /* -1 while the interface is missing */
+    int index;  /* of the interface */
+    uint8_t mac[6];
+    bool present; /* whether the answer of the kernel that is being read named it */
+    bool up;
+    uint32_t kernel_losses; /* how often the carrier went, as the kernel last told */
+    bool unsent;            /* whether `frame` waits for the kernel to take it */
+    bool tried;             /* whether it was tried since the last tick */
+    uint8_t frame[NIW_FRAME];
+    int trouble;            /* errno of what failed last, or 0 */
+    unsigned trouble_ticks; /* how long it is still told */
+    unsigned lines;         /* how many lines time and frames may still cause */
+    unsigned responses;     /* how many marker responses may still be sent in this second */
+    bool pinned;            /* whether LACPDUs of `partner` alone are taken */
+    struct system_id partner;
+    uint8_t source[6];        /* of the last LACPDU that was taken */
+    bool heard;               /* whether one was taken since the link came up; `actor` is its system */
+    struct system_id actor;
+    struct strangers strangers;
+    bool to_tell;             /* whether its peer has to be told of the end */
+    uint64_t sent_before_end; /* LACPDUs, up to then */
+    uint64_t counts[COUNTS];
+    struct niw_view view; /* as the library last told it */
+    bool changed;         /* whether there may be something to print */
+    bool told;            /* whether a line was printed */
+    struct facts printed; /* last */
+    bool watched;         /* whether watchers were told */
+    struct facts shown;   /* to them, last */
+    time_t changed_at;    /* when that changed, in seconds since 1970 */
+};
+
+/* What the bundle is doing. */
+enum bundle_state { BUNDLE_DOWN, BUNDLE_DEGRADED, BUNDLE_UP, BUNDLE_STATES };
+
+struct bundle {
+    enum bundle_state state;
+    uint16_t aggregator; /* the one with most ports that carry, or 0 */
+    uint16_t carrying;   /* how many ports of it carry */
+    time_t changed_at;   /* when the state changed, in seconds since 1970 */
+    uint64_t counts[BUNDLE_STATES];
+};
+
+/* What the program is to do. */
+enum action { RUN, CHECK, SHOW, WATCH, METRICS };
+
+struct options {
+    enum action action;
+    bool json;
+    const char *folder; /* of status sockets */
+    const char *file;   /* of the bundle, or NULL */
+    struct settings settings;
+};
+
+extern struct niw_system own_system;
+extern struct settings settings; /* those that hold now */
+extern struct link links[NIW_MOST_PORTS];
+extern uint16_t link_count;
+extern struct bundle bundle;
+extern bool started; /* whether the interfaces that are there were taken up */
+extern bool broken;  /* whether the library refused a call: the peers are told, and the program ends */
+
+/* names.c */
+const char *status_text(unsigned status);
+const char *count_name(enum count count);
+const char *count_help(enum count count);
+const char *bit_name(unsigned bit);
+const char *link_name(const struct link *link);
+const char *bundle_state_text(enum bundle_state state);
+const char *system_text(const struct system_id *system, char room[static 32]);
+const char *mac_text(const uint8_t *mac, char room[static 32]);
+const char *time_text(time_t time, char room[static 32]);
+
+/* lines.c */
+#define WATCHED 0x100 /* beside a level: watchers have had the line */
+_Noreturn void stop(int status, const char *what, const char *which);
+void refuse(uint32_t status, const char *call);
+bool say(int level, const char *format, ...) __attribute__((format(printf, 2, 3)));
+void complain(const char *format, ...) __attribute__((format(printf, 1, 2)));
+size_t escape(char *text, size_t room, const char *from, size_t length, bool lines);
+
+/* options.c */
+struct options *read_options(int argc, char **argv);
+
+/* signals.c */
+int open_signals(void);
+
+/* locks.c */
+int lock_interface(int index);
+const char *holder_of(int index);
+
+/* links.c */
+bool open_link(struct link *link, int index);
+void close_link(struct link *link);
+bool is_bound(const struct link *link);
+void send_frame(struct link *link, enum count kind, const uint8_t *frame);
+
+/* frames.c */
+struct arrival {
+    const uint8_t *frame;
+    size_t length;
+    unsigned packet_type; /* PACKET_.. */
+    int index;            /* of the interface that had it */
+    bool tagged;          /* whether the kernel took a VLAN tag from it */
+};
+void take_frame(struct link *link, const struct arrival *arrival);
+void take_frames(uint16_t port);
+void forget_partner(struct link *link);
+void tell_strangers(struct link *link);
+
+/* changes.c */
+int open_changes(void);
+void take_changes(void);
+void take_messages(const uint8_t *messages, size_t length);
+void watch_changes(void);
+
+/* system.c */
+void make_system(void);
+void set_link(uint16_t port, bool up);
+void lose_link(struct link *link);
+void send_due(void);
+void send_again(void);
+void pass_tick(void);
+uint64_t ticks_passed(void);
+uint64_t seconds_passed(void);
+uint64_t number_of(struct niw_number answer, const char *call);
+void tell_end(void);
+bool end_is_told(void);
+void end_system(void);
+
+/* ports.c */
+void take_views(void);
+void print_changes(void);
+bool print_change(struct link *link);
+struct facts facts_of(const struct link *link);
+bool carries(const struct link *link);
+
+/* bundle.c */
+void look_at_bundle(void);
+void allow_bundle_line(void);
+void end_bundle(void);
+
+/* hook.c */
+void run_hook(const char *path, enum bundle_state before);
+
+/* reload.c */
+void reload(const char *file);
+
+/* folder.c */
+int open_folder(const char *folder);
+unsigned long network_namespace(void);
+
+/* status.c */
+int open_status(const char *folder);
+void take_callers(void);
+void serve_caller(uint32_t caller);
+void pass_tick_of_callers(void);
+void tell_watchers(const char *line, size_t length);
+void tell_watchers_of(const struct link *link);
+
+/* answer.c: what is written for whoever asks */
+#define ANSWER_ROOM 262144
+extern char answer[ANSWER_ROOM];
+extern size_t answered;
+void add(const char *format, ...) __attribute__((format(printf, 1, 2)));
+void add_string(const char *text);
+
+/* show.c, json.c, metrics.c */
+struct view {
+    struct facts facts;
+    uint64_t receive, mux, current_while, wait_while;
+    struct niw_actor own;
+    uint8_t state; /* the state octet of its own side */
+    struct niw_info partner;
+};
+struct view view_of(const struct link *link);
+void write_text(void);
+void write_json(void);
+void write_json_event(const struct link *link);
+void write_metrics(void);
+
+/* asking.c */
+int ask_daemons(const struct options *options);
+
+/* service.c: the manager of services, if there is one */
+void notify_ready(void);
+void notify_reloading(void);
+void notify_stopping(void);
+void notify_state(void);
+void notify_alive(void);
+
+/* privileges.c */
+void drop_privileges(void);
+
+/* main.c */
+enum { SIGNALS = NIW_MOST_PORTS + 1, CLOCK, CHANGES, STATUS, CALLERS };
+#define MOST_CALLERS 32
+bool watch(int fd, uint32_t tag);
+void unwatch(int fd);
+
+#endif

@@ -1,0 +1,130 @@
+/* Lines for whoever reads them, printed only where that cannot stop the daemon. */
+#define _GNU_SOURCE
+#include <fcntl.h>
+#include <inttypes.h>
+#include <poll.h>
+#include <stdarg.h>
+#include <stdio.h>
+#include <stdlib.h>
+#include <sys/stat.h>
+#include <unistd.h>
+
+#include "lagd.h"
+
+/* A pipe with room has at least so many octets of it. */
+#define LONGEST_LINE 512
+/* The room of the text of a line: each octet may be written as four. */
+#define LONGEST_TEXT 400
+
+bool broken;
+
+/* Writes `length` octets of text so that a terminal only shows them: each one that is not printable ASCII as \xHH, but for the ends of
+ * lines where there may be `lines`. Answers how many octets that are. */
+size_t escape(char *text, size_t room, const char *from, size_t length, bool lines) {
+    size_t used = 0;
+    for (size_t i = 0; i < length && used + 5 < room; i++) {
+        unsigned char octet = (unsigned char)from[i];
+        bool plain = (octet >= 0x20 && octet < 0x7f) || (lines && (octet == '\n' || octet == '\t'));
+        used += (size_t)snprintf(text + used, room - used, plain ? "%c" : "\\x%02x", octet);
+    }
+    text[used] = 0;
+    return used;
+}
+
+/* Standard output; of a pipe or a terminal an opening of our own, at which no write waits. */
+static int output(void) {
+    static int opened = -1;
+    struct stat file;
+    if (opened >= 0) return opened;
+    if (isatty(STDOUT_FILENO) || (fstat(STDOUT_FILENO, &file) == 0 && S_ISFIFO(file.st_mode)))
+        opened = open("/proc/self/fd/1", O_WRONLY | O_NONBLOCK | O_NOCTTY | O_CLOEXEC);
+    if (opened < 0) opened = STDOUT_FILENO;
+    return opened;
+}
+
+/* Whether the journal reads standard output: then a line begins with its priority, and has no time of its own. */
+static bool in_journal(void) {
+    static int known = -1;
+    const char *stream = getenv("JOURNAL_STREAM");
+    struct stat file;
+    uintmax_t device, inode;
+    if (known >= 0) return known;
+    known = stream && fstat(STDOUT_FILENO, &file) == 0 && sscanf(stream, "%ju:%ju", &device, &inode) == 2
+        && device == (uintmax_t)file.st_dev && inode == (uintmax_t)file.st_ino;
+    return known;
+}
+
+/* Writes a line, if its reader keeps up; answers whether it did. */
+static bool write_line(int fd, const char *line, size_t length) {
+    struct pollfd out = {fd, POLLOUT, 0};
+    bool may_wait = fd == STDOUT_FILENO || fd == STDERR_FILENO;
+    if (may_wait && (poll(&out, 1, 0) != 1 || !(out.revents & POLLOUT))) return false;
+    return write(fd, line, length) == (ssize_t)length;
+}
+
+/* Writes a line on standard error, under the name of the program. */
+static void write_error(const char *text) {
+    char line[LONGEST_LINE];
+    int used = snprintf(line, sizeof line - 1, "lagd: %s", text);
+    size_t length = used < (int)sizeof line - 1 ? (size_t)used : sizeof line - 2;
+    line[length] = '\n';
+    (void)write_line(STDERR_FILENO, line, length + 1);
+}
+
+/* Ends the program with a line on standard error. No peer knows of it: it is called before there are any. */
+_Noreturn void stop(int status, const char *what, const char *which) {
+    char raw[LONGEST_TEXT], text[LONGEST_LINE];
+    int length = snprintf(raw, sizeof raw, "%s: %s", what, which);
+    (void)escape(text, sizeof text, raw, length < (int)sizeof raw ? (size_t)length : sizeof raw - 1, false);
+    write_error(text);
+    exit(status);
+}
+
+/* Notes that the library refused a call: the loop tells the peers, and ends. Before the loop the program ends at once. */
+void refuse(uint32_t status, const char *call) {
+    char why[64];
+    if (status == NIW_OK || broken) return;
+    snprintf(why, sizeof why, "refused with %" PRIu32, status);
+    if (!started) stop(REFUSED, call, why);
+    broken = true;
+    (void)say(LOG_ERR, "%s: %s; the peers are told, and the daemon ends", call, why);
+}
+
+/* Prints a text with the time, in UTC, or for the journal with its priority; watchers get it, too. Answers whether it was printed. */
+static bool say_text(int level, const char *text) {
+    char line[LONGEST_LINE], time[32];
+    struct timespec now;
+    int used;
+    clock_gettime(CLOCK_REALTIME, &now);
+    used = snprintf(line, sizeof line, "%s.%03ldZ %s\n", time_text(now.tv_sec, time), now.tv_nsec / 1000000, text);
+    if (!(level & WATCHED)) tell_watchers(line, (size_t)used);
+    if (in_journal()) used = snprintf(line, sizeof line, "<%d>%s\n", level & LOG_PRIMASK, text);
+    return write_line(output(), line, (size_t)used);
+}
+
+/* Prints a line; answers whether it did. */
+bool say(int level, const char *format, ...) {
+    char raw[LONGEST_TEXT], text[LONGEST_TEXT];
+    va_list given;
+    int length;
+    va_start(given, format);
+    length = vsnprintf(raw, sizeof raw, format, given);
+    va_end(given);
+    (void)escape(text, sizeof text, raw, length < (int)sizeof raw ? (size_t)length : sizeof raw - 1, false);
+    return say_text(level, text);
+}
+
+/* Tells what is wrong with what was given: at the start on standard error, and later by a line. */
+void complain(const char *format, ...) {
+    char raw[LONGEST_TEXT], text[LONGEST_TEXT];
+    va_list given;
+    int length;
+    va_start(given, format);
+    length = vsnprintf(raw, sizeof raw, format, given);
+    va_end(given);
+    (void)escape(text, sizeof text, raw, length < (int)sizeof raw ? (size_t)length : sizeof raw - 1, false);
+    if (started)
+        (void)say_text(LOG_WARNING, text);
+    else
+        write_error(text);
+}

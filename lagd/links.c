@@ -1,0 +1,92 @@
+/* Interfaces: the lock and the packet socket of each, and what is sent there. */
+#define _GNU_SOURCE
+#include <errno.h>
+#include <linux/if_packet.h>
+#include <linux/pkt_sched.h>
+#include <netinet/in.h>
+#include <string.h>
+#include <sys/socket.h>
+#include <unistd.h>
+
+#include "lagd.h"
+
+#define SLOW_PROTOCOLS 0x8809
+/* How many ticks a failure is told of, so that a queue that is full now and then is one line. */
+#define TROUBLE_TICKS 50
+
+/* A packet socket of an interface, for the frames of the slow protocols alone; or -1, and errno. */
+static int open_socket(int index) {
+    struct sockaddr_ll address = {.sll_family = AF_PACKET, .sll_protocol = htons(SLOW_PROTOCOLS), .sll_ifindex = index};
+    struct packet_mreq member = {index, PACKET_MR_MULTICAST, 6, {0x01, 0x80, 0xc2, 0x00, 0x00, 0x02}};
+    int opened = socket(AF_PACKET, SOCK_RAW | SOCK_NONBLOCK | SOCK_CLOEXEC, 0), fault; /* it takes nothing before it is bound */
+    if (opened < 0) return -1;
+    (void)setsockopt(opened, SOL_SOCKET, SO_PRIORITY, &(int){TC_PRIO_CONTROL}, sizeof(int)); /* before data */
+    (void)setsockopt(opened, SOL_PACKET, PACKET_IGNORE_OUTGOING, &(int){1}, sizeof(int));
+    if (setsockopt(opened, SOL_PACKET, PACKET_AUXDATA, &(int){1}, sizeof(int)) == 0
+        && bind(opened, (struct sockaddr *)&address, sizeof address) == 0
+        && setsockopt(opened, SOL_PACKET, PACKET_ADD_MEMBERSHIP, &member, sizeof member) == 0)
+        return opened;
+    fault = errno;
+    close(opened);
+    errno = fault;
+    return -1;
+}
+
+static void close_files(struct link *link) {
+    if (link->socket >= 0) close(link->socket);
+    if (link->lock >= 0) close(link->lock);
+    link->socket = link->lock = -1;
+}
+
+/* Takes up the interface of this number; answers whether it did, and else `trouble` has why not. */
+bool open_link(struct link *link, int index) {
+    bool taken;
+    link->lock = lock_interface(index);
+    link->socket = link->lock < 0 ? -1 : open_socket(index);
+    taken = link->socket >= 0 && watch(link->socket, link->settings.number);
+    link->trouble = taken ? 0 : errno;
+    link->trouble_ticks = TROUBLE_TICKS;
+    link->index = index;
+    link->unsent = false;
+    link->changed = true;
+    if (!taken) close_files(link);
+    return taken;
+}
+
+/* The interface is gone. */
+void close_link(struct link *link) {
+    close_files(link);
+    link->unsent = false;
+    link->changed = true;
+}
+
+/* Whether the socket of a link still has its interface. One that was made anew with the same number is another one. */
+bool is_bound(const struct link *link) {
+    struct sockaddr_ll address;
+    socklen_t length = sizeof address;
+    return getsockname(link->socket, (struct sockaddr *)&address, &length) == 0 && address.sll_ifindex == link->index;
+}
+
+/* Sends a frame, with the address that the interface has now. An LACPDU that the kernel does not take is sent again at each tick,
+ * until a newer one is due; a response is lost, as on a wire. */
+void send_frame(struct link *link, enum count kind, const uint8_t *frame) {
+    uint8_t sent[NIW_FRAME];
+    if (link->socket < 0) return;
+    memcpy(sent, frame, sizeof sent);
+    memcpy(sent + 6, link->mac, 6);
+    if (kind == LACPDUS_SENT) link->tried = true;
+    if (send(link->socket, sent, sizeof sent, 0) == sizeof sent) {
+        link->counts[kind]++;
+        if (kind == LACPDUS_SENT) link->unsent = false;
+        return;
+    }
+    link->counts[FAILED_SENT]++;
+    if (errno != ENETDOWN && errno != ENXIO) { /* of a link that is down the kernel tells, too */
+        link->trouble = errno;
+        link->trouble_ticks = TROUBLE_TICKS;
+        link->changed = true;
+    }
+    if (kind != LACPDUS_SENT) return;
+    memmove(link->frame, frame, sizeof link->frame);
+    link->unsent = true;
+}

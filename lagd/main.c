@@ -1,0 +1,179 @@
+/* lagd: a LACP daemon for Linux over lag.h. One process serves one bundle.
+ *
+ *     lagd --config /etc/lagd/NAME.conf
+ *     lagd 7 32768,02:00:00:00:00:01 eth1 eth2
+ *     lagd --status
+ *
+ * It ticks every 100 ms, carries the control frames of the interfaces, follows what the kernel tells of them, and prints each
+ * change of a port in one line. Data frames stay with the kernel. `lagd --help` tells the options. */
+#define _GNU_SOURCE
+#include <errno.h>
+#include <fcntl.h>
+#include <signal.h>
+#include <string.h>
+#include <sys/epoll.h>
+#include <sys/signalfd.h>
+#include <sys/timerfd.h>
+#include <unistd.h>
+
+#include "lagd.h"
+
+/* The most events of a turn. */
+#define MOST_EVENTS (CALLERS + MOST_CALLERS)
+/* The most ticks that are made up after a stall: what comes in then is new, and time goes on from there. */
+#define MOST_TICKS 10
+/* How many ticks the peers are told of the end at most. */
+#define END_TICKS 15
+
+static int waits = -1;
+
+/* Waits for a file descriptor, too; answers whether the kernel takes it. */
+bool watch(int fd, uint32_t tag) {
+    struct epoll_event event = {.events = EPOLLIN, .data = {.u32 = tag}};
+    return epoll_ctl(waits, EPOLL_CTL_ADD, fd, &event) == 0;
+}
+
+/* Waits for it no longer. */
+void unwatch(int fd) {
+    (void)epoll_ctl(waits, EPOLL_CTL_DEL, fd, NULL);
+}
+
+/* At the start, what cannot be waited for ends the program. */
+static void watch_at_start(int fd, uint32_t tag) {
+    if (!watch(fd, tag)) stop(REFUSED, "epoll", strerror(errno));
+}
+
+static int open_clock(void) {
+    struct itimerspec every = {{0, 100000000}, {0, 100000000}};
+    int fd = timerfd_create(CLOCK_MONOTONIC, TFD_NONBLOCK | TFD_CLOEXEC);
+    if (fd < 0 || timerfd_settime(fd, 0, &every, NULL) < 0) stop(REFUSED, "no clock", strerror(errno));
+    return fd;
+}
+
+/* Tells what changed. */
+static void tell_changes(void) {
+    take_views();
+    print_changes();
+    look_at_bundle();
+}
+
+/* Makes up the ticks that passed, and then sends once. */
+static void pass_time(int clock) {
+    uint64_t passed = 0;
+    if (read(clock, &passed, sizeof passed) != sizeof passed) return;
+    if (passed > MOST_TICKS) passed = MOST_TICKS;
+    for (; passed > 0; passed--) pass_tick();
+    send_due();
+    send_again();
+    pass_tick_of_callers();
+    tell_changes();
+}
+
+/* What is ready beside frames and callers. */
+struct ready {
+    bool signal, tick, change, caller;
+};
+
+static struct ready ready_of(const struct epoll_event *events, int count) {
+    struct ready ready = {0};
+    for (int i = 0; i < count; i++) {
+        ready.signal |= events[i].data.u32 == SIGNALS;
+        ready.tick |= events[i].data.u32 == CLOCK;
+        ready.change |= events[i].data.u32 == CHANGES;
+        ready.caller |= events[i].data.u32 == STATUS;
+    }
+    return ready;
+}
+
+/* Takes the frames of all ports, and sends once what they made due. */
+static void take_all_frames(const struct epoll_event *events, int count) {
+    bool taken = false;
+    for (int i = 0; i < count; i++) {
+        uint32_t port = events[i].data.u32;
+        if (port > NIW_MOST_PORTS || links[port - 1].socket < 0) continue;
+        take_frames((uint16_t)port);
+        taken = true;
+    }
+    if (taken) send_due();
+}
+
+/* Serves those who ask. */
+static void serve_callers(const struct epoll_event *events, int count) {
+    for (int i = 0; i < count; i++)
+        if (events[i].data.u32 >= CALLERS) serve_caller(events[i].data.u32 - CALLERS);
+}
+
+/* Takes a signal; answers whether it ends the daemon. */
+static bool is_end(int signals, const char *file) {
+    struct signalfd_siginfo signal;
+    if (read(signals, &signal, sizeof signal) != sizeof signal) return true;
+    if (signal.ssi_signo != SIGHUP || !file) return true;
+    reload(file);
+    return false;
+}
+
+/* What came in a turn, the clock after the frames that waited. */
+static void serve(const struct epoll_event *events, int count, struct ready ready, int clock) {
+    if (ready.change) take_changes();
+    take_all_frames(events, count);
+    serve_callers(events, count);
+    if (ready.caller) take_callers();
+    if (ready.tick) pass_time(clock);
+}
+
+/* Waits, and serves what comes. The first signal that ends it, or a refusal of the library, makes it tell the peers; it ends when they
+ * are told, or by a second signal. */
+static void run(int signals, int clock, const char *file) {
+    struct epoll_event events[MOST_EVENTS];
+    bool ends = false;
+    for (unsigned end_ticks = 0; !ends || (end_ticks < END_TICKS && !end_is_told());) {
+        int count = epoll_wait(waits, events, MOST_EVENTS, -1);
+        struct ready ready = ready_of(events, count);
+        bool ends_now = count < 0 && errno != EINTR;
+        serve(events, count, ready, clock);
+        if (ready.tick && ends) end_ticks++;
+        if (ready.signal) ends_now = is_end(signals, ends ? NULL : file);
+        if (ends && ends_now) return;
+        if (ends || !(ends_now || broken)) continue;
+        ends = true;
+        notify_stopping();
+        tell_end();
+    }
+}
+
+/* Where a standard file is closed, what is opened next would take its number. */
+static void keep_standard_files(void) {
+    int opened = open("/dev/null", O_RDWR);
+    while (opened >= 0 && opened <= STDERR_FILENO) opened = open("/dev/null", O_RDWR);
+    if (opened >= 0) close(opened);
+}
+
+/* Opens what the daemon needs, and runs it. */
+static int run_daemon(const struct options *options) {
+    int signals = open_signals(), clock;
+    settings = options->settings;
+    waits = epoll_create1(EPOLL_CLOEXEC);
+    if (waits < 0) stop(REFUSED, "epoll", strerror(errno));
+    make_system();
+    watch_at_start(open_changes(), CHANGES);
+    (void)open_status(options->folder);
+    clock = open_clock();
+    watch_at_start(signals, SIGNALS);
+    watch_at_start(clock, CLOCK);
+    drop_privileges();
+    started = true;
+    tell_changes();
+    notify_ready();
+    run(signals, clock, options->file);
+    end_system();
+    return broken ? REFUSED : DONE;
+}
+
+int main(int argc, char **argv) {
+    const struct options *options;
+    keep_standard_files();
+    options = read_options(argc, argv);
+    if (options->action == RUN) return run_daemon(options);
+    if (options->action == CHECK) return DONE;
+    return ask_daemons(options);
+}

@@ -1,0 +1,106 @@
+/* Counts and states in the text form of Prometheus. */
+#define _GNU_SOURCE
+#include <inttypes.h>
+#include <stdio.h>
+
+#include "lagd.h"
+
+static void add_head(const char *name, const char *kind, const char *help) {
+    add("# HELP lagd_%s %s\n# TYPE lagd_%s %s\n", name, help, name, kind);
+}
+
+/* The value of a label: any octet that is not printable ASCII becomes '?'. */
+static void add_label(const char *name, const char *text) {
+    add("%s=\"", name);
+    for (; *text; text++) {
+        unsigned char octet = (unsigned char)*text;
+        if (octet == '"' || octet == '\\') add("\\");
+        add("%c", octet < 0x20 || octet > 0x7e ? '?' : octet);
+    }
+    add("\"");
+}
+
+static void add_bundle_value(const char *name, const char *help, uint64_t value) {
+    add_head(name, "gauge", help);
+    add("lagd_%s{", name);
+    add_label("bundle", settings.name);
+    add("} %" PRIu64 "\n", value);
+}
+
+static void add_port_value(const char *name, const struct link *link, uint64_t value) {
+    add("lagd_%s{", name);
+    add_label("bundle", settings.name);
+    add(",");
+    add_label("interface", link->name);
+    add(",port=\"%u\"} %" PRIu64 "\n", link->settings.number, value);
+}
+
+static void add_bundle_states(void) {
+    add_head("bundle_state", "gauge", "1 for the state of the bundle, 0 for the others");
+    for (unsigned state = 0; state < BUNDLE_STATES; state++) {
+        add("lagd_bundle_state{");
+        add_label("bundle", settings.name);
+        add(",state=\"%s\"} %u\n", bundle_state_text(state), state == bundle.state);
+    }
+    add_head("bundle_state_changes_total", "counter", "how often the bundle came to be so");
+    for (unsigned state = 0; state < BUNDLE_STATES; state++) {
+        add("lagd_bundle_state_changes_total{");
+        add_label("bundle", settings.name);
+        add(",state=\"%s\"} %" PRIu64 "\n", bundle_state_text(state), bundle.counts[state]);
+    }
+}
+
+static uint64_t is_link_up(const struct link *link) {
+    return link->up;
+}
+
+static uint64_t is_carrying(const struct link *link) {
+    return carries(link);
+}
+
+static uint64_t has_partner(const struct link *link) {
+    return !link->view.defaulted;
+}
+
+static uint64_t status_number(const struct link *link) {
+    return facts_of(link).status;
+}
+
+static uint64_t aggregator_number(const struct link *link) {
+    return link->view.aggregator;
+}
+
+static uint64_t change_time(const struct link *link) {
+    return (uint64_t)link->changed_at;
+}
+
+static const struct {
+    const char *name, *help;
+    uint64_t (*value)(const struct link *link);
+} GAUGES[] = {
+    {"port_link_up", "whether the link is up", is_link_up},
+    {"port_carrying", "whether the port carries", is_carrying},
+    {"port_has_partner", "whether the port has a partner, and does not run on defaults", has_partner},
+    {"port_status", "why the port does not distribute: 0 where it does", status_number},
+    {"port_aggregator", "the aggregator of the port, or 0", aggregator_number},
+    {"port_last_change_timestamp_seconds", "when the port changed last", change_time},
+};
+
+/* All of it. */
+void write_metrics(void) {
+    add_bundle_states();
+    add_bundle_value("bundle_links", "how many links the bundle has", link_count);
+    add_bundle_value("bundle_links_carrying", "how many of them carry", bundle.carrying);
+    add_bundle_value("bundle_min_links", "with fewer the bundle is down", settings.min_links);
+    add_bundle_value("bundle_last_change_timestamp_seconds", "when the state of the bundle changed last", (uint64_t)bundle.changed_at);
+    for (size_t gauge = 0; gauge < sizeof GAUGES / sizeof *GAUGES; gauge++) {
+        add_head(GAUGES[gauge].name, "gauge", GAUGES[gauge].help);
+        for (uint16_t i = 0; i < link_count; i++) add_port_value(GAUGES[gauge].name, &links[i], GAUGES[gauge].value(&links[i]));
+    }
+    for (unsigned count = 0; count < COUNTS; count++) {
+        char name[64];
+        snprintf(name, sizeof name, "port_%s_total", count_name(count));
+        add_head(name, "counter", count_help(count));
+        for (uint16_t i = 0; i < link_count; i++) add_port_value(name, &links[i], links[i].counts[count]);
+    }
+}

@@ -1,0 +1,30 @@
+/* What the daemon may do once its sockets are open: CAP_NET_RAW alone, for an interface that comes later. */
+#define _GNU_SOURCE
+#include <sys/prctl.h>
+#ifdef HAVE_CAP_NG
+#include <cap-ng.h>
+#endif
+
+#include "lagd.h"
+
+#ifdef HAVE_CAP_NG
+/* Keeps CAP_NET_RAW, if it is there, and nothing else. A program that is started has none. */
+static void drop_capabilities(void) {
+    bool raw = capng_get_caps_process() == 0 && capng_have_capability(CAPNG_EFFECTIVE, CAP_NET_RAW);
+    capng_clear(CAPNG_SELECT_BOTH);
+    if (raw) (void)capng_update(CAPNG_ADD, CAPNG_EFFECTIVE | CAPNG_PERMITTED, CAP_NET_RAW);
+    /* Whoever may not change the bounding set has it bounded, or not, by who started the daemon. */
+    if (capng_apply(CAPNG_SELECT_BOTH) != 0 && capng_apply(CAPNG_SELECT_CAPS) != 0)
+        (void)say(LOG_WARNING, "the capabilities stay as they are");
+}
+#else
+static void drop_capabilities(void) {
+}
+#endif
+
+/* Drops what is not needed from here on, for good: no program that it starts gets more. */
+void drop_privileges(void) {
+    (void)prctl(PR_SET_NO_NEW_PRIVS, 1, 0, 0, 0);
+    (void)prctl(PR_CAP_AMBIENT, PR_CAP_AMBIENT_CLEAR_ALL, 0, 0, 0);
+    drop_capabilities();
+}

@@ -1,0 +1,93 @@
+/* A file that is read again: what the library can change of a port is changed, and of the rest a line says that it needs a restart. */
+#define _GNU_SOURCE
+#include <string.h>
+
+#include "lagd.h"
+
+static bool has_same_ports(const struct settings *wanted) {
+    bool same = wanted->port_count == settings.port_count;
+    for (uint16_t i = 0; same && i < settings.port_count; i++) same = strcmp(wanted->ports[i].name, settings.ports[i].name) == 0;
+    return same;
+}
+
+/* The aggregators keep the keys that they were made with: a port that gets another key has none. */
+static bool has_aggregator(uint16_t key) {
+    for (uint16_t port = 1; port <= link_count; port++)
+        if (port_of(&settings, port).key == key) return true;
+    return false;
+}
+
+/* What cannot be changed without a restart, or NULL. */
+static const char *restart_for(const struct settings *wanted) {
+    if (!has_same_ports(wanted)) return "other interfaces";
+    if (wanted->config.priority != settings.config.priority || memcmp(wanted->config.mac, settings.config.mac, 6) != 0)
+        return "another system";
+    if (wanted->config.max_links != settings.config.max_links) return "another max-links";
+    for (uint16_t port = 1; port <= link_count; port++) {
+        struct niw_port now = links[port - 1].settings, next = port_of(wanted, port);
+        if (next.active != now.active) return "another activity";
+        if (next.short_timeout != now.short_timeout) return "another timeout";
+        if (next.key != now.key && !has_aggregator(next.key)) return "a key that no port had at the start";
+    }
+    return NULL;
+}
+
+/* Gives a port its key, priority and Aggregation bit; answers whether anything differs. */
+static bool change_port(uint16_t port, const struct settings *wanted) {
+    struct link *link = &links[port - 1];
+    struct niw_port next = port_of(wanted, port);
+    struct niw_change change = {.key = next.key, .priority = next.priority, .aggregatable = next.aggregatable};
+    struct niw_truth answer;
+    if (change.key != link->settings.key && !has_aggregator(change.key)) change.key = link->settings.key;
+    answer = niw_configure(&own_system, port, &change);
+    refuse(answer.status, "niw_configure");
+    if (!answer.is) return false;
+    link->settings.key = change.key;
+    link->settings.priority = change.priority;
+    link->settings.aggregatable = change.aggregatable;
+    return true;
+}
+
+/* Who may be the partner changes for each link at once. One that is no longer pinned is so by who speaks next. */
+static void change_policy(const struct settings *wanted) {
+    bool same = wanted->policy == settings.policy && memcmp(&wanted->partner, &settings.partner, sizeof wanted->partner) == 0;
+    settings.policy = wanted->policy;
+    settings.partner = wanted->partner;
+    for (uint16_t i = 0; !same && i < link_count; i++) {
+        forget_partner(&links[i]);
+        if (settings.policy != PARTNER_FIRST || !links[i].up || links[i].view.defaulted) continue;
+        links[i].pinned = true;
+        links[i].partner.priority = links[i].view.partner_priority;
+        memcpy(links[i].partner.mac, links[i].view.partner_mac, sizeof links[i].partner.mac);
+    }
+}
+
+/* Takes what can be changed; answers how many ports have something else now. */
+static unsigned take(const struct settings *wanted) {
+    unsigned changed = 0;
+    for (uint16_t port = 1; has_same_ports(wanted) && port <= link_count; port++) changed += change_port(port, wanted);
+    change_policy(wanted);
+    settings.partner_required = wanted->partner_required;
+    settings.min_links = wanted->min_links <= link_count ? wanted->min_links : link_count;
+    settings.marker_responses = wanted->marker_responses;
+    memcpy(settings.hook, wanted->hook, sizeof settings.hook);
+    for (uint16_t i = 0; i < link_count; i++) links[i].changed = true;
+    return changed;
+}
+
+/* Reads the file again. One that is wrong changes nothing. */
+void reload(const char *file) {
+    static struct settings wanted;
+    const char *rest;
+    notify_reloading();
+    if (!read_file(file, &wanted)) {
+        complain("%s: the file is wrong, and nothing is changed", file);
+    } else {
+        unsigned changed = (rest = restart_for(&wanted), take(&wanted));
+        (void)say(LOG_NOTICE, "%s: read again, %u ports changed", file, changed);
+        if (rest) (void)say(LOG_WARNING, "%s: %s: a restart of this bundle is needed", file, rest);
+        send_due();
+        take_views();
+    }
+    notify_ready();
+}

@@ -1,0 +1,213 @@
+/* The keys of a bundle and of a port, and their values. The command line and the file have the same ones. */
+#define _GNU_SOURCE
+#include "settings.h"
+
+#include <ctype.h>
+#include <stdlib.h>
+#include <string.h>
+
+#define A_NUMBER "a number from 0 to 65535"
+#define A_SYSTEM "PRIORITY,MAC, as 32768,02:00:00:00:00:01, whose MAC address is neither zero nor one of a group"
+
+/* A number in decimal digits alone. */
+static bool read_number(const char *text, unsigned long least, unsigned long most, uint16_t *into) {
+    size_t digits = strspn(text, "0123456789");
+    unsigned long found = digits > 0 && digits < 6 && !text[digits] ? strtoul(text, NULL, 10) : most + 1;
+    if (found < least || found > most) return false;
+    *into = (uint16_t)found;
+    return true;
+}
+
+/* One of two words; `is_first` says whether it is the first one. */
+static bool read_word(const char *text, const char *first, const char *second, bool *is_first) {
+    *is_first = strcmp(text, first) == 0;
+    return *is_first || strcmp(text, second) == 0;
+}
+
+/* Six octets of two hexadecimal digits each, with colons or hyphens between them. */
+static bool read_mac(const char *text, uint8_t *mac) {
+    static const uint8_t none[6];
+    bool right = strlen(text) == 17;
+    for (int i = 0; right && i < 17; i++)
+        right = i % 3 < 2 ? isxdigit((unsigned char)text[i]) != 0 : (text[i] == ':' || text[i] == '-') && text[i] == text[2];
+    for (int i = 0; right && i < 6; i++) mac[i] = (uint8_t)strtoul(text + 3 * i, NULL, 16);
+    return right && !(mac[0] & 1) && memcmp(mac, none, sizeof none) != 0;
+}
+
+/* PRIORITY,MAC. */
+static bool read_system(const char *text, struct system_id *into) {
+    char priority[8] = "";
+    size_t digits = strcspn(text, ",");
+    if (digits >= sizeof priority || !text[digits]) return false;
+    memcpy(priority, text, digits);
+    return read_number(priority, 0, UINT16_MAX, &into->priority) && read_mac(text + digits + 1, into->mac);
+}
+
+static bool take_key(const char *text, struct settings *settings) {
+    settings->has_key = true;
+    return read_number(text, 0, UINT16_MAX, &settings->key);
+}
+
+static bool take_system(const char *text, struct settings *settings) {
+    struct system_id own;
+    if (!read_system(text, &own)) return false;
+    settings->has_system = true;
+    settings->config.priority = own.priority;
+    memcpy(settings->config.mac, own.mac, sizeof own.mac);
+    return true;
+}
+
+static bool take_partner(const char *text, struct settings *settings) {
+    bool any, named = !read_word(text, "any", "first", &any);
+    settings->policy = named ? PARTNER_GIVEN : any ? PARTNER_ANY : PARTNER_FIRST;
+    return !named || read_system(text, &settings->partner);
+}
+
+static bool take_partner_required(const char *text, struct settings *settings) {
+    return read_word(text, "yes", "no", &settings->partner_required);
+}
+
+static bool take_min_links(const char *text, struct settings *settings) {
+    return read_number(text, 1, NIW_MOST_PORTS, &settings->min_links);
+}
+
+static bool take_max_links(const char *text, struct settings *settings) {
+    return read_number(text, 0, NIW_MOST_PORTS, &settings->config.max_links);
+}
+
+static bool take_port_priority(const char *text, struct settings *settings) {
+    return read_number(text, 0, UINT16_MAX, &settings->port_priority);
+}
+
+static bool take_timeout(const char *text, struct settings *settings) {
+    return read_word(text, "short", "long", &settings->short_timeout);
+}
+
+static bool take_activity(const char *text, struct settings *settings) {
+    return read_word(text, "active", "passive", &settings->active);
+}
+
+static bool take_marker_responses(const char *text, struct settings *settings) {
+    return read_number(text, 0, 10000, &settings->marker_responses);
+}
+
+static bool take_hook(const char *text, struct settings *settings) {
+    if (text[0] != '/' || strlen(text) >= sizeof settings->hook) return false;
+    strcpy(settings->hook, text);
+    return true;
+}
+
+/* The keys of a bundle: each with what is expected of its value. */
+static const struct {
+    const char *name, *expected;
+    bool (*take)(const char *text, struct settings *settings);
+} BUNDLE_KEYS[] = {
+    {"key", A_NUMBER, take_key},
+    {"system", A_SYSTEM, take_system},
+    {"partner", "any, first or " A_SYSTEM, take_partner},
+    {"partner-required", "yes or no", take_partner_required},
+    {"min-links", "a number from 1 to 64", take_min_links},
+    {"max-links", "a number from 0 to 64", take_max_links},
+    {"port-priority", A_NUMBER, take_port_priority},
+    {"timeout", "short or long", take_timeout},
+    {"activity", "active or passive", take_activity},
+    {"marker-responses", "a number from 0 to 10000", take_marker_responses},
+    {"hook", "a path that begins with /, of at most 191 characters", take_hook},
+};
+
+/* Gives a key of the bundle a value; answers NULL, or what was expected. */
+const char *set_bundle(struct settings *settings, const char *name, const char *text) {
+    for (size_t i = 0; i < sizeof BUNDLE_KEYS / sizeof *BUNDLE_KEYS; i++)
+        if (strcmp(name, BUNDLE_KEYS[i].name) == 0)
+            return BUNDLE_KEYS[i].take(text, settings) ? NULL : BUNDLE_KEYS[i].expected;
+    return "key, system, partner, partner-required, min-links, max-links, port-priority, timeout, activity, marker-responses or hook "
+           "as a key of [Bundle]";
+}
+
+/* A number of a port. */
+static const char *take_number(const char *text, int *into) {
+    uint16_t number;
+    if (!read_number(text, 0, UINT16_MAX, &number)) return A_NUMBER;
+    *into = number;
+    return NULL;
+}
+
+/* One of two words of a port. */
+static const char *take_choice(const char *text, const char *first, const char *second, const char *expected, int *into) {
+    bool is_first;
+    if (!read_word(text, first, second, &is_first)) return expected;
+    *into = is_first;
+    return NULL;
+}
+
+/* Gives a key of a port a value; answers NULL, or what was expected. */
+const char *set_port(struct port_settings *port, const char *name, const char *text) {
+    int individual = 0;
+    const char *expected = "key, priority, timeout, activity or individual as a key of [Port]";
+    if (strcmp(name, "key") == 0) return take_number(text, &port->key);
+    if (strcmp(name, "priority") == 0) return take_number(text, &port->priority);
+    if (strcmp(name, "timeout") == 0) return take_choice(text, "short", "long", "short or long", &port->short_timeout);
+    if (strcmp(name, "activity") == 0) return take_choice(text, "active", "passive", "active or passive", &port->active);
+    if (strcmp(name, "individual") == 0) expected = take_choice(text, "yes", "no", "yes or no", &individual);
+    if (!expected) port->individual = individual;
+    return expected;
+}
+
+/* Whether the kernel would take a name of an interface. */
+static bool is_name(const char *text, size_t length) {
+    bool right = length > 0 && length < NAME_ROOM && !(length == 1 && text[0] == '.') && !(length == 2 && memcmp(text, "..", 2) == 0);
+    for (size_t i = 0; i < length; i++) right = right && text[i] && text[i] != '/' && text[i] != ':' && !isspace((unsigned char)text[i]);
+    return right;
+}
+
+/* Adds a port, by the name of its interface; answers NULL, or what was expected. */
+const char *add_port(struct settings *settings, const char *name, size_t length) {
+    struct port_settings *port = &settings->ports[settings->port_count];
+    if (!is_name(name, length)) return "the name of an interface";
+    for (uint16_t i = 0; i < settings->port_count; i++)
+        if (strlen(settings->ports[i].name) == length && memcmp(settings->ports[i].name, name, length) == 0)
+            return "each interface once";
+    if (settings->port_count == NIW_MOST_PORTS) return "at most 64 interfaces";
+    *port = (struct port_settings){.key = AS_BUNDLE, .priority = AS_BUNDLE, .active = AS_BUNDLE, .short_timeout = AS_BUNDLE};
+    memcpy(port->name, name, length);
+    settings->port_count++;
+    return NULL;
+}
+
+/* What holds where nothing else is given. */
+struct settings usual_settings(void) {
+    return (struct settings){
+        .config = {.first_marker = 1, .conversations = 256},
+        .port_priority = 32768,
+        .active = true,
+        .short_timeout = true,
+        .min_links = 1,
+        .marker_responses = USUAL_RESPONSES,
+    };
+}
+
+/* What has to be given and is not, or NULL. */
+const char *lack_of(const struct settings *settings) {
+    if (!settings->has_key) return "key=NUMBER in [Bundle]";
+    if (!settings->has_system) return "system=PRIORITY,MAC in [Bundle]";
+    if (settings->port_count == 0) return "a section [Port INTERFACE] for each interface, 1 to 64 of them";
+    if (settings->min_links > settings->port_count) return "min-links that is at most the number of interfaces";
+    return NULL;
+}
+
+static int value_of(int own, int all) {
+    return own == AS_BUNDLE ? all : own;
+}
+
+/* A port, from 1, as the library takes it. */
+struct niw_port port_of(const struct settings *settings, uint16_t port) {
+    const struct port_settings *own = &settings->ports[port - 1];
+    return (struct niw_port){
+        .number = port,
+        .priority = (uint16_t)value_of(own->priority, settings->port_priority),
+        .key = (uint16_t)value_of(own->key, settings->key),
+        .aggregatable = !own->individual,
+        .active = value_of(own->active, settings->active) != 0,
+        .short_timeout = value_of(own->short_timeout, settings->short_timeout) != 0,
+    };
+}

@@ -1,0 +1,68 @@
+/* What an administrator gives for a bundle and its ports, by the command line or by a file. */
+#ifndef LAGD_SETTINGS_H
+#define LAGD_SETTINGS_H
+
+#include <stdbool.h>
+#include <stddef.h>
+#include <stdint.h>
+
+#include "lag.h"
+
+/* The room of a name of an interface, of its alternative names too: ALTIFNAMSIZ of linux/if.h. */
+#define NAME_ROOM 128
+/* The room of the path of a hook. */
+#define PATH_ROOM 192
+/* How many marker responses a port sends in a second, if nothing else is given: as often as IEEE 802.3, annex 57A, lets one of the
+ * slow protocols send. */
+#define USUAL_RESPONSES 10
+
+/* A system: its priority and its MAC address. */
+struct system_id {
+    uint16_t priority;
+    uint8_t mac[6];
+};
+
+/* Whose LACPDUs are taken. */
+enum partner_policy {
+    PARTNER_ANY,
+    PARTNER_FIRST, /* those of the system that speaks first, until the link goes down */
+    PARTNER_GIVEN, /* those of one given system */
+};
+
+/* Where a port has no value of its own. */
+enum { AS_BUNDLE = -1 };
+
+struct port_settings {
+    char name[NAME_ROOM];      /* of the interface */
+    int key, priority;         /* 0 to 65535, or AS_BUNDLE */
+    int active, short_timeout; /* 0 or 1, or AS_BUNDLE */
+    bool individual;
+};
+
+struct settings {
+    char name[NAME_ROOM]; /* of the bundle */
+    bool has_key, has_system;
+    struct niw_config config;
+    uint16_t key, port_priority;
+    bool active, short_timeout;
+    enum partner_policy policy;
+    struct system_id partner; /* of PARTNER_GIVEN */
+    bool partner_required;    /* whether a port without a partner does not carry */
+    uint16_t min_links;       /* a bundle of fewer is down */
+    uint16_t marker_responses;
+    char hook[PATH_ROOM]; /* the program that is run where the bundle changes, or empty */
+    uint16_t port_count;
+    struct port_settings ports[NIW_MOST_PORTS];
+};
+
+struct settings usual_settings(void);
+const char *set_bundle(struct settings *settings, const char *name, const char *text);
+const char *set_port(struct port_settings *port, const char *name, const char *text);
+const char *add_port(struct settings *settings, const char *name, size_t length);
+const char *lack_of(const struct settings *settings);
+struct niw_port port_of(const struct settings *settings, uint16_t port);
+
+/* file.c */
+bool read_file(const char *path, struct settings *settings);
+
+#endif

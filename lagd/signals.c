@@ -1,0 +1,39 @@
+/* Signals: which ones end the daemon, after its peers are told, and which do not. */
+#define _GNU_SOURCE
+#include <errno.h>
+#include <signal.h>
+#include <string.h>
+#include <sys/signalfd.h>
+
+#include "lagd.h"
+
+/* Signals that would end the program at once, but for those of a fault in it. */
+static const int ENDS[] = {SIGHUP, SIGINT, SIGQUIT, SIGALRM, SIGVTALRM, SIGPROF, SIGIO, SIGPWR, SIGXCPU, SIGSTKFLT};
+
+/* Whether the starting program had a signal ignored, as nohup does: then it stays so. */
+static bool is_ignored(int signal) {
+    struct sigaction action;
+    return sigaction(signal, NULL, &action) == 0 && action.sa_handler == SIG_IGN;
+}
+
+/* Opens the signals that end the daemon, and SIGHUP. A log that may not grow (SIGXFSZ), a reader that is gone (SIGPIPE) and a hook that
+ * ends (SIGCHLD) do not disturb it. */
+int open_signals(void) {
+    sigset_t taken;
+    int fd;
+    sigemptyset(&taken);
+    sigaddset(&taken, SIGTERM);
+    for (size_t i = 0; i < sizeof ENDS / sizeof *ENDS; i++)
+        if (!is_ignored(ENDS[i])) sigaddset(&taken, ENDS[i]);
+    for (int it = SIGRTMIN; it <= SIGRTMAX; it++)
+        if (!is_ignored(it)) sigaddset(&taken, it);
+    sigprocmask(SIG_BLOCK, &taken, NULL);
+    signal(SIGPIPE, SIG_IGN);
+    signal(SIGXFSZ, SIG_IGN);
+    signal(SIGUSR1, SIG_IGN);
+    signal(SIGUSR2, SIG_IGN);
+    signal(SIGCHLD, SIG_IGN);
+    fd = signalfd(-1, &taken, SFD_CLOEXEC);
+    if (fd < 0) stop(REFUSED, "no signals", strerror(errno));
+    return fd;
+}

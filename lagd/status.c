@@ -1,0 +1,168 @@
+/* Whoever asks: a Unix socket, of which each connection has one question, a line, and one answer; or it watches. */
+#define _GNU_SOURCE
+#include <errno.h>
+#include <stdio.h>
+#include <stdlib.h>
+#include <string.h>
+#include <sys/socket.h>
+#include <sys/stat.h>
+#include <sys/un.h>
+#include <unistd.h>
+
+#include "lagd.h"
+
+/* The most connections of one user, so that none takes all of them. */
+#define MOST_OF_USER 16
+/* The most connections that are taken between two ticks, so that no flood takes the processor. The others wait in their order. */
+#define MOST_IN_TICK 20
+/* How many ticks a question may take. */
+#define PATIENCE 20
+
+struct caller {
+    int fd; /* -1: none */
+    uid_t user;
+    unsigned ticks; /* that are left for the question */
+    bool watches, json;
+    size_t length;
+    char question[16];
+};
+
+static struct caller callers[MOST_CALLERS];
+static int listener = -1, folder_file = -1;
+static unsigned left_in_tick = MOST_IN_TICK;
+static bool listens;
+static char own_name[NAME_ROOM + 32];
+
+static void close_caller(struct caller *caller) {
+    close(caller->fd);
+    *caller = (struct caller){.fd = -1};
+}
+
+/* A free place, if this user has not too many connections. */
+static struct caller *place_for(uid_t user) {
+    struct caller *found = NULL;
+    unsigned same = 0;
+    for (unsigned i = 0; i < MOST_CALLERS; i++) {
+        if (callers[i].fd < 0 && !found) found = &callers[i];
+        if (callers[i].fd >= 0 && callers[i].user == user) same++;
+    }
+    return same < MOST_OF_USER ? found : NULL;
+}
+
+static void take_caller(int fd) {
+    struct ucred who = {0};
+    socklen_t length = sizeof who;
+    struct caller *place = getsockopt(fd, SOL_SOCKET, SO_PEERCRED, &who, &length) == 0 ? place_for(who.uid) : NULL;
+    (void)setsockopt(fd, SOL_SOCKET, SO_SNDBUF, &(int){ANSWER_ROOM}, sizeof(int));
+    if (!place || !watch(fd, CALLERS + (uint32_t)(place - callers))) {
+        close(fd);
+        return;
+    }
+    *place = (struct caller){.fd = fd, .user = who.uid, .ticks = PATIENCE};
+}
+
+/* Takes connections, in the order in which they came. */
+void take_callers(void) {
+    while (left_in_tick > 0) {
+        int fd = accept4(listener, NULL, NULL, SOCK_NONBLOCK | SOCK_CLOEXEC);
+        if (fd < 0) return;
+        left_in_tick--;
+        take_caller(fd);
+    }
+    if (listens) unwatch(listener);
+    listens = false;
+}
+
+/* Answers a question, a word of one line. */
+static void answer_caller(struct caller *caller) {
+    const char *asked = caller->question;
+    caller->watches = strcmp(asked, "watch") == 0 || strcmp(asked, "watch-json") == 0;
+    caller->json = strcmp(asked, "watch-json") == 0;
+    if (caller->watches) return;
+    answered = 0;
+    if (strcmp(asked, "text") == 0) write_text();
+    if (strcmp(asked, "json") == 0) write_json();
+    if (strcmp(asked, "metrics") == 0) write_metrics();
+    (void)send(caller->fd, answer, answered, MSG_NOSIGNAL | MSG_DONTWAIT);
+    close_caller(caller);
+}
+
+/* Takes what somebody sends. Who watches sends nothing more, but for the end. */
+void serve_caller(uint32_t number) {
+    struct caller *caller = &callers[number];
+    char *end, scrap[64];
+    ssize_t got;
+    if (caller->fd < 0) return;
+    if (caller->watches) {
+        if (recv(caller->fd, scrap, sizeof scrap, MSG_DONTWAIT) <= 0) close_caller(caller);
+        return;
+    }
+    got = recv(caller->fd, caller->question + caller->length, sizeof caller->question - 1 - caller->length, MSG_DONTWAIT);
+    if (got < 0 && (errno == EAGAIN || errno == EINTR)) return;
+    if (got > 0) caller->length += (size_t)got;
+    caller->question[caller->length] = 0;
+    end = strchr(caller->question, '\n');
+    if (end) *end = 0;
+    if (end)
+        answer_caller(caller);
+    else if (got <= 0 || caller->length == sizeof caller->question - 1)
+        close_caller(caller);
+}
+
+/* 100 ms passed: who asked nothing for 2 s is let go, and more may come. */
+void pass_tick_of_callers(void) {
+    for (unsigned i = 0; i < MOST_CALLERS; i++)
+        if (callers[i].fd >= 0 && !callers[i].watches && --callers[i].ticks == 0) close_caller(&callers[i]);
+    left_in_tick = MOST_IN_TICK;
+    if (!listens) listens = watch(listener, STATUS);
+}
+
+/* Tells those who watch; who does not keep up is let go. */
+static void tell(const char *text, size_t length, bool json) {
+    for (unsigned i = 0; i < MOST_CALLERS; i++) {
+        struct caller *caller = &callers[i];
+        if (caller->fd < 0 || !caller->watches || caller->json != json) continue;
+        if (send(caller->fd, text, length, MSG_NOSIGNAL | MSG_DONTWAIT) != (ssize_t)length) close_caller(caller);
+    }
+}
+
+/* Tells those who watch a line. */
+void tell_watchers(const char *line, size_t length) {
+    tell(line, length, false);
+}
+
+/* Tells those who watch in JSON how a port is now, or the bundle, where `link` is null. */
+void tell_watchers_of(const struct link *link) {
+    bool any = false;
+    for (unsigned i = 0; i < MOST_CALLERS; i++) any = any || (callers[i].fd >= 0 && callers[i].watches && callers[i].json);
+    if (!any) return;
+    answered = 0;
+    write_json_event(link);
+    tell(answer, answered, true);
+}
+
+static void remove_socket(void) {
+    (void)unlinkat(folder_file, own_name, 0);
+}
+
+/* The status socket, named for the namespace and the first interface, whose lock is ours: one that is left there is nobody's. Its user
+ * and group may ask, whatever the umask is. */
+int open_status(const char *folder) {
+    struct sockaddr_un address = {.sun_family = AF_UNIX};
+    int length, fault;
+    mode_t mask;
+    for (unsigned i = 0; i < MOST_CALLERS; i++) callers[i].fd = -1;
+    folder_file = open_folder(folder);
+    snprintf(own_name, sizeof own_name, "%lu.%s.sock", network_namespace(), links[0].name);
+    length = snprintf(address.sun_path, sizeof address.sun_path, "/proc/self/fd/%d/%s", folder_file, own_name);
+    if (length >= (int)sizeof address.sun_path) stop(WRONG_WORD, "too long", own_name);
+    (void)unlinkat(folder_file, own_name, 0);
+    listener = socket(AF_UNIX, SOCK_STREAM | SOCK_NONBLOCK | SOCK_CLOEXEC, 0);
+    mask = umask(0117);
+    fault = listener < 0 || bind(listener, (struct sockaddr *)&address, sizeof address) < 0 || listen(listener, 64) < 0 ? errno : 0;
+    umask(mask);
+    if (fault) stop(REFUSED, folder, strerror(fault));
+    (void)atexit(remove_socket);
+    listens = watch(listener, STATUS);
+    return listener;
+}

@@ -1,0 +1,167 @@
+/* The system of the library: time and links go in, frames come out. */
+#define _GNU_SOURCE
+#include <string.h>
+
+#include "lagd.h"
+
+struct niw_system own_system = NIW_EMPTY;
+struct settings settings;
+struct link links[NIW_MOST_PORTS];
+uint16_t link_count;
+bool started;
+
+static uint64_t ticks;
+static struct timespec began;
+
+/* What a reader told; 0 where it is refused. */
+uint64_t number_of(struct niw_number answer, const char *call) {
+    refuse(answer.status, call);
+    return answer.number;
+}
+
+/* How many ticks passed since the start. */
+uint64_t ticks_passed(void) {
+    return ticks;
+}
+
+/* How many seconds passed since the start, also while the daemon was stopped. */
+uint64_t seconds_passed(void) {
+    struct timespec now;
+    clock_gettime(CLOCK_MONOTONIC, &now);
+    return (uint64_t)(now.tv_sec - began.tv_sec);
+}
+
+/* Makes the system of the settings, with an aggregator for each port, of its key. */
+void make_system(void) {
+    struct niw_port ports[NIW_MOST_PORTS];
+    uint16_t keys[NIW_MOST_PORTS];
+    clock_gettime(CLOCK_MONOTONIC, &began);
+    link_count = settings.port_count;
+    for (uint16_t i = 0; i < link_count; i++) {
+        ports[i] = port_of(&settings, (uint16_t)(i + 1));
+        keys[i] = ports[i].key;
+        links[i].name = settings.ports[i].name;
+        links[i].settings = ports[i];
+        links[i].socket = links[i].lock = -1;
+        links[i].lines = MOST_LINES;
+        links[i].responses = settings.marker_responses;
+        links[i].changed = true;
+        forget_partner(&links[i]);
+    }
+    refuse(niw_new(&own_system, &settings.config, keys, link_count, ports, link_count).status, "niw_new");
+    take_views();
+}
+
+/* Sends what is due on a port. */
+static void send_due_of(uint16_t port) {
+    uint8_t frame[NIW_FRAME];
+    for (;;) {
+        struct niw_sent due = niw_transmit(&own_system, port, frame, sizeof frame);
+        refuse(due.status, "niw_transmit");
+        if (!due.is) return;
+        send_frame(&links[port - 1], LACPDUS_SENT, frame);
+    }
+}
+
+/* Sends what is due: after each call that may change anything, since one about a port may make a frame due on another. */
+void send_due(void) {
+    uint64_t due = number_of(niw_due(&own_system), "niw_due");
+    for (uint16_t i = 0; i < link_count; i++)
+        if (due >> i & 1) send_due_of((uint16_t)(i + 1));
+}
+
+/* Sends again what the kernel did not take before this tick, if nothing newer was due since. */
+void send_again(void) {
+    for (uint16_t i = 0; i < link_count; i++)
+        if (links[i].unsent && !links[i].tried) send_frame(&links[i], LACPDUS_SENT, links[i].frame);
+}
+
+/* The link of a port is up or down now. */
+void set_link(uint16_t port, bool up) {
+    struct link *link = &links[port - 1];
+    if (link->up == up) return;
+    link->up = up;
+    link->unsent = false;
+    link->changed = true;
+    if (!up) {
+        link->counts[LOSSES]++;
+        forget_partner(link);
+    }
+    refuse(niw_set_link(&own_system, port, up), "niw_set_link");
+    send_due();
+    take_views();
+    (void)print_change(link);
+}
+
+/* The interface of a port is gone, or has another name now. */
+void lose_link(struct link *link) {
+    set_link(link->settings.number, false);
+    close_link(link);
+    (void)print_change(link);
+}
+
+/* 100 ms passed for a link: what failed is forgotten after a while. */
+static void pass_tick_of(struct link *link) {
+    link->tried = false;
+    if (link->trouble_ticks == 0 || --link->trouble_ticks > 0) return;
+    link->trouble = 0;
+    link->changed = true;
+}
+
+static void pass_second(void) {
+    for (uint16_t i = 0; i < link_count; i++) {
+        if (links[i].lines < MOST_LINES) links[i].lines++;
+        links[i].responses = settings.marker_responses;
+    }
+    allow_bundle_line();
+    watch_changes();
+    notify_alive();
+}
+
+/* 100 ms passed. */
+void pass_tick(void) {
+    refuse(niw_tick(&own_system), "niw_tick");
+    for (uint16_t i = 0; i < link_count; i++) pass_tick_of(&links[i]);
+    if (++ticks % SECOND == 0) pass_second();
+}
+
+static bool has_key(uint16_t key) {
+    for (uint16_t i = 0; i < link_count; i++)
+        if (links[i].settings.key == key) return true;
+    return false;
+}
+
+/* A key that no port has. */
+static uint16_t free_key(void) {
+    uint16_t key = 0;
+    while (has_key(key)) key++;
+    return key;
+}
+
+/* Takes each port out of its aggregator, by a key that none has, and so tells the peers that they have to stop. */
+void tell_end(void) {
+    struct niw_change leave = {.key = free_key()};
+    for (uint16_t port = 1; port <= link_count; port++) {
+        struct link *link = &links[port - 1];
+        link->to_tell = link->up && link->view.mux_state >= NIW_MUX_ATTACHED;
+        link->sent_before_end = link->counts[LACPDUS_SENT];
+        leave.priority = link->settings.priority;
+        leave.aggregatable = link->settings.aggregatable;
+        refuse(niw_configure(&own_system, port, &leave).status, "niw_configure");
+    }
+    send_due();
+}
+
+/* Whether each peer was told. Where three LACPDUs were sent within a second, the next one waits. */
+bool end_is_told(void) {
+    for (uint16_t i = 0; i < link_count; i++)
+        if (links[i].to_tell && links[i].up && links[i].counts[LACPDUS_SENT] == links[i].sent_before_end) return false;
+    return true;
+}
+
+/* Says of each port that the daemon has ended, and frees the system. */
+void end_system(void) {
+    for (uint16_t i = 0; i < link_count; i++) (void)say(LOG_NOTICE, "port %u %s: ended", i + 1, links[i].name);
+    end_bundle();
+    refuse(niw_free(&own_system), "niw_free");
+}

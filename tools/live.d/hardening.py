@@ -1,0 +1,335 @@
+"""The daemon against odd surroundings and whoever means it ill: strangers on the wire, tags, signals, folders, askers and names."""
+
+import os
+import re
+import signal
+import socket
+import stat
+import subprocess
+import time
+
+from checking import Skipped, check, within
+from daemon import ENDS, OTHER, SYSTEM
+from daemons import COMES_UP, GOES_DOWN, NOBODY, STRANGER, both_up
+from spaces import GROUP, OURS, SLOW_PROTOCOLS, THEIRS, Wire, flap, inside, ip, lacpdu, marker, octets, packet_socket
+
+# What Wire sends from.
+SOURCE = "02:00:00:00:00:77"
+# Where SIGSTOP is given so many messages of the kernel that some are lost.
+MANY_MESSAGES = 3000
+ODD_SIGNALS = ("SIGALRM", "SIGVTALRM", "SIGPROF", "SIGIO", "SIGPWR", "SIGXCPU", "SIGSTKFLT", "SIGRTMIN")
+
+
+def forged_each_second(wire, seconds, looks):
+    """A stranger speaks once a second; in which share of the looks something holds."""
+    held, count, until = 0, 0, time.monotonic() + seconds
+    while time.monotonic() < until:
+        wire.send(lacpdu(STRANGER, 9))
+        for _ in range(5):
+            time.sleep(0.2)
+            held, count = held + looks(), count + 1
+    return held / count
+
+
+def partner_policy(part):
+    """A stranger forges an LACPDU each second on the first link."""
+    theirs = part.theirs()
+    for policy in "first", f"32768,{OTHER}":
+        ours = part.ours(options=["--partner", policy])
+        both_up(ours, theirs, f"partner {policy}: both links come to distribute")
+        share = forged_each_second(Wire(THEIRS, "b0"), 8, lambda: ours.distributes("a0", "a1"))
+        check(share == 1, f"partner {policy}: an LACPDU of a stranger each second costs nothing", share, ours.text())
+        port = ours.port("a0")
+        check(port["counters"].get("foreign_received", 0) >= 6, "its LACPDUs are counted", port)
+        named = {"system": f"32768,{STRANGER}", "source": SOURCE}
+        check(port.get("other_system") == named, "the status names it", port)
+        line = rf"^another system speaks, last 32768,{STRANGER} from {SOURCE}: \d+ LACPDUs not taken"
+        check(any(re.search(line, it) for it in ours.lines("a0")), "so does a line", ours.printed())
+        ours.ends("the daemon")
+    ours = part.ours("a0:individual", options=["--partner", f"32768,{STRANGER}"])
+    foreign = lambda: ours.count("a0", "foreign_received") > 0
+    check(within(ENDS, foreign) and ours.port("a0")["partner"]["defaulted"], "who is not the given partner is none", ours.text())
+    ours.ends("the daemon")
+
+
+def any_partner(part):
+    """With any partner, whoever speaks is one; the log names both."""
+    ours, wire = part.ours("a0"), Wire(THEIRS, "b0")
+    within(ENDS, lambda: ours.port("a0")["link"] == "up")
+    for _ in range(4):
+        wire.send(lacpdu(OTHER, 1))
+        wire.send(lacpdu(STRANGER, 1))
+        time.sleep(0.3)
+    told = lambda: [line for line in ours.lines("a0") if line.startswith("another system speaks, last 32768,")]
+    check(within(ENDS, told), "with any partner a line names who else speaks", ours.printed())
+    check(ours.count("a0", "partner_changes") == 7, "and changes of the partner are counted", ours.text())
+    ours.ends("the daemon")
+
+
+def first_until_down(part):
+    """The first one stays the partner until the link goes down."""
+    ours, wire = part.ours("a0", options=["--partner", "first"]), Wire(THEIRS, "b0")
+    within(ENDS, lambda: ours.port("a0")["link"] == "up")
+    named = lambda system: ours.port("a0")["partner"]["system"] == system
+    wire.send(lacpdu(STRANGER, 1))
+    check(within(ENDS, lambda: named(STRANGER)), "who speaks first is the partner", ours.text())
+    wire.send(lacpdu(OTHER, 1))
+    check(within(ENDS, lambda: ours.count("a0", "foreign_received") == 1) and named(STRANGER), "and stays so", ours.text())
+    flap(THEIRS, "b0", 1)
+    within(ENDS, lambda: ours.port("a0")["link"] == "up")
+    again = Wire(THEIRS, "b0")
+    other = lambda: again.send(lacpdu(OTHER, 1)) or named(OTHER)
+    check(within(ENDS, other), "until the link goes down", ours.text())
+    ours.ends("the daemon")
+
+
+def without_partner(part):
+    """A link without a partner distributes by the standard, and is told of as that; it does not carry where a partner is required."""
+    for words, text, state in ([], "it distributes without a partner", "up"), (["--partner-required"], "a partner is required, and it has none", "down"):
+        ours = part.ours("a0", options=words)
+        check(within(COMES_UP, lambda: ours.port("a0")["status"] == text), f"{words}: alone, it says '{text}'", ours.text())
+        check(f"status: {state}, " in ours.text(), f"{words}: and the bundle is {state}", ours.text())
+        check(not any(line.startswith("it distributes,") for line in ours.lines("a0")), "no line says 'it distributes'", ours.printed())
+        ours.ends("the daemon")
+
+
+def minimum(part):
+    """A bundle of two links that wants both."""
+    ours, theirs = part.ours(options=["--min-links", "2"]), part.theirs()
+    both_up(ours, theirs, "both links distribute")
+    state = lambda wanted: lambda: f"status: {wanted}, " in ours.text()
+    check(within(ENDS, state("up")), "the bundle is up", ours.text())
+    ip(THEIRS, "link", "set", "b1", "down")
+    check(within(GOES_DOWN, state("down")), "with fewer links than min-links it is down", ours.text())
+    check(within(GOES_DOWN, lambda: "status: degraded, 1 of 2" in theirs.text()), "at the peer, who wants one, degraded", theirs.text())
+    ours.ends("the daemon")
+
+
+def tagged(vlan, protocol=0x8100):
+    """A frame with a VLAN tag, which has an LACPDU."""
+    tag = protocol.to_bytes(2, "big") + vlan.to_bytes(2, "big") + SLOW_PROTOCOLS.to_bytes(2, "big")
+    return octets(GROUP) + octets(SOURCE) + tag + lacpdu(STRANGER, 7)
+
+
+def tags(part):
+    """LACPDUs with a VLAN tag, without and with an interface of that VLAN."""
+    ours = part.ours("a0")
+    within(ENDS, lambda: ours.port("a0")["link"] == "up")
+    sender = packet_socket(THEIRS, "b0", 0)
+    for frame in tagged(5), tagged(5, 0x88A8):
+        sender.send(frame)
+    if not inside(OURS, "ip", "link", "add", "link", "a0", "name", "a0.6", "up", "type", "vlan", "id", "6").returncode:
+        inside(OURS, "ip", "link", "set", "a0.6", "promisc", "on")
+        sender.send(tagged(6))
+    time.sleep(1)
+    port = ours.port("a0")
+    spared = port["partner"]["defaulted"] and port["counters"].get("lacpdus_received") == 0
+    check(spared and port["counters"].get("tagged_received", 0) >= 2, "no LACPDU with a VLAN tag is taken", ours.text())
+    ours.ends("the daemon")
+
+
+def many_markers(part, count=300):
+    """More markers than the standard lets a peer send."""
+    ours, wire = part.ours("a0"), Wire(THEIRS, "b0")
+    within(ENDS, lambda: ours.port("a0")["link"] == "up")
+    for _ in range(count):
+        wire.send(marker(1))
+        time.sleep(0.002)
+    check(within(ENDS, lambda: ours.count("a0", "markers_received") == count), f"{count} markers are taken", ours.text())
+    sent, unsent = (ours.count("a0", f"marker_responses_{name}") for name in ("sent", "unsent"))
+    check(10 <= sent <= 40 and sent + unsent == count, "of them about ten a second are answered, and the others counted", sent, unsent)
+    ours.ends("the daemon")
+
+
+def ignored_hangup(part):
+    """nohup leaves SIGHUP ignored."""
+    ours, theirs = part.ours(before=["nohup"]), part.theirs()
+    both_up(ours, theirs, "started by nohup, both links distribute")
+    ours.process.send_signal(signal.SIGHUP)
+    time.sleep(1)
+    check(ours.process.poll() is None and ours.distributes("a0", "a1"), "SIGHUP does not end it", ours.printed())
+    ours.ends("the daemon")
+
+
+def odd_signals(part):
+    """Signals that would end a program at once end this one when the peers are told: the peer would miss it after 90 s only."""
+    theirs = part.theirs(options=["--timeout", "long"])
+    for name in ODD_SIGNALS:
+        ours = part.ours()
+        both_up(ours, theirs, "both links distribute")
+        ours.process.send_signal(getattr(signal, name))
+        check(ours.status() == 0, f"{name} ends the daemon with status 0", ours.printed())
+        check(within(5, lambda: not (theirs.distributes("b0") or theirs.distributes("b1"))), "its peer stops both links at once")
+
+
+def refused_call(part):
+    """The library refuses a call, as it never should: the peers are told, and the daemon ends with status 1."""
+    theirs = part.theirs(options=["--timeout", "long"])
+    plain, part.program = part.program, part.refusing()
+    ours = part.ours()
+    part.program = plain
+    both_up(ours, theirs, "both links distribute")
+    ours.process.send_signal(signal.SIGUSR1)
+    check(ours.status() == 1, "after a refused call the daemon ends with status 1", ours.printed())
+    check("niw_tick: refused with 13" in ours.printed(), "and says which", ours.printed())
+    check(within(5, lambda: not (theirs.distributes("b0") or theirs.distributes("b1"))), "its peer stops both links at once", theirs.text())
+
+
+def anew_while_stopped(part):
+    """A daemon is stopped while its interface is made anew with the same number, and so much happens that it is not told of that."""
+    ours, theirs = part.ours(), part.theirs()
+    both_up(ours, theirs, "both links distribute")
+    flap(THEIRS, "b1", 5)
+    before = ours.count("a1", "link_losses")
+    index = inside(OURS, "cat", "/sys/class/net/a1/ifindex").stdout.strip()
+    ours.process.send_signal(signal.SIGSTOP)
+    for _ in range(MANY_MESSAGES // 1000):
+        ip(OURS, "-batch", "-", input="link set a0 txqueuelen 999\nlink set a0 txqueuelen 1000\n" * 500)
+    ip(OURS, "link", "del", "a1")
+    ip(OURS, "link", "add", "a1", "index", index, "type", "veth", "peer", "name", "b1", "netns", THEIRS)
+    ip(OURS, "link", "set", "a1", "up")
+    ip(THEIRS, "link", "set", "b1", "up")
+    ours.process.send_signal(signal.SIGCONT)
+    both_up(ours, theirs, "an interface that was made anew with its number is taken up")
+    after = ours.count("a1", "link_losses")
+    check(before < after < before + 20, "its losses are counted on, and do not wrap", before, after)
+    ours.ends("the daemon")
+
+
+def modes(part):
+    """The status socket has its mode by itself, and who may not ask is told that."""
+    os.chmod(part.folder, 0o755)
+    ours = part.ours("a0", before=["sh", "-c", 'umask 0; exec "$@"', "sh"])
+    within(ENDS, ours.ports)
+    mode = stat.S_IMODE(os.stat(ours.socket()).st_mode)
+    check(mode == 0o660, "the status socket has mode 0660, whatever the umask is", oct(mode))
+    words = ["setpriv", "--reuid", NOBODY, "--regid", NOBODY, "--clear-groups", ours.program, "--folder", ours.folder, "--status"]
+    told = inside(OURS, *words)
+    check(told.returncode == 1 and "permission denied" in told.stderr, "who may not ask is told that permission is denied", told.stderr)
+    ours.ends("the daemon")
+
+
+# Asks without end, and reads no answer.
+HASTY = """import socket, sys
+while True:
+    asker = socket.socket(socket.AF_UNIX)
+    asker.settimeout(1)
+    try:
+        asker.connect(sys.argv[1])
+        asker.send(b"json\\n")
+    except OSError:
+        pass
+    asker.close()
+"""
+
+
+def busy_askers(part):
+    """Some ask without end, and some connect and say nothing: another one is answered."""
+    ours = part.ours("a0")
+    within(ENDS, ours.ports)
+    busy = [subprocess.Popen(["python3", "-c", HASTY, ours.socket()]) for _ in range(2)]
+    silent = [socket.socket(socket.AF_UNIX, socket.SOCK_STREAM | socket.SOCK_NONBLOCK) for _ in range(100)]
+    for it in silent:
+        it.connect_ex(ours.socket())
+    time.sleep(3)
+    before, begin, used = ours.count("a0", "lacpdus_sent"), time.monotonic(), ours.busy()
+    answers = [inside(OURS, ours.program, "--folder", ours.folder, "--status").returncode for _ in range(9)]
+    time.sleep(3)
+    share = (ours.busy() - used) / (time.monotonic() - begin)
+    for it in busy:
+        it.kill()
+        it.wait()
+    for it in silent:
+        it.close()
+    check(answers == [0] * 9, "beside busy and silent askers each question is answered", answers)
+    check(ours.count("a0", "lacpdus_sent") >= before + 1 and share < 0.3, "and the daemon goes on", f"{share:.1%}", ours.text())
+    ours.ends("the daemon")
+
+
+def folders(part):
+    """A folder of another user, one that others may write, and a symbolic link are refused."""
+    made = os.path.join(part.folder, "odd")
+    os.mkdir(made)
+    words = ["7", f"32768,{SYSTEM}", "a0"]
+    for what, change in (
+        ("of another user", lambda: os.chown(made, int(NOBODY), int(NOBODY))),
+        ("that others may write", lambda: (os.chown(made, 0, 0), os.chmod(made, 0o777))),
+        ("through a symbolic link", lambda: (os.chmod(made, 0o755), os.rename(made, made + "2"), os.symlink(made + "2", made))),
+    ):
+        change()
+        ended = inside(OURS, "timeout", "3", part.program, "--folder", made, *words)
+        check(ended.returncode == 1, f"a folder {what} is refused", ended.returncode, ended.stderr)
+
+
+def false_socket(part):
+    """Somebody else's socket says escape sequences."""
+    folder = os.path.join(part.folder, "false")
+    os.mkdir(folder)
+    name = os.path.join(folder, f"{os.stat('/run/netns/' + OURS).st_ino}.x.sock")
+    server = "import socket,sys\ns=socket.socket(socket.AF_UNIX)\ns.bind(sys.argv[1])\ns.settimeout(9)\ns.listen()\nc=s.accept()[0]\nc.recv(9)\nc.send(b'\\x1b]0;x\\x07\\x9b31m\\n')\n"
+    running = subprocess.Popen(["python3", "-c", server, name])
+    within(ENDS, lambda: os.path.exists(name))
+    told = inside(OURS, part.program, "--folder", folder, "--status")
+    running.wait(ENDS)
+    check(told.stdout == "\\x1b]0;x\\x07\\x9b31m\n", "what a false daemon says is only shown", repr(told.stdout), told.stderr)
+
+
+def two_folders(part):
+    """A second daemon with another folder does not take an interface that one has."""
+    ours = part.ours("a0")
+    within(ENDS, ours.ports)
+    ended = inside(OURS, "timeout", "3", part.program, "--folder", os.path.join(part.folder, "other"), "9", f"32768,{OTHER}", "a0")
+    wanted = f"another lagd has the interface, process {ours.process.pid} of user 0: a0"
+    check(ended.returncode == 1 and wanted in ended.stderr, "a second daemon with another folder is refused", ended.returncode, ended.stderr)
+    ours.ends("the daemon")
+
+
+def other_names(part):
+    """An interface by one of its alternative names."""
+    made = inside(OURS, "ip", "link", "property", "add", "dev", "a0", "altname", "thefirstinterfacebyitslongname")
+    if made.returncode:
+        raise Skipped(f"no alternative names: {made.stderr.strip()}")
+    ours = part.ours("thefirstinterfacebyitslongname", "a1")
+    theirs = part.theirs()
+    both = lambda: ours.distributes("thefirstinterfacebyitslongname", "a1") and theirs.distributes("b0", "b1")
+    check(within(COMES_UP, both), "an interface is taken by an alternative name", ours.text())
+    ours.ends("the daemon")
+
+
+def name_twice(part):
+    inside(OURS, "ip", "link", "property", "add", "dev", "a0", "altname", "again0")
+    status, line = part.refused("7", f"32768,{SYSTEM}", "a0", "again0")
+    check(status == 1 and "this lagd, by another name" in line, "one interface by two names is refused", line)
+
+
+def full_log(part):
+    """The log may not grow: the daemon goes on."""
+    ours = part.ours("a0", "a1", before=["sh", "-c", 'ulimit -f 1; exec "$@"', "sh"])
+    theirs = part.theirs()
+    both_up(ours, theirs, "with a log of at most 512 octets both links distribute")
+    flap(OURS, "a1", 40)
+    both_up(ours, theirs, "and do so when the log is full")
+    ours.ends("the daemon")
+
+
+PARTS = {
+    "whom it bonds with": partner_policy,
+    "any partner": any_partner,
+    "the first partner": first_until_down,
+    "no partner": without_partner,
+    "fewer links than wanted": minimum,
+    "VLAN tags": tags,
+    "many markers": many_markers,
+    "SIGHUP that is ignored": ignored_hangup,
+    "odd signals": odd_signals,
+    "a call that is refused": refused_call,
+    "an interface that is made anew": anew_while_stopped,
+    "the mode of the status socket": modes,
+    "busy askers": busy_askers,
+    "folders of others": folders,
+    "a false daemon": false_socket,
+    "two folders": two_folders,
+    "alternative names": other_names,
+    "one interface by two names": name_twice,
+    "a log that may not grow": full_log,
+}

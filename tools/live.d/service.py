@@ -1,0 +1,298 @@
+"""The daemon as a service: its file, its reload, who watches and scrapes, its hook, the manager of services, and its rights."""
+
+import json
+import os
+import re
+import shutil
+import signal
+import socket
+import subprocess
+import time
+
+from checking import Skipped, check, command, within
+from daemon import ENDS, OTHER, SYSTEM, Daemon
+from daemons import COMES_UP, GOES_DOWN, NOBODY, both_up
+from repository import TOP, daemon_words
+from spaces import OURS, THEIRS, inside, ip, make_pair
+
+UNIT = os.path.join(TOP, "lagd", "lagd@.service")
+# What the unit may be exposed to, as systemd-analyze counts, at most.
+EXPOSED = 2.0
+FILE = f"""# A bundle of two links.
+[Bundle]
+key=23
+system=32768,{SYSTEM}
+partner=first
+min-links=1
+
+[Port a0]
+[Port a1]
+priority=100
+"""
+# A wrong file, and where what was expected is told.
+WRONG = {
+    "[Bundle]\nkey=65536\n": "2: expected a number from 0 to 65535: key=65536",
+    "[Bundle]\nkeys=7\n": "2: expected key, system, ",
+    "key=7\n": "1: expected [Bundle] or [Port INTERFACE] before keys: key=7",
+    "[Bundle]\nkey\n": "2: expected KEY=VALUE: key",
+    "[Bundle\n": "1: expected [Bundle] or [Port INTERFACE]: [Bundle",
+    "[Ports a0]\n": "1: expected [Bundle] or [Port INTERFACE]: [Ports a0]",
+    "[Port a0]\n[Port a0]\n": "2: expected each interface once: [Port a0]",
+    "[Port a/0]\n": "1: expected the name of an interface: [Port a/0]",
+    "[Port a0]\ntimeout=fast\n": "2: expected short or long: timeout=fast",
+    "[Port a0]\nindividual=1\n": "2: expected yes or no: individual=1",
+    "[Bundle]\nsystem=1,01:00:00:00:00:aa\n": "2: expected PRIORITY,MAC, ",
+    "[Bundle]\npartner=last\n": "2: expected any, first or PRIORITY,MAC, ",
+    "[Bundle]\nmin-links=0\n": "2: expected a number from 1 to 64: min-links=0",
+    "[Bundle]\nhook=relative\n": "2: expected a path that begins with /, ",
+    "[Bundle]\n key=7\n": "2: expected a line that does not begin with a space:  key=7",
+    "[Bundle]\nkey=7 ; all\n": "2: expected a number from 0 to 65535: key=7 ; all",
+    "[Bundle]\n" + "#" * 200 + "\n": "2: expected a line of at most 190 octets: ###",
+    "[Bundle]\nkey=\x1b[31m\n": "2: expected a number from 0 to 65535: key=\\x1b[31m",
+    FILE.replace("key=23\n", ""): " expected key=NUMBER in [Bundle]",
+    FILE.replace("min-links=1", "min-links=3"): " expected min-links that is at most the number of interfaces",
+    FILE.partition("[Port")[0]: " expected a section [Port INTERFACE] for each interface, 1 to 64 of them",
+    "".join(f"[Port a{port}]\n" for port in range(65)): "65: expected at most 64 interfaces: [Port a64]",
+}
+
+
+def write(path, text):
+    with open(path, "w", encoding="utf-8") as out:
+        out.write(text)
+
+
+class Filed(Daemon):
+    """A daemon that reads a file."""
+
+    def __init__(self, part, file, before=(), more=None, options=()):
+        self.space, self.program, self.folder = OURS, part.program, os.path.join(part.folder, "run")
+        self.log = os.path.join(part.folder, "filed")
+        self.words = [*before, part.program, "--folder", self.folder, *options, "--config", file]
+        with open(self.log, "w", encoding="utf-8") as log:
+            words = ["ip", "netns", "exec", OURS, *self.words]
+            self.process = subprocess.Popen(words, stdout=log, stderr=log, env={**os.environ, **(more or {})})
+        part.running.append(self)
+
+
+def files(part):
+    """A file is checked, and a bundle runs of it."""
+    path = os.path.join(part.folder, "uplink.conf")
+    untold = []
+    for text, told in WRONG.items():
+        write(path, text)
+        for words in ["--check", path], ["--config", path]:
+            ended = inside(OURS, "timeout", "3", part.program, *words)
+            if ended.returncode != 2 or f"lagd: {path}:{told}" not in ended.stderr:
+                untold.append(f"{words[0]} {text!r}: {ended.returncode}, {ended.stderr}")
+    check(not untold, f"{len(WRONG)} wrong files are refused, with file, line and what was expected", *untold)
+    missing = inside(OURS, part.program, "--check", os.path.join(part.folder, "none.conf"))
+    check(missing.returncode == 2 and "none.conf: No such file" in missing.stderr, "so is one that is missing", missing.stderr)
+    write(path, FILE)
+    right = inside(OURS, part.program, "--check", path)
+    check((right.returncode, right.stderr) == (0, ""), "a right one is not", right.stderr)
+    mixed = inside(OURS, part.program, "--config", path, "--min-links", "2")
+    check(mixed.returncode == 2, "a file and options of a bundle do not go together", mixed.stderr)
+    ours, theirs = Filed(part, path), part.theirs()
+    both_up(ours, theirs, "the bundle of a file comes to distribute")
+    ports = ours.ports()
+    values = {name: (port["actor"]["key"], port["actor"]["port_priority"]) for name, port in ports.items()}
+    check(values == {"a0": (23, 32768), "a1": (23, 100)}, "its ports have the values of the file", values)
+    check("---- uplink ----\n" in ours.text(), "it has the name of the file", ours.text())
+    ours.ends("the daemon")
+
+
+def reloads(part):
+    """SIGHUP reads the file again."""
+    path = os.path.join(part.folder, "uplink.conf")
+    write(path, FILE)
+    ours, theirs = Filed(part, path), part.theirs()
+    both_up(ours, theirs, "the bundle of a file comes to distribute")
+
+    def reload(text, told):
+        write(path, text)
+        before = len(ours.printed())
+        ours.process.send_signal(signal.SIGHUP)
+        check(within(ENDS, lambda: told in ours.printed()[before:]), f"after SIGHUP a line says: {told}", ours.printed()[before:])
+
+    lines = ours.lines("a0")
+    reload(FILE.replace("priority=100", "priority=200"), "read again, 1 ports changed")
+    check(within(ENDS, lambda: ours.port("a1")["actor"]["port_priority"] == 200), "a port has another priority", ours.text())
+    both_up(ours, theirs, "both links distribute")
+    check(ours.lines("a0") == lines, "the other port was not touched", ours.printed())
+    reload(FILE.replace("priority=100", "priority=200\nindividual=yes"), "read again, 1 ports changed")
+    gone = lambda: "aggregation" not in ours.port("a1")["actor"]["state"]
+    check(within(ENDS, gone) and ours.lines("a0") == lines, "it is individual now, and the other port was not touched", ours.text())
+    reload(FILE.replace("min-links=1", "min-links=2").replace("priority=100", "priority=200"), "read again, 1 ports changed")
+    both_up(ours, theirs, "both links distribute again")
+    check("min_links: 2" in ours.text(), "min-links is another one", ours.text())
+    reload(FILE.replace("key=23", "key=24"), "a key that no port had at the start: a restart of this bundle is needed")
+    reload(FILE + "[Port a2]\n", "other interfaces: a restart of this bundle is needed")
+    reload(FILE.replace("32768", "1"), "another system: a restart of this bundle is needed")
+    reload(FILE + "max-links=7\n", "the file is wrong, and nothing is changed")
+    check(ours.distributes("a0") and ours.lines("a0") == lines, "and the first port was never touched", ours.printed())
+    os.unlink(path)
+    ours.process.send_signal(signal.SIGHUP)
+    check(within(ENDS, lambda: "No such file" in ours.printed()), "a file that is gone changes nothing", ours.printed())
+    ours.ends("the daemon")
+
+
+def watchers(part):
+    """Changes as they happen: lines, and JSON; and counts in the form of Prometheus."""
+    ours, theirs = part.ours(), part.theirs()
+    both_up(ours, theirs, "both links distribute")
+    told, seeing = {}, []
+    for kind in (), ("--json",):
+        told[kind] = os.path.join(part.folder, f"watched{len(kind)}")
+        with open(told[kind], "w", encoding="utf-8") as out:
+            words = ["ip", "netns", "exec", OURS, ours.program, "--folder", ours.folder, "--watch", *kind]
+            seeing.append(subprocess.Popen(words, stdout=out))
+    time.sleep(1)
+    ip(THEIRS, "link", "set", "b1", "down")
+    within(GOES_DOWN, lambda: ours.port("a1")["status"] == "the link is down")
+    time.sleep(1)
+    lines = open(told[()], encoding="utf-8").read()
+    check(lines and lines in ours.printed(), "who watches sees the lines that are printed", lines, ours.printed())
+    events = [json.loads(line) for line in open(told[("--json",)], encoding="utf-8")]
+    ports = [event["port"]["status"] for event in events if event["event"] == "port" and event["port"]["interface"] == "a1"]
+    check(ports[:1] == ["the link is down"], "or JSON of each change of a port", events)
+    check([event["state"] for event in events if event["event"] == "bundle"] == ["degraded"], "and of the bundle", events)
+    text = inside(OURS, ours.program, "--folder", ours.folder, "--metrics").stdout
+    sample = r'lagd_\w+\{bundle="a0"(,\w+="[^"]*")*\} \d+'
+    odd = [line for line in text.splitlines() if not re.fullmatch(rf"# (HELP|TYPE) lagd_\w+ .+|{sample}", line)]
+    check(text and not odd, "--metrics has the form of Prometheus", *odd)
+    wanted = ['lagd_bundle_state{bundle="a0",state="degraded"} 1', 'lagd_port_carrying{bundle="a0",interface="a0",port="1"} 1']
+    wanted += ['lagd_port_link_losses_total{bundle="a0",interface="a1",port="2"} 1', 'lagd_port_distributed_total{bundle="a0",interface="a1",port="2"} 1']
+    check(all(line in text.splitlines() for line in wanted), "with states and counts", text)
+    ours.ends("the daemon")
+    check(within(ENDS, lambda: all(it.poll() == 0 for it in seeing)), "who watches ends with it")
+
+
+def metrics_of_two(part):
+    """Two daemons: each metric has one head."""
+    first, second = part.ours("a0"), part.start(OURS, OTHER, "9", "a1")
+    within(ENDS, lambda: set(first.ports()) == {"a0", "a1"})
+    text = inside(OURS, first.program, "--folder", first.folder, "--metrics").stdout
+    heads = re.findall(r"^# TYPE (\w+) ", text, re.M)
+    check(heads and len(heads) == len(set(heads)), "the metrics of two daemons have one head each", text)
+    groups = [match[1] for match in re.finditer(r"^(\w+)\{", text, re.M)]
+    starts = [name for at, name in enumerate(groups) if at == 0 or groups[at - 1] != name]
+    check(len(starts) == len(set(starts)) == len(heads), "and its values stand together", starts)
+    check(text.count('lagd_bundle_links{bundle="a1"} 1\n') == 1 and text.count('lagd_bundle_links{bundle="a0"} 1\n') == 1, "of both", text)
+    first.ends("the daemon")
+    second.ends("the other one")
+
+
+def hooks(part):
+    """A program is run where the bundle is up, degraded or down, and nobody waits for it."""
+    hook, told = os.path.join(part.folder, "hook"), os.path.join(part.folder, "told")
+    write(hook, f'#!/bin/sh\necho "$LAGD_BUNDLE $LAGD_PREVIOUS $LAGD_STATE $LAGD_CARRYING/$LAGD_LINKS $LAGD_AGGREGATOR" >> {told}\nexec sleep 60\n')
+    os.chmod(hook, 0o755)
+    ours, theirs = part.ours(options=["--hook", hook]), part.theirs()
+    both_up(ours, theirs, "both links distribute")
+    ip(THEIRS, "link", "set", "b1", "down")
+    ip(THEIRS, "link", "set", "b0", "down")
+    seen = lambda: open(told, encoding="utf-8").read().split("\n")[:-1] if os.path.exists(told) else []
+    check(within(GOES_DOWN, lambda: len(seen()) >= 2 and seen()[-1].endswith(" down 0/2 0")), "the hook is run, though the one before has not ended", seen(), ours.printed())
+    lines = seen()
+    check("a0 down up 2/2 1" in lines and lines[-1].startswith("a0 "), "it has the state in its environment", *lines)
+    children = command("ps", "--ppid", str(ours.process.pid), "-o", "stat=").stdout
+    check("Z" not in children, "hooks that end leave nothing", children)
+    for line in command("ps", "--ppid", str(ours.process.pid), "-o", "pid=").stdout.split():
+        os.kill(int(line), signal.SIGKILL)
+    ours.ends("the daemon")
+
+
+def managed(part):
+    """The manager of services is told when the daemon is ready, what it does, and that it lives."""
+    if "-DHAVE_SYSTEMD" not in daemon_words()[0]:
+        raise Skipped("built without libsystemd")
+    path, file = os.path.join(part.folder, "notify"), os.path.join(part.folder, "uplink.conf")
+    write(file, FILE)
+    manager = socket.socket(socket.AF_UNIX, socket.SOCK_DGRAM | socket.SOCK_NONBLOCK)
+    manager.bind(path)
+    told = []
+
+    def hears(word):
+        try:
+            told.extend(manager.recv(4096).decode().split("\n"))
+        except BlockingIOError:
+            pass
+        return word in told
+
+    ours, theirs = Filed(part, file, more={"NOTIFY_SOCKET": path}), part.theirs()
+    check(within(ENDS, lambda: hears("READY=1")), "the manager is told that the daemon is ready", told)
+    check(within(ENDS, lambda: hears("WATCHDOG=1")), "that it lives", told)
+    check(within(COMES_UP, lambda: hears("STATUS=up, 2 of 2 links carry")), "and what it does", told)
+    told.clear()
+    ours.process.send_signal(signal.SIGHUP)
+    check(within(ENDS, lambda: hears("READY=1")) and "RELOADING=1" in told, "it is told of a reload", told)
+    ours.process.send_signal(signal.SIGTERM)
+    check(within(ENDS, lambda: hears("STOPPING=1")) and ours.status() == 0, "and of the end", told)
+    theirs.ends("the other daemon")
+
+
+def journal(part):
+    """A line for the journal begins with its priority."""
+    reader, writer = socket.socketpair()
+    found = os.fstat(writer.fileno())
+    ours = part.ours("a0", out=writer, before=["env", f"JOURNAL_STREAM={found.st_dev}:{found.st_ino}"])
+    check(within(ENDS, ours.ports), "a daemon whose lines the journal reads", ours.printed())
+    time.sleep(0.5)
+    lines = reader.recv(4096).decode().splitlines()
+    check(lines[:1] == ["<4>port 1 a0: no LACPDU came in time, aggregator 0, no partner"], "a line has its priority, and no time", *lines)
+    ours.ends("the daemon")
+
+
+def rights(part):
+    """Started as root, the daemon keeps CAP_NET_RAW alone, and gets nothing back; an interface that comes later is taken up."""
+    if "-DHAVE_CAP_NG" not in daemon_words()[0]:
+        raise Skipped("built without libcap-ng")
+    ip(OURS, "link", "del", "a1")
+    ours = part.ours()
+    within(ENDS, lambda: ours.port("a0")["link"] == "up")
+    with open(f"/proc/{ours.process.pid}/status", encoding="utf-8") as it:
+        has = dict(re.findall(r"^(\w+):\t(\S+)$", it.read(), re.M))
+    wanted = {"CapInh": 0, "CapPrm": 1 << 13, "CapEff": 1 << 13, "CapBnd": 0, "CapAmb": 0, "NoNewPrivs": 1}
+    found = {name: int(has[name], 16) for name in wanted}
+    check(found == wanted, "as root the daemon keeps CAP_NET_RAW alone", found)
+    make_pair(1)
+    check(within(ENDS, lambda: ours.port("a1")["link"] == "up"), "and takes up an interface that comes later", ours.text())
+    ours.ends("the daemon")
+
+
+def unit(part):
+    """The unit: what systemd says of it, and a daemon with the rights that it gives."""
+    if not shutil.which("systemd-analyze"):
+        raise Skipped("no command systemd-analyze (Debian: systemd)")
+    told = command("systemd-analyze", "security", "--offline=true", UNIT).stdout
+    level = re.search(r"Overall exposure level for \S+: (\S+)", told)
+    check(level and float(level[1]) <= EXPOSED, f"systemd-analyze security: at most {EXPOSED}", level and level[0])
+    if not shutil.which("setpriv"):
+        raise Skipped("no command setpriv (Debian: util-linux)")
+    os.chmod(part.folder, 0o755)
+    file, run = os.path.join(part.folder, "uplink.conf"), os.path.join(part.folder, "run")
+    write(file, FILE)
+    shutil.rmtree(run, ignore_errors=True)
+    os.mkdir(run)
+    os.chown(run, int(NOBODY), int(NOBODY))
+    words = ["setpriv", "--reuid", NOBODY, "--regid", NOBODY, "--clear-groups", "--no-new-privs", "--bounding-set=-all,+net_raw"]
+    words += ["--inh-caps=-all,+net_raw", "--ambient-caps=-all,+net_raw"]
+    ours = Filed(part, file, before=words)
+    part.folder = os.path.join(part.folder, "theirs")
+    os.mkdir(part.folder)
+    theirs = part.theirs()
+    both_up(ours, theirs, "with the rights of the unit both links distribute")
+    ours.ends("the daemon")
+
+
+PARTS = {
+    "files": files,
+    "a reload": reloads,
+    "watchers and metrics": watchers,
+    "metrics of two daemons": metrics_of_two,
+    "hooks": hooks,
+    "the manager of services": managed,
+    "lines for the journal": journal,
+    "the rights of root": rights,
+    "the unit": unit,
+}
