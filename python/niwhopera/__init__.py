@@ -1,0 +1,83 @@
+"""LACP and the Marker protocol (IEEE 802.1AX-2014, 6.2 to 6.5): one system, over the C library liblag.so.0.
+
+Octets and ticks go in, frames come out. A system has no clock, no socket and no thread: its caller hands it each frame that comes,
+calls `tick` each 100 ms, and after each call sends what `due` and `transmit`, or `transmissions`, give.
+
+    from niwhopera import Config, Mac, PortConfig, System, SystemId
+
+    mac = Mac("02:00:00:00:00:01")
+    config = Config(SystemId(32768, mac), (PortConfig(number=1, key=1, mac=mac),), aggregators=(1,))
+    with System(config) as system:
+        system.set_link(1, True)
+        system.tick(10)
+        for port, sent in system.transmissions():
+            print(port, sent.kind.name, sent.frame.hex())
+"""
+
+from ._numbers import (
+    FEW_CONVERSATIONS,
+    FRAME,
+    LONGEST_FRAME,
+    MANY_CONVERSATIONS,
+    MOST_PORTS,
+    PORT_STATUS_TEXTS,
+    SHORTEST_FRAME,
+    TICK_MILLISECONDS,
+    VERSION_TEXT,
+    Algorithm,
+    ConversationState,
+    MuxState,
+    PortStatus,
+    Reason,
+    ReceivedKind,
+    ReceiveState,
+    SentKind,
+    State,
+    Status,
+    WireFault,
+)
+from .errors import BadConfig, Closed, Held, LagError, NoMemory
+from .system import System
+from .values import Assignment, Config, End, Group, Info, Mac, Party, PortConfig, PortId, Received, Sent, SystemId, View
+
+__version__ = VERSION_TEXT
+__all__ = [
+    "FEW_CONVERSATIONS",
+    "FRAME",
+    "LONGEST_FRAME",
+    "MANY_CONVERSATIONS",
+    "MOST_PORTS",
+    "PORT_STATUS_TEXTS",
+    "SHORTEST_FRAME",
+    "TICK_MILLISECONDS",
+    "Algorithm",
+    "Assignment",
+    "BadConfig",
+    "Closed",
+    "Config",
+    "ConversationState",
+    "End",
+    "Group",
+    "Held",
+    "Info",
+    "LagError",
+    "Mac",
+    "MuxState",
+    "NoMemory",
+    "Party",
+    "PortConfig",
+    "PortId",
+    "PortStatus",
+    "Reason",
+    "ReceiveState",
+    "Received",
+    "ReceivedKind",
+    "Sent",
+    "SentKind",
+    "State",
+    "Status",
+    "System",
+    "SystemId",
+    "View",
+    "WireFault",
+]

@@ -1,0 +1,47 @@
+"""What a system refuses, as exceptions. A call that raises one has changed nothing."""
+
+from __future__ import annotations
+
+from typing import Optional
+
+from ._numbers import REASON_TEXTS, STATUS_TEXTS, Reason, Status
+
+
+class LagError(Exception):
+    """A refusal: `status` is its number, and `text` what it means."""
+
+    def __init__(self, status: Status, text: Optional[str] = None) -> None:
+        self.status = status
+        self.text = STATUS_TEXTS[status] if text is None else text
+        super().__init__(f"{int(status)}: {self.text}")
+
+
+class Held(LagError):
+    """The conversation moves, or its port stopped distributing: offer the frame, or ask for the move, later."""
+
+
+class BadConfig(LagError):
+    """A configuration is refused: `reason` says why. Of PORT_NUMBER, `place` is the place of the port, from 1."""
+
+    def __init__(self, reason: Reason, place: Optional[int]) -> None:
+        self.reason, self.place = reason, place
+        text = REASON_TEXTS[reason] + (f" (port {place} of the list)" if place else "")
+        super().__init__(Status.BAD_CONFIG, text)
+
+
+class NoMemory(LagError, MemoryError):
+    """Memory was refused. `System` alone raises it, when it is made."""
+
+
+class Closed(LagError):
+    """The system was closed."""
+
+
+_KINDS = {Status.HELD: Held, Status.NO_MEMORY: NoMemory, Status.NO_SYSTEM: Closed}
+
+
+def check(status: int) -> None:
+    """Raises what a status refuses."""
+    if status != Status.OK:
+        known = Status(status)
+        raise _KINDS.get(known, LagError)(known)
