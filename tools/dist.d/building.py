@@ -1,146 +1,189 @@
 """Builds what is installed, and says where each file goes."""
 
+from __future__ import annotations
+
 import os
 import re
 import shutil
-import subprocess
-
-from collections import namedtuple
 from functools import partial
+from typing import NamedTuple
 
 import completion
+import documents
+import library
 import manual
-from repository import CC, CRATES, RT, TOP, WARNINGS, Missing, make_program, runtime, say, want
+from library import printed
+from repository import CC, CRATES, RT, TOOLS, TOP, Missing, make_program, say, want
 
-# A file to install: its path below the prefix, its octets, and whether it is a program; or, as a link, what it points to.
-File = namedtuple("File", "path octets is_program link", defaults=(False, None))
-DAEMON = os.path.join(TOP, "examples", "c", "lagd")
-# The name by which programs load the library: its number rises where it no longer fits what was built for it.
-SONAME = "liblag.so.0"
+
+class File(NamedTuple):
+    """A file to install: its path below the prefix, its octets, and whether it is a program; or, as a link, what it points to."""
+
+    path: str
+    octets: bytes
+    is_program: bool = False
+    link: str | None = None
+
+
+class Parts(NamedTuple):
+    """What is installed: the files of the archive, and those that stand in a package of Debian in their place."""
+
+    archive: list[File]
+    instead: list[File]
+
+
+DAEMON = os.path.join(TOP, "lagd")
+# The folder in which the daemon is built for a package, whose name gdb and valgrind would show.
+BUILD = os.path.join(TOP, "out", "dist")
 # What the programs are for, as the man pages say it.
 PROGRAMS = {
-    "lagtool": (1, "decodes, answers and checks slow protocols frames, and replays scripts of two systems"),
+    "lagtool": (1, "decode, answer and check slow protocols frames, and replay scripts of two systems"),
     "lagengine": (1, "one end of link aggregation behind lines of text"),
-    "lagd": (8, "a daemon of link aggregation for Linux"),
+    "lagd": (8, "daemon of link aggregation (LACP) for Linux"),
 }
+# The programs of tools/ that are installed, with the name that they have there, and the modules beside them.
+SCRIPTS = {
+    "lagframes": ("frames", ["frames.d/captures.py"], "write the slow protocols frames of a capture as lines"),
+    "lagdraw": ("draw", ["draw.d/report.py"], "draw the report of lagtool replay as a picture"),
+}
+# Where the scripts stand, and where Debian has libraries of its processor.
+SHARE, MULTIARCH = "share/niwhopera-tools", "lib/x86_64-linux-gnu"
 
 
-def version():
+def version() -> str:
+    """The version of the file VERSION."""
     with open(os.path.join(TOP, "VERSION"), encoding="utf-8") as it:
         return it.read().strip()
 
 
-def printed(*words, **how):
-    """What a command prints; stops the tool where it fails."""
-    ended = subprocess.run(words, stdin=subprocess.DEVNULL, capture_output=True, text=True, **how)
-    if ended.returncode:
-        raise Missing(f"{' '.join(words)} failed: {(ended.stderr or ended.stdout).strip()[-400:]}")
-    return ended.stdout
+def program(name: str) -> str:
+    """A program that is proved and built; what is not yet is proved first. PROGRAMS names a folder that has it already."""
+    given = os.environ.get("PROGRAMS")
+    if given:
+        return os.path.join(given, name)
+    say(f"building {name}; what is not yet proved is proved first")
+    if name == "lagtool":
+        make_program()
+    else:
+        printed(RT, "run", "--", "--version", cwd=os.path.join(CRATES, name))
+    return os.path.join(CRATES, name, "out", name)
 
 
-def engine():
-    """The program lagengine, proved and built."""
-    say("building lagengine; what is not yet proved is proved first")
-    printed(RT, "run", "--", "--version", cwd=os.path.join(CRATES, "lagengine"))
-    return os.path.join(CRATES, "lagengine", "out", "lagengine")
+def daemon(folder: str, lag: str) -> str:
+    """The daemon, linked with a library of this path, by its own Makefile in a copy of its folder."""
+    shutil.rmtree(folder, ignore_errors=True)
+    shutil.copytree(DAEMON, folder, ignore=shutil.ignore_patterns("out"))
+    flags = f"-O2 -fPIE -fstack-protector-strong -D_FORTIFY_SOURCE=2 -ffile-prefix-map={folder}=lagd -ffile-prefix-map={TOP}=."
+    words = [f"CRATE={CRATES}/lagffi", f"LIBRARY={lag}", "RUNTIME=", f"CFLAGS={flags}", "LDFLAGS=-pie -Wl,-z,relro,-z,now"]
+    printed("make", "-s", "-C", folder, f"CC={CC}", *words)
+    return os.path.join(folder, "out", "lagd")
 
 
-def library(folder):
-    """The C library with the C part of the toolchain, as one archive without dates."""
-    say("building the C library; what is not yet proved is proved first")
-    printed(RT, "lib", cwd=os.path.join(CRATES, "lagffi"))
-    made = os.path.join(folder, "liblag.a")
-    own, more = os.path.join(CRATES, "lagffi", "out", "liblagffi.a"), runtime()
-    script = f"CREATE {made}\nADDLIB {own}\nADDLIB {more}\nSAVE\nEND\n"
-    merged = subprocess.run(["ar", "-M"], input=script, capture_output=True, text=True)
-    if merged.returncode:
-        raise Missing(f"ar cannot merge {own} and {more}: {merged.stderr.strip()}")
-    printed("objcopy", "--enable-deterministic-archives", made)
-    return made
-
-
-def shared(folder, lag):
-    """The same library for programs that load it."""
-    made = os.path.join(folder, SONAME)
-    whole = ["-Wl,--whole-archive", lag, "-Wl,--no-whole-archive"]
-    printed(CC, "-shared", "-O2", f"-Wl,-soname,{SONAME}", "-Wl,--build-id=none", "-o", made, *whole)
-    return made
-
-
-def daemon(folder, lag):
-    """The daemon, linked with that library."""
-    made, include = os.path.join(folder, "lagd"), os.path.join(CRATES, "lagffi", "include")
-    sources = sorted(os.path.join(DAEMON, it) for it in os.listdir(DAEMON) if it.endswith(".c"))
-    printed(CC, "-std=c11", "-O2", *WARNINGS, f"-ffile-prefix-map={TOP}=.", f"-I{include}", "-o", made, *sources, lag)
-    return made
-
-
-def verdict():
+def verdict() -> str:
     """The last line of the test command for this commit, as tools/test left it."""
     commit = printed("git", "rev-parse", "HEAD", cwd=TOP).strip()
     try:
         with open(os.path.join(TOP, "out", "verdict"), encoding="utf-8") as it:
             tested, line = it.read().split("\n")[:2]
     except (OSError, ValueError):
-        tested, line = None, None
+        tested, line = "", ""
     changed = printed("git", "status", "--porcelain", cwd=TOP).strip()
     said = line if tested == commit and not changed else "tools/test did not run on just these sources"
     return f"version {version()}\ncommit {commit}{' and changes' if changed else ''}\n{printed(RT, 'version').strip()}\n{said}\n"
 
 
-def pkg_config():
+def pkg_config(prefix: str, libraries: str) -> str:
+    """The file by which pkg-config tells how a program is built with the library."""
     return (
-        "prefix=${pcfiledir}/../..\nincludedir=${prefix}/include\nlibdir=${prefix}/lib\n\n"
+        f"prefix={prefix}\nincludedir=${{prefix}}/include\nlibdir=${{prefix}}/{libraries}\n\n"
         f"Name: lag\nDescription: One end of link aggregation (LACP and the Marker protocol)\nVersion: {version()}\n"
         "Cflags: -I${includedir}\nLibs: -L${libdir} -llag\n"
     )
 
 
-def documents():
-    """The pages and examples that the repository keeps: where each goes, and where it is."""
-    kept = printed("git", "ls-files", "README.md", "CHANGELOG.md", "docs", "examples", cwd=TOP).split("\n")
-    return {f"share/doc/niwhopera/{it}": os.path.join(TOP, it) for it in kept if it}
+def read(path: str) -> bytes:
+    """The octets of a file of the repository."""
+    with open(os.path.join(TOP, path), "rb") as it:
+        return it.read()
 
 
-def manuals():
-    """A man page of each program, from its part of the documents."""
+def texts(*paths: str) -> dict[str, str]:
+    """The files below these paths that the repository keeps, with their texts."""
+    kept = printed("git", "ls-files", "--", *paths, cwd=TOP).split("\n")
+    return {it: os.path.join(TOP, it) for it in kept if it}
+
+
+def scripts() -> list[File]:
+    """The scripts of tools/ that are installed: with the interpreter of the system, and under names of their own."""
+    found = [File(f"{SHARE}/repository.py", read("tools/repository.py"))]
+    for name, (file, modules, _) in SCRIPTS.items():
+        text = read(f"tools/{file}").replace(b"#!/usr/bin/env python3", b"#!/usr/bin/python3", 1)
+        found.append(File(f"{SHARE}/{file}", documents.renamed(text.decode()).encode(), True))
+        found.append(File(f"bin/{name}", b"", link=f"../{SHARE}/{file}"))
+        found += [File(f"{SHARE}/{it}", read(f"tools/{it}")) for it in modules]
+    return found
+
+
+def module() -> list[File]:
+    """The Python module."""
+    return [File(f"lib/python3/{it.removeprefix('python/')}", read(it)) for it in texts("python/niwhopera")]
+
+
+def units() -> list[File]:
+    """What systemd reads of the daemon, and examples of its configuration, as far as the daemon's folder has them."""
+    places = {".service": "lib/systemd/system", ".sysusers": "lib/sysusers.d", ".conf": "share/doc/lagd/examples"}
+    found = []
+    for path in texts("lagd"):
+        name, ending = os.path.splitext(os.path.basename(path))
+        if ending in places:
+            found.append(File(f"{places[ending]}/{name}{'.conf' if ending == '.sysusers' else ending}", read(path)))
+    return found
+
+
+def manuals(ask: dict[str, str]) -> dict[str, str]:
+    """A man page of each program: from its part of the documents, or from what it says of itself."""
     pages = {}
     for name, (section, purpose) in PROGRAMS.items():
-        pages[f"share/man/man{section}/{name}.{section}"] = manual.page(name, section, purpose, version())
+        pages[f"share/man/man{section}/{name}.{section}"] = manual.page(name, section, purpose, version(), ask[name])
+    for name, (file, _, purpose) in SCRIPTS.items():
+        told = documents.renamed(printed(os.path.join(TOOLS, file), "--help", env={**os.environ, "COLUMNS": "120"}))
+        pages[f"share/man/man1/{name}.1"] = manual.of_help(name, 1, purpose, version(), told.replace(f"usage: {file}", f"usage: {name}"))
     return pages
 
 
-def completions(programs):
-    """For each program the file by which bash completes its words."""
-    files = {os.path.basename(to): file for to, file in programs.items()}
-    return {f"share/bash-completion/completions/{name}": completion.text(name, partial(printed, file)) for name, file in files.items()}
-
-
-def parts():
+def parts() -> Parts:
     """Each file to install."""
-    want(RT, CC, "ar", "objcopy", "git")
-    make_program()
-    folder = os.path.join(TOP, "out", "dist")
-    shutil.rmtree(folder, ignore_errors=True)
-    os.makedirs(folder)
-    lag = library(folder)
-    programs = {
-        "bin/lagtool": os.path.join(CRATES, "lagtool", "out", "lagtool"),
-        "bin/lagengine": engine(),
-        "sbin/lagd": daemon(folder, lag),
-    }
+    want(RT, CC, "ar", "ld", "objcopy", "git", "make")
+    shutil.rmtree(BUILD, ignore_errors=True)
+    os.makedirs(BUILD)
+    say("building the C library; what is not yet proved is proved first")
+    lag = library.one_object(BUILD, library.proved())
+    shared, archive = library.shared(BUILD, lag), library.archive(BUILD, lag)
+    alone, loading = (daemon(os.path.join(BUILD, name), it) for name, it in (("alone", archive), ("loading", shared)))
+    programs = {"bin/lagtool": program("lagtool"), "bin/lagengine": program("lagengine"), "sbin/lagd": alone}
     check_versions(programs)
-    header = os.path.join(CRATES, "lagffi", "include", "lag.h")
-    libraries = {"include/lag.h": header, "lib/liblag.a": lag, f"lib/{SONAME}": shared(folder, lag)}
-    texts = {"lib/pkgconfig/lag.pc": pkg_config(), "share/doc/niwhopera/BUILD": verdict(), **manuals(), **completions(programs)}
-    found = [File(to, text.encode()) for to, text in texts.items()]
-    for to, file in {**programs, **libraries, **documents()}.items():
-        with open(file, "rb") as it:
-            found.append(File(to, it.read(), to in programs))
-    return sorted([*found, File("lib/liblag.so", b"", link=SONAME)])
+    ask = {os.path.basename(to): printed(file, "--help") for to, file in programs.items()}
+    found = [File(to, read(file), True) for to, file in programs.items()]
+    found += [File("include/lag.h", read(library.HEADER)), File("lib/liblag.a", read(archive))]
+    found += [File(f"lib/{library.SONAME}", read(shared)), File("lib/liblag.so", b"", link=library.SONAME)]
+    made = {"lib/pkgconfig/lag.pc": pkg_config("${pcfiledir}/../..", "lib"), "share/doc/niwhopera/BUILD": verdict(), **manuals(ask)}
+    for to, file in programs.items():
+        name = os.path.basename(to)
+        made[f"share/bash-completion/completions/{name}"] = completion.text(name, partial(printed, file))
+    made.update(documents.installed(texts("README.md", "CHANGELOG.md", "docs", "examples")))
+    found += [File(to, text.encode()) for to, text in made.items()]
+    found += [*scripts(), *module(), *units(), *pictures()]
+    instead = [File("sbin/lagd", read(loading), True), File("lib/pkgconfig/lag.pc", pkg_config("/usr", MULTIARCH).encode())]
+    return Parts(sorted(found), instead)
 
 
-def check_versions(programs):
+def pictures() -> list[File]:
+    """The documents that are no texts of lines: pictures and captures."""
+    paths = texts("docs", "examples")
+    return [File(f"share/doc/niwhopera/{it}", read(it)) for it in paths if not documents.is_text(it)]
+
+
+def check_versions(programs: dict[str, str]) -> None:
     """Each program says the version of the file VERSION."""
     for to, file in programs.items():
         told = printed(file, "--version").strip()

@@ -1,44 +1,51 @@
 """Makes man pages from the documents: the part of a page for a program becomes roff with the macros of man and tbl."""
 
+from __future__ import annotations
+
 import os
 import re
+from typing import Sequence
 
+import documents
 from repository import TOP, Missing
 
-# Of each program: the page, its first heading, and the heading that comes after its part.
-PARTS = {
-    "lagtool": ("docs/COMMAND.md", "## lagtool", "## lagengine"),
-    "lagengine": ("docs/COMMAND.md", "## lagengine", None),
-    "lagd": ("docs/USING.md", "## The daemon `lagd`", "## All faults"),
+# Of each program: the page, its first heading, and the heading that comes after its part. A page that is not there leaves the next.
+PARTS: dict[str, list[tuple[str, str | None, str | None]]] = {
+    "lagtool": [("docs/COMMAND.md", "## lagtool", "## lagengine")],
+    "lagengine": [("docs/COMMAND.md", "## lagengine", None)],
+    "lagd": [("docs/LAGD.md", None, None), ("docs/USING.md", "## The daemon `lagd`", "## All faults")],
 }
 # What stands in the documents of the repository alone.
-LEFT_OUT = {"### Before it is proved"}
+LEFT_OUT = {"### Before it is proved", "### Build it", "## Build it"}
 # How roff writes what has a meaning for it.
 ROFF = {"\\": "\\e", "-": "\\-", "'": "\\(aq", "`": "\\(ga", "^": "\\(ha", "~": "\\(ti"}
 # How many characters a line of a table has at most.
 WIDTH = 70
 
 
-def part_of(name):
-    """The lines of a program's part, without its heading."""
-    file, first, last = PARTS[name]
+def part_of(name: str) -> list[str]:
+    """The lines of a program's part, without its heading, as they are installed."""
+    there = [it for it in PARTS[name] if os.path.exists(os.path.join(TOP, it[0]))]
+    if not there:
+        raise Missing(f"no page tells of {name}: {', '.join(it[0] for it in PARTS[name])}")
+    file, first, last = there[0]
     with open(os.path.join(TOP, file), encoding="utf-8") as it:
-        lines = it.read().split("\n")
+        lines = documents.renamed(it.read()).split("\n")
     for heading in (first, last):
         if heading and heading not in lines:
             raise Missing(f"{file} has no line {heading}")
-    return lines[lines.index(first) + 1 : lines.index(last) if last else None]
+    return lines[lines.index(first) + 1 if first else 1 : lines.index(last) if last else None]
 
 
-def escaped(text):
+def escaped(text: str) -> str:
     """Text without a meaning for roff."""
     return "".join(ROFF.get(it, it if ord(it) < 128 else f"\\[u{ord(it):04X}]") for it in text)
 
 
-def inline(text):
+def inline(text: str) -> str:
     """A text with its links as their words, its code in bold, its emphasis in italics."""
     text = re.sub(r"!?\[([^\]]*)\]\([^)]*\)", r"\1", text)
-    found = []
+    found: list[str] = []
     for n, piece in enumerate(re.split(r"`([^`]*)`", text)):
         if n % 2:
             found.append(f"\\fB{escaped(piece)}\\fR")
@@ -48,18 +55,18 @@ def inline(text):
     return "".join(found)
 
 
-def guarded(line):
+def guarded(line: str) -> str:
     """A line that roff does not take for a request."""
     return "\\&" + line if line[:1] in (".", "'") else line
 
 
-def cells_of(rows):
+def cells_of(rows: Sequence[str]) -> list[list[str]]:
     """The cells of a table, row by row, without the line below its head. `\\|` is a stroke within a cell."""
     split = [[it.strip().replace("\0", "|") for it in row.strip().strip("|").replace("\\|", "\0").split("|")] for row in rows]
     return [split[0], *([*row, *[""] * len(split[0])][: len(split[0])] for row in split[2:])]
 
 
-def widths(cells):
+def widths(cells: list[list[str]]) -> list[int]:
     """How wide each column is: each has room for its longest word, and what is left goes by the longest cells."""
     columns = list(zip(*cells))
     words = [max(len(word) for cell in column for word in cell.split() or [""]) for column in columns]
@@ -69,12 +76,12 @@ def widths(cells):
     return [word + left * want // max(1, sum(wanted)) for word, want in zip(words, wanted)]
 
 
-def pairs(cells):
+def pairs(cells: list[list[str]]) -> list[str]:
     """A table of two columns: each row is what is explained, and its explanation."""
     return [it for one, other in cells[1:] for it in (".TP", guarded(inline(one)) or "\\&", guarded(inline(other)) or "\\&")]
 
 
-def table(cells):
+def table(cells: list[list[str]]) -> list[str]:
     """A table of tbl; each cell is a text block, which may have several lines."""
     columns = widths(cells)
     text = [".PP", ".TS", "tab(@);", *(" ".join(f"l{font}w({it}n)" for it in columns) + end for font, end in (("b", ""), ("", ".")))]
@@ -83,7 +90,8 @@ def table(cells):
     return [*text, ".TE"]
 
 
-def kind_of(line):
+def kind_of(line: str) -> str:
+    """What a line of a page is."""
     if line.startswith("#"):
         return "heading"
     if line.startswith("|"):
@@ -95,11 +103,11 @@ def kind_of(line):
     return "blank" if not line.strip() else "text"
 
 
-def blocks(lines):
+def blocks(lines: Sequence[str]) -> list[tuple[str, list[str]]]:
     """The lines as blocks of one kind; a line of text goes on with an item before it."""
-    found = []
+    found: list[tuple[str, list[str]]] = []
     for line in lines:
-        kind, last = kind_of(line), found[-1] if found else ("blank", [])
+        kind, last = kind_of(line), found[-1] if found else ("blank", list[str]())
         if kind in ("text", "code") and last[0] == "item":
             last[1].append(line)
         elif kind == last[0] and kind not in ("heading", "item"):
@@ -109,7 +117,7 @@ def blocks(lines):
     return [it for it in found if it[0] != "blank"]
 
 
-def roff(kind, lines):
+def roff(kind: str, lines: list[str]) -> list[str]:
     """A block as lines of roff."""
     if kind == "heading":
         words = lines[0].lstrip("# ")
@@ -124,7 +132,7 @@ def roff(kind, lines):
     return [".PP", guarded(inline(" ".join(lines)))]
 
 
-def unfenced(lines):
+def unfenced(lines: Sequence[str]) -> list[str]:
     """The lines with each text between fences indented in place of them."""
     kept, is_code = [], False
     for line in lines:
@@ -136,7 +144,12 @@ def unfenced(lines):
     return kept
 
 
-def without(lines):
+def is_installed(lines: Sequence[str]) -> bool:
+    """Whether a block is of what is installed: it names no tool of the repository."""
+    return not re.search(r"\btools/|\bmake -C|\brt (?:lib|run|ci)\b", "\n".join(lines))
+
+
+def without(lines: Sequence[str]) -> list[str]:
     """The lines but for the parts that are left out, each of which ends at the next heading."""
     kept, is_left = [], False
     for line in lines:
@@ -146,10 +159,44 @@ def without(lines):
     return kept
 
 
-def page(name, section, purpose, version):
-    """The man page of a program, as text."""
+def head(name: str, section: int, purpose: str, version: str) -> list[str]:
+    """The first lines of a man page."""
     title = f'.TH {name.upper()} {section} "" "Niwhopera {version}" "Link aggregation"'
-    head = ["'\\\" t", title, ".SH NAME", f"{name} \\- {escaped(purpose)}", ".ad l", ".nh", ".if n .pl 10000v"]
-    body = [row for kind, lines in blocks(unfenced(without(part_of(name)))) for row in roff(kind, lines)]
-    end = [".SH FILES", "The documents are in share/doc/niwhopera below the prefix."]
-    return "\n".join([*head, ".SH DESCRIPTION", *body, *end]) + "\n"
+    return ["'\\\" t", title, ".SH NAME", f"{name} \\- {escaped(purpose)}", ".ad l", ".nh", ".if n .pl 10000v"]
+
+
+def synopsis(name: str, told: str) -> list[str]:
+    """How a program is called: the lines of its help text that begin with its name, or with `Usage:` and its name."""
+    found = re.findall(rf"^ *(?:[Uu]sage: +)?({re.escape(name)}(?: +[\[<A-Z-].*|))$", told, re.M)
+    lines = list(dict.fromkeys(re.split(r" {2,}", it)[0] for it in found if it != name)) or [name]
+    rows = []
+    for line in lines:
+        words = line.split(" ", 1)
+        rows += [".br", f"\\fB{escaped(words[0])}\\fR" + (f" {escaped(words[1])}" if len(words) > 1 else "")]
+    return [".SH SYNOPSIS", *rows[1:]]
+
+
+END = [".SH FILES", "The documents are in \\fBshare/doc/niwhopera\\-tools\\fR below the prefix, in the archive in \\fBshare/doc/niwhopera\\fR."]
+
+
+def page(name: str, section: int, purpose: str, version: str, told: str) -> str:
+    """The man page of a program, as text; `told` is its help text."""
+    kept = [(kind, lines) for kind, lines in blocks(unfenced(without(part_of(name)))) if is_installed(lines)]
+    body = [row for kind, lines in kept for row in roff(kind, lines)]
+    return "\n".join([*head(name, section, purpose, version), *synopsis(name, told), ".SH DESCRIPTION", *body, *END]) + "\n"
+
+
+def of_help(name: str, section: int, purpose: str, version: str, told: str) -> str:
+    """The man page of a script, from its help text: how it is called, what it does, and its options."""
+    usage, _, rest = told.partition("\n\n")
+    body = []
+    for paragraph in rest.strip().split("\n\n"):
+        lines = paragraph.split("\n")
+        if lines[0] in ("options:", "positional arguments:"):
+            body += [f".SH {'OPTIONS' if lines[0] == 'options:' else 'ARGUMENTS'}", ".nf", *(guarded(escaped(it)) for it in lines[1:]), ".fi"]
+        elif lines[0].startswith("    "):
+            body += [".PP", ".nf", ".RS 4", *(guarded(escaped(it[4:])) for it in lines), ".RE", ".fi"]
+        else:
+            body += [".PP", guarded(inline(" ".join(lines)))]
+    first = [*head(name, section, purpose, version), *synopsis(name, " ".join(usage.split())), ".SH DESCRIPTION"]
+    return "\n".join([*first, *body, *END]) + "\n"

@@ -1,17 +1,33 @@
 """Tries an archive as someone would who has no toolchain."""
 
+from __future__ import annotations
+
 import os
+import re
 import shutil
 import subprocess
+import sys
 import tarfile
 import tempfile
+from typing import Iterable, Mapping, Sequence
 
+import documents
+from counting import Count, ran
 from repository import WARNINGS, Missing, want
 
 # A program over the library: one port whose link comes up, and the LACPDU that it sends within a second.
 PROGRAM = r"""
 #include <lag.h>
 #include <stdio.h>
+
+/* The library keeps its own function of this name, whatever a program has. */
+void *rattle_alloc(size_t size, size_t aligned);
+void *rattle_alloc(size_t size, size_t aligned)
+{
+    (void)size;
+    (void)aligned;
+    return NULL;
+}
 
 int main(void)
 {
@@ -51,7 +67,13 @@ RUNS = [
     (["bin/lagtool", "vectors"], "", 0, "V1 ok\n"),
     (["bin/lagengine", "--version"], "", 0, "lagengine VERSION\n"),
     (["sbin/lagd", "--version"], "", 0, "lagd VERSION\n"),
+    (["bin/lagframes", "share/doc/niwhopera/examples/captures/bonding.pcap"], "", 0, "0180c2000002"),
+    (["bin/lagdraw"], "1 tick 1 10 -> ticked\n", 0, "<svg "),
 ]
+# A processor without what x86-64-v2 adds to x86-64, as qemu has it.
+OLDEST = "qemu64,-ssse3,-sse4.1,-sse4.2,-popcnt,-cx16,-sse3"
+# What a program on such a processor may say where it cannot run there.
+REFUSES = 127
 
 
 # The words of a line so far, and what bash makes of the last one.
@@ -75,16 +97,8 @@ COMP_WORDS=("$@") COMP_CWORD=$(($# - 1))
 """
 
 
-class Count:
-    def __init__(self):
-        self.passed = self.failed = 0
-
-    def add(self, what, why):
-        self.passed, self.failed = self.passed + (not why), self.failed + bool(why)
-        print(f"{'FAILED' if why else 'passed'}: {what}{': ' + why if why else ''}", flush=True)
-
-
-def unpacked(file, folder):
+def unpacked(file: str, folder: str) -> str:
+    """Unpacks an archive; answers its one folder."""
     try:
         with tarfile.open(file) as tar:
             tar.extractall(folder)
@@ -96,58 +110,114 @@ def unpacked(file, folder):
     return os.path.join(folder, found[0])
 
 
-def clean():
-    """The environment without the toolchain."""
-    kept = [it for it in os.environ.get("PATH", "").split(os.pathsep) if it and not os.path.exists(os.path.join(it, "rt"))]
-    return {**os.environ, "PATH": os.pathsep.join(kept)}
-
-
-def ran(words, given="", **more):
-    """Runs the words without the toolchain in PATH, with these values more in the environment."""
-    try:
-        return subprocess.run(words, input=given, capture_output=True, text=True, env={**clean(), **more}, timeout=120)
-    except (OSError, subprocess.TimeoutExpired) as why:
-        return subprocess.CompletedProcess(words, 127, "", str(why))
-
-
-def try_programs(count, root):
+def try_programs(count: Count, root: str) -> None:
+    """Runs the programs of the archive."""
     version = os.path.basename(root).split("-")[1]
     for words, given, status, begins in RUNS:
-        ended = ran([os.path.join(root, words[0]), *words[1:]], given)
+        ended = ran([os.path.join(root, words[0]), *words[1:]], given, cwd=root)
         right = ended.returncode == status and ended.stdout.startswith(begins.replace("VERSION", version))
         count.add(" ".join(words)[:60], "" if right else f"status {ended.returncode}, {ended.stdout[:60]!r}, {ended.stderr[:200]!r}")
 
 
-def try_library(count, root):
-    """Builds by pkg-config alone, as C and as C++, with the library to load and with the archive."""
-    told = ran(["pkg-config", "--cflags", "--libs", os.path.join(root, "lib", "pkgconfig", "lag.pc")])
+def try_module(count: Count, root: str) -> None:
+    """The Python module prints what its own text has."""
+    program = (
+        "import niwhopera as n; m = n.Mac('020000000001'); "
+        "s = n.System(n.Config(n.SystemId(32768, m), (n.PortConfig(3, 7, m),), (7,))); s.set_link(3, True); s.tick(10); "
+        "print([sent.frame[:16].hex() for _, sent in s.transmissions()]); s.close()"
+    )
+    more = {"PYTHONPATH": os.path.join(root, "lib", "python3"), "NIWHOPERA_LIBRARY": os.path.join(root, "lib", "liblag.so.0")}
+    ended = ran([sys.executable, "-W", "error", "-c", program], **more)
+    right = ended.stdout == "['0180c200000202000000000188090101']\n" and not ended.stderr
+    count.add("the Python module sends an LACPDU", "" if right else f"{ended.stdout!r}, {ended.stderr[-300:]!r}")
+
+
+def libraries(root: str, words: Sequence[str]) -> Iterable[tuple[str, list[str]]]:
+    """What a program is linked with, in two kinds."""
+    yield "the library to load", [*words]
+    yield "the archive", [it.replace("-llag", "-l:liblag.a") for it in words]
+
+
+def try_library(count: Count, root: str, pkg_config: str, given: Mapping[str, str], load: str) -> None:
+    """Builds by pkg-config alone, as C and as C++, with the library to load, in the folder `load`, and with the archive."""
+    told = ran(["pkg-config", "--cflags", "--libs", pkg_config], **given)
     if told.returncode:
         count.add("pkg-config reads lag.pc", told.stderr[:200] or "it fails")
         return
-    words = told.stdout.split()
-    alone = [it.replace("-llag", "-l:liblag.a") for it in words]
-    for compiler, ending, standard in ("cc", "c", "-std=c11"), ("c++", "cc", "-std=c++20"):
-        source, made = os.path.join(root, f"try.{ending}"), os.path.join(root, f"try-{ending}")
-        with open(source, "w", encoding="utf-8") as it:
-            it.write(PROGRAM)
-        for kind, libraries in ("the library to load", words), ("the archive", alone):
-            built = ran([compiler, standard, *WARNINGS, "-o", made, source, *libraries])
-            ended = built if built.returncode else ran([made], LD_LIBRARY_PATH=os.path.join(root, "lib"))
-            why = ended.stderr[:400] or f"status {ended.returncode}, {ended.stdout!r}"
-            count.add(f"{compiler} with {kind}", "" if ended.stdout == PRINTS else why)
+    with tempfile.TemporaryDirectory() as folder:
+        for compiler, ending, standard in ("cc", "c", "-std=c11"), ("c++", "cc", "-std=c++20"):
+            source, made = os.path.join(folder, f"try.{ending}"), os.path.join(folder, f"try-{ending}")
+            with open(source, "w", encoding="utf-8") as it:
+                it.write(f'extern "C" {{\n{PROGRAM}\n}}\n' if ending == "cc" else PROGRAM)
+            for kind, words in libraries(root, told.stdout.split()):
+                built = ran([compiler, standard, *WARNINGS, "-o", made, source, *words])
+                ended = built if built.returncode else ran([made], LD_LIBRARY_PATH=load)
+                count.add(f"{compiler} with {kind}", "" if ended.stdout == PRINTS else ended.stderr[:400] or f"status {ended.returncode}, {ended.stdout!r}")
+                if not built.returncode:
+                    try_processor(count, f"a program by {compiler} with {kind}", [made], {"LD_LIBRARY_PATH": load}, PRINTS)
 
 
-def try_manuals(count, root):
+def try_processor(count: Count, what: str, words: list[str], more: Mapping[str, str], prints: str) -> None:
+    """A program runs on the oldest processor of x86-64, or says why not."""
+    if not shutil.which("qemu-x86_64"):
+        return
+    ended = ran(["qemu-x86_64", "-cpu", OLDEST, *words], **more)
+    right = ended.stdout.startswith(prints) and ended.returncode == 0 or ended.returncode == REFUSES and ended.stderr
+    count.add(f"{what} on the oldest x86-64", "" if right else f"status {ended.returncode}, {ended.stderr[:200]!r}")
+
+
+def try_processors(count: Count, root: str) -> None:
+    """The programs on the oldest processor of x86-64."""
+    if not shutil.which("qemu-x86_64"):
+        print("skipped: the oldest processor: there is no command qemu-x86_64 (Debian: qemu-user)")
+    for name in ("sbin/lagd", "bin/lagtool", "bin/lagengine"):
+        try_processor(count, name, [os.path.join(root, name), "--version"], {}, os.path.basename(name))
+
+
+def try_exports(count: Count, root: str) -> None:
+    """Both libraries show the functions of lag.h alone, and the one to load and the daemon are hardened."""
+    with open(os.path.join(root, "include", "lag.h"), encoding="utf-8") as it:
+        wanted = set(re.findall(r"^[\w ]+ (lagffi_\w+)\(", it.read(), re.M))
+    for file, words in ("liblag.so.0", ["-D"]), ("liblag.a", ["-g"]):
+        told = ran(["nm", *words, "--defined-only", "--format=posix", os.path.join(root, "lib", file)]).stdout
+        found = {line.split("@")[0].split(" ")[0] for line in told.split("\n") if " T " in line or " D " in line}
+        count.add(f"{file} shows the {len(wanted)} functions of lag.h", f"and also or not: {sorted(found ^ wanted)}" if found != wanted else "")
+    for file in ("lib/liblag.so.0", "sbin/lagd"):
+        told = ran(["readelf", "-dlW", os.path.join(root, file)]).stdout
+        missing = [it for it in ("NOW", "GNU_RELRO", "Elf file type is DYN") if it not in told]
+        missing += ["a stack that runs no code"] * ("GNU_STACK" not in told or re.search(r"GNU_STACK.* RWE ", told) is not None)
+        count.add(f"{file} is hardened", ", ".join(missing))
+
+
+def try_manuals(count: Count, root: str) -> None:
+    """groff reads each man page; it has a synopsis, and builds nothing."""
     if not shutil.which("groff"):
         print("skipped: man pages: there is no command groff (Debian: groff-base)")
         return
     for at, _, files in sorted(os.walk(os.path.join(root, "share", "man"))):
         for name in sorted(files):
-            ended = ran(["groff", "-t", "-man", "-Tutf8", "-ww", "-z", os.path.join(at, name)])
-            count.add(f"groff reads {name}", ended.stderr[:400] or ("" if not ended.returncode else "it fails"))
+            ended = ran(["groff", "-t", "-man", "-Tutf8", "-ww", "-P-cbou", os.path.join(at, name)])
+            lacks = [it for it in ("NAME\n", "SYNOPSIS\n", "DESCRIPTION\n") if it not in ended.stdout]
+            has = [it for it in ("make -C", "tools/") if it in ended.stdout]
+            why = ended.stderr[:400] or "".join(f"it has no {it}" for it in lacks) or "".join(f"it has {it!r}" for it in has)
+            count.add(f"groff reads {name}", why or ("it fails" if ended.returncode else ""))
 
 
-def try_completions(count, root):
+def try_documents(count: Count, root: str, folder: str) -> None:
+    """Each link of a document leads to a file, or to a heading."""
+    top, pages, there = os.path.join(root, folder), {}, set()
+    for at, folders, files in os.walk(top):
+        for name in [*files, *folders]:
+            path = os.path.relpath(os.path.join(at, name), top)
+            there.add(path)
+            if name.endswith(".md"):
+                with open(os.path.join(at, name), encoding="utf-8") as it:
+                    pages[path] = it.read()
+    count.add(f"the links of {len(pages)} documents lead somewhere", "; ".join(documents.dangling(pages, there)[:9]) or ("" if pages else "there is none"))
+
+
+def try_completions(count: Count, root: str) -> None:
+    """bash completes words by the files of the archive."""
     if not shutil.which("bash"):
         print("skipped: completion: there is no command bash")
         return
@@ -159,18 +229,17 @@ def try_completions(count, root):
         count.add(f"bash completes {' '.join(words)}", "" if right else why)
 
 
-def tried(file, twice):
-    """Tries an archive, and pairs of files that have to be equal; prints each verdict, and answers the status."""
-    want("cc", "c++", "pkg-config")
-    count = Count()
+def tried(count: Count, file: str) -> None:
+    """Tries an archive."""
+    want("cc", "c++", "pkg-config", "nm", "readelf")
     with tempfile.TemporaryDirectory() as folder:
         root = unpacked(file, folder)
         try_programs(count, root)
-        try_library(count, root)
+        try_module(count, root)
+        library = os.path.join(root, "lib")
+        try_library(count, root, os.path.join(library, "pkgconfig", "lag.pc"), {}, library)
+        try_processors(count, root)
+        try_exports(count, root)
         try_manuals(count, root)
         try_completions(count, root)
-    for one, other in twice or []:
-        with open(one, "rb") as a, open(other, "rb") as b:
-            count.add(f"{os.path.basename(one)} has equal octets, made twice", "" if a.read() == b.read() else "they differ")
-    print(f"{count.passed} passed, {count.failed} failed")
-    return 1 if count.failed else 0
+        try_documents(count, root, documents.FOLDER)

@@ -1,0 +1,93 @@
+"""Compares the binary interface of the C library with the one that is kept: functions, structs and their fields.
+
+The library has no types in it. So a stand-in is built from lag.h: each function that the header declares, with an empty body. abidw of
+libabigail writes its interface down, and abidiff compares. What tools/live compares with the sources is the header, so this speaks of
+the library. docs/ABI.md says what may change.
+"""
+
+from __future__ import annotations
+
+import os
+import re
+import shutil
+import subprocess
+import sys
+
+import library
+from counting import Count
+from library import printed
+from repository import CC, TOOLS, Missing
+
+sys.path.append(os.path.join(TOOLS, "live.d"))
+
+import header
+
+# The interface of the releases that load as SONAME.
+KEPT = os.path.join(os.path.dirname(os.path.abspath(__file__)), "liblag.abi")
+# The numbers of the header then, a name and its number a line.
+KEPT_NUMBERS = os.path.join(os.path.dirname(os.path.abspath(__file__)), "liblag.numbers")
+# What abidiff answers where something is gone or differs: bits of its status.
+CHANGED, INCOMPATIBLE = 4, 8
+
+
+def stand_in() -> str:
+    """A program text with each function of the header, which answers zeros."""
+    with open(library.HEADER, encoding="utf-8") as it:
+        text = re.sub(r"/\*.*?\*/", "", it.read(), flags=re.S)
+    found = re.findall(r"^((?:struct )?\w+) (lagffi_\w+)\((.*?)\);", text, re.M | re.S)
+    bodies = []
+    for answer, name, given in found:
+        names = re.findall(r"(\w+)(?:,|$)", " ".join(given.split()))
+        used = " ".join(f"(void){it};" for it in names)
+        bodies.append(f"{answer} {name}({given}) {{ {answer} zeros; memset(&zeros, 0, sizeof zeros); {used} return zeros; }}")
+    return '#include "lag.h"\n' + "\n".join(bodies) + "\n"
+
+
+def described(folder: str) -> str:
+    """The interface of the header as it is now, as a file for abidiff."""
+    source, made, told = (os.path.join(folder, it) for it in ("lag.c", library.SONAME, "liblag.abi"))
+    with open(source, "w", encoding="utf-8") as out:
+        out.write(stand_in())
+    include = os.path.dirname(library.HEADER)
+    script = library.version_script(folder)
+    words = ["-g", "-gdwarf-4", "-shared", "-fPIC", f"-Wl,-soname,{library.SONAME}", f"-Wl,--version-script={script}"]
+    # Neither the folder nor the lines of the header are part of the interface.
+    printed(CC, *words, f"-I{include}", f"-ffile-prefix-map={folder}=.", f"-ffile-prefix-map={include}=.", "-o", made, source)
+    printed("abidw", "--no-show-locs", "--no-corpus-path", "--no-comp-dir-path", "--out-file", told, made)
+    return told
+
+
+def numbers() -> dict[str, int]:
+    """The numbers of the header; that of the header itself rises with each change."""
+    found: dict[str, int] = header.numbers_of_header(header.text_of(library.HEADER))
+    return {name: number for name, number in found.items() if name != "NIW_VERSION"}
+
+
+def keep(folder: str) -> None:
+    """Keeps the interface of the header as it is now."""
+    shutil.copy(described(folder), KEPT)
+    with open(KEPT_NUMBERS, "w", encoding="utf-8") as out:
+        out.write("".join(f"{name} {number}\n" for name, number in sorted(numbers().items())))
+
+
+def check_numbers(count: Count) -> None:
+    """Each number that is kept is the header's."""
+    with open(KEPT_NUMBERS, encoding="utf-8") as it:
+        kept = {name: int(number) for name, number in (line.split() for line in it)}
+    found = numbers()
+    differs = [f"{name} was {number} and is {found.get(name, 'gone')}" for name, number in kept.items() if found.get(name) != number]
+    count.add(f"lag.h has the {len(kept)} numbers that are kept", "; ".join(differs))
+
+
+def tried(count: Count, folder: str) -> None:
+    """The interface has all that the kept one has."""
+    check_numbers(count)
+    missing = [it for it in ("abidw", "abidiff") if not shutil.which(it)]
+    if missing:
+        print(f"skipped: the binary interface: there is no command {missing[0]} (Debian: abigail-tools)")
+        return
+    words = ["abidiff", "--no-added-syms", "--no-unreferenced-symbols", KEPT, described(folder)]
+    ended = subprocess.run(words, capture_output=True, text=True)
+    if ended.returncode & ~(CHANGED | INCOMPATIBLE):
+        raise Missing(f"abidiff fails: {ended.stderr.strip()[-400:]}")
+    count.add(f"{library.SONAME} has the binary interface that is kept", ended.stdout.strip()[:2000] if ended.returncode else "")

@@ -1,0 +1,97 @@
+"""Makes the packages of Debian: the files of each stand below `debian`, and debhelper does the rest."""
+
+from __future__ import annotations
+
+import email.utils
+import os
+import shutil
+
+from building import MULTIARCH, File, Parts, version
+from library import printed
+from packing import date
+from repository import say
+
+# What debhelper reads: the package files of this folder, and what is installed.
+KEPT = os.path.join(os.path.dirname(os.path.abspath(__file__)), "debian")
+# What the packages are made by, with the package of Debian that has it.
+WANTED = {"dh": "debhelper", "dh_python3": "dh-python", "dpkg-gensymbols": "dpkg-dev"}
+# Where parts stand that Debian has in another place than the archive, and what is in no package.
+PLACES = {
+    "share/doc/niwhopera/": "usr/share/doc/niwhopera-tools/",
+    "lib/python3/niwhopera/": "usr/lib/python3/dist-packages/niwhopera/",
+    "lib/systemd/": "lib/systemd/",
+    "lib/sysusers.d/": "usr/lib/sysusers.d/",
+    "lib/liblag.": f"usr/{MULTIARCH}/liblag.",
+    "lib/pkgconfig/": f"usr/{MULTIARCH}/pkgconfig/",
+}
+# The package that has optional files of the daemon, and where they stand.
+OPTIONAL = ("lib/systemd/system", "usr/share/doc/lagd/examples")
+# The users that the unit of the daemon runs as.
+USERS = "usr/lib/sysusers.d/lagd.conf"
+
+
+def is_possible() -> bool:
+    """Whether what makes packages is here; a line says what is not."""
+    missing = sorted({package for command, package in WANTED.items() if not shutil.which(command)})
+    if missing:
+        say(f"no packages: install {' '.join(missing)}")
+    return not missing
+
+
+def place(path: str) -> str:
+    """Where a file of the archive stands in Debian."""
+    for begins, there in PLACES.items():
+        if path.startswith(begins):
+            return there + path[len(begins) :]
+    return f"usr/{path}"
+
+
+def lay(part: File, tree: str) -> None:
+    """Writes a file to install into the tree."""
+    path = os.path.join(tree, place(part.path))
+    os.makedirs(os.path.dirname(path), exist_ok=True)
+    if part.link:
+        os.symlink(part.link, path)
+        return
+    with open(path, "wb") as it:
+        it.write(part.octets)
+    os.chmod(path, 0o755 if part.is_program else 0o644)
+
+
+def changelog(more: str) -> str:
+    """The changelog of the packages: the version, with the date of the commit."""
+    when = email.utils.formatdate(date(), usegmt=True).replace("GMT", "+0000")
+    what = "  * What changed: CHANGELOG.md in /usr/share/doc/niwhopera-tools."
+    return f"niwhopera ({version()}{more}) unstable; urgency=medium\n\n{what}\n\n -- The founders of Niwhopera <founders@niwhopera.invalid>  {when}\n"
+
+
+def tree_of(parts: Parts, folder: str, more: str) -> str:
+    """The folder that debhelper works in."""
+    top = os.path.join(folder, "niwhopera")
+    files, stage = os.path.join(top, "debian"), os.path.join(top, "stage")
+    shutil.copytree(KEPT, files)
+    stands = {it.path for it in parts.instead}
+    for part in [*(it for it in parts.archive if it.path not in stands), *parts.instead]:
+        lay(part, stage)
+    with open(os.path.join(files, "changelog"), "w", encoding="utf-8") as it:
+        it.write(changelog(more))
+    users = os.path.join(stage, USERS)
+    if os.path.exists(users):
+        # debhelper installs it, and makes the users when the package is installed.
+        shutil.move(users, os.path.join(files, "lagd.sysusers"))
+    there = [path for path in OPTIONAL if os.path.isdir(os.path.join(stage, path))]
+    with open(os.path.join(files, "lagd.install"), "a", encoding="utf-8") as it:
+        it.write("".join(f"{path}\n" for path in there))
+    return top
+
+
+def made(parts: Parts, out: str, folder: str, more: str = "") -> list[str]:
+    """Makes the packages, with `more` behind their version; answers their files, none where what makes them is not here."""
+    if not is_possible():
+        return []
+    top = tree_of(parts, folder, more)
+    given = {**os.environ, "SOURCE_DATE_EPOCH": str(date()), "DEB_BUILD_OPTIONS": "nocheck noautodbgsym", "DEB_RULES_REQUIRES_ROOT": "no", "LC_ALL": "C.UTF-8"}
+    printed("debian/rules", "binary", cwd=top, env=given)
+    os.makedirs(out, exist_ok=True)
+    made = sorted(it for it in os.listdir(folder) if it.endswith(".deb"))
+    return [shutil.copy(os.path.join(folder, it), os.path.join(out, it)) for it in made]
