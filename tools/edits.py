@@ -51,9 +51,9 @@ def read_tests(crate, name):
     return [tuple(line.split()[1:]) for line in lines if line.startswith("refused-by: ")]
 
 
-def why_no_edit(says, pairs):
-    """Why this is no wrong definition; None if it is one."""
-    makes_wrong = any(file.startswith("specs/") for file, _, _ in pairs)
+def why_no_edit(says, pairs, has_tests=False):
+    """Why this is no wrong definition; None if it is one. One that names tests may be a body alone, of which no contract speaks."""
+    makes_wrong = any(file.startswith("specs/") or has_tests for file, _, _ in pairs)
     return None if says and makes_wrong else "the edit has no line `says:`, or makes no definition wrong"
 
 

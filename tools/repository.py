@@ -3,11 +3,14 @@
 The tools of tools/ call `run` in their last line; their other modules stand in folders NAME.d.
 """
 
+from __future__ import annotations
+
 import os
 import re
 import shutil
 import subprocess
 import sys
+from typing import Callable, NoReturn
 
 TOOLS = os.path.dirname(os.path.abspath(__file__))
 TOP = os.path.dirname(TOOLS)
@@ -26,14 +29,14 @@ class Missing(Exception):
     """Something that the tool needs is not here, or failed: what is told of it."""
 
 
-def want(*names):
+def want(*names: str) -> None:
     """Stops the tool where one of these commands is not here."""
     for name in names:
         if not shutil.which(name):
             raise Missing(f"there is no command {name} in PATH" + (f": {WHY[name]}" if name in WHY else ""))
 
 
-def kit():
+def kit() -> str:
     """The folder of the toolchain."""
     told = subprocess.run([RT, "doc"], stdin=subprocess.DEVNULL, capture_output=True, text=True)
     if told.returncode or not told.stdout.strip():
@@ -41,29 +44,42 @@ def kit():
     return os.path.dirname(told.stdout.strip().splitlines()[-1])
 
 
-def runtime():
+def daemon_words() -> tuple[list[str], list[str]]:
+    """With which words the daemon is compiled, and with which it is linked: those of libinih, and of the libraries that it uses where
+    they are here."""
+    want("pkg-config")
+    found = [name for name in ("inih", "libsystemd", "libcap-ng") if not subprocess.run(["pkg-config", "--exists", name]).returncode]
+    if "inih" not in found:
+        raise Missing("the daemon reads its files by libinih, and pkg-config finds none (Debian: libinih-dev)")
+    defined = {"libsystemd": "-DHAVE_SYSTEMD", "libcap-ng": "-DHAVE_CAP_NG"}
+    told = [subprocess.run(["pkg-config", kind, *found], capture_output=True, text=True).stdout.split() for kind in ("--cflags", "--libs")]
+    return [*(defined[name] for name in found if name in defined), *told[0]], told[1]
+
+
+def runtime() -> str:
     """The C part of the toolchain, with which the C library is linked."""
     return os.path.join(kit(), "c", "liblibc_c.a")
 
 
-def lines():
+def lines() -> dict[str, str]:
     """The lines of crates.txt, without comments, by the names of their crates."""
     with open(os.path.join(TOP, "crates.txt"), encoding="utf-8") as it:
         rows = [line.split("#")[0].strip() for line in it]
     return {re.split("[ :]", row)[0]: row for row in rows if row}
 
 
-def crates():
+def crates() -> dict[str, list[str]]:
     """The crates of the repository, each with those of the repository that it uses."""
     listed = lines()
     return {name: [it for it in row.partition(":")[2].split() if it in listed] for name, row in listed.items()}
 
 
-def below(*names):
+def below(*names: str) -> list[str]:
     """These crates and all crates of the repository that they stand on, lowest first."""
-    uses, found = crates(), []
+    uses = crates()
+    found: list[str] = []
 
-    def add(name):
+    def add(name: str) -> None:
         if name not in found:
             for it in uses[name]:
                 add(it)
@@ -74,18 +90,18 @@ def below(*names):
     return found
 
 
-def make_program():
+def make_program() -> None:
     """Makes the proved program, where it is missing or older than its sources, and looks that it works."""
     if subprocess.run([os.path.join(TOOLS, "lagtool"), "vectors"], stdout=subprocess.DEVNULL).returncode:
         raise Missing("tools/lagtool vectors fails, as the lines above say")
 
 
-def say(text):
+def say(text: object) -> None:
     """Tells a line on standard error, under the name of the tool."""
     print(f"{os.path.basename(sys.argv[0])}: {text}", file=sys.stderr, flush=True)
 
 
-def run(main):
+def run(main: Callable[[], int | None]) -> NoReturn:
     """Runs a tool. Where something is missing it ends with a line and status 2."""
     try:
         status = main()

@@ -13,6 +13,8 @@ from repository import CRATES, RT, Missing, below, crates, say
 LASTS = "its proof goes on behind, 12 to 30 minutes on 4 processors, less after an earlier check"
 # The most jobs that rt takes for a check of its own accord.
 JOBS = 4
+# No estimate is given before this part of the work is done: the first crates say little of the others.
+KNOWN = 1 / 5
 
 
 def spoken(seconds):
@@ -30,9 +32,9 @@ def apart(name):
 
 
 def size(crate):
-    """The octets of a crate's code, by which the time of its proof is estimated."""
-    folder = os.path.join(CRATES, crate, "src")
-    return sum(os.path.getsize(os.path.join(at, it)) for at, _, files in os.walk(folder) for it in files)
+    """The octets of a crate's code, definitions and proofs, by which the time of its proof is estimated."""
+    folders = [os.path.join(CRATES, crate, part) for part in ("src", "specs", "proofs")]
+    return sum(os.path.getsize(os.path.join(at, it)) for folder in folders for at, _, files in os.walk(folder) for it in files)
 
 
 class Proof:
@@ -98,12 +100,12 @@ class Proof:
             self.show(self.shown)
 
     def left(self):
-        """The seconds that are left, by what the crates took so far; None where nothing was proved here yet."""
-        here = [it for it, took in self.proved.items() if took > 5]
-        if not here:
-            return None
+        """The seconds that are left, by what the crates took so far; None before a fifth of the work was done here."""
+        here = sum(self.sizes[it] for it, took in self.proved.items() if took > 5)
         todo = sum(self.sizes[it] for it in self.all if it not in self.proved)
-        return (time.time() - self.began) * todo / sum(self.sizes[it] for it in here)
+        if here < KNOWN * (here + todo):
+            return None
+        return (time.time() - self.began) * todo / here
 
     def show(self, what):
         """Says how far the proof is, now and after each crate; on a terminal in one line."""

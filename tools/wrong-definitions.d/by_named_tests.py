@@ -175,7 +175,7 @@ def copied(tests_crate, number, crate, test):
 def verdict(output, number, as_it_is, crate, name, tests_crate):
     """Whether the tests that an edit names refuse it, and what to print."""
     says, pairs = read_edit(crate, name)
-    why = why_no_edit(says, pairs)
+    why = why_no_edit(says, pairs, has_tests=True)
     if why or {of for of, _ in read_tests(crate, name)} != {tests_crate}:
         return False, why or f"the edit names tests of more crates than {tests_crate}"
     if not any(line.startswith("test result: ") for line in output):

@@ -24,6 +24,7 @@ LOOKS = {
     "lagworld": ["worldtests", "jobtests"],
     "lagline": ["lagline"],
     "lagstreams": ["jobtests", "servetests", "stored run"],
+    "captures": ["capturetests"],
     "lagjobs": ["jobtests"],
     "lagserve": ["servetests", "stored run"],
     "example_two_systems": ["run of two systems"],
