@@ -13,7 +13,7 @@ use Rattle.portmachines.specs.Periodic.{RunsPeriodic, partner_short, periodic_ro
 use Rattle.portmachines.specs.Receive.{lacpdu_rows, receive_rows, start_receive}
 use Rattle.portmachines.specs.Rows.{AtRest, RunsToRest}
 use Rattle.portmachines.specs.Start.{Starts}
-use Rattle.portmachines.specs.Transmit.{aged, count_down}
+use Rattle.portmachines.specs.Transmit.{aged, count_down, is_due}
 use Rattle.portmachines.proofs.Windows.{periodic-ages}
 use Rattle.lagsystem.specs.declared.drive.Reply.{Reply}
 use Rattle.lagsystem.specs.declared.system_ports.SystemPort.{SystemPort}
@@ -22,7 +22,7 @@ use Rattle.lagsystem.specs.Calls.{changed_party, choice_with_link}
 use Rattle.lagsystem.specs.NothingToSettle.{PeriodicIsSettled}
 use Rattle.lagsystem.specs.Windows.{reply_has_lacpdu}
 use Rattle.lagsystem.proofs.Rising.{all-get}
-use Rattle.lagprogress.specs.Heartbeat.{IsHeard, LeavesUpAndSilent, takes_down, tick_count}
+use Rattle.lagprogress.specs.Heartbeat.{IsHeard, IsSilentShortly, LeavesUpAndSilent, takes_down, tick_count}
 use Rattle.lagprogress.specs.Silence.{IsLoud, SilentFor, Speaks}
 use Rattle.lagprogress.specs.Timers.{IsTimed, most_periodic_timer}
 use Rattle.lagprogress.proofs.EachPort.{KeptByCall, KeptBySettling}
@@ -217,3 +217,16 @@ is_heard gives old new calls replies i x y s t at l h u many there =
     due y.port.ntt (length y.port.ages)
     (silence_comes y.port silent.0.0 rest.rows (subst (λ m. Speaks m y.port) (omega (arith, many)) silent.0.1))
     (none_left (0 + ticks) y.port.ages (omega (arith, many)) silent.1)
+
+-- at most m, where it is not more
+not_more : (m n : ℕ) → (suc m ≤ n → ⊥) → n ≤ m
+not_more m zero f = omega arith
+not_more zero (suc n) f = absurd (f (omega arith))
+not_more (suc m) (suc n) f = omega (arith, not_more m n (λ h. f (omega (arith, h))))
+
+not_due : (b : Bool) → b ≡ false → b ≡ true → ⊥
+not_due b e f = cc
+
+pub is_silent_shortly : (gives : ℕ → ℕ → ℕ → Type 0) → IsSilentShortly gives
+is_silent_shortly gives old new calls replies i x y s t at l h u there none = not_more 308 (tick_count calls)
+    (λ many. not_due (is_due y.port) none (is_heard gives old new calls replies i x y s t at l h u many there))

@@ -39,3 +39,10 @@ IsHeard gives = (old new : SystemState) (calls : List Call) (replies : List Repl
     → PortsAreTimed old → slice_get old.system_ports i ≡ Some x → IsLoud x.port → TableRun gives old calls replies new
     → EachCall (LeavesUpAndSilent x.number) calls replies → 309 ≤ tick_count calls → slice_get new.system_ports i ≡ Some y
     → is_due y.port ≡ true
+
+-- So while no LACPDU is due on it, after such calls, at most 308 ticks are among them.
+abbrev pub IsSilentShortly : (ℕ → ℕ → ℕ → Type 0) → Type 0
+IsSilentShortly gives = (old new : SystemState) (calls : List Call) (replies : List Reply) (i : ℕ) (x y : SystemPort) → IsSound old
+    → PortsAreTimed old → slice_get old.system_ports i ≡ Some x → IsLoud x.port → TableRun gives old calls replies new
+    → EachCall (LeavesUpAndSilent x.number) calls replies → slice_get new.system_ports i ≡ Some y → is_due y.port ≡ false
+    → tick_count calls ≤ 308

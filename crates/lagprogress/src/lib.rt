@@ -70,14 +70,15 @@ pub fn ticks_until_due_are_bounded()
     ensures { TellsAtMost900 }
 {}
 
-ghost use Rattle.lagprogress.specs.Heartbeat.{IsHeard};
+ghost use Rattle.lagprogress.specs.Heartbeat.{IsHeard, IsSilentShortly};
 
 /// An active port whose link stays up is heard: after any calls that leave its link up, 309 ticks or more among them, an
 /// LACPDU is due on it, if it sent none in them. So it sends one in any 309 ticks (31 s) after each of which it is asked
-/// (6.4.13, 6.4.16). The system is sound, its timers are within their bounds, and its distribution algorithm may return
-/// anything.
+/// (6.4.13, 6.4.16), and where none is due after such calls, at most 308 ticks are among them. The system is sound, its timers
+/// are within their bounds, and its distribution algorithm may return anything.
 pub fn active_ports_are_heard<F: Fn(u16, usize) -> usize>()
-    ensures { (algorithm : F) → IsHeard (F.post algorithm) }
+    ensures heard { (algorithm : F) → IsHeard (F.post algorithm) }
+    ensures silent { (algorithm : F) → IsSilentShortly (F.post algorithm) }
 {}
 
 ghost use Rattle.lagprogress.specs.Hearing.{IsNoticed};

@@ -1,5 +1,5 @@
 -- Every world on the way of a run is sound, so the headline holds of each.
-use Rattle.std.proofs.Common.{◌≡◌, ◌≤◌, ◌<◌, ℕ, zero, suc, ◌+◌, Bool, true, false, Option, Some, None, IsSomeAnd, List, [], ◌∷◌, refl}
+use Rattle.std.proofs.Common.{◌≡◌, ◌≤◌, ◌<◌, ℕ, zero, suc, ◌+◌, Bool, true, false, Option, Some, None, IsSomeAnd, List, [], ◌∷◌, ◌++◌, refl}
 use Rattle.std.proofs.Common.{sym, subst, arith}
 use Rattle.std.specs.Prelude.{is_some, nat_le, slice_get}
 use Rattle.std.proofs.lemmas.Bool.{false≢true, true≢false}
@@ -11,7 +11,7 @@ use Rattle.lagworld.specs.declared.reply.Reply.{Reply}
 use Rattle.lagworld.specs.State.{WorldState, LinkState, element_numbered}
 use Rattle.lagworld.specs.Events.{Algorithms, DoesEvent, OnLink, WorldSteps, WorldRuns, cause, first_event_cause, has_cable, has_system}
 use Rattle.lagworld.specs.Events.{cable_named, system_named, side_of, most_events}
-use Rattle.lagworld.specs.Headline.{Headline, HoldsAllTheWay}
+use Rattle.lagworld.specs.Headline.{Headline, HoldsAllTheWay, LimitsHoldOnTheWay}
 use Rattle.lagworld.specs.Sound.{IsSound}
 use Rattle.lagworld.proofs.Keeping.{steps_sound}
 use Rattle.lagworld.proofs.Running.{one_partner_of, agree_of, in_order_of}
@@ -94,3 +94,35 @@ holds_all_the_way gives (e ∷ es) (r ∷ rs) old new h i few =
     let above = rises gives es rs h.0 new h.2 in
     let mid = steps_sound gives e r old h.0 i (accepted gives e r old h.0 h.1 (omega (arith, above, few))) h.1 in
     (headline_of old i, holds_all_the_way gives es rs h.0 new h.2 mid few)
+
+-- two runs, one after the other
+runs_on : (gives : Algorithms) (es fs : List Event) (rs qs : List Reply) (old mid new : WorldState) → WorldRuns gives old es rs mid
+    → WorldRuns gives mid fs qs new → WorldRuns gives old (es ++ fs) (rs ++ qs) new
+runs_on gives [] fs [] qs old mid new h k = subst (λ (j : WorldState). WorldRuns gives j fs qs new) h k
+runs_on gives [] fs (r ∷ rs) qs old mid new h k = absurd h
+runs_on gives (e ∷ es) fs [] qs old mid new h k = absurd h
+runs_on gives (e ∷ es) fs (r ∷ rs) qs old mid new h k = (h.0, h.1, runs_on gives es fs rs qs h.0 mid new h.2 k)
+
+-- the headline holds of the first world of a run
+first_of : (gives : Algorithms) (es : List Event) (rs : List Reply) (old new : WorldState) (h : WorldRuns gives old es rs new)
+    → HoldsAllTheWay gives es rs old new h → Headline old
+first_of gives [] [] old new h w = w
+first_of gives [] (r ∷ rs) old new h w = absurd w
+first_of gives (e ∷ es) [] old new h w = absurd w
+first_of gives (e ∷ es) (r ∷ rs) old new h w = w.0
+
+-- and of the one between two
+middle_of : (gives : Algorithms) (es fs : List Event) (rs qs : List Reply) (old mid new : WorldState) (h : WorldRuns gives old es rs mid)
+    (k : WorldRuns gives mid fs qs new) → HoldsAllTheWay gives (es ++ fs) (rs ++ qs) old new (runs_on gives es fs rs qs old mid new h k)
+    → Headline mid
+unfolding runs_on
+middle_of gives [] fs [] qs old mid new h k w = subst Headline (sym h)
+    (first_of gives fs qs old new (subst (λ (j : WorldState). WorldRuns gives j fs qs new) h k) w)
+middle_of gives [] fs (r ∷ rs) qs old mid new h k w = absurd h
+middle_of gives (e ∷ es) fs [] qs old mid new h k w = absurd h
+middle_of gives (e ∷ es) fs (r ∷ rs) qs old mid new h k w = middle_of gives es fs rs qs h.0 mid new h.2 k w.1
+
+pub limits_hold : (gives : Algorithms) → LimitsHoldOnTheWay gives
+limits_hold gives es fs rs qs old mid new h k i few =
+    let run = runs_on gives es fs rs qs old mid new h k in
+    (middle_of gives es fs rs qs old mid new h k (holds_all_the_way gives (es ++ fs) (rs ++ qs) old new run i few)).limited

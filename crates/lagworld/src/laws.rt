@@ -34,15 +34,16 @@ pub fn a_start_is_sound()
 
 ghost use Rattle.std.specs.Prelude.{◌≤◌, List};
 ghost use Rattle.lagworld.specs.Events.{WorldRuns, most_events};
-ghost use Rattle.lagworld.specs.Headline.{HoldsAllTheWay};
+ghost use Rattle.lagworld.specs.Headline.{HoldsAllTheWay, LimitsHoldOnTheWay};
 
 /// What `World::run` promises of the last world holds of every world on the way, after each event, whatever the
 /// distribution algorithms return; and no aggregator ever has more members than the limit of links of its system. Of a
 /// run that stops early this holds up to its last event (profile; 6.3.6, 6.2.4).
 pub fn each_world_keeps_the_headline<F: Fn(u16, usize) -> usize>()
-    ensures { (one two : F) (es : List Event) (rs : List Reply) (old new : WorldState)
+    ensures headline { (one two : F) (es : List Event) (rs : List Reply) (old new : WorldState)
         (run : WorldRuns (both_algorithms (F.post one) (F.post two)) old es rs new) → IsSound old → new.acted ≤ most_events
         → HoldsAllTheWay (both_algorithms (F.post one) (F.post two)) es rs old new run }
+    ensures limits { (one two : F) → LimitsHoldOnTheWay (both_algorithms (F.post one) (F.post two)) }
 {}
 
 ghost use Rattle.lagsystem.specs.OneAnswer.{IsFunction};
