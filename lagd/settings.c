@@ -24,14 +24,19 @@ static bool read_word(const char *text, const char *first, const char *second, b
     return *is_first || strcmp(text, second) == 0;
 }
 
-/* Six octets of two hexadecimal digits each, with colons or hyphens between them. */
+/* Twelve hexadecimal digits: in pairs joined by colons or by hyphens, in fours joined by points, or alone. */
 static bool read_mac(const char *text, uint8_t *mac) {
     static const uint8_t none[6];
-    bool right = strlen(text) == 17;
-    for (int i = 0; right && i < 17; i++)
-        right = i % 3 < 2 ? isxdigit((unsigned char)text[i]) != 0 : (text[i] == ':' || text[i] == '-') && text[i] == text[2];
-    for (int i = 0; right && i < 6; i++) mac[i] = (uint8_t)strtoul(text + 3 * i, NULL, 16);
-    return right && !(mac[0] & 1) && memcmp(mac, none, sizeof none) != 0;
+    size_t size = strlen(text), group = size == 17 ? 2 : size == 14 ? 4 : 12, found = 0;
+    char digits[12], joint;
+    if (size != 17 && size != 14 && size != 12) return false;
+    joint = size == 14 ? '.' : text[2] == '-' ? '-' : ':';
+    for (size_t i = 0; i < size; i++) {
+        if (i % (group + 1) == group ? text[i] != joint : !isxdigit((unsigned char)text[i])) return false;
+        if (i % (group + 1) != group) digits[found++] = text[i];
+    }
+    for (size_t i = 0; i < 6; i++) mac[i] = (uint8_t)strtoul((char[]){digits[2 * i], digits[2 * i + 1], 0}, NULL, 16);
+    return !(mac[0] & 1) && memcmp(mac, none, sizeof none) != 0;
 }
 
 /* PRIORITY,MAC. */

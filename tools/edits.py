@@ -68,7 +68,7 @@ def read_pairs(path):
         word, _, text = line.partition(": ")
         if word == "says":
             says = text
-        elif word == "refused-by":
+        elif word in ("refused-by", "refused-in"):
             continue
         elif word == "file":
             file = text

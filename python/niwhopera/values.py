@@ -31,14 +31,17 @@ def within(what: str, number: int, most: int) -> int:
     return int(number)
 
 
+_MAC = re.compile(r"[0-9a-fA-F]{12}|[0-9a-fA-F]{2}(?:([:-])[0-9a-fA-F]{2})(?:\1[0-9a-fA-F]{2}){4}|[0-9a-fA-F]{4}(?:\.[0-9a-fA-F]{4}){2}")
+
+
 class Mac(bytes):
-    """A MAC address: six octets, given as octets or as twelve hexadecimal digits, alone or in pairs joined by `:` or by `-`."""
+    """A MAC address: six octets, given as octets or as twelve hexadecimal digits: alone, in pairs joined by `:` or `-`, or in fours joined by `.`."""
 
     def __new__(cls, value: Union[str, bytes]) -> Mac:
         if isinstance(value, str):
-            if not re.fullmatch(r"[0-9a-fA-F]{12}|[0-9a-fA-F]{2}([:-])(?:[0-9a-fA-F]{2}\1){4}[0-9a-fA-F]{2}", value):
+            if not _MAC.fullmatch(value):
                 raise ValueError(f"{value!r} is no MAC address")
-            value = bytes.fromhex(re.sub("[:-]", "", value))
+            value = bytes.fromhex(re.sub("[:.-]", "", value))
         if len(value) != 6:
             raise ValueError(f"a MAC address has 6 octets, and not {len(value)}")
         return super().__new__(cls, value)

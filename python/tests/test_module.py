@@ -40,10 +40,12 @@ CONFIG = Config(SystemId(32768, OWN), (PORT, dataclasses.replace(PORT, number=5)
 ALL_STATES = State.ACTIVITY | State.TIMEOUT | State.AGGREGATION
 
 
-def test_a_mac_address_is_read_in_three_notations() -> None:
-    assert Mac("02:00:00:00:0a:Ff") == Mac("02-00-00-00-0A-fF") == Mac("020000000aff") == Mac(bytes([2, 0, 0, 0, 10, 255]))
+def test_a_mac_address_is_read_in_each_notation() -> None:
+    octets = Mac(bytes([2, 0, 0, 0, 10, 255]))
+    for text in ("02:00:00:00:0a:Ff", "02-00-00-00-0A-fF", "0200.0000.0aFf", "020000000aff"):
+        assert Mac(text) == octets
     assert str(Mac("020000000AFF")) == "02-00-00-00-0a-ff" and repr(Mac("020000000AFF")) == "Mac('02-00-00-00-0a-ff')"
-    for text in ("02:00:00:00:00", "02:00:00:00:00:0g", "02:00-00:00:00:01", ""):
+    for text in ("02:00:00:00:00", "02:00:00:00:00:0g", "02:00-00:00:00:01", "0200.0000", "0200:0000:0001", "02.00.00.00.00.01", ""):
         with pytest.raises(ValueError):
             Mac(text)
     with pytest.raises(ValueError):

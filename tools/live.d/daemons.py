@@ -131,6 +131,7 @@ def wrong_words(part):
     system = f"32768,{SYSTEM}"
     wrong = [["7x", system, "a0"], ["65536", system, "a0"], ["", system, "a0"], ["7", SYSTEM, "a0"], ["7", f"-1,{SYSTEM}", "a0"]]
     macs = (" 2:00:00:00:00:aa", "-2:00:00:00:00:aa", "2:0:0:0:0:a", SYSTEM + ":01", "", "01:00:00:00:00:aa", "00:00:00:00:00:00")
+    macs += ("02:00:00-00:00:aa", "0200:0000:00aa", "02.00.00.00.00.aa", "0200.0000.00a", "0200.0000.00ag", "0100.0000.00aa")
     wrong += [["7", f"32768,{mac}", "a0"] for mac in macs]
     wrong += [["7", system, "a0", "a1", "a0"], ["7", system, "a0/b"], ["7", system, ""], ["7", system, "a" * 128], ["7", system, "lo"]]
     wrong += [["7", system], ["7", system, *(f"a{port}" for port in range(65))], ["--status", "a0"], ["--json", "7", system, "a0"]]

@@ -29,6 +29,8 @@ min-links=1
 [Port a1]
 priority=100
 """
+# How else the MAC address of the system may be written.
+NOTATIONS = "02-00-00-00-00-AA", "0200000000aa", "0200.0000.00aa"
 # A wrong file, and where what was expected is told.
 WRONG = {
     "[Bundle]\nkey=65536\n": "2: expected a number from 0 to 65535: key=65536",
@@ -87,9 +89,10 @@ def files(part):
     check(not untold, f"{len(WRONG)} wrong files are refused, with file, line and what was expected", *untold)
     missing = inside(OURS, part.program, "--check", os.path.join(part.folder, "none.conf"))
     check(missing.returncode == 2 and "none.conf: No such file" in missing.stderr, "so is one that is missing", missing.stderr)
-    write(path, FILE)
-    right = inside(OURS, part.program, "--check", path)
-    check((right.returncode, right.stderr) == (0, ""), "a right one is not", right.stderr)
+    for address in (SYSTEM, *NOTATIONS):
+        write(path, FILE.replace(SYSTEM, address))
+        right = inside(OURS, part.program, "--check", path)
+        check((right.returncode, right.stderr) == (0, ""), f"a right one is not, with the address {address}", right.stderr)
     mixed = inside(OURS, part.program, "--config", path, "--min-links", "2")
     check(mixed.returncode == 2, "a file and options of a bundle do not go together", mixed.stderr)
     ours, theirs = Filed(part, path), part.theirs()
@@ -98,6 +101,7 @@ def files(part):
     values = {name: (port["actor"]["key"], port["actor"]["port_priority"]) for name, port in ports.items()}
     check(values == {"a0": (23, 32768), "a1": (23, 100)}, "its ports have the values of the file", values)
     check("---- uplink ----\n" in ours.text(), "it has the name of the file", ours.text())
+    check(theirs.port("b0")["partner"]["system"] == SYSTEM, f"the peer sees {NOTATIONS[-1]} as {SYSTEM}", theirs.text())
     ours.ends("the daemon")
 
 

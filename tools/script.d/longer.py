@@ -16,6 +16,8 @@ UNTIL = re.compile(r"until ([0-9]+) same(?: ([0-9]+))?")
 TICK = re.compile(r"tick ([12]) ([0-9]+)")
 REPLY = re.compile(r"[0-9]+ .* -> (.*)")
 AGREEMENT = re.compile(r"cable ([0-9]+) agreement (.*)")
+# A MAC address of a table: twelve hexadecimal digits in pairs joined by `:` or `-`, in fours joined by `.`, or alone.
+ADDRESS = re.compile(r"""(?<![\w-])(mac\s*=\s*)(["'])((?:[0-9a-fA-F]{2}([:-])(?:[0-9a-fA-F]{2}\4){4}|[0-9a-fA-F]{4}\.[0-9a-fA-F]{4}\.[0-9a-fA-F]{2}|[0-9a-fA-F]{10})[0-9a-fA-F]{2})\2""")
 # The replies of events that did nothing.
 IDLE = ("nothing", "empty")
 
@@ -40,7 +42,7 @@ class Longer:
         if not begin:
             raise Refused("it has no table of a system")
         self.head = "".join(line for line in text.splitlines(keepends=True)[:2] if line.startswith("#"))
-        self.tables = text[begin.start():]
+        self.tables = ADDRESS.sub(with_hyphens, text[begin.start():])
         self.events: list[str] = []
 
     @staticmethod
@@ -109,6 +111,12 @@ class Longer:
                 return
             self.round()
         raise Refused(f"{place}: cable {cable} does not agree within {most} rounds")
+
+
+def with_hyphens(found: re.Match[str]) -> str:
+    """The MAC address of a table as a script has it."""
+    digits = re.sub("[^0-9a-fA-F]", "", found[3])
+    return f"{found[1]}{found[2]}{'-'.join(re.findall('..', digits))}{found[2]}"
 
 
 def joined(events: list[str]) -> Iterator[str]:
