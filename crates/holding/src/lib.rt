@@ -12,5 +12,5 @@ mod refusal;
 mod rings;
 
 pub use laws::every_list_of_calls;
-pub use queues::Holding;
+pub use queues::{Holding, Released};
 pub use refusal::Refusal;

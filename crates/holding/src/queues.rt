@@ -1,5 +1,5 @@
 //! The queues of held frames.
-ghost use Rattle.std.specs.Prelude.{◌≡◌, ◌≤◌, ◌<◌, ◌++◌, ◌∷◌, [], Some, None, length, take, drop, replicate, slice_get, get_or, IfOk, IfErr, OnOk};
+ghost use Rattle.std.specs.Prelude.{◌≡◌, ◌≤◌, ◌<◌, ◌++◌, ◌∷◌, [], ℕ, Some, None, length, take, drop, replicate, slice_get, slice_index, get_or, IfOk, IfErr, OnOk, IfNone, IfSome, MatchOption};
 ghost use Rattle.holding.specs.Calls.{after, Put, Next, DropOldest, Clear};
 ghost use Rattle.holding.specs.Holding.{holding_of, queue, in_all, refusal};
 
@@ -18,6 +18,17 @@ pub struct Holding<T: Drop> {
     most_each: usize,
     dropped: u64,
     refused: u64,
+}
+
+/// A handle that leaves, with its conversation and the port that it is to be sent on (profile).
+#[derive(Debug, PartialEq, Eq, Drop)]
+pub struct Released<T: Drop> {
+    /// The conversation, from 0.
+    pub conversation: u16,
+    /// The number of the port.
+    pub port: u16,
+    /// The host's handle of the frame.
+    pub handle: T,
 }
 
 impl<T: Drop> Model for Holding<T> {
@@ -81,6 +92,39 @@ impl<T: Drop> Holding<T> {
         let handle = take_first(&mut self.rings, usize::from(conversation))?;
         self.waiting -= 1;
         Some(handle)
+    }
+
+    /// Takes out the oldest handle of the first conversation that is on a port and has one waiting: `ports` has the port of
+    /// each conversation, 0 for none. `None` if nothing waits that may leave (profile). Reads `ports` from its start.
+    pub fn next_released(&mut self, ports: &[u16]) -> Option<Released<T>>
+        requires { length ports.now ≤ 65536 }
+        ensures none { IfNone result ((k : ℕ) → k < length ports.now → 0 < slice_index ports.now k → queue self.old k ≡ []) }
+        ensures unchanged { IfNone result (self.new ≡ self.old) }
+        ensures port { IfSome result (λ r. (r.port ≡ slice_index ports.now r.conversation) × (0 < r.port)) }
+        ensures first { IfSome result (λ r. slice_get (queue self.old r.conversation) 0 ≡ Some r.handle) }
+        ensures after { IfSome result (λ r. self.new ≡ after (Next r.conversation) self.old) }
+    {
+        let conversation = self.first_released(ports)?;
+        let handle = self.next(conversation)?;
+        Some(Released {
+            conversation,
+            port: ports[usize::from(conversation)],
+            handle,
+        })
+    }
+
+    /// The first conversation that is on a port and has a handle waiting.
+    fn first_released(&self, ports: &[u16]) -> Option<u16>
+        requires { length ports.now ≤ 65536 }
+        ensures { MatchOption result ((k : ℕ) → k < length ports.now → 0 < slice_index ports.now k → queue self.now k ≡ [])
+            (λ k. (k < length ports.now) × (0 < slice_index ports.now k) × (0 < length (queue self.now k))) }
+    {
+        for (place, port) in ports.iter().enumerate() {
+            if *port != 0 && self.waiting(place as u16) > 0 {
+                return Some(place as u16);
+            }
+        }
+        None
     }
 
     /// Takes the oldest handle of a conversation out, not to be sent, and counts it; `None` if none waits or there is no
