@@ -25,6 +25,8 @@ LOOKS = {
     "lagline": ["lagline"],
     "lagstreams": ["jobtests", "servetests", "stored run"],
     "captures": ["capturetests"],
+    "holding": ["holdingtests"],
+    "balance": ["holdingtests"],
     "lagjobs": ["jobtests"],
     "lagserve": ["servetests", "stored run"],
     "example_two_systems": ["run of two systems"],

@@ -1,0 +1,5 @@
+pub mod Extremes
+pub mod Loads
+pub mod Ports
+pub mod Settling
+pub mod Sums

@@ -1,0 +1,8 @@
+use Rattle.std.proofs.Common.{ℕ, ◌<◌, ◌≤◌, get_or}
+use Rattle.std.specs.Prelude.{Contains}
+use Rattle.balance.specs.Moves.{load_on}
+use Rattle.balance.proofs.moves.busiest.Given as goal
+
+abbrev pub invariant-loop-port : goal.invariant-loop-port
+invariant-loop-port l =
+    Contains l.ports l.best × ((k : ℕ) → k < l.port-index → load_on (get_or l.ports k 0) l.carried ≤ load_on l.best l.carried)

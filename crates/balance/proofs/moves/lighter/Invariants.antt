@@ -1,0 +1,8 @@
+use Rattle.std.proofs.Common.{◌≡◌, ℕ, ◌<◌, ◌≤◌}
+use Rattle.balance.specs.Moves.{conversation_at}
+use Rattle.balance.proofs.moves.lighter.Given as goal
+
+abbrev pub invariant-loop-place : goal.invariant-loop-place
+invariant-loop-place l =
+    (k : ℕ) → k < l.place → (conversation_at l.carried k).port ≡ l.port → 0 < (conversation_at l.carried k).load
+    → l.difference ≤ (conversation_at l.carried k).load

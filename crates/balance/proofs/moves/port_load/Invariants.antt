@@ -1,0 +1,6 @@
+use Rattle.std.proofs.Common.{◌≡◌, ◌*◌, ◌≤◌, take}
+use Rattle.balance.specs.Moves.{load_on}
+use Rattle.balance.proofs.moves.port_load.Given as goal
+
+abbrev pub invariant-loop-one : goal.invariant-loop-one
+invariant-loop-one l = (l.load ≡ load_on l.port (take l.one-index l.carried)) × (l.load ≤ l.one-index * 4294967295)

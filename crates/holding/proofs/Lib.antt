@@ -1,0 +1,4 @@
+pub mod Bounds
+pub mod Counts
+pub mod Order
+pub mod Views

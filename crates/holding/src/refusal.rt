@@ -1,0 +1,12 @@
+//! Why a frame is handed back.
+
+/// Why `Holding::put` hands a frame back (profile).
+#[derive(Clone, Copy, Debug, PartialEq, Eq)]
+pub enum Refusal {
+    /// There is no such conversation.
+    NoConversation,
+    /// The queue of the conversation is full.
+    ConversationFull,
+    /// As many frames wait as may wait in all.
+    AllFull,
+}
