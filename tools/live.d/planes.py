@@ -20,7 +20,7 @@ KEPT, SEEN, TRIALS = 50_000_000, 1, 10
 def check_planes(folder, libraries):
     ran = command(build_planes(folder, libraries))
     print(ran.stdout, end="")
-    check(ran.returncode == 0, "of hosts that carry data, those that keep to USING turn no frame round, and the others do", ran.stderr)
+    check(ran.returncode == 0, "hosts that carry data: no frame overtakes where a host keeps to docs/USING.md, and some do where it does not", ran.stderr)
 
 
 def set_feature(space, name, what, on):
