@@ -1,5 +1,7 @@
 """Hosts that carry data: those of tools/live.d/planes.c, which need no interface; and what the kernel does to a marker behind data."""
 
+from __future__ import annotations
+
 import array
 import fcntl
 import socket
@@ -7,6 +9,7 @@ import struct
 import time
 
 from checking import Skipped, check, command
+from daemon import Part
 from linking import build_planes
 from spaces import GROUP, OURS, SLOW_PROTOCOLS, THEIRS, inside, marker, octets, packet_socket, within_space
 
@@ -17,13 +20,13 @@ ALL_PROTOCOLS, IPV4, SOURCE = 3, 0x0800, "02:00:00:00:00:77"
 KEPT, SEEN, TRIALS = 50_000_000, 1, 10
 
 
-def check_planes(folder, libraries):
+def check_planes(folder: str, libraries: list[str]) -> None:
     ran = command(build_planes(folder, libraries))
     print(ran.stdout, end="")
     check(ran.returncode == 0, "hosts that carry data: no frame overtakes where a host keeps to docs/USING.md, and some do where it does not", ran.stderr)
 
 
-def set_feature(space, name, what, on):
+def set_feature(space: str, name: str, what: int, on: int) -> None:
     """Sets a feature of an interface."""
     value = array.array("B", struct.pack("II", what, on))
     with within_space(space), socket.socket(socket.AF_INET, socket.SOCK_DGRAM) as asked:
@@ -33,14 +36,14 @@ def set_feature(space, name, what, on):
             raise Skipped(f"no change of {name}: {why.strerror}") from None
 
 
-def checksum(data):
+def checksum(data: bytes) -> int:
     total = sum(struct.unpack(f"!{len(data) // 2}H", data))
     while total >> 16:
         total = (total & 0xFFFF) + (total >> 16)
     return ~total & 0xFFFF
 
 
-def segment(to, number, length=100):
+def segment(to: str, number: int, length: int = 100) -> bytes:
     """A frame with the segment of this number of a stream of TCP."""
     ends, payload = bytes([10, 0, 0, 1, 10, 0, 0, 2]), bytes(length)
     tcp = struct.pack("!HHIIBBHHH", 1000, 2000, number * length, 1, 0x50, 0x10, 1000, 0, 0)
@@ -50,7 +53,7 @@ def segment(to, number, length=100):
     return octets(to) + octets(SOURCE) + IPV4.to_bytes(2, "big") + head + tcp + payload
 
 
-def next_type(receiver, seconds):
+def next_type(receiver: socket.socket, seconds: float) -> int | None:
     """The type of the next frame that comes, but for those that the kernel sends itself; None where none comes in time."""
     until = time.monotonic() + seconds
     while time.monotonic() < until:
@@ -65,7 +68,7 @@ def next_type(receiver, seconds):
     return None
 
 
-def before_marker(sender, receiver, frames):
+def before_marker(sender: socket.socket, receiver: socket.socket, frames: list[bytes]) -> int:
     """Sends frames, of which the last one is a marker; how many came before it."""
     for frame in frames:
         sender.send(frame)
@@ -77,7 +80,7 @@ def before_marker(sender, receiver, frames):
     return count
 
 
-def joined(part):
+def joined(part: Part) -> None:
     """Three segments and then a marker, to an interface that joins frames and to one that does not. Whether the kernel passes them on
     before the marker comes is a matter of its clock, too."""
     set_feature(OURS, "a0", SET_TSO, 0)
