@@ -86,10 +86,10 @@ class Daemon:
 
 
 class Part:
-    """The daemons of a part; each stands in a list, so that all are ended."""
+    """The daemons of a part, and its other programs; each stands in a list, so that all are ended."""
 
-    def __init__(self, program, folder, refusing=None):
-        self.program, self.folder, self.refusing, self.running = program, folder, refusing, []
+    def __init__(self, program, folder, refusing=None, minimal=None):
+        self.program, self.folder, self.refusing, self.minimal, self.running = program, folder, refusing, minimal, []
 
     def start(self, space, system, key, *names, **more):
         self.running.append(Daemon(self.program, self.folder, space, system, key, *names, **more))

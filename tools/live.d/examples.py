@@ -3,10 +3,10 @@
 import os
 
 from checking import check, command
-from linking import INCLUDE, STRICT, build
+from linking import EXAMPLES, STRICT, build
 from repository import TOP
 
-EXAMPLE = os.path.join(TOP, "examples", "c", "two_ends.c")
+EXAMPLE = os.path.join(EXAMPLES, "two_ends.c")
 PRINTS = "both ends distribute after 30 ticks of 100 ms\n"
 
 

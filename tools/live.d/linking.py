@@ -11,6 +11,7 @@ from repository import CC, CRATES, RT, TOP, WARNINGS, Missing, daemon_words, run
 CRATE = os.path.join(CRATES, "lagffi")
 INCLUDE = f"-I{CRATE}/include"
 DAEMON = os.path.join(TOP, "lagd")
+EXAMPLES = os.path.join(TOP, "examples", "c")
 STRICT = ["-std=c11", *WARNINGS]
 
 
@@ -65,6 +66,17 @@ def build_daemon(folder, libraries, name="lagd", more=(), words=()):
     return build(os.path.join(folder, name), [*daemon_sources(), *more], [*libraries, *linked], *STRICT, *compiled, *words)
 
 
+def build_planes(folder, libraries):
+    """Builds the hosts that carry data; answers the path of the program."""
+    return build(os.path.join(folder, "planes"), [f"{TOP}/tools/live.d/planes.c"], libraries, *STRICT)
+
+
+def build_minimal(folder, libraries):
+    """Builds the example of one port, with ASan and UBSan; answers its path."""
+    words = [*STRICT, "-g", "-fsanitize=address,undefined", "-fno-sanitize-recover=all"]
+    return build(os.path.join(folder, "minimal"), [os.path.join(EXAMPLES, "minimal.c")], libraries, *words)
+
+
 def build_refusing(folder, libraries):
     """Builds a daemon whose library refuses each tick after SIGUSR1; answers its path."""
     more = [f"{TOP}/tools/live.d/refusing.c"]
@@ -72,8 +84,9 @@ def build_refusing(folder, libraries):
 
 
 def check_warnings():
-    """gcc and clang, where they are here, find no fault with the daemon."""
-    sources = daemon_sources()
+    """gcc and clang, where they are here, find no fault with the daemon and the examples."""
+    checked = {"files of the daemon": daemon_sources(), "examples in C": sorted(glob.glob(f"{EXAMPLES}/*.c"))}
     for compiler in filter(shutil.which, ("gcc", "clang")):
-        read = command(compiler, *STRICT, "-O2", INCLUDE, *daemon_words()[0], "-fsyntax-only", *sources)
-        check(read.returncode == 0, f"{compiler} has no warning for the {len(sources)} files of the daemon", read.stderr)
+        for what, sources in checked.items():
+            read = command(compiler, *STRICT, "-O2", INCLUDE, *daemon_words()[0], "-fsyntax-only", *sources)
+            check(read.returncode == 0, f"{compiler} has no warning for the {len(sources)} {what}", read.stderr)

@@ -3,6 +3,9 @@
  * Bytes and ticks go in, frames come out. The library has no clock, no socket and no thread of its own: the caller hands it
  * every frame that comes, calls niw_tick every 100 ms, and after each call sends what niw_transmit gives for each port.
  *
+ * What a program uses has a name that begins with niw_ or NIW_, for Niwhopera, the name of the project. The names that begin with lagffi_
+ * are those that the library exports.
+ *
  * What the caller owes, and nothing checks:
  * - A handle is NIW_EMPTY before its first call, and only the functions below write it. It is not copied while it holds a system.
  * - A pointer that is not null points to what its type says, and a buffer or frame has as many octets as its length says.
