@@ -100,6 +100,7 @@ impl<T: Drop> Holding<T> {
         requires { length ports.now ≤ 65536 }
         ensures none { IfNone result ((k : ℕ) → k < length ports.now → 0 < slice_index ports.now k → queue self.old k ≡ []) }
         ensures unchanged { IfNone result (self.new ≡ self.old) }
+        ensures least { IfSome result (λ r. (k : ℕ) → k < r.conversation → 0 < slice_index ports.now k → queue self.old k ≡ []) }
         ensures port { IfSome result (λ r. (r.port ≡ slice_index ports.now r.conversation) × (0 < r.port)) }
         ensures first { IfSome result (λ r. slice_get (queue self.old r.conversation) 0 ≡ Some r.handle) }
         ensures after { IfSome result (λ r. self.new ≡ after (Next r.conversation) self.old) }
@@ -116,8 +117,9 @@ impl<T: Drop> Holding<T> {
     /// The first conversation that is on a port and has a handle waiting.
     fn first_released(&self, ports: &[u16]) -> Option<u16>
         requires { length ports.now ≤ 65536 }
-        ensures { MatchOption result ((k : ℕ) → k < length ports.now → 0 < slice_index ports.now k → queue self.now k ≡ [])
+        ensures found { MatchOption result ((k : ℕ) → k < length ports.now → 0 < slice_index ports.now k → queue self.now k ≡ [])
             (λ k. (k < length ports.now) × (0 < slice_index ports.now k) × (0 < length (queue self.now k))) }
+        ensures least { IfSome result (λ j. (k : ℕ) → k < j → 0 < slice_index ports.now k → queue self.now k ≡ []) }
     {
         for (place, port) in ports.iter().enumerate() {
             if *port != 0 && self.waiting(place as u16) > 0 {
