@@ -1,5 +1,7 @@
 """The example in C that README.md quotes: it builds without a warning, prints what README says, and is quoted to the letter."""
 
+from __future__ import annotations
+
 import os
 
 from checking import check, command
