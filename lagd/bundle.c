@@ -19,7 +19,7 @@ static uint16_t carrying_in(uint16_t aggregator) {
 /* Chooses the aggregator with most ports that carry; of several the first one. */
 static void choose_aggregator(struct bundle *now) {
     now->aggregator = now->carrying = 0;
-    for (uint16_t aggregator = 1; aggregator <= link_count; aggregator++) {
+    for (uint16_t aggregator = 1; aggregator <= aggregator_count; aggregator++) {
         uint16_t carrying = carrying_in(aggregator);
         if (carrying <= now->carrying) continue;
         now->carrying = carrying;
@@ -52,8 +52,8 @@ static void enter(const struct bundle *now) {
         bundle.changed_at = time(NULL);
         bundle.counts[now->state]++;
     }
-    (void)say(now->state == BUNDLE_UP ? LOG_NOTICE : LOG_WARNING, "bundle %s: %s, %u of %u links carry, aggregator %u", settings.name,
-        bundle_state_text(bundle.state), bundle.carrying, link_count, bundle.aggregator);
+    (void)say((now->state == BUNDLE_UP ? LOG_NOTICE : LOG_WARNING) | ABOUT_BUNDLE, "bundle %s: %s, %u of %u links carry, aggregator %u",
+        settings.name, bundle_state_text(bundle.state), bundle.carrying, link_count, bundle.aggregator);
     tell_watchers_of(NULL);
     notify_state();
     if (other && settings.hook[0]) run_hook(settings.hook, before);

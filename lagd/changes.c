@@ -137,6 +137,7 @@ static uint32_t losses_since(uint32_t before, uint32_t now) {
  * it went. */
 static void follow(struct link *link, const struct interface *interface) {
     uint16_t port = link->settings.number;
+    bool up = (interface->flags & IFF_UP) && (interface->flags & IFF_RUNNING);
     if (interface->has_mac) memcpy(link->mac, interface->mac, sizeof link->mac);
     if (interface->counts_losses && interface->losses != link->kernel_losses) {
         uint32_t lost = losses_since(link->kernel_losses, interface->losses);
@@ -144,7 +145,8 @@ static void follow(struct link *link, const struct interface *interface) {
         if (lost > 0) link->counts[LOSSES] += lost - (link->up ? 1 : 0);
         if (lost > 0) set_link(port, false);
     }
-    set_link(port, (interface->flags & IFF_UP) && (interface->flags & IFF_RUNNING));
+    if (up) take_speed(link, interface->name);
+    set_link(port, up);
 }
 
 /* An interface is there. A port goes by its name. */

@@ -122,7 +122,9 @@ void take_frame(struct link *link, const struct arrival *arrival) {
 static bool is_tagged(struct msghdr *message) {
     for (struct cmsghdr *head = CMSG_FIRSTHDR(message); head; head = CMSG_NXTHDR(message, head)) {
         struct tpacket_auxdata aux;
+        size_t room = message->msg_controllen - (size_t)((const uint8_t *)head - (const uint8_t *)message->msg_control);
         if (head->cmsg_level != SOL_PACKET || head->cmsg_type != PACKET_AUXDATA || head->cmsg_len < CMSG_LEN(sizeof aux)) continue;
+        if (head->cmsg_len > room) return false;
         memcpy(&aux, CMSG_DATA(head), sizeof aux);
         if (aux.tp_status & TP_STATUS_VLAN_VALID) return true;
     }
@@ -156,7 +158,7 @@ void tell_strangers(struct link *link) {
     uint64_t foreign = link->counts[FOREIGN_RECEIVED], changes = link->counts[PARTNER_CHANGES];
     char system[32], source[32];
     if (foreign + changes == strangers->told || ticks_passed() < strangers->tell_at) return;
-    if (!say(LOG_WARNING, "port %u %s: another system speaks, last %s from %s: %" PRIu64 " LACPDUs not taken, %" PRIu64
+    if (!say(LOG_WARNING | ABOUT_STRANGER, "port %u %s: another system speaks, last %s from %s: %" PRIu64 " LACPDUs not taken, %" PRIu64
             " changes of the partner", link->settings.number, link->name, system_text(&strangers->system, system),
             mac_text(strangers->source, source), foreign, changes))
         return;

@@ -45,7 +45,7 @@ void run_hook(const char *path, enum bundle_state before) {
     set_attributes(&attributes);
     set_files(&files);
     fault = posix_spawn(&child, path, &files, &attributes, words, environment);
-    if (fault) (void)say(LOG_WARNING, "hook %s: %s", path, strerror(fault));
+    if (fault) (void)say(LOG_WARNING | ABOUT_HOOK, "hook %s: %s", path, strerror(fault));
     posix_spawn_file_actions_destroy(&files);
     posix_spawnattr_destroy(&attributes);
 }

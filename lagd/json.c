@@ -69,6 +69,7 @@ static void add_counts(const struct link *link) {
 /* One port. */
 static void add_member(const struct link *link) {
     struct view view = view_of(link);
+    char speed[40];
     add("{\"port\":%u,\"interface\":", link->settings.number);
     add_string(link->name);
     add(",\"link\":\"%s\",\"status\":\"%s\",\"carries\":%s,", link_name(link), status_text(view.facts.status),
@@ -77,6 +78,7 @@ static void add_member(const struct link *link) {
     add(",\"aggregator\":%u,\"receive\":\"%s\",\"mux\":\"%s\"", view.facts.aggregator, niw_receive_state_text((uint32_t)view.receive),
         niw_mux_state_text((uint32_t)view.mux));
     add(",\"current_while\":%" PRIu64 ",\"wait_while\":%" PRIu64, view.current_while, view.wait_while);
+    add(link->has_speed ? ",\"speed\":\"%s\"" : ",\"speed\":null", speed_text(&link->speed, speed));
     add_time(link->changed_at);
     add_ends(&view);
     add_strangers(link);

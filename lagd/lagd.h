@@ -73,10 +73,19 @@ struct strangers {
     bool seen;
 };
 
+/* How fast a link is; what the kernel does not tell is SPEED_UNKNOWN and DUPLEX_UNKNOWN of linux/ethtool.h. */
+struct speed {
+    uint32_t megabits; /* a second */
+    uint8_t duplex;    /* DUPLEX_FULL, DUPLEX_HALF or DUPLEX_UNKNOWN */
+};
+
 /* An interface. Link i is port i + 1 of the system. */
 struct link {
     const char *name;
-    struct niw_port settings;
+    struct niw_port settings; /* with the key that it has now */
+    uint16_t key;             /* that is given to it */
+    bool has_speed;           /* whether `speed` was read: with key-by-speed, as the link came up last */
+    struct speed speed;
     int lock;   /* by which no other lagd has the interface; -1 while it is missing */
     int socket; /* -1 while the interface is missing */
     int index;  /* of the interface */
@@ -152,11 +161,28 @@ const char *time_text(time_t time, char room[static 32]);
 
 /* lines.c */
 #define WATCHED 0x100 /* beside a level: watchers have had the line */
+/* Beside a level: the kind of a line. Each has a message id in the journal. */
+enum {
+    ABOUT_PORT = 0x1000,     /* a port changed */
+    ABOUT_BUNDLE = 0x2000,   /* the bundle is up, degraded or down, or has more or fewer links that carry */
+    ABOUT_STRANGER = 0x3000, /* another system than the partner speaks */
+    ABOUT_RELOAD = 0x4000,   /* the file was read again */
+    ABOUT_RESTART = 0x5000,  /* something new in it needs a restart */
+    ABOUT_FILE = 0x6000,     /* it is wrong */
+    ABOUT_HOOK = 0x7000,     /* the hook cannot be run */
+    ABOUT_END = 0x8000,      /* the daemon left a port, as it ends */
+    ABOUT_REFUSAL = 0x9000,  /* the library refused a call */
+    KINDS = 0xf000,
+};
 _Noreturn void stop(int status, const char *what, const char *which);
 void refuse(uint32_t status, const char *call);
 bool say(int level, const char *format, ...) __attribute__((format(printf, 2, 3)));
 void complain(const char *format, ...) __attribute__((format(printf, 1, 2)));
 size_t escape(char *text, size_t room, const char *from, size_t length, bool lines);
+
+/* journal.c */
+enum journaled { JOURNALED, JOURNAL_IS_BUSY, NOT_JOURNALED };
+enum journaled tell_journal(int level, const char *text);
 
 /* options.c */
 struct options *read_options(int argc, char **argv);
@@ -192,6 +218,15 @@ int open_changes(void);
 void take_changes(void);
 void take_messages(const uint8_t *messages, size_t length);
 void watch_changes(void);
+
+/* keys.c */
+extern uint16_t aggregator_count;
+void make_keys(uint16_t keys[static NIW_MOST_PORTS]);
+bool has_aggregator(uint16_t given);
+uint16_t free_key(uint16_t behind, const struct link *but);
+uint16_t choose_key(const struct link *link);
+void take_speed(struct link *link, const char *interface);
+const char *speed_text(const struct speed *speed, char room[static 40]);
 
 /* system.c */
 void make_system(void);
@@ -237,8 +272,8 @@ void pass_tick_of_callers(void);
 void tell_watchers(const char *line, size_t length);
 void tell_watchers_of(const struct link *link);
 
-/* answer.c: what is written for whoever asks */
-#define ANSWER_ROOM 262144
+/* answer.c: what is written for whoever asks. What 64 ports of the longest names have to tell has less than 2 MiB. */
+#define ANSWER_ROOM 4194304
 extern char answer[ANSWER_ROOM];
 extern size_t answered;
 void add(const char *format, ...) __attribute__((format(printf, 1, 2)));
@@ -275,6 +310,7 @@ void drop_privileges(void);
 enum { SIGNALS = NIW_MOST_PORTS + 1, CLOCK, CHANGES, STATUS, CALLERS };
 #define MOST_CALLERS 32
 bool watch(int fd, uint32_t tag);
+bool watch_output(int fd, uint32_t tag);
 void unwatch(int fd);
 
 #endif

@@ -65,7 +65,7 @@ static bool write_line(int fd, const char *line, size_t length) {
 /* Writes a line on standard error, under the name of the program. */
 static void write_error(const char *text) {
     char line[LONGEST_LINE];
-    int used = snprintf(line, sizeof line - 1, "lagd: %s", text);
+    int used = snprintf(line, sizeof line - 1, "%slagd: %s", in_journal() ? "<3>" : "", text);
     size_t length = used < (int)sizeof line - 1 ? (size_t)used : sizeof line - 2;
     line[length] = '\n';
     (void)write_line(STDERR_FILENO, line, length + 1);
@@ -87,7 +87,7 @@ void refuse(uint32_t status, const char *call) {
     snprintf(why, sizeof why, "refused with %" PRIu32, status);
     if (!started) stop(REFUSED, call, why);
     broken = true;
-    (void)say(LOG_ERR, "%s: %s; the peers are told, and the daemon ends", call, why);
+    (void)say(LOG_ERR | ABOUT_REFUSAL, "%s: %s; the peers are told, and the daemon ends", call, why);
 }
 
 /* Prints a text with the time, in UTC, or for the journal with its priority; watchers get it, too. Answers whether it was printed. */
@@ -98,7 +98,11 @@ static bool say_text(int level, const char *text) {
     clock_gettime(CLOCK_REALTIME, &now);
     used = snprintf(line, sizeof line, "%s.%03ldZ %s\n", time_text(now.tv_sec, time), now.tv_nsec / 1000000, text);
     if (!(level & WATCHED)) tell_watchers(line, (size_t)used);
-    if (in_journal()) used = snprintf(line, sizeof line, "<%d>%s\n", level & LOG_PRIMASK, text);
+    if (in_journal()) {
+        enum journaled told = tell_journal(level, text);
+        if (told != NOT_JOURNALED) return told == JOURNALED;
+        used = snprintf(line, sizeof line, "<%d>%s\n", level & LOG_PRIMASK, text);
+    }
     return write_line(output(), line, (size_t)used);
 }
 
@@ -114,7 +118,7 @@ bool say(int level, const char *format, ...) {
     return say_text(level, text);
 }
 
-/* Tells what is wrong with what was given: at the start on standard error, and later by a line. */
+/* Tells what is wrong with a file: at the start on standard error, and later by a line. */
 void complain(const char *format, ...) {
     char raw[LONGEST_TEXT], text[LONGEST_TEXT];
     va_list given;
@@ -124,7 +128,7 @@ void complain(const char *format, ...) {
     va_end(given);
     (void)escape(text, sizeof text, raw, length < (int)sizeof raw ? (size_t)length : sizeof raw - 1, false);
     if (started)
-        (void)say_text(LOG_WARNING, text);
+        (void)say_text(LOG_WARNING | ABOUT_FILE, text);
     else
         write_error(text);
 }

@@ -33,6 +33,12 @@ bool watch(int fd, uint32_t tag) {
     return epoll_ctl(waits, EPOLL_CTL_ADD, fd, &event) == 0;
 }
 
+/* Waits until it takes what is sent, and for nothing that comes. */
+bool watch_output(int fd, uint32_t tag) {
+    struct epoll_event event = {.events = EPOLLOUT, .data = {.u32 = tag}};
+    return epoll_ctl(waits, EPOLL_CTL_MOD, fd, &event) == 0;
+}
+
 /* Waits for it no longer. */
 void unwatch(int fd) {
     (void)epoll_ctl(waits, EPOLL_CTL_DEL, fd, NULL);

@@ -29,6 +29,7 @@ static const char HELP[] =
     "  -r, --partner any|first|PRIORITY,MAC   whose LACPDUs are taken: any, if not given; first: of whom is learnt first, until the\n"
     "                              link goes down\n"
     "  -q, --partner-required      a port without a partner does not carry\n"
+    "  -b, --key-by-speed          links of another speed or duplex have another key, so that they share no group\n"
     "  -o, --marker-responses N    the most that a port sends in a second; 10 if not given\n"
     "  -x, --hook PROGRAM          is run where the bundle is up, degraded or down\n"
     "  -f, --folder FOLDER         of status sockets; /run/lagd if not given\n"
@@ -47,6 +48,7 @@ static const struct option LONG[] = {
     {"activity", required_argument, NULL, 'a'},      {"max-links", required_argument, NULL, 'm'},
     {"min-links", required_argument, NULL, 'n'},     {"partner", required_argument, NULL, 'r'},
     {"partner-required", no_argument, NULL, 'q'},    {"marker-responses", required_argument, NULL, 'o'},
+    {"key-by-speed", no_argument, NULL, 'b'},
     {"hook", required_argument, NULL, 'x'},          {"folder", required_argument, NULL, 'f'},
     {"status", no_argument, NULL, 's'},              {"watch", no_argument, NULL, 'w'},
     {"json", no_argument, NULL, 'j'},                {"metrics", no_argument, NULL, 'M'},
@@ -96,7 +98,7 @@ static void read_option(int option, const char *last) {
     switch (option) {
     case 'c': options.file = optarg; break;
     case 'k': choose(CHECK); options.file = optarg; break;
-    case 'q': take_key('q', "yes"); break;
+    case 'q': case 'b': take_key(option, "yes"); break;
     case 'f': options.folder = optarg; break;
     case 's': choose(SHOW); break;
     case 'w': choose(WATCH); break;
@@ -143,7 +145,7 @@ static void read_words(int count, char **words) {
 struct options *read_options(int argc, char **argv) {
     opterr = 0;
     options.settings = usual_settings();
-    for (int option; (option = getopt_long(argc, argv, "c:k:p:t:a:m:n:r:qo:x:f:swjMhV", LONG, NULL)) >= 0;)
+    for (int option; (option = getopt_long(argc, argv, "c:k:p:t:a:m:n:r:qbo:x:f:swjMhV", LONG, NULL)) >= 0;)
         read_option(option, argv[optind - 1]);
     if (options.json && options.action != SHOW && options.action != WATCH)
         stop(WRONG_WORD, "usage", "lagd --status --json, or lagd --watch --json");

@@ -79,7 +79,7 @@ static const char *trouble_text(const struct link *link, char *room, size_t size
 /* Prints a port; answers whether it could. */
 static bool print_facts(const struct link *link, const struct facts *facts, bool watched) {
     char whose[96] = "no partner", system[32], trouble[128];
-    int level = (facts->status == NIW_PORT_STATUS_DISTRIBUTING ? LOG_NOTICE : LOG_WARNING) | (watched ? WATCHED : 0);
+    int level = (facts->status == NIW_PORT_STATUS_DISTRIBUTING ? LOG_NOTICE : LOG_WARNING) | (watched ? WATCHED : 0) | ABOUT_PORT;
     if (!facts->defaulted)
         snprintf(whose, sizeof whose, "partner %s key %u port %u", system_text(&facts->partner, system), facts->partner_key,
             facts->partner_port);

@@ -10,35 +10,31 @@ static bool has_same_ports(const struct settings *wanted) {
     return same;
 }
 
-/* The aggregators keep the keys that they were made with: a port that gets another key has none. */
-static bool has_aggregator(uint16_t key) {
-    for (uint16_t port = 1; port <= link_count; port++)
-        if (port_of(&settings, port).key == key) return true;
-    return false;
-}
-
 /* What cannot be changed without a restart, or NULL. */
 static const char *restart_for(const struct settings *wanted) {
     if (!has_same_ports(wanted)) return "other interfaces";
     if (wanted->config.priority != settings.config.priority || memcmp(wanted->config.mac, settings.config.mac, 6) != 0)
         return "another system";
     if (wanted->config.max_links != settings.config.max_links) return "another max-links";
+    if (wanted->key_by_speed != settings.key_by_speed) return "another key-by-speed";
     for (uint16_t port = 1; port <= link_count; port++) {
         struct niw_port now = links[port - 1].settings, next = port_of(wanted, port);
         if (next.active != now.active) return "another activity";
         if (next.short_timeout != now.short_timeout) return "another timeout";
-        if (next.key != now.key && !has_aggregator(next.key)) return "a key that no port had at the start";
+        if (!has_aggregator(next.key)) return "a key that no port had at the start";
     }
     return NULL;
 }
 
-/* Gives a port its key, priority and Aggregation bit; answers whether anything differs. */
+/* Gives a port its key, priority and Aggregation bit; answers whether anything differs. The aggregators keep the keys that they were made
+ * with: a port that is given another key keeps the one that it has. */
 static bool change_port(uint16_t port, const struct settings *wanted) {
     struct link *link = &links[port - 1];
     struct niw_port next = port_of(wanted, port);
-    struct niw_change change = {.key = next.key, .priority = next.priority, .aggregatable = next.aggregatable};
+    struct niw_change change = {.priority = next.priority, .aggregatable = next.aggregatable};
     struct niw_truth answer;
-    if (change.key != link->settings.key && !has_aggregator(change.key)) change.key = link->settings.key;
+    if (has_aggregator(next.key)) link->key = next.key;
+    change.key = choose_key(link);
     answer = niw_configure(&own_system, port, &change);
     refuse(answer.status, "niw_configure");
     if (!answer.is) return false;
@@ -84,8 +80,8 @@ void reload(const char *file) {
         complain("%s: the file is wrong, and nothing is changed", file);
     } else {
         unsigned changed = (rest = restart_for(&wanted), take(&wanted));
-        (void)say(LOG_NOTICE, "%s: read again, %u ports changed", file, changed);
-        if (rest) (void)say(LOG_WARNING, "%s: %s: a restart of this bundle is needed", file, rest);
+        (void)say(LOG_NOTICE | ABOUT_RELOAD, "%s: read again, %u ports changed", file, changed);
+        if (rest) (void)say(LOG_WARNING | ABOUT_RESTART, "%s: %s: a restart of this bundle is needed", file, rest);
         send_due();
         take_views();
     }

@@ -72,6 +72,10 @@ static bool take_partner_required(const char *text, struct settings *settings) {
     return read_word(text, "yes", "no", &settings->partner_required);
 }
 
+static bool take_key_by_speed(const char *text, struct settings *settings) {
+    return read_word(text, "yes", "no", &settings->key_by_speed);
+}
+
 static bool take_min_links(const char *text, struct settings *settings) {
     return read_number(text, 1, NIW_MOST_PORTS, &settings->min_links);
 }
@@ -111,6 +115,7 @@ static const struct {
     {"system", A_SYSTEM, take_system},
     {"partner", "any, first or " A_SYSTEM, take_partner},
     {"partner-required", "yes or no", take_partner_required},
+    {"key-by-speed", "yes or no", take_key_by_speed},
     {"min-links", "a number from 1 to 64", take_min_links},
     {"max-links", "a number from 0 to 64", take_max_links},
     {"port-priority", A_NUMBER, take_port_priority},
@@ -125,8 +130,8 @@ const char *set_bundle(struct settings *settings, const char *name, const char *
     for (size_t i = 0; i < sizeof BUNDLE_KEYS / sizeof *BUNDLE_KEYS; i++)
         if (strcmp(name, BUNDLE_KEYS[i].name) == 0)
             return BUNDLE_KEYS[i].take(text, settings) ? NULL : BUNDLE_KEYS[i].expected;
-    return "key, system, partner, partner-required, min-links, max-links, port-priority, timeout, activity, marker-responses or hook "
-           "as a key of [Bundle]";
+    return "key, system, partner, partner-required, key-by-speed, min-links, max-links, port-priority, timeout, activity, "
+           "marker-responses or hook as a key of [Bundle]";
 }
 
 /* A number of a port. */

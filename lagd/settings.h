@@ -48,6 +48,7 @@ struct settings {
     enum partner_policy policy;
     struct system_id partner; /* of PARTNER_GIVEN */
     bool partner_required;    /* whether a port without a partner does not carry */
+    bool key_by_speed;        /* whether links of another speed or duplex have another key */
     uint16_t min_links;       /* a bundle of fewer is down */
     uint16_t marker_responses;
     char hook[PATH_ROOM]; /* the program that is run where the bundle changes, or empty */

@@ -59,13 +59,14 @@ static void add_member(const struct link *link) {
     struct view view = view_of(link);
     const struct niw_actor *own = &view.own;
     const struct niw_info *partner = &view.partner;
-    char mac[32];
+    char mac[32], speed[40];
     add("\nmember: %s: %s, %s\n", link->name, niw_receive_state_text((uint32_t)view.receive), niw_mux_state_text((uint32_t)view.mux));
     add("  status: %s\n  may_enable: %s\n", status_text(view.facts.status), carries(link) ? "true" : "false");
     if (link->trouble) add("  trouble: %s\n", strerror(link->trouble));
     add("  link: %s\n  address: %s\n", link_name(link), mac_text(link->mac, mac));
     add("  port_id: %u\n  port_priority: %u\n", own->port, own->port_priority);
     add("  aggregator: %u\n  current_while: %" PRIu64 "\n  wait_while: %" PRIu64 "\n", view.facts.aggregator, view.current_while, view.wait_while);
+    if (link->has_speed) add("  speed: %s\n", speed_text(&link->speed, speed));
     add_time("last change", link->changed_at);
     add_strangers(link);
     add_end("actor", own->system_mac, (unsigned[]){own->system_priority, own->port, own->port_priority, own->key}, view.state);

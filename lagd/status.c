@@ -15,7 +15,7 @@
 #define MOST_OF_USER 16
 /* The most connections that are taken between two ticks, so that no flood takes the processor. The others wait in their order. */
 #define MOST_IN_TICK 20
-/* How many ticks a question may take. */
+/* How many ticks a question may take, and how many each part of an answer may wait for whoever asked. */
 #define PATIENCE 20
 
 struct caller {
@@ -25,6 +25,8 @@ struct caller {
     bool watches, json;
     size_t length;
     char question[16];
+    char *rest; /* what is still to be sent of its answer, behind `sent` octets; or NULL */
+    size_t sent, answer_length;
 };
 
 static struct caller callers[MOST_CALLERS];
@@ -35,6 +37,7 @@ static char own_name[NAME_ROOM + 32];
 
 static void close_caller(struct caller *caller) {
     close(caller->fd);
+    free(caller->rest);
     *caller = (struct caller){.fd = -1};
 }
 
@@ -53,7 +56,6 @@ static void take_caller(int fd) {
     struct ucred who = {0};
     socklen_t length = sizeof who;
     struct caller *place = getsockopt(fd, SOL_SOCKET, SO_PEERCRED, &who, &length) == 0 ? place_for(who.uid) : NULL;
-    (void)setsockopt(fd, SOL_SOCKET, SO_SNDBUF, &(int){ANSWER_ROOM}, sizeof(int));
     if (!place || !watch(fd, CALLERS + (uint32_t)(place - callers))) {
         close(fd);
         return;
@@ -73,6 +75,18 @@ void take_callers(void) {
     listens = false;
 }
 
+/* Sends what is left of an answer, as far as the socket has room, and closes the connection behind it. */
+static void send_rest(struct caller *caller) {
+    ssize_t sent = send(caller->fd, caller->rest + caller->sent, caller->answer_length - caller->sent, MSG_NOSIGNAL | MSG_DONTWAIT);
+    bool waits = sent >= 0 || errno == EAGAIN || errno == EINTR;
+    if (sent > 0) {
+        caller->sent += (size_t)sent;
+        caller->ticks = PATIENCE;
+    }
+    if (!waits || caller->sent == caller->answer_length || !watch_output(caller->fd, CALLERS + (uint32_t)(caller - callers)))
+        close_caller(caller);
+}
+
 /* Answers a question, a word of one line. */
 static void answer_caller(struct caller *caller) {
     const char *asked = caller->question;
@@ -83,16 +97,25 @@ static void answer_caller(struct caller *caller) {
     if (strcmp(asked, "text") == 0) write_text();
     if (strcmp(asked, "json") == 0) write_json();
     if (strcmp(asked, "metrics") == 0) write_metrics();
-    (void)send(caller->fd, answer, answered, MSG_NOSIGNAL | MSG_DONTWAIT);
-    close_caller(caller);
+    caller->rest = answered > 0 ? malloc(answered) : NULL;
+    caller->answer_length = answered;
+    if (caller->rest) memcpy(caller->rest, answer, answered);
+    if (caller->rest)
+        send_rest(caller);
+    else
+        close_caller(caller);
 }
 
-/* Takes what somebody sends. Who watches sends nothing more, but for the end. */
+/* Takes what somebody sends, or goes on with an answer. Who watches sends nothing more, but for the end. */
 void serve_caller(uint32_t number) {
     struct caller *caller = &callers[number];
     char *end, scrap[64];
     ssize_t got;
     if (caller->fd < 0) return;
+    if (caller->rest) {
+        send_rest(caller);
+        return;
+    }
     if (caller->watches) {
         if (recv(caller->fd, scrap, sizeof scrap, MSG_DONTWAIT) <= 0) close_caller(caller);
         return;

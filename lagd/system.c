@@ -31,7 +31,7 @@ uint64_t seconds_passed(void) {
     return (uint64_t)(now.tv_sec - began.tv_sec);
 }
 
-/* Makes the system of the settings, with an aggregator for each port, of its key. */
+/* Makes the system of the settings. */
 void make_system(void) {
     struct niw_port ports[NIW_MOST_PORTS];
     uint16_t keys[NIW_MOST_PORTS];
@@ -39,16 +39,17 @@ void make_system(void) {
     link_count = settings.port_count;
     for (uint16_t i = 0; i < link_count; i++) {
         ports[i] = port_of(&settings, (uint16_t)(i + 1));
-        keys[i] = ports[i].key;
         links[i].name = settings.ports[i].name;
         links[i].settings = ports[i];
+        links[i].key = ports[i].key;
         links[i].socket = links[i].lock = -1;
         links[i].lines = MOST_LINES;
         links[i].responses = settings.marker_responses;
         links[i].changed = true;
         forget_partner(&links[i]);
     }
-    refuse(niw_new(&own_system, &settings.config, keys, link_count, ports, link_count).status, "niw_new");
+    make_keys(keys);
+    refuse(niw_new(&own_system, &settings.config, keys, aggregator_count, ports, link_count).status, "niw_new");
     take_views();
 }
 
@@ -125,22 +126,9 @@ void pass_tick(void) {
     if (++ticks % SECOND == 0) pass_second();
 }
 
-static bool has_key(uint16_t key) {
-    for (uint16_t i = 0; i < link_count; i++)
-        if (links[i].settings.key == key) return true;
-    return false;
-}
-
-/* A key that no port has. */
-static uint16_t free_key(void) {
-    uint16_t key = 0;
-    while (has_key(key)) key++;
-    return key;
-}
-
 /* Takes each port out of its aggregator, by a key that none has, and so tells the peers that they have to stop. */
 void tell_end(void) {
-    struct niw_change leave = {.key = free_key()};
+    struct niw_change leave = {.key = free_key(0, NULL)};
     for (uint16_t port = 1; port <= link_count; port++) {
         struct link *link = &links[port - 1];
         link->to_tell = link->up && link->view.mux_state >= NIW_MUX_ATTACHED;
@@ -161,7 +149,7 @@ bool end_is_told(void) {
 
 /* Says of each port that the daemon has ended, and frees the system. */
 void end_system(void) {
-    for (uint16_t i = 0; i < link_count; i++) (void)say(LOG_NOTICE, "port %u %s: ended", i + 1, links[i].name);
+    for (uint16_t i = 0; i < link_count; i++) (void)say(LOG_NOTICE | ABOUT_END, "port %u %s: ended", i + 1, links[i].name);
     end_bundle();
     refuse(niw_free(&own_system), "niw_free");
 }

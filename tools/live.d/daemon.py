@@ -7,7 +7,7 @@ import re
 import signal
 import subprocess
 
-from checking import check, command, within
+from checking import Skipped, check, command, within
 from spaces import OURS, THEIRS, inside
 
 SYSTEM, OTHER, KEY = "02:00:00:00:00:aa", "02:00:00:00:00:bb", "23"
@@ -88,8 +88,18 @@ class Daemon:
 class Part:
     """The daemons of a part, and its other programs; each stands in a list, so that all are ended."""
 
-    def __init__(self, program, folder, refusing=None, minimal=None):
+    def __init__(self, program, folder, refusing=None, minimal=None, sanitized=False):
         self.program, self.folder, self.refusing, self.minimal, self.running = program, folder, refusing, minimal, []
+        self.sanitized = sanitized
+
+    def fewer(self, count):
+        """How many there are where a daemon with sanitizers takes more memory and time."""
+        return count // 5 if self.sanitized else count
+
+    def unhurried(self):
+        """Ends a part that measures how much a daemon takes, where it has sanitizers."""
+        if self.sanitized:
+            raise Skipped("the daemon has sanitizers")
 
     def start(self, space, system, key, *names, **more):
         self.running.append(Daemon(self.program, self.folder, space, system, key, *names, **more))

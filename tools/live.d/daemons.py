@@ -328,6 +328,7 @@ def false_changes(part, seconds=4):
 
 def quiet_ports(part):
     """Two daemons of many ports, and no change: how much of a processor one of them takes while ten LACPDUs come on each."""
+    part.unhurried()
     for place in range(2, MANY):
         make_pair(place)
     ours, theirs = (start(*(f"{end}{place}" for place in range(MANY))) for start, end in ((part.ours, "a"), (part.theirs, "b")))

@@ -1,15 +1,26 @@
 /* Gives octets to the parsers of the daemon, for libFuzzer: the first octet says which one. Linked with the files of the daemon but for
- * main.c. */
+ * main.c, and with --wrap=recvmsg. */
 #define _GNU_SOURCE
+#include <errno.h>
 #include <linux/if_packet.h>
 #include <stdio.h>
+#include <stdlib.h>
 #include <string.h>
 #include <sys/mman.h>
+#include <sys/socket.h>
+#include <sys/un.h>
 #include <unistd.h>
 
 #include "lagd.h"
 
 int LLVMFuzzerTestOneInput(const uint8_t *octets, size_t length);
+ssize_t __real_recvmsg(int fd, struct msghdr *message, int flags);
+ssize_t __wrap_recvmsg(int fd, struct msghdr *message, int flags);
+
+static char folder[] = "/tmp/lagd-fuzz-XXXXXX"; /* of the status socket */
+static int wire[2];                             /* the packet socket of the first port, and its other end */
+static const uint8_t *waiting;                  /* what waits there, or NULL */
+static size_t waiting_length;
 
 bool watch(int fd, uint32_t tag) {
     (void)fd;
@@ -17,11 +28,42 @@ bool watch(int fd, uint32_t tag) {
     return true;
 }
 
+bool watch_output(int fd, uint32_t tag) {
+    return watch(fd, tag);
+}
+
 void unwatch(int fd) {
     (void)fd;
 }
 
-/* A system of two ports, whose links are up. */
+static size_t least(size_t one, size_t other) {
+    return one < other ? one : other;
+}
+
+/* A frame with auxiliary data. The first octet says what kind of packet it is, the second one how many octets of auxiliary data follow;
+ * the others are the frame. */
+ssize_t __wrap_recvmsg(int fd, struct msghdr *message, int flags) {
+    struct sockaddr_ll from = {.sll_family = AF_PACKET, .sll_ifindex = links[0].index};
+    size_t more, frame;
+    if (fd != wire[0]) return __real_recvmsg(fd, message, flags);
+    errno = EAGAIN;
+    if (!waiting || waiting_length < 2) return -1;
+    from.sll_pkttype = waiting[0];
+    more = least(least(waiting[1], waiting_length - 2), message->msg_controllen);
+    frame = least(waiting_length - 2 - more, message->msg_iov[0].iov_len);
+    memcpy(message->msg_name, &from, sizeof from);
+    memcpy(message->msg_control, waiting + 2, more);
+    message->msg_controllen = more;
+    memcpy(message->msg_iov[0].iov_base, waiting + 2 + more, frame);
+    waiting = NULL;
+    return (ssize_t)frame;
+}
+
+static void remove_folder(void) {
+    (void)rmdir(folder);
+}
+
+/* A system of two ports, whose links are up, and its status socket. */
 static void make_ports(void) {
     settings = usual_settings();
     settings.has_key = settings.has_system = true;
@@ -30,6 +72,9 @@ static void make_ports(void) {
     (void)add_port(&settings, "fuzz0", 5);
     (void)add_port(&settings, "fuzz1", 5);
     make_system();
+    if (!mkdtemp(folder) || socketpair(AF_UNIX, SOCK_DGRAM | SOCK_NONBLOCK, 0, wire) < 0) abort();
+    (void)atexit(remove_folder);
+    (void)open_status(folder);
     started = true;
     set_link(1, true);
     set_link(2, true);
@@ -52,6 +97,42 @@ static void fuzz_frame(const uint8_t *octets, size_t length) {
     send_due();
 }
 
+static void fuzz_auxiliary(const uint8_t *octets, size_t length) {
+    char scrap[NIW_FRAME];
+    links[0].socket = wire[0];
+    waiting = octets;
+    waiting_length = length;
+    take_frames(1);
+    links[0].socket = -1;
+    while (recv(wire[1], scrap, sizeof scrap, MSG_DONTWAIT) > 0) continue;
+}
+
+static void serve_all(void) {
+    take_callers();
+    for (uint32_t caller = 0; caller < MOST_CALLERS; caller++) serve_caller(caller);
+}
+
+/* What somebody sends to the status socket, in two parts: the first octet tells the length of the first one. */
+static void fuzz_caller(const uint8_t *octets, size_t length) {
+    struct sockaddr_un address = {.sun_family = AF_UNIX};
+    char scrap[4096];
+    int asker = socket(AF_UNIX, SOCK_STREAM | SOCK_NONBLOCK | SOCK_CLOEXEC, 0);
+    size_t first;
+    if (length == 0) return;
+    first = least(octets[0], length - 1);
+    snprintf(address.sun_path, sizeof address.sun_path, "%s/%lu.%s.sock", folder, network_namespace(), links[0].name);
+    if (asker < 0 || connect(asker, (struct sockaddr *)&address, sizeof address) < 0) abort();
+    if (send(asker, octets + 1, first, MSG_NOSIGNAL) != (ssize_t)first) abort();
+    serve_all();
+    (void)send(asker, octets + 1 + first, length - 1 - first, MSG_NOSIGNAL);
+    serve_all();
+    for (int part = 0; part < 4 && recv(asker, scrap, sizeof scrap, 0) > 0; part++) serve_all();
+    set_link(2, !links[1].up); /* whoever watches is told */
+    close(asker);
+    serve_all();
+    pass_tick_of_callers();
+}
+
 int LLVMFuzzerTestOneInput(const uint8_t *octets, size_t length) {
     static bool made;
     if (!made) {
@@ -60,9 +141,11 @@ int LLVMFuzzerTestOneInput(const uint8_t *octets, size_t length) {
     }
     made = true;
     if (length == 0) return 0;
-    switch (octets[0] % 3) {
+    switch (octets[0] % 5) {
     case 0: fuzz_file(octets + 1, length - 1); break;
     case 1: fuzz_frame(octets + 1, length - 1); break;
+    case 2: fuzz_auxiliary(octets + 1, length - 1); break;
+    case 3: fuzz_caller(octets + 1, length - 1); break;
     default: take_messages(octets + 1, length - 1); break;
     }
     return 0;

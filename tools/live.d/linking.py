@@ -60,6 +60,10 @@ def daemon_sources():
     return sorted(glob.glob(f"{DAEMON}/*.c"))
 
 
+# How a daemon is built that ends at the first fault of memory, and the first behaviour that C does not define.
+SANITIZED = ["-g", "-fno-omit-frame-pointer", "-fsanitize=address,undefined", "-fno-sanitize-recover=all"]
+
+
 def build_daemon(folder, libraries, name="lagd", more=(), words=()):
     """Builds the daemon; answers its path."""
     compiled, linked = daemon_words()
@@ -77,10 +81,24 @@ def build_minimal(folder, libraries):
     return build(os.path.join(folder, "minimal"), [os.path.join(EXAMPLES, "minimal.c")], libraries, *words)
 
 
-def build_refusing(folder, libraries):
+def build_refusing(folder, libraries, words=()):
     """Builds a daemon whose library refuses each tick after SIGUSR1; answers its path."""
     more = [f"{TOP}/tools/live.d/refusing.c"]
-    return build_daemon(folder, libraries, "lagd-refusing", more, ["-Wl,--wrap=lagffi_tick"])
+    return build_daemon(folder, libraries, "lagd-refusing", more, ["-Wl,--wrap=lagffi_tick", *words])
+
+
+def check_header_alone(folder):
+    """The header has no warning in any C and C++ of gcc and clang, where they are here."""
+    source, told, count = os.path.join(folder, "alone.c"), "", 0
+    with open(source, "w", encoding="utf-8") as out:
+        out.write('#include "lag.h"\n')
+    for language, standards, more in ("c", ("c99", "c11", "c17"), []), ("c++", ("c++11", "c++17", "c++20"), ["-Wold-style-cast"]):
+        for compiler in filter(shutil.which, ("gcc", "clang")):
+            for standard in standards:
+                words = [f"-std={standard}", *WARNINGS, "-Wsign-conversion", *more, "-x", language]
+                told += command(compiler, *words, INCLUDE, "-fsyntax-only", source).stderr
+                count += 1
+    check(not told, f"lag.h has no warning in {count} kinds of C and C++", told)
 
 
 def check_warnings():

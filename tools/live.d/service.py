@@ -16,6 +16,8 @@ from repository import TOP, daemon_words
 from spaces import OURS, THEIRS, inside, ip, make_pair
 
 UNIT = os.path.join(TOP, "lagd", "lagd@.service")
+# Where the journal listens, and a line that it gets.
+JOURNAL, BUNDLE_LINE = "/run/systemd/journal", "the bundle is up, degraded or down, or has more or fewer links that carry"
 # What the unit may be exposed to, as systemd-analyze counts, at most.
 EXPOSED = 2.0
 FILE = f"""# A bundle of two links.
@@ -235,8 +237,59 @@ def managed(part):
     theirs.ends("the other daemon")
 
 
+def ids_of_lines():
+    """The message ids of lines, by what the lines tell, as docs/LAGD.md has them."""
+    with open(os.path.join(TOP, "docs", "LAGD.md"), encoding="utf-8") as page:
+        return {what: number for what, number in re.findall(r"^\| (.+) \| `([0-9a-f]{32})` \|$", page.read(), re.M)}
+
+
+def entries(listener, daemon, wanted):
+    """What the daemon hands the journal, until there is so much of it: entries of fields."""
+    found = []
+
+    def hears():
+        try:
+            while True:
+                found.append(dict(line.split("=", 1) for line in listener.recv(4096).decode().splitlines()))
+        except BlockingIOError:
+            return len(found) >= wanted
+
+    check(within(ENDS, hears), f"the journal hears {wanted} entries", found, daemon.printed())
+    return found
+
+
+def message_ids(part):
+    """What the journal gets by its own protocol: each kind of line has its message id."""
+    ids = ids_of_lines()
+    with open(os.path.join(TOP, "lagd", "journal.c"), encoding="utf-8") as source:
+        given = re.findall(r'"([0-9a-f]{32})"', source.read())
+    check(sorted(given) == sorted(ids.values()) and len(set(given)) == len(given) > 5, "the documents have each message id", given, ids)
+    place, (reader, writer) = os.path.join(part.folder, "journal"), socket.socketpair()
+    os.mkdir(place)
+    listener = socket.socket(socket.AF_UNIX, socket.SOCK_DGRAM | socket.SOCK_NONBLOCK)
+    listener.bind(os.path.join(place, "socket"))
+    found = os.fstat(writer.fileno())
+    words = ["env", f"JOURNAL_STREAM={found.st_dev}:{found.st_ino}", "unshare", "--mount", "sh", "-c"]
+    words += [f'mount -t tmpfs none /run && mkdir -p {JOURNAL} && mount --bind {place} {JOURNAL} && exec "$@"', "sh"]
+    ours = part.ours("a0", out=writer, before=words)
+    kinds = [(entry.get("MESSAGE_ID"), entry.get("MESSAGE")) for entry in entries(listener, ours, 2)]
+    port = (ids.get("a port changed"), "port 1 a0: no LACPDU came in time, aggregator 0, no partner")
+    bundle = (ids.get(BUNDLE_LINE), "bundle a0: down, 0 of 1 links carry, aggregator 0")
+    check(kinds[:2] == [port, bundle], "a line of a port and one of the bundle have an id each", *kinds)
+    ours.process.terminate()
+    status, last = ours.status(), entries(listener, ours, 1)[-1]
+    wanted = {"MESSAGE": "port 1 a0: ended", "PRIORITY": "5", "MESSAGE_ID": ids.get("the daemon left a port, as it ends")}
+    wanted.update(SYSLOG_IDENTIFIER="lagd", LAGD_BUNDLE="a0")
+    check(last == wanted and status == 0, "so has the last one, with its fields", last)
+    reader.setblocking(False)
+    try:
+        check(reader.recv(4096) == b"", "and standard output has none of them")
+    except BlockingIOError:
+        check(True, "and standard output has none of them")
+
+
 def journal(part):
-    """A line for the journal begins with its priority."""
+    """A line for the journal begins with its priority, where the journal is not in its place."""
     reader, writer = socket.socketpair()
     found = os.fstat(writer.fileno())
     ours = part.ours("a0", out=writer, before=["env", f"JOURNAL_STREAM={found.st_dev}:{found.st_ino}"])
@@ -287,6 +340,7 @@ def unit(part):
     theirs = part.theirs()
     both_up(ours, theirs, "with the rights of the unit both links distribute")
     ours.ends("the daemon")
+    shutil.rmtree(run)  # what the daemons of other parts have is root's
 
 
 PARTS = {
@@ -297,6 +351,7 @@ PARTS = {
     "hooks": hooks,
     "the manager of services": managed,
     "lines for the journal": journal,
+    "message ids": message_ids,
     "the rights of root": rights,
     "the unit": unit,
 }

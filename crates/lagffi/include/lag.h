@@ -6,13 +6,16 @@
  * What a program uses has a name that begins with niw_ or NIW_, for Niwhopera, the name of the project. The names that begin with lagffi_
  * are those that the library exports.
  *
- * What the caller owes, and nothing checks:
- * - A handle is NIW_EMPTY before its first call, and only the functions below write it. It is not copied while it holds a system.
+ * What the caller owes, and nothing checks. A program that does not keep to it may get a wrong answer, write where it should not, or
+ * end by SIGILL or SIGSEGV:
+ * - A handle is NIW_EMPTY before its first call, and only the functions below write it. It is not copied while it holds a system: a
+ *   copy that is used after niw_free points to memory that is freed.
  * - A pointer that is not null points to what its type says, and a buffer or frame has as many octets as its length says.
  *   What a call may write overlaps nothing else that the call is given.
  * - Only the thread that made one calls with it, readers too, since each call writes the handle; no signal handler does, and no
  *   forked child of a program with threads.
  * - The program's malloc, realloc and free belong together, and align to 16 octets.
+ * - A bool is false or true. One that is read from octets, as from a file, may hold 2: the state octet of a port is wrong then.
  * - A program that calls `lagffi_` functions itself, without those below, gives them no null pointer.
  *
  * Every call and reader tells a status: NIW_OK, or why it refused. One that refuses changes nothing and writes to no buffer. A null
@@ -234,7 +237,8 @@ enum {
     NIW_PORT_STATUS_NO_LACPDU = 2,           /* none came since the link came up or the port was configured anew, or none in time */
     NIW_PORT_STATUS_ON_DEFAULTS = 3,         /* so long that the port runs on defaults */
     NIW_PORT_STATUS_OWN_SYSTEM = 4,          /* the partner is this very system */
-    NIW_PORT_STATUS_NO_AGGREGATOR = 5,       /* none has its key, or each that has it has ports of another group */
+    NIW_PORT_STATUS_NO_AGGREGATOR = 5,       /* none has its key, or each that has it has ports of another group; for a port whose
+                                                link is individual: or each that has it has any port */
     NIW_PORT_STATUS_STANDBY = 6,             /* niw_choice tells the aggregator, which has no room for one more link */
     NIW_PORT_STATUS_WAITING = 7,             /* niw_wait_while tells for how many ticks */
     NIW_PORT_STATUS_WAITING_FOR_MEMBERS = 8, /* the others of its aggregator are not ready */
@@ -330,6 +334,10 @@ struct niw_wait lagffi_ticks_until_due(struct niw_system *handle);
 
 /* The functions to call: they refuse a null pointer, and else pass on. */
 
+static inline uint32_t niw_null_status(void) {
+    return NIW_NULL;
+}
+
 static inline struct niw_number niw_null_number(void) {
     struct niw_number refused;
     memset(&refused, 0, sizeof refused);
@@ -357,7 +365,7 @@ static inline struct niw_made niw_new(struct niw_system *handle, const struct ni
 
 /* Frees the system of a handle, which is empty then. */
 static inline uint32_t niw_free(struct niw_system *handle) {
-    return handle ? lagffi_free(handle) : (uint32_t)NIW_NULL;
+    return handle ? lagffi_free(handle) : niw_null_status();
 }
 
 /* A frame comes on a port: of control frames hand over those to 01-80-C2-00-00-02 alone. `response` has NIW_FRAME octets or more, and
@@ -373,18 +381,19 @@ static inline struct niw_received niw_receive(struct niw_system *handle, uint16_
 
 /* 100 ms have passed. */
 static inline uint32_t niw_tick(struct niw_system *handle) {
-    return handle ? lagffi_tick(handle) : (uint32_t)NIW_NULL;
+    return handle ? lagffi_tick(handle) : niw_null_status();
 }
 
 /* `count` times 100 ms have passed: as so many niw_tick, with nothing between them. Up to niw_ticks_until_due of them let no frame
- * wait that is due; of more, a host makes up few at once, since nothing is sent between them. */
+ * wait that is due; of more, a host makes up few at once, since nothing is sent between them. The call takes as long as they all do:
+ * UINT32_MAX of them take minutes. */
 static inline uint32_t niw_ticks(struct niw_system *handle, uint32_t count) {
-    return handle ? lagffi_ticks(handle, count) : (uint32_t)NIW_NULL;
+    return handle ? lagffi_ticks(handle, count) : niw_null_status();
 }
 
 /* The link of a port is up or down now. */
 static inline uint32_t niw_set_link(struct niw_system *handle, uint16_t port, bool up) {
-    return handle ? lagffi_set_link(handle, port, up) : (uint32_t)NIW_NULL;
+    return handle ? lagffi_set_link(handle, port, up) : niw_null_status();
 }
 
 /* Gives a port another key, priority or Aggregation bit; answers whether anything differs. */
@@ -394,7 +403,7 @@ static inline struct niw_truth niw_configure(struct niw_system *handle, uint16_t
 
 /* Starts the system again as niw_new left it: all links are down, and what niw_configure changed is lost. */
 static inline uint32_t niw_restart(struct niw_system *handle) {
-    return handle ? lagffi_restart(handle) : (uint32_t)NIW_NULL;
+    return handle ? lagffi_restart(handle) : niw_null_status();
 }
 
 /* Whether a frame is due on a port, and which; `frame` has NIW_FRAME octets or more, and is written only then, at its front. To be
@@ -414,12 +423,12 @@ static inline struct niw_number niw_offer(struct niw_system *handle, uint16_t ag
 
 /* Moves a conversation to a port, behind a marker on the port that it is on. */
 static inline uint32_t niw_move_conversation(struct niw_system *handle, uint16_t agg, uint16_t conv, uint16_t port) {
-    return handle ? lagffi_move_conversation(handle, agg, conv, port) : (uint32_t)NIW_NULL;
+    return handle ? lagffi_move_conversation(handle, agg, conv, port) : niw_null_status();
 }
 
 /* Frees a conversation at once, so that its frames may overtake one another. */
 static inline uint32_t niw_force(struct niw_system *handle, uint16_t agg, uint16_t conv) {
-    return handle ? lagffi_force(handle, agg, conv) : (uint32_t)NIW_NULL;
+    return handle ? lagffi_force(handle, agg, conv) : niw_null_status();
 }
 
 /* Frees each conversation that is held on a port, as niw_force does; answers how many. */

@@ -1,0 +1,47 @@
+/* Lines for the journal, by its own protocol: each kind of line has a message id, by which journalctl finds it. */
+#define _GNU_SOURCE
+#include <errno.h>
+#include <stdio.h>
+#include <string.h>
+#include <sys/socket.h>
+#include <sys/un.h>
+#include <unistd.h>
+
+#include "lagd.h"
+
+#define SOCKET "/run/systemd/journal/socket"
+#define LONGEST_ENTRY 2048
+
+/* The message ids; docs/LAGD.md lists them. One that is given out is never given another meaning. */
+static const char *id_of(unsigned kind) {
+    switch (kind) {
+    case ABOUT_PORT: return "abdf3e7059424239914537af4149a604";
+    case ABOUT_BUNDLE: return "2c13c00e7c20445b928385f869ff8b88";
+    case ABOUT_STRANGER: return "0b5d3f91c315421c910c98100506535d";
+    case ABOUT_RELOAD: return "868170804c524cb8ae11e713761f3e86";
+    case ABOUT_RESTART: return "e914800a54254eb3a5729784441b157c";
+    case ABOUT_FILE: return "79af5fb89756413b86bdfe99a5118b5f";
+    case ABOUT_HOOK: return "ee4807ee3eb645199ae06dbdc7074c56";
+    case ABOUT_END: return "da067c6258764cdbb7b8cb7be984bc2d";
+    case ABOUT_REFUSAL: return "b7f3f1992518457f93456f9151641518";
+    default: return NULL;
+    }
+}
+
+/* Hands the journal a line of printable text. Answers what became of it: the journal may be elsewhere, and then the line goes to
+ * standard output. */
+enum journaled tell_journal(int level, const char *text) {
+    static int opened = -1;
+    static const struct sockaddr_un to = {.sun_family = AF_UNIX, .sun_path = SOCKET};
+    char entry[LONGEST_ENTRY], bundle_name[4 * NAME_ROOM];
+    const char *id = id_of((unsigned)level & KINDS);
+    int used;
+    if (opened < 0) opened = socket(AF_UNIX, SOCK_DGRAM | SOCK_NONBLOCK | SOCK_CLOEXEC, 0);
+    if (opened < 0) return NOT_JOURNALED;
+    (void)escape(bundle_name, sizeof bundle_name, settings.name, strlen(settings.name), false);
+    used = snprintf(entry, sizeof entry, "MESSAGE=%s\nPRIORITY=%d\nSYSLOG_IDENTIFIER=lagd\nLAGD_BUNDLE=%s\n", text, level & LOG_PRIMASK,
+        bundle_name);
+    if (id) used += snprintf(entry + used, sizeof entry - (size_t)used, "MESSAGE_ID=%s\n", id);
+    if (sendto(opened, entry, (size_t)used, MSG_NOSIGNAL, (const struct sockaddr *)&to, sizeof to) == used) return JOURNALED;
+    return errno == EAGAIN ? JOURNAL_IS_BUSY : NOT_JOURNALED;
+}

@@ -1,0 +1,156 @@
+/* The keys of ports and aggregators. Where links of another speed or duplex are to share no group, each speed has a key of its own. */
+#define _GNU_SOURCE
+#include <inttypes.h>
+#include <linux/ethtool.h>
+#include <linux/sockios.h>
+#include <net/if.h>
+#include <stdio.h>
+#include <string.h>
+#include <sys/ioctl.h>
+
+#include "lagd.h"
+
+/* The most speeds of one key, and the most words of the masks of link modes, which are of no interest here. */
+#define MOST_SPEEDS 4
+#define MOST_WORDS 127
+
+/* A key that aggregators have: the first one of a given key is that key itself. */
+struct speed_key {
+    uint16_t given; /* the key that the administrator gave */
+    uint16_t key;
+    bool used; /* whether `speed` is a speed of some port */
+    struct speed speed;
+};
+
+uint16_t aggregator_count;
+
+static struct speed_key known[NIW_MOST_PORTS];
+static uint16_t known_count;
+
+/* Whether aggregators of a key were made, for ports to which it was given. */
+bool has_aggregator(uint16_t given) {
+    for (uint16_t i = 0; i < known_count; i++)
+        if (known[i].given == given) return true;
+    return false;
+}
+
+/* Whether a key is one of aggregators, or of a port that is not this one. */
+static bool is_taken(uint16_t key, const struct link *but) {
+    for (uint16_t i = 0; i < known_count; i++)
+        if (known[i].key == key || known[i].given == key) return true;
+    for (uint16_t i = 0; i < link_count; i++)
+        if (&links[i] != but && (links[i].key == key || links[i].settings.key == key)) return true;
+    return false;
+}
+
+/* The next key behind this one that no aggregator and no port has, but for this port, if there is one. */
+uint16_t free_key(uint16_t behind, const struct link *but) {
+    do behind++;
+    while (is_taken(behind, but));
+    return behind;
+}
+
+/* How many speeds of one key have aggregators. */
+static uint16_t most_speeds(void) {
+    uint16_t fit = (uint16_t)(NIW_MOST_PORTS / link_count);
+    if (!settings.key_by_speed) return 1;
+    return fit < MOST_SPEEDS ? fit : MOST_SPEEDS;
+}
+
+/* A key of aggregators, for ports to which this one was given: the first one is that one itself. */
+static uint16_t key_for(uint16_t given, uint16_t number) {
+    for (uint16_t i = 0; i < known_count; i++)
+        if (known[i].given == given && number-- == 0) return known[i].key;
+    return given;
+}
+
+/* Makes the keys of the aggregators: in the order of ports one of the key of each, and then as many of each further key that a speed may
+ * have. */
+void make_keys(uint16_t keys[static NIW_MOST_PORTS]) {
+    for (uint16_t i = 0; i < link_count; i++)
+        if (!has_aggregator(links[i].key)) known[known_count++] = (struct speed_key){.given = links[i].key, .key = links[i].key};
+    for (uint16_t i = 0, given = known_count; i < given; i++) {
+        for (uint16_t speed = 1; speed < most_speeds(); speed++) {
+            known[known_count] = (struct speed_key){.given = known[i].given, .key = free_key(known[i].key, NULL)};
+            known_count++;
+        }
+    }
+    for (uint16_t speed = 0; speed < most_speeds(); speed++)
+        for (uint16_t port = 0; port < link_count; port++) keys[aggregator_count++] = key_for(links[port].key, speed);
+}
+
+static bool is_same_speed(const struct speed *one, const struct speed *other) {
+    return one->megabits == other->megabits && one->duplex == other->duplex;
+}
+
+/* Whether a port still has the speed of a key. */
+static bool is_in_use(const struct speed_key *key) {
+    for (uint16_t i = 0; key->used && i < link_count; i++)
+        if (links[i].has_speed && links[i].key == key->given && is_same_speed(&links[i].speed, &key->speed)) return true;
+    return false;
+}
+
+/* Chooses the key of a port: that of its speed, else one whose speed no port has any more, else one without an aggregator. */
+uint16_t choose_key(const struct link *link) {
+    struct speed_key *unused = NULL;
+    if (!settings.key_by_speed || !link->has_speed) return link->key;
+    for (uint16_t i = 0; i < known_count; i++) {
+        struct speed_key *key = &known[i];
+        if (key->given != link->key) continue;
+        if (key->used && is_same_speed(&key->speed, &link->speed)) return key->key;
+        if (!unused && !is_in_use(key)) unused = key;
+    }
+    if (!unused) return free_key(link->key, link);
+    unused->used = true;
+    unused->speed = link->speed;
+    return unused->key;
+}
+
+/* Asks the kernel for the speed and duplex of an interface. What a driver does not tell is unknown, which is a speed, too. */
+static struct speed read_speed(int socket, const char *name) {
+    union {
+        struct ethtool_link_settings head;
+        uint32_t room[sizeof(struct ethtool_link_settings) / sizeof(uint32_t) + 3 * MOST_WORDS];
+    } told;
+    struct ifreq question;
+    memset(&told, 0, sizeof told);
+    memset(&question, 0, sizeof question);
+    told.head.cmd = ETHTOOL_GLINKSETTINGS;
+    snprintf(question.ifr_name, sizeof question.ifr_name, "%s", name);
+    question.ifr_data = (void *)&told;
+    /* The first answer is how many words a mask has, below 0. */
+    if (ioctl(socket, SIOCETHTOOL, &question) == 0 && told.head.link_mode_masks_nwords < 0) {
+        told.head.cmd = ETHTOOL_GLINKSETTINGS;
+        told.head.link_mode_masks_nwords = (int8_t)-told.head.link_mode_masks_nwords;
+        if (ioctl(socket, SIOCETHTOOL, &question) == 0) return (struct speed){told.head.speed, told.head.duplex};
+    }
+    return (struct speed){(uint32_t)SPEED_UNKNOWN, DUPLEX_UNKNOWN};
+}
+
+/* Gives a port its key. */
+static void give_key(struct link *link) {
+    struct niw_change change = {.key = choose_key(link), .priority = link->settings.priority, .aggregatable = link->settings.aggregatable};
+    refuse(niw_configure(&own_system, link->settings.number, &change).status, "niw_configure");
+    link->settings.key = change.key;
+}
+
+/* The link of a port comes up: it has the key of its speed from now on. */
+void take_speed(struct link *link, const char *interface) {
+    struct speed now;
+    if (!settings.key_by_speed || link->up) return;
+    now = read_speed(link->socket, interface);
+    if (link->has_speed && is_same_speed(&now, &link->speed)) return;
+    link->has_speed = true;
+    link->speed = now;
+    give_key(link);
+}
+
+/* The speed as text, as '1000 Mb/s, full duplex'. */
+const char *speed_text(const struct speed *speed, char room[static 40]) {
+    const char *duplex = speed->duplex == DUPLEX_FULL ? "full duplex" : speed->duplex == DUPLEX_HALF ? "half duplex" : "unknown duplex";
+    if (speed->megabits == (uint32_t)SPEED_UNKNOWN)
+        snprintf(room, 40, "unknown, %s", duplex);
+    else
+        snprintf(room, 40, "%" PRIu32 " Mb/s, %s", speed->megabits, duplex);
+    return room;
+}

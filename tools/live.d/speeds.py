@@ -1,0 +1,166 @@
+"""Links of several speeds: TAP devices, whose speed and duplex may be set, and which this program joins."""
+
+from __future__ import annotations
+
+import ctypes
+import fcntl
+import os
+import select
+import socket
+import struct
+import threading
+import time
+
+from checking import Skipped, check, within
+from daemon import KEY, Daemon, Part
+from daemons import COMES_UP
+from spaces import OURS, THEIRS, ip, within_space
+
+TUNSETIFF, TAP_WITHOUT_INFO = 0x400454CA, 0x1002
+SIOCETHTOOL, GET_SETTINGS, SET_SETTINGS = 0x8946, 0x4C, 0x4D
+# Where struct ethtool_link_settings of linux/ethtool.h has the speed, the duplex and the count of words; and how long it is at most.
+SPEED, DUPLEX, WORDS, SETTINGS_ROOM = 4, 8, 15, 2048
+HALF, FULL = 0, 1
+
+
+def make_tap(space: str, name: str) -> int:
+    """Makes a TAP device; answers the file of its frames."""
+    try:
+        with within_space(space):
+            opened = os.open("/dev/net/tun", os.O_RDWR | os.O_NONBLOCK)
+            fcntl.ioctl(opened, TUNSETIFF, struct.pack("16sH22x", name.encode(), TAP_WITHOUT_INFO))
+    except OSError as why:
+        raise Skipped(f"no TAP devices: {why}") from None
+    ip(space, "link", "set", name, "up")
+    return opened
+
+
+class Settings:
+    """What the kernel tells of the speed of an interface, and takes."""
+
+    def __init__(self, space: str, name: str) -> None:
+        with within_space(space):
+            self.socket = socket.socket(socket.AF_UNIX, socket.SOCK_DGRAM)
+        self.name, self.room = name, ctypes.create_string_buffer(SETTINGS_ROOM)
+
+    def ask(self, what: int) -> None:
+        struct.pack_into("=I", self.room, 0, what)
+        fcntl.ioctl(self.socket, SIOCETHTOOL, struct.pack("16sQ16x", self.name.encode(), ctypes.addressof(self.room)))
+
+    def set(self, speed: int, duplex: int) -> None:
+        """Gives the interface a speed in Mb/s, and a duplex."""
+        try:
+            self.ask(GET_SETTINGS)
+            words = struct.unpack_from("=b", self.room, WORDS)[0]
+            struct.pack_into("=b", self.room, WORDS, -words)
+            self.ask(GET_SETTINGS)
+            struct.pack_into("=I", self.room, SPEED, speed)
+            struct.pack_into("=B", self.room, DUPLEX, duplex)
+            self.ask(SET_SETTINGS)
+        except OSError as why:
+            raise Skipped(f"the speed of a TAP device cannot be set: {why}") from None
+
+
+class Cable(threading.Thread):
+    """Carries frames between two TAP devices, both ways, until it is cut."""
+
+    def __init__(self, *ends: int) -> None:
+        super().__init__(daemon=True)
+        self.ends, self.is_whole = ends, True
+        self.start()
+
+    def run(self) -> None:
+        while self.is_whole:
+            for end in select.select(self.ends, [], [], 0.2)[0]:
+                other = self.ends[1 if end == self.ends[0] else 0]
+                try:
+                    os.write(other, os.read(end, 2048))
+                except OSError:
+                    time.sleep(0.05)  # one end is down
+
+    def cut(self) -> None:
+        self.is_whole = False
+        self.join()
+        for end in self.ends:
+            os.close(end)
+
+
+def renew(place: int | str, *speed: int) -> None:
+    """A link gets another speed, as after another negotiation: it goes down for that."""
+    ip(OURS, "link", "set", f"t{place}", "down")
+    Settings(OURS, f"t{place}").set(*speed)
+    time.sleep(0.5)
+    ip(OURS, "link", "set", f"t{place}", "up")
+
+
+def groups_of(daemon: Daemon, names: list[str]) -> list[list[str]]:
+    """The ports by their aggregators, of those that distribute."""
+    found: dict[int, list[str]] = {}
+    for name in names:
+        port = daemon.port(name)
+        if port["status"] == "it distributes":
+            found.setdefault(port["aggregator"], []).append(name)
+    return sorted(found.values())
+
+
+def join(names: list[str]) -> list[Cable]:
+    """A cable of a TAP device for each of ours, with speeds; of 1000 Mb/s but for one."""
+    cables = [Cable(make_tap(OURS, name), make_tap(THEIRS, f"u{name[1:]}")) for name in names]
+    for name in names[:-1]:
+        renew(name[1:], 1000, FULL)
+    renew(names[-1][1:], 100, FULL)
+    return cables
+
+
+def unequal(part: Part) -> None:
+    """Three links, of which one is slower: with key-by-speed it shares no group with the others."""
+    names = ["t0", "t1", "t2"]
+    cables = join(names)
+    try:
+        theirs = part.theirs("u0", "u1", "u2")
+        ours = part.ours(*names)
+        check(within(COMES_UP, lambda: groups_of(ours, names) == [names]), "without key-by-speed unequal links share a group", ours.text())
+        check("  speed: " not in ours.text() and ours.port("t0")["speed"] is None, "and no speed is told", ours.text())
+        ours.ends("the daemon")
+        ours = part.ours(*names, options=["--key-by-speed"])
+        apart = lambda: groups_of(ours, names) == [["t0", "t1"], ["t2"]]
+        check(within(COMES_UP, apart), "with key-by-speed the slower one is in a group of its own", ours.text(), theirs.text())
+        keys = [ours.port(name)["actor"]["key"] for name in names]
+        check(keys == [int(KEY), int(KEY), int(KEY) + 1], "since it has another key", keys)
+        check(ours.port("t2")["speed"] == "100 Mb/s, full duplex" and "  speed: 1000 Mb/s, full duplex\n" in ours.text(), "the status has the speeds", ours.text())
+        check("status: degraded, 2 of 3 links carry" in ours.text(), "the bundle is the group of most links", ours.text())
+        renew(2, 1000, FULL)
+        check(within(COMES_UP, lambda: groups_of(ours, names) == [names]), "as fast as they are, it joins them", ours.text())
+        renew(0, 1000, HALF)
+        check(within(COMES_UP, lambda: groups_of(ours, names) == [["t0"], ["t1", "t2"]]), "of half duplex, one leaves", ours.text())
+        ours.ends("the daemon")
+        theirs.ends("the other daemon")
+    finally:
+        for cable in cables:
+            cable.cut()
+
+
+def many_speeds(part: Part) -> None:
+    """More speeds of one key than have aggregators: at most four do."""
+    names = [f"t{place}" for place in range(5)]
+    cables = join(names)
+    try:
+        for place, speed in enumerate((10, 100, 1000, 2500, 10000)):
+            renew(place, speed, FULL)
+        theirs, ours = part.theirs(*(f"u{place}" for place in range(5))), part.ours(*names, options=["--key-by-speed"])
+        none = "no aggregator has its key, or each that has it has ports of another group"
+        four = lambda: len(groups_of(ours, names)) == 4 and [ours.port(name)["status"] for name in names].count(none) == 1
+        check(within(COMES_UP, four), "of five speeds four have an aggregator", ours.text())
+        keys = sorted(ours.port(name)["actor"]["key"] for name in names)
+        check(keys == [int(KEY) + more for more in range(5)], "each has a key of its own", keys)
+        ours.ends("the daemon")
+        theirs.ends("the other daemon")
+    finally:
+        for cable in cables:
+            cable.cut()
+
+
+PARTS = {
+    "links of two speeds": unequal,
+    "links of five speeds": many_speeds,
+}
