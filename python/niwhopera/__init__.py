@@ -1,4 +1,4 @@
-"""LACP and the Marker protocol (IEEE 802.1AX-2014, 6.2 to 6.5): one system, over the C library liblag.so.0.
+"""LACP and the Marker protocol (IEEE 802.1AX-2014, 6.2 to 6.5): one system, and payloads, over the C library liblag.so.0.
 
 Octets and ticks go in, frames come out. A system has no clock, no socket and no thread: its caller hands it each frame that comes,
 calls `tick` each 100 ms, and after each call sends what `due` and `transmit`, or `transmissions`, give.
@@ -20,12 +20,14 @@ from ._numbers import (
     LONGEST_FRAME,
     MANY_CONVERSATIONS,
     MOST_PORTS,
+    PAYLOAD_LENGTH,
     PORT_STATUS_TEXTS,
     SHORTEST_FRAME,
     TICK_MILLISECONDS,
     VERSION_TEXT,
     Algorithm,
     ConversationState,
+    MarkerKind,
     MuxState,
     PortStatus,
     Reason,
@@ -36,7 +38,8 @@ from ._numbers import (
     Status,
     WireFault,
 )
-from .errors import BadConfig, Closed, Held, LagError, NoMemory
+from .errors import BadConfig, BadPayload, Closed, Held, LagError, NoMemory
+from .payloads import Lacpdu, Marker, Pdu, control_frame, decode, encode
 from .system import System
 from .values import Assignment, Config, End, Group, Info, Mac, Party, PortConfig, PortId, Received, Sent, SystemId, View
 
@@ -47,12 +50,14 @@ __all__ = [
     "LONGEST_FRAME",
     "MANY_CONVERSATIONS",
     "MOST_PORTS",
+    "PAYLOAD_LENGTH",
     "PORT_STATUS_TEXTS",
     "SHORTEST_FRAME",
     "TICK_MILLISECONDS",
     "Algorithm",
     "Assignment",
     "BadConfig",
+    "BadPayload",
     "Closed",
     "Config",
     "ConversationState",
@@ -60,11 +65,15 @@ __all__ = [
     "Group",
     "Held",
     "Info",
+    "Lacpdu",
     "LagError",
     "Mac",
+    "Marker",
+    "MarkerKind",
     "MuxState",
     "NoMemory",
     "Party",
+    "Pdu",
     "PortConfig",
     "PortId",
     "PortStatus",
@@ -80,4 +89,7 @@ __all__ = [
     "SystemId",
     "View",
     "WireFault",
+    "control_frame",
+    "decode",
+    "encode",
 ]

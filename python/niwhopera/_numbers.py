@@ -9,9 +9,10 @@ import ctypes
 from enum import IntEnum, IntFlag
 from typing import Any, Callable, Final
 
-VERSION: Final = 3
+VERSION: Final = 4
 VERSION_TEXT: Final = "0.1.0"
 FRAME: Final = 124
+PAYLOAD_LENGTH: Final = 110
 SHORTEST_FRAME: Final = 14
 LONGEST_FRAME: Final = 1518
 MOST_PORTS: Final = 64
@@ -41,6 +42,8 @@ class Status(IntEnum):
     HAS_SYSTEM = 14
     BUFFER = 15
     NULL = 16
+    BAD_PAYLOAD = 17
+    NO_PDU = 18
 
 
 class Reason(IntEnum):
@@ -145,6 +148,20 @@ class ConversationState(IntEnum):
     ON = 1
     WANTED = 2
     FLUSHING = 3
+
+
+class Subtype(IntEnum):
+    """The subtypes of PDUs (6.4.2.3, 6.5.3.3)."""
+
+    LACPDU = 1
+    MARKER = 2
+
+
+class MarkerKind(IntEnum):
+    """The kinds of Marker PDU, by their TLV type (6.5.3.3)."""
+
+    INFORMATION = 1
+    RESPONSE = 2
 
 
 class NiwSystem(ctypes.Structure):
@@ -434,6 +451,63 @@ class NiwView(ctypes.Structure):
     ]
 
 
+class NiwParticipant(ctypes.Structure):
+    """struct niw_participant."""
+
+    system_priority: int
+    system_mac: ctypes.Array[ctypes.c_uint8]
+    key: int
+    port_priority: int
+    port: int
+    state: int
+    _fields_ = [
+        ("system_priority", ctypes.c_uint16),
+        ("system_mac", ctypes.c_uint8 * 6),
+        ("key", ctypes.c_uint16),
+        ("port_priority", ctypes.c_uint16),
+        ("port", ctypes.c_uint16),
+        ("state", ctypes.c_uint8),
+    ]
+
+
+class NiwPdu(ctypes.Structure):
+    """struct niw_pdu."""
+
+    subtype: int
+    tlv_type: int
+    max_delay: int
+    actor: NiwParticipant
+    partner: NiwParticipant
+    requester_port: int
+    requester_system: ctypes.Array[ctypes.c_uint8]
+    transaction_id: int
+    _fields_ = [
+        ("subtype", ctypes.c_uint8),
+        ("tlv_type", ctypes.c_uint8),
+        ("max_delay", ctypes.c_uint16),
+        ("actor", NiwParticipant),
+        ("partner", NiwParticipant),
+        ("requester_port", ctypes.c_uint16),
+        ("requester_system", ctypes.c_uint8 * 6),
+        ("transaction_id", ctypes.c_uint32),
+    ]
+
+
+class NiwDecoded(ctypes.Structure):
+    """struct niw_decoded."""
+
+    status: int
+    fault: int
+    at: int
+    found: int
+    _fields_ = [
+        ("status", ctypes.c_uint32),
+        ("fault", ctypes.c_uint32),
+        ("at", ctypes.c_size_t),
+        ("found", ctypes.c_uint8),
+    ]
+
+
 def _bound(library: ctypes.CDLL, name: str, answer: Any, given: list[Any]) -> Callable[..., Any]:
     """A function of the library; AttributeError where it has none of this name."""
     function = getattr(library, name)
@@ -562,6 +636,12 @@ class Functions:
         self.ticks_until_due: Callable[..., NiwWait] = _bound(
             library, "lagffi_ticks_until_due", NiwWait, [ctypes.POINTER(NiwSystem)]
         )
+        self.decode: Callable[..., NiwDecoded] = _bound(
+            library, "lagffi_decode", NiwDecoded, [ctypes.c_char_p, ctypes.c_size_t, ctypes.POINTER(NiwPdu)]
+        )
+        self.encode: Callable[..., int] = _bound(
+            library, "lagffi_encode", ctypes.c_uint32, [ctypes.POINTER(NiwPdu), ctypes.POINTER(ctypes.c_uint8), ctypes.c_size_t]
+        )
 
 
 STATUS_TEXTS: Final = (
@@ -582,6 +662,8 @@ STATUS_TEXTS: Final = (
     "the handle holds a system already",
     "a buffer has less room than the function asks",
     "a pointer is null",
+    "the payload is refused",
+    "it is neither an LACPDU nor a Marker PDU",
 )
 REASON_TEXTS: Final = (
     "unknown",

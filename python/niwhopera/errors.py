@@ -1,10 +1,10 @@
-"""What a system refuses, as exceptions. A call that raises one has changed nothing."""
+"""What is refused, as exceptions. A call that raises one has changed nothing."""
 
 from __future__ import annotations
 
 from typing import Optional
 
-from ._numbers import REASON_TEXTS, STATUS_TEXTS, Reason, Status
+from ._numbers import REASON_TEXTS, STATUS_TEXTS, Reason, Status, WireFault
 
 
 class LagError(Exception):
@@ -27,6 +27,16 @@ class BadConfig(LagError):
         self.reason, self.place = reason, place
         text = REASON_TEXTS[reason] + (f" (port {place} of the list)" if place else "")
         super().__init__(Status.BAD_CONFIG, text)
+
+
+class BadPayload(LagError):
+    """A payload is refused: `fault` says why, `at` is the offset of the octet that is wrong, and `found` what stands there. Of SHORT `at`
+    is the length of the payload, and `found` 0."""
+
+    def __init__(self, fault: WireFault, at: int, found: int) -> None:
+        self.fault, self.at, self.found = fault, at, found
+        stands = f"it has {at} octets" if fault is WireFault.SHORT else f"octet {at} is {found}"
+        super().__init__(Status.BAD_PAYLOAD, f"{STATUS_TEXTS[Status.BAD_PAYLOAD]}: {fault.name}, {stands}")
 
 
 class NoMemory(LagError, MemoryError):

@@ -19,11 +19,13 @@ def printed(program: str) -> str:
     return out.getvalue().rstrip("\n")
 
 
-def test_the_program_of_the_page_prints_what_the_page_says() -> None:
+def test_each_program_of_the_page_prints_what_the_page_says() -> None:
     with open(PAGE, encoding="utf-8") as it:
         text = it.read()
-    [program] = re.findall(r"^```python\n(.*?)^```$", text, re.M | re.S)
-    assert f"It prints `{printed(program)}`" in text
+    programs = re.findall(r"^```python\n(.*?)^```$", text, re.M | re.S)
+    assert len(programs) == 2
+    for program in programs:
+        assert f"It prints `{printed(program)}`" in text
 
 
 def test_the_program_of_the_module_prints_an_lacpdu() -> None:

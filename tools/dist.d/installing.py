@@ -1,6 +1,6 @@
-"""Tries the packages: lintian looks at them, and a minimal tree of Debian installs, upgrades, removes and purges them.
+"""Tries the packages: lintian looks at them, and a minimal tree of Debian installs, runs, upgrades, removes and purges them.
 
-The tree is made by debootstrap once, and kept in out/tree; each run works on a copy. No service is started in it.
+The tree is made by debootstrap once, and kept in out/tree; each run works on a copy. No systemd runs in it.
 """
 
 from __future__ import annotations
@@ -12,6 +12,7 @@ import subprocess
 import tempfile
 from typing import Sequence
 
+import admin
 import trying
 from building import MULTIARCH, version
 from counting import Count, ran
@@ -28,6 +29,8 @@ THEIRS = (
     "etc/passwd-", "etc/group-", "etc/shadow-", "etc/gshadow-",
 )  # fmt: skip
 CONFIGURATION = "etc/lagd/kept-by-the-admin.conf"
+# What an admin wrote.
+WRITTEN = (CONFIGURATION, admin.FILE.lstrip("/"))
 LACPDU = trying.LACPDU
 # Commands in the tree, what each gets on standard input, and what it prints first.
 RUNS = [
@@ -130,6 +133,13 @@ def satisfy(tree: str, files: Sequence[str], names: Sequence[str]) -> None:
     done(tree, "apt-get", "satisfy", "-y", "--no-install-recommends", ", ".join(wanted))
 
 
+def try_purge(count: Count, tree: str, files: Sequence[str], wanted: set[str], what: str) -> None:
+    """Purges the packages. apt purges what is installed, and knows no more of a package that left nothing."""
+    install(tree, files)
+    done(tree, "apt-get", "purge", "-y", *(os.path.basename(it).split("_")[0] for it in files))
+    count.add(f"apt purges them, and leaves {what}", "; ".join(sorted(there(tree) ^ wanted)[:9]))
+
+
 def try_life(count: Count, tree: str, files: Sequence[str], newer: Sequence[str]) -> None:
     """Installs the packages, runs them, upgrades, removes and purges them."""
     names = [os.path.basename(it).split("_")[0] for it in files]
@@ -140,18 +150,18 @@ def try_life(count: Count, tree: str, files: Sequence[str], newer: Sequence[str]
     try_installed(count, tree)
     with open(f"{tree}/{CONFIGURATION}", "w", encoding="utf-8") as it:
         it.write("# An admin wrote this.\n")
-    install(tree, newer)
+    admin.tried(count, tree, lambda: install(tree, newer))
     told = versions(tree, names)
     count.add("apt upgrades the packages, and keeps the configuration", "" if told == {f"install ok installed {version()}+1"} and os.path.exists(f"{tree}/{CONFIGURATION}") else f"{told}")
     done(tree, "apt-get", "remove", "-y", *names)
-    left = [it for it in there(tree) - before if it != CONFIGURATION and not it.startswith("etc/")]
+    left = [it for it in there(tree) - before if it not in WRITTEN and not it.startswith("etc/")]
     count.add("apt removes them, but for the configuration", "; ".join(left) or ("" if os.path.exists(f"{tree}/{CONFIGURATION}") else "the configuration is gone"))
-    os.remove(f"{tree}/{CONFIGURATION}")
-    # apt purges what is installed, and knows no more of a package that left nothing.
-    install(tree, newer)
-    done(tree, "apt-get", "purge", "-y", *names)
-    changed = sorted(there(tree) ^ before)
-    count.add("apt purges them, and nothing is left", "; ".join(changed[:9]) or ("/etc/lagd is left" if os.path.isdir(f"{tree}/etc/lagd") else ""))
+    written = {it for it in WRITTEN if os.path.exists(f"{tree}/{it}")}
+    try_purge(count, tree, newer, before | written, "what an admin wrote")
+    for file in written:
+        os.remove(f"{tree}/{file}")
+    try_purge(count, tree, newer, before, "nothing")
+    count.add("/etc/lagd goes with its last file", "it is left" if os.path.isdir(f"{tree}/etc/lagd") else "")
 
 
 def tried(count: Count, files: Sequence[str], newer: Sequence[str]) -> None:

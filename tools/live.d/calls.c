@@ -1,11 +1,12 @@
 /* Calls every function of lag.h and checks what it answers: two systems of two ports each, joined port by port, come to
  * distribute; a conversation moves behind a marker, or is forced; under a limit of one link the second port is STANDBY until the first
- * link is down; each refusal has its number, each field its place, and each function refuses each null pointer; niw_new and niw_free
- * alone take and give back memory. It prints one line for each check that fails, with its function, and then
+ * link is down; payloads are read and written; each refusal has its number, each field its place, and each function refuses each null
+ * pointer; niw_new and niw_free alone take and give back memory. It prints one line for each check that fails, with its function, and then
  * 'calls: N passed, M failed', and ends with status 1 if one failed. It is linked with --wrap for malloc, realloc and free. */
 #include <stdio.h>
 #include <stdlib.h>
 
+#include "checks.h"
 #include "lag.h"
 
 /* Each export at the type that the header gives it. */
@@ -20,11 +21,12 @@ static const struct {
     EXPORT(defaulted), EXPORT(distributes), EXPORT(choice), EXPORT(is_standby), EXPORT(mux_state), EXPORT(distributing),
     EXPORT(conversation), EXPORT(conversation_state), EXPORT(next_marker), EXPORT(load), EXPORT(force_port), EXPORT(port_status),
     EXPORT(current_while), EXPORT(wait_while), EXPORT(ntt), EXPORT(ticks), EXPORT(views), EXPORT(due), EXPORT(ticks_until_due),
+    EXPORT(decode), EXPORT(encode),
 };
 
 static unsigned passed, failed;
 
-static void check(bool holds, const char *where, const char *what) {
+void check(bool holds, const char *where, const char *what) {
     if (holds) {
         passed++;
         return;
@@ -32,7 +34,6 @@ static void check(bool holds, const char *where, const char *what) {
     failed++;
     printf("calls: failed: %s: %s\n", where, what);
 }
-#define CHECK(fact) check((fact), __func__, #fact)
 
 /* The library's memory: how many blocks it holds, how often it asked, and which asking is refused, if any. */
 static unsigned blocks, askings, refused;
@@ -577,9 +578,9 @@ static void check_texts(void) {
         "ACTIVITY AGGREGATION DEFAULTED", "EXPIRED",
         "ACTIVITY TIMEOUT AGGREGATION SYNCHRONIZATION COLLECTING DISTRIBUTING DEFAULTED EXPIRED"};
     char text[NIW_STATE_TEXT_ROOM + 1];
-    for (uint32_t i = 0; i <= NIW_NULL; i++)
+    for (uint32_t i = 0; i <= NIW_NO_PDU; i++)
         for (uint32_t j = 0; j < i; j++) CHECK(strcmp(niw_status_text(i), niw_status_text(j)) != 0);
-    CHECK(strcmp(niw_status_text(NIW_NULL + 1), "unknown") == 0 && strcmp(niw_status_text(UINT32_MAX), "unknown") == 0);
+    CHECK(strcmp(niw_status_text(NIW_NO_PDU + 1), "unknown") == 0 && strcmp(niw_status_text(UINT32_MAX), "unknown") == 0);
     CHECK(strcmp(niw_status_text(NIW_NO_MEMORY), "out of memory") == 0 && strcmp(niw_reason_text(0), "unknown") == 0);
     CHECK(strstr(niw_reason_text(NIW_REASON_PORT_NUMBER), "number") && strcmp(niw_reason_text(77), "unknown") == 0);
     CHECK(strcmp(niw_port_status_text(NIW_PORT_STATUS_LINK_DOWN), "the link is down") == 0);
@@ -731,6 +732,7 @@ int main(void) {
     check_masks();
     check_room();
     check_algorithms();
+    check_payloads();
     check_texts();
     CHECK(niw_free(&one) == NIW_OK && !one.live && niw_free(&one) == NIW_NO_SYSTEM && niw_free(&other) == NIW_OK && blocks == 0);
     printf("calls: %u passed, %u failed\n", passed, failed);

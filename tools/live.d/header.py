@@ -28,7 +28,7 @@ LENGTHS = {"keys": "key_count", "ports": "port_count", "response": "room", "numb
 # header alone: what it refuses itself, its version, the subtypes of PDUs, and what the sources say in words.
 TOLD = {"Received": "RECEIVED_", "ReceiveState": "RECEIVE_", "MuxState": "MUX_", "Assignment": "CONVERSATION_",
         "PortStatus": "PORT_STATUS_"}
-OWN = {"NIW_NULL": 16, "NIW_VERSION": 3, "NIW_SENT_NOTHING": 0, "NIW_SENT_LACPDU": 1, "NIW_SENT_MARKER": 2,
+OWN = {"NIW_NULL": 16, "NIW_VERSION": 4, "NIW_SENT_NOTHING": 0, "NIW_SENT_LACPDU": 1, "NIW_SENT_MARKER": 2,
        "NIW_SHORTEST_FRAME": 14, "NIW_TICK_MILLISECONDS": 100, "NIW_FEW_CONVERSATIONS": 256, "NIW_MANY_CONVERSATIONS": 4096,
        "NIW_BY_NUMBER": 0, "NIW_BY_SUM": 1, "NIW_REASON_ALGORITHM": 6,
        "NIW_STATE_TEXT_ROOM": 87}
@@ -208,7 +208,7 @@ def numbers_of_sources(text):
     numbers = [*variants(faults, {"SystemFault": ""}), *variants(reasons, {"BadConfig": "REASON_"}),
                *variants(of_wire, {"WireFault": "FAULT_"}), *variants(text, TOLD)]
     numbers += [(f"NIW_STATE_{bit}", int(number)) for bit, number in re.findall(r"const (\w+) = (\d+);", text_of(STATES))]
-    for name, number in re.findall(r"\bconst (\w+): (?:u16|u32|usize) = (\d+);", text + text_of(OFFERS)):
+    for name, number in re.findall(r"\bconst (\w+): (?:u8|u16|u32|usize) = (\d+);", text + text_of(OFFERS)):
         numbers.append((CONSTANTS.get(name, f"NIW_{name}"), int(number)))
     found = {}
     for name, number in numbers:

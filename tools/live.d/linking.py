@@ -53,7 +53,8 @@ def build(made, sources, libraries, *words):
 def build_calls(folder, libraries):
     """Builds the program that calls each function; answers its path."""
     words = ["-std=c11", "-Wall", "-Wextra", "-Werror", *COUNTED]
-    return build(os.path.join(folder, "calls"), [f"{TOP}/tools/live.d/calls.c"], libraries, *words)
+    sources = [f"{TOP}/tools/live.d/{name}.c" for name in ("calls", "payloads")]
+    return build(os.path.join(folder, "calls"), sources, libraries, *words)
 
 
 def daemon_sources():

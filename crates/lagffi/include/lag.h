@@ -1,4 +1,4 @@
-/* LACP and the Marker protocol (IEEE 802.1AX-2014) for programs in C: one system, its calls and its readers.
+/* LACP and the Marker protocol (IEEE 802.1AX-2014) for programs in C: one system, its calls and its readers, and payloads as numbers.
  *
  * Bytes and ticks go in, frames come out. The library has no clock, no socket and no thread of its own: the caller hands it
  * every frame that comes, calls niw_tick every 100 ms, and after each call sends what niw_transmit gives for each port.
@@ -40,11 +40,13 @@ struct niw_system {
 #define NIW_EMPTY {false, NULL}
 
 /* The version of this header: it is to go up with each change of what stands here. */
-#define NIW_VERSION 3
+#define NIW_VERSION 4
 /* The version of the release that the header is of. */
 #define NIW_VERSION_TEXT "0.1.0"
 /* The octets of a frame that the library answers. */
 #define NIW_FRAME 124
+/* The octets of a payload: what follows the 14 octets of addresses and EtherType. */
+#define NIW_PAYLOAD_LENGTH 110
 /* The fewest and the most octets of a frame that is offered. */
 #define NIW_SHORTEST_FRAME 14
 #define NIW_LONGEST_FRAME 1518
@@ -77,7 +79,9 @@ enum {
     NIW_NO_SYSTEM = 13,        /* the handle holds no system */
     NIW_HAS_SYSTEM = 14,       /* niw_new: the handle holds a system already */
     NIW_BUFFER = 15,           /* a buffer has less room than the function asks */
-    NIW_NULL = 16              /* a pointer is null */
+    NIW_NULL = 16,             /* a pointer is null */
+    NIW_BAD_PAYLOAD = 17,      /* niw_decode: the payload is refused */
+    NIW_NO_PDU = 18            /* niw_encode: neither an LACPDU nor a Marker PDU */
 };
 
 /* Of NIW_BAD_CONFIG: the reason. */
@@ -90,7 +94,7 @@ enum {
     NIW_REASON_ALGORITHM = 6      /* an algorithm that is not 0 to 2 */
 };
 
-/* Of NIW_RECEIVED_IGNORED: what is wrong with the payload. */
+/* Of NIW_RECEIVED_IGNORED and of NIW_BAD_PAYLOAD: what is wrong with the payload. */
 enum {
     NIW_FAULT_SHORT = 1,         /* fewer than 110 octets */
     NIW_FAULT_OTHER_SUBTYPE = 2, /* octet 0 is neither 1 nor 2 */
@@ -289,6 +293,41 @@ struct niw_view {
     uint16_t partner_port;
 };
 
+/* The subtypes of PDUs (6.4.2.3, 6.5.3.3), and the two kinds of Marker PDU, by their TLV type. */
+enum { NIW_SUBTYPE_LACPDU = 1, NIW_SUBTYPE_MARKER = 2 };
+enum { NIW_MARKER_INFORMATION = 1, NIW_MARKER_RESPONSE = 2 };
+
+/* What an LACPDU says of one end of a link. */
+struct niw_participant {
+    uint16_t system_priority;
+    uint8_t system_mac[6];
+    uint16_t key;
+    uint16_t port_priority;
+    uint16_t port;
+    uint8_t state; /* the state octet: NIW_STATE_.. */
+};
+
+/* The numbers of a PDU. niw_decode writes 0 where a field is of the other subtype, and niw_encode doesn't look at it there. */
+struct niw_pdu {
+    uint8_t subtype;                /* NIW_SUBTYPE_.. */
+    uint8_t tlv_type;               /* of a Marker PDU: NIW_MARKER_.. */
+    uint16_t max_delay;             /* of an LACPDU: CollectorMaxDelay in tens of microseconds */
+    struct niw_participant actor;   /* of an LACPDU: the end that sends it */
+    struct niw_participant partner; /* of an LACPDU: the other end, as the sender has recorded it */
+    uint16_t requester_port;        /* of a Marker PDU: the port that sent the marker, and so below */
+    uint8_t requester_system[6];
+    uint32_t transaction_id;
+};
+
+/* `at` and `found` are of NIW_BAD_PAYLOAD: the offset of the octet that is wrong, and what stands there; of NIW_FAULT_SHORT the
+ * offset of the first octet that is missing, which is the length, and 0. */
+struct niw_decoded {
+    uint32_t status;
+    uint32_t fault; /* of NIW_BAD_PAYLOAD: NIW_FAULT_.. */
+    size_t at;
+    uint8_t found;
+};
+
 /* The library itself. No pointer given to these is null. */
 struct niw_made lagffi_new(struct niw_system *handle, const struct niw_config *config, const uint16_t *keys,
     size_t key_count, const struct niw_port *ports, size_t port_count);
@@ -331,6 +370,8 @@ struct niw_number lagffi_conversation(struct niw_system *handle, const uint8_t *
 struct niw_assignment lagffi_conversation_state(struct niw_system *handle, uint16_t agg, uint16_t conv);
 struct niw_marker lagffi_next_marker(struct niw_system *handle);
 struct niw_wait lagffi_ticks_until_due(struct niw_system *handle);
+struct niw_decoded lagffi_decode(const uint8_t *payload, size_t length, struct niw_pdu *pdu);
+uint32_t lagffi_encode(const struct niw_pdu *pdu, uint8_t *payload, size_t room);
 
 /* The functions to call: they refuse a null pointer, and else pass on. */
 
@@ -597,6 +638,24 @@ static inline struct niw_wait niw_ticks_until_due(struct niw_system *handle) {
     return refused;
 }
 
+/* Payloads, for which no handle is wanted. */
+
+/* Reads the payload of a control frame, what follows its EtherType 0x8809, and writes its numbers into `pdu`. Octets after the first
+ * NIW_PAYLOAD_LENGTH are not looked at. A payload that is refused leaves `pdu` as it was. */
+static inline struct niw_decoded niw_decode(const uint8_t *payload, size_t length, struct niw_pdu *pdu) {
+    struct niw_decoded refused;
+    if (payload && pdu) return lagffi_decode(payload, length, pdu);
+    memset(&refused, 0, sizeof refused);
+    refused.status = NIW_NULL;
+    return refused;
+}
+
+/* Writes the payload of a PDU at the front of `payload`, which has NIW_PAYLOAD_LENGTH octets or more: version 1, and 0 in each
+ * reserved octet. */
+static inline uint32_t niw_encode(const struct niw_pdu *pdu, uint8_t *payload, size_t room) {
+    return (pdu && payload) ? lagffi_encode(pdu, payload, room) : (uint32_t)NIW_NULL;
+}
+
 /* Texts. */
 
 /* What a status means. */
@@ -618,8 +677,10 @@ static inline const char *niw_status_text(uint32_t status) {
         "the handle holds no system",
         "the handle holds a system already",
         "a buffer has less room than the function asks",
-        "a pointer is null"};
-    return status <= NIW_NULL ? texts[status] : "unknown";
+        "a pointer is null",
+        "the payload is refused",
+        "it is neither an LACPDU nor a Marker PDU"};
+    return status <= NIW_NO_PDU ? texts[status] : "unknown";
 }
 
 /* What a reason to refuse a configuration means. */

@@ -1,5 +1,6 @@
 pub mod Algorithms
 pub mod Asking
+pub mod Codec
 pub mod Frames
 pub mod Holding
 pub mod Lists

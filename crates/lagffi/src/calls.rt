@@ -28,12 +28,12 @@ use crate::values::{
 use lagsystem::{AggId, Received, System, SystemFault};
 use std::alloc::Global;
 
-/// Writes a frame at the front of a buffer.
-fn put_frame(frame: &[u8], buffer: &mut [u8])
-    requires { length frame.now ≤ length buffer.old }
-    ensures { buffer.new ≡ put_first frame.now buffer.old }
+/// Writes octets at the front of a buffer.
+pub(crate) fn put_octets(octets: &[u8], buffer: &mut [u8])
+    requires { length octets.now ≤ length buffer.old }
+    ensures { buffer.new ≡ put_first octets.now buffer.old }
 {
-    buffer[..frame.len()].copy_from_slice(frame);
+    buffer[..octets.len()].copy_from_slice(octets);
 }
 
 /// Writes the response that a frame had, if it had one.
@@ -42,7 +42,7 @@ fn write_reply(answer: &Result<Received, SystemFault>, buffer: &mut [u8])
     ensures { buffer.new ≡ buffer_after_receive buffer.old answer.now }
 {
     if let Ok(Received::Respond(octets)) = answer {
-        put_frame(octets, buffer);
+        put_octets(octets, buffer);
     }
 }
 
@@ -52,7 +52,7 @@ fn write_due(answer: &Result<Option<[u8; 124]>, SystemFault>, buffer: &mut [u8])
     ensures { buffer.new ≡ buffer_after_transmit buffer.old answer.now }
 {
     if let Ok(Some(octets)) = answer {
-        put_frame(octets, buffer);
+        put_octets(octets, buffer);
     }
 }
 

@@ -1,4 +1,4 @@
-//! A system for programs in C: include/lag.h declares what this library exports.
+//! A system for programs in C, and payloads as numbers: include/lag.h declares what this library exports.
 //!
 //! What a program in C owes, and nothing checks: a handle is `NIW_EMPTY` before its first call, and only the exports write it; only
 //! the thread that made it calls with it, readers too, since each call writes the handle; no signal handler does, and no forked
@@ -8,6 +8,8 @@
 #![tactic(auto)]
 
 mod calls;
+mod codec;
+mod codec_values;
 mod handle;
 mod made;
 mod masks;
