@@ -57,6 +57,11 @@ def as_unit(it: Unit) -> list[str]:
     return [*user, f"--inh-caps=-all,+{name}", f"--ambient-caps=-all,+{name}", f"--bounding-set=-all,+{name}"]
 
 
+def folder(it: Unit) -> list[str]:
+    """What makes the folder of the status, which systemd makes before it starts the daemon."""
+    return ["install", "-d", "-o", it.user, "-g", it.user, f"/run/lagd/{BUNDLE}"]
+
+
 def file() -> str:
     """The file of the bundle, as docs/INSTALL.md has it."""
     with open(os.path.join(TOP, "docs", "INSTALL.md"), encoding="utf-8") as it:
@@ -117,11 +122,13 @@ def until(told: Callable[[], str], wanted: str) -> str:
     return "" if wanted in found else f"{wanted!r} is not in {found[-500:]!r}"
 
 
-def try_lines(count: Count) -> None:
-    """docs/INSTALL.md has each line that is tried."""
-    with open(os.path.join(TOP, "docs", "INSTALL.md"), encoding="utf-8") as it:
-        rows = [re.sub(r"  +#.*", "", line).strip() for line in it if line.startswith("    ")]
-    count.add(f"docs/INSTALL.md has the {len(LINES)} lines that an admin writes", ", ".join(it for it in LINES if it not in rows))
+def try_lines(count: Count, it: Unit) -> None:
+    """docs/INSTALL.md has each line that is tried, and the command line of the unit."""
+    with open(os.path.join(TOP, "docs", "INSTALL.md"), encoding="utf-8") as text:
+        lines = text.read().replace("\\\n", "").split("\n")
+    rows = [" ".join(re.sub(r"  +#.*", "", line).split()) for line in lines if line.startswith("    ")]
+    wanted = (*LINES, " ".join(folder(it)), " ".join([*as_unit(it), *it.start]))
+    count.add(f"docs/INSTALL.md has the {len(wanted)} lines that an admin writes", ", ".join(it for it in wanted if it not in rows))
 
 
 def try_start(count: Count, bench: Bench) -> subprocess.Popen[bytes]:
@@ -131,7 +138,7 @@ def try_start(count: Count, bench: Bench) -> subprocess.Popen[bytes]:
         out.write(file())
     checked = bench.run(*it.check)
     count.add(f"{' '.join(it.check)} takes the file of INSTALL", checked.stderr or ("it fails" if checked.returncode else ""))
-    bench.run("install", "-d", "-o", it.user, "-g", it.user, f"/run/lagd/{BUNDLE}")
+    bench.run(*folder(it))
     daemon = bench.start(0, [*as_unit(it), *it.start])
     bench.start(1, PEER)
     status, metrics = (lambda word=word: bench.run("lagd", word).stdout for word in ("--status", "--metrics"))
@@ -168,7 +175,7 @@ def try_upgraded(count: Count, bench: Bench, daemon: subprocess.Popen[bytes]) ->
 
 def tried(count: Count, tree: str, upgrade: Callable[[], None]) -> None:
     """Runs the daemon that is installed in the tree, while `upgrade` installs a newer one."""
-    try_lines(count)
+    try_lines(count, unit(tree))
     missing = [it for it in ("ip", "unshare", "chroot") if not shutil.which(it)]
     bench = Bench(tree)
     try:
