@@ -6,7 +6,6 @@ use lagjobs::{
 use lagstreams::Sink;
 use slowpdu::WireFault;
 use std::alloc::{AllocError, Global};
-use std::array::from_fn;
 use std::process::Abort;
 use std::test::Fail;
 
@@ -48,33 +47,27 @@ fn one_failed(alloc: Global, number: usize) -> Result<String, AllocError> {
     Ok(text)
 }
 
-/// The vectors, with what is expected of this one, from 1 on.
-fn vectors_with<'a>(
-    number: usize,
-    expected: &'a [Expectation<'static>],
-) -> [&'a [Expectation<'static>]; 10] {
-    from_fn(|at| {
-        if at + 1 == number {
-            expected
-        } else {
-            VECTORS[at]
-        }
-    })
-}
-
 /// With this mistake in their place, the vectors run so that the one with the mistake fails and no other.
 fn is_found(
     rt: &(impl Abort + AllocGlobal),
     (number, place, mistake): Mistake,
 ) -> Result<(), Fail> {
     let alloc = rt.alloc();
-    assert!(rt; 1 <= number && number <= 10, "there is no V{number}");
-    let mut changed = Vec::from_slice(alloc, VECTORS[number - 1])?;
-    assert!(rt; place < changed.len(), "V{number} expects less");
-    changed[place] = mistake;
-    let vectors = vectors_with(number, changed.as_slice());
+    let mut expected = Vec::new(alloc);
+    for (at, known) in VECTORS.iter().enumerate() {
+        let mut changed = Vec::from_slice(alloc, *known)?;
+        if at + 1 == number {
+            assert!(rt; place < changed.len(), "V{number} expects less");
+            changed[place] = mistake;
+        }
+        expected.push(changed)?;
+    }
+    let mut vectors = Vec::new(alloc);
+    for changed in &expected {
+        vectors.push(changed.as_slice())?;
+    }
     let mut sink = Sink::new(Vec::new(alloc));
-    let summary = run_vectors(alloc, &vectors, &mut sink)?;
+    let summary = run_vectors(alloc, vectors.as_slice(), &mut sink)?;
     let (checked, faults) = (10, 1);
     assert_eq!(rt; summary, Summary { checked, faults });
     let written = String::from_utf8_lossy(alloc, sink.into_inner().as_slice())?;
