@@ -16,12 +16,23 @@ static uint16_t carrying_in(uint16_t aggregator) {
     return carrying;
 }
 
-/* Chooses the aggregator with most ports that carry; of several the first one. */
-static void choose_aggregator(struct bundle *now) {
+/* Whether an aggregator has a partner. A port on defaults is alone in its aggregator, and nobody may be at its other end. */
+static bool has_partner(uint16_t aggregator) {
+    for (uint16_t i = 0; i < link_count; i++)
+        if (links[i].view.aggregator == aggregator && carries(&links[i])) return !links[i].view.defaulted;
+    return false;
+}
+
+/* Chooses the aggregator with most ports that carry; of several the first one. One without a partner is chosen where there is no
+ * other. */
+void choose_aggregator(struct bundle *now) {
+    unsigned best = 0;
     now->aggregator = now->carrying = 0;
     for (uint16_t aggregator = 1; aggregator <= aggregator_count; aggregator++) {
         uint16_t carrying = carrying_in(aggregator);
-        if (carrying <= now->carrying) continue;
+        unsigned rank = carrying + (has_partner(aggregator) ? NIW_MOST_PORTS : 0u);
+        if (rank <= best) continue;
+        best = rank;
         now->carrying = carrying;
         now->aggregator = aggregator;
     }

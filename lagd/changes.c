@@ -28,6 +28,7 @@ struct interface {
     uint8_t mac[6];
     bool has_mac, counts_losses;
     uint32_t losses;
+    uint32_t mtu; /* 0: not told */
 };
 
 static int route = -1;
@@ -66,6 +67,7 @@ static void take_attribute(struct interface *interface, unsigned type, const uin
         memcpy(&interface->losses, value, length);
         interface->counts_losses = true;
     }
+    if (type == IFLA_MTU && length == sizeof interface->mtu) memcpy(&interface->mtu, value, length);
     if (type == IFLA_PROP_LIST) {
         interface->others = value;
         interface->others_length = length;
@@ -139,6 +141,7 @@ static void follow(struct link *link, const struct interface *interface) {
     uint16_t port = link->settings.number;
     bool up = (interface->flags & IFF_UP) && (interface->flags & IFF_RUNNING);
     if (interface->has_mac) memcpy(link->mac, interface->mac, sizeof link->mac);
+    follow_mtu(link, interface->mtu);
     if (interface->counts_losses && interface->losses != link->kernel_losses) {
         uint32_t lost = losses_since(link->kernel_losses, interface->losses);
         link->kernel_losses = interface->losses;

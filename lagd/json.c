@@ -83,6 +83,7 @@ static void add_member(const struct link *link) {
     add_ends(&view);
     add_strangers(link);
     add_counts(link);
+    write_member_json(link);
     add(",\"trouble\":");
     add_string(link->trouble ? strerror(link->trouble) : "");
     add("}");
@@ -94,8 +95,9 @@ void write_json(void) {
     add_bundle();
     add(",\"system_priority\":%u,", settings.config.priority);
     add_mac("system", settings.config.mac);
-    add(",\"min_links\":%u,\"max_links\":%u,\"seconds\":%" PRIu64 ",\"ports\":[", settings.min_links, settings.config.max_links,
-        seconds_passed());
+    add(",\"min_links\":%u,\"max_links\":%u,\"seconds\":%" PRIu64 ",", settings.min_links, settings.config.max_links, seconds_passed());
+    write_carry_json();
+    add("\"ports\":[");
     for (uint16_t i = 0; i < link_count; i++) {
         if (i) add(",");
         add_member(&links[i]);

@@ -250,6 +250,7 @@ struct facts facts_of(const struct link *link);
 bool carries(const struct link *link);
 
 /* bundle.c */
+void choose_aggregator(struct bundle *now);
 void look_at_bundle(void);
 void allow_bundle_line(void);
 void end_bundle(void);
@@ -272,6 +273,31 @@ void pass_tick_of_callers(void);
 void tell_watchers(const char *line, size_t length);
 void tell_watchers_of(const struct link *link);
 
+/* carry.c */
+void open_carry(void);
+void end_carry(void);
+bool carries_data(void);
+void look_at_carry(void);
+void settle_carry(void);
+void pass_carry_tick(void);
+void serve_data(uint32_t tag);
+
+/* members.c */
+bool open_member(struct link *link);
+void close_member(struct link *link);
+void take_marker(struct link *link, const uint8_t *frame);
+void follow_mtu(struct link *link, uint32_t mtu);
+
+/* moves.c */
+void ask_moves(void);
+
+/* carry_show.c */
+void write_carry_text(void);
+void write_carry_json(void);
+void write_carry_metrics(void);
+void write_member_text(const struct link *link);
+void write_member_json(const struct link *link);
+
 /* answer.c: what is written for whoever asks. What 64 ports of the longest names have to tell has less than 2 MiB. */
 #define ANSWER_ROOM 4194304
 extern char answer[ANSWER_ROOM];
@@ -292,6 +318,9 @@ void write_text(void);
 void write_json(void);
 void write_json_event(const struct link *link);
 void write_metrics(void);
+void add_head(const char *name, const char *kind, const char *help);
+void add_bundle_value(const char *name, const char *kind, const char *help, uint64_t value);
+void add_port_value(const char *name, const struct link *link, uint64_t value);
 
 /* asking.c */
 int ask_daemons(const struct options *options);
@@ -307,8 +336,17 @@ void notify_alive(void);
 void drop_privileges(void);
 
 /* main.c */
-enum { SIGNALS = NIW_MOST_PORTS + 1, CLOCK, CHANGES, STATUS, CALLERS };
 #define MOST_CALLERS 32
+enum {
+    SIGNALS = NIW_MOST_PORTS + 1,
+    CLOCK,
+    CHANGES,
+    STATUS,
+    CALLERS,
+    HOST = CALLERS + MOST_CALLERS, /* the TAP device */
+    MEMBERS,                       /* their data */
+    TAGS = MEMBERS + NIW_MOST_PORTS,
+};
 bool watch(int fd, uint32_t tag);
 bool watch_output(int fd, uint32_t tag);
 void unwatch(int fd);

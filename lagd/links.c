@@ -43,10 +43,10 @@ bool open_link(struct link *link, int index) {
     bool taken;
     link->lock = lock_interface(index);
     link->socket = link->lock < 0 ? -1 : open_socket(index);
-    taken = link->socket >= 0 && watch(link->socket, link->settings.number);
+    link->index = index;
+    taken = link->socket >= 0 && watch(link->socket, link->settings.number) && open_member(link);
     link->trouble = taken ? 0 : errno;
     link->trouble_ticks = TROUBLE_TICKS;
-    link->index = index;
     link->unsent = false;
     link->changed = true;
     if (!taken) close_files(link);
@@ -55,6 +55,7 @@ bool open_link(struct link *link, int index) {
 
 /* The interface is gone. */
 void close_link(struct link *link) {
+    close_member(link);
     close_files(link);
     link->unsent = false;
     link->changed = true;

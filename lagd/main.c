@@ -5,7 +5,7 @@
  *     lagd --status
  *
  * It ticks every 100 ms, carries the control frames of the interfaces, follows what the kernel tells of them, and prints each
- * change of a port in one line. Data frames stay with the kernel. `lagd --help` tells the options. */
+ * change of a port in one line. Data frames stay with the kernel, or go by a TAP device (carry). `lagd --help` tells the options. */
 #define _GNU_SOURCE
 #include <errno.h>
 #include <fcntl.h>
@@ -19,7 +19,7 @@
 #include "lagd.h"
 
 /* The most events of a turn. */
-#define MOST_EVENTS (CALLERS + MOST_CALLERS)
+#define MOST_EVENTS TAGS
 /* The most ticks that are made up after a stall: what comes in then is new, and time goes on from there. */
 #define MOST_TICKS 10
 /* How many ticks the peers are told of the end at most. */
@@ -100,19 +100,34 @@ static void take_all_frames(const struct epoll_event *events, int count) {
         take_frames((uint16_t)port);
         taken = true;
     }
-    if (taken) send_due();
+    if (!taken) return;
+    send_due();
+    look_at_carry();
+}
+
+/* Takes the data of all members, and then that of the host. */
+static void take_all_data(const struct epoll_event *events, int count) {
+    bool host = false;
+    for (int i = 0; i < count; i++) {
+        host |= events[i].data.u32 == HOST;
+        if (events[i].data.u32 >= MEMBERS) serve_data(events[i].data.u32);
+    }
+    settle_carry();
+    if (host) serve_data(HOST);
 }
 
 /* Serves those who ask. */
 static void serve_callers(const struct epoll_event *events, int count) {
     for (int i = 0; i < count; i++)
-        if (events[i].data.u32 >= CALLERS) serve_caller(events[i].data.u32 - CALLERS);
+        if (events[i].data.u32 >= CALLERS && events[i].data.u32 < HOST) serve_caller(events[i].data.u32 - CALLERS);
 }
 
 /* Takes a signal; answers whether it ends the daemon. */
 static bool is_end(int signals, const char *file) {
     struct signalfd_siginfo signal;
     if (read(signals, &signal, sizeof signal) != sizeof signal) return true;
+    if (signal.ssi_signo == SIGUSR2) ask_moves();
+    if (signal.ssi_signo == SIGUSR2) return false;
     if (signal.ssi_signo != SIGHUP || !file) return true;
     reload(file);
     return false;
@@ -122,9 +137,11 @@ static bool is_end(int signals, const char *file) {
 static void serve(const struct epoll_event *events, int count, struct ready ready, int clock) {
     if (ready.change) take_changes();
     take_all_frames(events, count);
+    take_all_data(events, count);
     serve_callers(events, count);
     if (ready.caller) take_callers();
     if (ready.tick) pass_time(clock);
+    settle_carry();
 }
 
 /* Waits, and serves what comes. The first signal that ends it, or a refusal of the library, makes it tell the peers; it ends when they
@@ -156,11 +173,13 @@ static void keep_standard_files(void) {
 
 /* Opens what the daemon needs, and runs it. */
 static int run_daemon(const struct options *options) {
-    int signals = open_signals(), clock;
+    int signals, clock;
     settings = options->settings;
+    signals = open_signals();
     waits = epoll_create1(EPOLL_CLOEXEC);
     if (waits < 0) stop(REFUSED, "epoll", strerror(errno));
     make_system();
+    open_carry();
     watch_at_start(open_changes(), CHANGES);
     (void)open_status(options->folder);
     clock = open_clock();
@@ -169,8 +188,10 @@ static int run_daemon(const struct options *options) {
     drop_privileges();
     started = true;
     tell_changes();
+    settle_carry();
     notify_ready();
     run(signals, clock, options->file);
+    end_carry();
     end_system();
     return broken ? REFUSED : DONE;
 }

@@ -5,7 +5,7 @@
 
 #include "lagd.h"
 
-static void add_head(const char *name, const char *kind, const char *help) {
+void add_head(const char *name, const char *kind, const char *help) {
     add("# HELP lagd_%s %s\n# TYPE lagd_%s %s\n", name, help, name, kind);
 }
 
@@ -20,14 +20,14 @@ static void add_label(const char *name, const char *text) {
     add("\"");
 }
 
-static void add_bundle_value(const char *name, const char *help, uint64_t value) {
-    add_head(name, "gauge", help);
+void add_bundle_value(const char *name, const char *kind, const char *help, uint64_t value) {
+    add_head(name, kind, help);
     add("lagd_%s{", name);
     add_label("bundle", settings.name);
     add("} %" PRIu64 "\n", value);
 }
 
-static void add_port_value(const char *name, const struct link *link, uint64_t value) {
+void add_port_value(const char *name, const struct link *link, uint64_t value) {
     add("lagd_%s{", name);
     add_label("bundle", settings.name);
     add(",");
@@ -89,10 +89,11 @@ static const struct {
 /* All of it. */
 void write_metrics(void) {
     add_bundle_states();
-    add_bundle_value("bundle_links", "how many links the bundle has", link_count);
-    add_bundle_value("bundle_links_carrying", "how many of them carry", bundle.carrying);
-    add_bundle_value("bundle_min_links", "with fewer the bundle is down", settings.min_links);
-    add_bundle_value("bundle_last_change_timestamp_seconds", "when the state of the bundle changed last", (uint64_t)bundle.changed_at);
+    add_bundle_value("bundle_links", "gauge", "how many links the bundle has", link_count);
+    add_bundle_value("bundle_links_carrying", "gauge", "how many of them carry", bundle.carrying);
+    add_bundle_value("bundle_min_links", "gauge", "with fewer the bundle is down", settings.min_links);
+    add_bundle_value("bundle_last_change_timestamp_seconds", "gauge", "when the state of the bundle changed last",
+        (uint64_t)bundle.changed_at);
     for (size_t gauge = 0; gauge < sizeof GAUGES / sizeof *GAUGES; gauge++) {
         add_head(GAUGES[gauge].name, "gauge", GAUGES[gauge].help);
         for (uint16_t i = 0; i < link_count; i++) add_port_value(GAUGES[gauge].name, &links[i], GAUGES[gauge].value(&links[i]));
@@ -103,4 +104,5 @@ void write_metrics(void) {
         add_head(name, "counter", count_help(count));
         for (uint16_t i = 0; i < link_count; i++) add_port_value(name, &links[i], links[i].counts[count]);
     }
+    write_carry_metrics();
 }

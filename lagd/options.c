@@ -32,6 +32,9 @@ static const char HELP[] =
     "  -b, --key-by-speed          links of another speed or duplex have another key, so that they share no group\n"
     "  -o, --marker-responses N    the most that a port sends in a second; 10 if not given\n"
     "  -x, --hook PROGRAM          is run where the bundle is up, degraded or down\n"
+    "  -C, --carry NAME            carries the data of a TAP device of this name, which it makes, with the MAC address of the system\n"
+    "  -H, --hash layer2|layer2+3|layer3+4   what frames of one conversation have in common; layer2, if not given\n"
+    "  -F, --flight MILLISECONDS   how long a frame can be on its way; 500 if not given\n"
     "  -f, --folder FOLDER         of status sockets; /run/lagd if not given\n"
     "  -s, --status                prints the state of each lagd of this network namespace and folder\n"
     "  -w, --watch                 prints each change of one, as it happens\n"
@@ -50,6 +53,8 @@ static const struct option LONG[] = {
     {"partner-required", no_argument, NULL, 'q'},    {"marker-responses", required_argument, NULL, 'o'},
     {"key-by-speed", no_argument, NULL, 'b'},
     {"hook", required_argument, NULL, 'x'},          {"folder", required_argument, NULL, 'f'},
+    {"carry", required_argument, NULL, 'C'},         {"hash", required_argument, NULL, 'H'},
+    {"flight", required_argument, NULL, 'F'},
     {"status", no_argument, NULL, 's'},              {"watch", no_argument, NULL, 'w'},
     {"json", no_argument, NULL, 'j'},                {"metrics", no_argument, NULL, 'M'},
     {"help", no_argument, NULL, 'h'},                {"version", no_argument, NULL, 'V'},
@@ -145,7 +150,7 @@ static void read_words(int count, char **words) {
 struct options *read_options(int argc, char **argv) {
     opterr = 0;
     options.settings = usual_settings();
-    for (int option; (option = getopt_long(argc, argv, "c:k:p:t:a:m:n:r:qbo:x:f:swjMhV", LONG, NULL)) >= 0;)
+    for (int option; (option = getopt_long(argc, argv, "c:k:p:t:a:m:n:r:qbo:x:C:H:F:f:swjMhV", LONG, NULL)) >= 0;)
         read_option(option, argv[optind - 1]);
     if (options.json && options.action != SHOW && options.action != WATCH)
         stop(WRONG_WORD, "usage", "lagd --status --json, or lagd --watch --json");

@@ -1,4 +1,5 @@
-/* What the daemon may do once its sockets are open: CAP_NET_RAW alone, for an interface that comes later. */
+/* What the daemon may do once its sockets are open: CAP_NET_RAW alone, for an interface that comes later, and CAP_NET_ADMIN beside it
+ * where it carries data. */
 #define _GNU_SOURCE
 #include <sys/prctl.h>
 #ifdef HAVE_CAP_NG
@@ -8,11 +9,14 @@
 #include "lagd.h"
 
 #ifdef HAVE_CAP_NG
-/* Keeps CAP_NET_RAW, if it is there, and nothing else. A program that is started has none. */
+/* Keeps these, as far as they are there, and nothing else. A program that is started has none. */
 static void drop_capabilities(void) {
-    bool raw = capng_get_caps_process() == 0 && capng_have_capability(CAPNG_EFFECTIVE, CAP_NET_RAW);
+    bool known = capng_get_caps_process() == 0;
+    bool raw = known && capng_have_capability(CAPNG_EFFECTIVE, CAP_NET_RAW);
+    bool admin = known && settings.carry[0] && capng_have_capability(CAPNG_EFFECTIVE, CAP_NET_ADMIN);
     capng_clear(CAPNG_SELECT_BOTH);
     if (raw) (void)capng_update(CAPNG_ADD, CAPNG_EFFECTIVE | CAPNG_PERMITTED, CAP_NET_RAW);
+    if (admin) (void)capng_update(CAPNG_ADD, CAPNG_EFFECTIVE | CAPNG_PERMITTED, CAP_NET_ADMIN);
     /* Whoever may not change the bounding set has it bounded, or not, by who started the daemon. */
     if (capng_apply(CAPNG_SELECT_BOTH) != 0 && capng_apply(CAPNG_SELECT_CAPS) != 0)
         (void)say(LOG_WARNING, "the capabilities stay as they are");

@@ -17,6 +17,8 @@ static const char *restart_for(const struct settings *wanted) {
         return "another system";
     if (wanted->config.max_links != settings.config.max_links) return "another max-links";
     if (wanted->key_by_speed != settings.key_by_speed) return "another key-by-speed";
+    if (strcmp(wanted->carry, settings.carry) != 0) return "another carry";
+    if (wanted->hash != settings.hash) return "another hash";
     for (uint16_t port = 1; port <= link_count; port++) {
         struct niw_port now = links[port - 1].settings, next = port_of(wanted, port);
         if (next.active != now.active) return "another activity";
@@ -66,6 +68,7 @@ static unsigned take(const struct settings *wanted) {
     settings.partner_required = wanted->partner_required;
     settings.min_links = wanted->min_links <= link_count ? wanted->min_links : link_count;
     settings.marker_responses = wanted->marker_responses;
+    settings.flight = wanted->flight;
     memcpy(settings.hook, wanted->hook, sizeof settings.hook);
     for (uint16_t i = 0; i < link_count; i++) links[i].changed = true;
     return changed;
@@ -84,6 +87,7 @@ void reload(const char *file) {
         if (rest) (void)say(LOG_WARNING | ABOUT_RESTART, "%s: %s: a restart of this bundle is needed", file, rest);
         send_due();
         take_views();
+        look_at_carry();
     }
     notify_ready();
 }

@@ -106,6 +106,35 @@ static bool take_hook(const char *text, struct settings *settings) {
     return true;
 }
 
+/* Whether the kernel would take a name of an interface. */
+static bool is_name(const char *text, size_t length) {
+    bool right = length > 0 && length < NAME_ROOM && !(length == 1 && text[0] == '.') && !(length == 2 && memcmp(text, "..", 2) == 0);
+    for (size_t i = 0; i < length; i++) right = right && text[i] && text[i] != '/' && text[i] != ':' && !isspace((unsigned char)text[i]);
+    return right;
+}
+
+static bool take_carry(const char *text, struct settings *settings) {
+    size_t length = strlen(text);
+    if (length >= sizeof settings->carry || strchr(text, '%') || !is_name(text, length)) return false;
+    memset(settings->carry, 0, sizeof settings->carry);
+    memcpy(settings->carry, text, length);
+    return true;
+}
+
+static bool take_hash(const char *text, struct settings *settings) {
+    static const char *const words[] = {[HASH_LAYER2] = "layer2", [HASH_LAYER2_3] = "layer2+3", [HASH_LAYER3_4] = "layer3+4"};
+    for (size_t i = 0; i < sizeof words / sizeof *words; i++) {
+        if (strcmp(text, words[i]) != 0) continue;
+        settings->hash = (enum hash)i;
+        return true;
+    }
+    return false;
+}
+
+static bool take_flight(const char *text, struct settings *settings) {
+    return read_number(text, 1, 60000, &settings->flight);
+}
+
 /* The keys of a bundle: each with what is expected of its value. */
 static const struct {
     const char *name, *expected;
@@ -123,6 +152,9 @@ static const struct {
     {"activity", "active or passive", take_activity},
     {"marker-responses", "a number from 0 to 10000", take_marker_responses},
     {"hook", "a path that begins with /, of at most 191 characters", take_hook},
+    {"carry", "a name of an interface of at most 15 characters", take_carry},
+    {"hash", "layer2, layer2+3 or layer3+4", take_hash},
+    {"flight", "a number of milliseconds from 1 to 60000", take_flight},
 };
 
 /* Gives a key of the bundle a value; answers NULL, or what was expected. */
@@ -131,7 +163,7 @@ const char *set_bundle(struct settings *settings, const char *name, const char *
         if (strcmp(name, BUNDLE_KEYS[i].name) == 0)
             return BUNDLE_KEYS[i].take(text, settings) ? NULL : BUNDLE_KEYS[i].expected;
     return "key, system, partner, partner-required, key-by-speed, min-links, max-links, port-priority, timeout, activity, "
-           "marker-responses or hook as a key of [Bundle]";
+           "marker-responses, hook, carry, hash or flight as a key of [Bundle]";
 }
 
 /* A number of a port. */
@@ -163,13 +195,6 @@ const char *set_port(struct port_settings *port, const char *name, const char *t
     return expected;
 }
 
-/* Whether the kernel would take a name of an interface. */
-static bool is_name(const char *text, size_t length) {
-    bool right = length > 0 && length < NAME_ROOM && !(length == 1 && text[0] == '.') && !(length == 2 && memcmp(text, "..", 2) == 0);
-    for (size_t i = 0; i < length; i++) right = right && text[i] && text[i] != '/' && text[i] != ':' && !isspace((unsigned char)text[i]);
-    return right;
-}
-
 /* Adds a port, by the name of its interface; answers NULL, or what was expected. */
 const char *add_port(struct settings *settings, const char *name, size_t length) {
     struct port_settings *port = &settings->ports[settings->port_count];
@@ -193,6 +218,7 @@ struct settings usual_settings(void) {
         .short_timeout = true,
         .min_links = 1,
         .marker_responses = USUAL_RESPONSES,
+        .flight = USUAL_FLIGHT,
     };
 }
 
@@ -201,6 +227,8 @@ const char *lack_of(const struct settings *settings) {
     if (!settings->has_key) return "key=NUMBER in [Bundle]";
     if (!settings->has_system) return "system=PRIORITY,MAC in [Bundle]";
     if (settings->port_count == 0) return "a section [Port INTERFACE] for each interface, 1 to 64 of them";
+    for (uint16_t i = 0; i < settings->port_count; i++)
+        if (strcmp(settings->ports[i].name, settings->carry) == 0) return "carry=NAME that is not the interface of a port";
     if (settings->min_links > settings->port_count) return "min-links that is at most the number of interfaces";
     return NULL;
 }

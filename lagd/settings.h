@@ -15,6 +15,10 @@
 /* How many marker responses a port sends in a second, if nothing else is given: as often as IEEE 802.3, annex 57A, lets one of the
  * slow protocols send. */
 #define USUAL_RESPONSES 10
+/* How long a frame can be on its way, in milliseconds, if nothing else is given: on a direct cable it is far less. */
+#define USUAL_FLIGHT 500
+/* The room of the name of a device that is made, with a zero: IFNAMSIZ of linux/if.h. */
+#define DEVICE_ROOM 16
 
 /* A system: its priority and its MAC address. */
 struct system_id {
@@ -27,6 +31,13 @@ enum partner_policy {
     PARTNER_ANY,
     PARTNER_FIRST, /* those of the system that speaks first, until the link goes down */
     PARTNER_GIVEN, /* those of one given system */
+};
+
+/* What a conversation is of: what stands in its frames, in the words of xmit_hash_policy of the bonding driver of Linux. */
+enum hash {
+    HASH_LAYER2,    /* the last octets of both MAC addresses, as the library has it */
+    HASH_LAYER2_3,  /* MAC addresses, and those of IP */
+    HASH_LAYER3_4,  /* addresses of IP, and the ports of TCP, UDP and SCTP */
 };
 
 /* Where a port has no value of its own. */
@@ -52,6 +63,9 @@ struct settings {
     uint16_t min_links;       /* a bundle of fewer is down */
     uint16_t marker_responses;
     char hook[PATH_ROOM]; /* the program that is run where the bundle changes, or empty */
+    char carry[DEVICE_ROOM]; /* the TAP device whose data is carried, or empty */
+    enum hash hash;          /* of that data */
+    uint16_t flight;         /* how long a frame of it can be on its way, in milliseconds */
     uint16_t port_count;
     struct port_settings ports[NIW_MOST_PORTS];
 };

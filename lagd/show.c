@@ -73,10 +73,12 @@ static void add_member(const struct link *link) {
     add_end("partner", partner->system_mac, (unsigned[]){partner->system_priority, partner->port, partner->port_priority, partner->key},
         partner->state);
     add_counts(link);
+    write_member_text(link);
 }
 
 /* The whole status. */
 void write_text(void) {
     add_bundle();
+    write_carry_text();
     for (uint16_t i = 0; i < link_count; i++) add_member(&links[i]);
 }

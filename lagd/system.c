@@ -60,7 +60,10 @@ static void send_due_of(uint16_t port) {
         struct niw_sent due = niw_transmit(&own_system, port, frame, sizeof frame);
         refuse(due.status, "niw_transmit");
         if (!due.is) return;
-        send_frame(&links[port - 1], LACPDUS_SENT, frame);
+        if (due.what == NIW_SENT_MARKER)
+            take_marker(&links[port - 1], frame);
+        else
+            send_frame(&links[port - 1], LACPDUS_SENT, frame);
     }
 }
 
@@ -89,6 +92,7 @@ void set_link(uint16_t port, bool up) {
         forget_partner(link);
     }
     refuse(niw_set_link(&own_system, port, up), "niw_set_link");
+    look_at_carry();
     send_due();
     take_views();
     (void)print_change(link);
@@ -123,6 +127,7 @@ static void pass_second(void) {
 void pass_tick(void) {
     refuse(niw_tick(&own_system), "niw_tick");
     for (uint16_t i = 0; i < link_count; i++) pass_tick_of(&links[i]);
+    pass_carry_tick();
     if (++ticks % SECOND == 0) pass_second();
 }
 

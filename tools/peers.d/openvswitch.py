@@ -14,8 +14,9 @@ class OpenVSwitch:
     name, package = "Open vSwitch", "openvswitch-switch"
     mixes_keys = False
 
-    def __init__(self, packages, folder):
-        self.packages, self.folder, self.running = packages, os.path.join(folder, "openvswitch"), []
+    def __init__(self, packages, folder, space=THEIRS, links=("b0", "b1")):
+        self.space, self.links = space, links
+        self.packages, self.folder, self.running = packages, os.path.join(folder, f"openvswitch-{links[0]}"), []
         os.makedirs(self.folder, exist_ok=True)
         if not packages.path("ovs-vswitchd"):
             packages.fetch(self.package)
@@ -24,7 +25,7 @@ class OpenVSwitch:
         self.environment = {**packages.environment(), **{f"OVS_{it}DIR": self.folder for it in ("RUN", "LOG", "DB", "SYSCONF")}}
 
     def words(self, name, *words):
-        return ["ip", "netns", "exec", THEIRS, self.packages.path(name), *words]
+        return ["ip", "netns", "exec", self.space, self.packages.path(name), *words]
 
     def ask(self, name, *words):
         return command(*self.words(name, *words), env=self.environment, timeout=STARTS)
@@ -46,7 +47,7 @@ class OpenVSwitch:
         self.launch("ovsdb-server", f"--remote=p{at}", f"--unixctl={self.folder}/db.ctl", base)
         within(STARTS, lambda: os.path.exists(f"{self.folder}/db.sock"))
         self.launch("ovs-vswitchd", f"--unixctl={self.folder}/switch.ctl", at)
-        bond = ["add-bond", "br0", "bond0", "b0", "b1", "lacp=active", "other_config:lacp-time=fast", "bond_mode=balance-tcp"]
+        bond = ["add-bond", "br0", "bond0", *self.links, "lacp=active", "other_config:lacp-time=fast", "bond_mode=balance-tcp"]
         made = self.ask("ovs-vsctl", f"--db={at}", "--timeout=20", "--may-exist", "add-br", "br0", "--",
                         "set", "bridge", "br0", "datapath_type=netdev", "--", "--may-exist", *bond)
         if made.returncode:
@@ -57,8 +58,8 @@ class OpenVSwitch:
 
     def carrying(self):
         """The links that it says are enabled, and whose LACP collects and distributes."""
-        enabled = re.findall(r"^member (b\d): enabled", self.told("bond/show"), re.M)
-        states = re.findall(r"^member: (b\d):.*?actor state: ([ \w]*)", self.told("lacp/show"), re.M | re.S)
+        enabled = re.findall(r"^member (\w+): enabled", self.told("bond/show"), re.M)
+        states = re.findall(r"^member: (\w+):.*?actor state: ([ \w]*)", self.told("lacp/show"), re.M | re.S)
         return {name for name, state in states if name in enabled and "collecting distributing" in state}
 
     def stop(self):

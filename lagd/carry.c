@@ -1,0 +1,245 @@
+/* Data: on which port each frame of the host goes, which frames wait, and what is handed up. */
+#define _GNU_SOURCE
+#include <errno.h>
+#include <string.h>
+#include <time.h>
+#include <unistd.h>
+
+#include "carry.h"
+
+/* How many frames of a conversation wait at most. */
+#define LONGEST_WAIT 2048
+
+struct carry carry = {.changed = true};
+
+static int tap = -1;
+static bool to_balance; /* whether a tick passed since the last look at the loads */
+
+bool carries_data(void) {
+    return tap >= 0;
+}
+
+/* Something was called that may let conversations go or come. */
+void look_at_carry(void) {
+    carry.changed = true;
+}
+
+/* The time now. */
+uint64_t milliseconds(void) {
+    struct timespec now;
+    clock_gettime(CLOCK_MONOTONIC, &now);
+    return (uint64_t)now.tv_sec * 1000 + (uint64_t)now.tv_nsec / 1000000;
+}
+
+struct niw_assignment state_of(uint16_t aggregator, uint16_t number) {
+    struct niw_assignment state = niw_conversation_state(&own_system, aggregator, number);
+    refuse(state.status, "niw_conversation_state");
+    return state;
+}
+
+bool is_held(const struct niw_assignment *state) {
+    return state->what == NIW_CONVERSATION_WANTED || state->what == NIW_CONVERSATION_FLUSHING;
+}
+
+/* Frees a conversation, if it is not free. */
+void free_conversation(uint16_t aggregator, uint16_t number) {
+    uint32_t status = niw_force(&own_system, aggregator, number);
+    if (status != NIW_NOT_ASSIGNED) refuse(status, "niw_force");
+    carry.changed = true;
+}
+
+/* Whether the frames of a conversation may go in the active aggregator: none of it is on its way in another one. */
+bool is_home(const struct conversation *conversation, uint16_t number) {
+    if (conversation->home == carry.active || conversation->home == 0) return true;
+    return state_of(conversation->home, number).what == NIW_CONVERSATION_FREE;
+}
+
+/* Whether a conversation had a frame of late, in the active aggregator. */
+bool is_busy(const struct conversation *conversation) {
+    return conversation->home == carry.active && !is_unused(conversation);
+}
+
+/* Whether a conversation had no frame of late. */
+bool is_unused(const struct conversation *conversation) {
+    return !conversation->used && (conversation->last == 0 || carry.time - conversation->last >= BUSY);
+}
+
+/* Offers a frame of a conversation: the library looks at the last octets of both addresses alone. */
+struct niw_number offer_number(uint16_t number) {
+    uint8_t header[NIW_SHORTEST_FRAME] = {0};
+    header[4] = (uint8_t)(number >> 8);
+    header[5] = (uint8_t)number;
+    return niw_offer(&own_system, carry.active, header, sizeof header);
+}
+
+static void drop_first(struct conversation *conversation, enum carry_count why) {
+    carry.counts[why]++;
+    drop_held(&conversation->queue);
+}
+
+/* Has a frame wait until its conversation goes on. Where there is no room the oldest one is lost. */
+static void keep(struct conversation *conversation, const uint8_t *frame, size_t length) {
+    struct queue *queue = &conversation->queue;
+    if (queue->count == LONGEST_WAIT) drop_first(conversation, QUEUE_FULL);
+    if (put_held(queue, frame, length, carry.time)) {
+        carry.counts[HELD_FRAMES]++;
+    } else if (queue->count > 0) {
+        drop_first(conversation, QUEUE_FULL);
+        (void)put_held(queue, frame, length, carry.time);
+        carry.counts[HELD_FRAMES]++;
+    } else {
+        carry.counts[QUEUE_FULL]++;
+    }
+    if (queue->count > 0) carry.waiting = true;
+    if (queue->count > carry.counts[LONGEST_QUEUE]) carry.counts[LONGEST_QUEUE] = queue->count;
+}
+
+/* Offers a frame, and puts it behind those of its port; answers whether it is dealt with. One that is held is not. */
+static bool send_on(struct conversation *conversation, uint16_t number, uint8_t *frame, size_t length) {
+    struct niw_number answer;
+    if (!is_home(conversation, number)) return false;
+    answer = offer_number(number);
+    if (answer.status == NIW_HELD) return false;
+    if (answer.status != NIW_OK) {
+        if (answer.status != NIW_NONE_DISTRIBUTING) refuse(answer.status, "niw_offer");
+        carry.counts[NONE_CARRIES]++;
+        return true;
+    }
+    conversation->home = carry.active;
+    conversation->port = (uint16_t)answer.number;
+    conversation->since = 0;
+    note_sent(conversation->port);
+    put_data(conversation->port, frame, length);
+    return true;
+}
+
+/* Whether a frame of the host may go: 14 to 1514 octets, 1518 with a tag, and none of the slow protocols. */
+static bool is_fit(const uint8_t *frame, size_t length) {
+    unsigned type = length < ETH_HLEN ? 0 : (unsigned)frame[12] << 8 | frame[13];
+    bool tagged = type == VLAN_TAGGED || type == VLAN_SERVICE;
+    return length >= ETH_HLEN && length <= ETH_HLEN + ETH_DATA_LEN + (tagged ? TAG_OCTETS : 0u) && type != SLOW_PROTOCOLS;
+}
+
+/* A frame came from the host. It goes by none that waits. */
+static void take_from_host(uint8_t *frame, size_t length) {
+    struct niw_number number;
+    struct conversation *conversation;
+    carry.counts[FROM_HOST]++;
+    if (!is_fit(frame, length)) {
+        carry.counts[UNFIT]++;
+        return;
+    }
+    if (carry.active == 0) {
+        carry.counts[NONE_CARRIES]++;
+        return;
+    }
+    number = conversation_of(frame, length);
+    refuse(number.status, "niw_conversation");
+    conversation = &carry.conversations[number.number % CONVERSATIONS];
+    conversation->used = true;
+    if (conversation->queue.count > 0 || !send_on(conversation, (uint16_t)number.number, frame, length))
+        keep(conversation, frame, length);
+}
+
+/* Takes the frames that wait in the TAP device, some at most. */
+static void take_host(void) {
+    static uint8_t rooms[BATCH][DATA_ROOM];
+    for (int turn = 0, got = BATCH; turn < MOST_BATCHES && got == BATCH; turn++) {
+        for (got = 0; got < BATCH; got++) {
+            ssize_t length = read(tap, rooms[got], DATA_ROOM);
+            if (length < 0 && (errno == EAGAIN || errno == EINTR)) break;
+            take_from_host(rooms[got], length < 0 ? 0 : (size_t)length); /* one that cannot be read has no octets */
+        }
+        flush_data();
+    }
+}
+
+/* A frame came in an aggregator. */
+void hand_up(uint32_t aggregator, const uint8_t *frame, size_t length) {
+    if (aggregator != carry.active)
+        carry.counts[OTHER_AGGREGATOR]++;
+    else if (write(tap, frame, length) == (ssize_t)length)
+        carry.counts[HANDED_UP]++;
+    else
+        carry.counts[HOST_UNTAKEN]++;
+}
+
+/* Offers again what waits, of each conversation until one is held. */
+static void release(void) {
+    carry.waiting = false;
+    for (uint16_t number = 0; number < CONVERSATIONS; number++) {
+        struct conversation *conversation = &carry.conversations[number];
+        while (conversation->queue.count > 0) {
+            size_t length;
+            uint64_t time;
+            uint8_t *frame = first_held(&conversation->queue, &length, &time);
+            if (carry.active == 0 || !send_on(conversation, number, frame, length)) break;
+            leave_held(&conversation->queue);
+        }
+        if (conversation->queue.count > 0) carry.waiting = true;
+    }
+    flush_data();
+}
+
+/* The aggregator whose ports carry the data: that of the bundle, unless that is down. */
+static void choose_active(void) {
+    struct bundle now = {0};
+    uint16_t before = carry.active;
+    choose_aggregator(&now);
+    carry.active = now.carrying >= settings.min_links ? now.aggregator : 0;
+    carry.port_count = 0;
+    for (uint16_t i = 0; i < link_count; i++)
+        if (carry.active != 0 && links[i].view.aggregator == carry.active && carries(&links[i]))
+            carry.ports[carry.port_count++] = links[i].settings.number;
+    if (before != 0 && carry.active != 0 && before != carry.active) carry.counts[SWITCHES]++;
+    if ((before == 0) != (carry.active == 0)) (void)say(LOG_NOTICE, "carry %s: carrier %s", settings.carry, carry.active ? "on" : "off");
+    set_carrier(carry.active != 0);
+}
+
+/* After calls that may have changed something: the active aggregator, what goes on, and the next moves. */
+void settle_carry(void) {
+    if (!carries_data() || !carry.changed) return;
+    carry.changed = false;
+    take_views();
+    choose_active();
+    look_at_partner();
+    if (carry.waiting) release();
+    if (to_balance) balance();
+    to_balance = false;
+}
+
+/* 100 ms passed. */
+void pass_carry_tick(void) {
+    if (!carries_data()) return;
+    carry.time = milliseconds();
+    pass_flight_tick();
+    count_losses();
+    carry.changed = to_balance = true;
+}
+
+/* Serves what is ready: a member, or the TAP device, whose frames come after what was released. */
+void serve_data(uint32_t tag) {
+    if (!carries_data()) return;
+    if (tag >= MEMBERS && tag < TAGS) {
+        take_data((uint16_t)(tag - MEMBERS + 1));
+        if (carry.changed) send_due();
+    }
+    settle_carry();
+    if (tag == HOST) take_host();
+}
+
+/* Makes the TAP device, and all room that frames ever take, where data is carried. */
+void open_carry(void) {
+    if (!settings.carry[0]) return;
+    start_held();
+    start_members();
+    load_guard();
+    tap = open_tap(settings.carry, settings.config.mac);
+    if (!watch(tap, HOST)) stop(REFUSED, "epoll", strerror(errno));
+}
+
+/* The daemon ends: members are as they were before, and the device goes with the program. */
+void end_carry(void) {
+    for (uint16_t i = 0; i < link_count; i++)
+        if (links[i].socket >= 0) close_member(&links[i]);
+}

@@ -1,0 +1,129 @@
+/* What is held for longer than a frame can be on its way, and ports that sleep. */
+#define _GNU_SOURCE
+#include <inttypes.h>
+
+#include "carry.h"
+
+/* After how many ticks without a response the same marker is sent again. */
+#define AGAIN_TICKS 2
+/* How long a port may run on defaults before it is started again: at first, and at most. */
+#define FIRST_WAKE 10
+#define LAST_WAKE 300
+
+static uint64_t silent_since[NIW_MOST_PORTS]; /* the time since which a port holds conversations and does not distribute, or 0 */
+static unsigned on_defaults[NIW_MOST_PORTS]; /* ticks for which it ran on defaults */
+static unsigned wakes_after[NIW_MOST_PORTS]; /* how many of them it may */
+
+static bool distributes(uint16_t port) {
+    struct niw_truth answer = niw_distributes(&own_system, port);
+    refuse(answer.status, "niw_distributes");
+    return answer.is;
+}
+
+static uint64_t load_of(uint16_t port) {
+    return number_of(niw_load(&own_system, port), "niw_load");
+}
+
+/* A port on defaults sends an LACPDU each 30 s only, so a link that was silent for more than 6 s would be long in coming back. As one
+ * whose link came up it sends one each second. It is done to ports that carry nothing, after a second, and then after twice as long each
+ * time. */
+static void wake_port(uint16_t port) {
+    const struct link *link = &links[port - 1];
+    bool sleeps = link->up && link->view.receive_state == NIW_RECEIVE_DEFAULTED
+        && (carry.active == 0 || link->view.aggregator != carry.active);
+    unsigned *after = &wakes_after[port - 1];
+    if (link->view.receive_state == NIW_RECEIVE_CURRENT || *after == 0) *after = FIRST_WAKE;
+    on_defaults[port - 1] = sleeps ? on_defaults[port - 1] + 1 : 0;
+    if (on_defaults[port - 1] < *after || load_of(port) > 0) return;
+    *after = 2 * *after < LAST_WAKE ? 2 * *after : LAST_WAKE;
+    refuse(niw_set_link(&own_system, port, false), "niw_set_link");
+    refuse(niw_set_link(&own_system, port, true), "niw_set_link");
+    on_defaults[port - 1] = 0;
+    carry.counts[WOKEN]++;
+}
+
+/* A frame goes on a port. */
+void note_sent(uint16_t port) {
+    silent_since[port - 1] = 0;
+}
+
+/* Frees what is held on a port that does not distribute for longer than frames can be on their way. */
+static void watch_port(uint16_t port) {
+    bool holds = !distributes(port) && load_of(port) > 0;
+    struct niw_number freed;
+    uint64_t *since = &silent_since[port - 1];
+    if (!holds || *since == 0) *since = holds ? carry.time : 0;
+    if (!holds || carry.time - *since < settings.flight) return;
+    *since = 0;
+    freed = niw_force_port(&own_system, port);
+    refuse(freed.status, "niw_force_port");
+    carry.counts[FORCED] += freed.number;
+    (void)say(LOG_WARNING, "port %u %s: it carries no more, and %" PRIu64 " conversations leave it", port, links[port - 1].name,
+        freed.number);
+}
+
+/* Loses what has waited for longer than a flight and a second. */
+static void drop_old(struct conversation *conversation) {
+    while (conversation->queue.count > 0) {
+        size_t length;
+        uint64_t time;
+        (void)first_held(&conversation->queue, &length, &time);
+        if (carry.time - time < settings.flight + 1000u) return;
+        carry.counts[HELD_TOO_LONG]++;
+        drop_held(&conversation->queue);
+    }
+}
+
+/* Frees a conversation of which nothing was sent for a flight: its next frame goes by none. */
+static void rest(struct conversation *conversation, uint16_t number) {
+    free_conversation(conversation->home, number);
+    carry.counts[RESTED]++;
+    conversation->since = 0;
+}
+
+/* Towards a peer that answers no markers, a conversation that is still for a flight may go elsewhere. */
+static void watch_free(struct conversation *conversation, uint16_t number, const struct niw_assignment *state) {
+    conversation->since = 0;
+    if (answering() == MUTE && state->what == NIW_CONVERSATION_ON && carry.time - conversation->last >= settings.flight)
+        rest(conversation, number);
+}
+
+/* A conversation that is held for a flight goes on: nothing of it was sent since. What is held on a port that does not distribute is
+ * for watch_port. */
+static void watch_held(struct conversation *conversation, uint16_t number, const struct niw_assignment *state) {
+    if (conversation->since == 0) conversation->since = carry.time;
+    if (carry.time - conversation->since < settings.flight) return;
+    if (is_held(state) && !distributes(state->port)) return;
+    if (is_held(state)) doubt_partner();
+    rest(conversation, number);
+}
+
+static void watch_conversation(uint16_t number, uint64_t *again) {
+    struct conversation *conversation = &carry.conversations[number];
+    struct niw_assignment state;
+    bool away;
+    drop_old(conversation);
+    if (conversation->used) conversation->last = carry.time;
+    conversation->used = false;
+    if (conversation->home == 0) return;
+    state = state_of(conversation->home, number);
+    away = conversation->home != carry.active && carry.active != 0 && state.what == NIW_CONVERSATION_ON;
+    if (state.what == NIW_CONVERSATION_FLUSHING && state.age > 0 && state.age % AGAIN_TICKS == 0)
+        *again |= (uint64_t)1 << (state.port - 1);
+    if (is_held(&state) || (away && conversation->queue.count > 0))
+        watch_held(conversation, number, &state);
+    else
+        watch_free(conversation, number, &state);
+}
+
+/* 100 ms passed. */
+void pass_flight_tick(void) {
+    uint64_t again = 0;
+    for (uint16_t number = 0; number < CONVERSATIONS; number++) watch_conversation(number, &again);
+    pass_probe_tick(&again);
+    for (uint16_t port = 1; port <= link_count; port++) {
+        watch_port(port);
+        wake_port(port);
+        if (again >> (port - 1) & 1 && send_marker_again(port)) carry.counts[MARKERS_AGAIN]++;
+    }
+}

@@ -1,0 +1,93 @@
+/* Moves of conversations behind markers: so that each port has as many busy ones, and those that are asked for. */
+#define _GNU_SOURCE
+#include "carry.h"
+
+#define NONE UINT16_MAX
+
+/* Those that are moving: of them the loads are not looked at until each one is released. */
+static bool moving[CONVERSATIONS];
+
+/* Whether one that was moved is still held. */
+static bool any_moves(void) {
+    bool any = false;
+    for (uint16_t number = 0; number < CONVERSATIONS; number++) {
+        struct niw_assignment state;
+        if (!moving[number]) continue;
+        state = state_of(carry.active, number);
+        moving[number] = is_held(&state);
+        any = any || moving[number];
+    }
+    return any;
+}
+
+/* Moves a conversation to a port; answers whether it is on the move. */
+static bool move(uint16_t number, uint16_t port) {
+    if (niw_move_conversation(&own_system, carry.active, number, port) != NIW_OK) return false;
+    carry.conversations[number].port = port;
+    carry.counts[MOVES]++;
+    moving[number] = true;
+    return true;
+}
+
+/* The port behind this one. */
+static uint16_t next_port(uint16_t port) {
+    for (uint16_t i = 0; i < carry.port_count; i++)
+        if (carry.ports[i] > port) return carry.ports[i];
+    return carry.ports[0];
+}
+
+/* Moves the conversations that were asked to; answers whether some are on the move. */
+static bool move_asked(void) {
+    bool any = false;
+    for (uint16_t number = 0; number < CONVERSATIONS; number++) {
+        struct conversation *conversation = &carry.conversations[number];
+        if (!conversation->asked) continue;
+        conversation->asked = false;
+        if (is_busy(conversation) && move(number, next_port(conversation->port))) any = true;
+    }
+    return any;
+}
+
+/* A busy conversation that is on a port, or NONE. */
+static uint16_t find_busy(uint16_t port) {
+    for (uint16_t number = 0; number < CONVERSATIONS; number++) {
+        const struct conversation *conversation = &carry.conversations[number];
+        if (is_busy(conversation) && conversation->port == port && !moving[number]
+            && state_of(carry.active, number).what == NIW_CONVERSATION_ON)
+            return number;
+    }
+    return NONE;
+}
+
+/* Moves busy conversations from the ports that have most of them to those that have fewest, until these differ by one at most. */
+static bool level(void) {
+    unsigned loads[NIW_MOST_PORTS] = {0};
+    bool any = false;
+    for (uint16_t number = 0; number < CONVERSATIONS; number++)
+        if (is_busy(&carry.conversations[number])) loads[carry.conversations[number].port - 1]++;
+    for (;;) {
+        uint16_t most = carry.ports[0], least = carry.ports[0], found;
+        for (uint16_t i = 1; i < carry.port_count; i++) {
+            if (loads[carry.ports[i] - 1] > loads[most - 1]) most = carry.ports[i];
+            if (loads[carry.ports[i] - 1] < loads[least - 1]) least = carry.ports[i];
+        }
+        if (loads[most - 1] < loads[least - 1] + 2) return any;
+        found = find_busy(most);
+        if (found == NONE || !move(found, least)) return any;
+        any = true;
+        loads[most - 1]--;
+        loads[least - 1]++;
+    }
+}
+
+/* Moves what has to move, once a tick, towards a peer that answers markers: one marker of a port tells of all that leave it. */
+void balance(void) {
+    if (carry.port_count < 2 || answering() != ANSWERS || any_moves()) return;
+    if (move_asked() || level()) send_due();
+}
+
+/* Each busy conversation is to move to the next port. */
+void ask_moves(void) {
+    for (uint16_t number = 0; number < CONVERSATIONS; number++)
+        carry.conversations[number].asked = is_busy(&carry.conversations[number]);
+}

@@ -1,0 +1,27 @@
+/* Prints the conversations of frames: `conversations 1` by layer2+3, `conversations 2` by layer3+4. Standard input has a frame in
+ * each line, in hexadecimal digits. */
+#include <stdio.h>
+#include <stdlib.h>
+#include <string.h>
+
+#include "carry.h"
+
+struct settings settings;
+struct niw_system own_system = NIW_EMPTY;
+
+int main(int argc, char **argv) {
+    char line[4096];
+    if (argc != 2) return 2;
+    settings.hash = (enum hash)atoi(argv[1]);
+    while (fgets(line, sizeof line, stdin)) {
+        size_t length = strcspn(line, "\n") / 2;
+        uint8_t *frame = malloc(length + 1);
+        for (size_t i = 0; frame && i < length; i++) {
+            const char digits[] = {line[2 * i], line[2 * i + 1], 0};
+            frame[i] = (uint8_t)strtoul(digits, NULL, 16);
+        }
+        if (frame) printf("%u\n", (unsigned)conversation_of(frame, length).number);
+        free(frame);
+    }
+    return 0;
+}

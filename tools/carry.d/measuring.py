@@ -1,0 +1,108 @@
+"""The table of one run: two daemons beside two bonds of Open vSwitch, through the same events."""
+
+from __future__ import annotations
+
+import glob
+import os
+from typing import Callable, Sequence
+
+from bonds import CACHE, COMES_UP, DELAYS, DEVICE, FLIGHT, RATE, Cables, End, Event, Outcome, Programs, cables, move_all, pair, run_flows
+from checking import Skipped, check, within
+from fetching import Packages
+from openvswitch import OpenVSwitch
+from spaces import OURS, THEIRS, ip
+
+HEADINGS = ("run", "frames", "overtaken", "twice", "lost", "longest gap, ms", "processor of both ends, s")
+# How fast frames go where nothing happens to the links, and for how many seconds.
+FAST, FAST_SECONDS = 100000, 5
+
+
+def seconds_of(process: int) -> float:
+    """For how many seconds a process had a processor."""
+    total = 0
+    for path in glob.glob(f"/proc/{process}/task/*/schedstat"):
+        with open(path, encoding="utf-8") as times:
+            total += int(times.read().split()[0])
+    return total / 1e9
+
+
+def row(name: str, outcome: Outcome, processes: Sequence[int], before: float) -> list[str]:
+    took = sum(map(seconds_of, processes)) - before
+    counts = [outcome.sent, outcome.overtaken, outcome.twice, outcome.lost(), outcome.gap_ms]
+    return [name, *(f"{count:,}" for count in counts), f"{took:.1f}"]
+
+
+def troubles(laid: Cables) -> list[Event]:
+    """Each link is cut for 3 s, and each is silent for 5 s."""
+    def at(second: float, what: str, number: int) -> Event:
+        return second, lambda: laid.tell(what, number)
+
+    return [at(2, "cut", 1), at(5, "join", 1), at(11, "cut", 0), at(14, "join", 0), at(20, "silence", 1), at(25, "hear", 1),
+            at(31, "silence", 0), at(36, "hear", 0)]
+
+
+def measure(name: str, programs: Programs, laid: Cables, processes: Sequence[int], devices: tuple[str, str],
+            moves: Callable[[], None] | None = None) -> list[list[str]]:
+    """The rows of two ends."""
+    rows, before = [], sum(map(seconds_of, processes))
+    outcome = run_flows(programs, 41, troubles(laid), devices=devices)
+    rows.append(row(f"{name}, each link cut and silent", outcome, processes, before))
+    before = sum(map(seconds_of, processes))
+    if moves:
+        outcome = run_flows(programs, 12, [(second, moves) for second in range(1, 11)], devices=devices)
+        rows.append(row(f"{name}, each flow moved ten times", outcome, processes, before))
+    return rows
+
+
+def measure_fast(name: str, programs: Programs, processes: Sequence[int], devices: tuple[str, str]) -> list[str]:
+    """The row of two ends without delay, where nothing happens."""
+    before = sum(map(seconds_of, processes))
+    outcome = run_flows(programs, FAST_SECONDS, rate=FAST, devices=devices)
+    return row(f"{name}, {FAST:,} frames a second", outcome, processes, before)
+
+
+def measure_ours(programs: Programs) -> list[list[str]]:
+    with pair(programs) as (laid, ours, theirs):
+        rows = measure("lagd", programs, laid, [ours.process.pid, theirs.process.pid], (DEVICE, DEVICE), move_all(ours))
+    with pair(programs, program=programs.forcing) as (_, ours, theirs):
+        ends = [ours.process.pid, theirs.process.pid]
+        before = sum(map(seconds_of, ends))
+        outcome = run_flows(programs, 12, [(second, move_all(ours)) for second in range(1, 11)])
+        rows.append(row("lagd without markers, each flow moved ten times", outcome, ends, before))
+    with pair(programs, delays=()) as (_, ours, theirs):
+        return [*rows, measure_fast("lagd", programs, [ours.process.pid, theirs.process.pid], (DEVICE, DEVICE))]
+
+
+def measure_open_vswitch(programs: Programs, delays: Sequence[int] = DELAYS) -> list[list[str]]:
+    packages = Packages(CACHE, True)
+    with cables(programs, delays) as laid:
+        ends = [OpenVSwitch(packages, programs.folder, OURS, ("a0", "a1")), OpenVSwitch(packages, programs.folder)]
+        try:
+            for end in ends:
+                end.start()
+            if not within(2 * COMES_UP, lambda: all(len(end.carrying()) == 2 for end in ends)):
+                raise Skipped("two bonds of Open vSwitch do not come up")
+            for space in OURS, THEIRS:
+                ip(space, "link", "set", "br0", "txqueuelen", "4096", "up")
+            name, processes = f"Open vSwitch {ends[0].version()}", [end.running[-1].pid for end in ends]
+            if not delays:
+                return [measure_fast(name, programs, processes, ("br0", "br0"))]
+            return measure(name, programs, laid, processes, ("br0", "br0"))
+        finally:
+            for end in ends:
+                end.end()
+
+
+def print_table(programs: Programs) -> None:
+    rows = measure_ours(programs)
+    try:
+        rows += measure_open_vswitch(programs)
+        rows += measure_open_vswitch(programs, ())
+    except Skipped as why:
+        print(f"skipped: Open vSwitch: {why}", flush=True)
+    print(f"64 flows, {RATE:,} frames a second where nothing else is said; links of 0 and 20 ms; flight {FLIGHT} ms; without delay at "
+          f"{FAST:,} frames a second")
+    for cells in (list(HEADINGS), ["---"] * len(HEADINGS), *rows):
+        print(f"| {' | '.join(cells)} |")
+    ours = [cells for cells in rows if cells[0].startswith("lagd,")]
+    check(all(cells[2] == cells[3] == "0" for cells in ours), "with markers no frame was overtaken and none came twice")
