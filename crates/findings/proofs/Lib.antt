@@ -1,0 +1,4 @@
+pub mod FirstLemmas
+pub mod Lists
+pub mod EndLemmas
+pub mod KnowsLemmas

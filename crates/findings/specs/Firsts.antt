@@ -50,3 +50,7 @@ first_of variants.Discarded = first_heard (lasts is_discarded (seconds 3))
 abbrev pub finding_of : Rule → LinkEnd → Option Shown → Option Finding
 finding_of rule end None = None
 finding_of rule end (Some s) = Some (record { rule = rule; end = end; shown = s })
+
+-- what is found of an end by a rule, behind these frames
+abbrev pub found : Rule → LinkEnd → List Observed → Option Finding
+found rule end h = finding_of rule end (first_of rule (frames_of end h))

@@ -1,5 +1,5 @@
 ghost use Rattle.std.specs.Prelude.{◌≡◌};
-ghost use Rattle.findings.specs.Firsts.{earlier_or};
+ghost use Rattle.findings.specs.Firsts.{earlier_or, finding_of};
 
 use crate::observed::LinkEnd;
 use crate::rule::Rule;
@@ -31,6 +31,16 @@ pub(crate) fn earlier_or(earlier: Option<Shown>, holds: bool, now: Shown) -> Opt
     match earlier {
         Some(shown) => Some(shown),
         None if holds => Some(now),
+        None => None,
+    }
+}
+
+/// The finding of this end, if a frame shows the rule.
+pub(crate) fn finding_of(rule: Rule, end: LinkEnd, first: Option<Shown>) -> Option<Finding>
+    ensures { result ≡ finding_of rule end first }
+{
+    match first {
+        Some(shown) => Some(Finding { rule, end, shown }),
         None => None,
     }
 }

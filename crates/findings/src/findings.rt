@@ -1,11 +1,10 @@
-ghost use Rattle.std.specs.Prelude.{◌≡◌, ◌<◌, ◌∷◌, [], List, length, map};
-ghost use Rattle.std.specs.List.{AllByRecursion};
+ghost use Rattle.std.specs.Prelude.{◌≡◌, ◌∷◌, [], List, length, option_and_then, slice_get};
+ghost use Rattle.std.specs.List.{AllZip};
 ghost use Rattle.findings.specs.declared.observed.Observed.{Observed};
-ghost use Rattle.findings.specs.Ends.{frames_of};
-ghost use Rattle.findings.specs.Firsts.{first_of, finding_of};
-ghost use Rattle.findings.specs.Knows.{IsExact, Knows, has_end};
+ghost use Rattle.findings.specs.Firsts.{found};
+ghost use Rattle.findings.specs.Knows.{Knows, Takes, ends_of, has_end};
 
-use crate::finding::Finding;
+use crate::finding::{Finding, finding_of};
 use crate::observed::{LinkEnd, Observed};
 use crate::rule::Rule;
 use crate::watch::Watch;
@@ -30,8 +29,7 @@ fn has_end(watches: &[Watch], end: &LinkEnd) -> bool
 
 /// Takes one frame at each end.
 fn see_each(watches: &mut [Watch], now: &Observed)
-    ensures exact { (h : List Observed) → AllByRecursion (IsExact h) watches.old → AllByRecursion (IsExact (now.now ∷ h)) watches.new }
-    ensures same { map (λ w. w.end) watches.new ≡ map (λ w. w.end) watches.old }
+    ensures { AllZip (Takes now.now) watches.old watches.new }
 {
     for watch in watches.iter_mut() {
         watch.see(now);
@@ -41,7 +39,7 @@ fn see_each(watches: &mut [Watch], now: &Observed)
 impl Findings {
     /// What is found before the first frame: nothing.
     pub fn new() -> Findings
-        ensures { Knows [] result }
+        ensures { Knows [] result.watches.items result.left_out }
     {
         Findings {
             watches: ArrayVec::new(),
@@ -51,18 +49,20 @@ impl Findings {
 
     /// Takes the next frame. A frame of an end that comes after 64 others is left out, and counted.
     pub fn observe(&mut self, now: &Observed)
-        ensures { (h : List Observed) → Knows h self.old → Knows (now.now ∷ h) self.new }
+        ensures { (h : List Observed) → Knows h self.old.watches.items self.old.left_out → Knows (now.now ∷ h) self.new.watches.items self.new.left_out }
     {
         see_each(self.watches.as_mut_slice(), now);
         let end = now.end();
         if has_end(&self.watches, &end) {
             return;
         }
+        if self.watches.is_full() {
+            self.left_out = self.left_out.saturating_add(1);
+            return;
+        }
         let mut watch = Watch::new(end);
         watch.see(now);
-        if self.watches.try_push(watch).is_err() {
-            self.left_out = self.left_out.saturating_add(1);
-        }
+        self.watches.push(watch);
     }
 
     /// How many ends are kept, at most 64.
@@ -79,24 +79,24 @@ impl Findings {
         self.left_out
     }
 
-    /// The end with this index, in the order of their first frames.
-    pub fn end(&self, index: usize) -> LinkEnd
-        requires { index < length self.now.watches.items }
+    /// The end with this index, in the order of their first frames; None if there are fewer.
+    pub fn end(&self, index: usize) -> Option<LinkEnd>
+        ensures { result ≡ slice_get (ends_of self.now.watches.items) index }
     {
-        self.watches[index].end
+        match self.watches.get(index) {
+            Some(watch) => Some(watch.end),
+            None => None,
+        }
     }
 
-    /// What is found by the rule of the end with this index: the first frame that shows it; None if none does.
+    /// What is found by the rule of the end with this index: the first frame that shows it. None if no frame shows it, or
+    /// if there are fewer ends.
     pub fn finding(&self, index: usize, rule: Rule) -> Option<Finding>
-        requires { index < length self.now.watches.items }
+        ensures { (h : List Observed) → Knows h self.now.watches.items self.now.left_out
+            → result ≡ option_and_then (λ e. found rule e h) (slice_get (ends_of self.now.watches.items) index) }
     {
-        let watch = &self.watches[index];
-        match watch.first(rule) {
-            Some(shown) => Some(Finding {
-                rule,
-                end: watch.end,
-                shown,
-            }),
+        match self.watches.get(index) {
+            Some(watch) => finding_of(rule, watch.end, watch.first(rule)),
             None => None,
         }
     }

@@ -1,7 +1,7 @@
 ghost use Rattle.std.specs.Prelude.{◌≡◌, ◌∷◌, List};
 ghost use Rattle.findings.specs.declared.observed.Observed.{Observed};
 ghost use Rattle.findings.specs.Firsts.{shown_frame};
-ghost use Rattle.findings.specs.Holds.{has_other_destination, has_other_length, is_read};
+ghost use Rattle.findings.specs.Holds.{has_other_destination, has_other_length, has_other_version, has_reserved, is_read};
 ghost use Rattle.findings.specs.Watches.{frame_rules};
 
 use crate::finding::{Shown, earlier_or};
@@ -33,7 +33,7 @@ impl Observed {
         }
     }
 
-    /// Whether the payload is one of the slow protocols.
+    /// Whether the payload is one of the Slow Protocols that are read.
     fn is_read(&self) -> bool
         ensures { result ≡ is_read self.now.what }
     {
@@ -41,6 +41,20 @@ impl Observed {
             What::Lacpdu(_) | What::Marker(_) => true,
             What::Refused(_) => false,
         }
+    }
+
+    /// Whether the version is another one.
+    fn has_other_version(&self) -> bool
+        ensures { (l : List Observed) → result ≡ has_other_version self.now l }
+    {
+        self.is_read() && self.version != 1
+    }
+
+    /// Whether a reserved octet is not zero.
+    fn has_reserved(&self) -> bool
+        ensures { (l : List Observed) → result ≡ has_reserved self.now l }
+    {
+        self.is_read() && self.reserved
     }
 
     /// Whether the length is another one.
@@ -67,11 +81,10 @@ impl FrameRules {
         ensures { (l : List Observed) → self.now ≡ frame_rules l → result ≡ frame_rules (now.now ∷ l) }
     {
         let shown = now.shown();
-        let is_read = now.is_read();
         FrameRules {
-            version: earlier_or(self.version, is_read && now.version != 1, shown),
+            version: earlier_or(self.version, now.has_other_version(), shown),
             length: earlier_or(self.length, now.has_other_length(), shown),
-            reserved: earlier_or(self.reserved, is_read && now.reserved, shown),
+            reserved: earlier_or(self.reserved, now.has_reserved(), shown),
             destination: earlier_or(self.destination, now.has_other_destination(), shown),
             tag: earlier_or(self.tag, now.tagged, shown),
         }

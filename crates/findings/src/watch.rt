@@ -1,7 +1,7 @@
 ghost use Rattle.std.specs.Prelude.{◌≡◌, ◌∷◌, [], List};
 ghost use Rattle.findings.specs.declared.observed.Observed.{Observed};
-ghost use Rattle.findings.specs.Ends.{frames_of};
 ghost use Rattle.findings.specs.Firsts.{first_of};
+ghost use Rattle.findings.specs.Knows.{Takes};
 ghost use Rattle.findings.specs.Watches.{watched};
 
 use crate::finding::Shown;
@@ -35,7 +35,8 @@ impl Watch {
 
     /// The same behind one more frame of this end.
     fn with(&self, now: &Observed) -> Watch
-        ensures { (l : List Observed) → self.now ≡ watched self.now.end l → result ≡ watched self.now.end (now.now ∷ l) }
+        ensures end { result.end ≡ self.now.end }
+        ensures exact { (l : List Observed) → self.now ≡ watched self.now.end l → result ≡ watched self.now.end (now.now ∷ l) }
     {
         let frames = self.frames.with(now);
         match now.what {
@@ -58,9 +59,7 @@ impl Watch {
 
     /// Takes one frame, of this end or another.
     pub(crate) fn see(&mut self, now: &Observed)
-        ensures end { self.new.end ≡ self.old.end }
-        ensures exact { (h : List Observed) → self.old ≡ watched self.old.end (frames_of self.old.end h)
-            → self.new ≡ watched self.old.end (frames_of self.old.end (now.now ∷ h)) }
+        ensures { Takes now.now self.old self.new }
     {
         if now.end().is(&self.end) {
             *self = self.with(now);
