@@ -5,10 +5,11 @@ use Rattle.std.specs.List.{AllByRecursion, AllZip, IsDistinct, list_any, refill}
 use Rattle.findings.specs.declared.observed.LinkEnd.{LinkEnd}
 use Rattle.findings.specs.declared.observed.Observed.{Observed}
 use Rattle.findings.specs.declared.watch.Watch.{Watch}
-use Rattle.findings.specs.Ends.{end_of, frames_of, same_end}
+use Rattle.findings.specs.Ends.{Unsent, end_of, same_end}
 use Rattle.findings.specs.Watches.{watched}
 use Rattle.findings.specs.Knows.{IsExact, Knows, Takes, ends_of, has_end}
-use Rattle.findings.proofs.EndLemmas.{exact_end, itself}
+use Rattle.findings.proofs.EndLemmas.{exact_end}
+use Rattle.findings.proofs.WatchLemmas.{before_first}
 
 pub still_exact : (now : Observed) (h : List Observed) (olds news : List Watch) → AllZip (Takes now) olds news → AllByRecursion (IsExact h) olds
     → AllByRecursion (IsExact (now ∷ h)) news
@@ -48,8 +49,8 @@ other_end : (e f : LinkEnd) (ws : List Watch) → has_end f ws ≡ true → has_
 other_end e f ws known unknown =
     decided (same_end f e) (λ same. let at : has_end f ws ≡ has_end e ws = ap (λ g. has_end g ws) (exact_end f e same) in cc)
 
-not_its_own : (now : Observed) (h : List Observed) (e : LinkEnd) → same_end (end_of now) e ≡ false → frames_of e h ≡ [] → frames_of e (now ∷ h) ≡ []
-not_its_own now h e other none = rw (other, none) refl
+not_its_own : (now : Observed) (h : List Observed) (e : LinkEnd) → same_end (end_of now) e ≡ false → Unsent e h → Unsent e (now ∷ h)
+not_its_own now h e other none = (other, none)
 
 -- the frame is one of an end that is kept
 pub known_end : (now : Observed) (h : List Observed) (olds news : List Watch) (left : ℕ) → AllZip (Takes now) olds news
@@ -103,10 +104,10 @@ pub new_end : (now : Observed) (h : List Observed) (olds news : List Watch) (w :
     → has_end (end_of now) news ≡ false → length news < 64 → Takes now (watched (end_of now) []) w → Knows h olds left
     → Knows (now ∷ h) (news ++ w ∷ []) left
 new_end now h olds news w left t unknown room first k =
-    let none : frames_of (end_of now) h ≡ []
+    let none : Unsent (end_of now) h
     = k.kept (end_of now) (sym (same_has now (end_of now) olds news t) ∙ unknown) (omega (arith, same_length now olds news t)) in
     record {
-      exact = push_all (IsExact (now ∷ h)) news w (still_exact now h olds news t k.exact) (first.exact h (ap (watched (end_of now)) (sym none)));
+      exact = push_all (IsExact (now ∷ h)) news w (still_exact now h olds news t k.exact) (first.exact h (before_first (end_of now) h none));
       kept = λ e gone few. (let both = has_pushed e news w gone in
           not_its_own now h e (subst (λ f. same_end f e ≡ false) first.end both.1)
           (k.kept e (sym (same_has now e olds news t) ∙ both.0) (omega (arith, same_length now olds news t))));
@@ -119,7 +120,7 @@ new_end now h olds news w left t unknown room first k =
 -- before the first frame
 pub nothing_known : Knows [] [] 0
 unfolding IsDistinct
-nothing_known = record { exact = tt; kept = λ e unknown few. refl; complete = λ none e unknown. refl; once = tt }
+nothing_known = record { exact = tt; kept = λ e unknown few. tt; complete = λ none e unknown. tt; once = tt }
 
 -- a list that takes the place of one as long
 pub refill_same : (olds news : List Watch) → length news ≡ length olds → refill (length olds) olds news ≡ news

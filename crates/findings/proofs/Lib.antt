@@ -2,3 +2,4 @@ pub mod FirstLemmas
 pub mod Lists
 pub mod EndLemmas
 pub mod KnowsLemmas
+pub mod WatchLemmas

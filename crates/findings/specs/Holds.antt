@@ -3,8 +3,10 @@ use Rattle.std.specs.Prelude.{◌==◌, ◌&&◌, ◌||◌, ◌-◌, ◌*◌, �
 use Rattle.std.specs.Option.{option_eq}
 use Rattle.std.specs.Str.{bytes_eq}
 use Rattle.lagtypes.specs.declared.state.StateBits.{StateBits}
+use Rattle.lagtypes.specs.Same.{same_port, same_system}
 use Rattle.lagtypes.specs.States.{bits_of}
-use Rattle.findings.specs.declared.observed.Heard.{Heard}
+use Rattle.findings.specs.declared.recent.Heard.{Heard}
+use Rattle.findings.specs.declared.others.Other.{Other}
 use Rattle.findings.specs.declared.observed.Observed.{Observed}
 use Rattle.findings.specs.declared.observed.What.{What}
 use Rattle.findings.specs.declared.observed.What.TheVariants.{Lacpdu, Marker, Refused}
@@ -25,10 +27,6 @@ partner a = bits_of a.pdu.partner.state
 abbrev pub and_if : {A : Type 0} → (A → Bool) → Option A → Bool
 and_if f None = false
 and_if f (Some x) = f x
-
--- so many nanoseconds, or more, lie between the two
-abbrev pub lies_after : ℕ → Heard → Heard → Bool
-lies_after n a b = not (nat_lt (a.nanoseconds - b.nanoseconds) n)
 
 -- More than three in a second (6.4.16): the third one before it was sent less than a second before.
 abbrev pub is_rushed : Heard → List Heard → Bool
@@ -75,6 +73,52 @@ is_desynchronized a before = not (actor a).synchronization && and_if (λ b. (act
 abbrev pub is_individual : Heard → List Heard → Bool
 is_individual a before = not (actor a).aggregation && (partner a).aggregation && not (actor a).defaulted
 
+-- the sender's information of its partner is current
+abbrev pub is_current : Heard → Bool
+is_current a = not (is_unheard a)
+
+-- the system is the one that it names
+abbrev pub is_named_system : Heard → Other → Bool
+is_named_system a x = same_system a.pdu.partner.system x.pdu.actor.system
+
+-- The partner that it names is not who answers (6.4.9): another system.
+abbrev pub has_other_system : Heard → List Heard → Bool
+has_other_system a before = is_current a && and_if (λ x. not (is_named_system a x)) a.others.answer
+
+-- The partner that it names is not who answers (6.4.9): the system, and another port of it.
+abbrev pub has_other_port : Heard → List Heard → Bool
+has_other_port a before =
+    is_current a && and_if (λ x. is_named_system a x && not (same_port a.pdu.partner.port x.pdu.actor.port)) a.others.answer
+
+-- The partner that it names is not who answers (6.4.9): the system and its port, with another key.
+abbrev pub has_other_key : Heard → List Heard → Bool
+has_other_key a before =
+    is_current a
+    && and_if (λ x. is_named_system a x && same_port a.pdu.partner.port x.pdu.actor.port && not (a.pdu.partner.key.0 == x.pdu.actor.key.0))
+    a.others.answer
+
+-- it is of the same pair of systems
+abbrev pub is_sibling_of : Heard → Other → Bool
+is_sibling_of a x = same_system a.pdu.actor.system x.pdu.actor.system && same_system a.pdu.partner.system x.pdu.partner.system
+
+-- it has the same keys
+abbrev pub has_keys_of : Heard → Other → Bool
+has_keys_of a x = (a.pdu.actor.key.0 == x.pdu.actor.key.0) && (a.pdu.partner.key.0 == x.pdu.partner.key.0)
+
+-- it names the same partner, a system and its port
+abbrev pub names_partner_of : Heard → Other → Bool
+names_partner_of a x = same_system a.pdu.partner.system x.pdu.partner.system && same_port a.pdu.partner.port x.pdu.partner.port
+
+-- Keys differ within one pair of systems (6.3.6): the latest LACPDU of another link of the pair has other keys.
+abbrev pub has_other_keys : Heard → List Heard → Bool
+has_other_keys a before =
+    is_current a && and_if (λ x. is_sibling_of a x && not (has_keys_of a x)) a.others.sibling
+
+-- Two actors on one segment (6.4.9): another end has named the same partner, at most a Long Timeout ago.
+abbrev pub has_rival : Heard → List Heard → Bool
+has_rival a before =
+    is_current a && and_if (λ x. names_partner_of a x && not (nat_lt (seconds 90) (a.nanoseconds - x.nanoseconds))) a.others.rival
+
 -- it is an LACPDU, a marker or a response
 abbrev pub is_read : What → Bool
 is_read (Lacpdu v) = true
@@ -104,3 +148,7 @@ has_other_destination o before = and_if (λ d. not (bytes_eq d slow_protocols)) 
 -- A tag (6.4.2.2, 6.5.3.2).
 abbrev pub has_tag : Observed → List Observed → Bool
 has_tag o before = o.tagged
+
+-- Silence up to this time, behind the latest LACPDU: longer than the timeout that the partner asks for (6.4.4, 6.4.13).
+abbrev pub is_silent : ℕ → Heard → Bool
+is_silent until a = is_periodic a && nat_lt (timeout a) (until - a.nanoseconds)

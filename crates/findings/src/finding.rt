@@ -11,6 +11,9 @@ pub struct Shown {
     pub number: u64,
     /// When it was captured, in nanoseconds since the beginning of 1970.
     pub nanoseconds: u64,
+    /// The end that answers this one: the sender of the latest LACPDU before that has this end as its Partner, on the
+    /// same interface; None if there is none, and for a rule that any frame can show.
+    pub partner: Option<LinkEnd>,
 }
 
 /// What is found of one end by one rule.

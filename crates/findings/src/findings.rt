@@ -90,13 +90,14 @@ impl Findings {
     }
 
     /// What is found by the rule of the end with this index: the first frame that shows it. None if no frame shows it, or
-    /// if there are fewer ends.
-    pub fn finding(&self, index: usize, rule: Rule) -> Option<Finding>
+    /// if there are fewer ends. `until` is the time of the capture's last packet of any kind, in nanoseconds since the
+    /// beginning of 1970: an end can be silent up to then.
+    pub fn finding(&self, index: usize, rule: Rule, until: u64) -> Option<Finding>
         ensures { (h : List Observed) → Knows h self.now.watches.items self.now.left_out
-            → result ≡ option_and_then (λ e. found rule e h) (slice_get (ends_of self.now.watches.items) index) }
+            → result ≡ option_and_then (λ e. found rule until e h) (slice_get (ends_of self.now.watches.items) index) }
     {
         match self.watches.get(index) {
-            Some(watch) => finding_of(rule, watch.end, watch.first(rule)),
+            Some(watch) => finding_of(rule, watch.end, watch.first(rule, until)),
             None => None,
         }
     }

@@ -30,6 +30,7 @@ impl Observed {
         Shown {
             number: self.number,
             nanoseconds: self.nanoseconds,
+            partner: None,
         }
     }
 

@@ -9,8 +9,10 @@
 mod finding;
 mod findings;
 mod frame_rules;
+mod heard;
 mod lacpdu_rules;
 mod observed;
+mod others;
 mod recent;
 mod rule;
 mod watch;

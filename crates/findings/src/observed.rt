@@ -1,5 +1,5 @@
 ghost use Rattle.std.specs.Prelude.{◌≡◌};
-ghost use Rattle.findings.specs.Ends.{end_of, port_of, same_end};
+ghost use Rattle.findings.specs.Ends.{end_of, lacpdu_in, port_of, same_end};
 
 use slowpdu::{Lacpdu, Marker, MarkerKind, WireFault};
 
@@ -49,6 +49,16 @@ impl What {
             What::Refused(_) => None,
         }
     }
+
+    /// The LACPDU that it is, if it is one.
+    pub(crate) fn lacpdu(&self) -> Option<Lacpdu>
+        ensures { result ≡ lacpdu_in self.now }
+    {
+        match self {
+            What::Lacpdu(pdu) => Some(*pdu),
+            _ => None,
+        }
+    }
 }
 
 /// A frame of the slow protocols in a capture.
@@ -87,15 +97,4 @@ impl Observed {
             port: self.what.port(),
         }
     }
-}
-
-/// An LACPDU of an end, and when it was captured.
-#[derive(Clone, Copy, Debug, PartialEq, Eq)]
-pub(crate) struct Heard {
-    /// The number of the packet.
-    pub(crate) number: u64,
-    /// When it was captured, in nanoseconds.
-    pub(crate) nanoseconds: u64,
-    /// The LACPDU.
-    pub(crate) pdu: Lacpdu,
 }

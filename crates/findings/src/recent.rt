@@ -1,9 +1,12 @@
 ghost use Rattle.std.specs.Prelude.{◌≡◌, ◌-◌, ◌∷◌, List, nat_lt, unwrap_or, Some, None, if◌then◌else◌};
-ghost use Rattle.findings.specs.declared.observed.Heard.{Heard};
-ghost use Rattle.findings.specs.Holds.{and_if, is_unheard, is_discarded, is_periodic, is_rushed, is_late, is_desynchronized, lasts, seconds, since, timeout};
+ghost use Rattle.findings.specs.declared.recent.Heard.{Heard};
+ghost use Rattle.findings.specs.Holds.{and_if, is_unheard, is_discarded, is_periodic, is_rushed, is_late, is_silent, is_desynchronized, lasts, seconds, since, timeout};
+ghost use Rattle.findings.specs.Firsts.{last_silent};
 ghost use Rattle.findings.specs.Watches.{recent_of};
 
-use crate::observed::Heard;
+use crate::finding::Shown;
+use crate::others::Others;
+use slowpdu::Lacpdu;
 
 /// The nanoseconds in a second.
 const SECOND: u64 = 1_000_000_000;
@@ -12,7 +15,7 @@ const SECOND: u64 = 1_000_000_000;
 const SHORT_TIMEOUT: u64 = 3 * SECOND;
 
 /// Long_Timeout_Time (6.4.4), in nanoseconds.
-const LONG_TIMEOUT: u64 = 90 * SECOND;
+pub(crate) const LONG_TIMEOUT: u64 = 90 * SECOND;
 
 /// How long an end may be without current information of its partner, in nanoseconds: the time in which a partner that
 /// sends one LACPDU a second is not heard, and then is Expired.
@@ -20,6 +23,19 @@ const MOST_UNHEARD: u64 = 6 * SECOND;
 
 /// How long an end may distribute before its partner collects, in nanoseconds.
 const MOST_DISCARDED: u64 = 3 * SECOND;
+
+/// An LACPDU of an end, and when it was captured.
+#[derive(Clone, Copy, Debug, PartialEq, Eq)]
+pub(crate) struct Heard {
+    /// The number of the packet.
+    pub(crate) number: u64,
+    /// When it was captured, in nanoseconds.
+    pub(crate) nanoseconds: u64,
+    /// The LACPDU.
+    pub(crate) pdu: Lacpdu,
+    /// What was known then of other ends.
+    pub(crate) others: Others,
+}
 
 /// The LACPDUs of an end that came last, as far as the next one is judged by them.
 #[derive(Clone, Copy, Debug, Default, PartialEq, Eq)]
@@ -59,7 +75,7 @@ fn is_over(most: u64, since: Option<u64>, now: u64) -> bool
 
 impl Heard {
     /// Whether the sender is Defaulted or Expired.
-    fn is_unheard(&self) -> bool
+    pub(crate) fn is_unheard(&self) -> bool
         ensures { result ≡ is_unheard self.now }
     {
         let state = self.pdu.actor.state;
@@ -90,6 +106,13 @@ impl Heard {
             LONG_TIMEOUT
         }
     }
+
+    /// Whether the next LACPDU should have come before this time, in nanoseconds.
+    pub(crate) fn is_silent(&self, until: u64) -> bool
+        ensures { result ≡ is_silent until self.now }
+    {
+        self.is_periodic() && is_over(self.timeout(), Some(self.nanoseconds), until)
+    }
 }
 
 impl Recent {
@@ -103,6 +126,22 @@ impl Recent {
             third: self.second,
             unheard_since: since(now.is_unheard(), self.unheard_since, now.nanoseconds),
             discarded_since: since(now.is_discarded(), self.discarded_since, now.nanoseconds),
+        }
+    }
+
+    /// The latest one, if the next one should have come before this time.
+    pub(crate) fn silent(&self, until: u64) -> Option<Shown>
+        ensures { result ≡ last_silent until self.now.last }
+    {
+        match self.last {
+            Some(heard) => {
+                if heard.is_silent(until) {
+                    Some(heard.shown())
+                } else {
+                    None
+                }
+            }
+            None => None,
         }
     }
 
@@ -121,10 +160,7 @@ impl Recent {
         ensures { (l : List Heard) → self.now ≡ recent_of l → result ≡ is_late now.now l }
     {
         match self.last {
-            Some(heard) => {
-                heard.is_periodic()
-                    && is_over(heard.timeout(), Some(heard.nanoseconds), now.nanoseconds)
-            }
+            Some(heard) => heard.is_silent(now.nanoseconds),
             None => false,
         }
     }
