@@ -56,6 +56,20 @@ fn who_answers_is_not_who_is_named(rt: HostRuntime) {
     assert!(rt; shows(&[at(0, said), answer, at(1000, said)], 2000, &[]));
 }
 
+// B changes its key from 1 to 2 and says so.
+#[test]
+fn the_latest_answer_counts(rt: HostRuntime) {
+    let said = a_to_b(FAST, FAST);
+    let answer = b_to_a(FAST, FAST);
+    let mut other_said = said;
+    other_said.partner.key = Key(2);
+    let mut other_answer = answer;
+    other_answer.actor.key = Key(2);
+    let before = [at(0, said), at(500, answer), at(900, other_answer)];
+    assert!(rt; shows(&[before[0], before[1], before[2], at(1000, other_said)], 2000, &[]));
+    assert!(rt; shows(&[before[0], before[1], before[2], at(1000, said)], 2000, &[(4, 4)]));
+}
+
 #[test]
 fn the_partner_is_the_end_that_answers(rt: HostRuntime) {
     let mut said = a_to_b(FAST, FAST);
@@ -185,25 +199,25 @@ fn one_end_is_individual(rt: HostRuntime) {
 // 6.3.6: a LAG ID has the keys of both systems.
 #[test]
 fn keys_differ_within_a_pair_of_systems(rt: HostRuntime) {
-    let second = |from: Info, to: Info, key: u16| {
+    let second = |from: Info, to: Info, keys: (u16, u16)| {
         let mut said = a_to_b(FAST, FAST);
         said.actor = from;
         said.partner = to;
         said.actor.port.number = 2;
         said.partner.port.number = 2;
-        said.actor.key = Key(key);
-        said.partner.key = Key(key);
+        said.actor.key = Key(keys.0);
+        said.partner.key = Key(keys.1);
         let mut frame = at(400, said);
         frame.interface = 1;
         frame
     };
-    let first = [at(0, a_to_b(FAST, FAST)), at(1000, a_to_b(FAST, FAST))];
-    let frames = [first[0], second(info(A, FAST), info(B, FAST), 2), first[1]];
-    assert!(rt; shows(&frames, 2000, &[(15, 3)]));
-    let frames = [first[0], second(info(A, FAST), info(B, FAST), 1), first[1]];
-    assert!(rt; shows(&frames, 2000, &[]));
-    let frames = [first[0], second(info(A, FAST), info(C, FAST), 2), first[1]];
-    assert!(rt; shows(&frames, 2000, &[]));
+    let first = at(0, a_to_b(FAST, FAST));
+    let again = at(1000, a_to_b(FAST, FAST));
+    let (a, b, c) = (info(A, FAST), info(B, FAST), info(C, FAST));
+    assert!(rt; shows(&[first, second(a, b, (2, 1)), again], 2000, &[(15, 3)]));
+    assert!(rt; shows(&[first, second(a, b, (1, 2)), again], 2000, &[(15, 3)]));
+    assert!(rt; shows(&[first, second(a, b, (1, 1)), again], 2000, &[]));
+    assert!(rt; shows(&[first, second(a, c, (2, 2)), again], 2000, &[]));
 }
 
 // 6.4.9: two ends record one partner, so both hear it.
