@@ -1,0 +1,5 @@
+pub mod FirstLemmas
+pub mod Lists
+pub mod EndLemmas
+pub mod KnowsLemmas
+pub mod WatchLemmas

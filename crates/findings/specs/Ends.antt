@@ -1,0 +1,99 @@
+-- Link ends and their frames. A list of frames has the latest first.
+use Rattle.std.specs.Prelude.{◌≡◌, ◌==◌, ◌&&◌, ℕ, Bool, false, List, [], ◌∷◌, filter, Option, Some, None, if◌then◌else◌}
+use Rattle.std.specs.List.{AllByRecursion, cons_option}
+use Rattle.std.specs.Option.{option_eq, option_or}
+use Rattle.std.specs.Str.{bytes_eq}
+use Rattle.lagtypes.specs.Same.{same_port, same_system}
+use Rattle.slowpdu.specs.declared.pdu.Lacpdu.{Lacpdu}
+use Rattle.slowpdu.specs.declared.pdu.MarkerKind.{MarkerKind}
+use Rattle.slowpdu.specs.declared.pdu.MarkerKind.TheVariants as kinds
+use Rattle.findings.specs.declared.others.Other.{Other}
+use Rattle.findings.specs.declared.others.Others.{Others}
+use Rattle.findings.specs.declared.recent.Heard.{Heard}
+use Rattle.findings.specs.declared.observed.LinkEnd.{LinkEnd}
+use Rattle.findings.specs.declared.observed.Observed.{Observed}
+use Rattle.findings.specs.declared.observed.What.{What}
+use Rattle.findings.specs.declared.observed.What.TheVariants as variants
+
+-- the port of a marker's sender; a response names the port of the marker's sender and not its own
+abbrev pub marker_port : MarkerKind → ℕ → Option ℕ
+marker_port kinds.Information port = Some port
+marker_port kinds.Response port = None
+
+-- the port number that a payload names as its sender's
+abbrev pub port_of : What → Option ℕ
+port_of (variants.Lacpdu v) = Some v.actor.port.number
+port_of (variants.Marker m) = marker_port m.kind m.port
+port_of (variants.Refused e) = None
+
+-- the end that sent a frame
+abbrev pub end_of : Observed → LinkEnd
+end_of o = record { interface = o.interface; source = o.source; port = port_of o.what }
+
+-- equal interfaces, source addresses and ports
+abbrev pub same_end : LinkEnd → LinkEnd → Bool
+same_end e f = (e.interface == f.interface) && bytes_eq e.source f.source && option_eq ◌==◌ e.port f.port
+
+-- the frames of an end
+abbrev pub frames_of : LinkEnd → List Observed → List Observed
+frames_of e = filter (λ o. same_end (end_of o) e)
+
+-- no frame is of this end
+abbrev pub Unsent : LinkEnd → List Observed → Type 0
+Unsent e = AllByRecursion (λ o. same_end (end_of o) e ≡ false)
+
+-- the LACPDU in a payload
+abbrev pub lacpdu_in : What → Option Lacpdu
+lacpdu_in (variants.Lacpdu v) = Some v
+lacpdu_in (variants.Marker m) = None
+lacpdu_in (variants.Refused e) = None
+
+-- the latest LACPDU of an end
+abbrev pub said : LinkEnd → List Observed → Option Lacpdu
+said e [] = None
+said e (o ∷ h) = option_or (if same_end (end_of o) e then lacpdu_in o.what else None) (said e h)
+
+-- how an LACPDU of another end is related to this end, by what this end said last, the other frame and its LACPDU
+abbrev pub Relation : Type 0
+Relation = LinkEnd → Lacpdu → Observed → Lacpdu → Bool
+
+-- the other end, if its LACPDU is related to this end
+abbrev pub related : Relation → LinkEnd → Observed → Option Lacpdu → Option Lacpdu → Option Other
+related relation e o None theirs = None
+related relation e o (Some own) None = None
+related relation e o (Some own) (Some v) =
+    if relation e own o v then Some (record { end = end_of o; nanoseconds = o.nanoseconds; pdu = v }) else None
+
+-- the latest LACPDU of another end that is related to this end
+abbrev pub latest : Relation → LinkEnd → List Observed → Option Other
+latest relation e [] = None
+latest relation e (o ∷ h) =
+    option_or (if same_end (end_of o) e then None else related relation e o (said e h) (lacpdu_in o.what)) (latest relation e h)
+
+-- on the same interface, an LACPDU whose Partner is this end: its system and port
+abbrev pub answers : Relation
+answers e own o v =
+    (o.interface == e.interface) && (same_system v.partner.system own.actor.system && same_port v.partner.port own.actor.port)
+
+-- on the same interface, an LACPDU with the same Partner: its system and port
+abbrev pub rivals : Relation
+rivals e own o v =
+    (o.interface == e.interface) && (same_system v.partner.system own.partner.system && same_port v.partner.port own.partner.port)
+
+-- an LACPDU of the same pair of systems
+abbrev pub is_sibling : Relation
+is_sibling e own o v = same_system v.actor.system own.actor.system && same_system v.partner.system own.partner.system
+
+-- what is known of other ends
+abbrev pub others : LinkEnd → List Observed → Others
+others e h = record { answer = latest answers e h; rival = latest rivals e h; sibling = latest is_sibling e h }
+
+-- an LACPDU that is heard, with what is known then of other ends
+abbrev pub heard : Others → Observed → Option Lacpdu → Option Heard
+heard others o None = None
+heard others o (Some v) = Some (record { number = o.number; nanoseconds = o.nanoseconds; pdu = v; others = others })
+
+-- the LACPDUs of an end
+abbrev pub lacpdus : LinkEnd → List Observed → List Heard
+lacpdus e [] = []
+lacpdus e (o ∷ h) = cons_option (if same_end (end_of o) e then heard (others e h) o (lacpdu_in o.what) else None) (lacpdus e h)

@@ -1,0 +1,78 @@
+-- The first frame that shows a rule, among the frames of one end.
+use Rattle.std.specs.Prelude.{ℕ, Bool, List, [], ◌∷◌, Option, Some, None, option_map, slice_get, if◌then◌else◌}
+use Rattle.std.specs.Option.{option_or}
+use Rattle.findings.specs.declared.finding.Finding.{Finding}
+use Rattle.findings.specs.declared.finding.Shown.{Shown}
+use Rattle.findings.specs.declared.recent.Heard.{Heard}
+use Rattle.findings.specs.declared.observed.LinkEnd.{LinkEnd}
+use Rattle.findings.specs.declared.observed.Observed.{Observed}
+use Rattle.findings.specs.declared.rule.Rule.{Rule}
+use Rattle.findings.specs.declared.rule.Rule.TheVariants as variants
+use Rattle.findings.specs.Ends.{frames_of, lacpdus}
+use Rattle.findings.specs.Holds.{is_rushed, is_passive, is_late, lasts, is_unheard, is_discarded, is_desynchronized, is_individual, seconds}
+use Rattle.findings.specs.Holds.{has_other_system, has_other_port, has_other_key, has_other_keys, has_rival, is_silent}
+use Rattle.findings.specs.Holds.{has_other_version, has_other_length, has_reserved, has_other_destination, has_tag}
+
+-- the earlier one if there is one; else this one if it shows the rule
+abbrev pub earlier_or : Option Shown → Bool → Shown → Option Shown
+earlier_or (Some s) holds now = Some s
+earlier_or None holds now = if holds then Some now else None
+
+-- the first that shows a rule
+abbrev pub first : {A : Type 0} → (A → Shown) → (A → List A → Bool) → List A → Option Shown
+first shown holds [] = None
+first shown holds (x ∷ before) = earlier_or (first shown holds before) (holds x before) (shown x)
+
+-- an LACPDU that shows a rule, with the end that answers its sender
+abbrev pub shown_heard : Heard → Shown
+shown_heard a = record { number = a.number; nanoseconds = a.nanoseconds; partner = option_map (λ x. x.end) a.others.answer }
+
+-- a frame that shows a rule
+abbrev pub shown_frame : Observed → Shown
+shown_frame o = record { number = o.number; nanoseconds = o.nanoseconds; partner = None }
+
+-- the latest LACPDU, if none comes behind it in time
+abbrev pub last_silent : ℕ → Option Heard → Option Shown
+last_silent until None = None
+last_silent until (Some a) = if is_silent until a then Some (shown_heard a) else None
+
+-- the first LACPDU of an end that shows a rule
+abbrev pub first_heard : (Heard → List Heard → Bool) → LinkEnd → List Observed → Option Shown
+first_heard holds e h = first shown_heard holds (lacpdus e h)
+
+-- the first frame of an end that shows a rule
+abbrev pub first_frame : (Observed → List Observed → Bool) → LinkEnd → List Observed → Option Shown
+first_frame holds e h = first shown_frame holds (frames_of e h)
+
+-- the first LACPDU of an end behind which there is silence, up to this time
+abbrev pub first_silent : ℕ → LinkEnd → List Observed → Option Shown
+first_silent until e h = option_or (first_heard is_late e h) (last_silent until (slice_get (lacpdus e h) 0))
+
+-- the first frame of an end that shows a rule, where the capture goes up to this time
+abbrev pub first_of : Rule → ℕ → LinkEnd → List Observed → Option Shown
+first_of variants.Rate until = first_heard is_rushed
+first_of variants.System until = first_heard has_other_system
+first_of variants.Port until = first_heard has_other_port
+first_of variants.Key until = first_heard has_other_key
+first_of variants.Passive until = first_heard is_passive
+first_of variants.Version until = first_frame has_other_version
+first_of variants.Length until = first_frame has_other_length
+first_of variants.Reserved until = first_frame has_reserved
+first_of variants.Destination until = first_frame has_other_destination
+first_of variants.Tag until = first_frame has_tag
+first_of variants.Silence until = first_silent until
+first_of variants.Unheard until = first_heard (lasts is_unheard (seconds 6))
+first_of variants.Desynchronized until = first_heard is_desynchronized
+first_of variants.Individual until = first_heard is_individual
+first_of variants.Keys until = first_heard has_other_keys
+first_of variants.Segment until = first_heard has_rival
+first_of variants.Discarded until = first_heard (lasts is_discarded (seconds 3))
+
+-- what is found of an end by a rule
+abbrev pub finding_of : Rule → LinkEnd → Option Shown → Option Finding
+finding_of rule end None = None
+finding_of rule end (Some s) = Some (record { rule = rule; end = end; shown = s })
+
+-- what is found of an end by a rule, behind these frames of a capture that goes up to this time
+abbrev pub found : Rule → ℕ → LinkEnd → List Observed → Option Finding
+found rule until end h = finding_of rule end (first_of rule until end h)

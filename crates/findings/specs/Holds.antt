@@ -1,0 +1,154 @@
+-- Each rule: whether the latest frame of an end shows it, by the frames of that end before it, the latest of them first.
+use Rattle.std.specs.Prelude.{◌==◌, ◌&&◌, ◌||◌, ◌-◌, ◌*◌, ℕ, Bool, true, false, not, nat_lt, List, [], ◌∷◌, Option, Some, None, slice_get, unwrap_or, if◌then◌else◌}
+use Rattle.std.specs.Option.{option_eq}
+use Rattle.std.specs.Str.{bytes_eq}
+use Rattle.lagtypes.specs.declared.state.StateBits.{StateBits}
+use Rattle.lagtypes.specs.Same.{same_port, same_system}
+use Rattle.lagtypes.specs.States.{bits_of}
+use Rattle.findings.specs.declared.recent.Heard.{Heard}
+use Rattle.findings.specs.declared.others.Other.{Other}
+use Rattle.findings.specs.declared.observed.Observed.{Observed}
+use Rattle.findings.specs.declared.observed.What.{What}
+use Rattle.findings.specs.declared.observed.What.TheVariants.{Lacpdu, Marker, Refused}
+
+-- the nanoseconds of so many seconds
+abbrev pub seconds : ℕ → ℕ
+seconds n = n * 1000000000
+
+-- what the sender of an LACPDU says of itself
+abbrev pub actor : Heard → StateBits
+actor a = bits_of a.pdu.actor.state
+
+-- what it says of its partner
+abbrev pub partner : Heard → StateBits
+partner a = bits_of a.pdu.partner.state
+
+-- the test of a value; false where there is none
+abbrev pub and_if : {A : Type 0} → (A → Bool) → Option A → Bool
+and_if f None = false
+and_if f (Some x) = f x
+
+-- More than three in a second (6.4.16): the third one before it was sent less than a second before.
+abbrev pub is_rushed : Heard → List Heard → Bool
+is_rushed a before = and_if (λ d. nat_lt (a.nanoseconds - d.nanoseconds) (seconds 1)) (slice_get before 2)
+
+-- Both ends are passive (6.4.13): the sender is, and an LACPDU told it that its partner is.
+abbrev pub is_passive : Heard → List Heard → Bool
+is_passive a before = not (actor a).activity && not (partner a).activity && not (actor a).defaulted
+
+-- the timeout that the partner asks for, as the sender has recorded it (6.4.4)
+abbrev pub timeout : Heard → ℕ
+timeout a = if (partner a).timeout then seconds 3 else seconds 90
+
+-- it sends LACPDUs periodically: one of the two ends is active (6.4.13)
+abbrev pub is_periodic : Heard → Bool
+is_periodic a = (actor a).activity || (partner a).activity
+
+-- No LACPDU for longer than the timeout that the partner asks for (6.4.4, 6.4.13).
+abbrev pub is_late : Heard → List Heard → Bool
+is_late a before = and_if (λ b. is_periodic b && nat_lt (timeout b) (a.nanoseconds - b.nanoseconds)) (slice_get before 0)
+
+-- when the first was sent of those LACPDUs that have a property and come one after the other, up to the latest
+abbrev pub since : (Heard → Bool) → List Heard → Option ℕ
+since has [] = None
+since has (a ∷ before) = if has a then Some (unwrap_or (since has before) a.nanoseconds) else None
+
+-- they have had it for longer than this
+abbrev pub lasts : (Heard → Bool) → ℕ → Heard → List Heard → Bool
+lasts has n a before = has a && and_if (λ t. nat_lt n (a.nanoseconds - t)) (since has before)
+
+-- the sender has no current information of its partner
+abbrev pub is_unheard : Heard → Bool
+is_unheard a = (actor a).defaulted || (actor a).expired
+
+-- the sender distributes, and its partner does not collect, as it has recorded
+abbrev pub is_discarded : Heard → Bool
+is_discarded a = (actor a).distributing && not (partner a).collecting
+
+-- Synchronization lost (6.4.15): the last one had it.
+abbrev pub is_desynchronized : Heard → List Heard → Bool
+is_desynchronized a before = not (actor a).synchronization && and_if (λ b. (actor b).synchronization) (slice_get before 0)
+
+-- One end is Individual (6.3.5): the sender, and its partner is not.
+abbrev pub is_individual : Heard → List Heard → Bool
+is_individual a before = not (actor a).aggregation && (partner a).aggregation && not (actor a).defaulted
+
+-- the sender's information of its partner is current
+abbrev pub is_current : Heard → Bool
+is_current a = not (is_unheard a)
+
+-- the system is the one that it names
+abbrev pub is_named_system : Heard → Other → Bool
+is_named_system a x = same_system a.pdu.partner.system x.pdu.actor.system
+
+-- The partner that it names is not who answers (6.4.9): another system.
+abbrev pub has_other_system : Heard → List Heard → Bool
+has_other_system a before = is_current a && and_if (λ x. not (is_named_system a x)) a.others.answer
+
+-- The partner that it names is not who answers (6.4.9): the system, and another port of it.
+abbrev pub has_other_port : Heard → List Heard → Bool
+has_other_port a before =
+    is_current a && and_if (λ x. is_named_system a x && not (same_port a.pdu.partner.port x.pdu.actor.port)) a.others.answer
+
+-- The partner that it names is not who answers (6.4.9): the system and its port, with another key.
+abbrev pub has_other_key : Heard → List Heard → Bool
+has_other_key a before =
+    is_current a
+    && and_if (λ x. is_named_system a x && same_port a.pdu.partner.port x.pdu.actor.port && not (a.pdu.partner.key.0 == x.pdu.actor.key.0))
+    a.others.answer
+
+-- it is of the same pair of systems
+abbrev pub is_sibling_of : Heard → Other → Bool
+is_sibling_of a x = same_system a.pdu.actor.system x.pdu.actor.system && same_system a.pdu.partner.system x.pdu.partner.system
+
+-- it has the same keys
+abbrev pub has_keys_of : Heard → Other → Bool
+has_keys_of a x = (a.pdu.actor.key.0 == x.pdu.actor.key.0) && (a.pdu.partner.key.0 == x.pdu.partner.key.0)
+
+-- it names the same partner, a system and its port
+abbrev pub names_partner_of : Heard → Other → Bool
+names_partner_of a x = same_system a.pdu.partner.system x.pdu.partner.system && same_port a.pdu.partner.port x.pdu.partner.port
+
+-- Keys differ within one pair of systems (6.3.6): the latest LACPDU of another link of the pair has other keys.
+abbrev pub has_other_keys : Heard → List Heard → Bool
+has_other_keys a before =
+    is_current a && and_if (λ x. is_sibling_of a x && not (has_keys_of a x)) a.others.sibling
+
+-- Two actors on one segment (6.4.9): another end has named the same partner, at most a Long Timeout ago.
+abbrev pub has_rival : Heard → List Heard → Bool
+has_rival a before =
+    is_current a && and_if (λ x. names_partner_of a x && not (nat_lt (seconds 90) (a.nanoseconds - x.nanoseconds))) a.others.rival
+
+-- it is an LACPDU, a marker or a response
+abbrev pub is_read : What → Bool
+is_read (Lacpdu v) = true
+is_read (Marker m) = true
+is_read (Refused e) = false
+
+-- A version other than 1 (6.4.2.3, 6.5.3.3).
+abbrev pub has_other_version : Observed → List Observed → Bool
+has_other_version o before = is_read o.what && not (o.version == 1)
+
+-- A length other than that of a header and 110 octets, with or without the frame check sequence (6.4.2.3, 6.5.3.3).
+abbrev pub has_other_length : Observed → List Observed → Bool
+has_other_length o before = not ((o.length == 124) || (o.length == 128))
+
+-- A reserved octet that is not zero (6.4.2.3, 6.5.3.3).
+abbrev pub has_reserved : Observed → List Observed → Bool
+has_reserved o before = is_read o.what && o.reserved
+
+-- the Slow_Protocols_Multicast address, 01-80-C2-00-00-02 (6.4.2.2)
+abbrev pub slow_protocols : List ℕ
+slow_protocols = 1 ∷ 128 ∷ 194 ∷ 0 ∷ 0 ∷ 2 ∷ []
+
+-- A destination other than the Slow_Protocols_Multicast address (6.4.2.2, 6.5.3.2).
+abbrev pub has_other_destination : Observed → List Observed → Bool
+has_other_destination o before = and_if (λ d. not (bytes_eq d slow_protocols)) o.destination
+
+-- A tag (6.4.2.2, 6.5.3.2).
+abbrev pub has_tag : Observed → List Observed → Bool
+has_tag o before = o.tagged
+
+-- Silence up to this time, behind the latest LACPDU: longer than the timeout that the partner asks for (6.4.4, 6.4.13).
+abbrev pub is_silent : ℕ → Heard → Bool
+is_silent until a = is_periodic a && nat_lt (timeout a) (until - a.nanoseconds)

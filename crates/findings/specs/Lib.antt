@@ -1,0 +1,6 @@
+pub mod Rules
+pub mod Ends
+pub mod Holds
+pub mod Firsts
+pub mod Watches
+pub mod Knows

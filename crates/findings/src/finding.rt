@@ -1,0 +1,49 @@
+ghost use Rattle.std.specs.Prelude.{◌≡◌};
+ghost use Rattle.findings.specs.Firsts.{earlier_or, finding_of};
+
+use crate::observed::LinkEnd;
+use crate::rule::Rule;
+
+/// The first frame that shows a rule of an end.
+#[derive(Clone, Copy, Debug, Default, PartialEq, Eq)]
+pub struct Shown {
+    /// The number of the packet in the capture, from 1.
+    pub number: u64,
+    /// When it was captured, in nanoseconds since the beginning of 1970.
+    pub nanoseconds: u64,
+    /// The end that answers this one: the sender of the latest LACPDU before that has this end as its Partner, on the
+    /// same interface; None if there is none, and for a rule that any frame can show.
+    pub partner: Option<LinkEnd>,
+}
+
+/// What is found of one end by one rule.
+#[derive(Clone, Copy, Debug, PartialEq, Eq)]
+pub struct Finding {
+    /// The rule.
+    pub rule: Rule,
+    /// The end that it holds of.
+    pub end: LinkEnd,
+    /// The first frame that shows it.
+    pub shown: Shown,
+}
+
+/// The earlier one if there is one; else this one, if it shows the rule.
+pub(crate) fn earlier_or(earlier: Option<Shown>, holds: bool, now: Shown) -> Option<Shown>
+    ensures { result ≡ earlier_or earlier holds now }
+{
+    match earlier {
+        Some(shown) => Some(shown),
+        None if holds => Some(now),
+        None => None,
+    }
+}
+
+/// The finding of this end, if a frame shows the rule.
+pub(crate) fn finding_of(rule: Rule, end: LinkEnd, first: Option<Shown>) -> Option<Finding>
+    ensures { result ≡ finding_of rule end first }
+{
+    match first {
+        Some(shown) => Some(Finding { rule, end, shown }),
+        None => None,
+    }
+}

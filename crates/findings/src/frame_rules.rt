@@ -1,0 +1,93 @@
+ghost use Rattle.std.specs.Prelude.{◌≡◌, ◌∷◌, List};
+ghost use Rattle.findings.specs.declared.observed.Observed.{Observed};
+ghost use Rattle.findings.specs.Firsts.{shown_frame};
+ghost use Rattle.findings.specs.Holds.{has_other_destination, has_other_length, has_other_version, has_reserved, is_read};
+ghost use Rattle.findings.specs.Watches.{frame_rules};
+
+use crate::finding::{Shown, earlier_or};
+use crate::observed::{Observed, What};
+
+/// The Slow_Protocols_Multicast address (6.4.2.2).
+const SLOW_PROTOCOLS: [u8; 6] = [0x01, 0x80, 0xc2, 0x00, 0x00, 0x02];
+
+/// The length of a header and 110 octets; that with the frame check sequence.
+const LENGTHS: [u32; 2] = [124, 128];
+
+/// The first frame of an end that shows each rule of frames.
+#[derive(Clone, Copy, Debug, Default, PartialEq, Eq)]
+pub(crate) struct FrameRules {
+    pub(crate) version: Option<Shown>,
+    pub(crate) length: Option<Shown>,
+    pub(crate) reserved: Option<Shown>,
+    pub(crate) destination: Option<Shown>,
+    pub(crate) tag: Option<Shown>,
+}
+
+impl Observed {
+    fn shown(&self) -> Shown
+        ensures { result ≡ shown_frame self.now }
+    {
+        Shown {
+            number: self.number,
+            nanoseconds: self.nanoseconds,
+            partner: None,
+        }
+    }
+
+    /// Whether the payload is one of the Slow Protocols that are read.
+    fn is_read(&self) -> bool
+        ensures { result ≡ is_read self.now.what }
+    {
+        match self.what {
+            What::Lacpdu(_) | What::Marker(_) => true,
+            What::Refused(_) => false,
+        }
+    }
+
+    /// Whether the version is another one.
+    fn has_other_version(&self) -> bool
+        ensures { (l : List Observed) → result ≡ has_other_version self.now l }
+    {
+        self.is_read() && self.version != 1
+    }
+
+    /// Whether a reserved octet is not zero.
+    fn has_reserved(&self) -> bool
+        ensures { (l : List Observed) → result ≡ has_reserved self.now l }
+    {
+        self.is_read() && self.reserved
+    }
+
+    /// Whether the length is another one.
+    fn has_other_length(&self) -> bool
+        ensures { (l : List Observed) → result ≡ has_other_length self.now l }
+    {
+        self.length != LENGTHS[0] && self.length != LENGTHS[1]
+    }
+
+    /// Whether the destination is known and another one.
+    fn has_other_destination(&self) -> bool
+        ensures { (l : List Observed) → result ≡ has_other_destination self.now l }
+    {
+        match self.destination {
+            Some(destination) => destination != SLOW_PROTOCOLS,
+            None => false,
+        }
+    }
+}
+
+impl FrameRules {
+    /// The first ones with one more frame.
+    pub(crate) fn with(&self, now: &Observed) -> FrameRules
+        ensures { (l : List Observed) → self.now ≡ frame_rules l → result ≡ frame_rules (now.now ∷ l) }
+    {
+        let shown = now.shown();
+        FrameRules {
+            version: earlier_or(self.version, now.has_other_version(), shown),
+            length: earlier_or(self.length, now.has_other_length(), shown),
+            reserved: earlier_or(self.reserved, now.has_reserved(), shown),
+            destination: earlier_or(self.destination, now.has_other_destination(), shown),
+            tag: earlier_or(self.tag, now.tagged, shown),
+        }
+    }
+}

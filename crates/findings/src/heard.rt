@@ -1,0 +1,145 @@
+ghost use Rattle.std.specs.Prelude.{◌≡◌, List};
+ghost use Rattle.findings.specs.declared.recent.Heard.{Heard};
+ghost use Rattle.findings.specs.Firsts.{shown_heard};
+ghost use Rattle.findings.specs.Holds.{is_current, is_passive, is_individual, is_named_system, is_sibling_of, has_keys_of, names_partner_of};
+ghost use Rattle.findings.specs.Holds.{has_other_system, has_other_port, has_other_key, has_other_keys, has_rival};
+
+use crate::finding::Shown;
+use crate::others::Other;
+use crate::recent::{Heard, LONG_TIMEOUT};
+
+impl Heard {
+    /// This LACPDU, and the end that answers its sender.
+    pub(crate) fn shown(&self) -> Shown
+        ensures { result ≡ shown_heard self.now }
+    {
+        Shown {
+            number: self.number,
+            nanoseconds: self.nanoseconds,
+            partner: match self.others.answer {
+                Some(answer) => Some(answer.end),
+                None => None,
+            },
+        }
+    }
+
+    /// Whether the sender's information of its partner is current.
+    fn is_current(&self) -> bool
+        ensures { result ≡ is_current self.now }
+    {
+        !self.is_unheard()
+    }
+
+    /// Whether the other end's system is the Partner's.
+    fn is_named_system(&self, other: &Other) -> bool
+        ensures { result ≡ is_named_system self.now other.now }
+    {
+        self.pdu.partner.system == other.pdu.actor.system
+    }
+
+    /// Whether another system answers than the Partner's.
+    pub(crate) fn has_other_system(&self) -> bool
+        ensures { (l : List Heard) → result ≡ has_other_system self.now l }
+    {
+        match self.others.answer {
+            Some(answer) => self.is_current() && !self.is_named_system(&answer),
+            None => false,
+        }
+    }
+
+    /// Whether another port answers of the Partner's system.
+    pub(crate) fn has_other_port(&self) -> bool
+        ensures { (l : List Heard) → result ≡ has_other_port self.now l }
+    {
+        match self.others.answer {
+            Some(answer) => {
+                self.is_current()
+                    && self.is_named_system(&answer)
+                    && self.pdu.partner.port != answer.pdu.actor.port
+            }
+            None => false,
+        }
+    }
+
+    /// Whether the Partner's port answers with another key.
+    pub(crate) fn has_other_key(&self) -> bool
+        ensures { (l : List Heard) → result ≡ has_other_key self.now l }
+    {
+        match self.others.answer {
+            Some(answer) => {
+                self.is_current()
+                    && self.is_named_system(&answer)
+                    && self.pdu.partner.port == answer.pdu.actor.port
+                    && self.pdu.partner.key != answer.pdu.actor.key
+            }
+            None => false,
+        }
+    }
+
+    /// Whether the other LACPDU is of the same pair of systems.
+    fn is_sibling_of(&self, other: &Other) -> bool
+        ensures { result ≡ is_sibling_of self.now other.now }
+    {
+        self.pdu.actor.system == other.pdu.actor.system
+            && self.pdu.partner.system == other.pdu.partner.system
+    }
+
+    /// Whether the other LACPDU has the same keys.
+    fn has_keys_of(&self, other: &Other) -> bool
+        ensures { result ≡ has_keys_of self.now other.now }
+    {
+        self.pdu.actor.key == other.pdu.actor.key && self.pdu.partner.key == other.pdu.partner.key
+    }
+
+    /// Whether another link of the same pair of systems has other keys.
+    pub(crate) fn has_other_keys(&self) -> bool
+        ensures { (l : List Heard) → result ≡ has_other_keys self.now l }
+    {
+        match self.others.sibling {
+            Some(sibling) => {
+                self.is_current() && self.is_sibling_of(&sibling) && !self.has_keys_of(&sibling)
+            }
+            None => false,
+        }
+    }
+
+    /// Whether the other LACPDU has the same Partner.
+    fn names_partner_of(&self, other: &Other) -> bool
+        ensures { result ≡ names_partner_of self.now other.now }
+    {
+        self.pdu.partner.system == other.pdu.partner.system
+            && self.pdu.partner.port == other.pdu.partner.port
+    }
+
+    /// Whether another end has named the same Partner.
+    pub(crate) fn has_rival(&self) -> bool
+        ensures { (l : List Heard) → result ≡ has_rival self.now l }
+    {
+        match self.others.rival {
+            Some(rival) => {
+                self.is_current()
+                    && self.names_partner_of(&rival)
+                    && self.nanoseconds.saturating_sub(rival.nanoseconds) <= LONG_TIMEOUT
+            }
+            None => false,
+        }
+    }
+
+    /// Whether both ends are passive.
+    pub(crate) fn is_passive(&self) -> bool
+        ensures { (l : List Heard) → result ≡ is_passive self.now l }
+    {
+        let actor = self.pdu.actor.state;
+        !actor.is_active() && !self.pdu.partner.state.is_active() && !actor.is_defaulted()
+    }
+
+    /// Whether the sender alone is Individual.
+    pub(crate) fn is_individual(&self) -> bool
+        ensures { (l : List Heard) → result ≡ is_individual self.now l }
+    {
+        let actor = self.pdu.actor.state;
+        !actor.is_aggregatable()
+            && self.pdu.partner.state.is_aggregatable()
+            && !actor.is_defaulted()
+    }
+}

@@ -1,0 +1,46 @@
+ghost use Rattle.std.specs.Prelude.{◌≡◌, ◌∷◌, List};
+ghost use Rattle.findings.specs.declared.recent.Heard.{Heard};
+ghost use Rattle.findings.specs.Watches.{recent_of, lacpdu_rules};
+
+use crate::finding::{Shown, earlier_or};
+use crate::recent::{Heard, Recent};
+
+/// The first LACPDU of an end that shows each rule of LACPDUs.
+#[derive(Clone, Copy, Debug, Default, PartialEq, Eq)]
+pub(crate) struct LacpduRules {
+    pub(crate) rate: Option<Shown>,
+    pub(crate) system: Option<Shown>,
+    pub(crate) port: Option<Shown>,
+    pub(crate) key: Option<Shown>,
+    pub(crate) passive: Option<Shown>,
+    pub(crate) silence: Option<Shown>,
+    pub(crate) unheard: Option<Shown>,
+    pub(crate) desynchronized: Option<Shown>,
+    pub(crate) individual: Option<Shown>,
+    pub(crate) keys: Option<Shown>,
+    pub(crate) segment: Option<Shown>,
+    pub(crate) discarded: Option<Shown>,
+}
+
+impl LacpduRules {
+    /// The first ones with one more LACPDU, behind those that came last.
+    pub(crate) fn with(&self, recent: &Recent, now: &Heard) -> LacpduRules
+        ensures { (l : List Heard) → recent.now ≡ recent_of l → self.now ≡ lacpdu_rules l → result ≡ lacpdu_rules (now.now ∷ l) }
+    {
+        let shown = now.shown();
+        LacpduRules {
+            rate: earlier_or(self.rate, recent.is_rushed(now), shown),
+            system: earlier_or(self.system, now.has_other_system(), shown),
+            port: earlier_or(self.port, now.has_other_port(), shown),
+            key: earlier_or(self.key, now.has_other_key(), shown),
+            passive: earlier_or(self.passive, now.is_passive(), shown),
+            silence: earlier_or(self.silence, recent.is_late(now), shown),
+            unheard: earlier_or(self.unheard, recent.is_unheard(now), shown),
+            desynchronized: earlier_or(self.desynchronized, recent.is_desynchronized(now), shown),
+            individual: earlier_or(self.individual, now.is_individual(), shown),
+            keys: earlier_or(self.keys, now.has_other_keys(), shown),
+            segment: earlier_or(self.segment, now.has_rival(), shown),
+            discarded: earlier_or(self.discarded, recent.is_discarded(now), shown),
+        }
+    }
+}

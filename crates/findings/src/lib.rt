@@ -1,0 +1,23 @@
+//! What is wrong with a link, by the frames of a capture: findings of rules of IEEE 802.1AX-2014. `Findings::observe`
+//! takes one frame of the slow protocols after the other, in memory that does not grow; `Findings::finding` answers
+//! whether a rule holds of an end, and the first frame that shows it. Each rule is a definition over the list of the
+//! end's frames (`specs/Holds.antt`).
+//!
+//! In comments, numbers such as 6.4.9 are sections of that standard.
+#![tactic(auto)]
+
+mod finding;
+mod findings;
+mod frame_rules;
+mod heard;
+mod lacpdu_rules;
+mod observed;
+mod others;
+mod recent;
+mod rule;
+mod watch;
+
+pub use finding::{Finding, Shown};
+pub use findings::{Findings, MOST_ENDS};
+pub use observed::{LinkEnd, Observed, What};
+pub use rule::Rule;

@@ -1,0 +1,80 @@
+ghost use Rattle.std.specs.Prelude.{◌≡◌, Some, None, if◌then◌else◌};
+ghost use Rattle.std.specs.Option.{option_or};
+ghost use Rattle.findings.specs.Ends.{answers, is_sibling, related, rivals};
+
+use crate::observed::{LinkEnd, Observed};
+use slowpdu::Lacpdu;
+
+/// An LACPDU of another end.
+#[derive(Clone, Copy, Debug, PartialEq, Eq)]
+pub(crate) struct Other {
+    /// Its sender.
+    pub(crate) end: LinkEnd,
+    /// When it was captured, in nanoseconds.
+    pub(crate) nanoseconds: u64,
+    /// The LACPDU.
+    pub(crate) pdu: Lacpdu,
+}
+
+/// The latest LACPDUs of other ends that are related to an end, by what this end said last before them.
+#[derive(Clone, Copy, Debug, Default, PartialEq, Eq)]
+pub(crate) struct Others {
+    /// On the same interface, its Partner is this end.
+    pub(crate) answer: Option<Other>,
+    /// On the same interface, it has the same Partner as this end.
+    pub(crate) rival: Option<Other>,
+    /// On any interface, it is of the same pair of systems.
+    pub(crate) sibling: Option<Other>,
+}
+
+/// Whether the LACPDU of another end has this end as its Partner.
+fn answers(end: &LinkEnd, own: &Lacpdu, now: &Observed, pdu: &Lacpdu) -> bool
+    ensures { result ≡ answers end.now own.now now.now pdu.now }
+{
+    now.interface == end.interface
+        && pdu.partner.system == own.actor.system
+        && pdu.partner.port == own.actor.port
+}
+
+/// Whether the LACPDU of another end has the same Partner.
+fn rivals(end: &LinkEnd, own: &Lacpdu, now: &Observed, pdu: &Lacpdu) -> bool
+    ensures { result ≡ rivals end.now own.now now.now pdu.now }
+{
+    now.interface == end.interface
+        && pdu.partner.system == own.partner.system
+        && pdu.partner.port == own.partner.port
+}
+
+/// Whether the LACPDU of another end is of the same pair of systems.
+fn is_sibling(end: &LinkEnd, own: &Lacpdu, now: &Observed, pdu: &Lacpdu) -> bool
+    ensures { result ≡ is_sibling end.now own.now now.now pdu.now }
+{
+    pdu.actor.system == own.actor.system && pdu.partner.system == own.partner.system
+}
+
+/// The new one if it is related, else the one before.
+fn latest(is_related: bool, now: Other, before: Option<Other>) -> Option<Other>
+    ensures { result ≡ option_or (if is_related then Some now else None) before }
+{
+    if is_related { Some(now) } else { before }
+}
+
+impl Others {
+    /// The latest ones behind one more LACPDU of another end.
+    pub(crate) fn with(&self, end: &LinkEnd, own: &Lacpdu, now: &Observed, pdu: &Lacpdu) -> Others
+        ensures answer { result.answer ≡ option_or (related answers end.now now.now (Some own.now) (Some pdu.now)) self.now.answer }
+        ensures rival { result.rival ≡ option_or (related rivals end.now now.now (Some own.now) (Some pdu.now)) self.now.rival }
+        ensures sibling { result.sibling ≡ option_or (related is_sibling end.now now.now (Some own.now) (Some pdu.now)) self.now.sibling }
+    {
+        let other = Other {
+            end: now.end(),
+            nanoseconds: now.nanoseconds,
+            pdu: *pdu,
+        };
+        Others {
+            answer: latest(answers(end, own, now, pdu), other, self.answer),
+            rival: latest(rivals(end, own, now, pdu), other, self.rival),
+            sibling: latest(is_sibling(end, own, now, pdu), other, self.sibling),
+        }
+    }
+}

@@ -1,0 +1,193 @@
+ghost use Rattle.std.specs.Prelude.{◌≡◌, ◌-◌, ◌∷◌, List, nat_lt, unwrap_or, Some, None, if◌then◌else◌};
+ghost use Rattle.findings.specs.declared.recent.Heard.{Heard};
+ghost use Rattle.findings.specs.Holds.{and_if, is_unheard, is_discarded, is_periodic, is_rushed, is_late, is_silent, is_desynchronized, lasts, seconds, since, timeout};
+ghost use Rattle.findings.specs.Firsts.{last_silent};
+ghost use Rattle.findings.specs.Watches.{recent_of};
+
+use crate::finding::Shown;
+use crate::others::Others;
+use slowpdu::Lacpdu;
+
+/// The nanoseconds in a second.
+const SECOND: u64 = 1_000_000_000;
+
+/// Short_Timeout_Time (6.4.4), in nanoseconds.
+const SHORT_TIMEOUT: u64 = 3 * SECOND;
+
+/// Long_Timeout_Time (6.4.4), in nanoseconds.
+pub(crate) const LONG_TIMEOUT: u64 = 90 * SECOND;
+
+/// How long an end may be without current information of its partner, in nanoseconds: the time in which a partner that
+/// sends one LACPDU a second is not heard, and then is Expired.
+const MOST_UNHEARD: u64 = 6 * SECOND;
+
+/// How long an end may distribute before its partner collects, in nanoseconds.
+const MOST_DISCARDED: u64 = 3 * SECOND;
+
+/// An LACPDU of an end, and when it was captured.
+#[derive(Clone, Copy, Debug, PartialEq, Eq)]
+pub(crate) struct Heard {
+    /// The number of the packet.
+    pub(crate) number: u64,
+    /// When it was captured, in nanoseconds.
+    pub(crate) nanoseconds: u64,
+    /// The LACPDU.
+    pub(crate) pdu: Lacpdu,
+    /// What was known then of other ends.
+    pub(crate) others: Others,
+}
+
+/// The LACPDUs of an end that came last, as far as the next one is judged by them.
+#[derive(Clone, Copy, Debug, Default, PartialEq, Eq)]
+pub(crate) struct Recent {
+    /// The latest one.
+    pub(crate) last: Option<Heard>,
+    /// The one before it.
+    pub(crate) second: Option<Heard>,
+    /// The one before that.
+    pub(crate) third: Option<Heard>,
+    /// When the end said first that it is Defaulted or Expired, if it has said so ever since; in nanoseconds.
+    pub(crate) unheard_since: Option<u64>,
+    /// When the end said first that it distributes and its partner does not collect, if it has said so ever since.
+    pub(crate) discarded_since: Option<u64>,
+}
+
+/// When it began: as it was, or now; None if it is not so.
+fn since(is_so: bool, before: Option<u64>, now: u64) -> Option<u64>
+    ensures { result ≡ (if is_so then Some (unwrap_or before now) else None) }
+{
+    if is_so {
+        Some(before.unwrap_or(now))
+    } else {
+        None
+    }
+}
+
+/// Whether this time is more than so many nanoseconds after that, if there is one.
+fn is_over(most: u64, since: Option<u64>, now: u64) -> bool
+    ensures { result ≡ and_if (λ t. nat_lt most (now - t)) since }
+{
+    match since {
+        Some(time) => most < now.saturating_sub(time),
+        None => false,
+    }
+}
+
+impl Heard {
+    /// Whether the sender is Defaulted or Expired.
+    pub(crate) fn is_unheard(&self) -> bool
+        ensures { result ≡ is_unheard self.now }
+    {
+        let state = self.pdu.actor.state;
+        state.is_defaulted() || state.is_expired()
+    }
+
+    /// Whether the sender distributes and its partner does not collect.
+    fn is_discarded(&self) -> bool
+        ensures { result ≡ is_discarded self.now }
+    {
+        self.pdu.actor.state.is_distributing() && !self.pdu.partner.state.is_collecting()
+    }
+
+    /// Whether the sender sends LACPDUs periodically.
+    fn is_periodic(&self) -> bool
+        ensures { result ≡ is_periodic self.now }
+    {
+        self.pdu.actor.state.is_active() || self.pdu.partner.state.is_active()
+    }
+
+    /// The timeout that the partner asks for, in nanoseconds.
+    fn timeout(&self) -> u64
+        ensures { result ≡ timeout self.now }
+    {
+        if self.pdu.partner.state.is_short() {
+            SHORT_TIMEOUT
+        } else {
+            LONG_TIMEOUT
+        }
+    }
+
+    /// Whether the next LACPDU should have come before this time, in nanoseconds.
+    pub(crate) fn is_silent(&self, until: u64) -> bool
+        ensures { result ≡ is_silent until self.now }
+    {
+        self.is_periodic() && is_over(self.timeout(), Some(self.nanoseconds), until)
+    }
+}
+
+impl Recent {
+    /// What comes last behind one more LACPDU.
+    pub(crate) fn with(&self, now: &Heard) -> Recent
+        ensures { (l : List Heard) → self.now ≡ recent_of l → result ≡ recent_of (now.now ∷ l) }
+    {
+        Recent {
+            last: Some(*now),
+            second: self.last,
+            third: self.second,
+            unheard_since: since(now.is_unheard(), self.unheard_since, now.nanoseconds),
+            discarded_since: since(now.is_discarded(), self.discarded_since, now.nanoseconds),
+        }
+    }
+
+    /// The latest one, if the next one should have come before this time.
+    pub(crate) fn silent(&self, until: u64) -> Option<Shown>
+        ensures { result ≡ last_silent until self.now.last }
+    {
+        match self.last {
+            Some(heard) => {
+                if heard.is_silent(until) {
+                    Some(heard.shown())
+                } else {
+                    None
+                }
+            }
+            None => None,
+        }
+    }
+
+    /// Whether it is the fourth LACPDU in less than a second.
+    pub(crate) fn is_rushed(&self, now: &Heard) -> bool
+        ensures { (l : List Heard) → self.now ≡ recent_of l → result ≡ is_rushed now.now l }
+    {
+        match self.third {
+            Some(heard) => now.nanoseconds.saturating_sub(heard.nanoseconds) < SECOND,
+            None => false,
+        }
+    }
+
+    /// Whether it comes later than the timeout allows.
+    pub(crate) fn is_late(&self, now: &Heard) -> bool
+        ensures { (l : List Heard) → self.now ≡ recent_of l → result ≡ is_late now.now l }
+    {
+        match self.last {
+            Some(heard) => heard.is_silent(now.nanoseconds),
+            None => false,
+        }
+    }
+
+    /// Whether it says that Synchronization is lost.
+    pub(crate) fn is_desynchronized(&self, now: &Heard) -> bool
+        ensures { (l : List Heard) → self.now ≡ recent_of l → result ≡ is_desynchronized now.now l }
+    {
+        match self.last {
+            Some(heard) => {
+                !now.pdu.actor.state.is_synchronized() && heard.pdu.actor.state.is_synchronized()
+            }
+            None => false,
+        }
+    }
+
+    /// Whether the end has been Defaulted or Expired for too long.
+    pub(crate) fn is_unheard(&self, now: &Heard) -> bool
+        ensures { (l : List Heard) → self.now ≡ recent_of l → result ≡ lasts is_unheard (seconds 6) now.now l }
+    {
+        now.is_unheard() && is_over(MOST_UNHEARD, self.unheard_since, now.nanoseconds)
+    }
+
+    /// Whether the end has distributed for too long while its partner does not collect.
+    pub(crate) fn is_discarded(&self, now: &Heard) -> bool
+        ensures { (l : List Heard) → self.now ≡ recent_of l → result ≡ lasts is_discarded (seconds 3) now.now l }
+    {
+        now.is_discarded() && is_over(MOST_DISCARDED, self.discarded_since, now.nanoseconds)
+    }
+}

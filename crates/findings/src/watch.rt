@@ -1,0 +1,118 @@
+ghost use Rattle.std.specs.Prelude.{◌≡◌, ◌∷◌, [], true, false, List};
+ghost use Rattle.findings.specs.declared.observed.Observed.{Observed};
+ghost use Rattle.findings.specs.Ends.{end_of, others, same_end};
+ghost use Rattle.findings.specs.Firsts.{first_of};
+ghost use Rattle.findings.specs.Knows.{Takes};
+ghost use Rattle.findings.specs.Watches.{watched};
+
+use crate::finding::Shown;
+use crate::frame_rules::FrameRules;
+use crate::lacpdu_rules::LacpduRules;
+use crate::observed::{LinkEnd, Observed};
+use crate::others::Others;
+use crate::recent::{Heard, Recent};
+use crate::rule::Rule;
+use slowpdu::Lacpdu;
+
+/// What is kept of one end.
+#[derive(Clone, Copy, Debug, Default, PartialEq, Eq)]
+pub(crate) struct Watch {
+    pub(crate) end: LinkEnd,
+    /// Its latest LACPDU.
+    pub(crate) said: Option<Lacpdu>,
+    pub(crate) others: Others,
+    pub(crate) recent: Recent,
+    pub(crate) lacpdus: LacpduRules,
+    pub(crate) frames: FrameRules,
+}
+
+impl Watch {
+    /// What is kept of an end before its first frame.
+    pub(crate) fn new(end: LinkEnd) -> Watch
+        ensures { result ≡ watched end [] }
+    {
+        Watch {
+            end,
+            said: None,
+            others: Others::default(),
+            recent: Recent::default(),
+            lacpdus: LacpduRules::default(),
+            frames: FrameRules::default(),
+        }
+    }
+
+    /// The same behind one more frame of this end.
+    fn with_own(&self, now: &Observed) -> Watch
+        ensures end { result.end ≡ self.now.end }
+        ensures exact { (h : List Observed) → same_end (end_of now.now) self.now.end ≡ true → self.now ≡ watched self.now.end h
+            → result ≡ watched self.now.end (now.now ∷ h) }
+    {
+        let frames = self.frames.with(now);
+        match now.what.lacpdu() {
+            Some(pdu) => {
+                let heard = Heard {
+                    number: now.number,
+                    nanoseconds: now.nanoseconds,
+                    pdu,
+                    others: self.others,
+                };
+                Watch {
+                    end: self.end,
+                    said: Some(pdu),
+                    others: self.others,
+                    recent: self.recent.with(&heard),
+                    lacpdus: self.lacpdus.with(&self.recent, &heard),
+                    frames,
+                }
+            }
+            None => Watch { frames, ..*self },
+        }
+    }
+
+    /// What is known of other ends behind one more frame of another end.
+    fn others_with(&self, now: &Observed) -> Others
+        ensures { (h : List Observed) → same_end (end_of now.now) self.now.end ≡ false → self.now ≡ watched self.now.end h
+            → result ≡ others self.now.end (now.now ∷ h) }
+    {
+        match (self.said, now.what.lacpdu()) {
+            (Some(own), Some(pdu)) => self.others.with(&self.end, &own, now, &pdu),
+            _ => self.others,
+        }
+    }
+
+    /// Takes one frame, of this end or another.
+    pub(crate) fn see(&mut self, now: &Observed)
+        ensures { Takes now.now self.old self.new }
+    {
+        if now.end().is(&self.end) {
+            *self = self.with_own(now);
+        } else {
+            self.others = self.others_with(now);
+        }
+    }
+
+    /// The first frame that shows the rule, where the capture goes up to this time.
+    pub(crate) fn first(&self, rule: Rule, until: u64) -> Option<Shown>
+        ensures { (h : List Observed) → self.now ≡ watched self.now.end h → result ≡ first_of rule until self.now.end h }
+    {
+        match rule {
+            Rule::Rate => self.lacpdus.rate,
+            Rule::System => self.lacpdus.system,
+            Rule::Port => self.lacpdus.port,
+            Rule::Key => self.lacpdus.key,
+            Rule::Passive => self.lacpdus.passive,
+            Rule::Version => self.frames.version,
+            Rule::Length => self.frames.length,
+            Rule::Reserved => self.frames.reserved,
+            Rule::Destination => self.frames.destination,
+            Rule::Tag => self.frames.tag,
+            Rule::Silence => self.lacpdus.silence.or(self.recent.silent(until)),
+            Rule::Unheard => self.lacpdus.unheard,
+            Rule::Desynchronized => self.lacpdus.desynchronized,
+            Rule::Individual => self.lacpdus.individual,
+            Rule::Keys => self.lacpdus.keys,
+            Rule::Segment => self.lacpdus.segment,
+            Rule::Discarded => self.lacpdus.discarded,
+        }
+    }
+}

@@ -1,0 +1,267 @@
+use crate::frames::{A, B, C, FAST, UP, a_to_b, at, b_to_a, info, observed, shows};
+use findings::{LinkEnd, Rule};
+use lagtypes::Key;
+use slowpdu::Info;
+use std::process::Abort;
+
+#[test]
+fn a_healthy_link_shows_nothing(rt: HostRuntime) {
+    let frames = [
+        at(0, a_to_b(FAST, FAST)),
+        at(500, b_to_a(FAST, FAST)),
+        at(1000, a_to_b(FAST, FAST)),
+        at(1500, b_to_a(FAST, FAST)),
+        at(2000, a_to_b(FAST, FAST)),
+        at(2500, b_to_a(FAST, FAST)),
+    ];
+    assert!(rt; shows(&frames, 4000, &[]));
+}
+
+// 6.4.16: no more than three LACPDUs in any Fast_Periodic_Time, a second.
+#[test]
+fn a_fourth_lacpdu_in_any_second_is_found_once(rt: HostRuntime) {
+    let said = a_to_b(FAST, FAST);
+    // within two whole seconds, two in each
+    let across = [at(600, said), at(900, said), at(1200, said), at(1500, said)];
+    assert!(rt; shows(&across, 2000, &[(1, 4)]));
+    // the fourth comes a second after the first
+    let apart = [at(0, said), at(300, said), at(600, said), at(1000, said)];
+    assert!(rt; shows(&apart, 2000, &[]));
+    // the fifth is one too many as well
+    let more = [
+        at(0, said),
+        at(300, said),
+        at(600, said),
+        at(999, said),
+        at(1100, said),
+    ];
+    assert!(rt; shows(&more, 2000, &[(1, 4)]));
+}
+
+// 6.4.9, recordPDU: the Partner is who sent the last LACPDU. B answers A, and A goes on to name another.
+#[test]
+fn who_answers_is_not_who_is_named(rt: HostRuntime) {
+    let answer = at(500, b_to_a(FAST, FAST));
+    let mut said = a_to_b(FAST, FAST);
+    said.partner = info(C, FAST);
+    assert!(rt; shows(&[at(0, said), answer, at(1000, said)], 2000, &[(2, 3)]));
+    let mut said = a_to_b(FAST, FAST);
+    said.partner.port.number = 2;
+    assert!(rt; shows(&[at(0, said), answer, at(1000, said)], 2000, &[(3, 3)]));
+    let mut said = a_to_b(FAST, FAST);
+    said.partner.key = Key(2);
+    assert!(rt; shows(&[at(0, said), answer, at(1000, said)], 2000, &[(4, 3)]));
+    // An end that is Defaulted or Expired names a partner of former times.
+    said.actor = info(A, 0x87);
+    assert!(rt; shows(&[at(0, said), answer, at(1000, said)], 2000, &[]));
+}
+
+// B changes its key from 1 to 2 and says so.
+#[test]
+fn the_latest_answer_counts(rt: HostRuntime) {
+    let said = a_to_b(FAST, FAST);
+    let answer = b_to_a(FAST, FAST);
+    let mut other_said = said;
+    other_said.partner.key = Key(2);
+    let mut other_answer = answer;
+    other_answer.actor.key = Key(2);
+    let before = [at(0, said), at(500, answer), at(900, other_answer)];
+    assert!(rt; shows(&[before[0], before[1], before[2], at(1000, other_said)], 2000, &[]));
+    assert!(rt; shows(&[before[0], before[1], before[2], at(1000, said)], 2000, &[(4, 4)]));
+}
+
+#[test]
+fn the_partner_is_the_end_that_answers(rt: HostRuntime) {
+    let mut said = a_to_b(FAST, FAST);
+    said.partner = info(C, FAST);
+    // Another link on the same interface comes between: C and a system D.
+    let mut other = a_to_b(FAST, FAST);
+    other.actor = info(C, FAST);
+    other.partner = info(0xd, FAST);
+    let frames = [
+        at(0, said),
+        at(100, other),
+        at(500, b_to_a(FAST, FAST)),
+        at(600, other),
+        at(1000, said),
+    ];
+    let shown = match observed(&frames).finding(0, Rule::System, 0) {
+        Some(finding) => Some((finding.end, finding.shown)),
+        None => None,
+    };
+    let end = |system: u8| LinkEnd {
+        interface: 0,
+        source: [2, 0, 0, 0, 0, system],
+        port: Some(1),
+    };
+    assert!(rt; shown.is_some());
+    if let Some((of, shown)) = shown {
+        assert_eq!(rt; of, end(A));
+        assert_eq!(rt; shown.number, 5);
+        assert_eq!(rt; shown.nanoseconds, 1_000_000_000);
+        assert_eq!(rt; shown.partner, Some(end(B)));
+    }
+}
+
+#[test]
+fn two_links_in_one_capture_are_not_mixed(rt: HostRuntime) {
+    let of = |system: u8, partner: u8| {
+        let mut said = a_to_b(FAST, FAST);
+        said.actor = info(system, FAST);
+        said.partner = info(partner, FAST);
+        said
+    };
+    let frames = [
+        at(0, of(A, B)),
+        at(10, of(C, 0xd)),
+        at(500, of(B, A)),
+        at(510, of(0xd, C)),
+        at(1000, of(A, B)),
+        at(1010, of(C, 0xd)),
+        at(1500, of(B, A)),
+        at(1510, of(0xd, C)),
+    ];
+    assert!(rt; shows(&frames, 3000, &[]));
+}
+
+// 6.4.13: no end sends LACPDUs periodically.
+#[test]
+fn both_ends_are_passive(rt: HostRuntime) {
+    let frames = [at(0, a_to_b(0x3c, 0x3c)), at(500, b_to_a(0x3c, 0x3c))];
+    assert!(rt; shows(&frames, 200_000, &[(5, 1), (5, 2)]));
+    let frames = [at(0, a_to_b(0x3c, UP)), at(500, b_to_a(UP, 0x3c))];
+    assert!(rt; shows(&frames, 1000, &[]));
+    // Of a Defaulted end's partner nothing is known.
+    assert!(rt; shows(&[at(0, a_to_b(0x44, 0x00))], 1000, &[]));
+}
+
+// 6.4.4, 6.4.13: Short_Timeout_Time is 3 seconds, Long_Timeout_Time 90.
+#[test]
+fn silence_is_longer_than_the_timeout_that_the_partner_asks_for(rt: HostRuntime) {
+    let short = [
+        at(0, a_to_b(FAST, FAST)),
+        at(500, b_to_a(FAST, FAST)),
+        at(2000, b_to_a(FAST, FAST)),
+        at(3001, a_to_b(FAST, FAST)),
+    ];
+    assert!(rt; shows(&short, 4000, &[(11, 4)]));
+    let in_time = [at(0, a_to_b(FAST, FAST)), at(3000, a_to_b(FAST, FAST))];
+    assert!(rt; shows(&in_time, 4000, &[]));
+    // up to the end of the capture
+    let long = [at(0, a_to_b(FAST, UP)), at(500, a_to_b(FAST, UP))];
+    assert!(rt; shows(&long, 90_500, &[]));
+    assert!(rt; shows(&long, 90_501, &[(11, 2)]));
+}
+
+// 6.4.12: an end that hears its partner is CURRENT; without it is 3 seconds in EXPIRED, then DEFAULTED.
+#[test]
+fn an_end_hears_nothing_for_too_long(rt: HostRuntime) {
+    let said = a_to_b(0x47, 0x00);
+    let frames = [
+        at(0, said),
+        at(2000, said),
+        at(4000, said),
+        at(6000, said),
+        at(6001, said),
+    ];
+    assert!(rt; shows(&frames, 7000, &[(12, 5)]));
+    let expired = a_to_b(0x87, 0x3d);
+    let frames = [at(0, said), at(2000, expired), at(6001, said)];
+    assert!(rt; shows(&frames, 7000, &[(12, 3)]));
+    let frames = [at(0, said), at(4000, a_to_b(0x07, 0x3d)), at(7000, said)];
+    assert!(rt; shows(&frames, 8000, &[]));
+}
+
+// 6.4.15: the port leaves its aggregator.
+#[test]
+fn synchronization_is_lost(rt: HostRuntime) {
+    let up = a_to_b(FAST, FAST);
+    let down = a_to_b(0x07, FAST);
+    assert!(rt;
+        shows(
+            &[at(0, up), at(1000, down), at(2000, down)],
+            3000,
+            &[(13, 2)]
+        )
+    );
+    assert!(rt; shows(&[at(0, down), at(1000, up), at(2000, up)], 3000, &[]));
+}
+
+// 6.3.5: the Aggregation bit of one end is 0.
+#[test]
+fn one_end_is_individual(rt: HostRuntime) {
+    let frames = [at(0, a_to_b(0x39, UP)), at(500, b_to_a(UP, 0x39))];
+    assert!(rt; shows(&frames, 1000, &[(14, 1)]));
+    let frames = [at(0, a_to_b(0x39, 0x39)), at(500, b_to_a(0x39, 0x39))];
+    assert!(rt; shows(&frames, 1000, &[]));
+}
+
+// 6.3.6: a LAG ID has the keys of both systems.
+#[test]
+fn keys_differ_within_a_pair_of_systems(rt: HostRuntime) {
+    let second = |from: Info, to: Info, keys: (u16, u16)| {
+        let mut said = a_to_b(FAST, FAST);
+        said.actor = from;
+        said.partner = to;
+        said.actor.port.number = 2;
+        said.partner.port.number = 2;
+        said.actor.key = Key(keys.0);
+        said.partner.key = Key(keys.1);
+        let mut frame = at(400, said);
+        frame.interface = 1;
+        frame
+    };
+    let first = at(0, a_to_b(FAST, FAST));
+    let again = at(1000, a_to_b(FAST, FAST));
+    let (a, b, c) = (info(A, FAST), info(B, FAST), info(C, FAST));
+    assert!(rt; shows(&[first, second(a, b, (2, 1)), again], 2000, &[(15, 3)]));
+    assert!(rt; shows(&[first, second(a, b, (1, 2)), again], 2000, &[(15, 3)]));
+    assert!(rt; shows(&[first, second(a, b, (1, 1)), again], 2000, &[]));
+    assert!(rt; shows(&[first, second(a, c, (2, 2)), again], 2000, &[]));
+}
+
+// 6.4.9: two ends record one partner, so both hear it.
+#[test]
+fn two_actors_are_on_one_segment(rt: HostRuntime) {
+    let mut rival = a_to_b(FAST, FAST);
+    rival.actor = info(C, FAST);
+    let said = a_to_b(FAST, FAST);
+    assert!(rt;
+        shows(
+            &[at(0, said), at(500, rival), at(1000, said)],
+            2000,
+            &[(16, 3)]
+        )
+    );
+    // on another interface, or long ago
+    let mut elsewhere = at(500, rival);
+    elsewhere.interface = 1;
+    assert!(rt; shows(&[at(0, said), elsewhere, at(1000, said)], 2000, &[]));
+    let said = a_to_b(FAST, UP);
+    rival.partner = info(B, UP);
+    let frames = [at(0, said), at(500, rival), at(90_501, said)];
+    assert!(rt; shows(&frames[..2], 2000, &[]));
+    let of_first = observed(&frames).finding(0, Rule::Segment, 0);
+    assert!(rt; of_first.is_none());
+}
+
+// 6.4.15: frames that are distributed are collected.
+#[test]
+fn frames_are_distributed_that_nobody_collects(rt: HostRuntime) {
+    let said = a_to_b(FAST, 0x0f);
+    let frames = [
+        at(0, said),
+        at(1000, said),
+        at(2000, said),
+        at(3000, said),
+        at(3001, said),
+    ];
+    assert!(rt; shows(&frames, 4000, &[(17, 5)]));
+    let frames = [
+        at(0, said),
+        at(1000, a_to_b(FAST, FAST)),
+        at(2000, said),
+        at(4000, said),
+    ];
+    assert!(rt; shows(&frames, 5000, &[]));
+}
