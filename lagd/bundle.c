@@ -16,24 +16,54 @@ static uint16_t carrying_in(uint16_t aggregator) {
     return carrying;
 }
 
-/* Whether an aggregator has a partner. A port on defaults is alone in its aggregator, and nobody may be at its other end. */
-static bool has_partner(uint16_t aggregator) {
+/* The first link of an aggregator that carries, or NULL. */
+static const struct link *first_in(uint16_t aggregator) {
     for (uint16_t i = 0; i < link_count; i++)
-        if (links[i].view.aggregator == aggregator && carries(&links[i])) return !links[i].view.defaulted;
-    return false;
+        if (links[i].view.aggregator == aggregator && carries(&links[i])) return &links[i];
+    return NULL;
 }
 
-/* Chooses the aggregator with most ports that carry; of several the first one. One without a partner is chosen where there is no
- * other. */
+/* How good an aggregator is for data, or 0. A port on defaults is alone in its aggregator, and nobody may be at its other end. */
+static unsigned rank_of(uint16_t aggregator) {
+    const struct link *first = first_in(aggregator);
+    if (!first) return 0;
+    return carrying_in(aggregator) + (first->view.defaulted ? 0u : NIW_MOST_PORTS);
+}
+
+/* Writes one end of a group so that memcmp compares two of them. */
+static uint8_t *put_end(const struct niw_end *end, uint8_t *at) {
+    const uint16_t numbers[] = {end->system_priority, end->key, end->port_priority, end->port};
+    memcpy(at, end->system_mac, sizeof end->system_mac);
+    at += sizeof end->system_mac;
+    for (size_t i = 0; i < sizeof numbers / sizeof *numbers; i++) {
+        *at++ = (uint8_t)(numbers[i] >> 8);
+        *at++ = (uint8_t)numbers[i];
+    }
+    return at;
+}
+
+/* Whether one aggregator has a lesser group than another. Both ends of two groups compare them alike, whatever their numbers are. */
+static bool is_lesser(uint16_t one, uint16_t other) {
+    uint8_t groups[2][2 * (6 + 4 * sizeof(uint16_t))];
+    const uint16_t aggregators[2] = {one, other};
+    for (int i = 0; i < 2; i++) {
+        struct niw_group_id group = niw_group(&own_system, first_in(aggregators[i])->settings.number);
+        refuse(group.status, "niw_group");
+        put_end(&group.upper, put_end(&group.lower, groups[i]));
+    }
+    return memcmp(groups[0], groups[1], sizeof groups[0]) < 0;
+}
+
+/* Chooses the aggregator with most ports that carry; of several the one with the least group, so that the other end does so, too. One
+ * without a partner is chosen where there is no other. */
 void choose_aggregator(struct bundle *now) {
     unsigned best = 0;
     now->aggregator = now->carrying = 0;
     for (uint16_t aggregator = 1; aggregator <= aggregator_count; aggregator++) {
-        uint16_t carrying = carrying_in(aggregator);
-        unsigned rank = carrying + (has_partner(aggregator) ? NIW_MOST_PORTS : 0u);
-        if (rank <= best) continue;
+        unsigned rank = rank_of(aggregator);
+        if (rank < best || rank == 0 || (rank == best && !is_lesser(aggregator, now->aggregator))) continue;
         best = rank;
-        now->carrying = carrying;
+        now->carrying = carrying_in(aggregator);
         now->aggregator = aggregator;
     }
 }

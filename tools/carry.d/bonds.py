@@ -63,9 +63,9 @@ class End(Daemon):
     """A daemon that carries the data of lag0."""
 
     def __init__(self, programs: Programs, space: str, *, program: str = "", options: Sequence[str] = (), links: int = 2,
-                 before: Sequence[str] = (), words: Sequence[str] = ()) -> None:
+                 before: Sequence[str] = (), names: Sequence[str] = ()) -> None:
         ours = space == OURS
-        names = [f"{'a' if ours else 'b'}{number}" for number in range(links - len(words))] + list(words)
+        names = names or [f"{'a' if ours else 'b'}{number}" for number in range(links)]
         given = ["--carry", DEVICE, "--flight", str(FLIGHT), *options]
         super().__init__(program or programs.daemon, programs.folder, space, SYSTEM if ours else OTHER, "23" if ours else "5", *names,
                          options=given, before=before)

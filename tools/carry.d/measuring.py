@@ -12,7 +12,7 @@ from fetching import Packages
 from openvswitch import OpenVSwitch
 from spaces import OURS, THEIRS, ip
 
-HEADINGS = ("run", "frames", "overtaken", "twice", "lost", "longest gap, ms", "processor of both ends, s")
+HEADINGS = ("run", "frames", "overtaken", "twice", "lost", "longest gap, ms", "processor a frame, us")
 # How fast frames go where nothing happens to the links, and for how many seconds.
 FAST, FAST_SECONDS = 100000, 5
 
@@ -27,7 +27,7 @@ def seconds_of(process: int) -> float:
 
 
 def row(name: str, outcome: Outcome, processes: Sequence[int], before: float) -> list[str]:
-    took = sum(map(seconds_of, processes)) - before
+    took = (sum(map(seconds_of, processes)) - before) * 1e6 / max(outcome.received, 1)
     counts = [outcome.sent, outcome.overtaken, outcome.twice, outcome.lost(), outcome.gap_ms]
     return [name, *(f"{count:,}" for count in counts), f"{took:.1f}"]
 
@@ -100,8 +100,9 @@ def print_table(programs: Programs) -> None:
         rows += measure_open_vswitch(programs, ())
     except Skipped as why:
         print(f"skipped: Open vSwitch: {why}", flush=True)
-    print(f"64 flows, {RATE:,} frames a second where nothing else is said; links of 0 and 20 ms; flight {FLIGHT} ms; without delay at "
-          f"{FAST:,} frames a second")
+    print(f"64 flows, {RATE:,} frames a second where nothing else is said, flight {FLIGHT} ms; links of 0 and 20 ms, and without delay at "
+          f"{FAST:,} frames a second; processor: of both ends, for each frame that came")
+    print(f"{os.cpu_count()} processors, load {os.getloadavg()[0]:.0f}")
     for cells in (list(HEADINGS), ["---"] * len(HEADINGS), *rows):
         print(f"| {' | '.join(cells)} |")
     ours = [cells for cells in rows if cells[0].startswith("lagd,")]

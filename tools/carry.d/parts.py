@@ -78,9 +78,10 @@ def silence(programs: Programs) -> None:
 
 
 def switches(programs: Programs) -> None:
-    """Two groups of two links, by two keys of the other end: data goes by the one that has more links."""
+    """Two groups of two links, by two keys of the other end, which has other numbers for their aggregators: data goes by the group that has
+    more links, and by the same one at both ends."""
     with cables(programs, (0, 20000, 5000, 0)) as laid:
-        ours, theirs = End(programs, OURS, links=4), End(programs, THEIRS, links=4, words=("b2:key=6", "b3:key=6"))
+        ours, theirs = End(programs, OURS, links=4), End(programs, THEIRS, names=("b2:key=6", "b3:key=6", "b0", "b1"))
         try:
             two = lambda: ours.links() == theirs.links() == 2 and ours.carry()["markers"] == "answered"
             check(within(COMES_UP, two), "two of four links carry", ours.text(), theirs.text())
