@@ -6,6 +6,8 @@
 
 /* After how many ticks without a response the same marker is sent again. */
 #define AGAIN_TICKS 2
+/* How long a marker may have no answer while its port distributes, in milliseconds: as long as a partner of short timeouts is waited for. */
+#define UNANSWERED 3000
 /* How long a port may run on defaults before it is started again: at first, and at most. */
 #define FIRST_WAKE 10
 #define LAST_WAKE 300
@@ -88,11 +90,12 @@ static void watch_free(struct conversation *conversation, uint16_t number, const
         rest(conversation, number);
 }
 
-/* A conversation that is held for a flight goes on: nothing of it was sent since. What is held on a port that does not distribute is
- * for watch_port. */
+/* A conversation that is held for long goes on: nothing of it was sent since. It waits for a peer that answers markers, which may have
+ * been stopped for a while, and for a flight else. What is held on a port that does not distribute is for watch_port. */
 static void watch_held(struct conversation *conversation, uint16_t number, const struct niw_assignment *state) {
+    bool answered = is_held(state) && answering() != MUTE && settings.flight < UNANSWERED;
     if (conversation->since == 0) conversation->since = carry.time;
-    if (carry.time - conversation->since < settings.flight) return;
+    if (carry.time - conversation->since < (answered ? UNANSWERED : settings.flight)) return;
     if (is_held(state) && !distributes(state->port)) return;
     if (is_held(state)) doubt_partner();
     rest(conversation, number);

@@ -67,7 +67,7 @@ def cuts(programs: Programs) -> None:
 
 def silence(programs: Programs) -> None:
     """Each link is silent for 5 s, and is heard again."""
-    with pair(programs) as (laid, ours, theirs):
+    with pair(programs, options=["--flight", "200"]) as (laid, ours, theirs):
         events = [(1, lambda: laid.tell("silence", 1)), (6, lambda: laid.tell("hear", 1)), (10, lambda: laid.tell("silence", 0)),
                   (15, lambda: laid.tell("hear", 0))]
         outcome = run_flows(programs, 18, events)
