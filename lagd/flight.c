@@ -6,7 +6,7 @@
 
 /* After how many ticks without a response the same marker is sent again. */
 #define AGAIN_TICKS 2
-/* How long a marker may have no answer while its port distributes, in milliseconds: as long as a partner of short timeouts is waited for. */
+/* How long a marker may have no answer while its port distributes, in milliseconds: as a partner of short timeouts is waited for. */
 #define UNANSWERED 3000
 /* How long a port may run on defaults before it is started again: at first, and at most. */
 #define FIRST_WAKE 10
