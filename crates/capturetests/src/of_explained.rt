@@ -114,12 +114,7 @@ struct Outcome {
 }
 
 /// Explains octets that are read in pieces of this size.
-fn explained(
-    alloc: Global,
-    settings: Settings,
-    octets: &[u8],
-    size: usize,
-) -> Outcome {
+fn explained(alloc: Global, settings: Settings, octets: &[u8], size: usize) -> Outcome {
     let mut source = Source::new(Pieces { rest: octets, size });
     let mut sink = Sink::new(Vec::new(alloc));
     let answer = explain(alloc, settings, &mut source, &mut sink);
@@ -165,7 +160,8 @@ fn every_field_or_no_frame_is_shown(rt: HostRuntime) -> Result<(), Fail> {
     };
     let outcome = explained(alloc, all, &octets, 4096);
     let text = str::from_utf8(&outcome.text).unwrap_or("");
-    let line = "6 3.250000 02-00-00-00-00-02 lacpdu actor P3 state 3d active,aggregatable,synchronized,collecting,distributing partner P1 partner-state 3d active,aggregatable,synchronized,collecting,distributing max-delay 0\n";
+    let line =
+        "6 3.250000 02-00-00-00-00-02 lacpdu actor P3 state 3d active,aggregatable,synchronized,collecting,distributing partner P1 partner-state 3d active,aggregatable,synchronized,collecting,distributing max-delay 0\n";
     assert!(rt; text.contains(line), "{text}");
     let none = Settings {
         all: false,

@@ -2,14 +2,13 @@
 use Rattle.std.proofs.Common.{◌≡◌, ◌∙◌, ap, ℕ, Option}
 use Rattle.std.specs.Prelude.{OnOk, Result, Ok, Err}
 use Rattle.slowpdu.specs.declared.pdu.Lacpdu.{Lacpdu}
-use Rattle.lagcapture.specs.declared.ends.Sender.{Sender}
 use Rattle.lagcapture.specs.declared.envelope.Envelope.{Envelope}
 use Rattle.lagcapture.specs.declared.lacpdu_texts.Shown.{Shown}
 use Rattle.lagcapture.specs.declared.names.Identity.{Identity}
 use Rattle.lagcapture.specs.Ends.{end_place}
 use Rattle.lagcapture.specs.LacpduTexts.{shown_of}
 use Rattle.lagcapture.specs.Names.{identity_of}
-use Rattle.lagcapture.specs.Explaining.{ExplainerState, after_lacpdu, after_named, after_placed, lacpdu_line, last_shown, name_place, named, sender_of}
+use Rattle.lagcapture.specs.Explaining.{ExplainerState, after_lacpdu, after_named, after_placed, last_shown, name_place, named, sender_of}
 use Rattle.lagcapture.specs.Explaining.{with_end, with_line}
 use Rattle.lagcapture.specs.declared.line.WhatText.TheVariants as what
 

@@ -1,5 +1,5 @@
 -- What the line of a frame says besides its LACPDU.
-use Rattle.std.specs.Prelude.{◌==◌, ◌/◌, ◌%◌, ◌-◌, ◌++◌, ℕ, Bool, not, List, [], ◌∷◌, Option, Some, None, codes, decimal, nat_lt, if◌then◌else◌}
+use Rattle.std.specs.Prelude.{◌==◌, ◌/◌, ◌%◌, ◌-◌, ◌++◌, ℕ, List, [], ◌∷◌, Option, Some, None, codes, decimal, nat_lt, if◌then◌else◌}
 use Rattle.std.specs.Str.{bytes_eq}
 use Rattle.lagtypes.specs.Texts.{mac_text}
 use Rattle.slowpdu.specs.Frames.{slow_group}

@@ -1,5 +1,5 @@
-use Rattle.std.proofs.Common.{◌≡◌, ◌-◌, ◌∙◌, ap, arith, inl, length}
-use Rattle.std.specs.Prelude.{Err, None}
+use Rattle.std.proofs.Common.{◌-◌, arith, inl, length}
+use Rattle.std.specs.Prelude.{None}
 use Rattle.lagcapture.proofs.StrideLemmas.{ends_behind, ends_there, reads_more, reads_none, rest_length, stops_by}
 use Rattle.lagcapture.proofs.strides.take_steps.Goals as goal
 
