@@ -89,7 +89,7 @@ def pcapng(packets: list[Packet], order: str = "<", link: int = ETHERNET) -> byt
     for time, octets in packets:
         head = struct.pack(order + "IIIII", 0, time >> 32, time & 0xFFFFFFFF, len(octets), len(octets))
         out.append(block(order, 6, head + octets))
-        out.append(block(order, 0x0BAD, b"no reader knows it"))
+        out.append(block(order, 0x00C0FFEE, b"no reader knows it"))
     return b"".join(out)
 
 
