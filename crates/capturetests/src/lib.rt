@@ -4,3 +4,5 @@
 
 #[cfg(test)]
 mod of_captures;
+#[cfg(test)]
+mod of_explained;
