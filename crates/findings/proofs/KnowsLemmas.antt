@@ -1,7 +1,7 @@
 -- How what is known follows one more frame.
-use Rattle.std.proofs.Common.{take, drop, ◌≡◌, ◌<◌, ◌≤◌, ◌+◌, ◌==◌, ◌||◌, ◌∷◌, ◌++◌, ◌∙◌, ℕ, suc, Bool, true, false, cond, List, [], length, map, filter, refl, ap, sym, subst, arith}
+use Rattle.std.proofs.Common.{take, drop, ◌≡◌, ◌<◌, ◌||◌, ◌∷◌, ◌++◌, ◌∙◌, ℕ, suc, Bool, true, false, List, [], length, refl, ap, sym, subst, arith}
 use Rattle.std.proofs.Math.Seq.{take-append_seam}
-use Rattle.std.specs.List.{AllByRecursion, AllZip, IsDistinct, list_any, refill}
+use Rattle.std.specs.List.{AllByRecursion, AllZip, IsDistinct, refill}
 use Rattle.findings.specs.declared.observed.LinkEnd.{LinkEnd}
 use Rattle.findings.specs.declared.observed.Observed.{Observed}
 use Rattle.findings.specs.declared.watch.Watch.{Watch}

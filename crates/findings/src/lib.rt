@@ -6,18 +6,19 @@
 //! In comments, numbers such as 6.4.9 are sections of that standard.
 #![tactic(auto)]
 
+mod asking;
 mod finding;
-mod findings;
 mod frame_rules;
 mod heard;
 mod lacpdu_rules;
 mod observed;
+mod observing;
 mod others;
 mod recent;
 mod rule;
 mod watch;
 
 pub use finding::{Finding, Shown};
-pub use findings::{Findings, MOST_ENDS};
 pub use observed::{LinkEnd, Observed, What};
+pub use observing::{Findings, MOST_ENDS};
 pub use rule::Rule;

@@ -56,13 +56,14 @@ fn an_end_is_named_by_what_it_sends(rt: HostRuntime) {
     };
     let mut elsewhere = lacpdu;
     elsewhere.interface = 1;
-    let findings = observed(&[lacpdu, marker, response, refused, elsewhere]);
+    let findings = observed(&[lacpdu, marker, response, elsewhere]);
     assert_eq!(rt; findings.count(), 4);
     assert_eq!(rt; findings.end(0), Some(end(Some(1))));
     assert_eq!(rt; findings.end(1), Some(end(Some(7))));
     assert_eq!(rt; findings.end(2), Some(end(None)));
     assert!(rt; findings.end(3).is_some());
     assert_eq!(rt; findings.end(4), None);
+    assert_eq!(rt; observed(&[refused]).end(0), Some(end(None)));
     // What a refused payload has as version and reserved octets means nothing.
     assert!(rt; shows(&[refused], 1000, &[]));
 }
