@@ -653,7 +653,7 @@ static inline struct niw_decoded niw_decode(const uint8_t *payload, size_t lengt
 /* Writes the payload of a PDU at the front of `payload`, which has NIW_PAYLOAD_LENGTH octets or more: version 1, and 0 in each
  * reserved octet. */
 static inline uint32_t niw_encode(const struct niw_pdu *pdu, uint8_t *payload, size_t room) {
-    return (pdu && payload) ? lagffi_encode(pdu, payload, room) : (uint32_t)NIW_NULL;
+    return (pdu && payload) ? lagffi_encode(pdu, payload, room) : niw_null_status();
 }
 
 /* Texts. */
