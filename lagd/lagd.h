@@ -175,6 +175,7 @@ enum {
     ABOUT_CARRIER = 0xa000,  /* the TAP device has a carrier, or none */
     ABOUT_MARKERS = 0xb000,  /* the peer answers markers, or none */
     ABOUT_DATA = 0xc000,     /* what troubles the data of a port */
+    ABOUT_RIGHTS = 0xd000,   /* the daemon keeps capabilities that it does not need */
     KINDS = 0xf000,
 };
 _Noreturn void stop(int status, const char *what, const char *which);
