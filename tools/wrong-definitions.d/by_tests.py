@@ -25,6 +25,7 @@ LOOKS = {
     "lagline": ["lagline"],
     "lagstreams": ["jobtests", "servetests", "stored run"],
     "captures": ["capturetests"],
+    "lagcapture": ["capturetests"],
     "holding": ["holdingtests"],
     "balance": ["holdingtests"],
     "lagjobs": ["jobtests"],
