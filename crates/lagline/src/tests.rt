@@ -223,9 +223,7 @@ fn help_says_what_words_mean(rt: HostRuntime) -> Result<(), Fail> {
 fn help_has_the_lines_in_their_order(rt: HostRuntime) -> Result<(), Fail> {
     let text = help_of(rt.alloc(), &["lagtool", "--help"])?;
     let mut rest = text.as_str();
-    for name in [
-        "decode", "respond", "check", "capture", "replay", "vectors",
-    ] {
+    for name in ["decode", "respond", "check", "capture", "replay", "vectors"] {
         let line = rest.split_once(name);
         assert!(rt; line.is_some(), "{name} is not behind the others: {text}");
         rest = line.map(|(_, behind)| behind).unwrap_or("");
