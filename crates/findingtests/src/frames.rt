@@ -58,11 +58,12 @@ pub fn b_to_a(own: u8, seen: u8) -> Said {
 
 /// A frame with this LACPDU, so many milliseconds after the beginning. Its source is the Actor's MAC address.
 pub fn at(milliseconds: u64, said: Said) -> Observed {
+    let source = said.actor.system.mac;
     Observed {
         number: 0,
         interface: 0,
         nanoseconds: milliseconds.wrapping_mul(1_000_000),
-        source: said.actor.system.mac,
+        source,
         destination: Some([0x01, 0x80, 0xc2, 0, 0, 2]),
         tagged: false,
         length: 124,

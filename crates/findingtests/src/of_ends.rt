@@ -31,18 +31,19 @@ fn a_frame_is_not_as_the_standard_has_it(rt: HostRuntime) {
 #[test]
 fn an_end_is_named_by_what_it_sends(rt: HostRuntime) {
     let lacpdu = at(0, a_to_b(FAST, FAST));
+    let system = lacpdu.source;
     let mut marker = lacpdu;
     marker.what = What::Marker(Marker {
         kind: MarkerKind::Information,
         port: 7,
-        system: lacpdu.source,
+        system,
         id: 1,
     });
     let mut response = lacpdu;
     response.what = What::Marker(Marker {
         kind: MarkerKind::Response,
         port: 7,
-        system: lacpdu.source,
+        system,
         id: 1,
     });
     let mut refused = lacpdu;

@@ -6,11 +6,13 @@ use std::process::Abort;
 /// A frame of a system with a marker of port 1 of system A, or the response to it.
 fn marker(milliseconds: u64, kind: MarkerKind, from: u8, id: u32) -> Observed {
     let mut frame = at(milliseconds, a_to_b(FAST, FAST));
-    frame.source = [2, 0, 0, 0, 0, from];
+    let source = [2, 0, 0, 0, 0, from];
+    let system = [2, 0, 0, 0, 0, A];
+    frame.source = source;
     frame.what = What::Marker(Marker {
         kind,
         port: 1,
-        system: [2, 0, 0, 0, 0, A],
+        system,
         id,
     });
     frame
