@@ -110,7 +110,12 @@ fn capture_file<R: Print + Files + Input + AllocGlobal>(
 ) -> Result<Summary, CaptureFault> {
     let mut sink = Sink::new(io::writer(rt));
     if file == "-" {
-        explain(rt.alloc(), settings, &mut Source::new(rt.reader()), &mut sink)
+        explain(
+            rt.alloc(),
+            settings,
+            &mut Source::new(rt.reader()),
+            &mut sink,
+        )
     } else {
         match File::open(rt, file) {
             Ok(opened) => explain(rt.alloc(), settings, &mut Source::new(opened), &mut sink),
@@ -139,9 +144,12 @@ fn status_of_capture<R: Print + Eprint + Files + Input + AllocGlobal>(
         frames: !options.no_frames,
     };
     match capture_file(rt, settings, file) {
-        Ok(Summary {
-            fault: Some(fault), ..
-        }) => {
+        Ok(
+            Summary {
+                fault: Some(fault),
+                ..
+            },
+        ) => {
             let _ = eprintln!(rt; "lagtool: cannot read {file}: {fault}");
             ExitCode::from(2)
         }
