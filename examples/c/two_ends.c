@@ -2,13 +2,11 @@
 #include "lag.h"
 
 /* One end: port 1, whose link is up, in aggregator 1. */
-static struct niw_system make_end(uint8_t number) {
-    struct niw_system end = NIW_EMPTY;
+static bool make_end(struct niw_system *end, uint8_t number) {
     struct niw_config config = {.priority = 32768, .mac = {2, 0, 0, 0, 0, number}, .conversations = 256};
     struct niw_port port = {.number = 1, .mac = {2, 0, 0, 0, 0, number}, .key = 1, .aggregatable = true, .active = true};
-    niw_new(&end, &config, &port.key, 1, &port, 1);
-    niw_set_link(&end, 1, true);
-    return end;
+    const uint16_t keys[] = {1};
+    return niw_new(end, &config, keys, 1, &port, 1).status == NIW_OK && niw_set_link(end, 1, true) == NIW_OK;
 }
 
 /* 100 ms pass at one end, and what it sends comes to the other. */
@@ -20,7 +18,9 @@ static void pass(struct niw_system *from, struct niw_system *to) {
 }
 
 int main(void) {
-    struct niw_system one = make_end(1), two = make_end(2);
+    struct niw_system one = NIW_EMPTY, two = NIW_EMPTY;
+    if (!make_end(&one, 1) || !make_end(&two, 2))
+        return 1;
     unsigned ticks = 0;
     for (; ticks < 100 && !(niw_distributes(&one, 1).is && niw_distributes(&two, 1).is); ticks++) {
         pass(&one, &two);
