@@ -61,6 +61,13 @@ fn lacpdu(number: u8, actor: Info, partner: Info) -> [u8; 124] {
     frame(mac(number), &sent.encode())
 }
 
+/// The first 60 octets of a frame.
+fn beginning(frame: &[u8; 124]) -> [u8; 60] {
+    let mut octets = [0; 60];
+    octets.copy_from_slice(&frame[..60]);
+    octets
+}
+
 /// A capture of a link that comes up: A says that it knows nobody, B names A, A is synchronized, a broadcast, B is
 /// synchronized, and says so again; A asks by a marker, and B sends a payload of 60 octets.
 fn coming_up(alloc: Global, order: Order) -> Result<Vec<u8>, AllocError> {
@@ -85,7 +92,7 @@ fn coming_up(alloc: Global, order: Order) -> Result<Vec<u8>, AllocError> {
     put_packet(&mut out, order, 102, 250_000, 124, &five)?;
     put_packet(&mut out, order, 103, 250_000, 124, &five)?;
     put_packet(&mut out, order, 104, 1, 124, &seven)?;
-    put_packet(&mut out, order, 99, 999_999, 60, &five[..60])?;
+    put_packet(&mut out, order, 99, 999_999, 60, &beginning(&five))?;
     Ok(out)
 }
 
