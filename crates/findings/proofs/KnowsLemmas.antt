@@ -140,7 +140,7 @@ known_end now h olds news left t known k =
       exact = still_exact now h olds news t k.exact;
       ends = same_ends now olds news t ∙ (k.ends ∙ sym same);
       counts = k.counts
-      ∙ ap (λ fs. counted (length fs)) (sym (ap (λ es. frames_beyond es (now ∷ h)) same ∙ beyond_known (first_ends h) now h among));
+          ∙ ap (λ fs. counted (length fs)) (sym (ap (λ es. frames_beyond es (now ∷ h)) same ∙ beyond_known (first_ends h) now h among));
     }
 
 -- the frame is left out, since as many ends are kept as may be
@@ -155,7 +155,7 @@ left_out now h olds news left more t unknown full one k =
       exact = still_exact now h olds news t k.exact;
       ends = same_ends now olds news t ∙ (k.ends ∙ sym same);
       counts = counted_one left (length (frames_beyond (first_ends h) h)) more k.counts one
-      ∙ ap (λ fs. counted (length fs)) (sym (ap (λ es. frames_beyond es (now ∷ h)) same ∙ beyond_new (first_ends h) now h among));
+          ∙ ap (λ fs. counted (length fs)) (sym (ap (λ es. frames_beyond es (now ∷ h)) same ∙ beyond_new (first_ends h) now h among));
     }
 
 pub push_all : {A : Type 0} (P : A → Type 0) (xs : List A) (x : A) → AllByRecursion P xs → P x → AllByRecursion P (xs ++ x ∷ [])
@@ -182,10 +182,10 @@ new_end now h olds news w left t unknown room first k =
       exact = push_all (IsExact (now ∷ h)) news w (still_exact now h olds news t k.exact) (first.exact h (before_first (end_of now) h none));
       ends = pushed_ends news w ∙ (ap (λ es. es ++ w.end ∷ []) (kept ∙ all) ∙ (ap (λ e. firsts h ++ e ∷ []) first.end ∙ sym longer));
       counts = k.counts
-      ∙ ap (λ fs. counted (length fs))
-      (ap (λ es. frames_beyond es h) all ∙ none_beyond (firsts h) h (covered h)
+          ∙ ap (λ fs. counted (length fs))
+          (ap (λ es. frames_beyond es h) all ∙ none_beyond (firsts h) h (covered h)
           ∙ sym (ap (λ es. frames_beyond es (now ∷ h)) (longer ∙ sym (with_new (end_of now) (firsts h) new))
-              ∙ none_beyond (firsts (now ∷ h)) (now ∷ h) (covered (now ∷ h))));
+          ∙ none_beyond (firsts (now ∷ h)) (now ∷ h) (covered (now ∷ h))));
     }
 
 -- before the first frame

@@ -1,12 +1,12 @@
 ghost use Rattle.std.specs.Prelude.{◌≡◌, List};
 ghost use Rattle.findings.specs.declared.recent.Heard.{Heard};
 ghost use Rattle.findings.specs.Firsts.{shown_heard};
-ghost use Rattle.findings.specs.Holds.{is_current, is_passive, is_individual, is_named_system, is_sibling_of, has_keys_of, names_partner_of};
+ghost use Rattle.findings.specs.Holds.{is_current, is_fresh, is_passive, is_individual, is_named_system, is_sibling_of, has_keys_of, names_partner_of};
 ghost use Rattle.findings.specs.Holds.{has_other_system, has_other_port, has_other_key, has_other_keys, has_rival};
 
 use crate::finding::Shown;
 use crate::others::Other;
-use crate::recent::{Heard, LONG_TIMEOUT};
+use crate::recent::{Heard, LONG_TIMEOUT, is_ordered};
 
 impl Heard {
     /// This LACPDU, and the end that answers its sender.
@@ -28,6 +28,14 @@ impl Heard {
         ensures { result ≡ is_current self.now }
     {
         !self.is_unheard()
+    }
+
+    /// Whether the LACPDU of another end came at most a Long Timeout before.
+    fn is_fresh(&self, other: &Other) -> bool
+        ensures { result ≡ is_fresh self.now other.now }
+    {
+        is_ordered(other.nanoseconds, self.nanoseconds)
+            && self.nanoseconds.saturating_sub(other.nanoseconds) <= LONG_TIMEOUT
     }
 
     /// Whether the other end's system is the Partner's.
@@ -117,9 +125,7 @@ impl Heard {
     {
         match self.others.rival {
             Some(rival) => {
-                self.is_current()
-                    && self.names_partner_of(&rival)
-                    && self.nanoseconds.saturating_sub(rival.nanoseconds) <= LONG_TIMEOUT
+                self.is_current() && self.names_partner_of(&rival) && self.is_fresh(&rival)
             }
             None => false,
         }

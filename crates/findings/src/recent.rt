@@ -1,6 +1,6 @@
-ghost use Rattle.std.specs.Prelude.{◌≡◌, ◌-◌, ◌∷◌, List, nat_lt, unwrap_or, Some, None, if◌then◌else◌};
+ghost use Rattle.std.specs.Prelude.{◌≡◌, ◌∷◌, List, unwrap_or, Some, None, if◌then◌else◌};
 ghost use Rattle.findings.specs.declared.recent.Heard.{Heard};
-ghost use Rattle.findings.specs.Holds.{and_if, is_unheard, is_discarded, is_periodic, is_rushed, is_late, is_silent, is_desynchronized, lasts, seconds, since, timeout};
+ghost use Rattle.findings.specs.Holds.{and_if, is_ordered, is_over, is_unheard, is_discarded, is_periodic, is_rushed, is_late, is_silent, is_desynchronized, lasts, seconds, since, timeout};
 ghost use Rattle.findings.specs.Firsts.{last_silent};
 ghost use Rattle.findings.specs.Watches.{recent_of};
 
@@ -63,12 +63,19 @@ fn since(is_so: bool, before: Option<u64>, now: u64) -> Option<u64>
     }
 }
 
+/// Whether the capture has both times, and the first is not later than the second.
+pub(crate) fn is_ordered(first: u64, second: u64) -> bool
+    ensures { result ≡ is_ordered first second }
+{
+    0 < first && first <= second
+}
+
 /// Whether this time is more than so many nanoseconds after that, if there is one.
 fn is_over(most: u64, since: Option<u64>, now: u64) -> bool
-    ensures { result ≡ and_if (λ t. nat_lt most (now - t)) since }
+    ensures { result ≡ and_if (λ t. is_over most t now) since }
 {
     match since {
-        Some(time) => most < now.saturating_sub(time),
+        Some(time) => is_ordered(time, now) && most < now.saturating_sub(time),
         None => false,
     }
 }
@@ -150,7 +157,10 @@ impl Recent {
         ensures { (l : List Heard) → self.now ≡ recent_of l → result ≡ is_rushed now.now l }
     {
         match self.third {
-            Some(heard) => now.nanoseconds.saturating_sub(heard.nanoseconds) < SECOND,
+            Some(heard) => {
+                is_ordered(heard.nanoseconds, now.nanoseconds)
+                    && now.nanoseconds.saturating_sub(heard.nanoseconds) < SECOND
+            }
             None => false,
         }
     }

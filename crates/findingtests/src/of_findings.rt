@@ -66,8 +66,20 @@ fn the_latest_answer_counts(rt: HostRuntime) {
     let mut other_answer = answer;
     other_answer.actor.key = Key(2);
     let before = [at(0, said), at(500, answer), at(900, other_answer)];
-    assert!(rt; shows(&[before[0], before[1], before[2], at(1000, other_said)], 2000, &[]));
-    assert!(rt; shows(&[before[0], before[1], before[2], at(1000, said)], 2000, &[(4, 4)]));
+    assert!(rt;
+        shows(
+            &[before[0], before[1], before[2], at(1000, other_said)],
+            2000,
+            &[]
+        )
+    );
+    assert!(rt;
+        shows(
+            &[before[0], before[1], before[2], at(1000, said)],
+            2000,
+            &[(4, 4)]
+        )
+    );
 }
 
 #[test]
@@ -98,7 +110,7 @@ fn the_partner_is_the_end_that_answers(rt: HostRuntime) {
     if let Some((of, shown)) = shown {
         assert_eq!(rt; of, end(A));
         assert_eq!(rt; shown.number, 5);
-        assert_eq!(rt; shown.nanoseconds, 1_000_000_000);
+        assert_eq!(rt; shown.nanoseconds, 1_001_000_000_000);
         assert_eq!(rt; shown.partner, Some(end(B)));
     }
 }
@@ -264,4 +276,31 @@ fn frames_are_distributed_that_nobody_collects(rt: HostRuntime) {
         at(4000, said),
     ];
     assert!(rt; shows(&frames, 5000, &[]));
+}
+
+#[test]
+fn a_clock_that_steps_back_shows_nothing(rt: HostRuntime) {
+    let said = a_to_b(FAST, FAST);
+    let fourth = [
+        at(5000, said),
+        at(6000, said),
+        at(7000, said),
+        at(1000, said),
+    ];
+    assert!(rt; shows(&fourth, 1500, &[]));
+    let mut rival = a_to_b(FAST, FAST);
+    rival.actor = info(C, FAST);
+    let frames = [at(5000, said), at(5500, rival), at(1000, said)];
+    assert!(rt; shows(&frames, 1500, &[]));
+}
+
+#[test]
+fn a_frame_without_a_time_shows_no_rule_of_time(rt: HostRuntime) {
+    let mut said = at(0, a_to_b(FAST, FAST));
+    said.nanoseconds = 0;
+    assert!(rt; shows(&[said, said, said, said], 200_000, &[]));
+    let mut unheard = at(0, a_to_b(0x47, 0x00));
+    unheard.nanoseconds = 0;
+    let later = at(0, a_to_b(0x47, 0x00));
+    assert!(rt; shows(&[unheard, later], 1000, &[]));
 }
