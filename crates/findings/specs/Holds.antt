@@ -94,20 +94,24 @@ is_fresh a x = is_ordered x.nanoseconds a.nanoseconds && not (nat_lt (seconds 90
 abbrev pub is_named_system : Heard → Other → Bool
 is_named_system a x = same_system a.pdu.partner.system x.pdu.actor.system
 
--- The partner that it names is not who answers (6.4.9): another system.
-abbrev pub has_other_system : Heard → List Heard → Bool
-has_other_system a before = is_current a && and_if (λ x. not (is_named_system a x)) a.others.answer
+-- this LACPDU has a property, and so has the one before it: one alone may have crossed an LACPDU that tells a change
+abbrev pub twice : (Heard → Bool) → Heard → List Heard → Bool
+twice has a before = has a && and_if has (slice_get before 0)
 
--- The partner that it names is not who answers (6.4.9): the system, and another port of it.
-abbrev pub has_other_port : Heard → List Heard → Bool
-has_other_port a before =
-    is_current a && and_if (λ x. is_named_system a x && not (same_port a.pdu.partner.port x.pdu.actor.port)) a.others.answer
+-- The partner that it names is not who answered in the last Long Timeout (6.4.9): another system.
+abbrev pub has_other_system : Heard → Bool
+has_other_system a = is_current a && and_if (λ x. is_fresh a x && not (is_named_system a x)) a.others.answer
 
--- The partner that it names is not who answers (6.4.9): the system and its port, with another key.
-abbrev pub has_other_key : Heard → List Heard → Bool
-has_other_key a before =
+-- The partner that it names is not who answered in the last Long Timeout (6.4.9): the system, and another port of it.
+abbrev pub has_other_port : Heard → Bool
+has_other_port a =
+    is_current a && and_if (λ x. is_fresh a x && is_named_system a x && not (same_port a.pdu.partner.port x.pdu.actor.port)) a.others.answer
+
+-- The partner that it names is not who answered in the last Long Timeout (6.4.9): the system and its port, with another key.
+abbrev pub has_other_key : Heard → Bool
+has_other_key a =
     is_current a
-    && and_if (λ x. is_named_system a x && same_port a.pdu.partner.port x.pdu.actor.port && not (a.pdu.partner.key.0 == x.pdu.actor.key.0))
+    && and_if (λ x. is_fresh a x && is_named_system a x && same_port a.pdu.partner.port x.pdu.actor.port && not (a.pdu.partner.key.0 == x.pdu.actor.key.0))
     a.others.answer
 
 -- it is of the same pair of systems
@@ -122,10 +126,11 @@ has_keys_of a x = (a.pdu.actor.key.0 == x.pdu.actor.key.0) && (a.pdu.partner.key
 abbrev pub names_partner_of : Heard → Other → Bool
 names_partner_of a x = same_system a.pdu.partner.system x.pdu.partner.system && same_port a.pdu.partner.port x.pdu.partner.port
 
--- Keys differ within one pair of systems (6.3.6): the latest LACPDU of another link of the pair has other keys.
-abbrev pub has_other_keys : Heard → List Heard → Bool
-has_other_keys a before =
-    is_current a && and_if (λ x. is_sibling_of a x && not (has_keys_of a x)) a.others.sibling
+-- Keys differ within one pair of systems (6.3.6): the latest LACPDU of another link of the pair has other keys, and came at
+-- most a Long Timeout before.
+abbrev pub has_other_keys : Heard → Bool
+has_other_keys a =
+    is_current a && and_if (λ x. is_fresh a x && is_sibling_of a x && not (has_keys_of a x)) a.others.sibling
 
 -- Two actors on one segment (6.4.9): another end has named the same partner, at most a Long Timeout ago.
 abbrev pub has_rival : Heard → List Heard → Bool

@@ -47,21 +47,24 @@ impl Heard {
 
     /// Whether another system answers than the Partner's.
     pub(crate) fn has_other_system(&self) -> bool
-        ensures { (l : List Heard) → result ≡ has_other_system self.now l }
+        ensures { result ≡ has_other_system self.now }
     {
         match self.others.answer {
-            Some(answer) => self.is_current() && !self.is_named_system(&answer),
+            Some(answer) => {
+                self.is_current() && self.is_fresh(&answer) && !self.is_named_system(&answer)
+            }
             None => false,
         }
     }
 
     /// Whether another port answers of the Partner's system.
     pub(crate) fn has_other_port(&self) -> bool
-        ensures { (l : List Heard) → result ≡ has_other_port self.now l }
+        ensures { result ≡ has_other_port self.now }
     {
         match self.others.answer {
             Some(answer) => {
                 self.is_current()
+                    && self.is_fresh(&answer)
                     && self.is_named_system(&answer)
                     && self.pdu.partner.port != answer.pdu.actor.port
             }
@@ -71,11 +74,12 @@ impl Heard {
 
     /// Whether the Partner's port answers with another key.
     pub(crate) fn has_other_key(&self) -> bool
-        ensures { (l : List Heard) → result ≡ has_other_key self.now l }
+        ensures { result ≡ has_other_key self.now }
     {
         match self.others.answer {
             Some(answer) => {
                 self.is_current()
+                    && self.is_fresh(&answer)
                     && self.is_named_system(&answer)
                     && self.pdu.partner.port == answer.pdu.actor.port
                     && self.pdu.partner.key != answer.pdu.actor.key
@@ -101,11 +105,14 @@ impl Heard {
 
     /// Whether another link of the same pair of systems has other keys.
     pub(crate) fn has_other_keys(&self) -> bool
-        ensures { (l : List Heard) → result ≡ has_other_keys self.now l }
+        ensures { result ≡ has_other_keys self.now }
     {
         match self.others.sibling {
             Some(sibling) => {
-                self.is_current() && self.is_sibling_of(&sibling) && !self.has_keys_of(&sibling)
+                self.is_current()
+                    && self.is_fresh(&sibling)
+                    && self.is_sibling_of(&sibling)
+                    && !self.has_keys_of(&sibling)
             }
             None => false,
         }

@@ -30,15 +30,15 @@ impl LacpduRules {
         let shown = now.shown();
         LacpduRules {
             rate: earlier_or(self.rate, recent.is_rushed(now), shown),
-            system: earlier_or(self.system, now.has_other_system(), shown),
-            port: earlier_or(self.port, now.has_other_port(), shown),
-            key: earlier_or(self.key, now.has_other_key(), shown),
+            system: earlier_or(self.system, recent.has_other_system(now), shown),
+            port: earlier_or(self.port, recent.has_other_port(now), shown),
+            key: earlier_or(self.key, recent.has_other_key(now), shown),
             passive: earlier_or(self.passive, now.is_passive(), shown),
             silence: earlier_or(self.silence, recent.is_late(now), shown),
             unheard: earlier_or(self.unheard, recent.is_unheard(now), shown),
             desynchronized: earlier_or(self.desynchronized, recent.is_desynchronized(now), shown),
             individual: earlier_or(self.individual, now.is_individual(), shown),
-            keys: earlier_or(self.keys, now.has_other_keys(), shown),
+            keys: earlier_or(self.keys, recent.has_other_keys(now), shown),
             segment: earlier_or(self.segment, now.has_rival(), shown),
             discarded: earlier_or(self.discarded, recent.is_discarded(now), shown),
         }

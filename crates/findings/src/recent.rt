@@ -1,6 +1,7 @@
 ghost use Rattle.std.specs.Prelude.{◌≡◌, ◌∷◌, List, unwrap_or, Some, None, if◌then◌else◌};
 ghost use Rattle.findings.specs.declared.recent.Heard.{Heard};
 ghost use Rattle.findings.specs.Holds.{and_if, is_ordered, is_over, is_unheard, is_discarded, is_periodic, is_rushed, is_late, is_silent, is_desynchronized, lasts, seconds, since, timeout};
+ghost use Rattle.findings.specs.Holds.{has_other_system, has_other_port, has_other_key, has_other_keys, twice};
 ghost use Rattle.findings.specs.Firsts.{last_silent};
 ghost use Rattle.findings.specs.Watches.{recent_of};
 
@@ -183,6 +184,46 @@ impl Recent {
             Some(heard) => {
                 !now.pdu.actor.state.is_synchronized() && heard.pdu.actor.state.is_synchronized()
             }
+            None => false,
+        }
+    }
+
+    /// Whether another system answers than the Partner's, for the second time in turn.
+    pub(crate) fn has_other_system(&self, now: &Heard) -> bool
+        ensures { (l : List Heard) → self.now ≡ recent_of l → result ≡ twice has_other_system now.now l }
+    {
+        match self.last {
+            Some(heard) => now.has_other_system() && heard.has_other_system(),
+            None => false,
+        }
+    }
+
+    /// Whether another port answers of the Partner's system, for the second time in turn.
+    pub(crate) fn has_other_port(&self, now: &Heard) -> bool
+        ensures { (l : List Heard) → self.now ≡ recent_of l → result ≡ twice has_other_port now.now l }
+    {
+        match self.last {
+            Some(heard) => now.has_other_port() && heard.has_other_port(),
+            None => false,
+        }
+    }
+
+    /// Whether the Partner's port answers with another key, for the second time in turn.
+    pub(crate) fn has_other_key(&self, now: &Heard) -> bool
+        ensures { (l : List Heard) → self.now ≡ recent_of l → result ≡ twice has_other_key now.now l }
+    {
+        match self.last {
+            Some(heard) => now.has_other_key() && heard.has_other_key(),
+            None => false,
+        }
+    }
+
+    /// Whether another link of the same pair of systems has other keys, for the second time in turn.
+    pub(crate) fn has_other_keys(&self, now: &Heard) -> bool
+        ensures { (l : List Heard) → self.now ≡ recent_of l → result ≡ twice has_other_keys now.now l }
+    {
+        match self.last {
+            Some(heard) => now.has_other_keys() && heard.has_other_keys(),
             None => false,
         }
     }
