@@ -7,17 +7,17 @@
 #![tactic(auto)]
 
 mod finding;
-mod findings;
 mod frame_rules;
 mod heard;
 mod lacpdu_rules;
 mod observed;
+mod observing;
 mod others;
 mod recent;
 mod rule;
 mod watch;
 
 pub use finding::{Finding, Shown};
-pub use findings::{Findings, MOST_ENDS};
 pub use observed::{LinkEnd, Observed, What};
+pub use observing::{Findings, MOST_ENDS};
 pub use rule::Rule;

@@ -1,7 +1,7 @@
 use Rattle.std.proofs.Common.{arith}
 use Rattle.findings.specs.Knows.{Takes}
 use Rattle.findings.proofs.Lists.{SoFar-more, SoFar-all}
-use Rattle.findings.proofs.findings.see_each.Goals as goal
+use Rattle.findings.proofs.observing.see_each.Goals as goal
 
 pub loop-watch-preserved : goal.loop-watch-preserved
 loop-watch-preserved c =

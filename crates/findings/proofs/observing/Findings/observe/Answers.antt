@@ -7,7 +7,7 @@ use Rattle.findings.specs.Watches.{watched}
 use Rattle.findings.specs.Knows.{Knows, Takes, has_end}
 use Rattle.findings.proofs.EndLemmas.{below, exact_number}
 use Rattle.findings.proofs.KnowsLemmas.{known_end, left_out, new_end, refill_same, same_length}
-use Rattle.findings.proofs.findings.Findings.observe.Goals as goal
+use Rattle.findings.proofs.observing.Findings.observe.Goals as goal
 
 pub returns-then-has_end : goal.returns-then-has_end
 returns-then-has_end c =
