@@ -192,7 +192,8 @@ static void choose_active(void) {
         if (carry.active != 0 && links[i].view.aggregator == carry.active && carries(&links[i]))
             carry.ports[carry.port_count++] = links[i].settings.number;
     if (before != 0 && carry.active != 0 && before != carry.active) carry.counts[SWITCHES]++;
-    if ((before == 0) != (carry.active == 0)) (void)say(LOG_NOTICE, "carry %s: carrier %s", settings.carry, carry.active ? "on" : "off");
+    if ((before == 0) != (carry.active == 0))
+        (void)say(LOG_NOTICE | ABOUT_CARRIER, "carry %s: carrier %s", settings.carry, carry.active ? "on" : "off");
     set_carrier(carry.active != 0);
 }
 

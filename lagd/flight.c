@@ -60,8 +60,8 @@ static void watch_port(uint16_t port) {
     freed = niw_force_port(&own_system, port);
     refuse(freed.status, "niw_force_port");
     carry.counts[FORCED] += freed.number;
-    (void)say(LOG_WARNING, "port %u %s: it carries no more, and %" PRIu64 " conversations leave it", port, links[port - 1].name,
-        freed.number);
+    (void)say(LOG_WARNING | ABOUT_DATA, "port %u %s: it carries no more, and %" PRIu64 " conversations leave it", port,
+        links[port - 1].name, freed.number);
 }
 
 /* Loses what has waited for longer than a flight and a second. */

@@ -119,11 +119,11 @@ struct guard open_guard(const struct link *link) {
     if (guard.lro) set_lro(link->index, false);
     guard.queues = join_queues(link->index);
     if (program >= 0) guard.opened = attach(link->index);
-    if (guard.opened < 0) (void)say(LOG_WARNING, "port %u %s: its own network stack has its frames, too", port, link->name);
+    if (guard.opened < 0) (void)say(LOG_WARNING | ABOUT_DATA, "port %u %s: its own network stack has its frames, too", port, link->name);
     if (has_gro(link->index) || has_lro(link->index))
-        (void)say(LOG_WARNING, "port %u %s: GRO or LRO stays on, and markers may go by data", port, link->name);
+        (void)say(LOG_WARNING | ABOUT_DATA, "port %u %s: GRO or LRO stays on, and markers may go by data", port, link->name);
     if (queues_of(link->index, &queues) > 1)
-        (void)say(LOG_WARNING, "port %u %s: it has several queues, and markers may go by data", port, link->name);
+        (void)say(LOG_WARNING | ABOUT_DATA, "port %u %s: it has several queues, and markers may go by data", port, link->name);
     return guard;
 }
 

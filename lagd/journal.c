@@ -24,6 +24,10 @@ static const char *id_of(unsigned kind) {
     case ABOUT_HOOK: return "ee4807ee3eb645199ae06dbdc7074c56";
     case ABOUT_END: return "da067c6258764cdbb7b8cb7be984bc2d";
     case ABOUT_REFUSAL: return "b7f3f1992518457f93456f9151641518";
+    case ABOUT_CARRIER: return "0607a32ee45a4403aa4285dc01ab9bad";
+    case ABOUT_MARKERS: return "a31e97fa3b6f4028a557b2d2e89d4829";
+    case ABOUT_DATA: return "c6168aa2020d442a8bc8c32f421bd6f9";
+    case ABOUT_RIGHTS: return "9e14e381d96044edbfe2c030fd7290ff";
     default: return NULL;
     }
 }

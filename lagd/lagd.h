@@ -172,6 +172,10 @@ enum {
     ABOUT_HOOK = 0x7000,     /* the hook cannot be run */
     ABOUT_END = 0x8000,      /* the daemon left a port, as it ends */
     ABOUT_REFUSAL = 0x9000,  /* the library refused a call */
+    ABOUT_CARRIER = 0xa000,  /* the TAP device has a carrier, or none */
+    ABOUT_MARKERS = 0xb000,  /* the peer answers markers, or none */
+    ABOUT_DATA = 0xc000,     /* what troubles the data of a port */
+    ABOUT_RIGHTS = 0xd000,   /* the daemon keeps capabilities that it does not need */
     KINDS = 0xf000,
 };
 _Noreturn void stop(int status, const char *what, const char *which);

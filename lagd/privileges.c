@@ -19,7 +19,7 @@ static void drop_capabilities(void) {
     if (admin) (void)capng_update(CAPNG_ADD, CAPNG_EFFECTIVE | CAPNG_PERMITTED, CAP_NET_ADMIN);
     /* Whoever may not change the bounding set has it bounded, or not, by who started the daemon. */
     if (capng_apply(CAPNG_SELECT_BOTH) != 0 && capng_apply(CAPNG_SELECT_CAPS) != 0)
-        (void)say(LOG_WARNING, "the capabilities stay as they are");
+        (void)say(LOG_WARNING | ABOUT_RIGHTS, "the capabilities stay as they are");
 }
 #else
 static void drop_capabilities(void) {

@@ -95,10 +95,10 @@ static void tell_peer(void) {
     if (peer == told || peer == NOT_ASKED) return;
     told = peer;
     if (peer == ANSWERS)
-        (void)say(LOG_NOTICE, "carry %s: the peer answers markers", settings.carry);
+        (void)say(LOG_NOTICE | ABOUT_MARKERS, "carry %s: the peer answers markers", settings.carry);
     else
-        (void)say(LOG_WARNING, "carry %s: the peer answers no markers, so conversations move once they rested for %u ms", settings.carry,
-            settings.flight);
+        (void)say(LOG_WARNING | ABOUT_MARKERS, "carry %s: the peer answers no markers, so conversations move once they rested for %u ms",
+            settings.carry, settings.flight);
 }
 
 /* What is known of the peer now. One whose link went meanwhile is asked again. */

@@ -30,7 +30,8 @@ static struct ifreq request_of(const char *name) {
 void set_carrier(bool on) {
     if (carrier == on) return;
     carrier = on;
-    if (ioctl(tap, TUNSETCARRIER, &(int){on}) < 0) (void)say(LOG_ERR, "carry %s: no carrier: %s", settings.carry, strerror(errno));
+    if (ioctl(tap, TUNSETCARRIER, &(int){on}) < 0)
+        (void)say(LOG_ERR | ABOUT_CARRIER, "carry %s: no carrier: %s", settings.carry, strerror(errno));
 }
 
 bool has_carrier(void) {

@@ -38,8 +38,11 @@ def fuzz(folder: str, libraries: list[str], seconds: int) -> None:
     made, seeds = os.path.join(folder, "fuzz"), os.path.join(folder, "seeds")
     words = ["-g", "-O1", "-fsanitize=fuzzer,address,undefined", "-fno-sanitize-recover=undefined", *STRICT, *compiled, f"-I{DAEMON}", INCLUDE]
     built = command("clang", *words, "-Wl,--wrap=recvmsg", "-o", made, *sources, f"{TOP}/tools/live.d/fuzz.c", *libraries, *linked)
+    if built.returncode and "libclang_rt" not in built.stderr:
+        check(False, "clang builds the fuzzer", built.stderr[-3000:])
+        return
     if built.returncode:
-        print(f"skipped: fuzzing: clang does not build the fuzzer: {built.stderr.strip()[-400:]}", flush=True)
+        print(f"skipped: fuzzing: clang has no libFuzzer: {built.stderr.strip()[-400:]}", flush=True)
         return
     os.mkdir(seeds)
     for number, seed in enumerate(SEEDS):

@@ -26,6 +26,7 @@ LOOKS = {
     "lagstreams": ["jobtests", "servetests", "stored run"],
     "captures": ["capturetests"],
     "findings": ["findingtests"],
+    "lagcapture": ["capturetests"],
     "holding": ["holdingtests"],
     "balance": ["holdingtests"],
     "lagjobs": ["jobtests"],

@@ -1,6 +1,9 @@
-//! Tests of `captures`: they read captures that are written by hand from the descriptions of the formats. They are a crate
-//! of their own, so that `captures` need not be proved again together with its tests.
+//! Tests of `captures` and `lagcapture`: they read captures that are written by hand from the descriptions of the formats, and
+//! explain captures that `captures` writes. They are a crate of their own, so that neither need be proved again together with
+//! its tests.
 #![tactic(auto)]
 
 #[cfg(test)]
 mod of_captures;
+#[cfg(test)]
+mod of_explained;

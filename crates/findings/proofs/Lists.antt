@@ -1,5 +1,5 @@
 -- A loop that writes each element of a list in turn.
-use Rattle.std.proofs.Common.{◌≡◌, ℕ, zero, suc, ◌+◌, ◌<◌, ◌≤◌, List, [], ◌∷◌, ◌++◌, length, get_or, set, add-one, arith, refl, subst}
+use Rattle.std.proofs.Common.{◌≡◌, ℕ, zero, suc, ◌+◌, ◌<◌, ◌≤◌, List, [], ◌∷◌, length, get_or, set, add-one, arith, subst}
 use Rattle.std.specs.List.{AllZip}
 
 -- the first i elements were written, each as R says, and the others are as they were

@@ -1,10 +1,14 @@
 -- What is kept of an end before its first frame.
-use Rattle.std.proofs.Common.{◌≡◌, ◌∷◌, ◌∙◌, [], List, Option, None, refl, sym}
-use Rattle.slowpdu.specs.declared.pdu.Lacpdu.{Lacpdu}
+use Rattle.std.proofs.Common.{◌≡◌, ◌∷◌, ◌∙◌, [], List, Option, None, Some, refl, sym, ap, false}
 use Rattle.findings.specs.declared.observed.LinkEnd.{LinkEnd}
 use Rattle.findings.specs.declared.observed.Observed.{Observed}
-use Rattle.findings.specs.Ends.{Relation, Unsent, answers, frames_of, is_sibling, lacpdus, latest, rivals, said}
+use Rattle.findings.specs.Ends.{Relation, Unsent, answers, faces, frames_of, is_sibling, lacpdus, latest, rivals, said, end_of, same_end, others}
+use Rattle.findings.specs.Markers.{first_overdue, open_marker, response_in, unless_answered, asking}
+use Rattle.slowpdu.specs.declared.pdu.Marker.{Marker}
 use Rattle.findings.specs.Watches.{frame_rules, lacpdu_rules, recent_of, watched}
+use Rattle.findings.specs.declared.watch.Watch.{Watch}
+use Rattle.findings.specs.declared.asking.Asking.{Asking}
+use Rattle.findings.specs.declared.others.Others.{Others}
 
 none_said : (e : LinkEnd) (h : List Observed) → Unsent e h → said e h ≡ None
 none_said e [] u = refl
@@ -22,17 +26,54 @@ no_frames : (e : LinkEnd) (h : List Observed) → Unsent e h → frames_of e h �
 no_frames e [] u = refl
 no_frames e (o ∷ h) u = rw (u.0, no_frames e h u.1) refl
 
+none_open : (e : LinkEnd) (h : List Observed) → Unsent e h → open_marker e h ≡ None
+none_open e [] u = refl
+none_open e (o ∷ h) u = rw (u.0, none_open e h u.1) (nothing_answered e o (response_in o.what))
+  where
+    nothing_answered : (e : LinkEnd) (o : Observed) (r : Option Marker) → unless_answered e o r None ≡ None
+    nothing_answered e o None = refl
+    nothing_answered e o (Some r) = refl
+
+none_overdue : (e : LinkEnd) (h : List Observed) → Unsent e h → first_overdue e h ≡ None
+none_overdue e [] u = refl
+none_overdue e (o ∷ h) u = rw (none_overdue e h u.1, none_open e h u.1) refl
+
 -- an end that has sent nothing is watched as before all frames
 pub before_first : (e : LinkEnd) (h : List Observed) → Unsent e h → watched e [] ≡ watched e h
 before_first e h u = λ i. record {
   end = e;
   said = sym (none_said e h u) i;
+  asking = record { waiting = sym (none_open e h u) i; overdue = sym (none_overdue e h u) i };
   others = record {
     answer = sym (none_latest answers e h u) i;
     rival = sym (none_latest rivals e h u) i;
     sibling = sym (none_latest is_sibling e h u) i;
+    facing = sym (none_latest faces e h u) i;
   };
   recent = recent_of (sym (no_lacpdus e h u) i);
   lacpdus = lacpdu_rules (sym (no_lacpdus e h u) i);
   frames = frame_rules (sym (no_frames e h u) i);
+}
+
+same_said : (e : LinkEnd) (o : Observed) (h : List Observed) → same_end (end_of o) e ≡ false → said e h ≡ said e (o ∷ h)
+same_said e o h other = rw other refl
+
+same_lacpdus : (e : LinkEnd) (o : Observed) (h : List Observed) → same_end (end_of o) e ≡ false → lacpdus e h ≡ lacpdus e (o ∷ h)
+same_lacpdus e o h other = rw other refl
+
+same_frames : (e : LinkEnd) (o : Observed) (h : List Observed) → same_end (end_of o) e ≡ false → frames_of e h ≡ frames_of e (o ∷ h)
+same_frames e o h other = rw other refl
+
+-- a frame of another end changes what is kept of markers and of other ends alone
+pub other_frame : (e : LinkEnd) (o : Observed) (h : List Observed) (w : Watch) (a : Asking) (t : Others) → same_end (end_of o) e ≡ false
+    → w ≡ watched e h → a ≡ asking e (o ∷ h) → t ≡ others e (o ∷ h)
+    → record { end = w.end; said = w.said; asking = a; others = t; recent = w.recent; lacpdus = w.lacpdus; frames = w.frames } ≡ watched e (o ∷ h)
+other_frame e o h w a t other is asked related = λ i. record {
+  end = ap (λ (v : Watch). v.end) is i;
+  said = (ap (λ (v : Watch). v.said) is ∙ same_said e o h other) i;
+  asking = asked i;
+  others = related i;
+  recent = (ap (λ (v : Watch). v.recent) is ∙ ap recent_of (same_lacpdus e o h other)) i;
+  lacpdus = (ap (λ (v : Watch). v.lacpdus) is ∙ ap lacpdu_rules (same_lacpdus e o h other)) i;
+  frames = (ap (λ (v : Watch). v.frames) is ∙ ap frame_rules (same_frames e o h other)) i;
 }

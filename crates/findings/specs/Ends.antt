@@ -84,9 +84,18 @@ rivals e own o v =
 abbrev pub is_sibling : Relation
 is_sibling e own o v = same_system v.actor.system own.actor.system && same_system v.partner.system own.partner.system
 
+-- on the same interface, any LACPDU
+abbrev pub faces : Relation
+faces e own o v = o.interface == e.interface
+
 -- what is known of other ends
 abbrev pub others : LinkEnd → List Observed → Others
-others e h = record { answer = latest answers e h; rival = latest rivals e h; sibling = latest is_sibling e h }
+others e h = record {
+  answer = latest answers e h;
+  rival = latest rivals e h;
+  sibling = latest is_sibling e h;
+  facing = latest faces e h;
+}
 
 -- an LACPDU that is heard, with what is known then of other ends
 abbrev pub heard : Others → Observed → Option Lacpdu → Option Heard

@@ -1,6 +1,5 @@
 -- Each rule: whether the latest frame of an end shows it, by the frames of that end before it, the latest of them first.
-use Rattle.std.specs.Prelude.{◌==◌, ◌&&◌, ◌||◌, ◌-◌, ◌*◌, ℕ, Bool, true, false, not, nat_lt, List, [], ◌∷◌, Option, Some, None, slice_get, unwrap_or, if◌then◌else◌}
-use Rattle.std.specs.Option.{option_eq}
+use Rattle.std.specs.Prelude.{is_none, ◌==◌, ◌&&◌, ◌||◌, ◌-◌, ◌*◌, ℕ, Bool, true, false, not, nat_lt, List, [], ◌∷◌, Option, Some, None, slice_get, unwrap_or, if◌then◌else◌}
 use Rattle.std.specs.Str.{bytes_eq}
 use Rattle.lagtypes.specs.declared.state.StateBits.{StateBits}
 use Rattle.lagtypes.specs.Same.{same_port, same_system}
@@ -73,6 +72,18 @@ is_unheard a = (actor a).defaulted || (actor a).expired
 -- the sender distributes, and its partner does not collect, as it has recorded
 abbrev pub is_discarded : Heard → Bool
 is_discarded a = (actor a).distributing && not (partner a).collecting
+
+-- no LACPDU of another end has come on the interface since the sender's first
+abbrev pub is_alone : Heard → Bool
+is_alone a = is_none a.others.facing
+
+-- the timeout that the sender asks for (6.4.4)
+abbrev pub own_timeout : Heard → ℕ
+own_timeout a = if (actor a).timeout then seconds 3 else seconds 90
+
+-- LACPDUs in one direction only (6.4.4, 6.4.12): for longer than the timeout that the sender asks for.
+abbrev pub is_one_way : Heard → List Heard → Bool
+is_one_way a before = lasts is_alone (own_timeout a) a before
 
 -- Synchronization lost (6.4.15): the last one had it.
 abbrev pub is_desynchronized : Heard → List Heard → Bool

@@ -22,6 +22,8 @@ rule_number variants.Individual = 14
 rule_number variants.Keys = 15
 rule_number variants.Segment = 16
 rule_number variants.Discarded = 17
+rule_number variants.OneWay = 18
+rule_number variants.Unanswered = 19
 
 -- what is found
 abbrev pub rule_name : Rule → List ℕ
@@ -42,6 +44,8 @@ rule_name variants.Individual = codes "one end is Individual"
 rule_name variants.Keys = codes "keys differ within one pair of systems"
 rule_name variants.Segment = codes "two actors on one segment"
 rule_name variants.Discarded = codes "distributing while the partner is not collecting"
+rule_name variants.OneWay = codes "LACPDUs in one direction only"
+rule_name variants.Unanswered = codes "a marker without a response within 3 seconds"
 
 -- the section that has the rule
 abbrev pub rule_clause : Rule → List ℕ
@@ -62,6 +66,8 @@ rule_clause variants.Individual = codes "6.3.5"
 rule_clause variants.Keys = codes "6.3.6"
 rule_clause variants.Segment = codes "6.4.9"
 rule_clause variants.Discarded = codes "6.4.15"
+rule_clause variants.OneWay = codes "6.4.12"
+rule_clause variants.Unanswered = codes "6.5.4"
 
 -- what to do
 abbrev pub rule_advice : Rule → List ℕ
@@ -82,3 +88,5 @@ rule_advice variants.Individual = codes "Look at this end's speed, duplex and ke
 rule_advice variants.Keys = codes "Give the ports that are to aggregate one key at each system: these are two groups."
 rule_advice variants.Segment = codes "Look for a hub, or for a switch between the ends that passes the slow protocols on."
 rule_advice variants.Discarded = codes "Look why the partner does not collect: frames that this end sends are lost there."
+rule_advice variants.OneWay = codes "Look whether the other end sends LACPDUs, and whether the capture has both directions."
+rule_advice variants.Unanswered = codes "Look whether the marker reaches the partner: each system responds to markers."

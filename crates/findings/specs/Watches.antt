@@ -10,7 +10,8 @@ use Rattle.findings.specs.declared.watch.Watch.{Watch}
 use Rattle.findings.specs.Ends.{frames_of, lacpdus, others, said}
 use Rattle.findings.specs.Firsts.{first, shown_heard, shown_frame}
 use Rattle.findings.specs.Holds.{is_rushed, is_passive, is_late, lasts, twice, since, is_unheard, is_discarded, is_desynchronized, is_individual, seconds}
-use Rattle.findings.specs.Holds.{has_other_system, has_other_port, has_other_key, has_other_keys, has_rival}
+use Rattle.findings.specs.Holds.{has_other_system, has_other_port, has_other_key, has_other_keys, has_rival, is_alone, is_one_way}
+use Rattle.findings.specs.Markers.{asking}
 use Rattle.findings.specs.Holds.{has_other_version, has_other_length, has_reserved, has_other_destination, has_tag}
 
 -- the latest three LACPDUs, and since when the latest ones have a property
@@ -21,6 +22,7 @@ recent_of l = record {
   third = slice_get l 2;
   unheard_since = since is_unheard l;
   discarded_since = since is_discarded l;
+  alone_since = since is_alone l;
 }
 
 -- the first LACPDU that shows each rule
@@ -38,6 +40,7 @@ lacpdu_rules l = record {
   keys = first shown_heard (twice has_other_keys) l;
   segment = first shown_heard has_rival l;
   discarded = first shown_heard (lasts is_discarded (seconds 3)) l;
+  one_way = first shown_heard is_one_way l;
 }
 
 -- the first frame that shows each rule
@@ -55,6 +58,7 @@ abbrev pub watched : LinkEnd → List Observed → Watch
 watched e h = record {
   end = e;
   said = said e h;
+  asking = asking e h;
   others = others e h;
   recent = recent_of (lacpdus e h);
   lacpdus = lacpdu_rules (lacpdus e h);

@@ -20,6 +20,7 @@ pub(crate) struct LacpduRules {
     pub(crate) keys: Option<Shown>,
     pub(crate) segment: Option<Shown>,
     pub(crate) discarded: Option<Shown>,
+    pub(crate) one_way: Option<Shown>,
 }
 
 impl LacpduRules {
@@ -41,6 +42,7 @@ impl LacpduRules {
             keys: earlier_or(self.keys, recent.has_other_keys(now), shown),
             segment: earlier_or(self.segment, now.has_rival(), shown),
             discarded: earlier_or(self.discarded, recent.is_discarded(now), shown),
+            one_way: earlier_or(self.one_way, recent.is_one_way(now), shown),
         }
     }
 }

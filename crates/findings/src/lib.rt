@@ -6,6 +6,7 @@
 //! In comments, numbers such as 6.4.9 are sections of that standard.
 #![tactic(auto)]
 
+mod asking;
 mod finding;
 mod frame_rules;
 mod heard;

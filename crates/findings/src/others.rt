@@ -1,6 +1,6 @@
 ghost use Rattle.std.specs.Prelude.{◌≡◌, Some, None, if◌then◌else◌};
 ghost use Rattle.std.specs.Option.{option_or};
-ghost use Rattle.findings.specs.Ends.{answers, is_sibling, related, rivals};
+ghost use Rattle.findings.specs.Ends.{answers, faces, is_sibling, related, rivals};
 
 use crate::observed::{LinkEnd, Observed};
 use slowpdu::Lacpdu;
@@ -25,6 +25,8 @@ pub(crate) struct Others {
     pub(crate) rival: Option<Other>,
     /// On any interface, it is of the same pair of systems.
     pub(crate) sibling: Option<Other>,
+    /// On the same interface, any.
+    pub(crate) facing: Option<Other>,
 }
 
 /// Whether the LACPDU of another end has this end as its Partner.
@@ -64,6 +66,7 @@ impl Others {
     pub(crate) fn with(&self, end: &LinkEnd, own: &Lacpdu, now: &Observed, pdu: &Lacpdu) -> Others
         ensures answer { result.answer ≡ option_or (related answers end.now now.now (Some own.now) (Some pdu.now)) self.now.answer }
         ensures rival { result.rival ≡ option_or (related rivals end.now now.now (Some own.now) (Some pdu.now)) self.now.rival }
+        ensures facing { result.facing ≡ option_or (related faces end.now now.now (Some own.now) (Some pdu.now)) self.now.facing }
         ensures sibling { result.sibling ≡ option_or (related is_sibling end.now now.now (Some own.now) (Some pdu.now)) self.now.sibling }
     {
         let other = Other {
@@ -75,6 +78,7 @@ impl Others {
             answer: latest(answers(end, own, now, pdu), other, self.answer),
             rival: latest(rivals(end, own, now, pdu), other, self.rival),
             sibling: latest(is_sibling(end, own, now, pdu), other, self.sibling),
+            facing: latest(now.interface == end.interface, other, self.facing),
         }
     }
 }

@@ -1,6 +1,6 @@
 ghost use Rattle.std.specs.Prelude.{◌≡◌, ◌∷◌, List, unwrap_or, Some, None, if◌then◌else◌};
 ghost use Rattle.findings.specs.declared.recent.Heard.{Heard};
-ghost use Rattle.findings.specs.Holds.{and_if, is_ordered, is_over, is_unheard, is_discarded, is_periodic, is_rushed, is_late, is_silent, is_desynchronized, lasts, seconds, since, timeout};
+ghost use Rattle.findings.specs.Holds.{and_if, is_alone, is_one_way, is_ordered, is_over, own_timeout, is_unheard, is_discarded, is_periodic, is_rushed, is_late, is_silent, is_desynchronized, lasts, seconds, since, timeout};
 ghost use Rattle.findings.specs.Holds.{has_other_system, has_other_port, has_other_key, has_other_keys, twice};
 ghost use Rattle.findings.specs.Firsts.{last_silent};
 ghost use Rattle.findings.specs.Watches.{recent_of};
@@ -13,7 +13,7 @@ use slowpdu::Lacpdu;
 const SECOND: u64 = 1_000_000_000;
 
 /// Short_Timeout_Time (6.4.4), in nanoseconds.
-const SHORT_TIMEOUT: u64 = 3 * SECOND;
+pub(crate) const SHORT_TIMEOUT: u64 = 3 * SECOND;
 
 /// Long_Timeout_Time (6.4.4), in nanoseconds.
 pub(crate) const LONG_TIMEOUT: u64 = 90 * SECOND;
@@ -51,6 +51,8 @@ pub(crate) struct Recent {
     pub(crate) unheard_since: Option<u64>,
     /// When the end said first that it distributes and its partner does not collect, if it has said so ever since.
     pub(crate) discarded_since: Option<u64>,
+    /// The first LACPDU's time, if none of another end has come on the interface behind it.
+    pub(crate) alone_since: Option<u64>,
 }
 
 /// When it began: as it was, or now; None if it is not so.
@@ -72,7 +74,7 @@ pub(crate) fn is_ordered(first: u64, second: u64) -> bool
 }
 
 /// Whether this time is more than so many nanoseconds after that, if there is one.
-fn is_over(most: u64, since: Option<u64>, now: u64) -> bool
+pub(crate) fn is_over(most: u64, since: Option<u64>, now: u64) -> bool
     ensures { result ≡ and_if (λ t. is_over most t now) since }
 {
     match since {
@@ -95,6 +97,24 @@ impl Heard {
         ensures { result ≡ is_discarded self.now }
     {
         self.pdu.actor.state.is_distributing() && !self.pdu.partner.state.is_collecting()
+    }
+
+    /// Whether no LACPDU of another end has come on the interface.
+    fn is_alone(&self) -> bool
+        ensures { result ≡ is_alone self.now }
+    {
+        self.others.facing.is_none()
+    }
+
+    /// The timeout that the sender asks for, in nanoseconds.
+    fn own_timeout(&self) -> u64
+        ensures { result ≡ own_timeout self.now }
+    {
+        if self.pdu.actor.state.is_short() {
+            SHORT_TIMEOUT
+        } else {
+            LONG_TIMEOUT
+        }
     }
 
     /// Whether the sender sends LACPDUs periodically.
@@ -134,6 +154,7 @@ impl Recent {
             third: self.second,
             unheard_since: since(now.is_unheard(), self.unheard_since, now.nanoseconds),
             discarded_since: since(now.is_discarded(), self.discarded_since, now.nanoseconds),
+            alone_since: since(now.is_alone(), self.alone_since, now.nanoseconds),
         }
     }
 
@@ -240,5 +261,12 @@ impl Recent {
         ensures { (l : List Heard) → self.now ≡ recent_of l → result ≡ lasts is_discarded (seconds 3) now.now l }
     {
         now.is_discarded() && is_over(MOST_DISCARDED, self.discarded_since, now.nanoseconds)
+    }
+
+    /// Whether LACPDUs have come in one direction only for too long.
+    pub(crate) fn is_one_way(&self, now: &Heard) -> bool
+        ensures { (l : List Heard) → self.now ≡ recent_of l → result ≡ is_one_way now.now l }
+    {
+        now.is_alone() && is_over(now.own_timeout(), self.alone_since, now.nanoseconds)
     }
 }

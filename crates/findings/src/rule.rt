@@ -40,11 +40,15 @@ pub enum Rule {
     Segment,
     /// 17: distributing for longer than 3 seconds, and the partner is not collecting.
     Discarded,
+    /// 18: LACPDUs in one direction only, for longer than the timeout that the sender asks for.
+    OneWay,
+    /// 19: a marker without a response within 3 seconds.
+    Unanswered,
 }
 
 impl Rule {
     /// All rules, in the order of their numbers.
-    pub const ALL: [Rule; 17] = [
+    pub const ALL: [Rule; 19] = [
         Rule::Rate,
         Rule::System,
         Rule::Port,
@@ -62,6 +66,8 @@ impl Rule {
         Rule::Keys,
         Rule::Segment,
         Rule::Discarded,
+        Rule::OneWay,
+        Rule::Unanswered,
     ];
 
     /// The number of the rule, from 1.
@@ -86,6 +92,8 @@ impl Rule {
             Rule::Keys => 15,
             Rule::Segment => 16,
             Rule::Discarded => 17,
+            Rule::OneWay => 18,
+            Rule::Unanswered => 19,
         }
     }
 
@@ -111,6 +119,8 @@ impl Rule {
             Rule::Keys => "keys differ within one pair of systems",
             Rule::Segment => "two actors on one segment",
             Rule::Discarded => "distributing while the partner is not collecting",
+            Rule::OneWay => "LACPDUs in one direction only",
+            Rule::Unanswered => "a marker without a response within 3 seconds",
         }
     }
 
@@ -136,6 +146,8 @@ impl Rule {
             Rule::Keys => "6.3.6",
             Rule::Segment => "6.4.9",
             Rule::Discarded => "6.4.15",
+            Rule::OneWay => "6.4.12",
+            Rule::Unanswered => "6.5.4",
         }
     }
 
@@ -175,6 +187,10 @@ impl Rule {
                 "Look for a hub, or for a switch between the ends that passes the slow protocols on.",
             Rule::Discarded =>
                 "Look why the partner does not collect: frames that this end sends are lost there.",
+            Rule::OneWay =>
+                "Look whether the other end sends LACPDUs, and whether the capture has both directions.",
+            Rule::Unanswered =>
+                "Look whether the marker reaches the partner: each system responds to markers.",
         }
     }
 }

@@ -5,6 +5,7 @@ ghost use Rattle.findings.specs.Firsts.{first_of};
 ghost use Rattle.findings.specs.Knows.{Takes};
 ghost use Rattle.findings.specs.Watches.{watched};
 
+use crate::asking::Asking;
 use crate::finding::Shown;
 use crate::frame_rules::FrameRules;
 use crate::lacpdu_rules::LacpduRules;
@@ -20,6 +21,8 @@ pub(crate) struct Watch {
     pub(crate) end: LinkEnd,
     /// Its latest LACPDU.
     pub(crate) said: Option<Lacpdu>,
+    /// Its markers.
+    pub(crate) asking: Asking,
     pub(crate) others: Others,
     pub(crate) recent: Recent,
     pub(crate) lacpdus: LacpduRules,
@@ -34,6 +37,7 @@ impl Watch {
         Watch {
             end,
             said: None,
+            asking: Asking::default(),
             others: Others::default(),
             recent: Recent::default(),
             lacpdus: LacpduRules::default(),
@@ -48,6 +52,7 @@ impl Watch {
             → result ≡ watched self.now.end (now.now ∷ h) }
     {
         let frames = self.frames.with(now);
+        let asking = self.asking.with(&self.end, true, now);
         match now.what.lacpdu() {
             Some(pdu) => {
                 let heard = Heard {
@@ -59,13 +64,18 @@ impl Watch {
                 Watch {
                     end: self.end,
                     said: Some(pdu),
+                    asking,
                     others: self.others,
                     recent: self.recent.with(&heard),
                     lacpdus: self.lacpdus.with(&self.recent, &heard),
                     frames,
                 }
             }
-            None => Watch { frames, ..*self },
+            None => Watch {
+                asking,
+                frames,
+                ..*self
+            },
         }
     }
 
@@ -87,7 +97,10 @@ impl Watch {
         if now.end().is(&self.end) {
             *self = self.with_own(now);
         } else {
-            self.others = self.others_with(now);
+            let asking = self.asking.with(&self.end, false, now);
+            let others = self.others_with(now);
+            self.asking = asking;
+            self.others = others;
         }
     }
 
@@ -113,6 +126,8 @@ impl Watch {
             Rule::Keys => self.lacpdus.keys,
             Rule::Segment => self.lacpdus.segment,
             Rule::Discarded => self.lacpdus.discarded,
+            Rule::OneWay => self.lacpdus.one_way,
+            Rule::Unanswered => self.asking.first(until),
         }
     }
 }

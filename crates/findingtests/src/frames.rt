@@ -63,11 +63,12 @@ fn time(milliseconds: u64) -> u64 {
 
 /// A frame with this LACPDU, so many milliseconds after the beginning. Its source is the Actor's MAC address.
 pub fn at(milliseconds: u64, said: Said) -> Observed {
+    let source = said.actor.system.mac;
     Observed {
         number: 0,
         interface: 0,
         nanoseconds: time(milliseconds),
-        source: said.actor.system.mac,
+        source,
         destination: Some([0x01, 0x80, 0xc2, 0, 0, 2]),
         tagged: false,
         length: 124,

@@ -8,3 +8,5 @@ mod frames;
 mod of_ends;
 #[cfg(test)]
 mod of_findings;
+#[cfg(test)]
+mod of_markers;

@@ -31,18 +31,19 @@ fn a_frame_is_not_as_the_standard_has_it(rt: HostRuntime) {
 #[test]
 fn an_end_is_named_by_what_it_sends(rt: HostRuntime) {
     let lacpdu = at(0, a_to_b(FAST, FAST));
+    let system = lacpdu.source;
     let mut marker = lacpdu;
     marker.what = What::Marker(Marker {
         kind: MarkerKind::Information,
         port: 7,
-        system: lacpdu.source,
+        system,
         id: 1,
     });
     let mut response = lacpdu;
     response.what = What::Marker(Marker {
         kind: MarkerKind::Response,
         port: 7,
-        system: lacpdu.source,
+        system,
         id: 1,
     });
     let mut refused = lacpdu;
@@ -56,13 +57,14 @@ fn an_end_is_named_by_what_it_sends(rt: HostRuntime) {
     };
     let mut elsewhere = lacpdu;
     elsewhere.interface = 1;
-    let findings = observed(&[lacpdu, marker, lacpdu, response, refused, elsewhere]);
+    let findings = observed(&[lacpdu, marker, lacpdu, response, elsewhere]);
     assert_eq!(rt; findings.count(), 4);
     assert_eq!(rt; findings.end(0), Some(end(Some(1))));
     assert_eq!(rt; findings.end(1), Some(end(Some(7))));
     assert_eq!(rt; findings.end(2), Some(end(None)));
     assert!(rt; findings.end(3).is_some());
     assert_eq!(rt; findings.end(4), None);
+    assert_eq!(rt; observed(&[refused]).end(0), Some(end(None)));
     // What a refused payload has as version and reserved octets means nothing.
     assert!(rt; shows(&[refused], 1000, &[]));
 }

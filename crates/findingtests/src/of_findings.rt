@@ -214,7 +214,7 @@ fn silence_is_longer_than_the_timeout_that_the_partner_asks_for(rt: HostRuntime)
 // 6.4.12: an end that hears its partner is CURRENT; without it is 3 seconds in EXPIRED, then DEFAULTED.
 #[test]
 fn an_end_hears_nothing_for_too_long(rt: HostRuntime) {
-    let said = a_to_b(0x47, 0x00);
+    let said = a_to_b(0x45, 0x00);
     let frames = [
         at(0, said),
         at(2000, said),
@@ -226,7 +226,7 @@ fn an_end_hears_nothing_for_too_long(rt: HostRuntime) {
     let expired = a_to_b(0x87, 0x3d);
     let frames = [at(0, said), at(2000, expired), at(6001, said)];
     assert!(rt; shows(&frames, 7000, &[(12, 3)]));
-    let frames = [at(0, said), at(4000, a_to_b(0x07, 0x3d)), at(7000, said)];
+    let frames = [at(0, said), at(4000, a_to_b(0x05, 0x3d)), at(7000, said)];
     assert!(rt; shows(&frames, 8000, &[]));
 }
 
@@ -283,9 +283,10 @@ fn keys_differ_within_a_pair_of_systems(rt: HostRuntime) {
     // The other link was heard 90 seconds before, and longer ago.
     let slow = |milliseconds: u64| at(milliseconds, a_to_b(UP, UP));
     let other = second(info(A, UP), info(B, UP), (2, 1));
-    let frames = [slow(0), other, slow(90_000), slow(90_400)];
-    assert!(rt; shows(&frames, 90_400, &[(15, 4)]));
-    let frames = [slow(0), other, slow(90_000), slow(90_401)];
+    let answer = at(400, b_to_a(UP, UP));
+    let frames = [slow(0), answer, other, slow(90_000), slow(90_400)];
+    assert!(rt; shows(&frames, 90_400, &[(15, 5)]));
+    let frames = [slow(0), answer, other, slow(90_000), slow(90_401)];
     assert!(rt; shows(&frames, 90_400, &[]));
 }
 
@@ -317,7 +318,7 @@ fn two_actors_are_on_one_segment(rt: HostRuntime) {
 // 6.4.15: frames that are distributed are collected.
 #[test]
 fn frames_are_distributed_that_nobody_collects(rt: HostRuntime) {
-    let said = a_to_b(FAST, 0x0f);
+    let said = a_to_b(UP, 0x0d);
     let frames = [
         at(0, said),
         at(1000, said),
@@ -328,7 +329,7 @@ fn frames_are_distributed_that_nobody_collects(rt: HostRuntime) {
     assert!(rt; shows(&frames, 4000, &[(17, 5)]));
     let frames = [
         at(0, said),
-        at(1000, a_to_b(FAST, FAST)),
+        at(1000, a_to_b(UP, UP)),
         at(2000, said),
         at(4000, said),
     ];
@@ -360,4 +361,22 @@ fn a_frame_without_a_time_shows_no_rule_of_time(rt: HostRuntime) {
     unheard.nanoseconds = 0;
     let later = at(0, a_to_b(0x47, 0x00));
     assert!(rt; shows(&[unheard, later], 1000, &[]));
+}
+
+// 6.4.12: an end that hears its partner is CURRENT; it hears nothing for the timeout that it asks for.
+#[test]
+fn lacpdus_go_in_one_direction_only(rt: HostRuntime) {
+    let said = a_to_b(FAST, UP);
+    let alone = [at(0, said), at(1500, said), at(3001, said)];
+    assert!(rt; shows(&alone, 3400, &[(18, 3)]));
+    assert!(rt; shows(&[at(0, said), at(1500, said), at(3000, said)], 3400, &[]));
+    let facing = |interface: u32| {
+        let mut other = b_to_a(UP, UP);
+        other.partner = info(C, UP);
+        let mut frame = at(500, other);
+        frame.interface = interface;
+        frame
+    };
+    assert!(rt; shows(&[alone[0], facing(0), alone[1], alone[2]], 3400, &[]));
+    assert!(rt; shows(&[alone[0], facing(1), alone[1], alone[2]], 3400, &[(18, 4)]));
 }

@@ -238,7 +238,7 @@ enum { NIW_MUX_DETACHED, NIW_MUX_WAITING, NIW_MUX_ATTACHED, NIW_MUX_COLLECTING_D
 enum {
     NIW_PORT_STATUS_DISTRIBUTING = 0,
     NIW_PORT_STATUS_LINK_DOWN = 1,
-    NIW_PORT_STATUS_NO_LACPDU = 2,           /* none came since the link came up or the port was configured anew, or none in time */
+    NIW_PORT_STATUS_NO_LACPDU = 2,           /* the receive machine is EXPIRED: none came in time, or since the link came up */
     NIW_PORT_STATUS_ON_DEFAULTS = 3,         /* so long that the port runs on defaults */
     NIW_PORT_STATUS_OWN_SYSTEM = 4,          /* the partner is this very system */
     NIW_PORT_STATUS_NO_AGGREGATOR = 5,       /* none has its key, or each that has it has ports of another group; for a port whose
@@ -653,7 +653,7 @@ static inline struct niw_decoded niw_decode(const uint8_t *payload, size_t lengt
 /* Writes the payload of a PDU at the front of `payload`, which has NIW_PAYLOAD_LENGTH octets or more: version 1, and 0 in each
  * reserved octet. */
 static inline uint32_t niw_encode(const struct niw_pdu *pdu, uint8_t *payload, size_t room) {
-    return (pdu && payload) ? lagffi_encode(pdu, payload, room) : (uint32_t)NIW_NULL;
+    return (pdu && payload) ? lagffi_encode(pdu, payload, room) : niw_null_status();
 }
 
 /* Texts. */

@@ -14,7 +14,7 @@ use Rattle.clap.specs.Simple.{App, Shape, argument_words, built, built_leaf, ent
 use Rattle.clap.specs.Simple.{names_of, rows_at, subcommand_of, with_leaf_noted}
 use Rattle.clap.specs.Takes.{is_given}
 use Rattle.clap.specs.Walk.{Row, Rule, Text, answers_to, finished, nothing_held, rows_after, settled, walk, walk_from}
-use Rattle.lagline.specs.Lines.{IsHelpOrVersion, IsCause, KeepsKind, check_subcommand, decode_subcommand, has_text, has_each_argument}
+use Rattle.lagline.specs.Lines.{IsHelpOrVersion, IsCause, KeepsKind, capture_subcommand, check_subcommand, decode_subcommand, has_text, has_each_argument}
 use Rattle.lagline.specs.Lines.{program, replay_subcommand, respond_subcommand, vectors_subcommand}
 use Rattle.lagline.specs.declared.line.LineFault.{LineFault}
 use Rattle.lagline.specs.declared.line.LineFault.TheVariants.{Help, Usage, NoMemory}
@@ -69,6 +69,12 @@ check_whole words e =
     let given = all_given (rows_after s.rules [] words) s.rules (nothing_missing _ (is_checked s words e)) in
     text_given s words (codes "FILE") (inl (refl, refl), (inr refl, tt)) e given.0
 
+capture_whole : IsWholeLine (line_of capture_subcommand)
+capture_whole words e =
+    let s = line_of capture_subcommand in
+    let given = all_given (rows_after s.rules [] words) s.rules (nothing_missing _ (is_checked s words e)) in
+    text_given s words (codes "FILE") (inl (refl, refl), (inr refl, tt)) e given.0
+
 replay_whole : IsWholeLine (line_of replay_subcommand)
 replay_whole words e =
     let s = line_of replay_subcommand in
@@ -95,7 +101,7 @@ whole_found p (s ∷ ss) g = go (p s) (whole_found p ss g.1)
     go false rest = rest
 
 lines_whole : AreWholeLines (built program).subs
-lines_whole = (decode_whole, (respond_whole, (check_whole, (replay_whole, (vectors_whole, tt)))))
+lines_whole = (decode_whole, (respond_whole, (check_whole, (capture_whole, (replay_whole, (vectors_whole, tt))))))
 
 entered_whole : (found : Option Shape) (words : List Text) → IsWholeIfFound found
     → option_map_or (λ s. level_fault s [] nothing_held words false []) found [] ≡ []

@@ -9,7 +9,7 @@ use Rattle.clap.specs.declared.error.kind.ErrorKind.TheVariants.{DisplayHelp, Di
 use Rattle.lagline.specs.declared.line.LineFault.{LineFault}
 use Rattle.lagline.specs.declared.line.LineFault.TheVariants.{Help, Usage, NoMemory}
 use Rattle.lagline.specs.declared.line.Job.{Job}
-use Rattle.lagline.specs.declared.line.Job.TheVariants.{Decode, Respond, Check, Replay, Vectors}
+use Rattle.lagline.specs.declared.line.Job.TheVariants.{Decode, Respond, Check, Capture, Replay, Vectors}
 
 -- a required positional argument with this id (a `Rule` is what clap's contracts call an `Arg`)
 abbrev pub required_argument : Text → Rule
@@ -26,6 +26,10 @@ respond_subcommand = with_rule (with_rule (new_app (codes "respond")) (required_
 -- `check FILE`
 abbrev pub check_subcommand : App
 check_subcommand = with_rule (new_app (codes "check")) (required_argument (codes "FILE"))
+
+-- `capture FILE`
+abbrev pub capture_subcommand : App
+capture_subcommand = with_rule (new_app (codes "capture")) (required_argument (codes "FILE"))
 
 -- `replay SCRIPT`
 abbrev pub replay_subcommand : App
@@ -53,9 +57,13 @@ up_to_respond = with_subcommand up_to_decode respond_subcommand.top
 abbrev pub up_to_check : App
 up_to_check = with_subcommand up_to_respond check_subcommand.top
 
+-- the program with its first four subcommands
+abbrev pub up_to_capture : App
+up_to_capture = with_subcommand up_to_check capture_subcommand.top
+
 -- the program with all its subcommands but the last
 abbrev pub up_to_replay : App
-up_to_replay = with_subcommand up_to_check replay_subcommand.top
+up_to_replay = with_subcommand up_to_capture replay_subcommand.top
 
 -- the program with its subcommands
 abbrev pub program : App
@@ -66,6 +74,7 @@ abbrev pub subcommand_name : Job → Text
 subcommand_name (Decode hex) = codes "decode"
 subcommand_name (Respond mac hex) = codes "respond"
 subcommand_name (Check file) = codes "check"
+subcommand_name (Capture file) = codes "capture"
 subcommand_name (Replay script) = codes "replay"
 subcommand_name Vectors = codes "vectors"
 
@@ -74,6 +83,7 @@ abbrev pub HasValues : Job → List Row → Type 0
 HasValues (Decode hex) rows = first_of (codes "HEX") rows ≡ Some hex.now
 HasValues (Respond mac hex) rows = (first_of (codes "MAC") rows ≡ Some mac.now) × (first_of (codes "HEX") rows ≡ Some hex.now)
 HasValues (Check file) rows = first_of (codes "FILE") rows ≡ Some file.now
+HasValues (Capture file) rows = first_of (codes "FILE") rows ≡ Some file.now
 HasValues (Replay script) rows = first_of (codes "SCRIPT") rows ≡ Some script.now
 HasValues Vectors rows = ⊤
 
@@ -94,8 +104,9 @@ has_each_argument (Some found) =
     if bytes_eq found.0 (codes "decode") then has_text (codes "HEX") found.1
     else (if bytes_eq found.0 (codes "respond") then has_text (codes "MAC") found.1 && has_text (codes "HEX") found.1
     else (if bytes_eq found.0 (codes "check") then has_text (codes "FILE") found.1
+    else (if bytes_eq found.0 (codes "capture") then has_text (codes "FILE") found.1
     else (if bytes_eq found.0 (codes "replay") then has_text (codes "SCRIPT") found.1
-    else bytes_eq found.0 (codes "vectors"))))
+    else bytes_eq found.0 (codes "vectors")))))
 
 -- the kind of error with which help or the version is shown
 abbrev pub IsHelpOrVersion : ErrorKind → Type 0

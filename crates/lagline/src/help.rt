@@ -11,9 +11,11 @@ pub const STATUSES: &str = "\
 Before the subcommand, as in lagtool --explain replay SCRIPT:
   --explain   A second line on standard error says more of a file that cannot be read, or is no script
   --progress  Standard error shows how far check or replay is
+  --all       A line of capture has every field
+  --no-frames capture prints no line for a frame
 
-Status 0: the payload is accepted, the frame is answered, no line of the file is a fault, the script
-          was run, or no vector failed.
+Status 0: the payload is accepted, the frame is answered, no line of the file is a fault, the capture
+          or the script was read to its end, or no vector failed.
 Status 1: the payload is refused, the frame is not answered, a line of the file is a fault, or a vector
           failed.
 Status 2: standard error says why: a wrong command line, a word that is not hexadecimal, a file that
@@ -64,6 +66,21 @@ Prints a line for each line of the file: its number, and lacpdu, marker, marker-
 fault: runt, refused and why, not hex, too long. Last comes a line with the counts.
 
 Example: lagtool check frames.txt";
+
+/// What `capture` does.
+pub const CAPTURE: &str = "Explains the LACPDUs and Marker PDUs of a capture";
+
+/// The argument FILE of `capture`.
+pub const CAPTURE_FILE: &str =
+    "A file of tcpdump or Wireshark, pcap or pcapng, or - for standard input";
+
+/// What `capture` prints, and an example.
+pub const CAPTURE_EXAMPLE: &str = "\
+Prints a line for each frame of the slow protocols, with what differs from the last LACPDU of its sender;
+then a line for each end of a link, and the counts. With --all before the subcommand a line has every
+field, with --no-frames there is no line for a frame.
+
+Example: lagtool capture lacp.pcap";
 
 /// What `replay` does.
 pub const REPLAY: &str = "Runs a script of two systems and their cables, and prints its report";

@@ -3,8 +3,8 @@ ghost use Rattle.clap.specs.declared.builder.command.Command.TheViews.{out-Comma
 ghost use Rattle.clap.specs.Words.{app_of, fault_of, new_app, subcommand_of, subcommand_rows_of, with_rule};
 ghost use Rattle.lagline.specs.declared.line.LineFault.TheVariants.{NoMemory};
 ghost use Rattle.lagline.specs.Lines.{IsCause, IsJob, KeepsKind, has_each_argument, program, program_alone, required_argument};
-ghost use Rattle.lagline.specs.Lines.{check_subcommand, decode_subcommand, replay_subcommand, respond_subcommand};
-ghost use Rattle.lagline.specs.Lines.{up_to_check, up_to_decode, up_to_replay, up_to_respond};
+ghost use Rattle.lagline.specs.Lines.{capture_subcommand, check_subcommand, decode_subcommand, replay_subcommand, respond_subcommand};
+ghost use Rattle.lagline.specs.Lines.{up_to_capture, up_to_check, up_to_decode, up_to_replay, up_to_respond};
 
 use crate::help;
 use clap::error::ErrorKind;
@@ -21,6 +21,8 @@ pub enum Job<'a> {
     Respond { mac: &'a str, hex: &'a str },
     /// `lagtool check FILE`: says for each line of a file what frame it is; `-` is standard input.
     Check { file: &'a str },
+    /// `lagtool capture FILE`: explains the LACPDUs and Marker PDUs of a capture; `-` is standard input.
+    Capture { file: &'a str },
     /// `lagtool replay SCRIPT`: runs a script of two systems; `-` is standard input.
     Replay { script: &'a str },
     /// `lagtool vectors`: tests the program on known inputs.
@@ -119,6 +121,15 @@ fn check_line<'a>(alloc: Global) -> Result<Command<'a>, AllocError>
     with_argument(check, alloc, "FILE", help::CHECK_FILE)
 }
 
+/// The line `capture FILE`.
+fn capture_line<'a>(alloc: Global) -> Result<Command<'a>, AllocError>
+    ensures app { IfOk result (λ c. app_of c ≡ capture_subcommand) }
+    ensures local { IfOk result (λ c. (fields_of c).has_globals ≡ false) }
+{
+    let capture = subcommand(alloc, "capture", help::CAPTURE, help::CAPTURE_EXAMPLE);
+    with_argument(capture, alloc, "FILE", help::CAPTURE_FILE)
+}
+
 /// The line `replay SCRIPT`.
 fn replay_line<'a>(alloc: Global) -> Result<Command<'a>, AllocError>
     ensures app { IfOk result (λ c. app_of c ≡ replay_subcommand) }
@@ -150,11 +161,18 @@ fn up_to_check<'a>(alloc: Global) -> Result<Command<'a>, AllocError>
     up_to_respond(alloc)?.subcommand(check_line(alloc)?)
 }
 
+/// The program with its lines up to `capture`.
+fn up_to_capture<'a>(alloc: Global) -> Result<Command<'a>, AllocError>
+    ensures { IfOk result (λ c. app_of c ≡ up_to_capture) }
+{
+    up_to_check(alloc)?.subcommand(capture_line(alloc)?)
+}
+
 /// The program with its lines up to `replay`.
 fn up_to_replay<'a>(alloc: Global) -> Result<Command<'a>, AllocError>
     ensures { IfOk result (λ c. app_of c ≡ up_to_replay) }
 {
-    up_to_check(alloc)?.subcommand(replay_line(alloc)?)
+    up_to_capture(alloc)?.subcommand(replay_line(alloc)?)
 }
 
 /// The program with its lines.
@@ -180,6 +198,9 @@ fn job_in<'a>(matches: &ArgMatches<'a>) -> Job<'a>
             hex: values.get_str("HEX").unwrap(),
         },
         "check" => Job::Check {
+            file: values.get_str("FILE").unwrap(),
+        },
+        "capture" => Job::Capture {
             file: values.get_str("FILE").unwrap(),
         },
         "replay" => Job::Replay {

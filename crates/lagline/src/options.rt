@@ -8,6 +8,10 @@ pub struct Options {
     pub explain: bool,
     /// `--progress`: standard error shows how far `check` or `replay` is.
     pub progress: bool,
+    /// `--all`: a line of `capture` has every field.
+    pub all: bool,
+    /// `--no-frames`: `capture` prints no line for a frame.
+    pub no_frames: bool,
     /// How many words they are.
     pub count: usize,
 }
@@ -16,10 +20,11 @@ pub struct Options {
 fn is_option(word: &str) -> bool
     ensures { result ≡ is_option word.now }
 {
-    word == "--explain" || word == "--progress"
+    word == "--explain" || word == "--progress" || word == "--all" || word == "--no-frames"
 }
 
 /// Whether one of these words is this option.
+#[tactic(auto, unfolding(crate::specs::Options::has_option))]
 fn has_option(words: &[String], name: &str) -> bool
     ensures { result ≡ has_option name.now words.now }
 {
@@ -58,6 +63,8 @@ pub fn read_options(words: &[String]) -> Options
     Options {
         explain: has_option(options, "--explain"),
         progress: has_option(options, "--progress"),
+        all: has_option(options, "--all"),
+        no_frames: has_option(options, "--no-frames"),
         count,
     }
 }

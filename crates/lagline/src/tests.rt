@@ -15,13 +15,15 @@ fn said_of(alloc: Global, words: &[&str]) -> Result<String, AllocError> {
 
 #[test]
 fn lines(rt: HostRuntime) -> Result<(), Fail> {
-    let rows: [(&[&str], &str); 22] = [
+    let rows: [(&[&str], &str); 24] = [
         (&["lagtool", "decode", ""], "Decode { hex: \"\" }"),
         (
             &["lagtool", "respond", "02", "0180"],
             "Respond { mac: \"02\", hex: \"0180\" }",
         ),
         (&["lagtool", "check", "-"], "Check { file: \"-\" }"),
+        (&["lagtool", "capture", "-"], "Capture { file: \"-\" }"),
+        (&["lagtool", "capture"], "usage"),
         (
             &["lagtool", "replay", "a.toml"],
             "Replay { script: \"a.toml\" }",
@@ -97,6 +99,29 @@ fn options_before_a_subcommand(rt: HostRuntime) -> Result<(), Fail> {
         let wanted = Options {
             explain,
             progress,
+            all: false,
+            no_frames: false,
+            count,
+        };
+        assert_eq!(rt; seen, wanted, "{words:?}");
+    }
+    Ok(())
+}
+
+#[test]
+fn options_of_a_capture(rt: HostRuntime) -> Result<(), Fail> {
+    let rows: [(&[&str], bool, bool, usize); 3] = [
+        (&["lagtool", "--all", "capture", "a"], true, false, 1),
+        (&["lagtool", "--no-frames", "capture", "a"], false, true, 1),
+        (&["lagtool", "capture", "--all", "a"], false, false, 0),
+    ];
+    for (words, all, no_frames, count) in rows {
+        let seen = options_of(rt.alloc(), words)?;
+        let wanted = Options {
+            explain: false,
+            progress: false,
+            all,
+            no_frames,
             count,
         };
         assert_eq!(rt; seen, wanted, "{words:?}");
@@ -115,7 +140,7 @@ fn help_of(alloc: Global, words: &[&str]) -> Result<String, AllocError> {
 #[test]
 fn help_says_what_words_mean(rt: HostRuntime) -> Result<(), Fail> {
     let alloc = rt.alloc();
-    let rows: [(&[&str], &[&str]); 7] = [
+    let rows: [(&[&str], &[&str]); 8] = [
         (
             &["lagtool", "--help"],
             &[
@@ -160,6 +185,16 @@ fn help_says_what_words_mean(rt: HostRuntime) -> Result<(), Fail> {
             ],
         ),
         (
+            &["lagtool", "capture", "--help"],
+            &[
+                "lagtool capture <FILE>",
+                "pcapng",
+                "standard input",
+                "--no-frames",
+                "lagtool capture lacp.pcap",
+            ],
+        ),
+        (
             &["lagtool", "replay", "--help"],
             &[
                 "lagtool replay <SCRIPT>",
@@ -188,7 +223,7 @@ fn help_says_what_words_mean(rt: HostRuntime) -> Result<(), Fail> {
 fn help_has_the_lines_in_their_order(rt: HostRuntime) -> Result<(), Fail> {
     let text = help_of(rt.alloc(), &["lagtool", "--help"])?;
     let mut rest = text.as_str();
-    for name in ["decode", "respond", "check", "replay", "vectors"] {
+    for name in ["decode", "respond", "check", "capture", "replay", "vectors"] {
         let line = rest.split_once(name);
         assert!(rt; line.is_some(), "{name} is not behind the others: {text}");
         rest = line.map(|(_, behind)| behind).unwrap_or("");

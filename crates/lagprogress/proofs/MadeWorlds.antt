@@ -16,10 +16,13 @@ use Rattle.lagworld.specs.Making.{AreFirst}
 use Rattle.lagworld.specs.Sound.{IsSound}
 use Rattle.lagworld.specs.State.{LinkState, WorldState, half}
 use Rattle.lagprogress.specs.Bundle.{BothAreActive, IsBundle, OneIsActive, ReachedIsApart, ReachedIsBundle, SystemsDiffer}
-use Rattle.lagprogress.specs.Played.{IsReached, IsReady, LeadsToAgreement}
+use Rattle.lagprogress.specs.Freed.{CarriersAreUp}
+use Rattle.lagprogress.specs.Played.{EachAgrees, EachDistributes, IsReached, IsReady, LeadsTo, NothingStaysHeld}
 use Rattle.lagprogress.specs.Rounds.{Rounds}
 use Rattle.lagprogress.proofs.Bundling.{each_active_link_agrees, each_active_link_comes_up, each_link_agrees, each_link_comes_up}
+use Rattle.lagprogress.proofs.Carrying.{each_reached_has_carriers_up}
 use Rattle.lagprogress.proofs.ComingUp.{events_keep}
+use Rattle.lagprogress.proofs.Freeing.{none_is_held_where_active, nothing_is_held}
 use Rattle.lagprogress.proofs.Hearing.{no}
 use Rattle.lagprogress.proofs.Reaching.{reached_steady}
 
@@ -73,18 +76,36 @@ module _ {C : Type 0} (items : C → List Item) (limit : C → Option ℕ) where
   is_bundle Holds gives j r ready = reached_is_bundle Holds gives r.config r.events r.replies r.start j (first_none _ _ r.accepted) r.starts
       r.made.systems r.runs r.few ready.heard ready.aggregators ready.links
 
-  pub active_lead : (gives : Algorithms) (n : ℕ) (old new : WorldState) → Rounds gives n old new
-      → LeadsToAgreement items limit BothAreActive 650 gives n old new
-  active_lead gives n old new h r ready enough i l healthy =
-      let both = is_bundle BothAreActive gives old r ready in (
-        each_active_link_comes_up gives n i l old new both.1 healthy (omega (arith, enough)) h,
-        each_active_link_agrees gives n i l old new both.0 both.1 healthy (omega (arith, enough)) h,
-      )
+  carriers : (gives : Algorithms) (j : WorldState) → IsReached items limit gives j → (s : Side) → CarriersAreUp (half s j).state
+  carriers gives j r = each_reached_has_carriers_up gives r.config.systems r.events r.replies r.start j r.starts r.made.systems r.runs
 
-  pub one_leads : (gives : Algorithms) (n : ℕ) (old new : WorldState) → Rounds gives n old new
-      → LeadsToAgreement items limit OneIsActive 959 gives n old new
-  one_leads gives n old new h r ready enough i l healthy =
-      let both = is_bundle OneIsActive gives old r ready in (
-        each_link_comes_up gives n i l old new both.1 healthy (omega (arith, enough)) h,
-        each_link_agrees gives n i l old new both.0 both.1 healthy (omega (arith, enough)) h,
-      )
+  pub active_distribute : (gives : Algorithms) (n : ℕ) (old new : WorldState) → Rounds gives n old new
+      → LeadsTo items limit EachDistributes BothAreActive 352 gives n old new
+  active_distribute gives n old new h r ready enough i l healthy =
+      each_active_link_comes_up gives n i l old new (is_bundle BothAreActive gives old r ready).1 healthy enough h
+
+  pub active_agree : (gives : Algorithms) (n : ℕ) (old new : WorldState) → Rounds gives n old new
+      → LeadsTo items limit EachAgrees BothAreActive 650 gives n old new
+  active_agree gives n old new h r ready enough i l healthy =
+      let both = is_bundle BothAreActive gives old r ready in
+      each_active_link_agrees gives n i l old new both.0 both.1 healthy enough h
+
+  pub active_free : (gives : Algorithms) (n : ℕ) (old new : WorldState) → Rounds gives n old new
+      → LeadsTo items limit NothingStaysHeld BothAreActive 382 gives n old new
+  active_free gives n old new h r ready enough s left =
+      none_is_held_where_active gives n old new s (is_bundle BothAreActive gives old r ready).1 (carriers gives old r s) enough h left
+
+  pub one_distributes : (gives : Algorithms) (n : ℕ) (old new : WorldState) → Rounds gives n old new
+      → LeadsTo items limit EachDistributes OneIsActive 959 gives n old new
+  one_distributes gives n old new h r ready enough i l healthy =
+      each_link_comes_up gives n i l old new (is_bundle OneIsActive gives old r ready).1 healthy enough h
+
+  pub one_agrees : (gives : Algorithms) (n : ℕ) (old new : WorldState) → Rounds gives n old new
+      → LeadsTo items limit EachAgrees OneIsActive 959 gives n old new
+  one_agrees gives n old new h r ready enough i l healthy =
+      let both = is_bundle OneIsActive gives old r ready in each_link_agrees gives n i l old new both.0 both.1 healthy enough h
+
+  pub one_frees : (gives : Algorithms) (n : ℕ) (old new : WorldState) → Rounds gives n old new
+      → LeadsTo items limit NothingStaysHeld OneIsActive 989 gives n old new
+  one_frees gives n old new h r ready enough s left =
+      nothing_is_held gives n old new s (is_bundle OneIsActive gives old r ready).1 (carriers gives old r s) enough h left

@@ -17,6 +17,7 @@ use Rattle.lagworld.specs.Sound.{IsStart}
 use Rattle.lagworld.specs.State.{LinkState, WorldState, half}
 use Rattle.lagprogress.specs.Bundle.{AllHeard, EnoughAggregators, EnoughLinks}
 use Rattle.lagprogress.specs.ComingUp.{Distributes}
+use Rattle.lagprogress.specs.Freed.{HasIdentifierLeft, NoneIsHeld}
 use Rattle.lagprogress.specs.Rounds.{AtEnd, IsDeliver, IsHealthyAt, Rounds, asks_all, ticks_of_both}
 
 -- all of these events act
@@ -100,12 +101,20 @@ pub record IsReady (Holds : LinkState → WorldState → Type 0) (j : WorldState
   pub aggregators : (s : Side) → EnoughAggregators (half s j).state
   pub links : (s : Side) → EnoughLinks (half s j).state
 
--- both ends of each cable that is healthy in the old world distribute in the new one, and agree
+-- both ends of each cable that is healthy in the old world distribute in the new one
+abbrev pub EachDistributes : WorldState → WorldState → Type 0
+EachDistributes old new = (i : ℕ) (l : LinkState) → IsHealthyAt i l old → (s : Side) → AtEnd Distributes s l new
+
+-- each of these cables agrees in the new one
 abbrev pub EachAgrees : WorldState → WorldState → Type 0
-EachAgrees old new = (i : ℕ) (l : LinkState) → IsHealthyAt i l old
-    → ((s : Side) → AtEnd Distributes s l new) × (agreement_at new (suc i) ≡ Some Same)
+EachAgrees old new = (i : ℕ) (l : LinkState) → IsHealthyAt i l old → agreement_at new (suc i) ≡ Some Same
+
+-- in the new one no conversation is held, of a system that has an identifier left
+abbrev pub NothingStaysHeld : WorldState → WorldState → Type 0
+NothingStaysHeld old new = (s : Side) → HasIdentifierLeft (half s new).state → NoneIsHeld (half s new).state
 
 module _ {C : Type 0} (items : C → List Item) (limit : C → Option ℕ) where
   -- So it is after at least so many rounds, if the old world was reached from one that was made, and is ready.
-  abbrev pub LeadsToAgreement : (LinkState → WorldState → Type 0) → ℕ → Algorithms → ℕ → WorldState → WorldState → Type 0
-  LeadsToAgreement Holds least gives count old new = IsReached items limit gives old → IsReady Holds old → least ≤ count → EachAgrees old new
+  abbrev pub LeadsTo : (WorldState → WorldState → Type 0) → (LinkState → WorldState → Type 0) → ℕ → Algorithms → ℕ → WorldState → WorldState
+      → Type 0
+  LeadsTo Then Holds least gives count old new = IsReached items limit gives old → IsReady Holds old → least ≤ count → Then old new

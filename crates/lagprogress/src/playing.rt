@@ -5,8 +5,8 @@ ghost use Rattle.lagworld.specs.Events.{most_events};
 ghost use Rattle.lagworld.specs.ModelWorld.{world_setup};
 ghost use Rattle.lagworld.specs.Sound.{both_algorithms};
 ghost use Rattle.lagprogress.specs.Bundle.{BothAreActive, OneIsActive};
-ghost use Rattle.lagprogress.specs.Played.{Delivers, IsOutOfMemoryOrSpent, IsRefused, LeadsToAgreement, NamesNoCable, PlaysPart};
-ghost use Rattle.lagprogress.specs.Played.{RunsAll, RunsPart, StopsInRound, found_nothing};
+ghost use Rattle.lagprogress.specs.Played.{Delivers, EachAgrees, EachDistributes, IsOutOfMemoryOrSpent, IsRefused, LeadsTo, NamesNoCable};
+ghost use Rattle.lagprogress.specs.Played.{NothingStaysHeld, PlaysPart, RunsAll, RunsPart, StopsInRound, found_nothing};
 ghost use Rattle.lagprogress.specs.Rounds.{IsRound, NothingInFlight, Rounds, asks_all};
 
 use cables::Cable;
@@ -173,9 +173,17 @@ pub fn play_rounds<C: Cable, F: Fn(u16, usize) -> usize + Drop>(
     requires two { PicksIndexes (F.pre world.old.two) (F.post world.old.two) }
     ensures rounds { IfOk result (λ done. Rounds (both_algorithms (F.post world.old.one) (F.post world.old.two)) count world.old.state
         world.new.state) }
-    ensures agrees_both { IfOk result (λ done. LeadsToAgreement C.items C.limit BothAreActive 650
+    ensures distributes_both { IfOk result (λ done. LeadsTo C.items C.limit EachDistributes BothAreActive 352
         (both_algorithms (F.post world.old.one) (F.post world.old.two)) count world.old.state world.new.state) }
-    ensures agrees_one { IfOk result (λ done. LeadsToAgreement C.items C.limit OneIsActive 959
+    ensures agrees_both { IfOk result (λ done. LeadsTo C.items C.limit EachAgrees BothAreActive 650
+        (both_algorithms (F.post world.old.one) (F.post world.old.two)) count world.old.state world.new.state) }
+    ensures frees_both { IfOk result (λ done. LeadsTo C.items C.limit NothingStaysHeld BothAreActive 382
+        (both_algorithms (F.post world.old.one) (F.post world.old.two)) count world.old.state world.new.state) }
+    ensures distributes_one { IfOk result (λ done. LeadsTo C.items C.limit EachDistributes OneIsActive 959
+        (both_algorithms (F.post world.old.one) (F.post world.old.two)) count world.old.state world.new.state) }
+    ensures agrees_one { IfOk result (λ done. LeadsTo C.items C.limit EachAgrees OneIsActive 959
+        (both_algorithms (F.post world.old.one) (F.post world.old.two)) count world.old.state world.new.state) }
+    ensures frees_one { IfOk result (λ done. LeadsTo C.items C.limit NothingStaysHeld OneIsActive 989
         (both_algorithms (F.post world.old.one) (F.post world.old.two)) count world.old.state world.new.state) }
     ensures stopped { IfErr result (λ fault. StopsInRound (both_algorithms (F.post world.old.one) (F.post world.old.two)) fault count
         world.old.state world.new.state) }

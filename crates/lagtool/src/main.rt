@@ -7,6 +7,7 @@
 ghost use Rattle.std.specs.Prelude.{◌≡◌, ◌<◌};
 ghost use Rattle.distributor.specs.Calls.{index_by_number};
 
+use lagcapture::{CaptureFault, Settings, Summary, explain};
 use lagjobs::{
     FaultText, Progress, ToolFault, Watch, check_watched, digits_text, replay_watched, reply,
     script_text, show, status_of, unread_text, utf8_text, vectors,
@@ -99,6 +100,61 @@ fn status_of_check<R: Print + Eprint + Files + Input + Clock + AllocGlobal>(
         say_more(rt, unread_text(rt.alloc(), rt, file));
     }
     status
+}
+
+/// Explains a capture, or standard input for `-`.
+fn capture_file<R: Print + Files + Input + AllocGlobal>(
+    rt: &R,
+    settings: Settings,
+    file: &str,
+) -> Result<Summary, CaptureFault> {
+    let mut sink = Sink::new(io::writer(rt));
+    if file == "-" {
+        explain(rt.alloc(), settings, &mut Source::new(rt.reader()), &mut sink)
+    } else {
+        match File::open(rt, file) {
+            Ok(opened) => explain(rt.alloc(), settings, &mut Source::new(opened), &mut sink),
+            Err(_) => Err(CaptureFault::Read),
+        }
+    }
+}
+
+/// The same fault as one of the program.
+fn tool_fault(fault: CaptureFault) -> ToolFault {
+    match fault {
+        CaptureFault::Read => ToolFault::Read,
+        CaptureFault::Write => ToolFault::Write,
+        CaptureFault::NoMemory => ToolFault::NoMemory,
+    }
+}
+
+/// Explains a capture, or standard input for `-`; returns the exit status.
+fn status_of_capture<R: Print + Eprint + Files + Input + AllocGlobal>(
+    rt: &R,
+    options: Options,
+    file: &str,
+) -> ExitCode {
+    let settings = Settings {
+        all: options.all,
+        frames: !options.no_frames,
+    };
+    match capture_file(rt, settings, file) {
+        Ok(Summary {
+            fault: Some(fault), ..
+        }) => {
+            let _ = eprintln!(rt; "lagtool: cannot read {file}: {fault}");
+            ExitCode::from(2)
+        }
+        Ok(_) => ExitCode::SUCCESS,
+        Err(fault) => {
+            let fault = tool_fault(fault);
+            let status = ended(rt, file, Err(fault));
+            if options.explain && fault == ToolFault::Read {
+                say_more(rt, unread_text(rt.alloc(), rt, file));
+            }
+            status
+        }
+    }
 }
 
 /// The octets of a file, or of standard input for `-`.
@@ -219,6 +275,7 @@ fn status<R: Print + Eprint + Files + Input + Clock + AllocGlobal>(
             ended_with_words(rt, options, mac, hex, reply(alloc, mac, hex, &mut sink))
         }
         Ok(Job::Check { file }) => status_of_check(rt, options, file),
+        Ok(Job::Capture { file }) => status_of_capture(rt, options, file),
         Ok(Job::Replay { script }) => status_of_replay(rt, options, script),
         Ok(Job::Vectors) => ended(rt, "", run_vectors(rt)),
         Err(fault) => explained(rt, fault),

@@ -4,4 +4,4 @@ use Rattle.lagline.proofs.line.up_to_replay.Goals as goal
 
 pub returns : goal.returns
 returns c = IfOk-weaker c.subcommand.result _ _
-    (λ m h. one_more _ _ m _ _ h c.in_ok-replay_line.ensures.local c.in_ok-up_to_check.ensures c.in_ok-replay_line.ensures.app) c.subcommand.ensures
+    (λ m h. one_more _ _ m _ _ h c.in_ok-replay_line.ensures.local c.in_ok-up_to_capture.ensures c.in_ok-replay_line.ensures.app) c.subcommand.ensures

@@ -4,7 +4,7 @@ use Rattle.lagworld.specs.Events.{Algorithms}
 use Rattle.lagworld.specs.Sound.{both_algorithms}
 use Rattle.lagprogress.specs.Played.{PlaysPart, StopsInRound}
 use Rattle.lagprogress.specs.Rounds.{IsRound, Rounds}
-use Rattle.lagprogress.proofs.MadeWorlds.{active_lead, one_leads}
+use Rattle.lagprogress.proofs.MadeWorlds.{active_agree, active_distribute, active_free, one_agrees, one_distributes, one_frees}
 use Rattle.lagprogress.proofs.Played.{on_err, round_more, same_algorithms}
 use Rattle.lagprogress.proofs.playing.play_rounds.Goals as goal
 
@@ -54,6 +54,16 @@ returns-in_err-play_round-clause-stopped g c =
       refused = c.in_err-play_round.ensures.refused;
     })
 
+pub returns-clause-distributes_both : goal.returns-clause-distributes_both
+returns-clause-distributes_both g c =
+    let gives : Algorithms = both_algorithms (λ conv count place. g.F.Fn.post c.args.world.now.one (conv, (count, tt)) place)
+    (λ conv count place. g.F.Fn.post c.args.world.now.two (conv, (count, tt)) place) in
+    let old = c.args.world.now.state in
+    let new = c.loop-done.world.state in
+    let all : c.loop-done.done ≡ c.args.count = omega (arith, c.loop-done-test.false, c.loop-done.invariant.within) in
+    active_distribute g.C.Cable.items g.C.Cable.limit gives c.args.count old new
+    (subst (λ n. Rounds gives n old new) all c.loop-done.invariant.played)
+
 pub returns-clause-agrees_both : goal.returns-clause-agrees_both
 returns-clause-agrees_both g c =
     let gives : Algorithms = both_algorithms (λ conv count place. g.F.Fn.post c.args.world.now.one (conv, (count, tt)) place)
@@ -61,7 +71,27 @@ returns-clause-agrees_both g c =
     let old = c.args.world.now.state in
     let new = c.loop-done.world.state in
     let all : c.loop-done.done ≡ c.args.count = omega (arith, c.loop-done-test.false, c.loop-done.invariant.within) in
-    active_lead g.C.Cable.items g.C.Cable.limit gives c.args.count old new
+    active_agree g.C.Cable.items g.C.Cable.limit gives c.args.count old new
+    (subst (λ n. Rounds gives n old new) all c.loop-done.invariant.played)
+
+pub returns-clause-frees_both : goal.returns-clause-frees_both
+returns-clause-frees_both g c =
+    let gives : Algorithms = both_algorithms (λ conv count place. g.F.Fn.post c.args.world.now.one (conv, (count, tt)) place)
+    (λ conv count place. g.F.Fn.post c.args.world.now.two (conv, (count, tt)) place) in
+    let old = c.args.world.now.state in
+    let new = c.loop-done.world.state in
+    let all : c.loop-done.done ≡ c.args.count = omega (arith, c.loop-done-test.false, c.loop-done.invariant.within) in
+    active_free g.C.Cable.items g.C.Cable.limit gives c.args.count old new
+    (subst (λ n. Rounds gives n old new) all c.loop-done.invariant.played)
+
+pub returns-clause-distributes_one : goal.returns-clause-distributes_one
+returns-clause-distributes_one g c =
+    let gives : Algorithms = both_algorithms (λ conv count place. g.F.Fn.post c.args.world.now.one (conv, (count, tt)) place)
+    (λ conv count place. g.F.Fn.post c.args.world.now.two (conv, (count, tt)) place) in
+    let old = c.args.world.now.state in
+    let new = c.loop-done.world.state in
+    let all : c.loop-done.done ≡ c.args.count = omega (arith, c.loop-done-test.false, c.loop-done.invariant.within) in
+    one_distributes g.C.Cable.items g.C.Cable.limit gives c.args.count old new
     (subst (λ n. Rounds gives n old new) all c.loop-done.invariant.played)
 
 pub returns-clause-agrees_one : goal.returns-clause-agrees_one
@@ -71,5 +101,15 @@ returns-clause-agrees_one g c =
     let old = c.args.world.now.state in
     let new = c.loop-done.world.state in
     let all : c.loop-done.done ≡ c.args.count = omega (arith, c.loop-done-test.false, c.loop-done.invariant.within) in
-    one_leads g.C.Cable.items g.C.Cable.limit gives c.args.count old new
+    one_agrees g.C.Cable.items g.C.Cable.limit gives c.args.count old new
+    (subst (λ n. Rounds gives n old new) all c.loop-done.invariant.played)
+
+pub returns-clause-frees_one : goal.returns-clause-frees_one
+returns-clause-frees_one g c =
+    let gives : Algorithms = both_algorithms (λ conv count place. g.F.Fn.post c.args.world.now.one (conv, (count, tt)) place)
+    (λ conv count place. g.F.Fn.post c.args.world.now.two (conv, (count, tt)) place) in
+    let old = c.args.world.now.state in
+    let new = c.loop-done.world.state in
+    let all : c.loop-done.done ≡ c.args.count = omega (arith, c.loop-done-test.false, c.loop-done.invariant.within) in
+    one_frees g.C.Cable.items g.C.Cable.limit gives c.args.count old new
     (subst (λ n. Rounds gives n old new) all c.loop-done.invariant.played)

@@ -18,4 +18,5 @@ returns c = λ l recent is.
       keys = next c.earlier_or-10.ensures (ap (λ (r : LacpduRules). r.keys) is) (c.has_other_keys.ensures l recent) c.shown-shown.ensures i;
       segment = next c.earlier_or-11.ensures (ap (λ (r : LacpduRules). r.segment) is) (c.has_rival.ensures l) c.shown-shown.ensures i;
       discarded = next c.earlier_or-12.ensures (ap (λ (r : LacpduRules). r.discarded) is) (c.is_discarded.ensures l recent) c.shown-shown.ensures i;
+      one_way = next c.earlier_or-13.ensures (ap (λ (r : LacpduRules). r.one_way) is) (c.is_one_way.ensures l recent) c.shown-shown.ensures i;
     }

@@ -1,0 +1,16 @@
+use Rattle.std.proofs.Common.{◌≡◌, ◌∙◌, false, ap, refl, sym}
+use Rattle.findings.specs.declared.observed.LinkEnd.{LinkEnd}
+use Rattle.findings.specs.declared.watch.Watch.{Watch}
+use Rattle.findings.specs.Ends.{end_of, same_end}
+use Rattle.findings.proofs.WatchLemmas.{other_frame}
+use Rattle.findings.proofs.watch.Watch.see.Goals as goal
+
+pub returns-else-is : goal.returns-else-is
+returns-else-is c =
+    let other : same_end (end_of c.args.now.now) c.args.self.now.end ≡ false
+    = ap (λ (e : LinkEnd). same_end e c.args.self.now.end) (sym c.end.ensures) ∙ (sym c.is.ensures ∙ c.if-is.false) in
+    record {
+      end = refl;
+      exact = λ h is. other_frame c.args.self.now.end c.args.now.now h c.args.self.now c.with-asking.result c.others_with-others.result other is
+          (c.with-asking.ensures h other (ap (λ (w : Watch). w.asking) is)) (c.others_with-others.ensures h other is);
+    }

@@ -1,0 +1,144 @@
+ghost use Rattle.std.specs.Prelude.{◌≡◌, ◌∷◌, List};
+ghost use Rattle.std.specs.Option.{option_or};
+ghost use Rattle.findings.specs.declared.observed.Observed.{Observed};
+ghost use Rattle.findings.specs.Ends.{end_of, same_end};
+ghost use Rattle.findings.specs.Markers.{asked_in, asking, is_response_to, marker_in, overdue, response_in, unless_answered};
+
+use crate::finding::Shown;
+use crate::observed::{LinkEnd, Observed, What};
+use crate::recent::{SHORT_TIMEOUT, is_over};
+use slowpdu::{Marker, MarkerKind};
+
+/// A marker, and when it was captured.
+#[derive(Clone, Copy, Debug, PartialEq, Eq)]
+pub(crate) struct Asked {
+    /// The number of the packet.
+    pub(crate) number: u64,
+    /// When it was captured, in nanoseconds.
+    pub(crate) nanoseconds: u64,
+    /// The marker.
+    pub(crate) marker: Marker,
+}
+
+/// The markers of an end, as far as they wait for a response.
+#[derive(Clone, Copy, Debug, Default, PartialEq, Eq)]
+pub(crate) struct Asking {
+    /// The latest marker, if no other end has responded to it.
+    pub(crate) waiting: Option<Asked>,
+    /// The first marker that had waited for too long when a frame came.
+    pub(crate) overdue: Option<Shown>,
+}
+
+impl What {
+    /// The marker that it is, if it is one.
+    fn marker(&self) -> Option<Marker>
+        ensures { result ≡ marker_in self.now }
+    {
+        match self {
+            What::Marker(marker) => match marker.kind {
+                MarkerKind::Information => Some(*marker),
+                MarkerKind::Response => None,
+            },
+            _ => None,
+        }
+    }
+
+    /// The response that it is, if it is one.
+    fn response(&self) -> Option<Marker>
+        ensures { result ≡ response_in self.now }
+    {
+        match self {
+            What::Marker(marker) => match marker.kind {
+                MarkerKind::Information => None,
+                MarkerKind::Response => Some(*marker),
+            },
+            _ => None,
+        }
+    }
+}
+
+impl Asked {
+    /// Whether this is the response to the marker.
+    fn is_answered_by(&self, response: &Marker) -> bool
+        ensures { result ≡ is_response_to self.now.marker response.now }
+    {
+        response.port == self.marker.port
+            && response.system == self.marker.system
+            && response.id == self.marker.id
+    }
+}
+
+/// The marker in a frame.
+fn question(now: &Observed) -> Option<Asked>
+    ensures { result ≡ asked_in now.now (marker_in now.now.what) }
+{
+    match now.what.marker() {
+        Some(marker) => Some(Asked {
+            number: now.number,
+            nanoseconds: now.nanoseconds,
+            marker,
+        }),
+        None => None,
+    }
+}
+
+/// The marker, unless the frame of another end is the response to it.
+fn unless_answered(end: &LinkEnd, now: &Observed, waiting: Option<Asked>) -> Option<Asked>
+    ensures { result ≡ unless_answered end.now now.now (response_in now.now.what) waiting }
+{
+    match (now.what.response(), waiting) {
+        (Some(response), Some(asked)) => {
+            if now.interface == end.interface && asked.is_answered_by(&response) {
+                None
+            } else {
+                Some(asked)
+            }
+        }
+        _ => waiting,
+    }
+}
+
+impl Asking {
+    /// The marker that waits, if it has waited for too long at this time, in nanoseconds.
+    fn late(&self, time: u64) -> Option<Shown>
+        ensures { result ≡ overdue time self.now.waiting }
+    {
+        match self.waiting {
+            Some(asked) => {
+                if is_over(SHORT_TIMEOUT, Some(asked.nanoseconds), time) {
+                    Some(Shown {
+                        number: asked.number,
+                        nanoseconds: asked.nanoseconds,
+                        partner: None,
+                    })
+                } else {
+                    None
+                }
+            }
+            None => None,
+        }
+    }
+
+    /// The same behind one more frame, of this end or another.
+    pub(crate) fn with(&self, end: &LinkEnd, is_own: bool, now: &Observed) -> Asking
+        ensures { (h : List Observed) → same_end (end_of now.now) end.now ≡ is_own → self.now ≡ asking end.now h
+            → result ≡ asking end.now (now.now ∷ h) }
+    {
+        let waiting = if is_own {
+            question(now).or(self.waiting)
+        } else {
+            unless_answered(end, now, self.waiting)
+        };
+        Asking {
+            waiting,
+            overdue: self.overdue.or(self.late(now.nanoseconds)),
+        }
+    }
+
+    /// The first marker without a response in time, in a capture that goes up to this time.
+    pub(crate) fn first(&self, until: u64) -> Option<Shown>
+        ensures { result ≡ option_or self.now.overdue (overdue until self.now.waiting) }
+    {
+        self.overdue.or(self.late(until))
+    }
+}

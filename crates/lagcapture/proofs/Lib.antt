@@ -1,0 +1,3 @@
+mod ContentLemmas
+mod ExplainingLemmas
+mod StrideLemmas

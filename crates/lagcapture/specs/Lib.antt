@@ -1,0 +1,12 @@
+pub mod Envelopes
+pub mod Contents
+pub mod Counting
+pub mod Names
+pub mod LacpduTexts
+pub mod LineTexts
+pub mod Ends
+pub mod Explaining
+pub mod Faults
+pub mod Strides
+pub mod EndTexts
+pub mod Walks

@@ -1,0 +1,8 @@
+/// What is printed of a capture.
+#[derive(Clone, Copy, Debug, PartialEq, Eq)]
+pub struct Settings {
+    /// Whether the line of an LACPDU has every field, and not only what differs from the last LACPDU of its sender.
+    pub all: bool,
+    /// Whether there is a line for each frame.
+    pub frames: bool,
+}

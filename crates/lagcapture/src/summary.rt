@@ -1,0 +1,12 @@
+use crate::fault::ReadFault;
+
+/// What was read of a capture.
+#[derive(Clone, Copy, Debug, PartialEq, Eq)]
+pub struct Summary {
+    /// How many packets there were.
+    pub packets: u64,
+    /// How many of them are frames of the slow protocols.
+    pub slow: u64,
+    /// Why the capture is not read on; what was read before stands.
+    pub fault: Option<ReadFault>,
+}
