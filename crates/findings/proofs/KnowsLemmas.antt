@@ -1,14 +1,18 @@
 -- How what is known follows one more frame.
-use Rattle.std.proofs.Common.{take, drop, ◌≡◌, ◌<◌, ◌||◌, ◌∷◌, ◌++◌, ◌∙◌, ℕ, suc, Bool, true, false, List, [], length, refl, ap, sym, subst, arith}
+use Rattle.std.proofs.Common.{take, drop, ◌≡◌, ◌<◌, ◌≤◌, ◌+◌, ◌-◌, ◌^◌, ◌||◌, ◌∷◌, ◌++◌, ◌∙◌, ℕ, suc, Bool, true, false, List, [], length, map, filter, refl, ap, sym, subst, arith}
+use Rattle.std.proofs.Math.Bool.{or-true}
 use Rattle.std.proofs.Math.Seq.{take-append_seam}
-use Rattle.std.specs.List.{AllByRecursion, AllZip, IsDistinct, refill}
+use Rattle.std.proofs.lemmas.List.{length-append, length-map, length-take, take-append-drop, take-append-le, take_all}
+use Rattle.std.proofs.lemmas.List.Folds.{list_any-append}
+use Rattle.std.specs.List.{AllByRecursion, AllZip, list_any, refill}
+use Rattle.std.specs.Prelude.{min}
 use Rattle.findings.specs.declared.observed.LinkEnd.{LinkEnd}
 use Rattle.findings.specs.declared.observed.Observed.{Observed}
 use Rattle.findings.specs.declared.watch.Watch.{Watch}
 use Rattle.findings.specs.Ends.{Unsent, end_of, same_end}
 use Rattle.findings.specs.Watches.{watched}
-use Rattle.findings.specs.Knows.{IsExact, Knows, Takes, ends_of, has_end}
-use Rattle.findings.proofs.EndLemmas.{exact_end}
+use Rattle.findings.specs.Knows.{IsExact, Knows, Takes, counted, ends_of, first_ends, firsts, frames_beyond, has_end, is_among, with_end}
+use Rattle.findings.proofs.EndLemmas.{exact_end, itself}
 use Rattle.findings.proofs.WatchLemmas.{before_first}
 
 pub still_exact : (now : Observed) (h : List Observed) (olds news : List Watch) → AllZip (Takes now) olds news → AllByRecursion (IsExact h) olds
@@ -30,97 +34,164 @@ same_length now [] (n ∷ ns) t = absurd t
 same_length now (o ∷ os) [] t = absurd t
 same_length now (o ∷ os) (n ∷ ns) t = ap suc (same_length now os ns t.1)
 
-pub same_has : (now : Observed) (e : LinkEnd) (olds news : List Watch) → AllZip (Takes now) olds news → has_end e news ≡ has_end e olds
-same_has now e [] [] t = refl
-same_has now e [] (n ∷ ns) t = absurd t
-same_has now e (o ∷ os) [] t = absurd t
-same_has now e (o ∷ os) (n ∷ ns) t = λ i. same_end (t.0.end i) e || same_has now e os ns t.1 i
-
-neither : (a b : Bool) → (a || b) ≡ false → (a ≡ false) × (b ≡ false)
-neither true b h = absurd cc
-neither false b h = (refl, h)
-
 decided : (b : Bool) → (b ≡ true → b ≡ false) → b ≡ false
 decided true h = h refl
 decided false h = refl
 
--- an end that is not kept, where the sender is, has not sent the frame
-other_end : (e f : LinkEnd) (ws : List Watch) → has_end f ws ≡ true → has_end e ws ≡ false → same_end f e ≡ false
-other_end e f ws known unknown =
-    decided (same_end f e) (λ same. let at : has_end f ws ≡ has_end e ws = ap (λ g. has_end g ws) (exact_end f e same) in cc)
+-- each frame is of one of these ends
+Covered : List LinkEnd → List Observed → Type 0
+Covered es = AllByRecursion (λ o. is_among (end_of o) es ≡ true)
 
-not_its_own : (now : Observed) (h : List Observed) (e : LinkEnd) → same_end (end_of now) e ≡ false → Unsent e h → Unsent e (now ∷ h)
-not_its_own now h e other none = (other, none)
+among_ends : (e : LinkEnd) (ws : List Watch) → has_end e ws ≡ is_among e (ends_of ws)
+among_ends e [] = refl
+among_ends e (w ∷ ws) = ap (λ b. same_end w.end e || b) (among_ends e ws)
+
+among_more : (e : LinkEnd) (es fs : List LinkEnd) → is_among e es ≡ true → is_among e (es ++ fs) ≡ true
+among_more e es fs h = list_any-append (λ f. same_end f e) es fs ∙ ap (λ b. b || is_among e fs) h
+
+among_last : (e : LinkEnd) (es : List LinkEnd) → is_among e (es ++ e ∷ []) ≡ true
+among_last e [] = ap (λ b. b || false) (itself e)
+among_last e (f ∷ fs) = ap (λ b. same_end f e || b) (among_last e fs) ∙ or-true (same_end f e)
+
+with_known : (e : LinkEnd) (es : List LinkEnd) → is_among e es ≡ true → with_end e es ≡ es
+with_known e es h = rw h refl
+
+with_new : (e : LinkEnd) (es : List LinkEnd) → is_among e es ≡ false → with_end e es ≡ es ++ e ∷ []
+with_new e es h = rw h refl
+
+still_covered : (es fs : List LinkEnd) (h : List Observed) → Covered es h → Covered (es ++ fs) h
+unfolding Covered
+still_covered es fs [] c = tt
+still_covered es fs (o ∷ h) c = (among_more (end_of o) es fs c.0, still_covered es fs h c.1)
+
+covered_one : (o : Observed) (h : List Observed) (es : List LinkEnd) → Covered es h → (b : Bool) → is_among (end_of o) es ≡ b
+    → Covered (with_end (end_of o) es) (o ∷ h)
+unfolding Covered
+covered_one o h es c true known = subst (λ fs. Covered fs (o ∷ h)) (sym (with_known (end_of o) es known)) (known, c)
+covered_one o h es c false new =
+    subst (λ fs. Covered fs (o ∷ h)) (sym (with_new (end_of o) es new)) (among_last (end_of o) es, still_covered es (end_of o ∷ []) h c)
+
+covered : (h : List Observed) → Covered (firsts h) h
+unfolding Covered
+covered [] = tt
+covered (o ∷ h) = covered_one o h (firsts h) (covered h) (is_among (end_of o) (firsts h)) refl
+
+-- an end that is not among those of the frames has sent none
+unsent : (e : LinkEnd) (es : List LinkEnd) (h : List Observed) → Covered es h → is_among e es ≡ false → Unsent e h
+unfolding Covered
+unsent e es [] c new = tt
+unsent e es (o ∷ h) c new = (
+  decided (same_end (end_of o) e) (λ same. let at : is_among (end_of o) es ≡ is_among e es = ap (λ g. is_among g es) (exact_end (end_of o) e same) in
+      let one : is_among (end_of o) es ≡ true = c.0 in cc),
+  unsent e es h c.1 new,
+)
+
+none_beyond : (es : List LinkEnd) (h : List Observed) → Covered es h → frames_beyond es h ≡ []
+unfolding Covered
+none_beyond es [] c = refl
+none_beyond es (o ∷ h) c = rw (c.0, none_beyond es h c.1) refl
+
+-- fewer than 64 are all
+few : (es : List LinkEnd) → length (take 64 es) < 64 → length es < 64
+few es room = omega (arith, length-take 64 es)
+
+many : (es : List LinkEnd) → length (take 64 es) ≡ 64 → 64 ≤ length es
+many es full = omega (arith, length-take 64 es)
+
+kept_known : (e : LinkEnd) (es : List LinkEnd) → is_among e (take 64 es) ≡ true → take 64 (with_end e es) ≡ take 64 es
+kept_known e es known =
+    ap (λ fs. take 64 fs)
+    (with_known e es (subst (λ fs. is_among e fs ≡ true) (take-append-drop 64 es) (among_more e (take 64 es) (drop 64 es) known)))
+
+kept_full : (e : LinkEnd) (es : List LinkEnd) → length (take 64 es) ≡ 64 → (b : Bool) → is_among e es ≡ b → take 64 (with_end e es) ≡ take 64 es
+kept_full e es full true known = ap (λ fs. take 64 fs) (with_known e es known)
+kept_full e es full false new = ap (λ fs. take 64 fs) (with_new e es new) ∙ take-append-le 64 es (e ∷ []) (many es full)
+
+kept_new : (e : LinkEnd) (es : List LinkEnd) → length (take 64 es) < 64 → is_among e es ≡ false → take 64 (with_end e es) ≡ es ++ e ∷ []
+kept_new e es room new =
+    ap (λ fs. take 64 fs) (with_new e es new) ∙ take_all 64 (es ++ e ∷ []) (omega (arith, few es room, length-append es (e ∷ [])))
+
+beyond_known : (es : List LinkEnd) (o : Observed) (h : List Observed) → is_among (end_of o) es ≡ true → frames_beyond es (o ∷ h) ≡ frames_beyond es h
+beyond_known es o h known = rw known refl
+
+beyond_new : (es : List LinkEnd) (o : Observed) (h : List Observed) → is_among (end_of o) es ≡ false
+    → frames_beyond es (o ∷ h) ≡ o ∷ frames_beyond es h
+beyond_new es o h new = rw new refl
+
+counted_one : (left n more : ℕ) → left ≡ counted n → more ≡ min (left + 1) (2 ^ 64 - 1) → more ≡ counted (suc n)
+unfolding counted
+counted_one left n more before after = one_of left n more (2 ^ 64 - 1) before after
+  where
+    one_of : (left n more most : ℕ) → left ≡ min n most → more ≡ min (left + 1) most → more ≡ min (suc n) most
+    one_of left n more most before after = omega arith
+
+among_first : (now : Observed) (h : List Observed) (olds news : List Watch) (left : ℕ) (b : Bool) → AllZip (Takes now) olds news
+    → has_end (end_of now) news ≡ b → Knows h olds left → is_among (end_of now) (first_ends h) ≡ b
+among_first now h olds news left b t known k =
+    ap (λ es. is_among (end_of now) es) (sym (same_ends now olds news t ∙ k.ends)) ∙ (sym (among_ends (end_of now) news) ∙ known)
 
 -- the frame is one of an end that is kept
 pub known_end : (now : Observed) (h : List Observed) (olds news : List Watch) (left : ℕ) → AllZip (Takes now) olds news
     → has_end (end_of now) news ≡ true → Knows h olds left → Knows (now ∷ h) news left
-known_end now h olds news left t known k = record {
-  exact = still_exact now h olds news t k.exact;
-  kept = λ e unknown few. not_its_own now h e (other_end e (end_of now) news known unknown)
-      (k.kept e (sym (same_has now e olds news t) ∙ unknown) (omega (arith, same_length now olds news t)));
-  complete = λ none e unknown. not_its_own now h e (other_end e (end_of now) news known unknown)
-      (k.complete none e (sym (same_has now e olds news t) ∙ unknown));
-  once = subst (IsDistinct same_end) (sym (same_ends now olds news t)) k.once;
-}
+known_end now h olds news left t known k =
+    let among = among_first now h olds news left true t known k in
+    let same : first_ends (now ∷ h) ≡ first_ends h = kept_known (end_of now) (firsts h) among in
+    record {
+      exact = still_exact now h olds news t k.exact;
+      ends = same_ends now olds news t ∙ (k.ends ∙ sym same);
+      counts = k.counts
+          ∙ ap (λ fs. counted (length fs)) (sym (ap (λ es. frames_beyond es (now ∷ h)) same ∙ beyond_known (first_ends h) now h among));
+    }
 
 -- the frame is left out, since as many ends are kept as may be
 pub left_out : (now : Observed) (h : List Observed) (olds news : List Watch) (left more : ℕ) → AllZip (Takes now) olds news
-    → length news ≡ 64 → 0 < more → Knows h olds left → Knows (now ∷ h) news more
-left_out now h olds news left more t full some k = record {
-  exact = still_exact now h olds news t k.exact;
-  kept = λ e unknown few. absurd (omega arith);
-  complete = λ none e unknown. absurd (omega arith);
-  once = subst (IsDistinct same_end) (sym (same_ends now olds news t)) k.once;
-}
+    → has_end (end_of now) news ≡ false → length news ≡ 64 → more ≡ min (left + 1) (2 ^ 64 - 1) → Knows h olds left → Knows (now ∷ h) news more
+left_out now h olds news left more t unknown full one k =
+    let among = among_first now h olds news left false t unknown k in
+    let many : length (first_ends h) ≡ 64
+    = ap length (sym (same_ends now olds news t ∙ k.ends)) ∙ (length-map news (λ (w : Watch). w.end) ∙ full) in
+    let same : first_ends (now ∷ h) ≡ first_ends h = kept_full (end_of now) (firsts h) many (is_among (end_of now) (firsts h)) refl in
+    record {
+      exact = still_exact now h olds news t k.exact;
+      ends = same_ends now olds news t ∙ (k.ends ∙ sym same);
+      counts = counted_one left (length (frames_beyond (first_ends h) h)) more k.counts one
+          ∙ ap (λ fs. counted (length fs)) (sym (ap (λ es. frames_beyond es (now ∷ h)) same ∙ beyond_new (first_ends h) now h among));
+    }
 
 pub push_all : {A : Type 0} (P : A → Type 0) (xs : List A) (x : A) → AllByRecursion P xs → P x → AllByRecursion P (xs ++ x ∷ [])
 push_all P [] x all one = (one, tt)
 push_all P (y ∷ ys) x all one = (all.0, push_all P ys x all.1 one)
 
-has_pushed : (e : LinkEnd) (ws : List Watch) (w : Watch) → has_end e (ws ++ w ∷ []) ≡ false → (has_end e ws ≡ false) × (same_end w.end e ≡ false)
-has_pushed e [] w h = (refl, (neither (same_end w.end e) false h).0)
-has_pushed e (v ∷ ws) w h =
-    let both = neither (same_end v.end e) (has_end e (ws ++ w ∷ [])) h in
-    let rest = has_pushed e ws w both.1 in
-    (rw (both.0, rest.0) refl, rest.1)
-
-pushed_once : (ws : List Watch) (w : Watch) → has_end w.end ws ≡ false → IsDistinct same_end (ends_of ws)
-    → IsDistinct same_end (ends_of (ws ++ w ∷ []))
-unfolding IsDistinct
-pushed_once [] w new once = (tt, tt)
-pushed_once (v ∷ ws) w new once =
-    let both = neither (same_end v.end w.end) (has_end w.end ws) new in (
-      subst (AllByRecursion (λ y. same_end v.end y ≡ false)) (sym (pushed_ends ws w)) (push_all (λ y. same_end v.end y ≡ false) (ends_of ws) w.end once.0 both.0),
-      pushed_once ws w both.1 once.1,
-    )
-  where
-    pushed_ends : (ws : List Watch) (w : Watch) → ends_of (ws ++ w ∷ []) ≡ ends_of ws ++ w.end ∷ []
-    pushed_ends [] w = refl
-    pushed_ends (v ∷ ws) w = ap (λ es. v.end ∷ es) (pushed_ends ws w)
+pushed_ends : (ws : List Watch) (w : Watch) → ends_of (ws ++ w ∷ []) ≡ ends_of ws ++ w.end ∷ []
+pushed_ends [] w = refl
+pushed_ends (v ∷ ws) w = ap (λ es. v.end ∷ es) (pushed_ends ws w)
 
 -- the frame is the first of its end
 pub new_end : (now : Observed) (h : List Observed) (olds news : List Watch) (w : Watch) (left : ℕ) → AllZip (Takes now) olds news
     → has_end (end_of now) news ≡ false → length news < 64 → Takes now (watched (end_of now) []) w → Knows h olds left
     → Knows (now ∷ h) (news ++ w ∷ []) left
 new_end now h olds news w left t unknown room first k =
-    let none : Unsent (end_of now) h
-    = k.kept (end_of now) (sym (same_has now (end_of now) olds news t) ∙ unknown) (omega (arith, same_length now olds news t)) in
+    let kept : ends_of news ≡ first_ends h = same_ends now olds news t ∙ k.ends in
+    let fewer : length (first_ends h) < 64 = subst (λ n. n < 64) (sym (length-map news (λ (w : Watch). w.end)) ∙ ap length kept) room in
+    let all : first_ends h ≡ firsts h = take_all 64 (firsts h) (omega (arith, few (firsts h) fewer)) in
+    let new : is_among (end_of now) (firsts h) ≡ false
+    = subst (λ es. is_among (end_of now) es ≡ false) all (among_first now h olds news left false t unknown k) in
+    let longer : first_ends (now ∷ h) ≡ firsts h ++ end_of now ∷ [] = kept_new (end_of now) (firsts h) fewer new in
+    let none : Unsent (end_of now) h = unsent (end_of now) (firsts h) h (covered h) new in
     record {
       exact = push_all (IsExact (now ∷ h)) news w (still_exact now h olds news t k.exact) (first.exact h (before_first (end_of now) h none));
-      kept = λ e gone few. (let both = has_pushed e news w gone in
-          not_its_own now h e (subst (λ f. same_end f e ≡ false) first.end both.1)
-          (k.kept e (sym (same_has now e olds news t) ∙ both.0) (omega (arith, same_length now olds news t))));
-      complete = λ zero e gone. (let both = has_pushed e news w gone in
-          not_its_own now h e (subst (λ f. same_end f e ≡ false) first.end both.1)
-          (k.complete zero e (sym (same_has now e olds news t) ∙ both.0)));
-      once = pushed_once news w (subst (λ f. has_end f news ≡ false) (sym first.end) unknown) (subst (IsDistinct same_end) (sym (same_ends now olds news t)) k.once);
+      ends = pushed_ends news w ∙ (ap (λ es. es ++ w.end ∷ []) (kept ∙ all) ∙ (ap (λ e. firsts h ++ e ∷ []) first.end ∙ sym longer));
+      counts = k.counts
+          ∙ ap (λ fs. counted (length fs))
+          (ap (λ es. frames_beyond es h) all ∙ none_beyond (firsts h) h (covered h)
+          ∙ sym (ap (λ es. frames_beyond es (now ∷ h)) (longer ∙ sym (with_new (end_of now) (firsts h) new))
+          ∙ none_beyond (firsts (now ∷ h)) (now ∷ h) (covered (now ∷ h))));
     }
 
 -- before the first frame
 pub nothing_known : Knows [] [] 0
-unfolding IsDistinct
-nothing_known = record { exact = tt; kept = λ e unknown few. tt; complete = λ none e unknown. tt; once = tt }
+unfolding counted
+nothing_known = record { exact = tt; ends = refl; counts = refl }
 
 -- a list that takes the place of one as long
 pub refill_same : (olds news : List Watch) → length news ≡ length olds → refill (length olds) olds news ≡ news

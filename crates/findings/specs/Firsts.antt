@@ -9,7 +9,7 @@ use Rattle.findings.specs.declared.observed.Observed.{Observed}
 use Rattle.findings.specs.declared.rule.Rule.{Rule}
 use Rattle.findings.specs.declared.rule.Rule.TheVariants as variants
 use Rattle.findings.specs.Ends.{frames_of, lacpdus}
-use Rattle.findings.specs.Holds.{is_rushed, is_passive, is_late, lasts, is_unheard, is_discarded, is_desynchronized, is_individual, seconds}
+use Rattle.findings.specs.Holds.{is_rushed, is_passive, is_late, lasts, twice, is_unheard, is_discarded, is_desynchronized, is_individual, seconds}
 use Rattle.findings.specs.Holds.{has_other_system, has_other_port, has_other_key, has_other_keys, has_rival, is_one_way, is_silent}
 use Rattle.findings.specs.Markers.{first_unanswered}
 use Rattle.findings.specs.Holds.{has_other_version, has_other_length, has_reserved, has_other_destination, has_tag}
@@ -52,9 +52,9 @@ first_silent until e h = option_or (first_heard is_late e h) (last_silent until 
 -- the first frame of an end that shows a rule, where the capture goes up to this time
 abbrev pub first_of : Rule → ℕ → LinkEnd → List Observed → Option Shown
 first_of variants.Rate until = first_heard is_rushed
-first_of variants.System until = first_heard has_other_system
-first_of variants.Port until = first_heard has_other_port
-first_of variants.Key until = first_heard has_other_key
+first_of variants.System until = first_heard (twice has_other_system)
+first_of variants.Port until = first_heard (twice has_other_port)
+first_of variants.Key until = first_heard (twice has_other_key)
 first_of variants.Passive until = first_heard is_passive
 first_of variants.Version until = first_frame has_other_version
 first_of variants.Length until = first_frame has_other_length
@@ -65,7 +65,7 @@ first_of variants.Silence until = first_silent until
 first_of variants.Unheard until = first_heard (lasts is_unheard (seconds 6))
 first_of variants.Desynchronized until = first_heard is_desynchronized
 first_of variants.Individual until = first_heard is_individual
-first_of variants.Keys until = first_heard has_other_keys
+first_of variants.Keys until = first_heard (twice has_other_keys)
 first_of variants.Segment until = first_heard has_rival
 first_of variants.Discarded until = first_heard (lasts is_discarded (seconds 3))
 first_of variants.OneWay until = first_heard is_one_way

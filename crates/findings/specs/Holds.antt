@@ -27,9 +27,18 @@ abbrev pub and_if : {A : Type 0} → (A → Bool) → Option A → Bool
 and_if f None = false
 and_if f (Some x) = f x
 
+-- the capture has a time for both, and the first is not later than the second: a clock can step back
+abbrev pub is_ordered : ℕ → ℕ → Bool
+is_ordered t u = nat_lt 0 t && not (nat_lt u t)
+
+-- so much time has gone from one to the other, and more
+abbrev pub is_over : ℕ → ℕ → ℕ → Bool
+is_over n t u = is_ordered t u && nat_lt n (u - t)
+
 -- More than three in a second (6.4.16): the third one before it was sent less than a second before.
 abbrev pub is_rushed : Heard → List Heard → Bool
-is_rushed a before = and_if (λ d. nat_lt (a.nanoseconds - d.nanoseconds) (seconds 1)) (slice_get before 2)
+is_rushed a before =
+    and_if (λ d. is_ordered d.nanoseconds a.nanoseconds && nat_lt (a.nanoseconds - d.nanoseconds) (seconds 1)) (slice_get before 2)
 
 -- Both ends are passive (6.4.13): the sender is, and an LACPDU told it that its partner is.
 abbrev pub is_passive : Heard → List Heard → Bool
@@ -45,7 +54,7 @@ is_periodic a = (actor a).activity || (partner a).activity
 
 -- No LACPDU for longer than the timeout that the partner asks for (6.4.4, 6.4.13).
 abbrev pub is_late : Heard → List Heard → Bool
-is_late a before = and_if (λ b. is_periodic b && nat_lt (timeout b) (a.nanoseconds - b.nanoseconds)) (slice_get before 0)
+is_late a before = and_if (λ b. is_periodic b && is_over (timeout b) b.nanoseconds a.nanoseconds) (slice_get before 0)
 
 -- when the first was sent of those LACPDUs that have a property and come one after the other, up to the latest
 abbrev pub since : (Heard → Bool) → List Heard → Option ℕ
@@ -54,7 +63,7 @@ since has (a ∷ before) = if has a then Some (unwrap_or (since has before) a.na
 
 -- they have had it for longer than this
 abbrev pub lasts : (Heard → Bool) → ℕ → Heard → List Heard → Bool
-lasts has n a before = has a && and_if (λ t. nat_lt n (a.nanoseconds - t)) (since has before)
+lasts has n a before = has a && and_if (λ t. is_over n t a.nanoseconds) (since has before)
 
 -- the sender has no current information of its partner
 abbrev pub is_unheard : Heard → Bool
@@ -88,24 +97,32 @@ is_individual a before = not (actor a).aggregation && (partner a).aggregation &&
 abbrev pub is_current : Heard → Bool
 is_current a = not (is_unheard a)
 
+-- the LACPDU of another end came at most a Long Timeout before
+abbrev pub is_fresh : Heard → Other → Bool
+is_fresh a x = is_ordered x.nanoseconds a.nanoseconds && not (nat_lt (seconds 90) (a.nanoseconds - x.nanoseconds))
+
 -- the system is the one that it names
 abbrev pub is_named_system : Heard → Other → Bool
 is_named_system a x = same_system a.pdu.partner.system x.pdu.actor.system
 
--- The partner that it names is not who answers (6.4.9): another system.
-abbrev pub has_other_system : Heard → List Heard → Bool
-has_other_system a before = is_current a && and_if (λ x. not (is_named_system a x)) a.others.answer
+-- this LACPDU has a property, and so has the one before it: one alone may have crossed an LACPDU that tells a change
+abbrev pub twice : (Heard → Bool) → Heard → List Heard → Bool
+twice has a before = has a && and_if has (slice_get before 0)
 
--- The partner that it names is not who answers (6.4.9): the system, and another port of it.
-abbrev pub has_other_port : Heard → List Heard → Bool
-has_other_port a before =
-    is_current a && and_if (λ x. is_named_system a x && not (same_port a.pdu.partner.port x.pdu.actor.port)) a.others.answer
+-- The partner that it names is not who answered in the last Long Timeout (6.4.9): another system.
+abbrev pub has_other_system : Heard → Bool
+has_other_system a = is_current a && and_if (λ x. is_fresh a x && not (is_named_system a x)) a.others.answer
 
--- The partner that it names is not who answers (6.4.9): the system and its port, with another key.
-abbrev pub has_other_key : Heard → List Heard → Bool
-has_other_key a before =
+-- The partner that it names is not who answered in the last Long Timeout (6.4.9): the system, and another port of it.
+abbrev pub has_other_port : Heard → Bool
+has_other_port a =
+    is_current a && and_if (λ x. is_fresh a x && is_named_system a x && not (same_port a.pdu.partner.port x.pdu.actor.port)) a.others.answer
+
+-- The partner that it names is not who answered in the last Long Timeout (6.4.9): the system and its port, with another key.
+abbrev pub has_other_key : Heard → Bool
+has_other_key a =
     is_current a
-    && and_if (λ x. is_named_system a x && same_port a.pdu.partner.port x.pdu.actor.port && not (a.pdu.partner.key.0 == x.pdu.actor.key.0))
+    && and_if (λ x. is_fresh a x && is_named_system a x && same_port a.pdu.partner.port x.pdu.actor.port && not (a.pdu.partner.key.0 == x.pdu.actor.key.0))
     a.others.answer
 
 -- it is of the same pair of systems
@@ -120,15 +137,16 @@ has_keys_of a x = (a.pdu.actor.key.0 == x.pdu.actor.key.0) && (a.pdu.partner.key
 abbrev pub names_partner_of : Heard → Other → Bool
 names_partner_of a x = same_system a.pdu.partner.system x.pdu.partner.system && same_port a.pdu.partner.port x.pdu.partner.port
 
--- Keys differ within one pair of systems (6.3.6): the latest LACPDU of another link of the pair has other keys.
-abbrev pub has_other_keys : Heard → List Heard → Bool
-has_other_keys a before =
-    is_current a && and_if (λ x. is_sibling_of a x && not (has_keys_of a x)) a.others.sibling
+-- Keys differ within one pair of systems (6.3.6): the latest LACPDU of another link of the pair has other keys, and came at
+-- most a Long Timeout before.
+abbrev pub has_other_keys : Heard → Bool
+has_other_keys a =
+    is_current a && and_if (λ x. is_fresh a x && is_sibling_of a x && not (has_keys_of a x)) a.others.sibling
 
 -- Two actors on one segment (6.4.9): another end has named the same partner, at most a Long Timeout ago.
 abbrev pub has_rival : Heard → List Heard → Bool
 has_rival a before =
-    is_current a && and_if (λ x. names_partner_of a x && not (nat_lt (seconds 90) (a.nanoseconds - x.nanoseconds))) a.others.rival
+    is_current a && and_if (λ x. names_partner_of a x && is_fresh a x) a.others.rival
 
 -- it is an LACPDU, a marker or a response
 abbrev pub is_read : What → Bool
@@ -162,4 +180,4 @@ has_tag o before = o.tagged
 
 -- Silence up to this time, behind the latest LACPDU: longer than the timeout that the partner asks for (6.4.4, 6.4.13).
 abbrev pub is_silent : ℕ → Heard → Bool
-is_silent until a = is_periodic a && nat_lt (timeout a) (until - a.nanoseconds)
+is_silent until a = is_periodic a && is_over (timeout a) a.nanoseconds until

@@ -1,10 +1,10 @@
 -- What is known behind a list of frames, the latest first.
-use Rattle.std.specs.Prelude.{◌≡◌, ◌<◌, ℕ, Bool, List, ◌∷◌, false, map, length}
-use Rattle.std.specs.List.{AllByRecursion, IsDistinct, list_any}
+use Rattle.std.specs.Prelude.{◌≡◌, ◌-◌, ◌^◌, ◌++◌, ℕ, Bool, List, [], ◌∷◌, not, map, filter, length, min, take, if◌then◌else◌}
+use Rattle.std.specs.List.{AllByRecursion, list_any}
 use Rattle.findings.specs.declared.observed.LinkEnd.{LinkEnd}
 use Rattle.findings.specs.declared.observed.Observed.{Observed}
 use Rattle.findings.specs.declared.watch.Watch.{Watch}
-use Rattle.findings.specs.Ends.{Unsent, same_end}
+use Rattle.findings.specs.Ends.{end_of, same_end}
 use Rattle.findings.specs.Watches.{watched}
 
 -- the ends that are kept
@@ -24,13 +24,36 @@ pub record Takes (now : Observed) (old new : Watch) : Type 0 where
   pub end : new.end ≡ old.end
   pub exact : (h : List Observed) → IsExact h old → IsExact (now ∷ h) new
 
+-- the end is one of these
+abbrev pub is_among : LinkEnd → List LinkEnd → Bool
+is_among e = list_any (λ f. same_end f e)
+
+-- one more end, behind these, unless it is one of them
+abbrev pub with_end : LinkEnd → List LinkEnd → List LinkEnd
+with_end e es = if is_among e es then es else es ++ e ∷ []
+
+-- the ends that sent these frames, each once, in the order of their first frames
+abbrev pub firsts : List Observed → List LinkEnd
+firsts [] = []
+firsts (o ∷ h) = with_end (end_of o) (firsts h)
+
+-- the ends that may be kept: the first 64
+abbrev pub first_ends : List Observed → List LinkEnd
+first_ends h = take 64 (firsts h)
+
+-- the frames of other ends than these
+abbrev pub frames_beyond : List LinkEnd → List Observed → List Observed
+frames_beyond es = filter (λ o. not (is_among (end_of o) es))
+
+-- a count of 64 bits that stays at its end
+unfoldable pub counted : ℕ → ℕ
+counted n = min n (2 ^ 64 - 1)
+
 -- What is kept behind these frames, and how many of them were left out.
 pub record Knows (h : List Observed) (watches : List Watch) (left_out : ℕ) : Type 0 where
   -- what is kept of each end is by all frames
   pub exact : AllByRecursion (IsExact h) watches
-  -- an end is kept unless it has no frame, or 64 others were first
-  pub kept : (e : LinkEnd) → has_end e watches ≡ false → length watches < 64 → Unsent e h
-  -- where no frame was left out, each end that has one is kept
-  pub complete : left_out ≡ 0 → (e : LinkEnd) → has_end e watches ≡ false → Unsent e h
-  -- each end is there once
-  pub once : IsDistinct same_end (ends_of watches)
+  -- the first 64 ends are kept, in the order of their first frames
+  pub ends : ends_of watches ≡ first_ends h
+  -- the frames of all other ends are counted
+  pub counts : left_out ≡ counted (length (frames_beyond (first_ends h) h))

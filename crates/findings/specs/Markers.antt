@@ -1,5 +1,5 @@
 -- Markers and their responses (6.5.4).
-use Rattle.std.specs.Prelude.{◌==◌, ◌&&◌, ◌-◌, ℕ, Bool, List, [], ◌∷◌, nat_lt, Option, Some, None, if◌then◌else◌}
+use Rattle.std.specs.Prelude.{◌==◌, ◌&&◌, ℕ, Bool, List, [], ◌∷◌, Option, Some, None, if◌then◌else◌}
 use Rattle.std.specs.Option.{option_or}
 use Rattle.std.specs.Str.{bytes_eq}
 use Rattle.slowpdu.specs.declared.pdu.Marker.{Marker}
@@ -13,7 +13,7 @@ use Rattle.findings.specs.declared.observed.Observed.{Observed}
 use Rattle.findings.specs.declared.observed.What.{What}
 use Rattle.findings.specs.declared.observed.What.TheVariants as variants
 use Rattle.findings.specs.Ends.{end_of, same_end}
-use Rattle.findings.specs.Holds.{seconds}
+use Rattle.findings.specs.Holds.{is_over, seconds}
 
 -- a Marker PDU, if it asks for a response
 abbrev pub if_marker : MarkerKind → Marker → Option Marker
@@ -63,7 +63,7 @@ open_marker e (o ∷ h) =
 abbrev pub overdue : ℕ → Option Asked → Option Shown
 overdue time None = None
 overdue time (Some m) =
-    if nat_lt (seconds 3) (time - m.nanoseconds) then Some (record { number = m.number; nanoseconds = m.nanoseconds; partner = None }) else None
+    if is_over (seconds 3) m.nanoseconds time then Some (record { number = m.number; nanoseconds = m.nanoseconds; partner = None }) else None
 
 -- the first marker of an end that had waited for longer than 3 seconds when a frame came
 abbrev pub first_overdue : LinkEnd → List Observed → Option Shown

@@ -9,7 +9,7 @@ use Rattle.findings.specs.declared.recent.Recent.{Recent}
 use Rattle.findings.specs.declared.watch.Watch.{Watch}
 use Rattle.findings.specs.Ends.{frames_of, lacpdus, others, said}
 use Rattle.findings.specs.Firsts.{first, shown_heard, shown_frame}
-use Rattle.findings.specs.Holds.{is_rushed, is_passive, is_late, lasts, since, is_unheard, is_discarded, is_desynchronized, is_individual, seconds}
+use Rattle.findings.specs.Holds.{is_rushed, is_passive, is_late, lasts, twice, since, is_unheard, is_discarded, is_desynchronized, is_individual, seconds}
 use Rattle.findings.specs.Holds.{has_other_system, has_other_port, has_other_key, has_other_keys, has_rival, is_alone, is_one_way}
 use Rattle.findings.specs.Markers.{asking}
 use Rattle.findings.specs.Holds.{has_other_version, has_other_length, has_reserved, has_other_destination, has_tag}
@@ -29,15 +29,15 @@ recent_of l = record {
 abbrev pub lacpdu_rules : List Heard → LacpduRules
 lacpdu_rules l = record {
   rate = first shown_heard is_rushed l;
-  system = first shown_heard has_other_system l;
-  port = first shown_heard has_other_port l;
-  key = first shown_heard has_other_key l;
+  system = first shown_heard (twice has_other_system) l;
+  port = first shown_heard (twice has_other_port) l;
+  key = first shown_heard (twice has_other_key) l;
   passive = first shown_heard is_passive l;
   silence = first shown_heard is_late l;
   unheard = first shown_heard (lasts is_unheard (seconds 6)) l;
   desynchronized = first shown_heard is_desynchronized l;
   individual = first shown_heard is_individual l;
-  keys = first shown_heard has_other_keys l;
+  keys = first shown_heard (twice has_other_keys) l;
   segment = first shown_heard has_rival l;
   discarded = first shown_heard (lasts is_discarded (seconds 3)) l;
   one_way = first shown_heard is_one_way l;

@@ -6,7 +6,7 @@ ghost use Rattle.findings.specs.Markers.{asked_in, asking, is_response_to, marke
 
 use crate::finding::Shown;
 use crate::observed::{LinkEnd, Observed, What};
-use crate::recent::SHORT_TIMEOUT;
+use crate::recent::{SHORT_TIMEOUT, is_over};
 use slowpdu::{Marker, MarkerKind};
 
 /// A marker, and when it was captured.
@@ -105,7 +105,7 @@ impl Asking {
     {
         match self.waiting {
             Some(asked) => {
-                if SHORT_TIMEOUT < time.saturating_sub(asked.nanoseconds) {
+                if is_over(SHORT_TIMEOUT, Some(asked.nanoseconds), time) {
                     Some(Shown {
                         number: asked.number,
                         nanoseconds: asked.nanoseconds,

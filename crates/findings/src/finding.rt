@@ -9,7 +9,7 @@ use crate::rule::Rule;
 pub struct Shown {
     /// The number of the packet in the capture, from 1.
     pub number: u64,
-    /// When it was captured, in nanoseconds since the beginning of 1970.
+    /// When it was captured, in nanoseconds since the beginning of 1970; 0 if the capture has no time for it.
     pub nanoseconds: u64,
     /// The end that answers this one: the sender of the latest LACPDU before that has this end as its Partner, on the
     /// same interface; None if there is none, and for a rule that any frame can show.

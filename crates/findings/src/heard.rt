@@ -1,12 +1,12 @@
 ghost use Rattle.std.specs.Prelude.{◌≡◌, List};
 ghost use Rattle.findings.specs.declared.recent.Heard.{Heard};
 ghost use Rattle.findings.specs.Firsts.{shown_heard};
-ghost use Rattle.findings.specs.Holds.{is_current, is_passive, is_individual, is_named_system, is_sibling_of, has_keys_of, names_partner_of};
+ghost use Rattle.findings.specs.Holds.{is_current, is_fresh, is_passive, is_individual, is_named_system, is_sibling_of, has_keys_of, names_partner_of};
 ghost use Rattle.findings.specs.Holds.{has_other_system, has_other_port, has_other_key, has_other_keys, has_rival};
 
 use crate::finding::Shown;
 use crate::others::Other;
-use crate::recent::{Heard, LONG_TIMEOUT};
+use crate::recent::{Heard, LONG_TIMEOUT, is_ordered};
 
 impl Heard {
     /// This LACPDU, and the end that answers its sender.
@@ -30,6 +30,14 @@ impl Heard {
         !self.is_unheard()
     }
 
+    /// Whether the LACPDU of another end came at most a Long Timeout before.
+    fn is_fresh(&self, other: &Other) -> bool
+        ensures { result ≡ is_fresh self.now other.now }
+    {
+        is_ordered(other.nanoseconds, self.nanoseconds)
+            && self.nanoseconds.saturating_sub(other.nanoseconds) <= LONG_TIMEOUT
+    }
+
     /// Whether the other end's system is the Partner's.
     fn is_named_system(&self, other: &Other) -> bool
         ensures { result ≡ is_named_system self.now other.now }
@@ -39,21 +47,24 @@ impl Heard {
 
     /// Whether another system answers than the Partner's.
     pub(crate) fn has_other_system(&self) -> bool
-        ensures { (l : List Heard) → result ≡ has_other_system self.now l }
+        ensures { result ≡ has_other_system self.now }
     {
         match self.others.answer {
-            Some(answer) => self.is_current() && !self.is_named_system(&answer),
+            Some(answer) => {
+                self.is_current() && self.is_fresh(&answer) && !self.is_named_system(&answer)
+            }
             None => false,
         }
     }
 
     /// Whether another port answers of the Partner's system.
     pub(crate) fn has_other_port(&self) -> bool
-        ensures { (l : List Heard) → result ≡ has_other_port self.now l }
+        ensures { result ≡ has_other_port self.now }
     {
         match self.others.answer {
             Some(answer) => {
                 self.is_current()
+                    && self.is_fresh(&answer)
                     && self.is_named_system(&answer)
                     && self.pdu.partner.port != answer.pdu.actor.port
             }
@@ -63,11 +74,12 @@ impl Heard {
 
     /// Whether the Partner's port answers with another key.
     pub(crate) fn has_other_key(&self) -> bool
-        ensures { (l : List Heard) → result ≡ has_other_key self.now l }
+        ensures { result ≡ has_other_key self.now }
     {
         match self.others.answer {
             Some(answer) => {
                 self.is_current()
+                    && self.is_fresh(&answer)
                     && self.is_named_system(&answer)
                     && self.pdu.partner.port == answer.pdu.actor.port
                     && self.pdu.partner.key != answer.pdu.actor.key
@@ -93,11 +105,14 @@ impl Heard {
 
     /// Whether another link of the same pair of systems has other keys.
     pub(crate) fn has_other_keys(&self) -> bool
-        ensures { (l : List Heard) → result ≡ has_other_keys self.now l }
+        ensures { result ≡ has_other_keys self.now }
     {
         match self.others.sibling {
             Some(sibling) => {
-                self.is_current() && self.is_sibling_of(&sibling) && !self.has_keys_of(&sibling)
+                self.is_current()
+                    && self.is_fresh(&sibling)
+                    && self.is_sibling_of(&sibling)
+                    && !self.has_keys_of(&sibling)
             }
             None => false,
         }
@@ -117,9 +132,7 @@ impl Heard {
     {
         match self.others.rival {
             Some(rival) => {
-                self.is_current()
-                    && self.names_partner_of(&rival)
-                    && self.nanoseconds.saturating_sub(rival.nanoseconds) <= LONG_TIMEOUT
+                self.is_current() && self.names_partner_of(&rival) && self.is_fresh(&rival)
             }
             None => false,
         }

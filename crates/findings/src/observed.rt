@@ -68,7 +68,8 @@ pub struct Observed {
     pub number: u64,
     /// The interface of the capture, from 0.
     pub interface: u32,
-    /// When it was captured, in nanoseconds since the beginning of 1970.
+    /// When it was captured, in nanoseconds since the beginning of 1970; 0 if the capture has no time for it. No rule of
+    /// time holds from a frame without a time, nor from one to another that the clock puts before it.
     pub nanoseconds: u64,
     /// The source address.
     pub source: [u8; 6],

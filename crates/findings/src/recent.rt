@@ -1,6 +1,7 @@
-ghost use Rattle.std.specs.Prelude.{◌≡◌, ◌-◌, ◌∷◌, List, nat_lt, unwrap_or, Some, None, if◌then◌else◌};
+ghost use Rattle.std.specs.Prelude.{◌≡◌, ◌∷◌, List, unwrap_or, Some, None, if◌then◌else◌};
 ghost use Rattle.findings.specs.declared.recent.Heard.{Heard};
-ghost use Rattle.findings.specs.Holds.{and_if, is_alone, is_one_way, own_timeout, is_unheard, is_discarded, is_periodic, is_rushed, is_late, is_silent, is_desynchronized, lasts, seconds, since, timeout};
+ghost use Rattle.findings.specs.Holds.{and_if, is_alone, is_one_way, is_ordered, is_over, own_timeout, is_unheard, is_discarded, is_periodic, is_rushed, is_late, is_silent, is_desynchronized, lasts, seconds, since, timeout};
+ghost use Rattle.findings.specs.Holds.{has_other_system, has_other_port, has_other_key, has_other_keys, twice};
 ghost use Rattle.findings.specs.Firsts.{last_silent};
 ghost use Rattle.findings.specs.Watches.{recent_of};
 
@@ -65,12 +66,19 @@ fn since(is_so: bool, before: Option<u64>, now: u64) -> Option<u64>
     }
 }
 
+/// Whether the capture has both times, and the first is not later than the second.
+pub(crate) fn is_ordered(first: u64, second: u64) -> bool
+    ensures { result ≡ is_ordered first second }
+{
+    0 < first && first <= second
+}
+
 /// Whether this time is more than so many nanoseconds after that, if there is one.
-fn is_over(most: u64, since: Option<u64>, now: u64) -> bool
-    ensures { result ≡ and_if (λ t. nat_lt most (now - t)) since }
+pub(crate) fn is_over(most: u64, since: Option<u64>, now: u64) -> bool
+    ensures { result ≡ and_if (λ t. is_over most t now) since }
 {
     match since {
-        Some(time) => most < now.saturating_sub(time),
+        Some(time) => is_ordered(time, now) && most < now.saturating_sub(time),
         None => false,
     }
 }
@@ -171,7 +179,10 @@ impl Recent {
         ensures { (l : List Heard) → self.now ≡ recent_of l → result ≡ is_rushed now.now l }
     {
         match self.third {
-            Some(heard) => now.nanoseconds.saturating_sub(heard.nanoseconds) < SECOND,
+            Some(heard) => {
+                is_ordered(heard.nanoseconds, now.nanoseconds)
+                    && now.nanoseconds.saturating_sub(heard.nanoseconds) < SECOND
+            }
             None => false,
         }
     }
@@ -194,6 +205,46 @@ impl Recent {
             Some(heard) => {
                 !now.pdu.actor.state.is_synchronized() && heard.pdu.actor.state.is_synchronized()
             }
+            None => false,
+        }
+    }
+
+    /// Whether another system answers than the Partner's, for the second time in turn.
+    pub(crate) fn has_other_system(&self, now: &Heard) -> bool
+        ensures { (l : List Heard) → self.now ≡ recent_of l → result ≡ twice has_other_system now.now l }
+    {
+        match self.last {
+            Some(heard) => now.has_other_system() && heard.has_other_system(),
+            None => false,
+        }
+    }
+
+    /// Whether another port answers of the Partner's system, for the second time in turn.
+    pub(crate) fn has_other_port(&self, now: &Heard) -> bool
+        ensures { (l : List Heard) → self.now ≡ recent_of l → result ≡ twice has_other_port now.now l }
+    {
+        match self.last {
+            Some(heard) => now.has_other_port() && heard.has_other_port(),
+            None => false,
+        }
+    }
+
+    /// Whether the Partner's port answers with another key, for the second time in turn.
+    pub(crate) fn has_other_key(&self, now: &Heard) -> bool
+        ensures { (l : List Heard) → self.now ≡ recent_of l → result ≡ twice has_other_key now.now l }
+    {
+        match self.last {
+            Some(heard) => now.has_other_key() && heard.has_other_key(),
+            None => false,
+        }
+    }
+
+    /// Whether another link of the same pair of systems has other keys, for the second time in turn.
+    pub(crate) fn has_other_keys(&self, now: &Heard) -> bool
+        ensures { (l : List Heard) → self.now ≡ recent_of l → result ≡ twice has_other_keys now.now l }
+    {
+        match self.last {
+            Some(heard) => now.has_other_keys() && heard.has_other_keys(),
             None => false,
         }
     }

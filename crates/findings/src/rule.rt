@@ -8,11 +8,11 @@ use std::fmt;
 pub enum Rule {
     /// 1: more than three LACPDUs of an end in less than a second.
     Rate,
-    /// 2: the partner that it names is not who answers: another system.
+    /// 2: the partner that it names, in two LACPDUs in turn, is not who answered last, within 90 seconds: another system.
     System,
-    /// 3: the partner that it names is not who answers: another port of the system.
+    /// 3: likewise: another port of the system.
     Port,
-    /// 4: the partner that it names is not who answers: the port has another key.
+    /// 4: likewise: the port has another key.
     Key,
     /// 5: both ends are passive.
     Passive,
@@ -34,9 +34,9 @@ pub enum Rule {
     Desynchronized,
     /// 14: an Individual end with an aggregatable partner.
     Individual,
-    /// 15: keys differ within one pair of systems.
+    /// 15: keys differ within one pair of systems, in two LACPDUs in turn, from those of another link within 90 seconds.
     Keys,
-    /// 16: two actors on one segment.
+    /// 16: two actors on one segment within 90 seconds.
     Segment,
     /// 17: distributing for longer than 3 seconds, and the partner is not collecting.
     Discarded,

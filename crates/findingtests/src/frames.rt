@@ -56,13 +56,18 @@ pub fn b_to_a(own: u8, seen: u8) -> Said {
     }
 }
 
+/// The nanoseconds of so many milliseconds after the captures begin, which is 1000 seconds after the beginning of 1970.
+fn time(milliseconds: u64) -> u64 {
+    milliseconds.wrapping_add(1_000_000).wrapping_mul(1_000_000)
+}
+
 /// A frame with this LACPDU, so many milliseconds after the beginning. Its source is the Actor's MAC address.
 pub fn at(milliseconds: u64, said: Said) -> Observed {
     let source = said.actor.system.mac;
     Observed {
         number: 0,
         interface: 0,
-        nanoseconds: milliseconds.wrapping_mul(1_000_000),
+        nanoseconds: time(milliseconds),
         source,
         destination: Some([0x01, 0x80, 0xc2, 0, 0, 2]),
         tagged: false,
@@ -94,7 +99,7 @@ pub fn observed(frames: &[Observed]) -> Findings {
 /// that of the frame; end by end, as they come first, and rule by rule.
 fn found(frames: &[Observed], milliseconds: u64) -> ArrayVec<(u8, u64), 32> {
     let findings = observed(frames);
-    let until = milliseconds.wrapping_mul(1_000_000);
+    let until = time(milliseconds);
     let mut found = ArrayVec::new();
     for index in 0..findings.count() {
         for rule in Rule::ALL {

@@ -57,7 +57,7 @@ fn an_end_is_named_by_what_it_sends(rt: HostRuntime) {
     };
     let mut elsewhere = lacpdu;
     elsewhere.interface = 1;
-    let findings = observed(&[lacpdu, marker, response, elsewhere]);
+    let findings = observed(&[lacpdu, marker, lacpdu, response, elsewhere]);
     assert_eq!(rt; findings.count(), 4);
     assert_eq!(rt; findings.end(0), Some(end(Some(1))));
     assert_eq!(rt; findings.end(1), Some(end(Some(7))));
@@ -82,6 +82,22 @@ fn ends_after_the_first_64_are_left_out(rt: HostRuntime) {
     assert_eq!(rt; MOST_ENDS, 64);
     assert_eq!(rt; findings.count(), 64);
     assert_eq!(rt; findings.left_out(), 2);
+    // one more frame of each of the first end and the last
+    for port in [1, 66] {
+        let mut said = a_to_b(FAST, FAST);
+        said.actor.port.number = port;
+        findings.observe(&at(10, said));
+    }
+    assert_eq!(rt; findings.count(), 64);
+    assert_eq!(rt; findings.left_out(), 3);
+    let ports = [(0, 1), (1, 2), (63, 64)];
+    for (index, port) in ports {
+        let is_there = match findings.end(index) {
+            Some(end) => end.port == Some(port),
+            None => false,
+        };
+        assert!(rt; is_there);
+    }
     assert!(rt; findings.finding(63, Rule::Tag, 0).is_some());
     assert!(rt; findings.finding(64, Rule::Tag, 0).is_none());
 }

@@ -1,5 +1,5 @@
-use crate::frames::{A, B, C, FAST, UP, a_to_b, at, b_to_a, info, observed, shows};
-use findings::{LinkEnd, Rule};
+use crate::frames::{A, B, C, FAST, Said, UP, a_to_b, at, b_to_a, info, observed, shows};
+use findings::{LinkEnd, Observed, Rule};
 use lagtypes::Key;
 use slowpdu::Info;
 use std::process::Abort;
@@ -44,16 +44,24 @@ fn who_answers_is_not_who_is_named(rt: HostRuntime) {
     let answer = at(500, b_to_a(FAST, FAST));
     let mut said = a_to_b(FAST, FAST);
     said.partner = info(C, FAST);
-    assert!(rt; shows(&[at(0, said), answer, at(1000, said)], 2000, &[(2, 3)]));
+    let frames = [at(0, said), answer, at(1000, said), at(2000, said)];
+    assert!(rt; shows(&frames, 3000, &[(2, 4)]));
+    // The first one may have been on its way.
+    assert!(rt; shows(&frames[..3], 3000, &[]));
     let mut said = a_to_b(FAST, FAST);
     said.partner.port.number = 2;
-    assert!(rt; shows(&[at(0, said), answer, at(1000, said)], 2000, &[(3, 3)]));
+    let frames = [at(0, said), answer, at(1000, said), at(2000, said)];
+    assert!(rt; shows(&frames, 3000, &[(3, 4)]));
+    assert!(rt; shows(&frames[..3], 3000, &[]));
     let mut said = a_to_b(FAST, FAST);
     said.partner.key = Key(2);
-    assert!(rt; shows(&[at(0, said), answer, at(1000, said)], 2000, &[(4, 3)]));
+    let frames = [at(0, said), answer, at(1000, said), at(2000, said)];
+    assert!(rt; shows(&frames, 3000, &[(4, 4)]));
+    assert!(rt; shows(&frames[..3], 3000, &[]));
     // An end that is Defaulted or Expired names a partner of former times.
     said.actor = info(A, 0x87);
-    assert!(rt; shows(&[at(0, said), answer, at(1000, said)], 2000, &[]));
+    let frames = [at(0, said), answer, at(1000, said), at(2000, said)];
+    assert!(rt; shows(&frames, 3000, &[]));
 }
 
 // B changes its key from 1 to 2 and says so.
@@ -66,20 +74,57 @@ fn the_latest_answer_counts(rt: HostRuntime) {
     let mut other_answer = answer;
     other_answer.actor.key = Key(2);
     let before = [at(0, said), at(500, answer), at(900, other_answer)];
-    assert!(rt;
-        shows(
-            &[before[0], before[1], before[2], at(1000, other_said)],
-            2000,
-            &[]
-        )
-    );
-    assert!(rt;
-        shows(
-            &[before[0], before[1], before[2], at(1000, said)],
-            2000,
-            &[(4, 4)]
-        )
-    );
+    let frames = |third: Said, fourth: Said| {
+        [
+            before[0],
+            before[1],
+            before[2],
+            at(1000, third),
+            at(2000, fourth),
+        ]
+    };
+    assert!(rt; shows(&frames(other_said, other_said), 3000, &[]));
+    // one LACPDU was on its way
+    assert!(rt; shows(&frames(said, other_said), 3000, &[]));
+    assert!(rt; shows(&frames(said, said), 3000, &[(4, 5)]));
+}
+
+// A is cabled to C, which answers at once.
+#[test]
+fn a_link_that_is_cabled_anew_shows_nothing(rt: HostRuntime) {
+    let mut said = a_to_b(FAST, FAST);
+    said.partner = info(C, FAST);
+    let mut answer = b_to_a(FAST, FAST);
+    answer.actor = info(C, FAST);
+    let frames = [
+        at(0, a_to_b(FAST, FAST)),
+        at(500, b_to_a(FAST, FAST)),
+        at(1000, said),
+        at(1100, answer),
+        at(2000, said),
+        at(3000, said),
+    ];
+    assert!(rt; shows(&frames, 3500, &[]));
+}
+
+// 6.4.4: Long_Timeout_Time is 90 seconds. B answers 500 milliseconds after the beginning and is not heard any more.
+#[test]
+fn an_answer_counts_for_90_seconds(rt: HostRuntime) {
+    let named = a_to_b(UP, UP);
+    let mut said = named;
+    said.partner = info(C, UP);
+    let frames = |last: u64| {
+        [
+            at(0, named),
+            at(500, b_to_a(UP, UP)),
+            at(30_000, named),
+            at(60_000, named),
+            at(90_400, said),
+            at(last, said),
+        ]
+    };
+    assert!(rt; shows(&frames(90_500), 90_500, &[(2, 6)]));
+    assert!(rt; shows(&frames(90_501), 90_500, &[]));
 }
 
 #[test]
@@ -96,6 +141,7 @@ fn the_partner_is_the_end_that_answers(rt: HostRuntime) {
         at(500, b_to_a(FAST, FAST)),
         at(600, other),
         at(1000, said),
+        at(2000, said),
     ];
     let shown = match observed(&frames).finding(0, Rule::System, 0) {
         Some(finding) => Some((finding.end, finding.shown)),
@@ -109,8 +155,8 @@ fn the_partner_is_the_end_that_answers(rt: HostRuntime) {
     assert!(rt; shown.is_some());
     if let Some((of, shown)) = shown {
         assert_eq!(rt; of, end(A));
-        assert_eq!(rt; shown.number, 5);
-        assert_eq!(rt; shown.nanoseconds, 1_000_000_000);
+        assert_eq!(rt; shown.number, 6);
+        assert_eq!(rt; shown.nanoseconds, 1_002_000_000_000);
         assert_eq!(rt; shown.partner, Some(end(B)));
     }
 }
@@ -225,11 +271,23 @@ fn keys_differ_within_a_pair_of_systems(rt: HostRuntime) {
     };
     let first = at(0, a_to_b(FAST, FAST));
     let again = at(1000, a_to_b(FAST, FAST));
+    let third = at(2000, a_to_b(FAST, FAST));
     let (a, b, c) = (info(A, FAST), info(B, FAST), info(C, FAST));
-    assert!(rt; shows(&[first, second(a, b, (2, 1)), again], 2000, &[(15, 3)]));
-    assert!(rt; shows(&[first, second(a, b, (1, 2)), again], 2000, &[(15, 3)]));
-    assert!(rt; shows(&[first, second(a, b, (1, 1)), again], 2000, &[]));
-    assert!(rt; shows(&[first, second(a, c, (2, 2)), again], 2000, &[]));
+    let frames = |other: Observed| [first, other, again, third];
+    assert!(rt; shows(&frames(second(a, b, (2, 1))), 3000, &[(15, 4)]));
+    assert!(rt; shows(&frames(second(a, b, (1, 2))), 3000, &[(15, 4)]));
+    assert!(rt; shows(&frames(second(a, b, (1, 1))), 3000, &[]));
+    assert!(rt; shows(&frames(second(a, c, (2, 2))), 3000, &[]));
+    // The first LACPDU of the two may have been on its way.
+    assert!(rt; shows(&frames(second(a, b, (2, 1)))[..3], 3000, &[]));
+    // The other link was heard 90 seconds before, and longer ago.
+    let slow = |milliseconds: u64| at(milliseconds, a_to_b(UP, UP));
+    let other = second(info(A, UP), info(B, UP), (2, 1));
+    let answer = at(400, b_to_a(UP, UP));
+    let frames = [slow(0), answer, other, slow(90_000), slow(90_400)];
+    assert!(rt; shows(&frames, 90_400, &[(15, 5)]));
+    let frames = [slow(0), answer, other, slow(90_000), slow(90_401)];
+    assert!(rt; shows(&frames, 90_400, &[]));
 }
 
 // 6.4.9: two ends record one partner, so both hear it.
@@ -276,6 +334,33 @@ fn frames_are_distributed_that_nobody_collects(rt: HostRuntime) {
         at(4000, said),
     ];
     assert!(rt; shows(&frames, 5000, &[]));
+}
+
+#[test]
+fn a_clock_that_steps_back_shows_nothing(rt: HostRuntime) {
+    let said = a_to_b(FAST, FAST);
+    let fourth = [
+        at(5000, said),
+        at(6000, said),
+        at(7000, said),
+        at(1000, said),
+    ];
+    assert!(rt; shows(&fourth, 1500, &[]));
+    let mut rival = a_to_b(FAST, FAST);
+    rival.actor = info(C, FAST);
+    let frames = [at(5000, said), at(5500, rival), at(1000, said)];
+    assert!(rt; shows(&frames, 1500, &[]));
+}
+
+#[test]
+fn a_frame_without_a_time_shows_no_rule_of_time(rt: HostRuntime) {
+    let mut said = at(0, a_to_b(FAST, FAST));
+    said.nanoseconds = 0;
+    assert!(rt; shows(&[said, said, said, said], 200_000, &[]));
+    let mut unheard = at(0, a_to_b(0x47, 0x00));
+    unheard.nanoseconds = 0;
+    let later = at(0, a_to_b(0x47, 0x00));
+    assert!(rt; shows(&[unheard, later], 1000, &[]));
 }
 
 // 6.4.12: an end that hears its partner is CURRENT; it hears nothing for the timeout that it asks for.

@@ -7,15 +7,15 @@ pub returns : goal.returns
 returns c = λ l recent is.
     λ i. record {
       rate = next c.earlier_or.ensures (ap (λ (r : LacpduRules). r.rate) is) (c.is_rushed.ensures l recent) c.shown-shown.ensures i;
-      system = next c.earlier_or-2.ensures (ap (λ (r : LacpduRules). r.system) is) (c.has_other_system.ensures l) c.shown-shown.ensures i;
-      port = next c.earlier_or-3.ensures (ap (λ (r : LacpduRules). r.port) is) (c.has_other_port.ensures l) c.shown-shown.ensures i;
-      key = next c.earlier_or-4.ensures (ap (λ (r : LacpduRules). r.key) is) (c.has_other_key.ensures l) c.shown-shown.ensures i;
+      system = next c.earlier_or-2.ensures (ap (λ (r : LacpduRules). r.system) is) (c.has_other_system.ensures l recent) c.shown-shown.ensures i;
+      port = next c.earlier_or-3.ensures (ap (λ (r : LacpduRules). r.port) is) (c.has_other_port.ensures l recent) c.shown-shown.ensures i;
+      key = next c.earlier_or-4.ensures (ap (λ (r : LacpduRules). r.key) is) (c.has_other_key.ensures l recent) c.shown-shown.ensures i;
       passive = next c.earlier_or-5.ensures (ap (λ (r : LacpduRules). r.passive) is) (c.is_passive.ensures l) c.shown-shown.ensures i;
       silence = next c.earlier_or-6.ensures (ap (λ (r : LacpduRules). r.silence) is) (c.is_late.ensures l recent) c.shown-shown.ensures i;
       unheard = next c.earlier_or-7.ensures (ap (λ (r : LacpduRules). r.unheard) is) (c.is_unheard.ensures l recent) c.shown-shown.ensures i;
       desynchronized = next c.earlier_or-8.ensures (ap (λ (r : LacpduRules). r.desynchronized) is) (c.is_desynchronized.ensures l recent) c.shown-shown.ensures i;
       individual = next c.earlier_or-9.ensures (ap (λ (r : LacpduRules). r.individual) is) (c.is_individual.ensures l) c.shown-shown.ensures i;
-      keys = next c.earlier_or-10.ensures (ap (λ (r : LacpduRules). r.keys) is) (c.has_other_keys.ensures l) c.shown-shown.ensures i;
+      keys = next c.earlier_or-10.ensures (ap (λ (r : LacpduRules). r.keys) is) (c.has_other_keys.ensures l recent) c.shown-shown.ensures i;
       segment = next c.earlier_or-11.ensures (ap (λ (r : LacpduRules). r.segment) is) (c.has_rival.ensures l) c.shown-shown.ensures i;
       discarded = next c.earlier_or-12.ensures (ap (λ (r : LacpduRules). r.discarded) is) (c.is_discarded.ensures l recent) c.shown-shown.ensures i;
       one_way = next c.earlier_or-13.ensures (ap (λ (r : LacpduRules). r.one_way) is) (c.is_one_way.ensures l recent) c.shown-shown.ensures i;

@@ -27,10 +27,13 @@ returns-then-is_full c =
     = subst (λ ws. AllZip (Takes c.args.now.now) ws c.see_each.new.watches) c.as_mut_slice.ensures.value c.see_each.ensures in
     let back = refill_same c.args.self.now.watches.items c.see_each.new.watches
     (same_length c.args.now.now c.args.self.now.watches.items c.see_each.new.watches t) in
+    let unknown : has_end (end_of c.args.now.now) c.see_each.new.watches ≡ false
+    = ap (λ (e : LinkEnd). has_end e c.see_each.new.watches) (sym c.end-end.ensures)
+    ∙ (ap (λ (ws : List Watch). has_end c.end-end.result ws) (sym (c.deref.ensures.0 ∙ back)) ∙ (sym c.has_end.ensures ∙ c.if-has_end.false)) in
     let full : length c.see_each.new.watches ≡ 64 = sym (ap length back) ∙ exact_number _ _ (sym c.is_full.ensures.value ∙ c.if-is_full.true) in
     λ h k. subst (λ ws. Knows (c.args.now.now ∷ h) ws c.saturating_add-self.result) (sym back)
-    (left_out c.args.now.now h c.args.self.now.watches.items c.see_each.new.watches c.args.self.now.left_out c.saturating_add-self.result t full
-    (omega arith) k)
+    (left_out c.args.now.now h c.args.self.now.watches.items c.see_each.new.watches c.args.self.now.left_out c.saturating_add-self.result t unknown full
+    c.saturating_add-self.ensures k)
 
 pub returns : goal.returns
 returns c =
