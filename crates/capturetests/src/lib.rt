@@ -7,3 +7,5 @@
 mod of_captures;
 #[cfg(test)]
 mod of_explained;
+#[cfg(test)]
+mod of_found;

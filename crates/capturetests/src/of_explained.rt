@@ -110,7 +110,8 @@ P3 = 32768/02-00-00-00-00-02 key 7 port 255/2
 8 -0.000001 02-00-00-00-00-02 refused fewer than 110 octets: 46
 end 02-00-00-00-00-01 port 1 lacpdus 2 first 0.000000 last 1.005000 gaps 1.005000 to 1.005000 synchronized 0.000000 collecting 1.005000 distributing 1.005000
 end 02-00-00-00-00-02 port 2 lacpdus 3 first 1.000000 last 3.250000 gaps 1.000000 to 1.250000 synchronized 2.250000 collecting 2.250000 distributing 2.250000
-packets 8 slow 7 ends 2
+finding 7 end 02-00-00-00-00-02 packet 8 at -0.000001: a frame of another length (6.4.2.3). Compare the frames at the other end of the cable: a device between may pad or cut them.
+packets 8 slow 7 ends 2 findings 1
 ";
 
 /// The outcome of an explanation, and what was written.
@@ -143,6 +144,7 @@ fn a_link_that_comes_up_is_explained(rt: HostRuntime) -> Result<(), Fail> {
     let wanted = Ok(Summary {
         packets: 8,
         slow: 7,
+        findings: 1,
         fault: None,
     });
     for order in [Order::Big, Order::Little] {
@@ -178,7 +180,7 @@ fn every_field_or_no_frame_is_shown(rt: HostRuntime) -> Result<(), Fail> {
     let text = str::from_utf8(&outcome.text).unwrap_or("");
     assert!(rt; !text.contains("lacpdu actor"), "{text}");
     assert!(rt; text.contains("P3 = "), "{text}");
-    assert!(rt; text.contains("packets 8 slow 7 ends 2\n"), "{text}");
+    assert!(rt; text.contains("packets 8 slow 7 ends 2 findings 1\n"), "{text}");
     Ok(())
 }
 
@@ -217,6 +219,7 @@ fn what_is_no_capture_is_refused(rt: HostRuntime) -> Result<(), Fail> {
         let wanted = Ok(Summary {
             packets: 0,
             slow: 0,
+            findings: 0,
             fault: Some(ReadFault { at: 0, cause }),
         });
         assert_eq!(rt; outcome.answer, wanted);

@@ -1,3 +1,4 @@
 mod ContentLemmas
 mod ExplainingLemmas
+mod NoticingLemmas
 mod StrideLemmas

@@ -38,8 +38,8 @@ ends_text first ends = flat_map (end_line first) ends
 abbrev pub beyond_part : ℕ → List ℕ
 beyond_part beyond = if beyond == 0 then [] else codes " beyond " ++ decimal beyond
 
--- the counts: packets, frames of the slow protocols, ends
-abbrev pub counts_text : ℕ → ℕ → ℕ → ℕ → List ℕ
-counts_text packets slow ends beyond =
+-- the counts: packets, frames of the slow protocols, ends, findings
+abbrev pub counts_text : ℕ → ℕ → ℕ → ℕ → ℕ → List ℕ
+counts_text packets slow ends findings beyond =
     codes "packets " ++ (decimal packets ++ (codes " slow " ++ (decimal slow ++ (codes " ends " ++ (decimal ends
-    ++ (beyond_part beyond ++ codes "\n"))))))
+    ++ (codes " findings " ++ (decimal findings ++ (beyond_part beyond ++ codes "\n"))))))))

@@ -2,6 +2,7 @@
 use Rattle.std.specs.Prelude.{◌==◌, ◌+◌, ◌++◌, ℕ, Bool, false, List, [], ◌∷◌, Option, Some, None, Result, Ok, Err, codes, decimal, drop, length}
 use Rattle.std.specs.Prelude.{nat_lt, if◌then◌else◌}
 use Rattle.captures.specs.declared.packet.Packet.{Packet}
+use Rattle.findings.specs.declared.finding.Finding.{Finding}
 use Rattle.slowpdu.specs.declared.fault.WireFault.{WireFault}
 use Rattle.slowpdu.specs.declared.pdu.Lacpdu.{Lacpdu}
 use Rattle.slowpdu.specs.declared.pdu.Pdu.{Pdu}
@@ -18,13 +19,14 @@ use Rattle.lagcapture.specs.Counting.{one_more}
 use Rattle.lagcapture.specs.EndTexts.{counts_text, ends_text}
 use Rattle.lagcapture.specs.Ends.{end_place, ends_after, is_beyond, last_of}
 use Rattle.lagcapture.specs.Envelopes.{envelope_of}
+use Rattle.lagcapture.specs.FindingTexts.{findings_text}
 use Rattle.lagcapture.specs.LacpduTexts.{shown_of}
 use Rattle.lagcapture.specs.LineTexts.{line_text}
 use Rattle.lagcapture.specs.Names.{identity_of, identity_text, place_of}
 
 -- How many packets there were; the time of the first that has one; how many packets are frames of the slow protocols; how
--- many LACPDUs are of no end that is told of; the ends with short names; the ends that sent LACPDUs; and the part of
--- the explanation that is not written yet.
+-- many LACPDUs are of no end that is told of; the ends with short names; the ends that sent LACPDUs; how many findings
+-- are told; and the part of the explanation that is not written yet.
 pub record ExplainerState : Type 0 where
   pub settings : Settings
   pub number : ℕ
@@ -33,6 +35,7 @@ pub record ExplainerState : Type 0 where
   pub beyond : ℕ
   pub names : List Identity
   pub ends : List End
+  pub findings : ℕ
   pub to_write : List ℕ
 
 -- before the first packet
@@ -45,6 +48,7 @@ nothing_seen settings = record {
   beyond = 0;
   names = [];
   ends = [];
+  findings = 0;
   to_write = [];
 }
 
@@ -145,6 +149,10 @@ after_envelope time (Some e) b s = if e.ether_type == 0x8809 then after_slow tim
 unfoldable pub observed : Packet → List ℕ → ExplainerState → ExplainerState
 observed packet b s = after_envelope packet.time (envelope_of packet b) b (counted packet.time s)
 
--- after the last packet: a line for each end that sent LACPDUs, and the counts
-abbrev pub with_ends : ExplainerState → ExplainerState
-with_ends s = record s { to_write = s.to_write ++ (ends_text s.first s.ends ++ counts_text s.number s.slow (length s.ends) s.beyond) }
+-- after the last packet: a line for each end that sent LACPDUs, a line for each finding, and the counts
+abbrev pub with_ends : List Finding → ExplainerState → ExplainerState
+with_ends fs s = record s {
+  findings = length fs;
+  to_write = s.to_write ++ (ends_text s.first s.ends ++ (findings_text s.first fs
+      ++ counts_text s.number s.slow (length s.ends) (length fs) s.beyond));
+}

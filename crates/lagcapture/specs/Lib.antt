@@ -9,4 +9,7 @@ pub mod Explaining
 pub mod Faults
 pub mod Strides
 pub mod EndTexts
+pub mod FindingTexts
+pub mod Frames
+pub mod Noticing
 pub mod Walks

@@ -5,32 +5,35 @@ use Rattle.captures.specs.declared.fault.Fault.{Fault}
 use Rattle.captures.specs.declared.format.Format.TheVariants.{Start}
 use Rattle.lagcapture.specs.Counting.{sum_of}
 use Rattle.lagcapture.specs.Explaining.{ExplainerState, nothing_seen, with_ends}
+use Rattle.findings.specs.Knows.{ends_of}
+use Rattle.lagcapture.specs.Noticing.{Follows, Log, findings_in, nothing_logged}
 use Rattle.lagcapture.specs.Strides.{Explains}
+use Rattle.lagcapture.specs.declared.noticing.Noticed.{Noticed}
 use Rattle.lagcapture.specs.declared.fault.ReadFault.{ReadFault}
 use Rattle.lagcapture.specs.declared.settings.Settings.{Settings}
 use Rattle.lagcapture.specs.declared.strides.Taken.{Taken}
 use Rattle.lagcapture.specs.declared.summary.Summary.{Summary}
 
--- The reader; what was seen; the octets that were read and are not taken yet; how many octets behind them are taken
+-- The reader; what was seen; what is found; the octets that were read and are not taken yet; how many octets behind them are taken
 -- already; their offset in the capture; and why the capture is not read on.
 pub record WalkState : Type 0 where
   pub reader : ReaderState
   pub explainer : ExplainerState
+  pub noticed : Noticed
   pub rest : List ℕ
   pub skip : ℕ
   pub at : ℕ
   pub fault : Option ReadFault
 
 -- before the beginning of a capture
-abbrev pub before_capture : Settings → WalkState
-before_capture settings = record {
-  reader = record { format = Start; interfaces = [] };
-  explainer = nothing_seen settings;
-  rest = [];
-  skip = 0;
-  at = 0;
-  fault = None;
-}
+pub record IsBefore (settings : Settings) (w : WalkState) : Type 0 where
+  pub reader : w.reader ≡ record { format = Start; interfaces = [] }
+  pub explainer : w.explainer ≡ nothing_seen settings
+  pub noticed : Follows nothing_logged w.noticed
+  pub rest : w.rest ≡ []
+  pub skip : w.skip ≡ 0
+  pub at : w.at ≡ 0
+  pub fault : w.fault ≡ None
 
 -- no fault was found
 abbrev pub is_free : Option ReadFault → Bool
@@ -51,7 +54,7 @@ refused_if_any at (Some fault) = Some (refused_at at fault)
 -- octets that follow were read, and explained as far as they are whole
 pub record Takes (octets : List ℕ) (old new : WalkState) : Type 0 where
   pub taken : Taken
-  pub explains : Explains (old.rest ++ octets) old.reader new.reader old.explainer new.explainer taken
+  pub explains : Explains (old.rest ++ octets) old.reader new.reader old.explainer new.explainer old.noticed new.noticed taken
   pub rest : new.rest ≡ drop taken.count (old.rest ++ octets)
   pub skip : new.skip ≡ taken.skip
   pub at : new.at ≡ sum_of old.at taken.count
@@ -73,13 +76,13 @@ refused_end (Some fault) at r = Some fault
 refused_end None at (Ok x) = None
 refused_end None at (Err fault) = Some (refused_at at fault)
 
--- after the end of the capture
-abbrev pub ended : WalkState → WalkState
-ended w = record w {
-  explainer = with_ends w.explainer;
+-- after the end of a capture of which this is logged
+abbrev pub ended : Log → WalkState → WalkState
+ended l w = record w {
+  explainer = with_ends (findings_in l (ends_of w.noticed.findings.watches.items)) w.explainer;
   fault = refused_end w.fault w.at (end_of w.reader.format (length w.rest));
 }
 
 -- what was read
 abbrev pub summary_of : WalkState → Summary
-summary_of w = record { packets = w.explainer.number; slow = w.explainer.slow; fault = w.fault }
+summary_of w = record { packets = w.explainer.number; slow = w.explainer.slow; findings = w.explainer.findings; fault = w.fault }

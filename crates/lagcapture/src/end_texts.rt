@@ -136,18 +136,19 @@ pub(crate) struct CountsText {
     pub packets: u64,
     pub slow: u64,
     pub ends: usize,
+    pub findings: usize,
     pub beyond: u64,
 }
 
 impl fmt::Display for CountsText {
-    ghost output = { λ t. Some (counts_text t.packets t.slow t.ends t.beyond) };
+    ghost output = { λ t. Some (counts_text t.packets t.slow t.ends t.findings t.beyond) };
 
     fn fmt<W: fmt::Write>(&self, f: &mut fmt::Formatter<W>) -> fmt::Result {
         let beyond = self.beyond;
         write!(
             f,
-            "packets {} slow {} ends {}",
-            self.packets, self.slow, self.ends
+            "packets {} slow {} ends {} findings {}",
+            self.packets, self.slow, self.ends, self.findings
         )?;
         if beyond > 0 {
             write!(f, " beyond {beyond}")?;

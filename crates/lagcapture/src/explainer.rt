@@ -7,12 +7,14 @@ use crate::end_texts::{CountsText, EndsText};
 use crate::ends::{End, MOST_ENDS, Sender, end_place, last_of};
 use crate::envelope::{Envelope, envelope_of};
 use crate::fault::ReadFault;
+use crate::finding_texts::FindingsText;
 use crate::lacpdu_texts::{LacpduText, Shown};
 use crate::line::{HeadText, SinceText, WhatText};
 use crate::names::{Identity, MOST_NAMES, place_of};
 use crate::settings::Settings;
 use crate::summary::Summary;
 use captures::Packet;
+use findings::Finding;
 use lagstreams::{Sink, WriteFailed};
 use slowpdu::{Lacpdu, Pdu};
 use std::alloc::{AllocError, Global};
@@ -20,7 +22,7 @@ use std::io::Write;
 use std::marker::Model;
 
 /// The EtherType of the slow protocols (6.4.2.2, 6.5.3.2).
-const SLOW_TYPE: u16 = 0x8809;
+pub(crate) const SLOW_TYPE: u16 = 0x8809;
 
 /// What was read of a capture so far, and the part of its explanation that is not written yet.
 #[derive(Drop)]
@@ -36,6 +38,8 @@ pub struct Explainer {
     beyond: u64,
     names: Vec<Identity>,
     ends: Vec<End>,
+    /// How many findings are told.
+    findings: usize,
     report: String,
 }
 
@@ -53,6 +57,7 @@ impl Model for Explainer {
       beyond = e.beyond;
       names = e.names.items;
       ends = e.ends.items;
+      findings = e.findings;
       to_write = string_bytes e.report;
     } };
 }
@@ -70,6 +75,7 @@ impl Explainer {
             beyond: 0,
             names: Vec::new(alloc),
             ends: Vec::new(alloc),
+            findings: 0,
             report: String::new(alloc),
         }
     }
@@ -232,21 +238,28 @@ impl Explainer {
         }
     }
 
-    /// Adds a line for each end that sent LACPDUs, and the counts. `AllocError` if memory is refused.
-    pub fn finish(&mut self) -> Result<(), AllocError>
-        ensures { OnOk result (self.new ≡ with_ends self.old) }
+    /// Adds a line for each end that sent LACPDUs, a line for each of these findings, and the counts. `AllocError` if memory
+    /// is refused.
+    pub fn finish(&mut self, findings: &[Finding]) -> Result<(), AllocError>
+        ensures { OnOk result (self.new ≡ with_ends findings.now self.old) }
     {
+        self.findings = findings.len();
+        let first = self.first;
         let ends = EndsText {
-            first: self.first,
+            first,
             ends: &self.ends,
         };
+        write!(self.report, "{ends}")?;
+        let told = FindingsText { first, findings };
+        write!(self.report, "{told}")?;
         let counts = CountsText {
             packets: self.number,
             slow: self.slow,
             ends: self.ends.len(),
+            findings: findings.len(),
             beyond: self.beyond,
         };
-        write!(self.report, "{ends}{counts}")
+        write!(self.report, "{counts}")
     }
 
     /// Writes the part of the explanation that is not written yet, in one call of the sink. `WriteFailed` if the sink
@@ -263,11 +276,12 @@ impl Explainer {
 
     /// What was read so far.
     pub fn summary(&self, fault: Option<ReadFault>) -> Summary
-        ensures { result ≡ record { packets = self.now.number; slow = self.now.slow; fault = fault } }
+        ensures { result ≡ record { packets = self.now.number; slow = self.now.slow; findings = self.now.findings; fault = fault } }
     {
         Summary {
             packets: self.number,
             slow: self.slow,
+            findings: self.findings,
             fault,
         }
     }

@@ -10,7 +10,7 @@ use std::alloc::Global;
 use std::io::{Read, Write};
 
 /// Reads a capture to its end, and writes what it says: a line for each frame of the slow protocols, then a line for each
-/// end of a link, and the counts (profile). Up to 4,096 octets are read at a time, and what they say is written before
+/// end of a link, what is found of the ends, and the counts (profile). Up to 4,096 octets are read at a time, and what they say is written before
 /// the next read. A capture that is not read on has the lines of what was read before.
 ///
 /// `Read` if the source failed, `Write` if the sink did, `NoMemory` if memory was refused.
@@ -35,7 +35,7 @@ pub fn explain<R: Read, W: Write>(
         walk.feed(&piece[..n])?;
         walk.write(sink)?;
     }
-    walk.finish()?;
+    walk.finish(alloc)?;
     walk.write(sink)?;
     Ok(walk.summary())
 }

@@ -1,8 +1,10 @@
 ghost use Rattle.std.specs.Prelude.{◌≡◌, ◌≤◌, length, IfOk, IfSome, OnOk};
 ghost use Rattle.captures.specs.Wanted.{IsWithin};
-ghost use Rattle.lagcapture.specs.Strides.{Explains, observed_if_any, stopped_at};
+ghost use Rattle.lagcapture.specs.Noticing.{Follows, Log};
+ghost use Rattle.lagcapture.specs.Strides.{Explains, logged_if_any, observed_if_any, stopped_at};
 
 use crate::explainer::Explainer;
+use crate::noticing::Noticed;
 use captures::{Fault, Packet, Reader, Stop};
 use std::alloc::AllocError;
 
@@ -21,14 +23,20 @@ pub(crate) struct Taken {
 /// Explains the packet that a stride found among these octets, if it found one.
 fn observe_any(
     explainer: &mut Explainer,
+    noticed: &mut Noticed,
     packet: Option<Packet>,
     octets: &[u8],
 ) -> Result<(), AllocError>
     requires { IfSome packet (λ p. IsWithin octets.now p) }
-    ensures { OnOk result (explainer.new ≡ observed_if_any packet octets.now explainer.old) }
+    ensures explained { OnOk result (explainer.new ≡ observed_if_any packet octets.now explainer.old) }
+    ensures noticed { (l : Log) → Follows l noticed.old → Follows (logged_if_any packet octets.now l) noticed.new }
 {
     match packet {
-        Some(packet) => explainer.observe(&packet, packet.octets(octets)),
+        Some(packet) => {
+            let octets = packet.octets(octets);
+            noticed.observe(&packet, octets);
+            explainer.observe(&packet, octets)
+        }
         None => Ok(()),
     }
 }
@@ -52,9 +60,10 @@ fn stopped_at(count: usize, stop: Stop) -> Taken
 pub(crate) fn take_steps(
     reader: &mut Reader,
     explainer: &mut Explainer,
+    noticed: &mut Noticed,
     octets: &[u8],
 ) -> Result<Taken, AllocError>
-    ensures explains { IfOk result (λ taken. Explains octets.now reader.old reader.new explainer.old explainer.new taken) }
+    ensures explains { IfOk result (λ taken. Explains octets.now reader.old reader.new explainer.old explainer.new noticed.old noticed.new taken) }
     ensures count { IfOk result (λ taken. taken.count ≤ length octets.now) }
 {
     let mut count = 0;
@@ -62,7 +71,7 @@ pub(crate) fn take_steps(
         let rest = &octets[count..];
         match reader.read(rest) {
             Ok(step) => {
-                observe_any(explainer, step.packet, rest)?;
+                observe_any(explainer, noticed, step.packet, rest)?;
                 if step.taken > rest.len() {
                     return Ok(Taken {
                         count: octets.len(),

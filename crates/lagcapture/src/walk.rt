@@ -1,11 +1,13 @@
 ghost use Rattle.std.specs.Prelude.{◌≡◌, ◌≤◌, [], length, OnErr, OnOk};
 ghost use Rattle.captures.specs.Steps.{end_of};
 ghost use Rattle.lagcapture.specs.Explaining.{with_ends};
-ghost use Rattle.lagcapture.specs.Walks.{Feeds, Takes, before_capture, ended, is_read_on, refused_at, summary_of};
+ghost use Rattle.lagcapture.specs.Noticing.{Follows, Log};
+ghost use Rattle.lagcapture.specs.Walks.{Feeds, IsBefore, Takes, ended, is_read_on, refused_at, summary_of};
 ghost use Rattle.lagstreams.specs.Sinks.{WritesPart, WritesWhole};
 
 use crate::explainer::Explainer;
 use crate::fault::ReadFault;
+use crate::noticing::Noticed;
 use crate::settings::Settings;
 use crate::strides::take_steps;
 use crate::summary::Summary;
@@ -20,6 +22,7 @@ use std::marker::Model;
 pub(crate) struct Walk {
     reader: Reader,
     explainer: Explainer,
+    noticed: Noticed,
     /// Octets that were read and are not taken yet.
     rest: Vec<u8>,
     /// How many octets behind them are taken already.
@@ -38,6 +41,7 @@ impl Model for Walk {
     ghost view = { λ w. record {
       reader = w.reader;
       explainer = w.explainer;
+      noticed = w.noticed;
       rest = w.rest.items;
       skip = w.skip;
       at = w.at;
@@ -58,11 +62,12 @@ fn refused_at(at: u64, fault: Fault) -> ReadFault
 impl Walk {
     /// Before the beginning of a capture.
     pub fn new(alloc: Global, settings: Settings) -> Walk
-        ensures { result ≡ before_capture settings }
+        ensures { IsBefore settings result }
     {
         Walk {
             reader: Reader::new(),
             explainer: Explainer::new(alloc, settings),
+            noticed: Noticed::new(),
             rest: Vec::new(alloc),
             skip: 0,
             at: 0,
@@ -82,7 +87,12 @@ impl Walk {
         ensures { OnOk result (Takes octets.now self.old self.new) }
     {
         self.rest.extend_from_slice(octets)?;
-        let taken = take_steps(&mut self.reader, &mut self.explainer, &self.rest)?;
+        let taken = take_steps(
+            &mut self.reader,
+            &mut self.explainer,
+            &mut self.noticed,
+            &self.rest,
+        )?;
         self.rest = self.rest.split_off(taken.count)?;
         self.skip = taken.skip;
         self.at = self.at.saturating_add(taken.count as u64);
@@ -106,16 +116,18 @@ impl Walk {
         self.take(&piece[skipped..])
     }
 
-    /// Ends the capture: a fault if it may not end there; then the ends and the counts. `AllocError` if memory is refused.
-    pub fn finish(&mut self) -> Result<(), AllocError>
-        ensures { OnOk result (self.new ≡ ended self.old) }
+    /// Ends the capture: a fault if it may not end there; then the ends, what is found and the
+    /// counts. `AllocError` if memory is refused.
+    pub fn finish(&mut self, alloc: Global) -> Result<(), AllocError>
+        ensures { OnOk result ((l : Log) → Follows l self.old.noticed → self.new ≡ ended l self.old) }
     {
+        let findings = self.noticed.findings(alloc)?;
         if self.fault.is_none()
             && let Err(fault) = self.reader.end(self.rest.len())
         {
             self.fault = Some(refused_at(self.at, fault));
         }
-        self.explainer.finish()
+        self.explainer.finish(&findings)
     }
 
     /// Writes what is not written yet, in one call of the sink. `WriteFailed` if the sink failed.

@@ -1,6 +1,6 @@
 //! `lagtool`: reads and answers LACPDUs and Marker PDUs, and runs scripts of two systems.
 //!
-//! Exit status 0: accepted; 1: refused, or no answer, or a line that is a fault; 2: it could not be done, and standard
+//! Exit status 0: accepted; 1: refused, or no answer, or a line that is a fault, or a finding; 2: it could not be done, and standard
 //! error says why.
 #![tactic(auto)]
 
@@ -153,7 +153,7 @@ fn status_of_capture<R: Print + Eprint + Files + Input + AllocGlobal>(
             let _ = eprintln!(rt; "lagtool: cannot read {file}: {fault}");
             ExitCode::from(2)
         }
-        Ok(_) => ExitCode::SUCCESS,
+        Ok(summary) => ended(rt, file, Ok(summary.findings == 0)),
         Err(fault) => {
             let fault = tool_fault(fault);
             let status = ended(rt, file, Err(fault));

@@ -4,7 +4,7 @@ use Rattle.lagcapture.proofs.strides.take_steps.Given as goal
 
 abbrev pub invariant-loop-count : goal.invariant-loop-count
 invariant-loop-count l = record {
-  reads : Reads l.octets l.initial.reader l.reader l.initial.explainer l.explainer l.count;
+  reads : Reads l.octets l.initial.reader l.reader l.initial.explainer l.explainer l.initial.noticed l.noticed l.count;
   within : l.count ≤ length l.octets;
 }
 
