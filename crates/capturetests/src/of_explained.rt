@@ -180,7 +180,10 @@ fn every_field_or_no_frame_is_shown(rt: HostRuntime) -> Result<(), Fail> {
     let text = str::from_utf8(&outcome.text).unwrap_or("");
     assert!(rt; !text.contains("lacpdu actor"), "{text}");
     assert!(rt; text.contains("P3 = "), "{text}");
-    assert!(rt; text.contains("packets 8 slow 7 ends 2 findings 1\n"), "{text}");
+    assert!(rt;
+        text.contains("packets 8 slow 7 ends 2 findings 1\n"),
+        "{text}"
+    );
     Ok(())
 }
 

@@ -66,7 +66,11 @@ fn said(alloc: Global, octets: &[u8]) -> (Result<Summary, CaptureFault>, Vec<u8>
 }
 
 /// Whether a capture has just this finding, or none for the empty text.
-fn has_just(alloc: Global, frames: &[(u32, u32, [u8; 124])], line: &str) -> Result<bool, AllocError> {
+fn has_just(
+    alloc: Global,
+    frames: &[(u32, u32, [u8; 124])],
+    line: &str,
+) -> Result<bool, AllocError> {
     let octets = capture(alloc, frames)?;
     let (answer, text) = said(alloc, &octets);
     let count: usize = if line.is_empty() { 0 } else { 1 };
@@ -74,9 +78,11 @@ fn has_just(alloc: Global, frames: &[(u32, u32, [u8; 124])], line: &str) -> Resu
         return Ok(false);
     };
     let text = str::from_utf8(&text).unwrap_or("");
-    Ok(summary.findings == count
-        && text.contains(line)
-        && text.matches("finding ").count() == count)
+    Ok(
+        summary.findings == count
+            && text.contains(line)
+            && text.matches("finding ").count() == count,
+    )
 }
 
 #[test]

@@ -1,5 +1,6 @@
 //! What a capture of LACPDUs and Marker PDUs says: a line for each frame of the slow protocols, then the ends of links that
-//! sent them, and the counts. A capture of any length is read in pieces, in memory that does not grow with it.
+//! sent them, what is found of those, and the counts. A capture of any length is read in pieces, in memory that does not
+//! grow with it.
 //!
 //! In comments, numbers such as 6.4.2.3 are sections of IEEE 802.1AX-2014, and "profile" is docs/PROFILE.md.
 #![tactic(auto)]
