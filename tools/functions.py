@@ -1,0 +1,62 @@
+"""The page docs/LAG-H.md: the functions and structs of lag.h, a line each, from the comments above them."""
+
+from __future__ import annotations
+
+import os
+import re
+from typing import Iterator
+
+from repository import TOP
+
+HEADER = os.path.join(TOP, "crates", "lagffi", "include", "lag.h")
+PAGE = "docs/LAG-H.md"
+HEAD = """# lag.h in short
+
+Here you can look up the functions and structs of the C library, a line each. `tools/pages` writes this page from the comments of
+[lag.h](../crates/lagffi/include/lag.h), which say more. [USING](USING.md#from-c) has the loop of a host and the rules for callers,
+[all faults](USING.md#all-faults) the statuses, [PERFORMANCE](PERFORMANCE.md#a-later-run) how long the calls take.
+
+A function whose answer is a *status* answers `NIW_OK`, or why it refused. A struct that is an answer has its `status` first.
+"""
+COMMENT = r"/\* ((?:(?!\*/).)*?) \*/\n"
+FUNCTION = re.compile(COMMENT + r"static inline ([\w ]+?[ *]+)(niw_\w+)\(([^)]*)\) \{", re.S)
+STRUCT = re.compile(COMMENT + r"struct (niw_\w+) \{\n(.*?)\n\};", re.S)
+FIELD = re.compile(r"([\w*, \[\]]+);")
+# What a comment ends its first sentence with: a point or a colon, and what follows begins anew.
+SENTENCE = re.compile(r"(.*?[.])(?: [A-Z`]|$)", re.S)
+
+
+def first_sentence(comment: str) -> str:
+    """The first sentence of a comment, on one line."""
+    text = re.sub(r"\s*\n\s*\* ?", " ", comment)
+    found = SENTENCE.match(text)
+    return (found[1] if found else text).replace("|", "\\|")
+
+
+def answer(kind: str) -> str:
+    """What a function answers, by its type in C."""
+    plain = kind.strip()
+    return {"uint32_t": "a status", "const char *": "a text", "size_t": "a length"}.get(plain, f"`{plain.removeprefix('struct ')}`")
+
+
+def functions(text: str) -> Iterator[str]:
+    """A row for each function that has a comment."""
+    for comment, kind, name, given in FUNCTION.findall(text):
+        words = [re.sub(r"\[.*\]", "", it).split()[-1].lstrip("*") for it in given.split(",") if it.strip() != "void"]
+        yield f"| `{name}({', '.join(words)})` | {answer(kind)} | {first_sentence(comment)} |"
+
+
+def structs(text: str) -> Iterator[str]:
+    """A row for each struct that has a comment."""
+    for comment, name, body in STRUCT.findall(text):
+        plain = re.sub(r"/\*.*?\*/", "", body, flags=re.S)
+        fields = [re.sub(r"\[.*?\]", "", it).strip().lstrip("*") for line in FIELD.findall(plain) for it in re.sub(r"^\s*(?:const )?(?:struct )?\w+ ", "", line).split(",")]
+        yield f"| `{name}` | {', '.join(f'`{it}`' for it in fields)} | {first_sentence(comment)} |"
+
+
+def page() -> str:
+    """The whole page."""
+    with open(HEADER, encoding="utf-8") as file:
+        text = file.read()
+    parts = [HEAD, "## Functions\n", "| function | answers | what it does |\n|---|---|---|", *functions(text)]
+    return "\n".join([*parts, "\n## Structs\n", "| struct | fields | what it is |\n|---|---|---|", *structs(text)]) + "\n"
