@@ -1,9 +1,8 @@
 -- The soonest of many numbers of ticks, and a walk along a chain in search of it.
-use Rattle.std.proofs.Common.{ℕ, zero, suc, ◌+◌, ◌*◌, ◌<◌, ◌≤◌, ◌≡◌, ◌++◌, Bool, true, false, cond, List, [], ◌∷◌, length, Option}
-use Rattle.std.proofs.Common.{None, Some, get_or, nat_le, refl, sym, ap, ◌∙◌, arith, subst, ⊎_elim}
+use Rattle.std.proofs.Common.{ℕ, zero, suc, ◌+◌, ◌*◌, ◌<◌, ◌≡◌, ◌++◌, Bool, true, false, cond, List, [], ◌∷◌, length, Option}
+use Rattle.std.proofs.Common.{None, Some, get_or, refl, sym, ap, ◌∙◌, arith, subst, ⊎_elim}
 use Rattle.std.specs.Prelude.{ltb, min, IfSome}
-use Rattle.std.proofs.lemmas.Bool.{cases_eq, eq-eqb, false≢true}
-use Rattle.std.proofs.lemmas.Bool.Decides.{nat_tests}
+use Rattle.std.proofs.lemmas.Bool.{cases_eq, eq-eqb, false≢true, le-leb, leb-true}
 use Rattle.std.proofs.lemmas.List.{append_assoc}
 use Rattle.std.proofs.lemmas.Nat.{mod_below}
 use Rattle.distributor.specs.declared.assignment.Assignment.{Assignment}
@@ -15,12 +14,6 @@ use Rattle.distributor.proofs.ChainLemmas.{one_other}
 use Rattle.distributor.proofs.TableLemmas.{stated_in}
 use Rattle.distributor.proofs.WalkLemmas.{Walking, after_first, cond_same, split_first, steps, walk_begins, walk_below, walk_next, walk_over}
 use Rattle.distributor.proofs.WalkLemmas.{walk_shorter, walk_split, walk_steps}
-
-le_true : (a b : ℕ) → a ≤ b → nat_le a b ≡ true
-le_true a b h = grind (arith, nat_tests)
-
-le_from : (a b : ℕ) → nat_le a b ≡ true → a ≤ b
-le_from a b h = grind (arith, nat_tests)
 
 -- ---- the order of numbers of ticks
 
@@ -47,7 +40,7 @@ by_left None (Some m) None h = refl
 by_left None (Some m) (Some y) h = absurd (false≢true h)
 by_left (Some n) None x h = h
 by_left (Some n) (Some m) None h = refl
-by_left (Some n) (Some m) (Some y) h = le_true (min n m) y (omega (arith, le_from n y h))
+by_left (Some n) (Some m) (Some y) h = le-leb (min n m) y (omega (arith, leb-true n y h))
 
 pub by_right : (a b x : Option ℕ) → is_by b x ≡ true → is_by (sooner a b) x ≡ true
 by_right None None x h = h
@@ -55,14 +48,14 @@ by_right None (Some m) x h = h
 by_right (Some n) None None h = refl
 by_right (Some n) None (Some y) h = absurd (false≢true h)
 by_right (Some n) (Some m) None h = refl
-by_right (Some n) (Some m) (Some y) h = le_true (min n m) y (omega (arith, le_from m y h))
+by_right (Some n) (Some m) (Some y) h = le-leb (min n m) y (omega (arith, leb-true m y h))
 
 pub by_both : (x a b : Option ℕ) → is_by x a ≡ true → is_by x b ≡ true → is_by x (sooner a b) ≡ true
 by_both x None None h k = h
 by_both x None (Some m) h k = k
 by_both x (Some n) None h k = h
 by_both None (Some n) (Some m) h k = absurd (false≢true h)
-by_both (Some y) (Some n) (Some m) h k = le_true y (min n m) (omega (arith, le_from y n h, le_from y m k))
+by_both (Some y) (Some n) (Some m) h k = le-leb y (min n m) (omega (arith, leb-true y n h, leb-true y m k))
 
 by_none : (x : Option ℕ) → is_by x None ≡ true
 by_none None = refl
@@ -73,24 +66,24 @@ pub by_first : (x a b : Option ℕ) → is_by x (sooner a b) ≡ true → is_by 
 by_first x None b h = by_none x
 by_first x (Some n) None h = h
 by_first None (Some n) (Some m) h = absurd (false≢true h)
-by_first (Some y) (Some n) (Some m) h = le_true y n (omega (arith, le_from y (min n m) h))
+by_first (Some y) (Some n) (Some m) h = le-leb y n (omega (arith, leb-true y (min n m) h))
 
 pub by_second : (x a b : Option ℕ) → is_by x (sooner a b) ≡ true → is_by x b ≡ true
 by_second x a None h = by_none x
 by_second x None (Some m) h = h
 by_second None (Some n) (Some m) h = absurd (false≢true h)
-by_second (Some y) (Some n) (Some m) h = le_true y m (omega (arith, le_from y (min n m) h))
+by_second (Some y) (Some n) (Some m) h = le-leb y m (omega (arith, leb-true y (min n m) h))
 
 by_itself : (a : Option ℕ) → is_by a a ≡ true
 by_itself None = refl
-by_itself (Some n) = le_true n n (omega arith)
+by_itself (Some n) = le-leb n n (omega arith)
 
 by_each_other : (a b : Option ℕ) → is_by a b ≡ true → is_by b a ≡ true → a ≡ b
 by_each_other None None h k = refl
 by_each_other None (Some m) h k = absurd (false≢true h)
 by_each_other (Some n) None h k = absurd (false≢true k)
 by_each_other (Some n) (Some m) h k =
-    let e : n ≡ m = omega (arith, le_from n m h, le_from m n k) in
+    let e : n ≡ m = omega (arith, leb-true n m h, leb-true m n k) in
     ap Some e
 
 -- ---- the soonest of a function

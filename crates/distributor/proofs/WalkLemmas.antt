@@ -3,7 +3,7 @@ use Rattle.std.proofs.Common.{ℕ, ◌+◌, ◌<◌, ◌≤◌, ◌≡◌, ◌++
 use Rattle.std.proofs.Common.{None, Some, get_or, set, map, replicate, ◌^◌, refl, sym, ap, ◌∙◌, arith, subst, ⊎_elim, inl, inr, ◌⊎◌}
 use Rattle.std.specs.Prelude.{ltb}
 use Rattle.std.proofs.lemmas.Bool.{cases_Bool, cases_eq, eqb-true, eq-eqb, ne_eqb, cond-true, cond-false, false≢true, lt-ltb}
-use Rattle.std.proofs.lemmas.Bool.{ltb-false, ltb-true}
+use Rattle.std.proofs.lemmas.Bool.{ltb-false, ltb-true, and_left, and_right}
 use Rattle.std.proofs.lemmas.List.{length-map, get_or-set_same, get_or-set_other, get_or-map, get_or_past, append_assoc, ext_get_or}
 use Rattle.std.proofs.lemmas.List.{length-replicate, get_or-replicate}
 use Rattle.distributor.specs.declared.assignment.Assignment.{Assignment}
@@ -435,14 +435,6 @@ pub counting_few : (chain : ℕ) (p : Assignment → Bool) (count : ℕ) (states
     → Counting chain p count states next prev at n → n ≤ count
 counting_few chain p count states next prev at n h =
     omega (arith, h.counted, small_sum (seen p states h.walk.rest) count (seen_few p states h.walk.rest))
-
-and_left : (b c : Bool) → b ≡ false → (b && c) ≡ false
-and_left true c h = absurd (cc)
-and_left false c h = refl
-
-and_right : (b c : Bool) → c ≡ false → (b && c) ≡ false
-and_right true c h = h
-and_right false c h = refl
 
 and_true : (b c : Bool) → c ≡ true → (b && c) ≡ b
 and_true true c h = h

@@ -1,14 +1,7 @@
 -- Moves that a receive allows if nothing came are allowed whatever came: only receiving, answering and being released
 -- depend on it. So a receive of nothing may be regarded as a receive of what came.
-use Rattle.std.proofs.Common.{ℕ, Bool, true, false, Option, Some, None, List, [], ◌∷◌, ap}
-use Rattle.std.specs.Prelude.{IsSomeAnd}
-use Rattle.std.proofs.lemmas.Bool.{true≢false}
-use Rattle.std.proofs.lemmas.Option.{none-some}
-use Rattle.lagmodel.specs.View.{PortFacts, Conversation, DistributorFacts, View, SystemSetup, ModelCall, ControlMessage, Lacp, Marker}
-use Rattle.lagmodel.specs.View.{Response, Receive}
-use Rattle.lagmodel.specs.Move.{Act, PortMove, PortAllowed, ConversationMove, ConversationMoveAllowed, DistributorMove}
-use Rattle.lagmodel.specs.Move.{DistributorMoveAllowed, Move, Port, Flow, Restart, MoveAllowed, view_after, AllAllowed, Distributes}
-use Rattle.lagmodel.specs.Move.{LawfulMoves}
+use Rattle.lagmodel.proofs.Common.{ℕ, Bool, true, false, Option, Some, None, List, [], ◌∷◌, ap, IsSomeAnd, true≢false, none-some, PortFacts, Conversation, DistributorFacts, View, SystemSetup, ModelCall, ControlMessage, Lacp, Marker, Response, Receive, Act, PortMove, PortAllowed, DistributorMove, DistributorMoveAllowed, Move, Port, Flow, Restart, MoveAllowed, view_after, AllAllowed, Distributes, LawfulMoves}
+use Rattle.lagmodel.specs.Move.{ConversationMove, ConversationMoveAllowed}
 
 abbrev is_receive : ModelCall → Bool
 is_receive (Receive p pdu) = true

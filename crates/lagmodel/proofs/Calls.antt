@@ -1,15 +1,8 @@
 -- What calls of one system preserve, whatever it receives: that the members of an aggregator have its key and one group
 -- (members_call, and members_driven of a list of calls), and, but in a configure and a restart, the own parameters of
 -- its ports (parties_same).
-use Rattle.std.proofs.Common.{◌≡◌, ℕ, false, eqb, Option, Some, List, [], ◌∷◌, sym, refl, ap, ◌∙◌, subst, inl, inr, eqb-true}
-use Rattle.std.specs.Prelude.{option_map}
-use Rattle.std.proofs.lemmas.Bool.{cases_Bool, true≢false}
-use Rattle.lagtypes.specs.declared.party.Party.{Party}
-use Rattle.lagmodel.specs.View.{is_restart, PortFacts, View, SystemSetup, IsSystemSetup, first_view, ModelCall}
-use Rattle.lagmodel.specs.Move.{MoveAllowed, Act, PortMove, PortAllowed, port_after, Move, Port, Flow, Restart, view_after, AllAllowed}
-use Rattle.lagmodel.specs.Move.{view_after_all, LawfulMoves}
-use Rattle.lagmodel.specs.World.{party_at}
-use Rattle.lagmodel.specs.Law.{LawfulRun, Members}
+use Rattle.lagmodel.proofs.Common.{◌≡◌, ℕ, false, eqb, Option, Some, List, [], ◌∷◌, sym, refl, ap, ◌∙◌, subst, inl, inr, eqb-true, option_map, cases_Bool, true≢false, Party, is_restart, PortFacts, View, SystemSetup, IsSystemSetup, first_view, ModelCall, MoveAllowed, Act, PortMove, PortAllowed, port_after, Move, Port, Flow, Restart, view_after, AllAllowed, view_after_all, LawfulMoves, party_at, Members}
+use Rattle.lagmodel.specs.Law.{LawfulRun}
 use Rattle.lagmodel.proofs.Base.{value_of, cond_true, cond_false}
 use Rattle.lagmodel.proofs.Ports.{members_kept, members_first}
 

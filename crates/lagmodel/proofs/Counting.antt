@@ -1,13 +1,10 @@
 -- The serial numbers of each conversation are 0, 1, 2 and so on.
-use Rattle.std.proofs.Common.{◌≡◌, ℕ, ◌<◌, Bool, true, false, Option, Some, None, List, [], ◌∷◌, ◌++◌, length, get_or, sym, ◌∙◌, subst}
-use Rattle.std.proofs.Common.{inl, inr, arith, length-append}
+use Rattle.lagmodel.proofs.Common.{◌≡◌, ℕ, ◌<◌, Bool, true, false, Option, Some, None, List, [], ◌∷◌, ◌++◌, length, sym, ◌∙◌, subst, inl, inr, arith, ModelCall, Receive, Act, Move, act, Side, One, Two, Message, Control, Data, end_at, World, WorldSetup, first_world, sent_after, world_after, world_after_all, CallHappens, Event, with_messages, handed_up, Happens, Run}
+use Rattle.std.proofs.Common.{get_or, length-append}
 use Rattle.std.proofs.lemmas.Bool.{cases_lt}
 use Rattle.std.proofs.lemmas.List.{get_or_append_left, get_or_push}
-use Rattle.lagmodel.specs.View.{ModelCall, Receive}
-use Rattle.lagmodel.specs.Move.{Act, Sends, Sends_frame, Took, Move, act}
-use Rattle.lagmodel.specs.World.{Side, One, Two, Message, Control, Data, end_at, World, WorldSetup, first_world, sent_after, world_after}
-use Rattle.lagmodel.specs.World.{world_after_all, CallHappens, Event, with_messages, handed_up, DeliversFirst, RepeatsFirst, LosesFirst}
-use Rattle.lagmodel.specs.World.{SensesCable, Happens, Run}
+use Rattle.lagmodel.specs.Move.{Sends, Sends_frame, Took}
+use Rattle.lagmodel.specs.World.{DeliversFirst, RepeatsFirst, LosesFirst, SensesCable}
 use Rattle.lagmodel.specs.Law.{CountsFromZero}
 use Rattle.lagmodel.proofs.Lanes.{two_cases}
 

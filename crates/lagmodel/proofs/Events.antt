@@ -1,19 +1,11 @@
 -- Every event preserves the facts of two systems, and so does every run.
-use Rattle.std.proofs.Common.{◌≡◌, ◌≢◌, ℕ, suc, Bool, true, false, Option, Some, None, List, [], ◌∷◌, ◌++◌, sym, refl, ap, ◌∙◌, subst}
-use Rattle.std.proofs.Common.{◌⊎◌, inl, inr}
-use Rattle.std.proofs.lemmas.Bool.{true≢false, false≢true}
-use Rattle.lagtypes.specs.declared.party.Party.{Party}
-use Rattle.lagmodel.specs.View.{View, SystemSetup, IsSystemSetup, first_view, ControlMessage, ModelCall, Receive, Set_link, Tick}
-use Rattle.lagmodel.specs.View.{Configure, Transmit, Offer, Move_conversation, Force, Restart, is_restart}
-use Rattle.lagmodel.specs.Move.{Move}
-use Rattle.lagmodel.specs.World.{Side, One, Two, peer, at_side, at_two, at_cable, Message, Control, Data, end_at, TakenLacpdu, World}
-use Rattle.lagmodel.specs.World.{WorldSetup, IsWorldSetup, first_world, party_at, AllMoves, world_after_all, CountsChanges, CallHappens}
-use Rattle.lagmodel.specs.World.{Event, with_messages, handed_up, DeliversFirst, RepeatsFirst, LosesFirst, SensesCable, Happens, Run}
+use Rattle.lagmodel.proofs.Common.{◌≡◌, ◌≢◌, ℕ, suc, Bool, true, false, Option, Some, None, List, [], ◌∷◌, ◌++◌, sym, refl, ap, ◌∙◌, subst, ◌⊎◌, inl, inr, true≢false, false≢true, Party, View, SystemSetup, IsSystemSetup, first_view, ControlMessage, ModelCall, Receive, is_restart, Move, Side, One, Two, peer, at_two, at_cable, Message, Control, Data, end_at, TakenLacpdu, World, WorldSetup, IsWorldSetup, first_world, party_at, AllMoves, world_after_all, CallHappens, Event, with_messages, handed_up, Happens, Run}
+use Rattle.lagmodel.specs.View.{Set_link, Tick, Configure, Transmit, Offer, Move_conversation, Force, Restart}
+use Rattle.lagmodel.specs.World.{at_side, CountsChanges, DeliversFirst, RepeatsFirst, LosesFirst, SensesCable}
 use Rattle.lagmodel.proofs.Lines.{IsFrom, Every}
 use Rattle.lagmodel.proofs.Ports.{members_first}
 use Rattle.lagmodel.proofs.Lanes.{Lanes, two_cases}
-use Rattle.lagmodel.proofs.LaneMoves.{Within, lanes_out_taken, lanes_back_taken, lanes_handed, lanes_forced, lanes_cut, lanes_joined}
-use Rattle.lagmodel.proofs.LaneMoves.{lanes_emptied, lanes_restarted, lanes_first}
+use Rattle.lagmodel.proofs.LaneMoves.{Within, lanes_out_taken, lanes_back_taken, lanes_handed, lanes_forced, lanes_cut, lanes_joined, lanes_emptied, lanes_restarted, lanes_first}
 use Rattle.lagmodel.proofs.Stamps.{heard_first, stamps_out_taken, stamps_cut, stamps_emptied, stamps_counted, stamps_first, Stamps}
 use Rattle.lagmodel.proofs.Worlds.{Half, Lawful, Calling, calling_all}
 

@@ -1,19 +1,11 @@
 -- What follows in a world in which the facts hold.
-use Rattle.std.proofs.Common.{◌≡◌, ℕ, Bool, true, false, not, ◌&&◌, Some, List, [], ◌∷◌, sym, refl, ap, ◌∙◌, subst, inl, inr, eq-eqb}
-use Rattle.std.specs.Prelude.{option_map}
-use Rattle.std.proofs.lemmas.Bool.{true≢false, cases_Bool}
-use Rattle.std.proofs.lemmas.Option.{same_Some}
-use Rattle.lagtypes.specs.declared.party.Party.{Party}
+use Rattle.lagmodel.proofs.Common.{◌≡◌, ℕ, Bool, true, false, ◌&&◌, Some, List, [], ◌∷◌, sym, refl, ap, ◌∙◌, subst, inl, inr, eq-eqb, option_map, true≢false, cases_Bool, same_Some, Party, PortFacts, conversation_port, View, Lacp, Marker, Response, Side, One, Two, peer, Message, Control, Data, end_at, party_at, TakenLacpdu, World, WorldSetup, IsWorldSetup, serials}
+use Rattle.std.proofs.Common.{not}
 use Rattle.lagtypes.specs.Group.{individual, SamePair, pair_of, end_of}
-use Rattle.lagmodel.specs.View.{PortFacts, conversation_port, View, Lacp, Marker, Response}
-use Rattle.lagmodel.specs.World.{Side, One, Two, peer, Message, Control, Data, end_at, party_at, TakenLacpdu, World, WorldSetup}
-use Rattle.lagmodel.specs.World.{IsWorldSetup}
-use Rattle.lagmodel.specs.Law.{serials, OnePartner, EndsAgree, InOrder, LastLacpduSaysInSync, UpToDateLacpdusNameSender, OnItsCable}
-use Rattle.lagmodel.specs.Law.{FlushedByMarker, BelowNext, CollectedThenInFlight}
+use Rattle.lagmodel.specs.Law.{OnePartner, EndsAgree, InOrder, LastLacpduSaysInSync, UpToDateLacpdusNameSender, OnItsCable, FlushedByMarker, BelowNext, CollectedThenInFlight}
 use Rattle.lagmodel.proofs.Base.{same_value, cond_false}
 use Rattle.lagmodel.proofs.Ports.{one_partner}
-use Rattle.lagmodel.proofs.Lines.{IsFrom, Every, every_contains, MarkerBelow, ResponseBelow, answers, NoneBehind, behind_split, is_of}
-use Rattle.lagmodel.proofs.Lines.{is_of-true}
+use Rattle.lagmodel.proofs.Lines.{IsFrom, Every, every_contains, MarkerBelow, ResponseBelow, answers, NoneBehind, behind_split, is_of, is_of-true}
 use Rattle.lagmodel.proofs.Orderly.{handed_front}
 use Rattle.lagmodel.proofs.Stamps.{Fresh, FreshPdu}
 use Rattle.lagmodel.proofs.Worlds.{Lawful}

@@ -1,17 +1,13 @@
 -- The ports of one system: the members of an aggregator have its key and one group.
-use Rattle.std.proofs.Common.{◌≡◌, ℕ, Bool, true, false, cond, eqb, Option, Some, None, IsSome, IsSomeAnd, sym, refl, ap, ◌∙◌, subst}
-use Rattle.std.proofs.Common.{◌⊎◌, inl, inr, eqb-true}
-use Rattle.std.specs.Prelude.{option_map, is_some}
-use Rattle.std.proofs.lemmas.Bool.{eqb-false, cases_eq, false≢true, and_parts}
-use Rattle.std.proofs.lemmas.Option.{none-some, same_Some}
+use Rattle.lagmodel.proofs.Common.{◌≡◌, ℕ, Bool, true, false, cond, eqb, Option, Some, None, IsSomeAnd, sym, refl, ap, ◌∙◌, subst, ◌⊎◌, inl, inr, eqb-true, option_map, eqb-false, false≢true, none-some, same_Some, Party, PortFacts, SystemSetup, IsSystemSetup, first_port, first_view, ModelCall, at_port, View, PortMove, Stop, Leave, Desynchronize, Reconfigure, Default, Take, Join, Distribute, Announce, Respond, PortAllowed, port_after, Members}
+use Rattle.std.proofs.Common.{IsSome}
+use Rattle.std.specs.Prelude.{is_some}
+use Rattle.std.proofs.lemmas.Bool.{cases_eq, and_parts}
 use Rattle.lagtypes.specs.declared.identifiers.PortId.{PortId}
-use Rattle.lagtypes.specs.declared.party.Party.{Party}
 use Rattle.lagtypes.specs.Group.{individual, Pair, SamePair, pair_of}
 use Rattle.lagtypes.specs.declared.group.End.{End}
-use Rattle.lagmodel.specs.View.{PortFacts, SystemSetup, IsSystemSetup, first_port, first_view, ModelCall, at_port, View}
-use Rattle.lagmodel.specs.Move.{PortMove, Stop, Leave, Desynchronize, Reconfigure, Default, Take, Join, Distribute, Announce, Respond}
-use Rattle.lagmodel.specs.Move.{pair_at, PortAllowed, port_after}
-use Rattle.lagmodel.specs.Law.{OnePartner, Members}
+use Rattle.lagmodel.specs.Move.{pair_at}
+use Rattle.lagmodel.specs.Law.{OnePartner}
 use Rattle.lagmodel.proofs.Base.{no_value, none-is_some, same_value, value_of, mapped_some, chosen}
 
 pub group_sym : (g h : Pair) → SamePair g h → SamePair h g

@@ -1,14 +1,11 @@
 -- Runs of worlds, for a crate of two systems. A call of one of them as an event: calls_from, no_call. Cables:
 -- end_there, put_on, put_nowhere. One side: itself, self. Worlds: same_world, same_view, runs_joined. What holds after
 -- a run: `lawful` of Events, and the lemma of each fact in Laws.
-use Rattle.std.proofs.Common.{◌≡◌, ℕ, zero, suc, Bool, true, false, cond, ◌&&◌, Option, Some, None, List, [], ◌∷◌, ◌++◌, map, sym, refl}
-use Rattle.std.proofs.Common.{ap, ◌∙◌, subst, ◌⊎◌, inl, inr, eq-eqb}
+use Rattle.lagmodel.proofs.Common.{◌≡◌, ℕ, zero, suc, Bool, true, false, cond, ◌&&◌, Option, Some, None, List, [], ◌∷◌, ◌++◌, sym, refl, ap, ◌∙◌, subst, ◌⊎◌, inl, inr, eq-eqb, none-some, View, ModelCall, Act, Move, view_after, act, AllAllowed, view_after_all, LawfulMoves, end_at, Message, Event, Run, put_on_cable, at_cable, Side, One, Two, peer, World, WorldSetup, world_after, AllMoves, world_after_all, CallHappens}
+use Rattle.std.proofs.Common.{map}
 use Rattle.std.specs.Prelude.{option_to_list, slice_get}
-use Rattle.std.proofs.lemmas.Option.{none-some}
-use Rattle.lagmodel.specs.View.{View, ModelCall}
-use Rattle.lagmodel.specs.Move.{Act, Move, view_after, act, AllAllowed, view_after_all, acts, LawfulMoves}
-use Rattle.lagmodel.specs.World.{Ends, port_on, end_at, Message, Event, Run, put_on_cable, is_port, at_cable, Side, One, Two, peer}
-use Rattle.lagmodel.specs.World.{at_side, World, WorldSetup, world_after, AllMoves, world_after_all, CountsChanges, CallHappens}
+use Rattle.lagmodel.specs.Move.{acts}
+use Rattle.lagmodel.specs.World.{Ends, port_on, is_port, at_side, CountsChanges}
 use Rattle.lagmodel.specs.Bridge.{world_after_call}
 use Rattle.lagmodel.proofs.Base.{mapped_some, cond_true}
 use Rattle.lagmodel.proofs.Lines.{put_cases}

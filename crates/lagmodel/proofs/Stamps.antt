@@ -1,16 +1,9 @@
 -- The Actor of an LACPDU is its sender, and the partner that a port recorded is the sender of an LACPDU.
-use Rattle.std.proofs.Common.{◌≡◌, ◌≢◌, ℕ, suc, ◌≤◌, Bool, true, false, eqb, Option, Some, None, IsSomeAnd, List, [], ◌∷◌, length, sym}
-use Rattle.std.proofs.Common.{refl, ap, ◌∙◌, subst, ◌⊎◌, inl, inr, arith, eqb-true}
-use Rattle.std.specs.Prelude.{option_map}
-use Rattle.std.proofs.lemmas.Bool.{eqb-false, true≢false, false≢true, cases_Bool}
-use Rattle.std.proofs.lemmas.Option.{none-some, same_Some}
-use Rattle.lagtypes.specs.declared.party.Party.{Party}
-use Rattle.lagmodel.specs.View.{PortFacts, DistributorFacts, View, SystemSetup, first_port, first_view, LacpMessage, Lacp, Marker}
-use Rattle.lagmodel.specs.View.{Response, ModelCall, at_port, is_restart, replies_frame}
-use Rattle.lagmodel.specs.Move.{Took, PortMove, Stop, Leave, Desynchronize, Reconfigure, Default, Take, Join, Distribute, Announce}
-use Rattle.lagmodel.specs.Move.{Respond, DistributorMove, Send, Mark, Become, distributor_act, Move, Port, Flow, Restart, PortAllowed}
-use Rattle.lagmodel.specs.Move.{port_after, port_act, MoveAllowed, view_after, act, act_of_port}
-use Rattle.lagmodel.specs.World.{Side, Message, Control, Data, put_on_cable, at_cable, on_cable_after, taken_after, TakenLacpdu, party_at}
+use Rattle.lagmodel.proofs.Common.{◌≡◌, ◌≢◌, ℕ, suc, Bool, true, false, eqb, Option, Some, None, IsSomeAnd, List, [], ◌∷◌, length, sym, refl, ap, ◌∙◌, subst, ◌⊎◌, inl, inr, arith, eqb-true, option_map, eqb-false, true≢false, false≢true, cases_Bool, none-some, same_Some, Party, PortFacts, DistributorFacts, View, SystemSetup, first_port, first_view, Lacp, Marker, Response, ModelCall, at_port, is_restart, replies_frame, PortMove, Stop, Leave, Desynchronize, Reconfigure, Default, Take, Join, Distribute, Announce, Respond, DistributorMove, Send, Mark, distributor_act, Move, Port, Flow, Restart, PortAllowed, port_after, MoveAllowed, view_after, act, act_of_port, Side, Message, Control, Data, put_on_cable, at_cable, on_cable_after, TakenLacpdu, party_at}
+use Rattle.std.proofs.Common.{◌≤◌}
+use Rattle.lagmodel.specs.View.{LacpMessage}
+use Rattle.lagmodel.specs.Move.{Took, Become, port_act}
+use Rattle.lagmodel.specs.World.{taken_after}
 use Rattle.lagmodel.proofs.Base.{cond_true, cond_false, value_of, mapped_some}
 use Rattle.lagmodel.proofs.Ports.{changed_port}
 use Rattle.lagmodel.proofs.Lines.{Every, every_push, every_weaker, put_cases}

@@ -1,16 +1,10 @@
 -- What the code of one system cites, to show that it keeps to the lawful moves. Moves of the system: moves_joined,
 -- moves_port, moves_flows, moves_at (of a port in a list). Moves of its conversations: flows_become (many at once),
 -- flows_weaker. Ports that are a list: find_at, ports_set, numbered_set.
-use Rattle.std.proofs.Common.{◌≡◌, ℕ, zero, suc, true, false, cond, eqb, Option, Some, None, List, [], ◌∷◌, ◌++◌, map, set, sym, refl}
-use Rattle.std.proofs.Common.{ap, ◌∙◌, subst, inl, inr, append_assoc, eqb-true, eq-eqb}
-use Rattle.std.specs.Prelude.{option_map, option_to_list, slice_get, IsSomeAnd}
-use Rattle.std.proofs.lemmas.Bool.{cases_Bool}
-use Rattle.std.proofs.lemmas.Option.{none-some, same_Some}
-use Rattle.lagmodel.specs.View.{PortFacts, Conversation, DistributorFacts, View, SystemSetup, ModelCall, at_port, at_conversation}
-use Rattle.lagmodel.specs.Move.{DistributorMoveAllowed, Act, PortMove, PortAllowed, port_after, port_act, ConversationMoveAllowed}
-use Rattle.lagmodel.specs.Move.{conversation_after, DistributorMove, distributor_after, distributor_act, DistributorMovesAllowed}
-use Rattle.lagmodel.specs.Move.{distributor_after_all, distributor_acts, DistributorMoves, Move, Port, Flow, Distributes, view_after}
-use Rattle.lagmodel.specs.Move.{act, act_of_port, AllAllowed, view_after_all, acts, LawfulMoves}
+use Rattle.lagmodel.proofs.Common.{◌≡◌, ℕ, zero, suc, true, false, cond, eqb, Option, Some, None, List, [], ◌∷◌, ◌++◌, sym, refl, ap, ◌∙◌, subst, inl, inr, eqb-true, eq-eqb, option_map, IsSomeAnd, cases_Bool, none-some, same_Some, PortFacts, Conversation, DistributorFacts, View, SystemSetup, ModelCall, at_port, at_conversation, DistributorMoveAllowed, Act, PortMove, PortAllowed, port_after, DistributorMove, distributor_after, distributor_act, Move, Port, Flow, Distributes, view_after, act, act_of_port, AllAllowed, view_after_all, LawfulMoves}
+use Rattle.std.proofs.Common.{map, set, append_assoc}
+use Rattle.std.specs.Prelude.{option_to_list, slice_get}
+use Rattle.lagmodel.specs.Move.{port_act, ConversationMoveAllowed, conversation_after, DistributorMovesAllowed, distributor_after_all, distributor_acts, DistributorMoves, acts}
 use Rattle.lagmodel.specs.Bridge.{BecomeByMoves, find_number, AreNumbered, ports_of}
 use Rattle.lagmodel.proofs.Base.{cond_true, cond_false}
 use Rattle.lagmodel.proofs.Lanes.{conversation_cases}

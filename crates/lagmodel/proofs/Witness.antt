@@ -1,15 +1,8 @@
 -- A run in which two systems agree and a frame arrives: the headline is not empty.
-use Rattle.std.proofs.Common.{◌≡◌, ℕ, zero, suc, Bool, true, false, cond, eqb, Option, Some, None, List, [], ◌∷◌, sym, refl, ap, ◌∙◌}
-use Rattle.std.proofs.Common.{◌≢◌, inl, inr, arith, eqb-true}
-use Rattle.std.proofs.lemmas.Option.{none-some, same_Some}
-use Rattle.std.proofs.lemmas.Bool.{false≢true}
+use Rattle.lagmodel.proofs.Common.{◌≡◌, ℕ, zero, suc, Bool, true, false, cond, eqb, Option, Some, None, List, [], ◌∷◌, sym, refl, ap, ◌∙◌, ◌≢◌, inl, inr, arith, eqb-true, none-some, same_Some, false≢true, Party, PortFacts, SystemSetup, Lacp, first_port, first_view, ModelCall, Receive, at_port, is_restart, replies_frame, Move, Port, Flow, Announce, Take, Join, Distribute, Send, port_after, Side, One, Two, World, WorldSetup, IsWorldSetup, first_world, party_at, world_after, AllMoves, world_after_all, CallHappens, with_messages, handed_up, Data, Event, Happens}
 use Rattle.lagtypes.specs.declared.identifiers.SystemId.{SystemId}
-use Rattle.lagtypes.specs.declared.party.Party.{Party}
-use Rattle.lagmodel.specs.View.{zero_party, PortFacts, SystemSetup, LacpMessage, Lacp, first_port, first_view, ModelCall, Receive}
-use Rattle.lagmodel.specs.View.{at_port, is_restart, replies_frame}
-use Rattle.lagmodel.specs.Move.{Move, Port, Flow, Announce, Take, Join, Distribute, Send, port_after}
-use Rattle.lagmodel.specs.World.{Side, One, Two, IsCabling, World, WorldSetup, IsWorldSetup, first_world, party_at, world_after}
-use Rattle.lagmodel.specs.World.{AllMoves, world_after_all, CallHappens, with_messages, handed_up, Data, Event, Happens}
+use Rattle.lagmodel.specs.View.{zero_party, LacpMessage}
+use Rattle.lagmodel.specs.World.{IsCabling}
 use Rattle.lagmodel.specs.Law.{SomethingArrives}
 use Rattle.lagmodel.proofs.Base.{chosen, mapped_some}
 use Rattle.lagmodel.proofs.Ports.{changed_port}

@@ -1,12 +1,6 @@
 -- What every event of two systems preserves.
-use Rattle.std.proofs.Common.{◌≡◌, ℕ, Bool, true, false, Option, List, [], ◌∷◌, sym, ◌∙◌}
-use Rattle.std.proofs.lemmas.Bool.{true≢false}
-use Rattle.lagtypes.specs.declared.party.Party.{Party}
-use Rattle.lagmodel.specs.View.{View, SystemSetup, ModelCall, replies_frame, is_restart}
-use Rattle.lagmodel.specs.Move.{Move, Port, Flow, Restart, MoveAllowed, view_after, act}
-use Rattle.lagmodel.specs.World.{Side, One, Two, peer, Message, end_at, TakenLacpdu, World, WorldSetup, party_at, on_cable_after}
-use Rattle.lagmodel.specs.World.{sent_after, taken_after, world_after, AllMoves, world_after_all}
-use Rattle.lagmodel.specs.Law.{Members}
+use Rattle.lagmodel.proofs.Common.{◌≡◌, ℕ, Bool, true, false, Option, List, [], ◌∷◌, sym, ◌∙◌, true≢false, Party, View, SystemSetup, ModelCall, replies_frame, is_restart, Move, Port, Flow, Restart, MoveAllowed, view_after, act, Side, One, Two, peer, Message, end_at, TakenLacpdu, World, WorldSetup, party_at, on_cable_after, sent_after, world_after, AllMoves, world_after_all, Members}
+use Rattle.lagmodel.specs.World.{taken_after}
 use Rattle.lagmodel.proofs.Ports.{members_kept}
 use Rattle.lagmodel.proofs.Lanes.{Lanes}
 use Rattle.lagmodel.proofs.LaneMoves.{Within, lanes_own, lanes_peer}

@@ -3,6 +3,7 @@ use Rattle.std.proofs.Common.{◌≡◌, ◌∙◌, ℕ, zero, suc, ◌<◌, Boo
 use Rattle.std.proofs.Common.{slice_set, refl, subst, sym, ap, arith}
 use Rattle.std.specs.List.{list_any}
 use Rattle.std.proofs.lemmas.Option.{same_Some}
+use Rattle.std.proofs.lemmas.Bool.{or_parts}
 use Rattle.lagtypes.specs.declared.party.Choice.{Choice}
 use Rattle.lagtypes.specs.declared.party.Choice.TheVariants.{Unselected, Selected, Standby}
 use Rattle.lagtypes.specs.Choices.{is_selected, is_unselected}
@@ -13,7 +14,7 @@ use Rattle.selection.specs.Limits.{AggregatorsValue}
 use Rattle.lagsystem.specs.declared.system_ports.SystemPort.{SystemPort}
 use Rattle.lagsystem.specs.Settling.{after_choice_at, after_choices, with_choice}
 use Rattle.lagsystem.specs.Views.{selection_view, views}
-use Rattle.lagsystem.proofs.SettlingLemmas.{none_taken, or_false}
+use Rattle.lagsystem.proofs.SettlingLemmas.{none_taken}
 
 abbrev one_eligible : List SystemPort → Bool
 one_eligible system_ports = list_any (λ s. is_eligible (selection_view s)) system_ports
@@ -37,8 +38,8 @@ not_here : (system_ports : List SystemPort) (i : ℕ) (s : SystemPort) → one_e
     → is_eligible (selection_view s) ≡ false
 not_here [] i s h e = cc
 not_here (x ∷ xs) zero s h e = let same : x ≡ s = same_Some x s e in subst (λ y. is_eligible (selection_view y) ≡ false) same
-    (or_false (is_eligible (selection_view x)) (one_eligible xs) h).0
-not_here (x ∷ xs) (suc i) s h e = not_here xs i s (or_false (is_eligible (selection_view x)) (one_eligible xs) h).1 e
+    (or_parts (is_eligible (selection_view x)) (one_eligible xs) h).0
+not_here (x ∷ xs) (suc i) s h e = not_here xs i s (or_parts (is_eligible (selection_view x)) (one_eligible xs) h).1 e
 
 stays_at : (aggs : AggregatorsValue) (system_ports : List SystemPort) (i : ℕ) (o : Option SystemPort) → one_eligible system_ports ≡ false
     → slice_get system_ports i ≡ o → system_ports ≡ after_choice_at aggs system_ports i o
@@ -80,5 +81,5 @@ selected_not_eligible v h = chosen v.choice h
 pub none_left_eligible : (l : List SystemPort) → list_any (λ s. not (is_selected s.port.choice)) l ≡ false → one_eligible l ≡ false
 none_left_eligible [] h = refl
 none_left_eligible (s ∷ ss) h =
-    let both = or_false (not (is_selected s.port.choice)) (list_any (λ s. not (is_selected s.port.choice)) ss) h in
+    let both = or_parts (not (is_selected s.port.choice)) (list_any (λ s. not (is_selected s.port.choice)) ss) h in
     ap (λ b. b || one_eligible ss) (selected_not_eligible (selection_view s) both.0) ∙ none_left_eligible ss both.1

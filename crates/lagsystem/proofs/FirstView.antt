@@ -3,7 +3,7 @@ use Rattle.std.proofs.Common.{◌≡◌, ℕ, zero, suc, Bool, true, false, cond
 use Rattle.std.proofs.Common.{subst, ap, ◌⊎◌, inl, inr}
 use Rattle.std.specs.Prelude.{◌&&◌, not, if◌then◌else◌, option_map, slice_get, slice_set}
 use Rattle.std.specs.List.{AllZip, AllByRecursion}
-use Rattle.std.proofs.lemmas.Bool.{and_parts, true≢false}
+use Rattle.std.proofs.lemmas.Bool.{and_parts, and_left, and_right}
 use Rattle.lagtypes.specs.declared.identifiers.SystemId.{SystemId}
 use Rattle.lagtypes.specs.declared.party.Party.{Party}
 use Rattle.lagtypes.specs.declared.party.Choice.TheVariants.{Unselected, Standby}
@@ -165,26 +165,18 @@ stays : (rows : List Row) (n : ℕ) (p q : Machines) → AtRest rows p → Fires
 stays rows zero p q r run = run
 stays rows (suc n) p q r run = absurd (never rows run.0 q (subst (AtRest rows) (sym (stays rows n p run.0 r run.1)) r) run.2)
 
-and_no : (a b : Bool) → a ≡ false → (a && b) ≡ false
-and_no true b e = absurd (true≢false e)
-and_no false b e = refl
-
-and_none : (a b : Bool) → b ≡ false → (a && b) ≡ false
-and_none true b e = e
-and_none false b e = refl
-
 idle_mux : (ready : Bool) (party : Party) (p q : Machines) → Idle party p → RunsToRest (mux_rows ready) p q → q ≡ p
 idle_mux ready party p q x h = stays (mux_rows ready) h.0 p q (
-  and_none (same_mux_state Detached p.mux) (not (is_unselected p.choice)) (ap (λ c. not (is_unselected c)) x.nobody),
+  and_right (same_mux_state Detached p.mux) (not (is_unselected p.choice)) (ap (λ c. not (is_unselected c)) x.nobody),
   (
-    and_no (same_mux_state Waiting p.mux) _ (ap (same_mux_state Waiting) x.detached),
+    and_left (same_mux_state Waiting p.mux) _ (ap (same_mux_state Waiting) x.detached),
     (
-      and_no (same_mux_state Waiting p.mux) _ (ap (same_mux_state Waiting) x.detached),
+      and_left (same_mux_state Waiting p.mux) _ (ap (same_mux_state Waiting) x.detached),
       (
-        and_no (same_mux_state Attached p.mux) _ (ap (same_mux_state Attached) x.detached),
+        and_left (same_mux_state Attached p.mux) _ (ap (same_mux_state Attached) x.detached),
         (
-          and_no (same_mux_state Attached p.mux) _ (ap (same_mux_state Attached) x.detached),
-          (and_no (same_mux_state CollectingDistributing p.mux) _ (ap (same_mux_state CollectingDistributing) x.detached), tt),
+          and_left (same_mux_state Attached p.mux) _ (ap (same_mux_state Attached) x.detached),
+          (and_left (same_mux_state CollectingDistributing p.mux) _ (ap (same_mux_state CollectingDistributing) x.detached), tt),
         ),
       ),
     ),

@@ -1,6 +1,6 @@
 -- To force what is held on a port frees just that, and counts it.
 use Rattle.std.proofs.Common.{◌≡◌, ◌∙◌, ℕ, zero, suc, ◌+◌, ◌<◌, ◌≤◌, ◌⊎◌, inl, inr, Bool, true, false, cond, eqb, ◌&&◌, length, Ok, Err, Result}
-use Rattle.std.proofs.Common.{Option, Some, None, refl, sym, ap, arith, subst, if◌then◌else◌}
+use Rattle.std.proofs.Common.{Option, None, refl, sym, ap, arith, subst, if◌then◌else◌}
 use Rattle.std.specs.Prelude.{◌==◌, nat_lt}
 use Rattle.std.proofs.lemmas.Bool.{and_parts, cases_Bool, eqb-true, true≢false}
 use Rattle.std.proofs.lemmas.Bool.Decides.{nat_tests}
@@ -12,12 +12,11 @@ use Rattle.distributor.specs.declared.assignment.Assignment.TheVariants.{Free, O
 use Rattle.distributor.specs.declared.fault.DistFault.{DistFault}
 use Rattle.distributor.specs.declared.fault.DistFault.TheVariants as dist
 use Rattle.distributor.specs.Calls.{force_result}
-use Rattle.distributor.specs.Changes.{SetsAssignment}
-use Rattle.distributor.specs.Conversations.{IsConversation, Table, assignment_of, sum_below}
+use Rattle.distributor.specs.Conversations.{Table, assignment_of, sum_below}
 use Rattle.lagsystem.specs.declared.fault.SystemFault.{SystemFault}
 use Rattle.lagsystem.specs.declared.fault.SystemFault.TheVariants.{NoAggregator}
 use Rattle.lagsystem.specs.Forcing.{ForcesFirst, ForcesIfHeld, ForcesIn, ForcesPort, FreesHeld, NoneIsHeldOn, after_forcing, count_held_on, is_held_on}
-use Rattle.lagsystem.specs.Offers.{GivesAssignment, GivesOrRefuses, has_aggregator, in_system, or_not_assigned, system_force_result}
+use Rattle.lagsystem.specs.Offers.{GivesAssignment, GivesOrRefuses, has_aggregator, in_system, system_force_result}
 use Rattle.lagsystem.specs.Readers.{aggregator_numbered, conversation_count}
 use Rattle.lagsystem.specs.Sound.{IsSound}
 use Rattle.lagsystem.specs.State.{SystemState, with_table}

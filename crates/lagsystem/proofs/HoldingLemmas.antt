@@ -2,6 +2,7 @@
 use Rattle.std.proofs.Common.{◌≡◌, ℕ, zero, suc, ◌+◌, ◌<◌, Bool, true, false, ◌==◌, ◌||◌, ◌&&◌, if◌then◌else◌, List, [], ◌∷◌, length}
 use Rattle.std.proofs.Common.{take, get_or, Option, None, refl, sym, ◌∙◌, ap, arith, add-one, inl, inr}
 use Rattle.std.proofs.lemmas.Bool.{cases_eq, eq-eqb, ne_eqb}
+use Rattle.std.proofs.Math.Bool.{and-true}
 use Rattle.lagtypes.specs.declared.identifiers.AggId.{AggId}
 use Rattle.distributor.specs.declared.assignment.Assignment.{Assignment}
 use Rattle.distributor.specs.declared.assignment.Assignment.TheVariants.{Free, On, Wanted, Flushing}
@@ -64,10 +65,6 @@ leave_same f g e (On p) = ap (λ b. if b then Wanted p None else On p) (sym (e p
 leave_same f g e (Wanted p preferred) = refl
 leave_same f g e (Flushing p id preferred age) = refl
 
-and_true : (b : Bool) → (b && true) ≡ b
-and_true true = refl
-and_true false = refl
-
 or_none : (a b : Bool) → (a || (b && false)) ≡ a
 or_none true b = refl
 or_none false true = refl
@@ -86,7 +83,7 @@ left_more before system_ports i d e old mid new l same h stops k =
     let g = stopped (take (i + 1) before) (take (i + 1) system_ports) in
     let more : (p : ℕ) → g p ≡ (f p || (n == p)) =
     λ p. stopped_more before system_ports i d e p l same ∙ ap (λ b. f p || ((n == p) && b)) stops
-    ∙ ap (λ b. f p || b) (and_true (n == p)) in
+    ∙ ap (λ b. f p || b) (and-true (n == p)) in
     record {
       aggs = k.aggs ∙ h.aggs;
       conversations = k.conversations ∙ h.conversations;

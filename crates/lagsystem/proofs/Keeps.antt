@@ -1,12 +1,11 @@
 -- Every call preserves the configuration of a system, and the numbers of its ports.
-use Rattle.std.proofs.Common.{◌≡◌, ◌∙◌, ℕ, zero, suc, ◌≤◌, Bool, true, false, List, [], ◌∷◌, Option, Some, None, Result, Ok, Err, ◌⊎◌}
+use Rattle.std.proofs.Common.{◌≡◌, ◌∙◌, ℕ, zero, suc, ◌≤◌, Bool, true, false, List, [], ◌∷◌, Option, Some, None, ◌⊎◌}
 use Rattle.std.proofs.Common.{inl, inr, length, ap, sym, refl, subst, arith}
 use Rattle.std.specs.Prelude.{if◌then◌else◌, nat_le, slice_get, slice_set}
 use Rattle.std.specs.List.{AllZip}
-use Rattle.std.proofs.lemmas.Bool.{and_parts, false≢true}
+use Rattle.std.proofs.lemmas.Bool.{and_parts}
 use Rattle.std.proofs.lemmas.Bool.Decides.{nat_tests}
 use Rattle.std.proofs.lemmas.List.{length-map}
-use Rattle.lagtypes.specs.declared.identifiers.AggId.{AggId}
 use Rattle.lagtypes.specs.declared.identifiers.Key.{Key}
 use Rattle.lagtypes.specs.declared.identifiers.SystemId.{SystemId}
 use Rattle.portmachines.specs.Machines.{Machines}
@@ -14,23 +13,18 @@ use Rattle.portmachines.specs.Mux.{mux_rows}
 use Rattle.portmachines.specs.Periodic.{RunsPeriodic}
 use Rattle.portmachines.specs.Receive.{receive_rows}
 use Rattle.portmachines.specs.Rows.{RunsToRest}
-use Rattle.portmachines.specs.Transmit.{count_down, is_due, after_sending}
-use Rattle.slowpdu.specs.declared.pdu.Marker.{Marker}
-use Rattle.distributor.specs.declared.assignment.Assignment.{Assignment}
+use Rattle.portmachines.specs.Transmit.{count_down, after_sending}
 use Rattle.distributor.specs.declared.assignment.Assignment.TheVariants.{Free}
-use Rattle.distributor.specs.Changes.{marker_due}
 use Rattle.distributor.specs.Conversations.{Table, first_table, assignment_of}
 use Rattle.distributor.proofs.TableLemmas.{first_free}
 use Rattle.lagsystem.specs.Readers.{aggregator_numbered, distributing}
-use Rattle.lagsystem.specs.declared.received.FrameEffect.{FrameEffect}
-use Rattle.lagsystem.specs.declared.received.FrameEffect.TheVariants.{ProcessLacpdu, Response, Answered}
-use Rattle.lagsystem.specs.declared.received.Received.{Received}
 use Rattle.lagsystem.specs.declared.config.PortConfig.{PortConfig}
 use Rattle.lagsystem.specs.declared.fault.BadConfig.{BadConfig}
 use Rattle.lagsystem.specs.declared.system_ports.SystemPort.{SystemPort}
 use Rattle.lagsystem.specs.State.{SystemState, aggregators_value, with_system_ports, with_table, port_index}
 use Rattle.lagsystem.specs.Settling.{PortsChangeBy, OnlyPortsChangeBy, HoldsConversations, Settling, SettlesPorts, after_choices}
 use Rattle.lagsystem.specs.Settling.{ChoosesIn, PromotesFirst, choice_for, with_choice, held_unless_on, ready_of}
+use Rattle.lagsystem.proofs.Preserves.{Preserves, Step-preserves}
 use Rattle.lagsystem.proofs.PromotionLemmas.{KeptByChoices, choices_keep, choosing_keeps, promotions_keep}
 use Rattle.lagtypes.specs.declared.party.Choice.{Choice}
 use Rattle.lagtypes.specs.declared.party.Choice.TheVariants.{Selected}
@@ -42,13 +36,9 @@ use Rattle.lagsystem.specs.declared.config.Config.{Config}
 use Rattle.lagsystem.specs.Sound.{HasPorts}
 use Rattle.lagsystem.specs.State.{port_numbers}
 use Rattle.lagsystem.specs.declared.drive.Reply.{Reply}
-use Rattle.lagsystem.specs.declared.drive.Reply.TheVariants as reply
-use Rattle.lagsystem.specs.declared.fault.SystemFault.{SystemFault}
-use Rattle.lagsystem.specs.Offers.{GivesOrRefuses, Offers, system_force_result, system_move_result}
-use Rattle.lagsystem.specs.Sending.{TransmitsAt, SendsMarkerOf, TransmitsIf}
-use Rattle.lagsystem.specs.Calls.{Call, Tick, Set_link, Receive, Configure, Restart, Transmit, Offer, Move_conversation, Force, Ticks}
-use Rattle.lagsystem.specs.Calls.{SetsPortEnabled, ChangesParty, FreesIfDown, SetsLink, PortAtChangesBy, OnlyPortChangesBy, Releases}
-use Rattle.lagsystem.specs.Calls.{ThenSettles, ProcessesLacpdu, Performs, Step, is_own_response}
+use Rattle.lagsystem.specs.Calls.{Call, Ticks}
+use Rattle.lagsystem.specs.Calls.{SetsPortEnabled, ChangesParty, FreesIfDown, SetsLink, PortAtChangesBy, OnlyPortChangesBy}
+use Rattle.lagsystem.specs.Calls.{ThenSettles, ProcessesLacpdu, Step}
 use Rattle.lagsystem.proofs.Rising.{if_then}
 
 pub record Keeps (old new : SystemState) : Type 0 where
@@ -213,49 +203,6 @@ keeps_link n up old new h = record {
   conversations = frees_conversations up n old.table new.table h.1;
 }
 
-keeps_marker : (o : Option ℕ) (port : ℕ) (mac : List ℕ) (old : SystemState) (answer : Option (List ℕ)) (new : SystemState)
-    → SendsMarkerOf o port mac old answer new → Keeps old new
-keeps_marker None port mac old answer new h = keeps_stays old new h.1
-keeps_marker (Some id) port mac old answer new h = keeps_table old new h.5 h.4.aggs h.4.conversations
-
-keeps_where : (up due : Bool) (i : ℕ) (system_port : SystemPort) (old : SystemState) (answer : Option (List ℕ)) (new : SystemState)
-    → slice_get old.system_ports i ≡ Some system_port → TransmitsIf up due i system_port old answer new → Keeps old new
-keeps_where false due i system_port old answer new e h = keeps_stays old new h.1
-keeps_where true true i system_port old answer new e h =
-    let sends : SystemPort = record system_port { port = after_sending system_port.port } in
-    let system_ports : new.system_ports ≡ slice_set old.system_ports i sends = ap (λ (s : SystemState). s.system_ports) h.3 in
-    keeps_slots old new (h.3 ∙ ap (with_system_ports old) (sym system_ports)) (ap port_numbers system_ports
-    ∙ numbers_set old.system_ports i system_port sends e refl)
-keeps_where true false i system_port old answer new e h = keeps_marker (marker_due old.table system_port.number) system_port.number
-    system_port.mac old answer new h
-
-pub keeps_sends : (o : Option ℕ) (old : SystemState) (answer : Option (List ℕ)) (new : SystemState)
-    → TransmitsAt o old answer new → Keeps old new
-keeps_sends None old answer new h = absurd h
-keeps_sends (Some i) old answer new h = keeps_where h.0.port.enabled (is_due h.0.port) i h.0 old answer new h.1 h.2
-
-keeps_releases : (b : Bool) (port : ℕ) (m : Marker) (old : SystemState) (answer : Received) (new : SystemState)
-    → Releases b port m old answer new → Keeps old new
-keeps_releases false port m old answer new h = keeps_stays old new h.1
-keeps_releases true port m old answer new h = keeps_table old new h.2 h.1.aggs h.1.conversations
-
-pub keeps_does : (effect : FrameEffect) (port : ℕ) (o : Option ℕ) (old : SystemState) (answer : Received) (new : SystemState)
-    → Performs effect port o old answer new → Keeps old new
-keeps_does (ProcessLacpdu v) port o old answer new h = keeps_settled (OnlyPortChangesBy o (ProcessesLacpdu v)) old new
-    (λ mid own. keeps_place (ProcessesLacpdu v) o old mid own) h.1
-keeps_does (Response m) port o old answer new h = keeps_releases (is_own_response old port m) port m old answer new h
-keeps_does (Answered a) port o old answer new h = keeps_stays old new h.1
-
-pub keeps_offers : (gives : ℕ → ℕ → ℕ → Type 0) (agg : AggId) (octets : List ℕ) (old : SystemState) (answer : Result ℕ SystemFault)
-    (new : SystemState) → Offers gives agg octets old answer new → Keeps old new
-keeps_offers gives agg octets old (Ok port) new h = keeps_table old new h.2.1 h.2.0.aggs h.2.0.conversations
-keeps_offers gives agg octets old (Err fault) new h = keeps_stays old new h.1
-
-pub keeps_becomes : (agg : AggId) (conv : ℕ) (what : Result Assignment SystemFault) (old : SystemState) (answer : Result Unit SystemFault)
-    (new : SystemState) → GivesOrRefuses agg conv what old answer new → Keeps old new
-keeps_becomes agg conv (Ok state) old answer new h = keeps_table old new h.1.1 h.1.0.aggs h.1.0.conversations
-keeps_becomes agg conv (Err fault) old answer new h = keeps_stays old new h.1
-
 new_numbers : (system : SystemId) (ports : List PortConfig) (system_ports : List SystemPort)
     → AllZip (HasJustStarted system) ports system_ports → port_numbers system_ports ≡ configured_numbers ports
 new_numbers system [] [] h = refl
@@ -276,82 +223,66 @@ ports_kept old new k s = record {
 pub ports_first : (s : SystemState) → refusal s.keys s.ports s.max_links s.conversations ≡ None → IsFirst s → HasPorts s
 ports_first s a h = record { accepted = a; same = first_numbers s h }
 
--- every call but a restart keeps the configuration
-pub Step-keeps : (gives : ℕ → ℕ → ℕ → Type 0) (old : SystemState) (call : Call) (answer : Reply) (new : SystemState) → (call ≡ Restart → ⊥)
-    → Step gives old call answer new → Keeps old new
-Step-keeps gives old Tick reply.Tick new n h = keeps_settled Ticks old new (λ mid own. keeps_tick old mid own) h
-Step-keeps gives old (Set_link p up) (reply.SetLink (Ok done)) new n h = keeps_settled (SetsLink p up) old new
-    (λ mid own. keeps_link p up old mid own) h
-Step-keeps gives old (Set_link p up) (reply.SetLink (Err fault)) new n h = keeps_stays old new h.same
-Step-keeps gives old (Receive p octets) (reply.Receive (Ok answer)) new n h = keeps_does h.1 h.0.number
-    (port_index p old.system_ports) old answer new h.4
-Step-keeps gives old (Receive p octets) (reply.Receive (Err fault)) new n h = keeps_stays old new h.same
-Step-keeps gives old (Configure p change) (reply.Configure (Ok true)) new n h =
-    let o = port_index p old.system_ports in keeps_settled (OnlyPortChangesBy o (ChangesParty change)) old new
-    (λ mid own. keeps_place (ChangesParty change) o old mid own) h
-Step-keeps gives old (Configure p change) (reply.Configure (Ok false)) new n h = keeps_stays old new h.1
-Step-keeps gives old (Configure p change) (reply.Configure (Err fault)) new n h = keeps_stays old new h.same
-Step-keeps gives old Restart reply.Restart new n h = absurd (n refl)
-Step-keeps gives old (Transmit p) (reply.Transmit (Ok answer)) new n h = keeps_sends (port_index p old.system_ports) old answer new h
-Step-keeps gives old (Transmit p) (reply.Transmit (Err fault)) new n h = keeps_stays old new h.same
-Step-keeps gives old (Offer agg octets) (reply.Offer answer) new n h = keeps_offers gives agg octets old answer new h
-Step-keeps gives old (Move_conversation agg conv port) (reply.MoveConversation answer) new n h = keeps_becomes agg conv
-    (system_move_result old agg conv port) old answer new h
-Step-keeps gives old (Force agg conv) (reply.Force answer) new n h = keeps_becomes agg conv
-    (system_force_result old agg conv) old answer new h
-Step-keeps gives old call answer new n h = absurd h
+-- the state is a first one, with the configuration of the old one
+abbrev StartsAgain : SystemState → SystemState → Type 0
+StartsAgain old new = (new ≡ with_table (with_system_ports old new.system_ports) new.table) × IsFirst new
 
--- the same for each call
-abbrev pub is_restart : Call → Bool
-is_restart Restart = true
-is_restart call = false
+kept : (gives : ℕ → ℕ → ℕ → Type 0) (old : SystemState) → Preserves gives old (λ call answer new. Keeps old new ⊎ StartsAgain old new)
+kept gives old = record {
+  ports = record {
+    tick = λ new h. inl (keeps_settled Ticks old new (keeps_tick old) h);
+    link = λ n up done new h. inl (keeps_settled (SetsLink n up) old new (keeps_link n up old) h);
+    take = λ n octets v answer new told h. inl (on_port n (ProcessesLacpdu v) new h);
+    change = λ n change new h. inl (on_port n (ChangesParty change) new h);
+    restart = λ new e first. inr (e, first);
+    send = λ n i x answer octets new at e due is told set.
+        let sends : SystemPort = record x { port = after_sending x.port } in
+        let system_ports : new.system_ports ≡ slice_set old.system_ports i sends = ap (λ (s : SystemState). s.system_ports) set in
+        inl (keeps_slots old new (set ∙ ap (with_system_ports old) (sym system_ports))
+        (ap port_numbers system_ports ∙ numbers_set old.system_ports i x sends e refl));
+  };
+  same = λ call answer new none e. inl (keeps_stays old new e);
+  mark = λ n port id answer new none m e. inl (keeps_table old new e m.aggs m.conversations);
+  release = λ n port id octets answer new m e. inl (keeps_table old new e m.aggs m.conversations);
+  offer = λ agg octets port new h. inl (keeps_table old new h.2.1 h.2.0.aggs h.2.0.conversations);
+  move = λ agg conv port s answer new e h. inl (keeps_table old new h.1 h.0.aggs h.0.conversations);
+  force = λ agg conv s answer new e h. inl (keeps_table old new h.1 h.0.aggs h.0.conversations);
+}
+  where
+    on_port : (n : ℕ) (R : Machines → Machines → Type 0) (new : SystemState)
+        → ThenSettles (OnlyPortChangesBy (port_index n old.system_ports) R) old new → Keeps old new
+    on_port n R new h = let o = port_index n old.system_ports in keeps_settled (OnlyPortChangesBy o R) old new (keeps_place R o old) h
 
-restart_or_not : (call : Call) → (call ≡ Restart) ⊎ (call ≡ Restart → ⊥)
-restart_or_not Restart = inl refl
-restart_or_not Tick = inr (λ e. false≢true (ap is_restart e))
-restart_or_not (Set_link n up) = inr (λ e. false≢true (ap is_restart e))
-restart_or_not (Receive n octets) = inr (λ e. false≢true (ap is_restart e))
-restart_or_not (Configure n change) = inr (λ e. false≢true (ap is_restart e))
-restart_or_not (Transmit n) = inr (λ e. false≢true (ap is_restart e))
-restart_or_not (Offer agg octets) = inr (λ e. false≢true (ap is_restart e))
-restart_or_not (Move_conversation agg conv port) = inr (λ e. false≢true (ap is_restart e))
-restart_or_not (Force agg conv) = inr (λ e. false≢true (ap is_restart e))
-
-restarts : (gives : ℕ → ℕ → ℕ → Type 0) (old : SystemState) (answer : Reply) (new : SystemState) → Step gives old Restart answer new
-    → (new ≡ with_table (with_system_ports old new.system_ports) new.table) × IsFirst new
-restarts gives old reply.Restart new h = h
-restarts gives old answer new h = absurd h
+-- every call keeps the configuration, or starts again with it
+pub Step-keeps : (gives : ℕ → ℕ → ℕ → Type 0) (old : SystemState) (call : Call) (answer : Reply) (new : SystemState)
+    → Step gives old call answer new → Keeps old new ⊎ StartsAgain old new
+Step-keeps gives old = Step-preserves gives old (λ call answer new. Keeps old new ⊎ StartsAgain old new) (kept gives old)
 
 pub Step-frame : (gives : ℕ → ℕ → ℕ → Type 0) (old : SystemState) (call : Call) (answer : Reply) (new : SystemState)
     → Step gives old call answer new → new ≡ with_table (with_system_ports old new.system_ports) new.table
-Step-frame gives old call answer new h = elim (restart_or_not call) [
-  | inl e ↦ (restarts gives old answer new (subst (λ c. Step gives old c answer new) e h)).0
-  | inr n ↦ (Step-keeps gives old call answer new n h).frame
-]
+Step-frame gives old call answer new h = elim (Step-keeps gives old call answer new h) [ inl k ↦ k.frame | inr r ↦ r.0 ]
 
 pub Step-ports : (gives : ℕ → ℕ → ℕ → Type 0) (old : SystemState) (call : Call) (answer : Reply) (new : SystemState)
     → Step gives old call answer new → HasPorts old → HasPorts new
-Step-ports gives old call answer new h s = elim (restart_or_not call) [
-  | inl e ↦ (let r = restarts gives old answer new (subst (λ c. Step gives old c answer new) e h) in
-      ports_first new (ap (λ (x : SystemState). refusal x.keys x.ports x.max_links x.conversations) r.0 ∙ s.accepted) r.1)
-  | inr n ↦ ports_kept old new (Step-keeps gives old call answer new n h) s
+Step-ports gives old call answer new h s = elim (Step-keeps gives old call answer new h) [
+  | inl k ↦ ports_kept old new k s
+  | inr r ↦ ports_first new (ap (λ (x : SystemState). refusal x.keys x.ports x.max_links x.conversations) r.0 ∙ s.accepted) r.1
 ]
 
 -- there are as many conversations as aggregators
 pub Step-aggregators : (gives : ℕ → ℕ → ℕ → Type 0) (old : SystemState) (call : Call) (answer : Reply) (new : SystemState)
     → Step gives old call answer new → old.table.aggs ≡ length old.keys → new.table.aggs ≡ length new.keys
-Step-aggregators gives old call answer new h e = elim (restart_or_not call) [
-  | inl r ↦ ap (λ (t : Table). t.aggs) (restarts gives old answer new (subst (λ c. Step gives old c answer new) r h)).1.3
-  | inr n ↦ (let k = Step-keeps gives old call answer new n h in k.aggs ∙ e ∙ sym (ap (λ (s : SystemState). length s.keys) k.frame))
+Step-aggregators gives old call answer new h e = elim (Step-keeps gives old call answer new h) [
+  | inl k ↦ k.aggs ∙ e ∙ sym (ap (λ (s : SystemState). length s.keys) k.frame)
+  | inr r ↦ ap (λ (t : Table). t.aggs) r.1.3
 ]
 
 -- each aggregator has as many conversations as are configured
 pub Step-conversations : (gives : ℕ → ℕ → ℕ → Type 0) (old : SystemState) (call : Call) (answer : Reply) (new : SystemState)
     → Step gives old call answer new → old.table.conversations ≡ old.conversations → new.table.conversations ≡ new.conversations
-Step-conversations gives old call answer new h e = elim (restart_or_not call) [
-  | inl r ↦ ap (λ (t : Table). t.conversations) (restarts gives old answer new (subst (λ c. Step gives old c answer new) r h)).1.3
-  | inr n ↦ (let k = Step-keeps gives old call answer new n h in
-      k.conversations ∙ e ∙ sym (ap (λ (s : SystemState). s.conversations) k.frame))
+Step-conversations gives old call answer new h e = elim (Step-keeps gives old call answer new h) [
+  | inl k ↦ k.conversations ∙ e ∙ sym (ap (λ (s : SystemState). s.conversations) k.frame)
+  | inr r ↦ ap (λ (t : Table). t.conversations) r.1.3
 ]
 
 is_true : (b : Bool) (x : Option BadConfig) (y : BadConfig) → (if b then x else Some y) ≡ None → b ≡ true

@@ -14,6 +14,7 @@ pub mod HoldingLemmas
 pub mod OfferLemmas
 pub mod PlaceLemmas
 pub mod SendingLemmas
+pub mod Preserves
 pub mod Keeps
 pub mod Stopped
 pub mod Settled

@@ -62,9 +62,6 @@ bit_less agg c d m n h l = elim h [
 left_or_same : (p q : Machines) → LeavesOrStays p q → (q.choice ≡ Unselected) ⊎ (q.choice ≡ p.choice)
 left_or_same p q h = elim h [ inl e ↦ inl e | inr e ↦ inr e.0 ]
 
-pub same_fewer : (old new : List SystemPort) → new ≡ old → Fewer old new
-same_fewer old new e agg = subst (λ l. count agg l ≤ count agg old) (sym e) (omega arith)
-
 pub zip_fewer : (R : Machines → Machines → Type 0) → ((p q : Machines) → R p q → LeavesOrStays p q) → (xs ys : List SystemPort)
     → PortsChangeBy R xs ys → Fewer xs ys
 zip_fewer R k [] [] h agg = omega arith

@@ -3,7 +3,7 @@ use Rattle.std.proofs.Common.{◌≡◌, ◌∙◌, ℕ, zero, suc, ◌+◌, ◌
 use Rattle.std.proofs.Common.{filter, Option, None, Some, refl, sym}
 use Rattle.std.proofs.Common.{ap, subst, arith, slice_get, slice_set}
 use Rattle.std.specs.List.{list_any}
-use Rattle.std.proofs.lemmas.Bool.{cases_eq, false≢true}
+use Rattle.std.proofs.lemmas.Bool.{cases_eq, false≢true, or_parts}
 use Rattle.std.proofs.lemmas.Option.{none-some, same_Some}
 use Rattle.lagtypes.specs.declared.identifiers.AggId.{AggId}
 use Rattle.lagtypes.specs.Choices.{is_selected, is_standby}
@@ -21,7 +21,6 @@ use Rattle.lagsystem.specs.Readers.{aggregator_numbered}
 use Rattle.lagsystem.specs.Settling.{PromotesAll, PromotesFirst, PromotesNext, with_choice}
 use Rattle.lagsystem.specs.Views.{selection_view, views}
 use Rattle.lagsystem.proofs.Limiting.{next_stands}
-use Rattle.lagsystem.proofs.SettlingLemmas.{or_false}
 
 within_views : (l : List SystemPort) (i : ℕ) (v : PortView) → slice_get (views l) i ≡ Some v → i < length l
 within_views [] i v e = absurd (none-some v e)
@@ -133,8 +132,8 @@ none_stands aggs l h = none_next aggs l (length l) (omega arith)
         → is_standby s.port.choice ≡ false
     each [] k s e there = absurd (none-some s there)
     each (x ∷ xs) zero s e there =
-        subst (λ (y : SystemPort). is_standby y.port.choice ≡ false) (same_Some x s there) (or_false _ _ e).0
-    each (x ∷ xs) (suc k) s e there = each xs k s (or_false _ _ e).1 there
+        subst (λ (y : SystemPort). is_standby y.port.choice ≡ false) (same_Some x s there) (or_parts _ _ e).0
+    each (x ∷ xs) (suc k) s e there = each xs k s (or_parts _ _ e).1 there
 
 -- a port that is SELECTED is not STANDBY
 pub selected_not_standby : (c : Choice) → not (is_selected c) ≡ false → is_standby c ≡ false
@@ -151,5 +150,5 @@ none_left_standby aggs l h = none_stands aggs l (none_standby l h)
         → list_any (λ s. is_standby s.port.choice) l ≡ false
     none_standby [] e = refl
     none_standby (x ∷ xs) e =
-        let both = or_false (not (is_selected x.port.choice)) (list_any (λ s. not (is_selected s.port.choice)) xs) e in
+        let both = or_parts (not (is_selected x.port.choice)) (list_any (λ s. not (is_selected s.port.choice)) xs) e in
         ap (λ b. b || list_any (λ s. is_standby s.port.choice) xs) (selected_not_standby x.port.choice both.0) ∙ none_standby xs both.1

@@ -3,6 +3,7 @@ use Rattle.std.proofs.Common.{◌≡◌, ◌∙◌, ℕ, zero, suc, Bool, true, 
 use Rattle.std.proofs.Common.{find, option_map, refl, ap, slice_get, slice_set}
 use Rattle.std.specs.List.{enumerate_from, list_all}
 use Rattle.std.proofs.lemmas.Option.{same_Some}
+use Rattle.std.proofs.lemmas.Bool.{not-false, not_from_true, and_right}
 use Rattle.lagtypes.specs.declared.identifiers.AggId.{AggId}
 use Rattle.lagtypes.specs.declared.identifiers.Key.{Key}
 use Rattle.lagtypes.specs.declared.party.Choice.{Choice}
@@ -80,14 +81,6 @@ none_stays keys seen later v f g e =
 
 -- one more occupant
 
-pub not_false : (b : Bool) → not b ≡ false → b ≡ true
-not_false true h = refl
-not_false false h = absurd cc
-
-not_true : (b : Bool) → b ≡ true → not b ≡ false
-not_true true h = refl
-not_true false h = absurd cc
-
 or_other : (b c d : Bool) → b ≡ false → (b || c) ≡ true → (d || c) ≡ true
 or_other true c d n h = absurd cc
 or_other false c true n h = refl
@@ -111,13 +104,9 @@ occupant_stays agg a (x ∷ xs) (suc i) s e u h =
     or_still (occupies agg x.port.choice) (has_occupant (views xs) agg) (has_occupant (views (slice_set xs i (with_choice s (Some a)))) agg) h
     (occupant_stays agg a xs i s e u)
 
-and_second : (b c : Bool) → c ≡ false → (b && c) ≡ false
-and_second true c h = h
-and_second false c h = refl
-
 all_later : (test : PortView → Bool) (b : Bool) (w : PortView) (rest : List PortView) → list_all test rest ≡ false
     → list_all test (cond b (w ∷ rest) rest) ≡ false
-all_later test true w rest h = and_second (test w) (list_all test rest) h
+all_later test true w rest h = and_right (test w) (list_all test rest) h
 all_later test false w rest h = h
 
 all_skipped : (test : PortView → Bool) (b : Bool) (w : PortView) (rest : List PortView) → b ≡ false
@@ -160,9 +149,9 @@ pub none_after : (keys : List Key) (system_ports : List SystemPort) (i : ℕ) (s
 none_after keys system_ports i s a v e u h =
     let later : List PortView = views (slice_set system_ports i (with_choice s (Some a))) in
     none_stays keys (views system_ports) later v
-    (λ agg k. not_true (has_occupant later agg) (occupant_stays agg a system_ports i s e u (not_false (has_occupant (views system_ports) agg) k)))
+    (λ agg k. not_from_true (has_occupant later agg) (occupant_stays agg a system_ports i s e u (not-false (has_occupant (views system_ports) agg) k)))
     (λ agg k j.
-    let has = not_false (has_occupant (views system_ports) agg) k in
+    let has = not-false (has_occupant (views system_ports) agg) k in
     join_stays (not (individual v.party v.partner)) (has_occupant (views system_ports) agg)
     (list_all (has_group_of v) (occupants agg (views system_ports)))
     (has_occupant later agg) (list_all (has_group_of v) (occupants agg later)) has (occupant_stays agg a system_ports i s e u has) j

@@ -1,5 +1,5 @@
 -- Every call keeps that the occupants of an aggregator agree, and that it has no more members than the limit.
-use Rattle.std.proofs.Common.{◌≡◌, ◌∙◌, ℕ, Bool, true, false, List, Option, Some, None, Ok, Err, refl, sym, ap, subst, slice_get, slice_set}
+use Rattle.std.proofs.Common.{◌≡◌, ◌∙◌, ℕ, Bool, true, false, List, Option, Some, None, refl, sym, ap, subst, slice_get, slice_set}
 use Rattle.std.proofs.Common.{length, option_map}
 use Rattle.lagtypes.specs.declared.identifiers.AggId.{AggId}
 use Rattle.lagtypes.specs.declared.identifiers.Key.{Key}
@@ -8,22 +8,15 @@ use Rattle.portmachines.specs.Mux.{mux_rows}
 use Rattle.portmachines.specs.Periodic.{RunsPeriodic}
 use Rattle.portmachines.specs.Receive.{receive_rows}
 use Rattle.portmachines.specs.Rows.{RunsToRest}
-use Rattle.portmachines.specs.Transmit.{after_sending, count_down, is_due}
+use Rattle.portmachines.specs.Transmit.{after_sending, count_down}
 use Rattle.selection.specs.Limits.{AggregatorsValue, has_room}
-use Rattle.distributor.specs.Changes.{marker_due}
-use Rattle.lagsystem.specs.declared.received.FrameEffect.{FrameEffect}
-use Rattle.lagsystem.specs.declared.received.FrameEffect.TheVariants.{ProcessLacpdu, Response, Answered}
-use Rattle.lagsystem.specs.declared.received.Received.{Received}
 use Rattle.lagsystem.specs.declared.drive.Reply.{Reply}
-use Rattle.lagsystem.specs.declared.drive.Reply.TheVariants as reply
 use Rattle.lagsystem.specs.declared.system_ports.SystemPort.{SystemPort}
-use Rattle.lagsystem.specs.Calls.{Call, Tick, Set_link, Receive, Configure, Restart, Transmit, Offer, Move_conversation, Force, Ticks}
-use Rattle.lagsystem.specs.Calls.{ChangesParty, Performs, SetsLink, SetsPortEnabled, OnlyPortChangesBy, PortAtChangesBy, ProcessesLacpdu, Step}
-use Rattle.lagsystem.specs.Calls.{ThenSettles, is_own_response}
+use Rattle.lagsystem.specs.Calls.{Call, Ticks}
+use Rattle.lagsystem.specs.Calls.{ChangesParty, SetsLink, SetsPortEnabled, OnlyPortChangesBy, PortAtChangesBy, ProcessesLacpdu, Step}
+use Rattle.lagsystem.specs.Calls.{ThenSettles}
 use Rattle.lagsystem.specs.First.{IsFirst}
 use Rattle.lagsystem.specs.Occupants.{OccupantsAgree, WithinLimit, occupied}
-use Rattle.lagsystem.specs.Offers.{system_force_result, system_move_result}
-use Rattle.lagsystem.specs.Sending.{TransmitsAt, TransmitsIf}
 use Rattle.lagsystem.specs.Settling.{ChoosesIn, PortsChangeBy, Settling, aggregator_for, choice_for, choice_if, choice_in, ready_of, with_choice}
 use Rattle.lagsystem.specs.Sound.{HasPorts}
 use Rattle.lagsystem.specs.State.{SystemState, aggregators_value, port_index, port_numbers}
@@ -36,8 +29,9 @@ use Rattle.lagsystem.proofs.Limiting.{Fewer, choosing_within, next_stands, none_
 use Rattle.lagsystem.proofs.Occupying.{EachStays, LeavesOrStays, configure_stays, joining_agrees, link_stays, mux_stays, none_agrees}
 use Rattle.lagsystem.proofs.Occupying.{periodic_stays, place_stays, promotion_agrees, sending_stays, set_stays, stay_agrees}
 use Rattle.lagsystem.proofs.Occupying.{taking_stays, tick_stays, zip_stay}
+use Rattle.lagsystem.proofs.Preserves.{Step-preserves_ports}
 use Rattle.lagsystem.proofs.PromotionLemmas.{choices_keep, promotions_keep}
-use Rattle.lagsystem.proofs.Rest.{becomes_slots, last_slots, marker_slots, offers_slots, releases_slots, same_slots}
+use Rattle.lagsystem.proofs.Rest.{last_slots}
 use Rattle.lagsystem.proofs.Rising.{Rises, ports_rise}
 use Rattle.lagsystem.proofs.SettlingLemmas.{set_same}
 
@@ -137,37 +131,6 @@ settled_placed own old new r keeps placed h =
     settling_placed h.0 new (subst (λ ns. Rises 0 ns) (sym k.same) r) h.2
     (subst (λ a. ArePlaced a h.0.system_ports) (sym (ap aggregators_value k.frame)) (placed h.0 h.1))
 
-where_placed : (up due : Bool) (i : ℕ) (s : SystemPort) (old : SystemState) (answer : Option (List ℕ)) (new : SystemState)
-    → slice_get old.system_ports i ≡ Some s → aggregators_value new ≡ aggregators_value old → TransmitsIf up due i s old answer new
-    → IsPlaced old → IsPlaced new
-where_placed false due i s old answer new e k h p = same_placed old new k (same_slots old new h.1) p
-where_placed true true i s old answer new e k h p =
-    let t : SystemPort = record s { port = after_sending s.port } in
-    let l = old.system_ports in
-    subst IsPlaced (sym h.3)
-    (placed_on (aggregators_value old) l (slice_set l i t) (
-      set_stays l i s t e (sending_stays s.port),
-      set_fewer l i s t e
-          (sending_stays s.port),
-    ) p)
-where_placed true false i s old answer new e k h p =
-    same_placed old new k (marker_slots (marker_due old.table s.number) s.number s.mac old answer new h) p
-
-sends_placed : (o : Option ℕ) (old : SystemState) (answer : Option (List ℕ)) (new : SystemState)
-    → aggregators_value new ≡ aggregators_value old → TransmitsAt o old answer new → IsPlaced old → IsPlaced new
-sends_placed None old answer new k h p = absurd h
-sends_placed (Some i) old answer new k h p = where_placed h.0.port.enabled (is_due h.0.port) i h.0 old answer new h.1 k h.2 p
-
-does_placed : (effect : FrameEffect) (port : ℕ) (o : Option ℕ) (old : SystemState) (answer : Received) (new : SystemState)
-    → Rises 0 (port_numbers old.system_ports) → aggregators_value new ≡ aggregators_value old → Performs effect port o old answer new
-    → IsPlaced old → IsPlaced new
-does_placed (ProcessLacpdu v) port o old answer new r k h p =
-    settled_placed (OnlyPortChangesBy o (ProcessesLacpdu v)) old new r (keeps_place (ProcessesLacpdu v) o old)
-    (λ mid x. place_on (ProcessesLacpdu v) (taking_stays v) o (aggregators_value old) old.system_ports mid.system_ports x.0 p) h.1
-does_placed (Response m) port o old answer new r k h p = same_placed old new k
-    (releases_slots (is_own_response old port m) port m old answer new h) p
-does_placed (Answered a) port o old answer new r k h p = same_placed old new k (same_slots old new h.1) p
-
 -- the start
 pub first_placed : (s : SystemState) → IsFirst s → IsPlaced s
 first_placed s h =
@@ -175,36 +138,30 @@ first_placed s h =
 
 pub Step-placed : (gives : ℕ → ℕ → ℕ → Type 0) (old : SystemState) (call : Call) (answer : Reply) (new : SystemState)
     → Step gives old call answer new → HasPorts old → IsPlaced old → IsPlaced new
-Step-placed gives old call answer new h ports p = placed call answer new h (ap aggregators_value (Step-frame gives old call answer new h))
+Step-placed gives old call answer new h ports p =
+    Step-preserves_ports gives old (λ call answer new. aggregators_value new ≡ aggregators_value old → IsPlaced new)
+    (λ call answer new none e k. same_placed old new k e p) (record {
+      tick = λ new h k. settled_placed Ticks old new r (keeps_tick old)
+          (λ mid x. zip_on (λ p q. RunsToRest receive_rows (count_down p) q) tick_stays (aggregators_value old) old.system_ports
+          mid.system_ports x.0 p) h;
+      link = λ n up done new h k. settled_placed (SetsLink n up) old new r (keeps_link n up old)
+          (λ mid x. place_on (SetsPortEnabled old.max_links up) (link_stays old.max_links up) (port_index n old.system_ports)
+          (aggregators_value old) old.system_ports mid.system_ports x.0 p) h;
+      take = λ n octets v answer new told h k. on_port n (ProcessesLacpdu v) (taking_stays v) new h;
+      change = λ n change new h k. on_port n (ChangesParty change) (configure_stays change) new h;
+      restart = λ new e first k. first_placed new first;
+      send = λ n i s answer octets new at e due is told set k.
+          let t : SystemPort = record s { port = after_sending s.port } in
+          let l = old.system_ports in
+          subst IsPlaced (sym set) (placed_on (aggregators_value old) l (slice_set l i t)
+          (set_stays l i s t e (sending_stays s.port), set_fewer l i s t e (sending_stays s.port)) p);
+    }) call answer new h (ap aggregators_value (Step-frame gives old call answer new h))
   where
     r : Rises 0 (port_numbers old.system_ports)
     r = ports_rise old ports
 
-    placed : (call : Call) (answer : Reply) (new : SystemState) → Step gives old call answer new
-        → aggregators_value new ≡ aggregators_value old → IsPlaced new
-    placed Tick reply.Tick new h k = settled_placed Ticks old new r (keeps_tick old)
-        (λ mid x. zip_on (λ p q. RunsToRest receive_rows (count_down p) q) tick_stays (aggregators_value old) old.system_ports
-        mid.system_ports x.0 p) h
-    placed (Set_link m up) (reply.SetLink (Ok done)) new h k = settled_placed (SetsLink m up) old new r (keeps_link m up old)
-        (λ mid x. place_on (SetsPortEnabled old.max_links up) (link_stays old.max_links up) (port_index m old.system_ports)
-        (aggregators_value old) old.system_ports mid.system_ports x.0 p) h
-    placed (Set_link m up) (reply.SetLink (Err fault)) new h k = same_placed old new k (same_slots old new h.same) p
-    placed (Receive m octets) (reply.Receive (Ok answer)) new h k = does_placed h.1 h.0.number (port_index m old.system_ports)
-        old answer new r k h.4 p
-    placed (Receive m octets) (reply.Receive (Err fault)) new h k = same_placed old new k (same_slots old new h.same) p
-    placed (Configure m change) (reply.Configure (Ok true)) new h k =
-        settled_placed (OnlyPortChangesBy (port_index m old.system_ports) (ChangesParty change)) old new r
-        (keeps_place (ChangesParty change) (port_index m old.system_ports) old)
-        (λ mid x. place_on (ChangesParty change) (configure_stays change) (port_index m old.system_ports) (aggregators_value old)
-        old.system_ports mid.system_ports x.0 p) h
-    placed (Configure m change) (reply.Configure (Ok false)) new h k = same_placed old new k (same_slots old new h.1) p
-    placed (Configure m change) (reply.Configure (Err fault)) new h k = same_placed old new k (same_slots old new h.same) p
-    placed Restart reply.Restart new h k = first_placed new h.1
-    placed (Transmit m) (reply.Transmit (Ok answer)) new h k = sends_placed (port_index m old.system_ports) old answer new k h p
-    placed (Transmit m) (reply.Transmit (Err fault)) new h k = same_placed old new k (same_slots old new h.same) p
-    placed (Offer agg octets) (reply.Offer answer) new h k = same_placed old new k (offers_slots gives agg octets old answer new h) p
-    placed (Move_conversation agg conv port) (reply.MoveConversation answer) new h k =
-        same_placed old new k (becomes_slots agg conv (system_move_result old agg conv port) old answer new h) p
-    placed (Force agg conv) (reply.Force answer) new h k = same_placed old new k
-        (becomes_slots agg conv (system_force_result old agg conv) old answer new h) p
-    placed call answer new h k = absurd h
+    on_port : (n : ℕ) (R : Machines → Machines → Type 0) → ((p q : Machines) → R p q → LeavesOrStays p q) → (new : SystemState)
+        → ThenSettles (OnlyPortChangesBy (port_index n old.system_ports) R) old new → IsPlaced new
+    on_port n R stay new h = let o = port_index n old.system_ports in
+        settled_placed (OnlyPortChangesBy o R) old new r (keeps_place R o old)
+        (λ mid x. place_on R stay o (aggregators_value old) old.system_ports mid.system_ports x.0 p) h

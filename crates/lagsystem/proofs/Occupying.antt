@@ -22,7 +22,7 @@ use Rattle.portmachines.specs.Machines.{Machines}
 use Rattle.portmachines.specs.Mux.{mux_rows}
 use Rattle.portmachines.specs.Periodic.{RunsPeriodic, periodic_rows}
 use Rattle.portmachines.specs.Receive.{default_partner, lacpdu_rows, receive_rows, recorded_synchronization, start_receive}
-use Rattle.portmachines.specs.Rows.{Fires, FiresTimes, Row, RunsToRest}
+use Rattle.portmachines.specs.Rows.{Row, RunsToRest}
 use Rattle.portmachines.specs.Start.{Starts}
 use Rattle.portmachines.specs.Transmit.{after_sending, count_down}
 use Rattle.selection.specs.declared.view.PortView.{PortView as Seen}
@@ -35,6 +35,7 @@ use Rattle.lagsystem.specs.ModelView.{key_of}
 use Rattle.lagsystem.specs.Occupants.{OccupantsAgree, occupied}
 use Rattle.lagsystem.specs.Settling.{PortsChangeBy, with_choice}
 use Rattle.lagsystem.specs.Views.{selection_view, views}
+use Rattle.portmachines.proofs.Runs.{EachRelates, Fires-relates, Rests-relates}
 use Rattle.lagsystem.proofs.Effects.{named}
 
 -- a port that becomes UNSELECTED, or keeps Selected and both parties
@@ -54,22 +55,10 @@ both_stay p q r h k = elim k [
 -- rows
 
 abbrev RowsStay : List Row → Type 0
-RowsStay [] = Unit {0}
-RowsStay (row ∷ rows) = ((p : Machines) → LeavesOrStays p (row.effect p)) × RowsStay rows
-
-fires_stays : (rows : List Row) → RowsStay rows → (p q : Machines) → Fires rows p q → LeavesOrStays p q
-fires_stays [] k p q h = absurd h
-fires_stays (row ∷ rows) k p q h = elim h [
-  | inl f ↦ subst (LeavesOrStays p) (sym f.1) (k.0 p)
-  | inr f ↦ fires_stays rows k.1 p q f
-]
-
-times_stays : (rows : List Row) → RowsStay rows → (n : ℕ) (p q : Machines) → FiresTimes rows n p q → LeavesOrStays p q
-times_stays rows k zero p q h = subst (LeavesOrStays p) (sym h) (stays p)
-times_stays rows k (suc n) p q h = both_stay p h.0 q (times_stays rows k n p h.0 h.1) (fires_stays rows k h.0 q h.2)
+RowsStay rows = EachRelates LeavesOrStays rows
 
 runs_stay : (rows : List Row) → RowsStay rows → (p q : Machines) → RunsToRest rows p q → LeavesOrStays p q
-runs_stay rows k p q h = times_stays rows k h.0 p q h.1
+runs_stay = Rests-relates LeavesOrStays (record { same = λ p q e. subst (LeavesOrStays p) (sym e) (stays p); both = both_stay })
 
 -- the party of a partner whose Synchronization or Timeout is set
 synchronization_set : (b : Bool) (info : Info) → party_of (record info { state = with_synchronization b info.state }) ≡ party_of info
@@ -90,15 +79,15 @@ unless_same false c own was now h = inl refl
 
 receive_rows_stay : RowsStay receive_rows
 receive_rows_stay = (
-  λ p. inr (refl, refl, synchronization_set false p.partner),
+  λ p up. inr (refl, refl, synchronization_set false p.partner),
   (
-    λ p. inr (refl, refl, synchronization_set false p.partner),
+    λ p up. inr (refl, refl, synchronization_set false p.partner),
     (
-      λ p. inr (refl, refl, expired_set p.partner),
+      λ p up. inr (refl, refl, expired_set p.partner),
       (
-        λ p. unless_same (same_party (party_of default_partner) (party_of p.partner)) p.choice p.party (party_of p.partner)
+        λ p up. unless_same (same_party (party_of default_partner) (party_of p.partner)) p.choice p.party (party_of p.partner)
             (party_of default_partner) (exact_party (party_of default_partner) (party_of p.partner)),
-        (λ p. inr (refl, refl, expired_set p.partner), tt),
+        (λ p up. inr (refl, refl, expired_set p.partner), tt),
       ),
     ),
   ),
@@ -109,7 +98,7 @@ receive_stays p q h = runs_stay receive_rows receive_rows_stay p q h
 
 lacpdu_rows_stay : (v : Lacpdu) → RowsStay (lacpdu_rows v)
 lacpdu_rows_stay v = (
-  λ p.
+  λ p up.
       let t = recorded_synchronization v p in
       unless_same (same_party (party_of v.actor) (party_of p.partner)) p.choice p.party (party_of p.partner)
       (party_of (record v.actor { state = with_synchronization t v.actor.state }))
@@ -119,8 +108,8 @@ lacpdu_rows_stay v = (
 
 mux_rows_stay : (ready : Bool) → RowsStay (mux_rows ready)
 mux_rows_stay ready = (
-  λ p. stays p,
-  (λ p. stays p, (λ p. stays p, (λ p. stays p, (λ p. stays p, (λ p. stays p, tt))))),
+  λ p up. stays p,
+  (λ p up. stays p, (λ p up. stays p, (λ p up. stays p, (λ p up. stays p, (λ p up. stays p, tt))))),
 )
 
 pub mux_stays : (ready : Bool) (p q : Machines) → RunsToRest (mux_rows ready) p q → LeavesOrStays p q
@@ -128,8 +117,8 @@ mux_stays ready p q h = runs_stay (mux_rows ready) (mux_rows_stay ready) p q h
 
 periodic_rows_stay : RowsStay periodic_rows
 periodic_rows_stay = (
-  λ p. stays p,
-  (λ p. stays p, (λ p. stays p, (λ p. stays p, (λ p. stays p, (λ p. stays p, (λ p. stays p, tt)))))),
+  λ p up. stays p,
+  (λ p up. stays p, (λ p up. stays p, (λ p up. stays p, (λ p up. stays p, (λ p up. stays p, (λ p up. stays p, tt)))))),
 )
 
 pub periodic_stays : (p q : Machines) → RunsPeriodic p q → LeavesOrStays p q
@@ -153,7 +142,7 @@ link_stays max_links up p q h =
 
 pub taking_stays : (v : Lacpdu) (p q : Machines) → ProcessesLacpdu v p q → LeavesOrStays p q
 taking_stays v p q h = elim h [
-  | inl f ↦ fires_stays (lacpdu_rows v) (lacpdu_rows_stay v) p q f
+  | inl f ↦ Fires-relates LeavesOrStays (lacpdu_rows v) (lacpdu_rows_stay v) p q f
   | inr r ↦ subst (LeavesOrStays p) (sym r.1) (stays p)
 ]
 
@@ -174,9 +163,6 @@ sending_stays p = stays p
 abbrev pub EachStays : List SystemPort → List SystemPort → Type 0
 EachStays old new = (j : ℕ) (t : SystemPort) → slice_get new j ≡ Some t
     → (s : SystemPort) × (slice_get old j ≡ Some s) × LeavesOrStays s.port t.port
-
-pub same_stay : (old new : List SystemPort) → new ≡ old → EachStays old new
-same_stay old new e j t g = (t, ap (λ l. slice_get l j) (sym e) ∙ g, stays t.port)
 
 pub zip_stay : (R : Machines → Machines → Type 0) → ((p q : Machines) → R p q → LeavesOrStays p q) → (xs ys : List SystemPort)
     → PortsChangeBy R xs ys → EachStays xs ys

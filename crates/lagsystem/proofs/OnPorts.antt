@@ -1,40 +1,33 @@
 -- After every call a conversation is On a port only if the port distributes in its aggregator.
-use Rattle.std.proofs.Common.{◌≡◌, ◌∙◌, ℕ, zero, suc, Bool, true, false, cond, ◌&&◌, eqb, List, [], ◌∷◌, Option, Some, None, Result, Ok}
-use Rattle.std.proofs.Common.{Err, refl, sym, ap, subst, ◌⊎◌, inl, inr, length}
+use Rattle.std.proofs.Common.{◌≡◌, ◌∙◌, ℕ, zero, suc, Bool, true, false, cond, ◌&&◌, eqb, List, [], ◌∷◌, Some, None}
+use Rattle.std.proofs.Common.{refl, sym, ap, subst, ◌⊎◌, inl, inr, length}
 use Rattle.std.specs.Prelude.{if◌then◌else◌, slice_get, slice_set, filter, map}
 use Rattle.std.proofs.lemmas.Bool.{and_parts, eqb-true}
 use Rattle.std.proofs.lemmas.Option.{same_Some}
 use Rattle.lagtypes.specs.declared.identifiers.AggId.{AggId}
-use Rattle.slowpdu.specs.declared.pdu.Marker.{Marker}
-use Rattle.portmachines.specs.Transmit.{is_due, after_sending}
+use Rattle.portmachines.specs.Transmit.{after_sending}
 use Rattle.distributor.specs.declared.assignment.Assignment.{Assignment}
 use Rattle.distributor.specs.declared.assignment.Assignment.TheVariants.{Free, On, Wanted, Flushing}
 use Rattle.distributor.specs.Calls.{MaySend, is_among}
-use Rattle.distributor.specs.Changes.{SetsAssignment, after_mark, after_release, marker_due}
+use Rattle.distributor.specs.Changes.{SetsAssignment, after_mark, after_release}
 use Rattle.distributor.specs.Conversations.{Table, next_identifier, assignment_of}
 use Rattle.distributor.specs.Moves.{model_conversation}
 use Rattle.distributor.proofs.MoveLemmas.{is_forced, is_moved}
 use Rattle.distributor.proofs.TableLemmas.{first_free}
 use Rattle.lagmodel.specs.View.{Conversation}
-use Rattle.lagsystem.specs.declared.received.FrameEffect.{FrameEffect}
-use Rattle.lagsystem.specs.declared.received.FrameEffect.TheVariants.{ProcessLacpdu, Response, Answered}
-use Rattle.lagsystem.specs.declared.received.Received.{Received}
 use Rattle.lagsystem.specs.declared.drive.Reply.{Reply}
-use Rattle.lagsystem.specs.declared.drive.Reply.TheVariants as reply
-use Rattle.lagsystem.specs.declared.fault.SystemFault.{SystemFault}
 use Rattle.lagsystem.specs.declared.system_ports.SystemPort.{SystemPort}
-use Rattle.lagsystem.specs.Calls.{Call, Tick, Set_link, Receive, Configure, Restart, Transmit, Offer, Move_conversation, Force, Ticks}
-use Rattle.lagsystem.specs.Calls.{ChangesParty, Performs, SetsLink, OnlyPortChangesBy, Releases, ThenSettles, Step, ProcessesLacpdu}
-use Rattle.lagsystem.specs.Calls.{is_own_response}
+use Rattle.lagsystem.specs.Calls.{Call}
+use Rattle.lagsystem.specs.Calls.{Step}
 use Rattle.lagsystem.specs.First.{IsFirst}
-use Rattle.lagsystem.specs.Offers.{GivesOrRefuses, Offers, system_force_result, system_move_result, assignment_of_frame}
+use Rattle.lagsystem.specs.Offers.{assignment_of_frame}
 use Rattle.lagsystem.specs.Readers.{aggregator_numbered, number_of_conversation as conversation_number, distributes_in, distributing}
-use Rattle.lagsystem.specs.Sending.{TransmitsAt, SendsMarkerOf, TransmitsIf}
-use Rattle.lagsystem.specs.Settling.{HoldsConversations, held_unless_on}
+use Rattle.lagsystem.specs.Settling.{HoldsConversations, held_unless_on, Settling}
 use Rattle.lagsystem.specs.Sound.{OnlyOnDistributing}
-use Rattle.lagsystem.specs.State.{SystemState, port_index, with_table}
+use Rattle.lagsystem.specs.State.{SystemState, with_table}
 use Rattle.lagsystem.proofs.Conversing.{assigned_may}
 use Rattle.lagsystem.proofs.Keeps.{settling_parts}
+use Rattle.lagsystem.proofs.Preserves.{Step-preserves}
 use Rattle.lagsystem.proofs.Steps.{forced_to, moved_to}
 
 same_port : (p q : ℕ) → On p ≡ On q → p ≡ q
@@ -66,12 +59,6 @@ leaves_carried old new h g k p e =
     subst (λ (s : SystemState). is_among (distributing (aggregator_numbered g) s.system_ports) p ≡ true) (sym h.frame)
     (left_is (distributing (aggregator_numbered g) old.system_ports) (assignment_of old.table g k) p (sym (h.states g k) ∙ e))
 
-settled_carried : (own : SystemState → SystemState → Type 0) (old new : SystemState) → ThenSettles own old new → OnlyOnDistributing new
-settled_carried own old new h = let p = settling_parts h.0 new h.2 in leaves_carried p.0 new p.2
-
-same_carried : (old new : SystemState) → new ≡ old → OnlyOnDistributing old → OnlyOnDistributing new
-same_carried old new e c = subst OnlyOnDistributing (sym e) c
-
 -- the ports stay, and a conversation is where it was or on a port that distributes in its aggregator
 abbrev Carried : SystemState → ℕ → Assignment → ℕ → Type 0
 Carried old g was p = (was ≡ On p) ⊎ (is_among (distributing (aggregator_numbered g) old.system_ports) p ≡ true)
@@ -102,18 +89,6 @@ marked port id p (Wanted q preferred) e = flushed (eqb q port) e
     flushed true x = absurd cc
     flushed false x = x
 
-releases_carried : (b : Bool) (port : ℕ) (m : Marker) (old : SystemState) (answer : Received) (new : SystemState)
-    → Releases b port m old answer new → OnlyOnDistributing old → OnlyOnDistributing new
-releases_carried false port m old answer new h c = same_carried old new h.1 c
-releases_carried true port m old answer new h c = table_carried old new h.2 c
-    (λ g k p e. inl (released port m.id p (assignment_of old.table g k) (sym (h.1.states g k) ∙ e)))
-
-does_carried : (effect : FrameEffect) (port : ℕ) (o : Option ℕ) (old : SystemState) (answer : Received) (new : SystemState)
-    → Performs effect port o old answer new → OnlyOnDistributing old → OnlyOnDistributing new
-does_carried (ProcessLacpdu v) port o old answer new h c = settled_carried (OnlyPortChangesBy o (ProcessesLacpdu v)) old new h.1
-does_carried (Response m) port o old answer new h c = releases_carried (is_own_response old port m) port m old answer new h c
-does_carried (Answered a) port o old answer new h c = same_carried old new h.1 c
-
 -- sending an LACPDU leaves what a port distributes in
 filtered : (b : Bool) (x y : SystemPort) (xs ys : List ℕ) → x.number ≡ y.number → xs ≡ ys
     → cond b (x.number ∷ xs) xs ≡ cond b (y.number ∷ ys) ys
@@ -142,31 +117,6 @@ sent_distributing agg (x ∷ xs) (suc i) s e =
     more agg x ys ∙ filtered (distributes_in agg x) x x (distributing agg ys) (distributing agg xs) refl (sent_distributing agg xs i s e)
     ∙ sym (more agg x xs)
 
-marker_carried : (o : Option ℕ) (port : ℕ) (mac : List ℕ) (old : SystemState) (answer : Option (List ℕ)) (new : SystemState)
-    → SendsMarkerOf o port mac old answer new → OnlyOnDistributing old → OnlyOnDistributing new
-marker_carried None port mac old answer new h c = same_carried old new h.1 c
-marker_carried (Some id) port mac old answer new h c = table_carried old new h.5 c
-    (λ g k p e. inl (marked port id p (assignment_of old.table g k) (sym (h.4.states g k) ∙ e)))
-
-where_carried : (up due : Bool) (i : ℕ) (system_port : SystemPort) (old : SystemState) (answer : Option (List ℕ)) (new : SystemState)
-    → slice_get old.system_ports i ≡ Some system_port → TransmitsIf up due i system_port old answer new → OnlyOnDistributing old
-    → OnlyOnDistributing new
-where_carried false due i system_port old answer new g h c = same_carried old new h.1 c
-where_carried true true i system_port old answer new e h c = λ g k p x.
-    let agg = aggregator_numbered g in
-    let system_ports : new.system_ports ≡ slice_set old.system_ports i (record system_port { port = after_sending system_port.port }) =
-    ap (λ (s : SystemState). s.system_ports) h.3 in
-    let same : distributing agg new.system_ports ≡ distributing agg old.system_ports = ap (distributing agg) system_ports
-    ∙ sent_distributing agg old.system_ports i system_port e in
-    subst (λ l. is_among l p ≡ true) (sym same) (c g k p (sym (ap (λ (s : SystemState). assignment_of s.table g k) h.3) ∙ x))
-where_carried true false i system_port old answer new e h c = marker_carried (marker_due old.table system_port.number) system_port.number
-    system_port.mac old answer new h c
-
-sends_carried : (o : Option ℕ) (old : SystemState) (answer : Option (List ℕ)) (new : SystemState) → TransmitsAt o old answer new
-    → OnlyOnDistributing old → OnlyOnDistributing new
-sends_carried None old answer new h c = absurd h
-sends_carried (Some i) old answer new h c = where_carried h.0.port.enabled (is_due h.0.port) i h.0 old answer new h.1 h.2 c
-
 -- one conversation takes a state
 sets_carried : (agg : AggId) (conv : ℕ) (s : Assignment) (old new : SystemState) → SetsAssignment old.table new.table agg.0 conv s
     → new ≡ with_table old new.table → OnlyOnDistributing old
@@ -190,55 +140,46 @@ may_carry old g p port (On q) m e = inl (ap (λ r. On r) (sym m ∙ same_port po
 may_carry old g p port (Wanted q preferred) m e = absurd m
 may_carry old g p port (Flushing q id preferred age) m e = absurd m
 
-offers_carried : (gives : ℕ → ℕ → ℕ → Type 0) (agg : AggId) (octets : List ℕ) (old : SystemState) (answer : Result ℕ SystemFault)
-    (new : SystemState) → Offers gives agg octets old answer new → OnlyOnDistributing old → OnlyOnDistributing new
-offers_carried gives agg octets old (Ok port) new h c =
-    let conv = conversation_number old octets in
-    let may = assigned_may gives conv (distributing agg old.system_ports) (assignment_of_frame old agg octets) port h.1 in
-    sets_carried agg conv (On port) old new h.2.0 h.2.1 c (λ p e. may_carry old agg.0 p port (assignment_of_frame old agg octets) may e)
-offers_carried gives agg octets old (Err fault) new h c = same_carried old new h.1 c
-
-moves_carried : (agg : AggId) (conv port : ℕ) (what : Result Assignment SystemFault) (old : SystemState) (answer : Result Unit SystemFault)
-    (new : SystemState) → system_move_result old agg conv port ≡ what
-    → GivesOrRefuses agg conv what old answer new → OnlyOnDistributing old → OnlyOnDistributing new
-moves_carried agg conv port (Ok s) old answer new e h c =
-    let was = assignment_of old.table agg.0 conv in
-    let m = is_moved (next_identifier old.table) (distributing agg old.system_ports) port was s (moved_to agg conv port old s e) in
-    sets_carried agg conv s old new h.1.0 h.1.1 c (λ p x. absurd (wanted m.0 p (sym m.2 ∙ not_on p s x)))
-  where
-    wanted : (q p : ℕ) → Conversation.Wanted q ≡ Conversation.On p → ⊥
-    wanted q p x = cc
-moves_carried agg conv port (Err fault) old answer new e h c = same_carried old new h.1 c
-
-forces_carried : (agg : AggId) (conv : ℕ) (what : Result Assignment SystemFault) (old : SystemState) (answer : Result Unit SystemFault)
-    (new : SystemState) → system_force_result old agg conv ≡ what
-    → GivesOrRefuses agg conv what old answer new → OnlyOnDistributing old → OnlyOnDistributing new
-forces_carried agg conv (Ok s) old answer new e h c =
-    let free = is_forced (assignment_of old.table agg.0 conv) s (forced_to agg conv old s e) in
-    sets_carried agg conv s old new h.1.0 h.1.1 c (λ p x. absurd (freed p (sym free ∙ not_on p s x)))
-  where
-    freed : (p : ℕ) → Conversation.Free ≡ Conversation.On p → ⊥
-    freed p x = cc
-forces_carried agg conv (Err fault) old answer new e h c = same_carried old new h.1 c
-
 pub Step-carried : (gives : ℕ → ℕ → ℕ → Type 0) (old : SystemState) (call : Call) (answer : Reply) (new : SystemState)
     → Step gives old call answer new → OnlyOnDistributing old → OnlyOnDistributing new
-Step-carried gives old Tick reply.Tick new h c = settled_carried Ticks old new h
-Step-carried gives old (Set_link n up) (reply.SetLink (Ok done)) new h c = settled_carried (SetsLink n up) old new h
-Step-carried gives old (Set_link n up) (reply.SetLink (Err fault)) new h c = same_carried old new h.same c
-Step-carried gives old (Receive n octets) (reply.Receive (Ok answer)) new h c = does_carried h.1 h.0.number
-    (port_index n old.system_ports) old answer new h.4 c
-Step-carried gives old (Receive n octets) (reply.Receive (Err fault)) new h c = same_carried old new h.same c
-Step-carried gives old (Configure n change) (reply.Configure (Ok true)) new h c =
-    settled_carried (OnlyPortChangesBy (port_index n old.system_ports) (ChangesParty change)) old new h
-Step-carried gives old (Configure n change) (reply.Configure (Ok false)) new h c = same_carried old new h.1 c
-Step-carried gives old (Configure n change) (reply.Configure (Err fault)) new h c = same_carried old new h.same c
-Step-carried gives old Restart reply.Restart new h c = first_carried new h.1
-Step-carried gives old (Transmit n) (reply.Transmit (Ok answer)) new h c = sends_carried (port_index n old.system_ports) old answer new h c
-Step-carried gives old (Transmit n) (reply.Transmit (Err fault)) new h c = same_carried old new h.same c
-Step-carried gives old (Offer agg octets) (reply.Offer answer) new h c = offers_carried gives agg octets old answer new h c
-Step-carried gives old (Move_conversation agg conv port) (reply.MoveConversation answer) new h c = moves_carried agg conv port
-    (system_move_result old agg conv port) old answer new refl h c
-Step-carried gives old (Force agg conv) (reply.Force answer) new h c = forces_carried agg conv
-    (system_force_result old agg conv) old answer new refl h c
-Step-carried gives old call answer new h c = absurd h
+Step-carried gives old call answer new h c = Step-preserves gives old (λ call answer new. OnlyOnDistributing new) (record {
+  ports = record {
+    tick = λ new h. settled new h.0 h.2;
+    link = λ n up done new h. settled new h.0 h.2;
+    take = λ n octets v answer new told h. settled new h.0 h.2;
+    change = λ n change new h. settled new h.0 h.2;
+    restart = λ new e first. first_carried new first;
+    send = λ n i x answer octets new at e due is told set. λ g k p on.
+        let agg = aggregator_numbered g in
+        let same : distributing agg new.system_ports ≡ distributing agg old.system_ports =
+        ap (λ (s : SystemState). distributing agg s.system_ports) set ∙ sent_distributing agg old.system_ports i x e in
+        subst (λ l. is_among l p ≡ true) (sym same)
+        (c g k p (sym (ap (λ (s : SystemState). assignment_of s.table g k) set) ∙ on));
+  };
+  same = λ call answer new none e. subst OnlyOnDistributing (sym e) c;
+  mark = λ n port id answer new none m e. table_carried old new e c
+      (λ g k p on. inl (marked port id p (assignment_of old.table g k) (sym (m.states g k) ∙ on)));
+  release = λ n port id octets answer new m e. table_carried old new e c
+      (λ g k p on. inl (released port id p (assignment_of old.table g k) (sym (m.states g k) ∙ on)));
+  offer = λ agg octets port new h.
+      let conv = conversation_number old octets in
+      let may = assigned_may gives conv (distributing agg old.system_ports) (assignment_of_frame old agg octets) port h.1 in
+      sets_carried agg conv (On port) old new h.2.0 h.2.1 c
+      (λ p e. may_carry old agg.0 p port (assignment_of_frame old agg octets) may e);
+  move = λ agg conv port s answer new e h.
+      let was = assignment_of old.table agg.0 conv in
+      let m = is_moved (next_identifier old.table) (distributing agg old.system_ports) port was s (moved_to agg conv port old s e) in
+      sets_carried agg conv s old new h.0 h.1 c (λ p x. absurd (wanted m.0 p (sym m.2 ∙ not_on p s x)));
+  force = λ agg conv s answer new e h.
+      let free = is_forced (assignment_of old.table agg.0 conv) s (forced_to agg conv old s e) in
+      sets_carried agg conv s old new h.0 h.1 c (λ p x. absurd (freed p (sym free ∙ not_on p s x)));
+}) call answer new h
+  where
+    settled : (new mid : SystemState) → Settling mid new → OnlyOnDistributing new
+    settled new mid h = let p = settling_parts mid new h in leaves_carried p.0 new p.2
+
+    wanted : (q p : ℕ) → Conversation.Wanted q ≡ Conversation.On p → ⊥
+    wanted q p x = cc
+
+    freed : (p : ℕ) → Conversation.Free ≡ Conversation.On p → ⊥
+    freed p x = cc

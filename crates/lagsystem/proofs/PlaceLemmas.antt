@@ -8,6 +8,7 @@ use Rattle.std.proofs.lemmas.List.{get_or-map, length-map}
 use Rattle.std.proofs.lemmas.List.Kept.{AllPairs-from_increasing}
 use Rattle.std.proofs.lemmas.List.Sums.{position_or_len_is}
 use Rattle.std.proofs.lemmas.Option.{same_Some}
+use Rattle.std.proofs.lemmas.Bool.{lt-ltb}
 use Rattle.lagtypes.specs.declared.identifiers.AggId.{AggId}
 use Rattle.portmachines.specs.Machines.{Machines}
 use Rattle.lagsystem.specs.declared.system_ports.SystemPort.{SystemPort}
@@ -16,9 +17,6 @@ use Rattle.lagsystem.specs.Holding.{aggregators_in_use}
 use Rattle.lagsystem.specs.Readers.{collecting}
 use Rattle.lagsystem.specs.State.{port_index, port_numbers}
 
-small : (m k : ℕ) → m < k → nat_lt m k ≡ true
-small m k h = grind (arith, nat_tests)
-
 -- of ascending ports the one with the number at a place is the first with that number
 pub place_at : (n : ℕ) (system_ports : List SystemPort) (i : ℕ) (d : SystemPort) → IsStrictlyIncreasing (port_numbers system_ports)
     → i < length system_ports → (get_or system_ports i d).number ≡ n → port_index n system_ports ≡ Some i
@@ -26,7 +24,7 @@ place_at n system_ports i d r l e =
     ap (λ k. cond (nat_lt k (length system_ports)) (Some k) None)
     (position_or_len_is (λ s. s.number == n) system_ports i d (omega (arith, l)) earlier
     (λ h. same (get_or system_ports i d).number n e))
-    ∙ ap (λ b. cond b (Some i) None) (small i (length system_ports) l)
+    ∙ ap (λ b. cond b (Some i) None) (lt-ltb i (length system_ports) l)
   where
     unequal : (m k : ℕ) → m < k → (m == k) ≡ false
     unequal m k h = grind (arith, nat_tests)

@@ -4,6 +4,7 @@ use Rattle.std.proofs.Common.{nat_lt, refl, sym, ap, subst, arith, inl, inr, ◌
 use Rattle.std.proofs.Common.{if◌then◌else◌}
 use Rattle.std.specs.Prelude.{is_some, min}
 use Rattle.std.specs.List.{AllByRecursion}
+use Rattle.std.proofs.lemmas.Bool.{leb-true, lt-ltb}
 use Rattle.portmachines.specs.Machines.{Machines}
 use Rattle.portmachines.specs.Transmit.{aged}
 use Rattle.distributor.specs.declared.assignment.Assignment.{Assignment}
@@ -17,7 +18,7 @@ use Rattle.lagsystem.specs.Hosts.{would_transmit}
 use Rattle.lagsystem.specs.Quiet.{counted, fewer, waited}
 use Rattle.lagsystem.specs.State.{SystemState}
 use Rattle.lagsystem.specs.Waiting.{soonest, ticks_in_window, ticks_until_due_on, ticks_until_expired, ticks_until_frame, ticks_until_room}
-use Rattle.lagsystem.proofs.QuietTicks.{Lasts, PortLasts, TableTicked, aged_on, frame_not, lasting, le_from, lt_true, still_not_due}
+use Rattle.lagsystem.proofs.QuietTicks.{Lasts, PortLasts, TableTicked, aged_on, frame_not, lasting, still_not_due}
 use Rattle.lagsystem.proofs.QuietTicks.{table_lasts, waits_on}
 
 -- numbers of ticks
@@ -43,7 +44,7 @@ fewer_soonest m (x ∷ xs) = ap (sooner (fewer m x)) (fewer_soonest m xs) ∙ fe
 -- timers
 
 running : (t : ℕ) → 0 < t → ticks_until_expired t ≡ Some t
-running t l = ap (λ b. if b then Some t else None) (lt_true 0 t l)
+running t l = ap (λ b. if b then Some t else None) (lt-ltb 0 t l)
 
 timer_left : (j t : ℕ) → Lasts j (ticks_until_expired t) → ticks_until_expired (t - 1) ≡ fewer 1 (ticks_until_expired t)
 timer_left j t h = elim (lasting j t (nat_lt 0 t) refl h) [
@@ -58,7 +59,7 @@ window_left : (j : ℕ) (ages : List ℕ) → Lasts j (soonest (map ticks_in_win
 window_left j [] h = refl
 window_left j (a ∷ more) h =
     let rest = window_left j more (by_second (Some (j + 2)) (ticks_in_window a) (soonest (map ticks_in_window more)) h) in
-    let here : j + 2 ≤ 11 - a = le_from (j + 2) (11 - a)
+    let here : j + 2 ≤ 11 - a = leb-true (j + 2) (11 - a)
     (by_first (Some (j + 2)) (ticks_in_window a) (soonest (map ticks_in_window more)) h) in
     let young : a + 1 < 11 = omega (arith, here) in
     let one : 11 - (a + 1) ≡ (11 - a) - 1 = omega arith in

@@ -1,11 +1,11 @@
 -- A tick in which nothing is soon.
 use Rattle.std.proofs.Common.{◌≡◌, ◌∙◌, ℕ, zero, suc, ◌+◌, ◌-◌, ◌==◌, ◌≤◌, ◌<◌, Bool, true, false, cond, not, ◌&&◌, ◌||◌, List, [], ◌∷◌}
-use Rattle.std.proofs.Common.{map, filter, length, Option, Some, None, nat_le, nat_lt, refl, sym, ap, subst, arith, inl, inr, ◌⊎◌}
+use Rattle.std.proofs.Common.{map, filter, length, Option, Some, None, nat_lt, refl, sym, ap, subst, arith, inl, inr, ◌⊎◌}
 use Rattle.std.proofs.Common.{if◌then◌else◌}
 use Rattle.std.specs.Prelude.{ltb, is_some, ◌^◌}
 use Rattle.std.specs.Bool.{IsFalse}
 use Rattle.std.specs.List.{AllByRecursion}
-use Rattle.std.proofs.lemmas.Bool.{cases_Bool, cond-true, cond-false, false≢true, lt-ltb}
+use Rattle.std.proofs.lemmas.Bool.{cases_Bool, cond-true, cond-false, false≢true, lt-ltb, le-leb, leb-true, ltb-true}
 use Rattle.std.proofs.lemmas.Bool.Decides.{nat_tests}
 use Rattle.lagtypes.specs.declared.identifiers.AggId.{AggId}
 use Rattle.portmachines.specs.declared.mux.MuxState.{MuxState}
@@ -42,18 +42,6 @@ use Rattle.lagsystem.specs.Waiting.{soonest, ticks_in_window, ticks_until_due_on
 
 -- ---- numbers of ticks
 
-le_true : (a b : ℕ) → a ≤ b → nat_le a b ≡ true
-le_true a b h = grind (arith, nat_tests)
-
-pub le_from : (a b : ℕ) → nat_le a b ≡ true → a ≤ b
-le_from a b h = grind (arith, nat_tests)
-
-pub lt_true : (a b : ℕ) → a < b → nat_lt a b ≡ true
-lt_true a b h = grind (arith, nat_tests)
-
-lt_from : (a b : ℕ) → nat_lt a b ≡ true → a < b
-lt_from a b h = grind (arith, nat_tests)
-
 by_none : (x : Option ℕ) → is_by x None ≡ true
 by_none None = refl
 by_none (Some n) = refl
@@ -69,7 +57,7 @@ Remains j x = is_by (Some (j + 1)) x ≡ true
 
 -- a timer has expired, or does not expire soon
 pub lasting : (j t : ℕ) (b : Bool) → nat_lt 0 t ≡ b → Lasts j (if b then Some t else None) → (t ≡ 0) ⊎ (j + 2 ≤ t)
-lasting j t true e h = inr (le_from (j + 2) t h)
+lasting j t true e h = inr (leb-true (j + 2) t h)
 lasting j t false e h = let z : t ≡ 0 = grind (arith, nat_tests) in inl z
 
 timer_alike : (j t : ℕ) → Lasts j (ticks_until_expired t) → (t - 1 == 0) ≡ (t == 0)
@@ -79,7 +67,7 @@ timer_alike j t h = elim (lasting j t (nat_lt 0 t) refl h) [
 ]
 
 remaining : (j t : ℕ) (b : Bool) → nat_lt 0 t ≡ b → j + 1 ≤ t → Remains j (if b then Some t else None)
-remaining j t true e h = le_true (j + 1) t h
+remaining j t true e h = le-leb (j + 1) t h
 remaining j t false e h = refl
 
 timer_remains : (j t : ℕ) → Lasts j (ticks_until_expired t) → Remains j (ticks_until_expired (t - 1))
@@ -91,14 +79,14 @@ timer_remains j t h = elim (lasting j t (nat_lt 0 t) refl h) [
 -- ---- the transmit window
 
 pub aged_on : (a : ℕ) (more : List ℕ) → a + 1 < 11 → aged (a ∷ more) ≡ (a + 1) ∷ aged more
-aged_on a more h = ap (λ b. cond b ((a + 1) ∷ aged more) (aged more)) (lt_true (a + 1) 11 h)
+aged_on a more h = ap (λ b. cond b ((a + 1) ∷ aged more) (aged more)) (lt-ltb (a + 1) 11 h)
 
 window_on : (j : ℕ) (ages : List ℕ) → Lasts j (soonest (map ticks_in_window ages))
     → (length (aged ages) ≡ length ages) × Remains j (soonest (map ticks_in_window (aged ages)))
 window_on j [] h = (refl, refl)
 window_on j (a ∷ more) h =
     let rest = window_on j more (by_second (Some (j + 2)) (ticks_in_window a) (soonest (map ticks_in_window more)) h) in
-    let here : j + 2 ≤ 11 - a = le_from (j + 2) (11 - a)
+    let here : j + 2 ≤ 11 - a = leb-true (j + 2) (11 - a)
     (by_first (Some (j + 2)) (ticks_in_window a) (soonest (map ticks_in_window more)) h) in
     let young : a + 1 < 11 = omega (arith, here) in
     let later : j + 1 ≤ 11 - (a + 1) = omega (arith, here) in
@@ -106,7 +94,7 @@ window_on j (a ∷ more) h =
       ap length e ∙ (λ i. suc (rest.0 i)),
       subst (λ l. Remains j (soonest (map ticks_in_window l))) (sym e)
           (by_both (Some (j + 1)) (ticks_in_window (a + 1)) (soonest (map ticks_in_window (aged more)))
-          (le_true (j + 1) (11 - (a + 1)) later) rest.1),
+          (le-leb (j + 1) (11 - (a + 1)) later) rest.1),
     )
 
 room_on : (j : ℕ) (p : Machines) (b : Bool) → Lasts j (if b then soonest (map ticks_in_window p.ages) else None)
@@ -213,7 +201,7 @@ port_lasts j s x h =
 
 -- nothing is due now
 pub frame_not : (k : ℕ) (b : Bool) → is_by (Some (k + 1)) (if b then Some 0 else None) ≡ true → b ≡ false
-frame_not k true h = absurd (omega (arith, le_from (k + 1) 0 h))
+frame_not k true h = absurd (omega (arith, leb-true (k + 1) 0 h))
 frame_not k false h = refl
 
 not_due : (up ntt few later was now : Bool) → ((up && ntt) ≡ true → later ≡ few) → now ≡ was → (up && ((ntt && few) || was)) ≡ false
@@ -347,13 +335,13 @@ waits_on j (Free preferred) h = record { remains = refl; wants = λ port. refl; 
 waits_on j (On q) h = record { remains = refl; wants = λ port. refl; longer = refl }
 waits_on j (Wanted q preferred) h = record { remains = refl; wants = λ port. refl; longer = refl }
 waits_on j (Flushing q id preferred age) h =
-    let left : j + 2 ≤ 30 - age = le_from (j + 2) (30 - age) h in
+    let left : j + 2 ≤ 30 - age = leb-true (j + 2) (30 - age) h in
     let young : age + 1 < 30 = omega (arith, left) in
     let later : j + 1 ≤ 30 - (age + 1) = omega (arith, left) in
     let e : after_tick (Flushing q id preferred age) ≡ Flushing q id preferred (age + 1) =
     cond-true (ltb (age + 1) 30) (Flushing q id preferred (age + 1)) (Wanted q preferred) (lt-ltb (age + 1) 30 young) in
     record {
-      remains = subst (λ x. Remains j (ticks_until_wanted x)) (sym e) (le_true (j + 1) (30 - (age + 1)) later);
+      remains = subst (λ x. Remains j (ticks_until_wanted x)) (sym e) (le-leb (j + 1) (30 - (age + 1)) later);
       wants = λ port. ap (wants_marker port) e;
       longer = e;
     }
@@ -362,7 +350,7 @@ below_lasts : (f : ℕ → Option ℕ) (n : ℕ) (x : Option ℕ) (k : ℕ) → 
 unfolding soonest_below
 below_lasts f zero x k h lt = absurd (omega arith)
 below_lasts f (suc n) x k h lt = elim (cases_Bool (nat_lt k n)) [
-  | inl e ↦ below_lasts f n x k (by_first x (soonest_below f n) (f n) h) (lt_from k n e)
+  | inl e ↦ below_lasts f n x k (by_first x (soonest_below f n) (f n) h) (ltb-true k n e)
   | inr g ↦ (let last : n ≡ k = grind (arith, nat_tests) in
       subst (λ i. is_by x (f i) ≡ true) last (by_second x (soonest_below f n) (f n) h))
 ]

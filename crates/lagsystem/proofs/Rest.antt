@@ -1,7 +1,7 @@
 -- What holds of each port after every call: its machines are at rest.
 use Rattle.std.proofs.Common.{◌≡◌, ℕ, Bool, true, false, Option, Some, None, Result, Ok, Err, List, [], ◌∷◌, refl}
 use Rattle.std.proofs.Common.{sym, ◌∙◌, subst, ap, inl, inr}
-use Rattle.std.specs.Prelude.{◌&&◌, ◌||◌, ◌==◌, not, if◌then◌else◌, slice_get}
+use Rattle.std.specs.Prelude.{◌&&◌, ◌||◌, ◌==◌, not, if◌then◌else◌, slice_get, slice_set}
 use Rattle.std.specs.List.{AllZip, AllByRecursion}
 use Rattle.std.proofs.lemmas.Bool.{and_parts, not-true, true≢false}
 use Rattle.lagtypes.specs.declared.identifiers.AggId.{AggId}
@@ -21,12 +21,9 @@ use Rattle.portmachines.specs.Periodic.{periodic_rows, RunsPeriodic}
 use Rattle.portmachines.specs.Receive.{same_receive_state, receive_rows, start_receive}
 use Rattle.portmachines.specs.Rows.{Row, AtRest, RunsToRest}
 use Rattle.portmachines.specs.Start.{Starts, before_start}
-use Rattle.portmachines.specs.Transmit.{count_down, is_due, after_sending}
-use Rattle.lagsystem.specs.declared.received.FrameEffect.{FrameEffect}
-use Rattle.lagsystem.specs.declared.received.FrameEffect.TheVariants.{ProcessLacpdu, Response, Answered}
+use Rattle.portmachines.specs.Transmit.{count_down, after_sending}
 use Rattle.lagsystem.specs.declared.received.Received.{Received}
 use Rattle.lagsystem.specs.declared.drive.Reply.{Reply}
-use Rattle.lagsystem.specs.declared.drive.Reply.TheVariants as reply
 use Rattle.lagsystem.specs.declared.fault.SystemFault.{SystemFault}
 use Rattle.lagsystem.specs.declared.system_ports.SystemPort.{SystemPort}
 use Rattle.lagsystem.specs.Views.{views}
@@ -34,16 +31,16 @@ use Rattle.lagsystem.specs.State.{SystemState, aggregators_value, with_system_po
 use Rattle.lagsystem.specs.First.{IsFirst, HasJustStarted, setup_of}
 use Rattle.lagsystem.specs.Settling.{Settling, with_choice, ready_of}
 use Rattle.lagsystem.proofs.PromotionLemmas.{KeptByChoices, choosing_keeps}
-use Rattle.lagsystem.specs.Offers.{GivesOrRefuses, Offers, system_force_result, system_move_result}
-use Rattle.lagsystem.specs.Sending.{TransmitsAt, SendsMarkerOf, TransmitsIf}
-use Rattle.distributor.specs.Changes.{marker_due}
-use Rattle.lagsystem.specs.Calls.{Call, Tick, Set_link, Receive, Configure, Restart, Transmit, Offer, Move_conversation, Force, Ticks}
-use Rattle.lagsystem.specs.Calls.{SetsPortEnabled, choice_with_link, ChangesParty, Performs, SetsLink, PortAtChangesBy, OnlyPortChangesBy, Releases}
-use Rattle.lagsystem.specs.Calls.{ThenSettles, ProcessesLacpdu, changed_party, is_own_response, Step}
+use Rattle.lagsystem.specs.Offers.{GivesOrRefuses, Offers}
+use Rattle.lagsystem.specs.Sending.{SendsMarkerOf}
+use Rattle.lagsystem.specs.Calls.{Call, Ticks}
+use Rattle.lagsystem.specs.Calls.{SetsPortEnabled, choice_with_link, ChangesParty, SetsLink, PortAtChangesBy, OnlyPortChangesBy, Releases}
+use Rattle.lagsystem.specs.Calls.{ThenSettles, ProcessesLacpdu, changed_party, Step}
 use Rattle.lagsystem.specs.ModelView.{can_receive_in, can_receive, mux_consistent_of, mux_consistent, none_enabled, ReceivesAtRest}
 use Rattle.lagsystem.specs.ModelView.{MuxesConsistent}
 use Rattle.lagsystem.specs.ModelView.{PortsConsistent}
 use Rattle.portmachines.proofs.Runs.{Reaches-keeps}
+use Rattle.lagsystem.proofs.Preserves.{Step-preserves_ports}
 use Rattle.lagsystem.proofs.Rising.{all-set, all-get}
 
 -- a machine is at rest exactly if no row is enabled
@@ -227,40 +224,6 @@ pub becomes_slots : (agg : AggId) (conv : ℕ) (state : Result Assignment System
 becomes_slots agg conv (Ok state) old answer new h = ap (λ (x : SystemState). x.system_ports) h.1.1
 becomes_slots agg conv (Err fault) old answer new h = ap (λ (x : SystemState). x.system_ports) h.1
 
--- sending
-where_kept : (g : Machines → Bool) → ((p : Machines) → g (after_sending p) ≡ g p)
-    → (up due : Bool) (i : ℕ) (system_port : SystemPort) (old : SystemState) (answer : Option (List ℕ)) (new : SystemState)
-    → slice_get old.system_ports i ≡ Some system_port
-    → TransmitsIf up due i system_port old answer new → AllByRecursion (λ x. g x.port ≡ true) old.system_ports
-    → AllByRecursion (λ x. g x.port ≡ true) new.system_ports
-where_kept g k false due i system_port old answer new e h a = subst (AllByRecursion (λ x. g x.port ≡ true)) (sym (same_slots old new h.1)) a
-where_kept g k true true i system_port old answer new e h a =
-    subst (AllByRecursion (λ x. g x.port ≡ true)) (sym (ap (λ (x : SystemState). x.system_ports) h.3))
-    (all-set (λ x. g x.port ≡ true) old.system_ports i (record system_port { port = after_sending system_port.port }) a (k system_port.port
-    ∙ all-get (λ x. g x.port ≡ true) old.system_ports i system_port e a))
-where_kept g k true false i system_port old answer new e h a =
-    subst (AllByRecursion (λ x. g x.port ≡ true))
-    (sym (marker_slots (marker_due old.table system_port.number) system_port.number system_port.mac old answer new h)) a
-
-sends_kept : (g : Machines → Bool) → ((p : Machines) → g (after_sending p) ≡ g p)
-    → (o : Option ℕ) (old : SystemState) (answer : Option (List ℕ)) (new : SystemState) → TransmitsAt o old answer new
-    → AllByRecursion (λ x. g x.port ≡ true) old.system_ports → AllByRecursion (λ x. g x.port ≡ true) new.system_ports
-sends_kept g k None old answer new h a = absurd h
-sends_kept g k (Some i) old answer new h a = where_kept g k h.0.port.enabled (is_due h.0.port) i h.0 old answer new h.1 h.2 a
-
-same_rested : (s t : SystemState) → t.system_ports ≡ s.system_ports → PortsConsistent s.system_ports → PortsConsistent t.system_ports
-same_rested s t e a = subst PortsConsistent (sym e) a
-
-does_rested : (effect : FrameEffect) (port : ℕ) (o : Option ℕ) (old : SystemState) (answer : Received) (new : SystemState)
-    → Performs effect port o old answer new → PortsConsistent old.system_ports → PortsConsistent new.system_ports
-does_rested (ProcessLacpdu v) port o old answer new h a =
-    settled_rested (OnlyPortChangesBy o (ProcessesLacpdu v)) old new
-    (λ mid own. place_kept IsAwake (ProcessesLacpdu v) o old.system_ports mid.system_ports
-    (λ s q r k. takes_awake v s.port q r k) own.0 a.0) h.1
-does_rested (Response m) port o old answer new h a = same_rested old new
-    (releases_slots (is_own_response old port m) port m old answer new h) a
-does_rested (Answered effect) port o old answer new h a = same_rested old new (same_slots old new h.1) a
-
 -- the start
 pub first_rested : (s : SystemState) → IsFirst s → PortsConsistent s.system_ports
 first_rested s h =
@@ -270,34 +233,36 @@ first_rested s h =
 -- every call leaves the machines at rest
 pub Step-rested : (gives : ℕ → ℕ → ℕ → Type 0) (old : SystemState) (call : Call) (answer : Reply) (new : SystemState)
     → Step gives old call answer new → PortsConsistent old.system_ports → PortsConsistent new.system_ports
-Step-rested gives old Tick reply.Tick new h a =
-    settled_rested Ticks old new (λ mid own. zip_all _ IsAwake (λ x y m. receive_awake (count_down x.port) y.port m.1) old.system_ports
-    mid.system_ports own.0) h
-Step-rested gives old (Set_link n up) (reply.SetLink (Ok done)) new h a =
-    let o = port_index n old.system_ports in
-    settled_rested (SetsLink n up) old new (λ mid own. place_kept IsAwake (SetsPortEnabled old.max_links up) o old.system_ports mid.system_ports
-    (λ s q r k. receive_awake (record s.port { enabled = up; choice = choice_with_link old.max_links up s.port.choice }) q r) own.0 a.0) h
-Step-rested gives old (Set_link n up) (reply.SetLink (Err fault)) new h a = same_rested old new (same_slots old new h.same) a
-Step-rested gives old (Receive n octets) (reply.Receive (Ok answer)) new h a = does_rested h.1 h.0.number
-    (port_index n old.system_ports) old answer new h.4 a
-Step-rested gives old (Receive n octets) (reply.Receive (Err fault)) new h a = same_rested old new (same_slots old new h.same) a
-Step-rested gives old (Configure n change) (reply.Configure (Ok true)) new h a =
-    let o = port_index n old.system_ports in
-    settled_rested (OnlyPortChangesBy o (ChangesParty change)) old new
-    (λ mid own. place_kept IsAwake (ChangesParty change) o old.system_ports mid.system_ports
-    (λ s q r k. starts_awake (record s.port { party = changed_party change s.port.party }) q r.1) own.0 a.0) h
-Step-rested gives old (Configure n change) (reply.Configure (Ok false)) new h a = same_rested old new (same_slots old new h.1) a
-Step-rested gives old (Configure n change) (reply.Configure (Err fault)) new h a = same_rested old new (same_slots old new h.same) a
-Step-rested gives old Restart reply.Restart new h a = first_rested new h.1
-Step-rested gives old (Transmit n) (reply.Transmit (Ok answer)) new h a = (
-  sends_kept (none_enabled receive_rows) (λ p. refl) (port_index n old.system_ports) old answer new h a.0,
-  sends_kept mux_consistent (λ p. refl) (port_index n old.system_ports) old answer new h a.1,
-)
-Step-rested gives old (Transmit n) (reply.Transmit (Err fault)) new h a = same_rested old new (same_slots old new h.same) a
-Step-rested gives old (Offer agg octets) (reply.Offer answer) new h a = same_rested old new
-    (offers_slots gives agg octets old answer new h) a
-Step-rested gives old (Move_conversation agg conv port) (reply.MoveConversation answer) new h a =
-    same_rested old new (becomes_slots agg conv (system_move_result old agg conv port) old answer new h) a
-Step-rested gives old (Force agg conv) (reply.Force answer) new h a = same_rested old new
-    (becomes_slots agg conv (system_force_result old agg conv) old answer new h) a
-Step-rested gives old call answer new h a = absurd h
+Step-rested gives old call answer new h a = Step-preserves_ports gives old (λ call answer new. PortsConsistent new.system_ports)
+    (λ call answer new none e. subst PortsConsistent (sym e) a) (record {
+      tick = λ new h. settled_rested Ticks old new (λ mid own. zip_all _ IsAwake (λ x y m. receive_awake (count_down x.port) y.port m.1)
+          old.system_ports mid.system_ports own.0) h;
+      link = λ n up done new h. settled_rested (SetsLink n up) old new (λ mid own. place_kept IsAwake (SetsPortEnabled old.max_links up)
+          (port_index n old.system_ports) old.system_ports mid.system_ports
+          (λ s q r k. receive_awake (record s.port { enabled = up; choice = choice_with_link old.max_links up s.port.choice }) q r)
+          own.0 a.0) h;
+      take = λ n octets v answer new told h. on_port n (ProcessesLacpdu v) (takes_awake v) new h;
+      change = λ n change new h. on_port n (ChangesParty change)
+          (λ p q r k. starts_awake (record p { party = changed_party change p.party }) q r.1) new h;
+      restart = λ new e first. first_rested new first;
+      send = λ n i x answer octets new at e due is told set. (
+        sent (none_enabled receive_rows) (λ p. refl) new i x e set a.0,
+        sent mux_consistent (λ p. refl) new i x e set a.1,
+      );
+    }) call answer new h
+  where
+    on_port : (n : ℕ) (R : Machines → Machines → Type 0)
+        → ((p q : Machines) → R p q → none_enabled receive_rows p ≡ true → none_enabled receive_rows q ≡ true) → (new : SystemState)
+        → ThenSettles (OnlyPortChangesBy (port_index n old.system_ports) R) old new → PortsConsistent new.system_ports
+    on_port n R k new h = let o = port_index n old.system_ports in
+        settled_rested (OnlyPortChangesBy o R) old new
+        (λ mid own. place_kept IsAwake R o old.system_ports mid.system_ports (λ s. k s.port) own.0 a.0) h
+
+    sent : (g : Machines → Bool) → ((p : Machines) → g (after_sending p) ≡ g p) → (new : SystemState) (i : ℕ) (x : SystemPort)
+        → slice_get old.system_ports i ≡ Some x
+        → new ≡ with_system_ports old (slice_set old.system_ports i (record x { port = after_sending x.port }))
+        → AllByRecursion (λ y. g y.port ≡ true) old.system_ports → AllByRecursion (λ y. g y.port ≡ true) new.system_ports
+    sent g k new i x e set b =
+        let P : SystemPort → Type 0 = λ y. g y.port ≡ true in
+        subst (AllByRecursion P) (sym (ap (λ (s : SystemState). s.system_ports) set))
+        (all-set P old.system_ports i (record x { port = after_sending x.port }) b (k x.port ∙ all-get P old.system_ports i x e b))

@@ -1,5 +1,5 @@
 -- How rows change the model's view of a port.
-use Rattle.std.proofs.Common.{◌≡◌, ℕ, zero, suc, Bool, true, false, ◌&&◌, Option, List, [], ◌∷◌, sym, refl, ap, subst, inl, inr, IsTrue}
+use Rattle.std.proofs.Common.{◌≡◌, ℕ, Bool, true, false, ◌&&◌, Option, List, [], ◌∷◌, sym, refl, ap, subst}
 use Rattle.std.proofs.Common.{IsSome}
 use Rattle.std.proofs.lemmas.Bool.{false≢true}
 use Rattle.std.proofs.lemmas.List.{append-nil}
@@ -8,13 +8,14 @@ use Rattle.lagtypes.specs.declared.party.Choice.{Choice}
 use Rattle.lagtypes.specs.declared.party.Choice.TheVariants.{Unselected, Selected, Standby}
 use Rattle.portmachines.specs.declared.mux.MuxState.TheVariants.{CollectingDistributing}
 use Rattle.portmachines.specs.Machines.{Machines}
-use Rattle.portmachines.specs.Rows.{Row, Fires, FiresTimes, RunsToRest}
+use Rattle.portmachines.specs.Rows.{Row, RunsToRest}
 use Rattle.lagtypes.specs.Choices.{is_selected}
 use Rattle.portmachines.specs.Mux.{mux_rows, same_mux_state, partner_synchronized}
 use Rattle.portmachines.specs.Periodic.{periodic_rows, RunsPeriodic}
 use Rattle.lagmodel.specs.View.{PortFacts, SystemSetup, ModelCall}
 use Rattle.lagmodel.specs.Move.{Act, PortMove}
 use Rattle.lagsystem.specs.ModelView.{model_port, selected_number}
+use Rattle.portmachines.proofs.Runs.{EachRelates, Rests-relates}
 use Rattle.lagsystem.proofs.OfPort.{PortMoves, port_joined, port_stays}
 
 -- the view of a port that was stopped: rows are looked at between a stop and a new beginning
@@ -50,28 +51,14 @@ loudly u call n p q seen h =
 
 -- rows whose effects others do not see
 abbrev pub EachMoves : SystemSetup → ModelCall → ℕ → List Row → Type 0
-EachMoves u call n [] = Unit {0}
-EachMoves u call n (row ∷ rows) = ((p : Machines) → IsTrue (row.enabled p) → QuietMoves u call n p [] (row.effect p))
-    × EachMoves u call n rows
-
-pub fires_moves : (u : SystemSetup) (call : ModelCall) (n : ℕ) (rows : List Row) → EachMoves u call n rows → (p q : Machines)
-    → Fires rows p q → QuietMoves u call n p [] q
-fires_moves u call n [] k p q h = absurd h
-fires_moves u call n (row ∷ rows) k p q h = elim h [
-  | inl f ↦ subst (λ r. QuietMoves u call n p [] r) (sym f.1) (k.0 p f.0)
-  | inr f ↦ fires_moves u call n rows k.1 p q f
-]
-
-pub reaches_moves : (u : SystemSetup) (call : ModelCall) (n : ℕ) (rows : List Row) → EachMoves u call n rows → (m : ℕ) (p q : Machines)
-    → FiresTimes rows m p q → QuietMoves u call n p [] q
-reaches_moves u call n rows k zero p q run = port_stays u call n (quiet p) (quiet q) (ap quiet run)
-reaches_moves u call n rows k (suc m) p q run =
-    port_joined u call n (quiet p) (quiet run.0) (quiet q) [] [] (reaches_moves u call n rows k m p run.0 run.1)
-    (fires_moves u call n rows k run.0 q run.2)
+EachMoves u call n rows = EachRelates (λ p q. QuietMoves u call n p [] q) rows
 
 pub settles_moves : (u : SystemSetup) (call : ModelCall) (n : ℕ) (rows : List Row) → EachMoves u call n rows → (p q : Machines)
     → RunsToRest rows p q → QuietMoves u call n p [] q
-settles_moves u call n rows k p q h = reaches_moves u call n rows k h.0 p q h.1
+settles_moves u call n = Rests-relates (λ p q. QuietMoves u call n p [] q) (record {
+  same = λ p q e. port_stays u call n (quiet p) (quiet q) (ap quiet e);
+  both = λ p q r h k. port_joined u call n (quiet p) (quiet q) (quiet r) [] [] h k;
+})
 
 -- rows that leave what the view has, but for distribution
 pub mux_moves : (u : SystemSetup) (call : ModelCall) (n : ℕ) (ready : Bool) → EachMoves u call n (mux_rows ready)

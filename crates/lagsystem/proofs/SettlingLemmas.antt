@@ -3,6 +3,7 @@ use Rattle.std.proofs.Common.{◌≡◌, ℕ, Bool, true, false, ◌||◌, ◌&&
 use Rattle.std.proofs.Common.{subst, ap, if◌then◌else◌, filter, slice_get, slice_set, ℕ, zero, suc, option_map}
 use Rattle.std.proofs.lemmas.Option.{same_Some}
 use Rattle.std.specs.List.{list_all, list_any}
+use Rattle.std.proofs.lemmas.Bool.{or_parts}
 use Rattle.lagtypes.specs.Choices.{is_selected}
 use Rattle.lagtypes.specs.declared.identifiers.AggId.{AggId}
 use Rattle.lagtypes.specs.declared.identifiers.Key.{Key}
@@ -31,10 +32,6 @@ abbrev have_waited : List PortView → Bool
 have_waited seen = list_any (λ v. is_detached_or_waiting v.stage) seen
     && list_all (λ v. has_waited v.stage) (filter (λ v. is_detached_or_waiting v.stage) seen)
 
-pub or_false : (b c : Bool) → (b || c) ≡ false → (b ≡ false) × (c ≡ false)
-or_false true c h = cc
-or_false false c h = (refl, h)
-
 -- a SELECTED port in WAITING with wait_while expired
 abbrev pub member_has_waited : SystemPort → Bool
 member_has_waited s = is_selected s.port.choice && has_waited (selection_view s).stage
@@ -53,7 +50,7 @@ none_given : (agg : AggId) (system_ports : List SystemPort) → list_any (λ s. 
     → one_expired (ports_that_chose agg (views system_ports)) ≡ false
 none_given agg [] h = refl
 none_given agg (s ∷ ss) h =
-    let both = or_false (member_has_waited s) (list_any (λ s. member_has_waited s) ss) h in
+    let both = or_parts (member_has_waited s) (list_any (λ s. member_has_waited s) ss) h in
     none_filtered agg s.port.choice (selection_view s) (ports_that_chose agg (views ss)) both.0 (none_given agg ss both.1)
 
 none_known : (b : Bool) (xs : List PortView) → one_expired xs ≡ false → one_expired (if b then xs else []) ≡ false
@@ -70,7 +67,7 @@ first_has_not false v rest h k = k
 none_has_waited : (seen : List PortView) → one_expired seen ≡ false → have_waited seen ≡ false
 none_has_waited [] h = refl
 none_has_waited (v ∷ vs) h =
-    let both = or_false (has_waited v.stage) (one_expired vs) h in
+    let both = or_parts (has_waited v.stage) (one_expired vs) h in
     first_has_not (is_detached_or_waiting v.stage) v vs both.0 (none_has_waited vs both.1)
 
 -- if no member has waited long enough, no aggregator is Ready

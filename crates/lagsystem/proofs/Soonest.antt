@@ -3,7 +3,7 @@ use Rattle.std.proofs.Common.{◌≡◌, ◌∙◌, ◌⊎◌, ℕ, zero, suc, �
 use Rattle.std.proofs.Common.{None, nat_le, nat_lt, refl, sym, ap, subst, arith, inl, inr, slice_get}
 use Rattle.std.proofs.Common.{if◌then◌else◌}
 use Rattle.std.specs.Prelude.{min}
-use Rattle.std.proofs.lemmas.Bool.{and_parts, cases_Bool, false≢true}
+use Rattle.std.proofs.lemmas.Bool.{and_parts, cases_Bool, false≢true, leb-true, lt-ltb, le-leb}
 use Rattle.std.proofs.lemmas.Bool.Decides.{nat_tests}
 use Rattle.std.proofs.lemmas.Option.{none-some, same_Some}
 use Rattle.portmachines.specs.Machines.{Machines}
@@ -18,10 +18,6 @@ use Rattle.lagsystem.specs.Soonest.{ConversationHas, FrameHas, HappensIn, IsFirs
 use Rattle.lagsystem.specs.State.{SystemState}
 use Rattle.lagsystem.specs.Waiting.{soonest, ticks_in_window, ticks_until_due, ticks_until_due_on, ticks_until_expired, ticks_until_frame}
 use Rattle.lagsystem.specs.Waiting.{ticks_until_room}
-use Rattle.lagsystem.proofs.QuietTicks.{le_from, lt_true}
-
-le_yes : (a b : ℕ) → a ≤ b → nat_le a b ≡ true
-le_yes a b h = grind (arith, nat_tests)
 
 by_trans : (a b c : Option ℕ) → is_by a b ≡ true → is_by b c ≡ true → is_by a c ≡ true
 by_trans None None None h k = refl
@@ -30,7 +26,7 @@ by_trans None (Some y) c h k = absurd (false≢true h)
 by_trans (Some x) None None h k = refl
 by_trans (Some x) None (Some z) h k = absurd (false≢true k)
 by_trans (Some x) (Some y) None h k = refl
-by_trans (Some x) (Some y) (Some z) h k = le_yes x z (omega (arith, le_from x y h, le_from y z k))
+by_trans (Some x) (Some y) (Some z) h k = le-leb x z (omega (arith, leb-true x y h, leb-true y z k))
 
 -- one of them
 
@@ -41,7 +37,7 @@ one_of_two (Some x) None n h = inl h
 one_of_two (Some x) (Some y) n h =
     let least : min x y ≡ n = same_Some (min x y) n h in
     elim (cases_Bool (nat_le x y)) [
-      | inl e ↦ (let l : x ≤ y = le_from x y e in let is : x ≡ n = omega (arith, least, l) in inl (ap Some is))
+      | inl e ↦ (let l : x ≤ y = leb-true x y e in let is : x ≡ n = omega (arith, least, l) in inl (ap Some is))
       | inr g ↦ (let l : y ≤ x = grind (arith, nat_tests) in let is : y ≡ n = omega (arith, least, l) in inr (ap Some is))
     ]
 
@@ -159,12 +155,12 @@ by_below : (f : ℕ → Option ℕ) (n k : ℕ) (y : Option ℕ) → k < n → i
 by_below f n k y l h = by_trans (soonest_below f n) (f k) y (soonest_member f n k l) h
 
 by_number : (n : ℕ) (x : Option ℕ) → x ≡ Some n → is_by x (Some n) ≡ true
-by_number n x e = ap (λ y. is_by y (Some n)) e ∙ le_yes n n (omega arith)
+by_number n x e = ap (λ y. is_by y (Some n)) e ∙ le-leb n n (omega arith)
 
 by_timer : (t n : ℕ) → 0 < n → t ≡ n → is_by (ticks_until_expired t) (Some n) ≡ true
 by_timer t n l e =
     let some : 0 < t = omega (arith, l, e) in
-    by_number n (ticks_until_expired t) (ap (λ b. if b then Some t else None) (lt_true 0 t some) ∙ ap Some e)
+    by_number n (ticks_until_expired t) (ap (λ b. if b then Some t else None) (lt-ltb 0 t some) ∙ ap Some e)
 
 abbrev at_once : Bool → Option ℕ
 at_once b = if b then Some zero else None
@@ -228,7 +224,7 @@ by_all s n h = elim h [
 first_of : (s : SystemState) (r : Option ℕ) → ((n : ℕ) → r ≡ Some n → HappensIn n s)
     → ((m : ℕ) → HappensIn m s → is_by r (Some m) ≡ true) → IsFirstToHappen s r
 first_of s None one none = λ m h. false≢true (none m h)
-first_of s (Some n) one none = (one n refl, λ m h. le_from n m (none m h))
+first_of s (Some n) one none = (one n refl, λ m h. leb-true n m (none m h))
 
 pub tells_the_first : (s : SystemState) → IsFirstToHappen s (ticks_until_due s)
 tells_the_first s = first_of s (ticks_until_due s) (λ n e. happens s n e) (λ m h. by_all s m h)

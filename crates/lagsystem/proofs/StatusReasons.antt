@@ -3,7 +3,7 @@ use Rattle.std.proofs.Common.{◌≡◌, ◌∙◌, ℕ, zero, suc, ◌+◌, ◌
 use Rattle.std.proofs.Common.{Option, Some, None, filter, length, refl, sym, subst, ap, arith, if◌then◌else◌}
 use Rattle.std.specs.Prelude.{◌==◌, find, nat_le, nat_lt, option_map, slice_get}
 use Rattle.std.specs.List.{enumerate_from, list_all, list_any}
-use Rattle.std.proofs.lemmas.Bool.{eqb-true, true≢false}
+use Rattle.std.proofs.lemmas.Bool.{eqb-true, true≢false, not-false}
 use Rattle.std.proofs.lemmas.Bool.Decides.{nat_tests}
 use Rattle.std.proofs.lemmas.Option.{none-some, same_Some}
 use Rattle.lagtypes.specs.declared.identifiers.AggId.{AggId}
@@ -108,10 +108,6 @@ none_if : (b : Bool) (o : Option AggId) → b ≡ true → (if b then o else Non
 none_if true o e h = h
 none_if false o e h = absurd (true≢false (sym e))
 
-not_false : (b : Bool) → not b ≡ false → b ≡ true
-not_false true h = refl
-not_false false h = absurd (true≢false h)
-
 pub finds_no_aggregator : Says status.NoAggregator FindsNoAggregator
 finds_no_aggregator s i x h at e =
     let p = x.port in
@@ -133,7 +129,7 @@ finds_no_aggregator s i x h at e =
       hears = l.hears;
       eligible = may;
       none = none_if (is_eligible v) (chosen_aggregator s.keys seen x.number) may settled.apart;
-      occupied = λ agg key. not_false (has_occupant seen agg) (none_passes s.keys p.party.key (has_no_occupant seen) both.1 agg.0 key);
+      occupied = λ agg key. not-false (has_occupant seen agg) (none_passes s.keys p.party.key (has_no_occupant seen) both.1 agg.0 key);
       closed = λ agg key. none_passes s.keys p.party.key (occupants_share_group seen v) both.0 agg.0 key;
     }
 

@@ -2,7 +2,7 @@
 use Rattle.std.proofs.Common.{◌≡◌, ℕ, ◌<◌, ◌^◌, ◌==◌, Bool, true, false, cond, Option, Some, None, Result, Ok, Err, List, [], ◌∷◌}
 use Rattle.std.proofs.Common.{refl, sym, ◌∙◌, subst, ap, inl, inr, IsSome}
 use Rattle.std.specs.Prelude.{◌&&◌, ◌||◌, not, if◌then◌else◌, is_some, ltb, nat_lt, slice_get, slice_set}
-use Rattle.std.proofs.lemmas.Bool.{and_parts, false≢true, ltb-true}
+use Rattle.std.proofs.lemmas.Bool.{and_parts, false≢true, ltb-true, and_from}
 use Rattle.std.proofs.lemmas.Slice.Eq.{bytes_eq-Decides}
 use Rattle.std.specs.Str.{bytes_eq}
 use Rattle.std.proofs.lemmas.Bool.Decides.{Decides-eqb}
@@ -219,10 +219,6 @@ where_awake : (b x : Bool) → b ≡ true → (if b then x else true) ≡ true �
 where_awake true x e h = h
 where_awake false x e h = absurd (false≢true e)
 
-both : (x y : Bool) → x ≡ true → y ≡ true → (x && y) ≡ true
-both true y h k = k
-both false y h k = absurd (false≢true h)
-
 clash : (b : Bool) → b ≡ true → b ≡ false → ⊥
 clash true h k = cc
 clash false h k = cc
@@ -233,7 +229,7 @@ takes_moves u n v p q e a h = elim h [
   | inl f ↦ taking_moves u n v p q f
   | inr r ↦ absurd
       (clash (can_receive_in p.receive && p.enabled)
-      (both (can_receive_in p.receive) p.enabled (where_awake p.enabled (can_receive_in p.receive) e a) e) r.0.0)
+      (and_from (can_receive_in p.receive) p.enabled (where_awake p.enabled (can_receive_in p.receive) e a) e) r.0.0)
 ]
 
 -- a port that says synchronized is a member

@@ -2,7 +2,7 @@
 use Rattle.std.proofs.Common.{◌≡◌, ◌∙◌, ℕ, ◌==◌, ◌<◌, ◌+◌, Bool, true, false, cond, List, [], ◌∷◌, Option, Some, None, length, map, refl}
 use Rattle.std.proofs.Common.{sym, ap, subst, arith, inl, inr, eqb, eqb-true}
 use Rattle.std.specs.Prelude.{◌&&◌, ◌||◌, not, filter, if◌then◌else◌}
-use Rattle.std.proofs.lemmas.Bool.{cases_Bool, false≢true, true≢false}
+use Rattle.std.proofs.lemmas.Bool.{cases_Bool, false≢true, true≢false, or_from, and_right}
 use Rattle.std.proofs.lemmas.Bool.Decides.{Decides-eqb, nat_tests}
 use Rattle.lagtypes.specs.declared.identifiers.AggId.{AggId}
 use Rattle.lagtypes.specs.declared.party.Choice.{Choice}
@@ -39,22 +39,14 @@ on_more agg s system_ports p = one_more (distributes_in agg s) s (filter (distri
 other : (m p : ℕ) → m < p → eqb p m ≡ false
 other m p h = grind (arith, nat_tests)
 
-or_no : (a b : Bool) → a ≡ false → b ≡ false → (a || b) ≡ false
-or_no true b h k = absurd (true≢false h)
-or_no false b h k = k
-
-and_no : (a b : Bool) → b ≡ false → (a && b) ≡ false
-and_no true b h = h
-and_no false b h = refl
-
 -- none has a number past those of the ports
 pub none_on : (agg : AggId) (low : ℕ) (system_ports : List SystemPort) (p : ℕ) → Rises low (port_numbers system_ports) → p < low + 1
     → on agg system_ports p ≡ false
 none_on agg low [] p r l = refl
 none_on agg low (s ∷ system_ports) p r l =
     on_more agg s system_ports p
-    ∙ or_no (distributes_in agg s && eqb s.number p) (on agg system_ports p)
-    (and_no (distributes_in agg s) (eqb s.number p) (other p s.number (omega (arith, l, r.0))))
+    ∙ or_from (distributes_in agg s && eqb s.number p) (on agg system_ports p)
+    (and_right (distributes_in agg s) (eqb s.number p) (other p s.number (omega (arith, l, r.0))))
     (none_on agg s.number system_ports p r.1 (omega (arith, l, r.0)))
 
 none_stopped : (low : ℕ) (before : List (Option AggId)) (system_ports : List SystemPort) (p : ℕ) → Rises low (port_numbers system_ports)
@@ -62,7 +54,7 @@ none_stopped : (low : ℕ) (before : List (Option AggId)) (system_ports : List S
 none_stopped low [] system_ports p r l = refl
 none_stopped low (was ∷ before) [] p r l = refl
 none_stopped low (was ∷ before) (s ∷ system_ports) p r l =
-    or_no ((s.number == p) && has_stopped was s) (stopped before system_ports p)
+    or_from ((s.number == p) && has_stopped was s) (stopped before system_ports p)
     (ap (λ (b : Bool). b && has_stopped was s) (other p s.number (omega (arith, l, r.0))))
     (none_stopped s.number before system_ports p r.1 (omega (arith, l, r.0)))
 
@@ -75,7 +67,7 @@ given_agg agg (Selected a) true h = let same = (Decides-eqb a.0 agg.0).0 (left (
     left : (x : Bool) → (x && true) ≡ true → x ≡ true
     left true e = refl
     left false e = absurd (false≢true e)
-given_agg agg (Selected a) false h = absurd (false≢true (sym (and_no (a.0 == agg.0) false refl) ∙ h))
+given_agg agg (Selected a) false h = absurd (false≢true (sym (and_right (a.0 == agg.0) false refl) ∙ h))
 
 where_it_was : (agg : AggId) (s : SystemPort) → distributes_in agg s ≡ true → collecting s.port ≡ Some agg
 where_it_was agg s h = given_agg agg s.port.choice (same_mux_state CollectingDistributing s.port.mux) h

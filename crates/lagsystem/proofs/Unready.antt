@@ -2,7 +2,7 @@
 use Rattle.std.proofs.Common.{◌≡◌, ◌∙◌, ℕ, zero, suc, Bool, true, false, cond, not, ◌&&◌, ◌||◌, List, [], ◌∷◌, filter, refl, sym, ap}
 use Rattle.std.proofs.Common.{subst, inl, inr, if◌then◌else◌}
 use Rattle.std.specs.List.{list_all, list_any}
-use Rattle.std.proofs.lemmas.Bool.{eqb-true}
+use Rattle.std.proofs.lemmas.Bool.{eqb-true, and_right, or_parts, and_from, and_left}
 use Rattle.lagtypes.specs.declared.identifiers.AggId.{AggId}
 use Rattle.lagtypes.specs.declared.identifiers.Key.{Key}
 use Rattle.lagtypes.specs.declared.party.Choice.{Choice}
@@ -188,15 +188,11 @@ any_here : (test : PortView → Bool) (b : Bool) (w : PortView) (rest : List Por
 any_here test true w rest f h = ap (λ x. x || list_any test rest) (f refl) ∙ h
 any_here test false w rest f h = h
 
-or_parts_false : (b c : Bool) → (b || c) ≡ false → (b ≡ false) × (c ≡ false)
-or_parts_false true c h = absurd cc
-or_parts_false false c h = (refl, h)
-
 any_next : (test : PortView → Bool) (b : Bool) (w v : PortView) (rest more : List PortView) → list_any test (cond b (w ∷ rest) rest) ≡ false
     → (b ≡ true → test w ≡ false → test v ≡ false)
     → (list_any test rest ≡ false → list_any test more ≡ false) → list_any test (cond b (v ∷ more) more) ≡ false
 any_next test true w v rest more h f g =
-    let both = or_parts_false (test w) (list_any test rest) h in
+    let both = or_parts (test w) (list_any test rest) h in
     ap (λ x. x || list_any test more) (f refl both.0) ∙ g both.1
 any_next test false w v rest more h f g = g h
 
@@ -209,12 +205,8 @@ E v = has_waited v.stage
 abbrev all_waited : List PortView → Bool
 all_waited seen = list_all E (filter W seen)
 
-and_second : (b c : Bool) → c ≡ false → (b && c) ≡ false
-and_second true c h = h
-and_second false c h = refl
-
 all_after : (b : Bool) (v : PortView) (rest : List PortView) → list_all E rest ≡ false → list_all E (cond b (v ∷ rest) rest) ≡ false
-all_after true v rest h = and_second (E v) (list_all E rest) h
+all_after true v rest h = and_right (E v) (list_all E rest) h
 all_after false v rest h = h
 
 open_parts : (b c : Bool) → (b && not c) ≡ true → (b ≡ true) × (c ≡ false)
@@ -290,10 +282,6 @@ any_stays keys seen agg r (x ∷ xs) (y ∷ ys) h k =
     (reaches_kept joined (mux_rows false) joined_kept s.0 x.port y.port j s.1))
     (any_stays keys seen agg r xs ys h.1)
 
-open_given : (x o : Bool) → x ≡ true → o ≡ true → (x && o) ≡ true
-open_given true o s h = h
-open_given false o s h = absurd cc
-
 open_is : (x o : Bool) → (x && o) ≡ true → o ≡ true
 open_is true o h = h
 open_is false o h = absurd cc
@@ -312,7 +300,7 @@ all_stay keys seen agg r (x ∷ xs) (y ∷ ys) h k =
     (ports_that_chose agg (views ys)) k
     (λ g w.
     let s = unready_step keys seen agg x y r h.0.1 g in
-    let o : is_open x.port ≡ true = open_given (is_selected x.port.choice) (open_of x.port.mux x.port.wait_while)
+    let o : is_open x.port ≡ true = and_from (is_selected x.port.choice) (open_of x.port.mux x.port.wait_while)
     (given_selected agg x.port.choice g) w in
     open_is (is_selected y.port.choice) (open_of y.port.mux y.port.wait_while)
     (reaches_kept is_open (mux_rows false) open_kept s.0 x.port y.port o s.1))
@@ -325,20 +313,16 @@ none_of : (k : Bool) (g : List PortView) → (list_any W g && all_waited g) ≡ 
 none_of true g h = h
 none_of false g h = refl
 
-first_false : (b c : Bool) → b ≡ false → (b && c) ≡ false
-first_false true c h = absurd cc
-first_false false c h = refl
-
 one_false : (a b c d : Bool) → (a && b) ≡ false → (a ≡ false → c ≡ false) → (b ≡ false → d ≡ false) → (c && d) ≡ false
-one_false true b c d h f g = and_second c d (g h)
-one_false false b c d h f g = first_false c d (f refl)
+one_false true b c d h f g = and_right c d (g h)
+one_false false b c d h f g = and_left c d (f refl)
 
 unready_cases : (keys : List Key) (agg : AggId) (xs ys : List SystemPort) → PortsChangeBy (Steps keys (views xs)) xs ys → (r : Bool)
     → is_ready keys (views xs) agg ≡ r → (k : Bool) → is_aggregator keys agg ≡ k
     → is_ready keys (views ys) agg ≡ false
 unready_cases keys agg xs ys h true e k i =
     none_of (is_aggregator keys agg) (ports_that_chose agg (views ys))
-    (first_false _ (all_waited (ports_that_chose agg (views ys))) (none_wait keys (views xs) agg e xs ys h))
+    (and_left _ (all_waited (ports_that_chose agg (views ys))) (none_wait keys (views xs) agg e xs ys h))
 unready_cases keys agg xs ys h false e false i = ap (λ b. list_any W (if b then ports_that_chose agg (views ys) else [])
     && all_waited (if b then ports_that_chose agg (views ys) else [])) i
 unready_cases keys agg xs ys h false e true i =

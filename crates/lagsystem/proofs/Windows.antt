@@ -1,6 +1,6 @@
 -- Any eleven consecutive ticks hold at most three LACPDUs of a port, over lists of calls of a system.
 use Rattle.std.proofs.Common.{◌≡◌, ◌&&◌, ◌∙◌, ◌<◌, ◌≤◌, ◌+◌, ◌==◌, ◌++◌, ℕ, zero, suc, Bool, true, false, cond, List, [], ◌∷◌, Option}
-use Rattle.std.proofs.Common.{Some, None, Ok, Err, drop, length, ap, sym, refl, subst, arith, get_or, nat_lt, append_assoc}
+use Rattle.std.proofs.Common.{Some, None, Ok, length, ap, sym, refl, subst, arith, get_or, nat_lt, append_assoc}
 use Rattle.std.specs.Prelude.{if◌then◌else◌, slice_get, slice_set, option_map}
 use Rattle.std.specs.List.{AllByRecursion, AllZip, find, position_or_len}
 use Rattle.slowpdu.specs.declared.pdu.Lacpdu.{Lacpdu}
@@ -12,11 +12,7 @@ use Rattle.std.proofs.lemmas.List.Quantifiers.{position-Some}
 use Rattle.std.proofs.lemmas.Option.{slice_get_past, get_or_from_slice_get, same_Some}
 use Rattle.lagtypes.specs.declared.identifiers.SystemId.{SystemId}
 use Rattle.lagtypes.specs.declared.party.Choice.{Choice}
-use Rattle.slowpdu.specs.Frames.{frame_octets}
-use Rattle.slowpdu.specs.Layout.{IsAddress, HoldsNumber, read_field}
-use Rattle.slowpdu.proofs.LayoutLemmas.{octet_stands}
-use Rattle.slowpdu.proofs.WritingLemmas.{framed_payload}
-use Rattle.distributor.specs.Changes.{marker_due}
+use Rattle.slowpdu.specs.Layout.{read_field}
 use Rattle.portmachines.specs.Calls as port
 use Rattle.portmachines.specs.Machines.{Machines}
 use Rattle.portmachines.specs.Mux.{mux_rows}
@@ -30,9 +26,6 @@ use Rattle.portmachines.specs.Window.{KeepsWindow, sent_before}
 use Rattle.portmachines.proofs.Runs.{Reaches-keeps}
 use Rattle.portmachines.specs.declared.port.Setup.{Setup}
 use Rattle.portmachines.proofs.Windows.{ages_of, mux-same, periodic-ages, settles-same, starts-ages, taking-ages, window_law as port_window}
-use Rattle.lagsystem.specs.declared.received.FrameEffect.{FrameEffect}
-use Rattle.lagsystem.specs.declared.received.FrameEffect.TheVariants.{ProcessLacpdu, Response, Answered}
-use Rattle.lagsystem.specs.declared.received.Received.{Received}
 use Rattle.lagsystem.specs.declared.config.PortChange.{PortChange}
 use Rattle.lagsystem.specs.declared.config.PortConfig.{PortConfig}
 use Rattle.lagsystem.specs.declared.drive.Reply.{Reply}
@@ -40,18 +33,17 @@ use Rattle.lagsystem.specs.declared.drive.Reply.TheVariants as reply
 use Rattle.lagsystem.specs.declared.system_ports.SystemPort.{SystemPort}
 use Rattle.lagsystem.specs.State.{SystemState, aggregators_value, with_system_ports, port_index, machines_of, system_port_at}
 use Rattle.lagsystem.specs.Settling.{PortsChangeBy, Settling, with_choice, ready_of}
+use Rattle.lagsystem.proofs.Preserves.{Step-preserves_ports, lacpdu_subtype}
 use Rattle.lagsystem.proofs.PromotionLemmas.{KeptByChoices, choosing_keeps}
 use Rattle.lagsystem.specs.Views.{views}
 use Rattle.lagsystem.specs.First.{IsFirst, HasJustStarted, setup_of}
-use Rattle.lagsystem.specs.Calls.{Call, Tick, Set_link, Receive, Configure, Restart, Transmit, Offer, Move_conversation, Force}
-use Rattle.lagsystem.specs.Calls.{SetsPortEnabled, choice_with_link, ChangesParty, changed_party, is_own_response, PortAtChangesBy, OnlyPortChangesBy}
-use Rattle.lagsystem.specs.Calls.{ThenSettles, ProcessesLacpdu, Performs, Step, TableRun}
-use Rattle.lagsystem.specs.Offers.{system_force_result, system_move_result}
-use Rattle.lagsystem.specs.Sending.{TransmitsAt, SendsMarkerOf, TransmitsIf}
+use Rattle.lagsystem.specs.Calls.{Call, Transmit, SetsLink}
+use Rattle.lagsystem.specs.Calls.{SetsPortEnabled, choice_with_link, ChangesParty, changed_party, PortAtChangesBy, OnlyPortChangesBy}
+use Rattle.lagsystem.specs.Calls.{ThenSettles, ProcessesLacpdu, Step, TableRun}
 use Rattle.lagsystem.specs.Windows.{EachAtMostThreeAges, AtMostThreeAges, AgesSince, StartsWithoutAges, StaysWindowed, WindowFromStart}
-use Rattle.lagsystem.specs.Windows.{SystemWindowLaw, sends_after, remembered_sends, tick_after, subtype}
+use Rattle.lagsystem.specs.Windows.{SystemWindowLaw, sends_after, remembered_sends, tick_after}
 use Rattle.lagsystem.proofs.Keeps.{given_number}
-use Rattle.lagsystem.proofs.Rest.{becomes_slots, last_slots, offers_slots, releases_slots, same_slots}
+use Rattle.lagsystem.proofs.Rest.{last_slots, same_slots}
 
 -- one port
 
@@ -199,58 +191,16 @@ in_on_port : (P : Machines → Type 0) (N : Type 0) (n : ℕ) → IsKept P → (
 in_on_port P N n kept R move o old new h g = in_settling P N n kept h.0 new h.2
     (in_place P N n R move o old.system_ports h.0.system_ports h.1.0 g)
 
-in_does : (P : Machines → Type 0) (N : Type 0) (n : ℕ) → IsKept P
-    → (effect : FrameEffect) (number : ℕ) (o : Option ℕ) (old : SystemState) (answer : Received) (new : SystemState)
-    → Performs effect number o old answer new
-    → In P N n old.system_ports → In P N n new.system_ports
-in_does P N n kept (ProcessLacpdu v) number o old answer new h g = in_on_port P N n kept (ProcessesLacpdu v) (kept.take v) o old new h.1 g
-in_does P N n kept (Response m) number o old answer new h g = in_same P N n old new
-    (releases_slots (is_own_response old number m) number m old answer new h) g
-in_does P N n kept (Answered effect) number o old answer new h g = in_same P N n old new (same_slots old new h.1) g
-
--- neither a tick nor a send nor a restart
-abbrev IsOther : Call → Type 0
-IsOther Tick = ⊥
-IsOther Restart = ⊥
-IsOther (Transmit m) = ⊥
-IsOther call = Unit {0}
-
-in_step : (P : Machines → Type 0) (N : Type 0) (n : ℕ) → IsKept P
-    → (gives : ℕ → ℕ → ℕ → Type 0) (old : SystemState) (call : Call) (answer : Reply) (new : SystemState) → IsOther call
-    → Step gives old call answer new
-    → In P N n old.system_ports → In P N n new.system_ports
-in_step P N n kept gives old (Set_link m up) (reply.SetLink (Ok done)) new o h g =
+in_link : (P : Machines → Type 0) (N : Type 0) (n : ℕ) → IsKept P → (m : ℕ) (up : Bool) (old new : SystemState)
+    → ThenSettles (SetsLink m up) old new → In P N n old.system_ports → In P N n new.system_ports
+in_link P N n kept m up old new h g =
     in_settling P N n kept h.0 new h.2 (in_place P N n (SetsPortEnabled old.max_links up)
     (λ p q r g. let c = choice_with_link old.max_links up p.choice in kept.link up (record p { choice = c }) q r (kept.select c p g))
-    (port_index m old.system_ports) old.system_ports
-    h.0.system_ports h.1.0 g)
-in_step P N n kept gives old (Set_link m up) (reply.SetLink (Err fault)) new o h g = in_same P N n old new (same_slots old new h.same) g
-in_step P N n kept gives old (Receive m octets) (reply.Receive (Ok answer)) new o h g = in_does P N n kept h.1 h.0.number
-    (port_index m old.system_ports) old answer new h.4 g
-in_step P N n kept gives old (Receive m octets) (reply.Receive (Err fault)) new o h g = in_same P N n old new (same_slots old new h.same) g
-in_step P N n kept gives old (Configure m change) (reply.Configure (Ok true)) new o h g = in_on_port P N n kept (ChangesParty change)
-    (kept.party change) (port_index m old.system_ports) old new h g
-in_step P N n kept gives old (Configure m change) (reply.Configure (Ok false)) new o h g = in_same P N n old new (same_slots old new h.1) g
-in_step P N n kept gives old (Configure m change) (reply.Configure (Err fault)) new o h g = in_same P N n old new
-    (same_slots old new h.same) g
-in_step P N n kept gives old (Offer agg octets) (reply.Offer answer) new o h g = in_same P N n old new
-    (offers_slots gives agg octets old answer new h) g
-in_step P N n kept gives old (Move_conversation agg conv to) (reply.MoveConversation answer) new o h g =
-    in_same P N n old new (becomes_slots agg conv (system_move_result old agg conv to) old answer new h) g
-in_step P N n kept gives old (Force agg conv) (reply.Force answer) new o h g = in_same P N n old new
-    (becomes_slots agg conv (system_force_result old agg conv) old answer new h) g
-in_step P N n kept gives old Tick answer new o h g = absurd o
-in_step P N n kept gives old Restart answer new o h g = absurd o
-in_step P N n kept gives old (Transmit m) answer new o h g = absurd o
-in_step P N n kept gives old call answer new o h g = absurd h
+    (port_index m old.system_ports) old.system_ports h.0.system_ports h.1.0 g)
 
 good_settling : (n now : ℕ) (before : List ℕ) (old new : SystemState) → Settling old new → GoodIn n now before old.system_ports
     → GoodIn n now before new.system_ports
 good_settling n now before old new h g = in_settling (λ p. Good now p before) (KeepsWindow before) n (good_kept now before) old new h g
-
-good_same : (n now : ℕ) (before : List ℕ) (old new : SystemState) → new.system_ports ≡ old.system_ports
-    → GoodIn n now before old.system_ports → GoodIn n now before new.system_ports
-good_same n now before old new e g = in_same (λ p. Good now p before) (KeepsWindow before) n old new e g
 
 -- sending
 
@@ -305,14 +255,6 @@ good_sends now before p due g =
     subst (λ b. Good now (after_sending p) (if b then before ++ now ∷ [] else before)) due
     (good_call now (port.Transmit 0) p (after_sending p) before (sym (ap (λ b. if b then after_sending p else p) due)) g)
 
--- the octet behind the header of a control frame
-subtype_of : (mac payload : List ℕ) (k : ℕ) → IsAddress mac → HoldsNumber payload (read_field 0 1 k)
-    → subtype (frame_octets mac payload) ≡ k
-subtype_of mac payload k a h =
-    let behind : HoldsNumber (drop 14 (frame_octets mac payload)) (read_field 0 1 k) = subst (λ b. HoldsNumber b (read_field 0 1 k))
-    (sym (framed_payload mac payload a.0)) h in
-    sym (octet_stands (frame_octets mac payload) 14) ∙ behind
-
 -- a call that answers nothing, or a frame with this subtype
 abbrev after_frame : ℕ → ℕ → List ℕ → ℕ → ℕ → List ℕ
 after_frame m n before now k = if (m == n) && (k == 1) then before ++ now ∷ [] else before
@@ -326,57 +268,6 @@ first_kind m n now before = with_true (m == n)
     with_true : (b : Bool) → (if b && true then before ++ now ∷ [] else before) ≡ (if b then before ++ now ∷ [] else before)
     with_true true = refl
     with_true false = refl
-
-other_kind : (m n now : ℕ) (before : List ℕ) → after_frame m n before now 2 ≡ before
-other_kind m n now before = with_false (m == n)
-  where
-    with_false : (b : Bool) → (if b && false then before ++ now ∷ [] else before) ≡ before
-    with_false true = refl
-    with_false false = refl
-
-good_marker : (m n now : ℕ) (before : List ℕ) (o : Option ℕ) (number : ℕ) (mac : List ℕ) (old : SystemState) (answer : Option (List ℕ))
-    (new : SystemState) → SendsMarkerOf o number mac old answer new
-    → GoodIn n now before old.system_ports → GoodIn n now (after_transmit m n now before answer) new.system_ports
-good_marker m n now before None number mac old answer new h g =
-    subst (λ a. GoodIn n now (after_transmit m n now before a) new.system_ports) (sym h.0)
-    (good_same n now before old new (same_slots old new h.1) g)
-good_marker m n now before (Some id) number mac old answer new h g =
-    let kind : subtype (frame_octets mac h.0) ≡ 2 = subtype_of mac h.0 2 h.1 h.2.table.fields_hold.0 in
-    let none : after_transmit m n now before (Some (frame_octets mac h.0)) ≡ before = ap (after_frame m n before now) kind
-    ∙ other_kind m n now before in
-    subst (λ a. GoodIn n now (after_transmit m n now before a) new.system_ports) (sym h.3)
-    (subst (λ sends. GoodIn n now sends new.system_ports) (sym none)
-    (good_same n now before old new (ap (λ (x : SystemState). x.system_ports) h.5) g))
-
-good_where : (m n now : ℕ) (before : List ℕ) (up due : Bool) (i : ℕ) (system_port : SystemPort) (old : SystemState)
-    (answer : Option (List ℕ)) (new : SystemState)
-    → is_due system_port.port ≡ due → port_index m old.system_ports ≡ Some i → slice_get old.system_ports i ≡ Some system_port
-    → TransmitsIf up due i system_port old answer new
-    → GoodIn n now before old.system_ports → GoodIn n now (after_transmit m n now before answer) new.system_ports
-good_where m n now before false due i system_port old answer new d at e h g =
-    subst (λ a. GoodIn n now (after_transmit m n now before a) new.system_ports) (sym h.0)
-    (good_same n now before old new (same_slots old new h.1) g)
-good_where m n now before true false i system_port old answer new d at e h g = good_marker m n now before
-    (marker_due old.table system_port.number) system_port.number system_port.mac old answer new h g
-good_where m n now before true true i system_port old answer new d at e h g =
-    let payload = h.1.0 in
-    let kind : subtype h.0 ≡ 1 = ap subtype h.1.3 ∙ subtype_of system_port.mac payload 1 h.1.1 h.1.2.table.fields_hold.0 in
-    let one : after_transmit m n now before (Some h.0) ≡ (if m == n then before ++ now ∷ [] else before) =
-    ap (after_frame m n before now) kind ∙ first_kind m n now before in
-    let set : new.system_ports ≡ slice_set old.system_ports i (record system_port { port = after_sending system_port.port }) =
-    ap (λ (x : SystemState). x.system_ports) h.3 in
-    let sent_on = good_sent m n now before (m == n) old.system_ports i system_port
-    (record system_port { port = after_sending system_port.port }) refl at e refl (good_sends now before system_port.port d) g in
-    subst (λ a. GoodIn n now (after_transmit m n now before a) new.system_ports) (sym h.2)
-    (subst (λ sends. GoodIn n now sends new.system_ports) (sym one)
-    (subst (GoodIn n now (if m == n then before ++ now ∷ [] else before)) (sym set) sent_on))
-
-good_transmit : (m n now : ℕ) (before : List ℕ) (o : Option ℕ) (old : SystemState) (answer : Option (List ℕ)) (new : SystemState)
-    → port_index m old.system_ports ≡ o → TransmitsAt o old answer new
-    → GoodIn n now before old.system_ports → GoodIn n now (after_transmit m n now before answer) new.system_ports
-good_transmit m n now before None old answer new at h g = absurd h
-good_transmit m n now before (Some i) old answer new at h g = good_where m n now before h.0.port.enabled (is_due h.0.port) i h.0 old
-    answer new refl at h.1 h.2 g
 
 -- a start
 
@@ -443,29 +334,30 @@ good_first n s h =
 good_step : (gives : ℕ → ℕ → ℕ → Type 0) (n now : ℕ) (before : List ℕ) (old : SystemState) (call : Call) (answer : Reply)
     (new : SystemState) → Step gives old call answer new
     → GoodIn n now before old.system_ports → GoodIn n (tick_after call now) (sends_after n now call answer before) new.system_ports
-good_step gives n now before old Tick reply.Tick new h g =
-    good_settling n (now + 1) before h.0 new h.2
-    (in_each (λ p. Good now p before) (λ p. Good (now + 1) p before) (KeepsWindow before) (λ p q. RunsToRest receive_rows (count_down p) q)
-    n (λ p q d. good_call now port.Tick p q before d) old.system_ports h.0.system_ports h.1.0 g)
-good_step gives n now before old Restart reply.Restart new h g = good_first n new h.1
-good_step gives n now before old (Transmit m) (reply.Transmit (Ok answer)) new h g = good_transmit m n now before
-    (port_index m old.system_ports) old answer new refl h g
-good_step gives n now before old (Transmit m) (reply.Transmit (Err fault)) new h g = good_same n now before old new
-    (same_slots old new h.same) g
-good_step gives n now before old (Set_link m up) answer new h g = in_step (λ p. Good now p before) (KeepsWindow before) n
-    (good_kept now before) gives old (Set_link m up) answer new tt h g
-good_step gives n now before old (Receive m octets) answer new h g = in_step (λ p. Good now p before) (KeepsWindow before) n
-    (good_kept now before) gives old (Receive m octets) answer new tt h g
-good_step gives n now before old (Configure m change) answer new h g = in_step (λ p. Good now p before) (KeepsWindow before) n
-    (good_kept now before) gives old (Configure m change) answer new tt h g
-good_step gives n now before old (Offer agg octets) answer new h g = in_step (λ p. Good now p before) (KeepsWindow before) n
-    (good_kept now before) gives old (Offer agg octets) answer new tt h g
-good_step gives n now before old (Move_conversation agg conv to) answer new h g =
-    in_step (λ p. Good now p before) (KeepsWindow before) n (good_kept now before) gives old
-    (Move_conversation agg conv to) answer new tt h g
-good_step gives n now before old (Force agg conv) answer new h g = in_step (λ p. Good now p before) (KeepsWindow before) n
-    (good_kept now before) gives old (Force agg conv) answer new tt h g
-good_step gives n now before old call answer new h g = absurd h
+good_step gives n now before old call answer new h g =
+    let Q : Machines → Type 0 = λ p. Good now p before in
+    let N = KeepsWindow before in
+    let kept : IsKept Q = good_kept now before in
+    Step-preserves_ports gives old (λ call answer new. GoodIn n (tick_after call now) (sends_after n now call answer before) new.system_ports)
+    (λ call answer new none e.
+    subst (λ t. GoodIn n t (sends_after n now call answer before) new.system_ports) (sym (none n now before).0)
+    (subst (λ b. GoodIn n now b new.system_ports) (sym (none n now before).1) (in_same Q N n old new e g))) (record {
+      tick = λ new h. good_settling n (now + 1) before h.0 new h.2
+          (in_each Q (λ p. Good (now + 1) p before) N (λ p q. RunsToRest receive_rows (count_down p) q)
+          n (λ p q d. good_call now port.Tick p q before d) old.system_ports h.0.system_ports h.1.0 g);
+      link = λ m up done new h. in_link Q N n kept m up old new h g;
+      take = λ m octets v answer new told h. in_on_port Q N n kept (ProcessesLacpdu v) (kept.take v) (port_index m old.system_ports) old new h g;
+      change = λ m change new h. in_on_port Q N n kept (ChangesParty change) (kept.party change) (port_index m old.system_ports) old new h g;
+      restart = λ new e first. good_first n new first;
+      send = λ m i x answer octets new at e due is told set.
+          let sent : SystemPort = record x { port = after_sending x.port } in
+          let one : after_transmit m n now before (Some octets) ≡ (if m == n then before ++ now ∷ [] else before) =
+          ap (after_frame m n before now) (lacpdu_subtype old.max_delay x octets is) ∙ first_kind m n now before in
+          subst (λ a. GoodIn n now (after_transmit m n now before a) new.system_ports) (sym told)
+          (subst (λ sends. GoodIn n now sends new.system_ports) (sym one)
+          (subst (GoodIn n now (if m == n then before ++ now ∷ [] else before)) (sym (ap (λ (s : SystemState). s.system_ports) set))
+          (good_sent m n now before (m == n) old.system_ports i x sent refl at e refl (good_sends now before x.port due) g)));
+    }) call answer new h
 
 good_run : (gives : ℕ → ℕ → ℕ → Type 0) (n now : ℕ) (before : List ℕ) (old new : SystemState) (calls : List Call) (replies : List Reply)
     → TableRun gives old calls replies new
@@ -520,32 +412,6 @@ sent_few p due =
 abbrev FewIn : ℕ → List SystemPort → Type 0
 FewIn n system_ports = In IsFew Unit n system_ports
 
-few_same : (n : ℕ) (old new : SystemState) → new.system_ports ≡ old.system_ports → FewIn n old.system_ports → FewIn n new.system_ports
-few_same n old new e g = in_same IsFew Unit n old new e g
-
-few_marker : (n : ℕ) (o : Option ℕ) (number : ℕ) (mac : List ℕ) (old : SystemState) (answer : Option (List ℕ)) (new : SystemState)
-    → SendsMarkerOf o number mac old answer new → FewIn n old.system_ports → FewIn n new.system_ports
-few_marker n None number mac old answer new h g = few_same n old new (same_slots old new h.1) g
-few_marker n (Some id) number mac old answer new h g = few_same n old new (ap (λ (x : SystemState). x.system_ports) h.5) g
-
-few_where : (n : ℕ) (up due : Bool) (i : ℕ) (system_port : SystemPort) (old : SystemState) (answer : Option (List ℕ)) (new : SystemState)
-    → is_due system_port.port ≡ due → slice_get old.system_ports i ≡ Some system_port → TransmitsIf up due i system_port old answer new
-    → FewIn n old.system_ports → FewIn n new.system_ports
-few_where n false due i system_port old answer new d e h g = few_same n old new (same_slots old new h.1) g
-few_where n true false i system_port old answer new d e h g = few_marker n (marker_due old.table system_port.number) system_port.number
-    system_port.mac old answer new h g
-few_where n true true i system_port old answer new d e h g =
-    let set : new.system_ports ≡ slice_set old.system_ports i (record system_port { port = after_sending system_port.port }) =
-    ap (λ (x : SystemState). x.system_ports) h.3 in
-    subst (FewIn n) (sym set)
-    (in_set IsFew Unit n old.system_ports i system_port (record system_port { port = after_sending system_port.port }) e refl
-    (λ _. sent_few system_port.port d) g)
-
-few_transmit : (n : ℕ) (o : Option ℕ) (old : SystemState) (answer : Option (List ℕ)) (new : SystemState) → TransmitsAt o old answer new
-    → FewIn n old.system_ports → FewIn n new.system_ports
-few_transmit n None old answer new h g = absurd h
-few_transmit n (Some i) old answer new h g = few_where n h.0.port.enabled (is_due h.0.port) i h.0 old answer new refl h.1 h.2 g
-
 at_few : (o : Option Machines) → At IsEmpty Unit o → At IsFew Unit o
 at_few None h = tt
 at_few (Some p) h = subst (λ ages. length ages ≤ 3) (sym h) (omega arith)
@@ -555,19 +421,22 @@ few_kept = ages_kept (λ ages. length ages ≤ 3)
 
 few_step : (n : ℕ) (gives : ℕ → ℕ → ℕ → Type 0) (old : SystemState) (call : Call) (answer : Reply) (new : SystemState)
     → Step gives old call answer new → FewIn n old.system_ports → FewIn n new.system_ports
-few_step n gives old Tick reply.Tick new h g = in_settling IsFew Unit n few_kept h.0 new h.2
-    (in_each IsFew IsFew Unit (λ p q. RunsToRest receive_rows (count_down p) q) n tick_few old.system_ports h.0.system_ports h.1.0 g)
-few_step n gives old Restart reply.Restart new h g = at_few (port_in (find (is_numbered n) new.system_ports)) (empty_first n new h.1)
-few_step n gives old (Transmit m) (reply.Transmit (Ok answer)) new h g = few_transmit n (port_index m old.system_ports) old answer new h g
-few_step n gives old (Transmit m) (reply.Transmit (Err fault)) new h g = few_same n old new (same_slots old new h.same) g
-few_step n gives old (Set_link m up) answer new h g = in_step IsFew Unit n few_kept gives old (Set_link m up) answer new tt h g
-few_step n gives old (Receive m octets) answer new h g = in_step IsFew Unit n few_kept gives old (Receive m octets) answer new tt h g
-few_step n gives old (Configure m change) answer new h g = in_step IsFew Unit n few_kept gives old (Configure m change) answer new tt h g
-few_step n gives old (Offer agg octets) answer new h g = in_step IsFew Unit n few_kept gives old (Offer agg octets) answer new tt h g
-few_step n gives old (Move_conversation agg conv to) answer new h g = in_step IsFew Unit n few_kept gives old
-    (Move_conversation agg conv to) answer new tt h g
-few_step n gives old (Force agg conv) answer new h g = in_step IsFew Unit n few_kept gives old (Force agg conv) answer new tt h g
-few_step n gives old call answer new h g = absurd h
+few_step n gives old call answer new h g =
+    Step-preserves_ports gives old (λ call answer new. FewIn n new.system_ports) (λ call answer new none e. in_same IsFew Unit n old new e g)
+    (record {
+      tick = λ new h. in_settling IsFew Unit n few_kept h.0 new h.2
+          (in_each IsFew IsFew Unit (λ p q. RunsToRest receive_rows (count_down p) q) n tick_few old.system_ports h.0.system_ports h.1.0 g);
+      link = λ m up done new h. in_link IsFew Unit n few_kept m up old new h g;
+      take = λ m octets v answer new told h.
+          in_on_port IsFew Unit n few_kept (ProcessesLacpdu v) (few_kept.take v) (port_index m old.system_ports) old new h g;
+      change = λ m change new h.
+          in_on_port IsFew Unit n few_kept (ChangesParty change) (few_kept.party change) (port_index m old.system_ports) old new h g;
+      restart = λ new e first. at_few (port_in (find (is_numbered n) new.system_ports)) (empty_first n new first);
+      send = λ m i x answer octets new at e due is told set.
+          let sent : SystemPort = record x { port = after_sending x.port } in
+          subst (FewIn n) (sym (ap (λ (s : SystemState). s.system_ports) set))
+          (in_set IsFew Unit n old.system_ports i x sent e refl (λ _. sent_few x.port due) g);
+    }) call answer new h
 
 three_from : (o : Option Machines) → At IsFew Unit o → AtMostThreeAges o
 three_from None h = tt

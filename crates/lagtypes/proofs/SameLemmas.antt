@@ -2,7 +2,7 @@
 use Rattle.std.proofs.Common.{◌≡◌, ◌==◌, ℕ, Bool, true, false, ◌&&◌, refl, ap, Option, Some, None}
 use Rattle.std.specs.Option.{option_eq}
 use Rattle.std.specs.Str.{bytes_eq}
-use Rattle.std.proofs.lemmas.Bool.{and_from, and_parts}
+use Rattle.std.proofs.lemmas.Bool.{and_from, and_parts, eqb-true}
 use Rattle.std.proofs.lemmas.Bool.Decides.{Decides-eqb}
 use Rattle.std.proofs.lemmas.Slice.Eq.{bytes_eq-Decides}
 use Rattle.lagtypes.specs.declared.identifiers.Key.{Key}
@@ -15,9 +15,6 @@ use Rattle.lagtypes.specs.Same.{same_bit, same_end, same_group, same_party, same
 
 -- equal by test is equal
 
-pub exact_number : (m n : ℕ) → (m == n) ≡ true → m ≡ n
-exact_number m n h = (Decides-eqb m n).0 h
-
 exact_bit : (a b : Bool) → same_bit a b ≡ true → a ≡ b
 exact_bit true true h = refl
 exact_bit true false h = cc
@@ -27,12 +24,12 @@ exact_bit false false h = refl
 pub exact_system : (s t : SystemId) → same_system s t ≡ true → s ≡ t
 exact_system s t h =
     let both = and_parts (s.priority == t.priority) (bytes_eq s.mac t.mac) h in
-    λ i. record { priority = exact_number s.priority t.priority both.0 i; mac = (bytes_eq-Decides s.mac t.mac).0 both.1 i }
+    λ i. record { priority = eqb-true s.priority t.priority both.0 i; mac = (bytes_eq-Decides s.mac t.mac).0 both.1 i }
 
 exact_port : (p q : PortId) → same_port p q ≡ true → p ≡ q
 exact_port p q h =
     let both = and_parts (p.priority == q.priority) (p.number == q.number) h in
-    λ i. record { priority = exact_number p.priority q.priority both.0 i; number = exact_number p.number q.number both.1 i }
+    λ i. record { priority = eqb-true p.priority q.priority both.0 i; number = eqb-true p.number q.number both.1 i }
 
 exact_ports : (o p : Option PortId) → option_eq same_port o p ≡ true → o ≡ p
 exact_ports None None h = refl
@@ -41,7 +38,7 @@ exact_ports (Some p) None h = absurd cc
 exact_ports (Some p) (Some q) h = ap Some (exact_port p q h)
 
 pub exact_key : (k l : Key) → (k.0 == l.0) ≡ true → k ≡ l
-exact_key k l h = λ i. record { 0 = exact_number k.0 l.0 h i }
+exact_key k l h = λ i. record { 0 = eqb-true k.0 l.0 h i }
 
 pub exact_party : (a b : Party) → same_party a b ≡ true → a ≡ b
 exact_party a b h =

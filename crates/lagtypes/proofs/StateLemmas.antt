@@ -1,6 +1,6 @@
 -- A state octet and its eight bits determine each other; each of the 256 cases is computed.
 use Rattle.std.proofs.Common.{◌≡◌, ◌<◌, ℕ, zero, suc, Bool, true, false, ◌&&◌, refl, ap, sym, ◌∙◌, arith, nat_eq}
-use Rattle.std.proofs.lemmas.Bool.{and_parts}
+use Rattle.std.proofs.lemmas.Bool.{and_parts, eqb-true}
 use Rattle.std.specs.Prelude.{◌==◌, if◌then◌else◌}
 use Rattle.std.specs.Int.RustNames.{bit_or}
 use Rattle.lagtypes.specs.declared.state.State.{State}
@@ -141,11 +141,8 @@ added b =
     insert_if b.expired 128 (insert_if b.defaulted 64 (insert_if b.distributing 32 (insert_if b.collecting 16
     (insert_if b.synchronization 8 (insert_if b.aggregation 4 (insert_if b.timeout 2 (insert_if b.activity 1 0)))))))
 
-same : (m n : ℕ) → (m == n) ≡ true → m ≡ n
-same m n e = grind arith
-
 pub added_state : (b : StateBits) → added b ≡ (state_from_bits b).0
-added_state b = same (added b) (state_from_bits b).0 (one_state (λ b. added b == (state_from_bits b).0) b refl)
+added_state b = eqb-true (added b) (state_from_bits b).0 (one_state (λ b. added b == (state_from_bits b).0) b refl)
 
 abbrev alike : Bool → Bool → Bool
 alike true true = true
@@ -198,7 +195,7 @@ below_is : (k : ℕ) (p : ℕ → Bool) (n : ℕ) → below k p ≡ true → n <
 below_is zero p n e h = absurd (omega (arith, h))
 below_is (suc k) p n e h =
     elim (nat_eq n k) as (λ b. nat_eq n k ≡ b → p n ≡ true) [
-      | true ↦ λ t. ap p (same n k t) ∙ (and_parts (p k) (below k p) e).0
+      | true ↦ λ t. ap p (eqb-true n k t) ∙ (and_parts (p k) (below k p) e).0
       | false ↦ λ f. below_is k p n (and_parts (p k) (below k p) e).1 (grind (arith, h, f))
     ] refl
 
@@ -206,6 +203,6 @@ below_is (suc k) p n e h =
 pub write_back : (s : State) → s.0 < 256 → state_from_bits (bits_of s) ≡ s
 write_back s h =
     λ i. record {
-      0 = same (state_from_bits (bits_of s)).0 s.0
+      0 = eqb-true (state_from_bits (bits_of s)).0 s.0
           (below_is 256 (λ n. (state_from_bits (bits_of (record { 0 = n }))).0 == n) s.0 refl h) i;
     }

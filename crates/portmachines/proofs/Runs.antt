@@ -1,7 +1,7 @@
 -- Rows that fire one after another.
-use Rattle.std.proofs.Common.{◌≡◌, ℕ, zero, suc, ◌+◌, List, [], ◌∷◌, ap, ◌∙◌, inl, inr, add-one}
+use Rattle.std.proofs.Common.{◌≡◌, ℕ, zero, suc, ◌+◌, List, [], ◌∷◌, IsTrue, ap, sym, subst, ◌∙◌, inl, inr, add-one}
 use Rattle.portmachines.specs.Machines.{Machines}
-use Rattle.portmachines.specs.Rows.{Row, Fires, FiresTimes}
+use Rattle.portmachines.specs.Rows.{Row, Fires, FiresTimes, RunsToRest}
 
 -- one more row fires
 pub Reaches-more : (rows : List Row) (n : ℕ) (old mid new : Machines) → FiresTimes rows n old mid → Fires rows mid new
@@ -21,3 +21,27 @@ pub Reaches-keeps : {A : Type 0} (f : Machines → A) (rows : List Row) → Each
     → FiresTimes rows n p q → f q ≡ f p
 Reaches-keeps f rows k zero p q run = ap f run
 Reaches-keeps f rows k (suc n) p q run = Fires-keeps f rows k run.0 q run.2 ∙ Reaches-keeps f rows k n p run.0 run.1
+
+-- each row leads from a port to one that stands in the relation to it
+abbrev pub EachRelates : (Machines → Machines → Type 0) → List Row → Type 0
+EachRelates R [] = Unit {0}
+EachRelates R (row ∷ rows) = ((p : Machines) → IsTrue (row.enabled p) → R p (row.effect p)) × EachRelates R rows
+
+pub Fires-relates : (R : Machines → Machines → Type 0) (rows : List Row) → EachRelates R rows → (p q : Machines) → Fires rows p q → R p q
+Fires-relates R [] k p q h = absurd h
+Fires-relates R (row ∷ rows) k p q h = elim h [ inl f ↦ subst (R p) (sym f.1) (k.0 p f.0) | inr f ↦ Fires-relates R rows k.1 p q f ]
+
+-- a relation that a port has to itself, and that joins
+pub record Joins (R : Machines → Machines → Type 0) : Type 0 where
+  pub same : (p q : Machines) → q ≡ p → R p q
+  pub both : (p q r : Machines) → R p q → R q r → R p r
+
+pub Reaches-relates : (R : Machines → Machines → Type 0) → Joins R → (rows : List Row) → EachRelates R rows → (n : ℕ) (p q : Machines)
+    → FiresTimes rows n p q → R p q
+Reaches-relates R j rows k zero p q run = j.same p q run
+Reaches-relates R j rows k (suc n) p q run =
+    j.both p run.0 q (Reaches-relates R j rows k n p run.0 run.1) (Fires-relates R rows k run.0 q run.2)
+
+pub Rests-relates : (R : Machines → Machines → Type 0) → Joins R → (rows : List Row) → EachRelates R rows → (p q : Machines)
+    → RunsToRest rows p q → R p q
+Rests-relates R j rows k p q h = Reaches-relates R j rows k h.0 p q h.1

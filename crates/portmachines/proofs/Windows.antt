@@ -1,8 +1,9 @@
 -- Any eleven consecutive ticks hold at most three LACPDUs.
 use Rattle.std.proofs.Common.{◌≡◌, ℕ, zero, suc, ◌+◌, ◌-◌, ◌≤◌, ◌<◌, Bool, true, false, ◌&&◌, cond, List, [], ◌∷◌, ◌++◌, length, nat_le}
-use Rattle.std.proofs.Common.{nat_lt, if◌then◌else◌, refl, sym, ◌∙◌, ap, subst, arith, append_assoc, inl, inr}
+use Rattle.std.proofs.Common.{nat_lt, if◌then◌else◌, refl, sym, ◌∙◌, ap, subst, arith, append_assoc, inl, inr, append-nil}
 use Rattle.std.specs.List.{AllByRecursion}
 use Rattle.std.proofs.lemmas.Bool.Decides.{nat_tests}
+use Rattle.std.proofs.lemmas.Bool.{and_parts, lt-leb, le-leb, leb-true, ltb-true, ltb-false}
 use Rattle.slowpdu.specs.declared.pdu.Lacpdu.{Lacpdu}
 use Rattle.portmachines.specs.Machines.{Machines}
 use Rattle.portmachines.specs.Rows.{FiresIfEnabled, RunsToRest}
@@ -37,14 +38,6 @@ taking-same pdu = (λ p. refl, tt)
 
 -- counts
 
-and_left : (x y : Bool) → (x && y) ≡ true → x ≡ true
-and_left true y h = refl
-and_left false y h = h
-
-and_right : (x y : Bool) → (x && y) ≡ true → y ≡ true
-and_right true y h = h
-and_right false y h = cc
-
 count-last : (p : ℕ → Bool) (xs : List ℕ) (x : ℕ) → count_passing p (xs ++ x ∷ []) ≡ count_passing p xs + cond (p x) 1 0
 count-last p [] x = omega arith
 count-last p (y ∷ ys) x = omega (arith, count-last p ys x)
@@ -70,29 +63,14 @@ count-length p (x ∷ xs) = omega (arith, count-length p xs, bit-weaker (p x) tr
 le_suc : (a k : ℕ) → nat_le (a + 1) (k + 1) ≡ nat_le a k
 le_suc a k = grind (arith, nat_tests)
 
-le_false : (a k : ℕ) → k < a → nat_le a k ≡ false
-le_false a k h = grind (arith, nat_tests)
-
-le_true : (a k : ℕ) → a ≤ k → nat_le a k ≡ true
-le_true a k h = grind (arith, nat_tests)
-
-le_from : (a k : ℕ) → nat_le a k ≡ true → a ≤ k
-le_from a k h = grind (arith, nat_tests)
-
-lt_from : (a k : ℕ) → nat_lt a k ≡ true → a < k
-lt_from a k h = grind (arith, nat_tests)
-
-ge_from : (a k : ℕ) → nat_lt a k ≡ false → k ≤ a
-ge_from a k h = grind (arith, nat_tests)
-
 -- the ages that are at most k + 1 after the tick were at most k before it
 aged-one : (k a : ℕ) (rest : List ℕ) (b : Bool) → k + 1 ≤ 10 → nat_lt (a + 1) 11 ≡ b
     → count_passing (λ x. nat_le x (k + 1)) (cond b ((a + 1) ∷ rest) rest) ≡ cond (nat_le a k) 1 0 + count_passing
     (λ x. nat_le x (k + 1)) rest
 aged-one k a rest true h e = ap (λ b. cond b 1 0 + count_passing (λ x. nat_le x (k + 1)) rest) (le_suc a k)
 aged-one k a rest false h e =
-    let old = ge_from (a + 1) 11 e in
-    let no : nat_le a k ≡ false = le_false a k (omega (arith, old)) in
+    let old = ltb-false (a + 1) 11 e in
+    let no : nat_le a k ≡ false = lt-leb a k (omega (arith, old)) in
     rw no (omega arith)
 
 count-aged : (k : ℕ) (ages : List ℕ) → k + 1 ≤ 10 → count_passing (λ a. nat_le a (k + 1)) (aged ages) ≡ count_passing (λ a. nat_le a k) ages
@@ -121,12 +99,12 @@ later-recent : (now : ℕ) (ages ticks : List ℕ) → Inv now ages ticks → (k
     → count_passing (λ s. nat_le (now + 1) (s + k)) ticks ≤ count_passing (λ a. nat_le a k) (aged ages)
 later-recent now ages ticks i zero h =
     let no = none (λ s. nat_le (now + 1) (s + 0)) ticks (all-weaker (λ s. s ≤ now) (λ s. nat_le (now + 1) (s + 0) ≡ false) ticks
-    (λ s e. le_false (now + 1) (s + 0) (omega (arith, e))) i.past) in
+    (λ s e. lt-leb (now + 1) (s + 0) (omega (arith, e))) i.past) in
     omega (arith, no)
 later-recent now ages ticks i (suc k) h =
     let fewer = count-weaker (λ s. nat_le (now + 1) (s + suc k)) (λ s. nat_le now (s + k)) ticks
     (all-weaker (λ s. s ≤ now) (λ s. nat_le (now + 1) (s + suc k) ≡ true → nat_le now (s + k) ≡ true) ticks
-    (λ s e t. let l = le_from (now + 1) (s + suc k) t in le_true now (s + k) (omega (arith, l))) i.past) in
+    (λ s e t. let l = leb-true (now + 1) (s + suc k) t in le-leb now (s + k) (omega (arith, l))) i.past) in
     let old = i.recent k (omega (arith, h)) in
     let e : suc k ≡ k + 1 = omega arith in
     let same : count_passing (λ a. nat_le a (suc k)) (aged ages) ≡ count_passing (λ a. nat_le a k) ages =
@@ -143,10 +121,10 @@ Inv-tick now ages ticks i = record {
 sent-window : (now : ℕ) (ages ticks : List ℕ) → length ages < 3 → Inv now ages ticks → (first : ℕ) (b : Bool)
     → (nat_le first now && nat_lt now (first + 11)) ≡ b → within_eleven first ticks + cond b 1 0 ≤ 3
 sent-window now ages ticks few i first true e =
-    let below = lt_from now (first + 11) (and_right (nat_le first now) _ e) in
+    let below = ltb-true now (first + 11) (and_parts (nat_le first now) _ e).1 in
     let some = count-weaker (λ s. nat_le first s && nat_lt s (first + 11)) (λ s. nat_le now (s + 10)) ticks
     (all-weaker (λ s. s ≤ now) (λ s. (nat_le first s && nat_lt s (first + 11)) ≡ true → nat_le now (s + 10) ≡ true) ticks
-    (λ s h t. let l = le_from first s (and_left _ _ t) in le_true now (s + 10) (omega (arith, l, below))) i.past) in
+    (λ s h t. let l = leb-true first s (and_parts _ _ t).0 in le-leb now (s + 10) (omega (arith, l, below))) i.past) in
     omega (arith, some, i.recent 10 (omega arith), count-length (λ a. nat_le a 10) ages)
 sent-window now ages ticks few i first false e = omega (arith, i.window first)
 
@@ -159,8 +137,8 @@ Inv-send now ages ticks few i = record {
         count-last (λ s. nat_le now (s + k)) ticks now,
         count-last (λ a. nat_le a k) ages 0,
         i.recent k h,
-        ap bit (le_true now (now + k) (omega arith)),
-        ap bit (le_true 0 k (omega arith)),
+        ap bit (le-leb now (now + k) (omega arith)),
+        ap bit (le-leb 0 k (omega arith)),
       );
   window = λ first.
       omega (arith, count-last (λ s. nat_le first s && nat_lt s (first + 11)) ticks now, sent-window now ages ticks few i first _ refl);
@@ -185,10 +163,6 @@ periodic-ages p q h =
 pub starts-ages : (p q : Machines) → Starts p q → q.ages ≡ p.ages
 starts-ages p q h = ap (λ (x : Machines). x.ages) h.2 ∙ settles-same (start_receive p) h.0 h.1
 
-append-nil : (xs : List ℕ) → xs ++ [] ≡ xs
-append-nil [] = refl
-append-nil (x ∷ xs) = ap (λ ys. x ∷ ys) (append-nil xs)
-
 abbrev Continues : ℕ → List PortCall → Machines → Type 0
 Continues now calls mid = (before rest : List ℕ) → Inv now mid.ages before → SendsAtTicks now calls mid rest → KeepsWindow (before ++ rest)
 
@@ -196,7 +170,7 @@ transmit-window : (now : ℕ) (calls : List PortCall) (old mid : Machines) (befo
     → Continues now calls mid → Inv now old.ages before → mid ≡ (if due then after_sending old else old) → SendsAtTicks now calls mid rest
     → ticks ≡ (if due then now ∷ rest else rest) → KeepsWindow (before ++ ticks)
 transmit-window now calls old mid before ticks rest true due go i e run t =
-    let few = lt_from (length old.ages) 3 (and_right old.ntt _ due) in
+    let few = ltb-true (length old.ages) 3 (and_parts old.ntt _ due).1 in
     let next : Inv now mid.ages (before ++ now ∷ []) = subst (λ (p : Machines). Inv now p.ages (before ++ now ∷ [])) (sym e)
     (Inv-send now old.ages before few i) in
     subst KeepsWindow (append_assoc before (now ∷ []) rest ∙ ap (λ xs. before ++ xs) (sym t)) (go (before ++ now ∷ []) rest next run)
@@ -248,7 +222,7 @@ recent-before now k (a ∷ more) h =
       arith,
       recent-before now k more h.1,
       bit-weaker (nat_le now (now - a + k)) (nat_le a k)
-          (λ t. let l = le_from now (now - a + k) t in le_true a k (omega (arith, l, h.0))),
+          (λ t. let l = leb-true now (now - a + k) t in le-leb a k (omega (arith, l, h.0))),
     )
 
 length-before : (now : ℕ) (ages : List ℕ) → length (sent_before now ages) ≡ length ages

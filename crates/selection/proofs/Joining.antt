@@ -1,5 +1,5 @@
 -- The choice of a port leads to an aggregator that it may join.
-use Rattle.std.proofs.Common.{◌≡◌, ◌≢◌, ℕ, zero, suc, ◌+◌, ◌-◌, Bool, true, false, not, ◌&&◌, ◌||◌, cond, List, [], ◌∷◌, ◌⊎◌, inl, inr}
+use Rattle.std.proofs.Common.{◌≡◌, ◌≢◌, ℕ, zero, suc, ◌+◌, ◌-◌, Bool, true, false, not, ◌&&◌, cond, List, [], ◌∷◌, ◌⊎◌, inl, inr}
 use Rattle.std.proofs.Common.{refl, sym, ◌∙◌, subst, ap, arith, Option, Some, None}
 use Rattle.std.specs.Prelude.{◌==◌, IfSome, IsSomeAnd, if◌then◌else◌, slice_get, find}
 use Rattle.std.specs.List.{All, AllByRecursion, list_all, enumerate_from}
@@ -9,7 +9,7 @@ use Rattle.lagtypes.specs.declared.identifiers.Key.{Key}
 use Rattle.lagtypes.specs.declared.party.Choice.{Choice}
 use Rattle.lagtypes.specs.declared.party.Choice.TheVariants.{Unselected, Selected, Standby}
 use Rattle.lagtypes.specs.Group.{SamePair, individual}
-use Rattle.std.proofs.lemmas.Bool.{and_parts}
+use Rattle.std.proofs.lemmas.Bool.{or_parts, and_parts, not-true}
 use Rattle.lagtypes.proofs.SameLemmas.{exact_key, itself, system-itself}
 use Rattle.selection.proofs.Equal.{group-test}
 use Rattle.selection.specs.declared.view.PortView.{PortView}
@@ -21,18 +21,6 @@ use Rattle.selection.specs.Choice.{occupants_share_group, lowest_from, aggregato
 use Rattle.selection.specs.Joining.{HasNoOccupant, IsOccupant, OccupantsShareGroup, MayJoin, ends}
 
 -- tests
-
-not-true : (b : Bool) → not b ≡ true → b ≡ false
-not-true true h = absurd cc
-not-true false h = refl
-
-or-false_left : (b c : Bool) → (b || c) ≡ false → b ≡ false
-or-false_left true c h = h
-or-false_left false c h = refl
-
-or-false_right : (b c : Bool) → (b || c) ≡ false → c ≡ false
-or-false_right true c h = absurd cc
-or-false_right false c h = h
 
 -- occupants
 
@@ -51,8 +39,8 @@ not_both false h k = cc
 none_occupies : (agg : AggId) (views : List PortView) → has_occupant views agg ≡ false → AllByRecursion (λ w. IsOccupant agg w → ⊥) views
 none_occupies agg [] h = tt
 none_occupies agg (w ∷ ws) h = (
-  λ e. not_both (occupies agg w.choice) (given-occupant agg w e) (or-false_left (occupies agg w.choice) (has_occupant ws agg) h),
-  none_occupies agg ws (or-false_right (occupies agg w.choice) (has_occupant ws agg) h),
+  λ e. not_both (occupies agg w.choice) (given-occupant agg w e) (or_parts (occupies agg w.choice) (has_occupant ws agg) h).0,
+  none_occupies agg ws (or_parts (occupies agg w.choice) (has_occupant ws agg) h).1,
 )
 
 -- what all that are kept pass, the first passes if it is kept

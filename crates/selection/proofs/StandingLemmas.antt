@@ -5,6 +5,7 @@ use Rattle.std.specs.Prelude.{filter, if◌then◌else◌}
 use Rattle.std.specs.List.{list_all, list_any}
 use Rattle.std.proofs.lemmas.List.Folds.{list_all-append, list_any_more}
 use Rattle.std.proofs.lemmas.List.Elements.{filter_more}
+use Rattle.std.proofs.Math.Bool.{and-true}
 use Rattle.lagtypes.specs.declared.identifiers.AggId.{AggId}
 use Rattle.lagtypes.specs.Group.{individual}
 use Rattle.selection.specs.declared.standings.Standing.{Standing}
@@ -15,10 +16,6 @@ use Rattle.selection.specs.Choice.{has_group_of}
 use Rattle.selection.specs.Standing.{standing, with_occupant, with_port}
 
 -- tests
-
-and-true : (b : Bool) → (b && true) ≡ b
-and-true true = refl
-and-true false = refl
 
 none_first : (f : PortView → Bool) (w : PortView) (rest : List PortView) (b any : Bool) → (b || any) ≡ false
     → (any ≡ false → list_all f rest ≡ true)

@@ -5,6 +5,7 @@ use Rattle.std.specs.Prelude.{◌==◌, ◌&&◌, ◌||◌, not, nat_lt}
 use Rattle.std.proofs.lemmas.Bool.Decides.{nat_tests}
 use Rattle.std.proofs.lemmas.Grind.{common_steps}
 use Rattle.std.proofs.lemmas.List.{get_or_append_left, length-append}
+use Rattle.std.proofs.lemmas.Bool.{le-ltb}
 use Rattle.slowpdu.specs.declared.fault.WireFault.{WireFault}
 use Rattle.slowpdu.specs.declared.fault.WireFault.TheVariants.{Short, OtherSubtype, BadLength, MarkerTlv}
 use Rattle.slowpdu.specs.Layout.{payload_len}
@@ -43,12 +44,9 @@ abbrev later_causes : ℕ → ℕ → ℕ → ℕ → ℕ → List Cause
 later_causes subtype type actor partner collector =
     (not ((subtype == 1) || (subtype == 2)), OtherSubtype subtype) ∷ actor_causes subtype type actor partner collector
 
-not_below : (m n : ℕ) → n ≤ m → nat_lt m n ≡ false
-not_below m n h = grind (arith, nat_tests)
-
 long_fault : (b : List ℕ) → payload_len ≤ length b
     → fault_of b ≡ first_cause (later_causes (slice_index b 0) (slice_index b 2) (slice_index b 3) (slice_index b 23) (slice_index b 43))
-long_fault b long = rw (not_below (length b) 110 long) refl
+long_fault b long = rw (le-ltb (length b) 110 long) refl
 
 octet-append : (b rest : List ℕ) (i : ℕ) → i < length b → slice_index (b ++ rest) i ≡ slice_index b i
 octet-append b rest i h = get_or_append_left b rest 0 i h

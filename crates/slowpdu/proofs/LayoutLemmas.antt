@@ -1,45 +1,11 @@
 -- Facts about tables of fields, for any table.
-use Rattle.std.proofs.Common.{
-  ◌≡◌,
-  ◌≤◌,
-  ◌<◌,
-  ◌+◌,
-  ◌-◌,
-  ◌*◌,
-  ◌/◌,
-  ◌^◌,
-  ◌++◌,
-  ℕ,
-  zero,
-  suc,
-  Bool,
-  true,
-  false,
-  cond,
-  List,
-  [],
-  ◌∷◌,
-  length,
-  drop,
-  take,
-  map,
-  filter,
-  slice_index,
-  refl,
-  sym,
-  ap,
-  ◌∙◌,
-  add-zero,
-  arith,
-  inl,
-  inr,
-}
+use Rattle.std.proofs.Common.{◌≡◌, ◌≤◌, ◌<◌, ◌+◌, ◌-◌, ◌*◌, ◌/◌, ◌^◌, ◌++◌, ℕ, zero, suc, Bool, true, false, cond, List, [], ◌∷◌, length, drop, take, map, filter, slice_index, refl, sym, ap, ◌∙◌, add-zero, arith, inl, inr}
 use Rattle.std.specs.Prelude.{nat_le, nat_lt}
 use Rattle.std.specs.List.{AllByRecursion, list_all}
 use Rattle.std.proofs.lemmas.List.{drop-append-le, length-append, length-drop, get_or-drop, get_or-take, get_or_past, length-take}
 use Rattle.std.proofs.lemmas.List.{ext_get_or}
-use Rattle.std.proofs.lemmas.Bool.{and_parts, cases_Bool, cases_lt, or_cases}
-use Rattle.std.proofs.lemmas.Nat.{div-mul-add}
+use Rattle.std.proofs.lemmas.Bool.{and_parts, cases_Bool, cases_lt, or_cases, leb-true}
+use Rattle.std.proofs.lemmas.Nat.{same_from_place}
 use Rattle.byteorder.specs.Endian.{big_from, big_number}
 use Rattle.byteorder.specs.Numbers.{big_from-cons, big_from-lt, big_from-append, big_from-take}
 use Rattle.slowpdu.specs.Layout.{Field, HoldsNumber, is_within, is_covered, AreOctets, ReadsTable, WritesTable, read_fields, payload_len}
@@ -56,16 +22,13 @@ stands-append b rest p h =
 abbrev pub fits : Field → Bool
 fits p = nat_le (p.offset + p.width) 110
 
-le_of_test : (m n : ℕ) → nat_le m n ≡ true → m ≤ n
-le_of_test m n h = grind arith
-
 -- what stands in a payload stands in it with what follows, and the other way round
 pub all_stand-append : (b rest : List ℕ) (places : List Field) → payload_len ≤ length b → list_all fits places ≡ true
     → AllByRecursion (HoldsNumber b) places → AllByRecursion (HoldsNumber (b ++ rest)) places
 all_stand-append b rest [] long fit h = tt
 all_stand-append b rest (p ∷ places) long fit h =
     let parts = and_parts (fits p) (list_all fits places) fit in
-    let within : p.offset + p.width ≤ 110 = le_of_test (p.offset + p.width) 110 parts.0 in
+    let within : p.offset + p.width ≤ 110 = leb-true (p.offset + p.width) 110 parts.0 in
     (stands-append b rest p (omega arith) ∙ h.0, all_stand-append b rest places long parts.1 h.1)
 
 all_stood : (b rest : List ℕ) (places : List Field) → payload_len ≤ length b → list_all fits places ≡ true
@@ -73,7 +36,7 @@ all_stood : (b rest : List ℕ) (places : List Field) → payload_len ≤ length
 all_stood b rest [] long fit h = tt
 all_stood b rest (p ∷ places) long fit h =
     let parts = and_parts (fits p) (list_all fits places) fit in
-    let within : p.offset + p.width ≤ 110 = le_of_test (p.offset + p.width) 110 parts.0 in
+    let within : p.offset + p.width ≤ 110 = leb-true (p.offset + p.width) 110 parts.0 in
     (sym (stands-append b rest p (omega arith)) ∙ h.0, all_stood b rest places long parts.1 h.1)
 
 -- a table is read in a payload exactly if it is read with what follows
@@ -106,12 +69,6 @@ written_table b places h = record {
 }
 
 -- a quotient and a remainder are those of one number alone
-split_unique : (a b c d w : ℕ) → b < w → d < w → a * w + b ≡ c * w + d → (a ≡ c) × (b ≡ d)
-split_unique a b c d w hb hd e =
-    let quotients : a ≡ c = sym (div-mul-add a w b hb) ∙ ap (λ (n : ℕ). n / w) e ∙ div-mul-add c w d hd in
-    let products : a * w ≡ c * w = ap (λ (n : ℕ). n * w) quotients in
-    (quotients, omega (arith, products, e))
-
 tail_octets : (x : ℕ) (xs : List ℕ) → AreOctets (x ∷ xs) → AreOctets xs
 tail_octets x xs h i = h (suc i)
 
@@ -130,7 +87,7 @@ one_number (suc n) (x ∷ xs) (y ∷ ys) lx ly ox oy e =
     ap (λ (r : ℕ). x * 256 ^ n + r) (sym ax) ∙ e ∙ ap (λ (r : ℕ). y * 256 ^ n + r) ay in
     let tx = tail_octets x xs ox in
     let ty = tail_octets y ys oy in
-    let parts = split_unique x (big_from 0 n xs) y (big_from 0 n ys) (256 ^ n) (big_from-lt 0 n xs tx) (big_from-lt 0 n ys ty) numbers in
+    let parts = same_from_place x (big_from 0 n xs) y (big_from 0 n ys) (256 ^ n) (big_from-lt 0 n xs tx) (big_from-lt 0 n ys ty) numbers in
     let rest = one_number n xs ys (omega arith) (omega arith) tx ty parts.1 in
     cc (parts.0, rest)
 
@@ -209,7 +166,7 @@ in_cut b p i low high =
 within_of_test : (i : ℕ) (p : Field) → is_within i p ≡ true → (p.offset ≤ i) × (i < p.offset + p.width)
 within_of_test i p h =
     let parts = and_parts (nat_le p.offset i) (nat_lt i (p.offset + p.width)) h in
-    (le_of_test p.offset i parts.0, grind (arith, parts.1))
+    (leb-true p.offset i parts.0, grind (arith, parts.1))
 
 -- a covered octet is the same in both
 covered_same : (b c : List ℕ) (places : List Field) (i : ℕ) → length b ≡ payload_len → length c ≡ payload_len → AreOctets b → AreOctets c
@@ -223,7 +180,7 @@ covered_same b c (p ∷ places) i lb lc ob oc fit hb hc h =
           let bounds = within_of_test i p here in
           in_cut b p i bounds.0 bounds.1
           ∙ ap (λ (xs : List ℕ). slice_index xs (i - p.offset))
-          (same_cut b c p lb lc ob oc (le_of_test (p.offset + p.width) 110 fit_parts.0) hb.0 hc.0)
+          (same_cut b c p lb lc ob oc (leb-true (p.offset + p.width) 110 fit_parts.0) hb.0 hc.0)
           ∙ sym (in_cut c p i bounds.0 bounds.1)
       | inr later ↦ covered_same b c places i lb lc ob oc fit_parts.1 hb.1 hc.1 later
     ]
