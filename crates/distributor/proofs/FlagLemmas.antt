@@ -8,7 +8,7 @@ use Rattle.distributor.specs.declared.assignment.Assignment.{Assignment}
 use Rattle.distributor.specs.declared.assignment.Assignment.TheVariants.{Free, On, Wanted, Flushing}
 use Rattle.distributor.specs.declared.change.Change.{Change}
 use Rattle.distributor.specs.declared.change.Change.TheVariants.{Mark, Release}
-use Rattle.distributor.specs.declared.slots.ConversationTest.TheVariants.{WantsMarker, AwaitsResponse}
+use Rattle.distributor.specs.declared.slots.ConversationTest.TheVariants.{WantsMarker, AwaitsResponse, HeldOn}
 use Rattle.distributor.specs.Conversations.{sum_below}
 use Rattle.distributor.specs.Changes.{after_change, wants_marker}
 use Rattle.distributor.specs.Chains.{assignment_port, chain_of, is_in_chain, is_flagged, is_flushing, is_wanted, changed_in_chain}
@@ -106,6 +106,21 @@ none_awaits port n w f none (Wanted p preferred) h = refl
 none_awaits port n w f none (Flushing p id preferred age) h = elim (cases_Bool (eqb (chain_of p) (chain_of port))) [
   | inl e ↦ absurd (false≢true (sym none ∙ h e))
   | inr g ↦ passes_stands (AwaitsResponse port n) (Flushing p id preferred age) g
+]
+
+-- if neither flag of a port's chain is set, no conversation is held on the port
+pub none_held : (port : ℕ) (w f : Bool) → w ≡ false → f ≡ false → (s : Assignment) → (is_in_chain (chain_of port) s ≡ true
+    → is_flagged w f s ≡ true)
+    → passes (HeldOn port) s ≡ false
+none_held port w f clear none (Free preferred) h = refl
+none_held port w f clear none (On p) h = refl
+none_held port w f clear none (Wanted p preferred) h = elim (cases_Bool (eqb (chain_of p) (chain_of port))) [
+  | inl e ↦ absurd (false≢true (sym clear ∙ h e))
+  | inr g ↦ passes_stands (HeldOn port) (Wanted p preferred) g
+]
+none_held port w f clear none (Flushing p id preferred age) h = elim (cases_Bool (eqb (chain_of p) (chain_of port))) [
+  | inl e ↦ absurd (false≢true (sym none ∙ h e))
+  | inr g ↦ passes_stands (HeldOn port) (Flushing p id preferred age) g
 ]
 
 -- what passes nowhere is counted 0 times

@@ -18,7 +18,7 @@ use Rattle.lagmodel.proofs.Uses.{flows_become}
 use Rattle.distributor.specs.Conversations.{Table, first_table, assignment_of, slot_index}
 use Rattle.distributor.specs.Changes.{SetsAssignment, ChangesAssignments, Marks, after_leave, after_mark, after_release, after_down}
 use Rattle.distributor.specs.Changes.{after_tick}
-use Rattle.distributor.specs.Calls.{MaySend, move_result, force_result, is_among}
+use Rattle.distributor.specs.Calls.{MaySend, move_result, force_result, is_among, leave_result, rest_result}
 use Rattle.distributor.proofs.TableLemmas.{first_free}
 use Rattle.distributor.specs.Moves.{model_conversation, model_distributor, OnlyListedDistribute, NoneDistributes}
 
@@ -110,6 +110,33 @@ move_moves mac call t u agg conv to next ports s e h =
     let m = is_moved next ports to (assignment_of t agg conv) s e in
     one_moves mac call t u agg conv s (ConversationMove.Want m.0) m.1 m.2 h
 
+-- what leaving a port makes of a conversation
+pub is_left : (next : Option ℕ) (old new : Assignment) → leave_result next old ≡ Ok new → (p : ℕ)
+    × (model_conversation old ≡ Conversation.On p) × (model_conversation new ≡ Conversation.Wanted p)
+is_left next (state.Free preferred) new h = absurd cc
+is_left next (state.Wanted p preferred) new h = absurd cc
+is_left next (state.Flushing p n preferred age) new h = absurd cc
+is_left next (state.On p) new h = (p, refl, checked (is_none next) h)
+  where
+    checked : (z : Bool) → cond z (Err DistFault.MarkersSpent) (Ok (state.Wanted p None)) ≡ Ok new
+        → model_conversation new ≡ Conversation.Wanted p
+    checked true e = absurd cc
+    checked false e = let same : state.Wanted p None ≡ new = cc in ap model_conversation (sym same)
+
+pub leave_one_moves : (mac : List ℕ) (call : ModelCall) (t u : Table) (agg conv : ℕ) (next : Option ℕ) (s : Assignment)
+    → leave_result next (assignment_of t agg conv) ≡ Ok s → SetsAssignment t u agg conv s
+    → DistributorMoves mac call NoneDistributes (model_distributor t) [] (model_distributor u)
+leave_one_moves mac call t u agg conv next s e h =
+    let m = is_left next (assignment_of t agg conv) s e in
+    one_moves mac call t u agg conv s (ConversationMove.Want m.0) m.1 m.2 h
+
+-- what rests is forced
+pub is_rested : (old new : Assignment) → rest_result old ≡ Ok new → force_result old ≡ Ok new
+is_rested (state.Free preferred) new h = absurd cc
+is_rested (state.On p) new h = h
+is_rested (state.Wanted p preferred) new h = absurd cc
+is_rested (state.Flushing p n preferred age) new h = absurd cc
+
 -- what force makes of a conversation
 pub is_forced : (old new : Assignment) → force_result old ≡ Ok new → model_conversation new ≡ Conversation.Free
 is_forced (state.Free preferred) new h = absurd cc
@@ -122,6 +149,11 @@ pub force_moves : (mac : List ℕ) (t u : Table) (agg conv : ℕ) (s : Assignmen
     → DistributorMoves mac (ModelCall.Force agg conv) NoneDistributes (model_distributor t) [] (model_distributor u)
 force_moves mac t u agg conv s e h = one_moves mac (ModelCall.Force agg conv) t u agg conv s ConversationMove.Forced refl
     (is_forced (assignment_of t agg conv) s e) h
+
+pub rest_moves : (mac : List ℕ) (t u : Table) (agg conv : ℕ) (s : Assignment) → rest_result (assignment_of t agg conv) ≡ Ok s
+    → SetsAssignment t u agg conv s
+    → DistributorMoves mac (ModelCall.Force agg conv) NoneDistributes (model_distributor t) [] (model_distributor u)
+rest_moves mac t u agg conv s e h = force_moves mac t u agg conv s (is_rested (assignment_of t agg conv) s e) h
 
 -- Every conversation changes alike.
 keys_of : ℕ → ℕ → List (ℕ × ℕ)

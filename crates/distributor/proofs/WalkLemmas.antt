@@ -11,7 +11,7 @@ use Rattle.distributor.specs.declared.assignment.Assignment.TheVariants.{Free, O
 use Rattle.distributor.specs.declared.change.Change.{Change}
 use Rattle.distributor.specs.declared.change.Change.TheVariants.{Leave, Mark, Release, Tick, Down}
 use Rattle.distributor.specs.declared.slots.ConversationTest.{ConversationTest}
-use Rattle.distributor.specs.declared.slots.ConversationTest.TheVariants.{WantsMarker, AwaitsResponse, NamesPort}
+use Rattle.distributor.specs.declared.slots.ConversationTest.TheVariants.{WantsMarker, AwaitsResponse, NamesPort, HeldOn}
 use Rattle.distributor.specs.Conversations.{sum_below}
 use Rattle.distributor.specs.Changes.{after_change, after_tick}
 use Rattle.distributor.specs.Chains.{assignment_port, chain_of, is_in_chain, changed_in_chain, occurs}
@@ -545,6 +545,10 @@ passes_stands (NamesPort port) (Free preferred) h = refl
 passes_stands (NamesPort port) (On p) h = other_port p port h
 passes_stands (NamesPort port) (Wanted p preferred) h = other_port p port h
 passes_stands (NamesPort port) (Flushing p id preferred age) h = other_port p port h
+passes_stands (HeldOn port) (Free preferred) h = refl
+passes_stands (HeldOn port) (On p) h = refl
+passes_stands (HeldOn port) (Wanted p preferred) h = other_port p port h
+passes_stands (HeldOn port) (Flushing p id preferred age) h = other_port p port h
 
 -- past the last slot a state reads as free
 pub free_past : (count : ℕ) (states : List Assignment) → length states ≡ count → ((k : ℕ) → k < count → slot_state states k ≡ Free None)

@@ -1,10 +1,10 @@
 -- How the slots of conversations are chained: each that is not free is in the chain of its port number modulo 64.
-use Rattle.std.specs.Prelude.{ℕ, ◌+◌, ◌%◌, ◌<◌, ◌^◌, ◌≡◌, Bool, true, false, cond, eqb, List, [], ◌∷◌, length, get_or, Option}
+use Rattle.std.specs.Prelude.{ℕ, ◌+◌, ◌%◌, ◌<◌, ◌^◌, ◌≡◌, ◌==◌, Bool, true, false, cond, eqb, List, [], ◌∷◌, length, get_or, Option}
 use Rattle.std.specs.Prelude.{None, Some}
 use Rattle.distributor.specs.declared.assignment.Assignment.{Assignment}
 use Rattle.distributor.specs.declared.assignment.Assignment.TheVariants.{Free, On, Wanted, Flushing}
 use Rattle.distributor.specs.declared.slots.ConversationTest.{ConversationTest}
-use Rattle.distributor.specs.declared.slots.ConversationTest.TheVariants.{WantsMarker, AwaitsResponse, NamesPort}
+use Rattle.distributor.specs.declared.slots.ConversationTest.TheVariants.{WantsMarker, AwaitsResponse, NamesPort, HeldOn}
 use Rattle.distributor.specs.Changes.{wants_marker, awaits_response}
 
 -- the port on which a conversation is On, Wanted or Flushing
@@ -53,17 +53,26 @@ names_port port (On p) = eqb p port
 names_port port (Wanted p preferred) = eqb p port
 names_port port (Flushing p id preferred age) = eqb p port
 
+-- the conversation is held on this port: it is Wanted or Flushing there
+abbrev pub is_held_on : ℕ → Assignment → Bool
+is_held_on port (Free preferred) = false
+is_held_on port (On given) = false
+is_held_on port (Wanted given preferred) = given == port
+is_held_on port (Flushing given id preferred age) = given == port
+
 -- whether the test counts a conversation in this state
 abbrev pub passes : ConversationTest → Assignment → Bool
 passes (WantsMarker port) s = wants_marker port s
 passes (AwaitsResponse port id) s = awaits_response port id s
 passes (NamesPort port) s = names_port port s
+passes (HeldOn port) s = is_held_on port s
 
 -- the port of a test; every conversation that the test counts is on that port
 abbrev pub tested_port : ConversationTest → ℕ
 tested_port (WantsMarker port) = port
 tested_port (AwaitsResponse port id) = port
 tested_port (NamesPort port) = port
+tested_port (HeldOn port) = port
 
 -- the state after a change that applies only to the conversations in this chain
 abbrev pub changed_in_chain : ℕ → (Assignment → Assignment) → Assignment → Assignment

@@ -1,6 +1,6 @@
 ghost use Rattle.std.specs.Prelude.{◌≡◌};
 ghost use Rattle.distributor.specs.Conversations.{preference_of};
-ghost use Rattle.distributor.specs.Chains.{assignment_port, names_port, is_flushing, is_wanted};
+ghost use Rattle.distributor.specs.Chains.{assignment_port, is_flushing, is_held_on, is_wanted, names_port};
 ghost use Rattle.distributor.specs.Changes.{wants_marker, awaits_response};
 
 /// The state of a conversation (profile). Ports are port numbers. `preferred` is the port that the next frame goes on
@@ -63,6 +63,17 @@ impl Assignment {
             Assignment::On(p)
             | Assignment::Wanted { port: p, .. }
             | Assignment::Flushing { port: p, .. } => p == port,
+        }
+    }
+
+    /// Whether the conversation is held on this port: Wanted or Flushing there (profile).
+    pub fn is_held_on(&self, port: u16) -> bool
+        ensures { result ≡ is_held_on port self.now }
+    {
+        match *self {
+            Assignment::Free { .. } | Assignment::On(_) => false,
+            Assignment::Wanted { port: held, .. } | Assignment::Flushing { port: held, .. } => held
+                == port,
         }
     }
 

@@ -46,6 +46,8 @@ pub(crate) enum ConversationTest {
     AwaitsResponse(u16, u32),
     /// Those that are On, Wanted or Flushing on this port.
     NamesPort(u16),
+    /// Those that are Wanted or Flushing on this port.
+    HeldOn(u16),
 }
 
 impl ConversationTest {
@@ -57,6 +59,7 @@ impl ConversationTest {
             ConversationTest::WantsMarker(port) => state.wants_marker(port),
             ConversationTest::AwaitsResponse(port, id) => state.awaits_response(port, id),
             ConversationTest::NamesPort(port) => state.names_port(port),
+            ConversationTest::HeldOn(port) => state.is_held_on(port),
         }
     }
 
@@ -67,7 +70,8 @@ impl ConversationTest {
         match *self {
             ConversationTest::WantsMarker(port)
             | ConversationTest::AwaitsResponse(port, _)
-            | ConversationTest::NamesPort(port) => chain(port),
+            | ConversationTest::NamesPort(port)
+            | ConversationTest::HeldOn(port) => chain(port),
         }
     }
 }
@@ -131,6 +135,10 @@ impl Slots {
         match test {
             ConversationTest::WantsMarker(port) => self.may_want[chain(port) as usize],
             ConversationTest::AwaitsResponse(port, _) => self.may_flush[chain(port) as usize],
+            ConversationTest::HeldOn(port) => {
+                let chain = chain(port);
+                self.may_want[chain as usize] || self.may_flush[chain as usize]
+            }
             ConversationTest::NamesPort(_) => true,
         }
     }

@@ -3,7 +3,7 @@ ghost use Rattle.distributor.specs.Conversations.{first_table, assignment_of, sl
 ghost use Rattle.distributor.specs.Conversations.{IsConversation};
 ghost use Rattle.distributor.specs.Changes.{SetsAssignment, ChangesAssignments, Marks, after_change, wants_marker, awaits_response};
 ghost use Rattle.distributor.specs.Changes.{marker_due};
-ghost use Rattle.distributor.specs.Chains.{names_port, is_flushing};
+ghost use Rattle.distributor.specs.Chains.{is_flushing, is_held_on, names_port};
 ghost use Rattle.distributor.specs.Waiting.{ticks_until_next_wanted};
 
 use crate::assignment::Assignment;
@@ -121,6 +121,13 @@ impl ConversationTable {
         self.slots.count(ConversationTest::NamesPort(port))
     }
 
+    /// How many conversations are Wanted or Flushing on the port.
+    pub(crate) fn held(&self, port: u16) -> u32
+        ensures { result ≡ count_conversations (is_held_on port) self.now }
+    {
+        self.slots.count(ConversationTest::HeldOn(port))
+    }
+
     /// In how many ticks the next conversation is Wanted again; None if none is Flushing.
     pub(crate) fn ticks_until_next_wanted(&self) -> Option<u8>
         ensures { result ≡ ticks_until_next_wanted self.now }
@@ -167,6 +174,15 @@ impl ConversationTable {
         if !self.find_wanted(port) {
             return None;
         }
+        self.mark_next(port)
+    }
+
+    /// Takes the next identifier for a marker on this port, whether or not a conversation is Wanted there; None if none is left.
+    pub(crate) fn mark_next(&mut self, port: u16) -> Option<u32>
+        ensures answer { result ≡ next_identifier self.old }
+        ensures some { IfSome result (λ id. Marks self.old self.new port id) }
+        ensures none { IfNone result (self.new ≡ self.old) }
+    {
         let id = self.next_identifier()?;
         self.next += 1;
         self.change(Change::Mark(port, id));

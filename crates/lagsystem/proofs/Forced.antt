@@ -12,10 +12,11 @@ use Rattle.distributor.specs.declared.assignment.Assignment.TheVariants.{Free, O
 use Rattle.distributor.specs.declared.fault.DistFault.{DistFault}
 use Rattle.distributor.specs.declared.fault.DistFault.TheVariants as dist
 use Rattle.distributor.specs.Calls.{force_result}
+use Rattle.distributor.specs.Chains.{is_held_on}
 use Rattle.distributor.specs.Conversations.{Table, assignment_of, sum_below}
 use Rattle.lagsystem.specs.declared.fault.SystemFault.{SystemFault}
 use Rattle.lagsystem.specs.declared.fault.SystemFault.TheVariants.{NoAggregator}
-use Rattle.lagsystem.specs.Forcing.{ForcesFirst, ForcesIfHeld, ForcesIn, ForcesPort, FreesHeld, NoneIsHeldOn, after_forcing, count_held_on, is_held_on}
+use Rattle.lagsystem.specs.Forcing.{ForcesFirst, ForcesIfHeld, ForcesIn, ForcesPort, FreesHeld, NoneIsHeldOn, after_forcing, count_held_on}
 use Rattle.lagsystem.specs.Offers.{GivesAssignment, GivesOrRefuses, has_aggregator, in_system, system_force_result}
 use Rattle.lagsystem.specs.Readers.{aggregator_numbered, conversation_count}
 use Rattle.lagsystem.specs.Sound.{IsSound}

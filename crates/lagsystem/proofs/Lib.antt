@@ -55,3 +55,10 @@ pub mod QuietRuns
 mod StatusLemmas
 mod StatusReasons
 mod Forced
+pub mod PromiseLemmas
+pub mod LeavingLemmas
+pub mod AssigningLemmas
+pub mod ProbingLemmas
+pub mod TellingLemmas
+pub mod StillDueLemmas
+pub mod HeldLemmas

@@ -1,5 +1,5 @@
 -- After every call a conversation is On a port only if the port distributes in its aggregator.
-use Rattle.std.proofs.Common.{◌≡◌, ◌∙◌, ℕ, zero, suc, Bool, true, false, cond, ◌&&◌, eqb, List, [], ◌∷◌, Some, None}
+use Rattle.std.proofs.Common.{◌≡◌, ◌∙◌, ℕ, zero, suc, Bool, true, false, cond, ◌&&◌, eqb, List, [], ◌∷◌, Some, None, Option}
 use Rattle.std.proofs.Common.{refl, sym, ap, subst, ◌⊎◌, inl, inr, length}
 use Rattle.std.specs.Prelude.{if◌then◌else◌, slice_get, slice_set, filter, map}
 use Rattle.std.proofs.lemmas.Bool.{and_parts, eqb-true}
@@ -15,6 +15,7 @@ use Rattle.distributor.specs.Moves.{model_conversation}
 use Rattle.distributor.proofs.MoveLemmas.{is_forced, is_moved}
 use Rattle.distributor.proofs.TableLemmas.{first_free}
 use Rattle.lagmodel.specs.View.{Conversation}
+use Rattle.lagsystem.specs.Sending.{SendsMarkerOf}
 use Rattle.lagsystem.specs.declared.drive.Reply.{Reply}
 use Rattle.lagsystem.specs.declared.system_ports.SystemPort.{SystemPort}
 use Rattle.lagsystem.specs.Calls.{Call}
@@ -33,7 +34,7 @@ use Rattle.lagsystem.proofs.Steps.{forced_to, moved_to}
 same_port : (p q : ℕ) → On p ≡ On q → p ≡ q
 same_port p q e = cc
 
-not_on : (p : ℕ) (a : Assignment) → a ≡ On p → model_conversation a ≡ Conversation.On p
+pub not_on : (p : ℕ) (a : Assignment) → a ≡ On p → model_conversation a ≡ Conversation.On p
 not_on p a e = ap model_conversation e
 
 pub first_carried : (s : SystemState) → IsFirst s → OnlyOnDistributing s
@@ -60,10 +61,10 @@ leaves_carried old new h g k p e =
     (left_is (distributing (aggregator_numbered g) old.system_ports) (assignment_of old.table g k) p (sym (h.states g k) ∙ e))
 
 -- the ports stay, and a conversation is where it was or on a port that distributes in its aggregator
-abbrev Carried : SystemState → ℕ → Assignment → ℕ → Type 0
+abbrev pub Carried : SystemState → ℕ → Assignment → ℕ → Type 0
 Carried old g was p = (was ≡ On p) ⊎ (is_among (distributing (aggregator_numbered g) old.system_ports) p ≡ true)
 
-table_carried : (old new : SystemState) → new ≡ with_table old new.table → OnlyOnDistributing old
+pub table_carried : (old new : SystemState) → new ≡ with_table old new.table → OnlyOnDistributing old
     → ((g k p : ℕ) → assignment_of new.table g k ≡ On p → Carried old g (assignment_of old.table g k) p) → OnlyOnDistributing new
 table_carried old new f c h g k p e =
     subst (λ (s : SystemState). is_among (distributing (aggregator_numbered g) s.system_ports) p ≡ true) (sym f)
@@ -79,7 +80,7 @@ released port id p (Flushing q n preferred age) e = freed (eqb q port && eqb n i
     freed true x = absurd cc
     freed false x = x
 
-marked : (port id p : ℕ) (a : Assignment) → after_mark port id a ≡ On p → a ≡ On p
+pub marked : (port id p : ℕ) (a : Assignment) → after_mark port id a ≡ On p → a ≡ On p
 marked port id p (Free preferred) e = e
 marked port id p (On q) e = e
 marked port id p (Flushing q n preferred age) e = e
@@ -117,8 +118,14 @@ sent_distributing agg (x ∷ xs) (suc i) s e =
     more agg x ys ∙ filtered (distributes_in agg x) x x (distributing agg ys) (distributing agg xs) refl (sent_distributing agg xs i s e)
     ∙ sym (more agg x xs)
 
+pub marker_carried : (o : Option ℕ) (port : ℕ) (mac : List ℕ) (old : SystemState) (answer : Option (List ℕ)) (new : SystemState)
+    → SendsMarkerOf o port mac old answer new → OnlyOnDistributing old → OnlyOnDistributing new
+marker_carried None port mac old answer new h c = subst OnlyOnDistributing (sym h.1) c
+marker_carried (Some id) port mac old answer new h c = table_carried old new h.5 c
+    (λ g k p e. inl (marked port id p (assignment_of old.table g k) (sym (h.4.states g k) ∙ e)))
+
 -- one conversation takes a state
-sets_carried : (agg : AggId) (conv : ℕ) (s : Assignment) (old new : SystemState) → SetsAssignment old.table new.table agg.0 conv s
+pub sets_carried : (agg : AggId) (conv : ℕ) (s : Assignment) (old new : SystemState) → SetsAssignment old.table new.table agg.0 conv s
     → new ≡ with_table old new.table → OnlyOnDistributing old
     → ((p : ℕ) → s ≡ On p → Carried old agg.0 (assignment_of old.table agg.0 conv) p) → OnlyOnDistributing new
 sets_carried agg conv s old new h f c here = table_carried old new f c
@@ -132,7 +139,7 @@ sets_carried agg conv s old new h f c here = table_carried old new f c
         (subst (λ m. Carried old agg.0 (assignment_of old.table agg.0 m) p) (eqb-true conv k both.1) (here p x))
     either g k p false t x = inl x
 
-may_carry : (old : SystemState) (g p port : ℕ) (a : Assignment) → MaySend (distributing (aggregator_numbered g) old.system_ports) a port
+pub may_carry : (old : SystemState) (g p port : ℕ) (a : Assignment) → MaySend (distributing (aggregator_numbered g) old.system_ports) a port
     → On port ≡ On p → Carried old g a p
 may_carry old g p port (Free preferred) m e =
     inr (subst (λ q. is_among (distributing (aggregator_numbered g) old.system_ports) q ≡ true) (same_port port p e) m)

@@ -4,8 +4,9 @@ use Rattle.std.specs.Prelude.{is_some}
 use Rattle.std.proofs.lemmas.Bool.{true≢false}
 use Rattle.lagtypes.specs.declared.identifiers.AggId.{AggId}
 use Rattle.lagsystem.specs.declared.drive.Reply.TheVariants as reply
+use Rattle.distributor.specs.Chains.{is_held_on}
 use Rattle.lagsystem.specs.Calls.{Force}
-use Rattle.lagsystem.specs.Forcing.{ForcesFirst, ForcesIfHeld, ForcesIn, is_held_on}
+use Rattle.lagsystem.specs.Forcing.{ForcesFirst, ForcesIfHeld, ForcesIn}
 use Rattle.lagsystem.specs.OneAnswer.{IsFunction, OneForcing, SameState}
 use Rattle.lagsystem.specs.Readers.{aggregator_numbered}
 use Rattle.lagsystem.specs.Sound.{PortsAgree}

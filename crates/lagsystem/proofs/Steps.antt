@@ -184,7 +184,7 @@ slots_moved u call seen old mid e h =
     (sym (ap (λ (s : SystemState). s.table) e)) h
 
 -- conversations alone
-table_moved : (u : SystemSetup) (call : Told) (seen : List Act) (old new : SystemState) → new ≡ with_table old new.table
+pub table_moved : (u : SystemSetup) (call : Told) (seen : List Act) (old new : SystemState) → new ≡ with_table old new.table
     → LawfulMoves u call (model_view old) seen (model_view_at (model_distributor new.table) old.system_ports)
     → LawfulMoves u call (model_view old) seen (model_view new)
 table_moved u call seen old new e h =
@@ -375,7 +375,7 @@ heard_answer w u f n i octets system_ports system_port answer true r e g h = ans
     answer h.0 r e g h.1 h.2
 
 -- a frame without effect
-nothing : (old : SystemState) (call : Call) (answer : Reply) (new : SystemState) (told : Told) → CallSeenAs call told
+pub nothing : (old : SystemState) (call : Call) (answer : Reply) (new : SystemState) (told : Told) → CallSeenAs call told
     → EffectsSeenAs old call answer [] → new ≡ old → JoinedByLawfulMoves old call answer new
 nothing old call answer new told t s e = (told, [], t, s, ([], tt, refl, ap model_view e))
 
@@ -471,13 +471,29 @@ sends_lacpdu old n i system_port answer new r rested e g h =
     subst (λ a. JoinedByLawfulMoves old (Transmit n) (reply.Transmit (Ok a)) new) (sym h.2)
     (Told.Transmit, seen, refl, (pdu.Lacpdu v, (system_port.mac, h.1.0, h.1.1, h.1.2, h.1.3), refl), whole)
 
-below : (o : Option ℕ) (b : Bool) (n id : ℕ) → cond b (cond (ltb n (2 ^ 32)) (Some n) None) None ≡ Some id → id < 2 ^ 32
+pub below : (o : Option ℕ) (b : Bool) (n id : ℕ) → cond b (cond (ltb n (2 ^ 32)) (Some n) None) None ≡ Some id → id < 2 ^ 32
 below o false n id e = absurd (none-some id e)
 below o true n id e = fits (ltb n (2 ^ 32)) refl e
   where
     fits : (b : Bool) → ltb n (2 ^ 32) ≡ b → cond b (Some n) None ≡ Some id → id < 2 ^ 32
     fits true t x = subst (λ m. m < 2 ^ 32) (same_Some n id x) (ltb-true n (2 ^ 32) t)
     fits false t x = absurd (none-some id x)
+
+-- a marker goes out
+pub marker_goes : (id : ℕ) (old : SystemState) (n port : ℕ) (mac : List ℕ) (answer : Option (List ℕ)) (new : SystemState)
+    → id < 2 ^ 32 → port ≡ n
+    → SendsMarkerOf (Some id) port mac old answer new → JoinedByLawfulMoves old (Transmit n) (reply.Transmit (Ok answer)) new
+marker_goes id old n port mac answer new fits p h =
+    let u = model_setup old in
+    let m = own_marker old port id in
+    let seen : List Act = Shows n (Message.Marker old.system.mac n id) ∷ [] in
+    let moves = mark_moves old.system.mac Told.Transmit old.table new.table n id refl fits
+    (subst (λ q. Marks old.table new.table q id) p h.4) in
+    let all = table_moved u Told.Transmit seen old new h.5 (table_moves u Told.Transmit old.system_ports old.table new.table seen moves) in
+    let told : Shows n (Message.Marker old.system.mac n id) ∷ [] ≡ Shows n (control_message (pdu.Marker m))
+    ∷ [] = λ i. Shows n (Message.Marker old.system.mac (sym p i) id) ∷ [] in
+    subst (λ a. JoinedByLawfulMoves old (Transmit n) (reply.Transmit (Ok a)) new) (sym h.3)
+    (Told.Transmit, seen, refl, (pdu.Marker m, (mac, h.0, h.1, h.2, refl), told), all)
 
 sends_marker : (o : Option ℕ) (old : SystemState) (n port : ℕ) (mac : List ℕ) (answer : Option (List ℕ)) (new : SystemState)
     → marker_due old.table port ≡ o → port ≡ n
@@ -486,17 +502,7 @@ sends_marker None old n port mac answer new d p h =
     subst (λ a. JoinedByLawfulMoves old (Transmit n) (reply.Transmit (Ok a)) new) (sym h.0)
     (nothing old (Transmit n) (reply.Transmit (Ok None)) new Told.Transmit refl refl h.1)
 sends_marker (Some id) old n port mac answer new d p h =
-    let u = model_setup old in
-    let m = own_marker old port id in
-    let seen : List Act = Shows n (Message.Marker old.system.mac n id) ∷ [] in
-    let fits : id < 2 ^ 32 = below None (ltb 0 (count_conversations (wants_marker port) old.table)) old.table.next id d in
-    let moves = mark_moves old.system.mac Told.Transmit old.table new.table n id refl fits
-    (subst (λ q. Marks old.table new.table q id) p h.4) in
-    let all = table_moved u Told.Transmit seen old new h.5 (table_moves u Told.Transmit old.system_ports old.table new.table seen moves) in
-    let told : Shows n (Message.Marker old.system.mac n id) ∷ [] ≡ Shows n (control_message (pdu.Marker m))
-    ∷ [] = λ i. Shows n (Message.Marker old.system.mac (sym p i) id) ∷ [] in
-    subst (λ a. JoinedByLawfulMoves old (Transmit n) (reply.Transmit (Ok a)) new) (sym h.3)
-    (Told.Transmit, seen, refl, (pdu.Marker m, (mac, h.0, h.1, h.2, refl), told), all)
+    marker_goes id old n port mac answer new (below None (ltb 0 (count_conversations (wants_marker port) old.table)) old.table.next id d) p h
 
 sends_where : (up due : Bool) (old : SystemState) (n i : ℕ) (system_port : SystemPort) (answer : Option (List ℕ)) (new : SystemState)
     → Rises 0 (port_numbers old.system_ports) → PortsConsistent old.system_ports → port_index n old.system_ports ≡ Some i
@@ -538,12 +544,12 @@ offers gives agg octets old (Ok port) new r rested h =
 offers gives agg octets old (Err fault) new r rested h = nothing old (Offer agg octets) (reply.Offer (Err fault)) new
     Told.Offer refl refl h.1
 
-if_ok : (b : Bool) (x : Result Assignment SystemFault) (fault : SystemFault) (s : Assignment)
+pub if_ok : (b : Bool) (x : Result Assignment SystemFault) (fault : SystemFault) (s : Assignment)
     → (if b then x else Err fault) ≡ Ok s → x ≡ Ok s
 if_ok true x fault s e = e
 if_ok false x fault s e = absurd cc
 
-known_ok : (b : Bool) (x : Result Assignment DistFault) (fault : DistFault) (s : Assignment)
+pub known_ok : (b : Bool) (x : Result Assignment DistFault) (fault : DistFault) (s : Assignment)
     → in_system (if b then x else Err fault) ≡ Ok s → x ≡ Ok s
 known_ok true (Ok a) fault s e = let same : a ≡ s = cc in ap Ok same
 known_ok true (Err f) fault s e = absurd cc

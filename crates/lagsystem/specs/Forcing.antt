@@ -3,6 +3,7 @@ use Rattle.std.specs.Prelude.{◌≡◌, ℕ, zero, suc, ◌+◌, ◌==◌, Bool
 use Rattle.lagtypes.specs.declared.identifiers.AggId.{AggId}
 use Rattle.distributor.specs.declared.assignment.Assignment.{Assignment}
 use Rattle.distributor.specs.declared.assignment.Assignment.TheVariants.{Free, On, Wanted, Flushing}
+use Rattle.distributor.specs.Chains.{is_held_on}
 use Rattle.distributor.specs.Conversations.{IsConversation, assignment_of, count_conversations}
 use Rattle.lagsystem.specs.declared.drive.Reply.TheVariants as reply
 use Rattle.lagsystem.specs.declared.fault.SystemFault.{SystemFault}
@@ -10,13 +11,6 @@ use Rattle.lagsystem.specs.Calls.{Force, RefusesNoPort}
 use Rattle.lagsystem.specs.Readers.{aggregator_numbered}
 use Rattle.lagsystem.specs.Sound.{CallPromise}
 use Rattle.lagsystem.specs.State.{SystemState, port_index, with_table}
-
--- the conversation is held on this port: it is Wanted or Flushing there
-abbrev pub is_held_on : ℕ → Assignment → Bool
-is_held_on port (Free preferred) = false
-is_held_on port (On given) = false
-is_held_on port (Wanted given preferred) = given == port
-is_held_on port (Flushing given id preferred age) = given == port
 
 -- one conversation: if it is held on the port, it is forced, by the call `force`; else nothing changes
 abbrev pub ForcesIfHeld : (ℕ → ℕ → ℕ → Type 0) → ℕ → AggId → ℕ → SystemState → Bool → SystemState → Type 0

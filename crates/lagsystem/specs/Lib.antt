@@ -24,6 +24,12 @@ pub mod StatusMeaning
 pub mod Due
 pub mod Texts
 pub mod Forcing
+pub mod Promises
+pub mod Assigning
+pub mod Leaving
+pub mod Probing
+pub mod ConversationTables
+pub mod StillDue
 pub mod Waiting
 pub mod Quiet
 pub mod Soonest

@@ -1,5 +1,6 @@
 ghost use Rattle.std.specs.Prelude.{◌≡◌, ◌<◌, IfSome, MatchOption, Ok, Err};
 ghost use Rattle.distributor.specs.Conversations.{next_identifier, count_conversations};
+ghost use Rattle.lagsystem.specs.Forcing.{count_held_on};
 ghost use Rattle.lagsystem.specs.Hosts.{conversation_at};
 ghost use Rattle.lagsystem.specs.State.{port_index};
 ghost use Rattle.lagsystem.specs.Readers.{conversation_in, conversation_count};
@@ -40,6 +41,16 @@ impl<F: Fn(u16, usize) -> usize + Drop> System<F> {
     {
         self.inner.port_index(port)?;
         Ok(self.inner.distributor.load(port))
+    }
+
+    /// How many conversations, of all aggregators together, are held on a port: Wanted or Flushing there. `load` counts those
+    /// that are On it, too. `NoPort` if there is no such port (profile).
+    pub fn held(&self, port: u16) -> Result<u32, SystemFault>
+        ensures { MatchOption (port_index port self.now.state.system_ports) (result ≡ Err SystemFault.NoPort)
+            (λ place. result ≡ Ok (count_held_on port self.now.state)) }
+    {
+        self.inner.port_index(port)?;
+        Ok(self.inner.distributor.held(port))
     }
 
     /// The Requester_Transaction_ID of the next marker, 0 to 4294967295; None if all are used up (6.5.3.3;

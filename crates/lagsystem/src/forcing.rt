@@ -1,23 +1,11 @@
 ghost use Rattle.std.specs.Prelude.{◌≡◌, ◌<◌, ◌≤◌, IfOk, true};
 ghost use Rattle.distributor.specs.Calls.{PicksIndexes};
-ghost use Rattle.lagsystem.specs.Forcing.{ForcesIfHeld, ForcesIn, ForcesPort, FreesHeld, NoneIsHeldOn, count_held_on, is_held_on};
+ghost use Rattle.lagsystem.specs.Forcing.{ForcesIfHeld, ForcesIn, ForcesPort, FreesHeld, NoneIsHeldOn, count_held_on};
 ghost use Rattle.lagsystem.specs.Offers.{has_aggregator};
 
 use crate::calls::System;
 use crate::fault::SystemFault;
-use distributor::Assignment;
 use lagtypes::AggId;
-
-/// Whether a conversation in this state is held on the port: Wanted or Flushing there.
-fn is_held_on(state: Assignment, port: u16) -> bool
-    ensures { result ≡ is_held_on port state }
-{
-    match state {
-        Assignment::Free { .. } | Assignment::On(_) => false,
-        Assignment::Wanted { port: held, .. } | Assignment::Flushing { port: held, .. } => held
-            == port,
-    }
-}
 
 impl<F: Fn(u16, usize) -> usize + Drop> System<F> {
     /// Forces each conversation that is held on a port, Wanted or Flushing there, exactly as `force` of each would, by
@@ -32,6 +20,9 @@ impl<F: Fn(u16, usize) -> usize + Drop> System<F> {
         ensures algorithm { self.new.algorithm ≡ self.old.algorithm }
     {
         self.inner.port_index(port)?;
+        if self.inner.distributor.held(port) == 0 {
+            return Ok(0);
+        }
         let mut forced = 0;
         for before in 0..self.inner.aggregators.count() {
             forced += self.force_held_in(AggId(before as u16 + 1), port);
@@ -65,7 +56,7 @@ impl<F: Fn(u16, usize) -> usize + Drop> System<F> {
         ensures conversations { self.new.state.conversations ≡ self.old.state.conversations }
         ensures algorithm { self.new.algorithm ≡ self.old.algorithm }
     {
-        if !is_held_on(self.inner.distributor.state(agg, conv), port) {
+        if !self.inner.distributor.state(agg, conv).is_held_on(port) {
             return false;
         }
         let _forced = self.force(agg, conv);

@@ -7,7 +7,7 @@ ghost use Rattle.lagsystem.specs.Inner.{inner_state};
 ghost use Rattle.lagsystem.specs.Holding.{WereInUse, aggregators_in_use};
 ghost use Rattle.lagsystem.specs.Offers.{has_aggregator};
 ghost use Rattle.lagsystem.specs.Readers.{number_of_conversation, conversation_count};
-ghost use Rattle.lagsystem.specs.Sending.{SendsMarker};
+ghost use Rattle.lagsystem.specs.Sending.{SendsMarker, own_marker};
 ghost use Rattle.lagsystem.specs.Settling.{Settling, SettlesPorts};
 ghost use Rattle.lagsystem.specs.Sound.{IsMade, IsSound};
 ghost use Rattle.lagsystem.specs.State.{port_index};
@@ -270,17 +270,23 @@ impl<F: Fn(u16, usize) -> usize + Drop> Inner<F> {
         ensures algorithm { self.new.distributor.algorithm ≡ self.old.distributor.algorithm }
     {
         let id = self.distributor.marker_for(number)?;
-        let marker = Marker {
+        Some(control_frame(mac, &self.own_marker(number, id).encode()))
+    }
+
+    /// The Marker PDU of the system with this identifier, for a port.
+    pub(crate) fn own_marker(&self, number: u16, id: u32) -> Marker
+        ensures { result ≡ own_marker (inner_state self.now) number id }
+    {
+        Marker {
             kind: MarkerKind::Information,
             port: number,
             system: self.system.mac,
             id,
-        };
-        Some(control_frame(mac, &marker.encode()))
+        }
     }
 
     /// Whether the system has an aggregator of this number.
-    fn has_aggregator(&self, agg: AggId) -> bool
+    pub(crate) fn has_aggregator(&self, agg: AggId) -> bool
         requires { IsSound (inner_state self.now) }
         ensures { result ≡ has_aggregator (inner_state self.now) agg }
     {
@@ -322,13 +328,7 @@ impl<F: Fn(u16, usize) -> usize + Drop> Inner<F> {
         }
         check_offer(octets)?;
         let conv = self.number_of_conversation(octets);
-        // A conversation stays on its port, so no port is looked at.
-        if let Assignment::On(port) = self.distributor.state(agg, conv) {
-            return Ok(port);
-        }
-        let ports = distributing(&self.system_ports, agg);
-        let port = self.distributor.assign(agg, conv, ports.as_slice())?;
-        Ok(port)
+        self.take_port(agg, conv)
     }
 
     pub(crate) fn move_conversation(

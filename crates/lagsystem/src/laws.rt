@@ -2,7 +2,12 @@ ghost use Rattle.lagsystem.specs.SecondSettling.{SecondSettlingIsNothing};
 ghost use Rattle.lagsystem.specs.Due.{TransmitsWhatIsDue};
 ghost use Rattle.lagsystem.specs.Quiet.{QuietUntilDue};
 ghost use Rattle.lagsystem.specs.Soonest.{TellsTheFirst};
-ghost use Rattle.std.specs.Prelude.{◌≡◌, ℕ};
+ghost use Rattle.std.specs.Prelude.{◌≡◌, ◌<◌, ℕ};
+ghost use Rattle.std.specs.List.{AllByRecursion};
+ghost use Rattle.lagsystem.specs.Assigning.{frame_of_conversation};
+ghost use Rattle.lagsystem.specs.Offers.{MayBeOffered};
+ghost use Rattle.lagsystem.specs.Readers.{conversation_count, number_of_conversation};
+ghost use Rattle.lagsystem.specs.StillDue.{DataChangesNothing, OfferConversationMakesNoneDue, OfferMakesNoneDue, RowIsAnswer, RowIsOffer};
 ghost use Rattle.distributor.specs.Calls.{index_by_number};
 ghost use Rattle.lagsystem.specs.First.{IsFirst};
 ghost use Rattle.lagsystem.specs.State.{SystemState, with_system_ports, with_table};
@@ -68,6 +73,29 @@ pub fn each_call_has_one_answer<F: Fn(u16, usize) -> usize>()
 /// `each_call_has_one_answer` wants of an algorithm (profile).
 pub fn by_number_is_a_function()
     ensures { IsFunction (λ conv count place. place ≡ index_by_number conv count) }
+{}
+
+/// For each conversation that there is, there is a frame that may be offered: octets, of 14. So what `offer_conversation`
+/// promises for each frame of its conversation is a promise about some frame (profile).
+pub fn each_conversation_has_a_frame()
+    ensures frame { (s : SystemState) (conv : ℕ) → conv < conversation_count s
+        → MayBeOffered (frame_of_conversation conv) × (number_of_conversation s (frame_of_conversation conv) ≡ conv) }
+    ensures octets { (conv : ℕ) → conv < 65536 → AllByRecursion (λ octet. octet < 256) (frame_of_conversation conv) }
+{}
+
+/// A row of `conversation_ports` names a port only while `offer_conversation` answers it, and `offer` for each frame of that
+/// conversation (profile).
+pub fn rows_name_the_answer<F: Fn(u16, usize) -> usize>()
+    ensures conversation { (algorithm : F) → RowIsAnswer (F.post algorithm) }
+    ensures frame { (algorithm : F) → RowIsOffer (F.post algorithm) }
+{}
+
+/// `offer` and `offer_conversation` make no frame due, and end no frame's being due: on each port one is due afterwards exactly
+/// if one was due before. `receive` of a data frame changes nothing (profile).
+pub fn offers_and_data_make_none_due<F: Fn(u16, usize) -> usize>()
+    ensures offer { (algorithm : F) → OfferMakesNoneDue (F.post algorithm) }
+    ensures offer_conversation { (algorithm : F) → OfferConversationMakesNoneDue (F.post algorithm) }
+    ensures data { (algorithm : F) → DataChangesNothing (F.post algorithm) }
 {}
 
 /// What `port_status` says of a port and its system, in every system: one clause for each `PortStatus`, whose comments say the

@@ -5,10 +5,12 @@
 #![tactic(auto)]
 
 mod algorithm;
+mod assigning;
 mod calls;
 mod config;
 mod configure;
 mod conversation_readers;
+mod conversation_tables;
 mod distributing_ports;
 mod drive;
 mod fault;
@@ -16,10 +18,12 @@ mod forcing;
 mod holding;
 mod inner;
 mod laws;
+mod leaving;
 mod offers;
 mod parse;
 mod port_readers;
 mod port_status;
+mod probing;
 mod process_lacpdu;
 mod promoting;
 mod received;
@@ -40,7 +44,8 @@ pub use drive::{Call, Reply};
 pub use fault::{BadConfig, SystemFault};
 pub use lagtypes::{AggId, Choice, Group, Key, NoMemory, Party, PortId, State, SystemId};
 pub use laws::{
-    by_number_is_a_function, each_call_has_one_answer, first_state_is_one,
+    by_number_is_a_function, each_call_has_one_answer, each_conversation_has_a_frame,
+    first_state_is_one, offers_and_data_make_none_due, rows_name_the_answer,
     settling_again_is_nothing, ticks_only_count_until_due, ticks_until_due_tells_the_first,
     transmit_answers_what_is_due, window_holds,
 };

@@ -3,7 +3,7 @@ use Rattle.std.proofs.lemmas.Bool.{OnFalse_from}
 use Rattle.std.proofs.lemmas.List.{get_or_read}
 use Rattle.distributor.specs.declared.slots.ConversationTest.{ConversationTest}
 use Rattle.distributor.specs.Chains.{chain_of, passes, slot_state}
-use Rattle.distributor.proofs.FlagLemmas.{none_awaits, none_wanted}
+use Rattle.distributor.proofs.FlagLemmas.{none_awaits, none_held, none_wanted}
 use Rattle.distributor.proofs.slots.Slots.may_pass.Goals as goal
 
 pub returns-in-WantsMarker : goal.returns-in-WantsMarker
@@ -33,3 +33,20 @@ returns-in-AwaitsResponse c =
     subst (λ (x : ConversationTest). (k : ℕ) → passes x (slot_state states k) ≡ false) (sym c.in-AwaitsResponse.is)
     (λ k. none_awaits port c.in-AwaitsResponse.field-1 (get_or c.args.self.now.may_want.items (chain_of port) false)
     (get_or flags (chain_of port) false) clear (slot_state states k) (c.requires.flagged.flagged (chain_of port) k))))
+
+pub returns-else-index : goal.returns-else-index
+returns-else-index c =
+    let states = c.args.self.now.states.items in
+    let wants = c.args.self.now.may_want.items in
+    let flushes = c.args.self.now.may_flush.items in
+    let port = c.in-HeldOn.port in
+    let inside : c.chain-chain.result < length wants = omega (arith, c.chain-chain.ensures.below, c.requires.flagged.wanted_len) in
+    let within : c.chain-chain.result < length flushes = omega (arith, c.chain-chain.ensures.below, c.requires.flagged.flushing_len) in
+    let clear : get_or wants (chain_of port) false ≡ false = ap (λ x. get_or wants x false) (sym c.chain-chain.ensures.chain)
+    ∙ sym (get_or_read wants c.chain-chain.result c.index-in-HeldOn.result.now inside c.index-in-HeldOn.ensures false) ∙ c.if-index.false in
+    OnFalse_from c.index-else-index.result.now _ (λ e.
+    (let none : get_or flushes (chain_of port) false ≡ false = ap (λ x. get_or flushes x false) (sym c.chain-chain.ensures.chain)
+    ∙ sym (get_or_read flushes c.chain-chain.result c.index-else-index.result.now within c.index-else-index.ensures false) ∙ e in
+    subst (λ (x : ConversationTest). (k : ℕ) → passes x (slot_state states k) ≡ false) (sym c.in-HeldOn.is)
+    (λ k. none_held port (get_or wants (chain_of port) false) (get_or flushes (chain_of port) false) clear none
+    (slot_state states k) (c.requires.flagged.flagged (chain_of port) k))))

@@ -1,10 +1,12 @@
-use Rattle.std.proofs.Common.{arith, ◌≡◌, ◌∙◌, ◌+◌, ℕ, ap, is_some, length, refl, subst, true}
-use Rattle.lagsystem.specs.Forcing.{ForcesFirst, ForcesIn}
+use Rattle.std.proofs.Common.{arith, ◌≡◌, ◌∙◌, ◌+◌, ℕ, ap, is_some, length, Ok, refl, subst, sym, true}
+use Rattle.lagsystem.specs.Forcing.{ForcesFirst, ForcesIn, ForcesPort, count_held_on}
+use Rattle.lagsystem.specs.Inner.{inner_state}
 use Rattle.lagsystem.specs.Readers.{aggregator_numbered}
 use Rattle.lagsystem.specs.Sound.{IsSound}
 use Rattle.lagsystem.specs.State.{SystemValue, port_index}
 use Rattle.lagsystem.proofs.Forced.{counts_held, frees_held, none_is_held}
 use Rattle.lagsystem.proofs.ForcingLemmas.{one_aggregator_more}
+use Rattle.lagsystem.proofs.HeldLemmas.{forces_none}
 use Rattle.lagsystem.proofs.calls.System.force_port.Goals as goal
 
 pub loop-before-preserved : goal.loop-before-preserved
@@ -53,3 +55,26 @@ returns-clause-counts g c =
     counts_held (λ conv count place. g.F.Fn.post c.args.self.now.algorithm (conv, (count, tt)) place) c.args.port c.args.self.now.state
     c.loop-before.forced c.loop-before.self.state
     (subst (λ (v : SystemValue g.row.F.Denot). IsSound v.state) c.self.view_is c.self.invariant) (returns-clause-forced g c)
+
+-- where nothing is held
+
+pub returns-then-held-eq0-clause-forced : goal.returns-then-held-eq0-clause-forced
+returns-then-held-eq0-clause-forced g c =
+    let gives : ℕ → ℕ → ℕ → Type 0 = λ conv count place. g.F.Fn.post c.args.self.now.algorithm (conv, (count, tt)) place in
+    let there : is_some (port_index c.args.port c.self.inside.inner.system_ports.items) ≡ true =
+    rw c.in_ok-port_index.ensures.place refl in
+    let none : count_held_on c.args.port (inner_state c.self.inside.inner) ≡ 0 = sym c.held.ensures ∙ c.if-held-eq0.true in
+    subst (λ (v : SystemValue g.row.F.Denot). ForcesPort gives c.args.port v.state (Ok 0) v.state) c.self.view_is
+    (forces_none gives c.args.port (inner_state c.self.inside.inner) c.self.invariant none there)
+
+pub returns-then-held-eq0-clause-frees : goal.returns-then-held-eq0-clause-frees
+returns-then-held-eq0-clause-frees g c =
+    frees_held (λ conv count place. g.F.Fn.post c.args.self.now.algorithm (conv, (count, tt)) place) c.args.port c.args.self.now.state
+    0 c.args.self.now.state
+    (subst (λ (v : SystemValue g.row.F.Denot). IsSound v.state) c.self.view_is c.self.invariant) (returns-then-held-eq0-clause-forced g c)
+
+pub returns-then-held-eq0-clause-none : goal.returns-then-held-eq0-clause-none
+returns-then-held-eq0-clause-none g c =
+    none_is_held (λ conv count place. g.F.Fn.post c.args.self.now.algorithm (conv, (count, tt)) place) c.args.port c.args.self.now.state
+    0 c.args.self.now.state
+    (subst (λ (v : SystemValue g.row.F.Denot). IsSound v.state) c.self.view_is c.self.invariant) (returns-then-held-eq0-clause-forced g c)

@@ -1,0 +1,105 @@
+-- What offer_conversation does is what `offer` does for each frame of the conversation.
+use Rattle.std.proofs.Common.{◌≡◌, ◌∙◌, ℕ, ◌*◌, ◌+◌, ◌/◌, ◌%◌, ◌<◌, Bool, true, false, List, Ok, Err, Result, ap, arith, refl, subst, sym}
+use Rattle.std.specs.Prelude.{bit_xor, nat_lt}
+use Rattle.std.proofs.lemmas.Bool.{true≢false}
+use Rattle.std.proofs.lemmas.Bool.Decides.{nat_tests}
+use Rattle.std.proofs.Math.Nat.{mod-eq_of_lt}
+use Rattle.std.specs.Int.Bits.{xor_zero_r}
+use Rattle.std.specs.List.{AllByRecursion}
+use Rattle.lagtypes.specs.declared.identifiers.AggId.{AggId}
+use Rattle.distributor.specs.declared.assignment.Assignment.TheVariants.{On}
+use Rattle.distributor.specs.Conversations.{assignment_of, is_conversation_count}
+use Rattle.lagsystem.specs.declared.drive.Reply.TheVariants as reply
+use Rattle.lagsystem.specs.declared.fault.SystemFault.{SystemFault}
+use Rattle.lagsystem.specs.Assigning.{OffersConversation, OffersIf, TakesPort, frame_of_conversation}
+use Rattle.lagsystem.specs.Calls.{Offer}
+use Rattle.lagsystem.specs.Offers.{MayBeOffered, MayBeOfferedTo, Offers, has_aggregator, longest_frame}
+use Rattle.lagsystem.specs.Readers.{conversation_count, distributing, number_of_conversation}
+use Rattle.lagsystem.specs.Sound.{CallPromise, IsSound}
+use Rattle.lagsystem.specs.State.{SystemState}
+use Rattle.lagsystem.proofs.Conversing.{assigned_may}
+use Rattle.lagsystem.proofs.OfferLemmas.{offer_refused}
+use Rattle.lagsystem.proofs.OnPorts.{may_carry, sets_carried}
+use Rattle.lagsystem.proofs.PromiseLemmas.{table_sound}
+use Rattle.lagsystem.proofs.Rising.{accepted_count}
+use Rattle.lagsystem.proofs.Sound.{answers}
+
+-- a frame of the conversation is offered
+pub taken_offers : (gives : ℕ → ℕ → ℕ → Type 0) (agg : AggId) (octets : List ℕ) (old : SystemState) (answer : Result ℕ SystemFault)
+    (new : SystemState) → MayBeOfferedTo old agg octets → TakesPort gives agg (number_of_conversation old octets) old answer new
+    → Offers gives agg octets old answer new
+taken_offers gives agg octets old (Ok port) new may h = (may, h.0, h.1)
+taken_offers gives agg octets old (Err fault) new may h =
+    offer_refused gives agg octets old new (Err fault) h.0.0 h.0.2 may h.0.1 h.1
+
+below_count : (s : SystemState) → is_conversation_count s.conversations ≡ true → (octets : List ℕ)
+    → nat_lt (number_of_conversation s octets) (conversation_count s) ≡ true
+below_count s h octets = grind (arith, nat_tests)
+
+offers_if : (gives : ℕ → ℕ → ℕ → Type 0) (agg : AggId) (octets : List ℕ) (old : SystemState) (answer : Result ℕ SystemFault)
+    (new : SystemState) (there known : Bool) → has_aggregator old agg ≡ there → known ≡ true → MayBeOffered octets
+    → OffersIf there known gives agg (number_of_conversation old octets) old answer new → Offers gives agg octets old answer new
+offers_if gives agg octets old answer new false known e k may h =
+    subst (λ r. Offers gives agg octets old r new) (sym h.0) (e, h.1)
+offers_if gives agg octets old answer new true false e k may h = absurd (true≢false (sym k))
+offers_if gives agg octets old answer new true true e k may h = taken_offers gives agg octets old answer new (e, may) h
+
+-- and the conversation of a frame is one that there is
+pub offered_alike : (gives : ℕ → ℕ → ℕ → Type 0) (agg : AggId) (octets : List ℕ) (old : SystemState) (answer : Result ℕ SystemFault)
+    (new : SystemState) → is_conversation_count old.conversations ≡ true → MayBeOffered octets
+    → OffersConversation gives agg (number_of_conversation old octets) old answer new → Offers gives agg octets old answer new
+offered_alike gives agg octets old answer new c may h =
+    offers_if gives agg octets old answer new (has_aggregator old agg)
+    (nat_lt (number_of_conversation old octets) (conversation_count old)) refl (below_count old c octets) may h
+
+-- the invariant stays
+takes_sound : (gives : ℕ → ℕ → ℕ → Type 0) (agg : AggId) (conv : ℕ) (old : SystemState) (answer : Result ℕ SystemFault)
+    (new : SystemState) → TakesPort gives agg conv old answer new → IsSound old → IsSound new
+takes_sound gives agg conv old (Ok port) new h s =
+    let was = assignment_of old.table agg.0 conv in
+    let may = assigned_may gives conv (distributing agg old.system_ports) was port h.0 in
+    table_sound old new h.1.1 h.1.0.aggs h.1.0.conversations
+    (sets_carried agg conv (On port) old new h.1.0 h.1.1 s.carried (λ p e. may_carry old agg.0 p port was may e)) s
+takes_sound gives agg conv old (Err fault) new h s = subst IsSound (sym h.1) s
+
+if_sound : (gives : ℕ → ℕ → ℕ → Type 0) (agg : AggId) (conv : ℕ) (old : SystemState) (answer : Result ℕ SystemFault)
+    (new : SystemState) (there known : Bool) → OffersIf there known gives agg conv old answer new → IsSound old → IsSound new
+if_sound gives agg conv old answer new false known h s = subst IsSound (sym h.1) s
+if_sound gives agg conv old answer new true false h s = subst IsSound (sym h.1) s
+if_sound gives agg conv old answer new true true h s = takes_sound gives agg conv old answer new h s
+
+pub offers_sound : (gives : ℕ → ℕ → ℕ → Type 0) (agg : AggId) (conv : ℕ) (old : SystemState) (answer : Result ℕ SystemFault)
+    (new : SystemState) → OffersConversation gives agg conv old answer new → IsSound old → IsSound new
+offers_sound gives agg conv old answer new h s =
+    if_sound gives agg conv old answer new (has_aggregator old agg) (nat_lt conv (conversation_count old)) h s
+
+pub offers_promise : (gives : ℕ → ℕ → ℕ → Type 0) (agg : AggId) (conv : ℕ) (old : SystemState) (answer : Result ℕ SystemFault)
+    (new : SystemState) → OffersConversation gives agg conv old answer new → IsSound old → (octets : List ℕ) → MayBeOffered octets
+    → number_of_conversation old octets ≡ conv → CallPromise gives old (Offer agg octets) (reply.Offer answer) new
+offers_promise gives agg conv old answer new h s octets may e =
+    answers gives old (Offer agg octets) (reply.Offer answer) new
+    (offered_alike gives agg octets old answer new
+    (accepted_count old.keys old.ports old.max_links old.conversations s.ports.accepted) may
+    (subst (λ c. OffersConversation gives agg c old answer new) (sym e) h)) s
+
+-- there is a frame of each conversation
+pub framed : (s : SystemState) (conv : ℕ) → conv < conversation_count s
+    → MayBeOffered (frame_of_conversation conv) × (number_of_conversation s (frame_of_conversation conv) ≡ conv)
+unfolding longest_frame
+framed s conv l = (
+  (refl, λ slow. absurd (not_slow slow.0)),
+  ap (λ n. n % conversation_count s) (ap (λ n. bit_xor n 0) (two conv) ∙ xor_zero_r conv) ∙ small conv (conversation_count s) l,
+)
+  where
+    not_slow : ◌≡◌ {A = ℕ} 8 136 → ⊥
+    not_slow e = omega (arith, e)
+
+    two : (n : ℕ) → n / 256 * 256 + n % 256 ≡ n
+    two n = omega arith
+
+    small : (n m : ℕ) → n < m → n % m ≡ n
+    small n m l = mod-eq_of_lt l
+
+pub frame_is_octets : (conv : ℕ) → conv < 65536 → AllByRecursion (λ octet. octet < 256) (frame_of_conversation conv)
+frame_is_octets conv l =
+    (omega arith, (omega arith, (omega arith, (omega arith, (omega (arith, l), (omega arith, (omega arith, (omega arith, (omega arith, (omega arith, (omega arith, (omega arith, (omega arith, (omega arith, tt))))))))))))))

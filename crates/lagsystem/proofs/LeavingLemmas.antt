@@ -1,0 +1,127 @@
+-- A conversation leaves its port, or rests.
+use Rattle.std.proofs.Common.{◌≡◌, ◌∙◌, ℕ, Bool, true, false, [], Ok, Err, Result, ap, refl, subst, sym}
+use Rattle.std.specs.Prelude.{IfOk, if◌then◌else◌, nat_lt}
+use Rattle.lagtypes.specs.declared.identifiers.AggId.{AggId}
+use Rattle.distributor.specs.declared.assignment.Assignment.{Assignment}
+use Rattle.distributor.specs.declared.assignment.Assignment.TheVariants.{Free, On, Wanted, Flushing}
+use Rattle.distributor.specs.declared.fault.DistFault.{DistFault}
+use Rattle.distributor.specs.declared.fault.DistFault.TheVariants as dist
+use Rattle.distributor.specs.Calls.{force_result, leave_result, rest_result}
+use Rattle.distributor.specs.Conversations.{assignment_of, next_identifier}
+use Rattle.distributor.proofs.MoveLemmas.{is_left, leave_one_moves}
+use Rattle.lagmodel.specs.View.{Conversation, ModelCall}
+use Rattle.lagmodel.specs.Move.{LawfulMoves}
+use Rattle.lagsystem.specs.declared.drive.Reply.TheVariants as reply
+use Rattle.lagsystem.specs.declared.fault.SystemFault.{SystemFault}
+use Rattle.lagsystem.specs.declared.fault.SystemFault.TheVariants.{NoAggregator}
+use Rattle.lagsystem.specs.Calls.{Force}
+use Rattle.lagsystem.specs.Leaving.{system_leave_result, system_rest_result}
+use Rattle.lagsystem.specs.ModelView.{model_setup, model_view}
+use Rattle.lagsystem.specs.Offers.{GivesOrRefuses, has_aggregator, in_system, or_not_assigned, system_force_result}
+use Rattle.lagsystem.specs.Promises.{TablePromise}
+use Rattle.lagsystem.specs.Readers.{conversation_count}
+use Rattle.lagsystem.specs.Sound.{CallPromise, IsSound}
+use Rattle.lagsystem.specs.State.{SystemState, with_table}
+use Rattle.lagsystem.proofs.Conversing.{table_moves}
+use Rattle.lagsystem.proofs.OnPorts.{not_on, sets_carried}
+use Rattle.lagsystem.proofs.PromiseLemmas.{table_promise, table_sound}
+use Rattle.lagsystem.proofs.Sound.{Step-sound, answers}
+use Rattle.lagsystem.proofs.Steps.{if_ok, known_ok, table_moved}
+
+abbrev TableStays : SystemState → SystemState → Type 0
+TableStays old new = new ≡ with_table old new.table
+
+abbrev done : Result Unit SystemFault
+done = Ok tt
+
+left_to : (agg : AggId) (conv : ℕ) (old : SystemState) (s : Assignment) → system_leave_result old agg conv ≡ Ok s
+    → leave_result (next_identifier old.table) (assignment_of old.table agg.0 conv) ≡ Ok s
+left_to agg conv old s e =
+    let answer : Result Assignment DistFault = leave_result (next_identifier old.table) (assignment_of old.table agg.0 conv) in
+    known_ok (nat_lt conv (conversation_count old)) answer dist.NotAssigned s
+    (if_ok (has_aggregator old agg) (in_system (or_not_assigned old conv answer)) NoAggregator s e)
+
+left_sound : (agg : AggId) (conv : ℕ) (what : Result Assignment SystemFault) (old : SystemState) (answer : Result Unit SystemFault)
+    (new : SystemState) → system_leave_result old agg conv ≡ what → GivesOrRefuses agg conv what old answer new → IsSound old → IsSound new
+left_sound agg conv (Ok s) old answer new e h sound =
+    let m = is_left (next_identifier old.table) (assignment_of old.table agg.0 conv) s (left_to agg conv old s e) in
+    table_sound old new h.1.1 h.1.0.aggs h.1.0.conversations
+    (sets_carried agg conv s old new h.1.0 h.1.1 sound.carried (λ p x. absurd (wanted m.0 p (sym m.2 ∙ not_on p s x)))) sound
+  where
+    wanted : (q p : ℕ) → Conversation.Wanted q ≡ Conversation.On p → ⊥
+    wanted q p x = cc
+left_sound agg conv (Err fault) old answer new e h sound = subst IsSound (sym h.1) sound
+
+left_moves : (agg : AggId) (conv : ℕ) (what : Result Assignment SystemFault) (old : SystemState) (answer : Result Unit SystemFault)
+    (new : SystemState) → system_leave_result old agg conv ≡ what → GivesOrRefuses agg conv what old answer new
+    → LawfulMoves (model_setup old) ModelCall.Move_conversation (model_view old) [] (model_view new)
+left_moves agg conv (Ok s) old answer new e h =
+    let u = model_setup old in
+    let call = ModelCall.Move_conversation in
+    let moves = leave_one_moves old.system.mac call old.table new.table agg.0 conv (next_identifier old.table) s
+    (left_to agg conv old s e) h.1.0 in
+    table_moved u call [] old new h.1.1 (table_moves u call old.system_ports old.table new.table [] moves)
+left_moves agg conv (Err fault) old answer new e h = ([], tt, refl, ap model_view h.1)
+
+left_others : (agg : AggId) (conv : ℕ) (what : Result Assignment SystemFault) (old : SystemState) (answer : Result Unit SystemFault)
+    (new : SystemState) → GivesOrRefuses agg conv what old answer new → TableStays old new
+left_others agg conv (Ok s) old answer new h = h.1.1
+left_others agg conv (Err fault) old answer new h = subst (TableStays old) (sym h.1) refl
+
+pub leaves_sound : (agg : AggId) (conv : ℕ) (old : SystemState) (answer : Result Unit SystemFault) (new : SystemState)
+    → GivesOrRefuses agg conv (system_leave_result old agg conv) old answer new → IsSound old → IsSound new
+leaves_sound agg conv old answer new h s = left_sound agg conv (system_leave_result old agg conv) old answer new refl h s
+
+pub leaves_promise : (agg : AggId) (conv : ℕ) (old : SystemState) (answer : Result Unit SystemFault) (new : SystemState)
+    → GivesOrRefuses agg conv (system_leave_result old agg conv) old answer new → IsSound old
+    → TablePromise ModelCall.Move_conversation [] old new
+leaves_promise agg conv old answer new h s =
+    table_promise ModelCall.Move_conversation [] old new (left_others agg conv (system_leave_result old agg conv) old answer new h)
+    (left_moves agg conv (system_leave_result old agg conv) old answer new refl h)
+    (leaves_sound agg conv old answer new h s)
+
+-- a conversation that rests is forced
+rest_is_force : (b k : Bool) (a s : Assignment)
+    → (if b then in_system (if k then rest_result a else Err dist.NotAssigned) else Err NoAggregator) ≡ Ok s
+    → (if b then in_system (if k then force_result a else Err dist.NotAssigned) else Err NoAggregator) ≡ Ok s
+rest_is_force true true (On p) s e = e
+rest_is_force true true (Free preferred) s e = absurd cc
+rest_is_force true true (Wanted p preferred) s e = absurd cc
+rest_is_force true true (Flushing p id preferred age) s e = absurd cc
+rest_is_force true false a s e = absurd cc
+rest_is_force false k a s e = absurd cc
+
+forced_alike : (agg : AggId) (conv : ℕ) (what : Result Assignment SystemFault) (old : SystemState) (answer : Result Unit SystemFault)
+    (new : SystemState) → system_rest_result old agg conv ≡ what → answer ≡ Ok tt → GivesOrRefuses agg conv what old answer new
+    → GivesOrRefuses agg conv (system_force_result old agg conv) old answer new
+forced_alike agg conv (Ok s) old answer new e a h =
+    subst (λ w. GivesOrRefuses agg conv w old answer new)
+    (sym (rest_is_force (has_aggregator old agg) (nat_lt conv (conversation_count old)) (assignment_of old.table agg.0 conv) s e)) h
+forced_alike agg conv (Err fault) old answer new e a h = absurd (both fault (sym a ∙ h.0))
+  where
+    both : (f : SystemFault) → done ≡ Err f → ⊥
+    both f x = cc
+
+rested_sound : (gives : ℕ → ℕ → ℕ → Type 0) (agg : AggId) (conv : ℕ) (what : Result Assignment SystemFault) (old : SystemState)
+    (answer : Result Unit SystemFault) (new : SystemState) → system_rest_result old agg conv ≡ what
+    → GivesOrRefuses agg conv what old answer new → IsSound old → IsSound new
+rested_sound gives agg conv (Ok s) old answer new e h sound =
+    Step-sound gives old (Force agg conv) (reply.Force answer) new (forced_alike agg conv (Ok s) old answer new e h.0 h) sound
+rested_sound gives agg conv (Err fault) old answer new e h sound = subst IsSound (sym h.1) sound
+
+pub rests_sound : (gives : ℕ → ℕ → ℕ → Type 0) (agg : AggId) (conv : ℕ) (old : SystemState) (answer : Result Unit SystemFault)
+    (new : SystemState) → GivesOrRefuses agg conv (system_rest_result old agg conv) old answer new → IsSound old → IsSound new
+rests_sound gives agg conv old answer new h s = rested_sound gives agg conv (system_rest_result old agg conv) old answer new refl h s
+
+pub rests_forced : (gives : ℕ → ℕ → ℕ → Type 0) (agg : AggId) (conv : ℕ) (old new : SystemState)
+    → GivesOrRefuses agg conv (system_rest_result old agg conv) old (Ok tt) new → IsSound old
+    → CallPromise gives old (Force agg conv) (reply.Force (Ok tt)) new
+rests_forced gives agg conv old new h s =
+    answers gives old (Force agg conv) (reply.Force (Ok tt)) new
+    (forced_alike agg conv (system_rest_result old agg conv) old (Ok tt) new refl refl h) s
+
+pub rests_if_ok : (gives : ℕ → ℕ → ℕ → Type 0) (agg : AggId) (conv : ℕ) (old : SystemState) (answer : Result Unit SystemFault)
+    (new : SystemState) → GivesOrRefuses agg conv (system_rest_result old agg conv) old answer new → IsSound old
+    → IfOk answer (λ done. CallPromise gives old (Force agg conv) (reply.Force (Ok tt)) new)
+rests_if_ok gives agg conv old (Ok given) new h s = rests_forced gives agg conv old new h s
+rests_if_ok gives agg conv old (Err fault) new h s = tt

@@ -1,0 +1,36 @@
+-- Calls that change the conversations alone keep the invariant of a system.
+use Rattle.std.proofs.Common.{◌≡◌, ◌∙◌, List, ap, subst, sym}
+use Rattle.lagmodel.specs.View.{ModelCall}
+use Rattle.lagmodel.specs.Move.{Act, LawfulMoves}
+use Rattle.lagsystem.specs.ModelView.{model_setup, model_view}
+use Rattle.lagsystem.specs.Promises.{TablePromise}
+use Rattle.lagsystem.specs.Sound.{IsSound, OnlyOnDistributing}
+use Rattle.lagsystem.specs.State.{SystemState, with_table}
+use Rattle.lagsystem.proofs.Sound.{agrees}
+
+pub table_sound : (old new : SystemState) → new ≡ with_table old new.table → new.table.aggs ≡ old.table.aggs
+    → new.table.conversations ≡ old.table.conversations → OnlyOnDistributing new → IsSound old → IsSound new
+table_sound old new f a c on s = subst IsSound (sym f) (record {
+  ports = record { accepted = s.ports.accepted; same = s.ports.same };
+  aggregators = a ∙ s.aggregators;
+  conversations = c ∙ s.conversations;
+  carried = subst OnlyOnDistributing f on;
+  rested = s.rested;
+  windowed = s.windowed;
+  members = s.members;
+  quiet = s.quiet;
+  occupants = s.occupants;
+  limited = s.limited;
+  promoted = s.promoted;
+})
+
+pub table_promise : (call : ModelCall) (acts : List Act) (old new : SystemState) → new ≡ with_table old new.table
+    → LawfulMoves (model_setup old) call (model_view old) acts (model_view new) → IsSound new → TablePromise call acts old new
+table_promise call acts old new f m s = record {
+  others = f;
+  moves = m;
+  agrees = agrees new s;
+  configured = ap model_setup f;
+  conversations = ap (λ (x : SystemState). x.conversations) f;
+  max_links = ap (λ (x : SystemState). x.max_links) f;
+}

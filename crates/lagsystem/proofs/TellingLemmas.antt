@@ -1,0 +1,91 @@
+-- Rows that are told one after another.
+use Rattle.std.proofs.Common.{◌≡◌, ◌∙◌, ℕ, suc, ◌+◌, ◌<◌, ◌≤◌, ◌≢◌, ◌⊎◌, Bool, true, false, cond, List, length, get_or, set, ap, arith, inl, inr, refl, subst, sym}
+use Rattle.std.specs.Prelude.{nat_lt}
+use mir.Val.{bool_byte}
+use Rattle.std.proofs.lemmas.Bool.{cases_Bool}
+use Rattle.std.proofs.lemmas.Bool.Decides.{nat_tests}
+use Rattle.std.proofs.lemmas.List.{get_or-set_other, get_or-set_same, length-set}
+use Rattle.distributor.specs.Conversations.{sum_below}
+use Rattle.lagsystem.specs.ConversationTables.{TellsRows}
+
+pub no_rows : (A : Type 0) (default : A) (value : ℕ → A) (mark : A → A → Bool) (before : List A) (unmarked : List Bool)
+    → TellsRows A default value mark 0 before before unmarked unmarked 0
+unfolding sum_below
+no_rows A default value mark before unmarked = record {
+  as_long = refl;
+  marks_as_long = refl;
+  values = λ k l. absurd (omega (arith, l));
+  marks = λ k l. absurd (omega (arith, l));
+  behind = λ k l. refl;
+  marks_behind = λ k l. refl;
+  counted = refl;
+}
+
+pub below_or_at : (k n : ℕ) → k < n + 1 → (k < n) ⊎ (k ≡ n)
+below_or_at k n l = elim (cases_Bool (nat_lt k n)) [ inl t ↦ inl (grind (arith, nat_tests)) | inr f ↦ inr (grind (arith, nat_tests)) ]
+
+one_counted : (n : ℕ) (f : ℕ → ℕ) (count more : ℕ) → count ≡ sum_below f n → more ≡ f n → count + more ≡ sum_below f (n + 1)
+unfolding sum_below
+one_counted n f count more h e = (λ i. h i + e i) ∙ ap (sum_below f) (next n)
+  where
+    next : (n : ℕ) → suc n ≡ n + 1
+    next n = omega arith
+
+-- one row more: its value and its mark are set
+module _ (A : Type 0) (default : A) (value : ℕ → A) (mark : A → A → Bool) (n : ℕ) (before mid : List A) (unmarked marks : List Bool) (count : ℕ)
+    (x : A) (b : Bool) where
+  pub one_row_more : TellsRows A default value mark n before mid unmarked marks count → n < length before → n < length unmarked
+      → x ≡ value n → b ≡ mark (get_or before n default) (value n)
+      → TellsRows A default value mark (n + 1) before (set mid n x) unmarked (set marks n b) (count + cond b 1 0)
+  one_row_more h l m e f = record {
+    as_long = length-set mid n x ∙ h.as_long;
+    marks_as_long = length-set marks n b ∙ h.marks_as_long;
+    values = λ k below. elim (below_or_at k n below) [
+      | inl less ↦ get_or-set_other mid n k x default (apart k less) ∙ h.values k less
+      | inr same ↦ ap (λ j. get_or (set mid n x) j default) same ∙ get_or-set_same mid n x default within ∙ e ∙ ap value (sym same)
+    ];
+    marks = λ k below. elim (below_or_at k n below) [
+      | inl less ↦ get_or-set_other marks n k b false (apart k less) ∙ h.marks k less
+      | inr same ↦ ap (λ j. get_or (set marks n b) j false) same ∙ get_or-set_same marks n b false inside ∙ f
+          ∙ ap (λ j. mark (get_or before j default) (value j)) (sym same)
+    ];
+    behind = λ k past. get_or-set_other mid n k x default (beyond k past) ∙ h.behind k (omega (arith, past));
+    marks_behind = λ k past. get_or-set_other marks n k b false (beyond k past) ∙ h.marks_behind k (omega (arith, past));
+    counted = one_counted n (λ k. cond (mark (get_or before k default) (value k)) 1 0) count (cond b 1 0) h.counted (ap (λ c. cond c 1 0) f);
+  }
+    where
+      within : n < length mid
+      within = omega (arith, l, h.as_long)
+
+      inside : n < length marks
+      inside = omega (arith, m, h.marks_as_long)
+
+      apart : (k : ℕ) → k < n → k ≢ n
+      apart k less s = omega (arith, less, s)
+
+      beyond : (k : ℕ) → n + 1 ≤ k → k ≢ n
+      beyond k past s = omega (arith, past, s)
+
+bool_bit : (b : Bool) → bool_byte b ≡ cond b 1 0
+bool_bit true = refl
+bool_bit false = refl
+
+bit_few : (b : Bool) → bool_byte b ≤ 1
+bit_few true = omega arith
+bit_few false = omega arith
+
+-- a count that a row made at most one more
+pub few_more : (n count more : ℕ) (b : Bool) → more ≡ bool_byte b → count ≤ n → count + more ≤ n + 1
+few_more n count more b e few = let most = bit_few b in omega (arith, e, few, most)
+
+-- the same, by the place at which the row stands in both lists, and what stood there
+pub row_told : (A : Type 0) (default : A) (value : ℕ → A) (mark : A → A → Bool) (n i : ℕ) (before mid : List A) (unmarked marks : List Bool)
+    (count more : ℕ) (x : A) (b : Bool) → TellsRows A default value mark n before mid unmarked marks count → i ≡ n → n < length before
+    → n < length unmarked → x ≡ value n → b ≡ mark (get_or mid i default) x → more ≡ bool_byte b
+    → TellsRows A default value mark (n + 1) before (set mid i x) unmarked (set marks i b) (count + more)
+row_told A default value mark n i before mid unmarked marks count more x b h at l m e f s =
+    let is : b ≡ mark (get_or before n default) (value n) = f ∙ (λ j. mark (get_or mid (at j) default) (e j))
+    ∙ ap (λ y. mark y (value n)) (h.behind n (omega arith)) in
+    subst (λ k. TellsRows A default value mark (n + 1) before (set mid k x) unmarked (set marks k b) (count + more)) (sym at)
+    (subst (λ c. TellsRows A default value mark (n + 1) before (set mid n x) unmarked (set marks n b) (count + c)) (sym (s ∙ bool_bit b))
+    (one_row_more A default value mark n before mid unmarked marks count x b h l m e is))

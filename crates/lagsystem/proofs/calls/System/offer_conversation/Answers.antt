@@ -1,0 +1,38 @@
+use Rattle.std.proofs.Common.{ℕ, List, ◌≡◌, subst, sym}
+use Rattle.distributor.specs.Calls.{PicksIndexes}
+use Rattle.lagsystem.specs.declared.drive.Reply.{Reply}
+use Rattle.lagsystem.specs.Assigning.{OffersConversation}
+use Rattle.lagsystem.specs.Calls.{Call}
+use Rattle.lagsystem.specs.Inner.{inner_state}
+use Rattle.lagsystem.specs.Offers.{MayBeOffered}
+use Rattle.lagsystem.specs.Readers.{number_of_conversation}
+use Rattle.lagsystem.specs.Sound.{CallPromise}
+use Rattle.lagsystem.specs.State.{SystemValue}
+use Rattle.lagsystem.proofs.AssigningLemmas.{offers_promise, offers_sound}
+use Rattle.lagsystem.proofs.calls.System.offer_conversation.Goals as goal
+
+pub invariant_of-self : goal.invariant_of-self
+invariant_of-self g c =
+    offers_sound (λ conv count place. g.F.Fn.post c.self.inside.inner.distributor.algorithm (conv, (count, tt)) place) c.args.agg
+    c.args.conv (inner_state c.self.inside.inner) c.offer_conversation.result (inner_state c.offer_conversation.new.self)
+    c.offer_conversation.ensures.offers c.self.invariant
+
+pub returns-clause-offers : goal.returns-clause-offers
+returns-clause-offers g c =
+    subst (λ (w : SystemValue g.row.F.Denot). OffersConversation (λ conv count place. g.F.Fn.post w.algorithm (conv, (count, tt)) place)
+    c.args.agg c.args.conv w.state c.offer_conversation.result (inner_state c.offer_conversation.new.self)) c.self.view_is
+    c.offer_conversation.ensures.offers
+
+pub returns-clause-answers : goal.returns-clause-answers
+returns-clause-answers g c =
+    subst (λ (w : SystemValue g.row.F.Denot). (octets : List ℕ) → MayBeOffered octets → number_of_conversation w.state octets ≡ c.args.conv
+    → CallPromise (λ conv count place. g.F.Fn.post w.algorithm (conv, (count, tt)) place) w.state (Call.Offer c.args.agg octets)
+    (Reply.Offer c.offer_conversation.result) (inner_state c.offer_conversation.new.self)) c.self.view_is
+    (offers_promise (λ conv count place. g.F.Fn.post c.self.inside.inner.distributor.algorithm (conv, (count, tt)) place) c.args.agg
+    c.args.conv (inner_state c.self.inside.inner) c.offer_conversation.result (inner_state c.offer_conversation.new.self)
+    c.offer_conversation.ensures.offers c.self.invariant)
+
+pub offer_conversation-requires-clause-usable : goal.offer_conversation-requires-clause-usable
+offer_conversation-requires-clause-usable g c =
+    subst (λ (w : SystemValue g.row.F.Denot). PicksIndexes (λ conv count. g.F.Fn.pre w.algorithm (conv, (count, tt)))
+    (λ conv count place. g.F.Fn.post w.algorithm (conv, (count, tt)) place)) (sym c.self.view_is) c.requires.usable

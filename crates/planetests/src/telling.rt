@@ -1,0 +1,187 @@
+use crate::playing::{Row, come_up, config, modulo, play, same};
+use lagsystem::{AggId, System, SystemFault};
+
+#[test]
+fn each_conversation_tells_its_port_at_once(rt: HostRuntime) -> Result<(), SystemFault> {
+    let alloc = rt.alloc();
+    let mut system = System::new(alloc, config(alloc, 5)?, modulo)?;
+    play(&rt, &mut system, &come_up());
+    let mut ports = [0; 256];
+    let mut changed = [true; 256];
+    same(
+        &rt,
+        0,
+        &system.conversation_ports(AggId(1), &mut ports, &mut changed),
+        &Ok(0),
+    );
+    same(&rt, 1, &changed[255], &false);
+    let rows = [
+        Row::OffersConversation(1, 0, Ok(3)),
+        Row::OffersConversation(1, 101, Ok(7)),
+        Row::OffersConversation(1, 255, Ok(7)),
+    ];
+    play(&rt, &mut system, &rows);
+    same(
+        &rt,
+        2,
+        &system.conversation_ports(AggId(1), &mut ports, &mut changed),
+        &Ok(3),
+    );
+    same(
+        &rt,
+        3,
+        &(ports[0], ports[1], ports[101], ports[255]),
+        &(3, 0, 7, 7),
+    );
+    same(
+        &rt,
+        4,
+        &(changed[0], changed[1], changed[101], changed[255]),
+        &(true, false, true, true),
+    );
+    // a conversation that waits has no port, and what it prefers is none either
+    play(&rt, &mut system, &[Row::Moves(1, 101, 3, Ok(()))]);
+    same(
+        &rt,
+        5,
+        &system.conversation_ports(AggId(1), &mut ports, &mut changed),
+        &Ok(1),
+    );
+    same(&rt, 6, &(ports[0], ports[101], ports[255]), &(3, 0, 7));
+    same(
+        &rt,
+        7,
+        &(changed[0], changed[101], changed[255]),
+        &(false, true, false),
+    );
+    same(
+        &rt,
+        8,
+        &system.conversation_ports(AggId(1), &mut ports, &mut changed),
+        &Ok(0),
+    );
+    same(
+        &rt,
+        9,
+        &system.conversation_ports(AggId(3), &mut ports, &mut changed),
+        &Err(SystemFault::NoAggregator),
+    );
+    same(&rt, 10, &(ports[0], ports[255]), &(3, 7));
+    Ok(())
+}
+
+#[test]
+fn rows_are_told_as_far_as_both_lists_go(rt: HostRuntime) -> Result<(), SystemFault> {
+    let alloc = rt.alloc();
+    let mut system = System::new(alloc, config(alloc, 5)?, modulo)?;
+    play(&rt, &mut system, &come_up());
+    let rows = [
+        Row::OffersConversation(1, 2, Ok(3)),
+        Row::OffersConversation(1, 3, Ok(7)),
+    ];
+    play(&rt, &mut system, &rows);
+    let mut ports = [19; 4];
+    let mut changed = [true; 3];
+    same(
+        &rt,
+        0,
+        &system.conversation_ports(AggId(1), &mut ports, &mut changed),
+        &Ok(3),
+    );
+    same(&rt, 1, &ports, &[0, 0, 3, 19]);
+    same(&rt, 2, &changed, &[true, true, true]);
+    let mut busy = [true; 2];
+    let mut freed = [false; 5];
+    same(
+        &rt,
+        3,
+        &system.released(AggId(1), &mut busy, &mut freed),
+        &Ok(2),
+    );
+    same(&rt, 4, &busy, &[false, false]);
+    same(&rt, 5, &freed, &[true, true, false, false, false]);
+    Ok(())
+}
+
+#[test]
+fn what_a_call_sets_free_is_told(rt: HostRuntime) -> Result<(), SystemFault> {
+    let alloc = rt.alloc();
+    let mut system = System::new(alloc, config(alloc, 5)?, modulo)?;
+    play(&rt, &mut system, &come_up());
+    let mut busy = [false; 256];
+    let mut freed = [true; 256];
+    let rows = [
+        Row::OffersConversation(1, 40, Ok(3)),
+        Row::OffersConversation(1, 42, Ok(3)),
+        Row::OffersConversation(1, 43, Ok(7)),
+        Row::OffersConversation(1, 45, Ok(7)),
+        Row::Moves(1, 42, 7, Ok(())),
+        Row::Moves(1, 45, 3, Ok(())),
+    ];
+    play(&rt, &mut system, &rows);
+    same(
+        &rt,
+        0,
+        &system.released(AggId(1), &mut busy, &mut freed),
+        &Ok(0),
+    );
+    same(
+        &rt,
+        1,
+        &(busy[40], busy[41], busy[42], busy[43], busy[45]),
+        &(true, false, true, true, true),
+    );
+    same(&rt, 2, &(freed[40], freed[42]), &(false, false));
+    // the response to the marker of port 3 frees the one that waited behind it
+    play(
+        &rt,
+        &mut system,
+        &[Row::Marks(3, Some(5)), Row::Releases(3, 5, 1)],
+    );
+    same(
+        &rt,
+        3,
+        &system.released(AggId(1), &mut busy, &mut freed),
+        &Ok(1),
+    );
+    same(
+        &rt,
+        4,
+        &(freed[40], freed[42], freed[43], freed[45]),
+        &(false, true, false, false),
+    );
+    // the link of port 7 goes down: both of its conversations are free
+    play(&rt, &mut system, &[Row::Link(7, false)]);
+    same(
+        &rt,
+        5,
+        &system.released(AggId(1), &mut busy, &mut freed),
+        &Ok(2),
+    );
+    same(
+        &rt,
+        6,
+        &(freed[40], freed[42], freed[43], freed[45]),
+        &(false, false, true, true),
+    );
+    same(
+        &rt,
+        7,
+        &(busy[40], busy[42], busy[43], busy[45]),
+        &(true, false, false, false),
+    );
+    same(
+        &rt,
+        8,
+        &system.released(AggId(1), &mut busy, &mut freed),
+        &Ok(0),
+    );
+    same(
+        &rt,
+        9,
+        &system.released(AggId(0), &mut busy, &mut freed),
+        &Err(SystemFault::NoAggregator),
+    );
+    same(&rt, 10, &busy[40], &true);
+    Ok(())
+}
