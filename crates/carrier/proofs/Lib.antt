@@ -1,0 +1,5 @@
+pub mod Best
+pub mod Chosen
+pub mod Kept
+pub mod Ranks
+pub mod Searched

@@ -1,0 +1,14 @@
+//! The aggregator that carries the frames of a client, where a system has several.
+//!
+//! `carrier` chooses it, and `offer_in_carrier` keeps the order of the client's frames where it changes: a conversation that
+//! is On, Wanted or Flushing in another aggregator is held. `laws` says what follows. The standard leaves the choice to the
+//! client of the aggregators; all of this is profile (docs/PROFILE.md).
+#![tactic(auto)]
+
+mod choosing;
+mod laws;
+mod offering;
+
+pub use choosing::carrier;
+pub use laws::{both_ends_choose_alike, each_call_keeps_one_aggregator, the_carrier_stays};
+pub use offering::offer_in_carrier;
