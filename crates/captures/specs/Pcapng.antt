@@ -63,7 +63,7 @@ stamped_packet order interfaces b is_older = do
   length ← length_in order b 32
   with_octets 28 b do
     interface ← described interfaces (interface_number order b is_older) 8
-    time ← or_refused (stamp_time interface.units (number_at order b 12 4 * 4294967296 + number_at order b 16 4)) (refused 12 causes.Time)
+    time ← or_refused (stamp_time interface.timing.units interface.timing.shift (number_at order b 12 4 * 4294967296 + number_at order b 16 4)) (refused 12 causes.Time)
     captured ← room (number_at order b 20 4) 28 length 20
     end ← whole b 28 captured 20
     Ok (

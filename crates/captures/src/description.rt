@@ -1,14 +1,14 @@
-ghost use Rattle.std.specs.Prelude.{◌≡◌, ◌≤◌, length, IfOk, IfErr};
-ghost use Rattle.captures.specs.Descriptions.{entry_at, resolution_from, units_in, interface_in};
+ghost use Rattle.std.specs.Prelude.{◌≡◌, ◌≤◌, ◌+◌, length, IfOk, IfErr};
+ghost use Rattle.captures.specs.Descriptions.{entry_at, units_at, timing_from, timing_in, interface_in};
 ghost use Rattle.captures.specs.Wanted.{WantsMore};
 
 use crate::fault::{Cause, Stop, refused};
-use crate::interface::Interface;
+use crate::interface::{Interface, Timing};
 use crate::link::link_at;
-use crate::number::{Order, number16, number32};
+use crate::number::{Order, number16, number32, number64};
 use crate::packet::MOST_CAPTURED;
 use crate::pcapng::length_in;
-use crate::time::units_of_resolution;
+use crate::time::{Shift, shift_of, units_of_resolution};
 
 /// The offset of the first option of an interface description block.
 const OPTIONS: usize = 16;
@@ -19,21 +19,42 @@ const END: u16 = 0;
 /// The code of the option if_tsresol.
 const RESOLUTION: u16 = 9;
 
+/// The code of the option if_tsoffset.
+const OFFSET: u16 = 14;
+
+/// How many units of time a second has where no option tells it.
+const MICROSECONDS: u64 = 1_000_000;
+
 /// What stands at an offset among the options.
 #[derive(Clone, Copy)]
 enum Entry {
     /// No option.
     End,
-    /// The option if_tsresol, with its octet.
-    Resolution(u8),
+    /// The option if_tsresol: how many units of time a second has; the next option stands at this offset.
+    Units(u64, usize),
+    /// The option if_tsoffset: how far each time is moved; the next option stands at this offset.
+    Moved(Shift, usize),
     /// Another option; the next one stands at this offset.
     Other(usize),
 }
 
-/// What stands at an offset among the options before the offset `end`. Refused: an option that does not end there, and an
-/// if_tsresol that has not one octet.
+/// The units that the octet of an if_tsresol at this offset tells.
+fn units_at(octets: &[u8], at: usize) -> Result<Entry, Stop>
+    requires { at + 4 ≤ length octets.now }
+    ensures units { result ≡ units_at octets.now at }
+    ensures wants { IfErr result (λ e. WantsMore octets.now e) }
+{
+    let resolution = octets[at];
+    match units_of_resolution(resolution) {
+        Some(units) => Ok(Entry::Units(units, at + 4)),
+        None => Err(refused(at, Cause::Resolution(resolution))),
+    }
+}
+
+/// What stands at an offset among the options before the offset `end`. Refused: an option that does not end there, an
+/// if_tsresol that has not one octet, and an if_tsoffset that has not eight.
 fn entry_at(order: Order, octets: &[u8], end: usize, at: usize) -> Result<Entry, Stop>
-    requires { end ≤ length octets.now }
+    requires { end + 4 ≤ length octets.now }
     ensures entry { result ≡ entry_at order octets.now end at }
     ensures wants { IfErr result (λ e. WantsMore octets.now e) }
 {
@@ -45,45 +66,49 @@ fn entry_at(order: Order, octets: &[u8], end: usize, at: usize) -> Result<Entry,
     if code == END {
         return Ok(Entry::End);
     }
-    if usize::from(size) > end - 4 - at || (code == RESOLUTION && size != 1) {
+    if usize::from(size) > end - 4 - at
+        || (code == RESOLUTION && size != 1)
+        || (code == OFFSET && size != 8)
+    {
         return Err(refused(at + 2, Cause::Length(u32::from(size))));
     }
     if code == RESOLUTION {
-        return Ok(Entry::Resolution(octets[at + 4]));
+        return units_at(octets, at + 4);
+    }
+    if code == OFFSET {
+        let shift = shift_of(number64(order, octets, at + 4));
+        return Ok(Entry::Moved(shift, at + 12));
     }
     Ok(Entry::Other(at + 4 + usize::from(size).div_ceil(4) * 4))
 }
 
-/// The octet of the option if_tsresol among the options before the offset `end`, and its offset; if there is none, 6, a
-/// millionth of a second. Refused as by `entry_at`.
+/// How packets are timed, as the options before the offset `end` say. Refused as by `entry_at`.
 #[tactic(auto, using(crate::proofs::EntryLemmas::next_entry))]
-fn resolution(order: Order, octets: &[u8], end: usize) -> Result<(u8, usize), Stop>
-    requires { end ≤ length octets.now }
-    ensures resolution { result ≡ resolution_from order octets.now end end 16 }
+fn timing_in(order: Order, octets: &[u8], end: usize) -> Result<Timing, Stop>
+    requires { end + 4 ≤ length octets.now }
+    ensures timing { result ≡ timing_in order octets.now end }
     ensures wants { IfErr result (λ e. WantsMore octets.now e) }
 {
+    let mut timing = Timing {
+        units: MICROSECONDS,
+        shift: Shift::default(),
+    };
     let mut at = OPTIONS;
     for _ in 0..end {
         match entry_at(order, octets, end, at)? {
-            Entry::End => return Ok((6, at)),
-            Entry::Resolution(resolution) => return Ok((resolution, at + 4)),
+            Entry::End => return Ok(timing),
+            Entry::Units(units, next) => {
+                timing.units = units;
+                at = next;
+            }
+            Entry::Moved(shift, next) => {
+                timing.shift = shift;
+                at = next;
+            }
             Entry::Other(next) => at = next,
         }
     }
-    Ok((6, at))
-}
-
-/// How many units of time a second has, as the options before the offset `end` say.
-fn units_in(order: Order, octets: &[u8], end: usize) -> Result<u64, Stop>
-    requires { end ≤ length octets.now }
-    ensures units { result ≡ units_in order octets.now end }
-    ensures wants { IfErr result (λ e. WantsMore octets.now e) }
-{
-    let (resolution, at) = resolution(order, octets, end)?;
-    match units_of_resolution(resolution) {
-        Some(units) => Ok(units),
-        None => Err(refused(at, Cause::Resolution(resolution))),
-    }
+    Ok(timing)
 }
 
 /// The interface that an interface description block describes, and the block's length.
@@ -101,11 +126,11 @@ pub(crate) fn interface_in(order: Order, octets: &[u8]) -> Result<(Interface, u3
         return Err(Stop::Wants(length as usize));
     }
     let link = link_at(8, u32::from(number16(order, octets, 8)))?;
-    let units = units_in(order, octets, length as usize - 4)?;
+    let timing = timing_in(order, octets, length as usize - 4)?;
     let interface = Interface {
         link,
         snapshot: number32(order, octets, 12),
-        units,
+        timing,
     };
     Ok((interface, length))
 }

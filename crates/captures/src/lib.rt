@@ -20,11 +20,11 @@ mod writing;
 
 pub use fault::{Cause, Fault, Stop};
 pub use format::Format;
-pub use interface::{Interface, MOST_INTERFACES};
+pub use interface::{Interface, MOST_INTERFACES, Timing};
 pub use laws::what_is_written_is_read;
 pub use link::LinkType;
 pub use number::Order;
 pub use packet::{MOST_CAPTURED, MOST_WANTED, Packet};
 pub use reader::{Reader, Step};
-pub use time::Unit;
+pub use time::{Shift, Unit};
 pub use writing::{put_file_header, put_packet};

@@ -23,6 +23,17 @@ pub(crate) fn number16(order: Order, octets: &[u8], at: usize) -> u16
     }
 }
 
+/// The number in the eight octets from this offset on.
+pub(crate) fn number64(order: Order, octets: &[u8], at: usize) -> u64
+    requires { at + 8 ≤ length octets.now }
+    ensures { result ≡ number_at order octets.now at 8 }
+{
+    match order {
+        Order::Big => BigEndian::read_u64(&octets[at..]),
+        Order::Little => LittleEndian::read_u64(&octets[at..]),
+    }
+}
+
 /// The number in the four octets from this offset on.
 pub(crate) fn number32(order: Order, octets: &[u8], at: usize) -> u32
     requires { at + 4 ≤ length octets.now }

@@ -115,7 +115,7 @@ pub(crate) fn stamped_packet(
     let interface = described(interfaces, number, 8)?;
     let high = u64::from(number32(order, octets, 12));
     let stamp = high * 4_294_967_296 + u64::from(number32(order, octets, 16));
-    let Some(time) = stamp_time(interface.units, stamp) else {
+    let Some(time) = stamp_time(interface.timing.units, interface.timing.shift, stamp) else {
         return Err(refused(12, Cause::Time));
     };
     let captured = room(number32(order, octets, 20), 28, length, 20)?;

@@ -1,5 +1,5 @@
-ghost use Rattle.std.specs.Prelude.{◌≡◌};
-ghost use Rattle.captures.specs.Times.{nanoseconds, nanoseconds_of_unit, units_of_resolution, stamp_time};
+ghost use Rattle.std.specs.Prelude.{◌≡◌, ◌<◌, ◌^◌};
+ghost use Rattle.captures.specs.Times.{nanoseconds, nanoseconds_of_unit, units_of_resolution, shift_of, stamp_time, moved};
 
 /// The unit of the fraction of a second in pcap.
 #[derive(Clone, Copy, Debug, PartialEq, Eq)]
@@ -38,17 +38,58 @@ pub(crate) fn units_of_resolution(resolution: u8) -> Option<u64>
     }
 }
 
-/// The nanoseconds of so many units of time; None if they are 2^64 or more, or if a second has no units.
-pub(crate) fn stamp_time(units: u64, stamp: u64) -> Option<u64>
-    ensures { result ≡ stamp_time units stamp }
+/// How far each time of an interface is moved.
+#[derive(Clone, Copy, Debug, Default, PartialEq, Eq)]
+pub struct Shift {
+    /// The seconds.
+    pub seconds: u64,
+    /// Whether they are taken away; else they are added.
+    pub is_earlier: bool,
+}
+
+/// The shift that the number of the option if_tsoffset stands for, in two's complement.
+pub(crate) fn shift_of(number: u64) -> Shift
+    ensures { result ≡ shift_of number }
+{
+    if number < 1 << 63 {
+        Shift {
+            seconds: number,
+            is_earlier: false,
+        }
+    } else {
+        Shift {
+            seconds: u64::MAX - number + 1,
+            is_earlier: true,
+        }
+    }
+}
+
+/// A time in nanoseconds that is moved; None if that is before the beginning of 1970.
+fn moved(shift: Shift, time: u128) -> Option<u128>
+    requires { time < 2 ^ 94 }
+    ensures { result ≡ moved shift time }
+{
+    let distance = u128::from(shift.seconds) * u128::from(NANOSECONDS);
+    if !shift.is_earlier {
+        Some(time + distance)
+    } else if time < distance {
+        None
+    } else {
+        Some(time - distance)
+    }
+}
+
+/// The nanoseconds of so many units of time, once they are moved; None if they are 2^64 or more, or before the beginning
+/// of 1970, or if a second has no units.
+pub(crate) fn stamp_time(units: u64, shift: Shift, stamp: u64) -> Option<u64>
+    ensures { result ≡ stamp_time units shift stamp }
 {
     if units == 0 {
         return None;
     }
     let time = u128::from(stamp) * u128::from(NANOSECONDS) / u128::from(units);
-    if time < 1 << 64 {
-        Some(time as u64)
-    } else {
-        None
+    match moved(shift, time) {
+        Some(moved) if moved < 1 << 64 => Some(moved as u64),
+        _ => None,
     }
 }
