@@ -40,34 +40,34 @@ use Rattle.lagsystem.proofs.Rising.{all-get, are_numbered, found_place, ports_ri
 use Rattle.lagworld.specs.declared.agreement.Agreement.TheVariants.{Same}
 use Rattle.lagworld.specs.Agreement.{agreement_at}
 use Rattle.lagworld.specs.Events.{Algorithms}
-use Rattle.lagworld.specs.ModelWorld.{link_ends}
+use Rattle.lagmodel.specs.World.{IsCabling}
+use Rattle.lagworld.specs.ModelWorld.{link_ends, world_setup}
 use Rattle.lagworld.specs.Sound.{IsSound as IsWorldSound}
-use Rattle.lagworld.specs.State.{LinkState, WorldState, change_count_in, half, history_at, port_at, towards}
+use Rattle.lagworld.specs.State.{LinkState, WorldState, half, history_at, port_at, towards}
 use Rattle.lagworld.proofs.Cables.{end_is}
 use Rattle.lagprogress.specs.Agreeing.{ActiveLinkAgrees, LinkAgrees}
 use Rattle.lagprogress.specs.Bundle.{AllHeard, BothAreActive, EachActiveLinkAgrees, EachActiveLinkComesUp, EachLinkAgrees, EachLinkComesUp}
-use Rattle.lagprogress.specs.Bundle.{EnoughAggregators, EnoughLinks, IsBundle, OneIsActive, SystemsDiffer}
+use Rattle.lagprogress.specs.Bundle.{EndsHealthyCable, EnoughAggregators, EnoughLinks, IsBundle, OneIsActive, SystemsDiffer}
 use Rattle.lagprogress.specs.ComingUp.{ActiveLinkComesUp, AreApart, Distributes, HasRoom, LinkComesUp}
 use Rattle.lagprogress.specs.Rounds.{AtEnd, IsHealthy, IsHealthyAt, Rounds, asks_all, ticks_of_both}
 use Rattle.lagprogress.specs.Selecting.{WantsAggregator, aggregators_with, ports_with}
 use Rattle.lagprogress.specs.Steady.{IsSteady}
 use Rattle.lagprogress.specs.Timers.{IsTimed}
 use Rattle.lagprogress.proofs.Climbing.{Down, Ripe, Rising, climbed, down_settles, down_takes, down_ticks, rising_first}
-use Rattle.lagprogress.proofs.ComingUp.{Brisk, Climbs, EndPort, Up, active_at, agrees_now, apart_at, at_end, awake_at, climbs_first, climbs_on, comes_up}
-use Rattle.lagprogress.proofs.ComingUp.{end_here, end_with, events_keep, splits, up_now, zero_on}
+use Rattle.lagprogress.proofs.ComingUp.{Climbs, EndPort, Up, active_at, agrees_now, apart_at, at_end, awake_at, climbs_first, climbs_on, comes_up}
+use Rattle.lagprogress.proofs.ComingUp.{end_here, end_with, events_keep, splits, rounds_kept, up_now, zero_on}
 use Rattle.lagprogress.proofs.Counting.{count, count_more_of, count_same, counted}
 use Rattle.lagprogress.proofs.EachPort.{OfEach}
 use Rattle.lagprogress.proofs.EachRound.{EachAt, RoundKeeps, round_each, rounds_join, rounds_steady, same_index}
 use Rattle.lagprogress.proofs.EndFacts.{Synced, activity}
 use Rattle.lagprogress.proofs.Hearing.{no}
 use Rattle.lagprogress.proofs.Linked.{many}
-use Rattle.lagprogress.proofs.OneActive.{one_meets}
+use Rattle.lagprogress.proofs.OneActive.{named_at, one_meets}
 use Rattle.lagprogress.proofs.OnePort.{AtPort, at_number, same_place}
 use Rattle.lagprogress.proofs.OneRound.{Nothing}
 use Rattle.lagprogress.proofs.Progressing.{AtIt, Ends, Fresh, active_meet, end_of, healthy_cable, knows_peer, only_cable}
 use Rattle.lagprogress.proofs.Progressing.{only_cabling, said_by, starts}
 use Rattle.lagprogress.proofs.Selecting.{finds_aggregator, waits_for_room}
-use Rattle.lagprogress.proofs.Stamps.{Stamped, stamped_round}
 use Rattle.lagprogress.proofs.Timers.{fires_keep, runs_keep}
 
 -- what stays of each port
@@ -280,16 +280,35 @@ down_rounds gives n old new steady s enough h = zero_on gives (λ m j. EachAt (D
 pub ends_at : (i : ℕ) (l : LinkState) (j : WorldState) → IsHealthyAt i l j → Ends l j
 ends_at i l j h s = end_of (λ p. p.enabled ≡ true) (port_at s l) (half s j).state (h.up s)
 
-module _ (Holds : LinkState → WorldState → Type 0) (first : ℕ) (gives : Algorithms) (old : WorldState) (b : IsBundle Holds old)
+-- a bundle, but that a port whose link is up may be another in place of an end of a healthy cable
+pub record IsMixed (Holds : LinkState → WorldState → Type 0) (Other : Side → ℕ → Type 0) (j : WorldState) : Type 0 where
+  pub steady : IsSteady j
+  pub cabling : IsCabling (world_setup j).cables
+  pub differ : SystemsDiffer j
+  pub heard : (s : Side) (k : ℕ) (x : SystemPort) → slice_get (half s j).state.system_ports k ≡ Some x → x.port.enabled ≡ true
+      → EndsHealthyCable Holds s x.number j ⊎ Other s x.number
+  pub aggregators : (s : Side) → EnoughAggregators (half s j).state
+  pub links : (s : Side) → EnoughLinks (half s j).state
+
+-- the others end no healthy cable, and have risen in 20 rounds if they are SELECTED
+module _ (Holds : LinkState → WorldState → Type 0) (Other : Side → ℕ → Type 0) (first : ℕ) (gives : Algorithms) (old : WorldState)
+    (b : IsMixed Holds Other old) (never : (s : Side) (i : ℕ) (l : LinkState) → IsHealthyAt i l old → Other s (port_at s l) → ⊥)
+    (idle : (mid top : WorldState) → Rounds gives first old mid → Rounds gives 20 mid top → (s : Side) (k : ℕ) (z y : SystemPort)
+    → slice_get (half s old).state.system_ports k ≡ Some z → z.port.enabled ≡ true → Other s z.number
+    → slice_get (half s top).state.system_ports k ≡ Some y → Ripe 0 y.port)
     (meets : (i : ℕ) (l : LinkState) (h : IsHealthyAt i l old) → Holds l old → (mid : WorldState) → Rounds gives first old mid
     → Fresh (λ s. port_at s l) (said_by l old (ends_at i l old h)) mid)
     (wakes : (i : ℕ) (l : LinkState) (h : IsHealthyAt i l old) → Holds l old → (s : Side)
     → (activity (said_by l old (ends_at i l old h) s) ≡ true) ⊎ (activity (said_by l old (ends_at i l old h) (peer s)) ≡ true)) where
   -- of each healthy cable it holds
-  pub holds : (i : ℕ) (l : LinkState) → IsHealthyAt i l old → Holds l old
-  holds i l h =
+  pub holds_of : (i : ℕ) (l : LinkState) → IsHealthyAt i l old → Holds l old
+  holds_of i l h =
       let e = ends_at i l old h One in
-      let it = b.heard One e.0 e.1 e.3 e.4 in
+      let number = found_place (port_at One l) (half One old).state.system_ports e.0 e.1 e.2 e.3 in
+      let it : EndsHealthyCable Holds One e.1.number old = elim (b.heard One e.0 e.1 e.3 e.4) [
+        | inl y ↦ y
+        | inr o ↦ absurd (never One i l h (subst (Other One) number o))
+      ] in
       let joins : port_at One it.link ≡ port_at One l = it.joins ∙ found_place (port_at One l) (half One old).state.system_ports e.0 e.1 e.2 e.3 in
       let here : end_at (map link_ends old.links) One (suc it.index) ≡ Some (port_at One l) =
       end_is One old.links it.index it.link it.healthy.there ∙ ap (λ (n : ℕ). Some n) joins in
@@ -323,7 +342,7 @@ module _ (Holds : LinkState → WorldState → Type 0) (first : ℕ) (gives : Al
     chosen i l y s =
         let at : Side → ℕ = λ t. port_at t l in
         let w = said_by l old (ends_at i l old y) in
-        let g = meets i l y (holds i l y) mid h in
+        let g = meets i l y (holds_of i l y) mid h in
         let e = end_here at w 1 g.known One Nothing mid g.link s in
         let k = as_before gives first old mid b.steady h s in
         at_end at w 1 g.known s mid e middle (λ p. is_selected p.choice ≡ true)
@@ -331,14 +350,14 @@ module _ (Holds : LinkState → WorldState → Type 0) (first : ℕ) (gives : Al
         (systems i l y s) (let m = knows_peer at w 1 0 0 mid g (omega arith) s in omega (arith, m)) e)
 
     climb : (i : ℕ) (l : LinkState) (y : IsHealthyAt i l old)
-        → Climbs (λ t. port_at t l) (said_by l old (ends_at i l old y)) (wakes i l y (holds i l y)) (λ _. 0) 0 20 top
+        → Climbs (λ t. port_at t l) (said_by l old (ends_at i l old y)) (wakes i l y (holds_of i l y)) 20 top
     climb i l y =
         let at : Side → ℕ = λ t. port_at t l in
         let w = said_by l old (ends_at i l old y) in
-        let awake = wakes i l y (holds i l y) in
-        zero_on gives (Climbs at w awake (λ _. 0) 0) mid
-        (climbs_first at w awake (λ _. 0) 0 mid (meets i l y (holds i l y) mid h) (chosen i l y))
-        (climbs_on at w awake (λ _. 0) 0 gives) 20 top more
+        let awake = wakes i l y (holds_of i l y) in
+        zero_on gives (Climbs at w awake) mid
+        (climbs_first at w awake mid (meets i l y (holds_of i l y) mid h) (chosen i l y))
+        (climbs_on at w awake gives) 20 top more
 
     -- and have risen, as the SELECTED ports have whose links are down
     ripe : (s : Side) → AllByRecursion (λ (y : SystemPort). Ripe 0 y.port) (half s top).state.system_ports
@@ -360,11 +379,13 @@ module _ (Holds : LinkState → WorldState → Type 0) (first : ℕ) (gives : Al
             let z = old_port (half s old).state.system_ports (half s mid).state.system_ports k x.0 start.numbers x.1 in
             let enabled : y.port.enabled ≡ z.0.port.enabled = (both.alike k x.0 y x.1 there).1 ∙ (start.alike k z.0 x.0 z.1 x.1).1 in
             elim (cases_Bool z.0.port.enabled) [
-              | inl up ↦ (let it = b.heard s k z.0 z.1 up in
-                  let c = climb it.index it.link it.healthy in
-                  let number : y.number ≡ port_at s it.link = x.2 ∙ (z.2 ∙ sym it.joins) in
-                  λ _. (all-get (λ (q : SystemPort). AtPort (port_at s it.link) (Rising 0) q.number q.port) (half s top).state.system_ports k y there
-                  (subst (λ t. EachAt (AtPort (port_at s it.link) (Rising t)) s top) (omega arith) (c.rising s)) number).1)
+              | inl up ↦ elim (b.heard s k z.0 z.1 up) [
+                | inl it ↦ (let c = climb it.index it.link it.healthy in
+                    let number : y.number ≡ port_at s it.link = x.2 ∙ (z.2 ∙ sym it.joins) in
+                    λ _. (all-get (λ (q : SystemPort). AtPort (port_at s it.link) (Rising 0) q.number q.port) (half s top).state.system_ports k y
+                    there (subst (λ t. EachAt (AtPort (port_at s it.link) (Rising t)) s top) (omega arith) (c.rising s)) number).1)
+                | inr o ↦ idle mid top h more s k z.0 y z.1 up o there
+              ]
               | inr gone ↦ (all-get (λ (q : SystemPort). Down 0 q.number q.port) (half s top).state.system_ports k y there down
                   (enabled ∙ gone)).1
             ]
@@ -380,55 +401,69 @@ module _ (Holds : LinkState → WorldState → Type 0) (first : ℕ) (gives : Al
         at_end at w 1 g.known s top e above Synced
         (climbed (half s top).state e.index e.port (above s).0 e.there (ripe s) (end_with at w 1 g.known s top e (Rising 0) a))
 
-  pub ups : (i : ℕ) (l : LinkState) (y : IsHealthyAt i l old) (k : Side → ℕ) (c most n : ℕ) (new : WorldState)
-      → Brisk (λ s. port_at s l) (said_by l old (ends_at i l old y)) (wakes i l y (holds i l y)) k c most
-      → (1 ≤ c → Stamped 0 (λ s. port_at s l) k old) → first + 20 + most ≤ n → Rounds gives n old new
-      → Up (λ s. port_at s l) (said_by l old (ends_at i l old y)) (wakes i l y (holds i l y)) k c most new
-  ups i l y k c most n new brisk st enough h =
+  pub ups_of : (i : ℕ) (l : LinkState) (y : IsHealthyAt i l old) (n : ℕ) (new : WorldState) → first + 31 ≤ n → Rounds gives n old new
+      → Up (λ s. port_at s l) (said_by l old (ends_at i l old y)) (wakes i l y (holds_of i l y)) new
+  ups_of i l y n new enough h =
       let at : Side → ℕ = λ s. port_at s l in
       let w = said_by l old (ends_at i l old y) in
       let m = n - first in
       let cut = splits gives m first n old new (omega (arith, enough)) h in
       let up = splits gives (m - 20) 20 m cut.0 new (omega (arith, enough)) cut.2 in
-      comes_up at w (wakes i l y (holds i l y)) k c most gives (m - 20) cut.0 up.0 new (meets i l y (holds i l y) cut.0 cut.1)
-      (chosen cut.0 up.0 cut.1 up.1 i l y) (ready cut.0 up.0 cut.1 up.1 i l y)
-      (λ j. zero_on gives (λ m j. Stamped 0 at k j) old (st j) (λ m i j q z. stamped_round gives 0 at k i j z q) first cut.0 cut.1)
-      brisk (omega (arith, enough)) up.1 up.2
+      comes_up at w (wakes i l y (holds_of i l y)) gives (m - 20) cut.0 up.0 new (meets i l y (holds_of i l y) cut.0 cut.1)
+      (chosen cut.0 up.0 cut.1 up.1 i l y) (ready cut.0 up.0 cut.1 up.1 i l y) (omega (arith, enough)) up.1 up.2
 
-  none_yet : 1 ≤ 0 → ⊥
-  none_yet l = omega (arith, l)
-
-  pub distribute : (i : ℕ) (l : LinkState) (y : IsHealthyAt i l old) (most : ℕ)
-      → Brisk (λ s. port_at s l) (said_by l old (ends_at i l old y)) (wakes i l y (holds i l y)) (λ _. 0) 0 most → (n : ℕ) (new : WorldState) → first + 20 + most ≤ n → Rounds gives n old new
+  pub distribute_of : (i : ℕ) (l : LinkState) (y : IsHealthyAt i l old) (n : ℕ) (new : WorldState) → first + 31 ≤ n → Rounds gives n old new
       → (s : Side) → AtEnd Distributes s l new
-  distribute i l y most brisk n new enough h =
-      let up = ups i l y (λ _. 0) 0 most n new brisk (λ c. absurd (none_yet c)) enough h in
-      up_now (λ s. port_at s l) (said_by l old (ends_at i l old y)) (wakes i l y (holds i l y)) (λ _. 0) 0 most up.0 new up.1 up.2
+  distribute_of i l y n new enough h =
+      let up = ups_of i l y n new enough h in
+      up_now (λ s. port_at s l) (said_by l old (ends_at i l old y)) (wakes i l y (holds_of i l y)) up.0 new up.1 up.2
 
-  pub agree : IsWorldSound old → (i : ℕ) (l : LinkState) (y : IsHealthyAt i l old) (most : ℕ)
-      → ((k : Side → ℕ) → Brisk (λ s. port_at s l) (said_by l old (ends_at i l old y)) (wakes i l y (holds i l y)) k 1 most) → (n : ℕ) (new : WorldState) → first + 20 + most ≤ n
+  pub agree_of : IsWorldSound old → (i : ℕ) (l : LinkState) (y : IsHealthyAt i l old) (n : ℕ) (new : WorldState) → first + 31 ≤ n
       → Rounds gives n old new → agreement_at new (suc i) ≡ Some Same
-  agree sound i l y most brisk n new enough h =
-      let at : Side → ℕ = λ s. port_at s l in
-      let w = said_by l old (ends_at i l old y) in
-      let k : Side → ℕ = λ s. change_count_in (history_at (half s old).histories (port_at s l)) in
-      agrees_now at w (wakes i l y (holds i l y)) k most i new
+  agree_of sound i l y n new enough h =
+      agrees_now (λ s. port_at s l) (said_by l old (ends_at i l old y)) (wakes i l y (holds_of i l y)) i new
       (λ x fl c. same_index i x l fl old new y.there (rounds_join gives n old new h) c)
-      (ups i l y k 1 most n new (brisk k) (λ _. stamped) enough h)
+      (λ s. rounds_kept gives n i (λ t. port_at t l) (λ t. towards t l) old new (healthy_cable i l old b.cabling y) h s
+      ∙ some_is (history_at (half s old).histories (port_at s l)) (sound.ends s i l y.there)) (ups_of i l y n new enough h)
     where
       some_is : {X : Type 0} (o : Option X) → IsSome o → is_some o ≡ true
       some_is None h = absurd (let e = h in cc)
       some_is (Some x) h = refl
 
-      stamped : Stamped 0 (λ s. port_at s l) (λ s. change_count_in (history_at (half s old).histories (port_at s l))) old
-      stamped = record {
-        flying = λ s. towards s l;
-        index = i;
-        links = healthy_cable i l old b.cabling y;
-        counts = λ s. refl;
-        there = λ s. some_is (history_at (half s old).histories (port_at s l)) (sound.ends s i l y.there);
-        items = λ j. absurd (omega (arith, j));
-      }
+-- where there are no others
+
+abbrev pub Nowhere : Side → ℕ → Type 0
+Nowhere s n = ⊥
+
+module _ (Holds : LinkState → WorldState → Type 0) (first : ℕ) (gives : Algorithms) (old : WorldState) (b : IsBundle Holds old)
+    (meets : (i : ℕ) (l : LinkState) (h : IsHealthyAt i l old) → Holds l old → (mid : WorldState) → Rounds gives first old mid
+    → Fresh (λ s. port_at s l) (said_by l old (ends_at i l old h)) mid)
+    (wakes : (i : ℕ) (l : LinkState) (h : IsHealthyAt i l old) → Holds l old → (s : Side)
+    → (activity (said_by l old (ends_at i l old h) s) ≡ true) ⊎ (activity (said_by l old (ends_at i l old h) (peer s)) ≡ true)) where
+  pub mixed : IsMixed Holds Nowhere old
+  mixed = record {
+    steady = b.steady;
+    cabling = b.cabling;
+    differ = b.differ;
+    heard = λ s k x e up. inl (b.heard s k x e up);
+    aggregators = b.aggregators;
+    links = b.links;
+  }
+
+  abbrev pub holds : (i : ℕ) (l : LinkState) → IsHealthyAt i l old → Holds l old
+  holds = holds_of Holds Nowhere first gives old mixed (λ s i l h o. o) (λ mid top h more s k z y there up o now. absurd o) meets wakes
+
+  pub ups : (i : ℕ) (l : LinkState) (y : IsHealthyAt i l old) (n : ℕ) (new : WorldState) → first + 31 ≤ n → Rounds gives n old new
+      → Up (λ s. port_at s l) (said_by l old (ends_at i l old y)) (wakes i l y (holds i l y)) new
+  ups = ups_of Holds Nowhere first gives old mixed (λ s i l h o. o) (λ mid top h more s k z y there up o now. absurd o) meets wakes
+
+  pub distribute : (i : ℕ) (l : LinkState) (y : IsHealthyAt i l old) (n : ℕ) (new : WorldState) → first + 31 ≤ n → Rounds gives n old new
+      → (s : Side) → AtEnd Distributes s l new
+  distribute = distribute_of Holds Nowhere first gives old mixed (λ s i l h o. o) (λ mid top h more s k z y there up o now. absurd o) meets wakes
+
+  pub agree : IsWorldSound old → (i : ℕ) (l : LinkState) (y : IsHealthyAt i l old) (n : ℕ) (new : WorldState) → first + 31 ≤ n
+      → Rounds gives n old new → agreement_at new (suc i) ≡ Some Same
+  agree = agree_of Holds Nowhere first gives old mixed (λ s i l h o. o) (λ mid top h more s k z y there up o now. absurd o) meets wakes
 
 -- the laws of a bundle
 
@@ -439,7 +474,7 @@ one_wakes old i l h a = awake_at (said_by l old (ends_at i l old h)) a.0 (active
 pub one_meet : (gives : Algorithms) (old : WorldState) → IsBundle OneIsActive old → (i : ℕ) (l : LinkState) (h : IsHealthyAt i l old)
     → OneIsActive l old → (mid : WorldState) → Rounds gives 630 old mid → Fresh (λ s. port_at s l) (said_by l old (ends_at i l old h)) mid
 one_meet gives old b i l h a mid r = one_meets gives (λ s. port_at s l) (said_by l old (ends_at i l old h)) a.0 630 old mid
-    (active_at l old (ends_at i l old h) a.0 a.1) (omega arith) (starts i l old (ends_at i l old h) b.steady b.cabling h) r
+    (named_at l old (ends_at i l old h) b.steady) (active_at l old (ends_at i l old h) a.0 a.1) (omega arith) (starts i l old (ends_at i l old h) b.steady b.cabling h) r
 
 pub both_wake : (old : WorldState) (i : ℕ) (l : LinkState) (h : IsHealthyAt i l old) → BothAreActive l old → (s : Side)
     → (activity (said_by l old (ends_at i l old h) s) ≡ true) ⊎ (activity (said_by l old (ends_at i l old h) (peer s)) ≡ true)
@@ -450,32 +485,21 @@ pub both_meet : (gives : Algorithms) (old : WorldState) → IsBundle BothAreActi
 both_meet gives old b i l h a mid r = active_meet gives (λ s. port_at s l) (said_by l old (ends_at i l old h)) 321 old mid
     (λ s. active_at l old (ends_at i l old h) s (a s)) (omega arith) (starts i l old (ends_at i l old h) b.steady b.cabling h) r
 
-pub both_on : (old : WorldState) (i : ℕ) (l : LinkState) (h : IsHealthyAt i l old) → BothAreActive l old → (s : Side)
-    → activity (said_by l old (ends_at i l old h) s) ≡ true
-both_on old i l h a s = active_at l old (ends_at i l old h) s (a s)
-
-pub zero_none : 1 ≤ 0 → ⊥
-zero_none l = omega (arith, l)
-
 pub each_link_comes_up : (gives : Algorithms) → EachLinkComesUp gives
 each_link_comes_up gives n i l old new b y enough h =
-    distribute OneIsActive 630 gives old b (one_meet gives old b) (one_wakes old) i l y 309 (inr (omega arith)) n new (omega (arith, enough)) h
+    distribute OneIsActive 630 gives old b (one_meet gives old b) (one_wakes old) i l y n new (omega (arith, enough)) h
 
 pub each_active_link_comes_up : (gives : Algorithms) → EachActiveLinkComesUp gives
 each_active_link_comes_up gives n i l old new b y enough h =
-    distribute BothAreActive 321 gives old b (both_meet gives old b) (both_wake old) i l y 11
-    (inl (both_on old i l y (holds BothAreActive 321 gives old b (both_meet gives old b) (both_wake old) i l y), zero_none, omega arith)) n new
-    (omega (arith, enough)) h
+    distribute BothAreActive 321 gives old b (both_meet gives old b) (both_wake old) i l y n new (omega (arith, enough)) h
 
 pub each_link_agrees : (gives : Algorithms) → EachLinkAgrees gives
 each_link_agrees gives n i l old new sound b y enough h =
-    agree OneIsActive 630 gives old b (one_meet gives old b) (one_wakes old) sound i l y 309 (λ k. inr (omega arith)) n new
-    (omega (arith, enough)) h
+    agree OneIsActive 630 gives old b (one_meet gives old b) (one_wakes old) sound i l y n new (omega (arith, enough)) h
 
 pub each_active_link_agrees : (gives : Algorithms) → EachActiveLinkAgrees gives
 each_active_link_agrees gives n i l old new sound b y enough h =
-    agree BothAreActive 321 gives old b (both_meet gives old b) (both_wake old) sound i l y 309 (λ k. inr (omega arith)) n new
-    (omega (arith, enough)) h
+    agree BothAreActive 321 gives old b (both_meet gives old b) (both_wake old) sound i l y n new (omega (arith, enough)) h
 
 -- a world with one cable, and one port in each system
 

@@ -1,5 +1,5 @@
 -- What a port owes its partner once it is synchronized: an LACPDU that says so.
-use Rattle.std.proofs.Common.{◌≡◌, ◌∙◌, ℕ, ◌≤◌, Bool, true, false, not, ◌||◌, ◌⊎◌, inl, inr, refl, sym, subst, ap, if◌then◌else◌}
+use Rattle.std.proofs.Common.{◌≡◌, ◌≢◌, ◌∙◌, ℕ, ◌≤◌, Bool, true, false, not, ◌||◌, ◌⊎◌, inl, inr, refl, sym, subst, ap, if◌then◌else◌}
 use Rattle.std.proofs.lemmas.Bool.{cases_Bool}
 use Rattle.lagtypes.specs.declared.party.Choice.TheVariants.{Unselected}
 use Rattle.lagtypes.specs.declared.state.StateBits.{StateBits}
@@ -15,21 +15,22 @@ use Rattle.portmachines.specs.Machines.{Machines}
 use Rattle.portmachines.specs.Mux.{is_synchronized, mux_rows, partner_synchronized, same_mux_state}
 use Rattle.portmachines.specs.declared.mux.MuxState.TheVariants.{CollectingDistributing}
 use Rattle.portmachines.specs.Periodic.{RunsPeriodic, is_silent, partner_short, periodic_rows, timer_expired}
-use Rattle.portmachines.specs.Receive.{default_partner, is_maintained, receive_rows, recorded_synchronization}
+use Rattle.portmachines.specs.Receive.{default_partner, is_maintained, lacpdu_rows, receive_rows, recorded_synchronization}
 use Rattle.portmachines.specs.Rows.{RunsToRest}
 use Rattle.portmachines.specs.Transmit.{count_down, pdu_of}
 use Rattle.lagsystem.specs.Calls.{ProcessesLacpdu}
 use Rattle.lagsystem.specs.ModelView.{can_receive}
 use Rattle.lagsystem.proofs.Effects.{named}
 use Rattle.lagprogress.proofs.EachPort.{KeptBySettling}
-use Rattle.lagprogress.proofs.EndFacts.{CanSound, IsEnd, SameActor, Says, Synced, activity, all_true, awake_fires, calm, end_settles, first_true}
-use Rattle.lagprogress.proofs.EndFacts.{maintained, nothing_along}
+use Rattle.lagprogress.proofs.EndFacts.{Along, CanSound, IsEnd, SameActor, Says, Synced, activity, all_true, awake_fires, end_settles, first_true}
+use Rattle.lagprogress.proofs.EndFacts.{maintained, not_silent}
 use Rattle.lagsystem.specs.ModelView.{can_receive_in}
 use Rattle.lagprogress.proofs.Hearing.{no}
 use Rattle.lagprogress.proofs.Knowing.{decoded}
 use Rattle.lagprogress.proofs.OnePort.{AtPort}
 use Rattle.lagprogress.proofs.Sounding.{rests, unclear}
-use Rattle.lagprogress.proofs.Timers.{RowsKeep, runs_keep}
+use Rattle.lagprogress.proofs.Lapsing.{expired_active}
+use Rattle.lagprogress.proofs.Timers.{RowsKeep, fires_keep, runs_keep}
 
 -- SELECTED, in ATTACHED or COLLECTING_DISTRIBUTING, and the actor of the LACPDU is recorded as the partner
 abbrev pub Claims : Lacpdu → Machines → Type 0
@@ -68,33 +69,72 @@ owes_periodic_rows u = (
   (λ p a. a, (λ p a. (a.0, λ c. refl), (λ p a. a, (λ p a. (a.0, λ c. refl), (λ p a. a, (λ p a. a, tt)))))),
 )
 
-owes_periodic : (u : Lacpdu) (p q : Machines) → RunsPeriodic p q → is_silent p ≡ false → Owes u p → Owes u q
-owes_periodic u p q h calm a =
-    let mid = runs_keep (Calmly u) periodic_rows (owes_periodic_rows u) p h.0 h.1 (calm, a) in
-    let r = rests h.0.periodic h.0 h.1.2 mid.0 in
-    let same = unclear h.0.periodic (timer_expired h.0) (partner_short h.0) h.0.ntt r in
-    subst (Owes u) (sym h.2) (λ c. same ∙ mid.1 c)
+owes_periodic : (u : Lacpdu) (p q : Machines) → RunsPeriodic p q → (Claims u p → is_silent p ≡ false) → Owes u p → Owes u q
+owes_periodic u p q h calm a = elim (claims_or_not u p) [
+  | inl claim ↦ (let mid = runs_keep (Calmly u) periodic_rows (owes_periodic_rows u) p h.0 h.1 (calm claim, a) in
+      let r = rests h.0.periodic h.0 h.1.2 mid.0 in
+      let same = unclear h.0.periodic (timer_expired h.0) (partner_short h.0) h.0.ntt r in
+      subst (Owes u) (sym h.2) (λ c. same ∙ mid.1 c))
+  | inr not ↦ (let mid = runs_keep (λ r. Claims u r → ⊥) periodic_rows
+      (λ p a. a, (λ p a. a, (λ p a. a, (λ p a. a, (λ p a. a, (λ p a. a, (λ p a. a, tt))))))) p h.0 h.1 not in
+      subst (Owes u) (sym h.2) (λ c. absurd (mid c)))
+]
+
+-- The port is active, or its partner is, and recorded as active if it is recorded. The first LACPDU is of the port itself, the
+-- second of its partner.
+abbrev pub Wakeful : Lacpdu → Lacpdu → Machines → Type 0
+Wakeful v u p = (activity v ≡ true)
+    ⊎ ((activity u ≡ true) × (party_of p.partner ≡ party_of u.actor → (bits_of p.partner.state).activity ≡ true))
+
+pub can_wake : (d : ℕ) (v u : Lacpdu) (fast : Bool) (c : ℕ) (p : Machines) → CanSound v u fast c → IsEnd d v u c p → Wakeful v u p
+can_wake d v u fast c p can a = elim can.0 [
+  | inl on ↦ inl on
+  | inr e ↦ inr (e.1, λ same. (a.1.1 e.0).0.active ∙ e.1)
+]
+
+-- then it is not silent where it claims to be synchronized
+wakeful_calm : (v u : Lacpdu) (p : Machines) → p.enabled ≡ true → Says v p → Wakeful v u p → Claims u p → is_silent p ≡ false
+wakeful_calm v u p up says y claim = not_silent p.enabled p.active (bits_of p.partner.state).activity up (elim y [
+  | inl on ↦ inl (says.1 ∙ on)
+  | inr r ↦ inr (r.1 claim.1)
+])
+
+pub wakeful_along : (v u : Lacpdu) (c d : ℕ) → 1 ≤ d → Along (Wakeful v u) v u c d
+wakeful_along v u c d there = record {
+  mux = λ ready p q h y. runs_keep (Wakeful v u) (mux_rows ready)
+      (λ p a. a, (λ p a. a, (λ p a. a, (λ p a. a, (λ p a. a, (λ p a. a, tt)))))) p q h y;
+  periodic = λ p q h a y. subst (Wakeful v u) (sym h.2) (runs_keep (Wakeful v u) periodic_rows
+      (λ p a. a, (λ p a. a, (λ p a. a, (λ p a. a, (λ p a. a, (λ p a. a, (λ p a. a, tt))))))) p h.0 h.1 y);
+  select = λ choice p none y. y;
+  takes = λ x p q e awake h a y. elim h [
+    | inl f ↦ fires_keep (Wakeful v u) (lacpdu_rows x) (
+      λ p b. elim b [
+        | inl on ↦ inl on
+        | inr r ↦ inr (
+          r.0,
+          λ same. ap (λ (b : StateBits). b.activity) (decoded (recorded_synchronization x p) x.actor) ∙ ((e.0 there).1 ∙ r.0),
+        )
+      ],
+      tt,
+    ) p q f y
+    | inr r ↦ subst (Wakeful v u) (sym r.1) y
+  ];
+}
 
 -- an end that owes
 abbrev pub Owing : ℕ → Lacpdu → Lacpdu → ℕ → Machines → Type 0
-Owing d v u c p = IsEnd d v u c p × Owes u p
+Owing d v u c p = IsEnd d v u c p × Wakeful v u p × Owes u p
 
-pub owing_settles : (d : ℕ) (v u : Lacpdu) (fast : Bool) (c n : ℕ) → CanSound v u fast c → KeptBySettling (AtPort n (Owing d v u c))
-owing_settles d v u fast c n can =
-    let e = end_settles (λ p. Unit {0}) v u c d n (nothing_along v u c d) in
+pub owing_settles : (d : ℕ) (v u : Lacpdu) (c n : ℕ) → 1 ≤ d → KeptBySettling (AtPort n (Owing d v u c))
+owing_settles d v u c n there =
+    let e = end_settles (Wakeful v u) v u c d n (wakeful_along v u c d there) in
     record {
-      mux = λ m ready p q h a f. (
-        (e.mux m ready p q h (λ g. ((a g).0, tt)) f).0,
-        runs_keep (Owes u) (mux_rows ready) (owes_mux u ready) p q h (a f).1,
-      );
-      periodic = λ m p q h a f. (
-        (e.periodic m p q h (λ g. ((a g).0, tt)) f).0,
-        owes_periodic u p q h (calm d v u fast c p can (a f).0).0 (a f).1,
-      );
-      select = λ m choice p none may a f. (
-        (e.select m choice p none may (λ g. ((a g).0, tt)) f).0,
-        λ c. absurd (no (sym may.1 ∙ c.0.1)),
-      );
+      mux = λ m ready p q h a f. (let r = e.mux m ready p q h (λ g. ((a g).0, (a g).1)) f in
+          (r.0, r.1, runs_keep (Owes u) (mux_rows ready) (owes_mux u ready) p q h (a f).2));
+      periodic = λ m p q h a f. (let r = e.periodic m p q h (λ g. ((a g).0, (a g).1)) f in
+          let was = a f in (r.0, r.1, owes_periodic u p q h (wakeful_calm v u p was.0.1.0 was.0.0 was.1) was.2));
+      select = λ m choice p none may a f. (let r = e.select m choice p none may (λ g. ((a g).0, (a g).1)) f in
+          (r.0, r.1, λ c. absurd (no (sym may.1 ∙ c.0.1))));
     }
 
 -- a receipt
@@ -149,6 +189,36 @@ owes_receive u = (
   ),
 )
 
+-- where the default partner is no other's, or the port is active, it stays wakeful
+abbrev pub IsNamed : Lacpdu → Type 0
+IsNamed u = party_of default_partner ≢ party_of u.actor
+
+wakeful_receive : (v u : Lacpdu) → (activity v ≡ true) ⊎ IsNamed u → RowsKeep (Wakeful v u) receive_rows
+wakeful_receive v u it = (
+  λ p a. still p (record p.partner { state = with_synchronization false p.partner.state }) a (desync p.partner) (ap (λ (b : StateBits). b.activity) (decoded false p.partner)),
+  (
+    λ p a. still p (record p.partner { state = with_synchronization false p.partner.state }) a (desync p.partner) (ap (λ (b : StateBits). b.activity) (decoded false p.partner)),
+    (
+      λ p a. still p (record p.partner { state = with_timeout true (with_synchronization false p.partner.state) }) a (expire p.partner) (expired_active p.partner.state),
+      (
+        λ p a. elim it [
+          | inl on ↦ inl on
+          | inr other ↦ elim a [ inl on ↦ inl on | inr r ↦ inr (r.0, λ same. absurd (other same)) ]
+        ],
+        (λ p a. still p (record p.partner { state = with_timeout true (with_synchronization false p.partner.state) }) a (expire p.partner) (expired_active p.partner.state), tt),
+      ),
+    ),
+  ),
+)
+  where
+    still : (p : Machines) (i : Info) → Wakeful v u p → party_of i ≡ party_of p.partner
+        → (bits_of i.state).activity ≡ (bits_of p.partner.state).activity → Wakeful v u (record p { partner = i })
+    still p i a same bit = elim a [ inl on ↦ inl on | inr r ↦ inr (r.0, λ e. bit ∙ r.1 (sym same ∙ e)) ]
+
+pub wakeful_ticks : (v u : Lacpdu) (p q : Machines) → (activity v ≡ true) ⊎ IsNamed u → RunsToRest receive_rows (count_down p) q
+    → Wakeful v u p → Wakeful v u q
+wakeful_ticks v u p q named h a = runs_keep (Wakeful v u) receive_rows (wakeful_receive v u named) (count_down p) q h a
+
 pub owes_ticks : (u : Lacpdu) (p q : Machines) → RunsToRest receive_rows (count_down p) q → Owes u p → Owes u q
 owes_ticks u p q h a = runs_keep (Owes u) receive_rows (owes_receive u) (count_down p) q h a
 
@@ -160,9 +230,8 @@ abbrev pub SaysSynced : Lacpdu → Lacpdu → Lacpdu → Type 0
 SaysSynced u v x = ((bits_of x.actor.state).synchronization ≡ true) × (party_of x.partner ≡ party_of u.actor)
     × ((activity v ≡ true) ⊎ ((activity u ≡ true) × ((bits_of x.partner.state).activity ≡ true)))
 
-pub claim_said : (d : ℕ) (v u : Lacpdu) (fast : Bool) (c dl : ℕ) (p : Machines) → CanSound v u fast c → IsEnd d v u c p → Claims u p
-    → SaysSynced u v (pdu_of p dl)
-claim_said d v u fast c dl p can a claim =
+pub claim_said : (v u : Lacpdu) (dl : ℕ) (p : Machines) → Wakeful v u p → Claims u p → SaysSynced u v (pdu_of p dl)
+claim_said v u dl p wakes claim =
     let bits = encode_then_decode (record {
       activity = p.active;
       timeout = p.short;
@@ -175,13 +244,8 @@ claim_said d v u fast c dl p can a claim =
     }) in (
       ap (λ (b : StateBits). b.synchronization) bits ∙ claim.0.1,
       claim.1,
-      active can.0,
+      elim wakes [ inl on ↦ inl on | inr r ↦ inr (r.0, r.1 claim.1) ],
     )
-  where
-    active : (activity v ≡ true) ⊎ ((1 ≤ c) × (activity u ≡ true))
-        → (activity v ≡ true) ⊎ ((activity u ≡ true) × ((bits_of p.partner.state).activity ≡ true))
-    active (inl e) = inl e
-    active (inr e) = inr (e.1, (a.1.1 e.0).0.active ∙ e.1)
 
 -- it is recorded; the first LACPDU is of the port that takes it
 pub takes_claim : (u v x : Lacpdu) (p q : Machines) → SameActor x v → SaysSynced u v x → can_receive p ≡ true → ProcessesLacpdu x p q

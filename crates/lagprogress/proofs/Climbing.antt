@@ -96,7 +96,7 @@ second false b h = absurd (no h)
 not_waiting : (m : MuxState) (g : Bool) (s : MuxState) → same_mux_state s Waiting ≡ false → (same_mux_state s m && g) ≡ true → m ≡ Waiting → ⊥
 not_waiting m g s f h e = no (sym (ap (λ b. b && g) f) ∙ subst (λ x. (same_mux_state s x && g) ≡ true) e h)
 
-rising_rows : (t : ℕ) (ready : Bool) → EnabledKeep (Rising t) (mux_rows ready)
+pub rising_rows : (t : ℕ) (ready : Bool) → EnabledKeep (Rising t) (mux_rows ready)
 rising_rows t ready = (
   λ p h a. absurd (elim a.1 [
     | inl s ↦ not_attached p.mux _ Detached refl h s

@@ -1,7 +1,7 @@
 -- How both ends of a cable come to distribute, round by round.
 use Rattle.std.proofs.Common.{◌≡◌, ◌≢◌, ◌∙◌, ℕ, zero, suc, ◌+◌, ◌-◌, ◌≤◌, Bool, true, false, List, [], ◌∷◌, ◌⊎◌, inl, inr, refl, sym}
 use Rattle.std.proofs.Common.{subst, ap, arith, Some}
-use Rattle.std.specs.Prelude.{option_map, slice_get}
+use Rattle.std.specs.Prelude.{is_some, option_map, slice_get}
 use Rattle.lagtypes.specs.declared.party.Party.{Party}
 use Rattle.lagtypes.specs.Choices.{is_selected}
 use Rattle.slowpdu.specs.declared.pdu.Lacpdu.{Lacpdu}
@@ -19,7 +19,8 @@ use Rattle.lagsystem.proofs.Rising.{all-get, found_place, ports_rise}
 use Rattle.lagscript.specs.declared.event.Event.{Event}
 use Rattle.lagworld.specs.declared.reply.Reply.{Reply}
 use Rattle.lagworld.specs.Events.{Algorithms, WorldRuns}
-use Rattle.lagworld.specs.State.{LinkState, WorldState, half, port_at, ItemValue}
+use Rattle.lagworld.specs.State.{ItemValue, LinkState, WorldState, change_count_in, half, history_at, port_at}
+use Rattle.lagprogress.proofs.Stamps.{Stamped, stamped_round}
 use Rattle.lagtypes.specs.Group.{end_of as group_end, group_of, individual, pair_of}
 use Rattle.lagtypes.specs.Same.{same_group}
 use Rattle.lagtypes.proofs.GroupLemmas.{groups_from_pairs}
@@ -32,25 +33,22 @@ use Rattle.lagsystem.specs.Readers.{group_at}
 use Rattle.lagworld.specs.declared.agreement.Agreement.TheVariants.{Same}
 use Rattle.lagworld.specs.Agreement.{agreement_at, agreement_of, end_facts, first_agreement, is_stamp, same_groups}
 use Rattle.lagprogress.specs.ComingUp.{AreApart, Distributes}
-use Rattle.lagprogress.specs.Rounds.{AtEnd, IsRound, NothingInFlight, OfPort, Rounds}
+use Rattle.lagprogress.specs.Rounds.{AtEnd, IsRound, OfPort, Rounds}
 use Rattle.lagprogress.specs.Steady.{IsSteady}
 use Rattle.lagprogress.specs.Timers.{IsTimed}
 use Rattle.lagprogress.proofs.Claims.{Owes}
 use Rattle.lagprogress.proofs.Climbing.{PartnerInSync, Rising, distributes_now, partner_along, rising_along, rising_first}
 use Rattle.lagprogress.proofs.Climbing.{ticks_partner, ticks_rising}
 use Rattle.lagprogress.proofs.EachPort.{OfEach}
-use Rattle.lagprogress.proofs.Lapsing.{some_wait}
-use Rattle.lagprogress.proofs.OneCable.{IsStamped, cable, towards_there, OnCable}
-use Rattle.lagprogress.proofs.Stamps.{Marked, Stamped, Took, stamp_round, stamped_round}
-use Rattle.std.specs.List.{AllByRecursion}
-use Rattle.lagprogress.proofs.EndFacts.{IsEnd, short_timeout, Learnt, Synced, activity}
+use Rattle.lagprogress.proofs.OneCable.{cable, OnCable}
+use Rattle.lagprogress.proofs.EndFacts.{IsEnd, Learnt, Synced, activity}
 use Rattle.lagprogress.proofs.Halves.{each_is_calls}
-use Rattle.lagprogress.proofs.Linked.{EndIs, Fits, Link, each_both, each_map, each_side, found, peer_twice}
+use Rattle.lagprogress.proofs.Linked.{EndIs, Fits, Link, each_map, each_side, found, peer_twice}
 use Rattle.lagprogress.proofs.OnePort.{AtPort, at_number}
-use Rattle.lagprogress.proofs.OneRound.{Nothing, end_port, forget, join, round_nears, ticked, round_holds}
+use Rattle.lagprogress.proofs.OneRound.{Nothing, join, round_nears, ticked, round_holds}
 use Rattle.lagprogress.proofs.Progressing.{AtIt, Ends, FreshAt, able_fresh, beside, emptied, fits_fresh, knows_peer}
-use Rattle.lagprogress.proofs.Progressing.{machines_there, mode, own_says, said_by, some_silence, sounds_now, stays_fresh, wait}
-use Rattle.lagprogress.proofs.Sounding.{Sounds, silence_of, all_leave}
+use Rattle.lagprogress.proofs.Progressing.{machines_there, mode, own_says, said_by, stays_fresh, wait}
+use Rattle.lagprogress.proofs.Sounding.{Sounds, all_leave}
 
 -- what no event changes
 
@@ -90,17 +88,24 @@ splits gives (suc k) m zero old new e h = absurd (omega (arith, e))
 splits gives (suc k) m (suc n) old new e h =
     let r = splits gives k m n old h.0 (omega (arith, e)) h.1 in (r.0, r.1, (h.0, r.2, h.2))
 
--- where nothing is on the cable, nothing on it has another stamp
-stamps_start : (at k : Side → ℕ) (j : WorldState) → NothingInFlight j → Stamped 0 at k j → Stamped 1 at k j
-stamps_start at k j none l = record {
-  flying = l.flying;
-  index = l.index;
-  links = l.links;
-  counts = l.counts;
-  there = l.there;
-  items = λ i s. subst (AllByRecursion (IsStamped (k (peer s)))) (sym (sym (towards_there s at l.flying)
-      ∙ none s l.index (cable at l.flying) l.links.there)) tt;
-}
+-- a port at an end of a cable has a history as before
+pub rounds_kept : (gives : Algorithms) (n i : ℕ) (at : Side → ℕ) (fl : Side → List ItemValue) (old new : WorldState)
+    → OnCable i at fl old.links → Rounds gives n old new → (s : Side)
+    → is_some (history_at (half s new).histories (at s)) ≡ is_some (history_at (half s old).histories (at s))
+rounds_kept gives n i at fl old new c h s = (zero_on gives (λ m j. Stamped 0 at k kept j) old (record {
+  flying = fl;
+  index = i;
+  links = c;
+  counts = λ t. refl;
+  there = λ t. refl;
+  items = λ l. absurd (omega (arith, l));
+}) (λ m i j q a. stamped_round gives 0 at k kept i j a q) n new h).there s
+  where
+    k : Side → ℕ
+    k t = change_count_in (history_at (half t old).histories (at t))
+
+    kept : Side → Bool
+    kept t = is_some (history_at (half t old).histories (at t))
 
 module _ (at : Side → ℕ) (w : Side → Lacpdu) where
   -- the port at an end
@@ -139,12 +144,11 @@ module _ (at : Side → ℕ) (w : Side → Lacpdu) where
   end_with d c s j e P a =
       all-get (λ (y : SystemPort). AtPort (at s) P y.number y.port) (half s j).state.system_ports e.index e.port e.there a e.number
 
-  module _ (awake : (s : Side) → (activity (w s) ≡ true) ⊎ (activity (w (peer s)) ≡ true)) (k : Side → ℕ) (b : ℕ) where
+  module _ (awake : (s : Side) → (activity (w s) ≡ true) ⊎ (activity (w (peer s)) ≡ true)) where
     -- both ends climb
     pub record Climbs (n : ℕ) (j : WorldState) : Type 0 where
       pub fresh : FreshAt at w 1 j
       pub rising : (s : Side) → AtIt at w s (Rising (20 - n)) j
-      pub empty : 1 ≤ n → NothingInFlight j
 
     pub climbs_first : (j : WorldState) → FreshAt at w 1 j → ((s : Side) → AtIt at w s (λ p. is_selected p.choice ≡ true) j) → Climbs 0 j
     climbs_first j g chosen = record {
@@ -156,7 +160,6 @@ module _ (at : Side → ℕ) (w : Side → Lacpdu) where
           let timed = all-get (λ (y : SystemPort). IsTimed y.port) st.system_ports e.index e.port e.there (steady s).1 in
           at_end 1 g.known s j e steady (Rising 20) (rising_first e.port.port mux timed
           (end_with 1 g.known s j e (λ p. is_selected p.choice ≡ true) (chosen s))));
-      empty = λ l. absurd (omega (arith, l));
     }
 
     pub climbs_on : (gives : Algorithms) (n : ℕ) (old new : WorldState) → IsRound gives old new → Climbs n old → Climbs (n + 1) new
@@ -171,174 +174,114 @@ module _ (at : Side → ℕ) (w : Side → Lacpdu) where
           (rising_along (w s) (w (peer s)) (ticked g.known s) 1 (20 - n - 1) (omega arith) (omega (arith, l)))
           (λ p q r rest a y. ticks_rising 1 (w s) (w (peer s)) (g.known s) (20 - n) p q (omega (arith, l)) r a y)
           (λ p y. y) (join 1 at w g.known One s (Rising (20 - n)) old g.link (k.rising s)) h)));
-      empty = λ l. h.empties;
     }
 
-    -- Then each end hears that the other is in sync: soon, if both are active, since each is told or is owed an LACPDU.
+    -- Then each end hears that the other is in sync, since it is told or is owed an LACPDU.
 
-    abbrev pub Brisk : ℕ → Type 0
-    Brisk most = (((s : Side) → activity (w s) ≡ true) × (1 ≤ b → ⊥) × (11 ≤ most)) ⊎ (309 ≤ most)
+    abbrev pub Tells : Side → ℕ → WorldState → Type 0
+    Tells s n j = ((k : ℕ) × (1 ≤ k) × (n + k ≤ 11) × AtIt at w s (Sounds (mode at w s) k) j) ⊎ AtIt at w (peer s) PartnerInSync j
 
-    module _ (most : ℕ) where
-      abbrev pub Tells : Side → ℕ → WorldState → Type 0
-      Tells s n j = ((k : ℕ) × (1 ≤ k) × (n + k ≤ most) × AtIt at w s (Sounds (mode at w s) k) j)
-          ⊎ (AtIt at w (peer s) PartnerInSync j × (1 ≤ b → Took at k (peer s) j))
+    pub record Agrees (n : ℕ) (j : WorldState) : Type 0 where
+      pub fresh : FreshAt at w 2 j
+      pub tells : (s : Side) → Tells s n j
 
-      pub record Agrees (n : ℕ) (j : WorldState) : Type 0 where
-        pub fresh : FreshAt at w 2 j
-        pub tells : (s : Side) → Tells s n j
-        pub stamped : 1 ≤ b → Stamped 1 at k j
+    -- an end that owes an LACPDU sounds as soon as its transmit window lets it
+    owed : (j : WorldState) (g : FreshAt at w 2 j) (s : Side) → AtIt at w s (Owes (w (peer s))) j → AtIt at w s (Sounds (mode at w s) 11) j
+    owed j g s owes =
+        let e = end_here 2 g.known One Nothing j g.link s in
+        let known = (e.is.1.1 (let l = knows_peer at w 2 0 0 j g (omega arith) s in omega (arith, l))).0 in
+        let timed = all-get (λ (y : SystemPort). IsTimed y.port) (half s j).state.system_ports e.index e.port e.there (g.link.steady s).1 in
+        at_end 2 g.known s j e g.link.steady (Sounds (mode at w s) 11) (
+          inl (end_with 2 g.known s j e (Owes (w (peer s))) owes (e.is.2 (omega arith), known.party)),
+          all_leave true e.port.port.ages timed.3,
+        )
 
-      few_ticks : (b : Bool) → silence_of b ≤ 309
-      few_ticks true = omega arith
-      few_ticks false = omega arith
+    agrees_first : (j : WorldState) → Climbs 20 j → ((s : Side) → AtIt at w s (Rising 0) j → AtIt at w s Synced j) → Agrees 0 j
+    agrees_first j c ready =
+        let g = c.fresh in
+        let synced : (s : Side) → OfEach (AtPort (at s) (λ p. 2 ≤ 2 → Synced p)) (half s j).state.system_ports =
+        λ s. each_map (AtPort (at s) Synced) (AtPort (at s) (λ p. 2 ≤ 2 → Synced p)) (λ m p a f l. a f) (half s j).state.system_ports
+        (ready s (subst (λ t. AtIt at w s (Rising t) j) (omega arith) (c.rising s))) in
+        let fresh : FreshAt at w 2 j = record {
+          known = g.known;
+          next = g.next;
+          link = emptied at w 1 2 g.known One Nothing j g.empty synced g.link;
+          fits = g.fits;
+          later = g.later;
+          longer = g.longer;
+          sounds = g.sounds;
+          empty = g.empty;
+          told = g.told;
+          present = g.present;
+        } in
+        record {
+          fresh = fresh;
+          tells = λ s. elim (g.told s (let l = knows_peer at w 1 0 0 j g (omega arith) (peer s) in omega (arith, l))) [
+            | inl owes ↦ inl (11, omega arith, omega arith, owed j fresh s owes)
+            | inr heard ↦ inr heard
+          ];
+        }
 
-      -- an end that owes an LACPDU sounds as soon as its transmit window lets it
-      owed : (j : WorldState) (g : FreshAt at w 2 j) (s : Side) → AtIt at w s (Owes (w (peer s))) j → AtIt at w s (Sounds (mode at w s) 11) j
-      owed j g s owes =
-          let e = end_here 2 g.known One Nothing j g.link s in
-          let known = (e.is.1.1 (let l = knows_peer at w 2 0 0 j g (omega arith) s in omega (arith, l))).0 in
-          let timed = all-get (λ (y : SystemPort). IsTimed y.port) (half s j).state.system_ports e.index e.port e.there (g.link.steady s).1 in
-          at_end 2 g.known s j e g.link.steady (Sounds (mode at w s) 11) (
-            inl (end_with 2 g.known s j e (Owes (w (peer s))) owes (e.is.2 (omega arith), known.party)),
-            all_leave true e.port.port.ages timed.3,
-          )
+    agrees_on : (gives : Algorithms) (n : ℕ) (old new : WorldState) → IsRound gives old new → Agrees n old → Agrees (n + 1) new
+    agrees_on gives n old new h c =
+        let g = c.fresh in
+        record {
+          fresh = stays_fresh at w awake gives 2 old new (omega arith) h g;
+          tells = λ s. tells g (fits_fresh at w awake 2 old g (omega arith)) s (c.tells s);
+        }
+      where
+        tells : (g : FreshAt at w 2 old) → Fits 2 w (ticked g.known) → (s : Side) → Tells s n old → Tells s (n + 1) new
+        tells g fits s (inl (m, some, soon, y)) = let can = able_fresh at w awake 2 old g s in
+            elim (round_nears gives s 2 at w g.known (mode at w s) m old new (omega arith) fits can.1 can.0
+            (join 2 at w g.known One s (Sounds (mode at w s) m) old g.link y) h) [
+              | inl q ↦ (let l = q.0 in
+                  inl (m - 1, l, omega (arith, soon, l), beside at w 2 (ticked g.known) s (Sounds (mode at w s) (m - 1)) new q.1))
+              | inr q ↦ inr (each_map (AtPort (at (peer s)) (Learnt 2 (w (peer (peer s))) (wait at w (peer s))))
+                  (AtPort (at (peer s)) PartnerInSync) (λ i p a e. (a e).1 (omega arith)) (half (peer s) new).state.system_ports
+                  (beside at w 2 (ticked g.known) (peer s) (Learnt 2 (w (peer (peer s))) (wait at w (peer s))) new q))
+            ]
+        tells g fits s (inr y) =
+            let t = peer s in
+            let l = knows_peer at w 2 0 0 old g (omega arith) t in
+            inr (beside at w 2 (ticked g.known) t PartnerInSync new
+            (round_holds gives t 2 at w g.known PartnerInSync PartnerInSync old new fits
+            (partner_along (w t) (w (peer t)) (ticked g.known t) 2 (omega arith) (either (awake t)))
+            (λ p q r rest a z. ticks_partner 2 (w t) (w (peer t)) (g.known t) p q (omega (arith, l)) r a z)
+            (λ p z. z) (join 2 at w g.known One t PartnerInSync old g.link y) h))
+          where
+            either : (activity (w (peer s)) ≡ true) ⊎ (activity (w (peer (peer s))) ≡ true)
+                → (activity (w (peer (peer s))) ≡ true) ⊎ (activity (w (peer s)) ≡ true)
+            either (inl a) = inr a
+            either (inr a) = inl a
 
-      agrees_first : (j : WorldState) → Brisk most → Climbs 20 j → ((s : Side) → AtIt at w s (Rising 0) j → AtIt at w s Synced j)
-          → (1 ≤ b → Stamped 1 at k j) → Agrees 0 j
-      agrees_first j brisk c ready st =
-          let g = c.fresh in
-          let steady = g.link.steady in
-          let none = c.empty (omega arith) in
-          let synced : (s : Side) → OfEach (AtPort (at s) (λ p. 2 ≤ 2 → Synced p)) (half s j).state.system_ports =
-          λ s. each_map (AtPort (at s) Synced) (AtPort (at s) (λ p. 2 ≤ 2 → Synced p)) (λ m p a f l. a f) (half s j).state.system_ports
-          (ready s (subst (λ t. AtIt at w s (Rising t) j) (omega arith) (c.rising s))) in
-          let link = emptied at w 1 2 g.known One Nothing j none synced g.link in
-          let fresh : FreshAt at w 2 j = record {
-            known = g.known;
-            next = g.next;
-            link = link;
-            fits = g.fits;
-            later = g.later;
-            longer = g.longer;
-            sounds = g.sounds;
-            empty = g.empty;
-            told = g.told;
-          } in
-          record {
-            fresh = fresh;
-            stamped = st;
-            tells = λ s. elim brisk [
-              | inl (on, none_marked, enough) ↦ elim (g.told s (on s) (let l = knows_peer at w 1 0 0 j g (omega arith) (peer s) in omega (arith, l))) [
-                | inl owes ↦ inl (11, omega arith, omega (arith, enough), owed j fresh s owes)
-                | inr heard ↦ inr (heard, λ i. absurd (none_marked i))
-              ]
-              | inr enough ↦ inl (
-                silence_of (mode at w s),
-                some_silence at w (mode at w s),
-                (let l = few_ticks (mode at w s) in omega (arith, l, enough)),
-                sounds_now at w 2 g.known One Nothing s (mode at w s) j (able_fresh at w awake 2 j fresh s).0 link,
-              )
-            ];
-          }
+    pub told : (n : ℕ) (j : WorldState) → 11 ≤ n → Agrees n j → (t : Side) → AtIt at w t PartnerInSync j
+    told n j l c t = subst (λ u. AtIt at w u PartnerInSync j) (peer_twice t) (elim (c.tells (peer t)) [
+      | inl (m, some, soon, y) ↦ absurd (omega (arith, l, some, soon))
+      | inr y ↦ y
+    ])
 
-      -- where current_while starts anew in a round, the end took an LACPDU in it
-      took_now : (old new : WorldState) (g : FreshAt at w 2 old) (s : Side)
-          → Link 2 at w (ticked g.known) s (Learnt 2 (w (peer s)) (wait at w s)) new → Marked at k w old new → Took at k s new
-      took_now old new g s q m = elim (m.2 s) [
-        | inl low ↦ (let Y : Machines → Type 0 = λ p. Learnt 2 (w (peer s)) (wait at w s) p × (p.current_while + 1 ≤ wait at w s) in
-            let both = each_map (λ i p. AtPort (at s) (Learnt 2 (w (peer s)) (wait at w s)) i p
-            × AtPort (at s) (λ p. p.current_while + 1 ≤ wait at w s) i p) (AtPort (at s) Y) (λ i p a e. (a.0 e, a.1 e))
-            (half s new).state.system_ports
-            (each_both (AtPort (at s) (Learnt 2 (w (peer s)) (wait at w s))) (AtPort (at s) (λ p. p.current_while + 1 ≤ wait at w s))
-            (half s new).state.system_ports (beside at w 2 (ticked g.known) s (Learnt 2 (w (peer s)) (wait at w s)) new q) low) in
-            let z = end_port 2 at w (ticked g.known) s Y new (join 2 at w (ticked g.known) s s Y new
-            (forget 2 at w (ticked g.known) s s (Learnt 2 (w (peer s)) (wait at w s)) new q) both) s in
-            let y = z.1.1 refl in
-            let some = some_wait (short_timeout (w s)) in
-            let long = (y.0.0.1 some).1 in
-            let short = y.1 in
-            absurd (omega (arith, long, short)))
-        | inr t ↦ t
-      ]
+    -- and so both distribute
+    pub up_now : (n : ℕ) (j : WorldState) → 11 ≤ n → Agrees n j → (s : Side) → OfPort Distributes (machines_of (at s) (half s j).state)
+    up_now n j l c s =
+        let g = c.fresh in
+        let e = end_here 2 g.known One Nothing j g.link s in
+        let st = (half s j).state in
+        let mux = (all-get (MuxIsSettled st.keys st.system_ports) st.system_ports e.index e.port e.there (g.link.steady s).0.quiet.0).mux in
+        let synced = e.is.2 (omega arith) in
+        let heard = end_with 2 g.known s j e PartnerInSync (told n j l c s) in
+        subst (OfPort Distributes) (sym e.found) (distributes_now e.port.port mux synced heard, synced.0)
 
-      marked : (gives : Algorithms) (old new : WorldState) → IsRound gives old new → (g : FreshAt at w 2 old) → Stamped 1 at k old
-          → Marked at k w old new
-      marked gives old new h g st =
-          stamp_round gives 2 at k w g.known One Nothing old new (λ t. knows_peer at w 2 0 0 old g (omega arith) t) g.link st h
+    abbrev pub Up : WorldState → Type 0
+    Up j = (n : ℕ) × (11 ≤ n) × Agrees n j
 
-      agrees_on : (gives : Algorithms) (n : ℕ) (old new : WorldState) → IsRound gives old new → Agrees n old → Agrees (n + 1) new
-      agrees_on gives n old new h c =
-          let g = c.fresh in
-          let fits = fits_fresh at w awake 2 old g (omega arith) in
-          record {
-            fresh = stays_fresh at w awake gives 2 old new (omega arith) h g;
-            tells = λ s. tells g fits c.stamped s (c.tells s);
-            stamped = λ i. stamped_round gives 1 at k old new (c.stamped i) h;
-          }
-        where
-          tells : (g : FreshAt at w 2 old) → Fits 2 w (ticked g.known) → (1 ≤ b → Stamped 1 at k old) → (s : Side) → Tells s n old
-              → Tells s (n + 1) new
-          tells g fits st s (inl (m, some, soon, y)) = let can = able_fresh at w awake 2 old g s in
-              elim (round_nears gives s 2 at w g.known (mode at w s) m old new (omega arith) fits can.1 can.0
-              (join 2 at w g.known One s (Sounds (mode at w s) m) old g.link y) h) [
-                | inl q ↦ (let l = q.0 in
-                    inl (m - 1, l, omega (arith, soon, l), beside at w 2 (ticked g.known) s (Sounds (mode at w s) (m - 1)) new q.1))
-                | inr q ↦ inr (
-                  each_map (AtPort (at (peer s)) (Learnt 2 (w (peer (peer s))) (wait at w (peer s)))) (AtPort (at (peer s)) PartnerInSync)
-                      (λ i p a e. (a e).1 (omega arith)) (half (peer s) new).state.system_ports
-                      (beside at w 2 (ticked g.known) (peer s) (Learnt 2 (w (peer (peer s))) (wait at w (peer s))) new q),
-                  λ i. took_now old new g (peer s) q (marked gives old new h g (st i)),
-                )
-              ]
-          tells g fits st s (inr y) =
-              let t = peer s in
-              let l = knows_peer at w 2 0 0 old g (omega arith) t in
-              inr (
-                beside at w 2 (ticked g.known) t PartnerInSync new
-                    (round_holds gives t 2 at w g.known PartnerInSync PartnerInSync old new fits
-                    (partner_along (w t) (w (peer t)) (ticked g.known t) 2 (omega arith) (either (awake t)))
-                    (λ p q r rest a z. ticks_partner 2 (w t) (w (peer t)) (g.known t) p q (omega (arith, l)) r a z)
-                    (λ p z. z) (join 2 at w g.known One t PartnerInSync old g.link y.0) h),
-                λ i. (marked gives old new h g (st i)).1 t (y.1 i),
-              )
-            where
-              either : (activity (w (peer s)) ≡ true) ⊎ (activity (w (peer (peer s))) ≡ true)
-                  → (activity (w (peer (peer s))) ≡ true) ⊎ (activity (w (peer s)) ≡ true)
-              either (inl a) = inr a
-              either (inr a) = inl a
-
-      pub told : (n : ℕ) (j : WorldState) → most ≤ n → Agrees n j → (t : Side) → AtIt at w t PartnerInSync j × (1 ≤ b → Took at k t j)
-      told n j l c t = subst (λ u. AtIt at w u PartnerInSync j × (1 ≤ b → Took at k u j)) (peer_twice t) (elim (c.tells (peer t)) [
-        | inl (m, some, soon, y) ↦ absurd (omega (arith, l, some, soon))
-        | inr y ↦ y
-      ])
-
-      -- and so both distribute
-      pub up_now : (n : ℕ) (j : WorldState) → most ≤ n → Agrees n j → (s : Side) → OfPort Distributes (machines_of (at s) (half s j).state)
-      up_now n j l c s =
-          let g = c.fresh in
-          let e = end_here 2 g.known One Nothing j g.link s in
-          let st = (half s j).state in
-          let mux = (all-get (MuxIsSettled st.keys st.system_ports) st.system_ports e.index e.port e.there (g.link.steady s).0.quiet.0).mux in
-          let synced = e.is.2 (omega arith) in
-          let heard = end_with 2 g.known s j e PartnerInSync (told n j l c s).0 in
-          subst (OfPort Distributes) (sym e.found) (distributes_now e.port.port mux synced heard, synced.0)
-
-      abbrev pub Up : WorldState → Type 0
-      Up j = (n : ℕ) × (most ≤ n) × Agrees n j
-
-      -- from a round in which both ends are SELECTED, in 20 rounds to one in which both are synchronized, and on
-      pub comes_up : (gives : Algorithms) (n : ℕ) (start mid new : WorldState) → FreshAt at w 1 start
-          → ((s : Side) → AtIt at w s (λ p. is_selected p.choice ≡ true) start)
-          → ((s : Side) → AtIt at w s (Rising 0) mid → AtIt at w s Synced mid)
-          → (1 ≤ b → Stamped 0 at k start) → Brisk most → most ≤ n → Rounds gives 20 start mid → Rounds gives n mid new → Up new
-      comes_up gives n start mid new g chosen ready st brisk enough h more =
-          let climbed = zero_on gives Climbs start (climbs_first start g chosen) (climbs_on gives) 20 mid h in
-          let stamps : 1 ≤ b → Stamped 1 at k mid = λ i. stamps_start at k mid (climbed.empty (omega arith))
-          (zero_on gives (λ l j. Stamped 0 at k j) start (st i) (λ l i j q a. stamped_round gives 0 at k i j a q) 20 mid h) in
-          let last = zero_on gives Agrees mid (agrees_first mid brisk climbed ready stamps) (agrees_on gives) n new more in
-          (n, enough, last)
+    -- from a round in which both ends are SELECTED, in 20 rounds to one in which both are synchronized, and on
+    pub comes_up : (gives : Algorithms) (n : ℕ) (start mid new : WorldState) → FreshAt at w 1 start
+        → ((s : Side) → AtIt at w s (λ p. is_selected p.choice ≡ true) start)
+        → ((s : Side) → AtIt at w s (Rising 0) mid → AtIt at w s Synced mid)
+        → 11 ≤ n → Rounds gives 20 start mid → Rounds gives n mid new → Up new
+    comes_up gives n start mid new g chosen ready enough h more =
+        let climbed = zero_on gives Climbs start (climbs_first start g chosen) (climbs_on gives) 20 mid h in
+        (n, enough, zero_on gives Agrees mid (agrees_first mid climbed ready) (agrees_on gives) n new more)
 
 -- the world before the rounds
 
@@ -382,36 +325,34 @@ turned p q =
     either_order false false = refl
 
 module _ (at : Side → ℕ) (w : Side → Lacpdu)
-    (awake : (s : Side) → (activity (w s) ≡ true) ⊎ (activity (w (peer s)) ≡ true)) (k : Side → ℕ) (most : ℕ) where
+    (awake : (s : Side) → (activity (w s) ≡ true) ⊎ (activity (w (peer s)) ≡ true)) where
   -- what is compared of an end
   record Compared (s : Side) (j : WorldState) : Type 0 where
     distributes : (end_facts (half s j) (at s)).distributes ≡ true
     present : (end_facts (half s j) (at s)).defaulted ≡ false
-    count : (end_facts (half s j) (at s)).count ≡ k s
-    taken : is_stamp (k (peer s)) (end_facts (half s j) (at s)).taken ≡ true
+    taken : is_stamp (end_facts (half (peer s) j) (at (peer s))).count (end_facts (half s j) (at s)).taken ≡ true
     own : Party
     others : Party
     says : own ≡ party_of (w s).actor
     knows : others ≡ party_of (w (peer s)).actor
     group : (end_facts (half s j) (at s)).group ≡ Some (group_of own others)
 
-  compared : (j : WorldState) (up : Up at w awake k 1 most j) (s : Side) → Compared s j
-  compared j up s =
+  compared : (j : WorldState) → ((s : Side) → is_some (history_at (half s j).histories (at s)) ≡ true) → Up at w awake j → (s : Side) → Compared s j
+  compared j kept up s =
       let c = up.2 in
       let g = c.fresh in
       let e = end_here at w 2 g.known One Nothing j g.link s in
       let st = (half s j).state in
       let mux = (all-get (MuxIsSettled st.keys st.system_ports) st.system_ports e.index e.port e.there (g.link.steady s).0.quiet.0).mux in
-      let told = told at w awake k 1 most up.0 j up.1 c s in
-      let heard = end_with at w 2 g.known s j e PartnerInSync told.0 in
+      let heard = end_with at w 2 g.known s j e PartnerInSync (told at w awake up.0 j up.1 c s) in
       let now = distributes_now e.port.port mux (e.is.2 (omega arith)) heard in
-      let known = (e.is.1.1 (let l = knows_peer at w 2 0 0 j g (omega arith) s in omega (arith, l))).0 in
+      let some : 1 ≤ g.known s = (let l = knows_peer at w 2 0 0 j g (omega arith) s in omega (arith, l)) in
+      let known = (e.is.1.1 some).0 in
       record {
         distributes = ap (λ o. unwrap_or (option_map (λ (x : Machines). same_mux_state CollectingDistributing x.mux) o) false) e.found
             ∙ ap (same_mux_state CollectingDistributing) now;
         present = ap (λ o. unwrap_or (option_map (λ (x : Machines). x.defaulted) o) false) e.found ∙ known.present;
-        count = (c.stamped (omega arith)).counts s;
-        taken = told.1 (omega arith);
+        taken = g.present s some (kept s);
         own = e.port.port.party;
         others = party_of e.port.port.partner;
         says = e.is.0.0;
@@ -420,10 +361,10 @@ module _ (at : Side → ℕ) (w : Side → Lacpdu)
       }
 
   pub agrees_now : (i : ℕ) (j : WorldState) → ((x : ℕ) (fl : Side → List ItemValue) → OnCable x at fl j.links → x ≡ i)
-      → Up at w awake k 1 most j → agreement_at j (suc i) ≡ Some Same
-  agrees_now i j only up =
-      let a = compared j up One in
-      let b = compared j up Two in
+      → ((s : Side) → is_some (history_at (half s j).histories (at s)) ≡ true) → Up at w awake j → agreement_at j (suc i) ≡ Some Same
+  agrees_now i j only kept up =
+      let a = compared j kept up One in
+      let b = compared j kept up Two in
       let links = up.2.fresh.link in
       let groups : same_groups (end_facts j.one (at One)).group (end_facts j.two (at Two)).group ≡ true =
       ap (λ g. same_groups g (end_facts j.two (at Two)).group) a.group ∙ (ap (same_groups (Some (group_of a.own a.others))) b.group
@@ -436,6 +377,4 @@ module _ (at : Side → ℕ) (w : Side → Lacpdu)
       (is_stamp (end_facts j.one (at One)).count (end_facts j.two (at Two)).taken)
       (is_stamp (end_facts j.two (at Two)).count (end_facts j.one (at One)).taken)
       (same_groups (end_facts j.one (at One)).group (end_facts j.two (at Two)).group)
-      a.distributes b.distributes a.present b.present
-      (ap (λ n. is_stamp n (end_facts j.two (at Two)).taken) a.count ∙ b.taken)
-      (ap (λ n. is_stamp n (end_facts j.one (at One)).taken) b.count ∙ a.taken) groups)
+      a.distributes b.distributes a.present b.present b.taken a.taken groups)

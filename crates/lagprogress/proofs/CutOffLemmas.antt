@@ -1,4 +1,18 @@
--- A port that no whole cable joins hears nothing, and is DEFAULTED in the end.
+-- A port that is cut off hears nothing, and is DEFAULTED in the end.
+use Rattle.std.proofs.lemmas.Option.{none-some}
+use Rattle.lagprogress.proofs.OneRound.{Unrolled}
+use Rattle.lagprogress.proofs.Hearing.{no}
+use Rattle.lagworld.proofs.Sides.{position_there}
+use Rattle.lagsystem.proofs.Rising.{found_place}
+use Rattle.lagsystem.specs.State.{port_index}
+use Rattle.lagsystem.specs.Calls.{ParsesWhere, Performs, ReceivesAt, Step}
+use Rattle.lagsystem.specs.Sending.{TransmitsAt, TransmitsIf}
+use Rattle.portmachines.specs.Transmit.{is_due}
+use Rattle.portmachines.specs.Receive.{lacpdu_rows}
+use Rattle.portmachines.specs.Periodic.{periodic_rows}
+use Rattle.portmachines.specs.Mux.{mux_rows}
+use Rattle.lagprogress.proofs.Timers.{fires_keep, runs_keep}
+use Rattle.lagprogress.proofs.EachRound.{RoundKeeps, asks_each, delivers_each, ticks_each}
 use Rattle.std.proofs.Common.{◌≡◌, ◌∙◌, ℕ, ◌+◌, ◌-◌, ◌≤◌, ◌==◌, ◌&&◌, Bool, true, false, not, List, [], ◌∷◌, ◌++◌, Option, Some, None, ◌⊎◌, inl, inr}
 use Rattle.std.proofs.Common.{Result, Ok, Err, refl, sym, subst, ap, arith, length}
 use Rattle.std.specs.Prelude.{slice_get, slice_set, if◌then◌else◌}
@@ -10,7 +24,7 @@ use Rattle.portmachines.specs.declared.receive.ReceiveState.TheVariants.{Current
 use Rattle.portmachines.specs.Machines.{Machines}
 use Rattle.portmachines.specs.Receive.{receive_rows}
 use Rattle.portmachines.specs.Rows.{RunsToRest}
-use Rattle.portmachines.specs.Transmit.{count_down}
+use Rattle.portmachines.specs.Transmit.{count_down, after_sending}
 use Rattle.lagmodel.specs.World.{Side, One, Two, peer}
 use Rattle.lagmodel.proofs.Base.{value_of}
 use Rattle.lagsystem.specs.declared.drive.Reply.TheVariants as answer
@@ -29,14 +43,14 @@ use Rattle.lagworld.specs.Events.{Algorithms, AfterTransmit, WorldSteps, side_of
 use Rattle.lagworld.specs.State.{HalfState, ItemValue, LinkState, WorldState, change_link, half, is_at_limit, link_at, link_index, port_at, put_on_port}
 use Rattle.lagworld.specs.State.{sent_on, towards, with_half, with_towards}
 use Rattle.lagworld.proofs.Cables.{set_elsewhere, set_here, towards_other}
-use Rattle.lagprogress.specs.CutOff.{CutOffIsDefaulted}
+use Rattle.lagprogress.specs.CutOff.{CutOffIsDefaulted, IsCutOff}
 use Rattle.lagprogress.specs.Hearing.{timeout_time}
-use Rattle.lagprogress.specs.Rounds.{IsRound, asks_all}
+use Rattle.lagprogress.specs.Rounds.{IsRound, asks_all, Rounds}
 use Rattle.lagprogress.specs.Steady.{IsSteady}
 use Rattle.lagprogress.specs.Timers.{IsTimed}
 use Rattle.lagprogress.proofs.Bundling.{Alike, all_by_place, as_before, rounds_alike}
 use Rattle.lagprogress.proofs.ComingUp.{splits, zero_on}
-use Rattle.lagprogress.proofs.EachPort.{OfEach, Step-each, Tick-each}
+use Rattle.lagprogress.proofs.EachPort.{OfEach, Step-each, Tick-each, KeptBySettling}
 use Rattle.lagprogress.proofs.EachRound.{EachAt, rounds_steady}
 use Rattle.lagprogress.proofs.Hearing.{Unheard, Within, begins, counts, is_defaulted, receives, rested, unheard_settles, when_up}
 use Rattle.lagprogress.proofs.Linked.{each_side, peer_twice}
@@ -44,69 +58,157 @@ use Rattle.lagprogress.proofs.OneCable.{Comes, Sends, came_off, emits, ticks}
 use Rattle.lagprogress.proofs.OnePort.{AtPort, same_place}
 use Rattle.lagprogress.proofs.OneRound.{all_ask, ask_all, deliver_all, one_of_both, unroll}
 
--- each cable of the port is cut, and nothing is on it towards the port if b is not 0
-abbrev CutAt : ℕ → Side → ℕ → List LinkState → Type 0
-CutAt b s p links = (i : ℕ) (l : LinkState) → slice_get links i ≡ Some l → port_at s l ≡ p → (l.whole ≡ false) × (1 ≤ b → towards s l ≡ [])
+-- a port that is down says nothing
 
-set_cut : (b : ℕ) (s : Side) (p k : ℕ) (m new : LinkState) (links : List LinkState) → slice_get links k ≡ Some m
-    → (port_at s new ≡ p → (new.whole ≡ false) × (1 ≤ b → towards s new ≡ [])) → CutAt b s p links → CutAt b s p (slice_set links k new)
-set_cut b s p k m new links there is cut i l h e = elim (cases_Bool (i == k)) [
+abbrev Dead : Machines → Type 0
+Dead q = q.enabled ≡ false
+
+abbrev pub DownAt : Side → ℕ → WorldState → Type 0
+DownAt s n j = EachAt (AtPort n Dead) s j
+
+dead_keeps : (n : ℕ) → RoundKeeps (AtPort n Dead)
+dead_keeps n = record {
+  settles = record {
+    mux = λ m ready p q h a e. runs_keep Dead (mux_rows ready)
+        (λ p a. a, (λ p a. a, (λ p a. a, (λ p a. a, (λ p a. a, (λ p a. a, tt)))))) p q h (a e);
+    periodic = λ m p q h a e. subst Dead (sym h.2) (runs_keep Dead periodic_rows
+        (λ p a. a, (λ p a. a, (λ p a. a, (λ p a. a, (λ p a. a, (λ p a. a, (λ p a. a, tt))))))) p h.0 h.1 (a e));
+    select = λ m choice p none may a e. a e;
+  };
+  sends = λ m p a e. a e;
+  takes = λ m v p q h a e. elim h [
+    | inl f ↦ fires_keep Dead (lacpdu_rows v) (λ p a. a, tt) p q f (a e)
+    | inr r ↦ subst Dead (sym r.1) (a e)
+  ];
+}
+
+dead_ticks : (n m : ℕ) (p q : Machines) → RunsToRest receive_rows (count_down p) q → AtPort n Dead m p → AtPort n Dead m q
+dead_ticks n m p q h a e =
+    runs_keep Dead receive_rows (λ p a. a, (λ p a. a, (λ p a. a, (λ p a. a, (λ p a. a, tt))))) (count_down p) q h (a e)
+
+says_none : (up due : Bool) (i : ℕ) (z : SystemPort) (old : SystemState) (frame : List ℕ) (new : SystemState) → up ≡ false
+    → TransmitsIf up due i z old (Some frame) new → ⊥
+says_none false due i z old frame new e h = none-some frame (sym h.0)
+says_none true due i z old frame new e h = no (sym e)
+
+sends_none : (n : ℕ) (o : Option ℕ) (old : SystemState) (frame : List ℕ) (new : SystemState) → port_index n old.system_ports ≡ o
+    → TransmitsAt o old (Some frame) new → OfEach (AtPort n Dead) old.system_ports → ⊥
+sends_none n None old frame new e h a = h
+sends_none n (Some i) old frame new e h a =
+    says_none h.0.port.enabled (is_due h.0.port) i h.0 old frame new
+    (all-get (λ (y : SystemPort). AtPort n Dead y.number y.port) old.system_ports i h.0 h.1 a (found_place n old.system_ports i h.0 e h.1)) h.2
+
+answers_none : (n : ℕ) (o : Option ℕ) (octets : List ℕ) (old : SystemState) (frame : List ℕ) (new : SystemState)
+    → port_index n old.system_ports ≡ o → ReceivesAt o octets old (received.Respond frame) new → OfEach (AtPort n Dead) old.system_ports → ⊥
+answers_none n None octets old frame new e h a = none-some h.0 h.2
+answers_none n (Some i) octets old frame new e h a =
+    let down = all-get (λ (y : SystemPort). AtPort n Dead y.number y.port) old.system_ports i h.0 h.2 a
+    (found_place n old.system_ports i h.0 e h.2) in
+    let parsed = subst (λ b. ParsesWhere b h.0 octets h.1) down h.3 in
+    differ (subst (λ x. Performs x h.0.number (Some i) old (received.Respond frame) new) parsed h.4).0
+  where
+    differ : received.Respond frame ≡ received.Disabled → ⊥
+    differ f = cc
+
+-- each cable of the port is cut or ends at such a port, and nothing is on it towards the port if b is not 0
+abbrev pub CutAt : ℕ → Side → ℕ → (ℕ → Type 0) → List LinkState → Type 0
+CutAt b s p M links = (i : ℕ) (l : LinkState) → slice_get links i ≡ Some l → port_at s l ≡ p
+    → ((l.whole ≡ false) ⊎ M (port_at (peer s) l)) × (1 ≤ b → towards s l ≡ [])
+
+set_cut : (b : ℕ) (s : Side) (p k : ℕ) (M : ℕ → Type 0) (m new : LinkState) (links : List LinkState) → slice_get links k ≡ Some m
+    → (port_at s new ≡ p → ((new.whole ≡ false) ⊎ M (port_at (peer s) new)) × (1 ≤ b → towards s new ≡ [])) → CutAt b s p M links
+    → CutAt b s p M (slice_set links k new)
+set_cut b s p k M m new links there is cut i l h e = elim (cases_Bool (i == k)) [
   | inl t ↦ (let same : i ≡ k = grind (arith, nat_tests) in
       let one : l ≡ new = same_Some l new (sym h ∙ (ap (slice_get (slice_set links k new)) same ∙ set_here links k new m there)) in
-      subst (λ x. (x.whole ≡ false) × (1 ≤ b → towards s x ≡ [])) (sym one) (is (sym (ap (port_at s) one) ∙ e)))
+      subst (λ x. ((x.whole ≡ false) ⊎ M (port_at (peer s) x)) × (1 ≤ b → towards s x ≡ [])) (sym one) (is (sym (ap (port_at s) one) ∙ e)))
   | inr f ↦ (let other : i ≡ k → ⊥ = grind (arith, nat_tests) in cut i l (sym (set_elsewhere links k i new other) ∙ h) e)
 ]
 
 -- a cable that is cut accepts nothing
-sent_cut : (s u : Side) (item : ItemValue) (m : LinkState) → m.whole ≡ false → towards s m ≡ [] → towards s (sent_on u item m) ≡ []
+sent_cut : (s u : Side) (item : ItemValue) (m : LinkState) → (u ≡ peer s → m.whole ≡ false) → towards s m ≡ [] → towards s (sent_on u item m) ≡ []
 sent_cut One One item m cut none = none
 sent_cut Two Two item m cut none = none
 sent_cut One Two item m cut none =
-    ap (λ w. if w && not (is_at_limit m.limit_one (length m.to_one)) then m.to_one ++ item ∷ [] else m.to_one) cut ∙ none
+    ap (λ w. if w && not (is_at_limit m.limit_one (length m.to_one)) then m.to_one ++ item ∷ [] else m.to_one) (cut refl) ∙ none
 sent_cut Two One item m cut none =
-    ap (λ w. if w && not (is_at_limit m.limit_two (length m.to_two)) then m.to_two ++ item ∷ [] else m.to_two) cut ∙ none
+    ap (λ w. if w && not (is_at_limit m.limit_two (length m.to_two)) then m.to_two ++ item ∷ [] else m.to_two) (cut refl) ∙ none
 
-put_cut : (b : ℕ) (s u : Side) (p q : ℕ) (item : ItemValue) (links : List LinkState) → CutAt b s p links
-    → CutAt b s p (put_on_port u q item links)
-put_cut b s u p q item links cut = by_index (link_index u q links)
+ends_stay : (M : ℕ → Type 0) (s u : Side) (item : ItemValue) (m : LinkState) → (m.whole ≡ false) ⊎ M (port_at (peer s) m)
+    → ((sent_on u item m).whole ≡ false) ⊎ M (port_at (peer s) (sent_on u item m))
+ends_stay M One One item m h = h
+ends_stay M One Two item m h = h
+ends_stay M Two One item m h = h
+ends_stay M Two Two item m h = h
+
+joins_stay : (s u : Side) (item : ItemValue) (m : LinkState) → port_at s (sent_on u item m) ≡ port_at s m
+joins_stay One One item m = refl
+joins_stay One Two item m = refl
+joins_stay Two One item m = refl
+joins_stay Two Two item m = refl
+
+put_cut : (b : ℕ) (s u : Side) (p q : ℕ) (M : ℕ → Type 0) (item : ItemValue) (links : List LinkState) → (u ≡ peer s → M q → ⊥)
+    → CutAt b s p M links → CutAt b s p M (put_on_port u q item links)
+put_cut b s u p q M item links not cut = by_index (link_index u q links) refl
   where
-    by_link : (k : ℕ) (o : Option LinkState) → slice_get links k ≡ o → CutAt b s p (change_link (Some k) (sent_on u item) o links)
-    by_link k None h = cut
-    by_link k (Some m) h = set_cut b s p k m (sent_on u item m) links h (λ e. (
-      (cut k m h e).0,
-      λ l. sent_cut s u item m (cut k m h e).0 ((cut k m h e).1 l),
-    )) cut
+    whole : (k : ℕ) (m : LinkState) → link_index u q links ≡ Some k → slice_get links k ≡ Some m
+        → (m.whole ≡ false) ⊎ M (port_at (peer s) m) → u ≡ peer s → m.whole ≡ false
+    whole k m e h (inl w) f = w
+    whole k m e h (inr far) f =
+        absurd (not f (subst M (ap (λ (t : Side). port_at t m) (sym f) ∙ position_there u q links k m e h) far))
 
-    by_index : (o : Option ℕ) → CutAt b s p (change_link o (sent_on u item) (link_at o links) links)
-    by_index None = cut
-    by_index (Some k) = by_link k (slice_get links k) refl
+    by_link : (k : ℕ) (o : Option LinkState) → link_index u q links ≡ Some k → slice_get links k ≡ o
+        → CutAt b s p M (change_link (Some k) (sent_on u item) o links)
+    by_link k None e h = cut
+    by_link k (Some m) e h = set_cut b s p k M m (sent_on u item m) links h (λ f. (let c = cut k m h (sym (joins_stay s u item m) ∙ f) in (
+      ends_stay M s u item m c.0,
+      λ l. sent_cut s u item m (whole k m e h c.0) (c.1 l),
+    ))) cut
+
+    by_index : (o : Option ℕ) → link_index u q links ≡ o → CutAt b s p M (change_link o (sent_on u item) (link_at o links) links)
+    by_index None e = cut
+    by_index (Some k) e = by_link k (slice_get links k) e refl
 
 -- what each event leaves of it
 
-transmitted_cut : (b : ℕ) (s : Side) (p : ℕ) (v : Side) (q : ℕ) (a : Result (Option (List ℕ)) SystemFault) (mid : HalfState) (r : Reply)
-    (old new : WorldState) → AfterTransmit v q a (with_half v mid old) r new → CutAt b s p old.links → CutAt b s p new.links
-transmitted_cut b s p v q (Err fault) mid r old new h cut = subst (λ (j : WorldState). CutAt b s p j.links) (sym h.1) cut
-transmitted_cut b s p v q (Ok None) mid r old new h cut = subst (λ (j : WorldState). CutAt b s p j.links) (sym h.1) cut
-transmitted_cut b s p v q (Ok (Some frame)) mid r old new h cut =
-    subst (λ (j : WorldState). CutAt b s p j.links) (sym h.1) (put_cut b s v p q _ old.links cut)
+transmitted_cut : (b : ℕ) (s : Side) (p : ℕ) (M : ℕ → Type 0) (v : Side) (q : ℕ) (a : Result (Option (List ℕ)) SystemFault) (mid : HalfState)
+    (r : Reply) (old new : WorldState) → ((frame : List ℕ) → a ≡ Ok (Some frame) → v ≡ peer s → M q → ⊥)
+    → AfterTransmit v q a (with_half v mid old) r new → CutAt b s p M old.links → CutAt b s p M new.links
+transmitted_cut b s p M v q (Err fault) mid r old new not h cut = subst (λ (j : WorldState). CutAt b s p M j.links) (sym h.1) cut
+transmitted_cut b s p M v q (Ok None) mid r old new not h cut = subst (λ (j : WorldState). CutAt b s p M j.links) (sym h.1) cut
+transmitted_cut b s p M v q (Ok (Some frame)) mid r old new not h cut =
+    subst (λ (j : WorldState). CutAt b s p M j.links) (sym h.1) (put_cut b s v p q M _ old.links (not frame refl) cut)
 
-emit_cut : (gives : Algorithms) (b : ℕ) (s : Side) (p n q : ℕ) (r : Reply) (old new : WorldState) → WorldSteps gives old (event.Emit n q) r new
-    → CutAt b s p old.links → CutAt b s p new.links
-emit_cut gives b s p n q r old new h cut =
+-- the ports that are meant are down
+abbrev pub Downs : (ℕ → Type 0) → Side → WorldState → Type 0
+Downs M s j = (n : ℕ) → M n → DownAt s n j
+
+says_no : (gives : ℕ → ℕ → ℕ → Type 0) (n : ℕ) (a : Result (Option (List ℕ)) SystemFault) (old new : SystemState) (frame : List ℕ)
+    → a ≡ Ok (Some frame) → Step gives old (Transmit n) (answer.Transmit a) new → OfEach (AtPort n Dead) old.system_ports → ⊥
+says_no gives n a old new frame e h d = sends_none n (port_index n old.system_ports) old frame new refl
+    (subst (λ b. Step gives old (Transmit n) (answer.Transmit b) new) e h) d
+
+emit_cut : (gives : Algorithms) (b : ℕ) (s : Side) (p : ℕ) (M : ℕ → Type 0) (n q : ℕ) (r : Reply) (old new : WorldState)
+    → WorldSteps gives old (event.Emit n q) r new → Downs M (peer s) old → CutAt b s p M old.links → CutAt b s p M new.links
+emit_cut gives b s p M n q r old new h down cut =
     let v = value_of (side_of n) _ h.0 in
     let w = v.2 in
-    transmitted_cut b s p v.0 q w.0 w.1 r old (record new { acted = old.acted }) w.3 cut
+    transmitted_cut b s p M v.0 q w.0 w.1 r old (record new { acted = old.acted })
+    (λ frame e same dead. says_no (gives v.0) q w.0 (half v.0 old).state w.1.state frame e w.2.answers.step
+    (subst (λ t. DownAt t q old) (sym same) (down q dead))) w.3 cut
 
-sends_cut : (b : ℕ) (s v : Side) (p q : ℕ) (a : Result Received SystemFault) (old new : List LinkState) → Sends v q a old new
-    → CutAt b s p old → CutAt b s p new
-sends_cut b s v p q (Err fault) old new h cut = subst (CutAt b s p) (sym h) cut
-sends_cut b s v p q (Ok received.Disabled) old new h cut = subst (CutAt b s p) (sym h) cut
-sends_cut b s v p q (Ok received.Dropped) old new h cut = subst (CutAt b s p) (sym h) cut
-sends_cut b s v p q (Ok (received.Ignored fault)) old new h cut = subst (CutAt b s p) (sym h) cut
-sends_cut b s v p q (Ok received.TookLacpdu) old new h cut = subst (CutAt b s p) (sym h) cut
-sends_cut b s v p q (Ok (received.Respond frame)) old new h cut = subst (CutAt b s p) (sym h) (put_cut b s v p q _ old cut)
-sends_cut b s v p q (Ok (received.Released n)) old new h cut = subst (CutAt b s p) (sym h) cut
-sends_cut b s v p q (Ok (received.Up agg)) old new h cut = subst (CutAt b s p) (sym h) cut
+sends_cut : (b : ℕ) (s v : Side) (p q : ℕ) (M : ℕ → Type 0) (a : Result Received SystemFault) (old new : List LinkState)
+    → ((frame : List ℕ) → a ≡ Ok (received.Respond frame) → v ≡ peer s → M q → ⊥) → Sends v q a old new
+    → CutAt b s p M old → CutAt b s p M new
+sends_cut b s v p q M (Err fault) old new not h cut = subst (CutAt b s p M) (sym h) cut
+sends_cut b s v p q M (Ok received.Disabled) old new not h cut = subst (CutAt b s p M) (sym h) cut
+sends_cut b s v p q M (Ok received.Dropped) old new not h cut = subst (CutAt b s p M) (sym h) cut
+sends_cut b s v p q M (Ok (received.Ignored fault)) old new not h cut = subst (CutAt b s p M) (sym h) cut
+sends_cut b s v p q M (Ok received.TookLacpdu) old new not h cut = subst (CutAt b s p M) (sym h) cut
+sends_cut b s v p q M (Ok (received.Respond frame)) old new not h cut =
+    subst (CutAt b s p M) (sym h) (put_cut b s v p q M _ old (not frame refl) cut)
+sends_cut b s v p q M (Ok (received.Released n)) old new not h cut = subst (CutAt b s p M) (sym h) cut
+sends_cut b s v p q M (Ok (received.Up agg)) old new not h cut = subst (CutAt b s p M) (sym h) cut
 
 none_first : (xs rest : List ItemValue) (item : ItemValue) → xs ≡ [] → xs ≡ item ∷ rest → ⊥
 none_first xs rest item e f = let x : [] ≡ item ∷ rest = sym e ∙ f in cc
@@ -118,97 +220,144 @@ taken_cut b s v p m rest item first none (inl e) l =
 taken_cut b s v p m rest item first none (inr e) l =
     subst (λ t. towards s (with_towards t rest m) ≡ []) (sym e) (towards_other s rest m ∙ none l)
 
-comes_cut : (gives : Algorithms) (b : ℕ) (s v : Side) (p k : ℕ) (m : LinkState) (old new : WorldState) → slice_get old.links k ≡ Some m
-    → Comes gives v k m old new → CutAt b s p old.links → CutAt b s p new.links
-comes_cut gives b s v p k m old new there c cut =
-    sends_cut b s v p (port_at v m) c.a (slice_set old.links k (with_towards v c.rest m)) new.links c.sends
-    (set_cut b s p k m (with_towards v c.rest m) old.links there (λ e. (
-      (cut k m there e).0,
-      taken_cut b s v p m c.rest c.item c.first (cut k m there e).1 (one_of_both s v),
-    )) cut)
+ends_left : (M : ℕ → Type 0) (s v : Side) (rest : List ItemValue) (m : LinkState) → (m.whole ≡ false) ⊎ M (port_at (peer s) m)
+    → ((with_towards v rest m).whole ≡ false) ⊎ M (port_at (peer s) (with_towards v rest m))
+ends_left M One One rest m h = h
+ends_left M One Two rest m h = h
+ends_left M Two One rest m h = h
+ends_left M Two Two rest m h = h
 
-deliver_cut : (gives : Algorithms) (b : ℕ) (s : Side) (p cn n : ℕ) (r : Reply) (old new : WorldState)
-    → WorldSteps gives old (event.Deliver cn n) r new → CutAt b s p old.links → CutAt b s p new.links
-deliver_cut gives b s p cn n r old new h cut = elim (came_off gives cn n r old new h) [
-  | inl m ↦ comes_cut gives b s m.side p m.index m.link old new m.there m.comes cut
-  | inr m ↦ subst (CutAt b s p) (sym m.links) cut
+joins_left : (s v : Side) (rest : List ItemValue) (m : LinkState) → port_at s (with_towards v rest m) ≡ port_at s m
+joins_left One One rest m = refl
+joins_left One Two rest m = refl
+joins_left Two One rest m = refl
+joins_left Two Two rest m = refl
+
+replies_no : (gives : ℕ → ℕ → ℕ → Type 0) (n : ℕ) (octets : List ℕ) (a : Result Received SystemFault) (old new : SystemState) (frame : List ℕ)
+    → a ≡ Ok (received.Respond frame) → Step gives old (Receive n octets) (answer.Receive a) new → OfEach (AtPort n Dead) old.system_ports → ⊥
+replies_no gives n octets a old new frame e h d = answers_none n (port_index n old.system_ports) octets old frame new refl
+    (subst (λ b. Step gives old (Receive n octets) (answer.Receive b) new) e h) d
+
+comes_cut : (gives : Algorithms) (b : ℕ) (s v : Side) (p k : ℕ) (M : ℕ → Type 0) (m : LinkState) (old new : WorldState)
+    → slice_get old.links k ≡ Some m → Comes gives v k m old new → Downs M (peer s) old → CutAt b s p M old.links → CutAt b s p M new.links
+comes_cut gives b s v p k M m old new there c down cut =
+    sends_cut b s v p (port_at v m) M c.a (slice_set old.links k (with_towards v c.rest m)) new.links
+    (λ frame e same dead. replies_no (gives v) (port_at v m) c.item.octets c.a (half v old).state (half v new).state frame e c.promise.step
+    (subst (λ t. DownAt t (port_at v m) old) (sym same) (down (port_at v m) dead))) c.sends
+    (set_cut b s p k M m (with_towards v c.rest m) old.links there (λ f. (let was = cut k m there (sym (joins_left s v c.rest m) ∙ f) in (
+      ends_left M s v c.rest m was.0,
+      taken_cut b s v p m c.rest c.item c.first was.1 (one_of_both s v),
+    ))) cut)
+
+deliver_cut : (gives : Algorithms) (b : ℕ) (s : Side) (p : ℕ) (M : ℕ → Type 0) (cn n : ℕ) (r : Reply) (old new : WorldState)
+    → WorldSteps gives old (event.Deliver cn n) r new → Downs M (peer s) old → CutAt b s p M old.links → CutAt b s p M new.links
+deliver_cut gives b s p M cn n r old new h down cut = elim (came_off gives cn n r old new h) [
+  | inl m ↦ comes_cut gives b s m.side p m.index M m.link old new m.there m.comes down cut
+  | inr m ↦ subst (CutAt b s p M) (sym m.links) cut
 ]
 
-round_cut : (gives : Algorithms) (b : ℕ) (s : Side) (p : ℕ) (old new : WorldState) → IsRound gives old new → CutAt b s p old.links
-    → CutAt b s p new.links
-round_cut gives b s p old new h cut =
-    let u = unroll gives old new h in
+-- the cables of the port, and the ports that are down at their other ends
+abbrev pub Severed : ℕ → Side → ℕ → (ℕ → Type 0) → WorldState → Type 0
+Severed b s p M j = CutAt b s p M j.links × Downs M (peer s) j
+
+emit_severed : (gives : Algorithms) (b : ℕ) (s : Side) (p : ℕ) (M : ℕ → Type 0) (n q : ℕ) (r : Reply) (old new : WorldState)
+    → WorldSteps gives old (event.Emit n q) r new → Severed b s p M old → Severed b s p M new
+emit_severed gives b s p M n q r old new h a = (
+  emit_cut gives b s p M n q r old new h a.1 a.0,
+  λ m dead. asks_each (AtPort m Dead) (dead_keeps m) (peer s) gives n q r old new h (a.1 m dead),
+)
+
+deliver_severed : (gives : Algorithms) (b : ℕ) (s : Side) (p : ℕ) (M : ℕ → Type 0) (cn n : ℕ) (r : Reply) (old new : WorldState)
+    → WorldSteps gives old (event.Deliver cn n) r new → Severed b s p M old → Severed b s p M new
+deliver_severed gives b s p M cn n r old new h a = (
+  deliver_cut gives b s p M cn n r old new h a.1 a.0,
+  λ m dead. delivers_each (AtPort m Dead) (dead_keeps m) (peer s) gives cn n r old new h (a.1 m dead),
+)
+
+ticks_severed : (gives : Algorithms) (b : ℕ) (s : Side) (p : ℕ) (M : ℕ → Type 0) (old new : WorldState) (u : Unrolled gives old new)
+    → Severed b s p M old → Severed b s p M u.two
+ticks_severed gives b s p M old new u a =
     let one = ticks gives 1 One u.tick_one.0 old u.one refl u.tick_one.1 in
-    let two = ticks gives 2 Two u.tick_two.0 u.one u.two refl u.tick_two.1 in
-    let six = ask_all gives (λ j. CutAt b s p j.links) (λ n q r i j step m. emit_cut gives b s p n q r i j step m)
-    (asks_all old.links) u.asked u.two u.six (all_ask old.links) u.asks (subst (CutAt b s p) (sym (two.links ∙ one.links)) cut) in
-    deliver_all gives (λ j. CutAt b s p j.links) (λ c n r i j step m. deliver_cut gives b s p c n r i j step m)
+    let two = ticks gives 2 Two u.tick_two.0 u.one u.two refl u.tick_two.1 in (
+      subst (CutAt b s p M) (sym (two.links ∙ one.links)) a.0,
+      λ m dead. ticks_each (AtPort m Dead) (AtPort m Dead) (dead_keeps m) (λ x y z run c. dead_ticks m x y z run c) (peer s) gives old new u
+          (a.1 m dead),
+    )
+
+leaves_cut : (gives : Algorithms) (b : ℕ) (s : Side) (p : ℕ) (M : ℕ → Type 0) (old new : WorldState) → IsRound gives old new
+    → Severed b s p M old → Severed b s p M new
+leaves_cut gives b s p M old new h a =
+    let u = unroll gives old new h in
+    let six = ask_all gives (Severed b s p M) (λ n q r i j step m. emit_severed gives b s p M n q r i j step m)
+    (asks_all old.links) u.asked u.two u.six (all_ask old.links) u.asks (ticks_severed gives b s p M old new u a) in
+    deliver_all gives (Severed b s p M) (λ c n r i j step m. deliver_severed gives b s p M c n r i j step m)
     u.delivers u.replies u.six new u.arrives u.rest six
 
--- the port hears nothing
+-- the port hears nothing: what settling and sending keep of it, a round keeps
+
+module _ (p : ℕ) (M : ℕ → Type 0) (Q : Machines → Type 0) (settles : KeptBySettling (AtPort p Q)) (sends : (q : Machines) → Q q → Q (after_sending q)) where
+  abbrev Silent : Side → WorldState → Type 0
+  Silent s j = EachAt (AtPort p Q) s j × Severed 1 s p M j
+
+  asked : (gives : Algorithms) (s : Side) (n q : ℕ) (r : Reply) (old new : WorldState) → WorldSteps gives old (event.Emit n q) r new
+      → Silent s old → Silent s new
+  asked gives s n q r old new h a = (
+    (let m = emits gives n q r old new h in
+        each_side (λ t. EachAt (AtPort p Q) t old → EachAt (AtPort p Q) t new) m.0
+        (λ b. Step-each (AtPort p Q) settles (gives m.0) (half m.0 old).state (Transmit q) (answer.Transmit m.2.a)
+        (half m.0 new).state (λ x told c e. sends x (c e)) m.2.promise.step b)
+        (λ b. subst (λ (z : SystemState). OfEach (AtPort p Q) z.system_ports) (sym m.2.peers) b) s a.0),
+    emit_severed gives 1 s p M n q r old new h a.1,
+  )
+
+  comes_to : (gives : Algorithms) (s : Side) (k : ℕ) (l : LinkState) (old new : WorldState) → slice_get old.links k ≡ Some l
+      → Comes gives s k l old new → Silent s old → EachAt (AtPort p Q) s new
+  comes_to gives s k l old new there c a =
+      Step-each (AtPort p Q) settles (gives s) (half s old).state (Receive (port_at s l) c.item.octets) (answer.Receive c.a)
+      (half s new).state (λ v x y took does d e. absurd (none_first (towards s l) c.rest c.item ((a.1.0 k l there e).1 (omega arith)) c.first))
+      c.promise.step a.0
+
+  delivered : (gives : Algorithms) (s : Side) (cn n : ℕ) (r : Reply) (old new : WorldState)
+      → WorldSteps gives old (event.Deliver cn n) r new → Silent s old → Silent s new
+  delivered gives s cn n r old new h a = (
+    elim (came_off gives cn n r old new h) [
+      | inl m ↦ elim (one_of_both s m.side) [
+        | inl e ↦ comes_to gives s m.index m.link old new m.there (subst (λ v. Comes gives v m.index m.link old new) e m.comes) a
+        | inr e ↦ (let same : (half s new).state ≡ (half s old).state =
+            subst (λ t. (half t new).state ≡ (half t old).state) (ap peer e ∙ peer_twice s) m.comes.peers in
+            subst (λ (z : SystemState). OfEach (AtPort p Q) z.system_ports) (sym same) a.0)
+      ]
+      | inr m ↦ subst (λ (z : SystemState). OfEach (AtPort p Q) z.system_ports) (sym (m.halves s)) a.0
+    ],
+    deliver_severed gives 1 s p M cn n r old new h a.1,
+  )
+
+  -- where its ticks make Q of P
+  pub cut_round : (P : Machines → Type 0) → ((x y : Machines) → RunsToRest receive_rows (count_down x) y → P x → Q y)
+      → (gives : Algorithms) (s : Side) (old new : WorldState) → IsRound gives old new → EachAt (AtPort p P) s old × Severed 1 s p M old
+      → EachAt (AtPort p Q) s new × Severed 1 s p M new
+  cut_round P counted gives s old new h a =
+      let u = unroll gives old new h in
+      let one = ticks gives 1 One u.tick_one.0 old u.one refl u.tick_one.1 in
+      let two = ticks gives 2 Two u.tick_two.0 u.one u.two refl u.tick_two.1 in
+      let first : EachAt (AtPort p Q) s u.two = each_side (λ t. EachAt (AtPort p P) t old → EachAt (AtPort p Q) t u.two) One
+      (λ b. subst (λ (z : SystemState). OfEach (AtPort p Q) z.system_ports) (sym two.peers)
+      (Tick-each (AtPort p P) (AtPort p Q) settles (λ m x y run c e. counted x y run (c e)) (gives One) old.one.state answer.Tick u.one.one.state
+      one.step b))
+      (λ b. Tick-each (AtPort p P) (AtPort p Q) settles (λ m x y run c e. counted x y run (c e)) (gives Two) u.one.two.state answer.Tick
+      u.two.two.state two.step (subst (λ (z : SystemState). OfEach (AtPort p P) z.system_ports) (sym one.peers) b)) s a.0 in
+      let six = ask_all gives (Silent s) (λ n q r i j step m. asked gives s n q r i j step m)
+      (asks_all old.links) u.asked u.two u.six (all_ask old.links) u.asks (first, ticks_severed gives 1 s p M old new u a.1) in
+      deliver_all gives (Silent s) (λ c n r i j step m. delivered gives s c n r i j step m)
+      u.delivers u.replies u.six new u.arrives u.rest six
 
 abbrev Deaf : ℕ → ℕ → ℕ → Machines → Type 0
 Deaf p most = AtPort p (Unheard 1 most)
 
-deaf_ticks : (p most m : ℕ) (x y : Machines) → RunsToRest receive_rows (count_down x) y → Deaf p most m x → Deaf p (most - 1) m y
-deaf_ticks p most m x y h a e =
-    let b = receives 0 (most - 1) (count_down x) y h ((a e).0, counts most x.current_while x.receive (a e).1) in
+deaf_ticks : (most : ℕ) (x y : Machines) → RunsToRest receive_rows (count_down x) y → Unheard 1 most x → Unheard 1 (most - 1) y
+deaf_ticks most x y h a =
+    let b = receives 0 (most - 1) (count_down x) y h (a.0, counts most x.current_while x.receive a.1) in
     (b.0, rested (most - 1) y.current_while y.receive h.2.1.1.1.0 h.2.1.1.1.1.0 b.1)
-
-abbrev Silent : ℕ → ℕ → Side → WorldState → Type 0
-Silent p most s j = EachAt (Deaf p most) s j × CutAt 1 s p j.links
-
-deaf_asked : (gives : Algorithms) (s : Side) (p most n q : ℕ) (r : Reply) (old new : WorldState) → WorldSteps gives old (event.Emit n q) r new
-    → Silent p most s old → Silent p most s new
-deaf_asked gives s p most n q r old new h a = (
-  (let m = emits gives n q r old new h in
-      each_side (λ t. EachAt (Deaf p most) t old → EachAt (Deaf p most) t new) m.0
-      (λ b. Step-each (Deaf p most) (unheard_settles p most 0) (gives m.0) (half m.0 old).state (Transmit q) (answer.Transmit m.2.a)
-      (half m.0 new).state (λ x told c e. c e) m.2.promise.step b)
-      (λ b. subst (λ (z : SystemState). OfEach (Deaf p most) z.system_ports) (sym m.2.peers) b) s a.0),
-  emit_cut gives 1 s p n q r old new h a.1,
-)
-
-deaf_comes : (gives : Algorithms) (s : Side) (p most k : ℕ) (l : LinkState) (old new : WorldState) → slice_get old.links k ≡ Some l
-    → Comes gives s k l old new → Silent p most s old → EachAt (Deaf p most) s new
-deaf_comes gives s p most k l old new there c a =
-    Step-each (Deaf p most) (unheard_settles p most 0) (gives s) (half s old).state (Receive (port_at s l) c.item.octets) (answer.Receive c.a)
-    (half s new).state (λ v x y took does d e. absurd (none_first (towards s l) c.rest c.item ((a.1 k l there e).1 (omega arith)) c.first))
-    c.promise.step a.0
-
-deaf_delivered : (gives : Algorithms) (s : Side) (p most cn n : ℕ) (r : Reply) (old new : WorldState)
-    → WorldSteps gives old (event.Deliver cn n) r new → Silent p most s old → Silent p most s new
-deaf_delivered gives s p most cn n r old new h a = (
-  elim (came_off gives cn n r old new h) [
-    | inl m ↦ elim (one_of_both s m.side) [
-      | inl e ↦ deaf_comes gives s p most m.index m.link old new m.there (subst (λ v. Comes gives v m.index m.link old new) e m.comes) a
-      | inr e ↦ (let same : (half s new).state ≡ (half s old).state =
-          subst (λ t. (half t new).state ≡ (half t old).state) (ap peer e ∙ peer_twice s) m.comes.peers in
-          subst (λ (z : SystemState). OfEach (Deaf p most) z.system_ports) (sym same) a.0)
-    ]
-    | inr m ↦ subst (λ (z : SystemState). OfEach (Deaf p most) z.system_ports) (sym (m.halves s)) a.0
-  ],
-  deliver_cut gives 1 s p cn n r old new h a.1,
-)
-
-deaf_round : (gives : Algorithms) (s : Side) (p most : ℕ) (old new : WorldState) → IsRound gives old new → Silent p most s old
-    → Silent p (most - 1) s new
-deaf_round gives s p most old new h a =
-    let u = unroll gives old new h in
-    let one = ticks gives 1 One u.tick_one.0 old u.one refl u.tick_one.1 in
-    let two = ticks gives 2 Two u.tick_two.0 u.one u.two refl u.tick_two.1 in
-    let P = Deaf p most in
-    let Q = Deaf p (most - 1) in
-    let k = unheard_settles p (most - 1) 0 in
-    let first : EachAt Q s u.two = each_side (λ t. EachAt P t old → EachAt Q t u.two) One
-    (λ b. subst (λ (z : SystemState). OfEach Q z.system_ports) (sym two.peers)
-    (Tick-each P Q k (λ m x y run c. deaf_ticks p most m x y run c) (gives One) old.one.state answer.Tick u.one.one.state one.step b))
-    (λ b. Tick-each P Q k (λ m x y run c. deaf_ticks p most m x y run c) (gives Two) u.one.two.state answer.Tick u.two.two.state two.step
-    (subst (λ (z : SystemState). OfEach P z.system_ports) (sym one.peers) b)) s a.0 in
-    let six = ask_all gives (Silent p (most - 1) s) (λ n q r i j step m. deaf_asked gives s p (most - 1) n q r i j step m)
-    (asks_all old.links) u.asked u.two u.six (all_ask old.links) u.asks (first, subst (CutAt 1 s p) (sym (two.links ∙ one.links)) a.1) in
-    deliver_all gives (Silent p (most - 1) s) (λ c n r i j step m. deaf_delivered gives s p (most - 1) c n r i j step m)
-    u.delivers u.replies u.six new u.arrives u.rest six
 
 -- where it begins
 
@@ -236,22 +385,55 @@ deaf_first s j k z steady there up =
           (when_up z.port.enabled (can_receive_in z.port.receive) up awake) timed.0),
     )
 
-pub cut_off_is_defaulted : (gives : Algorithms) → CutOffIsDefaulted gives
-cut_off_is_defaulted gives n k s x y old new steady there up cut enough h now =
+-- the ports of a system whose links were down
+abbrev pub WereDown : Side → WorldState → ℕ → Type 0
+WereDown s old n = DownAt s n old
+
+-- after its first round nothing is on its cables towards it, and the port counts
+deaf_since : (gives : Algorithms) (n k : ℕ) (s : Side) (x : SystemPort) (old new : WorldState) → IsSteady old
+    → slice_get (half s old).state.system_ports k ≡ Some x → x.port.enabled ≡ true → IsCutOff s x.number old
+    → 931 ≤ n → Rounds gives n old new
+    → EachAt (Deaf x.number (930 - (n - 1))) s new × Severed 1 s x.number (WereDown (peer s) old) new
+deaf_since gives n k s x old new steady there up cut enough h =
     let p = x.number in
+    let M : ℕ → Type 0 = WereDown (peer s) old in
     let parts = splits gives (n - 1) 1 n old new (omega (arith, enough)) h in
     let mid = parts.0 in
     let one = parts.1 in
     let calm = rounds_steady gives 1 old mid steady one in
     let round = subst (λ j. IsRound gives j mid) one.1 one.2 in
-    let still = round_cut gives 0 s p old mid round (λ i l e f. (cut i l e f, λ z. absurd (omega (arith, z)))) in
-    let empty : CutAt 1 s p mid.links = λ i l e f. ((still i l e f).0, λ z. one.2.empties s i l e) in
+    let start : Severed 0 s p M old = (
+      λ i l e f. (
+        elim (cut i l e f) [
+          | inl w ↦ inl w
+          | inr far ↦ inr (all_by_place (λ z. AtPort (port_at (peer s) l) Dead z.number z.port) (half (peer s) old).state.system_ports
+              (λ m z there same. far m z there same))
+        ],
+        λ z. absurd (omega (arith, z)),
+      ),
+      λ m dead. dead,
+    ) in
+    let still = leaves_cut gives 0 s p M old mid round start in
+    let empty : Severed 1 s p M mid = (λ i l e f. ((still.0 i l e f).0, λ z. one.2.empties s i l e), still.1) in
     let alike = rounds_alike gives 1 old mid steady one s k x there in
     let first : EachAt (Deaf p 930) s mid = all_by_place (λ z. Deaf p 930 z.number z.port) (half s mid).state.system_ports
     (λ i z e f. deaf_first s mid i z calm e ((all-get (λ (q : SystemPort). AtPort p (Alike x.port) q.number q.port)
     (half s mid).state.system_ports i z e alike f).1 ∙ up)) in
-    let last = zero_on gives (λ m j. Silent p (930 - m) s j) mid (subst (λ m. Silent p m s mid) (omega arith) (first, empty))
-    (λ m i j q a. subst (λ w. Silent p w s j) (omega arith) (deaf_round gives s p (930 - m) i j q a)) (n - 1) new parts.2 in
+    zero_on gives (λ m j. EachAt (Deaf p (930 - m)) s j × Severed 1 s p M j) mid
+    (subst (λ m. EachAt (Deaf p m) s mid) (omega arith) first, empty)
+    (λ m i j q a. subst (λ w. EachAt (Deaf p w) s j × Severed 1 s p M j) (omega arith)
+    (cut_round p M (Unheard 1 (930 - m - 1)) (unheard_settles p (930 - m - 1) 0) (λ q y. y) (Unheard 1 (930 - m))
+    (λ x y run y0. deaf_ticks (930 - m) x y run y0) gives s i j q a)) (n - 1) new parts.2
+
+pub cut_since : (gives : Algorithms) (n k : ℕ) (s : Side) (x : SystemPort) (old new : WorldState) → IsSteady old
+    → slice_get (half s old).state.system_ports k ≡ Some x → x.port.enabled ≡ true → IsCutOff s x.number old
+    → 931 ≤ n → Rounds gives n old new → Severed 1 s x.number (WereDown (peer s) old) new
+cut_since gives n k s x old new steady there up cut enough h = (deaf_since gives n k s x old new steady there up cut enough h).1
+
+pub cut_off_is_defaulted : (gives : Algorithms) → CutOffIsDefaulted gives
+cut_off_is_defaulted gives n k s x y old new steady there up cut enough h now =
+    let p = x.number in
+    let last = deaf_since gives n k s x old new steady there up cut enough h in
     let numbers = (as_before gives n old new steady h s).numbers in
     let number = same_place (half s old).state.system_ports (half s new).state.system_ports k x y numbers there now in
     let end = all-get (λ (q : SystemPort). Deaf p (930 - (n - 1)) q.number q.port) (half s new).state.system_ports k y now last.0 number in

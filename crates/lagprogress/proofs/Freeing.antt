@@ -14,7 +14,7 @@ use Rattle.lagsystem.specs.Readers.{aggregator_numbered, distributing}
 use Rattle.lagsystem.specs.Settling.{Settling, held_unless_on}
 use Rattle.distributor.specs.Calls.{is_among}
 use Rattle.distributor.specs.Changes.{after_tick, after_mark, after_release, marker_due}
-use Rattle.std.proofs.Common.{◌≡◌, ◌∙◌, ℕ, ◌+◌, ◌-◌, ◌≤◌, ◌<◌, ◌⊎◌, inl, inr, refl, sym, subst, ap, arith, Some, None, Option, true, Bool, false, cond, eqb, ltb, ◌&&◌, List, Ok, Err, Result, length}
+use Rattle.std.proofs.Common.{◌≡◌, ◌∙◌, ℕ, ◌+◌, ◌-◌, ◌≤◌, ◌<◌, ◌⊎◌, inl, inr, refl, sym, subst, ap, arith, Some, None, Option, true, Bool, false, cond, eqb, ltb, ◌&&◌, List, Ok, Err, Result, length, slice_get}
 use Rattle.std.proofs.lemmas.Option.{none-some, same_Some}
 use Rattle.distributor.specs.declared.assignment.Assignment.{Assignment}
 use Rattle.distributor.specs.declared.assignment.Assignment.TheVariants.{Free, On, Wanted, Flushing}
@@ -28,9 +28,9 @@ use Rattle.lagworld.specs.State.{LinkState, WorldState, half, port_at}
 use Rattle.lagprogress.specs.Bundle.{BothAreActive, IsBundle, OneIsActive}
 use Rattle.lagprogress.specs.Freed.{HasIdentifierLeft, NoneIsHeldOn, NoneIsHeldOnActiveEnds, NoneIsHeldOnEnds, held_on, CarriersAreUp, NoneIsHeld, NoneIsHeldWhereActive, NothingIsHeld, carrier_of}
 use Rattle.lagprogress.specs.Rounds.{IsHealthyAt, Rounds, IsRound, asks_all}
-use Rattle.lagprogress.proofs.Bundling.{both_meet, both_wake, ends_at, holds, one_meet, one_wakes, ups, rounds_keep, both_on, zero_none}
-use Rattle.lagprogress.proofs.Climbing.{PartnerInSync}
-use Rattle.lagprogress.proofs.ComingUp.{Brisk, Up, at_end, end_here, splits, told, zero_on}
+use Rattle.lagprogress.proofs.Bundling.{IsMixed, Nowhere, both_meet, both_wake, ends_at, holds_of, mixed, one_meet, one_wakes, rounds_keep, ups_of}
+use Rattle.lagprogress.proofs.Climbing.{PartnerInSync, Ripe}
+use Rattle.lagprogress.proofs.ComingUp.{Up, at_end, end_here, splits, told, zero_on}
 use Rattle.lagprogress.proofs.EndFacts.{activity}
 use Rattle.lagprogress.proofs.Emptying.{rounds_rest}
 use Rattle.lagprogress.proofs.Holding.{Fine, is_port}
@@ -59,40 +59,39 @@ fine_last p m l (Flushing q id preferred age) h e = elim (h (same_Some q p e)) [
     too_old : (m age : ℕ) → 30 ≤ m → m ≤ age → age < 30 → ⊥
     too_old m age a b c = omega (arith, a, b, c)
 
-module _ (Holds : LinkState → WorldState → Type 0) (first : ℕ) (gives : Algorithms) (old : WorldState) (b : IsBundle Holds old)
+module _ (Holds : LinkState → WorldState → Type 0) (Other : Side → ℕ → Type 0) (first : ℕ) (gives : Algorithms) (old : WorldState)
+    (b : IsMixed Holds Other old) (never : (s : Side) (i : ℕ) (l : LinkState) → IsHealthyAt i l old → Other s (port_at s l) → ⊥)
+    (idle : (mid top : WorldState) → Rounds gives first old mid → Rounds gives 20 mid top → (s : Side) (k : ℕ) (z y : SystemPort)
+    → slice_get (half s old).state.system_ports k ≡ Some z → z.port.enabled ≡ true → Other s z.number
+    → slice_get (half s top).state.system_ports k ≡ Some y → Ripe 0 y.port)
     (meets : (i : ℕ) (l : LinkState) (h : IsHealthyAt i l old) → Holds l old → (mid : WorldState) → Rounds gives first old mid
     → Fresh (λ s. port_at s l) (said_by l old (ends_at i l old h)) mid)
     (wakes : (i : ℕ) (l : LinkState) (h : IsHealthyAt i l old) → Holds l old → (s : Side)
     → (activity (said_by l old (ends_at i l old h) s) ≡ true) ⊎ (activity (said_by l old (ends_at i l old h) (peer s)) ≡ true)) where
-  none_yet : 1 ≤ 0 → ⊥
-  none_yet l = omega (arith, l)
-
-  pub freed : (i : ℕ) (l : LinkState) (y : IsHealthyAt i l old) (most : ℕ)
-      → Brisk (λ t. port_at t l) (said_by l old (ends_at i l old y)) (wakes i l y (holds Holds first gives old b meets wakes i l y)) (λ _. 0) 0 most
-      → (n : ℕ) (new : WorldState) (s : Side) → first + 50 + most ≤ n → Rounds gives n old new
-      → HasIdentifierLeft (half s new).state → NoneIsHeldOn (port_at s l) (half s new).state
-  freed i l y most brisk n new s enough h left =
-      let m = first + 20 + most in
+  pub freed_of : (i : ℕ) (l : LinkState) (y : IsHealthyAt i l old) (n : ℕ) (new : WorldState) (s : Side) → first + 61 ≤ n
+      → Rounds gives n old new → HasIdentifierLeft (half s new).state → NoneIsHeldOn (port_at s l) (half s new).state
+  freed_of i l y n new s enough h left =
+      let m = first + 31 in
       let cut = splits gives (n - m) m n old new (omega (arith, enough)) h in
-      from cut.0 (ups Holds first gives old b meets wakes i l y (λ _. 0) 0 most m cut.0 brisk (λ c. absurd (none_yet c)) (omega arith) cut.1) (n - m)
+      from cut.0 (ups_of Holds Other first gives old b never idle meets wakes i l y m cut.0 (omega arith) cut.1) (n - m)
       (omega (arith, enough)) cut.2
     where
       at : Side → ℕ
       at = λ t. port_at t l
 
       from : (j : WorldState)
-          → Up (λ t. port_at t l) (said_by l old (ends_at i l old y)) (wakes i l y (holds Holds first gives old b meets wakes i l y)) (λ _. 0) 0 most j
+          → Up (λ t. port_at t l) (said_by l old (ends_at i l old y)) (wakes i l y (holds_of Holds Other first gives old b never idle meets wakes i l y)) j
           → (k : ℕ) → 30 ≤ k → Rounds gives k j new → NoneIsHeldOn (port_at s l) (half s new).state
       from j up k late rounds =
           let w = said_by l old (ends_at i l old y) in
-          let awake = wakes i l y (holds Holds first gives old b meets wakes i l y) in
+          let awake = wakes i l y (holds_of Holds Other first gives old b never idle meets wakes i l y) in
           let g = up.2.fresh in
           let e = end_here (λ t. port_at t l) w 2 g.known One Nothing j g.link s in
           let c = e.port.port.choice in
           let chosen = (e.is.2 (omega arith)).0 in
           let st = (half s j).state in
           let choice = at_end (λ t. port_at t l) w 2 g.known s j e g.link.steady (λ p. p.choice ≡ c) refl in
-          let heard = (told (λ t. port_at t l) w awake (λ _. 0) 0 most up.0 j up.1 up.2 s).0 in
+          let heard = told (λ t. port_at t l) w awake up.0 j up.1 up.2 s in
           let steady = each_map (λ q p. AtPort (port_at s l) PartnerInSync q p × AtPort (port_at s l) (λ p. p.choice ≡ c) q p)
           (AtPort (port_at s l) (λ p. PartnerInSync p × (p.choice ≡ c))) (λ q p a f. (a.0 f, a.1 f)) st.system_ports
           (each_both (AtPort (port_at s l) PartnerInSync) (AtPort (port_at s l) (λ p. p.choice ≡ c)) st.system_ports heard choice) in
@@ -108,13 +107,13 @@ module _ (Holds : LinkState → WorldState → Type 0) (first : ℕ) (gives : Al
 
 pub none_is_held_on_ends : (gives : Algorithms) → NoneIsHeldOnEnds gives
 none_is_held_on_ends gives n i l old new s b y enough h left =
-    freed OneIsActive 630 gives old b (one_meet gives old b) (one_wakes old) i l y 309 (inr (omega arith)) n new s (omega (arith, enough)) h left
+    freed_of OneIsActive Nowhere 630 gives old (mixed OneIsActive 630 gives old b (one_meet gives old b) (one_wakes old)) (λ s i l h o. o)
+    (λ mid top h more s k z y there up o now. absurd o) (one_meet gives old b) (one_wakes old) i l y n new s (omega (arith, enough)) h left
 
 pub none_is_held_on_active_ends : (gives : Algorithms) → NoneIsHeldOnActiveEnds gives
 none_is_held_on_active_ends gives n i l old new s b y enough h left =
-    freed BothAreActive 321 gives old b (both_meet gives old b) (both_wake old) i l y 11
-    (inl (both_on old i l y (holds BothAreActive 321 gives old b (both_meet gives old b) (both_wake old) i l y), zero_none, omega arith)) n new s
-    (omega (arith, enough)) h left
+    freed_of BothAreActive Nowhere 321 gives old (mixed BothAreActive 321 gives old b (both_meet gives old b) (both_wake old)) (λ s i l h o. o)
+    (λ mid top h more s k z y there up o now. absurd o) (both_meet gives old b) (both_wake old) i l y n new s (omega (arith, enough)) h left
 
 -- what carries a conversation in a round
 

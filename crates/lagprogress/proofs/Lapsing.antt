@@ -174,7 +174,7 @@ lapsed_rows e l = (
 )
 
 -- what the partner's state becomes in EXPIRED
-expired_active : (st : State) → (bits_of (with_timeout true (with_synchronization false st))).activity ≡ (bits_of st).activity
+pub expired_active : (st : State) → (bits_of (with_timeout true (with_synchronization false st))).activity ≡ (bits_of st).activity
 expired_active st =
     ap (λ (b : StateBits). b.activity) (encode_then_decode (record (bits_of (with_synchronization false st)) { timeout = true }))
     ∙ ap (λ (b : StateBits). b.activity) (encode_then_decode (record (bits_of st) { synchronization = false }))
@@ -326,3 +326,10 @@ pub begins_lasting : (u : Lacpdu) (p : Machines) → activity u ≡ true → p.e
     → Recorded u 1 p → Lasting u 309 p
 begins_lasting u p on up rest timed r =
     (omega arith, (sounds_first false p rest timed (slow_calm (Recorded u 1) p (recorded_kept u on) up r), inl r))
+
+-- after a tick it has still recorded its partner as active
+pub lasting_active : (u : Lacpdu) (k : ℕ) (p q : Machines) → activity u ≡ true → p.enabled ≡ true
+    → RunsToRest receive_rows (count_down p) q → AtRest periodic_rows p → Lasting u k p → (bits_of q.partner.state).activity ≡ true
+lasting_active u k p q on up h rest y =
+    (either_kept (Recorded u 1) (λ r. Lapsed 30 r ⊎ Tails r) (recorded_kept u on) (either_kept (Lapsed 30) Tails (lapsed_kept 30) tails_kept)).active q
+    (tick_phase u p q on up h rest y.1.1)

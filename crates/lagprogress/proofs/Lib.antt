@@ -45,3 +45,4 @@ mod LimitLemmas
 mod CutOffLemmas
 mod Played
 mod Reaching
+mod BesideCutOffs

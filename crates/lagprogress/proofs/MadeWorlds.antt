@@ -1,6 +1,6 @@
 -- A world that events lead to from one that was made is a bundle, if its links are up as it wants them.
 use Rattle.lagscript.specs.declared.config.BadWorld.TheVariants.{SameSystem}
-use Rattle.std.proofs.Common.{◌≡◌, ◌∙◌, arith, Bool, true, false, List, [], ◌∷◌, Option, Some, None, ℕ, sym, ap, map, refl}
+use Rattle.std.proofs.Common.{◌≡◌, ◌∙◌, Bool, true, false, List, [], ◌∷◌, Option, Some, None, ℕ, sym, ap, map, refl}
 use Rattle.std.specs.Prelude.{if◌then◌else◌}
 use Rattle.std.proofs.lemmas.Option.{none-some}
 use Rattle.cables.specs.declared.item.Item.{Item}
@@ -18,7 +18,7 @@ use Rattle.lagworld.specs.State.{LinkState, WorldState, half}
 use Rattle.lagprogress.specs.Bundle.{BothAreActive, IsBundle, OneIsActive, ReachedIsApart, ReachedIsBundle, SystemsDiffer}
 use Rattle.lagprogress.specs.Freed.{CarriersAreUp}
 use Rattle.lagprogress.specs.Played.{EachAgrees, EachDistributes, IsReached, IsReady, LeadsTo, NothingStaysHeld}
-use Rattle.lagprogress.specs.Rounds.{Rounds}
+use Rattle.lagprogress.specs.Rounds.{Rounds, freed_if_both_active, freed_if_one_is, up_if_both_active, up_if_one_is}
 use Rattle.lagprogress.proofs.Bundling.{each_active_link_agrees, each_active_link_comes_up, each_link_agrees, each_link_comes_up}
 use Rattle.lagprogress.proofs.Carrying.{each_reached_has_carriers_up}
 use Rattle.lagprogress.proofs.ComingUp.{events_keep}
@@ -80,32 +80,32 @@ module _ {C : Type 0} (items : C → List Item) (limit : C → Option ℕ) where
   carriers gives j r = each_reached_has_carriers_up gives r.config.systems r.events r.replies r.start j r.starts r.made.systems r.runs
 
   pub active_distribute : (gives : Algorithms) (n : ℕ) (old new : WorldState) → Rounds gives n old new
-      → LeadsTo items limit EachDistributes BothAreActive 352 gives n old new
+      → LeadsTo items limit EachDistributes BothAreActive up_if_both_active gives n old new
   active_distribute gives n old new h r ready enough i l healthy =
       each_active_link_comes_up gives n i l old new (is_bundle BothAreActive gives old r ready).1 healthy enough h
 
   pub active_agree : (gives : Algorithms) (n : ℕ) (old new : WorldState) → Rounds gives n old new
-      → LeadsTo items limit EachAgrees BothAreActive 650 gives n old new
+      → LeadsTo items limit EachAgrees BothAreActive up_if_both_active gives n old new
   active_agree gives n old new h r ready enough i l healthy =
       let both = is_bundle BothAreActive gives old r ready in
       each_active_link_agrees gives n i l old new both.0 both.1 healthy enough h
 
   pub active_free : (gives : Algorithms) (n : ℕ) (old new : WorldState) → Rounds gives n old new
-      → LeadsTo items limit NothingStaysHeld BothAreActive 382 gives n old new
+      → LeadsTo items limit NothingStaysHeld BothAreActive freed_if_both_active gives n old new
   active_free gives n old new h r ready enough s left =
       none_is_held_where_active gives n old new s (is_bundle BothAreActive gives old r ready).1 (carriers gives old r s) enough h left
 
   pub one_distributes : (gives : Algorithms) (n : ℕ) (old new : WorldState) → Rounds gives n old new
-      → LeadsTo items limit EachDistributes OneIsActive 959 gives n old new
+      → LeadsTo items limit EachDistributes OneIsActive up_if_one_is gives n old new
   one_distributes gives n old new h r ready enough i l healthy =
       each_link_comes_up gives n i l old new (is_bundle OneIsActive gives old r ready).1 healthy enough h
 
   pub one_agrees : (gives : Algorithms) (n : ℕ) (old new : WorldState) → Rounds gives n old new
-      → LeadsTo items limit EachAgrees OneIsActive 959 gives n old new
+      → LeadsTo items limit EachAgrees OneIsActive up_if_one_is gives n old new
   one_agrees gives n old new h r ready enough i l healthy =
       let both = is_bundle OneIsActive gives old r ready in each_link_agrees gives n i l old new both.0 both.1 healthy enough h
 
   pub one_frees : (gives : Algorithms) (n : ℕ) (old new : WorldState) → Rounds gives n old new
-      → LeadsTo items limit NothingStaysHeld OneIsActive 989 gives n old new
+      → LeadsTo items limit NothingStaysHeld OneIsActive freed_if_one_is gives n old new
   one_frees gives n old new h r ready enough s left =
       nothing_is_held gives n old new s (is_bundle OneIsActive gives old r ready).1 (carriers gives old r s) enough h left

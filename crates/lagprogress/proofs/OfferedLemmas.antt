@@ -26,10 +26,10 @@ use Rattle.lagprogress.specs.Arriving.{GetsPort, TakesFrame}
 use Rattle.lagprogress.specs.Bundle.{BothAreActive, IsBundle, OneIsActive}
 use Rattle.lagprogress.specs.Rounds.{IsHealthyAt, IsRound, NothingInFlight, Rounds}
 use Rattle.lagprogress.proofs.ArrivingLemmas.{is_data, offer_gets_port}
-use Rattle.lagprogress.proofs.Bundling.{all_by_place, as_before, both_meet, both_wake, ends_at, holds, old_port, one_meet, one_wakes, ups, both_on, zero_none}
+use Rattle.lagprogress.proofs.Bundling.{all_by_place, as_before, both_meet, both_wake, ends_at, holds, old_port, one_meet, one_wakes, ups}
 use Rattle.lagprogress.proofs.Carrying.{Lapses, LapsesAt, distributes_up, lapse_first, lapse_kept, lapse_settles, receive_lapses}
 use Rattle.lagprogress.proofs.Climbing.{PartnerInSync}
-use Rattle.lagprogress.proofs.ComingUp.{told, zero_on, Brisk}
+use Rattle.lagprogress.proofs.ComingUp.{told, zero_on}
 use Rattle.lagprogress.proofs.EachPort.{OfEach, Step-each, first_each}
 use Rattle.lagprogress.proofs.EachRound.{EachAt, RoundKeeps, round_each, rounds_join, rounds_steady, same_index}
 use Rattle.lagprogress.proofs.EndFacts.{activity}
@@ -140,17 +140,12 @@ module _ (Holds : LinkState → WorldState → Type 0) (first : ℕ) (gives : Al
       let it = b.heard s up.0 x.0 x.1 (sym (like.alike up.0 x.0 up.1 x.1 up.2).1 ∙ up.4) in
       record { index = it.index; link = it.link; healthy = it.healthy; joins = it.joins ∙ (sym x.2 ∙ up.3) }
 
-  none_yet : 1 ≤ 0 → ⊥
-  none_yet l = omega (arith, l)
-
-  pub frame_arrives : (most n number : ℕ) (s : Side) (agg : AggId) (octets : Vec ℕ) (r : Reply) (mid sent new : WorldState)
-      → ((i : ℕ) (l : LinkState) (y : IsHealthyAt i l old)
-      → Brisk (λ t. port_at t l) (said_by l old (ends_at i l old y)) (wakes i l y (holds Holds first gives old b meets wakes i l y)) (λ _. 0) 0 most)
-      → DisabledAreUnsynchronized (half s old).state → 1 ≤ n → first + 20 + most ≤ n → Rounds gives n old mid
+  pub frame_arrives : (n number : ℕ) (s : Side) (agg : AggId) (octets : Vec ℕ) (r : Reply) (mid sent new : WorldState)
+      → DisabledAreUnsynchronized (half s old).state → 1 ≤ n → first + 31 ≤ n → Rounds gives n old mid
       → side_of number ≡ Some s → TakesFrame agg octets.items (half s mid).state
       → WorldSteps gives mid (event.Offer number agg octets) r sent → (q : IsRound gives sent new)
       → Arrives gives s agg octets.items mid r sent new q
-  frame_arrives most n number s agg octets r mid sent new brisk quiet some enough h named takes step q =
+  frame_arrives n number s agg octets r mid sent new quiet some enough h named takes step q =
       let now = rounds_steady gives n old mid b.steady h in
       let g = offer_gets_port gives number s agg octets r mid sent named (now s).0 takes step in
       let it = carrier n s agg octets.items r mid sent quiet h g in
@@ -160,9 +155,9 @@ module _ (Holds : LinkState → WorldState → Type 0) (first : ℕ) (gives : Al
       let at : Side → ℕ = λ t. port_at t l in
       let w = said_by l old (ends_at i l old y) in
       let awake = wakes i l y (holds Holds first gives old b meets wakes i l y) in
-      let top = ups Holds first gives old b meets wakes i l y (λ _. 0) 0 most n mid (brisk i l y) (λ c. absurd (none_yet c)) enough h in
+      let top = ups Holds first gives old b meets wakes i l y n mid enough h in
       let fresh = top.2.fresh in
-      let heard = (told at w awake (λ _. 0) 0 most top.0 mid top.1 top.2 (peer s)).0 in
+      let heard = told at w awake top.0 mid top.1 top.2 (peer s) in
       let start = join 2 at w fresh.known One (peer s) PartnerInSync mid fresh.link heard in
       let plain = subst (λ o. IsFrame o Data_frame) (sym g.frame) (is_data octets.items takes.may.1) in
       let o = offer_link gives number s 2 at w fresh.known (peer s) PartnerInSync agg octets r mid sent g (sym it.joins) plain step start in
@@ -193,11 +188,10 @@ module _ (Holds : LinkState → WorldState → Type 0) (first : ℕ) (gives : Al
 
 pub each_frame_arrives : (gives : Algorithms) → EachFrameArrives gives
 each_frame_arrives gives n number s agg octets r old mid sent new b quiet enough h named takes step q =
-    frame_arrives OneIsActive 630 gives old b (one_meet gives old b) (one_wakes old) 309 n number s agg octets r mid sent new
-    (λ i l y. inr (omega arith)) quiet (omega (arith, enough)) (omega (arith, enough)) h named takes step q
+    frame_arrives OneIsActive 630 gives old b (one_meet gives old b) (one_wakes old) n number s agg octets r mid sent new
+    quiet (omega (arith, enough)) (omega (arith, enough)) h named takes step q
 
 pub each_active_frame_arrives : (gives : Algorithms) → EachActiveFrameArrives gives
 each_active_frame_arrives gives n number s agg octets r old mid sent new b quiet enough h named takes step q =
-    frame_arrives BothAreActive 321 gives old b (both_meet gives old b) (both_wake old) 11 n number s agg octets r mid sent new
-    (λ i l y. inl (both_on old i l y (holds BothAreActive 321 gives old b (both_meet gives old b) (both_wake old) i l y), zero_none, omega arith))
+    frame_arrives BothAreActive 321 gives old b (both_meet gives old b) (both_wake old) n number s agg octets r mid sent new
     quiet (omega (arith, enough)) (omega (arith, enough)) h named takes step q

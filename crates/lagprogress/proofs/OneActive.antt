@@ -1,22 +1,35 @@
 -- How the ends of a cable come to know each other if one of them is active.
 use Rattle.lagprogress.specs.Bundle.{EndsOfEachKnow}
-use Rattle.std.proofs.Common.{◌≡◌, ◌∙◌, ℕ, ◌+◌, ◌-◌, ◌≤◌, true, false, ◌⊎◌, inl, inr, refl, sym, subst, arith, zero}
+use Rattle.std.proofs.Common.{◌≡◌, ◌∙◌, ℕ, ◌+◌, ◌-◌, ◌<◌, ◌≤◌, true, false, ◌⊎◌, inl, inr, refl, sym, subst, ap, arith, zero, suc}
+use Rattle.std.proofs.Common.{List, [], ◌∷◌, Some}
+use Rattle.std.specs.Prelude.{option_map, slice_get}
+use Rattle.std.proofs.lemmas.Option.{none-some, same_Some}
+use Rattle.lagtypes.specs.declared.party.Party.{Party}
+use Rattle.lagmodel.proofs.Uses.{find_at}
+use Rattle.lagsystem.specs.declared.system_ports.SystemPort.{SystemPort}
+use Rattle.lagsystem.specs.ModelView.{model_port_of, number_of_port}
+use Rattle.lagsystem.specs.Sound.{IsSound}
+use Rattle.lagsystem.specs.State.{SystemState, port_numbers}
+use Rattle.lagsystem.proofs.Rising.{Rises, are_numbered, ports_rise}
 use Rattle.std.proofs.lemmas.Bool.{cases_Bool}
 use Rattle.slowpdu.specs.declared.pdu.Lacpdu.{Lacpdu}
 use Rattle.lagmodel.specs.World.{Side, One, peer}
 use Rattle.lagworld.specs.Events.{Algorithms}
-use Rattle.lagworld.specs.State.{WorldState, half, port_at}
+use Rattle.lagworld.specs.State.{LinkState, WorldState, half, port_at}
 use Rattle.lagprogress.specs.Progress.{EndsComeToKnow}
+use Rattle.lagprogress.specs.Steady.{IsSteady}
 use Rattle.lagprogress.specs.Rounds.{IsRound, NothingInFlight, OfPort, Rounds}
+use Rattle.lagprogress.proofs.Claims.{IsNamed}
 use Rattle.lagprogress.proofs.EndFacts.{Learnt, activity, short_timeout}
 use Rattle.lagprogress.proofs.Hearing.{no}
-use Rattle.lagprogress.proofs.Lapsing.{Lapsed, Lasting, Phase, Tails, begins_lasting, lasting_passes, some_wait}
+use Rattle.lagprogress.proofs.Lapsing.{Lapsed, Lasting, Phase, Tails, begins_lasting, lasting_active, lasting_passes, some_wait}
 use Rattle.lagprogress.proofs.Linked.{Link, each_side, peer_twice}
-use Rattle.lagprogress.proofs.OneRound.{Nothing, at_rest, end_port, round_nears, round_passes, ticked, forget}
+use Rattle.lagprogress.proofs.OneRound.{Nothing, at_rest, end_port, round_nears, round_passes, ticked}
 use Rattle.lagprogress.proofs.Progressing.{Answers, Calls, Comes, Ends, Fresh, Linked, along_rounds, answered, answers, called, came, comes, comes_first, only_cabling, only_cable, beside}
 use Rattle.lagprogress.proofs.Progressing.{end_of, first_round, fits_first, fresh_knows, hears, lower, machines_there, meets_short, mode, own_says}
 use Rattle.lagprogress.proofs.Progressing.{room_short, said_by, starts, stays_fresh, wait}
 use Rattle.lagprogress.proofs.Sounding.{Sounds, silence_of}
+use Rattle.lagprogress.proofs.Stamps.{present_heard}
 use Rattle.lagprogress.proofs.Telling.{told_heard}
 
 module _ (at : Side → ℕ) (w : Side → Lacpdu) where
@@ -29,6 +42,7 @@ module _ (at : Side → ℕ) (w : Side → Lacpdu) where
   Slowly s n j = Calls at w (peer s) n j ⊎ (Lasts s n j ⊎ (Answers at w s 619 n j ⊎ Fresh at w j))
 
   module _ (s : Side) (active : activity (w (peer s)) ≡ true)
+      (named : IsNamed (w (peer s)))
       (room : silence_of (mode at w s) + silence_of (mode at w (peer s)) + 2 ≤ wait at w (peer s)) where
     awake : (u : Side) → (activity (w u) ≡ true) ⊎ (activity (w (peer u)) ≡ true)
     awake = each_side (λ u. (activity (w u) ≡ true) ⊎ (activity (w (peer u)) ≡ true)) s (inr active) (inl active)
@@ -81,27 +95,29 @@ module _ (at : Side → ℕ) (w : Side → Lacpdu) where
                 lower at w 1 (ticked (λ _. 0)) (λ _. 0) s (Lasting u (k - 1)) new (λ _. omega arith) q,
                 h.empties,
               )))
-          | inr q ↦ inr (inr (inl (hears at w s awake room 619 (n + 1) new (omega (arith, soon, some)) q
-              (λ on. told_heard gives 1 at w (λ _. 0) s false old new (omega arith) (fits_first at w (ticked (λ _. 0)) (λ t. omega arith))
-              (inl on, λ e. absurd (no e)) (forget 1 at w (λ _. 0) s One (Lasting u k) old link) none h
-              (beside at w 1 (ticked (λ _. 0)) (peer s) (Learnt 1 (w (peer (peer s))) (wait at w (peer s))) new q)) h.empties)))
+          | inr q ↦ inr (inr (inl (hears at w s awake (inr named) room 619 (n + 1) new (omega (arith, soon, some)) q
+              (told_heard gives 1 at w (λ _. 0) s (Lasting u k) old new (omega arith) (fits_first at w (ticked (λ _. 0)) (λ t. omega arith))
+              (λ p q run rest a y. inr (active, λ same. lasting_active u k p q active a.1.0 run rest y)) link none h
+              (beside at w 1 (ticked (λ _. 0)) (peer s) (Learnt 1 (w (peer (peer s))) (wait at w (peer s))) new q))
+              (present_heard at old new gives 1 w (λ _. 0) s (Lasting u k) link none h (peer s) 1 (ticked (λ _. 0)) q) h.empties)))
         ]
 
     slowly : (gives : Algorithms) (n : ℕ) (old new : WorldState) → IsRound gives old new → Slowly s n old → Slowly s (n + 1) new
     slowly gives n old new h (inl c) = calls gives n old new h c
     slowly gives n old new h (inr (inl l)) = lasts gives n old new h l
-    slowly gives n old new h (inr (inr (inl a))) = inr (inr (answers at w s awake room gives 619 n old new h a))
+    slowly gives n old new h (inr (inr (inl a))) = inr (inr (answers at w s awake (inr named) room gives 619 n old new h a))
     slowly gives n old new h (inr (inr (inr f))) = inr (inr (inr (stays_fresh at w awake gives 1 old new (omega arith) h f)))
 
     ended : (n : ℕ) (j : WorldState) → 619 + silence_of (mode at w (peer s)) ≤ n → Slowly s n j → Fresh at w j
     ended n j l (inl c) = let k = c.1 in let m = c.2 in absurd (omega (arith, l, k, m))
     ended n j l (inr (inl (k, some, soon, link, none))) = absurd (omega (arith, l, some, soon))
-    ended n j l (inr (inr (inl a))) = answered at w s awake room 619 n j l a
+    ended n j l (inr (inr (inl a))) = answered at w s awake (inr named) room 619 n j l a
     ended n j l (inr (inr (inr f))) = f
 
 pub one_meets : (gives : Algorithms) (at : Side → ℕ) (w : Side → Lacpdu) (s : Side) (n : ℕ) (old new : WorldState)
-    → activity (w s) ≡ true → 630 ≤ n → Link 0 at w (λ _. 0) One Nothing old → Rounds gives n old new → Fresh at w new
-one_meets gives at w s n old new active enough l h = elim (cases_Bool (short_timeout (w s))) [
+    → ((t : Side) → IsNamed (w t)) → activity (w s) ≡ true → 630 ≤ n → Link 0 at w (λ _. 0) One Nothing old → Rounds gives n old new
+    → Fresh at w new
+one_meets gives at w s n old new named active enough l h = elim (cases_Bool (short_timeout (w s))) [
   | inl short ↦ meets_short gives at w s n old new active short (omega (arith, enough)) l h
   | inr long ↦ elim (cases_Bool (short_timeout (w (peer s)))) [
     | inl short ↦ other (peer s) short (subst (λ t. activity (w t) ≡ true) (sym (peer_twice s)) active)
@@ -119,10 +135,32 @@ one_meets gives at w s n old new active enough l h = elim (cases_Bool (short_tim
     other u short on =
         let quick : mode at w (peer u) ≡ true = subst (λ t. short_timeout (w t) ≡ true) (sym (peer_twice u)) short in
         let room = subst (λ b. silence_of (mode at w u) + silence_of b + 2 ≤ wait at w (peer u)) (sym quick) (room_short (mode at w u)) in
-        ended at w u on room n new (subst (λ b. 619 + silence_of b ≤ n) (sym quick) enough)
+        ended at w u on (named (peer u)) room n new (subst (λ b. 619 + silence_of b ≤ n) (sym quick) enough)
         (along_rounds gives (λ m j. Slowly at w u m j) old
         (λ j r. inl (called at w (peer u) on j (first_round gives at w old j l r) r.empties))
-        (λ m i j r c. slowly at w u on room gives m i j r c) n new (omega (arith, enough)) h)
+        (λ m i j r c. slowly at w u on (named (peer u)) room gives m i j r c) n new (omega (arith, enough)) h)
+
+-- an end names itself by a port number that the default partner has not
+
+risen : (low : ℕ) (ports : List SystemPort) (k : ℕ) (x : SystemPort) → Rises low (port_numbers ports) → slice_get ports k ≡ Some x
+    → low < x.number
+risen low [] k x r e = absurd (none-some x e)
+risen low (y ∷ ys) zero x r e = subst (λ (z : SystemPort). low < z.number) (same_Some y x e) r.0
+risen low (y ∷ ys) (suc k) x r e = let l = risen y.number ys k x r.1 e in let m = r.0 in omega (arith, l, m)
+
+own_number : (s : SystemState) (k : ℕ) (x : SystemPort) → IsSound s → slice_get s.system_ports k ≡ Some x → x.port.party.port.number ≡ x.number
+own_number s k x h there =
+    let found = find_at number_of_port s.system_ports k x (are_numbered 0 s.system_ports (ports_rise s h.ports)) there in
+    h.members.number x.number (model_port_of x) (ap (option_map model_port_of) found)
+
+pub named_at : (l : LinkState) (j : WorldState) (e : Ends l j) → IsSteady j → (t : Side) → IsNamed (said_by l j e t)
+named_at l j e steady t same =
+    let st = (half t j).state in
+    let x = (e t).1 in
+    let some : 0 < x.number = risen 0 st.system_ports (e t).0 x (ports_rise st (steady t).0.ports) (e t).3 in
+    let none : 0 ≡ x.number = ap (λ (p : Party). p.port.number) (same ∙ sym (own_says x.port).0)
+    ∙ own_number st (e t).0 x (steady t).0 (e t).3 in
+    absurd (omega (arith, some, none))
 
 pub ends_of_each_know : (gives : Algorithms) → EndsOfEachKnow gives
 ends_of_each_know gives n i l old new cabling steady healthy (a, active) enough rounds =
@@ -130,7 +168,7 @@ ends_of_each_know gives n i l old new cabling steady healthy (a, active) enough 
     let w = said_by l old e in
     let awake : activity (w a) ≡ true = sym (own_says (e a).1.port).1
     ∙ subst (OfPort (λ p. p.active ≡ true)) (machines_there (port_at a l) (half a old).state (e a).0 (e a).1 (e a).2 (e a).3) active in
-    fresh_knows l w new (one_meets gives (λ s. port_at s l) w a n old new awake enough (starts i l old e steady cabling healthy) rounds)
+    fresh_knows l w new (one_meets gives (λ s. port_at s l) w a n old new (named_at l old e steady) awake enough (starts i l old e steady cabling healthy) rounds)
 
 pub ends_know : (gives : Algorithms) → EndsComeToKnow gives
 ends_know gives n l old new a steady healthy active enough rounds =

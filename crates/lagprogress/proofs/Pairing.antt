@@ -17,26 +17,25 @@ use Rattle.lagworld.specs.Agreement.{agreement_at}
 use Rattle.lagworld.specs.Events.{Algorithms}
 use Rattle.lagworld.specs.ModelWorld.{link_ends, world_setup}
 use Rattle.lagworld.specs.Sound.{IsSound as IsWorldSound}
-use Rattle.lagworld.specs.State.{LinkState, WorldState, change_count_in, half, history_at, port_at, towards}
+use Rattle.lagworld.specs.State.{LinkState, WorldState, half, history_at, port_at, towards}
 use Rattle.lagworld.proofs.Cables.{end_is}
 use Rattle.lagprogress.specs.Bundle.{ActiveSelectedPairsAgree, ActiveSelectedPairsComeUp, AllHeard, BothAreActive, OneIsActive, SelectedPairsAgree, SelectedPairsComeUp}
 use Rattle.lagprogress.specs.ComingUp.{Distributes}
 use Rattle.lagprogress.specs.Rounds.{AtEnd, IsHealthyAt, IsRound, OfPort, Rounds}
 use Rattle.lagprogress.specs.Steady.{IsSteady}
 use Rattle.lagprogress.specs.Timers.{IsTimed}
-use Rattle.lagprogress.proofs.Bundling.{all_by_place, as_before, both_on, both_wake, ends_at, old_port, one_wakes, rounds_alike, rounds_keep, zero_none}
+use Rattle.lagprogress.proofs.Bundling.{all_by_place, as_before, both_wake, ends_at, old_port, one_wakes, rounds_alike, rounds_keep}
 use Rattle.lagprogress.proofs.Choosing.{Chose}
 use Rattle.lagprogress.proofs.Climbing.{Down, Ripe, Rising, climbed, down_settles, down_takes, down_ticks, rising_along, rising_first, ticks_rising}
-use Rattle.lagprogress.proofs.ComingUp.{Brisk, Up, active_at, agrees_now, at_end, comes_up, end_here, end_with, splits, up_now, zero_on}
+use Rattle.lagprogress.proofs.ComingUp.{Up, active_at, agrees_now, at_end, comes_up, end_here, end_with, splits, rounds_kept, up_now, zero_on}
 use Rattle.lagprogress.proofs.EachRound.{EachAt, RoundKeeps, round_each, rounds_join, rounds_steady, same_index}
 use Rattle.lagprogress.proofs.EndFacts.{Synced, activity}
 use Rattle.lagprogress.proofs.Frozen.{AllChose, AllFresh, Stands, choice_rounds, on_cable}
 use Rattle.lagprogress.proofs.Hearing.{no}
-use Rattle.lagprogress.proofs.OneActive.{one_meets}
+use Rattle.lagprogress.proofs.OneActive.{named_at, one_meets}
 use Rattle.lagprogress.proofs.OnePort.{AtPort, at_number}
 use Rattle.lagprogress.proofs.OneRound.{Nothing, join, round_holds, ticked}
 use Rattle.lagprogress.proofs.Progressing.{AtIt, Fresh, FreshAt, active_meet, beside, fits_fresh, healthy_cable, knows_peer, said_by, starts, stays_fresh}
-use Rattle.lagprogress.proofs.Stamps.{Stamped, stamped_round}
 
 -- one end climbs
 
@@ -194,61 +193,43 @@ module _ (Holds : LinkState → WorldState → Type 0) (first : ℕ) (gives : Al
         at_end at w 1 g.known s top e d.1.steady Synced
         (climbed (half s top).state e.index e.port (d.1.steady s).0 e.there (ripe top more s) (end_with at w 1 g.known s top e (Rising 0) a))
 
-  ups : (i : ℕ) (l : LinkState) (y : IsHealthyAt i l old) (k : Side → ℕ) (c most n : ℕ) (new : WorldState)
-      → Brisk (λ s. port_at s l) (said_by l old (ends_at i l old y)) (wake i l y) k c most
-      → (1 ≤ c → Stamped 0 (λ s. port_at s l) k old) → first + 20 + most ≤ n → Rounds gives n old new
+  ups : (i : ℕ) (l : LinkState) (y : IsHealthyAt i l old) (n : ℕ) (new : WorldState) → first + 31 ≤ n → Rounds gives n old new
       → ((s : Side) → AtEnd (λ p. selected p ≡ true) s l new)
-      → Up (λ s. port_at s l) (said_by l old (ends_at i l old y)) (wake i l y) k c most new
-  ups i l y k c most n new brisk st enough h sel =
+      → Up (λ s. port_at s l) (said_by l old (ends_at i l old y)) (wake i l y) new
+  ups i l y n new enough h sel =
       let at : Side → ℕ = λ s. port_at s l in
       let w = said_by l old (ends_at i l old y) in
       let m = n - first in
       let cut = splits gives m first n old new (omega (arith, enough)) h in
       let up = splits gives (m - 20) 20 m cut.0 new (omega (arith, enough)) cut.2 in
-      comes_up at w (wake i l y) k c most gives (m - 20) cut.0 up.0 new (fresh cut.0 cut.1 i l y)
-      (λ s. was_chosen cut.0 cut.1 i l y m new cut.2 s (sel s)) (ready cut.0 cut.1 up.0 up.1 i l y)
-      (λ j. zero_on gives (λ m j. Stamped 0 at k j) old (st j) (λ m i j q z. stamped_round gives 0 at k i j z q) first cut.0 cut.1)
-      brisk (omega (arith, enough)) up.1 up.2
+      comes_up at w (wake i l y) gives (m - 20) cut.0 up.0 new (fresh cut.0 cut.1 i l y)
+      (λ s. was_chosen cut.0 cut.1 i l y m new cut.2 s (sel s)) (ready cut.0 cut.1 up.0 up.1 i l y) (omega (arith, enough)) up.1 up.2
 
-  none_yet : 1 ≤ 0 → ⊥
-  none_yet l = omega (arith, l)
+  pub pairs_distribute : (i : ℕ) (l : LinkState) (y : IsHealthyAt i l old) (n : ℕ) (new : WorldState) → first + 31 ≤ n → Rounds gives n old new
+      → ((s : Side) → AtEnd (λ p. selected p ≡ true) s l new)
+      → (s : Side) → AtEnd Distributes s l new
+  pairs_distribute i l y n new enough h sel =
+      let up = ups i l y n new enough h sel in
+      up_now (λ s. port_at s l) (said_by l old (ends_at i l old y)) (wake i l y) up.0 new up.1 up.2
 
-  pub pairs_distribute : (i : ℕ) (l : LinkState) (y : IsHealthyAt i l old) (most : ℕ)
-      → Brisk (λ s. port_at s l) (said_by l old (ends_at i l old y)) (wake i l y) (λ _. 0) 0 most → (n : ℕ) (new : WorldState) → first + 20 + most ≤ n → Rounds gives n old new
-      → ((s : Side) → AtEnd (λ p. selected p ≡ true) s l new) → (s : Side) → AtEnd Distributes s l new
-  pairs_distribute i l y most brisk n new enough h sel =
-      let up = ups i l y (λ _. 0) 0 most n new brisk (λ c. absurd (none_yet c)) enough h sel in
-      up_now (λ s. port_at s l) (said_by l old (ends_at i l old y)) (wake i l y) (λ _. 0) 0 most up.0 new up.1 up.2
-
-  pub pairs_agree : IsWorldSound old → (i : ℕ) (l : LinkState) (y : IsHealthyAt i l old) (most : ℕ)
-      → ((k : Side → ℕ) → Brisk (λ s. port_at s l) (said_by l old (ends_at i l old y)) (wake i l y) k 1 most) → (n : ℕ) (new : WorldState) → first + 20 + most ≤ n
-      → Rounds gives n old new → ((s : Side) → AtEnd (λ p. selected p ≡ true) s l new) → agreement_at new (suc i) ≡ Some Same
-  pairs_agree sound i l y most brisk n new enough h sel =
-      let at : Side → ℕ = λ s. port_at s l in
-      let w = said_by l old (ends_at i l old y) in
-      let k : Side → ℕ = λ s. change_count_in (history_at (half s old).histories (port_at s l)) in
-      agrees_now at w (wake i l y) k most i new (λ x fl c. same_index i x l fl old new y.there (rounds_join gives n old new h) c)
-      (ups i l y k 1 most n new (brisk k) (λ _. stamped) enough h sel)
+  pub pairs_agree : IsWorldSound old → (i : ℕ) (l : LinkState) (y : IsHealthyAt i l old) (n : ℕ) (new : WorldState) → first + 31 ≤ n
+      → Rounds gives n old new
+      → ((s : Side) → AtEnd (λ p. selected p ≡ true) s l new) → agreement_at new (suc i) ≡ Some Same
+  pairs_agree sound i l y n new enough h sel =
+      agrees_now (λ s. port_at s l) (said_by l old (ends_at i l old y)) (wake i l y) i new
+      (λ x fl c. same_index i x l fl old new y.there (rounds_join gives n old new h) c)
+      (λ s. rounds_kept gives n i (λ t. port_at t l) (λ t. towards t l) old new (healthy_cable i l old cabling y) h s
+      ∙ some_is (history_at (half s old).histories (port_at s l)) (sound.ends s i l y.there)) (ups i l y n new enough h sel)
     where
       some_is : {X : Type 0} (o : Option X) → IsSome o → is_some o ≡ true
       some_is None h = absurd (let e = h in cc)
       some_is (Some x) h = refl
 
-      stamped : Stamped 0 (λ s. port_at s l) (λ s. change_count_in (history_at (half s old).histories (port_at s l))) old
-      stamped = record {
-        flying = λ s. towards s l;
-        index = i;
-        links = healthy_cable i l old cabling y;
-        counts = λ s. refl;
-        there = λ s. some_is (history_at (half s old).histories (port_at s l)) (sound.ends s i l y.there);
-        items = λ j. absurd (omega (arith, j));
-      }
-
 one_meet : (gives : Algorithms) (old : WorldState) → IsCabling (world_setup old).cables → IsSteady old → (i : ℕ) (l : LinkState)
     (h : IsHealthyAt i l old) → OneIsActive l old → (mid : WorldState) → Rounds gives 630 old mid
     → Fresh (λ s. port_at s l) (said_by l old (ends_at i l old h)) mid
 one_meet gives old cabling steady i l h a mid r = one_meets gives (λ s. port_at s l) (said_by l old (ends_at i l old h)) a.0 630 old mid
-    (active_at l old (ends_at i l old h) a.0 a.1) (omega arith) (starts i l old (ends_at i l old h) steady cabling h) r
+    (named_at l old (ends_at i l old h) steady) (active_at l old (ends_at i l old h) a.0 a.1) (omega arith) (starts i l old (ends_at i l old h) steady cabling h) r
 
 both_meet : (gives : Algorithms) (old : WorldState) → IsCabling (world_setup old).cables → IsSteady old → (i : ℕ) (l : LinkState)
     (h : IsHealthyAt i l old) → BothAreActive l old → (mid : WorldState) → Rounds gives 321 old mid
@@ -258,21 +239,16 @@ both_meet gives old cabling steady i l h a mid r = active_meet gives (λ s. port
 
 pub selected_pairs_come_up : (gives : Algorithms) → SelectedPairsComeUp gives
 selected_pairs_come_up gives n i l old new cabling steady heard y enough h sel = pairs_distribute OneIsActive 630 gives old cabling steady heard
-    (one_meet gives old cabling steady) (one_wakes old) i l y 309 (inr (omega arith)) n new (omega (arith, enough)) h sel
+    (one_meet gives old cabling steady) (one_wakes old) i l y n new (omega (arith, enough)) h sel
 
 pub active_selected_pairs_come_up : (gives : Algorithms) → ActiveSelectedPairsComeUp gives
 active_selected_pairs_come_up gives n i l old new cabling steady heard y enough h sel = pairs_distribute BothAreActive 321 gives old cabling
-    steady heard (both_meet gives old cabling steady) (both_wake old) i l y 11
-    (inl (
-      both_on old i l y (holds BothAreActive 321 gives old cabling steady heard (both_meet gives old cabling steady) (both_wake old) i l y),
-      zero_none,
-      omega arith,
-    )) n new (omega (arith, enough)) h sel
+    steady heard (both_meet gives old cabling steady) (both_wake old) i l y n new (omega (arith, enough)) h sel
 
 pub selected_pairs_agree : (gives : Algorithms) → SelectedPairsAgree gives
 selected_pairs_agree gives n i l old new sound steady heard y enough h sel = pairs_agree OneIsActive 630 gives old sound.cabling steady heard
-    (one_meet gives old sound.cabling steady) (one_wakes old) sound i l y 309 (λ k. inr (omega arith)) n new (omega (arith, enough)) h sel
+    (one_meet gives old sound.cabling steady) (one_wakes old) sound i l y n new (omega (arith, enough)) h sel
 
 pub active_selected_pairs_agree : (gives : Algorithms) → ActiveSelectedPairsAgree gives
 active_selected_pairs_agree gives n i l old new sound steady heard y enough h sel = pairs_agree BothAreActive 321 gives old sound.cabling steady
-    heard (both_meet gives old sound.cabling steady) (both_wake old) sound i l y 309 (λ k. inr (omega arith)) n new (omega (arith, enough)) h sel
+    heard (both_meet gives old sound.cabling steady) (both_wake old) sound i l y n new (omega (arith, enough)) h sel

@@ -11,7 +11,10 @@ use Rattle.slowpdu.specs.declared.pdu.Lacpdu.{Lacpdu}
 use Rattle.portmachines.specs.declared.mux.MuxState.TheVariants.{CollectingDistributing}
 use Rattle.portmachines.specs.Machines.{Machines}
 use Rattle.portmachines.specs.Mux.{is_synchronized, same_mux_state}
-use Rattle.portmachines.specs.Transmit.{actor_of, pdu_of}
+use Rattle.portmachines.specs.Transmit.{actor_of, count_down, pdu_of}
+use Rattle.portmachines.specs.Periodic.{periodic_rows}
+use Rattle.portmachines.specs.Receive.{receive_rows}
+use Rattle.portmachines.specs.Rows.{AtRest, RunsToRest}
 use Rattle.lagmodel.specs.World.{Side, One, Two, peer, IsCabling, end_at}
 use Rattle.lagsystem.specs.declared.system_ports.SystemPort.{SystemPort}
 use Rattle.lagsystem.specs.NothingToSettle.{PeriodicIsSettled}
@@ -28,14 +31,16 @@ use Rattle.lagprogress.specs.Bundle.{ActiveEndsOfEachKnow}
 use Rattle.lagprogress.specs.Steady.{IsSteady}
 use Rattle.lagprogress.specs.Timers.{IsTimed}
 use Rattle.lagprogress.proofs.EachPort.{OfEach}
-use Rattle.lagprogress.proofs.EndFacts.{CanSound, IsEnd, Learnt, Says, Synced, activity, calm, less_known, short_timeout, wait_of}
+use Rattle.lagprogress.proofs.EndFacts.{CanSound, IsEnd, Learnt, Says, Synced, activity, calm, less_known, short_timeout, ticks_end, wait_of}
 use Rattle.lagprogress.proofs.Hearing.{no}
 use Rattle.lagprogress.proofs.Linked.{each_both, EndIs, Fits, IsGood, Link, each_map, each_side, found, peer_twice}
 use Rattle.lagprogress.proofs.OneCable.{OnCable, as_cable, cable, towards_there}
 use Rattle.lagprogress.proofs.OnePort.{AtPort, at_number}
 use Rattle.lagprogress.proofs.OneRound.{Nothing, forget, join, round_keeps, round_nears, ticked}
 use Rattle.lagprogress.proofs.Sounding.{Sounds, silence_of, sounds_first}
-use Rattle.lagprogress.proofs.Telling.{Told, told_heard, told_kept}
+use Rattle.lagprogress.proofs.Stamps.{Present, present_heard, present_kept}
+use Rattle.lagprogress.proofs.Telling.{Told, Wakes, told_heard, told_kept}
+use Rattle.lagprogress.proofs.Claims.{IsNamed, Wakeful, can_wake, wakeful_ticks}
 
 -- numbers of both sides
 
@@ -148,7 +153,8 @@ module _ (at : Side → ℕ) (w : Side → Lacpdu) where
     pub longer : (s : Side) → (next s + 1 ≤ known (peer s)) ⊎ (n + next s ≤ most)
     pub sounds : (s : Side) → AtIt s (Sounds (mode s) (next s)) j
     pub empty : NothingInFlight j
-    pub told : (s : Side) → activity (w s) ≡ true → 1 ≤ known (peer s) → Told at w s j
+    pub told : (s : Side) → 1 ≤ known (peer s) → Told at w s j
+    pub present : (s : Side) → 1 ≤ known s → Present at s j
 
   -- what one round makes of one direction
   record Went (d most n : ℕ) (s : Side) (j : WorldState) : Type 0 where
@@ -158,7 +164,8 @@ module _ (at : Side → ℕ) (w : Side → Lacpdu) where
     later : 1 ≤ next
     longer : (next + 1 ≤ known) ⊎ (n + next ≤ most)
     sounds : AtIt s (Sounds (mode s) next) j
-    told : activity (w s) ≡ true → 1 ≤ known → Told at w s j
+    told : 1 ≤ known → Told at w s j
+    present : 1 ≤ known → Present at (peer s) j
     peer : AtIt (peer s) (IsEnd d (w (peer s)) (w (peer (peer s))) known) j
 
   silence_less : (b : Bool) → silence_of b + 1 ≤ (timeout_time b)
@@ -191,8 +198,9 @@ module _ (at : Side → ℕ) (w : Side → Lacpdu) where
             | inr l ↦ (let m = q.0 in inr (omega (arith, l, m)))
           ];
           sounds = beside d (ticked g.known) s (Sounds (mode s) (g.next s - 1)) new q.1;
-          told = λ on k. told_kept gives d at w g.known s false old new there fit (inl on, λ e. absurd (no e)) g.link g.empty h
-              (omega (arith, k)) (g.told s on (omega (arith, k)));
+          told = λ k. (told_kept gives d at w g.known s Nothing old new there fit wakes own g.empty h (omega (arith, k))
+              (g.told s (omega (arith, k)))).1;
+          present = λ k. present_kept at old new gives d w g.known One Nothing g.link g.empty h (peer s) (g.present (peer s) (omega (arith, k)));
           peer = ends_of d (ticked g.known) s (Sounds (mode s) (g.next s - 1)) (peer s) new q.1;
         }
         | inr q ↦ (let known = learns d (ticked g.known) (peer s) 0 new (omega arith) q in
@@ -203,12 +211,21 @@ module _ (at : Side → ℕ) (w : Side → Lacpdu) where
               later = some_silence (mode s);
               longer = inl (silence_less (mode s));
               sounds = sounds_now d (ticked g.known) (peer s) (Learnt d (w (peer (peer s))) (wait (peer s))) s (mode s) new (can s).1 q;
-              told = λ on k. told_heard gives d at w g.known s false old new there fit (inl on, λ e. absurd (no e)) g.link g.empty h
-                  (beside d (ticked g.known) (peer s) (Learnt d (w (peer (peer s))) (wait (peer s))) new q);
+              told = λ k. (told_heard gives d at w g.known s Nothing old new there fit wakes own g.empty h
+                  (beside d (ticked g.known) (peer s) (Learnt d (w (peer (peer s))) (wait (peer s))) new q)).1;
+              present = λ k. present_heard at old new gives d w g.known One Nothing g.link g.empty h (peer s) d (ticked g.known) q;
               peer = subst (λ k. AtIt (peer s) (IsEnd d (w (peer s)) (w (peer (peer s))) k) new) (two_there (peer s) (wait (peer s)) 0)
                   (ends_of d (two (peer s) (wait (peer s)) 0) (peer s) Nothing (peer s) new known);
             })
       ]
+    where
+      own : Link d at w g.known s Nothing old
+      own = forget d at w g.known One s Nothing old g.link
+
+      wakes : (p q : Machines) → RunsToRest receive_rows (count_down p) q → AtRest periodic_rows p
+          → IsEnd d (w s) (w (peer s)) (g.known s) p → Unit {0} → Wakeful (w s) (w (peer s)) q
+      wakes p q run rest a y = can_wake d (w s) (w (peer s)) (mode s) (g.known s - 1) q (can s).1
+          (ticks_end d (w s) (w (peer s)) (g.known s) p q (fit s).2 run a)
 
   goes : (gives : Algorithms) (d most n : ℕ) (old new : WorldState) (g : Going d most n old) → 1 ≤ d → Fits d w (ticked g.known)
       → Able d g.known → IsRound gives old new → Going d most (n + 1) new
@@ -236,7 +253,8 @@ module _ (at : Side → ℕ) (w : Side → Lacpdu) where
         longer = λ s. subst (λ t. ((r s).next + 1 ≤ (r t).known) ⊎ (n + 1 + (r s).next ≤ most)) (sym (peer_twice s)) (r s).longer;
         sounds = λ s. (r s).sounds;
         empty = h.empties;
-        told = λ s on k. (r s).told on (subst (λ t. 1 ≤ (r t).known) (peer_twice s) k);
+        told = λ s k. (r s).told (subst (λ t. 1 ≤ (r t).known) (peer_twice s) k);
+        present = λ u k. subst (λ t. Present at t new) (peer_twice u) ((r (peer u)).present k);
       }
 
   -- the rounds are no longer few
@@ -267,6 +285,7 @@ module _ (at : Side → ℕ) (w : Side → Lacpdu) where
     sounds = g.sounds;
     empty = g.empty;
     told = g.told;
+    present = g.present;
   }
 
   one_less_two : 2 ≤ 1 → ⊥
@@ -320,7 +339,8 @@ module _ (at : Side → ℕ) (w : Side → Lacpdu) where
     sounds = λ s. subst (λ b. AtIt s (Sounds b 309) j) (sym (long s))
         (sounds_now 1 (λ _. 0) One Nothing s false j (inl (active s), λ e. absurd (no e)) l);
     empty = none;
-    told = λ s on k. absurd (omega (arith, k));
+    told = λ s k. absurd (omega (arith, k));
+    present = λ s k. absurd (omega (arith, k));
   }
 
   -- The end of s is active and has Short Timeout, or the other end has Long Timeout: first the other end hears it, and then
@@ -341,21 +361,23 @@ module _ (at : Side → ℕ) (w : Side → Lacpdu) where
   abbrev pub Answers : Side → ℕ → ℕ → WorldState → Type 0
   Answers s most n j = (k : ℕ) × (b : ℕ) × (1 ≤ k) × (n + k ≤ most + silence_of (mode (peer s)))
       × (wait (peer s) + k ≤ b + silence_of (mode (peer s))) × (b ≤ wait (peer s))
-      × Linked (two s 0 b) (peer s) (Sounds (mode (peer s)) k) j × (activity (w s) ≡ true → Told at w s j) × NothingInFlight j
+      × Linked (two s 0 b) (peer s) (Sounds (mode (peer s)) k) j × Wakes at w s j
+      × Told at w s j × Present at (peer s) j × NothingInFlight j
 
   abbrev pub Comes : Side → ℕ → WorldState → Type 0
   Comes s n j = Calls s n j ⊎ (Answers s 310 n j ⊎ Fresh j)
 
   module _ (s : Side) (awake : (u : Side) → (activity (w u) ≡ true) ⊎ (activity (w (peer u)) ≡ true))
+      (named : (activity (w s) ≡ true) ⊎ IsNamed (w (peer s)))
       (room : silence_of (mode s) + silence_of (mode (peer s)) + 2 ≤ wait (peer s)) where
     able : (b : ℕ) → 1 ≤ b → CanSound (w (peer s)) (w (peer (peer s))) (mode (peer s)) b
     able b l = can_known (peer s) b l (awake (peer s))
 
     -- the other end has just heard it
     pub hears : (most n : ℕ) (new : WorldState) → n ≤ most
-        → Linked (ticked (λ _. 0)) (peer s) (Learnt 1 (w (peer (peer s))) (wait (peer s))) new → (activity (w s) ≡ true → Told at w s new)
-        → NothingInFlight new → Answers s most n new
-    hears most n new l q told none =
+        → Linked (ticked (λ _. 0)) (peer s) (Learnt 1 (w (peer (peer s))) (wait (peer s))) new → Wakes at w s new × Told at w s new
+        → Present at (peer s) new → NothingInFlight new → Answers s most n new
+    hears most n new l q told present none =
         let known = learns 1 (ticked (λ _. 0)) (peer s) 0 new (omega arith) q in
         let b = wait (peer s) in
         let pair = two (peer s) b 0 in
@@ -371,13 +393,16 @@ module _ (at : Side → ℕ) (w : Side → Lacpdu) where
           join 1 at w (two s 0 b) (peer s) (peer s) (Sounds fast (silence_of fast)) new link
               (sounds_now 1 (two s 0 b) (peer s) Nothing (peer s) fast new
               (subst (CanSound (w (peer s)) (w (peer (peer s))) fast) (sym (two_other s 0 b)) (able b (omega (arith, room)))) link),
-          told,
+          told.0,
+          told.1,
+          present,
           none,
         )
 
     meets : (b k : ℕ) (j : WorldState) → 1 ≤ k → wait (peer s) + k ≤ b + silence_of (mode (peer s)) → b ≤ wait (peer s)
-        → Linked (two s (wait s) (b - 1)) s Nothing j → ((u : Side) → activity (w u) ≡ true → Told at w u j) → NothingInFlight j → Fresh j
-    meets b k j some enough less l told none =
+        → Linked (two s (wait s) (b - 1)) s Nothing j → ((u : Side) → Told at w u j) → ((u : Side) → Present at u j)
+        → NothingInFlight j → Fresh j
+    meets b k j some enough less l told present none =
         let c = two s (wait s) (b - 1) in
         let own : silence_of (mode s) + 1 ≤ c (peer s) =
         subst (λ n. silence_of (mode s) + 1 ≤ n) (sym (two_other s (wait s) (b - 1))) (omega (arith, room, some, enough)) in
@@ -395,12 +420,13 @@ module _ (at : Side → ℕ) (w : Side → Lacpdu) where
           longer = λ u. inl (longer u);
           sounds = λ u. sounds_now 1 c s Nothing u (mode u) j (can_known u (c u) (big u) (awake u)) l;
           empty = none;
-          told = λ u on k. told u on;
+          told = λ u k. told u;
+          present = λ u k. present u;
         }
 
     pub answers : (gives : Algorithms) (most n : ℕ) (old new : WorldState) → IsRound gives old new → Answers s most n old
         → Answers s most (n + 1) new ⊎ Fresh new
-    answers gives most n old new h (k, b, some, soon, enough, less, link, told, none) = elim (round_nears gives (peer s) 1 at w (two s 0 b)
+    answers gives most n old new h (k, b, some, soon, enough, less, link, wakes, told, present, none) = elim (round_nears gives (peer s) 1 at w (two s 0 b)
         (mode (peer s)) k old new (omega arith) fit
         (subst (λ m. CanSound (w (peer s)) (w (peer (peer s))) (mode (peer s)) (m - 1)) (sym (two_other s 0 b))
         (able (b - 1) (omega (arith, room, some, enough))))
@@ -417,15 +443,19 @@ module _ (at : Side → ℕ) (w : Side → Lacpdu) where
                 lower 1 (ticked (two s 0 b)) (two s 0 (b - 1)) (peer s) (Sounds (mode (peer s)) (k - 1)) new
                     (two_less s (ticked (two s 0 b)) 0 (b - 1) (omega arith)
                     (subst (λ n. b - 1 ≤ n - 1) (sym (two_other s 0 b)) (omega arith))) q.1,
-                still,
+                still.0,
+                still.1,
+                kept,
                 h.empties,
               ))
           | inr q ↦ inr (meets b k new some enough less (learns 1 (ticked (two s 0 b)) s (b - 1) new
               (subst (λ n. b - 1 ≤ n - 1) (sym (two_other s 0 b)) (omega arith))
               (subst (λ t. Linked (ticked (two s 0 b)) t (Learnt 1 (w (peer t)) (wait t)) new) (peer_twice s) q))
-              (each_side (λ u. activity (w u) ≡ true → Told at w u new) s still
-              (λ on. told_heard gives 1 at w (two s 0 b) (peer s) false old new (omega arith) fit (inl on, λ e. absurd (no e)) bare none h
-              (beside 1 (ticked (two s 0 b)) (peer (peer s)) (Learnt 1 (w (peer (peer (peer s)))) (wait (peer (peer s)))) new q))) h.empties)
+              (each_side (λ u. Told at w u new) s still.1
+              (told_heard gives 1 at w (two s 0 b) (peer s) Nothing old new (omega arith) fit knows other none h
+              (beside 1 (ticked (two s 0 b)) (peer (peer s)) (Learnt 1 (w (peer (peer (peer s)))) (wait (peer (peer s)))) new q)).1)
+              (each_side (λ u. Present at u new) s (subst (λ t. Present at t new) (peer_twice s)
+              (present_heard at old new gives 1 w (two s 0 b) One Nothing bare none h (peer (peer s)) 1 (ticked (two s 0 b)) q)) kept) h.empties)
         ]
       where
         fit : Fits 1 w (ticked (two s 0 b))
@@ -434,9 +464,24 @@ module _ (at : Side → ℕ) (w : Side → Lacpdu) where
         bare : Link 1 at w (two s 0 b) One Nothing old
         bare = forget 1 at w (two s 0 b) (peer s) One (Sounds (mode (peer s)) k) old link
 
-        still : activity (w s) ≡ true → Told at w s new
-        still on = told_kept gives 1 at w (two s 0 b) s false old new (omega arith) fit (inl on, λ e. absurd (no e)) bare none h
-            (subst (λ m. 2 ≤ m) (sym (two_other s 0 b)) (omega (arith, room, some, enough))) (told on)
+        other : Link 1 at w (two s 0 b) (peer s) Nothing old
+        other = forget 1 at w (two s 0 b) (peer s) (peer s) (Sounds (mode (peer s)) k) old link
+
+        knows : (p q : Machines) → RunsToRest receive_rows (count_down p) q → AtRest periodic_rows p
+            → IsEnd 1 (w (peer s)) (w (peer (peer s))) (two s 0 b (peer s)) p → Unit {0} → Wakeful (w (peer s)) (w (peer (peer s))) q
+        knows p q run rest a y = can_wake 1 (w (peer s)) (w (peer (peer s))) (mode (peer s)) (two s 0 b (peer s) - 1) q
+            (subst (λ m. CanSound (w (peer s)) (w (peer (peer s))) (mode (peer s)) (m - 1)) (sym (two_other s 0 b))
+            (able (b - 1) (omega (arith, room, some, enough))))
+            (ticks_end 1 (w (peer s)) (w (peer (peer s))) (two s 0 b (peer s)) p q (fit (peer s)).2 run a)
+
+        still : Wakes at w s new × Told at w s new
+        still = told_kept gives 1 at w (two s 0 b) s (Wakeful (w s) (w (peer s))) old new (omega arith) fit
+            (λ p q run rest a y. wakeful_ticks (w s) (w (peer s)) p q named run y)
+            (join 1 at w (two s 0 b) One s (Wakeful (w s) (w (peer s))) old bare wakes) none h
+            (subst (λ m. 2 ≤ m) (sym (two_other s 0 b)) (omega (arith, room, some, enough))) told
+
+        kept : Present at (peer s) new
+        kept = present_kept at old new gives 1 w (two s 0 b) One Nothing bare none h (peer s) present
 
     pub answered : (most n : ℕ) (j : WorldState) → most + silence_of (mode (peer s)) ≤ n → Answers s most n j → Fresh j
     answered most n j l a = let k = a.2 in let m = a.3 in absurd (omega (arith, l, k, m))
@@ -459,15 +504,16 @@ module _ (at : Side → ℕ) (w : Side → Lacpdu) where
                 lower 1 (ticked (λ _. 0)) (λ _. 0) s (Sounds false (g.0 - 1)) new (λ _. omega arith) q.1,
                 h.empties,
               ))
-          | inr q ↦ inr (inl (hears s some_awake room 310 (n + 1) new (let l = g.2 in let o = g.1 in omega (arith, l, o)) q
-              (λ on. told_heard gives 1 at w (λ _. 0) s false old new (omega arith) (fits_first (ticked (λ _. 0)) (λ t. omega arith))
-              (inl on, λ e. absurd (no e)) (forget 1 at w (λ _. 0) s One (Sounds false g.0) old g.3) g.4 h
-              (beside 1 (ticked (λ _. 0)) (peer s) (Learnt 1 (w (peer (peer s))) (wait (peer s))) new q)) h.empties))
+          | inr q ↦ inr (inl (hears s some_awake (inl active) room 310 (n + 1) new (let l = g.2 in let o = g.1 in omega (arith, l, o)) q
+              (told_heard gives 1 at w (λ _. 0) s (Sounds false g.0) old new (omega arith) (fits_first (ticked (λ _. 0)) (λ t. omega arith))
+              (λ p q run rest a y. inl active) g.3 g.4 h
+              (beside 1 (ticked (λ _. 0)) (peer s) (Learnt 1 (w (peer (peer s))) (wait (peer s))) new q))
+              (present_heard at old new gives 1 w (λ _. 0) s (Sounds false g.0) g.3 g.4 h (peer s) 1 (ticked (λ _. 0)) q) h.empties))
         ]
 
     pub comes : (gives : Algorithms) (n : ℕ) (old new : WorldState) → IsRound gives old new → Comes s n old → Comes s (n + 1) new
     comes gives n old new h (inl c) = calls gives n old new h c
-    comes gives n old new h (inr (inl a)) = inr (answers s some_awake room gives 310 n old new h a)
+    comes gives n old new h (inr (inl a)) = inr (answers s some_awake (inl active) room gives 310 n old new h a)
     comes gives n old new h (inr (inr f)) = inr (inr (stays_fresh some_awake gives 1 old new (omega arith) h f))
 
     pub comes_first : (j : WorldState) → Linked (λ _. 0) One Nothing j → NothingInFlight j → Comes s 1 j
@@ -475,7 +521,7 @@ module _ (at : Side → ℕ) (w : Side → Lacpdu) where
 
     pub came : (n : ℕ) (j : WorldState) → 310 + silence_of (mode (peer s)) ≤ n → Comes s n j → Fresh j
     came n j l (inl c) = let k = c.1 in let m = c.2 in absurd (omega (arith, l, k, m))
-    came n j l (inr (inl a)) = answered s some_awake room 310 n j l a
+    came n j l (inr (inl a)) = answered s some_awake (inl active) room 310 n j l a
     came n j l (inr (inr f)) = f
 
 -- the rounds

@@ -8,7 +8,6 @@ use Rattle.std.proofs.lemmas.Option.{none-some, same_Some}
 use Rattle.slowpdu.specs.declared.pdu.Lacpdu.{Lacpdu}
 use Rattle.slowpdu.specs.declared.pdu.Pdu.TheVariants as pdu
 use Rattle.distributor.specs.Changes.{marker_due}
-use Rattle.portmachines.specs.declared.receive.ReceiveState.TheVariants.{Current}
 use Rattle.portmachines.specs.Machines.{Machines}
 use Rattle.portmachines.specs.Mux.{mux_rows, partner_synchronized}
 use Rattle.portmachines.specs.Periodic.{periodic_rows}
@@ -31,22 +30,22 @@ use Rattle.lagscript.specs.declared.event.Event.TheVariants as event
 use Rattle.lagworld.specs.declared.reply.Reply.{Reply}
 use Rattle.lagworld.specs.Events.{Algorithms, WorldSteps, side_of}
 use Rattle.lagworld.specs.State.{ItemValue, WorldState, half}
-use Rattle.lagprogress.specs.Hearing.{timeout_time}
 use Rattle.lagprogress.specs.Rounds.{IsRound, NothingInFlight, asks_all}
 use Rattle.lagprogress.specs.Timers.{IsTimed}
-use Rattle.lagprogress.proofs.Claims.{Claims, Owes, Owing, SaysSynced, claim_said, claims_or_not, owes_takes, owes_ticks, owing_settles, takes_claim}
+use Rattle.lagprogress.proofs.Claims.{Claims, Owes, Owing, SaysSynced, Wakeful, claim_said, claims_or_not, owes_takes, owes_ticks, owing_settles, takes_claim}
+use Rattle.lagprogress.proofs.Claims.{wakeful_along}
 use Rattle.lagprogress.proofs.Climbing.{PartnerInSync, ticks_partner}
 use Rattle.lagprogress.proofs.Delivering.{deliver_moves}
 use Rattle.lagprogress.proofs.EachPort.{KeptBySettling, OfEach, Tick-each, transmits_each}
-use Rattle.lagprogress.proofs.EndFacts.{CanSound, IsEnd, Learnt, SameActor, Says, nothing_along, short_timeout, takes_each, takes_end, ticks_end, wait_of}
+use Rattle.lagprogress.proofs.EndFacts.{Along, IsEnd, Learnt, SameActor, short_timeout, takes_each, takes_end, ticks_end, wait_of}
 use Rattle.lagprogress.proofs.Lapsing.{some_wait}
 use Rattle.lagprogress.proofs.Linked.{Arrived, EndIs, Fits, IsGood, Link, arrival, asked_which, beside_link, each_both, each_map, each_side, elsewhere_each}
 use Rattle.lagprogress.proofs.Linked.{emit_link, found, peer_twice, push_other, push_there, put_other, put_there}
 use Rattle.lagprogress.proofs.OneCable.{Arrives, Back, Beside, Went, cable, put, ticks, towards_there}
 use Rattle.lagprogress.proofs.OnePort.{AtPort, at_number}
-use Rattle.lagprogress.proofs.OneRound.{Nothing, Unrolled, all_ask, ask_all, deliver_all, one_of_both, same_ports_then, tick_both, ticked, timed_ends, unroll}
+use Rattle.lagprogress.proofs.OneRound.{Unrolled, all_ask, ask_all, deliver_all, one_of_both, same_ports_then, tick_both, ticked, timed_ends, unroll}
 use Rattle.lagprogress.proofs.Passing.{carries_one, lacpdu_is_sent, marker_carries_none, sends_due, sent_carries}
-use Rattle.lagprogress.proofs.Stamps.{most_is}
+use Rattle.lagprogress.proofs.Stamps.{Late, late_ticks}
 use Rattle.lagprogress.proofs.Timers.{runs_keep}
 
 -- what is on its way
@@ -171,11 +170,17 @@ back_tells u v H gives s n octets (Ok (received.Up agg)) old new fl now k h m =
 
 -- the events of a round
 
-module _ (gives : Algorithms) (d : ℕ) (at : Side → ℕ) (w : Side → Lacpdu) (c : Side → ℕ) (s : Side) (fast : Bool) (X : Machines → Type 0)
-    (there : 1 ≤ d) (fits : Fits d w c) (can : CanSound (w s) (w (peer s)) fast (c s)) (keeps : KeptBySettling (AtPort (at (peer s)) X))
+module _ (gives : Algorithms) (d : ℕ) (at : Side → ℕ) (w : Side → Lacpdu) (c : Side → ℕ) (s : Side) (X : Machines → Type 0)
+    (there : 1 ≤ d) (fits : Fits d w c) (keeps : KeptBySettling (AtPort (at (peer s)) X))
     (sends : (p : Machines) → X p → X (after_sending p)) (takes : (p : Machines) → partner_synchronized p ≡ true → X p) where
+  abbrev Wake : Machines → Type 0
+  Wake = Wakeful (w s) (w (peer s))
+
   abbrev Held : WorldState → Type 0
-  Held j = Link d at w c One Nothing j
+  Held j = Link d at w c s Wake j
+
+  along : Along Wake (w s) (w (peer s)) (c s) d
+  along = wakeful_along (w s) (w (peer s)) (c s) d there
 
   abbrev OwesAt : WorldState → Type 0
   OwesAt j = OfEach (AtPort (at s) (Owes (w (peer s)))) (half s j).state.system_ports
@@ -193,6 +198,7 @@ module _ (gives : Algorithms) (d : ℕ) (at : Side → ℕ) (w : Side → Lacpdu
     found : slice_get (half q j).state.system_ports (l.place q).0 ≡ Some port
     number : port.number ≡ at q
     is : IsEnd d (w q) (w (peer q)) (c q) port.port
+    wakes : q ≡ s → Wake port.port
 
   here : (q : Side) (j : WorldState) (l : Held j) → Here q j l
   here q j l =
@@ -200,12 +206,13 @@ module _ (gives : Algorithms) (d : ℕ) (at : Side → ℕ) (w : Side → Lacpdu
       let place = l.place q in
       let it = found (at q) place.0 ports place.1 in
       let numbered = found_place (at q) ports place.0 it.0 place.1 it.1 in
+      let end = all-get (λ (y : SystemPort). AtPort (at q) (EndIs d w c s Wake q) y.number y.port) ports place.0 it.0 it.1 (l.ports q) numbered in
       record {
         port = it.0;
         found = it.1;
         number = numbered;
-        is = (all-get (λ (y : SystemPort). AtPort (at q) (EndIs d w c One Nothing q) y.number y.port) ports place.0 it.0 it.1
-            (l.ports q) numbered).0;
+        is = end.0;
+        wakes = end.1;
       }
 
   -- so it is with the port at an end
@@ -220,19 +227,19 @@ module _ (gives : Algorithms) (d : ℕ) (at : Side → ℕ) (w : Side → Lacpdu
       a e.number
 
   owing : (j : WorldState) → Held j → OwesAt j → OfEach (AtPort (at s) (Owing d (w s) (w (peer s)) (c s))) (half s j).state.system_ports
-  owing j l a = each_map (λ m p. AtPort (at s) (EndIs d w c One Nothing s) m p × AtPort (at s) (Owes (w (peer s))) m p)
-      (AtPort (at s) (Owing d (w s) (w (peer s)) (c s))) (λ m p b e. ((b.0 e).0, b.1 e)) (half s j).state.system_ports
-      (each_both (AtPort (at s) (EndIs d w c One Nothing s)) (AtPort (at s) (Owes (w (peer s)))) (half s j).state.system_ports (l.ports s) a)
+  owing j l a = each_map (λ m p. AtPort (at s) (EndIs d w c s Wake s) m p × AtPort (at s) (Owes (w (peer s))) m p)
+      (AtPort (at s) (Owing d (w s) (w (peer s)) (c s))) (λ m p b e. ((b.0 e).0, (b.0 e).1 refl, b.1 e)) (half s j).state.system_ports
+      (each_both (AtPort (at s) (EndIs d w c s Wake s)) (AtPort (at s) (Owes (w (peer s)))) (half s j).state.system_ports (l.ports s) a)
 
   owed : (t : SystemState) → OfEach (AtPort (at s) (Owing d (w s) (w (peer s)) (c s))) t.system_ports
       → OfEach (AtPort (at s) (Owes (w (peer s)))) t.system_ports
-  owed t a = each_map (AtPort (at s) (Owing d (w s) (w (peer s)) (c s))) (AtPort (at s) (Owes (w (peer s)))) (λ m p b e. (b e).1) t.system_ports a
+  owed t a = each_map (AtPort (at s) (Owing d (w s) (w (peer s)) (c s))) (AtPort (at s) (Owes (w (peer s)))) (λ m p b e. (b e).2) t.system_ports a
 
   -- the end itself is asked
 
   ask_own : (n : ℕ) (r : Reply) (old new : WorldState) → side_of n ≡ Some s → On old → WorldSteps gives old (event.Emit n (at s)) r new → On new
   ask_own n r old new named (l, m) h =
-      let e = emit_link gives n s d at w c One Nothing r old new fits named (nothing_along (w One) (w Two) (c One) d) (λ f p y. y) l h in
+      let e = emit_link gives n s d at w c s Wake r old new fits named along (λ f p y. y) l h in
       let z = here s old l in
       let st = (half s old).state in
       let now = (half s new).state in
@@ -249,7 +256,7 @@ module _ (gives : Algorithms) (d : ℕ) (at : Side → ℕ) (w : Side → Lacpdu
             | inl owes ↦ elim (cases_Bool (is_due z.port.port)) [
               | inl due ↦ inr (subst (λ (f : Side → List ItemValue). Tells u v (f (peer s)) (HoldsAt new)) (sym e.same)
                   (due_tells u v (HoldsAt new) (gives s) s (at s) (l.place s).0 z.port e.asks.a st now l.flying e.asks.now
-                  (claim_said d v u fast (c s) st.max_delay z.port.port can z.is claim) (l.place s).1 z.found z.is.1.0 due
+                  (claim_said v u st.max_delay z.port.port (z.wakes refl) claim) (l.place s).1 z.found z.is.1.0 due
                   e.asks.promise.step e.asks.went))
               | inr not ↦ inl (subst (OfEach (AtPort (at s) (Owes u)))
                   (sym (same_ports_then (gives s) (at s) (l.place s).0 z.port e.asks.a st now (l.place s).1 z.found not e.asks.promise.step))
@@ -273,13 +280,13 @@ module _ (gives : Algorithms) (d : ℕ) (at : Side → ℕ) (w : Side → Lacpdu
           let same : t.0 ≡ z.port = same_Some t.0 z.port (sym t.1 ∙ z.found) in
           let is = sent_is t.0.port.enabled (is_due t.0.port) (l.place s).0 t.0 st frame (half s new).state t.2 x carried in
           subst (SaysSynced (w (peer s)) (w s)) (sym (ap (λ (y : SystemPort). pdu_of y.port st.max_delay) same) ∙ is)
-          (claim_said d (w s) (w (peer s)) fast (c s) st.max_delay z.port.port can z.is claim)
+          (claim_said (w s) (w (peer s)) st.max_delay z.port.port (z.wakes refl) claim)
 
   -- its peer is asked
   ask_peer : (n : ℕ) (r : Reply) (old new : WorldState) → side_of n ≡ Some (peer s) → On old
       → WorldSteps gives old (event.Emit n (at (peer s))) r new → On new
   ask_peer n r old new named (l, m) h =
-      let e = emit_link gives n (peer s) d at w c One Nothing r old new fits named (nothing_along (w One) (w Two) (c One) d) (λ f p y. y) l h in
+      let e = emit_link gives n (peer s) d at w c s Wake r old new fits named along (λ f p y. y) l h in
       let same : (half s new).state ≡ (half s old).state =
       subst (λ t. (half t new).state ≡ (half t old).state) (peer_twice s) e.asks.peers in
       let items : e.link.flying (peer s) ≡ l.flying (peer s) = ap (λ (f : Side → List ItemValue). f (peer s)) e.same
@@ -301,7 +308,7 @@ module _ (gives : Algorithms) (d : ℕ) (at : Side → ℕ) (w : Side → Lacpdu
     k,
     elim m [
       | inl owes ↦ inl (owed (half s new).state (elsewhere_each (Owing d (w s) (w (peer s)) (c s)) (gives s) (at s) (half s old).state
-          (half s new).state (owing_settles d (w s) (w (peer s)) fast (c s) (at s) can) (b.calls s) (owing old l owes)))
+          (half s new).state (owing_settles d (w s) (w (peer s)) (c s) (at s) there) (b.calls s) (owing old l owes)))
       | inr tells ↦ inr (subst (λ (f : Side → List ItemValue). Tells (w (peer s)) (w s) (f (peer s)) (HoldsAt new)) (sym same)
           (tells_map (w (peer s)) (w s) (l.flying (peer s)) (HoldsAt old) (HoldsAt new)
           (λ y. elsewhere_each X (gives (peer s)) (at (peer s)) (half (peer s) old).state (half (peer s) new).state keeps (b.calls (peer s)) y)
@@ -312,7 +319,7 @@ module _ (gives : Algorithms) (d : ℕ) (at : Side → ℕ) (w : Side → Lacpdu
   ask_on : (n p : ℕ) (r : Reply) (old new : WorldState) → WorldSteps gives old (event.Emit n p) r new → On old → On new
   ask_on n p r old new h (l, m) = elim (asked_which gives n p l.index at l.flying r old new l.links h) [
     | inl (t, named, is) ↦ asked t named (subst (λ q. WorldSteps gives old (event.Emit n q) r new) is h)
-    | inr b ↦ (let k = beside_link gives (event.Emit n p) d at w c One Nothing r old new (nothing_along (w One) (w Two) (c One) d) l h b in
+    | inr b ↦ (let k = beside_link gives (event.Emit n p) d at w c s Wake r old new along l h b in
         left_alone old new l k.link b k.same m)
   ]
     where
@@ -365,8 +372,9 @@ module _ (gives : Algorithms) (d : ℕ) (at : Side → ℕ) (w : Side → Lacpdu
           let each = takes_each P (half s old).state (half s new).state x (l.place s).0 z.port (l.steady s).0 z.found
           (λ q awake does. (
             takes_end (w s) (w (peer s)) x (c s) d z.port.port q suits (fits s).1 (fits s).2 (fits s).0 awake does z.is,
+            along.takes x z.port.port q suits awake does z.is (z.wakes refl),
             owes_takes (w (peer s)) x z.port.port q (suits.0 there) does (of_here (Owes (w (peer s))) s old l z owes),
-          )) (owing_settles d (w s) (w (peer s)) fast (c s) z.port.number can) settles in
+          )) (owing_settles d (w s) (w (peer s)) (c s) z.port.number there) settles in
           owed (half s new).state (subst (λ n. OfEach (AtPort n P) (half s new).state.system_ports) z.number each)
 
   arrive_peer : (old new : WorldState) (l : Held old) (k : Arrives gives (peer s) at l.flying old new) (i : Held new) → i.flying ≡ k.now
@@ -401,7 +409,7 @@ module _ (gives : Algorithms) (d : ℕ) (at : Side → ℕ) (w : Side → Lacpdu
 
   deliver_on : (cn n : ℕ) (r : Reply) (old new : WorldState) → WorldSteps gives old (event.Deliver cn n) r new → On old → On new
   deliver_on cn n r old new h (l, m) =
-      let e = deliver_moves gives cn n d at w c One Nothing r old new fits (nothing_along (w One) (w Two) (c One) d) l h in
+      let e = deliver_moves gives cn n d at w c s Wake r old new fits along l h in
       elim e.1 [
         | inl (q, k, same) ↦ each_side (λ t. (k : Arrives gives t at l.flying old new) → e.0.link.flying ≡ k.now → On new) s
             (λ k same. arrive_own old new l k e.0.link same m) (λ k same. arrive_peer old new l k e.0.link same m) q k same
@@ -409,14 +417,16 @@ module _ (gives : Algorithms) (d : ℕ) (at : Side → ℕ) (w : Side → Lacpdu
       ]
 
   -- from the ticks of a round to its end
-  pub told_on : (old new : WorldState) (u : Unrolled gives old new) → NothingInFlight new → On u.two → OwesAt new ⊎ HoldsAt new
+  pub told_on : (old new : WorldState) (u : Unrolled gives old new) → NothingInFlight new → On u.two → Held new × (OwesAt new ⊎ HoldsAt new)
   told_on old new u none h =
       let six = ask_all gives On (λ n p r i j step m. ask_on n p r i j step m) (asks_all old.links) u.asked u.two u.six (all_ask old.links) u.asks h in
-      let last = deliver_all gives On (λ cn n r i j step m. deliver_on cn n r i j step m) u.delivers u.replies u.six new u.arrives u.rest six in
-      elim last.1 [
-        | inl owes ↦ inl owes
-        | inr tells ↦ inr (subst (λ xs. Tells (w (peer s)) (w s) xs (HoldsAt new)) (empty last.0) tells)
-      ]
+      let last = deliver_all gives On (λ cn n r i j step m. deliver_on cn n r i j step m) u.delivers u.replies u.six new u.arrives u.rest six in (
+        last.0,
+        elim last.1 [
+          | inl owes ↦ inl owes
+          | inr tells ↦ inr (subst (λ xs. Tells (w (peer s)) (w s) xs (HoldsAt new)) (empty last.0) tells)
+        ],
+      )
     where
       empty : (l : Held new) → l.flying (peer s) ≡ []
       empty l = sym (towards_there (peer s) at l.flying) ∙ none (peer s) l.index (cable at l.flying) l.links.there
@@ -435,24 +445,6 @@ tick_side P Q k counts gives s old new u a =
     (Tick-each P Q k counts (gives One) old.one.state answer.Tick u.one.one.state one.step b))
     (λ b. Tick-each P Q k counts (gives Two) u.one.two.state answer.Tick u.two.two.state two.step
     (subst (λ (z : SystemState). OfEach P z.system_ports) (sym one.peers) b)) s a
-
--- current_while does not start anew
-abbrev Late : ℕ → Machines → Type 0
-Late most p = p.receive ≡ Current → p.current_while + 1 ≤ most
-
-late_ticks : (v : Lacpdu) (p q : Machines) → RunsToRest receive_rows (count_down p) q → Says v p → IsTimed p → Late (wait_of v) q
-late_ticks v p q h says timed = runs_keep (Late (wait_of v)) receive_rows (
-  λ p a e. absurd (let x = e in cc),
-  (
-    λ p a e. absurd (let x = e in cc),
-    (
-      λ p a e. absurd (let x = e in cc),
-      (λ p a e. absurd (let x = e in cc), (λ p a e. absurd (let x = e in cc), tt)),
-    ),
-  ),
-) (count_down p) q h (λ e. (let bound : p.current_while ≤ wait_of v =
-    subst (λ n. p.current_while ≤ n) (most_is p.short p.receive e ∙ ap timeout_time says.2) timed.0 in
-    let some = some_wait (short_timeout v) in omega (arith, bound, some)))
 
 -- the partner is recorded as synchronized, or current_while does not start anew
 abbrev TookOrLate : ℕ → Machines → Type 0
@@ -483,15 +475,22 @@ abbrev pub Told : (Side → ℕ) → (Side → Lacpdu) → Side → WorldState �
 Told at w s j = OfEach (AtPort (at s) (Owes (w (peer s)))) (half s j).state.system_ports
     ⊎ OfEach (AtPort (at (peer s)) PartnerInSync) (half (peer s) j).state.system_ports
 
-module _ (gives : Algorithms) (d : ℕ) (at : Side → ℕ) (w : Side → Lacpdu) (c : Side → ℕ) (s : Side) (fast : Bool) (old new : WorldState)
-    (there : 1 ≤ d) (fits : Fits d w (ticked c)) (can : CanSound (w s) (w (peer s)) fast (ticked c s))
-    (l : Link d at w c One Nothing old) (none : NothingInFlight old) (h : IsRound gives old new) where
+-- the end of s is wakeful
+abbrev pub Wakes : (Side → ℕ) → (Side → Lacpdu) → Side → WorldState → Type 0
+Wakes at w s j = OfEach (AtPort (at s) (Wakeful (w s) (w (peer s)))) (half s j).state.system_ports
+
+-- X holds of the end of s before the round, and by it the end is wakeful after the ticks
+module _ (gives : Algorithms) (d : ℕ) (at : Side → ℕ) (w : Side → Lacpdu) (c : Side → ℕ) (s : Side) (X : Machines → Type 0)
+    (old new : WorldState) (there : 1 ≤ d) (fits : Fits d w (ticked c))
+    (wakes : (p q : Machines) → RunsToRest receive_rows (count_down p) q → AtRest periodic_rows p → IsEnd d (w s) (w (peer s)) (c s) p → X p
+    → Wakeful (w s) (w (peer s)) q)
+    (l : Link d at w c s X old) (none : NothingInFlight old) (h : IsRound gives old new) where
   round : Unrolled gives old new
   round = unroll gives old new h
 
-  two : Link d at w (ticked c) One Nothing round.two
-  two = tick_both gives d at w c One Nothing Nothing round.tick_one.0 round.tick_two.0 old round.one round.two fits
-      (nothing_along (w One) (w Two) (ticked c One) d) (λ p q run rest a y. y) round.tick_one.1 round.tick_two.1 l
+  two : Link d at w (ticked c) s (Wakeful (w s) (w (peer s))) round.two
+  two = tick_both gives d at w c s X (Wakeful (w s) (w (peer s))) round.tick_one.0 round.tick_two.0 old round.one round.two fits
+      (wakeful_along (w s) (w (peer s)) (ticked c s) d there) wakes round.tick_one.1 round.tick_two.1 l
 
   empty : two.flying (peer s) ≡ []
   empty =
@@ -500,54 +499,64 @@ module _ (gives : Algorithms) (d : ℕ) (at : Side → ℕ) (w : Side → Lacpdu
       sym (towards_there (peer s) at two.flying) ∙ none (peer s) two.index (cable at two.flying)
       (subst (λ ls. slice_get ls two.index ≡ Some (cable at two.flying)) (next.links ∙ one.links) two.links.there)
 
-  pub told_kept : 2 ≤ c (peer s) → Told at w s old → Told at w s new
-  told_kept known told = told_on gives d at w (ticked c) s fast PartnerInSync there fits can (sync_settles (at (peer s))) (λ p y. y)
+  wakeful : Link d at w (ticked c) s (Wakeful (w s) (w (peer s))) new → Wakes at w s new
+  wakeful k = each_map (AtPort (at s) (EndIs d w (ticked c) s (Wakeful (w s) (w (peer s))) s)) (AtPort (at s) (Wakeful (w s) (w (peer s))))
+      (λ m p a e. (a e).1 refl) (half s new).state.system_ports (k.ports s)
+
+  pub told_kept : 2 ≤ c (peer s) → Told at w s old → Wakes at w s new × Told at w s new
+  told_kept known told =
+      let end = told_on gives d at w (ticked c) s PartnerInSync there fits (sync_settles (at (peer s))) (λ p y. y)
       (λ p y. y) old new round h.empties (
         two,
         elim told [
           | inl owes ↦ inl (each_map (AtPort (at s) (Owing d (w s) (w (peer s)) (ticked c s))) (AtPort (at s) (Owes (w (peer s))))
-              (λ m p b e. (b e).1) (half s round.two).state.system_ports
-              (tick_side (λ m p. AtPort (at s) (EndIs d w c One Nothing s) m p × AtPort (at s) (Owes (w (peer s))) m p)
-              (AtPort (at s) (Owing d (w s) (w (peer s)) (ticked c s))) (owing_settles d (w s) (w (peer s)) fast (ticked c s) (at s) can)
-              (λ m p q run b e. (
-                ticks_end d (w s) (w (peer s)) (c s) p q (fits s).2 run (b.0 e).0,
+              (λ m p b e. (b e).2) (half s round.two).state.system_ports
+              (tick_side (λ m p. (AtPort (at s) (EndIs d w c s X s) m p × AtRest periodic_rows p × IsTimed p) × AtPort (at s) (Owes (w (peer s))) m p)
+              (AtPort (at s) (Owing d (w s) (w (peer s)) (ticked c s))) (owing_settles d (w s) (w (peer s)) (ticked c s) (at s) there)
+              (λ m p q run b e. (let was = b.0.0 e in (
+                ticks_end d (w s) (w (peer s)) (c s) p q (fits s).2 run was.0,
+                wakes p q run b.0.1 was.0 (was.1 refl),
                 owes_ticks (w (peer s)) p q run (b.1 e),
-              )) gives s old new round
-              (each_both (AtPort (at s) (EndIs d w c One Nothing s)) (AtPort (at s) (Owes (w (peer s)))) (half s old).state.system_ports (l.ports s)
+              ))) gives s old new round
+              (each_both (λ m p. AtPort (at s) (EndIs d w c s X s) m p × AtRest periodic_rows p × IsTimed p) (AtPort (at s) (Owes (w (peer s))))
+              (half s old).state.system_ports
+              (timed_ends (AtPort (at s) (EndIs d w c s X s)) (half s old).state.system_ports (l.steady s).0.quiet.1 (l.steady s).1 (l.ports s))
               owes)))
           | inr y ↦ inr (subst (λ xs. Tells (w (peer s)) (w s) xs
               (OfEach (AtPort (at (peer s)) PartnerInSync) (half (peer s) round.two).state.system_ports)) (sym empty)
-              (tick_side (λ m p. AtPort (at (peer s)) (EndIs d w c One Nothing (peer s)) m p × AtPort (at (peer s)) PartnerInSync m p)
+              (tick_side (λ m p. AtPort (at (peer s)) (EndIs d w c s X (peer s)) m p × AtPort (at (peer s)) PartnerInSync m p)
               (AtPort (at (peer s)) PartnerInSync) (sync_settles (at (peer s)))
               (λ m p q run b e. ticks_partner d (w (peer s)) (w (peer (peer s))) (c (peer s)) p q (omega (arith, known)) run (b.0 e).0 (b.1 e))
               gives (peer s) old new round
-              (each_both (AtPort (at (peer s)) (EndIs d w c One Nothing (peer s))) (AtPort (at (peer s)) PartnerInSync)
+              (each_both (AtPort (at (peer s)) (EndIs d w c s X (peer s))) (AtPort (at (peer s)) PartnerInSync)
               (half (peer s) old).state.system_ports (l.ports (peer s)) y)))
         ],
-      )
+      ) in (wakeful end.0, end.1)
 
   -- the peer has just heard the end of s
   pub told_heard : OfEach (AtPort (at (peer s)) (Learnt d (w (peer (peer s))) (wait_of (w (peer s))))) (half (peer s) new).state.system_ports
-      → Told at w s new
+      → Wakes at w s new × Told at w s new
   told_heard heard =
       let t = peer s in
       let W = wait_of (w t) in
-      let end = told_on gives d at w (ticked c) s fast (TookOrLate W) there fits can (late_settles (at t) W) (λ p y. y) (λ p y. inl y)
+      let end = told_on gives d at w (ticked c) s (TookOrLate W) there fits (late_settles (at t) W) (λ p y. y) (λ p y. inl y)
       old new round h.empties (
         two,
         inr (subst (λ xs. Tells (w t) (w s) xs
             (OfEach (AtPort (at t) (TookOrLate W)) (half t round.two).state.system_ports)) (sym empty)
-            (tick_side (λ m p. AtPort (at t) (EndIs d w c One Nothing t) m p × AtRest periodic_rows p × IsTimed p) (AtPort (at t) (TookOrLate W))
+            (tick_side (λ m p. AtPort (at t) (EndIs d w c s X t) m p × AtRest periodic_rows p × IsTimed p) (AtPort (at t) (TookOrLate W))
             (late_settles (at t) W) (λ m p q run b e. inr (late_ticks (w t) p q run (b.0 e).0.0 b.2)) gives t old new round
-            (timed_ends (AtPort (at t) (EndIs d w c One Nothing t)) (half t old).state.system_ports (l.steady t).0.quiet.1 (l.steady t).1
+            (timed_ends (AtPort (at t) (EndIs d w c s X t)) (half t old).state.system_ports (l.steady t).0.quiet.1 (l.steady t).1
             (l.ports t)))),
-      ) in
-      elim end [
-        | inl owes ↦ inl owes
-        | inr y ↦ inr (each_map (λ m p. AtPort (at t) (TookOrLate W) m p × AtPort (at t) (Learnt d (w (peer t)) W) m p)
-            (AtPort (at t) PartnerInSync) (λ m p b e. in_sync p (b.0 e) (b.1 e)) (half t new).state.system_ports
-            (each_both (AtPort (at t) (TookOrLate W)) (AtPort (at t) (Learnt d (w (peer t)) W)) (half t new).state.system_ports y heard))
-      ]
+      ) in (
+        wakeful end.0,
+        elim end.1 [
+          | inl owes ↦ inl owes
+          | inr y ↦ inr (each_map (λ m p. AtPort (at t) (TookOrLate W) m p × AtPort (at t) (Learnt d (w (peer t)) W) m p)
+              (AtPort (at t) PartnerInSync) (λ m p b e. in_sync p (b.0 e) (b.1 e)) (half t new).state.system_ports
+              (each_both (AtPort (at t) (TookOrLate W)) (AtPort (at t) (Learnt d (w (peer t)) W)) (half t new).state.system_ports y heard))
+        ],
+      )
     where
       in_sync : (p : Machines) → TookOrLate (wait_of (w (peer s))) p → Learnt d (w (peer (peer s))) (wait_of (w (peer s))) p → PartnerInSync p
       in_sync p (inl y) learnt = y

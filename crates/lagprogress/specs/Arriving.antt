@@ -24,7 +24,7 @@ use Rattle.lagworld.specs.State.{ItemValue, LinkState, WorldState, half, is_acce
 use Rattle.lagprogress.specs.Bundle.{BothAreActive, IsBundle, OneIsActive}
 use Rattle.lagprogress.specs.Freed.{held_on}
 use Rattle.lagprogress.specs.Passing.{EndIsUp}
-use Rattle.lagprogress.specs.Rounds.{AtEnd, IsRound, Rounds, asks_all, ticks_of_both}
+use Rattle.lagprogress.specs.Rounds.{AtEnd, IsRound, Rounds, asks_all, ticks_of_both, up_if_both_active, up_if_one_is}
 
 -- The frame and the aggregator are such as `offer` takes, a port distributes in the aggregator, and the conversation of the
 -- frame is not held.
@@ -124,15 +124,15 @@ EachReachedHasUnsynchronized gives = (configs : List Config) (es : List Event) (
 -- if both ends of each healthy cable are active.
 abbrev pub EachActiveFrameArrives : Algorithms → Type 0
 EachActiveFrameArrives gives = (n number : ℕ) (s : Side) (agg : AggId) (octets : Vec ℕ) (r : Reply) (old mid sent new : WorldState)
-    → IsBundle BothAreActive old → DisabledAreUnsynchronized (half s old).state → 352 ≤ n → Rounds gives n old mid
+    → IsBundle BothAreActive old → DisabledAreUnsynchronized (half s old).state → up_if_both_active ≤ n → Rounds gives n old mid
     → side_of number ≡ Some s → TakesFrame agg octets.items (half s mid).state
     → WorldSteps gives mid (event.Offer number agg octets) r sent → (q : IsRound gives sent new)
     → Arrives gives s agg octets.items mid r sent new q
 
--- So it does after 959, if one end of each is active.
+-- So it does after 661, if one end of each is active.
 abbrev pub EachFrameArrives : Algorithms → Type 0
 EachFrameArrives gives = (n number : ℕ) (s : Side) (agg : AggId) (octets : Vec ℕ) (r : Reply) (old mid sent new : WorldState)
-    → IsBundle OneIsActive old → DisabledAreUnsynchronized (half s old).state → 959 ≤ n → Rounds gives n old mid
+    → IsBundle OneIsActive old → DisabledAreUnsynchronized (half s old).state → up_if_one_is ≤ n → Rounds gives n old mid
     → side_of number ≡ Some s → TakesFrame agg octets.items (half s mid).state
     → WorldSteps gives mid (event.Offer number agg octets) r sent → (q : IsRound gives sent new)
     → Arrives gives s agg octets.items mid r sent new q

@@ -17,7 +17,7 @@ use Rattle.lagworld.specs.Sound.{IsSound, IsStart}
 use Rattle.lagworld.specs.State.{LinkState, WorldState, half, port_at}
 use Rattle.lagprogress.specs.ComingUp.{Distributes}
 use Rattle.lagprogress.specs.Progress.{EndKnows}
-use Rattle.lagprogress.specs.Rounds.{AtEnd, IsHealthyAt, Rounds}
+use Rattle.lagprogress.specs.Rounds.{AtEnd, IsHealthyAt, Rounds, known_if_both_active, known_if_one_is, up_if_both_active, up_if_one_is}
 use Rattle.lagprogress.specs.Selecting.{aggregators_with, ports_with}
 use Rattle.lagprogress.specs.Steady.{IsSteady}
 
@@ -33,12 +33,12 @@ BothAreActive l j = (s : Side) → AtEnd (λ p. p.active ≡ true) s l j
 -- the other, if both are active. No port has two cables.
 abbrev pub ActiveEndsOfEachKnow : Algorithms → Type 0
 ActiveEndsOfEachKnow gives = (n i : ℕ) (l : LinkState) (old new : WorldState) → IsCabling (world_setup old).cables → IsSteady old
-    → IsHealthyAt i l old → BothAreActive l old → 321 ≤ n → Rounds gives n old new → (s : Side) → EndKnows s l new
+    → IsHealthyAt i l old → BothAreActive l old → known_if_both_active ≤ n → Rounds gives n old new → (s : Side) → EndKnows s l new
 
 -- From 630 on they do, if one is active.
 abbrev pub EndsOfEachKnow : Algorithms → Type 0
 EndsOfEachKnow gives = (n i : ℕ) (l : LinkState) (old new : WorldState) → IsCabling (world_setup old).cables → IsSteady old
-    → IsHealthyAt i l old → OneIsActive l old → 630 ≤ n → Rounds gives n old new → (s : Side) → EndKnows s l new
+    → IsHealthyAt i l old → OneIsActive l old → known_if_one_is ≤ n → Rounds gives n old new → (s : Side) → EndKnows s l new
 
 -- port `number` of system s ends a healthy cable, of which this holds
 pub record EndsHealthyCable (Holds : LinkState → WorldState → Type 0) (s : Side) (number : ℕ) (j : WorldState) : Type 0 where
@@ -82,22 +82,22 @@ pub record IsBundle (Holds : LinkState → WorldState → Type 0) (j : WorldStat
 -- of each are active.
 abbrev pub EachActiveLinkComesUp : Algorithms → Type 0
 EachActiveLinkComesUp gives = (n i : ℕ) (l : LinkState) (old new : WorldState) → IsBundle BothAreActive old → IsHealthyAt i l old
-    → 352 ≤ n → Rounds gives n old new → (s : Side) → AtEnd Distributes s l new
+    → up_if_both_active ≤ n → Rounds gives n old new → (s : Side) → AtEnd Distributes s l new
 
--- From 959 on they do, if one end of each is active.
+-- From 661 on they do, if one end of each is active.
 abbrev pub EachLinkComesUp : Algorithms → Type 0
 EachLinkComesUp gives = (n i : ℕ) (l : LinkState) (old new : WorldState) → IsBundle OneIsActive old → IsHealthyAt i l old
-    → 959 ≤ n → Rounds gives n old new → (s : Side) → AtEnd Distributes s l new
+    → up_if_one_is ≤ n → Rounds gives n old new → (s : Side) → AtEnd Distributes s l new
 
--- And in a sound world the agreement of each such cable is Same, from 650 on if both ends of each are active, from 959 on if
+-- And in a sound world the agreement of each such cable is Same, from 352 on if both ends of each are active, from 661 on if
 -- one is.
 abbrev pub EachActiveLinkAgrees : Algorithms → Type 0
 EachActiveLinkAgrees gives = (n i : ℕ) (l : LinkState) (old new : WorldState) → IsSound old → IsBundle BothAreActive old
-    → IsHealthyAt i l old → 650 ≤ n → Rounds gives n old new → agreement_at new (suc i) ≡ Some Same
+    → IsHealthyAt i l old → up_if_both_active ≤ n → Rounds gives n old new → agreement_at new (suc i) ≡ Some Same
 
 abbrev pub EachLinkAgrees : Algorithms → Type 0
 EachLinkAgrees gives = (n i : ℕ) (l : LinkState) (old new : WorldState) → IsSound old → IsBundle OneIsActive old → IsHealthyAt i l old
-    → 959 ≤ n → Rounds gives n old new → agreement_at new (suc i) ≡ Some Same
+    → up_if_one_is ≤ n → Rounds gives n old new → agreement_at new (suc i) ≡ Some Same
 
 -- The systems differ of each world that events lead to from one that was made.
 abbrev pub ReachedIsApart : Algorithms → Type 0
@@ -116,22 +116,22 @@ ReachedIsBundle Holds gives = (config : WorldConfig) (es : List Event) (rs : Lis
 -- both ends of a cable are SELECTED after 352 healthy rounds or more, both distribute.
 abbrev pub ActiveSelectedPairsComeUp : Algorithms → Type 0
 ActiveSelectedPairsComeUp gives = (n i : ℕ) (l : LinkState) (old new : WorldState) → IsCabling (world_setup old).cables → IsSteady old
-    → AllHeard BothAreActive old → IsHealthyAt i l old → 352 ≤ n → Rounds gives n old new
+    → AllHeard BothAreActive old → IsHealthyAt i l old → up_if_both_active ≤ n → Rounds gives n old new
     → ((s : Side) → AtEnd (λ p. selected p ≡ true) s l new) → (s : Side) → AtEnd Distributes s l new
 
--- So it is after 959, if one end of each is active.
+-- So it is after 661, if one end of each is active.
 abbrev pub SelectedPairsComeUp : Algorithms → Type 0
 SelectedPairsComeUp gives = (n i : ℕ) (l : LinkState) (old new : WorldState) → IsCabling (world_setup old).cables → IsSteady old
-    → AllHeard OneIsActive old → IsHealthyAt i l old → 959 ≤ n → Rounds gives n old new
+    → AllHeard OneIsActive old → IsHealthyAt i l old → up_if_one_is ≤ n → Rounds gives n old new
     → ((s : Side) → AtEnd (λ p. selected p ≡ true) s l new) → (s : Side) → AtEnd Distributes s l new
 
--- And in a sound world the agreement of that cable is Same, after 650 or 959.
+-- And in a sound world the agreement of that cable is Same, after as many.
 abbrev pub ActiveSelectedPairsAgree : Algorithms → Type 0
 ActiveSelectedPairsAgree gives = (n i : ℕ) (l : LinkState) (old new : WorldState) → IsSound old → IsSteady old
-    → AllHeard BothAreActive old → IsHealthyAt i l old → 650 ≤ n → Rounds gives n old new
+    → AllHeard BothAreActive old → IsHealthyAt i l old → up_if_both_active ≤ n → Rounds gives n old new
     → ((s : Side) → AtEnd (λ p. selected p ≡ true) s l new) → agreement_at new (suc i) ≡ Some Same
 
 abbrev pub SelectedPairsAgree : Algorithms → Type 0
 SelectedPairsAgree gives = (n i : ℕ) (l : LinkState) (old new : WorldState) → IsSound old → IsSteady old → AllHeard OneIsActive old
-    → IsHealthyAt i l old → 959 ≤ n → Rounds gives n old new → ((s : Side) → AtEnd (λ p. selected p ≡ true) s l new)
+    → IsHealthyAt i l old → up_if_one_is ≤ n → Rounds gives n old new → ((s : Side) → AtEnd (λ p. selected p ≡ true) s l new)
     → agreement_at new (suc i) ≡ Some Same

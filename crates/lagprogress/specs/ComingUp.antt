@@ -8,7 +8,7 @@ use Rattle.lagsystem.specs.declared.system_ports.SystemPort.{SystemPort}
 use Rattle.lagsystem.specs.State.{SystemState}
 use Rattle.lagworld.specs.Events.{Algorithms}
 use Rattle.lagworld.specs.State.{LinkState, WorldState, half}
-use Rattle.lagprogress.specs.Rounds.{AtEnd, IsHealthy, Rounds}
+use Rattle.lagprogress.specs.Rounds.{AtEnd, IsHealthy, Rounds, up_if_both_active, up_if_one_is}
 use Rattle.lagprogress.specs.Selecting.{aggregators_with}
 use Rattle.lagprogress.specs.Steady.{IsSteady}
 
@@ -29,10 +29,10 @@ Distributes p = (p.mux ≡ CollectingDistributing) × (selected p ≡ true)
 abbrev pub ActiveLinkComesUp : Algorithms → Type 0
 ActiveLinkComesUp gives = (n : ℕ) (l : LinkState) (old new : WorldState) → IsSteady old → IsHealthy l old
     → ((s : Side) → HasRoom (half s old).state) → AreApart l old → ((s : Side) → AtEnd (λ p. p.active ≡ true) s l old)
-    → 352 ≤ n → Rounds gives n old new → (s : Side) → AtEnd Distributes s l new
+    → up_if_both_active ≤ n → Rounds gives n old new → (s : Side) → AtEnd Distributes s l new
 
--- From 959 on they do, if the end at system a is active.
+-- From 661 on they do, if the end at system a is active.
 abbrev pub LinkComesUp : Algorithms → Type 0
 LinkComesUp gives = (n : ℕ) (l : LinkState) (old new : WorldState) (a : Side) → IsSteady old → IsHealthy l old
     → ((s : Side) → HasRoom (half s old).state) → AreApart l old → AtEnd (λ p. p.active ≡ true) a l old
-    → 959 ≤ n → Rounds gives n old new → (s : Side) → AtEnd Distributes s l new
+    → up_if_one_is ≤ n → Rounds gives n old new → (s : Side) → AtEnd Distributes s l new

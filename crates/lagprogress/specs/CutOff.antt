@@ -1,20 +1,63 @@
 -- What becomes of a port that is cut off, beside any others (6.4.12; profile).
-use Rattle.std.specs.Prelude.{◌≡◌, ◌≤◌, ℕ, true, false, Some, slice_get}
+use Rattle.std.specs.Prelude.{◌≡◌, ◌≤◌, ◌⊎◌, ℕ, suc, true, false, Some, slice_get}
 use Rattle.portmachines.specs.declared.receive.ReceiveState.TheVariants.{Defaulted}
-use Rattle.lagmodel.specs.World.{Side}
+use Rattle.lagmodel.specs.World.{IsCabling, Side, peer}
 use Rattle.lagsystem.specs.declared.system_ports.SystemPort.{SystemPort}
+use Rattle.lagworld.specs.declared.agreement.Agreement.TheVariants.{Same}
+use Rattle.lagworld.specs.Agreement.{agreement_at}
 use Rattle.lagworld.specs.Events.{Algorithms}
+use Rattle.lagworld.specs.ModelWorld.{world_setup}
+use Rattle.lagworld.specs.Sound.{IsSound}
 use Rattle.lagworld.specs.State.{LinkState, WorldState, half, port_at}
-use Rattle.lagprogress.specs.Rounds.{Rounds}
+use Rattle.lagprogress.specs.Bundle.{EndsHealthyCable, EnoughAggregators, EnoughLinks, OneIsActive, SystemsDiffer}
+use Rattle.lagprogress.specs.ComingUp.{Distributes}
+use Rattle.lagprogress.specs.Freed.{HasIdentifierLeft, NoneIsHeldOn}
+use Rattle.lagprogress.specs.Rounds.{AtEnd, IsHealthyAt, Rounds}
 use Rattle.lagprogress.specs.Steady.{IsSteady}
 
--- no whole cable joins port `number` of system s
+-- each port of system s with this number has its link down
+abbrev pub IsDown : Side → ℕ → WorldState → Type 0
+IsDown s number j = (k : ℕ) (x : SystemPort) → slice_get (half s j).state.system_ports k ≡ Some x → x.number ≡ number
+    → x.port.enabled ≡ false
+
+-- each cable of port `number` of system s is cut, or silent: it ends at a port whose link is down
 abbrev pub IsCutOff : Side → ℕ → WorldState → Type 0
-IsCutOff s number j = (i : ℕ) (l : LinkState) → slice_get j.links i ≡ Some l → port_at s l ≡ number → l.whole ≡ false
+IsCutOff s number j = (i : ℕ) (l : LinkState) → slice_get j.links i ≡ Some l → port_at s l ≡ number
+    → (l.whole ≡ false) ⊎ IsDown (peer s) (port_at (peer s) l) j
 
 -- After 931 healthy rounds or more, whatever was before them and whatever the other cables are, a port whose link is up and that
--- no whole cable joins is DEFAULTED.
+-- is cut off is DEFAULTED.
 abbrev pub CutOffIsDefaulted : Algorithms → Type 0
 CutOffIsDefaulted gives = (n k : ℕ) (s : Side) (x y : SystemPort) (old new : WorldState) → IsSteady old
     → slice_get (half s old).state.system_ports k ≡ Some x → x.port.enabled ≡ true → IsCutOff s x.number old
     → 931 ≤ n → Rounds gives n old new → slice_get (half s new).state.system_ports k ≡ Some y → y.port.receive ≡ Defaulted
+
+-- each port whose link is up ends a healthy cable with an active end, or is cut off
+abbrev pub AllHeardOrCutOff : WorldState → Type 0
+AllHeardOrCutOff j = (s : Side) (k : ℕ) (x : SystemPort) → slice_get (half s j).state.system_ports k ≡ Some x → x.port.enabled ≡ true
+    → EndsHealthyCable OneIsActive s x.number j ⊎ IsCutOff s x.number j
+
+-- As `IsBundle`, but beside the healthy cables there may be ports that are cut off while their links are up.
+pub record IsBundleBesideCutOffs (j : WorldState) : Type 0 where
+  pub steady : IsSteady j
+  pub cabling : IsCabling (world_setup j).cables
+  pub differ : SystemsDiffer j
+  pub heard : AllHeardOrCutOff j
+  pub aggregators : (s : Side) → EnoughAggregators (half s j).state
+  pub links : (s : Side) → EnoughLinks (half s j).state
+
+-- From 962 healthy rounds on, whatever was before them, both ends of each healthy cable of such a bundle distribute.
+abbrev pub EachLinkComesUpBesideCutOffs : Algorithms → Type 0
+EachLinkComesUpBesideCutOffs gives = (n i : ℕ) (l : LinkState) (old new : WorldState) → IsBundleBesideCutOffs old → IsHealthyAt i l old
+    → 962 ≤ n → Rounds gives n old new → (s : Side) → AtEnd Distributes s l new
+
+-- And in a sound world the agreement of each such cable is Same.
+abbrev pub EachLinkAgreesBesideCutOffs : Algorithms → Type 0
+EachLinkAgreesBesideCutOffs gives = (n i : ℕ) (l : LinkState) (old new : WorldState) → IsSound old → IsBundleBesideCutOffs old
+    → IsHealthyAt i l old → 962 ≤ n → Rounds gives n old new → agreement_at new (suc i) ≡ Some Same
+
+-- From 992 on no conversation is held on an end of a healthy cable, if its system has an identifier left in the end.
+abbrev pub NoneIsHeldBesideCutOffs : Algorithms → Type 0
+NoneIsHeldBesideCutOffs gives = (n i : ℕ) (l : LinkState) (old new : WorldState) (s : Side) → IsBundleBesideCutOffs old
+    → IsHealthyAt i l old → 992 ≤ n → Rounds gives n old new → HasIdentifierLeft (half s new).state
+    → NoneIsHeldOn (port_at s l) (half s new).state

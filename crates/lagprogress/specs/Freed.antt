@@ -14,7 +14,7 @@ use Rattle.lagworld.specs.Making.{AreFirst}
 use Rattle.lagworld.specs.Sound.{IsStart}
 use Rattle.lagworld.specs.State.{LinkState, WorldState, half, port_at}
 use Rattle.lagprogress.specs.Bundle.{BothAreActive, IsBundle, OneIsActive}
-use Rattle.lagprogress.specs.Rounds.{IsHealthyAt, Rounds}
+use Rattle.lagprogress.specs.Rounds.{IsHealthyAt, Rounds, freed_if_both_active, freed_if_one_is}
 
 -- the port that the conversation is held on: a marker is to be sent there, or its response is waited for
 abbrev pub held_on : Assignment → Option ℕ
@@ -54,22 +54,22 @@ CarriersAreUp s = (g k p : ℕ) → IsConversation s.table g k → carrier_of (a
 -- both ends of each such cable are active, and its system has an identifier left in the end.
 abbrev pub NoneIsHeldOnActiveEnds : Algorithms → Type 0
 NoneIsHeldOnActiveEnds gives = (n i : ℕ) (l : LinkState) (old new : WorldState) (s : Side) → IsBundle BothAreActive old
-    → IsHealthyAt i l old → 382 ≤ n → Rounds gives n old new → HasIdentifierLeft (half s new).state
+    → IsHealthyAt i l old → freed_if_both_active ≤ n → Rounds gives n old new → HasIdentifierLeft (half s new).state
     → NoneIsHeldOn (port_at s l) (half s new).state
 
--- From 989 on, if one end of each is active.
+-- From 691 on, if one end of each is active.
 abbrev pub NoneIsHeldOnEnds : Algorithms → Type 0
 NoneIsHeldOnEnds gives = (n i : ℕ) (l : LinkState) (old new : WorldState) (s : Side) → IsBundle OneIsActive old → IsHealthyAt i l old
-    → 989 ≤ n → Rounds gives n old new → HasIdentifierLeft (half s new).state → NoneIsHeldOn (port_at s l) (half s new).state
+    → freed_if_one_is ≤ n → Rounds gives n old new → HasIdentifierLeft (half s new).state → NoneIsHeldOn (port_at s l) (half s new).state
 
 -- And no conversation of a system is held at all, if the links of the ports were up that carried one, or held one.
 abbrev pub NoneIsHeldWhereActive : Algorithms → Type 0
 NoneIsHeldWhereActive gives = (n : ℕ) (old new : WorldState) (s : Side) → IsBundle BothAreActive old → CarriersAreUp (half s old).state
-    → 382 ≤ n → Rounds gives n old new → HasIdentifierLeft (half s new).state → NoneIsHeld (half s new).state
+    → freed_if_both_active ≤ n → Rounds gives n old new → HasIdentifierLeft (half s new).state → NoneIsHeld (half s new).state
 
 abbrev pub NothingIsHeld : Algorithms → Type 0
 NothingIsHeld gives = (n : ℕ) (old new : WorldState) (s : Side) → IsBundle OneIsActive old → CarriersAreUp (half s old).state
-    → 989 ≤ n → Rounds gives n old new → HasIdentifierLeft (half s new).state → NoneIsHeld (half s new).state
+    → freed_if_one_is ≤ n → Rounds gives n old new → HasIdentifierLeft (half s new).state → NoneIsHeld (half s new).state
 
 -- So it is with both systems of each world that events lead to from a start.
 abbrev pub EachReachedHasCarriersUp : Algorithms → Type 0

@@ -7,7 +7,7 @@ use Rattle.portmachines.specs.declared.receive.ReceiveState.TheVariants.{Current
 use Rattle.lagmodel.specs.World.{Side, peer}
 use Rattle.lagworld.specs.Events.{Algorithms}
 use Rattle.lagworld.specs.State.{LinkState, WorldState}
-use Rattle.lagprogress.specs.Rounds.{AtEnd, IsHealthy, Rounds}
+use Rattle.lagprogress.specs.Rounds.{AtEnd, IsHealthy, Rounds, known_if_both_active, known_if_one_is}
 use Rattle.lagprogress.specs.Steady.{IsSteady}
 
 -- p is CURRENT, on no defaults and not Expired, and has recorded q as it is: its parameters, its Activity and its Timeout
@@ -26,9 +26,9 @@ EndKnows s l j = AtEnd (λ p. AtEnd (λ q. Knows p q) (peer s) l j) s l j
 -- From 321 healthy rounds on, whatever was before them, each end of the cable knows the other, if both are active.
 abbrev pub ActiveEndsComeToKnow : Algorithms → Type 0
 ActiveEndsComeToKnow gives = (n : ℕ) (l : LinkState) (old new : WorldState) → IsSteady old → IsHealthy l old
-    → ((s : Side) → AtEnd (λ p. p.active ≡ true) s l old) → 321 ≤ n → Rounds gives n old new → (s : Side) → EndKnows s l new
+    → ((s : Side) → AtEnd (λ p. p.active ≡ true) s l old) → known_if_both_active ≤ n → Rounds gives n old new → (s : Side) → EndKnows s l new
 
 -- From 630 on they do, if the end at system a is active.
 abbrev pub EndsComeToKnow : Algorithms → Type 0
 EndsComeToKnow gives = (n : ℕ) (l : LinkState) (old new : WorldState) (a : Side) → IsSteady old → IsHealthy l old
-    → AtEnd (λ p. p.active ≡ true) a l old → 630 ≤ n → Rounds gives n old new → (s : Side) → EndKnows s l new
+    → AtEnd (λ p. p.active ≡ true) a l old → known_if_one_is ≤ n → Rounds gives n old new → (s : Side) → EndKnows s l new

@@ -69,3 +69,23 @@ pub record IsHealthyAt (i : ℕ) (l : LinkState) (j : WorldState) : Type 0 where
   pub whole : l.whole ≡ true
   pub unlimited : (s : Side) → limit_towards s l ≡ None
   pub up : (s : Side) → AtEnd (λ p. p.enabled ≡ true) s l j
+
+-- After so many healthy rounds, whatever was before them, this holds of healthy cables: their ends know each other, if both are
+-- active, and if one is; they distribute and agree; and no conversation is held on them.
+abbrev pub known_if_both_active : ℕ
+known_if_both_active = 321
+
+abbrev pub known_if_one_is : ℕ
+known_if_one_is = 630
+
+abbrev pub up_if_both_active : ℕ
+up_if_both_active = 352
+
+abbrev pub up_if_one_is : ℕ
+up_if_one_is = 661
+
+abbrev pub freed_if_both_active : ℕ
+freed_if_both_active = 382
+
+abbrev pub freed_if_one_is : ℕ
+freed_if_one_is = 691

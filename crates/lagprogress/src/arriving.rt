@@ -23,7 +23,7 @@ pub fn disabled_ports_have_unsynchronized_partners<F: Fn(u16, usize) -> usize>()
 ghost use Rattle.lagprogress.specs.Arriving.{EachActiveFrameArrives, EachFrameArrives};
 
 /// A data frame that a bundle as in `each_link_comes_up` is offered after 352 healthy rounds (35.2 s) or more if both ends of each
-/// healthy cable are active, after 959 (95.9 s) if one is, arrives within one healthy round (100 ms), whatever was before them:
+/// healthy cable are active, after 661 (66.1 s) if one is, arrives within one healthy round (100 ms), whatever was before them:
 /// it gets a port that distributes in the aggregator, its cable accepts it, and at the other end it is handed up, with the same
 /// octets, in the aggregator in which the port there collects. The system takes the frame as in `frames_pass_cables`
 /// (6.2.3, 6.2.4; profile).

@@ -16,7 +16,7 @@ ghost use Rattle.lagprogress.specs.Silence.{SilenceEnds};
 pub use arriving::{
     disabled_ports_have_unsynchronized_partners, each_frame_arrives, frames_pass_cables,
 };
-pub use cut_off::cut_off_ports_are_defaulted;
+pub use cut_off::{cut_off_ports_are_defaulted, each_link_comes_up_beside_cut_offs};
 pub use limits::{down_ports_are_unselected, each_limited_link_agrees};
 pub use playing::{play_round, play_rounds};
 
@@ -151,7 +151,7 @@ pub fn ends_come_to_know<F: Fn(u16, usize) -> usize>()
 ghost use Rattle.lagprogress.specs.ComingUp.{ActiveLinkComesUp, LinkComesUp};
 
 /// Links come up: in a world with one cable that is whole and has no limit, with the links of both of its ports up, both
-/// ports are SELECTED and distribute from 352 healthy rounds (35.2 s) on if both are active, from 959 (95.9 s) on if one is,
+/// ports are SELECTED and distribute from 352 healthy rounds (35.2 s) on if both are active, from 661 (66.1 s) on if one is,
 /// whatever was before them. Each system has one port, and an aggregator with its key; the two systems differ; both are
 /// sound, and their timers within their bounds, as in each world that events lead to (6.4.12 to 6.4.16).
 pub fn links_come_up<F: Fn(u16, usize) -> usize>()
@@ -161,8 +161,8 @@ pub fn links_come_up<F: Fn(u16, usize) -> usize>()
 
 ghost use Rattle.lagprogress.specs.Agreeing.{ActiveLinkAgrees, LinkAgrees};
 
-/// And then the ends agree: in a sound world as in `links_come_up` the agreement of the cable is `Same`, from 650
-/// healthy rounds (65 s) on if both ends are active, from 959 (95.9 s) on if one is (6.3.6; profile).
+/// And then the ends agree: in a sound world as in `links_come_up` the agreement of the cable is `Same` from as many
+/// healthy rounds on: 352 (35.2 s) if both ends are active, 661 (66.1 s) if one is (6.3.6; profile).
 pub fn links_agree<F: Fn(u16, usize) -> usize>()
     ensures both { (one two : F) → ActiveLinkAgrees (both_algorithms (F.post one) (F.post two)) }
     ensures one { (one two : F) → LinkAgrees (both_algorithms (F.post one) (F.post two)) }
@@ -194,7 +194,7 @@ pub fn reached_worlds_are_bundles<F: Fn(u16, usize) -> usize>()
 ghost use Rattle.lagprogress.specs.Bundle.{EachActiveLinkComesUp, EachLinkComesUp};
 
 /// The links of a bundle come up: both ends of each healthy cable are SELECTED and distribute from 352 healthy rounds
-/// (35.2 s) on if both ends of each are active, from 959 (95.9 s) on if one end of each is, whatever was before them. Each port whose
+/// (35.2 s) on if both ends of each are active, from 661 (66.1 s) on if one end of each is, whatever was before them. Each port whose
 /// link is up ends a healthy cable; each system has as many aggregators of a port's key as ports of that key, and a limit of
 /// links, if it has one, is no less; the two systems differ, both are sound, and their timers are within their bounds. Other
 /// cables may be cut, or end at ports whose links are down (6.4.12 to 6.4.16).
@@ -205,8 +205,8 @@ pub fn each_link_comes_up<F: Fn(u16, usize) -> usize>()
 
 ghost use Rattle.lagprogress.specs.Bundle.{EachActiveLinkAgrees, EachLinkAgrees};
 
-/// And then the ends agree: in a sound world as in `each_link_comes_up` the agreement of each healthy cable is `Same`, from 650
-/// healthy rounds (65 s) on if both ends of each are active, from 959 (95.9 s) on if one is (6.3.6; profile).
+/// And then the ends agree: in a sound world as in `each_link_comes_up` the agreement of each healthy cable is `Same` from as many
+/// healthy rounds on: 352 (35.2 s) if both ends of each are active, 661 (66.1 s) if one is (6.3.6; profile).
 pub fn each_link_agrees<F: Fn(u16, usize) -> usize>()
     ensures both { (one two : F) → EachActiveLinkAgrees (both_algorithms (F.post one) (F.post two)) }
     ensures one { (one two : F) → EachLinkAgrees (both_algorithms (F.post one) (F.post two)) }
@@ -215,8 +215,8 @@ pub fn each_link_agrees<F: Fn(u16, usize) -> usize>()
 ghost use Rattle.lagprogress.specs.Bundle.{ActiveSelectedPairsAgree, ActiveSelectedPairsComeUp, SelectedPairsAgree, SelectedPairsComeUp};
 
 /// However few aggregators and links the systems have: if each port whose link is up ends a healthy cable, and both ends of one
-/// are SELECTED after 352 healthy rounds or more if both ends of each are active, after 959 if one is, then both distribute. In a
-/// sound world the agreement of that cable is `Same`, if they are SELECTED after 650 or 959, whatever was before the rounds (6.3.6, 6.4.12 to 6.4.16; profile).
+/// are SELECTED after 352 healthy rounds or more if both ends of each are active, after 661 if one is, then both distribute, and in
+/// a sound world the agreement of that cable is `Same`, whatever was before the rounds (6.3.6, 6.4.12 to 6.4.16; profile).
 pub fn selected_pairs_agree<F: Fn(u16, usize) -> usize>()
     ensures up_both { (one two : F) → ActiveSelectedPairsComeUp (both_algorithms (F.post one) (F.post two)) }
     ensures up_one { (one two : F) → SelectedPairsComeUp (both_algorithms (F.post one) (F.post two)) }
@@ -227,7 +227,7 @@ pub fn selected_pairs_agree<F: Fn(u16, usize) -> usize>()
 ghost use Rattle.lagprogress.specs.Freed.{NoneIsHeldOnActiveEnds, NoneIsHeldOnEnds, NoneIsHeldWhereActive, NothingIsHeld};
 
 /// Conversations that are held in a bundle as in `each_link_comes_up` are freed: from 382 healthy rounds (38.2 s) on if both ends
-/// of each healthy cable are active, from 989 (98.9 s) on if one is, no conversation is Wanted or Flushing on an end of a
+/// of each healthy cable are active, from 691 (69.1 s) on if one is, no conversation is Wanted or Flushing on an end of a
 /// healthy cable, whatever was before them, if an identifier for a marker is left in the end. And none is at all in a system
 /// in which each port that carried a conversation, or held one, had its link up (6.2.5; profile).
 pub fn held_conversations_are_freed<F: Fn(u16, usize) -> usize>()

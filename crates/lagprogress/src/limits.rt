@@ -11,8 +11,8 @@ pub fn down_ports_are_unselected<F: Fn(u16, usize) -> usize>()
 
 ghost use Rattle.lagprogress.specs.Limited.{EachActiveLimitedLinkAgrees, EachLimitedLinkAgrees};
 
-/// A bundle one of whose systems has a limit of links carries on as many: after 650 healthy rounds (65 s) or more if both ends
-/// of each healthy cable are active, after 959 (95.9 s) if one is, whatever was before them, the agreement of each healthy cable
+/// A bundle one of whose systems has a limit of links carries on as many: after 352 healthy rounds (35.2 s) or more if both ends
+/// of each healthy cable are active, after 661 (66.1 s) if one is, whatever was before them, the agreement of each healthy cable
 /// is `Same`, or its end at that system is STANDBY in an aggregator that has as many members as the limit, and each of these
 /// ends a cable whose agreement is `Same`. The world is sound; each port whose link is up ends a healthy cable; each system has
 /// as many aggregators of a port's key as ports of that key; the limit of the other system, if it has one, is no less than

@@ -7,7 +7,7 @@ ghost use Rattle.lagworld.specs.Sound.{both_algorithms};
 ghost use Rattle.lagprogress.specs.Bundle.{BothAreActive, OneIsActive};
 ghost use Rattle.lagprogress.specs.Played.{Delivers, EachAgrees, EachDistributes, IsOutOfMemoryOrSpent, IsRefused, LeadsTo, NamesNoCable};
 ghost use Rattle.lagprogress.specs.Played.{NothingStaysHeld, PlaysPart, RunsAll, RunsPart, StopsInRound, found_nothing};
-ghost use Rattle.lagprogress.specs.Rounds.{IsRound, NothingInFlight, Rounds, asks_all};
+ghost use Rattle.lagprogress.specs.Rounds.{IsRound, NothingInFlight, Rounds, asks_all, freed_if_both_active, freed_if_one_is, up_if_both_active, up_if_one_is};
 
 use cables::Cable;
 use lagworld::{Event, Reply, World, WorldFault};
@@ -173,17 +173,17 @@ pub fn play_rounds<C: Cable, F: Fn(u16, usize) -> usize + Drop>(
     requires two { PicksIndexes (F.pre world.old.two) (F.post world.old.two) }
     ensures rounds { IfOk result (λ done. Rounds (both_algorithms (F.post world.old.one) (F.post world.old.two)) count world.old.state
         world.new.state) }
-    ensures distributes_both { IfOk result (λ done. LeadsTo C.items C.limit EachDistributes BothAreActive 352
+    ensures distributes_both { IfOk result (λ done. LeadsTo C.items C.limit EachDistributes BothAreActive up_if_both_active
         (both_algorithms (F.post world.old.one) (F.post world.old.two)) count world.old.state world.new.state) }
-    ensures agrees_both { IfOk result (λ done. LeadsTo C.items C.limit EachAgrees BothAreActive 650
+    ensures agrees_both { IfOk result (λ done. LeadsTo C.items C.limit EachAgrees BothAreActive up_if_both_active
         (both_algorithms (F.post world.old.one) (F.post world.old.two)) count world.old.state world.new.state) }
-    ensures frees_both { IfOk result (λ done. LeadsTo C.items C.limit NothingStaysHeld BothAreActive 382
+    ensures frees_both { IfOk result (λ done. LeadsTo C.items C.limit NothingStaysHeld BothAreActive freed_if_both_active
         (both_algorithms (F.post world.old.one) (F.post world.old.two)) count world.old.state world.new.state) }
-    ensures distributes_one { IfOk result (λ done. LeadsTo C.items C.limit EachDistributes OneIsActive 959
+    ensures distributes_one { IfOk result (λ done. LeadsTo C.items C.limit EachDistributes OneIsActive up_if_one_is
         (both_algorithms (F.post world.old.one) (F.post world.old.two)) count world.old.state world.new.state) }
-    ensures agrees_one { IfOk result (λ done. LeadsTo C.items C.limit EachAgrees OneIsActive 959
+    ensures agrees_one { IfOk result (λ done. LeadsTo C.items C.limit EachAgrees OneIsActive up_if_one_is
         (both_algorithms (F.post world.old.one) (F.post world.old.two)) count world.old.state world.new.state) }
-    ensures frees_one { IfOk result (λ done. LeadsTo C.items C.limit NothingStaysHeld OneIsActive 989
+    ensures frees_one { IfOk result (λ done. LeadsTo C.items C.limit NothingStaysHeld OneIsActive freed_if_one_is
         (both_algorithms (F.post world.old.one) (F.post world.old.two)) count world.old.state world.new.state) }
     ensures stopped { IfErr result (λ fault. StopsInRound (both_algorithms (F.post world.old.one) (F.post world.old.two)) fault count
         world.old.state world.new.state) }

@@ -122,14 +122,14 @@ fn agree(rt: &impl Abort, alloc: Global, ends: Ends, rounds: u16) -> Result<(), 
 }
 
 #[test]
-fn crossed_cables_agree_in_650_healthy_rounds(rt: HostRuntime) -> Result<(), Fail> {
-    agree(&rt, rt.alloc(), ACTIVE, 650)?;
+fn crossed_cables_agree_in_352_healthy_rounds(rt: HostRuntime) -> Result<(), Fail> {
+    agree(&rt, rt.alloc(), ACTIVE, 352)?;
     Ok(())
 }
 
 #[test]
-fn crossed_cables_with_a_passive_end_agree_in_959(rt: HostRuntime) -> Result<(), Fail> {
-    agree(&rt, rt.alloc(), HALF_PASSIVE, 959)?;
+fn crossed_cables_with_a_passive_end_agree_in_661(rt: HostRuntime) -> Result<(), Fail> {
+    agree(&rt, rt.alloc(), HALF_PASSIVE, 661)?;
     Ok(())
 }
 

@@ -64,16 +64,16 @@ fn comes_up(
 }
 
 #[test]
-fn a_link_comes_up_in_650_healthy_rounds(rt: HostRuntime) -> Result<(), Fail> {
-    comes_up(&rt, rt.alloc(), LONG, [&STARTED, &[]], 650)?;
-    comes_up(&rt, rt.alloc(), ONE, [&ON_DEFAULTS, &[]], 650)?;
-    comes_up(&rt, rt.alloc(), ONE, [&ONE_CABLE, &MENDED], 650)?;
+fn a_link_comes_up_in_352_healthy_rounds(rt: HostRuntime) -> Result<(), Fail> {
+    comes_up(&rt, rt.alloc(), LONG, [&STARTED, &[]], 352)?;
+    comes_up(&rt, rt.alloc(), ONE, [&ON_DEFAULTS, &[]], 352)?;
+    comes_up(&rt, rt.alloc(), ONE, [&ONE_CABLE, &MENDED], 352)?;
     Ok(())
 }
 
 #[test]
 fn a_link_stays_up_in_more_healthy_rounds(rt: HostRuntime) -> Result<(), Fail> {
-    comes_up(&rt, rt.alloc(), LONG, [&STARTED, &[]], 651)?;
-    comes_up(&rt, rt.alloc(), ONE, [&ONE_CABLE, &MENDED], 960)?;
+    comes_up(&rt, rt.alloc(), LONG, [&STARTED, &[]], 353)?;
+    comes_up(&rt, rt.alloc(), ONE, [&ONE_CABLE, &MENDED], 662)?;
     Ok(())
 }

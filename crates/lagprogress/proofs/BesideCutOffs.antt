@@ -1,0 +1,229 @@
+-- What is cut off does no harm: the other links come up beside it.
+use Rattle.std.proofs.Common.{◌≡◌, ◌∙◌, ℕ, ◌-◌, ◌==◌, true, false, inl, inr, refl, sym, subst, ap, arith, Some}
+use Rattle.std.specs.Prelude.{slice_get}
+use Rattle.std.proofs.lemmas.Bool.{cases_Bool}
+use Rattle.std.proofs.lemmas.Option.{same_Some}
+use Rattle.lagtypes.specs.declared.party.Choice.{Choice}
+use Rattle.lagtypes.specs.declared.party.Choice.TheVariants.{Unselected, Selected, Standby}
+use Rattle.lagtypes.specs.declared.party.Party.{Party}
+use Rattle.lagtypes.specs.Choices.{is_selected}
+use Rattle.lagtypes.specs.Same.{same_system}
+use Rattle.lagtypes.proofs.SameLemmas.{exact_system, system-itself}
+use Rattle.slowpdu.specs.declared.pdu.Info.{Info}
+use Rattle.portmachines.specs.declared.receive.ReceiveState.TheVariants.{Initialize, PortDisabled, Expired, Defaulted, Current}
+use Rattle.portmachines.specs.Machines.{Machines}
+use Rattle.portmachines.specs.Mux.{mux_rows}
+use Rattle.portmachines.specs.Periodic.{periodic_rows}
+use Rattle.portmachines.specs.Receive.{receive_rows, same_receive_state}
+use Rattle.portmachines.specs.Rows.{RunsToRest}
+use Rattle.portmachines.specs.Transmit.{count_down}
+use Rattle.lagmodel.specs.World.{Side, peer}
+use Rattle.lagsystem.specs.declared.system_ports.SystemPort.{SystemPort}
+use Rattle.lagsystem.specs.NothingToSettle.{MuxIsSettled}
+use Rattle.lagsystem.specs.Occupants.{occupied}
+use Rattle.lagsystem.specs.State.{SystemState}
+use Rattle.lagsystem.proofs.Rising.{all-get, found_place, ports_rise}
+use Rattle.lagworld.specs.Events.{Algorithms}
+use Rattle.lagworld.specs.State.{LinkState, WorldState, half, port_at}
+use Rattle.lagprogress.specs.Bundle.{EnoughAggregators, EnoughLinks, OneIsActive}
+use Rattle.lagprogress.specs.CutOff.{EachLinkAgreesBesideCutOffs, EachLinkComesUpBesideCutOffs, IsBundleBesideCutOffs, IsCutOff, NoneIsHeldBesideCutOffs}
+use Rattle.lagprogress.specs.Rounds.{IsHealthyAt, Rounds}
+use Rattle.lagprogress.specs.Selecting.{WantsAggregator}
+use Rattle.lagprogress.specs.Timers.{IsTimed}
+use Rattle.lagprogress.proofs.Bundling.{IsMixed, agree_of, distribute_of, as_before, ends_at, never_stands, old_port, one_wakes, still_aggregators, still_links}
+use Rattle.lagprogress.proofs.Climbing.{Ripe, Rising, rising_first, rising_rows, state_not}
+use Rattle.lagprogress.proofs.ComingUp.{active_at, zero_on}
+use Rattle.lagprogress.proofs.CutOffLemmas.{Severed, WereDown, cut_off_is_defaulted, cut_round, cut_since}
+use Rattle.lagprogress.specs.Steady.{IsSteady}
+use Rattle.lagprogress.proofs.EachPort.{KeptBySettling}
+use Rattle.lagprogress.proofs.EachRound.{EachAt, rounds_steady}
+use Rattle.lagprogress.proofs.Freeing.{freed_of}
+use Rattle.lagprogress.proofs.Hearing.{EnabledKeep, no, not_down, times_keep}
+use Rattle.lagprogress.proofs.OneActive.{named_at, one_meets}
+use Rattle.lagprogress.proofs.OnePort.{AtPort, at_number}
+use Rattle.lagprogress.proofs.Progressing.{Fresh, said_by, starts}
+use Rattle.lagprogress.proofs.Selecting.{finds_aggregator}
+use Rattle.lagprogress.proofs.Timers.{runs_keep}
+
+-- a port that hears nothing and is DEFAULTED stays as it is
+
+-- DEFAULTED, with its link up and with this partner
+abbrev Idle : Info → Machines → Type 0
+Idle c q = (q.enabled ≡ true) × (q.receive ≡ Defaulted) × (q.partner ≡ c)
+
+still_rows : (c : Info) (o : Machines) → EnabledKeep (λ r. Idle c r × (r ≡ o)) receive_rows
+still_rows c o = (
+  λ p h a. absurd (state_not Initialize p.receive true (ap (same_receive_state Initialize) a.0.1) h),
+  (
+    λ p h a. absurd (not_down _ p.enabled h a.0.0),
+    (
+      λ p h a. absurd (state_not PortDisabled p.receive p.enabled (ap (same_receive_state PortDisabled) a.0.1) h),
+      (
+        λ p h a. absurd (state_not Expired p.receive (p.current_while == 0) (ap (same_receive_state Expired) a.0.1) h),
+        (λ p h a. absurd (state_not Current p.receive (p.current_while == 0) (ap (same_receive_state Current) a.0.1) h), tt),
+      ),
+    ),
+  ),
+)
+
+idle_ticks : (c : Info) (p q : Machines) → RunsToRest receive_rows (count_down p) q → Idle c p → q ≡ count_down p
+idle_ticks c p q h a = (times_keep (λ r. Idle c r × (r ≡ count_down p)) receive_rows (still_rows c (count_down p)) h.0 (count_down p) q h.1
+    (a, refl)).1
+
+idle_settles : (n : ℕ) (c : Info) → KeptBySettling (AtPort n (Idle c))
+idle_settles n c = record {
+  mux = λ m ready p q h a e. runs_keep (Idle c) (mux_rows ready)
+      (λ p a. a, (λ p a. a, (λ p a. a, (λ p a. a, (λ p a. a, (λ p a. a, tt)))))) p q h (a e);
+  periodic = λ m p q h a e. subst (Idle c) (sym h.2) (runs_keep (Idle c) periodic_rows
+      (λ p a. a, (λ p a. a, (λ p a. a, (λ p a. a, (λ p a. a, (λ p a. a, (λ p a. a, tt))))))) p h.0 h.1 (a e));
+  select = λ m choice p none may a e. a e;
+}
+
+-- and climbs
+abbrev IdleRising : Info → ℕ → Machines → Type 0
+IdleRising c t q = Idle c q × Rising t q
+
+climbing_settles : (n : ℕ) (c : Info) (t : ℕ) → KeptBySettling (AtPort n (IdleRising c t))
+climbing_settles n c t =
+    let k = idle_settles n c in
+    record {
+      mux = λ m ready p q h a e. (
+        k.mux m ready p q h (λ f. (a f).0) e,
+        times_keep (Rising t) (mux_rows ready) (rising_rows t ready) h.0 p q h.1 (a e).1,
+      );
+      periodic = λ m p q h a e. (
+        k.periodic m p q h (λ f. (a f).0) e,
+        subst (Rising t) (sym h.2) (runs_keep (Rising t) periodic_rows
+            (λ p a. a, (λ p a. a, (λ p a. a, (λ p a. a, (λ p a. a, (λ p a. a, (λ p a. a, tt))))))) p h.0 h.1 (a e).1),
+      );
+      select = λ m choice p none may a e. absurd (no (sym none ∙ (a e).1.0));
+    }
+
+climbing_ticks : (c : Info) (t : ℕ) (p q : Machines) → RunsToRest receive_rows (count_down p) q → IdleRising c t p → IdleRising c (t - 1) q
+climbing_ticks c t p q h a = subst (IdleRising c (t - 1)) (sym (idle_ticks c p q h a.0)) (
+  a.0,
+  (
+    a.1.0,
+    elim a.1.1 [
+      | inl s ↦ inl s
+      | inr w ↦ (let m = w.1 in inr (w.0, omega (arith, m)))
+    ],
+  ),
+)
+
+-- so it has risen if it is SELECTED
+
+chosen_occupies : (c : Choice) → is_selected c ≡ true → (g : ℕ) × (occupied c ≡ Some g)
+chosen_occupies Unselected h = absurd (no h)
+chosen_occupies (Selected agg) h = (agg.0, refl)
+chosen_occupies (Standby agg) h = absurd (no h)
+
+module _ (gives : Algorithms) (s : Side) (k : ℕ) (x : SystemPort) (mid top : WorldState) (steady : IsSteady mid)
+    (aggregators : EnoughAggregators (half s mid).state) (links : EnoughLinks (half s mid).state)
+    (there : slice_get (half s mid).state.system_ports k ≡ Some x) (up : x.port.enabled ≡ true) (defaulted : x.port.receive ≡ Defaulted)
+    (M : ℕ → Type 0) (cut : Severed 1 s x.number M mid) (more : Rounds gives 20 mid top) where
+  abbrev c : Info
+  c = x.port.partner
+
+  abbrev st : SystemState
+  st = (half s mid).state
+
+  stays : EachAt (AtPort x.number (Idle c)) s top
+  stays = (zero_on gives (λ m j. EachAt (AtPort x.number (Idle c)) s j × Severed 1 s x.number M j) mid
+      (at_number (Idle c) 0 st.system_ports k x (ports_rise st (steady s).0.ports) there (up, defaulted, refl), cut)
+      (λ m i j q a. cut_round x.number M (Idle c) (idle_settles x.number c) (λ p y. y) (Idle c)
+      (λ p r run y. subst (Idle c) (sym (idle_ticks c p r run y)) y) gives s i j q a) 20 top more).0
+
+  climbs : is_selected x.port.choice ≡ true → EachAt (AtPort x.number (IdleRising c 0)) s top
+  climbs sel =
+      let mux = (all-get (MuxIsSettled st.keys st.system_ports) st.system_ports k x there (steady s).0.quiet.0).mux in
+      let timed = all-get (λ (z : SystemPort). IsTimed z.port) st.system_ports k x there (steady s).1 in
+      let first : EachAt (AtPort x.number (IdleRising c 20)) s mid = at_number (IdleRising c 20) 0 st.system_ports k x
+      (ports_rise st (steady s).0.ports) there ((up, defaulted, refl), rising_first x.port mux timed sel) in
+      let last = zero_on gives (λ m j. EachAt (AtPort x.number (IdleRising c (20 - m))) s j × Severed 1 s x.number M j) mid
+      (subst (λ t. EachAt (AtPort x.number (IdleRising c t)) s mid) (omega arith) first, cut)
+      (λ m i j q a. subst (λ t. EachAt (AtPort x.number (IdleRising c t)) s j × Severed 1 s x.number M j) (omega arith)
+      (cut_round x.number M (IdleRising c (20 - m - 1)) (climbing_settles x.number c (20 - m - 1)) (λ p y. y) (IdleRising c (20 - m))
+      (λ p r run y. climbing_ticks c (20 - m) p r run y) gives s i j q a)) 20 top more in
+      subst (λ t. EachAt (AtPort x.number (IdleRising c t)) s top) (omega arith) last.0
+
+  ripe : (y : SystemPort) → slice_get (half s top).state.system_ports k ≡ Some y → y.number ≡ x.number → Ripe 0 y.port
+  ripe y at number = elim (cases_Bool (same_system c.system x.port.party.system)) [
+    | inl own ↦ (λ sel. (let o = chosen_occupies y.port.choice sel in
+        let still = all-get (λ (z : SystemPort). AtPort x.number (Idle c) z.number z.port) (half s top).state.system_ports k y at stays number in
+        let alike = (as_before gives 20 mid top steady more s).alike k x y there at in
+        let same : y.port.partner.system ≡ y.port.party.system = ap (λ (i : Info). i.system) still.2
+        ∙ (exact_system c.system x.port.party.system own ∙ sym (ap (λ (q : Party). q.system) alike.0)) in
+        absurd ((rounds_steady gives 20 mid top steady more s).0.occupants.apart k o.0 y at o.1 same)))
+    | inr other ↦ (λ sel. (all-get (λ (z : SystemPort). AtPort x.number (IdleRising c 0) z.number z.port) (half s top).state.system_ports k y at
+        (climbs (chosen other)) number).1.1)
+  ]
+    where
+      chosen : same_system c.system x.port.party.system ≡ false → is_selected x.port.choice ≡ true
+      chosen other =
+          let wants : WantsAggregator x.port = record {
+            up = up;
+            known = inr defaulted;
+            apart = λ e. no (sym other ∙ (ap (λ z. same_system z x.port.party.system) e ∙ system-itself x.port.party.system));
+          } in
+          elim (finds_aggregator st k x (steady s).0 there wants (aggregators k x there up)) [
+            | inl h ↦ h
+            | inr h ↦ absurd (never_stands st k x h.0 (steady s).0 links there h.1)
+          ]
+
+-- the laws
+
+module _ (gives : Algorithms) (old : WorldState) (b : IsBundleBesideCutOffs old) where
+  mixed : IsMixed OneIsActive (λ s n. IsCutOff s n old) old
+  mixed = record {
+    steady = b.steady;
+    cabling = b.cabling;
+    differ = b.differ;
+    heard = b.heard;
+    aggregators = b.aggregators;
+    links = b.links;
+  }
+
+  never : (s : Side) (i : ℕ) (l : LinkState) → IsHealthyAt i l old → IsCutOff s (port_at s l) old → ⊥
+  never s i l y cut = elim (cut i l y.there refl) [
+    | inl w ↦ no (sym w ∙ y.whole)
+    | inr far ↦ (let e = ends_at i l old y (peer s) in
+        no (sym (far e.0 e.1 e.3 (found_place (port_at (peer s) l) (half (peer s) old).state.system_ports e.0 e.1 e.2 e.3)) ∙ e.4))
+  ]
+
+  idle : (mid top : WorldState) → Rounds gives 931 old mid → Rounds gives 20 mid top → (s : Side) (k : ℕ) (z y : SystemPort)
+      → slice_get (half s old).state.system_ports k ≡ Some z → z.port.enabled ≡ true → IsCutOff s z.number old
+      → slice_get (half s top).state.system_ports k ≡ Some y → Ripe 0 y.port
+  idle mid top h more s k z y there up cut now =
+      let steady = rounds_steady gives 931 old mid b.steady h in
+      let first = as_before gives 931 old mid b.steady h s in
+      let then = as_before gives 20 mid top steady more s in
+      let x = old_port (half s mid).state.system_ports (half s top).state.system_ports k y then.numbers now in
+      let was = old_port (half s old).state.system_ports (half s mid).state.system_ports k x.0 first.numbers x.1 in
+      let same : was.0 ≡ z = same_Some was.0 z (sym was.1 ∙ there) in
+      let number : x.0.number ≡ z.number = was.2 ∙ ap (λ (q : SystemPort). q.number) same in
+      ripe gives s k x.0 mid top steady (still_aggregators s old mid first (b.aggregators s)) (still_links s old mid first (b.links s)) x.1
+      ((first.alike k z x.0 there x.1).1 ∙ up)
+      (cut_off_is_defaulted gives 931 k s z x.0 old mid b.steady there up cut (omega arith) h x.1)
+      (WereDown (peer s) old) (subst (λ n. Severed 1 s n (WereDown (peer s) old) mid) (sym number) (cut_since gives 931 k s z old mid b.steady there up cut (omega arith) h)) more y now x.2
+
+  meets : (i : ℕ) (l : LinkState) (h : IsHealthyAt i l old) → OneIsActive l old → (mid : WorldState) → Rounds gives 931 old mid
+      → Fresh (λ s. port_at s l) (said_by l old (ends_at i l old h)) mid
+  meets i l h a mid r = one_meets gives (λ s. port_at s l) (said_by l old (ends_at i l old h)) a.0 931 old mid
+      (named_at l old (ends_at i l old h) b.steady) (active_at l old (ends_at i l old h) a.0 a.1) (omega arith)
+      (starts i l old (ends_at i l old h) b.steady b.cabling h) r
+
+pub each_link_comes_up_beside : (gives : Algorithms) → EachLinkComesUpBesideCutOffs gives
+each_link_comes_up_beside gives n i l old new b y enough h =
+    distribute_of OneIsActive (λ s n. IsCutOff s n old) 931 gives old (mixed gives old b) (never gives old b) (idle gives old b) (meets gives old b)
+    (one_wakes old) i l y n new (omega (arith, enough)) h
+
+pub each_link_agrees_beside : (gives : Algorithms) → EachLinkAgreesBesideCutOffs gives
+each_link_agrees_beside gives n i l old new sound b y enough h =
+    agree_of OneIsActive (λ s n. IsCutOff s n old) 931 gives old (mixed gives old b) (never gives old b) (idle gives old b) (meets gives old b)
+    (one_wakes old) sound i l y n new (omega (arith, enough)) h
+
+pub none_is_held_beside : (gives : Algorithms) → NoneIsHeldBesideCutOffs gives
+none_is_held_beside gives n i l old new s b y enough h left =
+    freed_of OneIsActive (λ s n. IsCutOff s n old) 931 gives old (mixed gives old b) (never gives old b) (idle gives old b) (meets gives old b)
+    (one_wakes old) i l y n new s (omega (arith, enough)) h left
