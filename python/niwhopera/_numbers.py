@@ -9,7 +9,7 @@ import ctypes
 from enum import IntEnum, IntFlag
 from typing import Any, Callable, Final
 
-VERSION: Final = 4
+VERSION: Final = 5
 VERSION_TEXT: Final = "0.1.0"
 FRAME: Final = 124
 PAYLOAD_LENGTH: Final = 110
@@ -139,6 +139,14 @@ class PortStatus(IntEnum):
     WAITING = 7
     WAITING_FOR_MEMBERS = 8
     PARTNER_NOT_SYNCHRONIZED = 9
+
+
+class Answers(IntEnum):
+    """Whether the peer of a port answers markers."""
+
+    NEVER_ASKED = 0
+    ASKED = 1
+    ANSWERED = 2
 
 
 class ConversationState(IntEnum):
@@ -558,6 +566,18 @@ class Functions:
         self.force_port: Callable[..., NiwNumber] = _bound(
             library, "lagffi_force_port", NiwNumber, [ctypes.POINTER(NiwSystem), ctypes.c_uint16]
         )
+        self.offer_conversation: Callable[..., NiwNumber] = _bound(
+            library, "lagffi_offer_conversation", NiwNumber, [ctypes.POINTER(NiwSystem), ctypes.c_uint16, ctypes.c_uint16]
+        )
+        self.leave_conversation: Callable[..., int] = _bound(
+            library, "lagffi_leave_conversation", ctypes.c_uint32, [ctypes.POINTER(NiwSystem), ctypes.c_uint16, ctypes.c_uint16]
+        )
+        self.rest: Callable[..., int] = _bound(
+            library, "lagffi_rest", ctypes.c_uint32, [ctypes.POINTER(NiwSystem), ctypes.c_uint16, ctypes.c_uint16]
+        )
+        self.probe: Callable[..., NiwSent] = _bound(
+            library, "lagffi_probe", NiwSent, [ctypes.POINTER(NiwSystem), ctypes.c_uint16, ctypes.POINTER(ctypes.c_uint8), ctypes.c_size_t]
+        )
         self.ports: Callable[..., NiwNumber] = _bound(
             library, "lagffi_ports", NiwNumber, [ctypes.POINTER(NiwSystem), ctypes.POINTER(ctypes.c_uint16), ctypes.c_size_t]
         )
@@ -572,6 +592,12 @@ class Functions:
         )
         self.load: Callable[..., NiwNumber] = _bound(
             library, "lagffi_load", NiwNumber, [ctypes.POINTER(NiwSystem), ctypes.c_uint16]
+        )
+        self.held: Callable[..., NiwNumber] = _bound(
+            library, "lagffi_held", NiwNumber, [ctypes.POINTER(NiwSystem), ctypes.c_uint16]
+        )
+        self.answers: Callable[..., NiwNumber] = _bound(
+            library, "lagffi_answers", NiwNumber, [ctypes.POINTER(NiwSystem), ctypes.c_uint16]
         )
         self.is_up: Callable[..., NiwTruth] = _bound(
             library, "lagffi_is_up", NiwTruth, [ctypes.POINTER(NiwSystem), ctypes.c_uint16]
@@ -629,6 +655,12 @@ class Functions:
         )
         self.conversation_state: Callable[..., NiwAssignment] = _bound(
             library, "lagffi_conversation_state", NiwAssignment, [ctypes.POINTER(NiwSystem), ctypes.c_uint16, ctypes.c_uint16]
+        )
+        self.conversation_ports: Callable[..., NiwNumber] = _bound(
+            library, "lagffi_conversation_ports", NiwNumber, [ctypes.POINTER(NiwSystem), ctypes.c_uint16, ctypes.POINTER(ctypes.c_uint16), ctypes.c_size_t, ctypes.POINTER(ctypes.c_bool), ctypes.c_size_t]
+        )
+        self.released: Callable[..., NiwNumber] = _bound(
+            library, "lagffi_released", NiwNumber, [ctypes.POINTER(NiwSystem), ctypes.c_uint16, ctypes.POINTER(ctypes.c_bool), ctypes.c_size_t, ctypes.POINTER(ctypes.c_bool), ctypes.c_size_t]
         )
         self.next_marker: Callable[..., NiwMarker] = _bound(
             library, "lagffi_next_marker", NiwMarker, [ctypes.POINTER(NiwSystem)]

@@ -6,11 +6,11 @@ import ctypes
 import threading
 import warnings
 from types import TracebackType
-from typing import Any, Callable, Iterator, NoReturn, Optional, Type, Union
+from typing import Any, Callable, Iterable, Iterator, NoReturn, Optional, Type, Union
 
 from . import _numbers as c
 from ._library import functions
-from ._numbers import ConversationState, MuxState, PortStatus, Reason, ReceivedKind, ReceiveState, SentKind, State, Status, WireFault
+from ._numbers import Answers, ConversationState, MuxState, PortStatus, Reason, ReceivedKind, ReceiveState, SentKind, State, Status, WireFault
 from .errors import BadConfig, check
 from .values import Assignment, Config, End, Group, Info, Mac, Party, PortId, Received, Sent, SystemId, View, within
 
@@ -142,10 +142,7 @@ class System:
 
     def transmit(self, port: int) -> Optional[Sent]:
         """A frame that is due on a port, which is to be sent on it, or None. To be called until it answers None."""
-        frame = (ctypes.c_uint8 * c.FRAME)()
-        sent = self._c.transmit(self._at(), _port(port), frame, len(frame))
-        check(sent.status)
-        return Sent(SentKind(sent.what), bytes(frame[: sent.octets])) if sent.is_ else None
+        return self._sent(self._c.transmit, port)
 
     def transmissions(self) -> Iterator[tuple[int, Sent]]:
         """Each frame that is due, with the port to send it on: `transmit` of each port of `due`, until it answers None."""
@@ -158,6 +155,27 @@ class System:
         moves; FRAME_LENGTH, SLOW_FRAME, and NONE_DISTRIBUTING where no port of the aggregator distributes."""
         octets = bytes(frame)
         return self._number(self._c.offer(self._at(), _aggregator(aggregator), octets, len(octets)))
+
+    def offer_conversation(self, aggregator: int, conversation: int) -> int:
+        """The port to send a frame of a conversation on, whatever its octets: what `offer` answers and does for a frame of it. For a
+        host with a hash of its own, which gives each flow one conversation for ever. Raises NOT_ASSIGNED where there is no such
+        conversation, `Held` while it moves, and NONE_DISTRIBUTING."""
+        return self._number(self._c.offer_conversation(self._at(), _aggregator(aggregator), _conversation(conversation)))
+
+    def leave_conversation(self, aggregator: int, conversation: int) -> None:
+        """Takes a conversation off its port, behind a marker, without another port to go to. Raises NOT_ASSIGNED, `Held`,
+        MARKERS_SPENT."""
+        check(self._c.leave_conversation(self._at(), _aggregator(aggregator), _conversation(conversation)))
+
+    def rest(self, aggregator: int, conversation: int) -> None:
+        """Frees a conversation that is on a port, on the host's word that none of its frames is on its way: else they may be
+        overtaken. Raises NOT_ASSIGNED, `Held`."""
+        check(self._c.rest(self._at(), _aggregator(aggregator), _conversation(conversation)))
+
+    def probe(self, port: int) -> Optional[Sent]:
+        """A marker that asks whether the peer of a port answers markers, to be sent on it now; None while the link is down, and where no
+        identifier is left."""
+        return self._sent(self._c.probe, port)
 
     def move_conversation(self, aggregator: int, conversation: int, port: int) -> None:
         """Moves a conversation to a port, behind a marker on the port that it is on. Raises `Held`; NOT_DISTRIBUTING, SAME_PORT,
@@ -236,6 +254,15 @@ class System:
         """How many conversations are on a port, those that are held among them."""
         return self._counted(self._c.load, port)
 
+    def held(self, port: int) -> int:
+        """How many conversations are held on a port, wanted or flushing there."""
+        return self._counted(self._c.held, port)
+
+    def answers(self, port: int) -> Answers:
+        """Whether the peer of a port answers markers. A marker of `transmit` or `probe` asks it, and a response on the port answers. When
+        the link goes down, and after `restart`, it is as never asked."""
+        return Answers(self._counted(self._c.answers, port))
+
     def state(self, port: int) -> State:
         """The state octet of a port's own side."""
         return State(self._counted(self._c.state, port))
@@ -305,6 +332,21 @@ class System:
             return Assignment(state, it.port, preferred, it.id, it.age)
         return Assignment(state, it.port, preferred)
 
+    def conversation_ports(self, aggregator: int) -> tuple[Optional[int], ...]:
+        """The port that each conversation of an aggregator is on, by its number; None if it is free or held."""
+        ports, changed = (ctypes.c_uint16 * self._config.conversations)(), (ctypes.c_bool * self._config.conversations)()
+        self._number(self._c.conversation_ports(self._at(), _aggregator(aggregator), ports, len(ports), changed, len(changed)))
+        return tuple(port or None for port in ports)
+
+    def released(self, aggregator: int, busy: Iterable[int] = ()) -> tuple[frozenset[int], frozenset[int]]:
+        """What was released. `busy` are the conversations of an aggregator that were on a port or held when the host asked last. Answers
+        which are so now, and which of `busy` are free now."""
+        were, freed = (ctypes.c_bool * self._config.conversations)(), (ctypes.c_bool * self._config.conversations)()
+        for conversation in busy:
+            were[within("the number of the conversation", conversation, len(were) - 1)] = True
+        self._number(self._c.released(self._at(), _aggregator(aggregator), were, len(were), freed, len(freed)))
+        return _true_places(were), _true_places(freed)
+
     # What the others share.
 
     def _at(self) -> Any:
@@ -312,6 +354,12 @@ class System:
         if threading.get_ident() != self._thread:
             raise RuntimeError("only the thread that made a system calls it")
         return ctypes.byref(self._handle)
+
+    def _sent(self, call: Callable[..., c.NiwSent], port: int) -> Optional[Sent]:
+        frame = (ctypes.c_uint8 * c.FRAME)()
+        sent = call(self._at(), _port(port), frame, len(frame))
+        check(sent.status)
+        return Sent(SentKind(sent.what), bytes(frame[: sent.octets])) if sent.is_ else None
 
     def _truth(self, answer: c.NiwTruth) -> bool:
         check(answer.status)
@@ -335,6 +383,10 @@ def _config(config: Config) -> c.NiwConfig:
     it.mac[:] = [*config.system.mac]
     it.conversations, it.max_links, it.algorithm = config.conversations, config.max_links or 0, config.algorithm
     return it
+
+
+def _true_places(marks: ctypes.Array[ctypes.c_bool]) -> frozenset[int]:
+    return frozenset(place for place, is_marked in enumerate(marks) if is_marked)
 
 
 def _port(number: int) -> int:

@@ -21,7 +21,8 @@ static const struct {
     EXPORT(defaulted), EXPORT(distributes), EXPORT(choice), EXPORT(is_standby), EXPORT(mux_state), EXPORT(distributing),
     EXPORT(conversation), EXPORT(conversation_state), EXPORT(next_marker), EXPORT(load), EXPORT(force_port), EXPORT(port_status),
     EXPORT(current_while), EXPORT(wait_while), EXPORT(ntt), EXPORT(ticks), EXPORT(views), EXPORT(due), EXPORT(ticks_until_due),
-    EXPORT(decode), EXPORT(encode),
+    EXPORT(decode), EXPORT(encode), EXPORT(offer_conversation), EXPORT(leave_conversation), EXPORT(rest), EXPORT(probe), EXPORT(held),
+    EXPORT(conversation_ports), EXPORT(released), EXPORT(answers),
 };
 
 static unsigned passed, failed;
@@ -68,8 +69,7 @@ void __wrap_free(void *block) {
 /* How conversations of the systems that are made pick their ports. */
 static uint16_t the_algorithm = NIW_BY_NUMBER;
 
-/* Makes a system of two ports. What differs between systems and ports tells which. */
-static void make(struct niw_system *handle, uint8_t who, uint16_t key, uint16_t conversations, uint16_t max_links) {
+void make(struct niw_system *handle, uint8_t who, uint16_t key, uint16_t conversations, uint16_t max_links) {
     struct niw_config config = {(uint16_t)(0x1000 + who), {2, 0, 0, 0, 0, who}, 0, FIRST_MARKER, conversations, max_links, the_algorithm};
     struct niw_port ports[2];
     uint16_t keys[2] = {key, key};
@@ -125,7 +125,7 @@ static void see_states(struct niw_system *lag, uint16_t port) {
     see_status(lag, port);
 }
 
-static void turn(struct niw_system *one, struct niw_system *other, unsigned ticks) {
+void turn(struct niw_system *one, struct niw_system *other, unsigned ticks) {
     while (ticks-- > 0) {
         CHECK(niw_tick(one) == NIW_OK && niw_tick(other) == NIW_OK);
         see_states(one, 1);
@@ -155,13 +155,16 @@ static void check_null_in_calls(struct niw_system *live) {
     CHECK(niw_transmit(NULL, 1, frame, NIW_FRAME).status == NIW_NULL && niw_transmit(live, 1, NULL, NIW_FRAME).status == NIW_NULL);
     CHECK(niw_offer(NULL, 1, frame, sizeof frame).status == NIW_NULL && niw_offer(live, 1, NULL, NIW_FRAME).status == NIW_NULL);
     CHECK(niw_move_conversation(NULL, 1, 4, 2) == NIW_NULL && niw_force(NULL, 1, 4) == NIW_NULL);
-    CHECK(niw_force_port(NULL, 1).status == NIW_NULL);
+    CHECK(niw_force_port(NULL, 1).status == NIW_NULL && niw_offer_conversation(NULL, 1, 4).status == NIW_NULL);
+    CHECK(niw_leave_conversation(NULL, 1, 4) == NIW_NULL && niw_rest(NULL, 1, 4) == NIW_NULL);
+    CHECK(niw_probe(NULL, 1, frame, NIW_FRAME).status == NIW_NULL && niw_probe(live, 1, NULL, NIW_FRAME).status == NIW_NULL);
 }
 
 /* Each reader refuses each pointer that is null. */
 static void check_null_in_readers(struct niw_system *live) {
     uint8_t frame[NIW_FRAME] = {0};
     uint16_t numbers[NIW_MOST_PORTS];
+    bool marks[NIW_MOST_PORTS];
     struct niw_view views[NIW_MOST_PORTS];
     CHECK(niw_views(NULL, views, NIW_MOST_PORTS).status == NIW_NULL && niw_views(live, NULL, NIW_MOST_PORTS).status == NIW_NULL);
     CHECK(niw_due(NULL).status == NIW_NULL && niw_due(NULL).number == 0);
@@ -174,7 +177,12 @@ static void check_null_in_readers(struct niw_system *live) {
     CHECK(niw_choice(NULL, 1).status == NIW_NULL && niw_is_standby(NULL, 1).status == NIW_NULL);
     CHECK(niw_mux_state(NULL, 1).status == NIW_NULL && niw_port_status(NULL, 1).status == NIW_NULL);
     CHECK(niw_current_while(NULL, 1).status == NIW_NULL && niw_wait_while(NULL, 1).status == NIW_NULL);
-    CHECK(niw_ntt(NULL, 1).status == NIW_NULL);
+    CHECK(niw_ntt(NULL, 1).status == NIW_NULL && niw_held(NULL, 1).status == NIW_NULL && niw_answers(NULL, 1).status == NIW_NULL);
+    CHECK(niw_conversation_ports(NULL, 1, numbers, 64, marks, 64).status == NIW_NULL);
+    CHECK(niw_conversation_ports(live, 1, NULL, 64, marks, 64).status == NIW_NULL);
+    CHECK(niw_conversation_ports(live, 1, numbers, 64, NULL, 64).status == NIW_NULL);
+    CHECK(niw_released(NULL, 1, marks, 64, marks, 64).status == NIW_NULL && niw_released(live, 1, NULL, 64, marks, 64).status == NIW_NULL);
+    CHECK(niw_released(live, 1, marks, 64, NULL, 64).status == NIW_NULL);
     CHECK(niw_load(NULL, 1).status == NIW_NULL && niw_distributing(NULL, 1, numbers, NIW_MOST_PORTS).status == NIW_NULL);
     CHECK(niw_distributing(live, 1, NULL, NIW_MOST_PORTS).status == NIW_NULL);
     CHECK(niw_conversation(NULL, frame, sizeof frame).status == NIW_NULL && niw_conversation(live, NULL, NIW_FRAME).status == NIW_NULL);
@@ -393,7 +401,7 @@ static void check_distributing(struct niw_system *one) {
 }
 
 /* A frame of conversation 4. */
-static uint8_t data[60] = {2, 0, 0, 0, 0, 5, 2, 0, 0, 0, 0, 1, 0x08, 0x00};
+uint8_t data[60] = {2, 0, 0, 0, 0, 5, 2, 0, 0, 0, 0, 1, 0x08, 0x00};
 
 static void check_conversation(struct niw_system *one, struct niw_system *other, uint16_t agg) {
     uint8_t response[NIW_FRAME];
@@ -727,6 +735,7 @@ int main(void) {
     check_limit();
     check_statuses();
     check_force_port();
+    check_plane();
     check_ticks();
     check_waits();
     check_masks();

@@ -3,12 +3,27 @@
 #define CHECKS_H
 
 #include <stdbool.h>
+#include <stdint.h>
+
+struct niw_system;
 
 /* Counts a check; prints a line with the function and the text of one that fails. */
 void check(bool holds, const char *where, const char *what);
 #define CHECK(fact) check((fact), __func__, #fact)
 
+/* A data frame of conversation 4. */
+extern uint8_t data[60];
+
+/* Makes a system of two ports. What differs between systems and ports tells which. It has two markers. */
+void make(struct niw_system *handle, uint8_t who, uint16_t key, uint16_t conversations, uint16_t max_links);
+
+/* Ticks both systems, and carries what is due from one to the other after each tick. */
+void turn(struct niw_system *one, struct niw_system *other, unsigned ticks);
+
 /* Reads and writes payloads by niw_decode and niw_encode. */
 void check_payloads(void);
+
+/* Conversations by their numbers, and what is told of all of them. */
+void check_plane(void);
 
 #endif

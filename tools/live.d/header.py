@@ -23,12 +23,13 @@ NAMES = {"lag": "handle", "held": "at", "buffer": "numbers"}
 # Structs that have another name in C: the handle, and two that would have the name of a function.
 STRUCTS = {"Lag": "niw_system", "LagParty": "niw_actor", "LagGroup": "niw_group_id"}
 # A slice is a pointer and a length, which has no name in the sources.
-LENGTHS = {"keys": "key_count", "ports": "port_count", "response": "room", "numbers": "room", "views": "room"}
+LENGTHS = {"keys": "key_count", "ports": "port_count", "response": "room", "numbers": "room", "views": "room",
+           "changed": "changed_count", "busy": "busy_count", "freed": "freed_count"}
 # The enums whose variants lagffi tells as numbers, and what stands before a variant's name in the header; and the numbers of the
 # header alone: what it refuses itself, its version, the subtypes of PDUs, and what the sources say in words.
 TOLD = {"Received": "RECEIVED_", "ReceiveState": "RECEIVE_", "MuxState": "MUX_", "Assignment": "CONVERSATION_",
         "PortStatus": "PORT_STATUS_"}
-OWN = {"NIW_NULL": 16, "NIW_VERSION": 4, "NIW_SENT_NOTHING": 0, "NIW_SENT_LACPDU": 1, "NIW_SENT_MARKER": 2,
+OWN = {"NIW_NULL": 16, "NIW_VERSION": 5, "NIW_SENT_NOTHING": 0, "NIW_SENT_LACPDU": 1, "NIW_SENT_MARKER": 2,
        "NIW_SHORTEST_FRAME": 14, "NIW_TICK_MILLISECONDS": 100, "NIW_FEW_CONVERSATIONS": 256, "NIW_MANY_CONVERSATIONS": 4096,
        "NIW_BY_NUMBER": 0, "NIW_BY_SUM": 1, "NIW_REASON_ALGORITHM": 6,
        "NIW_STATE_TEXT_ROOM": 87}

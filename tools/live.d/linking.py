@@ -53,7 +53,7 @@ def build(made, sources, libraries, *words):
 def build_calls(folder, libraries):
     """Builds the program that calls each function; answers its path."""
     words = ["-std=c11", "-Wall", "-Wextra", "-Werror", *COUNTED]
-    sources = [f"{TOP}/tools/live.d/{name}.c" for name in ("calls", "payloads")]
+    sources = [f"{TOP}/tools/live.d/{name}.c" for name in ("calls", "conversations", "payloads")]
     return build(os.path.join(folder, "calls"), sources, libraries, *words)
 
 

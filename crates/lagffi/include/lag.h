@@ -40,7 +40,7 @@ struct niw_system {
 #define NIW_EMPTY {false, NULL}
 
 /* The version of this header: it is to go up with each change of what stands here. */
-#define NIW_VERSION 4
+#define NIW_VERSION 5
 /* The version of the release that the header is of. */
 #define NIW_VERSION_TEXT "0.1.0"
 /* The octets of a frame that the library answers. */
@@ -249,6 +249,13 @@ enum {
     NIW_PORT_STATUS_PARTNER_NOT_SYNCHRONIZED = 9
 };
 
+/* Whether the peer of a port answers markers. */
+enum {
+    NIW_ANSWERS_NEVER_ASKED = 0, /* no marker went out on the port since its link was down */
+    NIW_ANSWERS_ASKED = 1,       /* one went out, and no response came */
+    NIW_ANSWERS_ANSWERED = 2     /* a response came */
+};
+
 /* What a conversation is doing. */
 enum { NIW_CONVERSATION_FREE, NIW_CONVERSATION_ON, NIW_CONVERSATION_WANTED, NIW_CONVERSATION_FLUSHING };
 
@@ -344,11 +351,17 @@ struct niw_number lagffi_offer(struct niw_system *handle, uint16_t agg, const ui
 uint32_t lagffi_move_conversation(struct niw_system *handle, uint16_t agg, uint16_t conv, uint16_t port);
 uint32_t lagffi_force(struct niw_system *handle, uint16_t agg, uint16_t conv);
 struct niw_number lagffi_force_port(struct niw_system *handle, uint16_t port);
+struct niw_number lagffi_offer_conversation(struct niw_system *handle, uint16_t agg, uint16_t conv);
+uint32_t lagffi_leave_conversation(struct niw_system *handle, uint16_t agg, uint16_t conv);
+uint32_t lagffi_rest(struct niw_system *handle, uint16_t agg, uint16_t conv);
+struct niw_sent lagffi_probe(struct niw_system *handle, uint16_t port, uint8_t *frame, size_t room);
 struct niw_number lagffi_ports(struct niw_system *handle, uint16_t *numbers, size_t room);
 struct niw_number lagffi_views(struct niw_system *handle, struct niw_view *views, size_t room);
 struct niw_number lagffi_due(struct niw_system *handle);
 struct niw_number lagffi_aggregators(struct niw_system *handle);
 struct niw_number lagffi_load(struct niw_system *handle, uint16_t port);
+struct niw_number lagffi_held(struct niw_system *handle, uint16_t port);
+struct niw_number lagffi_answers(struct niw_system *handle, uint16_t port);
 struct niw_truth lagffi_is_up(struct niw_system *handle, uint16_t port);
 struct niw_number lagffi_state(struct niw_system *handle, uint16_t port);
 struct niw_number lagffi_receive_state(struct niw_system *handle, uint16_t port);
@@ -368,6 +381,10 @@ struct niw_truth lagffi_ntt(struct niw_system *handle, uint16_t port);
 struct niw_number lagffi_distributing(struct niw_system *handle, uint16_t agg, uint16_t *numbers, size_t room);
 struct niw_number lagffi_conversation(struct niw_system *handle, const uint8_t *frame, size_t length);
 struct niw_assignment lagffi_conversation_state(struct niw_system *handle, uint16_t agg, uint16_t conv);
+struct niw_number lagffi_conversation_ports(struct niw_system *handle, uint16_t agg, uint16_t *ports, size_t port_count,
+    bool *changed, size_t changed_count);
+struct niw_number lagffi_released(struct niw_system *handle, uint16_t agg, bool *busy, size_t busy_count, bool *freed,
+    size_t freed_count);
 struct niw_marker lagffi_next_marker(struct niw_system *handle);
 struct niw_wait lagffi_ticks_until_due(struct niw_system *handle);
 struct niw_decoded lagffi_decode(const uint8_t *payload, size_t length, struct niw_pdu *pdu);
@@ -475,6 +492,32 @@ static inline uint32_t niw_force(struct niw_system *handle, uint16_t agg, uint16
 /* Frees each conversation that is held on a port, as niw_force does; answers how many. */
 static inline struct niw_number niw_force_port(struct niw_system *handle, uint16_t port) {
     return handle ? lagffi_force_port(handle, port) : niw_null_number();
+}
+
+/* The port to send a frame of a conversation on, whatever its octets: what niw_offer answers and does for a frame of it. For a program
+ * that has a hash of its own, which gives each flow one conversation for ever. */
+static inline struct niw_number niw_offer_conversation(struct niw_system *handle, uint16_t agg, uint16_t conv) {
+    return handle ? lagffi_offer_conversation(handle, agg, conv) : niw_null_number();
+}
+
+/* Takes a conversation off its port, behind a marker, without another port to go to: it prefers none. */
+static inline uint32_t niw_leave_conversation(struct niw_system *handle, uint16_t agg, uint16_t conv) {
+    return handle ? lagffi_leave_conversation(handle, agg, conv) : niw_null_status();
+}
+
+/* Frees a conversation that is on a port, on the word of the program that none of its frames is on its way: else they may be overtaken. */
+static inline uint32_t niw_rest(struct niw_system *handle, uint16_t agg, uint16_t conv) {
+    return handle ? lagffi_rest(handle, agg, conv) : niw_null_status();
+}
+
+/* A marker that asks whether the peer of a port answers markers, to be sent now; `frame` has NIW_FRAME octets or more, and is written
+ * only then, at its front. Its `is` is false while the link is down, and where no identifier is left. */
+static inline struct niw_sent niw_probe(struct niw_system *handle, uint16_t port, uint8_t *frame, size_t room) {
+    struct niw_sent refused;
+    if (handle && frame) return lagffi_probe(handle, port, frame, room);
+    memset(&refused, 0, sizeof refused);
+    refused.status = NIW_NULL;
+    return refused;
 }
 
 /* How many ports there are. `numbers` has room for NIW_MOST_PORTS numbers or more, which `room` counts; those of the ports are written
@@ -598,6 +641,17 @@ static inline struct niw_number niw_load(struct niw_system *handle, uint16_t por
     return handle ? lagffi_load(handle, port) : niw_null_number();
 }
 
+/* How many conversations are held on a port, wanted or flushing there; niw_load counts those that are on it, too. */
+static inline struct niw_number niw_held(struct niw_system *handle, uint16_t port) {
+    return handle ? lagffi_held(handle, port) : niw_null_number();
+}
+
+/* Whether the peer of a port answers markers: NIW_ANSWERS_.. A marker that niw_transmit or niw_probe wrote asks it, and a response that
+ * niw_receive takes on the port answers. When the link goes down, and after niw_restart, it is as never asked. */
+static inline struct niw_number niw_answers(struct niw_system *handle, uint16_t port) {
+    return handle ? lagffi_answers(handle, port) : niw_null_number();
+}
+
 /* How many ports distribute in an aggregator; 0 if there is none. `numbers` has room for NIW_MOST_PORTS numbers or more;
  * those of the ports are written at its front, ascending. */
 static inline struct niw_number niw_distributing(struct niw_system *handle, uint16_t agg, uint16_t *numbers, size_t room) {
@@ -616,6 +670,24 @@ static inline struct niw_assignment niw_conversation_state(struct niw_system *ha
     memset(&refused, 0, sizeof refused);
     refused.status = NIW_NULL;
     return refused;
+}
+
+/* What changed of the conversations of an aggregator: writes into `ports`, for each of them by its number, the port that it is on, or 0
+ * if it is free or held; and into `changed` whether `ports` had another number there. Both have a place or more for each conversation.
+ * Answers how many changed. The first time, `ports` may hold zeros. */
+static inline struct niw_number niw_conversation_ports(struct niw_system *handle, uint16_t agg, uint16_t *ports, size_t port_count,
+    bool *changed, size_t changed_count) {
+    if (handle && ports && changed) return lagffi_conversation_ports(handle, agg, ports, port_count, changed, changed_count);
+    return niw_null_number();
+}
+
+/* What was released: `busy` is the program's own list of which conversations of an aggregator were on a port or held when it asked last,
+ * at first all false; it gets which are so now, and `freed` gets which were and are free now. Both have a place or more for each
+ * conversation. Answers how many became free. */
+static inline struct niw_number niw_released(struct niw_system *handle, uint16_t agg, bool *busy, size_t busy_count, bool *freed,
+    size_t freed_count) {
+    if (handle && busy && freed) return lagffi_released(handle, agg, busy, busy_count, freed, freed_count);
+    return niw_null_number();
 }
 
 /* The identifier of the next marker. */

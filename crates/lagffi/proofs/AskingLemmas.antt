@@ -1,27 +1,32 @@
 -- A call of a handle that holds a system is a call of that system.
-use mathlib.Core.Path.{◌≡◌, ◌∙◌, ap, sym, subst}
-use Rattle.std.specs.Prelude.{ℕ, Option, Some}
+use mathlib.Core.Path.{◌≡◌, sym, subst}
+use Rattle.std.specs.Prelude.{ℕ, List, Option, Some}
 use Rattle.lagsystem.specs.State.{SystemState}
 use Rattle.lagffi.specs.Algorithms.{gives_by}
-use Rattle.lagffi.specs.Asking.{CallsHeldSystem, OffersToHeldSystem, ReadsHeldSystem}
+use Rattle.lagffi.specs.Asking.{CallsHeldSystem, NotesHeldSystem, OffersToHeldSystem, ReadsHeldSystem, ReadsNotes}
 use Rattle.lagffi.specs.Holding.{HeldValue}
 
-abbrev value : ℕ → SystemState → HeldValue
-value algorithm s = record { state = s; algorithm = algorithm }
+pub called : (R : SystemState → SystemState → Type 0) (N : Type 0) {o n : Option HeldValue} {g : ℕ} {w : List ℕ} {k z : SystemState}
+    → o ≡ Some (record { state = k; algorithm = g; answering = w }) → n ≡ Some (record { state = z; algorithm = g; answering = w })
+    → R k z → CallsHeldSystem o n R N
+called R N {o} {n} {g} {w} {k} {z} eo en r = subst (λ o. CallsHeldSystem o n R N) (sym eo) (z, en, r)
 
-pub called : (R : SystemState → SystemState → Type 0) (N : Type 0) {o n : Option HeldValue} {g : ℕ} {k a b z : SystemState}
-    → o ≡ Some (record { state = k; algorithm = g }) → a ≡ k → z ≡ b → n ≡ Some (record { state = z; algorithm = g }) → R a b
-    → CallsHeldSystem o n R N
-called R N {o} {n} {g} {k} {a} {b} {z} eo ea ez en r =
-    subst (λ o. CallsHeldSystem o n R N) (sym (eo ∙ ap (λ s. Some (value g s)) (sym ea))) (b, en ∙ ap (λ s. Some (value g s)) ez, r)
+pub called_with_notes : (R : SystemState → SystemState → List ℕ → List ℕ → Type 0) (N : Type 0) {o n : Option HeldValue} {g : ℕ} {w v : List ℕ}
+    {k z : SystemState} → o ≡ Some (record { state = k; algorithm = g; answering = w })
+    → n ≡ Some (record { state = z; algorithm = g; answering = v }) → R k z w v → NotesHeldSystem o n R N
+called_with_notes R N {o} {n} {g} {w} {v} {k} {z} eo en r = subst (λ o. NotesHeldSystem o n R N) (sym eo) (z, v, en, r)
 
-pub offered : (R : (ℕ → ℕ → ℕ → Type 0) → SystemState → SystemState → Type 0) (N : Type 0) {o n : Option HeldValue} {g : ℕ}
-    {k z : SystemState} → o ≡ Some (record { state = k; algorithm = g }) → n ≡ Some (record { state = z; algorithm = g })
-    → R (gives_by g) k z → OffersToHeldSystem o n R N
-offered R N {o} {n} {g} {k} {z} eo en r = subst (λ o. OffersToHeldSystem o n R N) (sym eo) (z, en, r)
+pub offered : (R : (ℕ → ℕ → ℕ → Type 0) → SystemState → SystemState → Type 0) (N : Type 0) {o n : Option HeldValue} {g : ℕ} {w : List ℕ}
+    {k z : SystemState} → o ≡ Some (record { state = k; algorithm = g; answering = w })
+    → n ≡ Some (record { state = z; algorithm = g; answering = w }) → R (gives_by g) k z → OffersToHeldSystem o n R N
+offered R N {o} {n} {g} {w} {k} {z} eo en r = subst (λ o. OffersToHeldSystem o n R N) (sym eo) (z, en, r)
 
-pub asked : (T : SystemState → Type 0) (N : Type 0) {o n : Option HeldValue} {g : ℕ} {k a z : SystemState}
-    → o ≡ Some (record { state = k; algorithm = g }) → a ≡ k → z ≡ a → n ≡ Some (record { state = z; algorithm = g }) → T a
-    → ReadsHeldSystem o n T N
-asked T N {o} {n} {g} {k} {a} {z} eo ea ez en t =
-    subst (λ o. ReadsHeldSystem o n T N) (sym (eo ∙ ap (λ s. Some (value g s)) (sym ea))) (t, en ∙ ap (λ s. Some (value g s)) ez)
+pub asked : (T : SystemState → Type 0) (N : Type 0) {o n : Option HeldValue} {g : ℕ} {w : List ℕ} {k : SystemState}
+    → o ≡ Some (record { state = k; algorithm = g; answering = w }) → n ≡ Some (record { state = k; algorithm = g; answering = w })
+    → T k → ReadsHeldSystem o n T N
+asked T N {o} {n} {g} {w} {k} eo en t = subst (λ o. ReadsHeldSystem o n T N) (sym eo) (t, en)
+
+pub asked_of_notes : (T : SystemState → List ℕ → Type 0) (N : Type 0) {o n : Option HeldValue} {g : ℕ} {w : List ℕ} {k : SystemState}
+    → o ≡ Some (record { state = k; algorithm = g; answering = w }) → n ≡ Some (record { state = k; algorithm = g; answering = w })
+    → T k w → ReadsNotes o n T N
+asked_of_notes T N {o} {n} {g} {w} {k} eo en t = subst (λ o. ReadsNotes o n T N) (sym eo) (t, en)

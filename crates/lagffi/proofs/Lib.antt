@@ -1,6 +1,8 @@
 pub mod AlgorithmLemmas
 pub mod AsBox
+pub mod PlaceLemmas
 pub mod AskingLemmas
 pub mod MadeLemmas
 pub mod MaskLemmas
+pub mod TableLemmas
 pub mod ToldLemmas

@@ -1,4 +1,5 @@
 pub mod Algorithms
+pub mod Answering
 pub mod Asking
 pub mod Codec
 pub mod Frames
@@ -10,4 +11,5 @@ pub mod Numbers
 pub mod Owned
 pub mod PortViews
 pub mod ReaderValues
+pub mod Tables
 pub mod Ticking

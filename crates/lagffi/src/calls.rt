@@ -10,8 +10,10 @@ ghost use Rattle.lagsystem.specs.declared.received.Received.{Received};
 ghost use Rattle.lagsystem.specs.declared.drive.Reply.{Reply};
 ghost use Rattle.lagsystem.specs.declared.fault.SystemFault.{SystemFault};
 ghost use Rattle.lagsystem.specs.Sound.{CallPromise};
+ghost use Rattle.lagsystem.specs.State.{port_index};
 ghost use Rattle.lagffi.specs.Algorithms.{gives_by};
-ghost use Rattle.lagffi.specs.Asking.{CallsHeldSystem, OffersToHeldSystem, by_number_gives};
+ghost use Rattle.lagffi.specs.Answering.{nobody_asked, notes_after_receive, notes_after_set_link, notes_after_transmit};
+ghost use Rattle.lagffi.specs.Asking.{CallsHeldSystem, NotesHeldSystem, OffersToHeldSystem, by_number_gives};
 ghost use Rattle.lagffi.specs.Holding.{held_value};
 ghost use Rattle.lagffi.specs.Frames.{control_frame_length, received_of, sent_of, sent_refused, buffer_after_transmit, buffer_after_receive};
 ghost use Rattle.lagffi.specs.Lists.{put_first};
@@ -19,6 +21,7 @@ ghost use Rattle.lagffi.specs.Numbers.{change_of, number_refused, received_refus
 ghost use Rattle.lagffi.specs.Numbers.{wrong_buffer_length, status_of, truth_of};
 ghost use Rattle.lagffi.specs.Ticking.{TicksInTurn};
 
+use crate::answering::Answering;
 use crate::handle::Lag;
 use crate::stored::{by_first, by_number, by_sum};
 use crate::values::{
@@ -47,7 +50,7 @@ fn write_reply(answer: &Result<Received, SystemFault>, buffer: &mut [u8])
 }
 
 /// Writes the frame that is due, if one is.
-fn write_due(answer: &Result<Option<[u8; 124]>, SystemFault>, buffer: &mut [u8])
+pub(crate) fn write_due(answer: &Result<Option<[u8; 124]>, SystemFault>, buffer: &mut [u8])
     requires { control_frame_length ≤ length buffer.old }
     ensures { buffer.new ≡ buffer_after_transmit buffer.old answer.now }
 {
@@ -68,21 +71,22 @@ pub extern "C" fn lagffi_receive(
     ensures room { IsFalse (nat_le control_frame_length (length response.old)) → (result ≡ received_refused wrong_buffer_length)
         × (held_value lag.new.held.kept ≡ held_value lag.old.held.kept) × (response.new ≡ response.old) }
     ensures answers { IsTrue (nat_le control_frame_length (length response.old))
-        → CallsHeldSystem (held_value lag.old.held.kept) (held_value lag.new.held.kept)
-        (λ old new. (answer : Result Received SystemFault)
+        → NotesHeldSystem (held_value lag.old.held.kept) (held_value lag.new.held.kept)
+        (λ old new before after. (answer : Result Received SystemFault)
         × CallPromise by_number_gives old (Call.Receive port frame.now) (Reply.Receive answer) new
+        × (after ≡ notes_after_receive (port_index port new.system_ports) answer before)
         × (result ≡ received_of answer) × (response.new ≡ buffer_after_receive response.old answer))
         ((result ≡ received_refused no_system) × (response.new ≡ response.old)) }
 {
     if response.len() < CONTROL_FRAME_LENGTH {
         return LagReceived::refused(WRONG_BUFFER_LENGTH);
     }
-    let Some((kept, block)) = lag.take(alloc) else {
+    let Some((mut system, mut block)) = lag.take(alloc, by_number) else {
         return LagReceived::refused(NO_SYSTEM);
     };
-    let mut system = kept.with_algorithm(by_number);
     let answer = system.receive(port, frame);
-    lag.put(system.with_algorithm(()), block);
+    block.answering.after_receive(&system, port, &answer);
+    lag.put(system, block);
     write_reply(&answer, response);
     LagReceived::of(&answer)
 }
@@ -93,12 +97,11 @@ pub extern "C" fn lagffi_tick(alloc: Global, lag: &mut Lag) -> u32
     ensures { CallsHeldSystem (held_value lag.old.held.kept) (held_value lag.new.held.kept)
         (λ old new. CallPromise by_number_gives old Call.Tick Reply.Tick new × (result ≡ 0)) (result ≡ no_system) }
 {
-    let Some((kept, block)) = lag.take(alloc) else {
+    let Some((mut system, block)) = lag.take(alloc, by_number) else {
         return NO_SYSTEM;
     };
-    let mut system = kept.with_algorithm(by_number);
     system.tick();
-    lag.put(system.with_algorithm(()), block);
+    lag.put(system, block);
     OK
 }
 
@@ -118,28 +121,29 @@ pub extern "C" fn lagffi_ticks(alloc: Global, lag: &mut Lag, count: u32) -> u32
     ensures { CallsHeldSystem (held_value lag.old.held.kept) (held_value lag.new.held.kept)
         (λ old new. TicksInTurn by_number_gives count old new × (result ≡ 0)) (result ≡ no_system) }
 {
-    let Some((kept, block)) = lag.take(alloc) else {
+    let Some((mut system, block)) = lag.take(alloc, by_number) else {
         return NO_SYSTEM;
     };
-    let mut system = kept.with_algorithm(by_number);
     tick_times(&mut system, count);
-    lag.put(system.with_algorithm(()), block);
+    lag.put(system, block);
     OK
 }
 
 /// The link of a port is up or down now.
 #[unsafe(no_mangle)]
 pub extern "C" fn lagffi_set_link(alloc: Global, lag: &mut Lag, port: u16, up: bool) -> u32
-    ensures { CallsHeldSystem (held_value lag.old.held.kept) (held_value lag.new.held.kept)
-        (λ old new. (answer : Result Unit SystemFault) × CallPromise by_number_gives old (Call.Set_link port up) (Reply.SetLink answer) new
+    ensures { NotesHeldSystem (held_value lag.old.held.kept) (held_value lag.new.held.kept)
+        (λ old new before after. (answer : Result Unit SystemFault)
+        × CallPromise by_number_gives old (Call.Set_link port up) (Reply.SetLink answer) new
+        × (after ≡ notes_after_set_link (port_index port new.system_ports) up answer before)
         × (result ≡ status_of answer)) (result ≡ no_system) }
 {
-    let Some((kept, block)) = lag.take(alloc) else {
+    let Some((mut system, mut block)) = lag.take(alloc, by_number) else {
         return NO_SYSTEM;
     };
-    let mut system = kept.with_algorithm(by_number);
     let answer = system.set_link(port, up);
-    lag.put(system.with_algorithm(()), block);
+    block.answering.after_set_link(&system, port, up, &answer);
+    lag.put(system, block);
     status(&answer)
 }
 
@@ -156,29 +160,28 @@ pub extern "C" fn lagffi_configure(
         (Reply.Configure answer) new
         × (result ≡ truth_of answer)) (result ≡ truth_refused no_system) }
 {
-    let Some((kept, block)) = lag.take(alloc) else {
+    let Some((mut system, block)) = lag.take(alloc, by_number) else {
         return LagTruth::refused(NO_SYSTEM);
     };
-    let mut system = kept.with_algorithm(by_number);
     let answer = system.configure(port, change.change());
-    lag.put(system.with_algorithm(()), block);
+    lag.put(system, block);
     LagTruth::of(&answer)
 }
 
 /// Starts the system again as it was made.
 #[unsafe(no_mangle)]
 pub extern "C" fn lagffi_restart(alloc: Global, lag: &mut Lag) -> u32
-    ensures { CallsHeldSystem (held_value lag.old.held.kept) (held_value lag.new.held.kept)
-        (λ old new. CallPromise by_number_gives old Call.Restart Reply.Restart new
-        × (model_view new ≡ first_view (model_setup old)) × (result ≡ 0))
+    ensures { NotesHeldSystem (held_value lag.old.held.kept) (held_value lag.new.held.kept)
+        (λ old new before after. CallPromise by_number_gives old Call.Restart Reply.Restart new
+        × (model_view new ≡ first_view (model_setup old)) × (after ≡ nobody_asked) × (result ≡ 0))
         (result ≡ no_system) }
 {
-    let Some((kept, block)) = lag.take(alloc) else {
+    let Some((mut system, mut block)) = lag.take(alloc, by_number) else {
         return NO_SYSTEM;
     };
-    let mut system = kept.with_algorithm(by_number);
     system.restart();
-    lag.put(system.with_algorithm(()), block);
+    block.answering = Answering::nobody_asked();
+    lag.put(system, block);
     OK
 }
 
@@ -194,21 +197,22 @@ pub extern "C" fn lagffi_transmit(
     ensures room { IsFalse (nat_le control_frame_length (length frame.old)) → (result ≡ sent_refused wrong_buffer_length)
         × (held_value lag.new.held.kept ≡ held_value lag.old.held.kept) × (frame.new ≡ frame.old) }
     ensures answers { IsTrue (nat_le control_frame_length (length frame.old))
-        → CallsHeldSystem (held_value lag.old.held.kept) (held_value lag.new.held.kept)
-        (λ old new. (answer : Result (Option (List ℕ)) SystemFault)
+        → NotesHeldSystem (held_value lag.old.held.kept) (held_value lag.new.held.kept)
+        (λ old new before after. (answer : Result (Option (List ℕ)) SystemFault)
         × CallPromise by_number_gives old (Call.Transmit port) (Reply.Transmit answer) new
+        × (after ≡ notes_after_transmit (port_index port new.system_ports) answer before)
         × (result ≡ sent_of answer) × (frame.new ≡ buffer_after_transmit frame.old answer))
         ((result ≡ sent_refused no_system) × (frame.new ≡ frame.old)) }
 {
     if frame.len() < CONTROL_FRAME_LENGTH {
         return LagSent::refused(WRONG_BUFFER_LENGTH);
     }
-    let Some((kept, block)) = lag.take(alloc) else {
+    let Some((mut system, mut block)) = lag.take(alloc, by_number) else {
         return LagSent::refused(NO_SYSTEM);
     };
-    let mut system = kept.with_algorithm(by_number);
     let answer = system.transmit(port);
-    lag.put(system.with_algorithm(()), block);
+    block.answering.after_transmit(&system, port, &answer);
+    lag.put(system, block);
     write_due(&answer, frame);
     LagSent::of(&answer)
 }
@@ -257,7 +261,7 @@ pub extern "C" fn lagffi_offer(alloc: Global, lag: &mut Lag, agg: u16, frame: &[
         × IfOk answer (λ port. number_of_conversation old frame.now < conversation_count old)
         × (result ≡ number_of answer)) (result ≡ number_refused no_system) }
 {
-    let Some((kept, block)) = lag.take(alloc) else {
+    let Some((kept, block)) = lag.take(alloc, ()) else {
         return LagNumber::refused(NO_SYSTEM);
     };
     let (answer, system) = offer_with(kept, block.algorithm, AggId(agg), frame);
@@ -280,12 +284,11 @@ pub extern "C" fn lagffi_move_conversation(
         (Reply.MoveConversation answer) new
         × (result ≡ status_of answer)) (result ≡ no_system) }
 {
-    let Some((kept, block)) = lag.take(alloc) else {
+    let Some((mut system, block)) = lag.take(alloc, by_number) else {
         return NO_SYSTEM;
     };
-    let mut system = kept.with_algorithm(by_number);
     let answer = system.move_conversation(AggId(agg), conv, port);
-    lag.put(system.with_algorithm(()), block);
+    lag.put(system, block);
     status(&answer)
 }
 
@@ -297,12 +300,11 @@ pub extern "C" fn lagffi_force(alloc: Global, lag: &mut Lag, agg: u16, conv: u16
         (Reply.Force answer) new
         × (result ≡ status_of answer)) (result ≡ no_system) }
 {
-    let Some((kept, block)) = lag.take(alloc) else {
+    let Some((mut system, block)) = lag.take(alloc, by_number) else {
         return NO_SYSTEM;
     };
-    let mut system = kept.with_algorithm(by_number);
     let answer = system.force(AggId(agg), conv);
-    lag.put(system.with_algorithm(()), block);
+    lag.put(system, block);
     status(&answer)
 }
 
@@ -313,11 +315,10 @@ pub extern "C" fn lagffi_force_port(alloc: Global, lag: &mut Lag, port: u16) -> 
         (λ old new. (answer : Result ℕ SystemFault) × ForcesPort by_number_gives port old answer new × (result ≡ number_of answer))
         (result ≡ number_refused no_system) }
 {
-    let Some((kept, block)) = lag.take(alloc) else {
+    let Some((mut system, block)) = lag.take(alloc, by_number) else {
         return LagNumber::refused(NO_SYSTEM);
     };
-    let mut system = kept.with_algorithm(by_number);
     let answer = system.force_port(port);
-    lag.put(system.with_algorithm(()), block);
+    lag.put(system, block);
     LagNumber::of_count(&answer)
 }

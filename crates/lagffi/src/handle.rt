@@ -4,6 +4,7 @@ ghost use Rattle.lagffi.specs.Holding.{held_value};
 mod held;
 mod parts;
 
+use crate::answering::Answering;
 use crate::stored::StoredSystem;
 pub(crate) use held::Held;
 use lagsystem::System;
@@ -19,10 +20,12 @@ pub struct Lag {
     ghost full: { is_some (held_value held.kept) ≡ is_some held.kept },
 }
 
-/// The block of a system that was taken out, and the number of its distribution algorithm.
+/// The block of a system that was taken out, and what is kept beside the system: the number of its distribution algorithm, and whether
+/// the peers of its ports answer markers.
 pub(crate) struct Block {
     pub(crate) held: Held,
     pub(crate) algorithm: u16,
+    pub(crate) answering: Answering,
 }
 
 impl Block {
@@ -30,16 +33,25 @@ impl Block {
     pub(crate) fn free(self)
         requires { IsTrue (is_some self.held.kept) }
     {
-        let Block { held, algorithm: _ } = self;
+        let Block {
+            held,
+            algorithm: _,
+            answering: _,
+        } = self;
         held.free();
     }
 }
 
 impl Lag {
-    /// Takes the system out, beside its block.
-    pub(crate) fn take(&mut self, alloc: Global) -> Option<(System<()>, Block)>
+    /// Takes the system out under this algorithm, beside its block; None if the handle holds none.
+    pub(crate) fn take<F: Drop>(
+        &mut self,
+        alloc: Global,
+        algorithm: F,
+    ) -> Option<(System<F>, Block)>
         ensures taken { MatchOption result (held_value self.old.held.kept ≡ None)
-            (λ taken. held_value self.old.held.kept ≡ Some (record { state = taken.0.state; algorithm = taken.1.algorithm })) }
+            (λ taken. held_value self.old.held.kept ≡ Some (record { state = taken.0.state; algorithm = taken.1.algorithm; answering = taken.1.answering.notes })) }
+        ensures algorithm { IfSome result (λ taken. taken.0.algorithm ≡ algorithm) }
         ensures block { IfSome result (λ taken. IsTrue (is_some taken.1.held.kept)) }
         ensures left { self.new.held.kept ≡ None }
     {
@@ -54,25 +66,35 @@ impl Lag {
         let empty = StoredSystem {
             system: None,
             algorithm: 0,
+            answering: Answering::nobody_asked(),
         };
         let (stored, held) = held.replace(empty);
-        let StoredSystem { system, algorithm } = stored;
-        match system {
-            Some(system) => Some((system, Block { held, algorithm })),
+        let block = Block {
+            held,
+            algorithm: stored.algorithm,
+            answering: stored.answering,
+        };
+        match stored.system {
+            Some(system) => Some((system.with_algorithm(algorithm), block)),
             None => unreachable!(),
         }
     }
 
     /// Puts a system into the empty handle, with a block for it.
-    pub(crate) fn put(&mut self, system: System<()>, block: Block)
+    pub(crate) fn put<F: Drop>(&mut self, system: System<F>, block: Block)
         requires empty { self.old.held.kept ≡ None }
         requires block { IsTrue (is_some block.held.kept) }
-        ensures { held_value self.new.held.kept ≡ Some (record { state = system.state; algorithm = block.algorithm }) }
+        ensures { held_value self.new.held.kept ≡ Some (record { state = system.state; algorithm = block.algorithm; answering = block.answering.notes }) }
     {
-        let Block { held, algorithm } = block;
-        let (old, held) = held.replace(StoredSystem {
-            system: Some(system),
+        let Block {
+            held,
             algorithm,
+            answering,
+        } = block;
+        let (old, held) = held.replace(StoredSystem {
+            system: Some(system.with_algorithm(())),
+            algorithm,
+            answering,
         });
         drop(old);
         let Lag {

@@ -7,12 +7,15 @@
 //! allocator. The inline functions of the header refuse null pointers before an export is called.
 #![tactic(auto)]
 
+mod answering;
 mod calls;
 mod codec;
 mod codec_values;
+mod conversations;
 mod handle;
 mod made;
 mod masks;
+mod probing;
 mod reader_values;
 mod readers;
 mod refusal;

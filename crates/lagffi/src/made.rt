@@ -4,8 +4,10 @@ ghost use Rattle.lagffi.specs.Holding.{held_value};
 ghost use Rattle.lagffi.specs.Numbers.{no_system};
 ghost use Rattle.lagffi.specs.Made.{IsMadeOfLagConfig, holds_system_already, lag_key, made_refused, made_with_status, lag_port_config};
 ghost use Rattle.lagffi.specs.Algorithms.{is_algorithm};
+ghost use Rattle.lagffi.specs.Answering.{nobody_asked};
 ghost use Rattle.lagffi.specs.Made.{lag_limit, no_algorithm, refusal_of, why_refused};
 
+use crate::answering::Answering;
 use crate::handle::{Block, Held, Lag};
 use crate::refusal::refusal;
 use crate::stored::by_number;
@@ -205,9 +207,9 @@ pub extern "C" fn lagffi_new(
     ensures made { held_value lag.old.held.kept ≡ None → MatchOption (held_value lag.new.held.kept)
         (result ≡ why_refused config.now keys.now ports.now)
         (λ h. IsMadeOfLagConfig config.now keys.now ports.now h.state × IsTrue (is_algorithm config.now.algorithm)
-        × (h.algorithm ≡ config.now.algorithm) × (result ≡ made_with_status 0)) }
+        × (h.algorithm ≡ config.now.algorithm) × (h.answering ≡ nobody_asked) × (result ≡ made_with_status 0)) }
 {
-    if let Some((system, block)) = lag.take(alloc) {
+    if let Some((system, block)) = lag.take(alloc, ()) {
         lag.put(system, block);
         return LagMade::with_status(HOLDS_SYSTEM_ALREADY);
     }
@@ -222,8 +224,12 @@ pub extern "C" fn lagffi_new(
     };
     match system_of(alloc, config, keys, ports) {
         Ok(system) => {
-            let algorithm = config.algorithm;
-            lag.put(system, Block { held, algorithm });
+            let block = Block {
+                held,
+                algorithm: config.algorithm,
+                answering: Answering::nobody_asked(),
+            };
+            lag.put(system, block);
             LagMade::with_status(OK)
         }
         Err(fault) => {
@@ -239,7 +245,7 @@ pub extern "C" fn lagffi_free(alloc: Global, lag: &mut Lag) -> u32
     ensures left { held_value lag.new.held.kept ≡ None }
     ensures status { MatchOption (held_value lag.old.held.kept) (result ≡ no_system) (λ s. result ≡ 0) }
 {
-    match lag.take(alloc) {
+    match lag.take(alloc, ()) {
         Some((_, block)) => {
             block.free();
             OK

@@ -57,11 +57,10 @@ pub extern "C" fn lagffi_due(alloc: Global, lag: &mut Lag) -> LagNumber
     ensures { ReadsHeldSystem (held_value lag.old.held.kept) (held_value lag.new.held.kept)
         (λ s. result ≡ number (mask (due_on s (port_numbers s.system_ports)))) (result ≡ number_refused no_system) }
 {
-    let Some((kept, block)) = lag.take(alloc) else {
+    let Some((system, block)) = lag.take(alloc, by_number) else {
         return LagNumber::refused(NO_SYSTEM);
     };
-    let system = kept.with_algorithm(by_number);
     let due = due_on(&system, &system.ports());
-    lag.put(system.with_algorithm(()), block);
+    lag.put(system, block);
     LagNumber::answered(mask(&due))
 }

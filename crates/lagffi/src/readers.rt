@@ -1,4 +1,4 @@
-ghost use Rattle.std.specs.Prelude.{◌≡◌, ◌<◌, [], IfSome, IsTrue, MatchOption, length, nat_le, option_map};
+ghost use Rattle.std.specs.Prelude.{◌≡◌, ◌<◌, [], IfSome, IsTrue, MatchOption, length, nat_le, option_map, slice_index};
 ghost use Rattle.std.specs.Bool.{IsFalse, OnFalse};
 ghost use Rattle.std.specs.List.Sorted.{IsStrictlyIncreasing};
 ghost use Rattle.portmachines.specs.Mux.{same_mux_state};
@@ -6,13 +6,14 @@ ghost use Rattle.portmachines.specs.Transmit.{actor_state};
 ghost use Rattle.portmachines.specs.declared.mux.MuxState.{MuxState};
 ghost use Rattle.distributor.specs.Chains.{names_port};
 ghost use Rattle.distributor.specs.Conversations.{count_conversations, next_identifier};
+ghost use Rattle.lagsystem.specs.Forcing.{count_held_on};
 ghost use Rattle.lagsystem.specs.Hosts.{conversation_at, would_transmit_at};
 ghost use Rattle.lagsystem.specs.Offers.{has_aggregator};
 ghost use Rattle.lagsystem.specs.PortStatus.{status_of_port};
 ghost use Rattle.lagsystem.specs.Readers.{aggregator_numbered, conversation_count, conversation_in, distributing, group_at};
 ghost use Rattle.lagsystem.specs.State.{port_numbers, port_index, machines_of};
 ghost use Rattle.lagsystem.specs.Waiting.{ticks_until_due};
-ghost use Rattle.lagffi.specs.Asking.{ReadsHeldSystem};
+ghost use Rattle.lagffi.specs.Asking.{ReadsHeldSystem, ReadsNotes};
 ghost use Rattle.lagffi.specs.Holding.{held_value};
 ghost use Rattle.lagffi.specs.Lists.{port_list_length, put_first};
 ghost use Rattle.lagffi.specs.Numbers.{number_refused, no_system, truth_refused, number, number_or_refused, wrong_buffer_length};
@@ -42,12 +43,11 @@ pub extern "C" fn lagffi_is_up(alloc: Global, lag: &mut Lag, port: u16) -> LagTr
     ensures { ReadsHeldSystem (held_value lag.old.held.kept) (held_value lag.new.held.kept)
         (λ s. result ≡ truth_or_no_port (option_map (λ p. p.enabled) (machines_of port s))) (result ≡ truth_refused no_system) }
 {
-    let Some((kept, block)) = lag.take(alloc) else {
+    let Some((system, block)) = lag.take(alloc, by_number) else {
         return LagTruth::refused(NO_SYSTEM);
     };
-    let system = kept.with_algorithm(by_number);
     let answer = LagTruth::of_port(system.is_up(port));
-    lag.put(system.with_algorithm(()), block);
+    lag.put(system, block);
     answer
 }
 
@@ -57,12 +57,11 @@ pub extern "C" fn lagffi_is_due(alloc: Global, lag: &mut Lag, port: u16) -> LagT
     ensures { ReadsHeldSystem (held_value lag.old.held.kept) (held_value lag.new.held.kept)
         (λ s. result ≡ truth_or_no_port (would_transmit_at port s)) (result ≡ truth_refused no_system) }
 {
-    let Some((kept, block)) = lag.take(alloc) else {
+    let Some((system, block)) = lag.take(alloc, by_number) else {
         return LagTruth::refused(NO_SYSTEM);
     };
-    let system = kept.with_algorithm(by_number);
     let answer = LagTruth::of_port(system.is_due(port));
-    lag.put(system.with_algorithm(()), block);
+    lag.put(system, block);
     answer
 }
 
@@ -72,12 +71,11 @@ pub extern "C" fn lagffi_defaulted(alloc: Global, lag: &mut Lag, port: u16) -> L
     ensures { ReadsHeldSystem (held_value lag.old.held.kept) (held_value lag.new.held.kept)
         (λ s. result ≡ truth_or_no_port (option_map (λ p. p.defaulted) (machines_of port s))) (result ≡ truth_refused no_system) }
 {
-    let Some((kept, block)) = lag.take(alloc) else {
+    let Some((system, block)) = lag.take(alloc, by_number) else {
         return LagTruth::refused(NO_SYSTEM);
     };
-    let system = kept.with_algorithm(by_number);
     let answer = LagTruth::of_port(system.defaulted(port));
-    lag.put(system.with_algorithm(()), block);
+    lag.put(system, block);
     answer
 }
 
@@ -88,12 +86,11 @@ pub extern "C" fn lagffi_distributes(alloc: Global, lag: &mut Lag, port: u16) ->
         (λ s. result ≡ truth_or_no_port (option_map (λ p. same_mux_state MuxState.CollectingDistributing p.mux) (machines_of port s)))
         (result ≡ truth_refused no_system) }
 {
-    let Some((kept, block)) = lag.take(alloc) else {
+    let Some((system, block)) = lag.take(alloc, by_number) else {
         return LagTruth::refused(NO_SYSTEM);
     };
-    let system = kept.with_algorithm(by_number);
     let answer = LagTruth::of_port(system.distributes(port));
-    lag.put(system.with_algorithm(()), block);
+    lag.put(system, block);
     answer
 }
 
@@ -103,12 +100,11 @@ pub extern "C" fn lagffi_state(alloc: Global, lag: &mut Lag, port: u16) -> LagNu
     ensures { ReadsHeldSystem (held_value lag.old.held.kept) (held_value lag.new.held.kept)
         (λ s. result ≡ state_or_no_port (option_map actor_state (machines_of port s))) (result ≡ number_refused no_system) }
 {
-    let Some((kept, block)) = lag.take(alloc) else {
+    let Some((system, block)) = lag.take(alloc, by_number) else {
         return LagNumber::refused(NO_SYSTEM);
     };
-    let system = kept.with_algorithm(by_number);
     let answer = state_or_no_port(system.state(port));
-    lag.put(system.with_algorithm(()), block);
+    lag.put(system, block);
     answer
 }
 
@@ -118,12 +114,11 @@ pub extern "C" fn lagffi_receive_state(alloc: Global, lag: &mut Lag, port: u16) 
     ensures { ReadsHeldSystem (held_value lag.old.held.kept) (held_value lag.new.held.kept)
         (λ s. result ≡ receive_state_or_no_port (option_map (λ p. p.receive) (machines_of port s))) (result ≡ number_refused no_system) }
 {
-    let Some((kept, block)) = lag.take(alloc) else {
+    let Some((system, block)) = lag.take(alloc, by_number) else {
         return LagNumber::refused(NO_SYSTEM);
     };
-    let system = kept.with_algorithm(by_number);
     let answer = receive_state_or_no_port(system.receive_state(port));
-    lag.put(system.with_algorithm(()), block);
+    lag.put(system, block);
     answer
 }
 
@@ -133,12 +128,11 @@ pub extern "C" fn lagffi_choice(alloc: Global, lag: &mut Lag, port: u16) -> LagN
     ensures { ReadsHeldSystem (held_value lag.old.held.kept) (held_value lag.new.held.kept)
         (λ s. result ≡ choice_or_no_port (option_map (λ p. p.choice) (machines_of port s))) (result ≡ number_refused no_system) }
 {
-    let Some((kept, block)) = lag.take(alloc) else {
+    let Some((system, block)) = lag.take(alloc, by_number) else {
         return LagNumber::refused(NO_SYSTEM);
     };
-    let system = kept.with_algorithm(by_number);
     let answer = choice_or_no_port(system.choice(port));
-    lag.put(system.with_algorithm(()), block);
+    lag.put(system, block);
     answer
 }
 
@@ -148,12 +142,11 @@ pub extern "C" fn lagffi_is_standby(alloc: Global, lag: &mut Lag, port: u16) -> 
     ensures { ReadsHeldSystem (held_value lag.old.held.kept) (held_value lag.new.held.kept)
         (λ s. result ≡ standby_or_no_port (option_map (λ p. p.choice) (machines_of port s))) (result ≡ truth_refused no_system) }
 {
-    let Some((kept, block)) = lag.take(alloc) else {
+    let Some((system, block)) = lag.take(alloc, by_number) else {
         return LagTruth::refused(NO_SYSTEM);
     };
-    let system = kept.with_algorithm(by_number);
     let answer = standby_or_no_port(system.choice(port));
-    lag.put(system.with_algorithm(()), block);
+    lag.put(system, block);
     answer
 }
 
@@ -163,12 +156,11 @@ pub extern "C" fn lagffi_mux_state(alloc: Global, lag: &mut Lag, port: u16) -> L
     ensures { ReadsHeldSystem (held_value lag.old.held.kept) (held_value lag.new.held.kept)
         (λ s. result ≡ mux_state_or_no_port (option_map (λ p. p.mux) (machines_of port s))) (result ≡ number_refused no_system) }
 {
-    let Some((kept, block)) = lag.take(alloc) else {
+    let Some((system, block)) = lag.take(alloc, by_number) else {
         return LagNumber::refused(NO_SYSTEM);
     };
-    let system = kept.with_algorithm(by_number);
     let answer = mux_state_or_no_port(system.mux_state(port));
-    lag.put(system.with_algorithm(()), block);
+    lag.put(system, block);
     answer
 }
 
@@ -179,12 +171,11 @@ pub extern "C" fn lagffi_port_status(alloc: Global, lag: &mut Lag, port: u16) ->
     ensures { ReadsHeldSystem (held_value lag.old.held.kept) (held_value lag.new.held.kept)
         (λ s. result ≡ port_status_or_no_port (option_map status_of_port (machines_of port s))) (result ≡ number_refused no_system) }
 {
-    let Some((kept, block)) = lag.take(alloc) else {
+    let Some((system, block)) = lag.take(alloc, by_number) else {
         return LagNumber::refused(NO_SYSTEM);
     };
-    let system = kept.with_algorithm(by_number);
     let answer = port_status_or_no_port(system.port_status(port));
-    lag.put(system.with_algorithm(()), block);
+    lag.put(system, block);
     answer
 }
 
@@ -194,12 +185,11 @@ pub extern "C" fn lagffi_current_while(alloc: Global, lag: &mut Lag, port: u16) 
     ensures { ReadsHeldSystem (held_value lag.old.held.kept) (held_value lag.new.held.kept)
         (λ s. result ≡ number_or_refused 1 (option_map (λ p. p.current_while) (machines_of port s))) (result ≡ number_refused no_system) }
 {
-    let Some((kept, block)) = lag.take(alloc) else {
+    let Some((system, block)) = lag.take(alloc, by_number) else {
         return LagNumber::refused(NO_SYSTEM);
     };
-    let system = kept.with_algorithm(by_number);
     let answer = LagNumber::or(system.current_while(port), NO_PORT);
-    lag.put(system.with_algorithm(()), block);
+    lag.put(system, block);
     answer
 }
 
@@ -209,12 +199,11 @@ pub extern "C" fn lagffi_wait_while(alloc: Global, lag: &mut Lag, port: u16) -> 
     ensures { ReadsHeldSystem (held_value lag.old.held.kept) (held_value lag.new.held.kept)
         (λ s. result ≡ number_or_refused 1 (option_map (λ p. p.wait_while) (machines_of port s))) (result ≡ number_refused no_system) }
 {
-    let Some((kept, block)) = lag.take(alloc) else {
+    let Some((system, block)) = lag.take(alloc, by_number) else {
         return LagNumber::refused(NO_SYSTEM);
     };
-    let system = kept.with_algorithm(by_number);
-    let answer = LagNumber::of_wait_while(system.wait_while(port));
-    lag.put(system.with_algorithm(()), block);
+    let answer = LagNumber::octet_or_no_port(system.wait_while(port));
+    lag.put(system, block);
     answer
 }
 
@@ -224,12 +213,11 @@ pub extern "C" fn lagffi_ntt(alloc: Global, lag: &mut Lag, port: u16) -> LagTrut
     ensures { ReadsHeldSystem (held_value lag.old.held.kept) (held_value lag.new.held.kept)
         (λ s. result ≡ truth_or_no_port (option_map (λ p. p.ntt) (machines_of port s))) (result ≡ truth_refused no_system) }
 {
-    let Some((kept, block)) = lag.take(alloc) else {
+    let Some((system, block)) = lag.take(alloc, by_number) else {
         return LagTruth::refused(NO_SYSTEM);
     };
-    let system = kept.with_algorithm(by_number);
     let answer = LagTruth::of_port(system.ntt(port));
-    lag.put(system.with_algorithm(()), block);
+    lag.put(system, block);
     answer
 }
 
@@ -239,12 +227,11 @@ pub extern "C" fn lagffi_party(alloc: Global, lag: &mut Lag, port: u16) -> LagPa
     ensures { ReadsHeldSystem (held_value lag.old.held.kept) (held_value lag.new.held.kept)
         (λ s. result ≡ party_or_no_port (option_map (λ p. p.party) (machines_of port s))) (result ≡ party_refused no_system) }
 {
-    let Some((kept, block)) = lag.take(alloc) else {
+    let Some((system, block)) = lag.take(alloc, by_number) else {
         return LagParty::refused(NO_SYSTEM);
     };
-    let system = kept.with_algorithm(by_number);
     let answer = LagParty::of(system.party(port));
-    lag.put(system.with_algorithm(()), block);
+    lag.put(system, block);
     answer
 }
 
@@ -254,12 +241,11 @@ pub extern "C" fn lagffi_partner(alloc: Global, lag: &mut Lag, port: u16) -> Lag
     ensures { ReadsHeldSystem (held_value lag.old.held.kept) (held_value lag.new.held.kept)
         (λ s. result ≡ info_or_no_port (option_map (λ p. p.partner) (machines_of port s))) (result ≡ info_refused no_system) }
 {
-    let Some((kept, block)) = lag.take(alloc) else {
+    let Some((system, block)) = lag.take(alloc, by_number) else {
         return LagInfo::refused(NO_SYSTEM);
     };
-    let system = kept.with_algorithm(by_number);
     let answer = LagInfo::of(system.partner(port));
-    lag.put(system.with_algorithm(()), block);
+    lag.put(system, block);
     answer
 }
 
@@ -269,12 +255,11 @@ pub extern "C" fn lagffi_group(alloc: Global, lag: &mut Lag, port: u16) -> LagGr
     ensures { ReadsHeldSystem (held_value lag.old.held.kept) (held_value lag.new.held.kept)
         (λ s. result ≡ group_or_no_port (option_map group_at (machines_of port s))) (result ≡ group_refused no_system) }
 {
-    let Some((kept, block)) = lag.take(alloc) else {
+    let Some((system, block)) = lag.take(alloc, by_number) else {
         return LagGroup::refused(NO_SYSTEM);
     };
-    let system = kept.with_algorithm(by_number);
     let answer = LagGroup::of(system.group(port));
-    lag.put(system.with_algorithm(()), block);
+    lag.put(system, block);
     answer
 }
 
@@ -285,12 +270,41 @@ pub extern "C" fn lagffi_load(alloc: Global, lag: &mut Lag, port: u16) -> LagNum
         (λ s. MatchOption (port_index port s.system_ports) (result ≡ number_refused 1)
         (λ place. result ≡ number (count_conversations (names_port port) s.table))) (result ≡ number_refused no_system) }
 {
-    let Some((kept, block)) = lag.take(alloc) else {
+    let Some((system, block)) = lag.take(alloc, by_number) else {
         return LagNumber::refused(NO_SYSTEM);
     };
-    let system = kept.with_algorithm(by_number);
     let answer = LagNumber::of_count(&system.load(port));
-    lag.put(system.with_algorithm(()), block);
+    lag.put(system, block);
+    answer
+}
+
+/// Whether the peer of a port answers markers: 0 it was not asked since the link was down, 1 it was asked, 2 it answered.
+#[unsafe(no_mangle)]
+pub extern "C" fn lagffi_answers(alloc: Global, lag: &mut Lag, port: u16) -> LagNumber
+    ensures { ReadsNotes (held_value lag.old.held.kept) (held_value lag.new.held.kept)
+        (λ s notes. result ≡ number_or_refused 1 (option_map (slice_index notes) (port_index port s.system_ports)))
+        (result ≡ number_refused no_system) }
+{
+    let Some((system, block)) = lag.take(alloc, by_number) else {
+        return LagNumber::refused(NO_SYSTEM);
+    };
+    let answer = LagNumber::octet_or_no_port(block.answering.of(&system, port));
+    lag.put(system, block);
+    answer
+}
+
+/// How many conversations are Wanted or Flushing on a port.
+#[unsafe(no_mangle)]
+pub extern "C" fn lagffi_held(alloc: Global, lag: &mut Lag, port: u16) -> LagNumber
+    ensures { ReadsHeldSystem (held_value lag.old.held.kept) (held_value lag.new.held.kept)
+        (λ s. MatchOption (port_index port s.system_ports) (result ≡ number_refused 1)
+        (λ place. result ≡ number (count_held_on port s))) (result ≡ number_refused no_system) }
+{
+    let Some((system, block)) = lag.take(alloc, by_number) else {
+        return LagNumber::refused(NO_SYSTEM);
+    };
+    let answer = LagNumber::of_count(&system.held(port));
+    lag.put(system, block);
     answer
 }
 
@@ -300,12 +314,11 @@ pub extern "C" fn lagffi_aggregators(alloc: Global, lag: &mut Lag) -> LagNumber
     ensures { ReadsHeldSystem (held_value lag.old.held.kept) (held_value lag.new.held.kept)
         (λ s. result ≡ number (length s.keys)) (result ≡ number_refused no_system) }
 {
-    let Some((kept, block)) = lag.take(alloc) else {
+    let Some((system, block)) = lag.take(alloc, by_number) else {
         return LagNumber::refused(NO_SYSTEM);
     };
-    let system = kept.with_algorithm(by_number);
     let answer = LagNumber::answered(system.aggregators() as u64);
-    lag.put(system.with_algorithm(()), block);
+    lag.put(system, block);
     answer
 }
 
@@ -317,12 +330,11 @@ pub extern "C" fn lagffi_conversation(alloc: Global, lag: &mut Lag, frame: &[u8]
         × IfSome (conversation_in s frame.now) (λ conv. conv < conversation_count s))
         (result ≡ number_refused no_system) }
 {
-    let Some((kept, block)) = lag.take(alloc) else {
+    let Some((system, block)) = lag.take(alloc, by_number) else {
         return LagNumber::refused(NO_SYSTEM);
     };
-    let system = kept.with_algorithm(by_number);
     let answer = LagNumber::or(system.conversation(frame), FRAME_LENGTH_REFUSED);
-    lag.put(system.with_algorithm(()), block);
+    lag.put(system, block);
     answer
 }
 
@@ -337,12 +349,11 @@ pub extern "C" fn lagffi_conversation_state(
     ensures { ReadsHeldSystem (held_value lag.old.held.kept) (held_value lag.new.held.kept)
         (λ s. result ≡ assignment_or_refused (conversation_at s (aggregator_numbered agg) conv)) (result ≡ assignment_refused no_system) }
 {
-    let Some((kept, block)) = lag.take(alloc) else {
+    let Some((system, block)) = lag.take(alloc, by_number) else {
         return LagAssignment::refused(NO_SYSTEM);
     };
-    let system = kept.with_algorithm(by_number);
     let answer = LagAssignment::of(system.conversation_state(AggId(agg), conv));
-    lag.put(system.with_algorithm(()), block);
+    lag.put(system, block);
     answer
 }
 
@@ -352,12 +363,11 @@ pub extern "C" fn lagffi_next_marker(alloc: Global, lag: &mut Lag) -> LagMarker
     ensures { ReadsHeldSystem (held_value lag.old.held.kept) (held_value lag.new.held.kept)
         (λ s. result ≡ lag_marker (next_identifier s.table)) (result ≡ marker_refused no_system) }
 {
-    let Some((kept, block)) = lag.take(alloc) else {
+    let Some((system, block)) = lag.take(alloc, by_number) else {
         return LagMarker::refused(NO_SYSTEM);
     };
-    let system = kept.with_algorithm(by_number);
     let answer = LagMarker::of(system.next_marker());
-    lag.put(system.with_algorithm(()), block);
+    lag.put(system, block);
     answer
 }
 
@@ -367,12 +377,11 @@ pub extern "C" fn lagffi_ticks_until_due(alloc: Global, lag: &mut Lag) -> LagWai
     ensures { ReadsHeldSystem (held_value lag.old.held.kept) (held_value lag.new.held.kept)
         (λ s. result ≡ lag_wait (ticks_until_due s)) (result ≡ wait_refused no_system) }
 {
-    let Some((kept, block)) = lag.take(alloc) else {
+    let Some((system, block)) = lag.take(alloc, by_number) else {
         return LagWait::refused(NO_SYSTEM);
     };
-    let system = kept.with_algorithm(by_number);
     let answer = LagWait::of(system.ticks_until_due());
-    lag.put(system.with_algorithm(()), block);
+    lag.put(system, block);
     answer
 }
 
@@ -390,12 +399,11 @@ pub extern "C" fn lagffi_ports(alloc: Global, lag: &mut Lag, buffer: &mut [u16])
     if buffer.len() < PORT_LIST_LENGTH {
         return LagNumber::refused(WRONG_BUFFER_LENGTH);
     }
-    let Some((kept, block)) = lag.take(alloc) else {
+    let Some((system, block)) = lag.take(alloc, by_number) else {
         return LagNumber::refused(NO_SYSTEM);
     };
-    let system = kept.with_algorithm(by_number);
     let answered = system.ports();
-    lag.put(system.with_algorithm(()), block);
+    lag.put(system, block);
     LagNumber::answered(put_first(&answered, buffer))
 }
 
@@ -421,11 +429,10 @@ pub extern "C" fn lagffi_distributing(
     if buffer.len() < PORT_LIST_LENGTH {
         return LagNumber::refused(WRONG_BUFFER_LENGTH);
     }
-    let Some((kept, block)) = lag.take(alloc) else {
+    let Some((system, block)) = lag.take(alloc, by_number) else {
         return LagNumber::refused(NO_SYSTEM);
     };
-    let system = kept.with_algorithm(by_number);
     let answered = system.distributing(AggId(agg));
-    lag.put(system.with_algorithm(()), block);
+    lag.put(system, block);
     LagNumber::answered(put_first(&answered, buffer))
 }

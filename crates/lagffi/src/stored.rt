@@ -2,6 +2,7 @@ ghost use Rattle.std.specs.Prelude.{◌≡◌};
 ghost use Rattle.distributor.specs.Calls.{index_by_number};
 ghost use Rattle.lagffi.specs.Algorithms.{index_by_sum};
 
+use crate::answering::Answering;
 use lagsystem::System;
 
 /// A system as a handle keeps it: with no algorithm, so that its type names none, and taken out while a call goes on.
@@ -10,6 +11,8 @@ pub struct StoredSystem {
     pub(crate) system: Option<System<()>>,
     /// The number of its distribution algorithm.
     pub(crate) algorithm: u16,
+    /// Whether the peers of its ports answer markers.
+    pub(crate) answering: Answering,
 }
 
 /// The distribution algorithm: the number of the conversation modulo the count of ports, and 0 if there are none.

@@ -161,8 +161,8 @@ impl LagNumber {
         }
     }
 
-    /// The answer of `wait_while`, or else that there is no such port.
-    pub(crate) fn of_wait_while(answer: Option<u8>) -> LagNumber
+    /// The answer of `wait_while`, or a note on the peer of a port; or else that there is no such port.
+    pub(crate) fn octet_or_no_port(answer: Option<u8>) -> LagNumber
         ensures { result ≡ number_or_refused 1 answer }
     {
         match answer {

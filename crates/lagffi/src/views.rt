@@ -183,11 +183,10 @@ pub extern "C" fn lagffi_views(alloc: Global, lag: &mut Lag, views: &mut [LagVie
     if views.len() < PORT_LIST_LENGTH {
         return LagNumber::refused(WRONG_BUFFER_LENGTH);
     }
-    let Some((kept, block)) = lag.take(alloc) else {
+    let Some((system, block)) = lag.take(alloc, by_number) else {
         return LagNumber::refused(NO_SYSTEM);
     };
-    let system = kept.with_algorithm(by_number);
     let now = views_of(&system, &system.ports());
-    lag.put(system.with_algorithm(()), block);
+    lag.put(system, block);
     LagNumber::answered(renew(views, &now))
 }

@@ -1,11 +1,15 @@
 -- What an engine does for a line: it makes the call of the system that the line asks for.
 use Rattle.std.specs.Prelude.{◌≡◌, ⊤, ◌⊎◌, Vec, ℕ, List, [], ◌∷◌, ◌++◌, length, map, replicate, Option, Some, None, option_map, Result, Ok, Err}
 use Rattle.distributor.specs.Conversations.{next_identifier}
+use Rattle.lagsystem.specs.Assigning.{OffersConversation}
 use Rattle.lagsystem.specs.Calls.{Call, Tick}
 use Rattle.lagsystem.specs.Drives.{Drives, call_of}
 use Rattle.lagsystem.specs.Forcing.{ForcesPort}
 use Rattle.lagsystem.specs.First.{ConfigValue, IsFirst, fault_or_no_memory, refusal}
 use Rattle.lagsystem.specs.Hosts.{conversation_at}
+use Rattle.lagsystem.specs.Leaving.{system_leave_result, system_rest_result}
+use Rattle.lagsystem.specs.Offers.{GivesOrRefuses}
+use Rattle.lagsystem.specs.Probing.{Probes}
 use Rattle.lagsystem.specs.Readers.{conversation_in}
 use Rattle.lagsystem.specs.Sound.{CallPromise}
 use Rattle.lagsystem.specs.State.{SystemState, SystemValue, port_numbers}
@@ -17,7 +21,8 @@ use Rattle.lagsystem.specs.declared.drive.Reply.{Reply}
 use Rattle.lagsystem.specs.declared.drive.Reply.TheVariants as reply
 use Rattle.lagserve.specs.Lines.{request_in}
 use Rattle.lagserve.specs.Looks.{all_aggregators, all_ports, port_answer, agg_answer}
-use Rattle.lagserve.specs.Requests.{TaskValue, RequestValue, Start, Work, Make, Ticks, Keep, Drive, ForcePort, Conversation, Ask}
+use Rattle.lagserve.specs.Requests.{TaskValue, RequestValue, Start, Work, Make, Ticks, Keep, Drive, ForcePort, OfferConversation}
+use Rattle.lagserve.specs.Requests.{LeaveConversation, Rest, Probe, Conversation, Ask}
 use Rattle.lagserve.specs.AnswerValues.{AnswerValue}
 use Rattle.lagserve.specs.AnswerValues as said
 use Rattle.lagserve.specs.declared.engine.Inner.{Inner}
@@ -138,6 +143,19 @@ DoesTask gives Drive s kept answer new = DrivesKept gives s kept answer new
 DoesTask gives (ForcePort port) s kept answer new =
     (forced : Result ℕ SystemFault) × (t : SystemState) × ForcesPort gives port s forced t × (answer ≡ said.ForcedPort forced)
     × (new ≡ record { system = Some t; kept = kept })
+-- the next four are made at once, even while calls are stored
+DoesTask gives (OfferConversation agg conv) s kept answer new =
+    (given : Result ℕ SystemFault) × (t : SystemState) × OffersConversation gives agg conv s given t
+    × (answer ≡ said.Replied (reply.Offer given)) × (new ≡ record { system = Some t; kept = kept })
+DoesTask gives (LeaveConversation agg conv) s kept answer new =
+    (left : Result Unit SystemFault) × (t : SystemState) × GivesOrRefuses agg conv (system_leave_result s agg conv) s left t
+    × (answer ≡ said.Replied (reply.MoveConversation left)) × (new ≡ record { system = Some t; kept = kept })
+DoesTask gives (Rest agg conv) s kept answer new =
+    (rests : Result Unit SystemFault) × (t : SystemState) × GivesOrRefuses agg conv (system_rest_result s agg conv) s rests t
+    × (answer ≡ said.Replied (reply.Force rests)) × (new ≡ record { system = Some t; kept = kept })
+DoesTask gives (Probe port) s kept answer new =
+    (sent : Result (Option (List ℕ)) SystemFault) × (t : SystemState) × Probes port s sent t
+    × (answer ≡ said.Replied (reply.Transmit sent)) × (new ≡ record { system = Some t; kept = kept })
 DoesTask gives (Conversation octets) s kept answer new = (answer ≡ said.Conversation (conversation_in s octets))
     × (new ≡ record { system = Some s; kept = kept })
 DoesTask gives (Ask q) s kept answer new = (answer ≡ reader_answer q s) × (new ≡ record { system = Some s; kept = kept })

@@ -7,6 +7,7 @@ use Rattle.portmachines.specs.Mux.{same_mux_state}
 use Rattle.portmachines.specs.Transmit.{actor_state}
 use Rattle.distributor.specs.Chains.{names_port}
 use Rattle.distributor.specs.Conversations.{count_conversations}
+use Rattle.lagsystem.specs.Forcing.{count_held_on}
 use Rattle.lagsystem.specs.Hosts.{would_transmit_at}
 use Rattle.lagsystem.specs.PortStatus.{status_of_port}
 use Rattle.lagsystem.specs.Readers.{aggregator_numbered, distributing, group_at}
@@ -35,6 +36,10 @@ look_of p = record {
 abbrev pub load_of : ℕ → SystemState → Option ℕ
 load_of n s = option_map (λ _. count_conversations (names_port n) s.table) (port_index n s.system_ports)
 
+-- how many conversations are Wanted or Flushing on the port with this number
+abbrev pub held_on : ℕ → SystemState → Option ℕ
+held_on n s = option_map (λ _. count_held_on n s) (port_index n s.system_ports)
+
 -- the answer to a question about the port with this number
 abbrev pub fact_of : PortQuestion → ℕ → SystemState → Option PortFact
 fact_of of_port.Look n s = option_map (λ p. fact.Look (look_of p)) (machines_of n s)
@@ -43,6 +48,7 @@ fact_of of_port.State n s = option_map (λ p. fact.State (actor_state p)) (machi
 fact_of of_port.ReceiveState n s = option_map (λ p. fact.ReceiveState p.receive) (machines_of n s)
 fact_of of_port.Due n s = option_map fact.Due (would_transmit_at n s)
 fact_of of_port.Load n s = option_map fact.Load (load_of n s)
+fact_of of_port.Held n s = option_map fact.Held (held_on n s)
 fact_of of_port.Status n s = option_map (λ p. fact.Status (status_of_port p)) (machines_of n s)
 fact_of of_port.CurrentWhile n s = option_map (λ p. fact.CurrentWhile p.current_while) (machines_of n s)
 fact_of of_port.WaitWhile n s = option_map (λ p. fact.WaitWhile p.wait_while) (machines_of n s)

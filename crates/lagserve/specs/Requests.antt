@@ -24,13 +24,17 @@ use Rattle.lagserve.specs.declared.request.Task.{Task}
 use Rattle.lagserve.specs.declared.request.Task.TheVariants as task
 
 -- a task for a system: make a call, make some ticks, store calls from now on, make the stored calls, force what is held
--- on a port, or answer a question
+-- on a port, make a call that is no step of `drive`, or answer a question
 pub data TaskValue : Type 0 where
   Make : Call → TaskValue
   Ticks : ℕ → TaskValue  -- so many ticks, one after another
   Keep : TaskValue
   Drive : TaskValue
   ForcePort : ℕ → TaskValue  -- force what is held on this port
+  OfferConversation : AggId → ℕ → TaskValue
+  LeaveConversation : AggId → ℕ → TaskValue
+  Rest : AggId → ℕ → TaskValue
+  Probe : ℕ → TaskValue
   Conversation : List ℕ → TaskValue
   Ask : Question → TaskValue
 
@@ -41,6 +45,10 @@ task_value (task.Ticks n) = Ticks n
 task_value task.Keep = Keep
 task_value task.Drive = Drive
 task_value (task.ForcePort port) = ForcePort port
+task_value (task.OfferConversation agg conv) = OfferConversation agg conv
+task_value (task.LeaveConversation agg conv) = LeaveConversation agg conv
+task_value (task.Rest agg conv) = Rest agg conv
+task_value (task.Probe port) = Probe port
 task_value (task.Conversation frame) = Conversation frame.items
 task_value (task.Ask question) = Ask question
 
@@ -208,6 +216,7 @@ question_named name =
     else if bytes_eq name (codes "receive-state") then port_question of_port.ReceiveState
     else if bytes_eq name (codes "due") then port_question of_port.Due
     else if bytes_eq name (codes "load") then port_question of_port.Load
+    else if bytes_eq name (codes "held") then port_question of_port.Held
     else if bytes_eq name (codes "port-status") then port_question of_port.Status
     else if bytes_eq name (codes "current-while") then port_question of_port.CurrentWhile
     else if bytes_eq name (codes "wait-while") then port_question of_port.WaitWhile
@@ -228,6 +237,10 @@ ticks_asked [] = Ok (Make Tick)
 ticks_asked (w ∷ []) = ticks_word 2 w >>= λ n. Ok (Ticks n)
 ticks_asked _ = Err fault.Count
 
+-- a task for a conversation of an aggregator
+abbrev pub of_conversation : (AggId → ℕ → TaskValue) → List (List ℕ) → Result TaskValue RequestFault
+of_conversation make = with_two_words number_word number_word (λ g k. make (agg_id g) k)
+
 -- the calls without octets, by their first word
 abbrev pub call_named : List ℕ → List (List ℕ) → Result TaskValue RequestFault
 call_named name =
@@ -240,6 +253,10 @@ call_named name =
     (λ g k port. Make (Move_conversation (agg_id g) k port))
     else if bytes_eq name (codes "force") then with_two_words number_word number_word (λ g k. Make (Force (agg_id g) k))
     else if bytes_eq name (codes "force-port") then with_one_word number_word ForcePort
+    else if bytes_eq name (codes "offer-conversation") then of_conversation OfferConversation
+    else if bytes_eq name (codes "leave") then of_conversation LeaveConversation
+    else if bytes_eq name (codes "rest") then of_conversation Rest
+    else if bytes_eq name (codes "probe") then with_one_word number_word Probe
     else question_named name
 
 -- the tasks, by their first word

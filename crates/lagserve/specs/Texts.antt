@@ -226,6 +226,7 @@ fact_text (fact.State s) = codes "state " ++ state_text (octet s)
 fact_text (fact.ReceiveState s) = codes "receive-state " ++ receive_text s
 fact_text (fact.Due due) = codes "due " ++ flag_text due
 fact_text (fact.Load load) = codes "load " ++ decimal load
+fact_text (fact.Held held) = codes "held " ++ decimal held
 fact_text (fact.Status s) = codes "status " ++ status_text s
 fact_text (fact.CurrentWhile ticks) = codes "current-while " ++ decimal ticks
 fact_text (fact.WaitWhile ticks) = codes "wait-while " ++ decimal ticks

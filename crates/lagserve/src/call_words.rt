@@ -1,5 +1,5 @@
 ghost use Rattle.std.specs.Prelude.{◌≡◌, map};
-ghost use Rattle.lagserve.specs.Requests.{call_named, configure_task, with_four_words, with_no_words, with_one_word, port_question};
+ghost use Rattle.lagserve.specs.Requests.{call_named, configure_task, of_conversation, with_four_words, with_no_words, with_one_word, port_question};
 ghost use Rattle.lagserve.specs.Requests.{question_named, task_result_value, ticks_asked, with_three_words, with_two_words};
 ghost use Rattle.lagserve.specs.Requests as asked;
 ghost use Rattle.lagsystem.specs.Calls as call;
@@ -107,6 +107,41 @@ fn force_port(words: &[&str]) -> Result<Task, RequestFault>
     Ok(Task::ForcePort(number(2, port)?))
 }
 
+/// Reads the words of `offer-conversation`: an aggregator and a conversation.
+fn offer_conversation(words: &[&str]) -> Result<Task, RequestFault>
+    ensures { task_result_value result ≡ of_conversation asked.OfferConversation (map (λ w. w.now) words.now) }
+{
+    let (agg, conv) = two_words(words)?;
+    let agg = AggId(number(2, agg)?);
+    Ok(Task::OfferConversation(agg, number(3, conv)?))
+}
+
+/// Reads the words of `leave`: an aggregator and a conversation.
+fn leave_conversation(words: &[&str]) -> Result<Task, RequestFault>
+    ensures { task_result_value result ≡ of_conversation asked.LeaveConversation (map (λ w. w.now) words.now) }
+{
+    let (agg, conv) = two_words(words)?;
+    let agg = AggId(number(2, agg)?);
+    Ok(Task::LeaveConversation(agg, number(3, conv)?))
+}
+
+/// Reads the words of `rest`: an aggregator and a conversation.
+fn rest(words: &[&str]) -> Result<Task, RequestFault>
+    ensures { task_result_value result ≡ of_conversation asked.Rest (map (λ w. w.now) words.now) }
+{
+    let (agg, conv) = two_words(words)?;
+    let agg = AggId(number(2, agg)?);
+    Ok(Task::Rest(agg, number(3, conv)?))
+}
+
+/// Reads the word of `probe`: a port.
+fn probe(words: &[&str]) -> Result<Task, RequestFault>
+    ensures { task_result_value result ≡ with_one_word number_word asked.Probe (map (λ w. w.now) words.now) }
+{
+    let port = one_word(words)?;
+    Ok(Task::Probe(number(2, port)?))
+}
+
 /// Reads the words of a question about one port.
 fn port_question(asked: PortQuestion, words: &[&str]) -> Result<Task, RequestFault>
     ensures { task_result_value result ≡ port_question asked (map (λ w. w.now) words.now) }
@@ -146,6 +181,7 @@ fn question_named(name: &str, words: &[&str]) -> Result<Task, RequestFault>
         "receive-state" => port_question(PortQuestion::ReceiveState, words),
         "due" => port_question(PortQuestion::Due, words),
         "load" => port_question(PortQuestion::Load, words),
+        "held" => port_question(PortQuestion::Held, words),
         "port-status" => port_question(PortQuestion::Status, words),
         "current-while" => port_question(PortQuestion::CurrentWhile, words),
         "wait-while" => port_question(PortQuestion::WaitWhile, words),
@@ -175,6 +211,10 @@ pub(crate) fn call_named(name: &str, words: &[&str]) -> Result<Task, RequestFaul
         "move" => move_conversation(words),
         "force" => force(words),
         "force-port" => force_port(words),
+        "offer-conversation" => offer_conversation(words),
+        "leave" => leave_conversation(words),
+        "rest" => rest(words),
+        "probe" => probe(words),
         _ => question_named(name, words),
     }
 }

@@ -12,7 +12,7 @@ use crate::fault::{RequestError, RequestFault};
 use crate::looks::{agg_answer, all_aggregators, all_ports, port_answer};
 use crate::request::{Question, Request, Task, request_in};
 use crate::ticks::tick_or_keep;
-use lagsystem::{Call, Config, System};
+use lagsystem::{Call, Config, Reply, System};
 use std::alloc::{AllocError, Global};
 use std::marker::Model;
 
@@ -141,6 +141,16 @@ fn do_task<F: Fn(u16, usize) -> usize + Drop>(
         }
         Task::Drive => drive(alloc, system, kept),
         Task::ForcePort(port) => Ok(Answer::ForcedPort(system.force_port(port))),
+        Task::OfferConversation(agg, conv) => {
+            let answer = system.offer_conversation(agg, conv);
+            Ok(Answer::Reply(Reply::Offer(answer)))
+        }
+        Task::LeaveConversation(agg, conv) => {
+            let answer = system.leave_conversation(agg, conv);
+            Ok(Answer::Reply(Reply::MoveConversation(answer)))
+        }
+        Task::Rest(agg, conv) => Ok(Answer::Reply(Reply::Force(system.rest(agg, conv)))),
+        Task::Probe(port) => Ok(Answer::Reply(Reply::Transmit(system.probe(port)))),
         Task::Conversation(frame) => Ok(Answer::Conversation(system.conversation(&frame))),
         Task::Ask(question) => answer_question(alloc, system, question),
     }

@@ -219,6 +219,7 @@ impl fmt::Display for FactText<'_> {
             PortFact::ReceiveState(state) => write!(f, "receive-state {}", ReceiveText(*state)),
             PortFact::Due(due) => write!(f, "due {}", FlagText(*due)),
             PortFact::Load(load) => write!(f, "load {load}"),
+            PortFact::Held(held) => write!(f, "held {held}"),
             PortFact::Status(status) => write!(f, "status {}", StatusText(*status)),
             PortFact::CurrentWhile(ticks) => write!(f, "current-while {ticks}"),
             PortFact::WaitWhile(ticks) => write!(f, "wait-while {ticks}"),

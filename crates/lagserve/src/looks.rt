@@ -1,5 +1,5 @@
 ghost use Rattle.std.specs.Prelude.{◌≡◌, IfOk, map, option_map};
-ghost use Rattle.lagserve.specs.Looks.{all_aggregators, all_ports, fact_of, load_of, look_of, port_answer, agg_answer, agg_answer_value};
+ghost use Rattle.lagserve.specs.Looks.{all_aggregators, all_ports, fact_of, held_on, load_of, look_of, port_answer, agg_answer, agg_answer_value};
 ghost use Rattle.lagsystem.specs.State.{machines_of};
 
 use crate::request::PortQuestion;
@@ -37,6 +37,8 @@ pub enum PortFact {
     Due(bool),
     /// How many conversations are On, Wanted or Flushing on it.
     Load(u32),
+    /// How many conversations are Wanted or Flushing on it.
+    Held(u32),
     /// Whether it distributes, and else the first reason why not.
     Status(PortStatus),
     /// How many ticks current_while has left.
@@ -83,6 +85,13 @@ fn load<F: Fn(u16, usize) -> usize + Drop>(system: &System<F>, port: u16) -> Opt
     system.load(port).ok()
 }
 
+/// How many conversations are Wanted or Flushing on a port; None if there is no such port.
+fn held<F: Fn(u16, usize) -> usize + Drop>(system: &System<F>, port: u16) -> Option<u32>
+    ensures { result ≡ held_on port system.now.state }
+{
+    system.held(port).ok()
+}
+
 /// The answer of a reader for a port; None if there is no such port.
 fn fact<F: Fn(u16, usize) -> usize + Drop>(
     system: &System<F>,
@@ -98,6 +107,7 @@ fn fact<F: Fn(u16, usize) -> usize + Drop>(
         PortQuestion::ReceiveState => Some(PortFact::ReceiveState(system.receive_state(port)?)),
         PortQuestion::Due => Some(PortFact::Due(system.is_due(port)?)),
         PortQuestion::Load => Some(PortFact::Load(load(system, port)?)),
+        PortQuestion::Held => Some(PortFact::Held(held(system, port)?)),
         PortQuestion::Status => Some(PortFact::Status(system.port_status(port)?)),
         PortQuestion::CurrentWhile => Some(PortFact::CurrentWhile(system.current_while(port)?)),
         PortQuestion::WaitWhile => Some(PortFact::WaitWhile(system.wait_while(port)?)),

@@ -31,6 +31,8 @@ pub enum PortQuestion {
     Due,
     /// How many conversations are On, Wanted or Flushing on it.
     Load,
+    /// How many conversations are Wanted or Flushing on it.
+    Held,
     /// Whether it distributes, and else the first reason why not.
     Status,
     /// How many ticks current_while has left.
@@ -75,6 +77,14 @@ pub enum Task {
     Drive,
     /// Force each conversation that is held on the port with this number, now, even while calls are stored.
     ForcePort(u16),
+    /// Offer a conversation of an aggregator by its number, now, even while calls are stored.
+    OfferConversation(AggId, u16),
+    /// Take a conversation of an aggregator off its port, now, even while calls are stored.
+    LeaveConversation(AggId, u16),
+    /// Free a conversation of an aggregator of which nothing is on its way, now, even while calls are stored.
+    Rest(AggId, u16),
+    /// Ask whether the peer of the port with this number answers markers, now, even while calls are stored.
+    Probe(u16),
     /// Work out the conversation of a frame.
     Conversation(Vec<u8>),
     /// Answer this question.

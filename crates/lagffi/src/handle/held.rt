@@ -3,6 +3,7 @@ ghost use Rattle.lagffi.specs.Owned.{held_owns, kept_coded};
 ghost use Rattle.lagffi.specs.declared.stored.StoredSystem.{StoredSystem};
 
 use super::parts::Parts;
+use crate::answering::Answering;
 use crate::stored::StoredSystem;
 use std::alloc::Global;
 use std::marker::Model;
@@ -49,6 +50,7 @@ impl Held {
             StoredSystem {
                 system: None,
                 algorithm: 0,
+                answering: Answering::nobody_asked(),
             },
         ) {
             Ok(block) => Some(Held::of_parts(Parts::of(block))),

@@ -149,9 +149,78 @@ drive => ok;
 conversation-state 1 37 => wanted 70 preferred 3
 force-port 70 => forced 1";
 
+/// Conversations go by their numbers, at once, even while calls are kept: one leaves its port, one rests, and a marker is asked for.
+const BY_NUMBER: &str = "\
+system 24576 020000000011 1234 7 300,700 3:203:020000001103:300:1:1:0 70:270:020000001146:300:1:1:0 => ok
+offer-conversation 1 41 => refused 6 none-distributing
+probe 70 => nothing
+link 3 up => ok
+link 70 up => ok
+receive 3 0180c20000020200000000778809010101141000020000000077012c004000170d00000002146000020000000011012c00cb0003050000000310003200000000000000000000000000000000000000000000000000000000000000000000000000000000000000000000000000000000000000000000000000000000 => took
+receive 70 0180c20000020200000000778809010101141000020000000077012c0040005a0d00000002146000020000000011012c010e0046050000000310003200000000000000000000000000000000000000000000000000000000000000000000000000000000000000000000000000000000000000000000000000000000 => took
+tick => ok
+tick => ok
+tick => ok
+tick => ok
+tick => ok
+tick => ok
+tick => ok
+tick => ok
+tick => ok
+tick => ok
+tick => ok
+tick => ok
+tick => ok
+tick => ok
+tick => ok
+tick => ok
+tick => ok
+tick => ok
+tick => ok
+tick => ok
+distributing 1 => aggregator 1: 3 70
+offer-conversation 1 41 => port 70
+offer-conversation 1 52 => port 3
+offer-conversation 1 255 => port 70
+offer-conversation 1 256 => refused 9 not-assigned
+offer-conversation 3 41 => refused 2 no-aggregator
+offer 1 0200000000290200000000000800 => port 70
+conversation-state 1 52 => on 3
+leave 1 41 => ok
+conversation-state 1 41 => wanted 70
+leave 1 41 => refused 5 held
+leave 1 43 => refused 9 not-assigned
+leave 4 41 => refused 2 no-aggregator
+rest 1 41 => refused 5 held
+offer-conversation 1 41 => refused 5 held
+held 70 => port 70: held 1
+load 70 => port 70: load 2
+held 3 => port 3: held 0
+held 71 => port 71: none
+rest 1 52 => ok
+conversation-state 1 52 => free
+rest 1 52 => refused 9 not-assigned
+rest 5 52 => refused 2 no-aggregator
+keep => ok
+move 1 255 3 => kept
+offer-conversation 1 54 => port 3
+probe 70 => marker 0180c200000202000000114688090201011000460200000000110000000700000000000000000000000000000000000000000000000000000000000000000000000000000000000000000000000000000000000000000000000000000000000000000000000000000000000000000000000000000000000000000000
+conversation-state 1 41 => flushing 70 id 7 age 0
+next-marker => 8
+probe 71 => refused 1 no-port
+drive => ok;
+held 70 => port 70: held 2
+receive 70 0180c200000202000000114688090201021000460200000000110000000700000000000000000000000000000000000000000000000000000000000000000000000000000000000000000000000000000000000000000000000000000000000000000000000000000000000000000000000000000000000000000000 => released 1
+conversation-state 1 41 => free
+conversation-state 1 255 => wanted 70 preferred 3
+held 70 => port 70: held 1";
+
 /// Lines that are no such requests.
 const FAULTS: &str = "\
 force-port 1 => fault no-system
+offer-conversation 1 41 => fault no-system
+probe 1 => fault no-system
+held 1 => fault no-system
 port-status 1 => fault no-system
 ntt 1 => fault no-system
 system 24576 020000000011 1234 7 300 3:203:020000001103:300:1:1:0 => ok
@@ -175,6 +244,21 @@ ntt => fault count
 ntt 3 3 => fault count
 ntt x => fault number at word 2
 ntt 65536 => fault number at word 2
+offer-conversation 1 => fault count
+offer-conversation 1 41 3 => fault count
+offer-conversation x 41 => fault number at word 2
+offer-conversation 1 65536 => fault number at word 3
+leave 1 => fault count
+leave x 41 => fault number at word 2
+leave 1 x => fault number at word 3
+rest 1 => fault count
+rest x 41 => fault number at word 2
+rest 1 x => fault number at word 3
+probe => fault count
+probe x => fault number at word 2
+held => fault count
+held 3 3 => fault count
+held x => fault number at word 2
 force_port 3 => fault word
 status 3 => fault word";
 
@@ -186,6 +270,11 @@ fn ports_tell_their_status_and_timers(rt: HostRuntime) -> Result<(), Fail> {
 #[test]
 fn what_waits_on_a_port_is_forced(rt: HostRuntime) -> Result<(), Fail> {
     check(&rt, rt.alloc(), FORCED)
+}
+
+#[test]
+fn conversations_go_by_their_numbers(rt: HostRuntime) -> Result<(), Fail> {
+    check(&rt, rt.alloc(), BY_NUMBER)
 }
 
 #[test]

@@ -1,7 +1,7 @@
 use Rattle.std.proofs.Common.{refl}
-use Rattle.lagffi.proofs.AskingLemmas.{called}
+use Rattle.lagffi.proofs.AskingLemmas.{called_with_notes}
 use Rattle.lagffi.proofs.calls.lagffi_restart.Goals as goal
 
 pub returns : goal.returns
-returns c = called _ _ c.in-Some.ensures.taken c.with_algorithm-system.ensures.state c.with_algorithm.ensures.state c.put.ensures
-    (c.restart.ensures.answers, c.restart.ensures.shows, refl)
+returns c = called_with_notes _ _ c.in-Some.ensures.taken c.put.ensures
+    (c.restart.ensures.answers, c.restart.ensures.shows, c.nobody_asked-block.ensures, refl)

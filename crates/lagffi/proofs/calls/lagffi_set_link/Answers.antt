@@ -1,6 +1,6 @@
-use Rattle.lagffi.proofs.AskingLemmas.{called}
+use Rattle.lagffi.proofs.AskingLemmas.{called_with_notes}
 use Rattle.lagffi.proofs.calls.lagffi_set_link.Goals as goal
 
 pub returns : goal.returns
-returns c = called _ _ c.in-Some.ensures.taken c.with_algorithm-system.ensures.state c.with_algorithm.ensures.state c.put.ensures
-    (c.set_link-answer.result, c.set_link-answer.ensures.answers, c.status.ensures)
+returns c = called_with_notes _ _ c.in-Some.ensures.taken c.put.ensures
+    (c.set_link-answer.result, c.set_link-answer.ensures.answers, c.after_set_link.ensures, c.status.ensures)

@@ -3,5 +3,5 @@ use Rattle.lagffi.proofs.AskingLemmas.{called}
 use Rattle.lagffi.proofs.calls.lagffi_ticks.Goals as goal
 
 pub returns : goal.returns
-returns c = called _ _ c.in-Some.ensures.taken c.with_algorithm-system.ensures.state c.with_algorithm.ensures.state c.put.ensures
+returns c = called _ _ c.in-Some.ensures.taken c.put.ensures
     (c.tick_times.ensures.ticked, refl)

@@ -1,7 +1,7 @@
-use Rattle.lagffi.proofs.AskingLemmas.{called}
+use Rattle.lagffi.proofs.AskingLemmas.{called_with_notes}
 use Rattle.lagffi.proofs.calls.lagffi_transmit.Goals as goal
 
 pub returns-clause-answers : goal.returns-clause-answers
 returns-clause-answers c fits =
-    called _ _ c.in-Some.ensures.taken c.with_algorithm-system.ensures.state c.with_algorithm.ensures.state c.put.ensures
-    (c.transmit-answer.result, c.transmit-answer.ensures.answers, c.of.ensures, c.write_due.ensures)
+    called_with_notes _ _ c.in-Some.ensures.taken c.put.ensures
+    (c.transmit-answer.result, c.transmit-answer.ensures.answers, c.after_transmit.ensures, c.of.ensures, c.write_due.ensures)

@@ -6,6 +6,6 @@ use Rattle.lagffi.proofs.masks.lagffi_due.Goals as goal
 
 pub returns : goal.returns
 returns c =
-    asked _ _ c.in-Some.ensures.taken c.with_algorithm-system.ensures.state c.with_algorithm.ensures.state c.put.ensures
+    asked _ _ c.in-Some.ensures.taken c.put.ensures
     (c.answered.ensures ∙ ap number (c.mask.ensures ∙ ap mask (c.deref-2.ensures.0 ∙ c.due_on-due.ensures
-    ∙ ap (due_on c.with_algorithm-system.result.state) (c.deref.ensures.0 ∙ c.ports.ensures.all))))
+    ∙ ap (due_on c.in-Some.system.state) (c.deref.ensures.0 ∙ c.ports.ensures.all))))

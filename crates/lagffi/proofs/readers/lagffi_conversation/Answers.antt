@@ -7,8 +7,8 @@ use Rattle.lagffi.proofs.readers.lagffi_conversation.Goals as goal
 
 pub returns : goal.returns
 returns c =
-    asked _ _ c.in-Some.ensures.taken c.with_algorithm-system.ensures.state c.with_algorithm.ensures.state c.put.ensures (
+    asked _ _ c.in-Some.ensures.taken c.put.ensures (
       c.or-answer.ensures ∙ ap (number_or_refused 3) c.conversation.ensures.is,
-      subst (λ o. IfSome o (λ conv. conv < conversation_count c.with_algorithm-system.result.state)) c.conversation.ensures.is
+      subst (λ o. IfSome o (λ conv. conv < conversation_count c.in-Some.system.state)) c.conversation.ensures.is
           c.conversation.ensures.within,
     )

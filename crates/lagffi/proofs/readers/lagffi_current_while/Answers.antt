@@ -4,5 +4,5 @@ use Rattle.lagffi.proofs.AskingLemmas.{asked}
 use Rattle.lagffi.proofs.readers.lagffi_current_while.Goals as goal
 
 pub returns : goal.returns
-returns c = asked _ _ c.in-Some.ensures.taken c.with_algorithm-system.ensures.state c.with_algorithm.ensures.state c.put.ensures
+returns c = asked _ _ c.in-Some.ensures.taken c.put.ensures
     (c.or-answer.ensures ∙ ap (number_or_refused 1) c.current_while.ensures)
