@@ -1,5 +1,5 @@
 -- The place of a port among the numbers of the ports.
-use Rattle.std.proofs.Common.{◌≡◌, ◌<◌, ◌≤◌, ◌==◌, ℕ, ◌+◌, Bool, not, cond, List, [], ◌∷◌, map, length, Option, None, Some, IfSome, ap, refl, arith}
+use Rattle.std.proofs.Common.{◌≡◌, ◌==◌, ℕ, ◌+◌, not, cond, List, [], ◌∷◌, ap, refl}
 use Rattle.std.proofs.lemmas.List.{length-map}
 use Rattle.std.specs.List.{position, position_or_len}
 use Rattle.lagsystem.specs.State.{port_index, port_numbers}
@@ -11,7 +11,3 @@ first_place n (x ∷ xs) = ap (λ k. cond (not (x.number == n)) (1 + k) 0) (firs
 
 pub place_of_number : (n : ℕ) (xs : List SystemPort) → position (λ k. k == n) (port_numbers xs) ≡ port_index n xs
 place_of_number n xs = rw (first_place n xs, length-map) refl
-
-pub sooner : (o : Option ℕ) (m n : ℕ) → m ≤ n → IfSome o (λ k. k < m) → IfSome o (λ k. k < n)
-sooner None m n few below = below
-sooner (Some k) m n few below = omega (arith, few, below)

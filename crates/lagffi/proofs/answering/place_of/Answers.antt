@@ -1,7 +1,7 @@
 use mathlib.Core.Path.{◌∙◌, ap}
-use Rattle.std.proofs.Common.{◌==◌, length}
+use Rattle.std.proofs.Common.{◌==◌}
 use Rattle.std.specs.List.{position}
-use Rattle.lagffi.proofs.PlaceLemmas.{place_of_number, sooner}
+use Rattle.lagffi.proofs.PlaceLemmas.{place_of_number}
 use Rattle.lagffi.proofs.answering.place_of.Goals as goal
 
 pub returns-clause-place : goal.returns-clause-place
