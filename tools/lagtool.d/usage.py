@@ -6,7 +6,7 @@ import textwrap
 
 from repository import CRATES
 
-TEXTS = os.path.join(CRATES, "lagline", "src", "help.rt")
+TEXTS = os.path.join(CRATES, "lagtool_words", "src", "help.rt")
 
 
 def texts():

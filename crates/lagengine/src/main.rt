@@ -8,7 +8,7 @@
 ghost use Rattle.std.specs.Prelude.{◌≡◌, ◌<◌};
 ghost use Rattle.distributor.specs.Calls.{index_by_number};
 
-use lagserve::{Asked, HELP, Stopped, VERSION, asked_in, serve, status_of};
+use lagengine_lines::{Asked, HELP, Stopped, VERSION, asked_in, serve, status_of};
 use lagstreams::{Sink, Source};
 use std::fmt::Display;
 use std::io::Input;

@@ -7,13 +7,13 @@
 ghost use Rattle.std.specs.Prelude.{◌≡◌, ◌<◌};
 ghost use Rattle.distributor.specs.Calls.{index_by_number};
 
-use lagcapture::{CaptureFault, Settings, Summary, explain};
-use lagjobs::{
+use lagstreams::{Sink, Source};
+use lagtool_capture::{CaptureFault, Settings, Summary, explain};
+use lagtool_jobs::{
     FaultText, Progress, ToolFault, Watch, check_watched, digits_text, replay_watched, reply,
     script_text, show, status_of, unread_text, utf8_text, vectors,
 };
-use lagline::{Job, LineFault, Options, read_line, read_options};
-use lagstreams::{Sink, Source};
+use lagtool_words::{Job, LineFault, Options, read_line, read_options};
 use std::alloc::AllocError;
 use std::fmt::Display;
 use std::fs::{File, Files};

@@ -1,6 +1,0 @@
-use Rattle.std.proofs.Common.{◌≡◌, drop}
-use Rattle.lagcapture.specs.Ends.{end_place, end_place_from}
-use Rattle.lagcapture.proofs.ends.end_place.Given as goal
-
-abbrev pub invariant-loop-index : goal.invariant-loop-index
-invariant-loop-index l = end_place_from l.index (drop l.index l.ends) l.sender ≡ end_place l.ends l.sender

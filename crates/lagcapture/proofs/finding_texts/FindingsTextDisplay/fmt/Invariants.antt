@@ -1,9 +1,0 @@
-use Rattle.std.proofs.Common.{take}
-use Rattle.std.specs.Fmt.{HasWritten, IsPlainFormatter}
-use Rattle.lagcapture.specs.FindingTexts.{findings_text}
-use Rattle.lagcapture.proofs.finding_texts.FindingsTextDisplay.fmt.Given as goal
-
-abbrev pub invariant-loop-finding : goal.invariant-loop-finding
-invariant-loop-finding g l =
-    IsPlainFormatter l.initial.f
-    → HasWritten g.W.Write.write_str_gives l.initial.f (findings_text l.first (take l.finding-index l.finding-items)) l.f

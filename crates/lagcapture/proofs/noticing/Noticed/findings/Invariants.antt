@@ -1,8 +1,0 @@
-use Rattle.std.proofs.Common.{◌≡◌, take}
-use Rattle.findings.specs.Knows.{ends_of}
-use Rattle.lagcapture.specs.Noticing.{Follows, Log, findings_in}
-use Rattle.lagcapture.proofs.noticing.Noticed.findings.Given as goal
-
-abbrev pub invariant-loop-index : goal.invariant-loop-index
-invariant-loop-index l =
-    (g : Log) → Follows g l.self → l.found.items ≡ findings_in g (take l.index (ends_of l.self.findings.watches.items))

@@ -1,0 +1,12 @@
+use Rattle.std.proofs.Common.{◌≡◌, ◌+◌, drop, map}
+use Rattle.lagengine_lines.specs.Requests.{word_octets}
+use Rattle.lagengine_lines.specs.Words.{each_at_place, port_word}
+use Rattle.lagengine_lines.proofs.Walks.{after}
+use Rattle.lagengine_lines.proofs.config.each_port.Given as goal
+
+abbrev pub invariant-loop-word : goal.invariant-loop-word
+invariant-loop-word l = record {
+  count : l.place ≡ l.first + l.word-index;
+  rest : after l.ports.items (each_at_place port_word l.place (map word_octets (drop l.word-index l.words)))
+      ≡ each_at_place port_word l.first (map word_octets l.words);
+}

@@ -1,0 +1,12 @@
+use Rattle.std.proofs.Common.{refl}
+use Rattle.std.proofs.Output.{has_written_append, has_written_of_eq}
+use Rattle.lagengine_lines.specs.Texts.{spaced}
+use Rattle.lagengine_lines.proofs.TextLemmas.{each_more}
+use Rattle.lagengine_lines.proofs.fact_texts.write_numbers.Goals as goal
+
+pub loop-port-preserved : goal.loop-port-preserved
+loop-port-preserved g c = λ plain.
+    let so_far = c.loop-port.invariant plain in
+    let wrote = c.in_ok-write.ensures.writes so_far.plain refl in
+    has_written_of_eq _ _ _ _ _ (each_more spaced c.args.ports.now c.loop-port.port-index _ c.loop-port-test.true)
+    (has_written_append _ _ _ _ _ _ so_far wrote)

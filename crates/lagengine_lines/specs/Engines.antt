@@ -1,0 +1,177 @@
+-- What an engine does for a line: it makes the call of the system that the line asks for.
+use Rattle.std.specs.Prelude.{◌≡◌, ⊤, ◌⊎◌, Vec, ℕ, List, [], ◌∷◌, ◌++◌, length, map, replicate, Option, Some, None, option_map, Result, Ok, Err}
+use Rattle.distributor.specs.Conversations.{next_identifier}
+use Rattle.lagsystem.specs.Assigning.{OffersConversation}
+use Rattle.lagsystem.specs.Calls.{Call, Tick}
+use Rattle.lagsystem.specs.Drives.{Drives, call_of}
+use Rattle.lagsystem.specs.Forcing.{ForcesPort}
+use Rattle.lagsystem.specs.First.{ConfigValue, IsFirst, fault_or_no_memory, refusal}
+use Rattle.lagsystem.specs.Hosts.{conversation_at}
+use Rattle.lagsystem.specs.Leaving.{system_leave_result, system_rest_result}
+use Rattle.lagsystem.specs.Offers.{GivesOrRefuses}
+use Rattle.lagsystem.specs.Probing.{Probes}
+use Rattle.lagsystem.specs.Readers.{conversation_in}
+use Rattle.lagsystem.specs.Sound.{CallPromise}
+use Rattle.lagsystem.specs.State.{SystemState, SystemValue, port_numbers}
+use Rattle.lagsystem.specs.Waiting.{ticks_until_due}
+use Rattle.lagsystem.specs.declared.drive.Call.{Call as Handed}
+use Rattle.lagsystem.specs.declared.fault.BadConfig.{BadConfig}
+use Rattle.lagsystem.specs.declared.fault.SystemFault.{SystemFault}
+use Rattle.lagsystem.specs.declared.drive.Reply.{Reply}
+use Rattle.lagsystem.specs.declared.drive.Reply.TheVariants as reply
+use Rattle.lagengine_lines.specs.Lines.{request_in}
+use Rattle.lagengine_lines.specs.Looks.{all_aggregators, all_ports, port_answer, agg_answer}
+use Rattle.lagengine_lines.specs.Requests.{TaskValue, RequestValue, Start, Work, Make, Ticks, Keep, Drive, ForcePort, OfferConversation}
+use Rattle.lagengine_lines.specs.Requests.{LeaveConversation, Rest, Probe, Conversation, Ask}
+use Rattle.lagengine_lines.specs.AnswerValues.{AnswerValue}
+use Rattle.lagengine_lines.specs.AnswerValues as said
+use Rattle.lagengine_lines.specs.declared.engine.Inner.{Inner}
+use Rattle.lagengine_lines.specs.declared.fault.RequestFault.{RequestFault}
+use Rattle.lagengine_lines.specs.declared.fault.RequestFault.TheVariants.{NoSystem, NotKeeping, NoMemory}
+use Rattle.lagengine_lines.specs.declared.request.Question.{Question}
+use Rattle.lagengine_lines.specs.declared.request.Question.TheVariants as question
+use Rattle.std.specs.declared.alloc.Global.{Global}
+
+-- The state of an engine: the system, if there is one, and the calls stored for `drive`, if calls are stored.
+pub record EngineState : Type 0 where
+  pub system : Option SystemState
+  pub kept : Option (List Call)
+
+-- an engine as contracts see it: its state, and the distribution algorithm of its systems
+pub record EngineValue (F : Type 0) : Type 0 where
+  pub algorithm : F
+  pub state : EngineState
+
+-- the state of the system, if there is one
+abbrev pub system_state : {F : Type 0} → Option (SystemValue F) → Option SystemState
+system_state system = option_map (λ w. w.state) system
+
+-- the stored calls, with lists in the place of Vecs
+abbrev pub kept_of : Option (Vec Handed Global) → Option (List Call)
+kept_of kept = option_map (λ calls. map call_of calls.items) kept
+
+-- the state of an engine that has this system and these stored calls
+abbrev pub engine_state : {F : Type 0} → SystemValue F → Option (Vec Handed Global) → EngineState
+engine_state w kept = record { system = Some w.state; kept = kept_of kept }
+
+-- an engine, from its fields
+abbrev pub engine_value : {F : Type 0} → Inner F → EngineValue F
+engine_value c = record { algorithm = c.algorithm; state = record { system = system_state c.system; kept = kept_of c.kept } }
+
+-- the system has the engine's algorithm
+abbrev pub HasAlgorithm : {F : Type 0} → F → Option (SystemValue F) → Type 0
+HasAlgorithm f None = ⊤
+HasAlgorithm f (Some w) = w.algorithm ≡ f
+
+-- the state has this configuration
+pub record HasConfig (config : ConfigValue) (s : SystemState) : Type 0 where
+  pub system : s.system ≡ config.system
+  pub max_delay : s.max_delay ≡ config.max_delay
+  pub first_marker : s.first_marker ≡ config.first_marker
+  pub conversations : s.conversations ≡ config.conversations
+  pub keys : s.keys ≡ config.aggregators
+  pub max_links : s.max_links ≡ config.max_links
+  pub ports : s.ports ≡ config.ports
+
+-- the answer is this fault, and nothing changes
+abbrev pub AnswersFault : RequestFault → EngineState → AnswerValue → EngineState → Type 0
+AnswersFault fault old answer new = (answer ≡ said.Fault fault) × (new ≡ old)
+
+-- the first reason to refuse this configuration; None if it is accepted
+abbrev pub config_refusal : ConfigValue → Option BadConfig
+config_refusal config = refusal config.aggregators config.ports config.max_links config.conversations
+
+-- a new system in its first state, and no stored calls, if the configuration is accepted and memory is granted
+abbrev pub MakesSystem : ConfigValue → EngineState → Type 0
+MakesSystem config new =
+    (s : SystemState) × (config_refusal config ≡ None) × HasConfig config s × IsFirst s
+    × (new ≡ record { system = Some s; kept = None })
+
+-- the system is made; or the answer is why not, and nothing changes
+abbrev pub AnswersStart : ConfigValue → EngineState → AnswerValue → EngineState → Type 0
+AnswersStart config old said.Done new = MakesSystem config new
+AnswersStart config old (said.Refused fault) new = (fault ≡ fault_or_no_memory (config_refusal config)) × (new ≡ old)
+AnswersStart config old answer new = ⊥
+
+-- the call is made; or it is stored, if calls are stored
+abbrev pub CallsOrKeeps : (ℕ → ℕ → ℕ → Type 0) → Call → SystemState → Option (List Call) → AnswerValue → EngineState → Type 0
+CallsOrKeeps gives call s None answer new =
+    (reply : Reply) × (t : SystemState) × CallPromise gives s call reply t × (answer ≡ said.Replied reply)
+    × (new ≡ record { system = Some t; kept = None })
+CallsOrKeeps gives call s (Some calls) answer new = (answer ≡ said.Kept)
+    × (new ≡ record { system = Some s; kept = Some (calls ++ call ∷ []) })
+
+-- the calls stored until now; none if calls were not stored
+abbrev pub kept_so_far : Option (List Call) → List Call
+kept_so_far None = []
+kept_so_far (Some calls) = calls
+
+-- the stored calls are made
+abbrev pub DrivesKept : (ℕ → ℕ → ℕ → Type 0) → SystemState → Option (List Call) → AnswerValue → EngineState → Type 0
+DrivesKept gives s None answer new = (answer ≡ said.Fault NotKeeping) × (new ≡ record { system = Some s; kept = None })
+DrivesKept gives s (Some calls) answer new =
+    (replies : List Reply) × (t : SystemState) × Drives gives s calls replies t × (answer ≡ said.Drove replies)
+    × (new ≡ record { system = Some t; kept = None })
+
+-- so many ticks are made, one after another; or so many ticks are stored, if calls are stored
+abbrev pub TicksOrKeeps : (ℕ → ℕ → ℕ → Type 0) → ℕ → SystemState → Option (List Call) → AnswerValue → EngineState → Type 0
+TicksOrKeeps gives n s None answer new =
+    (t : SystemState) × Drives gives s (replicate n Tick) (replicate n reply.Tick) t × (answer ≡ said.Done)
+    × (new ≡ record { system = Some t; kept = None })
+TicksOrKeeps gives n s (Some calls) answer new = (answer ≡ said.Kept)
+    × (new ≡ record { system = Some s; kept = Some (calls ++ replicate n Tick) })
+
+-- the answer of a reader
+abbrev pub reader_answer : Question → SystemState → AnswerValue
+reader_answer (question.Port q n) s = said.Port (port_answer q s n)
+reader_answer question.Ports s = said.Ports (port_numbers s.system_ports)
+reader_answer question.Aggregators s = said.Aggregators (length s.keys)
+reader_answer (question.Distributing agg) s = said.Distributing (agg_answer s agg.0)
+reader_answer (question.ConversationState agg conv) s = said.ConversationState (conversation_at s agg conv)
+reader_answer question.NextMarker s = said.NextMarker (next_identifier s.table)
+reader_answer question.TicksUntilDue s = said.TicksUntilDue (ticks_until_due s)
+reader_answer question.All s = said.All (all_ports s) (all_aggregators s)
+
+-- a task is done with the system
+abbrev pub DoesTask : (ℕ → ℕ → ℕ → Type 0) → TaskValue → SystemState → Option (List Call) → AnswerValue → EngineState → Type 0
+DoesTask gives (Make call) s kept answer new = CallsOrKeeps gives call s kept answer new
+DoesTask gives (Ticks n) s kept answer new = TicksOrKeeps gives n s kept answer new
+-- from now on, calls are stored
+DoesTask gives Keep s kept answer new = (answer ≡ said.Done) × (new ≡ record { system = Some s; kept = Some (kept_so_far kept) })
+DoesTask gives Drive s kept answer new = DrivesKept gives s kept answer new
+-- what is held on the port is forced, even while calls are stored
+DoesTask gives (ForcePort port) s kept answer new =
+    (forced : Result ℕ SystemFault) × (t : SystemState) × ForcesPort gives port s forced t × (answer ≡ said.ForcedPort forced)
+    × (new ≡ record { system = Some t; kept = kept })
+-- the next four are made at once, even while calls are stored
+DoesTask gives (OfferConversation agg conv) s kept answer new =
+    (given : Result ℕ SystemFault) × (t : SystemState) × OffersConversation gives agg conv s given t
+    × (answer ≡ said.Replied (reply.Offer given)) × (new ≡ record { system = Some t; kept = kept })
+DoesTask gives (LeaveConversation agg conv) s kept answer new =
+    (left : Result Unit SystemFault) × (t : SystemState) × GivesOrRefuses agg conv (system_leave_result s agg conv) s left t
+    × (answer ≡ said.Replied (reply.MoveConversation left)) × (new ≡ record { system = Some t; kept = kept })
+DoesTask gives (Rest agg conv) s kept answer new =
+    (rests : Result Unit SystemFault) × (t : SystemState) × GivesOrRefuses agg conv (system_rest_result s agg conv) s rests t
+    × (answer ≡ said.Replied (reply.Force rests)) × (new ≡ record { system = Some t; kept = kept })
+DoesTask gives (Probe port) s kept answer new =
+    (sent : Result (Option (List ℕ)) SystemFault) × (t : SystemState) × Probes port s sent t
+    × (answer ≡ said.Replied (reply.Transmit sent)) × (new ≡ record { system = Some t; kept = kept })
+DoesTask gives (Conversation octets) s kept answer new = (answer ≡ said.Conversation (conversation_in s octets))
+    × (new ≡ record { system = Some s; kept = kept })
+DoesTask gives (Ask q) s kept answer new = (answer ≡ reader_answer q s) × (new ≡ record { system = Some s; kept = kept })
+
+-- without a system, the answer is NoSystem
+abbrev pub DoesTaskIfSystem : (ℕ → ℕ → ℕ → Type 0) → TaskValue → Option SystemState → Option (List Call)
+    → AnswerValue → EngineState → Type 0
+DoesTaskIfSystem gives asked None kept answer new = AnswersFault NoSystem (record { system = None; kept = kept }) answer new
+DoesTaskIfSystem gives asked (Some s) kept answer new = DoesTask gives asked s kept answer new
+
+-- a request is done; a line that is none is answered with its fault, and nothing changes
+abbrev pub DoesRequest : (ℕ → ℕ → ℕ → Type 0) → Result RequestValue RequestFault → EngineState → AnswerValue → EngineState → Type 0
+DoesRequest gives (Ok (Start config)) old answer new = AnswersStart config old answer new
+DoesRequest gives (Ok (Work asked)) old answer new = DoesTaskIfSystem gives asked old.system old.kept answer new
+DoesRequest gives (Err fault) old answer new = AnswersFault fault old answer new
+
+-- what an engine does for a line, unless memory is refused; then nothing changes
+abbrev pub AnswersLine : (ℕ → ℕ → ℕ → Type 0) → List ℕ → EngineState → AnswerValue → EngineState → Type 0
+AnswersLine gives line old answer new = DoesRequest gives (request_in line) old answer new ⊎ AnswersFault NoMemory old answer new

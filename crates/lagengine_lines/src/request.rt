@@ -1,0 +1,226 @@
+ghost use Rattle.std.specs.Prelude.{◌≡◌, map};
+ghost use Rattle.lagengine_lines.specs.Lines.{request_in, request_of_octets, request_of_text};
+ghost use Rattle.lagstreams.specs.Lines.{longest_line, without_return};
+ghost use Rattle.lagengine_lines.specs.Requests.{ReadsAs, request_value, no_words, with_no_words, with_one_word, request_named, task_named};
+ghost use Rattle.lagengine_lines.specs.Requests.{task_value, with_two_words};
+ghost use Rattle.lagengine_lines.specs.Requests as asked;
+ghost use Rattle.lagsystem.specs.Calls as call;
+ghost use Rattle.lagengine_lines.specs.Words.{hex_word, number_word};
+
+use crate::call_words::call_named;
+use crate::config::system;
+use crate::fault::{RequestError, RequestFault};
+use crate::words::{number, octets, words_of};
+use lagstreams::{LONGEST_LINE, without_return};
+use lagsystem::{AggId, Call, Config};
+use std::alloc::Global;
+
+/// A question about one port.
+#[derive(Clone, Copy)]
+pub enum PortQuestion {
+    /// The port's own parameters, its partner's, their group, Defaulted, whether it distributes, Selected with its
+    /// aggregator, and the state of the mux machine.
+    Look,
+    /// port_enabled: whether its link is up.
+    Up,
+    /// Actor_State: the state octet of its own side.
+    State,
+    /// The state of its receive machine.
+    ReceiveState,
+    /// Whether a frame is due.
+    Due,
+    /// How many conversations are On, Wanted or Flushing on it.
+    Load,
+    /// How many conversations are Wanted or Flushing on it.
+    Held,
+    /// Whether it distributes, and else the first reason why not.
+    Status,
+    /// How many ticks current_while has left.
+    CurrentWhile,
+    /// How many ticks wait_while has left.
+    WaitWhile,
+    /// NTT: whether an LACPDU is to be sent.
+    Ntt,
+}
+
+/// A question that a reader of the system answers.
+#[derive(Clone, Copy)]
+pub enum Question {
+    /// About the port with this number.
+    Port(PortQuestion, u16),
+    /// The numbers of the ports.
+    Ports,
+    /// How many aggregators there are.
+    Aggregators,
+    /// The numbers of the ports that distribute in an aggregator.
+    Distributing(AggId),
+    /// The state of a conversation of an aggregator.
+    ConversationState(AggId, u16),
+    /// The identifier of the next marker.
+    NextMarker,
+    /// In how many ticks something happens by itself.
+    TicksUntilDue,
+    /// `Look` for every port, and the ports that distribute in each aggregator.
+    All,
+}
+
+/// A task for a system.
+#[derive(Drop)]
+pub enum Task {
+    /// Make this call.
+    Make(Call),
+    /// Make so many ticks, one after another.
+    Ticks(u16),
+    /// Store calls for `drive` from now on.
+    Keep,
+    /// Make the stored calls.
+    Drive,
+    /// Force each conversation that is held on the port with this number, now, even while calls are stored.
+    ForcePort(u16),
+    /// Offer a conversation of an aggregator by its number, now, even while calls are stored.
+    OfferConversation(AggId, u16),
+    /// Take a conversation of an aggregator off its port, now, even while calls are stored.
+    LeaveConversation(AggId, u16),
+    /// Free a conversation of an aggregator of which nothing is on its way, now, even while calls are stored.
+    Rest(AggId, u16),
+    /// Ask whether the peer of the port with this number answers markers, now, even while calls are stored.
+    Probe(u16),
+    /// Work out the conversation of a frame.
+    Conversation(Vec<u8>),
+    /// Answer this question.
+    Ask(Question),
+}
+
+/// What a line asks for (profile).
+#[derive(Drop)]
+pub enum Request {
+    /// Make a new system.
+    System(Config),
+    /// Do this with the present system.
+    Work(Task),
+}
+
+/// Checks that there are no words.
+pub(crate) fn no_words(words: &[&str]) -> Result<(), RequestFault>
+    ensures { result ≡ no_words (map (λ w. w.now) words.now) }
+{
+    match words {
+        [] => Ok(()),
+        _ => Err(RequestFault::Count),
+    }
+}
+
+/// The word, if there is exactly one.
+pub(crate) fn one_word<'a>(words: &[&'a str]) -> Result<&'a str, RequestFault>
+    ensures { asked.one_word_octets result ≡ asked.one_word (map (λ w. w.now) words.now) }
+{
+    match words {
+        [a] => Ok(*a),
+        _ => Err(RequestFault::Count),
+    }
+}
+
+/// The words, if there are exactly two.
+pub(crate) fn two_words<'a>(words: &[&'a str]) -> Result<(&'a str, &'a str), RequestFault>
+    ensures { asked.two_words_octets result ≡ asked.two_words (map (λ w. w.now) words.now) }
+{
+    match words {
+        [a, b] => Ok((*a, *b)),
+        _ => Err(RequestFault::Count),
+    }
+}
+
+/// Reads the words of `receive`: a port and the octets of a frame.
+fn receive(alloc: Global, words: &[&str]) -> Result<Task, RequestError>
+    ensures { ReadsAs task_value (with_two_words number_word hex_word (λ port octets. asked.Make (call.Receive port octets))
+        (map (λ w. w.now) words.now))
+        result }
+{
+    let (port, frame) = two_words(words)?;
+    let port = number(2, port)?;
+    let octets = octets(alloc, 3, frame)?;
+    Ok(Task::Make(Call::Receive(port, octets)))
+}
+
+/// Reads the words of `offer`: an aggregator and the octets of a frame.
+fn offer(alloc: Global, words: &[&str]) -> Result<Task, RequestError>
+    ensures { ReadsAs task_value (with_two_words number_word hex_word (λ g octets. asked.Make (call.Offer (asked.agg_id g) octets))
+        (map (λ w. w.now) words.now)) result }
+{
+    let (agg, frame) = two_words(words)?;
+    let agg = AggId(number(2, agg)?);
+    let octets = octets(alloc, 3, frame)?;
+    Ok(Task::Make(Call::Offer(agg, octets)))
+}
+
+/// Reads the word of `conversation`: the octets of a frame.
+fn conversation(alloc: Global, words: &[&str]) -> Result<Task, RequestError>
+    ensures { ReadsAs task_value (with_one_word hex_word asked.Conversation (map (λ w. w.now) words.now)) result }
+{
+    let frame = one_word(words)?;
+    let octets = octets(alloc, 2, frame)?;
+    Ok(Task::Conversation(octets))
+}
+
+/// A task that has no words after its first.
+pub(crate) fn task_alone(task: Task, words: &[&str]) -> Result<Task, RequestFault>
+    ensures { asked.task_result_value result ≡ with_no_words (task_value task) (map (λ w. w.now) words.now) }
+{
+    no_words(words)?;
+    Ok(task)
+}
+
+/// Reads a task, by its first word and the words after it.
+fn task_named(alloc: Global, name: &str, words: &[&str]) -> Result<Task, RequestError>
+    ensures { ReadsAs task_value (task_named name.now (map (λ w. w.now) words.now)) result }
+{
+    match name {
+        "receive" => receive(alloc, words),
+        "offer" => offer(alloc, words),
+        "conversation" => conversation(alloc, words),
+        "keep" => Ok(task_alone(Task::Keep, words)?),
+        "drive" => Ok(task_alone(Task::Drive, words)?),
+        _ => Ok(call_named(name, words)?),
+    }
+}
+
+/// Reads a request, by its first word and the words after it.
+fn request_named(alloc: Global, name: &str, words: &[&str]) -> Result<Request, RequestError>
+    ensures { ReadsAs request_value (request_named name.now (map (λ w. w.now) words.now)) result }
+{
+    if name == "system" {
+        return Ok(Request::System(system(alloc, words)?));
+    }
+    Ok(Request::Work(task_named(alloc, name, words)?))
+}
+
+/// Reads the request in a text.
+fn request_of_text(alloc: Global, text: &str) -> Result<Request, RequestError>
+    ensures { ReadsAs request_value (request_of_text text.now) result }
+{
+    let words = words_of(alloc, text)?;
+    match words.as_slice() {
+        [name, words @ ..] => request_named(alloc, name, words),
+        [] => Err(RequestError::Fault(RequestFault::Word)),
+    }
+}
+
+/// Reads the request in a line that is not too long, without a carriage return at its end.
+fn request_of_octets(alloc: Global, line: &[u8]) -> Result<Request, RequestError>
+    ensures { ReadsAs request_value (request_of_octets line.now) result }
+{
+    match str::from_utf8(line) {
+        Ok(text) => request_of_text(alloc, text),
+        Err(_) => Err(RequestError::Fault(RequestFault::NotText)),
+    }
+}
+
+/// Reads the request in a line, which is given without its newline; one carriage return at its end is dropped (profile).
+pub(crate) fn request_in(alloc: Global, line: &[u8]) -> Result<Request, RequestError>
+    ensures { ReadsAs request_value (request_in line.now) result }
+{
+    if line.len() > LONGEST_LINE {
+        return Err(RequestError::Fault(RequestFault::TooLong));
+    }
+    request_of_octets(alloc, without_return(line))
+}

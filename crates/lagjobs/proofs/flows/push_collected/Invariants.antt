@@ -1,8 +1,0 @@
-use Rattle.std.proofs.Common.{◌≡◌, ◌++◌, ◌∷◌, take}
-use Rattle.std.specs.Fmt.{decimal}
-use Rattle.std.specs.Prelude.{flat_map, string_bytes}
-use Rattle.lagjobs.proofs.flows.push_collected.Given as goal
-
-abbrev pub invariant-loop-serial : goal.invariant-loop-serial
-invariant-loop-serial l = string_bytes l.text ≡ string_bytes l.initial.text
-    ++ flat_map (λ serial. 32 ∷ decimal serial) (take l.serial-index l.serials)

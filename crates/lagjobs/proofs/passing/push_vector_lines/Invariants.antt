@@ -1,7 +1,0 @@
-use Rattle.std.proofs.Common.{◌≡◌, ◌++◌, take}
-use Rattle.std.specs.Prelude.{string_bytes}
-use Rattle.lagjobs.specs.Vectors.{vector_lines_from}
-use Rattle.lagjobs.proofs.passing.push_vector_lines.Given as goal
-
-abbrev pub invariant-loop-index : goal.invariant-loop-index
-invariant-loop-index l = string_bytes l.text ≡ string_bytes l.initial.text ++ vector_lines_from 1 (take l.index l.passed)

@@ -1,9 +1,0 @@
-use Rattle.std.proofs.Common.{take}
-use Rattle.std.specs.Fmt.{HasWritten, IsPlainFormatter}
-use Rattle.lagserve.specs.Texts.{each_text, port_bar}
-use Rattle.lagserve.proofs.fact_texts.write_ports.Given as goal
-
--- those so far are written
-abbrev pub invariant-loop-port : goal.invariant-loop-port
-invariant-loop-port g l = IsPlainFormatter l.initial.f
-    → HasWritten g.W.Write.write_str_gives l.initial.f (each_text port_bar ((take l.port-index l.ports))) l.f

@@ -1,7 +1,0 @@
-use Rattle.std.proofs.Common.{◌≡◌, map, take}
-use Rattle.lagserve.specs.Looks.{port_answer}
-use Rattle.lagserve.specs.declared.request.PortQuestion.TheVariants as of_port
-use Rattle.lagserve.proofs.looks.all_ports.Given as goal
-
-abbrev pub invariant-loop-port : goal.invariant-loop-port
-invariant-loop-port g l = l.answer.items ≡ map (port_answer of_port.Look l.system.state) (take l.port-index l.port-items)

@@ -1,0 +1,11 @@
+use Rattle.std.proofs.Common.{◌≡◌, ◌++◌, List, take}
+use Rattle.std.specs.Prelude.{slice_get}
+use Rattle.findings.specs.declared.observed.Observed.{Observed}
+use Rattle.findings.specs.Knows.{ends_of}
+use Rattle.lagtool_capture.specs.Noticing.{IsKnown, findings_by}
+use Rattle.lagtool_capture.proofs.noticing.put_findings.Given as goal
+
+abbrev pub invariant-loop-rule : goal.invariant-loop-rule
+invariant-loop-rule l =
+    (h : List Observed) → IsKnown h l.findings
+    → l.out.items ≡ l.initial.out.items ++ findings_by l.until h (take l.rule-index l.rules) (slice_get (ends_of l.findings.watches.items) l.index)

@@ -1,0 +1,104 @@
+-- The ends of links, by the source address and the actor's port of the LACPDUs that they sent.
+use Rattle.std.specs.Prelude.{◌==◌, ◌&&◌, ◌+◌, ◌-◌, ◌++◌, ℕ, Bool, false, not, List, [], ◌∷◌, Option, Some, None, length, nat_le, nat_lt, option_map, slice_get, slice_set, if◌then◌else◌}
+use Rattle.std.specs.Str.{bytes_eq}
+use Rattle.slowpdu.specs.declared.pdu.Lacpdu.{Lacpdu}
+use Rattle.lagtypes.specs.States.{bits_of}
+use Rattle.lagtool_capture.specs.declared.ends.End.{End}
+use Rattle.lagtool_capture.specs.declared.ends.Phase.{Phase}
+use Rattle.lagtool_capture.specs.declared.ends.Sender.{Sender}
+use Rattle.lagtool_capture.specs.Counting.{one_more}
+
+abbrev pub is_end : Sender → End → Bool
+is_end s e = (e.sender.interface == s.interface) && bytes_eq e.sender.source s.source && (e.sender.port == s.port)
+
+-- the place of a sender's end among these, the first of which has the place n
+abbrev pub end_place_from : ℕ → List End → Sender → Option ℕ
+end_place_from n [] s = None
+end_place_from n (e ∷ es) s = if is_end s e then Some n else end_place_from (n + 1) es s
+
+-- the place of a sender's end, from 0
+abbrev pub end_place : List End → Sender → Option ℕ
+end_place es s = end_place_from 0 es s
+
+-- the last LACPDU of the end at this place
+abbrev pub last_of : List End → Option ℕ → Option Lacpdu
+last_of es None = None
+last_of es (Some n) = option_map (λ e. e.last) (slice_get es n)
+
+-- the phase of a bit after the first LACPDU
+abbrev pub first_phase : Bool → Option ℕ → Phase
+first_phase is_set time = record { began = if is_set then time else None; ended = None }
+
+-- the phase after one LACPDU more, by whether the bit was 1 in the last one, and is 1 in this one
+abbrev pub next_phase : Bool → Bool → Option ℕ → Phase → Phase
+next_phase was_set is_set time phase = record {
+  began = if is_set && not was_set then time else phase.began;
+  ended = if was_set && not is_set then time else phase.ended;
+}
+
+-- the time between two LACPDUs; None if the second is earlier, or one of the times is not known
+abbrev pub gap_between : Option ℕ → Option ℕ → Option ℕ
+gap_between (Some latest) (Some time) = if nat_le latest time then Some (time - latest) else None
+gap_between (Some latest) None = None
+gap_between None time = None
+
+-- the shorter of two gaps, as far as they are known
+abbrev pub shorter : Option ℕ → Option ℕ → Option ℕ
+shorter (Some one) (Some other) = Some (if nat_lt other one then other else one)
+shorter (Some one) None = Some one
+shorter None other = other
+
+-- the longer of two gaps, as far as they are known
+abbrev pub longer : Option ℕ → Option ℕ → Option ℕ
+longer (Some one) (Some other) = Some (if nat_lt one other then other else one)
+longer (Some one) None = Some one
+longer None other = other
+
+-- the end whose first LACPDU is this one
+abbrev pub first_seen : Sender → Option ℕ → Lacpdu → End
+first_seen s time v = record {
+  sender = s;
+  count = 1;
+  first = time;
+  latest = time;
+  shortest = None;
+  longest = None;
+  synchronized = first_phase (bits_of v.actor.state).synchronization time;
+  collecting = first_phase (bits_of v.actor.state).collecting time;
+  distributing = first_phase (bits_of v.actor.state).distributing time;
+  last = v;
+}
+
+-- the end after one LACPDU more
+abbrev pub seen_again : Option ℕ → Lacpdu → End → End
+seen_again time v e = record {
+  sender = e.sender;
+  count = one_more e.count;
+  first = e.first;
+  latest = time;
+  shortest = shorter e.shortest (gap_between e.latest time);
+  longest = longer e.longest (gap_between e.latest time);
+  synchronized = next_phase (bits_of e.last.actor.state).synchronization (bits_of v.actor.state).synchronization time e.synchronized;
+  collecting = next_phase (bits_of e.last.actor.state).collecting (bits_of v.actor.state).collecting time e.collecting;
+  distributing = next_phase (bits_of e.last.actor.state).distributing (bits_of v.actor.state).distributing time e.distributing;
+  last = v;
+}
+
+-- the most ends that are told of
+abbrev pub most_ends : ℕ
+most_ends = 64
+
+-- the ends, if the one at this place is this one and it sends one LACPDU more
+abbrev pub with_again : List End → ℕ → Option ℕ → Lacpdu → Option End → List End
+with_again es n time v None = es
+with_again es n time v (Some e) = slice_set es n (seen_again time v e)
+
+-- the ends after one LACPDU more of the sender whose end has this place; None if it has none yet
+abbrev pub ends_after : List End → Option ℕ → Sender → Option ℕ → Lacpdu → List End
+ends_after es None s time v = if nat_lt (length es) most_ends then es ++ first_seen s time v ∷ [] else es
+ends_after es (Some n) s time v = with_again es n time v (slice_get es n)
+
+-- the LACPDU is of no end that is told of
+abbrev pub is_beyond : List End → Option ℕ → Bool
+is_beyond es None = nat_le most_ends (length es)
+is_beyond es (Some n) = false

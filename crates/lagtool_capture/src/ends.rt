@@ -1,0 +1,186 @@
+ghost use Rattle.std.specs.Prelude.{◌≡◌, ◌<◌, length, IfSome};
+ghost use Rattle.lagtool_capture.specs.Ends.{end_place, first_phase, first_seen, gap_between, is_end, last_of, longer, next_phase, seen_again, shorter};
+
+use slowpdu::Lacpdu;
+
+/// The most ends of links that are told of.
+pub const MOST_ENDS: usize = 64;
+
+/// Where an LACPDU came from: an end of a link as a capture shows it.
+#[derive(Clone, Copy, Debug, PartialEq, Eq)]
+pub struct Sender {
+    /// The interface of the capture.
+    pub interface: u32,
+    /// The source address of the frame.
+    pub source: [u8; 6],
+    /// The number of the actor's port.
+    pub port: u16,
+}
+
+/// When a bit of a state octet began and ended to be 1.
+#[derive(Clone, Copy, Debug, PartialEq, Eq)]
+pub struct Phase {
+    /// The time of the LACPDU in which it last became 1, in nanoseconds.
+    pub began: Option<u64>,
+    /// The time of the LACPDU in which it last became 0, in nanoseconds.
+    pub ended: Option<u64>,
+}
+
+impl Phase {
+    /// The phase of a bit after the first LACPDU.
+    fn first(is_set: bool, time: Option<u64>) -> Phase
+        ensures { result ≡ first_phase is_set time }
+    {
+        Phase {
+            began: if is_set { time } else { None },
+            ended: None,
+        }
+    }
+
+    /// The phase after one LACPDU more, by whether the bit was 1 in the last one.
+    fn then(self, was_set: bool, is_set: bool, time: Option<u64>) -> Phase
+        ensures { result ≡ next_phase was_set is_set time self }
+    {
+        Phase {
+            began: if is_set && !was_set { time } else { self.began },
+            ended: if was_set && !is_set { time } else { self.ended },
+        }
+    }
+}
+
+/// The time between two LACPDUs in nanoseconds; None if the second is earlier, or one of the times is not known.
+fn gap_between(latest: Option<u64>, time: Option<u64>) -> Option<u64>
+    ensures { result ≡ gap_between latest time }
+{
+    match (latest, time) {
+        (Some(latest), Some(time)) if latest <= time => Some(time - latest),
+        _ => None,
+    }
+}
+
+/// The shorter of two gaps, as far as they are known.
+fn shorter(one: Option<u64>, other: Option<u64>) -> Option<u64>
+    ensures { result ≡ shorter one other }
+{
+    match (one, other) {
+        (Some(one), Some(other)) => Some(if other < one { other } else { one }),
+        (None, other) => other,
+        (one, None) => one,
+    }
+}
+
+/// The longer of two gaps, as far as they are known.
+fn longer(one: Option<u64>, other: Option<u64>) -> Option<u64>
+    ensures { result ≡ longer one other }
+{
+    match (one, other) {
+        (Some(one), Some(other)) => Some(if one < other { other } else { one }),
+        (None, other) => other,
+        (one, None) => one,
+    }
+}
+
+/// What LACPDUs of one sender said so far.
+#[derive(Clone, Copy, Debug, PartialEq, Eq)]
+pub struct End {
+    /// The sender.
+    pub sender: Sender,
+    /// How many LACPDUs there are.
+    pub count: u64,
+    /// The time of the first, in nanoseconds.
+    pub first: Option<u64>,
+    /// The time of the last, in nanoseconds.
+    pub latest: Option<u64>,
+    /// The shortest time between two of them that follow one another, in nanoseconds.
+    pub shortest: Option<u64>,
+    /// The longest such time, in nanoseconds.
+    pub longest: Option<u64>,
+    /// When Synchronization of the actor was 1.
+    pub synchronized: Phase,
+    /// When Collecting of the actor was 1.
+    pub collecting: Phase,
+    /// When Distributing of the actor was 1.
+    pub distributing: Phase,
+    /// The last of them.
+    pub last: Lacpdu,
+}
+
+/// Whether an end has this sender.
+fn is_end(end: &End, sender: &Sender) -> bool
+    ensures { result ≡ is_end sender.now end.now }
+{
+    end.sender.interface == sender.interface
+        && end.sender.source == sender.source
+        && end.sender.port == sender.port
+}
+
+/// The place of the end with this sender, from 0.
+pub(crate) fn end_place(ends: &[End], sender: &Sender) -> Option<usize>
+    ensures place { result ≡ end_place ends.now sender.now }
+    ensures among { IfSome result (λ n. n < length ends.now) }
+{
+    for (index, end) in ends.iter().enumerate() {
+        if is_end(end, sender) {
+            return Some(index);
+        }
+    }
+    None
+}
+
+/// The last LACPDU of the end at this place, if there is one.
+pub(crate) fn last_of(ends: &[End], place: Option<usize>) -> Option<Lacpdu>
+    ensures { result ≡ last_of ends.now place }
+{
+    match ends.get(place?) {
+        Some(end) => Some(end.last),
+        None => None,
+    }
+}
+
+impl End {
+    /// The end whose first LACPDU is this one.
+    pub(crate) fn first_seen(sender: Sender, time: Option<u64>, lacpdu: Lacpdu) -> End
+        ensures { result ≡ first_seen sender time lacpdu }
+    {
+        let state = lacpdu.actor.state;
+        End {
+            sender,
+            count: 1,
+            first: time,
+            latest: time,
+            shortest: None,
+            longest: None,
+            synchronized: Phase::first(state.is_synchronized(), time),
+            collecting: Phase::first(state.is_collecting(), time),
+            distributing: Phase::first(state.is_distributing(), time),
+            last: lacpdu,
+        }
+    }
+
+    /// The end after one LACPDU more.
+    pub(crate) fn seen_again(self, time: Option<u64>, lacpdu: Lacpdu) -> End
+        ensures { result ≡ seen_again time lacpdu self }
+    {
+        let was = self.last.actor.state;
+        let is = lacpdu.actor.state;
+        let gap = gap_between(self.latest, time);
+        End {
+            sender: self.sender,
+            count: self.count.saturating_add(1),
+            first: self.first,
+            latest: time,
+            shortest: shorter(self.shortest, gap),
+            longest: longer(self.longest, gap),
+            synchronized: self
+                .synchronized
+                .then(was.is_synchronized(), is.is_synchronized(), time),
+            collecting: self
+                .collecting
+                .then(was.is_collecting(), is.is_collecting(), time),
+            distributing: self
+                .distributing
+                .then(was.is_distributing(), is.is_distributing(), time),
+            last: lacpdu,
+        }
+    }
+}

@@ -1,0 +1,126 @@
+ghost use Rattle.std.specs.Prelude.{◌≡◌, ◌≤◌};
+ghost use Rattle.std.specs.List.{list_any};
+ghost use Rattle.lagtool_capture.specs.Frames.{frame_in, frame_length, has_octet, has_reserved, is_set, slow_frame, version_in, what_in};
+
+use crate::content::content_of;
+use crate::envelope::{Envelope, envelope_of};
+use crate::explainer::SLOW_TYPE;
+use captures::{LinkType, Packet};
+use findings::{Observed, What};
+use slowpdu::Pdu;
+
+/// Whether an octet is not zero.
+fn is_set(octet: &u8) -> bool
+    ensures { result ≡ is_set octet.now }
+{
+    *octet != 0
+}
+
+/// Whether one of the octets is not zero.
+fn has_set(octets: &[u8]) -> bool
+    ensures { result ≡ list_any is_set octets.now }
+{
+    octets.iter().any(|octet| is_set(octet))
+}
+
+/// Whether an octet from one offset up to another is not zero; false if the payload ends before.
+fn has_octet(payload: &[u8], from: usize, to: usize) -> bool
+    requires { from ≤ to }
+    ensures { result ≡ has_octet payload.now from to }
+{
+    if payload.len() < to {
+        return false;
+    }
+    has_set(&payload[from..to])
+}
+
+/// Whether a reserved octet of the payload or one of its padding is not zero (6.4.2.3, 6.5.3.3).
+fn has_reserved(payload: &[u8], what: &What) -> bool
+    ensures { result ≡ has_reserved payload.now what.now }
+{
+    match what {
+        What::Lacpdu(_) => {
+            has_octet(payload, 19, 22)
+                || has_octet(payload, 39, 42)
+                || has_octet(payload, 46, 58)
+                || has_octet(payload, 60, 110)
+        }
+        What::Marker(_) => has_octet(payload, 16, 18) || has_octet(payload, 20, 110),
+        What::Refused(_) => false,
+    }
+}
+
+/// Octet 1 of the payload, the version; 0 if there is none.
+fn version_in(payload: &[u8]) -> u8
+    ensures { result ≡ version_in payload.now }
+{
+    match payload.get(1) {
+        Some(version) => *version,
+        None => 0,
+    }
+}
+
+/// What the payload holds.
+fn what_in(payload: &[u8]) -> What
+    ensures { result ≡ what_in payload.now }
+{
+    match content_of(payload) {
+        Ok(Pdu::Lacpdu(lacpdu)) => What::Lacpdu(lacpdu),
+        Ok(Pdu::Marker(marker)) => What::Marker(marker),
+        Err(fault) => What::Refused(fault),
+    }
+}
+
+/// How many octets the packet's frame has from its destination address on, without so many tags.
+fn frame_length(packet: &Packet, tags: u8) -> u32
+    ensures { result ≡ frame_length packet.now tags }
+{
+    let more: u32 = match packet.link {
+        LinkType::Ethernet => 0,
+        LinkType::Cooked => 2,
+        LinkType::Cooked2 => 6,
+    };
+    packet.original.saturating_sub(more + 4 * (tags as u32))
+}
+
+/// The frame of the slow protocols with this number, time, envelope and payload.
+fn slow_frame(
+    number: u64,
+    nanoseconds: u64,
+    packet: &Packet,
+    envelope: Envelope,
+    payload: &[u8],
+) -> Observed
+    ensures { result ≡ slow_frame number nanoseconds packet.now envelope payload.now }
+{
+    let what = what_in(payload);
+    let source = envelope.source;
+    Observed {
+        number,
+        interface: envelope.interface,
+        nanoseconds,
+        source,
+        destination: envelope.destination,
+        tagged: envelope.tags > 0,
+        length: frame_length(packet, envelope.tags),
+        version: version_in(payload),
+        reserved: has_reserved(payload, &what),
+        what,
+    }
+}
+
+/// The frame of the slow protocols in a packet with these captured octets; None if it is another frame or has no time.
+pub(crate) fn frame_in(number: u64, packet: &Packet, octets: &[u8]) -> Option<Observed>
+    ensures { result ≡ frame_in number packet.now octets.now }
+{
+    match (packet.time, envelope_of(packet, octets)) {
+        (Some(time), Some(envelope)) if envelope.ether_type == SLOW_TYPE => Some(slow_frame(
+            number,
+            time,
+            packet,
+            envelope,
+            &octets[envelope.start..],
+        )),
+        _ => None,
+    }
+}

@@ -1,0 +1,41 @@
+ghost use Rattle.std.specs.Prelude.{◌≡◌, false, IfErr};
+ghost use Rattle.lagtool_capture.specs.Faults.{HasCause};
+
+use crate::fault::CaptureFault;
+use crate::settings::Settings;
+use crate::summary::Summary;
+use crate::walk::Walk;
+use lagstreams::{Sink, Source};
+use std::alloc::Global;
+use std::io::{Read, Write};
+
+/// Reads a capture to its end, and writes what it says: a line for each frame of the slow protocols, then a line for each
+/// end of a link, what is found of the ends, and the counts (profile). Up to 4,096 octets are read at a time, and what they say is written before
+/// the next read. A capture that is not read on has the lines of what was read before.
+///
+/// `Read` if the source failed, `Write` if the sink did, `NoMemory` if memory was refused.
+pub fn explain<R: Read, W: Write>(
+    alloc: Global,
+    settings: Settings,
+    source: &mut Source<R>,
+    sink: &mut Sink<W>,
+) -> Result<Summary, CaptureFault>
+    requires source { source.old.failed ≡ false }
+    requires sink { sink.old.failed ≡ false }
+    ensures { IfErr result (HasCause source.new.failed sink.new.failed) }
+{
+    source.is_bounded();
+    let mut walk = Walk::new(alloc, settings);
+    let mut piece = [0; 4096];
+    while walk.is_read_on() {
+        let n = source.read(&mut piece)?;
+        if n == 0 {
+            break;
+        }
+        walk.feed(&piece[..n])?;
+        walk.write(sink)?;
+    }
+    walk.finish(alloc)?;
+    walk.write(sink)?;
+    Ok(walk.summary())
+}

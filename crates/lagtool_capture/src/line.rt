@@ -1,0 +1,195 @@
+ghost use Rattle.std.specs.Prelude.{◌≡◌, Some};
+ghost use Rattle.lagtool_capture.specs.LineTexts.{destination_part, head_text, interface_part, marker_text, seconds_text, since_text, six_digits, tags_part, what_text};
+
+use crate::envelope::Envelope;
+use crate::lacpdu_texts::LacpduText;
+use lagtypes::MacText;
+use slowpdu::{Marker, MarkerKind, WireFault};
+use std::fmt;
+
+/// Six decimal digits of a number below 1,000,000.
+#[derive(Clone, Copy)]
+struct SixDigits(u64);
+
+impl fmt::Display for SixDigits {
+    ghost output = { λ t. Some (six_digits t.0) };
+
+    fn fmt<W: fmt::Write>(&self, f: &mut fmt::Formatter<W>) -> fmt::Result {
+        let number = self.0;
+        write!(
+            f,
+            "{}{}{}{}{}{}",
+            number / 100_000 % 10,
+            number / 10_000 % 10,
+            number / 1_000 % 10,
+            number / 100 % 10,
+            number / 10 % 10,
+            number % 10
+        )
+    }
+}
+
+/// Nanoseconds as seconds with six digits, the rest cut off.
+#[derive(Clone, Copy)]
+pub(crate) struct SecondsText(pub u64);
+
+impl fmt::Display for SecondsText {
+    ghost output = { λ t. Some (seconds_text t.0) };
+
+    fn fmt<W: fmt::Write>(&self, f: &mut fmt::Formatter<W>) -> fmt::Result {
+        let micros = self.0 / 1_000;
+        write!(
+            f,
+            "{}.{}",
+            micros / 1_000_000,
+            SixDigits(micros % 1_000_000)
+        )
+    }
+}
+
+/// The seconds from the first time of a capture to another, with a minus sign if that is earlier; a dash if one is not
+/// known.
+#[derive(Clone, Copy)]
+pub(crate) struct SinceText {
+    pub first: Option<u64>,
+    pub time: Option<u64>,
+}
+
+impl fmt::Display for SinceText {
+    ghost output = { λ t. Some (since_text t.first t.time) };
+
+    fn fmt<W: fmt::Write>(&self, f: &mut fmt::Formatter<W>) -> fmt::Result {
+        match (self.first, self.time) {
+            (Some(first), Some(time)) if time < first => write!(
+                f,
+                "-{}",
+                SecondsText(first - time)
+            ),
+            (Some(first), Some(time)) => write!(f, "{}", SecondsText(time - first)),
+            _ => f.write_str("-"),
+        }
+    }
+}
+
+/// The interface, if it isn't the first.
+#[derive(Clone, Copy)]
+pub(crate) struct InterfacePart(pub u32);
+
+impl fmt::Display for InterfacePart {
+    ghost output = { λ t. Some (interface_part t.0) };
+
+    fn fmt<W: fmt::Write>(&self, f: &mut fmt::Formatter<W>) -> fmt::Result {
+        let interface = self.0;
+        if interface == 0 {
+            Ok(())
+        } else {
+            write!(f, " interface {interface}")
+        }
+    }
+}
+
+/// The destination address, if it isn't the Slow_Protocols_Multicast address.
+#[derive(Clone, Copy)]
+struct DestinationPart(Option<[u8; 6]>);
+
+impl fmt::Display for DestinationPart {
+    ghost output = { λ t. Some (destination_part t.0) };
+
+    fn fmt<W: fmt::Write>(&self, f: &mut fmt::Formatter<W>) -> fmt::Result {
+        match self.0 {
+            Some(mac) if mac != [0x01, 0x80, 0xc2, 0x00, 0x00, 0x02] => {
+                write!(f, " to {}", MacText(&mac))
+            }
+            _ => Ok(()),
+        }
+    }
+}
+
+/// How many tags there are, if there is one.
+#[derive(Clone, Copy)]
+struct TagsPart(u8);
+
+impl fmt::Display for TagsPart {
+    ghost output = { λ t. Some (tags_part t.0) };
+
+    fn fmt<W: fmt::Write>(&self, f: &mut fmt::Formatter<W>) -> fmt::Result {
+        let tags = self.0;
+        if tags == 0 {
+            Ok(())
+        } else {
+            write!(f, " tags {tags}")
+        }
+    }
+}
+
+/// The head of the line of a frame: number, seconds, interface, source, destination and tags, and a blank.
+#[derive(Clone, Copy)]
+pub(crate) struct HeadText {
+    pub number: u64,
+    pub since: SinceText,
+    pub envelope: Envelope,
+}
+
+impl fmt::Display for HeadText {
+    ghost output = { λ t. Some (head_text t.number t.since.first t.since.time t.envelope) };
+
+    fn fmt<W: fmt::Write>(&self, f: &mut fmt::Formatter<W>) -> fmt::Result {
+        let envelope = self.envelope;
+        let interface = InterfacePart(envelope.interface);
+        let destination = DestinationPart(envelope.destination);
+        let tags = TagsPart(envelope.tags);
+        write!(
+            f,
+            "{} {}{interface} {}{destination}{tags} ",
+            self.number,
+            self.since,
+            MacText(&envelope.source)
+        )
+    }
+}
+
+/// What the line of a frame says of its Marker PDU.
+#[derive(Clone, Copy)]
+pub(crate) struct MarkerText(pub Marker);
+
+impl fmt::Display for MarkerText {
+    ghost output = { λ t. Some (marker_text t.0) };
+
+    fn fmt<W: fmt::Write>(&self, f: &mut fmt::Formatter<W>) -> fmt::Result {
+        let marker = self.0;
+        let word = match marker.kind {
+            MarkerKind::Information => "marker",
+            MarkerKind::Response => "marker-response",
+        };
+        write!(
+            f,
+            "{word} port {} system {} id {}",
+            marker.port,
+            MacText(&marker.system),
+            marker.id
+        )
+    }
+}
+
+/// What the line of a frame says behind its head.
+#[derive(Clone, Copy)]
+pub(crate) enum WhatText {
+    /// It holds an LACPDU.
+    Lacpdu(LacpduText),
+    /// It holds a Marker PDU.
+    Marker(Marker),
+    /// It is refused.
+    Refused(WireFault),
+}
+
+impl fmt::Display for WhatText {
+    ghost output = { λ t. Some (what_text t) };
+
+    fn fmt<W: fmt::Write>(&self, f: &mut fmt::Formatter<W>) -> fmt::Result {
+        match self {
+            WhatText::Lacpdu(text) => write!(f, "{text}"),
+            WhatText::Marker(marker) => write!(f, "{}", MarkerText(*marker)),
+            WhatText::Refused(fault) => write!(f, "refused {fault}"),
+        }
+    }
+}

@@ -1,0 +1,68 @@
+-- The last lines of a report say what holds of every world.
+use Rattle.std.proofs.Common.{◌≡◌, ◌<◌, ◌+◌, ℕ, List, Option, Some, None, false, length, get_or, refl, sym, ap, ◌∙◌, subst, arith}
+use Rattle.std.specs.Prelude.{Ok, Err}
+use Rattle.std.specs.List.{range_with_len}
+use Rattle.std.proofs.lemmas.List.{ext_get_or}
+use Rattle.std.proofs.lemmas.List.FromFn.{get_or-range_with_len, length-range_with_len}
+use Rattle.std.proofs.lemmas.Option.{none-some, same_Some}
+use Rattle.toml.specs.Data.{Members}
+use Rattle.toml.specs.Parse.{parse_document}
+use Rattle.lagmodel.specs.Law.{IsSubsequence}
+use Rattle.lagmodel.specs.World.{Side}
+use Rattle.lagscript.specs.Readings.{◌>>=◌}
+use Rattle.lagscript.specs.Scripts.{HasScript, Script, plan_in, script_of}
+use Rattle.lagscript.specs.declared.fault.ScriptFault.{ScriptFault}
+use Rattle.lagscript.specs.declared.fault.ScriptFault.TheVariants as script
+use Rattle.lagworld.proofs.Running.{carries_of, in_order_of}
+use Rattle.lagworld.specs.Readers.{flow_of_system}
+use Rattle.lagworld.specs.Sound.{IsSound}
+use Rattle.lagworld.specs.State.{WorldState, collected_in, forced_in, sent_in}
+use Rattle.lagtool_jobs.specs.ReplayReport.{HasNoScript}
+
+counted : (xs : List ℕ) → ((i : ℕ) → i < length xs → get_or xs i 0 ≡ i) → xs ≡ range_with_len 0 (length xs)
+counted xs h =
+    ext_get_or 0 xs (range_with_len 0 (length xs)) (sym (length-range_with_len 0 (length xs)))
+    (λ k lt. let at : 0 + k ≡ k = omega arith in h k lt ∙ sym (get_or-range_with_len 0 (length xs) k 0 lt ∙ at))
+
+-- a flow of a sound world that was not forced
+pub flow_in_order : (j : WorldState) (o : Option Side) (agg conv : ℕ) → IsSound j → forced_in (flow_of_system o agg conv j) ≡ false
+    → IsSubsequence (collected_in (flow_of_system o agg conv j)) (range_with_len 0 (length (sent_in (flow_of_system o agg conv j))))
+flow_in_order j None agg conv sound free = tt
+flow_in_order j (Some s) agg conv sound free =
+    subst (IsSubsequence (collected_in (flow_of_system (Some s) agg conv j)))
+    (counted (sent_in (flow_of_system (Some s) agg conv j)) (λ i lt. (carries_of j sound).counts_from_zero s agg conv i lt))
+    (in_order_of j sound s agg conv free)
+
+not_both : (text : List ℕ) (fault : ScriptFault) (s : Script) → (ms : Members) × (parse_document text ≡ Some ms)
+    × (plan_in ms ≡ Err fault) → HasScript text s → ⊥
+not_both text fault s (ms, parsed, refused) (ns, again, read) =
+    let same : ms ≡ ns = same_Some ms ns (sym parsed ∙ again) in
+    let both : Err fault ≡ Ok s = sym (ap (λ r. r >>= λ plan. Ok plan.script) refused) ∙ ap script_of same ∙ read in
+    absurd (let e = both in cc)
+
+none_both : (text : List ℕ) (s : Script) → parse_document text ≡ None → HasScript text s → ⊥
+none_both text s none (ms, parsed, read) = none-some ms (sym none ∙ parsed)
+
+-- a text with a script is not refused
+pub not_refused : (text : List ℕ) (fault : ScriptFault) (s : Script) → HasNoScript text fault → HasScript text s → ⊥
+not_refused text script.NotToml s h k = none_both text s h.1 k
+not_refused text script.NoMemory s h k = h.0 refl
+not_refused text script.ExtraKey s h k = not_both text script.ExtraKey s h.1 k
+not_refused text script.Systems s h k = not_both text script.Systems s h.1 k
+not_refused text (script.SystemExtraKey n) s h k = not_both text (script.SystemExtraKey n) s h.1 k
+not_refused text (script.SystemValue n key) s h k = not_both text (script.SystemValue n key) s h.1 k
+not_refused text (script.PortExtraKey n p) s h k = not_both text (script.PortExtraKey n p) s h.1 k
+not_refused text (script.PortValue n p key) s h k = not_both text (script.PortValue n p key) s h.1 k
+not_refused text script.Cables s h k = not_both text script.Cables s h.1 k
+not_refused text (script.CableExtraKey c) s h k = not_both text (script.CableExtraKey c) s h.1 k
+not_refused text (script.CableEnds c) s h k = not_both text (script.CableEnds c) s h.1 k
+not_refused text (script.CableLimit c) s h k = not_both text (script.CableLimit c) s h.1 k
+not_refused text script.Events s h k = not_both text script.Events s h.1 k
+not_refused text (script.Entry n why) s h k = not_both text (script.Entry n why) s h.1 k
+not_refused text (script.Ports n) s h k = not_both text (script.Ports n) s h.1 k
+not_refused text (script.AggregatorCount n) s h k = not_both text (script.AggregatorCount n) s h.1 k
+not_refused text (script.PortNumber n p) s h k = not_both text (script.PortNumber n p) s h.1 k
+not_refused text (script.MaxLinks n) s h k = not_both text (script.MaxLinks n) s h.1 k
+not_refused text (script.ConversationCount n) s h k = not_both text (script.ConversationCount n) s h.1 k
+not_refused text script.SameSystem s h k = not_both text script.SameSystem s h.1 k
+not_refused text (script.CableEnd c) s h k = not_both text (script.CableEnd c) s h.1 k

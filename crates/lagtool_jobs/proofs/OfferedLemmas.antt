@@ -1,0 +1,309 @@
+-- An aggregator that no event offers a frame to sends none.
+use Rattle.std.proofs.Common.{◌≡◌, ◌==◌, ◌<◌, ◌+◌, ◌++◌, ℕ, zero, suc, Bool, true, false, List, [], ◌∷◌, Option, Some, None, get_or}
+use Rattle.std.proofs.Common.{length, arith, refl, sym, ap, ◌∙◌, subst, inl, inr, if◌then◌else◌, eqb-true, eq-eqb}
+use Rattle.std.specs.Prelude.{◌&&◌, ◌||◌, Result, Ok, Err, flat_map, option_map}
+use Rattle.std.specs.List.{range_with_len}
+use Rattle.std.proofs.lemmas.Bool.{cases_Bool, true≢false}
+use Rattle.std.proofs.lemmas.List.{get_or_read}
+use Rattle.std.proofs.lemmas.Option.{none-some, same_Some}
+use Rattle.cables.specs.declared.item.Stamp.{Stamp}
+use Rattle.cables.specs.declared.item.Stamp.TheVariants as stamp
+use Rattle.lagtypes.specs.declared.identifiers.AggId.{AggId}
+use Rattle.lagmodel.specs.World.{Side, One, Two}
+use Rattle.lagmodel.proofs.Base.{cond_true, cond_false, value_of}
+use Rattle.lagsystem.specs.declared.received.Received.{Received}
+use Rattle.lagsystem.specs.declared.received.Received.TheVariants as received
+use Rattle.lagsystem.specs.declared.drive.Reply.{Reply as Answer}
+use Rattle.lagsystem.specs.declared.drive.Reply.TheVariants as answer
+use Rattle.lagsystem.specs.declared.fault.SystemFault.{SystemFault}
+use Rattle.lagsystem.specs.Calls.{Call, Receive, Set_link, Transmit, Offer, Move_conversation}
+use Rattle.lagsystem.specs.Readers.{number_of_conversation}
+use Rattle.lagscript.specs.declared.event.Event.{Event}
+use Rattle.lagscript.specs.declared.event.Event.TheVariants as event
+use Rattle.lagworld.specs.declared.reply.Reply.{Reply}
+use Rattle.lagworld.specs.HalfCalls.{HalfAnswers, HalfTicks, forced_if_accepted}
+use Rattle.lagworld.specs.Events.{Algorithms, DoesEvent, WorldRuns, side_of, with_stamp_collected, with_link_at, with_item_sent}
+use Rattle.lagworld.specs.Events.{transmitted_item, with_collected_in, with_last_lacpdu, stamped_in, AfterTransmit, WorldReceives}
+use Rattle.lagworld.specs.Events.{AfterReceive, DeliversFrom, LosesFrom, RepeatsItem, RepeatsFrom, AfterOffer, with_frame_counted}
+use Rattle.lagworld.specs.Messages.{side_numbered, side_number}
+use Rattle.lagworld.specs.Readers.{flow_of_system}
+use Rattle.lagworld.specs.Sound.{IsStart}
+use Rattle.lagworld.specs.State.{ItemValue, HalfState, WorldState, LinkState, FlowValue, half, with_half, port_at, towards, with_towards}
+use Rattle.lagworld.specs.State.{flow_at, sent_in, with_sent, with_collected, with_forced}
+use Rattle.lagworld.proofs.Flows.{flow_other_row, read_same}
+use Rattle.lagworld.proofs.Whole.{on_line}
+use Rattle.lagtool_jobs.specs.Offered.{HasSentNothing, IsSentWhereOffered, is_offered, offers_to}
+use Rattle.lagtool_jobs.specs.ReplayReport.{flow_line, aggregator_flows_text}
+use Rattle.lagtool_jobs.proofs.ReplayLemmas.{append_none, appended_both, empties, range_more}
+
+-- what a conversation of a system sent
+abbrev sent_of : Side → ℕ → ℕ → WorldState → List ℕ
+sent_of t g k j = sent_in (flow_at (half t j).flows g k)
+
+-- a system sent no more
+abbrev SameSent : HalfState → HalfState → Type 0
+SameSent old new = (g k : ℕ) → sent_in (flow_at new.flows g k) ≡ sent_in (flow_at old.flows g k)
+
+-- neither system did
+abbrev NoneSent : WorldState → WorldState → Type 0
+NoneSent old new = (t : Side) → SameSent (half t old) (half t new)
+
+followed : (a b c : WorldState) → NoneSent a b → NoneSent b c → NoneSent a c
+followed a b c x y = λ t g k. y t g k ∙ x t g k
+
+same : (old new : WorldState) → new ≡ old → NoneSent old new
+same old new e = λ t g k. ap (sent_of t g k) e
+
+of_half : (s : Side) (h : HalfState) (j : WorldState) → SameSent (half s j) h → NoneSent j (with_half s h j)
+of_half One h j x One = x
+of_half One h j x Two = λ g k. refl
+of_half Two h j x One = λ g k. refl
+of_half Two h j x Two = x
+
+same_flows : (old new : HalfState) → new.flows ≡ old.flows → SameSent old new
+same_flows old new e = λ g k. ap (λ xs. sent_in (flow_at xs g k)) e
+
+asked : (gives : ℕ → ℕ → ℕ → Type 0) (call : Call) (a : Answer) (s : Side) (mid : HalfState) (j : WorldState)
+    → HalfAnswers gives call a (half s j) mid → NoneSent j (with_half s mid j)
+asked gives call a s mid j x = of_half s mid j (same_flows (half s j) mid (ap (λ (h : HalfState). h.flows) x.same))
+
+ticked : (gives : ℕ → ℕ → ℕ → Type 0) (n : ℕ) (old new : HalfState) → HalfTicks gives n old new → new.flows ≡ old.flows
+ticked gives zero old new x = ap (λ (h : HalfState). h.flows) x
+ticked gives (suc n) old new x = ap (λ (h : HalfState). h.flows) x.2.same ∙ ticked gives n old x.0 x.1
+
+emitted : (s : Side) (p : ℕ) (a : Result (Option (List ℕ)) SystemFault) (j new : WorldState) (r : Reply)
+    → AfterTransmit s p a j r new → NoneSent j new
+emitted s p (Err fault) j new r x = same j new x.1
+emitted s p (Ok None) j new r x = same j new x.1
+emitted s p (Ok (Some frame)) j new r x = same (with_item_sent s p (transmitted_item s p frame (half s j)) j) new x.1
+
+collected_kept : (serial : ℕ) (o : Option FlowValue) → sent_in (option_map (with_collected serial) o) ≡ sent_in o
+collected_kept serial None = refl
+collected_kept serial (Some x) = refl
+
+forced_kept : (o : Option FlowValue) → sent_in (option_map with_forced o) ≡ sent_in o
+forced_kept None = refl
+forced_kept (Some x) = refl
+
+collected_on : (st : Stamp) (j : WorldState) → NoneSent j (with_stamp_collected st j)
+collected_on (stamp.Control count) j = λ t g k. refl
+collected_on (stamp.Data system agg conv serial) j =
+    of_half (side_numbered system) (with_collected_in agg conv serial (half (side_numbered system) j)) j
+    (read_same sent_in (with_collected serial) agg conv (half (side_numbered system) j).flows (collected_kept serial))
+
+arrived : (s : Side) (p : ℕ) (item : ItemValue) (a : Result Received SystemFault) (j new : WorldState) (r : Reply)
+    → AfterReceive s p item a j r new → NoneSent j new
+arrived s p item (Err fault) j new r x = same j new x.1
+arrived s p item (Ok received.Disabled) j new r x = same j new x.1
+arrived s p item (Ok received.Dropped) j new r x = same j new x.1
+arrived s p item (Ok (received.Ignored fault)) j new r x = same j new x.1
+arrived s p item (Ok received.TookLacpdu) j new r x =
+    let took = with_half s (with_last_lacpdu p (stamped_in item) (half s j)) j in
+    followed j took new (of_half s (with_last_lacpdu p (stamped_in item) (half s j)) j (λ g k. refl)) (same took new x.1)
+arrived s p item (Ok (received.Respond frame)) j new r x =
+    same (with_item_sent s p (record { octets = frame; stamp = stamp.Control 0 }) j) new x.1
+arrived s p item (Ok (received.Released n)) j new r x = same j new x.1
+arrived s p item (Ok (received.Up agg)) j new r x = followed j (with_stamp_collected item.stamp j) new (collected_on item.stamp j)
+    (same (with_stamp_collected item.stamp j) new x.1)
+
+arrives : (gives : Algorithms) (s : Side) (p : ℕ) (item : ItemValue) (j new : WorldState) (r : Reply)
+    → WorldReceives gives s p item j r new → NoneSent j new
+arrives gives s p item j new r x =
+    followed j (with_half s x.1 j) new (asked (gives s) (Receive p item.octets) (answer.Receive x.0) s x.1 j x.2)
+    (arrived s p item x.0 (with_half s x.1 j) new r x.3)
+
+delivers : (gives : Algorithms) (s : Side) (i : ℕ) (l : LinkState) (xs : List ItemValue) (j new : WorldState) (r : Reply)
+    → DeliversFrom gives s i l xs j r new → NoneSent j new
+delivers gives s i l [] j new r x = same j new x.1
+delivers gives s i l (item ∷ rest) j new r x = arrives gives s (port_at s l) item (with_link_at i (with_towards s rest l) j) new r x
+
+loses : (s : Side) (i : ℕ) (l : LinkState) (xs : List ItemValue) (j new : WorldState) (r : Reply)
+    → LosesFrom s i l xs j r new → NoneSent j new
+loses s i l [] j new r x = same j new x.1
+loses s i l (item ∷ rest) j new r x = same (with_link_at i (with_towards s rest l) j) new x.1
+
+repeats_item : (gives : Algorithms) (s : Side) (p : ℕ) (octets : List ℕ) (st : Stamp) (j new : WorldState) (r : Reply)
+    → RepeatsItem gives s p octets st j r new → NoneSent j new
+repeats_item gives s p octets (stamp.Control count) j new r x =
+    arrives gives s p (record { octets = octets; stamp = stamp.Control count }) j new r x
+repeats_item gives s p octets (stamp.Data system agg conv serial) j new r x = same j new x.1
+
+repeats : (gives : Algorithms) (s : Side) (l : LinkState) (xs : List ItemValue) (j new : WorldState) (r : Reply)
+    → RepeatsFrom gives s l xs j r new → NoneSent j new
+repeats gives s l [] j new r x = same j new x.1
+repeats gives s l (item ∷ rest) j new r x = repeats_item gives s (port_at s l) item.octets item.stamp j new r x
+
+forced_where_sent : (a : Result Unit SystemFault) (agg : AggId) (conv : ℕ) (h : HalfState) → SameSent h (forced_if_accepted a agg conv h)
+forced_where_sent (Ok done) agg conv h = read_same sent_in with_forced agg.0 conv h.flows forced_kept
+forced_where_sent (Err fault) agg conv h = λ g k. refl
+
+-- a frame is sent of one aggregator alone
+counted : (s : Side) (agg : AggId) (octets : List ℕ) (j : WorldState) (t : Side) (g k : ℕ) → (t ≡ s → g ≡ agg.0 → ⊥)
+    → sent_of t g k (with_half s (with_frame_counted agg octets (half s j)) j) ≡ sent_of t g k j
+counted One agg octets j One g k free =
+    ap sent_in (flow_other_row with_sent agg.0 (number_of_conversation j.one.state octets) g k j.one.flows (λ e. free refl e))
+counted One agg octets j Two g k free = refl
+counted Two agg octets j One g k free = refl
+counted Two agg octets j Two g k free =
+    ap sent_in (flow_other_row with_sent agg.0 (number_of_conversation j.two.state octets) g k j.two.flows (λ e. free refl e))
+
+offered_on : (s : Side) (agg : AggId) (octets : List ℕ) (a : Result ℕ SystemFault) (j new : WorldState) (r : Reply)
+    → AfterOffer s agg octets a j r new
+    → (t : Side) (g k : ℕ) → (t ≡ s → g ≡ agg.0 → ⊥) → sent_of t g k new ≡ sent_of t g k j
+offered_on s agg octets (Err fault) j new r x t g k free = ap (sent_of t g k) x.1
+offered_on s agg octets (Ok port) j new r x t g k free = ap (sent_of t g k) x.2 ∙ counted s agg octets j t g k free
+
+-- a number that names a system is that system's
+number_named : (n : ℕ) (s : Side) → side_of n ≡ Some s → n ≡ side_number s
+number_named n s e = elim (cases_Bool (n == 1)) [
+  | inl t ↦ eqb-true n 1 t
+      ∙ ap side_number (same_Some One s (sym (cond_true (n == 1) (Some One) (if n == 2 then Some Two else None) t) ∙ e))
+  | inr f ↦ second (sym (cond_false (n == 1) (Some One) (if n == 2 then Some Two else None) f) ∙ e)
+]
+  where
+    second : (if n == 2 then Some Two else None) ≡ Some s → n ≡ side_number s
+    second h = elim (cases_Bool (n == 2)) [
+      | inl t ↦ eqb-true n 2 t ∙ ap side_number (same_Some Two s (sym (cond_true (n == 2) (Some Two) None t) ∙ h))
+      | inr f ↦ absurd (none-some s (sym (cond_false (n == 2) (Some Two) None f) ∙ h))
+    ]
+
+-- an offer to another aggregator
+other : (n : ℕ) (s t : Side) (agg : AggId) (g : ℕ) → n ≡ side_number s → ((n == side_number t) && (agg.0 == g)) ≡ false → t ≡ s → g ≡ agg.0
+    → ⊥
+other n s t agg g name free same_side same_agg =
+    let here : (n == side_number t) ≡ true = eq-eqb n (side_number t) (name ∙ ap side_number (sym same_side)) in
+    let there : (agg.0 == g) ≡ true = eq-eqb agg.0 g (sym same_agg) in
+    true≢false (sym (ap (λ b. b && (agg.0 == g)) here ∙ there) ∙ free)
+
+does_keep : (gives : Algorithms) (e : Event) (r : Reply) (old new : WorldState) → DoesEvent gives old e r new
+    → (t : Side) (g k : ℕ) → offers_to (side_number t) g e ≡ false → sent_of t g k new ≡ sent_of t g k old
+does_keep gives (event.Tick n count) r old new x t g k free =
+    let v = value_of (side_of n) _ x in
+    let s = v.0 in
+    let mid = with_half s (half s new) old in
+    followed old mid new
+    (of_half s (half s new) old (same_flows (half s old) (half s new) (ticked (gives s) count (half s old) (half s new) v.2.0.0)))
+    (same mid new v.2.0.1) t g k
+does_keep gives (event.Emit n p) r old new x t g k free =
+    let v = value_of (side_of n) _ x in
+    let s = v.0 in
+    let mid = with_half s v.2.1 old in
+    followed old mid new (asked (gives s) (Transmit p) (answer.Transmit v.2.0) s v.2.1 old v.2.2) (emitted s p v.2.0 mid new r v.2.3) t g k
+does_keep gives (event.Deliver c n) r old new x t g k free =
+    let v = value_of (side_of n) _ x in
+    let l = on_line c _ old.links v.2 in
+    delivers gives v.0 l.0 l.1 (towards v.0 l.1) old new r l.4 t g k
+does_keep gives (event.Lose c n) r old new x t g k free =
+    let v = value_of (side_of n) _ x in
+    let l = on_line c _ old.links v.2 in
+    loses v.0 l.0 l.1 (towards v.0 l.1) old new r l.4 t g k
+does_keep gives (event.Repeat c n) r old new x t g k free =
+    let v = value_of (side_of n) _ x in
+    let l = on_line c _ old.links v.2 in
+    repeats gives v.0 l.1 (towards v.0 l.1) old new r l.4 t g k
+does_keep gives (event.Cut c) r old new x t g k free =
+    let l = on_line c _ old.links x in
+    ap (sent_of t g k) l.4.1
+does_keep gives (event.Join c) r old new x t g k free =
+    let l = on_line c _ old.links x in
+    ap (sent_of t g k) l.4.1
+does_keep gives (event.Sense c n) r old new x t g k free =
+    let v = value_of (side_of n) _ x in
+    let l = on_line c _ old.links v.2 in
+    let s = v.0 in
+    let mid = with_half s (half s new) old in
+    followed old mid new (asked (gives s) (Set_link (port_at s l.1) l.1.whole) (answer.SetLink l.4.0.0) s (half s new) old l.4.0.1)
+    (same mid new l.4.1) t g k
+does_keep gives (event.Restart n) r old new x t g k free =
+    let v = value_of (side_of n) _ x in
+    let s = v.0 in
+    let mid = with_half s (half s new) old in
+    followed old mid new
+    (of_half s (half s new) old (same_flows (half s old) (half s new) (ap (λ (h : HalfState). h.flows) v.2.1.0.2
+    ∙ ap (λ (h : HalfState). h.flows) v.2.1.0.1.same)))
+    (λ u h i. ap (sent_of u h i) v.2.1.1) t g k
+does_keep gives (event.Configure n p change) r old new x t g k free =
+    let v = value_of (side_of n) _ x in
+    let s = v.0 in
+    let mid = with_half s (half s new) old in
+    followed old mid new
+    (of_half s (half s new) old (same_flows (half s old) (half s new) (ap (λ (h : HalfState). h.flows) v.2.0.4
+    ∙ ap (λ (h : HalfState). h.flows) v.2.0.2.same)))
+    (same mid new v.2.1) t g k
+does_keep gives (event.Offer n agg octets) r old new x t g k free =
+    let v = value_of (side_of n) _ x in
+    let s = v.0 in
+    let mid = with_half s v.2.1 old in
+    offered_on s agg octets.items v.2.0 mid new r v.2.3 t g k (other n s t agg g (number_named n s v.1) free)
+    ∙ asked (gives s) (Offer agg octets.items) (answer.Offer v.2.0) s v.2.1 old v.2.2 t g k
+does_keep gives (event.Move n agg conv p) r old new x t g k free =
+    let v = value_of (side_of n) _ x in
+    let s = v.0 in
+    let mid = with_half s (half s new) old in
+    followed old mid new (asked (gives s) (Move_conversation agg conv p) (answer.MoveConversation v.2.0.0) s (half s new) old v.2.0.1)
+    (same mid new v.2.1) t g k
+does_keep gives (event.Force n agg conv) r old new x t g k free =
+    let v = value_of (side_of n) _ x in
+    let s = v.0 in
+    let mid = with_half s (half s new) old in
+    followed old mid new
+    (of_half s (half s new) old
+    (λ h i. ap (λ (y : HalfState). sent_in (flow_at y.flows h i)) v.2.0.4 ∙ forced_where_sent v.2.0.0 agg conv v.2.0.1 h i
+    ∙ ap (λ (y : HalfState). sent_in (flow_at y.flows h i)) v.2.0.2.same))
+    (same mid new v.2.1) t g k
+
+neither : (a b : Bool) → (a || b) ≡ false → (a ≡ false) × (b ≡ false)
+neither true b h = absurd (true≢false h)
+neither false b h = (refl, h)
+
+runs_keep : (gives : Algorithms) (es : List Event) (rs : List Reply) (old new : WorldState) → WorldRuns gives old es rs new
+    → (t : Side) (g k : ℕ) → is_offered (side_number t) g es ≡ false → sent_of t g k new ≡ sent_of t g k old
+runs_keep gives [] [] old new x t g k free = ap (sent_of t g k) x
+runs_keep gives [] (r ∷ rs) old new x t g k free = absurd x
+runs_keep gives (e ∷ es) [] old new x t g k free = absurd x
+runs_keep gives (e ∷ es) (r ∷ rs) old new (mid, step, rest) t g k free =
+    let parts = neither (offers_to (side_number t) g e) (is_offered (side_number t) g es) free in
+    runs_keep gives es rs mid new rest t g k parts.1 ∙ does_keep gives e r old (record mid { acted = old.acted }) step.0 t g k parts.0
+
+first_sent : (j : WorldState) (t : Side) (g k : ℕ) → IsStart j → sent_of t g k j ≡ []
+first_sent j t g k start = none_sent (flow_at (half t j).flows g k) refl
+  where
+    none_sent : (o : Option FlowValue) → flow_at (half t j).flows g k ≡ o → sent_in o ≡ []
+    none_sent None e = refl
+    none_sent (Some x) e = (start.flows t g k x e).0
+
+-- after a run from the start only aggregators sent that frames were offered to
+pub sent_where_offered : (gives : Algorithms) (from to : WorldState) (es : List Event) (rs : List Reply) → IsStart from
+    → WorldRuns gives from es rs to → IsSentWhereOffered es to
+sent_where_offered gives from to es rs start ran s g free k = by_side (side_of s) refl
+  where
+    by_side : (o : Option Side) → side_of s ≡ o → sent_in (flow_of_system (side_of s) g k to) ≡ []
+    by_side None e = ap (λ o. sent_in (flow_of_system o g k to)) e
+    by_side (Some t) e =
+        ap (λ o. sent_in (flow_of_system o g k to)) e
+        ∙ runs_keep gives es rs from to ran t g k (subst (λ n. is_offered n g es ≡ false) (number_named s t e) free)
+        ∙ first_sent from t g k start
+
+no_line : (s agg conv : ℕ) (x : Option FlowValue) → sent_in x ≡ [] → flow_line s agg conv x ≡ []
+no_line s agg conv x e = cond_true (length (sent_in x) == 0) [] _ (ap (λ xs. length xs == 0) e)
+
+-- an aggregator that sent nothing has no lines
+pub no_row : (j : WorldState) (s n agg : ℕ) → HasSentNothing j s agg → aggregator_flows_text j s n agg ≡ []
+no_row j s n agg quiet = empties (λ conv. flow_line s agg conv (flow_of_system (side_of s) agg conv j)) 0 n
+    (λ c le. no_line s agg c (flow_of_system (side_of s) agg c j) (quiet c))
+
+-- and is left out
+pub row_skipped : (t u v : List ℕ) (j : WorldState) (s n i : ℕ)
+    → u ≡ t ++ flat_map (aggregator_flows_text j s n) (range_with_len 1 i) → v ≡ u → HasSentNothing j s (i + 1)
+    → v ≡ t ++ flat_map (aggregator_flows_text j s n) (range_with_len 1 (i + 1))
+row_skipped t u v j s n i before same quiet =
+    appended_both t u v (flat_map (aggregator_flows_text j s n) (range_with_len 1 i)) []
+    (flat_map (aggregator_flows_text j s n) (range_with_len 1 (i + 1))) before
+    (same ∙ sym (append_none u))
+    (ap (λ x. flat_map (aggregator_flows_text j s n) (range_with_len 1 i) ++ x) (sym (no_row j s n (i + 1) quiet))
+    ∙ range_more (aggregator_flows_text j s n) 1 i (i + 1) (i + 1) (omega arith) refl)
+
+-- a flag that was read and is not set
+pub unset : (flags : List Bool) (at i : ℕ) (r : Bool) → at ≡ i → i < length flags → r ≡ get_or flags at r → r ≡ false
+    → get_or flags i false ≡ false
+unset flags at i r same inside read off = sym (get_or_read flags i r inside (subst (λ k. r ≡ get_or flags k r) same read) false) ∙ off

@@ -1,0 +1,191 @@
+-- A script is refused nothing but memory.
+use Rattle.std.proofs.Common.{◌≡◌, ◌+◌, ◌++◌, ◌<◌, ◌≤◌, ◌==◌, ℕ, zero, suc, Bool, true, false, List, [], ◌∷◌, Option, Some, None, length, map}
+use Rattle.std.proofs.Common.{take, refl, sym, ap, ap₂, ◌∙◌, subst, inl, inr, if◌then◌else◌, arith}
+use Rattle.std.specs.Prelude.{◌&&◌, is_some, nat_le, slice_get}
+use Rattle.std.specs.List.{list_all}
+use Rattle.std.proofs.lemmas.Bool.{true≢false}
+use Rattle.std.proofs.lemmas.Bool.Decides.{nat_tests}
+use Rattle.std.proofs.lemmas.List.{length-append, length-map, length-take-le}
+use Rattle.std.proofs.lemmas.Option.{none-some, same_Some, slice_get_within}
+use Rattle.cables.specs.AnyCable.{any_items, any_limit}
+use Rattle.cables.specs.declared.any.AnyCable.{AnyCable}
+use Rattle.lagmodel.specs.World.{WorldSetup}
+use Rattle.lagsystem.specs.First.{or_first}
+use Rattle.lagscript.specs.declared.config.BadWorld.{BadWorld}
+use Rattle.lagscript.specs.declared.config.BadWorld.TheVariants.{Lines}
+use Rattle.lagscript.specs.declared.event.Event.{Event}
+use Rattle.lagworld.specs.Events.{Algorithms, WorldRuns, cable_named, cause, cause_or_no_memory, first_event_cause, has_cable}
+use Rattle.lagworld.specs.Events.{has_system, most_events, system_named}
+use Rattle.lagworld.specs.Making.{RefusesToMake, are_empty_lines, first_link, has_empty_directions}
+use Rattle.lagworld.specs.Messages.{item_value}
+use Rattle.lagworld.specs.Sound.{RefusesNext, RunStops, next_of}
+use Rattle.lagworld.specs.State.{WorldState, LinkState}
+use Rattle.lagworld.specs.ModelWorld.{link_ends, world_setup}
+use Rattle.lagworld.specs.declared.fault.RunFault.{RunFault}
+use Rattle.lagworld.specs.declared.fault.WorldFault.{WorldFault}
+use Rattle.lagworld.specs.declared.fault.WorldFault.TheVariants.{NoMemory}
+use Rattle.lagworld.specs.declared.reply.Reply.{Reply}
+use Rattle.lagtool_jobs.specs.Naming.{AllNameExisting, is_cable, names_existing}
+use Rattle.lagtool_jobs.specs.ReplayReport.{empty_link, empty_links}
+
+-- ---- a world is made
+
+pub nothing_to_refuse : (reason : Option BadWorld) (empty : Bool) (fault : WorldFault) → reason ≡ None → empty ≡ true
+    → RefusesToMake (or_first reason (if empty then None else Some Lines)) fault → fault ≡ NoMemory
+nothing_to_refuse None true fault r e (inl h) = h
+nothing_to_refuse None true fault r e (inr (bad, is, h)) = absurd (none-some bad is)
+nothing_to_refuse None false fault r e h = absurd (true≢false (sym e))
+nothing_to_refuse (Some bad) empty fault r e h = absurd (none-some bad (sym r))
+
+-- nothing is on either direction of a cable
+abbrev pub is_bare : LinkState → Bool
+is_bare l = (length l.to_one == 0) && (length l.to_two == 0)
+
+bare_line : (line : AnyCable × AnyCable) → has_empty_directions any_items line ≡ is_bare (first_link any_items any_limit (0, 0) line)
+bare_line line = ap₂ (λ m n. (m == 0) && (n == 0)) (sym (length-map (any_items line.0) item_value))
+    (sym (length-map (any_items line.1) item_value))
+
+bare_lines : (lines : List (AnyCable × AnyCable))
+    → list_all (has_empty_directions any_items) lines ≡ list_all is_bare (map (first_link any_items any_limit (0, 0)) lines)
+bare_lines [] = refl
+bare_lines (line ∷ lines) = ap₂ (λ x y. x && y) (bare_line line) (bare_lines lines)
+
+both : (a b : Bool) → a ≡ true → b ≡ true → (a && b) ≡ true
+both a b e f = ap (λ x. x && b) e ∙ f
+
+-- as many lines as cables, of cables that are bare
+pub lines_there : (cables : List (ℕ × ℕ)) (lines : List (AnyCable × AnyCable)) (firsts : List LinkState)
+    → map (first_link any_items any_limit (0, 0)) lines ≡ firsts
+    → length firsts ≡ length cables → list_all is_bare firsts ≡ true → are_empty_lines any_items cables lines ≡ true
+lines_there cables lines firsts same long bare =
+    both (length lines == length cables) (list_all (has_empty_directions any_items) lines)
+    (let counted : length lines ≡ length cables = sym (length-map lines (first_link any_items any_limit (0, 0))) ∙ ap length same
+    ∙ long in grind (arith, nat_tests))
+    (bare_lines lines ∙ ap (list_all is_bare) same ∙ bare)
+
+pub first_bare : (limits : List (Option ℕ)) → list_all is_bare (map (empty_link (0, 0)) limits) ≡ true
+first_bare [] = refl
+first_bare (l ∷ limits) = first_bare limits
+
+-- one cable for each pair of ends, if there are as many limits
+pub cables_counted : (cables : List (ℕ × ℕ)) (limits : List (Option ℕ)) → length limits ≡ length cables
+    → length (empty_links cables limits) ≡ length cables
+cables_counted [] limits h = refl
+cables_counted (ends ∷ cables) [] h = absurd (omega (arith, h))
+cables_counted (ends ∷ cables) (l ∷ limits) h =
+    let rest = cables_counted cables limits (omega (arith, h)) in
+    omega (arith, rest)
+
+-- ---- events are played
+
+-- each event counts
+acted_by : (gives : Algorithms) (es : List Event) (rs : List Reply) (old new : WorldState) → WorldRuns gives old es rs new
+    → new.acted ≡ old.acted + length es
+acted_by gives [] [] old new x = ap (λ (j : WorldState). j.acted) x ∙ (let none : old.acted ≡ old.acted + 0 = omega arith in none)
+acted_by gives [] (r ∷ rs) old new x = absurd x
+acted_by gives (e ∷ es) [] old new x = absurd x
+acted_by gives (e ∷ es) (r ∷ rs) old new (mid, step, rest) =
+    let more = acted_by gives es rs mid new rest in
+    let next : mid.acted ≡ old.acted + 1 = step.1 in
+    omega (arith, more, next)
+
+cables_kept : (old new : WorldState) → world_setup new ≡ world_setup old → length new.links ≡ length old.links
+cables_kept old new e = sym (length-map new.links link_ends) ∙ ap (λ (x : WorldSetup). length x.cables) e ∙ length-map old.links link_ends
+
+there : {X : Type 0} (xs : List X) (i : ℕ) → i < length xs → is_some (slice_get xs i) ≡ true
+there [] i lt = absurd (omega (arith, lt))
+there (x ∷ xs) zero lt = refl
+there (x ∷ xs) (suc i) lt = there xs i (omega (arith, lt))
+
+halves : (a b : Bool) → (a && b) ≡ true → (a ≡ true) × (b ≡ true)
+halves true b h = (refl, h)
+halves false b h = absurd (true≢false (sym h))
+
+cable_there : (j : WorldState) (o : Option ℕ) → is_cable (length j.links) o ≡ true → has_cable j o ≡ true
+cable_there j None h = refl
+cable_there j (Some zero) h = absurd (true≢false (sym (halves (nat_le 1 0) (nat_le 0 (length j.links)) h).0))
+cable_there j (Some (suc i)) h =
+    let within = (halves (nat_le 1 (suc i)) (nat_le (suc i) (length j.links)) h).1 in
+    there j.links i (grind (arith, nat_tests))
+
+no_cause : (cable system spent : Bool) → cable ≡ true → system ≡ true → spent ≡ false → first_event_cause cable system spent ≡ None
+no_cause true true false c s p = refl
+no_cause true true true c s p = absurd (true≢false p)
+no_cause true false spent c s p = absurd (true≢false (sym s))
+no_cause false system spent c s p = absurd (true≢false (sym c))
+
+named_at : (p : Event → Bool) (es : List Event) (i : ℕ) (e : Event) → list_all p es ≡ true → slice_get es i ≡ Some e → p e ≡ true
+named_at p [] i e all at = absurd (none-some e at)
+named_at p (x ∷ es) zero e all at = subst (λ y. p y ≡ true) (same_Some x e at) (halves (p x) (list_all p es) all).0
+named_at p (x ∷ es) (suc i) e all at = named_at p es i e (halves (p x) (list_all p es) all).1 at
+
+not_spent : (n k : ℕ) → n ≡ k → k < most_events → nat_le most_events n ≡ false
+not_spent n k e lt = grind (arith, nat_tests)
+
+-- the next event has no cause to be refused
+next_fine : (gives : Algorithms) (old new : WorldState) (es : List Event) (rs : List Reply) (done : ℕ) (e : Event)
+    → WorldRuns gives old (take done es) rs new → done ≤ length es
+    → world_setup new ≡ world_setup old → AllNameExisting (length old.links) es → old.acted + length es ≤ most_events
+    → slice_get es done ≡ Some e → cause new e ≡ None
+next_fine gives old new es rs done e ran within fixed named few at =
+    let held = halves (is_cable (length old.links) (cable_named e)) (has_system (system_named e))
+    (named_at (names_existing (length old.links)) es done e named at) in
+    let more = acted_by gives (take done es) rs old new ran in
+    let long = length-take-le done es within in
+    let lt = slice_get_within es done e at in
+    let count : new.acted ≡ old.acted + done = omega (arith, more, long) in
+    no_cause (has_cable new (cable_named e)) (has_system (system_named e)) (nat_le most_events new.acted)
+    (cable_there new (cable_named e) (subst (λ n. is_cable n (cable_named e) ≡ true) (sym (cables_kept old new fixed)) held.0))
+    held.1
+    (not_spent new.acted (old.acted + done) count (omega (arith, lt, few)))
+
+-- so a run stops only for lack of memory
+stops_for_memory : (gives : Algorithms) (old new : WorldState) (es : List Event) (stop : RunFault)
+    → world_setup new ≡ world_setup old → AllNameExisting (length old.links) es → old.acted + length es ≤ most_events
+    → RunStops gives old es stop new → stop.fault ≡ NoMemory
+stops_for_memory gives old new es stop fixed named few s =
+    elim s.fault [ inl h ↦ h.1 | inr h ↦ by_next (next_of es stop.done) refl h ]
+  where
+    by_next : (o : Option Event) → next_of es stop.done ≡ o → RefusesNext new o stop.fault → stop.fault ≡ NoMemory
+    by_next None at h = absurd h
+    by_next (Some e) at h = h.named
+        ∙ ap cause_or_no_memory (next_fine gives old new es s.replies stop.done e s.acted s.within fixed named few at)
+
+-- ---- events are played in pieces
+
+-- runs one after the other are one run
+pub runs_joined : (gives : Algorithms) (es fs : List Event) (rs qs : List Reply) (old mid new : WorldState)
+    → WorldRuns gives old es rs mid → WorldRuns gives mid fs qs new → WorldRuns gives old (es ++ fs) (rs ++ qs) new
+runs_joined gives [] fs [] qs old mid new h k = subst (λ j. WorldRuns gives j fs qs new) h k
+runs_joined gives [] fs (r ∷ rs) qs old mid new h k = absurd h
+runs_joined gives (e ∷ es) fs [] qs old mid new h k = absurd h
+runs_joined gives (e ∷ es) fs (r ∷ rs) qs old mid new h k = (h.0, h.1, runs_joined gives es fs rs qs h.0 mid new h.2 k)
+
+named_behind : (p : Event → Bool) (es fs : List Event) → list_all p (es ++ fs) ≡ true → list_all p fs ≡ true
+named_behind p [] fs all = all
+named_behind p (e ∷ es) fs all = named_behind p es fs (halves (p e) (list_all p (es ++ fs)) all).1
+
+named_before : (p : Event → Bool) (es fs : List Event) → list_all p (es ++ fs) ≡ true → list_all p es ≡ true
+named_before p [] fs all = refl
+named_before p (e ∷ es) fs all =
+    let first = halves (p e) (list_all p (es ++ fs)) all in
+    both (p e) (list_all p es) first.0 (named_before p es fs first.1)
+
+-- a piece behind what has been played stops only for lack of memory
+pub piece_stops_for_memory : (gives : Algorithms) (old mid new : WorldState) (all done piece rest : List Event) (rs : List Reply)
+    (stop : RunFault)
+    → WorldRuns gives old done rs mid → all ≡ done ++ (piece ++ rest)
+    → world_setup mid ≡ world_setup old → world_setup new ≡ world_setup mid
+    → old.acted ≡ 0 → AllNameExisting (length old.links) all → length all ≤ most_events → RunStops gives mid piece stop new
+    → stop.fault ≡ NoMemory
+piece_stops_for_memory gives old mid new all done piece rest rs stop ran parts kept fixed acted named few s =
+    let p = names_existing (length old.links) in
+    let behind = named_behind p done (piece ++ rest) (subst (λ es. list_all p es ≡ true) parts named) in
+    let here = named_before p piece rest behind in
+    let more = acted_by gives done rs old mid ran in
+    let long = ap length parts ∙ length-append done (piece ++ rest) in
+    let long_behind = length-append piece rest in
+    stops_for_memory gives mid new piece stop fixed
+    (subst (λ n. list_all (names_existing n) piece ≡ true) (sym (cables_kept old mid kept)) here)
+    (omega (arith, more, acted, few, long, long_behind))
+    s

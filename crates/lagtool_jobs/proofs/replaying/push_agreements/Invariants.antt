@@ -1,0 +1,11 @@
+use Rattle.std.proofs.Common.{◌≡◌, ◌++◌}
+use Rattle.std.specs.Prelude.{flat_map, string_bytes}
+use Rattle.std.specs.List.{range_with_len}
+use Rattle.lagworld.specs.Agreement.{agreement_at}
+use Rattle.lagtool_jobs.specs.ReplayReport.{agreement_line}
+use Rattle.lagtool_jobs.proofs.replaying.push_agreements.Given as goal
+
+abbrev pub invariant-loop-place : goal.invariant-loop-place
+invariant-loop-place g l =
+    string_bytes l.text ≡ string_bytes l.initial.text
+    ++ flat_map (λ c. agreement_line c (agreement_at l.world.state c)) (range_with_len 1 l.place)

@@ -1,0 +1,20 @@
+use Rattle.std.proofs.Common.{◌≡◌, ◌++◌, List}
+use Rattle.std.specs.Slice.Iter.{chunks_rest}
+use Rattle.lagscript.specs.declared.event.Event.{Event}
+use Rattle.lagworld.specs.Events.{WorldRuns}
+use Rattle.lagworld.specs.ModelWorld.{world_setup}
+use Rattle.lagworld.specs.Sound.{IsSound, both_algorithms}
+use Rattle.lagtool_jobs.proofs.running.run_events.Given as goal
+
+abbrev pub invariant-loop-piece : goal.invariant-loop-piece
+invariant-loop-piece g l = record {
+  can_next : (goal.iterator-loop-piece g).can_next l.piece-iterator;
+  is_finite : (goal.iterator-loop-piece g).is_finite l.piece-iterator;
+  ran : (done : List Event) × (l.fn.events ≡ done ++ chunks_rest l.piece-iterator)
+      × WorldRuns (both_algorithms (λ conv count place. g.F.Fn.post l.fn.world.one (conv, (count, tt)) place)
+      (λ conv count place. g.F.Fn.post l.fn.world.two (conv, (count, tt)) place)) l.fn.world.state done l.replies.items l.world.state;
+  fixed : world_setup l.world.state ≡ world_setup l.fn.world.state;
+  sound : IsSound l.world.state;
+  one : l.world.one ≡ l.fn.world.one;
+  two : l.world.two ≡ l.fn.world.two;
+}

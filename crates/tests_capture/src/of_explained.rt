@@ -1,0 +1,237 @@
+ghost use Rattle.std.specs.Prelude.{◌≡◌, ◌<◌, false};
+
+use bitflags::Flags;
+use captures::{Cause, LinkType, Order, Unit, put_file_header, put_packet};
+use lagstreams::{Sink, Source};
+use lagtool_capture::{CaptureFault, ReadFault, Settings, Summary, explain};
+use lagtypes::{Key, PortId, State, SystemId};
+use slowpdu::{Info, Lacpdu, Marker, MarkerKind, frame};
+use std::alloc::{AllocError, Global};
+use std::io;
+use std::io::Read;
+use std::process::Abort;
+use std::test::Fail;
+
+/// A reader that gives at most so many octets in each read.
+#[derive(Drop)]
+struct Pieces<'a> {
+    rest: &'a [u8],
+    size: usize,
+}
+
+impl Read for Pieces<'_> {
+    fn read(&mut self, buf: &mut [u8]) -> io::Result<usize> {
+        let n = self.size.min(self.rest.len()).min(buf.len());
+        let (now, later) = self.rest.split_at(n);
+        buf[..n].copy_from_slice(now);
+        self.rest = later;
+        Ok(n)
+    }
+}
+
+/// The MAC address of a system with this number.
+fn mac(number: u8) -> [u8; 6] {
+    [0x02, 0, 0, 0, 0, number]
+}
+
+/// One end: the system with this number, with priority 32768, and a port with priority 255.
+fn end(number: u8, key: u16, port: u16, state: u8) -> Info {
+    let address = mac(number);
+    Info {
+        system: SystemId {
+            priority: 32768,
+            mac: address,
+        },
+        key: Key(key),
+        port: PortId {
+            priority: 255,
+            number: port,
+        },
+        state: State::from_bits_retain(state),
+    }
+}
+
+/// The frame of an LACPDU of a system.
+fn lacpdu(number: u8, actor: Info, partner: Info) -> [u8; 124] {
+    let sent = Lacpdu {
+        actor,
+        partner,
+        max_delay: 0,
+    };
+    frame(mac(number), &sent.encode())
+}
+
+/// The first 60 octets of a frame.
+fn beginning(frame: &[u8; 124]) -> [u8; 60] {
+    let mut octets = [0; 60];
+    octets.copy_from_slice(&frame[..60]);
+    octets
+}
+
+/// A capture of a link that comes up: A says that it knows nobody, B names A, A is synchronized, a broadcast, B is
+/// synchronized, and says so again; A asks by a marker, and B sends a payload of 60 octets.
+fn coming_up(alloc: Global, order: Order) -> Result<Vec<u8>, AllocError> {
+    let nobody = Info::default();
+    let one = lacpdu(1, end(1, 1, 1, 0x4d), nobody);
+    let two = lacpdu(2, end(2, 7, 2, 0x05), end(1, 1, 1, 0x4d));
+    let three = lacpdu(1, end(1, 1, 1, 0x3d), end(2, 7, 2, 0x05));
+    let five = lacpdu(2, end(2, 7, 2, 0x3d), end(1, 1, 1, 0x3d));
+    let asks = Marker {
+        kind: MarkerKind::Information,
+        port: 1,
+        system: mac(1),
+        id: 9,
+    };
+    let seven = frame(mac(1), &asks.encode());
+    let mut out = Vec::new(alloc);
+    put_file_header(&mut out, order, Unit::Micro, LinkType::Ethernet)?;
+    put_packet(&mut out, order, 100, 0, 124, &one)?;
+    put_packet(&mut out, order, 101, 0, 124, &two)?;
+    put_packet(&mut out, order, 101, 5_000, 124, &three)?;
+    put_packet(&mut out, order, 102, 0, 60, &[0xff; 60])?;
+    put_packet(&mut out, order, 102, 250_000, 124, &five)?;
+    put_packet(&mut out, order, 103, 250_000, 124, &five)?;
+    put_packet(&mut out, order, 104, 1, 124, &seven)?;
+    put_packet(&mut out, order, 99, 999_999, 60, &beginning(&five))?;
+    Ok(out)
+}
+
+/// What is said of it.
+const COMING_UP: &str = "\
+P1 = 32768/02-00-00-00-00-01 key 1 port 255/1
+P2 = 0/00-00-00-00-00-00 key 0 port 0/0
+1 0.000000 02-00-00-00-00-01 lacpdu actor P1 state 4d active,aggregatable,synchronized,defaulted partner P2 partner-state 00 none max-delay 0
+P3 = 32768/02-00-00-00-00-02 key 7 port 255/2
+2 1.000000 02-00-00-00-00-02 lacpdu actor P3 state 05 active,aggregatable partner P1 partner-state 4d active,aggregatable,synchronized,defaulted max-delay 0
+3 1.005000 02-00-00-00-00-01 lacpdu state 3d active,aggregatable,synchronized,collecting,distributing partner P3 partner-state 05 active,aggregatable
+5 2.250000 02-00-00-00-00-02 lacpdu state 3d active,aggregatable,synchronized,collecting,distributing partner-state 3d active,aggregatable,synchronized,collecting,distributing
+6 3.250000 02-00-00-00-00-02 lacpdu same
+7 4.000001 02-00-00-00-00-01 marker port 1 system 02-00-00-00-00-01 id 9
+8 -0.000001 02-00-00-00-00-02 refused fewer than 110 octets: 46
+end 02-00-00-00-00-01 port 1 lacpdus 2 first 0.000000 last 1.005000 gaps 1.005000 to 1.005000 synchronized 0.000000 collecting 1.005000 distributing 1.005000
+end 02-00-00-00-00-02 port 2 lacpdus 3 first 1.000000 last 3.250000 gaps 1.000000 to 1.250000 synchronized 2.250000 collecting 2.250000 distributing 2.250000
+finding 7 end 02-00-00-00-00-02 packet 8 at -0.000001: a frame of another length (6.4.2.3). Compare the frames at the other end of the cable: a device between may pad or cut them.
+packets 8 slow 7 ends 2 findings 1
+";
+
+/// The outcome of an explanation, and what was written.
+#[derive(Debug, Drop, PartialEq)]
+struct Outcome {
+    answer: Result<Summary, CaptureFault>,
+    text: Vec<u8>,
+}
+
+/// Explains octets that are read in pieces of this size.
+fn explained(alloc: Global, settings: Settings, octets: &[u8], size: usize) -> Outcome {
+    let mut source = Source::new(Pieces { rest: octets, size });
+    let mut sink = Sink::new(Vec::new(alloc));
+    let answer = explain(alloc, settings, &mut source, &mut sink);
+    Outcome {
+        answer,
+        text: sink.into_inner(),
+    }
+}
+
+/// A line for each frame, with what differs.
+const CHANGES: Settings = Settings {
+    all: false,
+    frames: true,
+};
+
+#[test]
+fn a_link_that_comes_up_is_explained(rt: HostRuntime) -> Result<(), Fail> {
+    let alloc = rt.alloc();
+    let wanted = Ok(Summary {
+        packets: 8,
+        slow: 7,
+        findings: 1,
+        fault: None,
+    });
+    for order in [Order::Big, Order::Little] {
+        let octets = coming_up(alloc, order)?;
+        for size in [1, 7, 100, 4096] {
+            let outcome = explained(alloc, CHANGES, &octets, size);
+            assert_eq!(rt; outcome.answer, wanted);
+            let text = str::from_utf8(&outcome.text).unwrap_or("");
+            assert_eq!(rt; text, COMING_UP, "{size}");
+        }
+    }
+    Ok(())
+}
+
+#[test]
+fn every_field_or_no_frame_is_shown(rt: HostRuntime) -> Result<(), Fail> {
+    let alloc = rt.alloc();
+    let octets = coming_up(alloc, Order::Big)?;
+    let all = Settings {
+        all: true,
+        frames: true,
+    };
+    let outcome = explained(alloc, all, &octets, 4096);
+    let text = str::from_utf8(&outcome.text).unwrap_or("");
+    let line =
+        "6 3.250000 02-00-00-00-00-02 lacpdu actor P3 state 3d active,aggregatable,synchronized,collecting,distributing partner P1 partner-state 3d active,aggregatable,synchronized,collecting,distributing max-delay 0\n";
+    assert!(rt; text.contains(line), "{text}");
+    let none = Settings {
+        all: false,
+        frames: false,
+    };
+    let outcome = explained(alloc, none, &octets, 4096);
+    let text = str::from_utf8(&outcome.text).unwrap_or("");
+    assert!(rt; !text.contains("lacpdu actor"), "{text}");
+    assert!(rt; text.contains("P3 = "), "{text}");
+    assert!(rt;
+        text.contains("packets 8 slow 7 ends 2 findings 1\n"),
+        "{text}"
+    );
+    Ok(())
+}
+
+#[test]
+fn what_is_cut_short_is_told_at_every_length(rt: HostRuntime) -> Result<(), Fail> {
+    let alloc = rt.alloc();
+    let octets = coming_up(alloc, Order::Little)?;
+    for length in 0..octets.len() {
+        let outcome = explained(alloc, CHANGES, &octets[..length], 4096);
+        let cause = match outcome.answer {
+            Ok(summary) => summary.fault.map(|fault| fault.cause),
+            Err(_) => None,
+        };
+        // The header has 24 octets, a packet 16 and its own.
+        let ends = [24, 164, 304, 444, 520, 660, 800, 940];
+        let wanted = if ends.contains(&length) {
+            None
+        } else {
+            Some(Cause::CutShort)
+        };
+        assert_eq!(rt; cause, wanted, "{length}");
+    }
+    Ok(())
+}
+
+#[test]
+fn what_is_no_capture_is_refused(rt: HostRuntime) -> Result<(), Fail> {
+    let alloc = rt.alloc();
+    let rows: [(&[u8], Cause); 3] = [
+        (&[0x1f, 0x8b, 0x08, 0x00], Cause::Gzip),
+        (b"GIF89a", Cause::Format(0x4749_4638)),
+        (b"", Cause::CutShort),
+    ];
+    for (octets, cause) in rows {
+        let outcome = explained(alloc, CHANGES, octets, 4096);
+        let wanted = Ok(Summary {
+            packets: 0,
+            slow: 0,
+            findings: 0,
+            fault: Some(ReadFault { at: 0, cause }),
+        });
+        assert_eq!(rt; outcome.answer, wanted);
+    }
+    let fault = ReadFault {
+        at: 0,
+        cause: Cause::Gzip,
+    };
+    let text = format!(in alloc; "{fault}")?;
+    assert_eq!(rt; text.as_str(), "octet 0: packed by gzip: unpack it first");
+    Ok(())
+}

@@ -1,0 +1,299 @@
+use crate::pieces::{HEAD, MARKER, Pieces, SLOW, TO_ALL, joined};
+use crate::slow::sink_of;
+use lagstreams::Sink;
+use lagtool_jobs::{ToolFault, reply, show};
+use std::alloc::Global;
+use std::process::Abort;
+use std::test::Fail;
+
+/// A payload or a frame; whether it is accepted or gets a response; and the text that is printed.
+type Row = (Pieces, bool, &'static str);
+
+const ACTIVE_SHORT: &str = "lacpdu
+actor 32768/02-00-00-00-00-01 key 1 port 128/1 state c7 active,short,aggregatable,defaulted,expired
+partner 0/00-00-00-00-00-00 key 0 port 0/0 state 02 short
+max-delay 0
+";
+
+const LACPDU: Pieces = &[(HEAD, 1), ("00", 66)];
+
+const PAYLOADS: [Row; 12] = [
+    (LACPDU, true, ACTIVE_SHORT),
+    // No two fields are equal.
+    (
+        &[
+            ("01010114101112131415161718191a1b1c1d1e000000", 1),
+            ("0214202122232425262728292a2b2c2d2e0000000310", 1),
+            ("3031", 1),
+            ("00", 64),
+        ],
+        true,
+        "lacpdu
+actor 4113/12-13-14-15-16-17 key 6169 port 6683/7197 state 1e short,aggregatable,synchronized,collecting
+partner 8225/22-23-24-25-26-27 key 10281 port 10795/11309 state 2e short,aggregatable,synchronized,distributing
+max-delay 12337
+",
+    ),
+    // Version 2, other TLV types, and reserved octets that are not zero.
+    (
+        &[
+            ("010209148000020000000001000100800001c7ffffff", 1),
+            ("0914", 1),
+            ("00", 14),
+            ("02ffffff", 1),
+            ("09100000", 1),
+            ("ff", 64),
+        ],
+        true,
+        ACTIVE_SHORT,
+    ),
+    // One octet too few.
+    (
+        &[(HEAD, 1), ("00", 65)],
+        false,
+        "refused 1 short have 109\n",
+    ),
+    // More octets after the payload.
+    (&[(HEAD, 1), ("00", 66), ("aa", 40)], true, ACTIVE_SHORT),
+    (&[], false, "refused 1 short have 0\n"),
+    // Two wrong lengths: the fault names the lower offset.
+    (
+        &[
+            ("010101148000020000000001000100800001c7000000", 1),
+            ("0213", 1),
+            ("00", 14),
+            ("02000000", 1),
+            ("030f", 1),
+            ("00", 66),
+        ],
+        false,
+        "refused 3 length at 23 found 19\n",
+    ),
+    (&[("03", 1), ("00", 109)], false, "refused 2 subtype 3\n"),
+    (
+        &[(MARKER, 1), ("00", 92)],
+        true,
+        "marker\nport 1 system 02-00-00-00-00-01 id 4294967295\n",
+    ),
+    (
+        &[("020102100001020000000001ffffffff", 1), ("00", 94)],
+        true,
+        "marker-response\nport 1 system 02-00-00-00-00-01 id 4294967295\n",
+    ),
+    (
+        &[("020103100001020000000001ffffffffbeef", 1), ("00", 92)],
+        false,
+        "refused 4 marker-tlv 3\n",
+    ),
+    (
+        &[("0201010f0001020000000001ffffffffbeef", 1), ("00", 92)],
+        false,
+        "refused 3 length at 3 found 15\n",
+    ),
+];
+
+const FRAMES: [(Pieces, &str); 7] = [
+    (
+        &[
+            (TO_ALL, 1),
+            ("020000000002", 1),
+            (SLOW, 1),
+            ("020102100001020000000001ffffffff", 1),
+            ("00", 94),
+        ],
+        "no answer marker-response\n",
+    ),
+    (&[("0200000000200200000000100800", 1)], "no answer data\n"),
+    (&[("02000000002002000000001088", 1)], "no answer runt\n"),
+    (&[], "no answer runt\n"),
+    (
+        &[
+            (TO_ALL, 1),
+            ("020000000001", 1),
+            (SLOW, 1),
+            (HEAD, 1),
+            ("00", 66),
+        ],
+        "no answer lacpdu\n",
+    ),
+    (
+        &[(TO_ALL, 1), ("020000000001", 1), (SLOW, 1)],
+        "refused 1 short have 0\n",
+    ),
+    (
+        &[
+            (TO_ALL, 1),
+            ("020000000001", 1),
+            (SLOW, 1),
+            ("03", 1),
+            ("00", 109),
+        ],
+        "refused 2 subtype 3\n",
+    ),
+];
+
+fn shown(alloc: Global, hex: &str) -> Result<(bool, String), ToolFault> {
+    let mut sink = Sink::new(Vec::new(alloc));
+    let accepted = show(alloc, hex, &mut sink)?;
+    let written = String::from_utf8_lossy(alloc, sink.into_inner().as_slice())?;
+    Ok((accepted, written))
+}
+
+fn replied(alloc: Global, mac: &str, hex: &str) -> Result<(bool, String), ToolFault> {
+    let mut sink = Sink::new(Vec::new(alloc));
+    let answered = reply(alloc, mac, hex, &mut sink)?;
+    let written = String::from_utf8_lossy(alloc, sink.into_inner().as_slice())?;
+    Ok((answered, written))
+}
+
+/// `decode` prints this text for these digits, and answers whether the payload is accepted.
+fn shows_as(
+    rt: &(impl Abort + AllocGlobal),
+    hex: &str,
+    accepted: bool,
+    text: &str,
+) -> Result<(), Fail> {
+    let (verdict, written) = shown(rt.alloc(), hex)?;
+    assert_eq!(rt; written.as_str(), text, "{hex}");
+    assert_eq!(rt; verdict, accepted, "{hex}");
+    Ok(())
+}
+
+/// The same for lower and upper case.
+fn shows_both(rt: &(impl Abort + AllocGlobal), (pieces, accepted, text): Row) -> Result<(), Fail> {
+    let mut hex = joined(rt.alloc(), pieces)?;
+    shows_as(rt, hex.as_str(), accepted, text)?;
+    hex.make_ascii_uppercase();
+    shows_as(rt, hex.as_str(), accepted, text)
+}
+
+#[test]
+fn payloads_in_both_cases(rt: HostRuntime) -> Result<(), Fail> {
+    for row in PAYLOADS {
+        shows_both(&rt, row)?;
+    }
+    Ok(())
+}
+
+/// `respond` with this MAC address prints this text for a frame, and answers whether it gets a response.
+fn replies_with(
+    rt: &(impl Abort + AllocGlobal),
+    (mac, frame): (&str, &str),
+    answered: bool,
+    text: &str,
+) -> Result<(), Fail> {
+    let (verdict, written) = replied(rt.alloc(), mac, frame)?;
+    assert_eq!(rt; written.as_str(), text, "{mac} {frame}");
+    assert_eq!(rt; verdict, answered, "{mac} {frame}");
+    Ok(())
+}
+
+/// The destination address does not matter.
+const MARKER_FRAME: Pieces = &[("0200000000090200000000018809", 1), (MARKER, 1), ("00", 92)];
+
+/// A marker is answered from this MAC address, which is `source` in lower case.
+fn marker_answered(rt: &(impl Abort + AllocGlobal), mac: &str, source: &str) -> Result<(), Fail> {
+    let answer = [
+        (TO_ALL, 1),
+        (source, 1),
+        (SLOW, 1),
+        ("020102100001020000000001ffffffff", 1),
+        ("00", 94),
+        ("\n", 1),
+    ];
+    let frame = joined(rt.alloc(), MARKER_FRAME)?;
+    let text = joined(rt.alloc(), &answer)?;
+    replies_with(rt, (mac, frame.as_str()), true, text.as_str())
+}
+
+#[test]
+fn a_marker_is_answered(rt: HostRuntime) -> Result<(), Fail> {
+    marker_answered(&rt, "020000000002", "020000000002")?;
+    marker_answered(&rt, "02ABCDEF0002", "02abcdef0002")
+}
+
+#[test]
+fn other_frames_are_not_answered(rt: HostRuntime) -> Result<(), Fail> {
+    for (pieces, text) in FRAMES {
+        let frame = joined(rt.alloc(), pieces)?;
+        replies_with(&rt, ("020000000002", frame.as_str()), false, text)?;
+    }
+    Ok(())
+}
+
+/// Neither a payload nor a frame is these digits.
+fn not_hex(rt: &(impl Abort + AllocGlobal), hex: &str) {
+    let said = shown(rt.alloc(), hex);
+    assert_eq!(rt; said, Err(ToolFault::NotHex), "decode {hex}");
+    let said = replied(rt.alloc(), "020000000002", hex);
+    assert_eq!(rt; said, Err(ToolFault::NotHex), "respond {hex}");
+}
+
+#[test]
+fn words_that_are_not_hexadecimal(rt: HostRuntime) {
+    for hex in ["0", "010", "zz", "0g", "01 1", "0x01", "é1"] {
+        not_hex(&rt, hex);
+    }
+}
+
+/// The frame is not hexadecimal either, but the address is checked first.
+fn not_mac(rt: &(impl Abort + AllocGlobal), mac: &str) {
+    let said = replied(rt.alloc(), mac, "zz");
+    assert_eq!(rt; said, Err(ToolFault::NotMac), "respond {mac} zz");
+}
+
+#[test]
+fn words_that_are_no_address(rt: HostRuntime) {
+    for mac in [
+        "",
+        "02000000000",
+        "0200000000021",
+        "02000000000002",
+        "02000000000g",
+    ] {
+        not_mac(&rt, mac);
+    }
+}
+
+/// A payload is shown into a sink with room for so many octets.
+fn shown_into(rt: &(impl Abort + AllocGlobal), hex: &str, room: usize, errs: bool) {
+    let text = ACTIVE_SHORT.as_bytes();
+    let fits = room >= text.len();
+    let expected = if fits {
+        Ok(true)
+    } else {
+        Err(ToolFault::Write)
+    };
+    let mut sink = sink_of(rt.alloc(), room, errs);
+    let answer = show(rt.alloc(), hex, &mut sink);
+    assert_eq!(rt; answer, expected, "room for {room} octets");
+    assert_eq!(rt; sink.failed(), !fits, "room for {room} octets");
+    let taken = sink.into_inner().taken;
+    assert_eq!(rt;
+        taken.as_slice(),
+        &text[..room.min(text.len())],
+        "room for {room} octets"
+    );
+}
+
+#[test]
+fn a_sink_that_fails_at_each_octet(rt: HostRuntime) -> Result<(), Fail> {
+    let hex = joined(rt.alloc(), LACPDU)?;
+    for room in 0..=ACTIVE_SHORT.len() {
+        shown_into(&rt, hex.as_str(), room, false);
+        shown_into(&rt, hex.as_str(), room, true);
+    }
+    Ok(())
+}
+
+#[test]
+fn an_answer_into_a_sink_that_fails(rt: HostRuntime) {
+    let text = b"no answer runt\n";
+    for (room, expected) in [(14, Err(ToolFault::Write)), (15, Ok(false))] {
+        let mut sink = sink_of(rt.alloc(), room, false);
+        let answer = reply(rt.alloc(), "020000000002", "00", &mut sink);
+        assert_eq!(rt; answer, expected, "room for {room} octets");
+        let taken = sink.into_inner().taken;
+        assert_eq!(rt; taken.as_slice(), &text[..room], "room for {room} octets");
+    }
+}

@@ -1,0 +1,43 @@
+//! Tests of `lagstreams` and `lagtool_jobs`: they make public calls, and compare the results with values from IEEE 802.1AX-2014,
+//! docs/PROFILE.md and docs/COMMAND.md. They are a crate of their own, so that those need not be proved again together with
+//! their tests.
+#![tactic(auto)]
+
+#[cfg(test)]
+mod algorithm;
+#[cfg(test)]
+mod answers;
+#[cfg(test)]
+mod checks;
+#[cfg(test)]
+mod conversations;
+#[cfg(test)]
+mod explained;
+#[cfg(test)]
+mod faults;
+#[cfg(test)]
+mod links;
+#[cfg(test)]
+mod memory;
+#[cfg(test)]
+mod pieces;
+#[cfg(test)]
+mod refusals;
+#[cfg(test)]
+mod replays;
+#[cfg(test)]
+mod slow;
+#[cfg(test)]
+mod spent;
+#[cfg(test)]
+mod streams;
+#[cfg(test)]
+mod telling;
+#[cfg(test)]
+mod texts;
+#[cfg(test)]
+mod watching;
+#[cfg(test)]
+mod worlds;
+#[cfg(test)]
+mod wrong_answers;

@@ -1,0 +1,79 @@
+use crate::algorithm::by_number;
+use crate::checks::whole;
+use crate::pieces::{Pieces, joined, one_text};
+use crate::replays::{BOTH_UP, BOTH_UP_TEXT, MOVE, MOVE_TEXT, TWO_CABLES, TWO_PORTS};
+use lagstreams::{Sink, Source};
+use lagtool_jobs::{ToolFault, check, replay};
+use std::alloc::Global;
+use std::process::Abort;
+
+/// A marker response, a runt, a line that is not hexadecimal and a data frame.
+const FRAMES: Pieces = &[
+    ("0180c20000020200000000028809", 1),
+    ("020102100001020000000001ffffffff", 1),
+    ("00", 94),
+    ("\n00\nzz\n0200000000200200000000100800\n", 1),
+];
+
+const CHECKED: &str = "1 marker-response\n2 runt\n3 not hex\n4 data\nchecked 4 faults 2\n";
+
+/// A report is whole; or it is a beginning, and memory was refused. Returns whether it is whole.
+fn ends(rt: &impl Abort, answer: Result<(), ToolFault>, taken: &[u8], report: &str) -> bool {
+    if answer.is_ok() {
+        assert_eq!(rt; taken, report.as_bytes());
+        return true;
+    }
+    assert_eq!(rt; answer, Err(ToolFault::NoMemory));
+    let is_beginning = taken.len() < report.len() && report.as_bytes().starts_with(taken);
+    assert!(rt; is_beginning, "{taken:?}");
+    false
+}
+
+/// Checks a file into a sink that takes no memory; returns whether the report is whole.
+fn checks(rt: &impl Abort, alloc: Global) -> Result<bool, ToolFault> {
+    let file = joined(alloc, FRAMES)?;
+    let mut sink = Sink::new(Vec::with_capacity(alloc, 4096)?);
+    let mut source = Source::new(whole(file.as_bytes()));
+    let answer = match check(alloc, &mut source, &mut sink) {
+        Ok(_) => Ok(()),
+        Err(fault) => Err(fault),
+    };
+    Ok(ends(rt, answer, sink.into_inner().as_slice(), CHECKED))
+}
+
+/// Replays a script in the same way.
+fn replays(rt: &impl Abort, alloc: Global) -> Result<bool, ToolFault> {
+    let script = one_text(alloc, &[BOTH_UP, MOVE, TWO_PORTS, TWO_CABLES])?;
+    let report = one_text(alloc, &[BOTH_UP_TEXT, MOVE_TEXT])?;
+    let mut sink = Sink::new(Vec::with_capacity(alloc, 4096)?);
+    let answer = replay(alloc, script.as_str(), by_number, by_number, &mut sink);
+    Ok(ends(rt, answer, sink.into_inner().as_slice(), report.as_str()))
+}
+
+/// Fails if an allocation is refused.
+#[test]
+fn memory_for_a_check_is_granted(rt: HostRuntime) {
+    assert_eq!(rt; checks(&rt, rt.alloc()), Ok(true));
+}
+
+/// Passes whichever allocation is refused.
+#[test]
+fn refused_memory_cuts_a_check(rt: HostRuntime) {
+    if let Err(fault) = checks(&rt, rt.alloc()) {
+        assert_eq!(rt; fault, ToolFault::NoMemory);
+    }
+}
+
+/// Fails if an allocation is refused.
+#[test]
+fn memory_for_a_replay_is_granted(rt: HostRuntime) {
+    assert_eq!(rt; replays(&rt, rt.alloc()), Ok(true));
+}
+
+/// Passes whichever allocation is refused.
+#[test]
+fn refused_memory_cuts_a_replay(rt: HostRuntime) {
+    if let Err(fault) = replays(&rt, rt.alloc()) {
+        assert_eq!(rt; fault, ToolFault::NoMemory);
+    }
+}

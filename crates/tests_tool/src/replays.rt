@@ -1,0 +1,545 @@
+use crate::algorithm::by_number;
+use crate::pieces::one_text;
+use crate::slow::sink_of;
+use crate::telling::told;
+use lagstreams::Sink;
+use lagtool_jobs::{
+    ALONE, ALONE_TEXT, Expectation, FaultText, ONE_CABLE, Summary, ToolFault, UP, UP_TEXT, VECTORS,
+    replay, run_vectors, vectors,
+};
+use lagworld::{EntryFault, ScriptFault};
+use std::alloc::{AllocError, Global};
+use std::process::Abort;
+use std::test::Fail;
+
+/// Two systems with two ports each, all with Long Timeout.
+pub(crate) const TWO_PORTS: &str = r#"
+[[system]]
+mac = "02-00-00-00-00-01"
+aggregators = [1]
+[[system.port]]
+number = 1
+key = 1
+short = false
+[[system.port]]
+number = 2
+key = 1
+short = false
+[[system]]
+mac = "02-00-00-00-00-02"
+aggregators = [1]
+[[system.port]]
+number = 1
+key = 1
+short = false
+[[system.port]]
+number = 2
+key = 1
+short = false
+"#;
+
+pub(crate) const TWO_CABLES: &str = "[[cable]]
+ends = [1, 1]
+[[cable]]
+ends = [2, 2]
+";
+
+/// Two cables that one frame fills.
+const LIMIT_1: &str = "[[cable]]
+ends = [1, 1]
+limit = 1
+[[cable]]
+ends = [2, 2]
+limit = 1
+";
+
+/// Two cables that two frames fill.
+const LIMIT_2: &str = "[[cable]]
+ends = [1, 1]
+limit = 2
+[[cable]]
+ends = [2, 2]
+limit = 2
+";
+
+/// Two cables with room for all frames of these tests.
+const LIMIT_8: &str = "[[cable]]
+ends = [1, 1]
+limit = 8
+[[cable]]
+ends = [2, 2]
+limit = 8
+";
+
+/// Both ends of both cables come to distribute.
+pub(crate) const BOTH_UP: &str = r#"events = [
+    "sense 1 1",
+    "sense 1 2",
+    "sense 2 1",
+    "sense 2 2",
+    "tick 1 10",
+    "tick 2 10",
+    "emit 1 1",
+    "emit 1 2",
+    "deliver 1 2",
+    "deliver 2 2",
+    "emit 2 1",
+    "emit 2 2",
+    "deliver 1 1",
+    "deliver 2 1",
+    "tick 1 20",
+    "tick 2 20",
+    "emit 1 1",
+    "emit 1 2",
+    "deliver 1 2",
+    "deliver 2 2",
+    "emit 2 1",
+    "emit 2 2",
+    "deliver 1 1",
+    "deliver 2 1",
+"#;
+
+pub(crate) const BOTH_UP_TEXT: &str = "1 sense 1 1 -> up
+2 sense 1 2 -> up
+3 sense 2 1 -> up
+4 sense 2 2 -> up
+5 tick 1 10 -> ticked
+6 tick 2 10 -> ticked
+7 emit 1 1 -> lacpdu c5 sent
+8 emit 1 2 -> lacpdu c5 sent
+9 deliver 1 2 -> took
+10 deliver 2 2 -> took
+11 emit 2 1 -> lacpdu 05 sent
+12 emit 2 2 -> lacpdu 05 sent
+13 deliver 1 1 -> took
+14 deliver 2 1 -> took
+15 tick 1 20 -> ticked
+16 tick 2 20 -> ticked
+17 emit 1 1 -> lacpdu 0d sent
+18 emit 1 2 -> lacpdu 0d sent
+19 deliver 1 2 -> took
+20 deliver 2 2 -> took
+21 emit 2 1 -> lacpdu 3d sent
+22 emit 2 2 -> lacpdu 3d sent
+23 deliver 1 1 -> took
+24 deliver 2 1 -> took
+";
+
+/// A conversation moves behind a marker.
+pub(crate) const MOVE: &str = r#"    "offer 1 1 0200000000200200000000100800",
+    "offer 1 1 0200000000200200000000100800",
+    "offer 1 1 0200000000200200000000100800",
+    "move 1 1 48 2",
+    "offer 1 1 0200000000200200000000100800",
+    "emit 1 1",
+    "emit 1 1",
+    "deliver 1 2",
+    "deliver 1 2",
+    "deliver 1 2",
+    "deliver 1 2",
+    "deliver 1 2",
+    "offer 1 1 0200000000200200000000100800",
+    "deliver 1 1",
+    "offer 1 1 0200000000200200000000100800",
+    "deliver 2 2",
+]
+"#;
+
+pub(crate) const MOVE_TEXT: &str =
+    "25 offer 1 1 0200000000200200000000100800 -> port 1 serial 0 sent
+26 offer 1 1 0200000000200200000000100800 -> port 1 serial 1 sent
+27 offer 1 1 0200000000200200000000100800 -> port 1 serial 2 sent
+28 move 1 1 48 2 -> moved
+29 offer 1 1 0200000000200200000000100800 -> refused 5 held
+30 emit 1 1 -> lacpdu 3d sent
+31 emit 1 1 -> marker 1 sent
+32 deliver 1 2 -> up 1
+33 deliver 1 2 -> up 1
+34 deliver 1 2 -> up 1
+35 deliver 1 2 -> took
+36 deliver 1 2 -> responded sent
+37 offer 1 1 0200000000200200000000100800 -> refused 5 held
+38 deliver 1 1 -> released 1
+39 offer 1 1 0200000000200200000000100800 -> port 2 serial 3 sent
+40 deliver 2 2 -> up 1
+cable 1 agreement same
+cable 2 agreement same
+flow 1/1/48 sent 4 collected 0 1 2 3
+";
+
+/// What is written for a script with these entries and this configuration.
+pub(crate) fn replayed(alloc: Global, pieces: &[&str]) -> Result<String, ToolFault> {
+    let script = one_text(alloc, pieces)?;
+    let mut sink = Sink::new(Vec::new(alloc));
+    replay(alloc, script.as_str(), by_number, by_number, &mut sink)?;
+    Ok(String::from_utf8_lossy(alloc, sink.into_inner().as_slice())?)
+}
+
+/// The report of a script of these pieces is this text, in pieces too.
+pub(crate) fn reports(
+    rt: &(impl Abort + AllocGlobal),
+    pieces: &[&str],
+    texts: &[&str],
+) -> Result<(), Fail> {
+    let written = replayed(rt.alloc(), pieces)?;
+    let wanted = one_text(rt.alloc(), texts)?;
+    assert_eq!(rt; written.as_str(), wanted.as_str());
+    Ok(())
+}
+
+/// A script of these pieces is refused with this fault and this message.
+fn refuses(
+    rt: &(impl Abort + AllocGlobal),
+    pieces: &[&str],
+    fault: ScriptFault,
+    said: &str,
+) -> Result<(), Fail> {
+    let fault = ToolFault::Script(fault);
+    assert_eq!(rt; replayed(rt.alloc(), pieces), Err(fault));
+    assert_eq!(rt; fault.number(), 4);
+    told(rt, FaultText { fault, file: "a" }, said)
+}
+
+#[test]
+fn one_cable(rt: HostRuntime) -> Result<(), Fail> {
+    for limit in ["", "limit = 8\n"] {
+        reports(&rt, &[ALONE, ONE_CABLE, limit], &[ALONE_TEXT])?;
+        reports(&rt, &[UP, ONE_CABLE, limit], &[UP_TEXT])?;
+    }
+    Ok(())
+}
+
+#[test]
+fn a_conversation_moves(rt: HostRuntime) -> Result<(), Fail> {
+    let texts = [BOTH_UP_TEXT, MOVE_TEXT];
+    reports(&rt, &[BOTH_UP, MOVE, TWO_PORTS, TWO_CABLES], &texts)?;
+    reports(&rt, &[BOTH_UP, MOVE, TWO_PORTS, LIMIT_8], &texts)
+}
+
+/// Three frames on a cable with room for two.
+const FULL: &str = r#"    "offer 1 1 0200000000200200000000100800",
+    "offer 1 1 0200000000200200000000100800",
+    "offer 1 1 0200000000200200000000100800",
+    "deliver 1 2",
+    "deliver 1 2",
+    "deliver 1 2",
+]
+"#;
+
+const FULL_TEXT: &str = "25 offer 1 1 0200000000200200000000100800 -> port 1 serial 0 sent
+26 offer 1 1 0200000000200200000000100800 -> port 1 serial 1 sent
+27 offer 1 1 0200000000200200000000100800 -> port 1 serial 2 lost
+28 deliver 1 2 -> up 1
+29 deliver 1 2 -> up 1
+30 deliver 1 2 -> empty
+cable 1 agreement same
+cable 2 agreement same
+flow 1/1/48 sent 3 collected 0 1
+";
+
+/// A marker on a cable that one frame fills.
+const NARROW: &str = r#"    "offer 1 1 0200000000200200000000100800",
+    "offer 1 1 0200000000200200000000100800",
+    "move 1 1 48 2",
+    "emit 1 1",
+    "emit 1 1",
+    "deliver 1 2",
+    "tick 1 30",
+    "emit 1 1",
+    "deliver 1 2",
+    "deliver 1 1",
+    "offer 1 1 0200000000200200000000100800",
+    "deliver 2 2",
+]
+"#;
+
+const NARROW_TEXT: &str = "25 offer 1 1 0200000000200200000000100800 -> port 1 serial 0 sent
+26 offer 1 1 0200000000200200000000100800 -> port 1 serial 1 lost
+27 move 1 1 48 2 -> moved
+28 emit 1 1 -> lacpdu 3d lost
+29 emit 1 1 -> marker 1 lost
+30 deliver 1 2 -> up 1
+31 tick 1 30 -> ticked
+32 emit 1 1 -> marker 2 sent
+33 deliver 1 2 -> responded sent
+34 deliver 1 1 -> released 1
+35 offer 1 1 0200000000200200000000100800 -> port 2 serial 2 sent
+36 deliver 2 2 -> up 1
+cable 1 agreement same
+cable 2 agreement same
+flow 1/1/48 sent 3 collected 0 2
+";
+
+#[test]
+fn a_full_cable_loses_what_is_sent(rt: HostRuntime) -> Result<(), Fail> {
+    let texts = [BOTH_UP_TEXT, FULL_TEXT];
+    reports(&rt, &[BOTH_UP, FULL, TWO_PORTS, LIMIT_2], &texts)?;
+    let texts = [BOTH_UP_TEXT, NARROW_TEXT];
+    reports(&rt, &[BOTH_UP, NARROW, TWO_PORTS, LIMIT_1], &texts)
+}
+
+/// Frames of system 2 on a cable with room for one.
+const BACK: &str = r#"    "offer 2 1 0200000000100200000000200800",
+    "offer 2 1 0200000000100200000000200800",
+    "deliver 1 1",
+    "deliver 1 1",
+]
+"#;
+
+const BACK_TEXT: &str = "25 offer 2 1 0200000000100200000000200800 -> port 1 serial 0 sent
+26 offer 2 1 0200000000100200000000200800 -> port 1 serial 1 lost
+27 deliver 1 1 -> up 1
+28 deliver 1 1 -> empty
+cable 1 agreement same
+cable 2 agreement same
+flow 2/1/48 sent 2 collected 0
+";
+
+#[test]
+fn a_limit_is_that_of_both_directions(rt: HostRuntime) -> Result<(), Fail> {
+    let texts = [BOTH_UP_TEXT, BACK_TEXT];
+    reports(&rt, &[BOTH_UP, BACK, TWO_PORTS, LIMIT_1], &texts)
+}
+
+/// Two systems with an aggregator and a port of each of two keys, and cables of unlike limits.
+const TWO_KEYS: &str = r#"
+[[system]]
+mac = "02-00-00-00-00-01"
+aggregators = [1, 2]
+[[system.port]]
+number = 1
+key = 1
+short = false
+[[system.port]]
+number = 2
+key = 2
+short = false
+[[system]]
+mac = "02-00-00-00-00-02"
+aggregators = [1, 2]
+[[system.port]]
+number = 1
+key = 1
+short = false
+[[system.port]]
+number = 2
+key = 2
+short = false
+[[cable]]
+ends = [1, 1]
+limit = 1
+[[cable]]
+ends = [2, 2]
+limit = 2
+"#;
+
+/// Conversation 255 of aggregator 2 of system 1, and conversation 55 of aggregator 1 of system 2.
+const BOTH_WAYS: &str = r#"    "offer 1 2 0200000000a502000000005a0800",
+    "offer 1 2 0200000000a502000000005a0800",
+    "offer 1 2 0200000000a502000000005a0800",
+    "offer 2 1 0200000000130200000000240800",
+    "offer 2 1 0200000000130200000000240800",
+    "deliver 2 2",
+    "deliver 2 2",
+    "deliver 1 1",
+]
+"#;
+
+const BOTH_WAYS_TEXT: &str = "25 offer 1 2 0200000000a502000000005a0800 -> port 2 serial 0 sent
+26 offer 1 2 0200000000a502000000005a0800 -> port 2 serial 1 sent
+27 offer 1 2 0200000000a502000000005a0800 -> port 2 serial 2 lost
+28 offer 2 1 0200000000130200000000240800 -> port 1 serial 0 sent
+29 offer 2 1 0200000000130200000000240800 -> port 1 serial 1 lost
+30 deliver 2 2 -> up 2
+31 deliver 2 2 -> up 2
+32 deliver 1 1 -> up 1
+cable 1 agreement same
+cable 2 agreement same
+flow 1/2/255 sent 3 collected 0 1
+flow 2/1/55 sent 2 collected 0
+";
+
+#[test]
+fn flows_of_both_systems(rt: HostRuntime) -> Result<(), Fail> {
+    let texts = [BOTH_UP_TEXT, BOTH_WAYS_TEXT];
+    reports(&rt, &[BOTH_UP, BOTH_WAYS, TWO_KEYS], &texts)
+}
+
+/// A conversation is forced, and a later frame of it arrives before an earlier one.
+const FORCE: &str = r#"    "offer 1 1 0200000000200200000000100800",
+    "move 1 1 48 2",
+    "force 1 1 48",
+    "offer 1 1 0200000000200200000000100800",
+    "deliver 2 2",
+    "deliver 1 2",
+]
+"#;
+
+const FORCE_TEXT: &str = "25 offer 1 1 0200000000200200000000100800 -> port 1 serial 0 sent
+26 move 1 1 48 2 -> moved
+27 force 1 1 48 -> forced
+28 offer 1 1 0200000000200200000000100800 -> port 2 serial 1 sent
+29 deliver 2 2 -> up 1
+30 deliver 1 2 -> up 1
+cable 1 agreement same
+cable 2 agreement same
+flow 1/1/48 sent 2 collected 1 0 forced
+";
+
+#[test]
+fn a_forced_conversation_overtakes(rt: HostRuntime) -> Result<(), Fail> {
+    let texts = [BOTH_UP_TEXT, FORCE_TEXT];
+    reports(&rt, &[BOTH_UP, FORCE, TWO_PORTS, TWO_CABLES], &texts)
+}
+
+/// An entry with leading zeros and upper-case digits, and each event that is in none of the others.
+const OTHERS: &str = r#"events = [
+    "tick 01 0010",
+    "offer 1 1 0200000000AB",
+    "configure 1 1 2 128 individual",
+    "configure 1 1 2 128 individual",
+    "repeat 1 2",
+    "lose 1 2",
+    "cut 1",
+    "join 1",
+    "sense 1 1",
+    "restart 1",
+    "move 1 1 48 1",
+    "force 1 2 48",
+    "emit 1 9",
+]
+"#;
+
+const OTHERS_TEXT: &str = "1 tick 1 10 -> ticked
+2 offer 1 1 0200000000ab -> refused 3 frame-length
+3 configure 1 1 2 128 individual -> configured
+4 configure 1 1 2 128 individual -> unchanged
+5 repeat 1 2 -> empty
+6 lose 1 2 -> empty
+7 cut 1 -> cut
+8 join 1 -> joined
+9 sense 1 1 -> up
+10 restart 1 -> restarted
+11 move 1 1 48 1 -> refused 9 not-assigned
+12 force 1 2 48 -> refused 2 no-aggregator
+13 emit 1 9 -> refused 1 no-port
+cable 1 agreement not-both
+";
+
+#[test]
+fn other_entries(rt: HostRuntime) -> Result<(), Fail> {
+    reports(&rt, &[OTHERS, ONE_CABLE], &[OTHERS_TEXT])
+}
+
+/// A thousand entries, and their report.
+fn a_thousand(alloc: Global) -> Result<(String, String), AllocError> {
+    let mut events = String::from_str(alloc, "events = [\n")?;
+    let mut text = String::new(alloc);
+    for number in 1..=1_000 {
+        events.push_str("    \"tick 1 1\",\n")?;
+        write!(text, "{number} tick 1 1 -> ticked\n")?;
+    }
+    Ok((events, text))
+}
+
+#[test]
+fn a_thousand_entries(rt: HostRuntime) -> Result<(), Fail> {
+    let (events, text) = a_thousand(rt.alloc())?;
+    reports(
+        &rt,
+        &[events.as_str(), "]\n", ONE_CABLE],
+        &[text.as_str(), "cable 1 agreement not-both\n"],
+    )
+}
+
+/// A beginning of a text that is no script, its fault, and its message.
+const NO_SCRIPTS: [(&str, ScriptFault, &str); 3] = [
+    (
+        "events = [\"cut 0\"]\n",
+        ScriptFault::Entry(1, EntryFault::Cable),
+        "script: event 1: cable",
+    ),
+    ("events = [", ScriptFault::NotToml, "script: not toml"),
+    ("other = 1\n", ScriptFault::ExtraKey, "script: extra key"),
+];
+
+#[test]
+fn texts_that_are_no_script(rt: HostRuntime) -> Result<(), Fail> {
+    for (events, fault, said) in NO_SCRIPTS {
+        refuses(&rt, &[events, ONE_CABLE], fault, said)?;
+    }
+    Ok(())
+}
+
+#[test]
+fn limits_that_are_no_limit(rt: HostRuntime) -> Result<(), Fail> {
+    let fault = ScriptFault::CableLimit(1);
+    for limit in ["limit = 0\n", "limit = 65536\n", "limit = \"8\"\n"] {
+        refuses(&rt, &[ONE_CABLE, limit], fault, "script: cable 1: limit")?;
+    }
+    let text = "cable 1 agreement not-both\n";
+    reports(&rt, &[ONE_CABLE, "limit = 1\n"], &[text])?;
+    reports(&rt, &[ONE_CABLE, "limit = 65535\n"], &[text])
+}
+
+/// A report goes into a sink with room for this many octets.
+fn report_into(rt: &(impl Abort + AllocGlobal), room: usize, errs: bool) {
+    let text = b"cable 1 agreement not-both\n";
+    let fits = room >= text.len();
+    let expected = if fits { Ok(()) } else { Err(ToolFault::Write) };
+    let mut sink = sink_of(rt.alloc(), room, errs);
+    let answer = replay(rt.alloc(), ONE_CABLE, by_number, by_number, &mut sink);
+    assert_eq!(rt; answer, expected, "room for {room} octets");
+    let taken = sink.into_inner().taken;
+    assert_eq!(rt; taken.as_slice(), &text[..room.min(text.len())]);
+}
+
+#[test]
+fn a_report_into_a_sink_that_fails(rt: HostRuntime) {
+    for room in 0..=27 {
+        report_into(&rt, room, false);
+        report_into(&rt, room, true);
+    }
+}
+
+#[test]
+fn the_vectors_pass(rt: HostRuntime) -> Result<(), Fail> {
+    let alloc = rt.alloc();
+    let text = "V1 ok
+V2 ok
+V3 ok
+V4 ok
+V5 ok
+V6 ok
+V7 ok
+V8 ok
+V9 ok
+V10 ok
+vectors 10 failed 0
+";
+    let mut sink = Sink::new(Vec::new(alloc));
+    let summary = vectors(alloc, &mut sink)?;
+    let (checked, faults) = (10, 0);
+    assert_eq!(rt; summary, Summary { checked, faults });
+    assert_eq!(rt; sink.into_inner().as_slice(), text.as_bytes());
+    Ok(())
+}
+
+#[test]
+fn a_vector_that_fails_is_told(rt: HostRuntime) -> Result<(), Fail> {
+    let alloc = rt.alloc();
+    let wrong = [Expectation::Replays {
+        events: ALONE,
+        text: UP_TEXT,
+    }];
+    let vectors = [VECTORS[0], wrong.as_slice(), VECTORS[1]];
+    let mut sink = Sink::new(Vec::new(alloc));
+    let summary = run_vectors(alloc, &vectors, &mut sink)?;
+    let (checked, faults) = (3, 1);
+    assert_eq!(rt; summary, Summary { checked, faults });
+    assert_eq!(rt;
+        sink.into_inner().as_slice(),
+        b"V1 ok\nV2 failed\nV3 ok\nvectors 3 failed 1\n".as_slice()
+    );
+    Ok(())
+}
