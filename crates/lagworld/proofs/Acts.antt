@@ -10,12 +10,10 @@ use Rattle.lagscript.specs.declared.event.Event.{Event}
 use Rattle.lagscript.specs.declared.event.Event.TheVariants as event
 use Rattle.lagworld.specs.declared.fault.WorldFault.{WorldFault}
 use Rattle.lagworld.specs.declared.reply.Reply.{Reply}
-use Rattle.lagworld.specs.Asking.{WorldForces}
 use Rattle.lagworld.specs.State.{WorldState}
 use Rattle.lagworld.specs.Messages.{side_numbered}
 use Rattle.lagworld.specs.Events.{Algorithms, DoesEvent, WorldEmits, WorldOffers, side_of, cause, first_event_cause, has_cable}
 use Rattle.lagworld.specs.Events.{has_system, most_events}
-use Rattle.lagworld.specs.WorldCalls.{WorldTicks}
 
 pub second : (a b c : Bool) → first_event_cause a b c ≡ None → (a ≡ true) × (b ≡ true)
 second true true c h = (refl, refl)
@@ -33,12 +31,6 @@ side_there n h = by_one (n == 1) (n == 2) h
 
 pub at_side_of : (n : ℕ) (P : Side → Type 0) → is_some (side_of n) ≡ true → P (side_numbered n) → IsSomeAnd (side_of n) P
 at_side_of n P h x = subst (λ o. IsSomeAnd o P) (sym (side_there n h)) x
-
-pub tick_does : (gives : Algorithms) (n count : ℕ) (e : Event) (r : Reply) (old new : WorldState) → e ≡ event.Tick n count
-    → cause old e ≡ None → WorldTicks gives (side_numbered n) count old r new → DoesEvent gives old e r new
-tick_does gives n count e r old new is c x =
-    subst (λ e. DoesEvent gives old e r new) (sym is)
-    (at_side_of n _ (second (has_cable old None) (is_some (side_of n)) _ (subst (λ e. cause old e ≡ None) is c)).1 x)
 
 if_ok : {T E : Type 0} (r : Result T E) (P Q : T → Type 0) → ((x : T) → P x → Q x) → IfOk r P → IfOk r Q
 if_ok (Ok x) P Q f h = f x h
@@ -62,9 +54,3 @@ offer_does gives n agg octets e r old new is c = if_ok r (λ x. WorldOffers give
     (λ x. DoesEvent gives old e x new)
     (λ x h. subst (λ e. DoesEvent gives old e x new) (sym is) (at_side_of n (λ s. WorldOffers gives s agg octets.items old x new)
     (there old n (subst (λ e. cause old e ≡ None) is c)) h))
-
-pub force_does : (gives : Algorithms) (n : ℕ) (agg : AggId) (conv : ℕ) (e : Event) (r : Reply) (old new : WorldState)
-    → e ≡ event.Force n agg conv → cause old e ≡ None → WorldForces gives (side_numbered n) agg conv old r new → DoesEvent gives old e r new
-force_does gives n agg conv e r old new is c x =
-    subst (λ e. DoesEvent gives old e r new) (sym is)
-    (at_side_of n (λ s. WorldForces gives s agg conv old r new) (there old n (subst (λ e. cause old e ≡ None) is c)) x)

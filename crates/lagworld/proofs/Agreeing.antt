@@ -3,7 +3,7 @@ use Rattle.std.proofs.Common.{◌≡◌, ◌≢◌, ℕ, zero, suc, ◌+◌, ◌
 use Rattle.std.proofs.Common.{sym, refl, ◌∙◌, subst, arith, eqb-true}
 use Rattle.std.specs.Prelude.{not, is_some, option_map, slice_get}
 use Rattle.std.specs.Option.{unwrap_or}
-use Rattle.std.proofs.lemmas.Bool.{and_parts, true≢false}
+use Rattle.std.proofs.lemmas.Bool.{and_parts, true≢false, not-false, or_parts}
 use Rattle.std.proofs.lemmas.Option.{none-some, same_Some, slice_get-map}
 use Rattle.lagtypes.specs.declared.group.Group.{Group}
 use Rattle.lagtypes.specs.Group.{SamePair, pair_of}
@@ -38,14 +38,6 @@ last_of_five false true c d h = absurd (let e = h in cc)
 last_of_five false false true d h = absurd (let e = h in cc)
 last_of_five false false false true h = absurd (let e = h in cc)
 last_of_five false false false false h = (refl, refl, refl, refl)
-
-not_false : (b : Bool) → not b ≡ false → b ≡ true
-not_false true h = refl
-not_false false h = absurd (true≢false h)
-
-neither : (a b : Bool) → (a || b) ≡ false → (a ≡ false) × (b ≡ false)
-neither true b h = absurd (true≢false h)
-neither false b h = (refl, h)
 
 -- a port that distributes is there
 port_there : (o : Option Machines) → unwrap_or (option_map (λ (x : Machines). same_mux_state CollectingDistributing x.mux) o) false ≡ true
@@ -120,10 +112,10 @@ line_agrees j i l s e h =
     let b = end_facts j.two l.two in
     let f = last_of_five (not (a.distributes && b.distributes)) (a.defaulted || b.defaulted)
     (not (is_stamp a.count b.taken && is_stamp b.count a.taken)) (same_groups a.group b.group) h in
-    let both = and_parts a.distributes b.distributes (not_false (a.distributes && b.distributes) f.0) in
-    let defaults = neither a.defaulted b.defaulted f.1 in
+    let both = and_parts a.distributes b.distributes (not-false (a.distributes && b.distributes) f.0) in
+    let defaults = or_parts a.defaulted b.defaulted f.1 in
     let stamps = and_parts (is_stamp a.count b.taken) (is_stamp b.count a.taken)
-    (not_false (is_stamp a.count b.taken && is_stamp b.count a.taken) f.2) in
+    (not-false (is_stamp a.count b.taken && is_stamp b.count a.taken) f.2) in
     let one = port_there (machines_of l.one j.one.state) both.0 in
     let two = port_there (machines_of l.two j.two.state) both.1 in
     let hears_one = hears One l.one l.two one.0 j (s.kept One).agrees one.1 one.2

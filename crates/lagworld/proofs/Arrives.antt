@@ -15,7 +15,7 @@ use Rattle.slowpdu.specs.Readings.{number_at, pdu_in, lacpdu_in}
 use Rattle.slowpdu.proofs.PduInLemmas.{pdu_read}
 use Rattle.lagmodel.specs.View.{ModelCall as ModelEvent, ControlMessage as Message_pdu}
 use Rattle.lagmodel.specs.Move.{Act, Sends, Took, LawfulMoves}
-use Rattle.lagmodel.specs.World.{Side, One, Two, peer, Message, Control, Data, World, WorldSetup, Ends, IsCabling, end_at, CallHappens}
+use Rattle.lagmodel.specs.World.{Side, One, Two, peer, Message, Control, Data, WorldSetup, Ends, IsCabling, end_at, CallHappens}
 use Rattle.lagmodel.specs.World.{Event, Happens, with_messages, at_side, at_two, handed_up, stamp_of, DeliversFirst, RepeatsFirst}
 use Rattle.lagmodel.specs.World.{LosesFirst, Receives}
 use Rattle.lagmodel.proofs.Base.{cond_true, cond_false}
@@ -41,6 +41,7 @@ use Rattle.lagworld.specs.Events.{with_link_at, stamped_in, set_last_lacpdu, wit
 use Rattle.lagworld.specs.Events.{AfterReceive, DeliversFrom, LosesFrom, RepeatsFrom, RepeatsItem}
 use Rattle.lagworld.specs.Sound.{IsItem, AreItems}
 use Rattle.lagworld.specs.ModelWorld.{world_setup, model_world, link_ends, messages, model_taken}
+use Rattle.lagworld.proofs.Sides.{half_after, kept_at}
 use Rattle.lagworld.proofs.Cables.{mapped_set, end_is}
 use Rattle.lagworld.proofs.Flows.{read_changed, read_same}
 use Rattle.lagworld.proofs.OneSystem.{Leaves, after_call, one_call, counts_kept}
@@ -332,68 +333,22 @@ after_up t agg conv serial j = with_half t (with_collected_in agg conv serial (h
 
 handed_world : (t : Side) (agg conv serial : ℕ) (j : WorldState) → IsSome (flow_at (half t j).flows agg conv)
     → model_world (after_up t agg conv serial j) ≡ handed_up true (Data t agg conv serial) (model_world j)
-handed_world One agg conv serial j there = same_world _ _ view (λ c. refl) (λ s c. refl) count taken sent collected forced
-  where
-    w : World
-    w = model_world (after_up One agg conv serial j)
-
-    view : (t : Side) → w.view t ≡ (model_world j).view t
-    view One = refl
-    view Two = refl
-
-    count : (t : Side) (p : ℕ) → w.count t p ≡ (model_world j).count t p
-    count One p = refl
-    count Two p = refl
-
-    taken : (t : Side) (p : ℕ) → w.taken t p ≡ (model_world j).taken t p
-    taken One p = refl
-    taken Two p = refl
-
-    sent : (t : Side) (g k : ℕ) → w.sent t g k ≡ (model_world j).sent t g k
-    sent One g k = read_same sent_in (with_collected serial) agg conv j.one.flows (sent_kept serial) g k
-    sent Two g k = refl
-
-    collected : (t : Side) (g k : ℕ)
-        → w.collected t g k ≡ at_side (model_world j).collected One
-        (at_two ((model_world j).collected One) agg conv ((model_world j).collected One agg conv ++ serial ∷ [])) t g k
-    collected One g k = read_changed collected_in (with_collected serial) agg conv j.one.flows _
-        (collected_there serial (flow_at j.one.flows agg conv) there) g k
-    collected Two g k = refl
-
-    forced : (t : Side) (g k : ℕ) → w.forced t g k ≡ (model_world j).forced t g k
-    forced One g k = read_same forced_in (with_collected serial) agg conv j.one.flows (forced_kept serial) g k
-    forced Two g k = refl
-handed_world Two agg conv serial j there = same_world _ _ view (λ c. refl) (λ s c. refl) count taken sent collected forced
-  where
-    w : World
-    w = model_world (after_up Two agg conv serial j)
-
-    view : (t : Side) → w.view t ≡ (model_world j).view t
-    view One = refl
-    view Two = refl
-
-    count : (t : Side) (p : ℕ) → w.count t p ≡ (model_world j).count t p
-    count One p = refl
-    count Two p = refl
-
-    taken : (t : Side) (p : ℕ) → w.taken t p ≡ (model_world j).taken t p
-    taken One p = refl
-    taken Two p = refl
-
-    sent : (t : Side) (g k : ℕ) → w.sent t g k ≡ (model_world j).sent t g k
-    sent One g k = refl
-    sent Two g k = read_same sent_in (with_collected serial) agg conv j.two.flows (sent_kept serial) g k
-
-    collected : (t : Side) (g k : ℕ)
-        → w.collected t g k ≡ at_side (model_world j).collected Two
-        (at_two ((model_world j).collected Two) agg conv ((model_world j).collected Two agg conv ++ serial ∷ [])) t g k
-    collected One g k = refl
-    collected Two g k = read_changed collected_in (with_collected serial) agg conv j.two.flows _
-        (collected_there serial (flow_at j.two.flows agg conv) there) g k
-
-    forced : (t : Side) (g k : ℕ) → w.forced t g k ≡ (model_world j).forced t g k
-    forced One g k = refl
-    forced Two g k = read_same forced_in (with_collected serial) agg conv j.two.flows (forced_kept serial) g k
+handed_world s agg conv serial j there =
+    let fl = (half s j).flows in
+    let h = with_collected_in agg conv serial (half s j) in
+    let now : (λ g k. collected_in (flow_at h.flows g k)) ≡ at_two ((model_world j).collected s) agg conv
+    ((model_world j).collected s agg conv ++ serial ∷ []) =
+    (λ i g k. read_changed collected_in (with_collected serial) agg conv fl ((model_world j).collected s agg conv ++ serial ∷ [])
+    (collected_there serial (flow_at fl agg conv) there) g k i) in
+    same_world _ _ (kept_at (λ x. model_view x.state) s h j refl) (λ c. refl) (λ t c. refl)
+    (λ t p. kept_at (λ x. change_count_in (history_at x.histories p)) s h j refl t)
+    (λ t p. kept_at (λ x. option_map model_taken (taken_in (history_at x.histories p))) s h j refl t)
+    (λ t g k. kept_at (λ x. sent_in (flow_at x.flows g k)) s h j
+    (read_same sent_in (with_collected serial) agg conv fl (sent_kept serial) g k) t)
+    (λ t g k. ap (λ (f : ℕ → ℕ → List ℕ). f g k) (half_after (λ x g k. collected_in (flow_at x.flows g k)) s h j t
+    ∙ ap (λ v. at_side (model_world j).collected s v t) now))
+    (λ t g k. kept_at (λ x. forced_in (flow_at x.flows g k)) s h j
+    (read_same forced_in (with_collected serial) agg conv fl (forced_kept serial) g k) t)
 
 -- the moves of a call of s, and then a frame collected at its peer, or the other way round
 turned : (s : Side) (mid : HalfState) (agg conv serial : ℕ) (j : WorldState)

@@ -9,7 +9,7 @@ use Rattle.lagtypes.specs.Same.{same_party}
 use Rattle.lagtypes.proofs.SameLemmas.{exact_party, party_itself}
 use Rattle.lagmodel.specs.View.{View, first_view, ModelCall as ModelEvent}
 use Rattle.lagmodel.specs.Move.{LawfulMoves}
-use Rattle.lagmodel.specs.World.{Side, One, Two, at_side, World, CallHappens, CountsChanges, party_at, Event, Happens}
+use Rattle.lagmodel.specs.World.{Side, One, Two, at_side, World, CallHappens, CountsChanges, Event, Happens}
 use Rattle.lagmodel.proofs.Base.{cond_true, cond_false, none-is_some}
 use Rattle.lagmodel.proofs.Runs.{same_world}
 use Rattle.portmachines.specs.Machines.{Machines}
@@ -31,7 +31,8 @@ use Rattle.lagworld.specs.HalfCalls.{is_party}
 use Rattle.lagworld.specs.Events.{InHalf, model_change}
 use Rattle.lagworld.specs.Sound.{IsHalfSound}
 use Rattle.lagworld.specs.ModelWorld.{world_setup, model_world, is_whole, messages, model_taken}
-use Rattle.lagworld.proofs.OneSystem.{after_call, one_call, quietly, configured_kept}
+use Rattle.lagworld.proofs.Sides.{half_after, kept_at, moved_at}
+use Rattle.lagworld.proofs.OneSystem.{CountsParty, after_call, one_call, quietly, configured_kept}
 
 pub log_mapped : (s : SystemState) (histories : List PortHistory) (q : ℕ)
     → history_at (map (change_counted s) histories) q ≡ option_map (change_counted s) (history_at histories q)
@@ -78,10 +79,7 @@ changed_or_not a o (Some b) n e = elim (cases_Bool (same_party b a)) [
 -- the same of a port of a system: old and new are what the law sees
 port_counted : (old new : HalfState) → IsHalfSound old → new.histories ≡ old.histories
     → ((p : ℕ) → party_of_port old.state p ≡ None → party_of_port new.state p ≡ None) → (p : ℕ)
-    → ((party_at (model_view new.state) p ≡ party_at (model_view old.state) p)
-    × (change_count_in (history_at (with_changes_counted new).histories p) ≡ change_count_in (history_at old.histories p)))
-    ⊎ ((party_at (model_view new.state) p ≢ party_at (model_view old.state) p)
-    × (change_count_in (history_at (with_changes_counted new).histories p) ≡ suc (change_count_in (history_at old.histories p))))
+    → CountsParty old (with_changes_counted new) p
 port_counted old new k e none p = by_log (history_at old.histories p) refl
   where
     there : change_count_in (history_at (with_changes_counted new).histories p) ≡ change_count_in
@@ -94,10 +92,7 @@ port_counted old new k e none p = by_log (history_at old.histories p) refl
     no_party (Some a) h l = absurd (none-is_some (history_at old.histories p) l (k.logged p (subst IsSome (sym h) refl)))
 
     by_log : (o : Option PortHistory) → history_at old.histories p ≡ o
-        → ((party_at (model_view new.state) p ≡ party_at (model_view old.state) p)
-        × (change_count_in (history_at (with_changes_counted new).histories p) ≡ change_count_in (history_at old.histories p)))
-        ⊎ ((party_at (model_view new.state) p ≢ party_at (model_view old.state) p)
-        × (change_count_in (history_at (with_changes_counted new).histories p) ≡ suc (change_count_in (history_at old.histories p))))
+        → CountsParty old (with_changes_counted new) p
     by_log None h =
         let before = no_party (party_of_port old.state p) refl h in
         inl (
@@ -147,10 +142,8 @@ pub counts_of : (s : Side) (mid : HalfState) (ls : List LinkState) (j : WorldSta
     → mid.histories ≡ (half s j).histories → ((p : ℕ) → party_of_port (half s j).state p ≡ None → party_of_port mid.state p ≡ None)
     → CountsChanges (model_world j) (model_world (after_call s (with_changes_counted mid) ls j))
     (model_world (after_call s (with_changes_counted mid) ls j)).count
-counts_of One mid ls j k e none One p = port_counted j.one mid k e none p
-counts_of One mid ls j k e none Two p = inl (refl, refl)
-counts_of Two mid ls j k e none One p = inl (refl, refl)
-counts_of Two mid ls j k e none Two p = port_counted j.two mid k e none p
+counts_of s mid ls j k e none = moved_at (λ x y. (p : ℕ) → CountsParty x y p) s (with_changes_counted mid) j (λ x p. inl (refl, refl))
+    (port_counted (half s j) mid k e none)
 
 told_configure : (p : ℕ) (change : PortChange) (a : Result Bool SystemFault) (old new : SystemState)
     → JoinedByLawfulMoves old (Configure p change) (answer.Configure a) new
@@ -203,56 +196,13 @@ restarted : (s : Side) (h : HalfState) (v : View) (old : WorldState) → model_v
       count =
           (model_world (after_call s h (map emptied old.links) old)).count;
     }
-restarted One h v old e flows taken = same_world _ _ view (whole_left old.links) (nothing_left old.links)
-    (λ t p. refl) took sent collected forced
-  where
-    w : World
-    w = model_world (after_call One h (map emptied old.links) old)
-
-    view : (t : Side) → w.view t ≡ at_side (model_world old).view One v t
-    view One = e
-    view Two = refl
-
-    took : (t : Side) (p : ℕ) → w.taken t p ≡ (model_world old).taken t p
-    took One p = ap (option_map model_taken) (taken p)
-    took Two p = refl
-
-    sent : (t : Side) (g k : ℕ) → w.sent t g k ≡ (model_world old).sent t g k
-    sent One g k = ap (λ f. sent_in (flow_at f g k)) flows
-    sent Two g k = refl
-
-    collected : (t : Side) (g k : ℕ) → w.collected t g k ≡ (model_world old).collected t g k
-    collected One g k = ap (λ f. collected_in (flow_at f g k)) flows
-    collected Two g k = refl
-
-    forced : (t : Side) (g k : ℕ) → w.forced t g k ≡ (model_world old).forced t g k
-    forced One g k = ap (λ f. forced_in (flow_at f g k)) flows
-    forced Two g k = refl
-restarted Two h v old e flows taken = same_world _ _ view (whole_left old.links) (nothing_left old.links)
-    (λ t p. refl) took sent collected forced
-  where
-    w : World
-    w = model_world (after_call Two h (map emptied old.links) old)
-
-    view : (t : Side) → w.view t ≡ at_side (model_world old).view Two v t
-    view One = refl
-    view Two = e
-
-    took : (t : Side) (p : ℕ) → w.taken t p ≡ (model_world old).taken t p
-    took One p = refl
-    took Two p = ap (option_map model_taken) (taken p)
-
-    sent : (t : Side) (g k : ℕ) → w.sent t g k ≡ (model_world old).sent t g k
-    sent One g k = refl
-    sent Two g k = ap (λ f. sent_in (flow_at f g k)) flows
-
-    collected : (t : Side) (g k : ℕ) → w.collected t g k ≡ (model_world old).collected t g k
-    collected One g k = refl
-    collected Two g k = ap (λ f. collected_in (flow_at f g k)) flows
-
-    forced : (t : Side) (g k : ℕ) → w.forced t g k ≡ (model_world old).forced t g k
-    forced One g k = refl
-    forced Two g k = ap (λ f. forced_in (flow_at f g k)) flows
+restarted s h v old e flows taken = same_world _ _
+    (λ t. half_after (λ x. model_view x.state) s h old t ∙ ap (λ u. at_side (model_world old).view s u t) e)
+    (whole_left old.links) (nothing_left old.links) (λ t p. refl)
+    (λ t p. kept_at (λ x. option_map model_taken (taken_in (history_at x.histories p))) s h old (ap (option_map model_taken) (taken p)) t)
+    (λ t g k. kept_at (λ x. sent_in (flow_at x.flows g k)) s h old (ap (λ f. sent_in (flow_at f g k)) flows) t)
+    (λ t g k. kept_at (λ x. collected_in (flow_at x.flows g k)) s h old (ap (λ f. collected_in (flow_at f g k)) flows) t)
+    (λ t g k. kept_at (λ x. forced_in (flow_at x.flows g k)) s h old (ap (λ f. forced_in (flow_at f g k)) flows) t)
 
 pub restart_happens : (gives : ℕ → ℕ → ℕ → Type 0) (s : Side) (old new : WorldState) → IsHalfSound (half s old)
     → InHalf s (HalfRestarts gives) (with_links old (map emptied old.links)) new

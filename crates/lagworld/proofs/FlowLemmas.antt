@@ -28,16 +28,9 @@ flow_set f xs k x new lt read e =
     map-set flow_value xs k new ∙ ap (set (map flow_value xs) k) e
     ∙ sym (ap (λ o. change_flow_in f o k (map flow_value xs)) (there flow_value xs k x lt read))
 
-pub no_flow_set : (f : FlowValue → FlowValue) (xs : List Flow) (k : ℕ) → length xs ≤ k
-    → map flow_value xs ≡ change_flow_in f (slice_get (map flow_value xs) k) k (map flow_value xs)
-no_flow_set f xs k le = sym (ap (λ o. change_flow_in f o k (map flow_value xs)) (past flow_value xs k le))
-
 pub flow_read : (xs : List Flow) (k : ℕ) (x : Flow) → k < length xs → x ≡ get_or xs k x
     → length x.sent.items ≡ length (sent_in (slice_get (map flow_value xs) k))
 flow_read xs k x lt read = sym (ap (λ o. length (sent_in o)) (there flow_value xs k x lt read))
-
-pub no_flow_read : (xs : List Flow) (k : ℕ) → length xs ≤ k → 0 ≡ length (sent_in (slice_get (map flow_value xs) k))
-no_flow_read xs k le = sym (ap (λ o. length (sent_in o)) (past flow_value xs k le))
 
 one_more : (i : ℕ) → i + 1 ≡ suc i
 one_more i = omega arith

@@ -1,11 +1,11 @@
 -- A conversation is freed by force, and counts as forced from then on.
-use Rattle.std.proofs.Common.{◌≡◌, ℕ, true, Option, Some, None, IsSome, [], sym, refl, ap, ◌∙◌, subst, inl, inr, Ok, Err, Result}
+use Rattle.std.proofs.Common.{◌≡◌, ℕ, Bool, true, Option, Some, None, IsSome, [], sym, refl, ap, ◌∙◌, subst, inl, inr, Ok, Err, Result}
 use Rattle.std.specs.Prelude.{option_map}
 use Rattle.lagtypes.specs.declared.identifiers.AggId.{AggId}
 use Rattle.distributor.specs.declared.assignment.Assignment.{Assignment}
 use Rattle.lagmodel.specs.View.{ModelCall as ModelEvent}
 use Rattle.lagmodel.specs.Move.{LawfulMoves}
-use Rattle.lagmodel.specs.World.{Side, One, Two, at_side, at_two, World, CallHappens, Event, Happens}
+use Rattle.lagmodel.specs.World.{Side, One, Two, at_side, at_two, CallHappens, Event, Happens}
 use Rattle.lagmodel.proofs.Runs.{same_world}
 use Rattle.lagsystem.specs.declared.drive.Reply.TheVariants as answer
 use Rattle.lagsystem.specs.declared.fault.SystemFault.{SystemFault}
@@ -18,9 +18,10 @@ use Rattle.lagworld.specs.State.{HalfState, WorldState, FlowValue, half, with_ha
 use Rattle.lagworld.specs.State.{sent_in, collected_in, forced_in, change_flow, with_forced}
 use Rattle.lagworld.specs.HalfCalls.{HalfAnswers, HalfForces, forced_if_accepted, with_state}
 use Rattle.lagworld.specs.Events.{InHalf}
-use Rattle.lagworld.specs.ModelWorld.{world_setup, model_world}
+use Rattle.lagworld.specs.ModelWorld.{world_setup, model_world, model_taken}
+use Rattle.lagworld.proofs.Sides.{half_after, kept_at}
 use Rattle.lagworld.proofs.Flows.{read_changed, read_same}
-use Rattle.lagworld.proofs.OneSystem.{after_call, one_call, quietly, counts_kept}
+use Rattle.lagworld.proofs.OneSystem.{after_call, one_call, quietly, counts_kept, setup_kept}
 
 told_force : (agg : AggId) (conv : ℕ) (a : Result Unit SystemFault) (old new : SystemState)
     → JoinedByLawfulMoves old (Force agg conv) (answer.Force a) new
@@ -47,69 +48,18 @@ collected_kept (Some x) = refl
 forced_world : (s : Side) (g k : ℕ) (j : WorldState) → IsSome (flow_at (half s j).flows g k)
     → model_world (with_half s (force_flow g k (half s j)) j) ≡ record (model_world j)
     { forced = at_side (model_world j).forced s (at_two ((model_world j).forced s) g k true) }
-forced_world One g k j there = same_world _ _ view (λ c. refl) (λ s c. refl) count taken sent collected forced
-  where
-    w : World
-    w = model_world (with_half One (force_flow g k j.one) j)
-
-    view : (t : Side) → w.view t ≡ (model_world j).view t
-    view One = refl
-    view Two = refl
-
-    count : (t : Side) (p : ℕ) → w.count t p ≡ (model_world j).count t p
-    count One p = refl
-    count Two p = refl
-
-    taken : (t : Side) (p : ℕ) → w.taken t p ≡ (model_world j).taken t p
-    taken One p = refl
-    taken Two p = refl
-
-    sent : (t : Side) (h i : ℕ) → w.sent t h i ≡ (model_world j).sent t h i
-    sent One h i = read_same sent_in with_forced g k j.one.flows sent_kept h i
-    sent Two h i = refl
-
-    collected : (t : Side) (h i : ℕ) → w.collected t h i ≡ (model_world j).collected t h i
-    collected One h i = read_same collected_in with_forced g k j.one.flows collected_kept h i
-    collected Two h i = refl
-
-    forced : (t : Side) (h i : ℕ) → w.forced t h i ≡ at_side (model_world j).forced One (at_two ((model_world j).forced One) g k true) t h i
-    forced One h i = read_changed forced_in with_forced g k j.one.flows true (forced_there (flow_at j.one.flows g k) there) h i
-    forced Two h i = refl
-forced_world Two g k j there = same_world _ _ view (λ c. refl) (λ s c. refl) count taken sent collected forced
-  where
-    w : World
-    w = model_world (with_half Two (force_flow g k j.two) j)
-
-    view : (t : Side) → w.view t ≡ (model_world j).view t
-    view One = refl
-    view Two = refl
-
-    count : (t : Side) (p : ℕ) → w.count t p ≡ (model_world j).count t p
-    count One p = refl
-    count Two p = refl
-
-    taken : (t : Side) (p : ℕ) → w.taken t p ≡ (model_world j).taken t p
-    taken One p = refl
-    taken Two p = refl
-
-    sent : (t : Side) (h i : ℕ) → w.sent t h i ≡ (model_world j).sent t h i
-    sent One h i = refl
-    sent Two h i = read_same sent_in with_forced g k j.two.flows sent_kept h i
-
-    collected : (t : Side) (h i : ℕ) → w.collected t h i ≡ (model_world j).collected t h i
-    collected One h i = refl
-    collected Two h i = read_same collected_in with_forced g k j.two.flows collected_kept h i
-
-    forced : (t : Side) (h i : ℕ) → w.forced t h i ≡ at_side (model_world j).forced Two (at_two ((model_world j).forced Two) g k true) t h i
-    forced One h i = refl
-    forced Two h i = read_changed forced_in with_forced g k j.two.flows true (forced_there (flow_at j.two.flows g k) there) h i
-
-fixed_force : (s : Side) (g k : ℕ) (j : WorldState) (t : Side)
-    → (world_setup (with_half s (force_flow g k (half s j)) j)).setup t ≡ (world_setup j).setup t
-fixed_force One g k j One = refl
-fixed_force One g k j Two = refl
-fixed_force Two g k j One = refl
-fixed_force Two g k j Two = refl
+forced_world s g k j there =
+    let fl = (half s j).flows in
+    let h = force_flow g k (half s j) in
+    let now : (λ a c. forced_in (flow_at h.flows a c)) ≡ at_two ((model_world j).forced s) g k true =
+    (λ i a c. read_changed forced_in with_forced g k fl true (forced_there (flow_at fl g k) there) a c i) in
+    same_world _ _ (kept_at (λ x. model_view x.state) s h j refl) (λ c. refl) (λ t c. refl)
+    (λ t p. kept_at (λ x. change_count_in (history_at x.histories p)) s h j refl t)
+    (λ t p. kept_at (λ x. option_map model_taken (taken_in (history_at x.histories p))) s h j refl t)
+    (λ t a c. kept_at (λ x. sent_in (flow_at x.flows a c)) s h j (read_same sent_in with_forced g k fl sent_kept a c) t)
+    (λ t a c. kept_at (λ x. collected_in (flow_at x.flows a c)) s h j (read_same collected_in with_forced g k fl collected_kept a c) t)
+    (λ t a c. ap (λ (f : ℕ → ℕ → Bool). f a c) (half_after (λ x a c. forced_in (flow_at x.flows a c)) s h j t
+    ∙ ap (λ v. at_side (model_world j).forced s v t) now))
 
 half_force : (s : Side) (g k : ℕ) (j : WorldState) → half s (with_half s (force_flow g k (half s j)) j) ≡ force_flow g k (half s j)
 half_force One g k j = refl
@@ -146,7 +96,7 @@ forced_by gives s agg conv (Ok done) mid old there x =
     let told : ModelEvent = ModelEvent.Force g conv in
     let moves = told_force agg conv (Ok done) (half s old).state mid.state x.answers.moves in
     let here : LawfulMoves ((world_setup j).setup s) told ((model_world j).view s) [] (model_view h.state) =
-    subst (λ u. LawfulMoves u told ((model_world j).view s) [] (model_view h.state)) (sym (fixed_force s g conv old s))
+    subst (λ u. LawfulMoves u told ((model_world j).view s) [] (model_view h.state)) (sym (setup_kept s (force_flow g conv (half s old)) old refl s))
     (subst (λ (f : HalfState). LawfulMoves (model_setup (half s old).state) told (model_view f.state) [] (model_view h.state))
     (sym (half_force s g conv old)) moves) in
     let flows : h.flows ≡ (half s j).flows = ap (λ (f : HalfState). change_flow with_forced g conv f.flows) x.same
@@ -158,7 +108,7 @@ forced_by gives s agg conv (Ok done) mid old there x =
     here
     (counts_kept s h j.links j told [] (λ e. cc) refl here (λ p. ap (λ l. change_count_in (history_at l p)) histories)) in
     let fixed : world_setup j ≡ world_setup old = λ i. record {
-      setup = λ t. fixed_force s g conv old t i;
+      setup = λ t. setup_kept s (force_flow g conv (half s old)) old refl t i;
       cables =
           (world_setup old).cables;
     } in

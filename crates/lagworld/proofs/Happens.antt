@@ -1,10 +1,10 @@
 -- Each event of a world is an event of the model.
-use Rattle.std.proofs.Common.{◌≡◌, ℕ, suc, true, false, Some, None, List, [], map, sym, refl, ap, subst, inl, inr, ◌⊎◌, Result}
+use Rattle.std.proofs.Common.{◌≡◌, ℕ, suc, true, false, Some, None, List, [], map, sym, refl, ap, subst, Result}
 use Rattle.std.specs.Prelude.{slice_get, slice_set}
 use Rattle.lagtypes.specs.declared.identifiers.AggId.{AggId}
 use Rattle.lagmodel.specs.View.{ModelCall as ModelEvent, is_restart}
 use Rattle.lagmodel.specs.Move.{LawfulMoves}
-use Rattle.lagmodel.specs.World.{Side, One, Two, peer, CallHappens, Event, Happens, with_messages, at_cable, at_side}
+use Rattle.lagmodel.specs.World.{Side, One, Two, CallHappens, Event, Happens, with_messages, at_cable, at_side}
 use Rattle.lagmodel.specs.World.{SensesCable as Told_senses}
 use Rattle.lagmodel.proofs.Runs.{same_world}
 use Rattle.lagsystem.specs.declared.drive.Reply.{Reply as Answer}
@@ -83,12 +83,6 @@ move_happens gives s agg conv p r old new x =
     (sym x.1) c
 
 -- Cables that are cut, joined or lose their first item.
-lines_of_peer : (s t : Side) → (t ≡ s) ⊎ (t ≡ peer s)
-lines_of_peer One One = inl refl
-lines_of_peer One Two = inr refl
-lines_of_peer Two One = inr refl
-lines_of_peer Two Two = inl refl
-
 pub cut_happens : (i : ℕ) (l : LinkState) (old : WorldState) → slice_get old.links i ≡ Some l
     → Happens (world_setup old) (Event.Cut (suc i)) (model_world old) (model_world (with_link_at i (cut l) old))
 cut_happens i l old there = same_world _ _ (λ s. refl) (nth_set is_whole old.links i (cut l) l there) on_cable (λ s p. refl) (λ s p. refl)

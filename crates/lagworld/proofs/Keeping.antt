@@ -41,11 +41,6 @@ use Rattle.lagworld.proofs.Whole.{on_line, steps_happen}
 up_to_one : (a b : WorldState) → Follows 0 a b → Follows 1 a b
 up_to_one a b x = record { shaped = x.shaped; fixed = x.fixed; counts = λ s n m le h. x.counts s n m (omega arith) h }
 
--- the half of a world that changed
-half_on : (s : Side) (h : HalfState) (j : WorldState) (k : HalfState) → IsShaped (with_half s h j) → GoesOn 0 h k
-    → GoesOn 0 (half s (with_half s h j)) k
-half_on s h j k i g = subst (λ x. GoesOn 0 x k) (sym (half_there s h j)) g
-
 -- a call of a system, and no party can change
 asks : (gives : ℕ → ℕ → ℕ → Type 0) (s : Side) (call : Call) (a : _) (mid : HalfState) (j : WorldState) → IsShaped j → (call ≡ Restart → ⊥)
     → ((n : ℕ) (c : _) → call ≡ Configure n c → ⊥) → HalfAnswers gives call a (half s j) mid → Follows 0 j (with_half s mid j)

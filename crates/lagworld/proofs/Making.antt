@@ -4,7 +4,7 @@ use Rattle.std.proofs.Common.{None, IsSome, List, [], ◌∷◌, length, map, ta
 use Rattle.std.proofs.Common.{◌⊎◌, eqb-true, eq-eqb, arith}
 use Rattle.std.specs.Prelude.{not, option_map, slice_get}
 use Rattle.std.specs.List.{list_all}
-use Rattle.std.proofs.lemmas.Bool.{and_parts, cases_Bool, true≢false}
+use Rattle.std.proofs.lemmas.Bool.{and_parts, cases_Bool, true≢false, not-false, not-true}
 use Rattle.std.proofs.lemmas.Option.{none-some, same_Some, slice_get-map, slice_get_within, get_or_from_slice_get}
 use Rattle.cables.specs.declared.item.Item.{Item}
 use Rattle.lagtypes.specs.declared.identifiers.SystemId.{SystemId}
@@ -205,10 +205,6 @@ none_below test (suc n) i h l = elim (cases_Bool (eqb i n)) [
     smaller : eqb i n ≡ false → i < n
     smaller e = let ne : i ≢ n = λ h. true≢false (sym (eq-eqb i n h) ∙ e) in omega arith
 
-is_false : (b : Bool) → not b ≡ false → b ≡ true
-is_false true h = refl
-is_false false h = absurd (true≢false h)
-
 mapped_none : {X Y : Type 0} (f : X → Y) (o : Option X) → option_map f o ≡ None → o ≡ None
 mapped_none f None h = refl
 mapped_none f (Some x) h = absurd (none-some (f x) (sym h))
@@ -219,7 +215,7 @@ first_none (Some x) p h = absurd (none-some x (sym h))
 
 are_joined : (first second : List PortConfig) (cables : List (ℕ × ℕ)) → bad_end first second cables ≡ None → AreJoined first second cables
 are_joined first second cables h i l =
-    is_false (can_join first second (take i cables) (get_or cables i (0, 0)))
+    not-false (can_join first second (take i cables) (get_or cables i (0, 0)))
     (none_below (has_bad_end first second cables) (length cables) i
     (mapped_none suc (first_below (has_bad_end first second cables) (length cables)) h) l)
 
@@ -240,10 +236,6 @@ joined_at : (first second : List PortConfig) (cables : List (ℕ × ℕ)) (i : �
     → slice_get cables i ≡ Some c → can_join first second (take i cables) c ≡ true
 joined_at first second cables i c h e = subst (λ c. can_join first second (take i cables) c ≡ true)
     (get_or_from_slice_get cables i c (0, 0) e) (h i (slice_get_within cables i c e))
-
-is_not : (b : Bool) → not b ≡ true → b ≡ false
-is_not true h = absurd (true≢false (sym h))
-is_not false h = refl
 
 -- no earlier cable has one of its ends
 not_shared : (cables : List (ℕ × ℕ)) (i k : ℕ) (c d : ℕ × ℕ) → shares_end (take k cables) d ≡ false → i < k → slice_get cables i ≡ Some c
@@ -295,7 +287,7 @@ one_cable : (first second : List PortConfig) (cables : List (ℕ × ℕ)) (s : S
 one_cable first second cables s i k c d h e f same l =
     let join = and_parts (has_port first d.0 && has_port second d.1) (not (shares_end (take k cables) d))
     (joined_at first second cables k d h f) in
-    apart s c d (not_shared cables i k c d (is_not (shares_end (take k cables) d) join.1) l e) same
+    apart s c d (not_shared cables i k c d (not-true (shares_end (take k cables) d) join.1) l e) same
 
 -- the ports of a cable are ports
 ports_there : (first second : List PortConfig) (cables : List (ℕ × ℕ)) (i : ℕ) (c : ℕ × ℕ) → AreJoined first second cables

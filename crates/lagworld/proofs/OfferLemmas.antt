@@ -1,9 +1,9 @@
 -- What becomes of a frame that is offered, and of a conversation that is forced.
 use Rattle.std.proofs.Common.{◌%◌, zero, suc}
-use Rattle.std.proofs.Common.{◌≡◌, ◌<◌, ◌≤◌, ℕ, ◌&&◌, Bool, true, false, Option, Some, None, IsSome, List, length, sym, refl, ap, ◌∙◌}
+use Rattle.std.proofs.Common.{◌≡◌, ◌<◌, ◌≤◌, ℕ, Bool, true, Option, Some, None, IsSome, List, length, sym, refl, ap, ◌∙◌}
 use Rattle.std.proofs.Common.{subst, Ok, Err, Result, nat_lt, nat_le, arith}
 use Rattle.std.specs.Prelude.{bit_xor}
-use Rattle.std.proofs.lemmas.Bool.{true≢false}
+use Rattle.std.proofs.lemmas.Bool.{true≢false, and_parts}
 use Rattle.std.proofs.lemmas.Bool.Decides.{nat_tests}
 use Rattle.lagtypes.specs.declared.identifiers.AggId.{AggId}
 use Rattle.distributor.specs.Conversations.{is_conversation_count}
@@ -39,11 +39,6 @@ pub offers_of : (gives : Algorithms) (s : Side) (agg : AggId) (octets : List ℕ
     → WorldOffers gives s agg octets old r new
 offers_of gives s agg octets a old mid new r x y = (a, half s mid, x.0, subst (λ j. AfterOffer s agg octets a j r new) x.1 y)
 
-both : (a b : Bool) → (a && b) ≡ true → (a ≡ true) × (b ≡ true)
-both true true h = (refl, refl)
-both true false h = absurd (true≢false (sym h))
-both false b h = absurd (true≢false (sym h))
-
 -- every system has a conversation, which has number 0
 pub first_conversation : (s : SystemState) → PortsAgree s → 0 < conversation_count s
 first_conversation s agrees = some (conversation_count s) (accepted_count s.keys s.ports s.max_links s.conversations agrees.ports.accepted)
@@ -61,7 +56,7 @@ same_number octets old new same = ap (λ n. bit_xor (two_octets octets 4) (two_o
 pub long_enough : (gives : Algorithms) (s : Side) (agg : AggId) (octets : List ℕ) (a : Result ℕ SystemFault) (port : ℕ)
     (old mid : WorldState) → a ≡ Ok port → WorldAsksOffer gives s agg octets a old mid → 14 ≤ length octets
 long_enough gives s agg octets a port old mid e x =
-    let frame = both (nat_le 14 (length octets)) _ (subst (λ a. WorldAsksOffer gives s agg octets a old mid) e x).0.answers.step.0.1.0 in
+    let frame = and_parts (nat_le 14 (length octets)) _ (subst (λ a. WorldAsksOffer gives s agg octets a old mid) e x).0.answers.step.0.1.0 in
     let test = frame.0 in
     grind (arith, nat_tests)
 
@@ -72,7 +67,7 @@ pub taken_there : (gives : Algorithms) (s : Side) (agg : AggId) (octets : List �
     → IsSome (flow_at (half s mid).flows agg.0 conv)
 taken_there gives s agg octets a port conv old mid e x kept below =
     let own = (subst (λ a. WorldAsksOffer gives s agg octets a old mid) e x).0 in
-    let agg_there = both (nat_lt 0 agg.0) (nat_le agg.0 (length (half s old).state.keys)) own.answers.step.0.0 in
+    let agg_there = and_parts (nat_lt 0 agg.0) (nat_le agg.0 (length (half s old).state.keys)) own.answers.step.0.0 in
     let low_test = agg_there.0 in
     let high_test = agg_there.1 in
     let low : 0 < agg.0 = grind (arith, nat_tests) in

@@ -1,8 +1,8 @@
 -- Every event of a sound world is an event of the model, and every run is a run of the model.
 use Rattle.std.proofs.Common.{◌≡◌, ℕ, zero, suc, ◌==◌, Bool, true, false, if◌then◌else◌, Some, None, IsSome, List, sym, refl, ◌∙◌, subst}
 use Rattle.std.proofs.Common.{inl, inr, arith}
-use Rattle.std.specs.Prelude.{◌&&◌, slice_get, nat_lt, nat_le, length, Result, Ok, Err}
-use Rattle.std.proofs.lemmas.Bool.{cases_Bool, true≢false}
+use Rattle.std.specs.Prelude.{slice_get, nat_lt, nat_le, length, Result, Ok, Err}
+use Rattle.std.proofs.lemmas.Bool.{cases_Bool, and_parts}
 use Rattle.std.proofs.lemmas.Option.{none-some, same_Some}
 use Rattle.lagmodel.specs.World.{Side, One, Two, Event as ModelEvent, Happens}
 use Rattle.lagmodel.proofs.Base.{cond_true, cond_false, value_of}
@@ -68,17 +68,13 @@ forced_known : (agg : AggId) (conv : ℕ) (what : Result Assignment SystemFault)
 forced_known agg conv (Ok y) done old new h = (y, refl)
 forced_known agg conv (Err fault) done old new h = absurd (let e = h.0 in cc)
 
-parts : (x y : Bool) → (x && y) ≡ true → (x ≡ true) × (y ≡ true)
-parts true y h = (refl, h)
-parts false y h = absurd (true≢false (sym h))
-
 forced_there : (h : HalfState) (agg : AggId) (conv : ℕ) (done : Unit) (new : SystemState) → IsHalfSound h
     → GivesOrRefuses agg conv (system_force_result h.state agg conv) h.state (Ok done) new → IsSome (flow_at h.flows agg.0 conv)
 forced_there h agg conv done new k x =
     let y = forced_known agg conv (system_force_result h.state agg conv) done h.state new x in
     let both = if_some (has_aggregator h.state agg)
     (in_system (or_not_assigned h.state conv (force_result (assignment_of h.state.table agg.0 conv)))) NoAggregator y.0 y.1 in
-    let two = parts (nat_lt 0 agg.0) (nat_le agg.0 (length h.state.keys)) both.0 in
+    let two = and_parts (nat_lt 0 agg.0) (nat_le agg.0 (length h.state.keys)) both.0 in
     let small = known_below h.state conv (force_result (assignment_of h.state.table agg.0 conv)) y.0 both.1 in
     k.flows agg.0 conv (let e = two.0 in grind (arith, nat_tests)) (let e = two.1 in grind (arith, nat_tests)) (grind (arith, nat_tests))
 
