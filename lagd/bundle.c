@@ -48,7 +48,7 @@ static bool is_lesser(uint16_t one, uint16_t other) {
     const uint16_t aggregators[2] = {one, other};
     for (int i = 0; i < 2; i++) {
         struct niw_group_id group = niw_group(&own_system, first_in(aggregators[i])->settings.number);
-        refuse(group.status, "niw_group");
+        check_call(group.status, "niw_group");
         put_end(&group.upper, put_end(&group.lower, groups[i]));
     }
     return memcmp(groups[0], groups[1], sizeof groups[0]) < 0;

@@ -13,6 +13,7 @@
 struct carry carry = {.changed = true};
 
 static int tap = -1;
+static uint8_t *rooms; /* for the packets of a batch */
 static bool to_balance; /* whether a tick passed since the last look at the loads */
 
 bool carries_data(void) {
@@ -33,7 +34,7 @@ uint64_t milliseconds(void) {
 
 struct niw_assignment state_of(uint16_t aggregator, uint16_t number) {
     struct niw_assignment state = niw_conversation_state(&own_system, aggregator, number);
-    refuse(state.status, "niw_conversation_state");
+    check_call(state.status, "niw_conversation_state");
     return state;
 }
 
@@ -44,7 +45,7 @@ bool is_held(const struct niw_assignment *state) {
 /* Frees a conversation, if it is not free. */
 void free_conversation(uint16_t aggregator, uint16_t number) {
     uint32_t status = niw_force(&own_system, aggregator, number);
-    if (status != NIW_NOT_ASSIGNED) refuse(status, "niw_force");
+    if (status != NIW_NOT_ASSIGNED) check_call(status, "niw_force");
     carry.changed = true;
 }
 
@@ -64,7 +65,7 @@ bool is_unused(const struct conversation *conversation) {
     return !conversation->used && (conversation->last == 0 || carry.time - conversation->last >= BUSY);
 }
 
-/* Offers a frame of a conversation: the library looks at the last octets of both addresses alone. */
+/* Offers a frame of a conversation, however long it is: the library looks at the last octets of both addresses alone. */
 struct niw_number offer_number(uint16_t number) {
     uint8_t header[NIW_SHORTEST_FRAME] = {0};
     header[4] = (uint8_t)(number >> 8);
@@ -78,14 +79,14 @@ static void drop_first(struct conversation *conversation, enum carry_count why) 
 }
 
 /* Has a frame wait until its conversation goes on. Where there is no room the oldest one is lost. */
-static void keep(struct conversation *conversation, const uint8_t *frame, size_t length) {
+static void keep(struct conversation *conversation, const uint8_t *packet, size_t length) {
     struct queue *queue = &conversation->queue;
     if (queue->count == LONGEST_WAIT) drop_first(conversation, QUEUE_FULL);
-    if (put_held(queue, frame, length, carry.time)) {
+    if (put_held(queue, packet, length, carry.time)) {
         carry.counts[HELD_FRAMES]++;
     } else if (queue->count > 0) {
         drop_first(conversation, QUEUE_FULL);
-        (void)put_held(queue, frame, length, carry.time);
+        (void)put_held(queue, packet, length, carry.time);
         carry.counts[HELD_FRAMES]++;
     } else {
         carry.counts[QUEUE_FULL]++;
@@ -95,13 +96,13 @@ static void keep(struct conversation *conversation, const uint8_t *frame, size_t
 }
 
 /* Offers a frame, and puts it behind those of its port; answers whether it is dealt with. One that is held is not. */
-static bool send_on(struct conversation *conversation, uint16_t number, uint8_t *frame, size_t length) {
+static bool send_on(struct conversation *conversation, uint16_t number, uint8_t *packet, size_t length) {
     struct niw_number answer;
-    if (!is_home(conversation, number)) return false;
+    if (!is_home(conversation, number) || carry.time < conversation->fast.not_before) return false;
     answer = offer_number(number);
     if (answer.status == NIW_HELD) return false;
     if (answer.status != NIW_OK) {
-        if (answer.status != NIW_NONE_DISTRIBUTING) refuse(answer.status, "niw_offer");
+        if (answer.status != NIW_NONE_DISTRIBUTING) check_call(answer.status, "niw_offer");
         carry.counts[NONE_CARRIES]++;
         return true;
     }
@@ -109,56 +110,66 @@ static bool send_on(struct conversation *conversation, uint16_t number, uint8_t 
     conversation->port = (uint16_t)answer.number;
     conversation->since = 0;
     note_sent(conversation->port);
-    put_data(conversation->port, frame, length);
+    put_data(conversation->port, packet, length);
     return true;
 }
 
-/* Whether a frame of the host may go: 14 to 1514 octets, 1518 with a tag, and none of the slow protocols. */
-static bool is_fit(const uint8_t *frame, size_t length) {
-    unsigned type = length < ETH_HLEN ? 0 : (unsigned)frame[12] << 8 | frame[13];
-    bool tagged = type == VLAN_TAGGED || type == VLAN_SERVICE;
-    return length >= ETH_HLEN && length <= ETH_HLEN + ETH_DATA_LEN + (tagged ? TAG_OCTETS : 0u) && type != SLOW_PROTOCOLS;
+/* Whether a frame of the host may go: of a right length, and none of the slow protocols. */
+static bool is_fit(const uint8_t *packet, size_t length) {
+    const uint8_t *frame = packet + head_octets();
+    return has_right_length(packet, length) && ((unsigned)frame[12] << 8 | frame[13]) != ETH_P_SLOW;
 }
 
-/* A frame came from the host. It goes by none that waits. */
-static void take_from_host(uint8_t *frame, size_t length) {
-    struct niw_number number;
-    struct conversation *conversation;
-    carry.counts[FROM_HOST]++;
-    if (!is_fit(frame, length)) {
-        carry.counts[UNFIT]++;
-        return;
-    }
+/* A frame of a conversation came. It overtakes none that waits. */
+static void take_fit(struct conversation *conversation, uint16_t number, uint8_t *packet, size_t length) {
     if (carry.active == 0) {
         carry.counts[NONE_CARRIES]++;
         return;
     }
-    number = conversation_of(frame, length);
-    refuse(number.status, "niw_conversation");
-    conversation = &carry.conversations[number.number % CONVERSATIONS];
     conversation->used = true;
-    if (conversation->queue.count > 0 || !send_on(conversation, (uint16_t)number.number, frame, length))
-        keep(conversation, frame, length);
+    if (conversation->queue.count > 0 || !send_on(conversation, number, packet, length)) keep(conversation, packet, length);
 }
 
-/* Takes the frames that wait in the TAP device, some at most. */
+/* A packet came from the host. */
+static void take_from_host(uint8_t *packet, size_t length) {
+    struct niw_number number;
+    struct conversation *conversation;
+    carry.counts[FROM_HOST]++;
+    if (length < head_octets() + ETH_HLEN) {
+        carry.counts[UNFIT]++;
+        return;
+    }
+    number = conversation_of(packet + head_octets(), length - head_octets());
+    check_call(number.status, "niw_conversation");
+    conversation = &carry.conversations[number.number % CONVERSATIONS];
+    note_taken(conversation, count_segments(packet, length));
+    if (has_segments(packet)) carry.counts[SEGMENTED]++;
+    if (is_fit(packet, length))
+        take_fit(conversation, (uint16_t)number.number, packet, length);
+    else
+        carry.counts[UNFIT]++;
+}
+
+/* Takes the packets that wait in the TAP device, some at most. */
 static void take_host(void) {
-    static uint8_t rooms[BATCH][DATA_ROOM];
     for (int turn = 0, got = BATCH; turn < MOST_BATCHES && got == BATCH; turn++) {
         for (got = 0; got < BATCH; got++) {
-            ssize_t length = read(tap, rooms[got], DATA_ROOM);
+            uint8_t *packet = rooms + (size_t)got * packet_room();
+            ssize_t length = read(tap, packet, packet_room());
             if (length < 0 && (errno == EAGAIN || errno == EINTR)) break;
-            take_from_host(rooms[got], length < 0 ? 0 : (size_t)length); /* one that cannot be read has no octets */
+            take_from_host(packet, length < 0 ? 0 : (size_t)length); /* one that cannot be read has no octets */
         }
         flush_data();
+        note_read((unsigned)got, got < BATCH);
+        pass_on();
     }
 }
 
-/* A frame came in an aggregator. */
-void hand_up(uint32_t aggregator, const uint8_t *frame, size_t length) {
+/* A packet came in an aggregator. */
+void hand_up(uint32_t aggregator, const uint8_t *packet, size_t length) {
     if (aggregator != carry.active)
         carry.counts[OTHER_AGGREGATOR]++;
-    else if (write(tap, frame, length) == (ssize_t)length)
+    else if (write(tap, packet, length) == (ssize_t)length)
         carry.counts[HANDED_UP]++;
     else
         carry.counts[HOST_UNTAKEN]++;
@@ -172,13 +183,15 @@ static void release(void) {
         while (conversation->queue.count > 0) {
             size_t length;
             uint64_t time;
-            uint8_t *frame = first_held(&conversation->queue, &length, &time);
-            if (carry.active == 0 || !send_on(conversation, number, frame, length)) break;
+            uint8_t *packet = first_held(&conversation->queue, &length, &time);
+            if (carry.active == 0 || !send_on(conversation, number, packet, length)) break;
             leave_held(&conversation->queue);
+            conversation->fast.touched = true;
         }
         if (conversation->queue.count > 0) carry.waiting = true;
     }
     flush_data();
+    pass_on();
 }
 
 /* The aggregator whose ports carry the data: that of the bundle, unless that is down. */
@@ -203,6 +216,8 @@ void settle_carry(void) {
     carry.changed = false;
     take_views();
     choose_active();
+    withdraw();
+    set_collecting();
     look_at_partner();
     if (carry.waiting) release();
     if (to_balance) balance();
@@ -213,6 +228,7 @@ void settle_carry(void) {
 void pass_carry_tick(void) {
     if (!carries_data()) return;
     carry.time = milliseconds();
+    pass_fast_tick();
     pass_flight_tick();
     count_losses();
     carry.changed = to_balance = true;
@@ -229,13 +245,21 @@ void serve_data(uint32_t tag) {
     if (tag == HOST) take_host();
 }
 
+/* The link of a port goes down: nothing goes there from here on. */
+void lose_data(uint16_t port) {
+    if (carries_data()) withdraw_port(port);
+}
+
 /* Makes the TAP device, and all room that frames ever take, where data is carried. */
 void open_carry(void) {
     if (!settings.carry[0]) return;
+    start_packets();
     start_held();
     start_members();
+    rooms = make_rooms();
     load_guard();
     tap = open_tap(settings.carry, settings.config.mac);
+    if (settings.fast) start_fast();
     if (!watch(tap, HOST)) stop(REFUSED, "epoll", strerror(errno));
 }
 
@@ -243,4 +267,5 @@ void open_carry(void) {
 void end_carry(void) {
     for (uint16_t i = 0; i < link_count; i++)
         if (links[i].socket >= 0) close_member(&links[i]);
+    end_fast();
 }

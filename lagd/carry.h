@@ -7,13 +7,14 @@
 
 #include "lagd.h"
 
-#define SLOW_PROTOCOLS 0x8809
-#define VLAN_TAGGED 0x8100
-#define VLAN_SERVICE 0x88a8
-/* The octets of a VLAN tag, of a frame that may have one, and the room of that with a tag more before it. */
+/* The octets of a VLAN tag, and of the longest frame without and with one. */
 #define TAG_OCTETS 4
-#define LONGEST_DATA (ETH_HLEN + ETH_DATA_LEN + TAG_OCTETS)
-#define DATA_ROOM 1536
+#define LONGEST_PLAIN (ETH_HLEN + ETH_DATA_LEN)
+#define LONGEST_TAGGED (LONGEST_PLAIN + TAG_OCTETS)
+/* How many VLAN tags are skipped to find the network header. */
+#define MOST_TAGS 4
+/* Frames of the host that wait for the daemon, which other programs may keep from a processor for a while. */
+#define HOST_QUEUE 4096
 /* Frames that are sent or taken by one call of the kernel, and how many batches are taken of a socket in a turn. */
 #define BATCH 64
 #define MOST_BATCHES 4
@@ -21,7 +22,7 @@
 /* A conversation is busy that had a frame within so many milliseconds. */
 #define BUSY 5000
 
-/* What is counted of data. Each frame that came from the host is one of UNFIT to HELD_TOO_LONG, waits, or was given to a member; each
+/* What is counted of data. Each frame that came from the host is one of UNFIT to OVERFLOWED, waits, or was given to a member; each
  * one that a member took is one of HANDED_UP to OTHER_AGGREGATOR, or counted of the member. */
 enum carry_count {
     FROM_HOST,
@@ -29,6 +30,7 @@ enum carry_count {
     NONE_CARRIES,     /* no port carried */
     QUEUE_FULL,       /* lost while its conversation was held, for others that came later */
     HELD_TOO_LONG,    /* lost after it was held for longer than a flight and a second */
+    OVERFLOWED,       /* lost by the kernel, since too many waited for the daemon */
     HANDED_UP,
     HOST_UNTAKEN,     /* the TAP device did not take them */
     OTHER_AGGREGATOR, /* came in an aggregator that is not the active one */
@@ -41,6 +43,8 @@ enum carry_count {
     FORCED,   /* conversations that were freed from a port that no longer distributes */
     SWITCHES, /* of the active aggregator, to another one */
     WOKEN,    /* ports on defaults that were started again */
+    SEGMENTED, /* frames of several segments, of those that came from the host */
+    WITHDRAWN, /* conversations that were taken back from the kernel */
     CARRY_COUNTS
 };
 
@@ -50,10 +54,12 @@ enum member_count {
     DATA_UNSENT,     /* the kernel did not take them */
     DATA_RECEIVED,   /* all that came */
     UNCOLLECTED,     /* while the port did not collect */
-    WRONG_LENGTH,    /* of more than 1514 octets, 1518 with a tag, or of less than 14 */
+    WRONG_LENGTH,    /* of more than 1514 octets, 1518 with a tag, or of less than 14; or unreadable */
     SOCKET_FULL,     /* lost by the kernel, and not among those received */
     RETAGGED,        /* whose VLAN tag was put back */
     WITHOUT_SUMS,    /* whose checksums the sending host had left to a card that there is none */
+    PASSED_ON,       /* of those sent, by the kernel alone */
+    PASSED_UP,       /* of those received, handed up by the kernel alone */
     MEMBER_COUNTS
 };
 
@@ -65,6 +71,17 @@ struct queue {
     uint32_t first, last, count;
 };
 
+/* What is known here of a conversation that the kernel may pass on. */
+struct fast {
+    uint16_t port;    /* the port whose member its row names, or 0 */
+    bool touched;     /* whether it may be passed on now: frames of it came, or went */
+    uint32_t taken;   /* segments that came to the daemon since the last flush */
+    uint64_t counted; /* frames that the kernel had passed on when they were counted last */
+    bool doubted;     /* whether its row was found with frames that do not come; it was so: */
+    uint64_t doubted_word, doubted_opaque;
+    uint64_t not_before; /* the time before which it does not go on, after its link went down */
+};
+
 /* A conversation of the host. */
 struct conversation {
     uint16_t home;  /* the aggregator in which its last frame went, or 0 */
@@ -74,6 +91,7 @@ struct conversation {
     uint64_t since; /* the time of the tick that saw it held, or 0 */
     bool asked;     /* whether it is asked to move */
     struct queue queue;
+    struct fast fast;
 };
 
 /* Times are milliseconds of CLOCK_MONOTONIC. Ticks are made up after a stall, in which a frame may have been sent just before: they do not
@@ -98,22 +116,87 @@ bool is_busy(const struct conversation *conversation);
 bool is_unused(const struct conversation *conversation);
 struct niw_number offer_number(uint16_t number);
 void free_conversation(uint16_t aggregator, uint16_t number);
-void hand_up(uint32_t aggregator, const uint8_t *frame, size_t length);
+void hand_up(uint32_t aggregator, const uint8_t *packet, size_t length);
 uint64_t milliseconds(void);
 
-/* hash.c */
+/* hash.c: FNV-1a, of words of 32 bits; and where the headers of IP have what is hashed */
+#define HASH_START 2166136261u
+#define HASH_FACTOR 16777619
+enum {
+    IPV4_OCTETS = 20, IPV4_FRAGMENT = 6, IPV4_PROTOCOL = 9, IPV4_ADDRESSES = 12,
+    IPV6_OCTETS = 40, IPV6_NEXT = 6, IPV6_ADDRESSES = 8,
+    FRAGMENTED = 0x3fff, /* the bits of a fragment: more of them, and its place */
+};
 struct niw_number conversation_of(const uint8_t *frame, size_t length);
+
+/* packets.c: a packet is a frame, and what the kernel tells before it where frames of several segments are passed */
+void start_packets(void);
+size_t head_octets(void);
+size_t packet_room(void);
+uint8_t *make_rooms(void);
+bool has_segments(const uint8_t *packet);
+uint32_t count_segments(const uint8_t *packet, size_t length);
+bool has_right_length(const uint8_t *packet, size_t length);
+uint8_t *put_tag(uint8_t *packet, uint16_t type, uint16_t tag);
 
 /* tap.c */
 int open_tap(const char *name, const uint8_t *mac);
 void set_carrier(bool on);
 bool has_carrier(void);
 void set_mtu(uint32_t wanted);
+int tap_index(void);
+bool read_tap_mac(uint8_t *mac);
+
+/* bpf.c */
+struct bpf_insn;
+void *make_map(uint32_t size, uint32_t count, int *map);
+int load_program(const struct bpf_insn *steps, size_t count);
+int attach_program(int program, int index, bool egress);
+
+/* fast_programs.c: what the kernel runs for frames, and what it shares with the daemon */
+#define MOST_FAST 64 /* members */
+struct row {
+    uint64_t word;   /* above: the interface that the kernel sends on, or 0; below: segments that were left to the daemon */
+    uint64_t passed; /* frames that the kernel sent */
+    uint64_t opaque; /* frames left to the daemon, of segments that nobody has counted */
+};
+struct fast_member {
+    uint64_t up_to; /* the interface to which frames go up, or 0 */
+    uint64_t passed_up, uncollected, wrong_length;
+};
+struct fast_host {
+    int64_t left;        /* frames that were left to the daemon, and not taken yet */
+    uint64_t overflowed; /* frames that were lost, since there were too many of these */
+    uint64_t mac;        /* of the TAP device, as the octets stand in memory, and zeros */
+};
+struct fast_maps {
+    int rows, members, host;
+};
+int load_sender(const struct fast_maps *maps);
+int load_receiver(const struct fast_maps *maps, uint16_t port, int tap);
+int load_handover(const struct fast_maps *maps);
+
+/* fast.c */
+bool is_fast(void);
+void start_fast(void);
+void end_fast(void);
+int open_fast_receiver(const struct link *link);
+void note_taken(struct conversation *conversation, uint32_t segments);
+void pass_on(void);
+void withdraw(void);
+void withdraw_port(uint16_t port);
+void set_collecting(void);
+void take_fast_counts(void);
+void pass_fast_tick(void);
+void note_read(unsigned packets, bool drained);
 
 /* guard.c */
+#define PROCESSORS_ROOM 64
 struct guard {
     int opened;    /* what keeps data from the stack of the interface, or -1 */
     bool gro, lro; /* what was on before */
+    bool fast;     /* whether the kernel may pass on what goes and comes there */
+    char steered[PROCESSORS_ROOM]; /* the processors that RPS named before, or empty */
     struct ethtool_channels queues; /* what there was before; all 0 where there was one queue */
 };
 void load_guard(void);
@@ -122,7 +205,10 @@ void close_guard(const struct link *link, struct guard *guard);
 
 /* members.c */
 void start_members(void);
-void put_data(uint16_t port, uint8_t *frame, size_t length);
+bool has_fast_member(uint16_t port);
+void add_fast_counts(uint16_t port, const struct fast_member *more);
+void note_passed(uint16_t port, uint64_t frames);
+void put_data(uint16_t port, uint8_t *packet, size_t length);
 void flush_data(void);
 void take_data(uint16_t port);
 bool send_marker_again(uint16_t port);
@@ -131,7 +217,7 @@ uint64_t member_count(uint16_t port, enum member_count count);
 
 /* held.c */
 void start_held(void);
-bool put_held(struct queue *queue, const uint8_t *frame, size_t length, uint64_t time);
+bool put_held(struct queue *queue, const uint8_t *packet, size_t length, uint64_t time);
 uint8_t *first_held(const struct queue *queue, size_t *length, uint64_t *time);
 void drop_held(struct queue *queue);
 void leave_held(struct queue *queue);
@@ -149,8 +235,5 @@ void doubt_partner(void);
 /* flight.c */
 void note_sent(uint16_t port);
 void pass_flight_tick(void);
-
-/* carry_show.c */
-const char *hash_text(enum hash hash);
 
 #endif

@@ -13,6 +13,7 @@ static const struct {
     [NONE_CARRIES] = {"none_carries", "of these, lost since no port carried"},
     [QUEUE_FULL] = {"queue_full", "of these, lost since too many waited"},
     [HELD_TOO_LONG] = {"held_too_long", "of these, lost since they waited too long"},
+    [OVERFLOWED] = {"overflowed", "of these, lost by the kernel since too many waited for the daemon"},
     [HANDED_UP] = {"handed_up", "frames that were handed up to the TAP device"},
     [HOST_UNTAKEN] = {"host_untaken", "frames that the TAP device did not take"},
     [OTHER_AGGREGATOR] = {"other_aggregator", "frames that came in an aggregator that carries no data"},
@@ -25,6 +26,8 @@ static const struct {
     [FORCED] = {"forced", "conversations that were freed from a dead link"},
     [SWITCHES] = {"switches", "switches to another aggregator"},
     [WOKEN] = {"woken", "ports on defaults that were started again"},
+    [SEGMENTED] = {"segmented", "frames of several segments that came to the daemon"},
+    [WITHDRAWN] = {"withdrawn", "conversations that were taken back from the kernel"},
 };
 
 static const struct {
@@ -38,17 +41,13 @@ static const struct {
     [SOCKET_FULL] = {"socket_full", "frames that the kernel lost, beside those that came"},
     [RETAGGED] = {"retagged", "frames whose VLAN tag was put back"},
     [WITHOUT_SUMS] = {"without_sums", "frames that came without their checksums"},
+    [PASSED_ON] = {"passed_on", "frames of data that the kernel passed on by itself"},
+    [PASSED_UP] = {"passed_up", "frames of data that the kernel handed up by itself"},
 };
 
 static const char *answering_text(void) {
     static const char *const texts[] = {[NOT_ASKED] = "not asked", [ASKED] = "asked", [ANSWERS] = "answered", [MUTE] = "not answered"};
     return texts[answering()];
-}
-
-/* The word of a hash. */
-const char *hash_text(enum hash hash) {
-    static const char *const texts[] = {[HASH_LAYER2] = "layer2", [HASH_LAYER2_3] = "layer2+3", [HASH_LAYER3_4] = "layer3+4"};
-    return texts[hash];
 }
 
 /* How many frames wait now. */
@@ -65,14 +64,27 @@ static unsigned count_busy(uint16_t port) {
     return busy;
 }
 
+/* How many conversations the kernel passes on. */
+static unsigned count_fast(void) {
+    unsigned fast = 0;
+    for (unsigned i = 0; i < CONVERSATIONS; i++) fast += carry.conversations[i].fast.port > 0;
+    return fast;
+}
+
+/* By whom data goes. */
+static const char *way_text(void) {
+    return settings.fast ? "fast" : settings.offload ? "offload" : "plain";
+}
+
 void write_carry_text(void) {
     if (!carries_data()) return;
-    add("  carry: %s, carrier %s, hash %s, flight %u ms, markers %s\n", settings.carry, has_carrier() ? "on" : "off",
-        hash_text(settings.hash), settings.flight, answering_text());
+    take_fast_counts();
+    add("  carry: %s, carrier %s, hash %s, flight %u ms, markers %s, %s\n", settings.carry, has_carrier() ? "on" : "off",
+        hash_text(settings.hash), settings.flight, answering_text(), way_text());
     for (unsigned i = 0; i < CARRY_COUNTS; i++)
         add("%s %s %" PRIu64 "%s", i % 5 == 0 ? "  data:" : "", CARRY_COUNTERS[i].name, carry.counts[i],
             i % 5 == 4 || i == CARRY_COUNTS - 1 ? "\n" : "");
-    add("  waiting: %u\n", count_waiting());
+    add("  waiting: %u, conversations of the kernel: %u\n", count_waiting(), count_fast());
 }
 
 void write_member_text(const struct link *link) {
@@ -84,10 +96,12 @@ void write_member_text(const struct link *link) {
 
 void write_carry_json(void) {
     if (!carries_data()) return;
+    take_fast_counts();
     add("\"carry\":{\"device\":");
     add_string(settings.carry);
     add(",\"carrier\":%s,\"aggregator\":%u,\"hash\":\"%s\",", has_carrier() ? "true" : "false", carry.active, hash_text(settings.hash));
-    add("\"flight\":%u,\"markers\":\"%s\",\"waiting\":%u", settings.flight, answering_text(), count_waiting());
+    add("\"flight\":%u,\"markers\":\"%s\",\"way\":\"%s\",\"waiting\":%u,\"fast_conversations\":%u", settings.flight, answering_text(),
+        way_text(), count_waiting(), count_fast());
     for (unsigned i = 0; i < CARRY_COUNTS; i++) add(",\"%s\":%" PRIu64, CARRY_COUNTERS[i].name, carry.counts[i]);
     add("},");
 }
@@ -103,8 +117,10 @@ void write_member_json(const struct link *link) {
 void write_carry_metrics(void) {
     char name[64];
     if (!carries_data()) return;
+    take_fast_counts();
     add_bundle_value("carry_carrier", "gauge", "whether the TAP device has a carrier", has_carrier());
     add_bundle_value("carry_waiting", "gauge", "how many frames wait", count_waiting());
+    add_bundle_value("carry_fast_conversations", "gauge", "how many conversations the kernel passes on", count_fast());
     for (unsigned i = 0; i < CARRY_COUNTS; i++) {
         bool most = i == LONGEST_QUEUE;
         snprintf(name, sizeof name, "carry_%s%s", CARRY_COUNTERS[i].name, most ? "" : "_total");

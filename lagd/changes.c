@@ -29,6 +29,7 @@ struct interface {
     bool has_mac, counts_losses;
     uint32_t losses;
     uint32_t mtu; /* 0: not told */
+    char discipline[16]; /* of its queues */
 };
 
 static int route = -1;
@@ -67,6 +68,7 @@ static void take_attribute(struct interface *interface, unsigned type, const uin
         memcpy(&interface->losses, value, length);
         interface->counts_losses = true;
     }
+    if (type == IFLA_QDISC && length <= sizeof interface->discipline) memcpy(interface->discipline, value, length);
     if (type == IFLA_MTU && length == sizeof interface->mtu) memcpy(&interface->mtu, value, length);
     if (type == IFLA_PROP_LIST) {
         interface->others = value;
@@ -103,7 +105,7 @@ static struct interface read_interface(const uint8_t *message, size_t length) {
         if (head.rta_len < sizeof head || head.rta_len > length - at) break;
         take_attribute(&interface, head.rta_type & (unsigned)NLA_TYPE_MASK, message + at + sizeof head, head.rta_len - sizeof head);
     }
-    interface.name[IFNAMSIZ - 1] = 0;
+    interface.name[IFNAMSIZ - 1] = interface.discipline[sizeof interface.discipline - 1] = 0;
     return interface;
 }
 
@@ -121,6 +123,7 @@ static bool take_up(struct link *link, const struct interface *interface) {
         if (!started) stop(WRONG_WORD, "not an Ethernet interface", link->name);
         return false;
     }
+    memcpy(link->discipline, interface->discipline, sizeof link->discipline);
     if (!open_link(link, interface->index)) {
         if (!started) refuse_link(link);
         ask_again = true;
@@ -135,12 +138,24 @@ static uint32_t losses_since(uint32_t before, uint32_t now) {
     return now >= before ? now - before : now;
 }
 
+/* The queues of an interface are of another kind than it had: an interface that is made has none until it is up. Whether the kernel may
+ * pass on what goes there is seen anew. Answers whether the interface is still taken up. */
+static bool follow_discipline(struct link *link, const struct interface *interface) {
+    if (!interface->discipline[0] || strcmp(link->discipline, interface->discipline) == 0) return true;
+    memcpy(link->discipline, interface->discipline, sizeof link->discipline);
+    if (reopen_member(link)) return true;
+    ask_again = true;
+    lose_link(link);
+    return false;
+}
+
 /* Follows an interface of a port. Its carrier may have gone and come back, of which the kernel tells at once: it counts how often
  * it went. */
 static void follow(struct link *link, const struct interface *interface) {
     uint16_t port = link->settings.number;
     bool up = (interface->flags & IFF_UP) && (interface->flags & IFF_RUNNING);
     if (interface->has_mac) memcpy(link->mac, interface->mac, sizeof link->mac);
+    if (!follow_discipline(link, interface)) return;
     follow_mtu(link, interface->mtu);
     if (interface->counts_losses && interface->losses != link->kernel_losses) {
         uint32_t lost = losses_since(link->kernel_losses, interface->losses);

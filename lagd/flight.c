@@ -18,7 +18,7 @@ static unsigned wakes_after[NIW_MOST_PORTS]; /* how many of them it may */
 
 static bool distributes(uint16_t port) {
     struct niw_truth answer = niw_distributes(&own_system, port);
-    refuse(answer.status, "niw_distributes");
+    check_call(answer.status, "niw_distributes");
     return answer.is;
 }
 
@@ -38,8 +38,8 @@ static void wake_port(uint16_t port) {
     on_defaults[port - 1] = sleeps ? on_defaults[port - 1] + 1 : 0;
     if (on_defaults[port - 1] < *after || load_of(port) > 0) return;
     *after = 2 * *after < LAST_WAKE ? 2 * *after : LAST_WAKE;
-    refuse(niw_set_link(&own_system, port, false), "niw_set_link");
-    refuse(niw_set_link(&own_system, port, true), "niw_set_link");
+    check_call(niw_set_link(&own_system, port, false), "niw_set_link");
+    check_call(niw_set_link(&own_system, port, true), "niw_set_link");
     on_defaults[port - 1] = 0;
     carry.counts[WOKEN]++;
 }
@@ -58,7 +58,7 @@ static void watch_port(uint16_t port) {
     if (!holds || carry.time - *since < settings.flight) return;
     *since = 0;
     freed = niw_force_port(&own_system, port);
-    refuse(freed.status, "niw_force_port");
+    check_call(freed.status, "niw_force_port");
     carry.counts[FORCED] += freed.number;
     (void)say(LOG_WARNING | ABOUT_DATA, "port %u %s: it carries no more, and %" PRIu64 " conversations leave it", port,
         links[port - 1].name, freed.number);
@@ -76,17 +76,19 @@ static void drop_old(struct conversation *conversation) {
     }
 }
 
-/* Frees a conversation of which nothing was sent for a flight: its next frame goes by none. */
+/* Frees a conversation of which nothing was sent for a flight: its next frame overtakes none. */
 static void rest(struct conversation *conversation, uint16_t number) {
     free_conversation(conversation->home, number);
     carry.counts[RESTED]++;
     conversation->since = 0;
 }
 
-/* Towards a peer that answers no markers, a conversation that is still for a flight may go elsewhere. */
+/* Towards a peer that answers no markers, a conversation that is still for a flight may go elsewhere, once the kernel passes nothing
+ * of it. */
 static void watch_free(struct conversation *conversation, uint16_t number, const struct niw_assignment *state) {
     conversation->since = 0;
-    if (answering() == MUTE && state->what == NIW_CONVERSATION_ON && carry.time - conversation->last >= settings.flight)
+    if (answering() == MUTE && state->what == NIW_CONVERSATION_ON && conversation->fast.port == 0
+        && carry.time - conversation->last >= settings.flight)
         rest(conversation, number);
 }
 

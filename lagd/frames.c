@@ -9,10 +9,8 @@
 #include "lagd.h"
 
 #define LONGEST_FRAME 2048
-/* Where an LACPDU has its subtype, and its actor's system priority and system (IEEE 802.1AX-2014, 6.4.2.3). */
-#define SUBTYPE ETH_HLEN
+/* Where an LACPDU has its actor's system priority and system (IEEE 802.1AX-2014, 6.4.2.3). */
 #define ACTOR_SYSTEM (ETH_HLEN + 4)
-#define LACP 1
 /* The octets of a PDU behind the Ethernet header. What has fewer is for the library to refuse. */
 #define PDU 110
 /* How many ticks there are between two lines about strangers on a link. */
@@ -44,7 +42,7 @@ static bool is_own(const struct system_id *system) {
 /* The system that an LACPDU names as its actor; answers whether the frame is one. */
 static bool actor_of(const struct arrival *arrival, struct system_id *actor) {
     const uint8_t *at = arrival->frame + ACTOR_SYSTEM;
-    if (arrival->length < ETH_HLEN + PDU || arrival->frame[SUBTYPE] != LACP) return false;
+    if (arrival->length < ETH_HLEN + PDU || arrival->frame[SUBTYPE_AT] != SUBTYPE_LACP) return false;
     actor->priority = (uint16_t)(at[0] << 8 | at[1]);
     memcpy(actor->mac, at + 2, sizeof actor->mac);
     return true;
@@ -83,7 +81,7 @@ static void hand_over(struct link *link, const struct arrival *arrival, const st
     uint8_t response[NIW_FRAME];
     struct niw_received received = niw_receive(&own_system, link->settings.number, arrival->frame, arrival->length, response,
         sizeof response);
-    refuse(received.status, "niw_receive");
+    check_call(received.status, "niw_receive");
     if (received.status != NIW_OK) return;
     link->counts[kind_of(&received)]++;
     if (received.what == NIW_RECEIVED_TOOK_LACPDU && actor) note_actor(link, actor, arrival->frame + 6);

@@ -7,48 +7,34 @@
 #include <linux/sockios.h>
 #include <net/if.h>
 #include <netinet/in.h>
+#include <stdio.h>
+#include <stdlib.h>
 #include <string.h>
 #include <sys/ioctl.h>
 #include <sys/socket.h>
-#include <sys/syscall.h>
 #include <unistd.h>
 
 #include "carry.h"
 
-/* Of Linux 6.6, and not in older headers. */
-#define TCX_INGRESS 46
+/* What a program of TCX answers (Linux 6.6). */
 #define TCX_DROP 2
 #define TCX_NEXT (-1)
+/* The most processors that are named for RPS. */
+#define MOST_PROCESSORS 32
 
 static int program = -1;
 
 /* A program that drops each frame but those of the slow protocols, behind the packet sockets: so the stack of a member answers no ARP
  * for our address. It is loaded once, while the daemon may. */
 void load_guard(void) {
-    struct bpf_insn code[] = {
+    const struct bpf_insn steps[] = {
         {.code = BPF_LDX | BPF_MEM | BPF_W, .dst_reg = BPF_REG_2, .src_reg = BPF_REG_1, .off = offsetof(struct __sk_buff, protocol)},
         {.code = BPF_ALU64 | BPF_MOV | BPF_K, .dst_reg = BPF_REG_0, .imm = TCX_NEXT},
-        {.code = BPF_JMP | BPF_JEQ | BPF_K, .dst_reg = BPF_REG_2, .off = 1, .imm = htons(SLOW_PROTOCOLS)},
+        {.code = BPF_JMP | BPF_JEQ | BPF_K, .dst_reg = BPF_REG_2, .off = 1, .imm = htons(ETH_P_SLOW)},
         {.code = BPF_ALU64 | BPF_MOV | BPF_K, .dst_reg = BPF_REG_0, .imm = TCX_DROP},
         {.code = BPF_JMP | BPF_EXIT},
     };
-    union bpf_attr attributes;
-    memset(&attributes, 0, sizeof attributes);
-    attributes.prog_type = BPF_PROG_TYPE_SCHED_CLS;
-    attributes.insns = (uint64_t)(uintptr_t)code;
-    attributes.insn_cnt = sizeof code / sizeof code[0];
-    attributes.license = (uint64_t)(uintptr_t)"GPL";
-    program = (int)syscall(SYS_bpf, BPF_PROG_LOAD, &attributes, sizeof attributes);
-}
-
-/* Has the program run for an interface, as long as what it answers is open; or -1, and errno. */
-static int attach(int index) {
-    union bpf_attr attributes;
-    memset(&attributes, 0, sizeof attributes);
-    attributes.link_create.prog_fd = (uint32_t)program;
-    attributes.link_create.target_ifindex = (uint32_t)index;
-    attributes.link_create.attach_type = TCX_INGRESS;
-    return (int)syscall(SYS_bpf, BPF_LINK_CREATE, &attributes, sizeof attributes);
+    program = load_program(steps, sizeof steps / sizeof *steps);
 }
 
 /* Asks the driver of an interface something, or for something. */
@@ -88,7 +74,7 @@ static void set_lro(int index, bool on) {
     (void)ask_driver(index, &value);
 }
 
-/* How many queues an interface has for one direction, as `channels` tells in full: in several of them a marker may go by data. */
+/* How many queues an interface has for one direction, as `channels` tells in full: in several of them a marker may overtake data. */
 static unsigned queues_of(int index, struct ethtool_channels *channels) {
     uint32_t more;
     *channels = (struct ethtool_channels){.cmd = ETHTOOL_GCHANNELS};
@@ -110,6 +96,76 @@ static struct ethtool_channels join_queues(int index) {
     return before;
 }
 
+/* A file in which the kernel has which processors take what an interface receives (RPS); answers whether it is of this interface. */
+static bool path_of_processors(const struct link *link, char *path, size_t room) {
+    char name[IF_NAMESIZE], index[16] = "";
+    FILE *file;
+    if (!if_indextoname((unsigned)link->index, name)) return false;
+    snprintf(path, room, "/sys/class/net/%s/ifindex", name);
+    file = fopen(path, "re");
+    if (!file) return false;
+    if (!fgets(index, sizeof index, file)) index[0] = 0;
+    fclose(file);
+    snprintf(path, room, "/sys/class/net/%s/queues/rx-0/rps_cpus", name);
+    return atoi(index) == link->index;
+}
+
+/* Reads the processors of RPS: a mask, in hexadecimal. */
+static bool read_processors(const char *path, char *mask, size_t room) {
+    FILE *file = fopen(path, "re");
+    bool done = file && fgets(mask, (int)room, file);
+    if (file) fclose(file);
+    if (done) mask[strcspn(mask, "\n")] = 0;
+    return done;
+}
+
+static bool write_processors(const char *path, const char *mask) {
+    FILE *file = fopen(path, "we");
+    bool done = file && fputs(mask, file) >= 0;
+    return file && fclose(file) == 0 && done;
+}
+
+/* Whether a mask names one processor. */
+static bool is_one(const char *mask) {
+    unsigned bits = 0;
+    for (; *mask; mask++)
+        for (int digit = *mask == ',' ? 0 : (int)strtol((char[]){*mask, 0}, NULL, 16); digit; digit &= digit - 1) bits++;
+    return bits == 1;
+}
+
+/* Has one processor take all that an interface receives, so that it stands in one row, whatever processors it was sent from. */
+static bool steer(const struct link *link, struct guard *guard) {
+    char path[128], mask[16], now[PROCESSORS_ROOM];
+    long processors = sysconf(_SC_NPROCESSORS_ONLN);
+    if (processors > MOST_PROCESSORS) processors = MOST_PROCESSORS;
+    if (!path_of_processors(link, path, sizeof path) || !read_processors(path, now, sizeof now)) return false;
+    if (is_one(now)) return true;
+    snprintf(mask, sizeof mask, "%x", 1u << ((link->settings.number - 1) % (processors > 0 ? processors : 1)));
+    if (!write_processors(path, mask)) return false;
+    memcpy(guard->steered, now, sizeof guard->steered);
+    return true;
+}
+
+/* Why the kernel may not pass on what goes and comes at an interface, or NULL: a marker would overtake the data before it. */
+static const char *fault_of_fast(const struct link *link, struct guard *guard) {
+    struct ethtool_channels queues;
+    if (queues_of(link->index, &queues) > 1) return "it has several queues";
+    if (strcmp(link->discipline, "noqueue") != 0 && strcmp(link->discipline, "pfifo") != 0)
+        return "its queueing discipline is neither noqueue nor pfifo";
+    if (!steer(link, guard)) return "RPS cannot be set to one processor";
+    return NULL;
+}
+
+/* Has the kernel pass on what goes and comes at a member, where it may; a line says why not. */
+static void open_fast(const struct link *link, struct guard *guard) {
+    const char *fault = fault_of_fast(link, guard);
+    if (!fault) guard->opened = open_fast_receiver(link);
+    guard->fast = guard->opened >= 0;
+    if (!fault && !guard->fast) fault = strerror(errno);
+    if (fault && strcmp(link->discipline, "noop") != 0) /* it has that one until it is up, and is looked at again then */
+        (void)say(LOG_WARNING | ABOUT_DATA, "port %u %s: its data stays with the daemon: %s", link->settings.number, link->name, fault);
+}
+
 /* Prepares an interface. What it cannot be kept from has a line. */
 struct guard open_guard(const struct link *link) {
     struct guard guard = {.opened = -1, .gro = has_gro(link->index), .lro = has_lro(link->index)};
@@ -118,20 +174,23 @@ struct guard open_guard(const struct link *link) {
     if (guard.gro) set_gro(link->index, false);
     if (guard.lro) set_lro(link->index, false);
     guard.queues = join_queues(link->index);
-    if (program >= 0) guard.opened = attach(link->index);
+    if (is_fast()) open_fast(link, &guard);
+    if (guard.opened < 0 && program >= 0) guard.opened = attach_program(program, link->index, false);
     if (guard.opened < 0) (void)say(LOG_WARNING | ABOUT_DATA, "port %u %s: its own network stack has its frames, too", port, link->name);
     if (has_gro(link->index) || has_lro(link->index))
-        (void)say(LOG_WARNING | ABOUT_DATA, "port %u %s: GRO or LRO stays on, and markers may go by data", port, link->name);
+        (void)say(LOG_WARNING | ABOUT_DATA, "port %u %s: GRO or LRO stays on, and markers may overtake data", port, link->name);
     if (queues_of(link->index, &queues) > 1)
-        (void)say(LOG_WARNING | ABOUT_DATA, "port %u %s: it has several queues, and markers may go by data", port, link->name);
+        (void)say(LOG_WARNING | ABOUT_DATA, "port %u %s: it has several queues, and markers may overtake data", port, link->name);
     return guard;
 }
 
 /* The interface is no member any more. */
 void close_guard(const struct link *link, struct guard *guard) {
+    char path[128];
     if (guard->opened >= 0) close(guard->opened);
     if (guard->gro) set_gro(link->index, true);
     if (guard->lro) set_lro(link->index, true);
     if (guard->queues.cmd) (void)ask_driver(link->index, &guard->queues);
+    if (guard->steered[0] && path_of_processors(link, path, sizeof path)) (void)write_processors(path, guard->steered);
     *guard = (struct guard){.opened = -1};
 }

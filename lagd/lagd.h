@@ -89,6 +89,7 @@ struct link {
     int lock;   /* by which no other lagd has the interface; -1 while it is missing */
     int socket; /* -1 while the interface is missing */
     int index;  /* of the interface */
+    char discipline[16]; /* its queueing discipline, as the kernel last told */
     uint8_t mac[6];
     bool present; /* whether the answer of the kernel that is being read named it */
     bool up;
@@ -179,7 +180,7 @@ enum {
     KINDS = 0xf000,
 };
 _Noreturn void stop(int status, const char *what, const char *which);
-void refuse(uint32_t status, const char *call);
+void check_call(uint32_t status, const char *call);
 bool say(int level, const char *format, ...) __attribute__((format(printf, 2, 3)));
 void complain(const char *format, ...) __attribute__((format(printf, 1, 2)));
 size_t escape(char *text, size_t room, const char *from, size_t length, bool lines);
@@ -205,6 +206,11 @@ bool is_bound(const struct link *link);
 void send_frame(struct link *link, enum count kind, const uint8_t *frame);
 
 /* frames.c */
+/* Where a frame of the slow protocols has its subtype, and those of LACP and of the Marker protocol (IEEE 802.1AX-2014, 6.4.2.3 and
+ * 6.5.3.3). */
+#define SUBTYPE_AT 14
+#define SUBTYPE_LACP 1
+#define SUBTYPE_MARKER 2
 struct arrival {
     const uint8_t *frame;
     size_t length;
@@ -285,10 +291,12 @@ void look_at_carry(void);
 void settle_carry(void);
 void pass_carry_tick(void);
 void serve_data(uint32_t tag);
+void lose_data(uint16_t port);
 
 /* members.c */
 bool open_member(struct link *link);
 void close_member(struct link *link);
+bool reopen_member(struct link *link);
 void take_marker(struct link *link, const uint8_t *frame);
 void follow_mtu(struct link *link, uint32_t mtu);
 
@@ -302,10 +310,10 @@ void write_carry_metrics(void);
 void write_member_text(const struct link *link);
 void write_member_json(const struct link *link);
 
-/* answer.c: what is written for whoever asks. What 64 ports of the longest names have to tell has less than 2 MiB. */
-#define ANSWER_ROOM 4194304
-extern char answer[ANSWER_ROOM];
-extern size_t answered;
+/* report.c: what is written for whoever asks. What 64 ports of the longest names have to tell has less than 2 MiB. */
+#define REPORT_ROOM 4194304
+extern char report[REPORT_ROOM];
+extern size_t report_length;
 void add(const char *format, ...) __attribute__((format(printf, 1, 2)));
 void add_string(const char *text);
 

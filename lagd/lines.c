@@ -81,7 +81,7 @@ _Noreturn void stop(int status, const char *what, const char *which) {
 }
 
 /* Notes that the library refused a call: the loop tells the peers, and ends. Before the loop the program ends at once. */
-void refuse(uint32_t status, const char *call) {
+void check_call(uint32_t status, const char *call) {
     char why[64];
     if (status == NIW_OK || broken) return;
     snprintf(why, sizeof why, "refused with %" PRIu32, status);

@@ -3,6 +3,7 @@
 #include <errno.h>
 #include <linux/if_packet.h>
 #include <linux/pkt_sched.h>
+#include <net/ethernet.h>
 #include <netinet/in.h>
 #include <string.h>
 #include <sys/socket.h>
@@ -10,13 +11,12 @@
 
 #include "lagd.h"
 
-#define SLOW_PROTOCOLS 0x8809
 /* How many ticks a failure is told of, so that a queue that is full now and then is one line. */
 #define TROUBLE_TICKS 50
 
 /* A packet socket of an interface, for the frames of the slow protocols alone; or -1, and errno. */
 static int open_socket(int index) {
-    struct sockaddr_ll address = {.sll_family = AF_PACKET, .sll_protocol = htons(SLOW_PROTOCOLS), .sll_ifindex = index};
+    struct sockaddr_ll address = {.sll_family = AF_PACKET, .sll_protocol = htons(ETH_P_SLOW), .sll_ifindex = index};
     struct packet_mreq member = {index, PACKET_MR_MULTICAST, 6, {0x01, 0x80, 0xc2, 0x00, 0x00, 0x02}};
     int opened = socket(AF_PACKET, SOCK_RAW | SOCK_NONBLOCK | SOCK_CLOEXEC, 0), fault; /* it takes nothing before it is bound */
     if (opened < 0) return -1;

@@ -3,6 +3,7 @@
 #include <errno.h>
 #include <linux/filter.h>
 #include <linux/if_packet.h>
+#include <linux/virtio_net.h>
 #include <netinet/in.h>
 #include <string.h>
 #include <sys/socket.h>
@@ -11,12 +12,12 @@
 
 #include "carry.h"
 
-#define MARKER 2
 /* Of the frames that wait in a socket. */
 #define SOCKET_ROOM (8 << 20)
 
 static struct member {
-    int socket; /* -1 while the interface is missing */
+    int socket;  /* -1 while the interface is missing */
+    int markers; /* the socket for markers that the kernel hands up beside the data, or -1 */
     struct guard guard;
     uint32_t mtu;      /* 0: not known */
     bool has_marker;   /* whether one was sent */
@@ -26,6 +27,8 @@ static struct member {
     struct iovec parts[BATCH];
     struct mmsghdr messages[BATCH];
 } members[NIW_MOST_PORTS];
+
+static uint8_t *rooms; /* for the packets of a batch */
 
 static struct member *member_of(const struct link *link) {
     return &members[link - links];
@@ -39,13 +42,25 @@ uint64_t member_count(uint16_t port, enum member_count count) {
  * flood of data costs an LACPDU. */
 static bool filter(int fd, bool data) {
     struct sock_filter code[] = {
-        BPF_STMT(BPF_LD | BPF_H | BPF_ABS, 12),
-        BPF_JUMP(BPF_JMP | BPF_JEQ | BPF_K, SLOW_PROTOCOLS, 0, 3),
-        BPF_STMT(BPF_LD | BPF_B | BPF_ABS, 14),
-        BPF_JUMP(BPF_JMP | BPF_JEQ | BPF_K, MARKER, 0, 2),
+        BPF_STMT(BPF_LD | BPF_H | BPF_ABS, 2 * ETH_ALEN),
+        BPF_JUMP(BPF_JMP | BPF_JEQ | BPF_K, ETH_P_SLOW, 0, 3),
+        BPF_STMT(BPF_LD | BPF_B | BPF_ABS, SUBTYPE_AT),
+        BPF_JUMP(BPF_JMP | BPF_JEQ | BPF_K, SUBTYPE_MARKER, 0, 2),
         BPF_STMT(BPF_RET | BPF_K, data ? UINT32_MAX : 0), /* a marker */
         BPF_STMT(BPF_RET | BPF_K, data ? UINT32_MAX : 0), /* data */
         BPF_STMT(BPF_RET | BPF_K, data ? 0 : UINT32_MAX), /* another of the slow protocols */
+    };
+    struct sock_fprog wanted = {sizeof code / sizeof code[0], code};
+    return setsockopt(fd, SOL_SOCKET, SO_ATTACH_FILTER, &wanted, sizeof wanted) == 0;
+}
+
+/* Lets a socket of the TAP device have the markers that a program marked with the number of a port; with 0, let a socket have nothing. */
+static bool filter_marked(int fd, uint16_t port) {
+    struct sock_filter code[] = {
+        BPF_STMT(BPF_LD | BPF_W | BPF_ABS, (uint32_t)(SKF_AD_OFF + SKF_AD_MARK)),
+        BPF_JUMP(BPF_JMP | BPF_JEQ | BPF_K, port, 0, 1),
+        BPF_STMT(BPF_RET | BPF_K, port > 0 ? UINT32_MAX : 0),
+        BPF_STMT(BPF_RET | BPF_K, 0),
     };
     struct sock_fprog wanted = {sizeof code / sizeof code[0], code};
     return setsockopt(fd, SOL_SOCKET, SO_ATTACH_FILTER, &wanted, sizeof wanted) == 0;
@@ -56,33 +71,72 @@ static void enlarge(int fd, int forced, int plain) {
         (void)setsockopt(fd, SOL_SOCKET, plain, &(int){SOCKET_ROOM}, sizeof(int));
 }
 
-/* A packet socket for the data of an interface, and its markers; or -1, and errno. What it sends goes by no queueing discipline: fq_codel
- * has a queue for each flow, and a marker would go by the data before it. */
-static int open_data(int index) {
+static void close_keeping_errno(int fd) {
+    int fault = errno;
+    close(fd);
+    errno = fault;
+}
+
+/* How a packet is sent and taken: with a head, where frames of several segments are passed; and by no queueing discipline, where the
+ * kernel passes nothing on: fq_codel has a queue for each flow, and a marker would overtake the data before it. What the kernel passes on
+ * has that discipline, and so a marker has to. */
+static bool set_ways(int fd, bool fast) {
+    return (fast || setsockopt(fd, SOL_PACKET, PACKET_QDISC_BYPASS, &(int){1}, sizeof(int)) == 0)
+        && (head_octets() == 0 || setsockopt(fd, SOL_PACKET, PACKET_VNET_HDR, &(int){1}, sizeof(int)) == 0)
+        && setsockopt(fd, SOL_PACKET, PACKET_AUXDATA, &(int){1}, sizeof(int)) == 0;
+}
+
+/* A packet socket for the data of an interface, and its markers; or -1, and errno. Where the kernel hands up what comes, it only sends. */
+static int open_data(int index, bool fast) {
     struct sockaddr_ll address = {.sll_family = AF_PACKET, .sll_protocol = htons(ETH_P_ALL), .sll_ifindex = index};
     struct packet_mreq all = {index, PACKET_MR_PROMISC, 0, {0}};
-    int fd = socket(AF_PACKET, SOCK_RAW | SOCK_NONBLOCK | SOCK_CLOEXEC, 0), fault; /* it takes nothing before it is bound */
+    int fd = socket(AF_PACKET, SOCK_RAW | SOCK_NONBLOCK | SOCK_CLOEXEC, 0); /* it takes nothing before it is bound */
     if (fd < 0) return -1;
     enlarge(fd, SO_RCVBUFFORCE, SO_RCVBUF);
     enlarge(fd, SO_SNDBUFFORCE, SO_SNDBUF);
     (void)setsockopt(fd, SOL_PACKET, PACKET_IGNORE_OUTGOING, &(int){1}, sizeof(int));
-    if (filter(fd, true) && setsockopt(fd, SOL_PACKET, PACKET_QDISC_BYPASS, &(int){1}, sizeof(int)) == 0
-        && setsockopt(fd, SOL_PACKET, PACKET_AUXDATA, &(int){1}, sizeof(int)) == 0
+    if ((fast ? filter_marked(fd, 0) : filter(fd, true)) && set_ways(fd, fast)
         && bind(fd, (struct sockaddr *)&address, sizeof address) == 0
         && setsockopt(fd, SOL_PACKET, PACKET_ADD_MEMBERSHIP, &all, sizeof all) == 0)
         return fd;
-    fault = errno;
-    close(fd);
-    errno = fault;
+    close_keeping_errno(fd);
+    return -1;
+}
+
+/* A packet socket for the markers that the kernel hands up to the TAP device, behind the data of this port; or -1, and errno. */
+static int open_markers(uint16_t port) {
+    struct sockaddr_ll address = {.sll_family = AF_PACKET, .sll_protocol = htons(ETH_P_SLOW), .sll_ifindex = tap_index()};
+    int fd = socket(AF_PACKET, SOCK_RAW | SOCK_NONBLOCK | SOCK_CLOEXEC, 0);
+    if (fd < 0) return -1;
+    if (filter_marked(fd, port) && setsockopt(fd, SOL_PACKET, PACKET_AUXDATA, &(int){1}, sizeof(int)) == 0
+        && bind(fd, (struct sockaddr *)&address, sizeof address) == 0)
+        return fd;
+    close_keeping_errno(fd);
     return -1;
 }
 
 /* No interface is taken up yet. */
 void start_members(void) {
+    rooms = make_rooms();
     for (unsigned i = 0; i < NIW_MOST_PORTS; i++) {
-        members[i].socket = -1;
+        members[i].socket = members[i].markers = -1;
         members[i].guard.opened = -1;
     }
+}
+
+static void close_sockets(struct member *member) {
+    if (member->socket >= 0) close_keeping_errno(member->socket);
+    if (member->markers >= 0) close_keeping_errno(member->markers);
+    member->socket = member->markers = -1;
+}
+
+/* Opens the sockets of a member; answers whether it did. */
+static bool open_sockets(struct member *member, const struct link *link) {
+    bool fast = member->guard.fast;
+    uint32_t tag = MEMBERS + (uint32_t)(member - members);
+    member->socket = open_data(link->index, fast);
+    member->markers = fast && member->socket >= 0 ? open_markers(link->settings.number) : -1;
+    return member->socket >= 0 && (!fast || member->markers >= 0) && watch(fast ? member->markers : member->socket, tag);
 }
 
 /* Takes up an interface for data, if data is carried; answers whether it did, and else errno tells why not. */
@@ -90,16 +144,29 @@ bool open_member(struct link *link) {
     struct member *member = member_of(link);
     if (!carries_data()) return true;
     if (!filter(link->socket, false)) return false;
-    member->socket = open_data(link->index);
-    if (member->socket < 0) return false;
-    if (!watch(member->socket, MEMBERS + (uint32_t)(member - members))) {
-        close(member->socket);
-        member->socket = -1;
+    member->guard = open_guard(link);
+    if (!open_sockets(member, link)) {
+        close_sockets(member);
+        close_guard(link, &member->guard);
         return false;
     }
-    member->guard = open_guard(link);
     member->has_marker = false;
     return true;
+}
+
+/* Whether the kernel may pass on what goes on a port is seen anew; answers whether the member is still taken up. */
+bool reopen_member(struct link *link) {
+    uint32_t mtu = member_of(link)->mtu;
+    if (!is_fast() || member_of(link)->socket < 0) return true;
+    close_member(link);
+    if (!open_member(link)) return false;
+    member_of(link)->mtu = mtu;
+    return true;
+}
+
+/* Whether the kernel may pass on what goes on a port. */
+bool has_fast_member(uint16_t port) {
+    return members[port - 1].socket >= 0 && members[port - 1].guard.fast;
 }
 
 /* Frames that came while the socket was full. */
@@ -118,10 +185,10 @@ void count_losses(void) {
 void close_member(struct link *link) {
     struct member *member = member_of(link);
     if (!carries_data() || member->socket < 0) return;
+    withdraw_port(link->settings.number);
     count_loss(member);
-    close(member->socket);
+    close_sockets(member);
     close_guard(link, &member->guard);
-    member->socket = -1;
     member->mtu = 0;
 }
 
@@ -133,6 +200,23 @@ void follow_mtu(struct link *link, uint32_t mtu) {
     for (uint16_t i = 0; i < link_count; i++)
         if (members[i].mtu > 0 && members[i].mtu < least) least = members[i].mtu;
     set_mtu(least);
+}
+
+/* What the kernel alone handed up, or lost, of what came on a port, since the last time. */
+void add_fast_counts(uint16_t port, const struct fast_member *more) {
+    uint64_t *counts = members[port - 1].counts;
+    counts[DATA_RECEIVED] += more->passed_up + more->uncollected + more->wrong_length;
+    counts[PASSED_UP] += more->passed_up;
+    counts[UNCOLLECTED] += more->uncollected;
+    counts[WRONG_LENGTH] += more->wrong_length;
+    carry.counts[HANDED_UP] += more->passed_up;
+}
+
+/* So many frames more were passed on by the kernel alone, on a port. */
+void note_passed(uint16_t port, uint64_t frames) {
+    members[port - 1].counts[DATA_SENT] += frames;
+    members[port - 1].counts[PASSED_ON] += frames;
+    carry.counts[FROM_HOST] += frames;
 }
 
 /* Sends what waits for a member. A frame that the kernel does not take is lost, as on a wire. */
@@ -154,23 +238,26 @@ void flush_data(void) {
     free_left();
 }
 
-/* Puts a frame behind those that wait for a port. It stays where it is until flush_data. */
-void put_data(uint16_t port, uint8_t *frame, size_t length) {
+/* Puts a packet behind those that wait for a port. It stays where it is until flush_data. */
+void put_data(uint16_t port, uint8_t *packet, size_t length) {
     struct member *member = &members[port - 1];
     if (member->out == BATCH) flush_member(member);
-    member->parts[member->out] = (struct iovec){frame, length};
+    member->parts[member->out] = (struct iovec){packet, length};
     member->messages[member->out].msg_hdr = (struct msghdr){.msg_iov = &member->parts[member->out], .msg_iovlen = 1};
     member->out++;
 }
 
-/* Sends a marker behind the data of its port, by the same socket: by another one, of another priority, it would go by them. */
+/* Sends a marker behind the data of its port, by the same socket: by another one, of another priority, it would overtake them. What the
+ * kernel passes on and no longer may is taken back before. */
 static bool send_marker(struct link *link) {
     struct member *member = member_of(link);
-    uint8_t sent[NIW_FRAME];
+    uint8_t sent[sizeof(struct virtio_net_hdr) + NIW_FRAME] = {0};
+    size_t length = head_octets() + NIW_FRAME;
     flush_member(member);
-    memcpy(sent, member->marker, sizeof sent);
-    memcpy(sent + ETH_ALEN, link->mac, ETH_ALEN);
-    return member->socket >= 0 && send(member->socket, sent, sizeof sent, 0) == sizeof sent;
+    withdraw();
+    memcpy(sent + head_octets(), member->marker, NIW_FRAME);
+    memcpy(sent + head_octets() + ETH_ALEN, link->mac, ETH_ALEN);
+    return member->socket >= 0 && send(member->socket, sent, length, 0) == (ssize_t)length;
 }
 
 /* A marker is due on a port. */
@@ -196,82 +283,83 @@ static struct tpacket_auxdata aux_of(struct msghdr *message) {
     return aux;
 }
 
-/* Puts the tag back that the kernel took out of a frame, which has TAG_OCTETS before it; answers where it begins then. */
-static uint8_t *put_tag(uint8_t *frame, const struct tpacket_auxdata *aux) {
-    uint16_t type = aux->tp_status & TP_STATUS_VLAN_TPID_VALID ? aux->tp_vlan_tpid : VLAN_TAGGED;
-    uint8_t *at = frame - TAG_OCTETS;
-    memmove(at, frame, 2 * ETH_ALEN);
-    at[12] = (uint8_t)(type >> 8);
-    at[13] = (uint8_t)type;
-    at[14] = (uint8_t)(aux->tp_vlan_tci >> 8);
-    at[15] = (uint8_t)aux->tp_vlan_tci;
-    return at;
-}
-
-/* Whether a frame has a right length: up to 1514 octets, or 1518 with a tag. */
-static bool has_right_length(const uint8_t *frame, size_t length) {
-    bool tagged = length >= ETH_HLEN && ((frame[12] == VLAN_TAGGED >> 8 && frame[13] == (VLAN_TAGGED & 0xff))
-        || (frame[12] == VLAN_SERVICE >> 8 && frame[13] == (VLAN_SERVICE & 0xff)));
-    return length >= ETH_HLEN && length <= ETH_HLEN + ETH_DATA_LEN + (tagged ? TAG_OCTETS : 0u);
-}
-
-/* Hands a frame of data to the library, and up. */
-static void take_one(struct link *link, const uint8_t *frame, size_t length) {
+/* Hands a frame of data to the library, and up. The library looks at no more of it than the longest frame has. */
+static void take_one(struct link *link, const uint8_t *packet, size_t length) {
     struct member *member = member_of(link);
     uint8_t response[NIW_FRAME];
-    struct niw_received received = niw_receive(&own_system, link->settings.number, frame, length, response, sizeof response);
-    refuse(received.status, "niw_receive");
+    size_t octets = length - head_octets() < LONGEST_TAGGED ? length - head_octets() : LONGEST_TAGGED;
+    struct niw_received received = niw_receive(&own_system, link->settings.number, packet + head_octets(), octets, response,
+        sizeof response);
+    check_call(received.status, "niw_receive");
     if (received.status == NIW_OK && received.what == NIW_RECEIVED_HANDED_UP)
-        hand_up(received.number, frame, length);
+        hand_up(received.number, packet, length);
     else
         member->counts[UNCOLLECTED]++;
 }
 
-/* Takes a frame that came: a marker goes the way of all slow protocols. */
-static void take_message(struct link *link, struct mmsghdr *message) {
+/* A marker goes the way of all slow protocols. One that the kernel handed up to the TAP device came by its member. */
+static void take_slow(struct link *link, const struct sockaddr_ll *from, bool handed_up, const uint8_t *frame, size_t length) {
+    struct arrival arrival = {frame, length, from->sll_pkttype, handed_up ? link->index : from->sll_ifindex, false};
+    take_frame(link, &arrival);
+    carry.changed = true;
+}
+
+/* Takes a packet that came: a marker alone, without a head, where the kernel hands up the data. */
+static void take_message(struct link *link, struct mmsghdr *message, bool handed_up) {
     struct member *member = member_of(link);
     const struct sockaddr_ll *from = message->msg_hdr.msg_name;
     struct tpacket_auxdata aux = aux_of(&message->msg_hdr);
-    uint8_t *frame = message->msg_hdr.msg_iov->iov_base;
-    size_t length = message->msg_len;
+    size_t head = handed_up ? 0 : head_octets(), length = message->msg_len;
+    uint8_t *packet = message->msg_hdr.msg_iov->iov_base;
     bool tagged = (aux.tp_status & TP_STATUS_VLAN_VALID) != 0;
     if (from->sll_pkttype == PACKET_OUTGOING) return; /* an old kernel shows what was sent */
-    if (!tagged && length >= ETH_HLEN && frame[12] == SLOW_PROTOCOLS >> 8 && frame[13] == (SLOW_PROTOCOLS & 0xff)) {
-        struct arrival arrival = {frame, length, from->sll_pkttype, from->sll_ifindex, tagged};
-        take_frame(link, &arrival);
-        carry.changed = true;
+    if (!tagged && length >= head + ETH_HLEN && ((unsigned)packet[head + 12] << 8 | packet[head + 13]) == ETH_P_SLOW) {
+        take_slow(link, from, handed_up, packet + head, length - head);
         return;
     }
+    if (handed_up) return;
     member->counts[DATA_RECEIVED]++;
     if (tagged) {
-        frame = put_tag(frame, &aux);
+        packet = put_tag(packet, aux.tp_status & TP_STATUS_VLAN_TPID_VALID ? aux.tp_vlan_tpid : ETH_P_8021Q, aux.tp_vlan_tci);
         length += TAG_OCTETS;
         member->counts[RETAGGED]++;
     }
-    if (aux.tp_status & TP_STATUS_CSUMNOTREADY) member->counts[WITHOUT_SUMS]++;
-    if (message->msg_hdr.msg_flags & MSG_TRUNC || !has_right_length(frame, length))
+    if (head == 0 && aux.tp_status & TP_STATUS_CSUMNOTREADY) member->counts[WITHOUT_SUMS]++;
+    if (message->msg_hdr.msg_flags & MSG_TRUNC || !has_right_length(packet, length))
         member->counts[WRONG_LENGTH]++;
     else
-        take_one(link, frame, length);
+        take_one(link, packet, length);
 }
 
-/* Takes the frames that wait at a member, some at most. What the kernel tells of links comes before them: what was sent after a link
+/* The kernel has a frame of segments that it cannot describe: it is lost. */
+static bool is_unreadable(int got) {
+    return got < 0 && errno == EINVAL && head_octets() > 0;
+}
+
+/* Takes the packets that wait at a member, some at most. What the kernel tells of links comes before them: what was sent after a link
  * went is not handed up before it. */
 void take_data(uint16_t port) {
     static struct mmsghdr messages[BATCH];
     static struct iovec parts[BATCH];
     static struct sockaddr_ll from[BATCH];
-    static uint8_t rooms[BATCH][DATA_ROOM];
     static _Alignas(struct cmsghdr) uint8_t controls[BATCH][CMSG_SPACE(sizeof(struct tpacket_auxdata))];
     struct link *link = &links[port - 1];
-    for (int turn = 0, got = BATCH; turn < MOST_BATCHES && got == BATCH && members[port - 1].socket >= 0; turn++) {
+    struct member *member = &members[port - 1];
+    bool handed_up = member->markers >= 0;
+    for (int turn = 0, got = BATCH; turn < MOST_BATCHES && got == BATCH && member->socket >= 0; turn++) {
         for (unsigned i = 0; i < BATCH; i++) {
-            parts[i] = (struct iovec){rooms[i] + TAG_OCTETS, LONGEST_DATA};
+            parts[i] = (struct iovec){rooms + i * (packet_room() + TAG_OCTETS) + TAG_OCTETS, packet_room()};
             messages[i].msg_hdr = (struct msghdr){.msg_name = &from[i], .msg_namelen = sizeof from[i], .msg_iov = &parts[i],
                 .msg_iovlen = 1, .msg_control = controls[i], .msg_controllen = sizeof controls[i]};
         }
-        got = recvmmsg(members[port - 1].socket, messages, BATCH, MSG_DONTWAIT, NULL);
+        got = recvmmsg(handed_up ? member->markers : member->socket, messages, BATCH, MSG_DONTWAIT, NULL);
+        if (is_unreadable(got)) {
+            member->counts[DATA_RECEIVED]++;
+            member->counts[WRONG_LENGTH]++;
+            got = BATCH;
+            continue;
+        }
         if (got > 0) take_changes();
-        for (int i = 0; i < got; i++) take_message(link, &messages[i]);
+        for (int i = 0; i < got; i++) take_message(link, &messages[i], handed_up);
     }
 }

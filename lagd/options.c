@@ -35,6 +35,8 @@ static const char HELP[] =
     "  -C, --carry NAME            carries the data of a TAP device of this name, which it makes, with the MAC address of the system\n"
     "  -H, --hash layer2|layer2+3|layer3+4   what frames of one conversation have in common; layer2, if not given\n"
     "  -F, --flight MILLISECONDS   how long a frame can be on its way; 500 if not given\n"
+    "  -O, --offload               passes frames of several segments, which the kernel or the card cuts\n"
+    "  -K, --fast                  the kernel passes data on by itself (Linux 6.6), of several segments too\n"
     "  -f, --folder FOLDER         of status sockets; /run/lagd if not given\n"
     "  -s, --status                prints the state of each lagd of this network namespace and folder\n"
     "  -w, --watch                 prints each change of one, as it happens\n"
@@ -54,7 +56,8 @@ static const struct option LONG[] = {
     {"key-by-speed", no_argument, NULL, 'b'},
     {"hook", required_argument, NULL, 'x'},          {"folder", required_argument, NULL, 'f'},
     {"carry", required_argument, NULL, 'C'},         {"hash", required_argument, NULL, 'H'},
-    {"flight", required_argument, NULL, 'F'},
+    {"flight", required_argument, NULL, 'F'},        {"offload", no_argument, NULL, 'O'},
+    {"fast", no_argument, NULL, 'K'},
     {"status", no_argument, NULL, 's'},              {"watch", no_argument, NULL, 'w'},
     {"json", no_argument, NULL, 'j'},                {"metrics", no_argument, NULL, 'M'},
     {"help", no_argument, NULL, 'h'},                {"version", no_argument, NULL, 'V'},
@@ -103,7 +106,7 @@ static void read_option(int option, const char *last) {
     switch (option) {
     case 'c': options.file = optarg; break;
     case 'k': choose(CHECK); options.file = optarg; break;
-    case 'q': case 'b': take_key(option, "yes"); break;
+    case 'q': case 'b': case 'O': case 'K': take_key(option, "yes"); break;
     case 'f': options.folder = optarg; break;
     case 's': choose(SHOW); break;
     case 'w': choose(WATCH); break;
@@ -150,7 +153,7 @@ static void read_words(int count, char **words) {
 struct options *read_options(int argc, char **argv) {
     opterr = 0;
     options.settings = usual_settings();
-    for (int option; (option = getopt_long(argc, argv, "c:k:p:t:a:m:n:r:qbo:x:C:H:F:f:swjMhV", LONG, NULL)) >= 0;)
+    for (int option; (option = getopt_long(argc, argv, "c:k:p:t:a:m:n:r:qbo:x:C:H:F:OKf:swjMhV", LONG, NULL)) >= 0;)
         read_option(option, argv[optind - 1]);
     if (options.json && options.action != SHOW && options.action != WATCH)
         stop(WRONG_WORD, "usage", "lagd --status --json, or lagd --watch --json");

@@ -10,10 +10,10 @@
 #define AGAIN_TICKS 2
 
 static enum answering peer = NOT_ASKED, told = NOT_ASKED;
-static uint16_t probe, probed; /* the conversation, and its aggregator */
+static uint16_t probe_number, probe_aggregator; /* the conversation, and its aggregator */
 static bool in_use;            /* whether it has frames */
 static uint16_t asked_on;      /* the port that had its marker */
-static uint64_t answers;       /* marker responses that came there before */
+static uint64_t responses;       /* marker responses that came there before */
 static uint64_t asked_at;
 static struct system_id partner; /* of the active aggregator */
 static uint16_t partner_key;
@@ -38,7 +38,7 @@ void look_at_partner(void) {
     partner_key = view->partner_key;
     partner.priority = view->partner_priority;
     memcpy(partner.mac, view->partner_mac, sizeof partner.mac);
-    if (peer == ASKED && !in_use) free_conversation(probed, probe);
+    if (peer == ASKED && !in_use) free_conversation(probe_aggregator, probe_number);
     peer = told = NOT_ASKED;
 }
 
@@ -47,10 +47,10 @@ static uint16_t find_unused(void) {
     for (uint16_t i = CONVERSATIONS; i > 0; i--) {
         const struct conversation *conversation = &carry.conversations[i - 1];
         struct niw_number answer;
-        probe = (uint16_t)(i - 1);
+        probe_number = (uint16_t)(i - 1);
         if (!is_unused(conversation)) continue;
-        if (state_of(carry.active, probe).what != NIW_CONVERSATION_FREE || !is_home(conversation, probe)) continue;
-        answer = offer_number(probe);
+        if (state_of(carry.active, probe_number).what != NIW_CONVERSATION_FREE || !is_home(conversation, probe_number)) continue;
+        answer = offer_number(probe_number);
         if (answer.status == NIW_OK) return (uint16_t)answer.number;
     }
     return 0;
@@ -67,7 +67,7 @@ static uint16_t find_oldest(void) {
         state = state_of(carry.active, i);
         if (state.what != NIW_CONVERSATION_ON) continue;
         oldest = conversation->last;
-        probe = i;
+        probe_number = i;
         from = state.port;
     }
     return from;
@@ -79,15 +79,15 @@ static void ask_peer(void) {
     if (in_use) from = find_oldest();
     if (from == 0) return;
     to = carry.ports[0] == from ? carry.ports[1] : carry.ports[0];
-    if (niw_move_conversation(&own_system, carry.active, probe, to) != NIW_OK) {
-        if (!in_use) free_conversation(carry.active, probe);
+    if (niw_move_conversation(&own_system, carry.active, probe_number, to) != NIW_OK) {
+        if (!in_use) free_conversation(carry.active, probe_number);
         return;
     }
     peer = ASKED;
-    probed = carry.active;
+    probe_aggregator = carry.active;
     asked_at = carry.time;
     asked_on = from;
-    answers = links[from - 1].counts[RESPONSES_RECEIVED];
+    responses = links[from - 1].counts[RESPONSES_RECEIVED];
 }
 
 /* Says what the peer does, once. */
@@ -103,20 +103,20 @@ static void tell_peer(void) {
 
 /* What is known of the peer now. One whose link went meanwhile is asked again. */
 static enum answering judge(bool held) {
-    if (links[asked_on - 1].counts[RESPONSES_RECEIVED] > answers) return ANSWERS;
+    if (links[asked_on - 1].counts[RESPONSES_RECEIVED] > responses) return ANSWERS;
     if (!held || links[asked_on - 1].view.port_status != NIW_PORT_STATUS_DISTRIBUTING) return NOT_ASKED;
     return carry.time - asked_at < PATIENCE ? ASKED : MUTE;
 }
 
 /* Looks whether the probe was released. One that has frames is freed as others are. */
 static void look_at_probe(uint64_t *again) {
-    struct niw_assignment state = state_of(probed, probe);
+    struct niw_assignment state = state_of(probe_aggregator, probe_number);
     bool held = is_held(&state);
     if (state.what == NIW_CONVERSATION_FLUSHING && state.age > 0 && state.age % AGAIN_TICKS == 0)
         *again |= (uint64_t)1 << (state.port - 1);
     peer = judge(held);
     if (peer == ASKED) return;
-    if (held && !in_use) free_conversation(probed, probe);
+    if (held && !in_use) free_conversation(probe_aggregator, probe_number);
     tell_peer();
 }
 

@@ -19,6 +19,7 @@ static const char *restart_for(const struct settings *wanted) {
     if (wanted->key_by_speed != settings.key_by_speed) return "another key-by-speed";
     if (strcmp(wanted->carry, settings.carry) != 0) return "another carry";
     if (wanted->hash != settings.hash) return "another hash";
+    if (wanted->offload != settings.offload || wanted->fast != settings.fast) return "another offload or fast";
     for (uint16_t port = 1; port <= link_count; port++) {
         struct niw_port now = links[port - 1].settings, next = port_of(wanted, port);
         if (next.active != now.active) return "another activity";
@@ -38,7 +39,7 @@ static bool change_port(uint16_t port, const struct settings *wanted) {
     if (has_aggregator(next.key)) link->key = next.key;
     change.key = choose_key(link);
     answer = niw_configure(&own_system, port, &change);
-    refuse(answer.status, "niw_configure");
+    check_call(answer.status, "niw_configure");
     if (!answer.is) return false;
     link->settings.key = change.key;
     link->settings.priority = change.priority;

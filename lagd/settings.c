@@ -121,14 +121,28 @@ static bool take_carry(const char *text, struct settings *settings) {
     return true;
 }
 
+static const char *const HASHES[] = {[HASH_LAYER2] = "layer2", [HASH_LAYER2_3] = "layer2+3", [HASH_LAYER3_4] = "layer3+4"};
+
+/* The word of a hash. */
+const char *hash_text(enum hash hash) {
+    return HASHES[hash];
+}
+
 static bool take_hash(const char *text, struct settings *settings) {
-    static const char *const words[] = {[HASH_LAYER2] = "layer2", [HASH_LAYER2_3] = "layer2+3", [HASH_LAYER3_4] = "layer3+4"};
-    for (size_t i = 0; i < sizeof words / sizeof *words; i++) {
-        if (strcmp(text, words[i]) != 0) continue;
+    for (size_t i = 0; i < sizeof HASHES / sizeof *HASHES; i++) {
+        if (strcmp(text, HASHES[i]) != 0) continue;
         settings->hash = (enum hash)i;
         return true;
     }
     return false;
+}
+
+static bool take_offload(const char *text, struct settings *settings) {
+    return read_word(text, "yes", "no", &settings->offload);
+}
+
+static bool take_fast(const char *text, struct settings *settings) {
+    return read_word(text, "yes", "no", &settings->fast);
 }
 
 static bool take_flight(const char *text, struct settings *settings) {
@@ -155,6 +169,8 @@ static const struct {
     {"carry", "a name of an interface of at most 15 characters", take_carry},
     {"hash", "layer2, layer2+3 or layer3+4", take_hash},
     {"flight", "a number of milliseconds from 1 to 60000", take_flight},
+    {"offload", "yes or no", take_offload},
+    {"fast", "yes or no", take_fast},
 };
 
 /* Gives a key of the bundle a value; answers NULL, or what was expected. */
@@ -163,7 +179,7 @@ const char *set_bundle(struct settings *settings, const char *name, const char *
         if (strcmp(name, BUNDLE_KEYS[i].name) == 0)
             return BUNDLE_KEYS[i].take(text, settings) ? NULL : BUNDLE_KEYS[i].expected;
     return "key, system, partner, partner-required, key-by-speed, min-links, max-links, port-priority, timeout, activity, "
-           "marker-responses, hook, carry, hash or flight as a key of [Bundle]";
+           "marker-responses, hook, carry, hash, flight, offload or fast as a key of [Bundle]";
 }
 
 /* A number of a port. */
@@ -229,6 +245,7 @@ const char *lack_of(const struct settings *settings) {
     if (settings->port_count == 0) return "a section [Port INTERFACE] for each interface, 1 to 64 of them";
     for (uint16_t i = 0; i < settings->port_count; i++)
         if (strcmp(settings->ports[i].name, settings->carry) == 0) return "carry=NAME that is not the interface of a port";
+    if ((settings->offload || settings->fast) && !settings->carry[0]) return "carry=NAME where offload=yes or fast=yes stands";
     if (settings->min_links > settings->port_count) return "min-links that is at most the number of interfaces";
     return NULL;
 }

@@ -66,11 +66,14 @@ struct settings {
     char carry[DEVICE_ROOM]; /* the TAP device whose data is carried, or empty */
     enum hash hash;          /* of that data */
     uint16_t flight;         /* how long a frame of it can be on its way, in milliseconds */
+    bool offload;            /* whether frames of several segments are passed */
+    bool fast;               /* whether the kernel passes data on by itself, of several segments too */
     uint16_t port_count;
     struct port_settings ports[NIW_MOST_PORTS];
 };
 
 struct settings usual_settings(void);
+const char *hash_text(enum hash hash);
 const char *set_bundle(struct settings *settings, const char *name, const char *text);
 const char *set_port(struct port_settings *port, const char *name, const char *text);
 const char *add_port(struct settings *settings, const char *name, size_t length);

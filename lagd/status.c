@@ -93,13 +93,13 @@ static void answer_caller(struct caller *caller) {
     caller->watches = strcmp(asked, "watch") == 0 || strcmp(asked, "watch-json") == 0;
     caller->json = strcmp(asked, "watch-json") == 0;
     if (caller->watches) return;
-    answered = 0;
+    report_length = 0;
     if (strcmp(asked, "text") == 0) write_text();
     if (strcmp(asked, "json") == 0) write_json();
     if (strcmp(asked, "metrics") == 0) write_metrics();
-    caller->rest = answered > 0 ? malloc(answered) : NULL;
-    caller->answer_length = answered;
-    if (caller->rest) memcpy(caller->rest, answer, answered);
+    caller->rest = report_length > 0 ? malloc(report_length) : NULL;
+    caller->answer_length = report_length;
+    if (caller->rest) memcpy(caller->rest, report, report_length);
     if (caller->rest)
         send_rest(caller);
     else
@@ -159,9 +159,9 @@ void tell_watchers_of(const struct link *link) {
     bool any = false;
     for (unsigned i = 0; i < MOST_CALLERS; i++) any = any || (callers[i].fd >= 0 && callers[i].watches && callers[i].json);
     if (!any) return;
-    answered = 0;
+    report_length = 0;
     write_json_event(link);
-    tell(answer, answered, true);
+    tell(report, report_length, true);
 }
 
 static void remove_socket(void) {

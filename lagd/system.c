@@ -15,7 +15,7 @@ static struct timespec began;
 
 /* What a reader told; 0 where it is refused. */
 uint64_t number_of(struct niw_number answer, const char *call) {
-    refuse(answer.status, call);
+    check_call(answer.status, call);
     return answer.number;
 }
 
@@ -49,7 +49,7 @@ void make_system(void) {
         forget_partner(&links[i]);
     }
     make_keys(keys);
-    refuse(niw_new(&own_system, &settings.config, keys, aggregator_count, ports, link_count).status, "niw_new");
+    check_call(niw_new(&own_system, &settings.config, keys, aggregator_count, ports, link_count).status, "niw_new");
     take_views();
 }
 
@@ -58,7 +58,7 @@ static void send_due_of(uint16_t port) {
     uint8_t frame[NIW_FRAME];
     for (;;) {
         struct niw_sent due = niw_transmit(&own_system, port, frame, sizeof frame);
-        refuse(due.status, "niw_transmit");
+        check_call(due.status, "niw_transmit");
         if (!due.is) return;
         if (due.what == NIW_SENT_MARKER)
             take_marker(&links[port - 1], frame);
@@ -91,7 +91,8 @@ void set_link(uint16_t port, bool up) {
         link->counts[LOSSES]++;
         forget_partner(link);
     }
-    refuse(niw_set_link(&own_system, port, up), "niw_set_link");
+    if (!up) lose_data(port);
+    check_call(niw_set_link(&own_system, port, up), "niw_set_link");
     look_at_carry();
     send_due();
     take_views();
@@ -125,7 +126,7 @@ static void pass_second(void) {
 
 /* 100 ms passed. */
 void pass_tick(void) {
-    refuse(niw_tick(&own_system), "niw_tick");
+    check_call(niw_tick(&own_system), "niw_tick");
     for (uint16_t i = 0; i < link_count; i++) pass_tick_of(&links[i]);
     pass_carry_tick();
     if (++ticks % SECOND == 0) pass_second();
@@ -140,7 +141,7 @@ void tell_end(void) {
         link->sent_before_end = link->counts[LACPDUS_SENT];
         leave.priority = link->settings.priority;
         leave.aggregatable = link->settings.aggregatable;
-        refuse(niw_configure(&own_system, port, &leave).status, "niw_configure");
+        check_call(niw_configure(&own_system, port, &leave).status, "niw_configure");
     }
     send_due();
 }
@@ -156,5 +157,5 @@ bool end_is_told(void) {
 void end_system(void) {
     for (uint16_t i = 0; i < link_count; i++) (void)say(LOG_NOTICE | ABOUT_END, "port %u %s: ended", i + 1, links[i].name);
     end_bundle();
-    refuse(niw_free(&own_system), "niw_free");
+    check_call(niw_free(&own_system), "niw_free");
 }

@@ -35,6 +35,10 @@ ETHTOOL, GET_GRO, SET_GRO = 0x8946, 0x2B, 0x2C
 # How long two ends may take until both links carry.
 COMES_UP = 30
 COMES_BACK = 12
+# What the daemon may do at its start, as lagd/carry.conf gives it.
+RIGHTS = ("setpriv", "--bounding-set", "-all,+net_raw,+net_admin,+bpf", "--inh-caps", "-all", "--")
+# How long a daemon may take until it has a status.
+ANSWERS = 5
 # What a run of flows takes beyond the time in which frames are sent.
 AFTER = 2.0
 
@@ -47,16 +51,19 @@ class Programs:
     flows: str
     cables: str
     conversations: str  # a program that prints the conversations of frames
+    kernel_hash: str    # one that compares them with those that a program of the kernel finds
 
 
-def build_programs(folder: str, libraries: list[str]) -> Programs:
+def build_programs(folder: str, libraries: list[str], words: Sequence[str] = ()) -> Programs:
     """Builds the daemon, one that sends no markers before its moves, and the programs of the cables and flows."""
     here = f"{TOP}/tools/carry.d"
     forcing = build_daemon(folder, libraries, "lagd-forcing", [f"{here}/forcing.c"], ["-Wl,--wrap=lagffi_move_conversation"])
     own = {name: build(f"{folder}/{name}", [f"{here}/{name}.c"], [], "-std=c11", *WARNINGS) for name in ("flows", "cables")}
     sources = [f"{here}/conversations.c", f"{DAEMON}/hash.c"]
     hashing = build(f"{folder}/conversations", sources, libraries, *STRICT, "-fsanitize=address,undefined", f"-I{DAEMON}")
-    return Programs(folder, build_daemon(folder, libraries), forcing, conversations=hashing, **own)
+    sources = [f"{here}/kernel_hash.c", *(f"{DAEMON}/{name}.c" for name in ("hash", "bpf", "fast_programs", "settings"))]
+    kernel = build(f"{folder}/kernel_hash", sources, libraries, *STRICT, "-fsanitize=address,undefined", f"-I{DAEMON}")
+    return Programs(folder, build_daemon(folder, libraries, words=words), forcing, conversations=hashing, kernel_hash=kernel, **own)
 
 
 class End(Daemon):
@@ -74,12 +81,16 @@ class End(Daemon):
         ip(space, "link", "set", DEVICE, "up")
 
     def told(self) -> dict[str, Any]:
-        """The whole status."""
-        for _ in range(3):
-            answer = inside(self.space, self.program, "--folder", self.folder, "--status", "--json")
-            if answer.returncode == 0:
-                return json.loads(answer.stdout.splitlines()[0])
-        raise Failed("the daemon answers", answer.stderr, self.printed())
+        """The whole status; a daemon that has just begun has none yet."""
+        answers: list[subprocess.CompletedProcess[str]] = []
+
+        def asked() -> bool:
+            answers.append(inside(self.space, self.program, "--folder", self.folder, "--status", "--json"))
+            return answers[-1].returncode == 0
+
+        if not within(ANSWERS, asked):
+            raise Failed("the daemon answers", answers[-1].stderr, self.printed())
+        return json.loads(answers[-1].stdout.splitlines()[0])
 
     def carry(self) -> dict[str, Any]:
         return self.told()["carry"]
@@ -150,6 +161,8 @@ class Cables:
         ip(space, "link", "add", name, "type", "veth", "peer", "name", end, "netns", MIDDLE)
         ip(space, "link", "set", name, "up")
         ip(MIDDLE, "link", "set", end, "up")
+        # One processor takes what the cable is given, whichever one it was sent from: else the cable itself would turn frames round.
+        inside(MIDDLE, "sh", "-c", f"echo 1 >/sys/class/net/{end}/queues/rx-0/rps_cpus")
 
     def tell(self, what: str, number: int) -> None:
         self.socket.sendto(f"{what} {number}".encode(), self.path)
@@ -216,6 +229,12 @@ class Outcome:
 Event = tuple[float, Callable[[], None]]
 
 
+def every(second: float, until: float, event: Callable[[], None], first: float = 1.0) -> list[Event]:
+    """An event each so many seconds."""
+    count = int((until - first) / second) + 1
+    return [(first + second * turn, event) for turn in range(count)]
+
+
 def run_flows(programs: Programs, seconds: float, events: Sequence[Event] = (), *, kind: str = "macs", rate: int = RATE, flows: int = FLOWS,
               devices: tuple[str, str] = (DEVICE, DEVICE)) -> Outcome:
     """Sends numbered frames from our end to the other one, and has events happen meanwhile, each at its second."""
@@ -245,7 +264,7 @@ def check_order(outcome: Outcome, what: str, *told: object) -> None:
     check(holds, f"{what}: {text}, longest gap {outcome.gap_ms} ms", outcome, *told)
 
 
-UNSENT = ("unfit", "none_carries", "queue_full", "held_too_long", "waiting")
+UNSENT = ("unfit", "none_carries", "queue_full", "held_too_long", "overflowed", "waiting")
 FROM_MEMBERS = ("handed_up", "host_untaken", "other_aggregator")
 
 
@@ -263,7 +282,8 @@ def check_whole(outcome: Outcome, ours: End, theirs: End, *, cables_lose: bool) 
     """Each frame that was sent came, or is counted."""
     check_end(ours, "the sending end")
     check_end(theirs, "the receiving end")
-    came = ours.carry()["from_host"] + kernel_count(OURS, DEVICE, "tx_dropped")
+    carry = ours.carry()
+    came = carry["from_host"] - carry["overflowed"] + kernel_count(OURS, DEVICE, "tx_dropped")  # who sent knows of those that overflowed
     taken = outcome.sent - outcome.refused
     check(came == taken, f"all {taken:,} frames that the kernel took came from {DEVICE}, or it counts them", outcome)
     up = theirs.carry()["handed_up"] - kernel_count(THEIRS, DEVICE, "rx_dropped") - outcome.lost_here

@@ -61,16 +61,25 @@ def measure_fast(name: str, programs: Programs, processes: Sequence[int], device
     return row(f"{name}, {FAST:,} frames a second", outcome, processes, before)
 
 
+def measure_way(programs: Programs, name: str, *options: str) -> list[list[str]]:
+    """The rows of two daemons, by one of their ways."""
+    with pair(programs, options=list(options)) as (laid, ours, theirs):
+        return measure(name, programs, laid, [ours.process.pid, theirs.process.pid], (DEVICE, DEVICE), move_all(ours))
+
+
+def measure_way_fast(programs: Programs, name: str, *options: str) -> list[str]:
+    with pair(programs, delays=(), options=list(options)) as (_, ours, theirs):
+        return measure_fast(name, programs, [ours.process.pid, theirs.process.pid], (DEVICE, DEVICE))
+
+
 def measure_ours(programs: Programs) -> list[list[str]]:
-    with pair(programs) as (laid, ours, theirs):
-        rows = measure("lagd", programs, laid, [ours.process.pid, theirs.process.pid], (DEVICE, DEVICE), move_all(ours))
+    rows = measure_way(programs, "lagd") + measure_way(programs, "lagd --fast", "--fast")
     with pair(programs, program=programs.forcing) as (_, ours, theirs):
         ends = [ours.process.pid, theirs.process.pid]
         before = sum(map(seconds_of, ends))
         outcome = run_flows(programs, 12, [(second, move_all(ours)) for second in range(1, 11)])
         rows.append(row("lagd without markers, each flow moved ten times", outcome, ends, before))
-    with pair(programs, delays=()) as (_, ours, theirs):
-        return [*rows, measure_fast("lagd", programs, [ours.process.pid, theirs.process.pid], (DEVICE, DEVICE))]
+    return [*rows, measure_way_fast(programs, "lagd"), measure_way_fast(programs, "lagd --fast", "--fast")]
 
 
 def measure_open_vswitch(programs: Programs, delays: Sequence[int] = DELAYS) -> list[list[str]]:
@@ -105,5 +114,5 @@ def print_table(programs: Programs) -> None:
     print(f"{os.cpu_count()} processors, load {os.getloadavg()[0]:.0f}")
     for cells in (list(HEADINGS), ["---"] * len(HEADINGS), *rows):
         print(f"| {' | '.join(cells)} |")
-    ours = [cells for cells in rows if cells[0].startswith("lagd,")]
+    ours = [cells for cells in rows if cells[0].startswith(("lagd,", "lagd --fast,"))]
     check(all(cells[2] == cells[3] == "0" for cells in ours), "with markers no frame was overtaken and none came twice")

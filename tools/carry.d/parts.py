@@ -7,8 +7,10 @@ import signal
 import time
 from typing import Callable
 
-from bonds import (CACHE, COMES_BACK, COMES_UP, DEVICE, FLOWS, End, Event, Programs, ask_gro, cables, check_end, check_order,
-                   check_whole, lay_direct, move_all, pair, run_flows)
+from bonds import (CACHE, COMES_BACK, COMES_UP, DEVICE, FLOWS, RIGHTS, End, Programs, ask_gro, cables, check_end, check_order, check_whole, every,
+                   lay_direct, move_all, pair, run_flows)
+from fast_parts import fast, fast_away, fast_ends, fast_hash, fast_overload, fast_refused, fast_troubles, kernel_hashes, offload
+from models import model
 from rows import rows
 from checking import Skipped, check, within
 from fetching import Packages
@@ -16,8 +18,6 @@ from openvswitch import OpenVSwitch
 from repository import daemon_words
 from spaces import OURS, THEIRS, inside, ip, packet_socket
 
-# What the daemon may do at its start, as lagd/carry.conf gives it.
-RIGHTS = ("setpriv", "--bounding-set", "-all,+net_raw,+net_admin,+bpf", "--inh-caps", "-all", "--")
 # Frames a second of an overload.
 FLOOD = 400000
 # How long the kernel may keep a carrier that is on from a device, in seconds.
@@ -26,11 +26,6 @@ LINKWATCH = 1.2
 SILENCE_MS = 3500
 # Frames of a run without markers that are overtaken at least, so that the order can be told of.
 TELLS = 5
-
-
-def every(second: float, until: float, event: Callable[[], None], first: float = 1.0) -> list[Event]:
-    count = int((until - first) / second) + 1
-    return [(first + second * turn, event) for turn in range(count)]
 
 
 def moves(programs: Programs) -> None:
@@ -286,4 +281,6 @@ def rights(programs: Programs) -> None:
 
 
 PARTS: dict[str, Callable[[Programs], None]] = {it.__name__: it for it in
-    (rows, moves, cuts, silence, switches, away, restarts, stops, overload, hashes, mute, frames, rights, open_vswitch)}
+    (rows, moves, cuts, silence, switches, away, restarts, stops, overload, hashes, mute, frames, rights, open_vswitch, offload,
+     kernel_hashes, model, fast, fast_hash, fast_troubles, fast_overload, fast_refused, fast_away,
+     fast_ends)}

@@ -20,8 +20,8 @@ from spaces import OURS, THEIRS, inside, ip, make_pair
 BUNDLES, MOST_PORTS, A_MINUTE = 100, 64, 60
 # How long many daemons on few processors may take, in seconds; and which share of a processor each of them may have then.
 MANY_COME_UP, SHARE_OF_EACH = 60, 0.0015
-# How many programs flood a port, and for how many seconds.
-FLOODS, FLOODED = 3, 10
+# For how many seconds programs flood a port: one sends, and two have the interface receive what they give it, which is faster.
+FLOODED = 10
 # How many octets a daemon may grow by in a flood.
 GROWTH = 4 << 20
 
@@ -107,7 +107,9 @@ def rubbish(part: Part) -> None:
     ours, theirs = part.ours(), part.theirs()
     both_up(ours, theirs, "both links distribute")
     before, sent, waited = memory(ours), ours.count("a1", "lacpdus_sent"), 0.0
-    floods = [subprocess.Popen(["ip", "netns", "exec", THEIRS, flood, "b0", str(FLOODED)], stdout=subprocess.PIPE, text=True) for _ in range(FLOODS)]
+    ways = [(THEIRS, "b0", []), (OURS, "a0", ["received"]), (OURS, "a0", ["received"])]
+    floods = [subprocess.Popen(["ip", "netns", "exec", space, flood, name, str(FLOODED), *more], stdout=subprocess.PIPE, text=True)
+              for space, name, more in ways]
     begin, holds, looks = time.monotonic(), 0, 0
     while any(it.poll() is None for it in floods):
         asked = time.monotonic()

@@ -5,17 +5,17 @@
 
 #include "lagd.h"
 
-char answer[ANSWER_ROOM];
-size_t answered;
+char report[REPORT_ROOM];
+size_t report_length;
 
-/* Adds to the answer, as far as there is room. */
+/* Adds to the report, as far as there is room. */
 void add(const char *format, ...) {
     va_list given;
     int length;
     va_start(given, format);
-    length = vsnprintf(answer + answered, sizeof answer - answered, format, given);
+    length = vsnprintf(report + report_length, sizeof report - report_length, format, given);
     va_end(given);
-    answered += (size_t)length < sizeof answer - answered ? (size_t)length : sizeof answer - answered - 1;
+    report_length += (size_t)length < sizeof report - report_length ? (size_t)length : sizeof report - report_length - 1;
 }
 
 /* Adds a string of JSON. The kernel allows any octets in a name. */
@@ -36,8 +36,8 @@ struct view view_of(const struct link *link) {
     uint16_t port = link->settings.number;
     struct niw_actor own = niw_party(&own_system, port);
     struct niw_info partner = niw_partner(&own_system, port);
-    refuse(own.status, "niw_party");
-    refuse(partner.status, "niw_partner");
+    check_call(own.status, "niw_party");
+    check_call(partner.status, "niw_partner");
     return (struct view){
         .facts = facts_of(link),
         .receive = number_of(niw_receive_state(&own_system, port), "niw_receive_state"),

@@ -1,0 +1,55 @@
+/* Programs and tables of the kernel, by bpf(2) alone. */
+#define _GNU_SOURCE
+#include <errno.h>
+#include <linux/bpf.h>
+#include <string.h>
+#include <sys/mman.h>
+#include <sys/syscall.h>
+#include <unistd.h>
+
+#include "carry.h"
+
+/* Of Linux 6.6, and not in older headers. */
+#define TCX_INGRESS 46
+#define TCX_EGRESS 47
+
+static int bpf(int command, union bpf_attr *attributes) {
+    return (int)syscall(SYS_bpf, command, attributes, sizeof *attributes);
+}
+
+/* Makes a table of `count` values of `size` octets, which the programs and this one share; answers where it is here, or NULL, and errno. */
+void *make_map(uint32_t size, uint32_t count, int *map) {
+    size_t page = (size_t)sysconf(_SC_PAGESIZE), length = ((size_t)size * count + page - 1) / page * page;
+    union bpf_attr attributes;
+    void *at;
+    memset(&attributes, 0, sizeof attributes);
+    attributes.map_type = BPF_MAP_TYPE_ARRAY;
+    attributes.key_size = sizeof(uint32_t);
+    attributes.value_size = size;
+    attributes.max_entries = count;
+    attributes.map_flags = BPF_F_MMAPABLE;
+    *map = bpf(BPF_MAP_CREATE, &attributes);
+    at = *map < 0 ? MAP_FAILED : mmap(NULL, length, PROT_READ | PROT_WRITE, MAP_SHARED, *map, 0);
+    return at == MAP_FAILED ? NULL : at;
+}
+
+/* Loads a program for frames; answers its file, or -1, and errno. */
+int load_program(const struct bpf_insn *steps, size_t count) {
+    union bpf_attr attributes;
+    memset(&attributes, 0, sizeof attributes);
+    attributes.prog_type = BPF_PROG_TYPE_SCHED_CLS;
+    attributes.insns = (uint64_t)(uintptr_t)steps;
+    attributes.insn_cnt = (uint32_t)count;
+    attributes.license = (uint64_t)(uintptr_t)"GPL";
+    return bpf(BPF_PROG_LOAD, &attributes);
+}
+
+/* Has a program run for what an interface sends, or for what it receives, as long as what it answers is open; or -1, and errno. */
+int attach_program(int program, int index, bool egress) {
+    union bpf_attr attributes;
+    memset(&attributes, 0, sizeof attributes);
+    attributes.link_create.prog_fd = (uint32_t)program;
+    attributes.link_create.target_ifindex = (uint32_t)index;
+    attributes.link_create.attach_type = egress ? TCX_EGRESS : TCX_INGRESS;
+    return bpf(BPF_LINK_CREATE, &attributes);
+}

@@ -1,0 +1,273 @@
+/* Data that the kernel passes on by itself, by what the library answered. Each conversation has a row in a table that the programs of
+ * fast_programs.c read: the member on which its frames go, or none, and how many are on their way to the daemon. The daemon names a
+ * member only while none is, and takes the name back before a marker goes: then it waits until each frame for which the old row was
+ * read is with the member. All that the kernel runs is held by files of this process, and ends with it. */
+#define _GNU_SOURCE
+#include <errno.h>
+#include <linux/membarrier.h>
+#include <string.h>
+#include <sys/syscall.h>
+#include <unistd.h>
+
+#include "carry.h"
+
+/* How long the conversations of a link that went down wait, in milliseconds: the peer's kernel may still have frames to hand up. */
+#define DOWN_WAIT 100
+/* With more frames left than this, while none waits, frames were lost on their way to the daemon. */
+#define MOST_BETWEEN 64
+
+static struct row *rows;
+static struct fast_member *entries;
+static struct fast_host *host;
+static int receivers[NIW_MOST_PORTS];     /* the programs of the members */
+static int tap_at;                        /* the index of the TAP device */
+static int sender = -1, handover = -1;    /* what keeps its programs there */
+static struct fast_member counted[NIW_MOST_PORTS];
+static uint64_t counted_overflows;
+
+bool is_fast(void) {
+    return rows != NULL;
+}
+
+/* Waits until each program that runs now, and what it does with its frame, is done; answers whether the kernel can. */
+static bool wait_for_programs(void) {
+    return syscall(SYS_membarrier, MEMBARRIER_CMD_GLOBAL, 0, 0) == 0;
+}
+
+static void need(bool done, const char *what) {
+    if (!done) stop(REFUSED, what, strerror(errno));
+}
+
+/* Has a program run at the TAP device; answers what keeps it there. */
+static int keep_program(int program, bool egress) {
+    int opened;
+    need(program >= 0, "fast: the kernel takes no program");
+    opened = attach_program(program, tap_at, egress);
+    need(opened >= 0, "fast: no program of an interface, which Linux has from 6.6 on");
+    close(program);
+    return opened;
+}
+
+/* Loads all that the kernel is to run, while the daemon may. */
+void start_fast(void) {
+    struct fast_maps maps;
+    need(wait_for_programs(), "fast: the kernel cannot wait for its programs (membarrier)");
+    rows = make_map(sizeof *rows, CONVERSATIONS, &maps.rows);
+    need(rows != NULL, "fast: no table of the kernel");
+    entries = make_map(sizeof *entries, MOST_FAST, &maps.members);
+    need(entries != NULL, "fast: no table of the kernel");
+    host = make_map(sizeof *host, 1, &maps.host);
+    need(host != NULL, "fast: no table of the kernel");
+    memcpy(&host->mac, settings.config.mac, ETH_ALEN);
+    tap_at = tap_index();
+    for (uint16_t i = 0; i < link_count; i++) {
+        receivers[i] = load_receiver(&maps, (uint16_t)(i + 1), tap_at);
+        need(receivers[i] >= 0, "fast: the kernel takes no program");
+    }
+    handover = keep_program(load_handover(&maps), false);
+    sender = keep_program(load_sender(&maps), true);
+}
+
+/* Nothing is passed on any more. */
+void end_fast(void) {
+    if (sender >= 0) close(sender);
+    if (handover >= 0) close(handover);
+    sender = handover = -1;
+}
+
+/* Has what comes at a member go up by the kernel, as long as the answer is open; or -1, and errno. */
+int open_fast_receiver(const struct link *link) {
+    return attach_program(receivers[link->settings.number - 1], link->index, false);
+}
+
+static uint64_t word_of(uint16_t number) {
+    return __atomic_load_n(&rows[number].word, __ATOMIC_SEQ_CST);
+}
+
+/* The number of a conversation. */
+static uint16_t number_in(const struct conversation *conversation) {
+    return (uint16_t)(conversation - carry.conversations);
+}
+
+/* So many segments that were left to the daemon are dealt with. What counts less was of segments that nobody had counted. */
+static void subtract(uint16_t number, uint32_t segments) {
+    uint64_t before = word_of(number), after;
+    do {
+        uint64_t left = before & UINT32_MAX;
+        after = before - (left < segments ? left : segments);
+    } while (!__atomic_compare_exchange_n(&rows[number].word, &before, after, false, __ATOMIC_SEQ_CST, __ATOMIC_SEQ_CST));
+}
+
+/* Counts what the kernel passed on of a conversation; answers whether there was something. */
+static bool count_passed(struct conversation *conversation) {
+    uint64_t passed = __atomic_load_n(&rows[number_in(conversation)].passed, __ATOMIC_ACQUIRE);
+    uint64_t more = passed - conversation->fast.counted;
+    conversation->fast.counted = passed;
+    if (more == 0 || conversation->fast.port == 0) return false;
+    conversation->used = true;
+    note_passed(conversation->fast.port, more);
+    return true;
+}
+
+/* Counts what the kernel did since the last time. */
+void take_fast_counts(void) {
+    uint64_t overflowed;
+    if (!is_fast()) return;
+    for (uint16_t number = 0; number < CONVERSATIONS; number++) (void)count_passed(&carry.conversations[number]);
+    for (uint16_t i = 0; i < link_count; i++) {
+        struct fast_member now = {
+            .passed_up = __atomic_load_n(&entries[i].passed_up, __ATOMIC_RELAXED),
+            .uncollected = __atomic_load_n(&entries[i].uncollected, __ATOMIC_RELAXED),
+            .wrong_length = __atomic_load_n(&entries[i].wrong_length, __ATOMIC_RELAXED),
+        };
+        struct fast_member more = {0, now.passed_up - counted[i].passed_up, now.uncollected - counted[i].uncollected,
+            now.wrong_length - counted[i].wrong_length};
+        counted[i] = now;
+        add_fast_counts((uint16_t)(i + 1), &more);
+    }
+    overflowed = __atomic_load_n(&host->overflowed, __ATOMIC_RELAXED);
+    carry.counts[FROM_HOST] += overflowed - counted_overflows;
+    carry.counts[OVERFLOWED] += overflowed - counted_overflows;
+    counted_overflows = overflowed;
+}
+
+/* Whether the kernel may pass a conversation on at a port. */
+static bool may_pass(const struct conversation *conversation, uint16_t port) {
+    struct niw_assignment state;
+    if (conversation->home != carry.active || carry.active == 0 || !has_fast_member(port)) return false;
+    state = state_of(carry.active, number_in(conversation));
+    return state.what == NIW_CONVERSATION_ON && state.port == port;
+}
+
+/* Takes the rows back that are chosen; once that is done, all that they passed on is with the members, and counted. */
+static void take_back(bool (*is_chosen)(const struct conversation *conversation, uint16_t port), uint16_t port) {
+    bool taken[CONVERSATIONS] = {false}, any = false;
+    for (uint16_t number = 0; number < CONVERSATIONS; number++) {
+        const struct conversation *conversation = &carry.conversations[number];
+        if (conversation->fast.port == 0 || !is_chosen(conversation, port)) continue;
+        (void)__atomic_and_fetch(&rows[number].word, UINT32_MAX, __ATOMIC_SEQ_CST);
+        taken[number] = any = true;
+    }
+    if (any) need(wait_for_programs(), "fast: the kernel no longer waits for its programs");
+    for (uint16_t number = 0; any && number < CONVERSATIONS; number++) {
+        struct conversation *conversation = &carry.conversations[number];
+        if (!taken[number]) continue;
+        (void)count_passed(conversation);
+        conversation->fast.port = 0;
+        carry.counts[WITHDRAWN]++;
+    }
+}
+
+static bool is_wrong(const struct conversation *conversation, uint16_t port) {
+    (void)port;
+    return !may_pass(conversation, conversation->fast.port);
+}
+
+static bool is_on(const struct conversation *conversation, uint16_t port) {
+    return conversation->fast.port == port;
+}
+
+/* One that rests for a flight: towards a peer that answers no markers it is free then, and no frame of it may pass meanwhile. */
+static bool is_resting(const struct conversation *conversation, uint16_t port) {
+    (void)port;
+    return !conversation->used && carry.time - conversation->last >= settings.flight;
+}
+
+/* Takes back what is not, or no longer, on the port where the kernel passes it on: before a marker goes there. */
+void withdraw(void) {
+    if (is_fast()) take_back(is_wrong, 0);
+}
+
+/* The link of a port goes down, or its interface: before the library hears of it. */
+void withdraw_port(uint16_t port) {
+    if (!is_fast()) return;
+    __atomic_store_n(&entries[port - 1].up_to, 0, __ATOMIC_SEQ_CST);
+    take_back(is_on, port);
+    for (uint16_t number = 0; number < CONVERSATIONS; number++) {
+        struct conversation *conversation = &carry.conversations[number];
+        if (conversation->port == port && conversation->home != 0) conversation->fast.not_before = milliseconds() + DOWN_WAIT;
+    }
+}
+
+/* Frames go up by the kernel from the ports that collect in the active aggregator. */
+void set_collecting(void) {
+    for (uint16_t i = 0; is_fast() && i < link_count; i++) {
+        uint16_t port = links[i].settings.number;
+        bool up = carry.active != 0 && links[i].view.aggregator == carry.active && has_fast_member(port)
+            && (number_of(niw_state(&own_system, port), "niw_state") & NIW_STATE_COLLECTING) != 0;
+        __atomic_store_n(&entries[i].up_to, up ? (uint64_t)tap_at : 0, __ATOMIC_SEQ_CST);
+    }
+}
+
+/* A packet of a conversation came to the daemon. */
+void note_taken(struct conversation *conversation, uint32_t segments) {
+    conversation->fast.touched = true;
+    conversation->fast.taken += segments;
+}
+
+/* Lets the kernel pass on a conversation of which nothing waits here, and nothing is on its way here. */
+static void pass(struct conversation *conversation) {
+    struct row *row = &rows[number_in(conversation)];
+    uint16_t port = conversation->port;
+    uint64_t none = 0, member = (uint64_t)(uint32_t)links[port - 1].index << 32;
+    if (__atomic_load_n(&row->opaque, __ATOMIC_SEQ_CST) != 0) return;
+    if (__atomic_compare_exchange_n(&row->word, &none, member, false, __ATOMIC_SEQ_CST, __ATOMIC_SEQ_CST)) conversation->fast.port = port;
+}
+
+/* After all that was put was sent: what was taken counts no more, and the kernel gets what it may pass on. */
+void pass_on(void) {
+    for (uint16_t number = 0; is_fast() && number < CONVERSATIONS; number++) {
+        struct conversation *conversation = &carry.conversations[number];
+        if (!conversation->fast.touched) continue;
+        conversation->fast.touched = false;
+        if (conversation->fast.taken > 0) subtract(number, conversation->fast.taken);
+        if (conversation->fast.taken > 0) conversation->fast.doubted = false;
+        conversation->fast.taken = 0;
+        if (conversation->queue.count > 0 || conversation->port == 0 || conversation->fast.port > 0) continue;
+        if (may_pass(conversation, conversation->port)) pass(conversation);
+    }
+}
+
+/* Counts no more what was lost on its way to the daemon: since it was doubted, no frame of it came and none was left, all programs
+ * ended, and the TAP device had nothing more. */
+static void believe(struct conversation *conversation) {
+    struct row *row = &rows[number_in(conversation)];
+    uint64_t word = conversation->fast.doubted_word;
+    conversation->fast.doubted = false;
+    if (__atomic_load_n(&row->opaque, __ATOMIC_SEQ_CST) != conversation->fast.doubted_opaque) return;
+    if (!__atomic_compare_exchange_n(&row->word, &word, 0, false, __ATOMIC_SEQ_CST, __ATOMIC_SEQ_CST)) return;
+    (void)__atomic_sub_fetch(&row->opaque, conversation->fast.doubted_opaque, __ATOMIC_SEQ_CST);
+    conversation->fast.touched = true;
+}
+
+/* So many packets were read of the TAP device, in a batch that had room for more if it is drained. */
+void note_read(unsigned packets, bool drained) {
+    if (!is_fast()) return;
+    if (__atomic_sub_fetch(&host->left, packets, __ATOMIC_SEQ_CST) > MOST_BETWEEN && drained)
+        __atomic_store_n(&host->left, 0, __ATOMIC_SEQ_CST);
+    for (uint16_t number = 0; drained && number < CONVERSATIONS; number++)
+        if (carry.conversations[number].fast.doubted && carry.conversations[number].fast.taken == 0) believe(&carry.conversations[number]);
+}
+
+/* Doubts rows with frames that do not come: none came since the last tick. */
+static bool doubt(struct conversation *conversation) {
+    struct row *row = &rows[number_in(conversation)];
+    uint64_t word = word_of(number_in(conversation)), opaque = __atomic_load_n(&row->opaque, __ATOMIC_SEQ_CST);
+    if (conversation->fast.port > 0 || conversation->used || conversation->fast.doubted || (word == 0 && opaque == 0)) return false;
+    conversation->fast.doubted = true;
+    conversation->fast.doubted_word = word;
+    conversation->fast.doubted_opaque = opaque;
+    return true;
+}
+
+/* 100 ms passed. */
+void pass_fast_tick(void) {
+    bool any = false;
+    if (!is_fast()) return;
+    (void)read_tap_mac((uint8_t *)&host->mac);
+    withdraw();
+    take_fast_counts();
+    if (answering() == MUTE) take_back(is_resting, 0);
+    for (uint16_t number = 0; number < CONVERSATIONS; number++) any = doubt(&carry.conversations[number]) || any;
+    if (any) (void)wait_for_programs();
+}

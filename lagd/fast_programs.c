@@ -1,0 +1,469 @@
+/* The programs that the kernel runs for frames, where it passes data on by itself: one where frames leave the TAP device, one where
+ * frames come in at a member, and one where these come in at the TAP device. They are written as the kernel takes them, step by step. */
+#define _GNU_SOURCE
+#include <linux/bpf.h>
+#include <linux/if_packet.h>
+#include <netinet/in.h>
+#include <stddef.h>
+#include <string.h>
+
+#include "carry.h"
+
+#define MOST_STEPS 512
+/* What a program answers: the kernel goes on with the frame, or loses it. */
+#define GO_ON (-1)
+#define LOSE 2
+/* The most frames that wait for the daemon: fewer than the queue of the TAP device has room for. */
+#define MOST_LEFT (HOST_QUEUE - 96)
+/* Registers: those that a call keeps, and what is kept there. */
+enum {
+    ANSWER = BPF_REG_0, ARG1 = BPF_REG_1, ARG2 = BPF_REG_2, ARG3 = BPF_REG_3, ARG4 = BPF_REG_4, ARG5 = BPF_REG_5,
+    FRAME = BPF_REG_6, HASH = BPF_REG_7, PLACE = BPF_REG_8, FOUND = BPF_REG_9, STACK = BPF_REG_10,
+};
+/* Places on the stack, below its end. */
+enum { KEY = -4, PORTS = -8, TYPE = -12, ETHERNET = -28, NETWORK = -72, SEGMENTS = -80 };
+
+struct code {
+    struct bpf_insn steps[MOST_STEPS];
+    unsigned count;
+};
+
+static void step(struct code *code, struct bpf_insn insn) {
+    if (code->count < MOST_STEPS) code->steps[code->count++] = insn;
+}
+
+static void load(struct code *code, unsigned size, unsigned to, unsigned from, int at) {
+    step(code, (struct bpf_insn){.code = (uint8_t)(BPF_LDX | BPF_MEM | size), .dst_reg = to & 15, .src_reg = from & 15,
+        .off = (int16_t)at});
+}
+
+static void store(struct code *code, unsigned size, unsigned to, int at, unsigned from) {
+    step(code, (struct bpf_insn){.code = (uint8_t)(BPF_STX | BPF_MEM | size), .dst_reg = to & 15, .src_reg = from & 15,
+        .off = (int16_t)at});
+}
+
+static void move(struct code *code, unsigned to, unsigned from) {
+    step(code, (struct bpf_insn){.code = BPF_ALU64 | BPF_MOV | BPF_X, .dst_reg = to & 15, .src_reg = from & 15});
+}
+
+static void set(struct code *code, unsigned to, int32_t value) {
+    step(code, (struct bpf_insn){.code = BPF_ALU64 | BPF_MOV | BPF_K, .dst_reg = to & 15, .imm = value});
+}
+
+/* An operation with a number, of 64 bits or of 32. */
+static void with(struct code *code, unsigned operation, unsigned to, int32_t value) {
+    step(code, (struct bpf_insn){.code = (uint8_t)(BPF_ALU64 | operation | BPF_K), .dst_reg = to & 15, .imm = value});
+}
+
+static void with32(struct code *code, unsigned operation, unsigned to, int32_t value) {
+    step(code, (struct bpf_insn){.code = (uint8_t)(BPF_ALU | operation | BPF_K), .dst_reg = to & 15, .imm = value});
+}
+
+static void add_to(struct code *code, unsigned to, int at, unsigned from) {
+    step(code, (struct bpf_insn){.code = BPF_STX | BPF_DW | BPF_ATOMIC, .dst_reg = to & 15, .src_reg = from & 15, .off = (int16_t)at,
+        .imm = BPF_ADD});
+}
+
+/* Adds, in one step, and answers in `from` what was there before. */
+static void add_and_get(struct code *code, unsigned to, int at, unsigned from) {
+    step(code, (struct bpf_insn){.code = BPF_STX | BPF_DW | BPF_ATOMIC, .dst_reg = to & 15, .src_reg = from & 15, .off = (int16_t)at,
+        .imm = BPF_ADD | BPF_FETCH});
+}
+
+static void call(struct code *code, int32_t function) {
+    step(code, (struct bpf_insn){.code = BPF_JMP | BPF_CALL, .imm = function});
+}
+
+static void end(struct code *code, int32_t answer) {
+    set(code, ANSWER, answer);
+    step(code, (struct bpf_insn){.code = BPF_JMP | BPF_EXIT});
+}
+
+/* A jump that `land` gives its end: BPF_JEQ and so on, with a number; BPF_JA, always. */
+static unsigned jump(struct code *code, unsigned condition, unsigned left, int32_t right) {
+    step(code, (struct bpf_insn){.code = (uint8_t)(BPF_JMP | condition | BPF_K), .dst_reg = left & 15,
+        .imm = condition == BPF_JA ? 0 : right});
+    return code->count - 1;
+}
+
+static void land(struct code *code, unsigned from) {
+    code->steps[from].off = (int16_t)(code->count - from - 1);
+}
+
+static void land_all(struct code *code, const unsigned *from, unsigned count) {
+    for (unsigned i = 0; i < count; i++) land(code, from[i]);
+}
+
+/* Octets of the frame, from `place` on, or from PLACE where that is negative, to the stack; ANSWER is 0 if the frame has them. */
+static void load_octets(struct code *code, int place, int more, int to, int count) {
+    move(code, ARG1, FRAME);
+    if (place < 0) {
+        move(code, ARG2, PLACE);
+        if (more) with(code, BPF_ADD, ARG2, more);
+    } else {
+        set(code, ARG2, place);
+    }
+    move(code, ARG3, STACK);
+    with(code, BPF_ADD, ARG3, to);
+    set(code, ARG4, count);
+    call(code, BPF_FUNC_skb_load_bytes);
+}
+
+/* The value of a table at the number on the stack, in ANSWER; 0 if there is none. */
+static void look_up(struct code *code, int map) {
+    step(code, (struct bpf_insn){.code = BPF_LD | BPF_DW | BPF_IMM, .dst_reg = ARG1, .src_reg = BPF_PSEUDO_MAP_FD, .imm = map});
+    step(code, (struct bpf_insn){0});
+    move(code, ARG2, STACK);
+    with(code, BPF_ADD, ARG2, KEY);
+    call(code, BPF_FUNC_map_lookup_elem);
+}
+
+/* Adds words of 32 bits of the stack to the hash, as hash.c does. */
+static void hash_words(struct code *code, int at, unsigned count) {
+    for (unsigned i = 0; i < count; i++) {
+        load(code, BPF_W, ARG1, STACK, at + 4 * (int)i);
+        step(code, (struct bpf_insn){.code = BPF_ALU | BPF_XOR | BPF_X, .dst_reg = HASH, .src_reg = ARG1});
+        with32(code, BPF_MUL, HASH, HASH_FACTOR);
+    }
+}
+
+/* Finds the network header, in PLACE, and its type, on the stack. A tag that the kernel keeps beside the frame is the first one. */
+static void skip_tags(struct code *code) {
+    unsigned done[2 * MOST_TAGS], count = 0, beside;
+    set(code, PLACE, ETH_HLEN);
+    load(code, BPF_H, FOUND, STACK, ETHERNET + 2 * ETH_ALEN);
+    load(code, BPF_W, ARG1, FRAME, offsetof(struct __sk_buff, vlan_present));
+    beside = jump(code, BPF_JNE, ARG1, 0);
+    for (unsigned tag = 0; tag < MOST_TAGS; tag++) {
+        unsigned service, customer;
+        if (tag == 1) land(code, beside);
+        customer = jump(code, BPF_JEQ, FOUND, htons(ETH_P_8021Q));
+        service = jump(code, BPF_JEQ, FOUND, htons(ETH_P_8021AD));
+        done[count++] = jump(code, BPF_JA, 0, 0);
+        land(code, customer);
+        land(code, service);
+        load_octets(code, -1, 2, TYPE, 2);
+        done[count++] = jump(code, BPF_JNE, ANSWER, 0);
+        with(code, BPF_ADD, PLACE, TAG_OCTETS);
+        load(code, BPF_H, FOUND, STACK, TYPE);
+    }
+    land_all(code, done, count);
+}
+
+/* Loads a network header of this version, if the frame has one; answers the jumps of those that have none. */
+static unsigned load_network(struct code *code, uint16_t type, int octets, int version, unsigned *other) {
+    unsigned count = 0;
+    other[count++] = jump(code, BPF_JNE, FOUND, htons(type));
+    load_octets(code, -1, 0, NETWORK, octets);
+    other[count++] = jump(code, BPF_JNE, ANSWER, 0);
+    load(code, BPF_B, ARG1, STACK, NETWORK);
+    with(code, BPF_RSH, ARG1, 4);
+    other[count++] = jump(code, BPF_JNE, ARG1, version);
+    return count;
+}
+
+/* Loads the ports behind the network header, whose octets are in ARG2, if the protocol in ARG1 has some. */
+static unsigned load_ports(struct code *code, unsigned *none) {
+    unsigned tcp = jump(code, BPF_JEQ, ARG1, IPPROTO_TCP), udp = jump(code, BPF_JEQ, ARG1, IPPROTO_UDP), count = 0;
+    none[count++] = jump(code, BPF_JNE, ARG1, IPPROTO_SCTP);
+    land(code, tcp);
+    land(code, udp);
+    step(code, (struct bpf_insn){.code = BPF_ALU64 | BPF_ADD | BPF_X, .dst_reg = PLACE, .src_reg = ARG2});
+    load_octets(code, -1, 0, PORTS, 4);
+    none[count++] = jump(code, BPF_JNE, ANSWER, 0);
+    set(code, FOUND, 1);
+    return count;
+}
+
+/* The ports of IPv4: a fragment has none. FOUND is 1 where they are on the stack. */
+static unsigned load_ports4(struct code *code, unsigned *none) {
+    load(code, BPF_H, ARG1, STACK, NETWORK + IPV4_FRAGMENT);
+    with(code, BPF_AND, ARG1, htons(FRAGMENTED));
+    none[0] = jump(code, BPF_JNE, ARG1, 0);
+    load(code, BPF_B, ARG2, STACK, NETWORK);
+    with(code, BPF_AND, ARG2, 15);
+    with(code, BPF_LSH, ARG2, 2);
+    load(code, BPF_B, ARG1, STACK, NETWORK + IPV4_PROTOCOL);
+    return 1 + load_ports(code, none + 1);
+}
+
+/* The hash of layer2+3 or layer3+4, as conversation_of has it. */
+static void hash_headers(struct code *code) {
+    unsigned other[3], none[4], count, ip4, ip6, plain, skip;
+    bool ports = settings.hash == HASH_LAYER3_4;
+    set(code, HASH, (int32_t)HASH_START);
+    skip_tags(code);
+    count = load_network(code, ETH_P_IP, IPV4_OCTETS, 4, other);
+    set(code, FOUND, 0);
+    hash_words(code, NETWORK + IPV4_ADDRESSES, 2);
+    if (ports) land_all(code, none, load_ports4(code, none));
+    ip4 = jump(code, BPF_JA, 0, 0);
+    land_all(code, other, count);
+    count = load_network(code, ETH_P_IPV6, IPV6_OCTETS, 6, other);
+    set(code, FOUND, 0);
+    hash_words(code, NETWORK + IPV6_ADDRESSES, 8);
+    load(code, BPF_B, ARG1, STACK, NETWORK + IPV6_NEXT);
+    set(code, ARG2, IPV6_OCTETS);
+    if (ports) land_all(code, none, load_ports(code, none));
+    ip6 = jump(code, BPF_JA, 0, 0);
+    land_all(code, other, count);
+    set(code, FOUND, 0);
+    plain = jump(code, BPF_JA, 0, 0);
+    land(code, ip4);
+    land(code, ip6);
+    skip = ports ? jump(code, BPF_JA, 0, 0) : 0;
+    land(code, plain);
+    hash_words(code, ETHERNET, 3);
+    if (skip) land(code, skip);
+    skip = jump(code, BPF_JEQ, FOUND, 0);
+    hash_words(code, PORTS, 1);
+    land(code, skip);
+    for (int shift = 16; shift >= 8; shift -= 8) {
+        step(code, (struct bpf_insn){.code = BPF_ALU | BPF_MOV | BPF_X, .dst_reg = ARG1, .src_reg = HASH});
+        with32(code, BPF_RSH, ARG1, shift);
+        step(code, (struct bpf_insn){.code = BPF_ALU | BPF_XOR | BPF_X, .dst_reg = HASH, .src_reg = ARG1});
+    }
+}
+
+/* The conversation of the frame, on the stack as a number of the table. */
+static void find_conversation(struct code *code) {
+    if (settings.hash == HASH_LAYER2) {
+        load(code, BPF_B, HASH, STACK, ETHERNET + 5);
+        load(code, BPF_B, ARG1, STACK, ETHERNET + 11);
+        step(code, (struct bpf_insn){.code = BPF_ALU64 | BPF_XOR | BPF_X, .dst_reg = HASH, .src_reg = ARG1});
+    } else {
+        hash_headers(code);
+    }
+    with(code, BPF_AND, HASH, CONVERSATIONS - 1);
+    store(code, BPF_W, STACK, KEY, HASH);
+}
+
+/* Adds PLACE to what is opaque. */
+static void add_opaque(struct code *code) {
+    unsigned none = jump(code, BPF_JEQ, PLACE, 0);
+    add_to(code, FOUND, offsetof(struct row, opaque), PLACE);
+    land(code, none);
+}
+
+/* How many segments the frame has, in HASH and on the stack. What came from a virtual machine may have segments that nobody has counted:
+ * the row notes it before the frame counts. FOUND is the row. */
+static void count_parts(struct code *code) {
+    unsigned counted, one;
+    load(code, BPF_W, HASH, FRAME, offsetof(struct __sk_buff, gso_segs));
+    counted = jump(code, BPF_JNE, HASH, 0);
+    set(code, HASH, 1);
+    load(code, BPF_W, PLACE, FRAME, offsetof(struct __sk_buff, gso_size));
+    one = jump(code, BPF_JEQ, PLACE, 0);
+    set(code, PLACE, 1);
+    land(code, one);
+    one = jump(code, BPF_JA, 0, 0);
+    land(code, counted);
+    set(code, PLACE, 0);
+    land(code, one);
+    add_opaque(code);
+    store(code, BPF_DW, STACK, SEGMENTS, HASH);
+}
+
+/* Takes back what count_parts and the row counted. */
+static void uncount(struct code *code) {
+    load(code, BPF_DW, HASH, STACK, SEGMENTS);
+    with(code, BPF_NEG, HASH, 0);
+    with(code, BPF_NEG, PLACE, 0);
+    add_to(code, FOUND, offsetof(struct row, word), HASH);
+    add_opaque(code);
+}
+
+/* Whether the frame is of the slow protocols, or too long for a member; answers the jumps of those. */
+static unsigned find_unfit(struct code *code, unsigned *unfit) {
+    unsigned count = 0, beside, tagged, customer, plain;
+    load(code, BPF_H, ARG3, STACK, ETHERNET + 2 * ETH_ALEN);
+    load(code, BPF_W, ARG1, FRAME, offsetof(struct __sk_buff, vlan_present));
+    beside = jump(code, BPF_JNE, ARG1, 0);
+    unfit[count++] = jump(code, BPF_JEQ, ARG3, htons(ETH_P_SLOW));
+    land(code, beside);
+    load(code, BPF_W, ARG1, FRAME, offsetof(struct __sk_buff, gso_size));
+    unfit[count++] = jump(code, BPF_JGT, ARG1, ETH_DATA_LEN);
+    beside = jump(code, BPF_JNE, ARG1, 0);
+    load(code, BPF_W, ARG2, FRAME, offsetof(struct __sk_buff, len));
+    tagged = jump(code, BPF_JEQ, ARG3, htons(ETH_P_8021Q));
+    customer = jump(code, BPF_JEQ, ARG3, htons(ETH_P_8021AD));
+    unfit[count++] = jump(code, BPF_JGT, ARG2, LONGEST_PLAIN);
+    plain = jump(code, BPF_JA, 0, 0);
+    land(code, tagged);
+    land(code, customer);
+    unfit[count++] = jump(code, BPF_JGT, ARG2, LONGEST_TAGGED);
+    land(code, plain);
+    land(code, beside);
+    return count;
+}
+
+/* The frame goes on the member whose interface is in HASH. */
+static void send_there(struct code *code) {
+    store(code, BPF_DW, STACK, NETWORK, HASH);
+    uncount(code);
+    set(code, ARG1, 1);
+    add_to(code, FOUND, offsetof(struct row, passed), ARG1);
+    set(code, ARG1, 0);
+    store(code, BPF_W, FRAME, offsetof(struct __sk_buff, priority), ARG1);
+    load(code, BPF_DW, ARG1, STACK, NETWORK);
+    set(code, ARG2, 0);
+    call(code, BPF_FUNC_redirect);
+    step(code, (struct bpf_insn){.code = BPF_JMP | BPF_EXIT});
+}
+
+/* The frame is left to the daemon, if that has room. */
+static void leave(struct code *code, const struct fast_maps *maps) {
+    unsigned none, full;
+    set(code, ARG1, 0);
+    store(code, BPF_W, STACK, KEY, ARG1);
+    look_up(code, maps->host);
+    none = jump(code, BPF_JEQ, ANSWER, 0);
+    set(code, ARG1, 1);
+    add_and_get(code, ANSWER, offsetof(struct fast_host, left), ARG1);
+    full = jump(code, BPF_JSGE, ARG1, MOST_LEFT);
+    end(code, GO_ON);
+    land(code, full);
+    set(code, ARG1, -1);
+    add_to(code, ANSWER, offsetof(struct fast_host, left), ARG1);
+    set(code, ARG1, 1);
+    add_to(code, ANSWER, offsetof(struct fast_host, overflowed), ARG1);
+    uncount(code);
+    land(code, none);
+    end(code, LOSE);
+}
+
+/* Where frames leave the TAP device: a frame of a conversation whose row names a member goes on there, any other one to the daemon. */
+int load_sender(const struct fast_maps *maps) {
+    static struct code code;
+    unsigned away[8], count = 0, nowhere[2];
+    code.count = 0;
+    move(&code, FRAME, ARG1);
+    load_octets(&code, 0, 0, ETHERNET, ETH_HLEN);
+    nowhere[0] = jump(&code, BPF_JNE, ANSWER, 0);
+    find_conversation(&code);
+    look_up(&code, maps->rows);
+    nowhere[1] = jump(&code, BPF_JEQ, ANSWER, 0);
+    move(&code, FOUND, ANSWER);
+    count_parts(&code);
+    add_and_get(&code, FOUND, offsetof(struct row, word), HASH);
+    with(&code, BPF_RSH, HASH, 32);
+    away[count++] = jump(&code, BPF_JEQ, HASH, 0);
+    count += find_unfit(&code, away + count);
+    send_there(&code);
+    land_all(&code, away, count);
+    leave(&code, maps);
+    land_all(&code, nowhere, 2);
+    end(&code, LOSE);
+    return load_program(code.steps, code.count);
+}
+
+/* Counts a frame in the entry of its member, which is in FOUND. */
+static void count_in(struct code *code, size_t at) {
+    set(code, ARG1, 1);
+    add_to(code, FOUND, (int)at, ARG1);
+}
+
+/* The frame goes up to the interface in ARG1. */
+static void go_up(struct code *code) {
+    set(code, ARG2, BPF_F_INGRESS);
+    call(code, BPF_FUNC_redirect);
+    step(code, (struct bpf_insn){.code = BPF_JMP | BPF_EXIT});
+}
+
+/* A frame of the slow protocols: a marker goes up behind the data, marked with the port; all else goes on. */
+static void take_control(struct code *code, uint16_t port, int tap) {
+    unsigned none, other;
+    load_octets(code, SUBTYPE_AT, 0, KEY, 1);
+    none = jump(code, BPF_JNE, ANSWER, 0);
+    load(code, BPF_B, ARG1, STACK, KEY);
+    other = jump(code, BPF_JNE, ARG1, SUBTYPE_MARKER);
+    set(code, ARG1, port);
+    store(code, BPF_W, FRAME, offsetof(struct __sk_buff, mark), ARG1);
+    set(code, ARG1, tap);
+    go_up(code);
+    land(code, none);
+    land(code, other);
+    end(code, GO_ON);
+}
+
+/* A frame of data goes up, if it has a right length and its port collects. */
+static void take_data_up(struct code *code, const struct fast_maps *maps, uint16_t port) {
+    unsigned none, segments, fits, uncollected;
+    set(code, ARG1, port - 1);
+    store(code, BPF_W, STACK, KEY, ARG1);
+    look_up(code, maps->members);
+    none = jump(code, BPF_JEQ, ANSWER, 0);
+    move(code, FOUND, ANSWER);
+    load(code, BPF_W, ARG1, FRAME, offsetof(struct __sk_buff, gso_size));
+    segments = jump(code, BPF_JNE, ARG1, 0);
+    load(code, BPF_W, ARG1, FRAME, offsetof(struct __sk_buff, len));
+    fits = jump(code, BPF_JLE, ARG1, LONGEST_PLAIN);
+    count_in(code, offsetof(struct fast_member, wrong_length));
+    end(code, LOSE);
+    land(code, fits);
+    land(code, segments);
+    load(code, BPF_DW, PLACE, FOUND, offsetof(struct fast_member, up_to));
+    uncollected = jump(code, BPF_JEQ, PLACE, 0);
+    count_in(code, offsetof(struct fast_member, passed_up));
+    move(code, ARG1, PLACE);
+    go_up(code);
+    land(code, uncollected);
+    count_in(code, offsetof(struct fast_member, uncollected));
+    land(code, none);
+    end(code, LOSE);
+}
+
+/* Where frames come in at a member. A tag of a VLAN stands beside the frame there. */
+int load_receiver(const struct fast_maps *maps, uint16_t port, int tap) {
+    static struct code code;
+    unsigned data[2];
+    code.count = 0;
+    move(&code, FRAME, ARG1);
+    load(&code, BPF_W, ARG1, FRAME, offsetof(struct __sk_buff, vlan_present));
+    data[0] = jump(&code, BPF_JNE, ARG1, 0);
+    load(&code, BPF_W, ARG1, FRAME, offsetof(struct __sk_buff, protocol));
+    data[1] = jump(&code, BPF_JNE, ARG1, htons(ETH_P_SLOW));
+    take_control(&code, port, tap);
+    land_all(&code, data, 2);
+    take_data_up(&code, maps, port);
+    return load_program(code.steps, code.count);
+}
+
+/* Where what came up comes in at the TAP device: to whom it is addressed is seen anew, since a member has another address. */
+int load_handover(const struct fast_maps *maps) {
+    static struct code code;
+    unsigned none, group, other, known[3], count = 0;
+    code.count = 0;
+    move(&code, FRAME, ARG1);
+    set(&code, ARG1, 0);
+    store(&code, BPF_W, STACK, KEY, ARG1);
+    store(&code, BPF_DW, STACK, NETWORK, ARG1);
+    look_up(&code, maps->host);
+    none = jump(&code, BPF_JEQ, ANSWER, 0);
+    load(&code, BPF_DW, HASH, ANSWER, offsetof(struct fast_host, mac));
+    load_octets(&code, 0, 0, NETWORK, ETH_ALEN);
+    load(&code, BPF_DW, PLACE, STACK, NETWORK);
+    load(&code, BPF_B, ARG1, STACK, NETWORK);
+    with(&code, BPF_AND, ARG1, 1);
+    group = jump(&code, BPF_JNE, ARG1, 0);
+    set(&code, ARG2, PACKET_HOST);
+    step(&code, (struct bpf_insn){.code = BPF_JMP | BPF_JEQ | BPF_X, .dst_reg = PLACE, .src_reg = HASH, .off = 1});
+    set(&code, ARG2, PACKET_OTHERHOST);
+    known[count++] = jump(&code, BPF_JA, 0, 0);
+    land(&code, group);
+    set(&code, ARG2, PACKET_MULTICAST);
+    load(&code, BPF_W, ARG1, STACK, NETWORK);
+    step(&code, (struct bpf_insn){.code = BPF_ALU | BPF_MOV | BPF_K, .dst_reg = ARG3, .imm = -1});
+    step(&code, (struct bpf_insn){.code = BPF_JMP | BPF_JNE | BPF_X, .dst_reg = ARG1, .src_reg = ARG3});
+    other = code.count - 1;
+    load(&code, BPF_H, ARG1, STACK, NETWORK + 4);
+    known[count++] = jump(&code, BPF_JNE, ARG1, 0xffff);
+    set(&code, ARG2, PACKET_BROADCAST);
+    land(&code, other);
+    land_all(&code, known, count);
+    move(&code, ARG1, FRAME);
+    call(&code, BPF_FUNC_skb_change_type);
+    land(&code, none);
+    end(&code, GO_ON);
+    return load_program(code.steps, code.count);
+}

@@ -1,0 +1,87 @@
+/* Packets: a frame, and before it, where frames of several segments are passed, the virtio_net_hdr by which the kernel tells how it is
+ * cut. */
+#define _GNU_SOURCE
+#include <errno.h>
+#include <linux/virtio_net.h>
+#include <string.h>
+#include <sys/mman.h>
+
+#include "carry.h"
+
+/* The octets of a packet without a head: more than a frame may have, so that one that is too long is seen to be. */
+#define PLAIN_ROOM 1536
+/* The octets of a packet of several segments, without its head: those of an IP packet, and of its header of Ethernet with two tags. */
+#define LONGEST_SEGMENTED (65536 + ETH_HLEN + 2 * TAG_OCTETS)
+
+static size_t head;
+
+/* What stands before each frame, from the settings. */
+void start_packets(void) {
+    head = settings.offload || settings.fast ? sizeof(struct virtio_net_hdr) : 0;
+}
+
+/* The octets before each frame. */
+size_t head_octets(void) {
+    return head;
+}
+
+/* The room of a packet. */
+size_t packet_room(void) {
+    return head > 0 ? head + LONGEST_SEGMENTED : PLAIN_ROOM;
+}
+
+/* Room for as many packets as are taken at once, each with TAG_OCTETS before it. The pages of it are in memory once they are used. */
+uint8_t *make_rooms(void) {
+    size_t size = BATCH * (packet_room() + TAG_OCTETS);
+    uint8_t *rooms = mmap(NULL, size, PROT_READ | PROT_WRITE, MAP_PRIVATE | MAP_ANONYMOUS, -1, 0);
+    if (rooms == MAP_FAILED) stop(REFUSED, "no room for frames", strerror(errno));
+    return rooms;
+}
+
+/* What the kernel tells of a packet; nothing where there is no head. */
+static struct virtio_net_hdr head_of(const uint8_t *packet) {
+    struct virtio_net_hdr told = {.gso_type = VIRTIO_NET_HDR_GSO_NONE};
+    if (head > 0) memcpy(&told, packet, sizeof told);
+    return told;
+}
+
+/* Whether a frame has several segments, into which it is cut later. */
+bool has_segments(const uint8_t *packet) {
+    return head_of(packet).gso_type != VIRTIO_NET_HDR_GSO_NONE;
+}
+
+/* Into how many frames a packet is cut. */
+uint32_t count_segments(const uint8_t *packet, size_t length) {
+    struct virtio_net_hdr told = head_of(packet);
+    size_t before = head + told.hdr_len;
+    if (told.gso_type == VIRTIO_NET_HDR_GSO_NONE || told.gso_size == 0 || length <= before) return 1;
+    return (uint32_t)((length - before + told.gso_size - 1) / told.gso_size);
+}
+
+static bool is_tagged(const uint8_t *frame) {
+    unsigned type = (unsigned)frame[12] << 8 | frame[13];
+    return type == ETH_P_8021Q || type == ETH_P_8021AD;
+}
+
+/* Whether a frame, or each segment of it, has a right length: 14 to 1514 octets, or 1518 with a tag. */
+bool has_right_length(const uint8_t *packet, size_t length) {
+    if (length < head + ETH_HLEN) return false;
+    if (has_segments(packet)) return head_of(packet).gso_size <= ETH_DATA_LEN;
+    return length - head <= (is_tagged(packet + head) ? LONGEST_TAGGED : LONGEST_PLAIN);
+}
+
+/* Puts a tag back into the frame of a packet, which has TAG_OCTETS before it; answers where the packet begins then. */
+uint8_t *put_tag(uint8_t *packet, uint16_t type, uint16_t tag) {
+    struct virtio_net_hdr told = head_of(packet);
+    uint8_t *at = packet - TAG_OCTETS, *frame = at + head;
+    memmove(at, packet, head + 2 * ETH_ALEN);
+    frame[12] = (uint8_t)(type >> 8);
+    frame[13] = (uint8_t)type;
+    frame[14] = (uint8_t)(tag >> 8);
+    frame[15] = (uint8_t)tag;
+    if (head == 0) return at;
+    if (told.hdr_len > 0) told.hdr_len = (uint16_t)(told.hdr_len + TAG_OCTETS);
+    if (told.flags & VIRTIO_NET_HDR_F_NEEDS_CSUM) told.csum_start = (uint16_t)(told.csum_start + TAG_OCTETS);
+    memcpy(at, &told, sizeof told);
+    return at;
+}

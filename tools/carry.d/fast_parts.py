@@ -1,0 +1,187 @@
+"""What is tried of frames of several segments, and of data that the kernel passes on by itself."""
+
+from __future__ import annotations
+
+import ctypes
+import shutil
+import signal
+import socket
+import struct
+import time
+from typing import Any, ContextManager
+
+from bonds import (COMES_BACK, COMES_UP, DEVICE, FLOWS, RIGHTS, Cables, End, Programs, cables, check_end, check_order, check_whole, every,
+                   kernel_count, lay_direct, move_all, pair, run_flows)
+from checking import Failed, Skipped, check, command, within
+from rows import ROWS
+from spaces import OURS, THEIRS, inside, ip, within_space
+from streams import run_stream
+
+# How many frames the kernel is given by each hash, to find their conversations.
+HASHED = 20000
+# Frames a second of a run by the kernel, and the least share of them that the kernel passes on, while all conversations move each second.
+FAST, PASSED = 20000, 0.5
+# Of several segments: the least part of a run that comes in one frame with others.
+SEGMENTED = 1000
+# bpf(2), its BPF_PROG_QUERY, and where programs of TCX stand: as an interface receives, and as it sends.
+BPF, QUERY, TCX, ASKED_OCTETS, COUNT_AT = 321, 16, (46, 47), 64, 24
+
+
+def count_programs(space: str, device: str) -> int:
+    """How many programs the kernel runs for the frames of an interface."""
+    count = 0
+    with within_space(space):
+        for where in TCX:
+            asked = ctypes.create_string_buffer(struct.pack("=II", socket.if_nametoindex(device), where), ASKED_OCTETS)
+            if ctypes.CDLL(None, use_errno=True).syscall(BPF, QUERY, asked, ASKED_OCTETS) == 0:
+                count += struct.unpack_from("=I", asked.raw, COUNT_AT)[0]
+    return count
+
+
+def check_fast(end: End, count: int = FLOWS) -> None:
+    """The kernel passes on the conversations of a run."""
+    fast = end.carry()["fast_conversations"]
+    check(fast >= count, f"the kernel passes on {fast} conversations", end.text(), end.printed())
+
+
+def kernel_hashes(programs: Programs) -> None:
+    """The program of the kernel finds the conversation that the daemon finds."""
+    text = "".join(f"{frame}\n" for row in ROWS.values() for frame in row[:2])
+    for name in ("layer2", "layer2+3", "layer3+4"):
+        told = command(programs.kernel_hash, name, str(HASHED), input=text)
+        if told.returncode == 3:
+            raise Skipped("the kernel takes no program")
+        check(told.returncode == 0, f"{name}: {told.stdout.strip()}, of rows and of changed ones", told.stdout, told.stderr)
+
+
+def offload(programs: Programs) -> None:
+    """Frames of several segments: a stream of TCP, flows in order, and what is told of it."""
+    with pair(programs, delays=(), options=["--offload", "--hash", "layer3+4"]) as (_, ours, theirs):
+        stream = run_stream(3)
+        told = ours.carry()["segmented"]
+        check(stream.bits > 0 and told > SEGMENTED, f"a stream of {stream.bits / 1e9:.1f} Gb/s went in {told:,} frames of several segments", ours.text())
+        check("offload" in ours.text().split("carry:")[1].splitlines()[0], "the status tells of it", ours.text())
+    with pair(programs, options=["--offload"]) as (_, ours, theirs):
+        outcome = run_flows(programs, 6, every(1, 5, move_all(ours)))
+        check(ours.carry()["moves"] >= 4 * FLOWS, f"{ours.carry()['moves']} moves were made", ours.text())
+        check_order(outcome, "with heads before the frames", ours.text())
+        check(outcome.lost() == 0, "none was lost", outcome, ours.text(), theirs.text())
+        check_whole(outcome, ours, theirs, cables_lose=False)
+
+
+def fast_pair(programs: Programs, **more: Any) -> ContextManager[tuple[Cables, End, End]]:
+    """Two ends that both let the kernel pass data on."""
+    return pair(programs, options=["--fast", *more.pop("options", [])], **more)
+
+
+def fast(programs: Programs) -> None:
+    """The kernel passes on while conversations move behind markers, without a cable and over cables with a delay."""
+    with fast_pair(programs, delays=()) as (_, ours, theirs):
+        outcome = run_flows(programs, 8, every(1, 7, move_all(ours)), rate=FAST)
+        check_fast(ours)
+        check(ours.carry()["moves"] >= 6 * FLOWS, f"{ours.carry()['moves']} moves were made", ours.text())
+        check_order(outcome, f"{FAST:,} frames a second by the kernel, without a cable", ours.text())
+        passed = ours.data("passed_on")
+        check(passed > outcome.sent * PASSED, f"the kernel passed on {passed:,} of {outcome.sent:,} frames", ours.text())
+        check_whole(outcome, ours, theirs, cables_lose=True)
+    with fast_pair(programs) as (_, ours, theirs):
+        outcome = run_flows(programs, 11, every(1, 10, move_all(ours)))
+        check_fast(ours)
+        check(ours.carry()["moves"] >= 9 * FLOWS, f"{ours.carry()['moves']} moves were made", ours.text())
+        check_order(outcome, "by the kernel, over cables", ours.text())
+        check(outcome.lost() == 0, "none was lost", outcome, ours.text(), theirs.text())
+        check_whole(outcome, ours, theirs, cables_lose=False)
+
+
+def fast_hash(programs: Programs) -> None:
+    """Flows that differ by a port of UDP alone, by layer3+4; and one that hashes by addresses of MAC, which are equal."""
+    with fast_pair(programs, delays=(), options=["--hash", "layer3+4"]) as (_, ours, theirs):
+        outcome = run_flows(programs, 5, every(1, 4, move_all(ours)), kind="ports")
+        check_fast(ours, FLOWS // 2)
+        check_order(outcome, "by layer3+4", ours.text())
+        check_whole(outcome, ours, theirs, cables_lose=True)
+
+
+def fast_troubles(programs: Programs) -> None:
+    """Links are cut, silent, and heard again; the peer is ended and comes again."""
+    with fast_pair(programs, options=["--flight", "200"]) as (laid, ours, theirs):
+        events = [(1, lambda: laid.tell("cut", 1)), (3, lambda: laid.tell("join", 1)), (8, lambda: laid.tell("cut", 0)),
+                  (10, lambda: laid.tell("join", 0)), (15, lambda: laid.tell("silence", 1)), (20, lambda: laid.tell("hear", 1))]
+        outcome = run_flows(programs, 24, events)
+        check_order(outcome, "by the kernel, through cuts and a silence", ours.text())
+        check_whole(outcome, ours, theirs, cables_lose=True)
+        check(within(COMES_BACK, lambda: ours.links() == 2), "both links carry again", ours.text())
+
+
+def fast_overload(programs: Programs) -> None:
+    """More frames than the daemon takes come before the kernel passes them on, and then go by the kernel."""
+    with fast_pair(programs, delays=()) as (_, ours, theirs):
+        outcome = run_flows(programs, 4, every(1, 3, move_all(ours), 1), rate=400000, flows=200)
+        check_order(outcome, "in an overload", ours.text())
+        check_end(ours, "the sending end")
+        carry = ours.carry()
+        came = carry["from_host"] - carry["overflowed"] + kernel_count(OURS, DEVICE, "tx_dropped")
+        check(came == outcome.sent - outcome.refused, f"all {came:,} frames that the kernel took are counted", outcome, ours.text())
+        check_fast(ours, 150)
+
+
+def fast_ends(programs: Programs) -> None:
+    """What the kernel runs ends with the daemon, however that ends."""
+    with cables(programs, ()):
+        ip(OURS, "tuntap", "add", DEVICE, "mode", "tap", "vnet_hdr")
+        ours, theirs = End(programs, OURS, options=["--fast"]), End(programs, THEIRS, options=["--fast"])
+        try:
+            if not within(COMES_UP, lambda: ours.links() == theirs.links() == 2 and ours.carry()["markers"] == "answered"):
+                raise Failed("two links carry", ours.text())
+            run_flows(programs, 2)
+            check_fast(ours)
+            check(count_programs(OURS, DEVICE) > 0, "the kernel runs programs at the TAP device")
+            ours.process.send_signal(signal.SIGKILL)
+            ours.process.wait()
+            time.sleep(0.5)
+            check(count_programs(OURS, DEVICE) == count_programs(OURS, "a0") == 0, "with the daemon killed it runs none")
+            before = [kernel_count(OURS, name, "tx_packets") for name in ("a0", "a1")]
+            run_flows(programs, 1)
+            after = [kernel_count(OURS, name, "tx_packets") for name in ("a0", "a1")]
+            check(before == after, "and passes nothing on", before, after)
+        finally:
+            ours.stop()
+            theirs.stop()
+
+
+def fast_away(programs: Programs) -> None:
+    """A pair of interfaces vanishes and is there again, with the rights that the daemon has left then; and a MAC address that changes."""
+    with fast_pair(programs, delays=(), before=RIGHTS if shutil.which("setpriv") else ()) as (_, ours, theirs):
+        outcome = run_flows(programs, 8, [(1, lambda: ip(OURS, "link", "del", "a1")), (4, lambda: lay_direct(1))])
+        check_order(outcome, "by the kernel, through an interface that vanishes", ours.text())
+        check_whole(outcome, ours, theirs, cables_lose=True)
+        check(within(COMES_BACK, lambda: ours.links() == 2), "both links carry again", ours.text())
+        before = ours.told()["ports"][1]["data"]["passed_on"]
+        run_flows(programs, 4, [(0.5, move_all(ours)), (1.5, move_all(ours))])
+        passed = ours.told()["ports"][1]["data"]["passed_on"] - before
+        check(passed > 0, f"the kernel passes on {passed:,} frames there", ours.text(), ours.printed())
+        check("stays with the daemon" not in ours.printed(), "no member is left to the daemon", ours.printed())
+        ip(THEIRS, "link", "set", DEVICE, "address", "02:00:00:00:00:cc")
+        stream = run_stream(2)
+        check(stream.bits > 0, f"a stream of {stream.bits / 1e9:.1f} Gb/s goes to a TAP device whose MAC address was changed", theirs.text())
+
+
+def fast_refused(programs: Programs) -> None:
+    """A member whose queues would let a marker go by data is left to the daemon, with a reason."""
+    with cables(programs, ()):
+        if inside(OURS, "tc", "qdisc", "replace", "dev", "a1", "root", "pfifo_fast").returncode:
+            raise Skipped("tc sets no queueing discipline")
+        ours, theirs = End(programs, OURS, options=["--fast"]), End(programs, THEIRS, options=["--fast"])
+        try:
+            line = "a1: its data stays with the daemon: its queueing discipline is neither noqueue nor pfifo"
+            check(within(COMES_UP, lambda: line in ours.printed()), "a member with pfifo_fast is left to the daemon", ours.printed())
+            if not within(COMES_UP, lambda: ours.links() == theirs.links() == 2 and ours.carry()["markers"] == "answered"):
+                raise Failed("two links carry", ours.text())
+            outcome = run_flows(programs, 5, every(1, 4, move_all(ours)))
+            check_order(outcome, "by the kernel on one link, by the daemon on the other", ours.text())
+            check_whole(outcome, ours, theirs, cables_lose=True)
+            passed = [port["data"]["passed_on"] for port in ours.told()["ports"]]
+            check(passed[0] > 0 and passed[1] == 0, f"the kernel passed on {passed}", ours.text())
+        finally:
+            ours.stop()
+            theirs.stop()
