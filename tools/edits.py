@@ -1,31 +1,39 @@
 """An edit of a crate: its texts, how they are put in and taken out, and copies of the repository on which that is done."""
 
+from __future__ import annotations
+
 import os
 import shutil
 from itertools import takewhile
+from typing import Callable, Iterable
 
-from repository import CRATES, RT, TOOLS, TOP, below, lines
+from repository import CRATES, TOOLS, below, lines
 
 CASES = os.path.join(TOOLS, "wrong-definitions.d")
+# An edit by its crate and its name, and a replacement: the file, the old text and the new one.
+Edit = tuple[str, str]
+Pair = tuple[str, str, str]
+# What of a folder with these names is not copied.
+Ignore = Callable[[str, list[str]], Iterable[str]]
 
 
-def read(path):
+def read(path: str) -> str:
     with open(path, encoding="utf-8") as file:
         return file.read()
 
 
-def write(path, text):
+def write(path: str, text: str) -> None:
     os.makedirs(os.path.dirname(path), exist_ok=True)
     with open(path, "w", encoding="utf-8") as file:
         file.write(text)
 
 
-def unbuilt(folder, names):
+def unbuilt(folder: str, names: list[str]) -> list[str]:
     """What a copy leaves out that keeps what `rt` proved and built."""
     return [it for it in names if it not in ("rlib", "incremental")] if os.path.basename(folder) == "out" else []
 
 
-def copy_crates(folder, crates, ignore=shutil.ignore_patterns("out")):
+def copy_crates(folder: str, crates: Iterable[str], ignore: Ignore = shutil.ignore_patterns("out")) -> str:
     """Copies these crates and those of the repository that they stand on; answers their folder."""
     taken = below(*crates)
     for name in taken:
@@ -34,24 +42,25 @@ def copy_crates(folder, crates, ignore=shutil.ignore_patterns("out")):
     return os.path.join(folder, "crates")
 
 
-def write_list(folder, crates):
+def write_list(folder: str, crates: Iterable[str]) -> None:
     """Writes crates.txt of a folder that has these crates alone."""
     rows = lines()
     write(os.path.join(folder, "crates.txt"), "".join(f"{rows[name]}\n" for name in crates))
 
 
-def read_edit(crate, name):
+def read_edit(crate: str, name: str) -> tuple[str, list[Pair]]:
     """What the wrong definition says, and its replacements as (file, old, new)."""
     return read_pairs(os.path.join(CASES, crate, name + ".edit"))
 
 
-def read_tests(crate, name):
+def read_tests(crate: str, name: str) -> list[tuple[str, str]]:
     """The tests that the wrong definition names, as pairs of a crate and a test of it; none if it names none."""
     lines = read(os.path.join(CASES, crate, name + ".edit")).splitlines()
-    return [tuple(line.split()[1:]) for line in lines if line.startswith("refused-by: ")]
+    named = [line.split()[1:] for line in lines if line.startswith("refused-by: ")]
+    return [(of, test) for of, test in named]
 
 
-def why_no_edit(says, pairs, has_tests=False):
+def why_no_edit(says: str, pairs: list[Pair], has_tests: bool = False) -> str | None:
     """Why this is no wrong definition; None if it is one. One that names tests may be a body alone, of which no contract speaks."""
     makes_wrong = any(file.startswith("specs/") or has_tests for file, _, _ in pairs)
     return None if says and makes_wrong else "the edit has no line `says:`, or makes no definition wrong"
@@ -61,9 +70,10 @@ class Everywhere(str):
     """An old text that is replaced wherever it stands in its file."""
 
 
-def read_pairs(path):
+def read_pairs(path: str) -> tuple[str, list[Pair]]:
     """What the edit in this file says, if anything, and its replacements as (file, old, new)."""
-    says, pairs, file, old = "", [], None, None
+    says = file = old = ""
+    pairs: list[Pair] = []
     for line in read(path).splitlines():
         word, _, text = line.partition(": ")
         if word == "says":
@@ -85,25 +95,25 @@ def read_pairs(path):
     return says, pairs
 
 
-def apply(folder, pairs):
+def apply(folder: str, pairs: list[Pair]) -> tuple[dict[str, str], str | None]:
     """Makes the replacements in a crate; answers the files as they were, or what is wrong with the edit."""
-    was = {}
+    was: dict[str, str] = {}
     for file, old, new in pairs:
         path = os.path.join(folder, file)
         text = read(path) if os.path.isfile(path) else ""
         if text.count(old) != 1 and not (isinstance(old, Everywhere) and old in text):
             restore(was)
-            return None, f"the old text stands in {file} {text.count(old)} times: {old}"
+            return {}, f"the old text stands in {file} {text.count(old)} times: {old}"
         was.setdefault(path, text)
         write(path, text.replace(old, new))
     return was, None
 
 
-def restore(was):
+def restore(was: dict[str, str]) -> None:
     for path, text in was.items():
         write(path, text)
 
 
-def is_cut_off(output, at):
+def is_cut_off(output: list[str], at: int) -> bool:
     """Whether the test that has this line of the output ended at its time limit: that is no refusal."""
     return any("time limit" in line for line in takewhile(lambda it: it.startswith(" "), output[at + 1 :]))

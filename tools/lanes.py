@@ -1,5 +1,7 @@
 """How many checks run side by side: what tools/test and tools/wrong-bodies take where no number is given."""
 
+from __future__ import annotations
+
 import os
 import re
 
@@ -16,35 +18,36 @@ MEMORY = [
 ]
 
 
-def number_in(path, pattern):
+def number_in(path: str, pattern: str) -> int | None:
     """The number that the pattern finds in a file, or None."""
     try:
         with open(path, encoding="utf-8") as file:
-            return int(re.search(pattern, file.read())[1])
-    except (OSError, TypeError):
+            found = re.search(pattern, file.read())
+    except OSError:
         return None
+    return int(found[1]) if found else None
 
 
-def processors():
+def processors() -> int:
     """The processors that this process may use, or fewer by the quota of its control group."""
     found = len(os.sched_getaffinity(0))
-    for quota, period in TIME:
-        quota, period = number_in(*quota), number_in(*period)
+    for quota_in, period_in in TIME:
+        quota, period = number_in(*quota_in), number_in(*period_in)
         if quota and period:
             found = min(found, max(quota // period, 1))
     return found
 
 
-def memory():
+def memory() -> int:
     """The bytes of memory that are available, under the limit of the control group too."""
     found = 1024 * (number_in("/proc/meminfo", r"MemAvailable:\s+(\d+)") or 0)
-    for limit, held in MEMORY:
-        limit, held = number_in(*limit), number_in(*held)
+    for limit_in, held_in in MEMORY:
+        limit, held = number_in(*limit_in), number_in(*held_in)
         if limit and held is not None:
             found = min(found, limit - held)
     return found
 
 
-def lanes():
+def lanes() -> int:
     """One lane for each 3 GB of memory, at least one and at most one for each processor."""
     return max(1, min(processors(), memory() // EACH))

@@ -10,7 +10,7 @@ import os
 import re
 import subprocess
 
-from repository import CC, CRATES, RT, Missing, runtime, want
+from repository import COMPILER, CRATES, RT, Missing, runtime, want
 
 HEADER = os.path.join(CRATES, "lagffi", "include", "lag.h")
 ARCHIVE = os.path.join(CRATES, "lagffi", "out", "liblagffi.a")
@@ -83,5 +83,5 @@ def shared(folder: str, lag: str) -> str:
     made = os.path.join(folder, SONAME)
     script = version_script(folder)
     words = [f"-Wl,-soname,{SONAME}", "-Wl,--build-id=sha1", f"-Wl,--version-script={script}", "-Wl,--no-undefined", "-Wl,-z,text"]
-    printed(CC, "-shared", "-O2", *HARDENING, *words, "-o", made, lag)
+    printed(*COMPILER, "-shared", "-O2", *HARDENING, *words, "-o", made, lag)
     return made

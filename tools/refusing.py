@@ -1,10 +1,13 @@
 """What refuse-memory and refuse-program share: a program that is run while calls of the C library are refused."""
 
+from __future__ import annotations
+
 import os
 import subprocess
 import tempfile
+from typing import Any
 
-from repository import CC, TOOLS, Missing, want
+from repository import CC, COMPILER, TOOLS, Missing, want
 
 # No run takes so long.
 SECONDS = 60
@@ -13,19 +16,19 @@ SECONDS = 60
 class Refuser:
     """The preloaded library, built in a folder of its own."""
 
-    def __enter__(self):
+    def __enter__(self) -> Refuser:
         want(CC)
         self.folder = tempfile.TemporaryDirectory()
         self.library = os.path.join(self.folder.name, "refuse.so")
-        words = [CC, "-O2", "-Wall", "-fPIC", "-shared", "-o", self.library, os.path.join(TOOLS, "refuse.c")]
+        words = [*COMPILER, "-O2", "-Wall", "-fPIC", "-shared", "-o", self.library, os.path.join(TOOLS, "refuse.c")]
         if subprocess.run(words).returncode:
             raise Missing(f"{CC} does not build tools/refuse.c")
         return self
 
-    def __exit__(self, *_):
+    def __exit__(self, *_: object) -> None:
         self.folder.cleanup()
 
-    def run(self, words, calls, **how):
+    def run(self, words: list[str], calls: str, **how: Any) -> tuple[subprocess.CompletedProcess[bytes], bool]:
         """Runs the words with these calls refused, as malloc:3; answers how it ended, and whether such a call came."""
         seen, told = os.pipe()
         env = {"LD_PRELOAD": self.library, "REFUSE": calls, "REFUSE_TO": str(told)}

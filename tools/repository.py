@@ -7,6 +7,7 @@ from __future__ import annotations
 
 import os
 import re
+import shlex
 import shutil
 import subprocess
 import sys
@@ -19,6 +20,8 @@ CRATES = os.path.join(TOP, "crates")
 PROGRAM = os.path.join(CRATES, "lagtool", "out", "lagtool")
 RT = os.environ.get("RT", "rt")
 CC = os.environ.get("CC", "cc")
+# CC may be words, such as `ccache gcc`: what a command line begins with.
+COMPILER = [CC] if shutil.which(CC) else shlex.split(CC)
 # No program in C or C++ here has a warning.
 WARNINGS = ["-Wall", "-Wextra", "-Wpedantic", "-Wconversion", "-Werror"]
 # What a command is for, where it is not here.
@@ -30,9 +33,9 @@ class Missing(Exception):
 
 
 def want(*names: str) -> None:
-    """Stops the tool where one of these commands is not here."""
+    """Stops the tool where one of these commands is not here. Of words, such as `ccache gcc`, the first one is the command."""
     for name in names:
-        if not shutil.which(name):
+        if not any(map(shutil.which, (name, *name.split()[:1]))):
             raise Missing(f"there is no command {name} in PATH" + (f": {WHY[name]}" if name in WHY else ""))
 
 

@@ -1,6 +1,8 @@
 """Builds what is timed: the library of the calls by rt, the harness by rustc, gcc and clang. All of it, and what is fetched, lies in a
 cache folder outside the tree."""
 
+from __future__ import annotations
+
 import os
 import shutil
 import subprocess
@@ -13,11 +15,11 @@ NAME = "lagbench"
 USES = ["lagtypes", "slowpdu", "lagmodel", "distributor", "lagsystem"]
 
 
-def say(text):
+def say(text: str) -> None:
     print(f"tools/bench: {text}", flush=True)
 
 
-def log_run(cache, log, words, cwd=None, env=None):
+def log_run(cache: str, log: str, words: list[str], cwd: str | None = None, env: dict[str, str] | None = None) -> None:
     """Runs the words, and adds what they print to the log of this name."""
     file = f"{cache}/{log}.log"
     with open(file, "a") as it:
@@ -26,7 +28,7 @@ def log_run(cache, log, words, cwd=None, env=None):
         raise Missing(f"{' '.join(words)[:100]} ended with {ended.returncode}; {file} has what it printed")
 
 
-def stamp_of(crates, name):
+def stamp_of(crates: str, name: str) -> str | None:
     try:
         with open(f"{crates}/{name}/out/rlib/stamp") as it:
             return it.read()
@@ -34,7 +36,7 @@ def stamp_of(crates, name):
         return None
 
 
-def copy_crate(name, crates):
+def copy_crate(name: str, crates: str) -> None:
     """Copies a proved crate, its sources and its library, where another one or none is there."""
     here = CRATES
     if stamp_of(here, name) is None or stamp_of(here, name) != stamp_of(crates, name):
@@ -44,7 +46,7 @@ def copy_crate(name, crates):
                 shutil.copytree(f"{here}/{name}/{part}", f"{crates}/{name}/{part}")
 
 
-def lay_out(cache):
+def lay_out(cache: str) -> str:
     """Lays a repository of the proved crates and the library of the calls; rt wants each source in a crate of its repository, so the
     library's sources have another suffix here."""
     crates, rows, used = f"{cache}/project/crates", lines(), below(*USES)
@@ -60,7 +62,7 @@ def lay_out(cache):
     return f"{crates}/{NAME}"
 
 
-def build_library(cache):
+def build_library(cache: str) -> str:
     """Proves and builds lagsystem, unless it stands, and then the library of the calls; answers its file."""
     log_run(cache, "lagsystem", [RT, "lib"], cwd=f"{CRATES}/lagsystem")
     folder = lay_out(cache)
@@ -68,7 +70,7 @@ def build_library(cache):
     return f"{folder}/out/lib{NAME}.a"
 
 
-def build_harness(cache, library, switch):
+def build_harness(cache: str, library: str, switch: str | None) -> str:
     """Builds the harness over the library and, if it is here, Open vSwitch; answers its file."""
     sources, built = f"{BENCH}/harness", f"{cache}/built"
     os.makedirs(built, exist_ok=True)

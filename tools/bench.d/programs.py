@@ -1,15 +1,20 @@
 """The built program beside tcpdump and tshark: `check` of 100,000 frames, `replay` of 100,000 events. What each prints is compared
 with what it should print, worked out here. A time is the CPU time of the process, the least of some runs."""
 
+from __future__ import annotations
+
 import os
 import shutil
 import struct
 import subprocess
+from typing import Callable, Iterator, Optional
 
 from building import log_run
 from repository import PROGRAM, Missing
 
 COUNT = 100_000
+# A row of the table: a program, its seconds if it is here, and how many runs were wrong.
+Row = tuple[str, Optional[float], int]
 HEADER = bytes.fromhex("0180c20000020200000000098809")
 RUNS = 5
 # The first entries of a script, and their replies: two switches with two cables come up.
@@ -44,20 +49,20 @@ short = false
 CABLES = "[[cable]]\nends = [1, 1]\n[[cable]]\nends = [2, 2]\n"
 
 
-def end_of(system, port):
+def end_of(system: int, port: int) -> bytes:
     return struct.pack(">H6sHHHB", 0x8000, bytes([2, 0, 0, 0, 0, system]), 1, 128, port, 0x3D)
 
 
-def lacpdu(port):
+def lacpdu(port: int) -> bytes:
     parts = bytes([1, 1, 1, 20]) + end_of(9, port) + bytes(3) + bytes([2, 20]) + end_of(1, port) + bytes(3) + bytes([3, 16])
     return parts.ljust(110, b"\0")
 
 
-def marker(kind, port, number):
+def marker(kind: int, port: int, number: int) -> bytes:
     return struct.pack(">BBBBH6sI", 2, 1, kind, 16, port, bytes([2, 0, 0, 0, 0, 9]), number).ljust(110, b"\0")
 
 
-def frames():
+def frames() -> Iterator[tuple[str, bytes]]:
     """Of ten frames eight LACPDUs, a marker and a response; each with its word."""
     for number in range(COUNT):
         port, tenth = 1 + number % 64, number % 10
@@ -69,7 +74,7 @@ def frames():
             yield "lacpdu", HEADER + lacpdu(port)
 
 
-def write_frames(folder):
+def write_frames(folder: str) -> str:
     """Writes the frames as lines and as a capture; answers what `check` should print."""
     told = []
     with open(f"{folder}/frames.hex", "w") as lines, open(f"{folder}/frames.pcap", "wb") as capture:
@@ -81,7 +86,7 @@ def write_frames(folder):
     return "".join(told) + f"checked {COUNT} faults 0\n"
 
 
-def entries():
+def entries() -> Iterator[tuple[str, str]]:
     """The entries of the script, each with its reply: frames of two conversations, and what keeps the links up."""
     yield from COMING_UP
     number = serial = 0
@@ -96,7 +101,7 @@ def entries():
         number += 1
 
 
-def write_script(folder):
+def write_script(folder: str) -> str:
     """Writes the script; answers what `replay` should print."""
     played = [it for it, _ in zip(entries(), range(COUNT))]
     listed = ",\n".join(f'    "{entry}"' for entry, _ in played)
@@ -111,22 +116,22 @@ def write_script(folder):
     return "".join(told)
 
 
-def timed(words, env=None):
+def timed(words: list[str], env: dict[str, str] | None = None) -> tuple[float, str]:
     """Runs the words; answers their CPU seconds, and what they print."""
     with subprocess.Popen(words, stdout=subprocess.PIPE, stderr=subprocess.DEVNULL, env=env) as ran:
-        printed = ran.stdout.read()
+        printed = ran.stdout.read() if ran.stdout else b""
         _, status, used = os.wait4(ran.pid, 0)
         ran.returncode = os.waitstatus_to_exitcode(status)
     return used.ru_utime + used.ru_stime, printed.decode()
 
 
-def least(words, is_right, env=None, runs=RUNS):
+def least(words: list[str], is_right: Callable[[str], bool], env: dict[str, str] | None = None, runs: int = RUNS) -> tuple[float, int]:
     """The least CPU time of some runs, and how many printed something wrong."""
     ended = [timed(words, env) for _ in range(runs)]
     return min(time for time, _ in ended), sum(not is_right(printed) for _, printed in ended)
 
 
-def fetched(cache):
+def fetched(cache: str) -> str:
     """Debian's packages of tcpdump and tshark with all that this machine lacks of theirs, unpacked and not installed."""
     root = f"{cache}/programs"
     if os.path.isdir(root) or not shutil.which("apt-get"):
@@ -147,7 +152,7 @@ def fetched(cache):
     return root
 
 
-def find(name, root):
+def find(name: str, root: str) -> tuple[str, dict[str, str] | None] | None:
     """The program of this name, here or among the packages, and its environment; None if it is in neither."""
     if shutil.which(name):
         return name, None
@@ -157,12 +162,12 @@ def find(name, root):
     return f"{root}/usr/bin/{name}", {**os.environ, "LD_LIBRARY_PATH": ":".join(libraries)}
 
 
-def measure(cache, fetches):
+def measure(cache: str, fetches: bool) -> list[Row]:
     """Rows of the program: name, seconds, wrong runs; the seconds of a program that is not here are None."""
     folder, root = f"{cache}/frames", fetched(cache) if fetches else f"{cache}/programs"
     os.makedirs(folder, exist_ok=True)
     checked, replayed = write_frames(folder), write_script(folder)
-    rows = [("lagtool check", *least([PROGRAM, "check", f"{folder}/frames.hex"], lambda it: it == checked))]
+    rows: list[Row] = [("lagtool check", *least([PROGRAM, "check", f"{folder}/frames.hex"], lambda it: it == checked))]
     as_root = ["-Z", "root"] if os.geteuid() == 0 else []
     beside = [
         ("tcpdump -vv", ["-vv", *as_root, "-r", f"{folder}/frames.pcap"], lambda it: it.count("LACPv1,") == COUNT * 8 // 10),

@@ -1,5 +1,7 @@
 """The table: what the harness and the programs measured, as ratios, and the speeds to reach."""
 
+from __future__ import annotations
+
 import os
 
 PORTS = ["2", "8", "64"]
@@ -23,44 +25,48 @@ BESIDE = [
 WORST = 20_000
 
 
-def number(value):
+def number(value: float) -> str:
     return f"{value:,.0f}" if value >= 100 else f"{value:.1f}"
 
 
 class Measured:
     """The lines of the harness, by their words."""
 
-    def __init__(self, text):
-        self.times, self.wrong, self.answers = {}, {}, 0
+    def __init__(self, text: str) -> None:
+        # Times have a row each, and so has what is counted.
+        self.times: dict[tuple[str, ...], float] = {}
+        self.counts: dict[tuple[str, ...], list[int]] = {}
+        self.wrong: dict[tuple[str, ...], int] = {}
+        self.answers = 0
         for line in text.splitlines():
             kind, *words = line.split("\t")
             if kind in ("call", "wide", "limit", "alone", "crowded"):
                 *name, time, calls, wrong = words
-                self.times[kind, *name] = float(time)
-                self.wrong[kind, *name] = int(wrong)
+                self.times[(kind, *name)] = float(time)
+                self.wrong[(kind, *name)] = int(wrong)
                 self.answers += int(calls)
             elif kind in ("codec", "ovs"):
                 *name, time = words
-                self.times[kind, *name] = float(time)
+                self.times[(kind, *name)] = float(time)
             elif kind == "answers":
                 self.answers += int(words[1])
                 self.wrong[kind, words[0]] = int(words[2])
             else:
-                self.times[kind, words[0]] = [int(it) for it in words[1:]]
+                self.counts[kind, words[0]] = [int(it) for it in words[1:]]
 
-    def names(self, kind):
+    def names(self, kind: str) -> list[str]:
         """What stands first in the lines of a kind, in their order."""
-        return list(dict.fromkeys(key[1] for key in self.times if key[0] == kind))
+        return list(dict.fromkeys(key[1] for key in [*self.times, *self.counts] if key[0] == kind))
 
 
 class Table:
     """Prints sections, counts their rows and the wrong ones among them, and keeps the goals."""
 
-    def __init__(self):
+    def __init__(self) -> None:
         self.rows = self.wrong = 0
-        self.goals = []
+        self.goals: list[tuple[str, float | None, float, str]] = []
 
-    def section(self, head, rows):
+    def section(self, head: list[str], rows: list[tuple[list[str], bool]]) -> None:
         """Prints a section; each row is its cells, and whether its answers were right."""
         cells = [head] + [row for row, _ in rows]
         widths = [max(len(row[n]) for row in cells) for n in range(len(head))]
@@ -72,10 +78,10 @@ class Table:
             self.rows += 1
             self.wrong += not is_right
 
-    def goal(self, text, reached, most, unit=""):
+    def goal(self, text: str, reached: float | None, most: float, unit: str = "") -> None:
         self.goals.append((text, reached, most, unit))
 
-    def print_goals(self):
+    def print_goals(self) -> None:
         rows = []
         for text, reached, most, unit in self.goals:
             told = "not measured" if reached is None else f"{reached:.2f}{unit}"
@@ -84,7 +90,7 @@ class Table:
         self.section(["speed to reach, the worst of its row", "at most", "measured", ""], rows)
 
 
-def codec_rows(table, m):
+def codec_rows(table: Table, m: Measured) -> None:
     rows, is_right = [], not m.wrong["answers", "codec"]
     for what in m.names("codec"):
         ours = m.times["codec", what, "ours"]
@@ -96,7 +102,7 @@ def codec_rows(table, m):
     table.section(head, rows)
 
 
-def timed_rows(table, m, head, kind, columns):
+def timed_rows(table: Table, m: Measured, head: list[str], kind: str, columns: list[tuple[str, str]]) -> None:
     """A row for each call of this kind of lines, and a column for each pair of words."""
     rows = []
     for name in m.names(kind):
@@ -106,13 +112,13 @@ def timed_rows(table, m, head, kind, columns):
     table.section(head, rows)
 
 
-def call_rows(table, m):
+def call_rows(table: Table, m: Measured) -> None:
     columns = [(ports, used) for ports in PORTS for used in USED]
     head = ["one system, ns a call: ports / conversations"] + [" / ".join(it) for it in columns]
     timed_rows(table, m, head, "call", columns)
 
 
-def wide_rows(table, m):
+def wide_rows(table: Table, m: Measured) -> None:
     columns = [(ports, used) for ports in PORTS for used in WIDE]
     head = ["4,096 conversations, ns a call: ports / conversations"] + [" / ".join(it) for it in columns]
     timed_rows(table, m, head, "wide", columns)
@@ -121,7 +127,7 @@ def wide_rows(table, m):
         table.goal(f"{name}, with any number of 4,096 conversations in use beside one", worst, 2)
 
 
-def limit_rows(table, m):
+def limit_rows(table: Table, m: Measured) -> None:
     head = ["64 ports, a limit of links, ns a call"]
     head += [f"{'one aggregator' if partners == '1' else 'two aggregators'}, {told}" for partners, _, told in LIMITS]
     timed_rows(table, m, head, "limit", [(partners, limit) for partners, limit, _ in LIMITS])
@@ -130,13 +136,14 @@ def limit_rows(table, m):
         table.goal(f"{name}, with a limit and none promoted beside none", worst, 1.1)
 
 
-def switch_rows(table, m, version):
+def switch_rows(table: Table, m: Measured, version: str | None) -> None:
     """Beside Open vSwitch; of a call here the slowest of the three uses of conversations counts."""
     rows, is_right = [], not m.wrong.get(("answers", "Open vSwitch"))
     for call, other, name, most in BESIDE:
-        theirs = [m.times.get(("ovs", other, ports)) for ports in PORTS]
+        found = [m.times.get(("ovs", other, ports)) for ports in PORTS]
+        theirs = [it for it in found if it is not None]
         ours = [max(m.times["call", call, ports, used] for used in USED) for ports in PORTS]
-        known = None not in theirs
+        known = len(theirs) == len(PORTS)
         ratios = [a / b for a, b in zip(ours, theirs)] if known else []
         told = [number(it) for it in theirs] if known else ["-"] * 3
         rows.append(([f"{call} / {name}", *told, *([f"{it:.2f}" for it in ratios] or ["-"] * 3)], is_right))
@@ -146,7 +153,7 @@ def switch_rows(table, m, version):
     table.section([f"ours / {what}", *(f"its ns, {it} ports" for it in PORTS), *(f"ratio, {it}" for it in PORTS)], rows)
 
 
-def offer_rows(table, m):
+def offer_rows(table: Table, m: Measured) -> None:
     one, all_of = m.times["alone", "offer", "64", "1"], m.times["call", "offer", "64", "all"]
     wrong = m.wrong["alone", "offer", "64", "1"]
     head = ["offer, 64 ports in 64 aggregators", "ns with one conversation in use", "ns with all of all", "ratio"]
@@ -154,7 +161,7 @@ def offer_rows(table, m):
     table.goal("offer with all conversations of 64 aggregators in use beside one", all_of / one, 1.5)
 
 
-def crowded_rows(table, m):
+def crowded_rows(table: Table, m: Measured) -> None:
     rows, times = [], []
     for name in m.names("crowded"):
         keys = [("crowded", name, "64", order) for order in ("low", "high")]
@@ -164,27 +171,28 @@ def crowded_rows(table, m):
     table.goal("the worst call where ports find no aggregator", max(times) / 1000, WORST / 1000, " us")
 
 
-def memory_rows(table, m):
-    kinds, (allocations,) = m.names("later")[0], m.times["later", m.names("later")[0]]
-    rows = [([name, *map(str, m.times["memory", name])], True) for name in m.names("memory")]
+def memory_rows(table: Table, m: Measured) -> None:
+    kinds, (allocations,) = m.names("later")[0], m.counts["later", m.names("later")[0]]
+    rows = [([name, *map(str, m.counts["memory", name])], True) for name in m.names("memory")]
     rows.append(([f"{kinds} kinds of calls afterwards", str(allocations), "-"], allocations == 0))
     table.section(["memory", "allocations", "octets"], rows)
     table.goal(f"allocations of {kinds} kinds of calls after new", float(allocations), 0)
 
 
-def program_rows(table, programs):
-    ours, rows = None, []
+def program_rows(table: Table, programs: list[tuple[str, float | None, int]]) -> None:
+    ours: float | None = None
+    rows = []
     for name, seconds, wrong in programs:
         is_ours = name.startswith("lagtool")
         ours = seconds if is_ours else ours
-        ratio = "-" if is_ours or seconds is None else f"{ours / seconds:.2f}"
+        ratio = "-" if is_ours or ours is None or seconds is None else f"{ours / seconds:.2f}"
         told = "not here" if seconds is None else f"{seconds:.3f}"
         what = f"{name} of 100,000 {'events' if 'replay' in name else 'frames'}"
         rows.append(([what, told, ratio], not wrong))
     table.section(["program, CPU seconds", "seconds", "lagtool / it"], rows)
 
 
-def machine():
+def machine() -> str:
     """The processor, how many there are, and how many processes wanted one in the last minute."""
     names = []
     if os.path.isfile("/proc/cpuinfo"):
@@ -193,10 +201,10 @@ def machine():
     return f"{os.cpu_count()} processors {names[0] if names else '?'}, load {os.getloadavg()[0]:.1f}"
 
 
-def print_table(text, version, programs):
+def print_table(text: str, version: str | None, programs: list[tuple[str, float | None, int]] | None) -> int:
     """Prints all; answers how many rows were wrong."""
     m, table = Measured(text), Table()
-    rounds, (seconds,) = m.names("rounds")[0], m.times["rounds", m.names("rounds")[0]]
+    rounds, (seconds,) = m.names("rounds")[0], m.counts["rounds", m.names("rounds")[0]]
     print(f"{machine()}. The least CPU time of {rounds} rounds in {seconds} seconds; {m.answers:,} answers were looked at.")
     codec_rows(table, m)
     call_rows(table, m)

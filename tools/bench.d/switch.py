@@ -1,5 +1,7 @@
 """Open vSwitch: its source package is fetched from Debian and its library built, in the cache folder."""
 
+from __future__ import annotations
+
 import os
 import re
 import shutil
@@ -21,7 +23,7 @@ WITHOUT += ["ac_cv_lib_unbound_ub_ctx_create=no", "ac_cv_lib_unwind_unw_backtrac
 AS_IT_IS = ["AUTOMAKE=:", "ACLOCAL=:", "AUTOCONF=:", "AUTOHEADER=:"]
 
 
-def fetch(cache, folder):
+def fetch(cache: str, folder: str) -> str:
     """Fetches the source package of the first suite that has it; answers its file."""
     for suite in SUITES:
         state = f"{folder}/apt-{suite}"
@@ -42,14 +44,14 @@ def fetch(cache, folder):
     raise Missing("no suite of Debian that has its source package could be reached")
 
 
-def unpack(archive, folder):
+def unpack(archive: str, folder: str) -> str:
     """Unpacks the package; answers the folder of its sources."""
     with tarfile.open(archive) as it:
         it.extractall(folder)
     return next(f"{folder}/{it}" for it in os.listdir(folder) if os.path.isfile(f"{folder}/{it}/lib/lacp.c"))
 
 
-def make(cache, sources):
+def make(cache: str, sources: str) -> None:
     """Makes the library, after all sources that are made."""
     with open(f"{sources}/made-first.mk", "w") as it:
         it.write("include Makefile\nmade-first: $(BUILT_SOURCES)\n")
@@ -60,11 +62,11 @@ def make(cache, sources):
     log_run(cache, "openvswitch", ["make", jobs, *AS_IT_IS, "lib/libopenvswitch.la"], cwd=sources)
 
 
-def version(sources):
+def version(sources: str) -> str:
     return re.sub("^openvswitch-", "", os.path.basename(sources))
 
 
-def built(cache):
+def built(cache: str) -> tuple[str | None, str]:
     """The folder of the built sources, and its version; else None, and why it is not here."""
     folder = f"{cache}/openvswitch"
     standing = [f"{folder}/{it}" for it in (os.listdir(folder) if os.path.isdir(folder) else [])]

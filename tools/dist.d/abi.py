@@ -16,7 +16,7 @@ import sys
 import library
 from counting import Count
 from library import printed
-from repository import CC, TOOLS, Missing
+from repository import COMPILER, TOOLS, Missing
 
 sys.path.append(os.path.join(TOOLS, "live.d"))
 
@@ -52,7 +52,7 @@ def described(folder: str) -> str:
     script = library.version_script(folder)
     words = ["-g", "-gdwarf-4", "-shared", "-fPIC", f"-Wl,-soname,{library.SONAME}", f"-Wl,--version-script={script}"]
     # Neither the folder nor the lines of the header are part of the interface.
-    printed(CC, *words, f"-I{include}", f"-ffile-prefix-map={folder}=.", f"-ffile-prefix-map={include}=.", "-o", made, source)
+    printed(*COMPILER, *words, f"-I{include}", f"-ffile-prefix-map={folder}=.", f"-ffile-prefix-map={include}=.", "-o", made, source)
     printed("abidw", "--no-show-locs", "--no-corpus-path", "--no-comp-dir-path", "--out-file", told, made)
     return told
 

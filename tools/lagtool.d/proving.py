@@ -1,5 +1,7 @@
 """Proves and builds the program: libraries that have nothing in common side by side, the rest in turn."""
 
+from __future__ import annotations
+
 import os
 import subprocess
 import sys
@@ -17,21 +19,23 @@ JOBS = 4
 KNOWN = 1 / 5
 
 
-def spoken(seconds):
+def spoken(seconds: float) -> str:
     return f"{seconds / 60:.0f} minutes" if seconds >= 120 else f"{seconds:.0f} seconds"
 
 
-def apart(name):
+def apart(name: str) -> tuple[list[list[str]], list[str]]:
     """The libraries below a crate, lowest first: lists without a crate in common, none of which stands on another, and the rest.
     `rt` keeps a crate and all below it to itself, so those alone can be proved side by side."""
-    uses, found, rest = crates(), {}, []
+    uses = crates()
+    found: dict[str, list[str]] = {}
+    rest: list[str] = []
     for crate in below(name)[:-1]:
         lowest = [it for it in below(crate) if not uses[it]]
         (found.setdefault(lowest[0], []) if len(lowest) == 1 else rest).append(crate)
     return list(found.values()), rest
 
 
-def size(crate):
+def size(crate: str) -> int:
     """The octets of a crate's code, definitions and proofs, by which the time of its proof is estimated."""
     folders = [os.path.join(CRATES, crate, part) for part in ("src", "specs", "proofs")]
     return sum(os.path.getsize(os.path.join(at, it)) for folder in folders for at, _, files in os.walk(folder) for it in files)
@@ -40,54 +44,56 @@ def size(crate):
 class Proof:
     """The proof of a program. What `rt` prints goes to a file of its folder out/."""
 
-    def __init__(self, name):
+    def __init__(self, name: str) -> None:
         self.name, self.all = name, below(name)
         self.sizes = {crate: size(crate) for crate in self.all}
         self.log = os.path.join(CRATES, name, "out", "proof.log")
         # Each crate that is proved, with the seconds that it took here.
-        self.proved, self.running, self.shown, self.is_stopped = {}, set(), None, False
+        self.proved: dict[str, float] = {}
+        self.running: set[subprocess.Popen[bytes]] = set()
+        self.shown, self.is_stopped = "", False
         self.jobs = min(lanes(), JOBS)
         self.lock = threading.Lock()
 
-    def __enter__(self):
+    def __enter__(self) -> Proof:
         os.makedirs(os.path.dirname(self.log), exist_ok=True)
         with open(self.log, "w", encoding="utf-8"):
             return self
 
-    def __exit__(self, *_):
+    def __exit__(self, *_: object) -> None:
         self.stop()
         if self.shown and sys.stderr.isatty():
             print("\r\033[K", end="", file=sys.stderr, flush=True)
 
-    def stop(self):
+    def stop(self) -> None:
         """Ends what runs, and begins nothing more."""
         self.is_stopped = True
         for it in list(self.running):
             it.terminate()
 
-    def make(self):
+    def make(self) -> None:
         """Proves all; stops where that fails."""
         self.began = time.time()
         lists, rest = apart(self.name)
-        longest = max(lists, key=lambda names: sum(self.sizes[it] for it in names), default=[])
+        longest: list[str] = max(lists, key=lambda names: sum(self.sizes[it] for it in names), default=[])
         with ThreadPoolExecutor(lanes()) as pool:
             for proved in [pool.submit(self.prove_each, it, self.jobs if it is longest else 1) for it in lists]:
                 proved.result()
         self.prove_each([*rest, self.name], self.jobs)
 
-    def prove_each(self, names, jobs):
+    def prove_each(self, names: list[str], jobs: int) -> None:
         for name in names:
             words = ["run"] if name == self.name else ["lib"]
             self.prove(name, [RT, *words, "--jobs", str(jobs), *(["--", "--help"] if name == self.name else [])])
 
-    def prove(self, crate, words):
+    def prove(self, crate: str, words: list[str]) -> None:
         """Proves and builds one crate. A run without proof beside it, which is soon done, goes first."""
         if self.is_stopped:
             return
         began = time.time()
         with open(self.log, "a", encoding="utf-8") as log:
-            how = {"cwd": os.path.join(CRATES, crate), "stdin": subprocess.DEVNULL, "stdout": log, "stderr": log}
-            with subprocess.Popen(["nice", "-n", "10", *words], **how) as ran:
+            folder, nothing = os.path.join(CRATES, crate), subprocess.DEVNULL
+            with subprocess.Popen(["nice", "-n", "10", *words], cwd=folder, stdin=nothing, stdout=log, stderr=log) as ran:
                 self.running.add(ran)
             self.running.remove(ran)
         if self.is_stopped:
@@ -99,7 +105,7 @@ class Proof:
         if self.shown:
             self.show(self.shown)
 
-    def left(self):
+    def left(self) -> float | None:
         """The seconds that are left, by what the crates took so far; None before a fifth of the work was done here."""
         here = sum(self.sizes[it] for it, took in self.proved.items() if took > 5)
         todo = sum(self.sizes[it] for it in self.all if it not in self.proved)
@@ -107,7 +113,7 @@ class Proof:
             return None
         return (time.time() - self.began) * todo / here
 
-    def show(self, what):
+    def show(self, what: str) -> None:
         """Says how far the proof is, now and after each crate; on a terminal in one line."""
         with self.lock:
             self.shown, left = what, self.left()

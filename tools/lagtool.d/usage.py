@@ -1,5 +1,7 @@
 """The program's help, from the texts in its sources, where the program is not built yet."""
 
+from __future__ import annotations
+
 import os
 import re
 import textwrap
@@ -9,14 +11,14 @@ from repository import CRATES
 TEXTS = os.path.join(CRATES, "lagtool_words", "src", "help.rt")
 
 
-def texts():
+def texts() -> dict[str, str]:
     """The constants of the file: their names and texts."""
     with open(TEXTS, encoding="utf-8") as it:
         found = re.findall(r'^pub const (\w+): &str =\s*"((?:[^"\\]|\\.)*)";', it.read(), re.M | re.S)
     return {name: re.sub(r"\\\n\s*", "", text).replace('\\"', '"') for name, text in found}
 
 
-def text(program):
+def text(program: str) -> str:
     """The help: DECODE says what the command decode does, DECODE_HEX what its word HEX is, and DECODE_EXAMPLE has an example."""
     known = texts()
     told = [f"{program} {known['VERSION']}: {known['ABOUT']}", ""]

@@ -1,7 +1,11 @@
 """Checks that are counted, commands that are run, and signs that are waited for."""
 
+from __future__ import annotations
+
+import re
 import subprocess
 import time
+from typing import Any, Callable
 
 counted = {"passed": 0, "failed": 0}
 
@@ -14,14 +18,14 @@ class Skipped(Exception):
     """A part cannot run here: why."""
 
 
-def check(holds, what, *told):
+def check(holds: object, what: str, *told: object) -> None:
     """Counts a check; what is told beside it is printed where it fails."""
     counted["passed" if holds else "failed"] += 1
     lines = [] if holds else [str(text).strip() for text in told if str(text).strip()]
     print(f"{'passed' if holds else 'FAILED'}: {what}", *lines, sep="\n  ", flush=True)
 
 
-def command(*words, **more):
+def command(*words: str, **more: Any) -> subprocess.CompletedProcess[str]:
     """Runs a command; one that is not here, or does not end in time, fails as any other."""
     try:
         return subprocess.run(words, capture_output=True, text=True, **more)
@@ -29,11 +33,19 @@ def command(*words, **more):
         return subprocess.CompletedProcess(words, 127, "", str(why))
 
 
-def within(seconds, holds):
+def found(pattern: str, text: str) -> str:
+    """What the group of a pattern has of a text; where there is nothing, that has failed."""
+    at = re.search(pattern, text)
+    if not at:
+        raise Failed(f"{pattern} is found", text[-2000:])
+    return at[1]
+
+
+def within(seconds: float, holds: Callable[[], object]) -> bool:
     """Waits for a sign, for so many seconds at most."""
     until = time.monotonic() + seconds
     while time.monotonic() < until:
         if holds():
             return True
         time.sleep(0.1)
-    return holds()
+    return bool(holds())

@@ -1,5 +1,7 @@
 """The daemon `lagd` over veth pairs: against itself, alone, with a stranger on the wire, and against the bonding driver."""
 
+from __future__ import annotations
+
 import array
 import fcntl
 import math
@@ -12,7 +14,7 @@ import termios
 import time
 
 from checking import Skipped, check, command, within
-from daemon import ENDS, KEY, OTHER, SYSTEM
+from daemon import ENDS, KEY, OTHER, SYSTEM, Daemon, Part
 from spaces import OURS, THEIRS, Wire, flap, inside, ip, lacpdu, losses, make_pair, marker, octets, packet_sockets, within_space
 
 STRANGER = "02:00:00:00:00:cc"
@@ -34,12 +36,12 @@ NOBODY = "65534"
 LINK_GONE, RTM_DELLINK, INDEX = struct.Struct("=IHHIIBxHiII"), 17, "/sys/class/net/a0/ifindex"
 
 
-def both_up(ours, theirs, what):
+def both_up(ours: Daemon, theirs: Daemon, what: str) -> None:
     holds = within(COMES_UP, lambda: ours.distributes("a0", "a1") and theirs.distributes("b0", "b1"))
     check(holds, what, ours.text(), theirs.text())
 
 
-def follow_link(daemon, downed):
+def follow_link(daemon: Daemon, downed: str) -> None:
     """The second link is taken down and brought back, at its other end."""
     ip(THEIRS, "link", "set", downed, "down")
     stopped = lambda: daemon.port("a1")["status"] == "the link is down"
@@ -49,7 +51,7 @@ def follow_link(daemon, downed):
     check(within(COMES_UP, lambda: daemon.distributes("a0", "a1")), "brought back, it distributes again", daemon.text())
 
 
-def flap_link(daemon, downed):
+def flap_link(daemon: Daemon, downed: str) -> None:
     """The second link is taken down and brought back at once, one time and twenty times."""
     before, told = losses(OURS, "a1"), daemon.count("a1", "link_losses")
     told_down = lambda: sum(line.startswith("the link is down,") for line in daemon.lines("a1"))
@@ -62,7 +64,7 @@ def flap_link(daemon, downed):
     check(within(COMES_UP, lambda: daemon.distributes("a0", "a1")), "it distributes again", daemon.text())
 
 
-def change_address(daemon, mac="02:00:00:00:77:00"):
+def change_address(daemon: Daemon, mac: str = "02:00:00:00:77:00") -> None:
     """The interface gets another MAC address."""
     wire = Wire(THEIRS, "b0")
     ip(OURS, "link", "set", "a0", "address", mac)
@@ -70,7 +72,7 @@ def change_address(daemon, mac="02:00:00:00:77:00"):
     check(within(ENDS, lambda: daemon.port("a0")["address"] == mac), "so has the status")
 
 
-def fail_to_send(ours, theirs):
+def fail_to_send(ours: Daemon, theirs: Daemon) -> None:
     """The interface takes no frame of this length, while the peer sends four LACPDUs at the other one, one each second. At most
     three a second are due, so more failures than that are frames that are tried again."""
     ip(OURS, "link", "set", "a0", "mtu", "100")
@@ -84,7 +86,7 @@ def fail_to_send(ours, theirs):
     both_up(ours, theirs, "once they are taken, the links distribute again")
 
 
-def drop_link(ours, theirs):
+def drop_link(ours: Daemon, theirs: Daemon) -> None:
     """The second pair vanishes, while LACPDUs of more than three short periods of 1 s come on the first one; and comes back."""
     ip(OURS, "link", "del", "a1")
     missing = "the interface is missing"
@@ -97,7 +99,7 @@ def drop_link(ours, theirs):
     both_up(ours, theirs, "made again, it is taken up, and distributes")
 
 
-def two_daemons(part):
+def two_daemons(part: Part) -> None:
     ours, theirs = part.ours(), part.theirs()
     both_up(ours, theirs, "two daemons: both links come to distribute at both ends")
     for daemon, name, system, key, port in (ours, "a1", OTHER, 5, 2), (theirs, "b0", SYSTEM, int(KEY), 1):
@@ -117,7 +119,7 @@ def two_daemons(part):
     check(all(ours.last_line(name) == "ended" for name in ("a0", "a1")), "its last lines say so", ours.printed())
 
 
-def tell_end(part):
+def tell_end(part: Part) -> None:
     """The peer asks for LACPDUs each 30 s alone, so that it would miss them after 90 s: sooner it stops only if it is told."""
     theirs = part.theirs(options=["--timeout", "long"])
     for by in signal.SIGTERM, signal.SIGINT, signal.SIGHUP, signal.SIGQUIT:
@@ -127,11 +129,11 @@ def tell_end(part):
         check(within(GOES_DOWN, lambda: not (theirs.distributes("b0") or theirs.distributes("b1"))), "its peer stops both links")
 
 
-def wrong_words(part):
+def wrong_words(part: Part) -> None:
     system = f"32768,{SYSTEM}"
     wrong = [["7x", system, "a0"], ["65536", system, "a0"], ["", system, "a0"], ["7", SYSTEM, "a0"], ["7", f"-1,{SYSTEM}", "a0"]]
-    macs = (" 2:00:00:00:00:aa", "-2:00:00:00:00:aa", "2:0:0:0:0:a", SYSTEM + ":01", "", "01:00:00:00:00:aa", "00:00:00:00:00:00")
-    macs += ("02:00:00-00:00:aa", "0200:0000:00aa", "02.00.00.00.00.aa", "0200.0000.00a", "0200.0000.00ag", "0100.0000.00aa")
+    macs = [" 2:00:00:00:00:aa", "-2:00:00:00:00:aa", "2:0:0:0:0:a", SYSTEM + ":01", "", "01:00:00:00:00:aa", "00:00:00:00:00:00"]
+    macs += ["02:00:00-00:00:aa", "0200:0000:00aa", "02.00.00.00.00.aa", "0200.0000.00a", "0200.0000.00ag", "0100.0000.00aa"]
     wrong += [["7", f"32768,{mac}", "a0"] for mac in macs]
     wrong += [["7", system, "a0", "a1", "a0"], ["7", system, "a0/b"], ["7", system, ""], ["7", system, "a" * 128], ["7", system, "lo"]]
     wrong += [["7", system], ["7", system, *(f"a{port}" for port in range(65))], ["--status", "a0"], ["--json", "7", system, "a0"]]
@@ -151,7 +153,7 @@ def wrong_words(part):
     check(status == 1 and re.fullmatch(r"lagd: no lagd answers in: .+\n", line), "--status says where no daemon runs", line)
 
 
-def lone_daemon(part):
+def lone_daemon(part: Part) -> None:
     wrong_words(part)
     ip(OURS, "link", "del", "a0")
     daemon = part.ours("a0", "a1")
@@ -177,7 +179,7 @@ def lone_daemon(part):
     again.ends("the daemon")
 
 
-def other_addresses(daemon, wire):
+def other_addresses(daemon: Daemon, wire: Wire) -> None:
     """LACPDUs to other addresses, and then one to the right one."""
     mac = daemon.port("a0")["address"]
     for to in "ff:ff:ff:ff:ff:ff", mac, "01:80:c2:00:00:00", "01:80:c2:00:00:03":
@@ -193,7 +195,7 @@ def other_addresses(daemon, wire):
     check(within(ENDS, taken), "one to the address of the slow protocols is", daemon.text())
 
 
-def count_frames(daemon, wire):
+def count_frames(daemon: Daemon, wire: Wire) -> None:
     """Frames of each kind. The ones to refuse: another subtype, a wrong length, a wrong TLV type and too few octets."""
     for _ in range(3):
         wire.send(marker(1))
@@ -215,7 +217,7 @@ def count_frames(daemon, wire):
     check(all(f" {name} {count}" in text for name, count in wanted.items()), "the status as text has the same counts", text)
 
 
-def flood(daemon, wire, seconds=4):
+def flood(daemon: Daemon, wire: Wire, seconds: float = 4) -> None:
     """A thousand LACPDUs a second, each of another partner."""
     before, sent, begin = len(daemon.lines("a0")), 0, time.monotonic()
     while time.monotonic() < begin + seconds:
@@ -229,7 +231,7 @@ def flood(daemon, wire, seconds=4):
     check(within(ENDS, lambda: daemon.count("a0", "lacpdus_received") > sent), "all are taken", f"{taken} of {sent}")
 
 
-def stranger(part):
+def stranger(part: Part) -> None:
     daemon = part.ours("a0")
     check(within(ENDS, lambda: daemon.port("a0")["link"] == "up"), "a daemon and a stranger on its wire", daemon.printed())
     wire = Wire(THEIRS, "b0")
@@ -243,7 +245,7 @@ def stranger(part):
     second.ends("the other one")
 
 
-def stall(part):
+def stall(part: Part) -> None:
     """A daemon is stopped for 5 s. Its peer waits 90 s, and sends each second. Then all ticks would be made up at once: its own link
     would expire though LACPDUs wait for it."""
     theirs = part.theirs(options=["--timeout", "long"])
@@ -261,7 +263,7 @@ def stall(part):
         daemon.ends(name)
 
 
-def stall_of_sender(part):
+def stall_of_sender(part: Part) -> None:
     """A daemon that sends each second is stopped for 5 s."""
     theirs, ours = part.theirs(), part.ours()
     both_up(ours, theirs, "both links distribute")
@@ -277,19 +279,19 @@ def stall_of_sender(part):
     both_up(ours, theirs, "both links distribute again")
 
 
-def waits_in(pipe):
+def waits_in(pipe: int) -> int:
     """How many octets nobody has read yet."""
     found = array.array("i", [0])
     fcntl.ioctl(pipe, termios.FIONREAD, found)
     return found[0]
 
 
-def full_queue(part):
+def full_queue(part: Part) -> None:
     """Somebody asks a daemon that is stopped until its socket has no room. Who asks then is told that none answers."""
     daemon = part.ours("a0")
     check(within(ENDS, lambda: daemon.port("a0")["link"] == "up"), "a daemon alone", daemon.printed())
     daemon.process.send_signal(signal.SIGSTOP)
-    askers = []
+    askers: list[socket.socket] = []
     try:
         while len(askers) < 1000:
             askers.append(socket.socket(socket.AF_UNIX, socket.SOCK_STREAM | socket.SOCK_NONBLOCK))
@@ -305,7 +307,7 @@ def full_queue(part):
     daemon.ends("the daemon")
 
 
-def false_changes(part, seconds=4):
+def false_changes(part: Part, seconds: float = 4) -> None:
     """Another program sends messages to the socket on which the kernel tells of interfaces: that one is taken away."""
     theirs, ours = part.theirs(), part.ours()
     both_up(ours, theirs, "both links distribute")
@@ -326,7 +328,7 @@ def false_changes(part, seconds=4):
     ours.ends("the daemon")
 
 
-def quiet_ports(part):
+def quiet_ports(part: Part) -> None:
     """Two daemons of many ports, and no change: how much of a processor one of them takes while ten LACPDUs come on each."""
     part.unhurried()
     for place in range(2, MANY):
@@ -343,17 +345,17 @@ def quiet_ports(part):
         daemon.ends(name)
 
 
-def reasons(part):
+def reasons(part: Part) -> None:
     """Why a port does not distribute: a stranger says nothing, something, and what the daemon itself would say."""
-    daemon, wire = part.ours("a0"), None
+    daemon = part.ours("a0")
     says = lambda text: lambda: daemon.port("a0")["status"] == text
     check(within(ENDS, says("no LACPDU came in time")), "a link without LACPDUs says so", daemon.text())
     check(within(ENDS, says("it runs on defaults")), "and then that it runs on defaults", daemon.text())
     wire = Wire(THEIRS, "b0")
 
-    def sees(system, text):
+    def sees(system: str, text: str) -> bool:
         wire.send(lacpdu(system, 1))
-        return says(text)()
+        return bool(says(text)())
 
     waits = lambda: sees(STRANGER, "it waits for wait_while") and 0 < (daemon.port("a0")["wait_while"] or 0) <= 20
     check(within(ENDS, waits), "it waits for 2 s once a stranger speaks, and says for how long", daemon.text())
@@ -366,7 +368,7 @@ def reasons(part):
     daemon.ends("the daemon")
 
 
-def full_pipe(part):
+def full_pipe(part: Part) -> None:
     """Nobody reads what the daemon prints; and then the reader is gone."""
     reader, writer = os.pipe()
     fcntl.fcntl(writer, SET_PIPE_SIZE, 4096)
@@ -385,7 +387,7 @@ def full_pipe(part):
     ours.ends("a daemon whose reader is gone")
 
 
-def options(part):
+def options(part: Part) -> None:
     words = ["--port-priority", "100", "--timeout", "long", "--activity", "passive"]
     ours = part.ours("a0:key=8", "a1:priority=7,short,active,individual", options=words)
     theirs = part.theirs()
@@ -401,7 +403,7 @@ def options(part):
         daemon.ends(name)
 
 
-def limit(part):
+def limit(part: Part) -> None:
     """An aggregator of one link at most: the other one stands by, and takes over."""
     ours, theirs = part.ours(options=["--max-links", "1"]), part.theirs()
     full = "its aggregator has no room for one more link"
@@ -413,7 +415,7 @@ def limit(part):
     ours.ends("the daemon")
 
 
-def not_root(part):
+def not_root(part: Part) -> None:
     """A daemon with the capability for raw sockets alone, and a folder that it may write."""
     words = ["setpriv", "--reuid", NOBODY, "--regid", NOBODY, "--clear-groups", "--inh-caps=-all,+net_raw", "--ambient-caps=-all,+net_raw"]
     if inside(OURS, *words, "true").returncode:
@@ -431,7 +433,7 @@ def not_root(part):
     ours.ends("the daemon")
 
 
-def before_data(part):
+def before_data(part: Part) -> None:
     """Its frames have the priority of control frames, and go into the first of three queues."""
     daemon = part.ours("a0")
     check(within(ENDS, lambda: daemon.count("a0", "lacpdus_sent") > 0), "a daemon that sends", daemon.printed())
@@ -447,7 +449,7 @@ def before_data(part):
     check(len(sent) == 3 and sent[0] >= 2, "they go before data", told)
 
 
-def bond(part):
+def bond(part: Part) -> None:
     command("modprobe", "bonding")
     made = command("ip", "-n", THEIRS, "link", "add", "bond0", "type", "bond", "mode", "802.3ad", "miimon", "100", "lacp_rate", "fast")
     if made.returncode:

@@ -1,5 +1,7 @@
 """The daemon against odd surroundings and whoever means it ill: strangers on the wire, tags, signals, folders, askers and names."""
 
+from __future__ import annotations
+
 import os
 import re
 import signal
@@ -7,9 +9,10 @@ import socket
 import stat
 import subprocess
 import time
+from typing import Callable
 
 from checking import Skipped, check, within
-from daemon import ENDS, OTHER, SYSTEM
+from daemon import ENDS, OTHER, SYSTEM, Part
 from daemons import COMES_UP, GOES_DOWN, NOBODY, STRANGER, both_up
 from spaces import GROUP, OURS, SLOW_PROTOCOLS, THEIRS, Wire, flap, inside, ip, lacpdu, marker, octets, packet_socket
 
@@ -20,7 +23,7 @@ MANY_MESSAGES = 3000
 ODD_SIGNALS = ("SIGALRM", "SIGVTALRM", "SIGPROF", "SIGIO", "SIGPWR", "SIGXCPU", "SIGSTKFLT", "SIGRTMIN")
 
 
-def forged_each_second(wire, seconds, looks):
+def forged_each_second(wire: Wire, seconds: float, looks: Callable[[], bool]) -> tuple[float, int]:
     """A stranger speaks once a second; in which share of the looks something holds, and how often it spoke."""
     held, count, sent, until = 0, 0, 0, time.monotonic() + seconds
     while time.monotonic() < until:
@@ -32,7 +35,7 @@ def forged_each_second(wire, seconds, looks):
     return held / count, sent
 
 
-def partner_policy(part):
+def partner_policy(part: Part) -> None:
     """A stranger forges an LACPDU each second on the first link."""
     theirs = part.theirs()
     for policy in "first", f"32768,{OTHER}":
@@ -53,7 +56,7 @@ def partner_policy(part):
     ours.ends("the daemon")
 
 
-def any_partner(part):
+def any_partner(part: Part) -> None:
     """With any partner, whoever speaks is one; the log names both."""
     ours, wire = part.ours("a0"), Wire(THEIRS, "b0")
     within(ENDS, lambda: ours.port("a0")["link"] == "up")
@@ -67,7 +70,7 @@ def any_partner(part):
     ours.ends("the daemon")
 
 
-def first_until_down(part):
+def first_until_down(part: Part) -> None:
     """The first one stays the partner until the link goes down."""
     ours, wire = part.ours("a0", options=["--partner", "first"]), Wire(THEIRS, "b0")
     within(ENDS, lambda: ours.port("a0")["link"] == "up")
@@ -79,12 +82,16 @@ def first_until_down(part):
     flap(THEIRS, "b0", 1)
     within(ENDS, lambda: ours.port("a0")["link"] == "up")
     again = Wire(THEIRS, "b0")
-    other = lambda: again.send(lacpdu(OTHER, 1)) or named(OTHER)
+
+    def other() -> bool:
+        again.send(lacpdu(OTHER, 1))
+        return bool(named(OTHER))
+
     check(within(ENDS, other), "until the link goes down", ours.text())
     ours.ends("the daemon")
 
 
-def without_partner(part):
+def without_partner(part: Part) -> None:
     """A link without a partner distributes by the standard, and is told of as that; it does not carry where a partner is required."""
     for words, text, state in ([], "it distributes without a partner", "up"), (["--partner-required"], "a partner is required, and it has none", "down"):
         ours = part.ours("a0", options=words)
@@ -94,7 +101,7 @@ def without_partner(part):
         ours.ends("the daemon")
 
 
-def minimum(part):
+def minimum(part: Part) -> None:
     """A bundle of two links that wants both."""
     ours, theirs = part.ours(options=["--min-links", "2"]), part.theirs()
     both_up(ours, theirs, "both links distribute")
@@ -106,13 +113,13 @@ def minimum(part):
     ours.ends("the daemon")
 
 
-def tagged(vlan, protocol=0x8100):
+def tagged(vlan: int, protocol: int = 0x8100) -> bytes:
     """A frame with a VLAN tag, which has an LACPDU."""
     tag = protocol.to_bytes(2, "big") + vlan.to_bytes(2, "big") + SLOW_PROTOCOLS.to_bytes(2, "big")
     return octets(GROUP) + octets(SOURCE) + tag + lacpdu(STRANGER, 7)
 
 
-def tags(part):
+def tags(part: Part) -> None:
     """LACPDUs with a VLAN tag, without and with an interface of that VLAN."""
     ours = part.ours("a0")
     within(ENDS, lambda: ours.port("a0")["link"] == "up")
@@ -129,7 +136,7 @@ def tags(part):
     ours.ends("the daemon")
 
 
-def many_markers(part, count=300):
+def many_markers(part: Part, count: int = 300) -> None:
     """More markers than the standard lets a peer send."""
     ours, wire = part.ours("a0"), Wire(THEIRS, "b0")
     within(ENDS, lambda: ours.port("a0")["link"] == "up")
@@ -142,7 +149,7 @@ def many_markers(part, count=300):
     ours.ends("the daemon")
 
 
-def ignored_hangup(part):
+def ignored_hangup(part: Part) -> None:
     """nohup leaves SIGHUP ignored."""
     ours, theirs = part.ours(before=["nohup"]), part.theirs()
     both_up(ours, theirs, "started by nohup, both links distribute")
@@ -152,7 +159,7 @@ def ignored_hangup(part):
     ours.ends("the daemon")
 
 
-def odd_signals(part):
+def odd_signals(part: Part) -> None:
     """Signals that would end a program at once end this one when the peers are told: the peer would miss it after 90 s only."""
     theirs = part.theirs(options=["--timeout", "long"])
     for name in ODD_SIGNALS:
@@ -163,7 +170,7 @@ def odd_signals(part):
         check(within(5, lambda: not (theirs.distributes("b0") or theirs.distributes("b1"))), "its peer stops both links at once")
 
 
-def refused_call(part):
+def refused_call(part: Part) -> None:
     """The library refuses a call, as it never should: the peers are told, and the daemon ends with status 1."""
     theirs = part.theirs(options=["--timeout", "long"])
     plain, part.program = part.program, part.refusing()
@@ -176,7 +183,7 @@ def refused_call(part):
     check(within(5, lambda: not (theirs.distributes("b0") or theirs.distributes("b1"))), "its peer stops both links at once", theirs.text())
 
 
-def anew_while_stopped(part):
+def anew_while_stopped(part: Part) -> None:
     """A daemon is stopped while its interface is made anew with the same number, and so much happens that it is not told of that."""
     ours, theirs = part.ours(), part.theirs()
     both_up(ours, theirs, "both links distribute")
@@ -197,7 +204,7 @@ def anew_while_stopped(part):
     ours.ends("the daemon")
 
 
-def modes(part):
+def modes(part: Part) -> None:
     """The status socket has its mode by itself, and who may not ask is told that."""
     os.chmod(part.folder, 0o755)
     ours = part.ours("a0", before=["sh", "-c", 'umask 0; exec "$@"', "sh"])
@@ -224,7 +231,7 @@ while True:
 """
 
 
-def busy_askers(part):
+def busy_askers(part: Part) -> None:
     """Some ask without end, and some connect and say nothing: another one is answered."""
     ours = part.ours("a0")
     within(ENDS, ours.ports)
@@ -237,9 +244,9 @@ def busy_askers(part):
     answers = [inside(OURS, ours.program, "--folder", ours.folder, "--status").returncode for _ in range(9)]
     time.sleep(3)
     share = (ours.busy() - used) / (time.monotonic() - begin)
-    for it in busy:
-        it.kill()
-        it.wait()
+    for asker in busy:
+        asker.kill()
+        asker.wait()
     for it in silent:
         it.close()
     check(answers == [0] * 9, "beside busy and silent askers each question is answered", answers)
@@ -247,22 +254,28 @@ def busy_askers(part):
     ours.ends("the daemon")
 
 
-def folders(part):
+def folders(part: Part) -> None:
     """A folder of another user, one that others may write, and a symbolic link are refused."""
     made = os.path.join(part.folder, "odd")
     os.mkdir(made)
     words = ["7", f"32768,{SYSTEM}", "a0"]
-    for what, change in (
-        ("of another user", lambda: os.chown(made, int(NOBODY), int(NOBODY))),
-        ("that others may write", lambda: (os.chown(made, 0, 0), os.chmod(made, 0o777))),
-        ("through a symbolic link", lambda: (os.chmod(made, 0o755), os.rename(made, made + "2"), os.symlink(made + "2", made))),
-    ):
-        change()
+
+    def is_refused(what: str) -> None:
         ended = inside(OURS, "timeout", "3", part.program, "--folder", made, *words)
         check(ended.returncode == 1, f"a folder {what} is refused", ended.returncode, ended.stderr)
 
+    os.chown(made, int(NOBODY), int(NOBODY))
+    is_refused("of another user")
+    os.chown(made, 0, 0)
+    os.chmod(made, 0o777)
+    is_refused("that others may write")
+    os.chmod(made, 0o755)
+    os.rename(made, made + "2")
+    os.symlink(made + "2", made)
+    is_refused("through a symbolic link")
 
-def false_socket(part):
+
+def false_socket(part: Part) -> None:
     """Somebody else's socket says escape sequences."""
     folder = os.path.join(part.folder, "false")
     os.mkdir(folder)
@@ -275,7 +288,7 @@ def false_socket(part):
     check(told.stdout == "\\x1b]0;x\\x07\\x9b31m\n", "what a false daemon says is only shown", repr(told.stdout), told.stderr)
 
 
-def two_folders(part):
+def two_folders(part: Part) -> None:
     """A second daemon with another folder does not take an interface that one has."""
     ours = part.ours("a0")
     within(ENDS, ours.ports)
@@ -285,7 +298,7 @@ def two_folders(part):
     ours.ends("the daemon")
 
 
-def other_names(part):
+def other_names(part: Part) -> None:
     """An interface by one of its alternative names."""
     made = inside(OURS, "ip", "link", "property", "add", "dev", "a0", "altname", "thefirstinterfacebyitslongname")
     if made.returncode:
@@ -297,13 +310,13 @@ def other_names(part):
     ours.ends("the daemon")
 
 
-def name_twice(part):
+def name_twice(part: Part) -> None:
     inside(OURS, "ip", "link", "property", "add", "dev", "a0", "altname", "again0")
     status, line = part.refused("7", f"32768,{SYSTEM}", "a0", "again0")
     check(status == 1 and "this lagd, by another name" in line, "one interface by two names is refused", line)
 
 
-def full_log(part):
+def full_log(part: Part) -> None:
     """The log may not grow: the daemon goes on."""
     ours = part.ours("a0", "a1", before=["sh", "-c", 'ulimit -f 1; exec "$@"', "sh"])
     theirs = part.theirs()

@@ -39,8 +39,6 @@ VARIANTS = {"Received::Up": "HANDED_UP"}
 # Constants that have a name of their own in C.
 CONSTANTS = {"HOLDS_SYSTEM_ALREADY": "NIW_HAS_SYSTEM", "WRONG_BUFFER_LENGTH": "NIW_BUFFER", "FRAME_LENGTH_REFUSED": "NIW_FRAME_LENGTH",
              "NO_CONVERSATION": "NIW_NOT_ASSIGNED", "PORT_LIST_LENGTH": "NIW_MOST_PORTS", "CONTROL_FRAME_LENGTH": "NIW_FRAME", "LAST_ALGORITHM": "NIW_BY_FIRST"}
-# A text that is another one in C, where a limit of 0 is none.
-OWN_TEXTS = {("reason", "4"): "the limit of links of an aggregator is above 64"}
 
 
 class Unread(Exception):
@@ -223,23 +221,6 @@ def check_numbers(header, text):
     return unlike("number", {**numbers_of_sources(text), **OWN}, found)
 
 
-def texts_of_header(header, name):
-    """The texts of a function of the header, by their numbers."""
-    body = re.search(rf"niw_{name}_text\(\w+ \w+\) \{{(.*?)\n\}}", header, re.S)[1]
-    return dict(enumerate(re.findall(r'"([^"]*)"', body[: body.index("};")])))
-
-
-def check_texts(header):
-    """The texts of what a system refuses are those of the sources, but where these tell a place, and where C has its own."""
-    faults = text_of(FAULTS)
-    for enum, name, past in ("SystemFault", "status", {11}), ("BadConfig", "reason", {3}):
-        numbers = dict(re.findall(rf"{enum}::(\w+)(?:\([^)]*\))? => (\d+),", faults))
-        written = dict(re.findall(rf'{enum}::(\w+)(?:\([^)]*\))? => \{{?\s*f\.write_str\(\s*"([^"]*)"', faults))
-        wanted = {numbers[variant]: OWN_TEXTS.get((name, numbers[variant]), text) for variant, text in written.items()}
-        found = {str(number): text for number, text in texts_of_header(header, name).items() if number in range(1, len(numbers) + 1)}
-        yield from unlike(f"text of {name}", wanted, {number: text for number, text in found.items() if int(number) not in past})
-
-
 def assertions(structs):
     """A program that does not compile where a size or an offset is another one."""
     lines = ['#include "lag.h"']
@@ -260,5 +241,4 @@ def compared():
         (f"the header's {len(structs.all)} structs have the fields of the sources, in their order", list(check_structs(structs, header))),
         (f"its {count} functions take and answer what the exports do", list(check_functions(structs, header, text))),
         (f"its {numbers} numbers are those of the sources", list(check_numbers(header, text))),
-        ("its texts of refusals are those of the sources", list(check_texts(header))),
     ], assertions(structs)

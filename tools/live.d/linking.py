@@ -1,12 +1,15 @@
 """The C library, and programs in C over it: how they are built."""
 
+from __future__ import annotations
+
 import glob
 import os
 import shutil
+from typing import Sequence
 
 from checking import Failed, check, command
 from library import FOR_EACH_PROCESSOR
-from repository import CC, CRATES, RT, TOP, WARNINGS, Missing, daemon_words, runtime, want
+from repository import CC, COMPILER, CRATES, RT, TOP, WARNINGS, Missing, daemon_words, runtime, want
 
 CRATE = os.path.join(CRATES, "lagffi")
 INCLUDE = f"-I{CRATE}/include"
@@ -19,7 +22,7 @@ STRICT = ["-std=c11", *WARNINGS]
 COUNTED = [f"-Wl,--wrap={name}" for name in ("malloc", "realloc", "free")]
 
 
-def build_library():
+def build_library() -> list[str]:
     """Builds the library, or takes the one that LIBRARY names; answers what a program in C is linked with. A library that links alone
     wants nothing of the toolchain, which may not be here then."""
     given = os.environ.get("LIBRARY")
@@ -34,7 +37,7 @@ def build_library():
     return [f"{CRATE}/out/liblagffi.a", runtime()]
 
 
-def beside():
+def beside() -> list[str]:
     """The C part of the toolchain, where that is here."""
     try:
         return [runtime()] if shutil.which(RT) else []
@@ -42,22 +45,22 @@ def beside():
         return []
 
 
-def build(made, sources, libraries, *words):
+def build(made: str, sources: Sequence[str], libraries: Sequence[str], *words: str) -> str:
     """Builds a program; answers its path."""
-    ended = command(CC, "-O2", INCLUDE, *words, "-o", made, *sources, *libraries)
+    ended = command(*COMPILER, "-O2", INCLUDE, *words, "-o", made, *sources, *libraries)
     if ended.returncode:
         raise Failed(f"{CC} builds {os.path.basename(made)}", ended.stderr)
     return made
 
 
-def build_calls(folder, libraries):
+def build_calls(folder: str, libraries: Sequence[str]) -> str:
     """Builds the program that calls each function; answers its path."""
     words = ["-std=c11", "-Wall", "-Wextra", "-Werror", *COUNTED]
     sources = [f"{TOP}/tools/live.d/{name}.c" for name in ("calls", "conversations", "payloads")]
     return build(os.path.join(folder, "calls"), sources, libraries, *words)
 
 
-def daemon_sources():
+def daemon_sources() -> list[str]:
     return sorted(glob.glob(f"{DAEMON}/*.c"))
 
 
@@ -65,35 +68,37 @@ def daemon_sources():
 SANITIZED = ["-g", "-fno-omit-frame-pointer", "-fsanitize=address,undefined", "-fno-sanitize-recover=all"]
 
 
-def build_daemon(folder, libraries, name="lagd", more=(), words=()):
+def build_daemon(folder: str, libraries: Sequence[str], name: str = "lagd", more: Sequence[str] = (), words: Sequence[str] = ()) -> str:
     """Builds the daemon; answers its path."""
     compiled, linked = daemon_words()
     return build(os.path.join(folder, name), [*daemon_sources(), *more], [*libraries, *linked], *STRICT, *compiled, *words)
 
 
-def build_planes(folder, libraries):
+def build_planes(folder: str, libraries: Sequence[str]) -> str:
     """Builds the hosts that carry data; answers the path of the program."""
     return build(os.path.join(folder, "planes"), [f"{TOP}/tools/live.d/planes.c"], libraries, *STRICT)
 
 
-def build_minimal(folder, libraries):
+def build_minimal(folder: str, libraries: Sequence[str]) -> str:
     """Builds the example of one port, with ASan and UBSan; answers its path."""
     words = [*STRICT, "-g", "-fsanitize=address,undefined", "-fno-sanitize-recover=all"]
     return build(os.path.join(folder, "minimal"), [os.path.join(EXAMPLES, "minimal.c")], libraries, *words)
 
 
-def build_refusing(folder, libraries, words=()):
+def build_refusing(folder: str, libraries: Sequence[str], words: Sequence[str] = ()) -> str:
     """Builds a daemon whose library refuses each tick after SIGUSR1; answers its path."""
     more = [f"{TOP}/tools/live.d/refusing.c"]
     return build_daemon(folder, libraries, "lagd-refusing", more, ["-Wl,--wrap=lagffi_tick", *words])
 
 
-def check_header_alone(folder):
+def check_header_alone(folder: str) -> None:
     """The header has no warning in any C and C++ of gcc and clang, where they are here."""
     source, told, count = os.path.join(folder, "alone.c"), "", 0
     with open(source, "w", encoding="utf-8") as out:
         out.write('#include "lag.h"\n')
-    for language, standards, more in ("c", ("c99", "c11", "c17"), []), ("c++", ("c++11", "c++17", "c++20"), ["-Wold-style-cast"]):
+    languages: list[tuple[str, list[str], list[str]]] = [("c", ["c99", "c11", "c17"], [])]
+    languages.append(("c++", ["c++11", "c++17", "c++20"], ["-Wold-style-cast"]))
+    for language, standards, more in languages:
         for compiler in filter(shutil.which, ("gcc", "clang")):
             for standard in standards:
                 words = [f"-std={standard}", *WARNINGS, "-Wsign-conversion", *more, "-x", language]
@@ -102,7 +107,7 @@ def check_header_alone(folder):
     check(not told, f"lag.h has no warning in {count} kinds of C and C++", told)
 
 
-def check_warnings():
+def check_warnings() -> None:
     """gcc and clang, where they are here, find no fault with the daemon and the examples."""
     checked = {"files of the daemon": daemon_sources(), "examples in C": sorted(glob.glob(f"{EXAMPLES}/*.c"))}
     for compiler in filter(shutil.which, ("gcc", "clang")):

@@ -1,9 +1,13 @@
 """Two network namespaces joined by veth pairs, and raw frames at the end of a pair."""
 
+from __future__ import annotations
+
 import contextlib
 import ctypes
 import os
 import socket
+import subprocess
+from typing import Any, Iterator
 
 from checking import Failed, Skipped, command
 
@@ -14,23 +18,23 @@ OUTGOING, NEW_NETWORK = 4, 0x40000000
 PIDFD_OPEN, PIDFD_GETFD = 434, 438
 
 
-def ip(space, *words, **more):
+def ip(space: str, *words: str, **more: Any) -> None:
     ended = command("ip", "-n", space, *words, **more)
     if ended.returncode:
         raise Failed(f"ip {' '.join(words)}", ended.stderr)
 
 
-def inside(space, *words, **more):
+def inside(space: str, *words: str, **more: Any) -> subprocess.CompletedProcess[str]:
     """Runs a command in a namespace."""
     return command("ip", "netns", "exec", space, *words, **more)
 
 
-def drop_spaces():
+def drop_spaces() -> None:
     for space in (OURS, THEIRS):
         command("ip", "netns", "del", space)
 
 
-def make_pair(place):
+def make_pair(place: int) -> None:
     """A pair of a0 and b0, or a1 and b1, with both ends up."""
     made = command("ip", "-n", OURS, "link", "add", f"a{place}", "type", "veth", "peer", "name", f"b{place}", "netns", THEIRS)
     if made.returncode:
@@ -39,7 +43,7 @@ def make_pair(place):
     ip(THEIRS, "link", "set", f"b{place}", "up")
 
 
-def make_spaces():
+def make_spaces() -> None:
     """Two new network namespaces, joined by two veth pairs."""
     for space in (OURS, THEIRS):
         made = command("ip", "netns", "add", space)
@@ -49,28 +53,28 @@ def make_spaces():
         make_pair(place)
 
 
-def flap(space, name, times):
+def flap(space: str, name: str, times: int) -> None:
     """Takes an interface down and up at once, so many times."""
     ip(space, "-batch", "-", input=f"link set {name} down\nlink set {name} up\n" * times)
 
 
-def losses(space, name):
+def losses(space: str, name: str) -> int:
     """How often the kernel saw the carrier of an interface go."""
     return int(inside(space, "cat", f"/sys/class/net/{name}/carrier_down_count").stdout or -1)
 
 
-def octets(mac):
+def octets(mac: str) -> bytes:
     return bytes.fromhex(mac.replace(":", ""))
 
 
-def system_call(number, *words):
-    answer = ctypes.CDLL(None, use_errno=True).syscall(number, *words)
+def system_call(number: int, *words: int) -> int:
+    answer = int(ctypes.CDLL(None, use_errno=True).syscall(number, *words))
     if answer < 0:
         raise Skipped(f"no system call {number}: {os.strerror(ctypes.get_errno())}")
     return answer
 
 
-def packet_sockets(process):
+def packet_sockets(process: int) -> list[socket.socket]:
     """The packet sockets of a process, as sockets of our own."""
     handle, found = system_call(PIDFD_OPEN, process, 0), []
     for name in os.listdir(f"/proc/{process}/fd"):
@@ -81,13 +85,13 @@ def packet_sockets(process):
     return found
 
 
-def enter(space):
+def enter(space: int) -> None:
     if ctypes.CDLL(None, use_errno=True).setns(space, NEW_NETWORK) < 0:
         raise Skipped(f"no way into a namespace: {os.strerror(ctypes.get_errno())}")
 
 
 @contextlib.contextmanager
-def within_space(space):
+def within_space(space: str) -> Iterator[None]:
     """A socket that is made within has its place in that namespace."""
     here = os.open("/proc/self/ns/net", os.O_RDONLY)
     there = os.open(f"/run/netns/{space}", os.O_RDONLY)
@@ -100,7 +104,7 @@ def within_space(space):
         os.close(there)
 
 
-def packet_socket(space, name, protocol):
+def packet_socket(space: str, name: str, protocol: int) -> socket.socket:
     """A socket that sees the frames of an interface."""
     with within_space(space):
         opened = socket.socket(socket.AF_PACKET, socket.SOCK_RAW, socket.htons(protocol))
@@ -111,15 +115,15 @@ def packet_socket(space, name, protocol):
 class Wire:
     """The end of a pair, at which raw frames of the slow protocols are sent and seen."""
 
-    def __init__(self, space, name):
+    def __init__(self, space: str, name: str) -> None:
         self.socket = packet_socket(space, name, SLOW_PROTOCOLS)
 
-    def send(self, payload, to=GROUP):
+    def send(self, payload: bytes, to: str = GROUP) -> None:
         self.socket.send(octets(to) + octets("02:00:00:00:00:77") + SLOW_PROTOCOLS.to_bytes(2, "big") + payload)
 
-    def sources(self):
+    def sources(self) -> list[bytes]:
         """The source addresses of what has come since the last look, oldest first."""
-        found = []
+        found: list[bytes] = []
         while True:
             try:
                 frame, address = self.socket.recvfrom(2048, socket.MSG_DONTWAIT)
@@ -129,13 +133,13 @@ class Wire:
                 found.append(frame[6:12])
 
 
-def lacpdu(system, port, state=0x0D):
+def lacpdu(system: str, port: int, state: int = 0x0D) -> bytes:
     """The payload of an LACPDU of version 1 from this system and port, whose partner is not known."""
     actor = b"\1\x14" + b"\x80\0" + octets(system) + b"\0\7" + b"\x80\0" + port.to_bytes(2, "big") + bytes([state, 0, 0, 0])
     partner = b"\2\x14" + bytes(18)
     return b"\1\1" + actor + partner + b"\3\x10" + bytes(14) + bytes(52)
 
 
-def marker(kind):
+def marker(kind: int) -> bytes:
     """The payload of a marker, of kind 1, or of the response to one, of kind 2."""
     return b"\2\1" + bytes([kind, 0x10]) + bytes(106)

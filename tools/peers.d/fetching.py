@@ -1,9 +1,12 @@
 """Packages of Debian, fetched into a cache folder and unpacked there; nothing is installed."""
 
+from __future__ import annotations
+
 import glob
 import os
 import shutil
 import subprocess
+from typing import Sequence
 
 from checking import Skipped, command
 
@@ -11,17 +14,17 @@ from checking import Skipped, command
 class Packages:
     """What is unpacked, and the commands and versions in it. What the machine has is taken first."""
 
-    def __init__(self, cache, may_fetch):
+    def __init__(self, cache: str, may_fetch: bool) -> None:
         self.cache, self.may_fetch, self.known = os.path.abspath(cache), may_fetch, False
         self.root = os.path.join(self.cache, "root")
 
-    def apt(self, name, *words):
+    def apt(self, name: str, *words: str) -> subprocess.CompletedProcess[str]:
         """One of apt's commands, over lists and archives of our own and the sources and installed packages of the machine."""
         state = [f"Dir::State::Lists={self.cache}/lists", f"Dir::Cache={self.cache}/packages", "Debug::NoLocking=1"]
         state += ["APT::Sandbox::User=root", "APT::Install-Recommends=0"]
         return command(name, *(word for it in state for word in ("-o", it)), *words, cwd=f"{self.cache}/packages/archives")
 
-    def learn(self):
+    def learn(self) -> None:
         """Fetches the lists of packages, once a run."""
         if self.known:
             return
@@ -35,18 +38,18 @@ class Packages:
             raise Skipped(f"apt-get update: {told.stderr.strip()[-200:]}")
         self.known = True
 
-    def names(self, head):
+    def names(self, head: str) -> list[str]:
         """The packages whose names begin so."""
         self.learn()
         return sorted(self.apt("apt-cache", "pkgnames", head).stdout.split())
 
-    def needs(self, name):
+    def needs(self, name: str) -> list[str]:
         """The packages that one needs itself, of those that there are."""
         self.learn()
         lines = self.apt("apt-cache", "depends", "--important", name).stdout.splitlines()
         return [line.split()[-1] for line in lines if line.strip().startswith("Depends:") and "<" not in line]
 
-    def fetch(self, *names, alone=()):
+    def fetch(self, *names: str, alone: Sequence[str] = ()) -> None:
         """Fetches and unpacks packages with what they need, and some alone; what is unpacked already is not fetched again."""
         done = os.path.join(self.cache, f"{'-'.join(names)[:80]}.done")
         if os.path.exists(done):
@@ -62,12 +65,19 @@ class Packages:
                 raise Skipped(f"{os.path.basename(archive)} cannot be unpacked: {told.stderr.strip()[-200:]}")
         open(done, "w", encoding="utf-8").close()
 
-    def path(self, name):
+    def path(self, name: str) -> str | None:
         """The file of a command, of the machine or unpacked."""
         folders = [f"{self.root}/{it}" for it in ("usr/sbin", "usr/bin", "sbin", "bin", "usr/lib/openvswitch-switch")]
         return shutil.which(name) or shutil.which(name, path=":".join([*folders, "/usr/lib/openvswitch-switch"]))
 
-    def environment(self):
+    def program(self, name: str) -> str:
+        """The file of a command that has to be here."""
+        path = self.path(name)
+        if not path:
+            raise Skipped(f"no command {name}")
+        return path
+
+    def environment(self) -> dict[str, str]:
         """What the unpacked commands are run with, so that they find their libraries."""
         libraries = glob.glob(f"{self.root}/usr/lib/*-linux-gnu*") + glob.glob(f"{self.root}/lib/*-linux-gnu*")
         return {**os.environ, "LD_LIBRARY_PATH": ":".join(libraries)}

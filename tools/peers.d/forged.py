@@ -1,11 +1,14 @@
 """What a peer makes of forged LACPDUs: of a partner that never names it, of two partners on its two links, and of one that asks again
 and again."""
 
+from __future__ import annotations
+
 import time
 
 from capturing import Capture, most_in_a_second
 from checking import check, within
-from daemon import KEY, SYSTEM, Part
+from daemon import KEY, SYSTEM, Daemon, Part
+from peer import Peer
 from spaces import OURS, Wire, drop_spaces, lacpdu, make_spaces
 
 BOTH = {"b0", "b1"}
@@ -23,14 +26,16 @@ class Lagd:
     """The daemon in the place of a peer."""
 
     name = "lagd"
+    # The daemon that runs.
+    ours: Daemon
 
-    def __init__(self, program, folder):
-        self.part, self.ours = Part(program, folder), None
+    def __init__(self, program: str, folder: str) -> None:
+        self.part = Part(program, folder)
 
-    def start(self):
+    def start(self) -> None:
         self.ours = self.part.theirs()
 
-    def carrying(self):
+    def carrying(self) -> set[str]:
         """The links that distribute with a partner, in the aggregator that has most of them."""
         ports = self.ours.ports()
         carries = [name for name in BOTH & ports.keys() if "DISTRIBUTING" in ports[name]["actor"]["state"]]
@@ -38,17 +43,18 @@ class Lagd:
         places = [ports[name]["aggregator"] for name in carries]
         return {name for name in carries if ports[name]["aggregator"] == max(places, key=places.count)}
 
-    def stop(self):
+    def stop(self) -> None:
         self.ours.process.terminate()
         self.ours.status()
 
-    def end(self):
+    def end(self) -> None:
         self.part.drop()
 
 
-def seen_carrying(peer, wires, until, pause):
+def seen_carrying(peer: Peer, wires: dict[int, Wire], until: float, pause: float) -> set[str]:
     """Sends forged LACPDUs on these links for some seconds; answers the most links that the peer carried on at once."""
-    most, ends, looks = set(), time.monotonic() + until, 0.0
+    most: set[str] = set()
+    ends, looks = time.monotonic() + until, 0.0
     while time.monotonic() < ends:
         for port, wire in wires.items():
             wire.send(lacpdu(STRANGER, port, READY))
@@ -62,20 +68,20 @@ def seen_carrying(peer, wires, until, pause):
 class Forgery:
     """One peer on two links whose far ends forge."""
 
-    def __init__(self, peer, program, folder):
+    def __init__(self, peer: Peer, program: str, folder: str) -> None:
         self.peer, self.part = peer, Part(program, folder)
 
-    def never_named(self):
+    def never_named(self) -> set[str]:
         """Both partners are ready, and neither names the peer."""
         return seen_carrying(self.peer, {1: Wire(OURS, "a0"), 2: Wire(OURS, "a1")}, TRIED, STEADY)
 
-    def asked_often(self, capture):
+    def asked_often(self, capture: Capture) -> int:
         """The most LACPDUs of the peer in one second, while each LACPDU that it gets makes one due."""
         begin = time.time()
         seen_carrying(self.peer, {1: Wire(OURS, "a0")}, TRIED / 2, QUICK)
         return most_in_a_second(capture.lacpdus("a0", False, begin, time.time()))
 
-    def two_partners(self):
+    def two_partners(self) -> bool:
         """A daemon of its own system stands at each link."""
         one, other = self.part.start(OURS, SYSTEM, KEY, "a0"), self.part.start(OURS, STRANGER, KEY, "a1")
         within(TRIED, lambda: self.peer.carrying() == BOTH)
@@ -85,7 +91,7 @@ class Forgery:
             it.status()
         return both
 
-    def run(self):
+    def run(self) -> tuple[set[str], bool, int, int]:
         """The row of the table."""
         try:
             make_spaces()
@@ -104,7 +110,7 @@ class Forgery:
         return named, both, most, markers
 
 
-def try_forged(peer, program, folder):
+def try_forged(peer: Peer, program: str, folder: str) -> list[str]:
     """Tries a peer; answers its row. The daemon itself has to withstand all of it."""
     named, both, most, markers = Forgery(peer, program, folder).run()
     if peer.name == Lagd.name:

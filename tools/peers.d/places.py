@@ -1,5 +1,7 @@
 """Where a peer that is part of the kernel runs: in our namespace, or in User-mode Linux on the far ends of the pairs."""
 
+from __future__ import annotations
+
 import os
 import select
 import shlex
@@ -8,6 +10,8 @@ import subprocess
 import time
 
 from checking import Failed, Skipped, command
+from fetching import Packages
+from peer import pipes
 from spaces import THEIRS, inside
 
 STARTS, END = 60, "command-has-ended"
@@ -43,36 +47,38 @@ class Here:
 
     kernel = os.uname().release
 
-    def __init__(self, environment):
+    def __init__(self, environment: dict[str, str]) -> None:
         self.environment = environment
 
-    def start(self):
+    def start(self) -> None:
         pass
 
-    def run(self, *words):
+    def run(self, *words: str) -> str:
         ended = inside(THEIRS, *words, env=self.environment, timeout=STARTS)
         return ended.stdout + ended.stderr
 
-    def stop(self):
+    def stop(self) -> None:
         pass
 
 
 class Guest:
     """User-mode Linux. It sees both links through packet sockets, and nothing of their carrier."""
 
-    def __init__(self, packages, folder, drivers):
-        self.packages, self.folder, self.drivers, self.process = packages, os.path.join(folder, "guest"), drivers, None
+    def __init__(self, packages: Packages, folder: str, drivers: list[str]) -> None:
+        self.packages, self.folder, self.drivers = packages, os.path.join(folder, "guest"), drivers
+        self.process: subprocess.Popen[bytes] | None = None
         os.makedirs(f"{self.folder}/lib", exist_ok=True)
-        self.program = packages.path("linux.uml")
+        program, kmod = packages.path("linux.uml"), packages.path("kmod")
         modules = next((it for it in (f"{packages.root}/usr/lib/uml/modules", "/usr/lib/uml/modules") if os.path.isdir(it)), None)
-        if not self.program or not modules or not packages.path("kmod"):
+        if not program or not modules or not kmod:
             raise Skipped("no User-mode Linux with modules")
+        self.program = program
         self.kernel = f"{os.listdir(modules)[0]} (User-mode Linux)"
-        for link, target in ("lib/modules", modules), ("modprobe", packages.path("kmod")):
+        for link, target in ("lib/modules", modules), ("modprobe", kmod):
             if not os.path.islink(f"{self.folder}/{link}"):
                 os.symlink(target, f"{self.folder}/{link}")
 
-    def start(self):
+    def start(self) -> None:
         if self.process:
             return
         init = f"{self.folder}/init"
@@ -84,38 +90,40 @@ class Guest:
         words += ["ro", f"init={init}", f"uml_dir={self.folder}", "con0=fd:0,fd:1", "con=null", "panic=-1", "quiet"]
         words += [f"vec{place}:transport=raw,ifname={name},depth=64,gro=0" for place, name in enumerate(LINKS)]
         with open(f"{self.folder}/log", "w", encoding="utf-8") as log:
-            pipes = {"stdin": subprocess.PIPE, "stdout": subprocess.PIPE, "stderr": log}
-            self.process = subprocess.Popen(words, start_new_session=True, **pipes)
+            pipe = subprocess.PIPE
+            self.process = subprocess.Popen(words, start_new_session=True, stdin=pipe, stdout=pipe, stderr=log)
         self.run("true")
 
-    def run(self, *words):
+    def run(self, *words: str) -> str:
         """Runs a command in the guest; answers what it prints."""
-        self.process.stdin.write(f"{shlex.join(words)} 2>&1; echo; echo {END[:4]}''{END[4:]}\n".encode())
-        self.process.stdin.flush()
+        asked, printed = pipes(self.process)
+        asked.write(f"{shlex.join(words)} 2>&1; echo; echo {END[:4]}''{END[4:]}\n".encode())
+        asked.flush()
         told, until = b"", time.monotonic() + STARTS
         while f"\n{END}\n".encode() not in told:
-            ready = select.select([self.process.stdout], [], [], max(0, until - time.monotonic()))[0]
-            part = os.read(self.process.stdout.fileno(), 65536) if ready else b""
+            ready = select.select([printed], [], [], max(0, until - time.monotonic()))[0]
+            part = os.read(printed.fileno(), 65536) if ready else b""
             if not part:
                 raise Failed("User-mode Linux answers", told.decode(errors="replace")[-2000:])
             told += part.replace(b"\r", b"")
         return told.decode(errors="replace").partition(f"\n{END}\n")[0].strip() + "\n"
 
-    def stop(self):
+    def stop(self) -> None:
         """Without input its shell ends, and it with that; what is left is killed."""
         if not self.process:
             return
-        self.process.stdin.close()
+        asked, printed = pipes(self.process)
+        asked.close()
         try:
             self.process.wait(10)
         except subprocess.TimeoutExpired:
             os.killpg(self.process.pid, signal.SIGKILL)
             self.process.wait()
-        self.process.stdout.close()
+        printed.close()
         self.process = None
 
 
-def has_driver(kind):
+def has_driver(kind: str) -> bool:
     """Whether this kernel makes devices of a kind."""
     space = f"lag-driver-{os.getpid()}"
     command("modprobe", "bonding" if kind == "bond" else kind)
@@ -125,7 +133,7 @@ def has_driver(kind):
     return made.returncode == 0
 
 
-def place_for(kind, drivers, packages, folder):
+def place_for(kind: str, drivers: list[str], packages: Packages, folder: str) -> Here | Guest:
     """Where a device of this kind can be made."""
     if has_driver(kind):
         return Here(packages.environment())

@@ -4,6 +4,8 @@ Its LACPDUs go out only where a program sends something. So frames come to it on
 to the bonded device. What DPDK up to 23.07 calls a slave is a member from 23.11 on; what was run is 22.11.
 """
 
+from __future__ import annotations
+
 import contextlib
 import os
 import re
@@ -12,7 +14,9 @@ import subprocess
 import threading
 import time
 
-from checking import Failed, Skipped
+from checking import Failed, Skipped, found
+from fetching import Packages
+from peer import pipes
 from spaces import THEIRS, ip, packet_socket
 
 STARTS = 30
@@ -28,7 +32,7 @@ PAUSE = 0.05
 class Pump:
     """Sends data frames, beside the run."""
 
-    def __init__(self):
+    def __init__(self) -> None:
         ip(THEIRS, "link", "add", "d0", "type", "veth", "peer", "name", "d1")
         for name in "d0", "d1":
             ip(THEIRS, "link", "set", name, "up")
@@ -36,11 +40,11 @@ class Pump:
         self.thread = threading.Thread(target=self.send, daemon=True)
         self.thread.start()
 
-    def send(self):
+    def send(self) -> None:
         while not self.ends.wait(PAUSE):
             self.socket.send(DATA)
 
-    def stop(self):
+    def stop(self) -> None:
         self.ends.set()
         self.thread.join()
         self.socket.close()
@@ -51,8 +55,10 @@ class Testpmd:
     name, package = "DPDK testpmd", "dpdk-dev"
     mixes_keys = True
 
-    def __init__(self, packages, folder):
-        self.packages, self.folder, self.process, self.pump = packages, os.path.join(folder, "testpmd"), None, None
+    def __init__(self, packages: Packages, folder: str) -> None:
+        self.packages, self.folder = packages, os.path.join(folder, "testpmd")
+        self.process: subprocess.Popen[bytes] | None = None
+        self.pump: Pump | None = None
         os.makedirs(self.folder, exist_ok=True)
         if not packages.path("dpdk-testpmd"):
             needs = [it for it in packages.needs(self.package) if it not in ("libdpdk-dev", "python3")]
@@ -60,7 +66,7 @@ class Testpmd:
         if not packages.path("dpdk-testpmd"):
             raise Skipped("its package has no dpdk-testpmd")
 
-    def drivers(self):
+    def drivers(self) -> str:
         """The folder of the drivers that it loads."""
         for base in f"{self.packages.root}/usr/lib", "/usr/lib":
             for folder, names, _ in os.walk(base):
@@ -69,47 +75,49 @@ class Testpmd:
                     return f"{folder}/{found[0]}"
         raise Skipped("no drivers of DPDK")
 
-    def version(self):
+    def version(self) -> str:
         """It is told where it starts."""
         with open(f"{self.folder}/log", encoding="utf-8") as log:
-            return re.search(r"RTE Version: 'DPDK (\d+\.\d[\d.]*)", log.read())[1]
+            return found(r"RTE Version: 'DPDK (\d+\.\d[\d.]*)", log.read())
 
-    def start(self):
+    def start(self) -> None:
         self.pump, drivers = Pump(), self.drivers()
-        kind = "member" if int(re.search(r"pmds-(\d+)", drivers)[1]) >= MEMBERS else "slave"
-        words = ["ip", "netns", "exec", THEIRS, "nice", "stdbuf", "-oL", self.packages.path("dpdk-testpmd"), "-v", "-l", "0,1"]
+        kind = "member" if int(found(r"pmds-(\d+)", drivers)) >= MEMBERS else "slave"
+        words = ["ip", "netns", "exec", THEIRS, "nice", "stdbuf", "-oL", self.packages.program("dpdk-testpmd"), "-v", "-l", "0,1"]
         words += ["--no-huge", "-m", "256", "--no-pci", "--no-telemetry", "--no-shconf", "-d", drivers]
         words += [f"--vdev=net_af_packet{port},iface={name}" for port, name in enumerate(("b0", "b1", "d1"))]
         words += [f"--vdev=net_bonding0,mode=4,{kind}=net_af_packet0,{kind}=net_af_packet1"]
         words += ["--", "-i", "--no-lsc-interrupt", "--portmask=0xc", "--total-num-mbufs=4096"]
         with open(f"{self.folder}/log", "a", encoding="utf-8") as log:
-            pipes = {"stdin": subprocess.PIPE, "stdout": subprocess.PIPE, "stderr": log}
-            self.process = subprocess.Popen(words, env=self.packages.environment(), **pipes)
+            pipe, environment = subprocess.PIPE, self.packages.environment()
+            self.process = subprocess.Popen(words, env=environment, stdin=pipe, stdout=pipe, stderr=log)
         self.answer()
         self.ask("start")
 
-    def answer(self):
+    def answer(self) -> str:
         """What it prints until it waits for the next line."""
+        _, printed = pipes(self.process)
         told, until = b"", time.monotonic() + STARTS
         while not told.endswith(PROMPT):
-            ready = select.select([self.process.stdout], [], [], max(0, until - time.monotonic()))[0]
-            part = os.read(self.process.stdout.fileno(), 65536) if ready else b""
+            ready = select.select([printed], [], [], max(0, until - time.monotonic()))[0]
+            part = os.read(printed.fileno(), 65536) if ready else b""
             if not part:
                 raise Failed("testpmd answers", told.decode(errors="replace"))
             told += part
         return told.decode(errors="replace")
 
-    def ask(self, line):
-        self.process.stdin.write(line.encode() + b"\n")
-        self.process.stdin.flush()
+    def ask(self, line: str) -> str:
+        asked, _ = pipes(self.process)
+        asked.write(line.encode() + b"\n")
+        asked.flush()
         return self.answer()
 
-    def carrying(self):
+    def carrying(self) -> set[str]:
         """The links whose LACP collects and distributes, by what it says of its own side. It calls a link active before that."""
         states = re.findall(r"(?:Slave|Member) Port: (\d)\b.*?port state: ([ A-Z]*)", self.view(), re.S)
         return {f"b{port}" for port, state in states if "COLLECTING DISTRIBUTING" in state}
 
-    def stop(self):
+    def stop(self) -> None:
         if self.pump:
             self.pump.stop()
             self.pump = None
@@ -117,13 +125,13 @@ class Testpmd:
             return
         self.process.kill()
         self.process.wait()
-        for pipe in self.process.stdin, self.process.stdout:
+        for pipe in pipes(self.process):
             with contextlib.suppress(BrokenPipeError):
                 pipe.close()
         self.process = None
 
-    def end(self):
+    def end(self) -> None:
         self.stop()
 
-    def view(self):
+    def view(self) -> str:
         return self.ask(f"show bonding lacp info {BONDED}")

@@ -1,16 +1,20 @@
 """What is tried with each peer, and the row of the table that it leaves."""
 
+from __future__ import annotations
+
 import os
 import re
 import time
 
 from capturing import Capture, lines_of, most_in_a_second
 from checking import check, command, within
-from daemon import ENDS, Part
+from daemon import ENDS, Daemon, Part
+from peer import Stranger
 from repository import PROGRAM
 from spaces import OURS, drop_spaces, ip, make_spaces
 
-BOTH, NONE = {"b0", "b1"}, set()
+BOTH = {"b0", "b1"}
+NONE: set[str] = set()
 # Limits of what is waited for, in seconds: a partner of long timeouts is missed after 90 s.
 COMES_UP, GOES_DOWN = 60, 120
 # How long what stays so is watched.
@@ -25,13 +29,17 @@ REFUSED = re.compile(r"\d+ (refused .*|runt|not hex|too long)")
 class Trial:
     """One peer on two links, from its start to its end."""
 
-    def __init__(self, peer, program, folder):
-        self.peer, self.part, self.row, self.ours = peer, Part(program, folder), [], None
+    # The daemon that runs.
+    ours: Daemon
 
-    def check(self, holds, what, *told):
+    def __init__(self, peer: Stranger, program: str, folder: str) -> None:
+        self.peer, self.part = peer, Part(program, folder)
+        self.row: list[str] = []
+
+    def check(self, holds: object, what: str, *told: object) -> None:
         check(holds, f"{self.peer.name}: {what}", *told)
 
-    def carries(self, links, limit, what):
+    def carries(self, links: set[str], limit: float, what: str) -> str:
         """Waits until the peer itself says that these links carry and no others; tells the seconds."""
         begin = time.monotonic()
         holds = within(limit, lambda: self.peer.carrying() == links)
@@ -39,31 +47,31 @@ class Trial:
         self.check(holds, f"{what}: {passed} s", "" if holds else self.peer.view(), "" if holds else self.ours.text())
         return passed if holds else "never"
 
-    def come_up(self):
+    def come_up(self) -> None:
         self.ours = self.part.ours()
         self.peer.start()
         self.row += [self.peer.version(), self.carries(BOTH, COMES_UP, "both links carry, as the peer says")]
         self.check(within(COMES_UP, lambda: self.ours.distributes("a0", "a1")), "the daemon says so, too", self.ours.text())
 
-    def lose_link(self):
+    def lose_link(self) -> str:
         ip(OURS, "link", "set", "a1", "down")
         down = self.carries({"b0"}, GOES_DOWN, "a link that goes down no longer carries")
         ip(OURS, "link", "set", "a1", "up")
         return f"{down} / {self.carries(BOTH, COMES_UP, 'it is back')}"
 
-    def restart_peer(self):
+    def restart_peer(self) -> str:
         self.peer.stop()
         self.peer.start()
         return self.carries(BOTH, COMES_UP, "the peer was ended, and is there again")
 
-    def restart_daemon(self):
+    def restart_daemon(self) -> str:
         self.ours.process.terminate()
         down = self.carries(NONE, GOES_DOWN, "the daemon was ended, and no link carries")
         self.ours.status()
         self.ours = self.part.ours()
         return f"{down} / {self.carries(BOTH, COMES_UP, 'the daemon is there again')}"
 
-    def change_key(self):
+    def change_key(self) -> str:
         """Link 2 has another key at our end. Neither end may use both."""
         self.ours.process.terminate()
         within(GOES_DOWN, lambda: not self.peer.carrying())
@@ -78,7 +86,7 @@ class Trial:
         self.check(not both, f"the link of another key is kept out for {WATCHED} s", self.peer.view() if both else "")
         return "both used" if both else "kept out"
 
-    def steady(self, capture):
+    def steady(self, capture: Capture) -> str:
         """Counts the LACPDUs of both links while nothing changes."""
         begin = time.time()
         time.sleep(STEADY)
@@ -90,7 +98,7 @@ class Trial:
         self.check(most[0] <= 3, f"{rates} LACPDUs a second on each link, out and in; {most[0]}, {most[1]} in one second at most")
         return f"{rates} ({most[0]}, {most[1]})"
 
-    def run(self, captures):
+    def run(self, captures: str) -> list[str]:
         """The whole trial; answers the row of the table."""
         try:
             make_spaces()
@@ -108,7 +116,7 @@ class Trial:
         return [self.peer.name, *self.row]
 
 
-def check_frames(name, paths):
+def check_frames(name: str, paths: list[str]) -> None:
     """Each frame of the captures is one that lagtool reads without a refusal."""
     count, refused = 0, []
     for path in paths:

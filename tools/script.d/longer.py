@@ -104,7 +104,7 @@ class Longer:
     def until(self, cable: int, most: int, place: str) -> None:
         """Healthy rounds until a cable agrees."""
         for _ in range(most + 1):
-            found = dict(it.groups() for line in self.report(self.events) if (it := AGREEMENT.fullmatch(line)))
+            found = {it[1]: it[2] for line in self.report(self.events) if (it := AGREEMENT.fullmatch(line))}
             if str(cable) not in found:
                 raise Refused(f"{place}: there is no cable {cable}")
             if found[str(cable)] == "same":

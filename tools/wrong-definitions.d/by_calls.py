@@ -5,17 +5,21 @@ stands there. Then tools/live.d/calls.c is linked with the library that it makes
 to have a check that fails. What a crate below kept in out/ is used, and what is not kept is proved first.
 """
 
+from __future__ import annotations
+
 import os
 import re
 import subprocess
 import sys
+from typing import Iterator
 
-from edits import RT, TOOLS, apply, copy_crates, read_edit, read_tests, restore, unbuilt
+from edits import Edit, apply, copy_crates, read_edit, read_tests, restore, unbuilt
+from repository import RT, TOOLS, runtime
 
 sys.path.insert(0, os.path.join(TOOLS, "live.d"))
 
 from checking import Failed
-from linking import build_calls, runtime
+from linking import build_calls
 
 CRATE = "lagffi"
 # What stands in the place of a crate in a line `refused-by:`.
@@ -24,32 +28,32 @@ PLACE = "tools/live"
 LIMIT = 60
 
 
-def is_of(edit):
+def is_of(edit: Edit) -> bool:
     """Whether the edit is refused so."""
     return any(place == PLACE for place, _ in read_tests(*edit))
 
 
-def called(crate):
+def called(crate: str) -> tuple[list[str], str | None]:
     """Builds the library of a crate and calls it; answers the functions of calls.c with a check that fails, or what is wrong."""
     ran = subprocess.run([RT, "lib", "--jobs", "1"], cwd=crate, stdout=subprocess.PIPE, stderr=subprocess.STDOUT, text=True)
     if ran.returncode:
-        return None, "is not proved, so there is no library:\n" + "\n".join(ran.stdout.splitlines()[-12:])
+        return [], "is not proved, so there is no library:\n" + "\n".join(ran.stdout.splitlines()[-12:])
     out = os.path.join(crate, "out")
     try:
         program = build_calls(out, [os.path.join(out, f"lib{CRATE}.a"), runtime()])
         ended = subprocess.run([program], stdout=subprocess.PIPE, stderr=subprocess.STDOUT, text=True, timeout=LIMIT)
     except Failed as why:
-        return None, "\n".join(why.args)
+        return [], "\n".join(why.args)
     except subprocess.TimeoutExpired:
-        return None, "the calls do not end"
+        return [], "the calls do not end"
     failed = re.findall(r"^calls: failed: (\w+): ", ended.stdout, re.M)
     ends = re.search(r"^calls: \d+ passed, (\d+) failed$", ended.stdout, re.M)
     if not ends or int(ends[1]) != len(failed) or ended.returncode != bool(failed):
-        return None, f"the calls end otherwise, with {ended.returncode}:\n" + ended.stdout[-1000:]
+        return [], f"the calls end otherwise, with {ended.returncode}:\n" + ended.stdout[-1000:]
     return failed, None
 
 
-def try_edit(crate, name):
+def try_edit(crate: str, name: str) -> tuple[bool, str]:
     says, pairs = read_edit(CRATE, name)
     if not says or not any(file.startswith("specs/") for file, _, _ in pairs):
         return False, "the edit has no line `says:`, or makes no definition wrong"
@@ -70,7 +74,7 @@ def try_edit(crate, name):
     return True, f"refused by {', '.join(wanted)} of calls.c: {says}"
 
 
-def try_all(folder, edits):
+def try_all(folder: str, edits: list[Edit]) -> Iterator[tuple[str, bool, str]]:
     """Tries these edits, one at a time; answers the name of each, whether it passed, and what to print."""
     if not edits:
         return

@@ -6,27 +6,32 @@ that it names, are copied under other names. Beside these copies all stands as i
 has to fail in the copy.
 """
 
+from __future__ import annotations
+
 import os
 import re
 import shutil
 import subprocess
+from typing import Container, Iterator
 
-from edits import RT, apply, copy_crates, is_cut_off, read, read_edit, read_tests, why_no_edit, write
-from repository import below, crates, lines
+from edits import Edit, Pair, apply, copy_crates, is_cut_off, read, read_edit, read_tests, why_no_edit, write
+from repository import RT, below, crates, lines
 
 # How many edits one build has.
 MOST = 48
 # The number of the first copy without an edit.
 AS_IT_IS = 1000
+# A copy: its number, its crate, the tests that are left, and its replacements.
+Copy = tuple[int, str, list[str], list[Pair]]
 
 
-def using(crate, folder, modules):
+def using(crate: str, folder: str, modules: list[str]) -> list[str]:
     """The crates that have to be copied with a crate so that modules of the tests meet the copy."""
     text = "".join(read(path) for module in modules for path in sources(folder, module))
     return [name for name in below(*crates()) if crate in below(name) and re.search(rf"\b{name}::", text)]
 
 
-def with_named(folder, modules):
+def with_named(folder: str, modules: list[str]) -> list[str]:
     """These modules of the tests and those that they name, over one or more."""
     found, left = [], list(modules)
     while left:
@@ -37,35 +42,35 @@ def with_named(folder, modules):
     return sorted(found)
 
 
-def sources(folder, module):
+def sources(folder: str, module: str) -> list[str]:
     """The files of a module, which has a file and may have a folder."""
     found = [os.path.join(at, file) for at, _, files in os.walk(os.path.join(folder, module)) for file in files]
     return [os.path.join(folder, module + ".rt"), *found]
 
 
-def renamed(text, names, number):
+def renamed(text: str, names: list[str], number: int) -> str:
     for name in names:
         text = re.sub(rf"\b{name}::", f"{name}_{number}::", text)
     return text
 
 
-def keep_tests(text, module, tests):
+def keep_tests(text: str, module: str, tests: Container[str]) -> str:
     """The text of a file of tests, without every other test."""
     function = re.compile(r"^(?:///[^\n]*\n)*#\[test\]\nfn (\w+)\(.*?^}\n", re.M | re.S)
     return function.sub(lambda it: it[0] if f"{module}::{it[1]}" in tests else "", text)
 
 
-def place(path, folder):
+def place(path: str, folder: str) -> str:
     """The module that a file is."""
     return (os.path.relpath(path, folder) if folder else path)[: -len(".rt")].replace(os.sep, "::")
 
 
-def named_by(tests_crate, crate, name):
+def named_by(tests_crate: str, crate: str, name: str) -> list[str]:
     """The tests of a crate that an edit names."""
     return [test for of, test in read_tests(crate, name) if of == tests_crate]
 
 
-def add_crates(top, number, crate, pairs, names, rows):
+def add_crates(top: str, number: int, crate: str, pairs: list[Pair], names: list[str], rows: dict[str, list[str]]) -> str | None:
     """Copies these crates under other names, and makes the replacements in the one; answers what is wrong with them, or None."""
     for one in names:
         new = os.path.join(top, f"{one}_{number}")
@@ -80,7 +85,7 @@ def add_crates(top, number, crate, pairs, names, rows):
     return None
 
 
-def add_modules(folder, number, modules, names, named):
+def add_modules(folder: str, number: int, modules: list[str], names: list[str], named: list[str]) -> None:
     """Copies these modules of the tests under other names, without the tests that are not named."""
     words = "|".join(modules)
     for module in modules:
@@ -92,7 +97,7 @@ def add_modules(folder, number, modules, names, named):
         write(root, read(root) + f"#[cfg(test)]\nmod {module}_{number};\n")
 
 
-def add_copy(top, tests_crate, number, crate, named, pairs, rows):
+def add_copy(top: str, tests_crate: str, number: int, crate: str, named: list[str], pairs: list[Pair], rows: dict[str, list[str]]) -> str | None:
     """Adds the copies for these tests and replacements; answers what is wrong with them, or None."""
     if any(file.startswith("..") for file, _, _ in pairs):
         return "an edit that names tests changes files of its own crate alone"
@@ -107,7 +112,7 @@ def add_copy(top, tests_crate, number, crate, named, pairs, rows):
     return None
 
 
-def add_own_copy(top, number, crate, named, pairs):
+def add_own_copy(top: str, number: int, crate: str, named: list[str], pairs: list[Pair]) -> str | None:
     """Adds a copy of a crate with its own tests, as a module of it; answers what is wrong with the replacements, or None."""
     folder, copy = os.path.join(top, crate, "src"), os.path.join(top, f"{crate}_{number}")
     shutil.copytree(os.path.join(top, "as it was"), copy)
@@ -127,20 +132,20 @@ def add_own_copy(top, number, crate, named, pairs):
     return None
 
 
-def changed(tests_crate, edits):
+def changed(tests_crate: str, edits: list[tuple[int, Edit]]) -> list[Copy]:
     """For each edit its number, its crate, the tests that it names, and its replacements."""
     return [(number, of, named_by(tests_crate, of, name), read_edit(of, name)[1]) for number, (of, name) in edits]
 
 
-def unchanged(tests_crate, edits):
+def unchanged(tests_crate: str, edits: list[tuple[int, Edit]]) -> list[Copy]:
     """The same for a copy of each crate without a replacement, in which each named test has to pass."""
-    named = {}
+    named: dict[str, set[str]] = {}
     for _, (of, name) in edits:
         named.setdefault(of, set()).update(named_by(tests_crate, of, name))
     return [(AS_IT_IS + place, of, sorted(named[of]), []) for place, of in enumerate(sorted(named))]
 
 
-def build(folder, tests_crate, edits):
+def build(folder: str, tests_crate: str, edits: list[tuple[int, Edit]]) -> tuple[str, dict[int, str]]:
     """Makes the crates for these edits; answers the folder of the tests, and what is wrong with edits, by number."""
     shutil.rmtree(folder, ignore_errors=True)
     top = copy_crates(folder, [tests_crate])
@@ -166,13 +171,13 @@ def build(folder, tests_crate, edits):
     return os.path.join(top, tests_crate), wrong
 
 
-def copied(tests_crate, number, crate, test):
+def copied(tests_crate: str, number: int, crate: str, test: str) -> str:
     """The name of a test in a copy."""
     module, _, rest = test.partition("::")
     return f"copy_{number}::{test}" if tests_crate == crate else f"{module}_{number}::{rest}"
 
 
-def verdict(output, number, as_it_is, crate, name, tests_crate):
+def verdict(output: list[str], number: int, as_it_is: int, crate: str, name: str, tests_crate: str) -> tuple[bool, str]:
     """Whether the tests that an edit names refuse it, and what to print."""
     says, pairs = read_edit(crate, name)
     why = why_no_edit(says, pairs, has_tests=True)
@@ -192,7 +197,7 @@ def verdict(output, number, as_it_is, crate, name, tests_crate):
     return True, f"refused by {tests_crate}: {', '.join(test for _, test in read_tests(crate, name))}: {says}"
 
 
-def try_batch(folder, tests_crate, batch):
+def try_batch(folder: str, tests_crate: str, batch: list[Edit]) -> Iterator[tuple[str, bool, str]]:
     """Tries these edits in one build; answers for each its name, whether it passed, and what to print."""
     left = list(enumerate(batch, 1))
     while left:
@@ -212,9 +217,9 @@ def try_batch(folder, tests_crate, batch):
         left = [it for it in left if it[0] not in wrong]
 
 
-def try_all(folder, edits):
+def try_all(folder: str, edits: list[Edit]) -> Iterator[tuple[str, bool, str]]:
     """Tries the edits that name tests, those of one crate of tests after another."""
-    by_crate = {}
+    by_crate: dict[str, list[Edit]] = {}
     for edit in edits:
         by_crate.setdefault(read_tests(*edit)[0][0], []).append(edit)
     for tests_crate, of_it in by_crate.items():

@@ -4,23 +4,27 @@ What crates kept in out/ is used, and what is not kept is proved first. An edit 
 wrong, with the body that meets it: that crate has to be proved still.
 """
 
+from __future__ import annotations
+
 import os
 import re
 import shutil
 import subprocess
+from typing import Iterator
 
-from edits import CASES, RT, apply, copy_crates, read, read_edit, restore, unbuilt, write
+from edits import CASES, Edit, apply, copy_crates, read, read_edit, restore, unbuilt, write
+from repository import RT
 
 CRATES = ("lagmodel", "lagprogress")
 
 
-def check(crate):
+def check(crate: str) -> tuple[bool, str]:
     """Whether the crate is proved, and what the prover wrote."""
     run = subprocess.run([RT, "check"], cwd=crate, stdout=subprocess.PIPE, stderr=subprocess.STDOUT, text=True)
     return run.returncode == 0 and "logic=proved" in run.stdout.splitlines()[-1], run.stdout
 
 
-def name_at(path, line):
+def name_at(path: str, line: int) -> str:
     """The declaration that the line of a file of antt belongs to, but for those in its `where`."""
     for text in reversed(read(path).splitlines()[:line]):
         found = re.match(r" {0,2}(?:pub |abbrev |record )*([^\s:({]+)(?: :| \()", text)
@@ -29,7 +33,7 @@ def name_at(path, line):
     return "?"
 
 
-def refusals(crate, output):
+def refusals(crate: str, output: str) -> list[tuple[str, str]]:
     """Where the prover refused, as (file, declaration), leaving out what only depends on those."""
     places = []
     for line in output.splitlines():
@@ -42,7 +46,7 @@ def refusals(crate, output):
     return places
 
 
-def try_edit(crate, of, name):
+def try_edit(crate: str, of: str, name: str) -> tuple[bool, str]:
     says, pairs = read_edit(of, name)
     was, fault = apply(crate, pairs)
     if fault:
@@ -66,7 +70,7 @@ def try_edit(crate, of, name):
         restore(was)
 
 
-def try_counterexample(crate, of, name):
+def try_counterexample(crate: str, of: str, name: str) -> tuple[bool, str]:
     """Proves, under the wrong definition, that the law is false. The proof takes the place of the crate's own."""
     says, pairs = read_edit(of, name)
     head, _, proof = read(os.path.join(CASES, of, name + ".counterexample")).partition("---\n")
@@ -93,7 +97,7 @@ def try_counterexample(crate, of, name):
         restore(was)
 
 
-def try_all(folder, edits):
+def try_all(folder: str, edits: list[Edit]) -> Iterator[tuple[str, bool, str]]:
     """Tries these edits, one at a time; answers the name of each, whether it passed, and what to print."""
     for of in CRATES:
         names = [name for crate, name in edits if crate == of]

@@ -1,12 +1,16 @@
 """The wrong definitions that name no test: each is tried by the tests and runs that LOOKS names."""
 
+from __future__ import annotations
+
 import os
 import queue
 import re
 import subprocess
 from concurrent.futures import ThreadPoolExecutor
+from typing import Callable, Iterator, TypeVar
 
-from edits import RT, TOP, apply, copy_crates, is_cut_off, read, read_edit, restore, why_no_edit, write
+from edits import Edit, apply, copy_crates, is_cut_off, read, read_edit, restore, why_no_edit, write
+from repository import RT, TOP
 
 # The crates whose tests look at a crate, in the order in which they are asked; the first that refuses is enough.
 # A run is one of RUNS.
@@ -42,9 +46,10 @@ RUNS = {
 }
 # Neither output of a program may pass 1 MiB under `rt try`, so a run that reads lines is cut where one makes a new system.
 PIECE = 900_000
+T = TypeVar("T")
 
 
-def cut_run(folder, crate):
+def cut_run(folder: str, crate: str) -> None:
     """Writes the lines that a run of a program reads, and their answers, as cases of a folder; one case if it reads none."""
     crate = os.path.join(TOP, "crates", crate)
     if not os.path.isfile(os.path.join(crate, "stdin")):
@@ -53,7 +58,8 @@ def cut_run(folder, crate):
         return
     lines = read(os.path.join(crate, "stdin")).splitlines(keepends=True)
     answers = read(os.path.join(crate, "stdout")).splitlines(keepends=True)
-    pieces, size = [([], [])], 0
+    pieces: list[tuple[list[str], list[str]]] = [([], [])]
+    size = 0
     for line, answer in zip(lines, answers, strict=True):
         if line.startswith("system") and size > PIECE:
             pieces.append(([], []))
@@ -66,7 +72,7 @@ def cut_run(folder, crate):
         write(os.path.join(folder, f"{number}.stdout"), "".join(wanted))
 
 
-def ask(crates, look, cases):
+def ask(crates: str, look: str, cases: str) -> tuple[str | None, str | None]:
     """What the tests of a crate, or a run of RUNS, say: what refused, None where nothing did, or that it does not build."""
     words = ["--cases", os.path.join(cases, look)] if look in RUNS else ["--test"]
     crate = os.path.join(crates, RUNS.get(look, look))
@@ -88,7 +94,7 @@ def ask(crates, look, cases):
     return None, run.stdout[-2000:]
 
 
-def try_edit(crates, crate, name, cases):
+def try_edit(crates: str, crate: str, name: str, cases: str) -> tuple[bool, str]:
     says, pairs = read_edit(crate, name)
     why = why_no_edit(says, pairs)
     if why:
@@ -108,7 +114,7 @@ def try_edit(crates, crate, name, cases):
         restore(was)
 
 
-def try_all(folder, edits, jobs):
+def try_all(folder: str, edits: list[Edit], jobs: int) -> Iterator[tuple[str, bool, str]]:
     """Tries these edits, so many at once; answers the name of each, whether it passed, and what to print."""
     if not edits:
         return
@@ -118,21 +124,21 @@ def try_all(folder, edits, jobs):
         if look in RUNS:
             cut_run(os.path.join(cases, look), RUNS[look])
     wanted = sorted({RUNS.get(look, look) for look in looks})
-    free = queue.Queue()
+    free: queue.Queue[str] = queue.Queue()
     for number in range(jobs):
         free.put(copy_crates(os.path.join(folder, f"copy {number}"), wanted))
 
-    def with_copy(work):
+    def with_copy(work: Callable[[str], T]) -> T:
         crates = free.get()
         try:
             return work(crates)
         finally:
             free.put(crates)
 
-    def stands(look):
+    def stands(look: str) -> tuple[str | None, str | None]:
         return with_copy(lambda crates: ask(crates, look, cases))
 
-    def run(edit):
+    def run(edit: Edit) -> tuple[bool, str]:
         return with_copy(lambda crates: try_edit(crates, *edit, cases))
 
     with ThreadPoolExecutor(jobs) as pool:

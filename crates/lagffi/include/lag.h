@@ -58,6 +58,9 @@ struct niw_system {
 /* The milliseconds of a tick. */
 #define NIW_TICK_MILLISECONDS 100
 
+/* The names and numbers of the next three enums, and the texts of niw_status_text and niw_reason_text, are written by tools/header from
+ * the enums of the sources. The comments behind the names are by hand. */
+
 /* The statuses. 1 to 12 are the refusals of a system. */
 enum {
     NIW_OK = 0,
@@ -86,10 +89,10 @@ enum {
 
 /* Of NIW_BAD_CONFIG: the reason. */
 enum {
-    NIW_REASON_PORTS = 1,        /* not 1 to 64 ports */
-    NIW_REASON_AGGREGATORS = 2,  /* not 1 to 64 aggregators */
-    NIW_REASON_PORT_NUMBER = 3,  /* a port number is 0, or not above the one before it */
-    NIW_REASON_MAX_LINKS = 4,    /* a limit of links is above 64 */
+    NIW_REASON_PORTS = 1,         /* not 1 to 64 ports */
+    NIW_REASON_AGGREGATORS = 2,   /* not 1 to 64 aggregators */
+    NIW_REASON_PORT_NUMBER = 3,   /* a port number is 0, or not above the one before it */
+    NIW_REASON_MAX_LINKS = 4,     /* a limit of links is above 64 */
     NIW_REASON_CONVERSATIONS = 5, /* neither 256 nor 4096 conversations */
     NIW_REASON_ALGORITHM = 6      /* an algorithm that is not 0 to 2 */
 };

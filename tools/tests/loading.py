@@ -1,0 +1,37 @@
+"""Loads tools for their tests: a program without its last line, which runs it, and a module by its path."""
+
+from __future__ import annotations
+
+import ast
+import importlib.util
+import os
+import sys
+from types import ModuleType
+
+TOOLS = os.path.dirname(os.path.dirname(os.path.abspath(__file__)))
+sys.path.insert(0, TOOLS)
+
+
+def program(name: str) -> ModuleType:
+    """A program of tools/, without its last line."""
+    path = os.path.join(TOOLS, name)
+    with open(path, encoding="utf-8") as it:
+        tree = ast.parse(it.read(), path)
+    tree.body.pop()
+    made = ModuleType(name.replace("-", "_"))
+    made.__file__ = path
+    exec(compile(tree, path, "exec"), made.__dict__)
+    return made
+
+
+def module(folder: str, name: str) -> ModuleType:
+    """A module of a folder of tools/. Two folders may have modules of one name, so none is kept under it."""
+    place = os.path.join(TOOLS, folder)
+    if place not in sys.path:
+        sys.path.append(place)
+    spec = importlib.util.spec_from_file_location(f"{folder.replace('.', '_')}_{name}", os.path.join(place, f"{name}.py"))
+    assert spec and spec.loader
+    made = importlib.util.module_from_spec(spec)
+    sys.modules[spec.name] = made
+    spec.loader.exec_module(made)
+    return made

@@ -1,0 +1,110 @@
+"""tools/script: what the three forms of a shorter script become."""
+
+from __future__ import annotations
+
+from collections.abc import Callable
+
+import pytest
+
+import loading
+
+pytest.importorskip("tomllib")
+longer = loading.module("script.d", "longer")
+
+TABLES = """[[system]]
+mac = "02:00:00:00:00:a1"
+[[system]]
+mac = '0200.0000.00b2'
+[[cable]]
+ends = [4, 7]
+"""
+# The replies of a program in the place of lagtool, by the words that an entry begins with.
+REPLIES = {"tick": "ticked", "emit 1": "lacpdu 3d sent", "emit 2": "nothing", "deliver 1 2": "took", "deliver 1 1": "empty"}
+
+
+def read(events: str) -> longer.Longer:  # type: ignore[name-defined]
+    return longer.Longer(f"# A title\nevents = {events}\n{TABLES}")
+
+
+def played(agrees_after: int) -> Callable[[object, list[str]], list[str]]:
+    """A report in which each frame is delivered once, and the cable agrees after so many rounds."""
+
+    def report(_: object, events: list[str]) -> list[str]:
+        found, waits = [], 0
+        for number, event in enumerate(events, 1):
+            reply = next((it for word, it in REPLIES.items() if event.startswith(word)), "done")
+            waits += event.startswith("emit 1")
+            if event == "deliver 1 2":
+                reply, waits = ("took" if waits else "empty"), max(waits - 1, 0)
+            found.append(f"{number} {event} -> {reply}")
+        return [*found, f"cable 1 agreement {'same' if events.count('tick 2 1') >= agrees_after else 'differ'}"]
+
+    return report
+
+
+ROUND = ["tick 1 1", "tick 2 1", "emit 1 4", "emit 1 4", "deliver 1 2", "deliver 1 2"]
+
+
+def test_what_stands_for_itself_stays() -> None:
+    script = read('["sense 1 2", "cut 1"]').script()
+    assert script.startswith('# A title\n\nevents = [\n    "sense 1 2",\n    "cut 1",\n]\n\n[[system]]\n')
+
+
+def test_addresses_get_hyphens() -> None:
+    script = read("[]").script()
+    assert 'mac = "02-00-00-00-00-a1"\n' in script and "mac = '02-00-00-00-00-b2'\n" in script
+
+
+def test_a_repeat_is_its_entries_so_often() -> None:
+    script = read('[{times = 2, events = ["lose 1 1", {times = 3, events = ["cut 1"]}]}]').script()
+    assert script.count('"lose 1 1"') == 2 and script.count('"cut 1"') == 6
+
+
+def test_a_round_has_what_does_something(monkeypatch: pytest.MonkeyPatch) -> None:
+    monkeypatch.setattr(longer.Longer, "report", played(agrees_after=9))
+    made = read('["round 1"]')
+    made.add("round 1", "event 1")
+    assert made.events == ROUND
+
+
+def test_a_wait_ends_with_agreement(monkeypatch: pytest.MonkeyPatch) -> None:
+    monkeypatch.setattr(longer.Longer, "report", played(agrees_after=3))
+    made = read("[]")
+    made.add("until 1 same 5", "event 1")
+    assert made.events == ROUND * 3
+
+
+@pytest.mark.parametrize(
+    ("entry", "why"),
+    [
+        ("until 1 same 2", "event 8: cable 1 does not agree within 2 rounds"),
+        ("until 6 same", "event 8: there is no cable 6"),
+        ({"times": 2}, "event 8: neither a text nor a table of times and events"),
+        ({"times": 2, "events": [5]}, "event 8, event 1: neither a text nor a table of times and events"),
+        ({"times": 2, "events": [], "more": 1}, "event 8: neither a text nor a table of times and events"),
+    ],
+)
+def test_what_is_no_form_is_refused_with_its_place(monkeypatch: pytest.MonkeyPatch, entry: object, why: str) -> None:
+    monkeypatch.setattr(longer.Longer, "report", played(agrees_after=3))
+    with pytest.raises(longer.Refused) as refused:
+        read("[]").add(entry, "event 8")
+    assert str(refused.value) == why
+
+
+@pytest.mark.parametrize(
+    ("text", "why"),
+    [
+        ("events = 3\n" + TABLES, "events is no array"),
+        ("events = []\n", "it has no table of a system"),
+        ("[[system]]\n[[cable]]\nends = [1]\n", "cable 1: ends"),
+    ],
+)
+def test_what_is_no_script_is_refused(text: str, why: str) -> None:
+    with pytest.raises(longer.Refused) as refused:
+        longer.Longer(text)
+    assert str(refused.value) == why
+
+
+def test_ticks_in_turn_are_one_entry_of_each_system() -> None:
+    events = ["tick 1 2", "tick 2 5", "tick 1 30", "emit 1 1", "tick 2 4"]
+    assert list(longer.joined(events)) == ["tick 1 32", "tick 2 5", "emit 1 1", "tick 2 4"]
