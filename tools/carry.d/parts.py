@@ -7,7 +7,7 @@ import signal
 import time
 from typing import Callable
 
-from bonds import (CACHE, COMES_BACK, COMES_UP, DEVICE, FLOWS, RIGHTS, End, Programs, ask_gro, cables, check_end, check_order, check_whole, every,
+from bonds import (CACHE, COMES_BACK, COMES_UP, DEVICE, FLOWS, RIGHTS, End, Event, Programs, ask_gro, cables, check_end, check_order, check_whole, every,
                    lay_direct, move_all, pair, run_flows)
 from fast_parts import fast, fast_away, fast_ends, fast_hash, fast_overload, fast_refused, fast_troubles, kernel_hashes, offload
 from models import model

@@ -37,8 +37,12 @@ def run_stream(seconds: float, *, devices: Sequence[str] = (DEVICE, DEVICE), str
     try:
         words = ["iperf3", "-c", ADDRESSES[1], "-t", str(seconds), "-P", str(streams), "-J"]
         told: list[str] = []
-        if not within(REACHES, lambda: (told.append(inside(OURS, *words, timeout=seconds + 30).stdout) or '"end"' in told[-1]
-                                        and "sum_received" in told[-1])):
+
+        def is_told() -> bool:
+            told.append(inside(OURS, *words, timeout=seconds + 30).stdout)
+            return '"end"' in told[-1] and "sum_received" in told[-1]
+
+        if not within(REACHES, is_told):
             raise Failed("a stream of TCP runs", *told[-1:])
         end = json.loads(told[-1])["end"]
         return Stream(end["sum_received"]["bits_per_second"], end["sum_sent"].get("retransmits", 0))

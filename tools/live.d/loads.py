@@ -13,7 +13,7 @@ import time
 from checking import Failed, check, command, within
 from daemon import ENDS, KEY, OTHER, SYSTEM, Daemon, Part
 from daemons import COMES_UP, both_up
-from repository import CC, TOP
+from repository import CC, COMPILER, TOP
 from service import Filed, write
 from spaces import OURS, THEIRS, inside, ip, make_pair
 
@@ -89,7 +89,7 @@ def whole_status(part: Part) -> None:
 def build_flood(folder: str) -> str:
     """Builds the program that floods; answers its path."""
     made = os.path.join(folder, "flood")
-    built = command(CC, "-O2", "-std=c11", "-Wall", "-Wextra", "-Werror", "-o", made, f"{TOP}/tools/live.d/flood.c")
+    built = command(*COMPILER, "-O2", "-std=c11", "-Wall", "-Wextra", "-Werror", "-o", made, f"{TOP}/tools/live.d/flood.c")
     if built.returncode:
         raise Failed(f"{CC} builds flood", built.stderr)
     return made
@@ -107,7 +107,7 @@ def rubbish(part: Part) -> None:
     ours, theirs = part.ours(), part.theirs()
     both_up(ours, theirs, "both links distribute")
     before, sent, waited = memory(ours), ours.count("a1", "lacpdus_sent"), 0.0
-    ways = [(THEIRS, "b0", []), (OURS, "a0", ["received"]), (OURS, "a0", ["received"])]
+    ways: list[tuple[str, str, list[str]]] = [(THEIRS, "b0", []), (OURS, "a0", ["received"]), (OURS, "a0", ["received"])]
     floods = [subprocess.Popen(["ip", "netns", "exec", space, flood, name, str(FLOODED), *more], stdout=subprocess.PIPE, text=True)
               for space, name, more in ways]
     begin, holds, looks = time.monotonic(), 0, 0
