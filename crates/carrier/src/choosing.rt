@@ -9,7 +9,7 @@ use std::cmp::Reverse;
 /// How an aggregator ranks among those that may carry a client's frames; the least carries (profile).
 #[derive(Clone, Copy, Debug, PartialEq, Eq, PartialOrd, Ord)]
 pub(crate) struct Rank {
-    /// Whether its ports run on defaults.
+    /// Whether the first port that distributes in it runs on defaults.
     pub(crate) on_defaults: bool,
     /// How many ports distribute in it.
     pub(crate) ports: Reverse<usize>,

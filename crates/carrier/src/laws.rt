@@ -32,7 +32,7 @@ ghost use Rattle.carrier.specs.Offers.{IsElsewhere, IsInOneAggregator, IsNoOffer
 ghost use Rattle.clientorder.specs.OneAggregator.{NoneOnItsWayElsewhere};
 
 /// Where each frame is offered by `offer_in_carrier`, a conversation number is On, Wanted or Flushing in one aggregator at
-/// most: so it is in the first state, and each call that is no offer keeps it, as `offer_in_carrier` does. And while
+/// most: so it is in the first state, and each call of `Call` that is no offer keeps it, as `offer_in_carrier` does. And while
 /// `offer_in_carrier` does not hold a frame back, no frame of its number that was sent in another aggregator is on any cable,
 /// if the number was never forced there. The premise `OnItsCable` holds after each event of each schedule of two systems (6.2.4,
 /// 6.2.5; profile).

@@ -1,7 +1,7 @@
 //! The aggregator that carries the frames of a client, where a system has several.
 //!
-//! `carrier` chooses it, and `offer_in_carrier` keeps the order of the client's frames where it changes: a conversation that
-//! is On, Wanted or Flushing in another aggregator is held. `laws` says what follows. The standard leaves the choice to the
+//! `carrier` chooses it. `offer_in_carrier` is for the time after it changed: a conversation that is On, Wanted or Flushing in
+//! another aggregator is held. `laws` says what follows. The standard leaves the choice to the
 //! client of the aggregators; all of this is profile (docs/PROFILE.md).
 #![tactic(auto)]
 

@@ -64,9 +64,9 @@ fn has_16_bits(_number: u16)
     ensures { _number < 2 ^ 16 }
 {}
 
-/// Offers a client's frame in the aggregator that carries, and keeps the order of the client's frames where another one carried
-/// before: `Held`, and nothing changes, while the conversation of the frame is On, Wanted or Flushing in another aggregator;
-/// else what `System::offer` answers and does, with its refusals (6.2.4; profile).
+/// Offers a client's frame in the aggregator that carries, where another one may have carried before: `Held`, before every other
+/// refusal, and nothing changes, while the conversation of the frame is On, Wanted or Flushing in another aggregator; else what
+/// `System::offer` answers and does, with its refusals (6.2.4; profile).
 pub fn offer_in_carrier<F: Fn(u16, usize) -> usize + Drop>(
     system: &mut System<F>,
     agg: AggId,

@@ -684,9 +684,9 @@ static inline struct niw_number niw_conversation_ports(struct niw_system *handle
     return niw_null_number();
 }
 
-/* What was released: `busy` is the program's own list of which conversations of an aggregator were on a port or held when it asked last,
- * at first all false; it gets which are so now, and `freed` gets which were and are free now. Both have a place or more for each
- * conversation. Answers how many became free. */
+/* What was released: `busy` is the program's own list of which conversations of an aggregator are on a port or held, at first all false.
+ * The program sets a place of it when an offer answers a port. It gets which are so now, and `freed` gets which `busy` named and are free
+ * now. Both have a place or more for each conversation. Answers how many became free. */
 static inline struct niw_number niw_released(struct niw_system *handle, uint16_t agg, bool *busy, size_t busy_count, bool *freed,
     size_t freed_count) {
     if (handle && busy && freed) return lagffi_released(handle, agg, busy, busy_count, freed, freed_count);

@@ -172,13 +172,14 @@ fn made(
     }
 }
 
-/// Plays a row of what comes to a system: links, ticks and frames.
+/// Plays a row: of what comes to a system, links, ticks and frames, or else one of those below.
 fn comes<F: Fn(u16, usize) -> usize + Drop>(
     rt: &impl Abort,
     system: &mut System<F>,
     place: usize,
     row: Row<'_>,
 )
+    requires usable { PicksIndexes (F.pre system.old.algorithm) (F.post system.old.algorithm) }
     ensures { system.new.algorithm ≡ system.old.algorithm }
 {
     match row {
@@ -197,7 +198,7 @@ fn comes<F: Fn(u16, usize) -> usize + Drop>(
             let answer = system.receive(port, &response);
             same(rt, place, &answer, &Ok(Received::Released(count)));
         }
-        _ => {}
+        _ => asks(rt, system, place, row),
     }
 }
 
@@ -241,7 +242,7 @@ fn asks<F: Fn(u16, usize) -> usize + Drop>(
             );
         }
         Row::ForcesPort(port, answer) => same(rt, place, &system.force_port(port), &answer),
-        _ => {}
+        _ => sends(rt, system, place, row),
     }
 }
 
@@ -265,7 +266,7 @@ fn sends<F: Fn(u16, usize) -> usize + Drop>(
             };
             same(rt, place, &subtype, &1);
         }
-        _ => {}
+        _ => tells(rt, system, place, row),
     }
 }
 
@@ -303,9 +304,6 @@ pub(crate) fn play<F: Fn(u16, usize) -> usize + Drop>(
 {
     for (place, row) in rows.iter().enumerate() {
         comes(rt, system, place, *row);
-        asks(rt, system, place, *row);
-        sends(rt, system, place, *row);
-        tells(rt, system, place, *row);
     }
 }
 
