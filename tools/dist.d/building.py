@@ -44,7 +44,7 @@ PROGRAMS = {
 # The programs of tools/ that are installed, with the name that they have there, and the modules beside them.
 SCRIPTS = {
     "lagframes": ("frames", ["frames.d/captures.py"], "write the slow protocols frames of a capture as lines"),
-    "lagdraw": ("draw", ["draw.d/report.py"], "draw the report of lagtool replay as a picture"),
+    "lagdraw": ("draw", ["draw.d/captured.py", "draw.d/report.py"], "draw the report of lagtool replay, or a link of a capture, as a picture"),
 }
 # Where the scripts stand, and where Debian has libraries of its processor.
 SHARE, MULTIARCH = "share/niwhopera-tools", "lib/x86_64-linux-gnu"

@@ -9,9 +9,10 @@ use Rattle.std.specs.Prelude.{min}
 use Rattle.findings.specs.declared.observed.LinkEnd.{LinkEnd}
 use Rattle.findings.specs.declared.observed.Observed.{Observed}
 use Rattle.findings.specs.declared.watch.Watch.{Watch}
+use Rattle.findings.specs.Counts.{counted}
 use Rattle.findings.specs.Ends.{Unsent, end_of, same_end}
 use Rattle.findings.specs.Watches.{watched}
-use Rattle.findings.specs.Knows.{IsExact, Knows, Takes, counted, ends_of, first_ends, firsts, frames_beyond, has_end, is_among, with_end}
+use Rattle.findings.specs.Knows.{IsExact, Knows, Takes, ends_of, first_ends, firsts, frames_beyond, has_end, is_among, with_end}
 use Rattle.findings.proofs.EndLemmas.{exact_end, itself}
 use Rattle.findings.proofs.WatchLemmas.{before_first}
 

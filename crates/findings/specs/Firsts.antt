@@ -9,9 +9,10 @@ use Rattle.findings.specs.declared.observed.Observed.{Observed}
 use Rattle.findings.specs.declared.rule.Rule.{Rule}
 use Rattle.findings.specs.declared.rule.Rule.TheVariants as variants
 use Rattle.findings.specs.Ends.{frames_of, lacpdus}
-use Rattle.findings.specs.Holds.{is_rushed, is_passive, is_late, lasts, twice, is_unheard, is_discarded, is_desynchronized, is_individual, seconds}
+use Rattle.findings.specs.Holds.{is_rushed, is_passive, is_late, lasts, twice, is_attached, is_relapsing, is_unheard, is_discarded, is_desynchronized, is_individual, seconds}
 use Rattle.findings.specs.Holds.{has_other_system, has_other_port, has_other_key, has_other_keys, has_rival, is_one_way, is_silent}
 use Rattle.findings.specs.Markers.{first_unanswered}
+use Rattle.findings.specs.Responses.{first_late, first_unasked}
 use Rattle.findings.specs.Holds.{has_other_version, has_other_length, has_reserved, has_other_destination, has_tag}
 
 -- the earlier one if there is one; else this one if it shows the rule
@@ -70,6 +71,10 @@ first_of variants.Segment until = first_heard has_rival
 first_of variants.Discarded until = first_heard (lasts is_discarded (seconds 3))
 first_of variants.OneWay until = first_heard is_one_way
 first_of variants.Unanswered until = first_unanswered until
+first_of variants.Unasked until = first_unasked
+first_of variants.Late until = first_late
+first_of variants.Attached until = first_heard (lasts is_attached (seconds 6))
+first_of variants.Relapsing until = first_heard is_relapsing
 
 -- what is found of an end by a rule
 abbrev pub finding_of : Rule → LinkEnd → Option Shown → Option Finding

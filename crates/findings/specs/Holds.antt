@@ -73,6 +73,27 @@ is_unheard a = (actor a).defaulted || (actor a).expired
 abbrev pub is_discarded : Heard → Bool
 is_discarded a = (actor a).distributing && not (partner a).collecting
 
+-- the sender's information of its partner is current
+abbrev pub is_current : Heard → Bool
+is_current a = not (is_unheard a)
+
+-- the sender is ATTACHED, and its partner is not synchronized, as it has recorded (6.4.15)
+abbrev pub is_attached : Heard → Bool
+is_attached a = is_current a && (actor a).synchronization && not (actor a).collecting && not (partner a).synchronization
+
+-- the sender's information of its partner was current, and is not any more
+abbrev pub is_relapse : Heard → List Heard → Bool
+is_relapse a before = is_unheard a && and_if is_current (slice_get before 0)
+
+-- that has happened
+abbrev pub has_relapsed : List Heard → Bool
+has_relapsed [] = false
+has_relapsed (a ∷ before) = is_relapse a before || has_relapsed before
+
+-- Defaulted or Expired again and again (6.4.12): for the second time behind current information.
+abbrev pub is_relapsing : Heard → List Heard → Bool
+is_relapsing a before = is_relapse a before && has_relapsed before
+
 -- no LACPDU of another end has come on the interface since the sender's first
 abbrev pub is_alone : Heard → Bool
 is_alone a = is_none a.others.facing
@@ -92,10 +113,6 @@ is_desynchronized a before = not (actor a).synchronization && and_if (λ b. (act
 -- One end is Individual (6.3.5): the sender, and its partner is not.
 abbrev pub is_individual : Heard → List Heard → Bool
 is_individual a before = not (actor a).aggregation && (partner a).aggregation && not (actor a).defaulted
-
--- the sender's information of its partner is current
-abbrev pub is_current : Heard → Bool
-is_current a = not (is_unheard a)
 
 -- the LACPDU of another end came at most a Long Timeout before
 abbrev pub is_fresh : Heard → Other → Bool

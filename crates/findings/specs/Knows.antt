@@ -1,9 +1,10 @@
 -- What is known behind a list of frames, the latest first.
-use Rattle.std.specs.Prelude.{◌≡◌, ◌-◌, ◌^◌, ◌++◌, ℕ, Bool, List, [], ◌∷◌, not, map, filter, length, min, take, if◌then◌else◌}
+use Rattle.std.specs.Prelude.{◌≡◌, ◌++◌, ℕ, Bool, List, [], ◌∷◌, not, map, filter, length, take, if◌then◌else◌}
 use Rattle.std.specs.List.{AllByRecursion, list_any}
 use Rattle.findings.specs.declared.observed.LinkEnd.{LinkEnd}
 use Rattle.findings.specs.declared.observed.Observed.{Observed}
 use Rattle.findings.specs.declared.watch.Watch.{Watch}
+use Rattle.findings.specs.Counts.{counted}
 use Rattle.findings.specs.Ends.{end_of, same_end}
 use Rattle.findings.specs.Watches.{watched}
 
@@ -44,10 +45,6 @@ first_ends h = take 64 (firsts h)
 -- the frames of other ends than these
 abbrev pub frames_beyond : List LinkEnd → List Observed → List Observed
 frames_beyond es = filter (λ o. not (is_among (end_of o) es))
-
--- a count of 64 bits that stays at its end
-unfoldable pub counted : ℕ → ℕ
-counted n = min n (2 ^ 64 - 1)
 
 -- What is kept behind these frames, and how many of them were left out.
 pub record Knows (h : List Observed) (watches : List Watch) (left_out : ℕ) : Type 0 where

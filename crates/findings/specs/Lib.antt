@@ -1,7 +1,9 @@
 pub mod Rules
 pub mod Ends
 pub mod Holds
+pub mod Counts
 pub mod Markers
+pub mod Responses
 pub mod Firsts
 pub mod Watches
 pub mod Knows

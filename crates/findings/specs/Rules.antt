@@ -24,6 +24,10 @@ rule_number variants.Segment = 16
 rule_number variants.Discarded = 17
 rule_number variants.OneWay = 18
 rule_number variants.Unanswered = 19
+rule_number variants.Unasked = 20
+rule_number variants.Late = 21
+rule_number variants.Attached = 22
+rule_number variants.Relapsing = 23
 
 -- what is found
 abbrev pub rule_name : Rule → List ℕ
@@ -46,6 +50,10 @@ rule_name variants.Segment = codes "two actors on one segment"
 rule_name variants.Discarded = codes "distributing while the partner is not collecting"
 rule_name variants.OneWay = codes "LACPDUs in one direction only"
 rule_name variants.Unanswered = codes "a marker without a response within 3 seconds"
+rule_name variants.Unasked = codes "a marker response that nobody asked for"
+rule_name variants.Late = codes "a marker response after more than 3 seconds"
+rule_name variants.Attached = codes "attached for longer than 6 seconds while the partner is not synchronized"
+rule_name variants.Relapsing = codes "defaulted or expired again and again"
 
 -- the section that has the rule
 abbrev pub rule_clause : Rule → List ℕ
@@ -68,6 +76,10 @@ rule_clause variants.Segment = codes "6.4.9"
 rule_clause variants.Discarded = codes "6.4.15"
 rule_clause variants.OneWay = codes "6.4.12"
 rule_clause variants.Unanswered = codes "6.5.4"
+rule_clause variants.Unasked = codes "6.5.4"
+rule_clause variants.Late = codes "6.5.4"
+rule_clause variants.Attached = codes "6.4.15"
+rule_clause variants.Relapsing = codes "6.4.12"
 
 -- what to do
 abbrev pub rule_advice : Rule → List ℕ
@@ -90,3 +102,7 @@ rule_advice variants.Segment = codes "Look for a hub, or for a switch between th
 rule_advice variants.Discarded = codes "Look why the partner does not collect: frames that this end sends are lost there."
 rule_advice variants.OneWay = codes "Look whether the other end sends LACPDUs, and whether the capture has both directions."
 rule_advice variants.Unanswered = codes "Look whether the marker reaches the partner: each system responds to markers."
+rule_advice variants.Unasked = codes "Compare port, system and number of the response with those of the marker: a responder copies them."
+rule_advice variants.Late = codes "Look what delays the responses: whoever waits for one may have given up by then."
+rule_advice variants.Attached = codes "Look why the partner does not attach this link: it may have chosen another aggregator or have too many links."
+rule_advice variants.Relapsing = codes "Look for a link that loses frames, and for a partner that sends LACPDUs less often than it is asked to."

@@ -9,9 +9,10 @@ use Rattle.findings.specs.declared.recent.Recent.{Recent}
 use Rattle.findings.specs.declared.watch.Watch.{Watch}
 use Rattle.findings.specs.Ends.{frames_of, lacpdus, others, said}
 use Rattle.findings.specs.Firsts.{first, shown_heard, shown_frame}
-use Rattle.findings.specs.Holds.{is_rushed, is_passive, is_late, lasts, twice, since, is_unheard, is_discarded, is_desynchronized, is_individual, seconds}
+use Rattle.findings.specs.Holds.{is_rushed, is_passive, is_late, lasts, twice, since, is_attached, has_relapsed, is_relapsing, is_unheard, is_discarded, is_desynchronized, is_individual, seconds}
 use Rattle.findings.specs.Holds.{has_other_system, has_other_port, has_other_key, has_other_keys, has_rival, is_alone, is_one_way}
 use Rattle.findings.specs.Markers.{asking}
+use Rattle.findings.specs.Responses.{responding}
 use Rattle.findings.specs.Holds.{has_other_version, has_other_length, has_reserved, has_other_destination, has_tag}
 
 -- the latest three LACPDUs, and since when the latest ones have a property
@@ -23,6 +24,8 @@ recent_of l = record {
   unheard_since = since is_unheard l;
   discarded_since = since is_discarded l;
   alone_since = since is_alone l;
+  attached_since = since is_attached l;
+  relapsed = has_relapsed l;
 }
 
 -- the first LACPDU that shows each rule
@@ -41,6 +44,8 @@ lacpdu_rules l = record {
   segment = first shown_heard has_rival l;
   discarded = first shown_heard (lasts is_discarded (seconds 3)) l;
   one_way = first shown_heard is_one_way l;
+  attached = first shown_heard (lasts is_attached (seconds 6)) l;
+  relapsing = first shown_heard is_relapsing l;
 }
 
 -- the first frame that shows each rule
@@ -59,6 +64,7 @@ watched e h = record {
   end = e;
   said = said e h;
   asking = asking e h;
+  responding = responding e h;
   others = others e h;
   recent = recent_of (lacpdus e h);
   lacpdus = lacpdu_rules (lacpdus e h);

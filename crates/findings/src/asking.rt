@@ -44,7 +44,7 @@ impl What {
     }
 
     /// The response that it is, if it is one.
-    fn response(&self) -> Option<Marker>
+    pub(crate) fn response(&self) -> Option<Marker>
         ensures { result ≡ response_in self.now }
     {
         match self {
@@ -59,7 +59,7 @@ impl What {
 
 impl Asked {
     /// Whether this is the response to the marker.
-    fn is_answered_by(&self, response: &Marker) -> bool
+    pub(crate) fn is_answered_by(&self, response: &Marker) -> bool
         ensures { result ≡ is_response_to self.now.marker response.now }
     {
         response.port == self.marker.port
@@ -69,7 +69,7 @@ impl Asked {
 }
 
 /// The marker in a frame.
-fn question(now: &Observed) -> Option<Asked>
+pub(crate) fn question(now: &Observed) -> Option<Asked>
     ensures { result ≡ asked_in now.now (marker_in now.now.what) }
 {
     match now.what.marker() {

@@ -24,7 +24,7 @@ impl Heard {
     }
 
     /// Whether the sender's information of its partner is current.
-    fn is_current(&self) -> bool
+    pub(crate) fn is_current(&self) -> bool
         ensures { result ≡ is_current self.now }
     {
         !self.is_unheard()

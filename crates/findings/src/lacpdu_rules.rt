@@ -21,6 +21,8 @@ pub(crate) struct LacpduRules {
     pub(crate) segment: Option<Shown>,
     pub(crate) discarded: Option<Shown>,
     pub(crate) one_way: Option<Shown>,
+    pub(crate) attached: Option<Shown>,
+    pub(crate) relapsing: Option<Shown>,
 }
 
 impl LacpduRules {
@@ -43,6 +45,8 @@ impl LacpduRules {
             segment: earlier_or(self.segment, now.has_rival(), shown),
             discarded: earlier_or(self.discarded, recent.is_discarded(now), shown),
             one_way: earlier_or(self.one_way, recent.is_one_way(now), shown),
+            attached: earlier_or(self.attached, recent.is_attached(now), shown),
+            relapsing: earlier_or(self.relapsing, recent.is_relapsing(now), shown),
         }
     }
 }

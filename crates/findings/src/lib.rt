@@ -15,6 +15,7 @@ mod observed;
 mod observing;
 mod others;
 mod recent;
+mod responding;
 mod rule;
 mod watch;
 

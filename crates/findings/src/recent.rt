@@ -1,6 +1,6 @@
 ghost use Rattle.std.specs.Prelude.{◌≡◌, ◌∷◌, List, unwrap_or, Some, None, if◌then◌else◌};
 ghost use Rattle.findings.specs.declared.recent.Heard.{Heard};
-ghost use Rattle.findings.specs.Holds.{and_if, is_alone, is_one_way, is_ordered, is_over, own_timeout, is_unheard, is_discarded, is_periodic, is_rushed, is_late, is_silent, is_desynchronized, lasts, seconds, since, timeout};
+ghost use Rattle.findings.specs.Holds.{and_if, is_alone, is_one_way, is_ordered, is_over, own_timeout, is_attached, is_relapse, is_relapsing, is_unheard, is_discarded, is_periodic, is_rushed, is_late, is_silent, is_desynchronized, lasts, seconds, since, timeout};
 ghost use Rattle.findings.specs.Holds.{has_other_system, has_other_port, has_other_key, has_other_keys, twice};
 ghost use Rattle.findings.specs.Firsts.{last_silent};
 ghost use Rattle.findings.specs.Watches.{recent_of};
@@ -21,6 +21,10 @@ pub(crate) const LONG_TIMEOUT: u64 = 90 * SECOND;
 /// How long an end may be without current information of its partner, in nanoseconds: the time in which a partner that
 /// sends one LACPDU a second is not heard, and then is Expired.
 const MOST_UNHEARD: u64 = 6 * SECOND;
+
+/// How long an end may be ATTACHED before its partner is synchronized, in nanoseconds: Aggregate_Wait_Time of 2 seconds
+/// (6.4.4), three times.
+const MOST_ATTACHED: u64 = 6 * SECOND;
 
 /// How long an end may distribute before its partner collects, in nanoseconds.
 const MOST_DISCARDED: u64 = 3 * SECOND;
@@ -53,6 +57,10 @@ pub(crate) struct Recent {
     pub(crate) discarded_since: Option<u64>,
     /// The first LACPDU's time, if none of another end has come on the interface behind it.
     pub(crate) alone_since: Option<u64>,
+    /// When the end said first that it is ATTACHED and its partner is not synchronized, if it has said so ever since.
+    pub(crate) attached_since: Option<u64>,
+    /// Whether the end became Defaulted or Expired behind current information.
+    pub(crate) relapsed: bool,
 }
 
 /// When it began: as it was, or now; None if it is not so.
@@ -97,6 +105,17 @@ impl Heard {
         ensures { result ≡ is_discarded self.now }
     {
         self.pdu.actor.state.is_distributing() && !self.pdu.partner.state.is_collecting()
+    }
+
+    /// Whether the sender is ATTACHED and its partner is not synchronized.
+    fn is_attached(&self) -> bool
+        ensures { result ≡ is_attached self.now }
+    {
+        let actor = self.pdu.actor.state;
+        self.is_current()
+            && actor.is_synchronized()
+            && !actor.is_collecting()
+            && !self.pdu.partner.state.is_synchronized()
     }
 
     /// Whether no LACPDU of another end has come on the interface.
@@ -155,6 +174,18 @@ impl Recent {
             unheard_since: since(now.is_unheard(), self.unheard_since, now.nanoseconds),
             discarded_since: since(now.is_discarded(), self.discarded_since, now.nanoseconds),
             alone_since: since(now.is_alone(), self.alone_since, now.nanoseconds),
+            attached_since: since(now.is_attached(), self.attached_since, now.nanoseconds),
+            relapsed: self.is_relapse(now) || self.relapsed,
+        }
+    }
+
+    /// Whether the end becomes Defaulted or Expired behind current information.
+    fn is_relapse(&self, now: &Heard) -> bool
+        ensures { (l : List Heard) → self.now ≡ recent_of l → result ≡ is_relapse now.now l }
+    {
+        match self.last {
+            Some(heard) => now.is_unheard() && heard.is_current(),
+            None => false,
         }
     }
 
@@ -254,6 +285,20 @@ impl Recent {
         ensures { (l : List Heard) → self.now ≡ recent_of l → result ≡ lasts is_unheard (seconds 6) now.now l }
     {
         now.is_unheard() && is_over(MOST_UNHEARD, self.unheard_since, now.nanoseconds)
+    }
+
+    /// Whether the end becomes Defaulted or Expired for the second time.
+    pub(crate) fn is_relapsing(&self, now: &Heard) -> bool
+        ensures { (l : List Heard) → self.now ≡ recent_of l → result ≡ is_relapsing now.now l }
+    {
+        self.is_relapse(now) && self.relapsed
+    }
+
+    /// Whether the end has been ATTACHED for too long while its partner is not synchronized.
+    pub(crate) fn is_attached(&self, now: &Heard) -> bool
+        ensures { (l : List Heard) → self.now ≡ recent_of l → result ≡ lasts is_attached (seconds 6) now.now l }
+    {
+        now.is_attached() && is_over(MOST_ATTACHED, self.attached_since, now.nanoseconds)
     }
 
     /// Whether the end has distributed for too long while its partner does not collect.

@@ -44,11 +44,20 @@ pub enum Rule {
     OneWay,
     /// 19: a marker without a response within 3 seconds.
     Unanswered,
+    /// 20: a response from an end that has sent an LACPDU, while none of the markers that came since then is left without
+    /// one, or with another port or system than the latest of them.
+    Unasked,
+    /// 21: a response that comes more than 3 seconds after the latest marker, which it responds to.
+    Late,
+    /// 22: synchronized and not collecting for longer than 6 seconds, and the partner is not synchronized.
+    Attached,
+    /// 23: Defaulted or Expired for the second time after current information.
+    Relapsing,
 }
 
 impl Rule {
     /// All rules, in the order of their numbers.
-    pub const ALL: [Rule; 19] = [
+    pub const ALL: [Rule; 23] = [
         Rule::Rate,
         Rule::System,
         Rule::Port,
@@ -68,6 +77,10 @@ impl Rule {
         Rule::Discarded,
         Rule::OneWay,
         Rule::Unanswered,
+        Rule::Unasked,
+        Rule::Late,
+        Rule::Attached,
+        Rule::Relapsing,
     ];
 
     /// The number of the rule, from 1.
@@ -94,6 +107,10 @@ impl Rule {
             Rule::Discarded => 17,
             Rule::OneWay => 18,
             Rule::Unanswered => 19,
+            Rule::Unasked => 20,
+            Rule::Late => 21,
+            Rule::Attached => 22,
+            Rule::Relapsing => 23,
         }
     }
 
@@ -121,6 +138,11 @@ impl Rule {
             Rule::Discarded => "distributing while the partner is not collecting",
             Rule::OneWay => "LACPDUs in one direction only",
             Rule::Unanswered => "a marker without a response within 3 seconds",
+            Rule::Unasked => "a marker response that nobody asked for",
+            Rule::Late => "a marker response after more than 3 seconds",
+            Rule::Attached =>
+                "attached for longer than 6 seconds while the partner is not synchronized",
+            Rule::Relapsing => "defaulted or expired again and again",
         }
     }
 
@@ -148,6 +170,10 @@ impl Rule {
             Rule::Discarded => "6.4.15",
             Rule::OneWay => "6.4.12",
             Rule::Unanswered => "6.5.4",
+            Rule::Unasked => "6.5.4",
+            Rule::Late => "6.5.4",
+            Rule::Attached => "6.4.15",
+            Rule::Relapsing => "6.4.12",
         }
     }
 
@@ -191,6 +217,14 @@ impl Rule {
                 "Look whether the other end sends LACPDUs, and whether the capture has both directions.",
             Rule::Unanswered =>
                 "Look whether the marker reaches the partner: each system responds to markers.",
+            Rule::Unasked =>
+                "Compare port, system and number of the response with those of the marker: a responder copies them.",
+            Rule::Late =>
+                "Look what delays the responses: whoever waits for one may have given up by then.",
+            Rule::Attached =>
+                "Look why the partner does not attach this link: it may have chosen another aggregator or have too many links.",
+            Rule::Relapsing =>
+                "Look for a link that loses frames, and for a partner that sends LACPDUs less often than it is asked to.",
         }
     }
 }

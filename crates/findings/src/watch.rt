@@ -3,6 +3,7 @@ ghost use Rattle.findings.specs.declared.observed.Observed.{Observed};
 ghost use Rattle.findings.specs.Ends.{end_of, others, same_end};
 ghost use Rattle.findings.specs.Firsts.{first_of};
 ghost use Rattle.findings.specs.Knows.{Takes};
+ghost use Rattle.findings.specs.Responses.{responding};
 ghost use Rattle.findings.specs.Watches.{watched};
 
 use crate::asking::Asking;
@@ -12,6 +13,7 @@ use crate::lacpdu_rules::LacpduRules;
 use crate::observed::{LinkEnd, Observed};
 use crate::others::Others;
 use crate::recent::{Heard, Recent};
+use crate::responding::Responding;
 use crate::rule::Rule;
 use slowpdu::Lacpdu;
 
@@ -23,6 +25,8 @@ pub(crate) struct Watch {
     pub(crate) said: Option<Lacpdu>,
     /// Its markers.
     pub(crate) asking: Asking,
+    /// Its responses.
+    pub(crate) responding: Responding,
     pub(crate) others: Others,
     pub(crate) recent: Recent,
     pub(crate) lacpdus: LacpduRules,
@@ -38,6 +42,7 @@ impl Watch {
             end,
             said: None,
             asking: Asking::default(),
+            responding: Responding::default(),
             others: Others::default(),
             recent: Recent::default(),
             lacpdus: LacpduRules::default(),
@@ -65,6 +70,7 @@ impl Watch {
                     end: self.end,
                     said: Some(pdu),
                     asking,
+                    responding: self.responding,
                     others: self.others,
                     recent: self.recent.with(&heard),
                     lacpdus: self.lacpdus.with(&self.recent, &heard),
@@ -90,6 +96,17 @@ impl Watch {
         }
     }
 
+    /// What is known of its responses behind one more frame of another end.
+    fn responding_with(&self, now: &Observed) -> Responding
+        ensures { (h : List Observed) → same_end (end_of now.now) self.now.end ≡ false → self.now ≡ watched self.now.end h
+            → result ≡ responding self.now.end (now.now ∷ h) }
+    {
+        match self.said {
+            Some(_) => self.responding.with(&self.end, now),
+            None => self.responding,
+        }
+    }
+
     /// Takes one frame, of this end or another.
     pub(crate) fn see(&mut self, now: &Observed)
         ensures { Takes now.now self.old self.new }
@@ -99,7 +116,9 @@ impl Watch {
         } else {
             let asking = self.asking.with(&self.end, false, now);
             let others = self.others_with(now);
+            let responding = self.responding_with(now);
             self.asking = asking;
+            self.responding = responding;
             self.others = others;
         }
     }
@@ -128,6 +147,10 @@ impl Watch {
             Rule::Discarded => self.lacpdus.discarded,
             Rule::OneWay => self.lacpdus.one_way,
             Rule::Unanswered => self.asking.first(until),
+            Rule::Unasked => self.responding.unasked,
+            Rule::Late => self.responding.late,
+            Rule::Attached => self.lacpdus.attached,
+            Rule::Relapsing => self.lacpdus.relapsing,
         }
     }
 }

@@ -142,6 +142,7 @@ fn status_of_capture<R: Print + Eprint + Files + Input + AllocGlobal>(
     let settings = Settings {
         all: options.all,
         frames: !options.no_frames,
+        json: options.json,
     };
     match capture_file(rt, settings, file) {
         Ok(

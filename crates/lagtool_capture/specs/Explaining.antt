@@ -20,6 +20,7 @@ use Rattle.lagtool_capture.specs.EndTexts.{counts_text, ends_text}
 use Rattle.lagtool_capture.specs.Ends.{end_place, ends_after, is_beyond, last_of}
 use Rattle.lagtool_capture.specs.Envelopes.{envelope_of}
 use Rattle.lagtool_capture.specs.FindingTexts.{findings_text}
+use Rattle.lagtool_capture.specs.Json.{counts_record, ends_records, findings_records, frame_record}
 use Rattle.lagtool_capture.specs.LacpduTexts.{shown_of}
 use Rattle.lagtool_capture.specs.LineTexts.{line_text}
 use Rattle.lagtool_capture.specs.Names.{identity_of, identity_text, place_of}
@@ -69,6 +70,10 @@ most_names = 64
 abbrev pub legend_line : ℕ → Identity → List ℕ
 legend_line n a = codes "P" ++ (decimal n ++ (codes " = " ++ (identity_text a ++ codes "\n")))
 
+-- a text with the line of the legend for an end with this number; records have no legend
+abbrev pub legend_added : Bool → ℕ → Identity → List ℕ → List ℕ
+legend_added json n a text = if json then text else text ++ legend_line n a
+
 -- an end gets a short name: it has none, and there is one left
 abbrev pub is_new : Option ℕ → List Identity → Bool
 is_new (Some n) names = false
@@ -78,7 +83,7 @@ is_new None names = nat_lt (length names) most_names
 abbrev pub named : Identity → ExplainerState → ExplainerState
 named a s = record s {
   names = if is_new (place_of s.names a) s.names then s.names ++ a ∷ [] else s.names;
-  to_write = if is_new (place_of s.names a) s.names then s.to_write ++ legend_line (length s.names + 1) a else s.to_write;
+  to_write = if is_new (place_of s.names a) s.names then legend_added s.settings.json (length s.names + 1) a s.to_write else s.to_write;
 }
 
 -- the number of an end's short name once it is named
@@ -89,10 +94,14 @@ place_once_named None names = if nat_lt (length names) most_names then Some (len
 abbrev pub name_place : Identity → ExplainerState → Option ℕ
 name_place a s = place_once_named (place_of s.names a) s.names
 
+-- the line of a frame: a record, or a text
+abbrev pub frame_line : Bool → ℕ → Option ℕ → Option ℕ → Envelope → WhatText → List ℕ
+frame_line json number first time e t = if json then frame_record number first time e t else line_text number first time e t
+
 -- after the line of a frame, if frames have lines
 abbrev pub with_line : Option ℕ → Envelope → WhatText → ExplainerState → ExplainerState
 with_line time e t s = record s {
-  to_write = if s.settings.frames then s.to_write ++ line_text s.number s.first time e t else s.to_write;
+  to_write = if s.settings.frames then s.to_write ++ frame_line s.settings.json s.number s.first time e t else s.to_write;
 }
 
 -- after an LACPDU of a sender whose end has this place
@@ -149,10 +158,19 @@ after_envelope time (Some e) b s = if e.ether_type == 0x8809 then after_slow tim
 unfoldable pub observed : Packet → List ℕ → ExplainerState → ExplainerState
 observed packet b s = after_envelope packet.time (envelope_of packet b) b (counted packet.time s)
 
--- after the last packet: a line for each end that sent LACPDUs, a line for each finding, and the counts
+-- a line for each end that sent LACPDUs, a line for each finding, and the counts: as texts
+abbrev pub closing_texts : List Finding → ExplainerState → List ℕ
+closing_texts fs s =
+    ends_text s.first s.ends ++ (findings_text s.first fs ++ counts_text s.number s.slow (length s.ends) (length fs) s.beyond)
+
+-- the same as records
+abbrev pub closing_records : List Finding → ExplainerState → List ℕ
+closing_records fs s =
+    ends_records s.first s.ends ++ (findings_records s.first fs ++ counts_record s.number s.slow (length s.ends) (length fs) s.beyond)
+
+-- after the last packet: the lines of the ends, of the findings, and of the counts
 abbrev pub with_ends : List Finding → ExplainerState → ExplainerState
 with_ends fs s = record s {
   findings = length fs;
-  to_write = s.to_write ++ (ends_text s.first s.ends ++ (findings_text s.first fs
-      ++ counts_text s.number s.slow (length s.ends) (length fs) s.beyond));
+  to_write = s.to_write ++ (if s.settings.json then closing_records fs s else closing_texts fs s);
 }

@@ -10,6 +10,7 @@ pub mod Faults
 pub mod Strides
 pub mod EndTexts
 pub mod FindingTexts
+pub mod Json
 pub mod Frames
 pub mod Noticing
 pub mod Walks

@@ -47,7 +47,7 @@ abbrev pub all_rules : List Rule
 all_rules =
     rules.Rate ∷ rules.System ∷ rules.Port ∷ rules.Key ∷ rules.Passive ∷ rules.Version ∷ rules.Length ∷ rules.Reserved
     ∷ rules.Destination ∷ rules.Tag ∷ rules.Silence ∷ rules.Unheard ∷ rules.Desynchronized ∷ rules.Individual ∷ rules.Keys
-    ∷ rules.Segment ∷ rules.Discarded ∷ rules.OneWay ∷ rules.Unanswered ∷ []
+    ∷ rules.Segment ∷ rules.Discarded ∷ rules.OneWay ∷ rules.Unanswered ∷ rules.Unasked ∷ rules.Late ∷ rules.Attached ∷ rules.Relapsing ∷ []
 
 -- what is found of an end by a rule; nothing where there is no end
 abbrev pub finding_by : ℕ → List Observed → Option LinkEnd → Rule → List Finding

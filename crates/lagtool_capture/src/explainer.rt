@@ -1,5 +1,5 @@
-ghost use Rattle.std.specs.Prelude.{◌≡◌, [], OnErr, OnOk, IfOk};
-ghost use Rattle.lagtool_capture.specs.Explaining.{after_lacpdu, after_named, after_slow, counted, last_shown, name_place, named, nothing_seen, observed, with_end, with_ends, with_line};
+ghost use Rattle.std.specs.Prelude.{◌≡◌, ◌++◌, [], length, OnErr, OnOk, IfOk};
+ghost use Rattle.lagtool_capture.specs.Explaining.{closing_records, closing_texts, legend_added, after_lacpdu, after_named, after_slow, counted, last_shown, name_place, named, nothing_seen, observed, with_end, with_ends, with_line};
 ghost use Rattle.lagstreams.specs.Sinks.{WritesPart, WritesWhole};
 
 use crate::content::content_of;
@@ -8,6 +8,8 @@ use crate::ends::{End, MOST_ENDS, Sender, end_place, last_of};
 use crate::envelope::{Envelope, envelope_of};
 use crate::fault::ReadFault;
 use crate::finding_texts::FindingsText;
+use crate::json::FrameRecord;
+use crate::json_ends::{CountsRecord, EndsRecords, FindingsRecords};
 use crate::lacpdu_texts::{LacpduText, Shown};
 use crate::line::{HeadText, SinceText, WhatText};
 use crate::names::{Identity, MOST_NAMES, place_of};
@@ -88,6 +90,17 @@ impl Explainer {
         self.first = self.first.or(time);
     }
 
+    /// Adds the line of the legend for an end with this number; records have no legend.
+    fn put_legend(&mut self, place: usize, identity: Identity) -> Result<(), AllocError>
+        ensures { OnOk result (self.new ≡ record self.old { to_write = legend_added self.old.settings.json place identity self.old.to_write }) }
+    {
+        if self.settings.json {
+            Ok(())
+        } else {
+            write!(self.report, "P{place} = {identity}\n")
+        }
+    }
+
     /// The number of an end's short name; a new end gets one if there is one left, and a line of the legend.
     fn name(&mut self, identity: Identity) -> Result<Option<usize>, AllocError>
         ensures named { OnOk result (self.new ≡ named identity self.old) }
@@ -101,7 +114,7 @@ impl Explainer {
         }
         self.names.push(identity)?;
         let place = self.names.len();
-        write!(self.report, "P{place} = {identity}\n")?;
+        self.put_legend(place, identity)?;
         Ok(Some(place))
     }
 
@@ -123,7 +136,11 @@ impl Explainer {
                 },
                 envelope,
             };
-            write!(self.report, "{head}{what}\n")?;
+            if self.settings.json {
+                write!(self.report, "{}", FrameRecord { head, what })?;
+            } else {
+                write!(self.report, "{head}{what}\n")?;
+            }
         }
         Ok(())
     }
@@ -238,13 +255,41 @@ impl Explainer {
         }
     }
 
-    /// Adds a line for each end that sent LACPDUs, a line for each of these findings, and the counts. `AllocError` if memory
-    /// is refused.
-    pub fn finish(&mut self, findings: &[Finding]) -> Result<(), AllocError>
-        ensures { OnOk result (self.new ≡ with_ends findings.now self.old) }
+    /// The counts.
+    fn counts(&self, findings: &[Finding]) -> CountsText
+        ensures { result ≡ record { packets = self.now.number; slow = self.now.slow; ends = length self.now.ends; findings = length findings.now; beyond = self.now.beyond } }
     {
-        self.findings = findings.len();
+        CountsText {
+            packets: self.number,
+            slow: self.slow,
+            ends: self.ends.len(),
+            findings: findings.len(),
+            beyond: self.beyond,
+        }
+    }
+
+    /// Adds a record for each end that sent LACPDUs, one for each of these findings, and the counts.
+    fn put_records(&mut self, findings: &[Finding]) -> Result<(), AllocError>
+        ensures { OnOk result (self.new ≡ record self.old { to_write = self.old.to_write ++ closing_records findings.now self.old }) }
+    {
         let first = self.first;
+        let counts = CountsRecord(self.counts(findings));
+        let ends = EndsRecords {
+            first,
+            ends: &self.ends,
+        };
+        write!(self.report, "{ends}")?;
+        let told = FindingsRecords { first, findings };
+        write!(self.report, "{told}")?;
+        write!(self.report, "{counts}")
+    }
+
+    /// Adds a line for each end that sent LACPDUs, one for each of these findings, and the counts.
+    fn put_texts(&mut self, findings: &[Finding]) -> Result<(), AllocError>
+        ensures { OnOk result (self.new ≡ record self.old { to_write = self.old.to_write ++ closing_texts findings.now self.old }) }
+    {
+        let first = self.first;
+        let counts = self.counts(findings);
         let ends = EndsText {
             first,
             ends: &self.ends,
@@ -252,14 +297,20 @@ impl Explainer {
         write!(self.report, "{ends}")?;
         let told = FindingsText { first, findings };
         write!(self.report, "{told}")?;
-        let counts = CountsText {
-            packets: self.number,
-            slow: self.slow,
-            ends: self.ends.len(),
-            findings: findings.len(),
-            beyond: self.beyond,
-        };
         write!(self.report, "{counts}")
+    }
+
+    /// Adds what is said behind the last packet: of each end that sent LACPDUs, of each of these findings, and the counts.
+    /// `AllocError` if memory is refused.
+    pub fn finish(&mut self, findings: &[Finding]) -> Result<(), AllocError>
+        ensures { OnOk result (self.new ≡ with_ends findings.now self.old) }
+    {
+        self.findings = findings.len();
+        if self.settings.json {
+            self.put_records(findings)
+        } else {
+            self.put_texts(findings)
+        }
     }
 
     /// Writes the part of the explanation that is not written yet, in one call of the sink. `WriteFailed` if the sink

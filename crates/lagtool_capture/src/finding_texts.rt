@@ -24,7 +24,7 @@ impl fmt::Display for PortPart {
 
 /// The number of a rule.
 #[derive(Clone, Copy)]
-struct NumberText(Rule);
+pub(crate) struct NumberText(pub Rule);
 
 impl fmt::Display for NumberText {
     ghost output = { λ t. Some (number_text t.0) };
@@ -38,7 +38,7 @@ impl fmt::Display for NumberText {
 
 /// The section that has a rule.
 #[derive(Clone, Copy)]
-struct ClauseText(Rule);
+pub(crate) struct ClauseText(pub Rule);
 
 impl fmt::Display for ClauseText {
     ghost output = { λ t. Some (rule_clause t.0) };
@@ -50,7 +50,7 @@ impl fmt::Display for ClauseText {
 
 /// What to do about a rule.
 #[derive(Clone, Copy)]
-struct AdviceText(Rule);
+pub(crate) struct AdviceText(pub Rule);
 
 impl fmt::Display for AdviceText {
     ghost output = { λ t. Some (rule_advice t.0) };

@@ -14,6 +14,8 @@ mod fault;
 mod finding_texts;
 mod frames;
 mod job;
+mod json;
+mod json_ends;
 mod lacpdu_texts;
 mod line;
 mod names;

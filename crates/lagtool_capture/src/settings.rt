@@ -5,4 +5,6 @@ pub struct Settings {
     pub all: bool,
     /// Whether there is a line for each frame.
     pub frames: bool,
+    /// Whether each line is a record as JSON; a record has every field.
+    pub json: bool,
 }

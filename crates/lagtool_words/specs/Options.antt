@@ -4,11 +4,11 @@ use Rattle.std.specs.Str.{bytes_eq}
 use Rattle.std.specs.declared.alloc.Global.{Global}
 use Rattle.lagtool_words.specs.declared.options.Options.{Options}
 
--- a word that is an option; there are four
+-- a word that is an option; there are five
 abbrev pub is_option : List ℕ → Bool
 is_option word =
     bytes_eq word (codes "--explain") || bytes_eq word (codes "--progress") || bytes_eq word (codes "--all")
-    || bytes_eq word (codes "--no-frames")
+    || bytes_eq word (codes "--no-frames") || bytes_eq word (codes "--json")
 
 -- how many of these words are options, up to the first that is none
 abbrev pub count_options : List (String Global) → ℕ
@@ -27,6 +27,7 @@ first_options count words = record {
   progress = has_option (codes "--progress") (take count words);
   all = has_option (codes "--all") (take count words);
   no_frames = has_option (codes "--no-frames") (take count words);
+  json = has_option (codes "--json") (take count words);
   count = count;
 }
 

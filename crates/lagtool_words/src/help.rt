@@ -13,6 +13,7 @@ Before the subcommand, as in lagtool --explain replay SCRIPT:
   --progress  Standard error shows how far check or replay is
   --all       A line of capture has every field
   --no-frames capture prints no line for a frame
+  --json      capture prints a record as JSON in each line
 
 Status 0: the payload is accepted, the frame is answered, no line of the file is a fault, the capture
           or the script was read to its end, or no vector failed.
@@ -77,8 +78,8 @@ pub const CAPTURE_FILE: &str =
 /// What `capture` prints, and an example.
 pub const CAPTURE_EXAMPLE: &str = "\
 Prints a line for each frame of the slow protocols, with what differs from the last LACPDU of its sender;
-then a line for each end of a link, and the counts. With --all before the subcommand a line has every
-field, with --no-frames there is no line for a frame.
+then a line for each end of a link, one for each finding, and the counts. With --all before the subcommand a line has every
+field, with --no-frames there is no line for a frame, with --json each line is a record as JSON.
 
 Example: lagtool capture lacp.pcap";
 

@@ -12,6 +12,8 @@ pub struct Options {
     pub all: bool,
     /// `--no-frames`: `capture` prints no line for a frame.
     pub no_frames: bool,
+    /// `--json`: `capture` prints a record as JSON in each line.
+    pub json: bool,
     /// How many words they are.
     pub count: usize,
 }
@@ -20,7 +22,11 @@ pub struct Options {
 fn is_option(word: &str) -> bool
     ensures { result ≡ is_option word.now }
 {
-    word == "--explain" || word == "--progress" || word == "--all" || word == "--no-frames"
+    word == "--explain"
+        || word == "--progress"
+        || word == "--all"
+        || word == "--no-frames"
+        || word == "--json"
 }
 
 /// Whether one of these words is this option.
@@ -65,6 +71,7 @@ pub fn read_options(words: &[String]) -> Options
         progress: has_option(options, "--progress"),
         all: has_option(options, "--all"),
         no_frames: has_option(options, "--no-frames"),
+        json: has_option(options, "--json"),
         count,
     }
 }

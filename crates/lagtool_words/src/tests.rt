@@ -101,6 +101,7 @@ fn options_before_a_subcommand(rt: HostRuntime) -> Result<(), Fail> {
             progress,
             all: false,
             no_frames: false,
+            json: false,
             count,
         };
         assert_eq!(rt; seen, wanted, "{words:?}");
@@ -110,18 +111,45 @@ fn options_before_a_subcommand(rt: HostRuntime) -> Result<(), Fail> {
 
 #[test]
 fn options_of_a_capture(rt: HostRuntime) -> Result<(), Fail> {
-    let rows: [(&[&str], bool, bool, usize); 3] = [
-        (&["lagtool", "--all", "capture", "a"], true, false, 1),
-        (&["lagtool", "--no-frames", "capture", "a"], false, true, 1),
-        (&["lagtool", "capture", "--all", "a"], false, false, 0),
+    let rows: [(&[&str], bool, bool, bool, usize); 5] = [
+        (&["lagtool", "--all", "capture", "a"], true, false, false, 1),
+        (
+            &["lagtool", "--no-frames", "capture", "a"],
+            false,
+            true,
+            false,
+            1,
+        ),
+        (
+            &["lagtool", "--json", "capture", "a"],
+            false,
+            false,
+            true,
+            1,
+        ),
+        (
+            &["lagtool", "--json", "--no-frames", "capture", "a"],
+            false,
+            true,
+            true,
+            2,
+        ),
+        (
+            &["lagtool", "capture", "--all", "--json", "a"],
+            false,
+            false,
+            false,
+            0,
+        ),
     ];
-    for (words, all, no_frames, count) in rows {
+    for (words, all, no_frames, json, count) in rows {
         let seen = options_of(rt.alloc(), words)?;
         let wanted = Options {
             explain: false,
             progress: false,
             all,
             no_frames,
+            json,
             count,
         };
         assert_eq!(rt; seen, wanted, "{words:?}");
@@ -191,6 +219,7 @@ fn help_says_what_words_mean(rt: HostRuntime) -> Result<(), Fail> {
                 "pcapng",
                 "standard input",
                 "--no-frames",
+                "--json",
                 "lagtool capture lacp.pcap",
             ],
         ),

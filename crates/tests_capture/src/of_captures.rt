@@ -391,3 +391,56 @@ fn the_writer_writes_the_format(rt: HostRuntime) -> Result<(), AllocError> {
     assert_eq!(rt; Cause::CutShort.number(), 14);
     Ok(())
 }
+
+/// A file of pcapng, the most significant octet first: an interface with the option if_tsoffset, of this length in the last octet
+/// of it and with these octets, and a packet at 5,000,000 microseconds, of which nothing is captured.
+fn with_offset(alloc: Global, length: u8, offset: [u8; 8]) -> Result<Vec<u8>, AllocError> {
+    let mut file = Vec::from_slice(alloc, &BLOCKS[..32])?;
+    file.extend_from_slice(&[
+        0, 0, 0, 1, 0, 0, 0, 36, 0, 1, 0, 0, 0, 0, 0, 0, 0, 14, 0, length,
+    ])?;
+    file.extend_from_slice(&offset)?;
+    file.extend_from_slice(&[0, 0, 0, 0, 0, 0, 0, 36])?;
+    file.extend_from_slice(&[0, 0, 0, 6, 0, 0, 0, 32, 0, 0, 0, 0, 0, 0, 0, 0])?;
+    file.extend_from_slice(&[0, 76, 75, 64, 0, 0, 0, 0, 0, 0, 0, 60, 0, 0, 0, 32])?;
+    Ok(file)
+}
+
+// draft-ietf-opsawg-pcapng, if_tsoffset: seconds that are added to each time.
+#[test]
+fn an_interface_moves_its_times(rt: HostRuntime) -> Result<(), AllocError> {
+    let alloc = rt.alloc();
+    let time = Some((80, Cause::Time));
+    let rows = [
+        // 3 and -2 seconds
+        ([0, 0, 0, 0, 0, 0, 0, 3], Some(8_000_000_000), None),
+        (
+            [255, 255, 255, 255, 255, 255, 255, 254],
+            Some(3_000_000_000),
+            None,
+        ),
+        ([255, 255, 255, 255, 255, 255, 255, 251], Some(0), None),
+        // -6 seconds: before the beginning of 1970; -2^63
+        ([255, 255, 255, 255, 255, 255, 255, 250], None, time),
+        ([128, 0, 0, 0, 0, 0, 0, 0], None, time),
+        // 18446744068 and 18446744069 seconds, of which 2^64 nanoseconds are 18446744073.709551616
+        (
+            [0, 0, 0, 4, 75, 130, 250, 4],
+            Some(18_446_744_073_000_000_000),
+            None,
+        ),
+        ([0, 0, 0, 4, 75, 130, 250, 5], None, time),
+    ];
+    for (offset, wanted, fault) in rows {
+        let capture = read(alloc, &with_offset(alloc, 8, offset)?)?;
+        let first = match capture.packets.first() {
+            Some(packet) => packet.time,
+            None => None,
+        };
+        assert_eq!(rt; first, wanted, "{offset:?}");
+        assert_eq!(rt; capture.fault, fault, "{offset:?}");
+    }
+    let short = read(alloc, &with_offset(alloc, 4, [0; 8])?)?;
+    assert_eq!(rt; short.fault, Some((50, Cause::Length(4))));
+    Ok(())
+}

@@ -114,6 +114,21 @@ finding 7 end 02-00-00-00-00-02 packet 8 at -0.000001: a frame of another length
 packets 8 slow 7 ends 2 findings 1
 ";
 
+/// The same as records.
+const RECORDS: &str = "\
+{\"record\":\"frame\",\"packet\":1,\"seconds\":0.000000,\"interface\":0,\"source\":\"02-00-00-00-00-01\",\"destination\":\"01-80-c2-00-00-02\",\"tags\":0,\"kind\":\"lacpdu\",\"actor\":{\"system\":\"32768/02-00-00-00-00-01\",\"key\":1,\"port\":\"255/1\",\"state\":77},\"partner\":{\"system\":\"0/00-00-00-00-00-00\",\"key\":0,\"port\":\"0/0\",\"state\":0},\"max_delay\":0}
+{\"record\":\"frame\",\"packet\":2,\"seconds\":1.000000,\"interface\":0,\"source\":\"02-00-00-00-00-02\",\"destination\":\"01-80-c2-00-00-02\",\"tags\":0,\"kind\":\"lacpdu\",\"actor\":{\"system\":\"32768/02-00-00-00-00-02\",\"key\":7,\"port\":\"255/2\",\"state\":5},\"partner\":{\"system\":\"32768/02-00-00-00-00-01\",\"key\":1,\"port\":\"255/1\",\"state\":77},\"max_delay\":0}
+{\"record\":\"frame\",\"packet\":3,\"seconds\":1.005000,\"interface\":0,\"source\":\"02-00-00-00-00-01\",\"destination\":\"01-80-c2-00-00-02\",\"tags\":0,\"kind\":\"lacpdu\",\"actor\":{\"system\":\"32768/02-00-00-00-00-01\",\"key\":1,\"port\":\"255/1\",\"state\":61},\"partner\":{\"system\":\"32768/02-00-00-00-00-02\",\"key\":7,\"port\":\"255/2\",\"state\":5},\"max_delay\":0}
+{\"record\":\"frame\",\"packet\":5,\"seconds\":2.250000,\"interface\":0,\"source\":\"02-00-00-00-00-02\",\"destination\":\"01-80-c2-00-00-02\",\"tags\":0,\"kind\":\"lacpdu\",\"actor\":{\"system\":\"32768/02-00-00-00-00-02\",\"key\":7,\"port\":\"255/2\",\"state\":61},\"partner\":{\"system\":\"32768/02-00-00-00-00-01\",\"key\":1,\"port\":\"255/1\",\"state\":61},\"max_delay\":0}
+{\"record\":\"frame\",\"packet\":6,\"seconds\":3.250000,\"interface\":0,\"source\":\"02-00-00-00-00-02\",\"destination\":\"01-80-c2-00-00-02\",\"tags\":0,\"kind\":\"lacpdu\",\"actor\":{\"system\":\"32768/02-00-00-00-00-02\",\"key\":7,\"port\":\"255/2\",\"state\":61},\"partner\":{\"system\":\"32768/02-00-00-00-00-01\",\"key\":1,\"port\":\"255/1\",\"state\":61},\"max_delay\":0}
+{\"record\":\"frame\",\"packet\":7,\"seconds\":4.000001,\"interface\":0,\"source\":\"02-00-00-00-00-01\",\"destination\":\"01-80-c2-00-00-02\",\"tags\":0,\"kind\":\"marker\",\"port\":1,\"system\":\"02-00-00-00-00-01\",\"id\":9}
+{\"record\":\"frame\",\"packet\":8,\"seconds\":-0.000001,\"interface\":0,\"source\":\"02-00-00-00-00-02\",\"destination\":\"01-80-c2-00-00-02\",\"tags\":0,\"kind\":\"refused\",\"fault\":\"fewer than 110 octets: 46\"}
+{\"record\":\"end\",\"interface\":0,\"source\":\"02-00-00-00-00-01\",\"port\":1,\"lacpdus\":2,\"first\":0.000000,\"last\":1.005000,\"shortest\":1.005000,\"longest\":1.005000,\"synchronized\":{\"began\":0.000000,\"ended\":null},\"collecting\":{\"began\":1.005000,\"ended\":null},\"distributing\":{\"began\":1.005000,\"ended\":null}}
+{\"record\":\"end\",\"interface\":0,\"source\":\"02-00-00-00-00-02\",\"port\":2,\"lacpdus\":3,\"first\":1.000000,\"last\":3.250000,\"shortest\":1.000000,\"longest\":1.250000,\"synchronized\":{\"began\":2.250000,\"ended\":null},\"collecting\":{\"began\":2.250000,\"ended\":null},\"distributing\":{\"began\":2.250000,\"ended\":null}}
+{\"record\":\"finding\",\"rule\":7,\"name\":\"a frame of another length\",\"clause\":\"6.4.2.3\",\"advice\":\"Compare the frames at the other end of the cable: a device between may pad or cut them.\",\"end\":{\"interface\":0,\"source\":\"02-00-00-00-00-02\",\"port\":null},\"partner\":null,\"packet\":8,\"seconds\":-0.000001}
+{\"record\":\"counts\",\"packets\":8,\"slow\":7,\"ends\":2,\"findings\":1,\"beyond\":0}
+";
+
 /// The outcome of an explanation, and what was written.
 #[derive(Debug, Drop, PartialEq)]
 struct Outcome {
@@ -136,6 +151,7 @@ fn explained(alloc: Global, settings: Settings, octets: &[u8], size: usize) -> O
 const CHANGES: Settings = Settings {
     all: false,
     frames: true,
+    json: false,
 };
 
 #[test]
@@ -160,12 +176,40 @@ fn a_link_that_comes_up_is_explained(rt: HostRuntime) -> Result<(), Fail> {
 }
 
 #[test]
+fn each_line_is_a_record(rt: HostRuntime) -> Result<(), Fail> {
+    let alloc = rt.alloc();
+    let octets = coming_up(alloc, Order::Big)?;
+    let records = Settings {
+        all: false,
+        frames: true,
+        json: true,
+    };
+    let outcome = explained(alloc, records, &octets, 100);
+    let text = str::from_utf8(&outcome.text).unwrap_or("");
+    assert_eq!(rt; text, RECORDS);
+    let no_frames = Settings {
+        all: false,
+        frames: false,
+        json: true,
+    };
+    let outcome = explained(alloc, no_frames, &octets, 100);
+    let text = str::from_utf8(&outcome.text).unwrap_or("");
+    let behind = match RECORDS.split_once("110 octets: 46\"}\n") {
+        Some((_, behind)) => behind,
+        None => "",
+    };
+    assert_eq!(rt; text, behind);
+    Ok(())
+}
+
+#[test]
 fn every_field_or_no_frame_is_shown(rt: HostRuntime) -> Result<(), Fail> {
     let alloc = rt.alloc();
     let octets = coming_up(alloc, Order::Big)?;
     let all = Settings {
         all: true,
         frames: true,
+        json: false,
     };
     let outcome = explained(alloc, all, &octets, 4096);
     let text = str::from_utf8(&outcome.text).unwrap_or("");
@@ -175,6 +219,7 @@ fn every_field_or_no_frame_is_shown(rt: HostRuntime) -> Result<(), Fail> {
     let none = Settings {
         all: false,
         frames: false,
+        json: false,
     };
     let outcome = explained(alloc, none, &octets, 4096);
     let text = str::from_utf8(&outcome.text).unwrap_or("");

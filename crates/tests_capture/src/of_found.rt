@@ -58,6 +58,7 @@ fn said(alloc: Global, octets: &[u8]) -> (Result<Summary, CaptureFault>, Vec<u8>
     let settings = Settings {
         all: false,
         frames: false,
+        json: false,
     };
     let mut source = Source::new(octets);
     let mut sink = Sink::new(Vec::new(alloc));

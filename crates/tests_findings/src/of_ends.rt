@@ -111,6 +111,11 @@ fn rules_have_numbers_from_1_and_texts(rt: HostRuntime) {
         assert!(rt; !rule.name().is_empty());
         assert!(rt; rule.clause().starts_with("6."));
         assert!(rt; rule.advice().ends_with("."));
+        // They stand between quotation marks in a record.
+        for text in [rule.name(), rule.clause(), rule.advice()] {
+            assert!(rt; !text.contains("\""));
+            assert!(rt; !text.contains("\\"));
+        }
     }
     assert_eq!(rt; Rule::Rate.name(), "more than three LACPDUs in a second");
     assert_eq!(rt; Rule::Rate.clause(), "6.4.16");

@@ -245,6 +245,44 @@ fn synchronization_is_lost(rt: HostRuntime) {
     assert!(rt; shows(&[at(0, down), at(1000, up), at(2000, up)], 3000, &[]));
 }
 
+// 6.4.15: the Mux machine of one end is in ATTACHED, and goes on to COLLECTING once the partner is synchronized.
+#[test]
+fn an_end_is_attached_and_its_partner_is_not_synchronized(rt: HostRuntime) {
+    let said = a_to_b(0x0d, 0x05);
+    let frames = [at(0, said), at(3000, said), at(6000, said), at(6001, said)];
+    assert!(rt; shows(&frames, 7000, &[(22, 4)]));
+    assert!(rt; shows(&frames[..3], 7000, &[]));
+    let between = at(3000, a_to_b(0x0d, 0x0d));
+    let frames = [at(0, said), between, at(6000, said), at(12_000, said)];
+    assert!(rt; shows(&frames, 13_000, &[]));
+    let collects = a_to_b(0x1d, 0x05);
+    assert!(rt; shows(&[at(0, collects), at(7000, collects)], 8000, &[]));
+    let apart = a_to_b(0x05, 0x05);
+    assert!(rt; shows(&[at(0, apart), at(7000, apart)], 8000, &[]));
+    // Without a partner it is Defaulted for too long, and no more.
+    let alone = a_to_b(0x4d, 0x00);
+    assert!(rt; shows(&[at(0, alone), at(6001, alone)], 7000, &[(12, 2)]));
+}
+
+// 6.4.12: current information expires for the second time.
+#[test]
+fn an_end_is_expired_again_and_again(rt: HostRuntime) {
+    let heard = a_to_b(0x05, 0x05);
+    let expired = a_to_b(0x85, 0x05);
+    let frames = [
+        at(0, expired),
+        at(1000, heard),
+        at(2000, expired),
+        at(2500, expired),
+        at(3000, heard),
+        at(4000, expired),
+        at(5000, heard),
+        at(6000, expired),
+    ];
+    assert!(rt; shows(&frames, 7000, &[(23, 6)]));
+    assert!(rt; shows(&frames[..5], 7000, &[]));
+}
+
 // 6.3.5: the Aggregation bit of one end is 0.
 #[test]
 fn one_end_is_individual(rt: HostRuntime) {

@@ -19,4 +19,6 @@ returns c = λ l recent is.
       segment = next c.earlier_or-11.ensures (ap (λ (r : LacpduRules). r.segment) is) (c.has_rival.ensures l) c.shown-shown.ensures i;
       discarded = next c.earlier_or-12.ensures (ap (λ (r : LacpduRules). r.discarded) is) (c.is_discarded.ensures l recent) c.shown-shown.ensures i;
       one_way = next c.earlier_or-13.ensures (ap (λ (r : LacpduRules). r.one_way) is) (c.is_one_way.ensures l recent) c.shown-shown.ensures i;
+      attached = next c.earlier_or-14.ensures (ap (λ (r : LacpduRules). r.attached) is) (c.is_attached.ensures l recent) c.shown-shown.ensures i;
+      relapsing = next c.earlier_or-15.ensures (ap (λ (r : LacpduRules). r.relapsing) is) (c.is_relapsing.ensures l recent) c.shown-shown.ensures i;
     }

@@ -1,0 +1,150 @@
+ghost use Rattle.std.specs.Prelude.{◌≡◌, ◌∷◌, ◌+◌, List, Some, None, is_some, if◌then◌else◌};
+ghost use Rattle.findings.specs.declared.observed.Observed.{Observed};
+ghost use Rattle.findings.specs.Ends.{end_of, said, same_end};
+ghost use Rattle.findings.specs.Counts.{counted};
+ghost use Rattle.findings.specs.Responses.{asks, is_of_requester, is_overdue, is_unasked, if_response_is, owed_with, responding, responds};
+ghost use Rattle.std.specs.Prelude.{false, true};
+
+use crate::asking::{Asked, question};
+use crate::finding::Shown;
+use crate::observed::{LinkEnd, Observed};
+use crate::recent::{SHORT_TIMEOUT, is_over};
+use slowpdu::Marker;
+
+/// What an end was asked by markers, and how it responds.
+#[derive(Clone, Copy, Debug, Default, PartialEq, Eq)]
+pub(crate) struct Responding {
+    /// The latest marker.
+    pub(crate) request: Option<Asked>,
+    /// How many markers came more than responses went; at most 2^64 - 1.
+    pub(crate) owed: u64,
+    /// The first response that nobody asked for.
+    pub(crate) unasked: Option<Shown>,
+    /// The first response that came late.
+    pub(crate) late: Option<Shown>,
+}
+
+/// The marker that a frame asks an end with.
+fn asks(end: &LinkEnd, now: &Observed) -> Option<Asked>
+    ensures { result ≡ asks end.now now.now }
+{
+    if now.interface == end.interface && now.source != end.source {
+        question(now)
+    } else {
+        None
+    }
+}
+
+/// The response of an end in a frame.
+fn responds(end: &LinkEnd, now: &Observed) -> Option<Marker>
+    ensures { result ≡ responds end.now now.now }
+{
+    if now.interface == end.interface && now.source == end.source {
+        now.what.response()
+    } else {
+        None
+    }
+}
+
+impl Asked {
+    /// Whether the response is for the sender of the marker.
+    fn is_of_requester(&self, response: &Marker) -> bool
+        ensures { result ≡ is_of_requester self.now.marker response.now }
+    {
+        response.port == self.marker.port && response.system == self.marker.system
+    }
+}
+
+/// One more.
+#[tactic(auto, unfolding(crate::specs::Counts::counted))]
+fn one_more(count: u64) -> u64
+    ensures { result ≡ counted (count + 1) }
+{
+    count.saturating_add(1)
+}
+
+/// One more marker waits for a response, or one fewer.
+fn owed_with(request: Option<Asked>, response: Option<Marker>, owed: u64) -> u64
+    ensures { result ≡ owed_with request response owed }
+{
+    match (request, response) {
+        (Some(_), _) => one_more(owed),
+        (None, Some(_)) => owed.saturating_sub(1),
+        (None, None) => owed,
+    }
+}
+
+/// The frame, if there is a response in it and it is to be shown.
+fn shown_if(is_shown: bool, now: &Observed) -> Option<Shown>
+    ensures { result ≡ (if is_shown then Some (record { number = now.now.number; nanoseconds = now.now.nanoseconds; partner = None }) else None) }
+{
+    if is_shown {
+        Some(Shown {
+            number: now.number,
+            nanoseconds: now.nanoseconds,
+            partner: None,
+        })
+    } else {
+        None
+    }
+}
+
+impl Responding {
+    /// Whether nobody asked for the response.
+    fn is_unasked(&self, response: &Marker) -> bool
+        ensures { result ≡ is_unasked self.now.owed self.now.request response.now }
+    {
+        match self.request {
+            Some(asked) => self.owed == 0 || !asked.is_of_requester(response),
+            None => true,
+        }
+    }
+
+    /// Whether the response comes late at this time, in nanoseconds.
+    fn is_overdue(&self, time: u64, response: &Marker) -> bool
+        ensures { result ≡ is_overdue time self.now.request response.now }
+    {
+        match self.request {
+            Some(asked) => {
+                asked.is_answered_by(response)
+                    && is_over(SHORT_TIMEOUT, Some(asked.nanoseconds), time)
+            }
+            None => false,
+        }
+    }
+
+    /// The frame, if nobody asked for the response in it.
+    fn unasked_in(&self, now: &Observed, response: Option<Marker>) -> Option<Shown>
+        ensures { result ≡ if_response_is (is_unasked self.now.owed self.now.request) now.now response }
+    {
+        match response {
+            Some(response) => shown_if(self.is_unasked(&response), now),
+            None => None,
+        }
+    }
+
+    /// The frame, if the response in it comes late.
+    fn late_in(&self, now: &Observed, response: Option<Marker>) -> Option<Shown>
+        ensures { result ≡ if_response_is (is_overdue now.now.nanoseconds self.now.request) now.now response }
+    {
+        match response {
+            Some(response) => shown_if(self.is_overdue(now.nanoseconds, &response), now),
+            None => None,
+        }
+    }
+
+    /// The same behind one more frame, which is none of the end's LACPDUs and markers, if the end has sent an LACPDU.
+    pub(crate) fn with(&self, end: &LinkEnd, now: &Observed) -> Responding
+        ensures { (h : List Observed) → same_end (end_of now.now) end.now ≡ false → is_some (said end.now h) ≡ true → self.now ≡ responding end.now h
+            → result ≡ responding end.now (now.now ∷ h) }
+    {
+        let request = asks(end, now);
+        let response = responds(end, now);
+        Responding {
+            request: request.or(self.request),
+            owed: owed_with(request, response, self.owed),
+            unasked: self.unasked.or(self.unasked_in(now, response)),
+            late: self.late.or(self.late_in(now, response)),
+        }
+    }
+}

@@ -1,0 +1,9 @@
+use Rattle.std.proofs.Common.{take}
+use Rattle.std.specs.Fmt.{HasWritten, IsPlainFormatter}
+use Rattle.lagtool_capture.specs.Json.{ends_records}
+use Rattle.lagtool_capture.proofs.json_ends.EndsRecordsDisplay.fmt.Given as goal
+
+abbrev pub invariant-loop-end : goal.invariant-loop-end
+invariant-loop-end g l =
+    IsPlainFormatter l.initial.f
+    → HasWritten g.W.Write.write_str_gives l.initial.f (ends_records l.first (take l.end-index l.end-items)) l.f
