@@ -1,5 +1,5 @@
 ghost use Rattle.std.specs.Prelude.{◌≡◌, map};
-ghost use Rattle.lagengine_lines.specs.Lines.{request_in, request_of_octets, request_of_text};
+ghost use Rattle.lagengine_lines.specs.Lines.{request_in, request_of_octets, request_of_text, request_of_words};
 ghost use Rattle.lagstreams.specs.Lines.{longest_line, without_return};
 ghost use Rattle.lagengine_lines.specs.Requests.{ReadsAs, request_value, no_words, with_no_words, with_one_word, request_named, task_named};
 ghost use Rattle.lagengine_lines.specs.Requests.{task_value, with_two_words};
@@ -194,15 +194,22 @@ fn request_named(alloc: Global, name: &str, words: &[&str]) -> Result<Request, R
     Ok(Request::Work(task_named(alloc, name, words)?))
 }
 
+/// Reads a request, by its words.
+fn request_of_words(alloc: Global, words: &[&str]) -> Result<Request, RequestError>
+    ensures { ReadsAs request_value (request_of_words (map (λ w. w.now) words.now)) result }
+{
+    match words {
+        [name, words @ ..] => request_named(alloc, name, words),
+        [] => Err(RequestError::Fault(RequestFault::Word)),
+    }
+}
+
 /// Reads the request in a text.
 fn request_of_text(alloc: Global, text: &str) -> Result<Request, RequestError>
     ensures { ReadsAs request_value (request_of_text text.now) result }
 {
     let words = words_of(alloc, text)?;
-    match words.as_slice() {
-        [name, words @ ..] => request_named(alloc, name, words),
-        [] => Err(RequestError::Fault(RequestFault::Word)),
-    }
+    request_of_words(alloc, words.as_slice())
 }
 
 /// Reads the request in a line that is not too long, without a carriage return at its end.
