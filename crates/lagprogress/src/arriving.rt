@@ -25,8 +25,9 @@ ghost use Rattle.lagprogress.specs.Arriving.{EachActiveFrameArrives, EachFrameAr
 /// A data frame that a bundle as in `each_link_comes_up` is offered after 352 healthy rounds (35.2 s) or more if both ends of each
 /// healthy cable are active, after 661 (66.1 s) if one is, arrives within one healthy round (100 ms), whatever was before them:
 /// it gets a port that distributes in the aggregator, its cable accepts it, and at the other end it is handed up, with the same
-/// octets, in the aggregator in which the port there collects. The system takes the frame as in `frames_pass_cables`
-/// (6.2.3, 6.2.4; profile).
+/// octets, in the aggregator in which the port there collects. The system takes the frame as in `frames_pass_cables`. It is said
+/// of one frame: a healthy round offers none. Each disabled port of the sender has an unsynchronized partner, as
+/// `disabled_ports_have_unsynchronized_partners` has it (6.2.3, 6.2.4; profile).
 pub fn each_frame_arrives<F: Fn(u16, usize) -> usize>()
     ensures both { (one two : F) → EachActiveFrameArrives (both_algorithms (F.post one) (F.post two)) }
     ensures one { (one two : F) → EachFrameArrives (both_algorithms (F.post one) (F.post two)) }

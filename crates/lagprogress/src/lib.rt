@@ -216,7 +216,8 @@ ghost use Rattle.lagprogress.specs.Bundle.{ActiveSelectedPairsAgree, ActiveSelec
 
 /// However few aggregators and links the systems have: if each port whose link is up ends a healthy cable, and both ends of one
 /// are SELECTED after 352 healthy rounds or more if both ends of each are active, after 661 if one is, then both distribute, and in
-/// a sound world the agreement of that cable is `Same`, whatever was before the rounds (6.3.6, 6.4.12 to 6.4.16; profile).
+/// a sound world the agreement of that cable is `Same`, whatever was before the rounds. Both systems are sound and their timers within
+/// their ranges, as in each world that events lead to from a start (6.3.6, 6.4.12 to 6.4.16; profile).
 pub fn selected_pairs_agree<F: Fn(u16, usize) -> usize>()
     ensures up_both { (one two : F) → ActiveSelectedPairsComeUp (both_algorithms (F.post one) (F.post two)) }
     ensures up_one { (one two : F) → SelectedPairsComeUp (both_algorithms (F.post one) (F.post two)) }
