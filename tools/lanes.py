@@ -49,5 +49,6 @@ def memory() -> int:
 
 
 def lanes() -> int:
-    """One lane for each 3 GB of memory, at least one and at most one for each processor."""
-    return max(1, min(processors(), memory() // EACH))
+    """As many lanes as RT_JOBS says; without it one for each 3 GB of memory, at least one and at most one for each processor."""
+    asked = os.environ.get("RT_JOBS", "")
+    return max(1, int(asked) if asked.isdecimal() else min(processors(), memory() // EACH))
