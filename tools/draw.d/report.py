@@ -1,5 +1,7 @@
 """Reads a report of `lagtool replay`, by the lines that docs/COMMAND.md has."""
 
+from __future__ import annotations
+
 import re
 
 S, N = "(?P<system>[12])", r"(?:0|[1-9]\d*)"
@@ -36,16 +38,21 @@ class Unread(Exception):
     """What is no report, and why."""
 
 
-class Entry:
-    """An entry: its number, its first word and the others, its reply, and the parts of these that it has, else None."""
+def number(text: str | None) -> int | None:
+    """The number that a part is, if there is such a part."""
+    return None if text is None else int(text)
 
-    def __init__(self, word, found):
-        parts = {"port": None, "cable": None, "system": None, "lacpdu": None, "marker": None, "kept": None, "serial": None}
+
+class Entry:
+    """An entry: its number, its first word and the others, its reply, and the parts of these that it has, else None. One of a cable
+    alone has the system 0."""
+
+    def __init__(self, word: str, found: re.Match[str]) -> None:
+        parts: dict[str, str | None] = {"port": None, "cable": None, "system": None, "lacpdu": None, "marker": None, "kept": None, "serial": None}
         parts.update(found.groupdict())
-        self.number, self.word, self.rest, self.reply = int(found.group(1)), word, parts["rest"], parts["reply"]
-        self.system, self.cable, self.port, self.agg = (
-            it and int(it) for it in (parts["system"], parts["cable"], parts["port"], parts.get("agg"))
-        )
+        self.number, self.word, self.rest, self.reply = int(found.group(1)), word, found["rest"], found["reply"]
+        self.system = int(parts["system"] or 0)
+        self.cable, self.port, self.agg = number(parts["cable"]), number(parts["port"]), number(parts.get("agg"))
         self.lacpdu, self.marker, self.serial = parts["lacpdu"], parts["marker"], parts["serial"]
         self.kept, self.octets = parts["kept"] or parts.get("kept_too"), bytes.fromhex(parts.get("hex") or "")
 
@@ -53,10 +60,13 @@ class Entry:
 class Report:
     """The entries of a report, its lines behind them, and the conversations that these name."""
 
-    def __init__(self):
-        self.entries, self.ends, self.flows, self.cables = [], [], set(), 0
+    def __init__(self) -> None:
+        self.entries: list[Entry] = []
+        self.ends: list[str] = []
+        self.flows: set[tuple[int, int, int]] = set()
+        self.cables = 0
 
-    def add(self, line):
+    def add(self, line: str) -> bool:
         """Takes the next line; answers whether it can stand there."""
         word = line.split(" ")[1] if " " in line else ""
         entry = LINES[word].fullmatch(line) if word in LINES else None
@@ -67,20 +77,21 @@ class Report:
         if cable and not self.flows and int(cable.group(1)) == self.cables + 1:
             self.cables += 1
         elif flow:
-            self.flows.add(tuple(map(int, flow.groups())))
+            system, aggregator, conversation = map(int, flow.groups())
+            self.flows.add((system, aggregator, conversation))
         else:
             return False
         self.ends.append(line)
         return True
 
-    def conversation(self, entry):
+    def conversation(self, entry: Entry) -> int:
         """The number of the conversation of a frame that was sent, of 4096 or of 256, as a flow names it."""
         target, source = entry.octets[4:6], entry.octets[10:12]
         number = (int.from_bytes(target, "big") ^ int.from_bytes(source, "big")) & 0xFFF
         return number if (entry.system, entry.agg, number) in self.flows else number & 0xFF
 
 
-def read(text):
+def read(text: str) -> Report:
     """The report that a text is."""
     report = Report()
     lines = text.split("\n")
