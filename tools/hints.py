@@ -18,7 +18,7 @@ FOLDER = re.compile(r'"([\w-]+\.d)"')
 # A lambda has no hints, and may be called.
 WORDS = ["mypy", "--strict", "--allow-untyped-calls", "--scripts-are-modules", "--no-error-summary"]
 # What has no hints yet. One that mypy finds nothing in has to leave this list.
-UNTYPED = ["carry.d/bonds.py", "live.d/header.py", "live.d/service.py"]
+UNTYPED = ["live.d/header.py", "live.d/service.py"]
 
 
 def modules(folder: str) -> list[str]:

@@ -13,7 +13,7 @@ import struct
 import subprocess
 import time
 from dataclasses import dataclass
-from typing import Any, Callable, Iterator, Sequence
+from typing import Callable, Iterator, Sequence, TypedDict
 
 from checking import Failed, Skipped, check, command, within
 from daemon import OTHER, SYSTEM, Daemon
@@ -66,6 +66,55 @@ def build_programs(folder: str, libraries: list[str], words: Sequence[str] = ())
     return Programs(folder, build_daemon(folder, libraries, words=words), forcing, conversations=hashing, kernel_hash=kernel, **own)
 
 
+class Carry(TypedDict):
+    """What a status has of the data that a bundle carries: counts, but for the carrier and the texts."""
+
+    device: str
+    carrier: bool
+    aggregator: int
+    hash: str
+    flight: int
+    markers: str
+    way: str
+    waiting: int
+    fast_conversations: int
+    from_host: int
+    unfit: int
+    none_carries: int
+    queue_full: int
+    held_too_long: int
+    overflowed: int
+    handed_up: int
+    host_untaken: int
+    other_aggregator: int
+    held: int
+    longest_queue: int
+    markers_sent: int
+    markers_again: int
+    moves: int
+    rested: int
+    forced: int
+    switches: int
+    woken: int
+    segmented: int
+    withdrawn: int
+
+
+class Member(TypedDict):
+    """What is read here of a port in a status."""
+
+    interface: str
+    data: dict[str, int]
+
+
+class Status(TypedDict):
+    """What is read here of a status."""
+
+    carrying: int
+    carry: Carry
+    ports: list[Member]
+
+
 class End(Daemon):
     """A daemon that carries the data of lag0."""
 
@@ -80,7 +129,7 @@ class End(Daemon):
             raise Failed(f"there is a device {DEVICE}", self.printed())
         ip(space, "link", "set", DEVICE, "up")
 
-    def told(self) -> dict[str, Any]:
+    def told(self) -> Status:
         """The whole status; a daemon that has just begun has none yet."""
         answers: list[subprocess.CompletedProcess[str]] = []
 
@@ -90,16 +139,17 @@ class End(Daemon):
 
         if not within(ANSWERS, asked):
             raise Failed("the daemon answers", answers[-1].stderr, self.printed())
-        return json.loads(answers[-1].stdout.splitlines()[0])
+        told: Status = json.loads(answers[-1].stdout.splitlines()[0])
+        return told
 
-    def carry(self) -> dict[str, Any]:
+    def carry(self) -> Carry:
         return self.told()["carry"]
 
     def data(self, name: str) -> int:
         """What all members counted of this name."""
         return sum(port["data"][name] for port in self.told()["ports"])
 
-    def busy(self) -> list[int]:
+    def busy_conversations(self) -> list[int]:
         """How many busy conversations each member has."""
         return [port["data"]["busy_conversations"] for port in self.told()["ports"]]
 
@@ -191,13 +241,14 @@ def cables(programs: Programs, delays: Sequence[int] = DELAYS) -> Iterator[Cable
 
 
 @contextlib.contextmanager
-def pair(programs: Programs, **more: Any) -> Iterator[tuple[Cables, End, End]]:
+def pair(programs: Programs, *, delays: Sequence[int] = DELAYS, program: str = "", options: Sequence[str] = (),
+         before: Sequence[str] = ()) -> Iterator[tuple[Cables, End, End]]:
     """Two ends whose links all carry, and who know that the other one answers markers."""
-    with cables(programs, more.pop("delays", DELAYS)) as laid:
+    with cables(programs, delays) as laid:
         ends: list[End] = []
         try:
             count = len(laid.delays) or DIRECT
-            ends += [End(programs, OURS, links=count, **more), End(programs, THEIRS, links=count, **more)]
+            ends += [End(programs, space, program=program, options=options, links=count, before=before) for space in (OURS, THEIRS)]
             ready = lambda: all(end.links() == count and end.carry()["markers"] == "answered" for end in ends)
             if not within(COMES_UP, ready):
                 raise Failed(f"{count} links carry", *(end.text() for end in ends))
@@ -264,16 +315,14 @@ def check_order(outcome: Outcome, what: str, *told: object) -> None:
     check(holds, f"{what}: {text}, longest gap {outcome.gap_ms} ms", outcome, *told)
 
 
-UNSENT = ("unfit", "none_carries", "queue_full", "held_too_long", "overflowed", "waiting")
-FROM_MEMBERS = ("handed_up", "host_untaken", "other_aggregator")
-
-
 def check_end(end: End, name: str) -> None:
     """What came from the host was sent, waits, or is counted as lost; what came from the members was handed up, or is counted."""
     carry = end.carry()
-    sent = sum(carry[it] for it in UNSENT) + end.data("data_sent") + end.data("data_unsent")
+    unsent = carry["unfit"] + carry["none_carries"] + carry["queue_full"] + carry["held_too_long"] + carry["overflowed"] + carry["waiting"]
+    sent = unsent + end.data("data_sent") + end.data("data_unsent")
     check(carry["from_host"] == sent, f"{name} accounts for {carry['from_host']:,} frames of its host", carry, end.text())
-    taken = sum(carry[it] for it in FROM_MEMBERS) + end.data("uncollected") + end.data("wrong_length")
+    told = carry["handed_up"] + carry["host_untaken"] + carry["other_aggregator"]
+    taken = told + end.data("uncollected") + end.data("wrong_length")
     received = end.data("data_received")
     check(received == taken, f"{name} accounts for {received:,} frames of its members", carry, end.text())
 

@@ -37,7 +37,7 @@ def moves(programs: Programs) -> None:
         check_order(outcome, "with markers", ours.text())
         check(outcome.lost() == 0, "none was lost", outcome, ours.text(), theirs.text())
         check_whole(outcome, ours, theirs, cables_lose=False)
-        busy = ours.busy()
+        busy = ours.busy_conversations()
         check(max(busy) - min(busy) <= 1, f"the links have {busy} busy conversations", ours.text())
     with pair(programs, program=programs.forcing) as (_, ours, theirs):
         forced = run_flows(programs, 5, every(1, 4, move_all(ours)))
@@ -153,7 +153,7 @@ def hashes(programs: Programs) -> None:
     for hash_name, spread in (("layer2", False), ("layer3+4", True)):
         with pair(programs, options=["--hash", hash_name]) as (_, ours, theirs):
             outcome = run_flows(programs, 4, every(1, 3, move_all(ours)), kind="ports")
-            busy = ours.busy()
+            busy = ours.busy_conversations()
             check((min(busy) > 5) == spread and sum(busy) >= 1, f"{hash_name}: the links have {busy} busy conversations", ours.text())
             check_order(outcome, hash_name, ours.text())
             check_whole(outcome, ours, theirs, cables_lose=False)
