@@ -17,8 +17,6 @@ TESTS = os.path.join(TOOLS, "tests")
 FOLDER = re.compile(r'"([\w-]+\.d)"')
 # A lambda has no hints, and may be called.
 WORDS = ["mypy", "--strict", "--allow-untyped-calls", "--scripts-are-modules", "--no-error-summary"]
-# What has no hints yet. One that mypy finds nothing in has to leave this list.
-UNTYPED = ["live.d/header.py", "live.d/service.py"]
 
 
 def modules(folder: str) -> list[str]:
@@ -60,12 +58,10 @@ def groups() -> Iterator[tuple[list[str], list[str]]]:
 
 
 def faults(cache: str) -> list[str]:
-    """What mypy finds in the tools, but for those without hints. The cache is a folder that is empty at first."""
+    """What mypy finds in the tools. The cache is a folder that is empty at first."""
     found: dict[str, None] = {}
     for looked_up, files in groups():
         env = {**os.environ, "MYPYPATH": os.pathsep.join([*looked_up, TOOLS])}
         ended = subprocess.run([*WORDS, "--cache-dir", cache, *files], cwd=TOP, env=env, capture_output=True, text=True)
         found.update(dict.fromkeys(line for line in (ended.stdout + ended.stderr).splitlines() if ": note: " not in line))
-    heads = [f"tools/{name}:" for name in UNTYPED]
-    typed = [f"{head} it has hints now: tools/hints.py may forget it" for head in heads if not any(it.startswith(head) for it in found)]
-    return [it for it in found if not it.startswith(tuple(heads))] + typed
+    return list(found)

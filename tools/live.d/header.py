@@ -4,8 +4,11 @@ Each struct and each prototype is written here in C from the `#[repr(C)]` struct
 stand in the header word by word. Sizes and offsets are worked out from the sources too, and a C program asserts them.
 """
 
+from __future__ import annotations
+
 import os
 import re
+from typing import Iterator, Mapping, NamedTuple
 
 from repository import CRATES
 
@@ -45,91 +48,100 @@ class Unread(Exception):
     """Something in the sources or in the header is not written as this program reads it."""
 
 
-def text_of(*paths):
+def text_of(*paths: str) -> str:
     """The text of files, without comments."""
     texts = [open(path, encoding="utf-8").read() for path in paths]
     return re.sub(r"/\*.*?\*/|//[^\n]*", "", "\n".join(texts), flags=re.S)
 
 
-def sources():
+def sources() -> str:
     found = [os.path.join(folder, name) for folder, _, names in os.walk(SOURCES) for name in sorted(names) if name.endswith(".rt")]
     return text_of(*found)
 
 
-def one_line(text):
+def one_line(text: str) -> str:
     return " ".join(text.split())
 
 
-def snake(name):
+def snake(name: str) -> str:
     """SystemFault is system_fault."""
     return re.sub(r"(?<=[a-z])(?=[A-Z])", "_", name).lower()
 
 
-def struct_name(name):
+def struct_name(name: str) -> str:
     """The name in C of a struct Lag.. of the sources."""
     return STRUCTS.get(name, f"niw_{snake(name)[4:]}")
 
 
-def declared(kind, name, tail=""):
+def declared(kind: str, name: str, tail: str = "") -> str:
     """A field or a parameter, as C declares it."""
     return f"{kind}{'' if kind.endswith('*') else ' '}{name}{tail}"
 
 
-def prototype(answer, given):
+def prototype(answer: str, given: str) -> str:
     return f"{answer} ({one_line(given)})"
 
 
-class Structs:
-    """The structs of C that the sources have: lists of a type, a name and how many of them stand there, or 0 for one alone."""
+class Field(NamedTuple):
+    """A field in C: its type, its name and how many of them stand there, or 0 for one alone."""
 
-    def __init__(self, text):
+    kind: str
+    name: str
+    many: int
+
+
+class Structs:
+    """The structs of the sources, each a list of names and types, and what they are in C, each a list of fields."""
+
+    def __init__(self, text: str) -> None:
         bodies = dict(re.findall(r"#\[repr\(C\)\]\s*(?:#\[[^\n]*\]\s*)*pub struct (\w+) \{(.*?)\n\}", text, re.S))
         self.rattle = {name: self.fields(body) for name, body in bodies.items()}
         self.all = {struct_name(name): [self.in_c(*field) for field in body] for name, body in self.rattle.items() if name.startswith("Lag")}
 
     @staticmethod
-    def fields(body):
+    def fields(body: str) -> list[tuple[str, str]]:
         """The fields that take room: neither ghost ones nor an allocator."""
         lines = re.findall(r"^ +(?:pub(?:\(\w+\))? )?((?:ghost )?\w+): (.*),$", body, re.M)
         return [(name, kind) for name, kind in lines if not name.startswith("ghost ") and kind != "Global"]
 
-    def in_c(self, name, kind):
+    def in_c(self, name: str, kind: str) -> Field:
         """A field in C. A struct that is not called Lag.. has one field, which stands in its place."""
         many = re.fullmatch(r"\[(\w+); (\d+)\]", kind)
         if many:
-            return self.in_c(name, many[1])[0], name, int(many[2])
+            return Field(self.in_c(name, many[1]).kind, name, int(many[2]))
         if kind in self.rattle and not kind.startswith("Lag"):
             if len(self.rattle[kind]) != 1:
                 raise Unread(f"{kind} has not one field")
             [(_, kind)] = self.rattle[kind]
-        return self.kind(kind), NAMES.get(name, name), 0
+        return Field(self.kind(kind), NAMES.get(name, name), 0)
 
-    def kind(self, kind):
+    def kind(self, kind: str) -> str:
         if kind in TYPES:
             return TYPES[kind]
         if kind in self.rattle:
             return f"struct {struct_name(kind)}"
         raise Unread(f"no type of C for {kind}")
 
-    def layout(self, name):
+    def layout(self, name: str) -> tuple[int, int, dict[str, int]]:
         """The size of a struct, its alignment and the offsets of its fields, by the rules of C."""
-        end, most, offsets = 0, 1, {}
+        end, most = 0, 1
+        offsets: dict[str, int] = {}
         for kind, field, many in self.all[name]:
             size, aligned = self.layout(kind[7:])[:2] if kind.startswith("struct ") else (SIZES[kind],) * 2
             offsets[field] = end = -(-end // aligned) * aligned
             end, most = end + size * (many or 1), max(most, aligned)
         return -(-end // most) * most, most, offsets
 
-    def written(self):
+    def written(self) -> dict[str, str]:
         """Each struct as the header should have it."""
         lines = {}
         for name, body in self.all.items():
             lines[name] = " ".join(declared(kind, field, f"[{many}]" if many else "") + ";" for kind, field, many in body)
         return lines
 
-    def parameters(self, text):
+    def parameters(self, text: str) -> str:
         """The parameters of an export, as C has them."""
-        found = []
+        found: list[str] = []
         for name, kind in re.findall(r"(\w+): ([^,]+)", text):
             name = NAMES.get(name, name)
             if kind == "Global":
@@ -143,13 +155,13 @@ class Structs:
                 found.append(f"size_t {LENGTHS.get(name, 'room' if to[1] else 'length')}")
         return ", ".join(found)
 
-    def functions(self, text):
+    def functions(self, text: str) -> dict[str, str]:
         """Each export: what it answers, and its parameters."""
         exports = re.findall(r'pub extern "C" fn lagffi_(\w+)\(([^)]*)\) -> (\w+)', text)
         return {name: prototype(self.kind(answer), self.parameters(one_line(given))) for name, given, answer in exports}
 
 
-def unlike(what, wanted, found):
+def unlike(what: str, wanted: Mapping[str, object], found: Mapping[str, object]) -> Iterator[str]:
     """What differs between the sources and the header, a line each."""
     for name in sorted(wanted.keys() | found.keys()):
         here, there = wanted.get(name, "nothing"), found.get(name, "nothing")
@@ -157,12 +169,12 @@ def unlike(what, wanted, found):
             yield f"{what} {name}: the sources have {here}; the header has {there}"
 
 
-def check_structs(structs, header):
+def check_structs(structs: Structs, header: str) -> Iterator[str]:
     found = {name: one_line(body) for name, body in re.findall(r"^struct (\w+) \{(.*?)\};", header, re.M | re.S)}
     return unlike("struct", structs.written(), found)
 
 
-def check_functions(structs, header, text):
+def check_functions(structs: Structs, header: str, text: str) -> Iterator[str]:
     """The prototypes of the exports, and the inline functions over them, which pass on what they are given in its order."""
     exports = structs.functions(text)
     found = re.findall(r"^((?:struct )?\w+) lagffi_(\w+)\((.*?)\);", header, re.M | re.S)
@@ -175,7 +187,7 @@ def check_functions(structs, header, text):
             yield f"niw_{name}: it should pass on ({passed})"
 
 
-def numbers_of_header(header):
+def numbers_of_header(header: str) -> dict[str, int]:
     """The enumerators and the numbers that the header defines."""
     found = {name: int(number) for name, number in re.findall(r"^#define (NIW_\w+) (\d+)$", header, re.M)}
     for body in re.findall(r"^enum \{(.*?)\};", header, re.M | re.S):
@@ -188,7 +200,7 @@ def numbers_of_header(header):
     return found
 
 
-def variants(text, told):
+def variants(text: str, told: Mapping[str, str]) -> Iterator[tuple[str, int]]:
     """The variants of enums that are matched on, and the number that stands first behind the arrow, if there is one."""
     arms = text.split("=>")
     for before, after in zip(arms, arms[1:]):
@@ -199,29 +211,36 @@ def variants(text, told):
             yield f"NIW_{told[matched[1]]}{name}", int(number[0])
 
 
-def numbers_of_sources(text):
+def implemented(name: str, path: str) -> str:
+    """What stands in `impl NAME` of a source."""
+    found = re.search(rf"impl {name} \{{(.*?)\n\}}", text_of(path), re.S)
+    if not found:
+        raise Unread(f"{path} has no impl {name}")
+    return found[1]
+
+
+def numbers_of_sources(text: str) -> dict[str, int]:
     """The refusals of a system, the numbers that lagffi gives to variants, and its constants."""
-    faults = re.search(r"impl SystemFault \{(.*?)\n\}", text_of(FAULTS), re.S)[1]
-    reasons = re.search(r"impl BadConfig \{(.*?)\n\}", text_of(FAULTS), re.S)[1]
-    of_wire = re.search(r"impl WireFault \{(.*?)\n\}", text_of(WIRE_FAULTS), re.S)[1]
+    faults, reasons = implemented("SystemFault", FAULTS), implemented("BadConfig", FAULTS)
+    of_wire = implemented("WireFault", WIRE_FAULTS)
     numbers = [*variants(faults, {"SystemFault": ""}), *variants(reasons, {"BadConfig": "REASON_"}),
                *variants(of_wire, {"WireFault": "FAULT_"}), *variants(text, TOLD)]
     numbers += [(f"NIW_STATE_{bit}", int(number)) for bit, number in re.findall(r"const (\w+) = (\d+);", text_of(STATES))]
     for name, number in re.findall(r"\bconst (\w+): (?:u8|u16|u32|usize) = (\d+);", text + text_of(OFFERS)):
         numbers.append((CONSTANTS.get(name, f"NIW_{name}"), int(number)))
-    found = {}
+    found: dict[str, int] = {}
     for name, number in numbers:
         if found.setdefault(name, number) != number:
             raise Unread(f"{name} has two numbers in the sources")
     return found
 
 
-def check_numbers(header, text):
+def check_numbers(header: str, text: str) -> Iterator[str]:
     found = numbers_of_header(header)
     return unlike("number", {**numbers_of_sources(text), **OWN}, found)
 
 
-def assertions(structs):
+def assertions(structs: Structs) -> str:
     """A program that does not compile where a size or an offset is another one."""
     lines = ['#include "lag.h"']
     for name in structs.all:
@@ -232,7 +251,7 @@ def assertions(structs):
     return "\n".join(lines) + "\n"
 
 
-def compared():
+def compared() -> tuple[list[tuple[str, list[str]]], str]:
     """What is compared, and how it differs; and the program that asserts sizes and offsets."""
     text, header = sources(), text_of(HEADER)
     structs = Structs(text)

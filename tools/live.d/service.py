@@ -1,5 +1,7 @@
 """The daemon as a service: its file, its reload, who watches and scrapes, its hook, the manager of services, and its rights."""
 
+from __future__ import annotations
+
 import json
 import os
 import re
@@ -8,9 +10,10 @@ import signal
 import socket
 import subprocess
 import time
+from typing import Callable, Mapping, Sequence
 
 from checking import Skipped, check, command, within
-from daemon import ENDS, OTHER, SYSTEM, Daemon
+from daemon import ENDS, OTHER, SYSTEM, Daemon, Part
 from daemons import COMES_UP, GOES_DOWN, NOBODY, both_up
 from repository import TOP, daemon_words
 from spaces import OURS, THEIRS, inside, ip, make_pair
@@ -66,7 +69,7 @@ WRONG = {
 }
 
 
-def write(path, text):
+def write(path: str, text: str) -> None:
     with open(path, "w", encoding="utf-8") as out:
         out.write(text)
 
@@ -74,7 +77,7 @@ def write(path, text):
 class Filed(Daemon):
     """A daemon that reads a file."""
 
-    def __init__(self, part, file, before=(), more=None, options=()):
+    def __init__(self, part: Part, file: str, before: Sequence[str] = (), more: Mapping[str, str] | None = None, options: Sequence[str] = ()) -> None:
         self.space, self.program, self.folder = OURS, part.program, os.path.join(part.folder, "run")
         self.log = os.path.join(part.folder, "filed")
         self.words = [*before, part.program, "--folder", self.folder, *options, "--config", file]
@@ -84,7 +87,7 @@ class Filed(Daemon):
         part.running.append(self)
 
 
-def files(part):
+def files(part: Part) -> None:
     """A file is checked, and a bundle runs of it."""
     path = os.path.join(part.folder, "uplink.conf")
     untold = []
@@ -113,14 +116,14 @@ def files(part):
     ours.ends("the daemon")
 
 
-def reloads(part):
+def reloads(part: Part) -> None:
     """SIGHUP reads the file again."""
     path = os.path.join(part.folder, "uplink.conf")
     write(path, FILE)
     ours, theirs = Filed(part, path), part.theirs()
     both_up(ours, theirs, "the bundle of a file comes to distribute")
 
-    def reload(text, told):
+    def reload(text: str, told: str) -> None:
         write(path, text)
         before = len(ours.printed())
         ours.process.send_signal(signal.SIGHUP)
@@ -148,11 +151,12 @@ def reloads(part):
     ours.ends("the daemon")
 
 
-def watchers(part):
+def watchers(part: Part) -> None:
     """Changes as they happen: lines, and JSON; and counts in the form of Prometheus."""
     ours, theirs = part.ours(), part.theirs()
     both_up(ours, theirs, "both links distribute")
-    told, seeing = {}, []
+    told: dict[tuple[str, ...], str] = {}
+    seeing: list[subprocess.Popen[bytes]] = []
     for kind in (), ("--json",):
         told[kind] = os.path.join(part.folder, f"watched{len(kind)}")
         with open(told[kind], "w", encoding="utf-8") as out:
@@ -179,7 +183,7 @@ def watchers(part):
     check(within(ENDS, lambda: all(it.poll() == 0 for it in seeing)), "who watches ends with it")
 
 
-def metrics_of_two(part):
+def metrics_of_two(part: Part) -> None:
     """Two daemons: each metric has one head."""
     first, second = part.ours("a0"), part.start(OURS, OTHER, "9", "a1")
     within(ENDS, lambda: set(first.ports()) == {"a0", "a1"})
@@ -194,7 +198,7 @@ def metrics_of_two(part):
     second.ends("the other one")
 
 
-def hooks(part):
+def hooks(part: Part) -> None:
     """A program is run where the bundle is up, degraded or down, and nobody waits for it."""
     hook, told = os.path.join(part.folder, "hook"), os.path.join(part.folder, "told")
     write(hook, f'#!/bin/sh\necho "$LAGD_BUNDLE $LAGD_PREVIOUS $LAGD_STATE $LAGD_CARRYING/$LAGD_LINKS $LAGD_AGGREGATOR" >> {told}\nexec sleep 60\n')
@@ -214,7 +218,7 @@ def hooks(part):
     ours.ends("the daemon")
 
 
-def managed(part):
+def managed(part: Part) -> None:
     """The manager of services is told when the daemon is ready, what it does, and that it lives."""
     if "-DHAVE_SYSTEMD" not in daemon_words()[0]:
         raise Skipped("built without libsystemd")
@@ -222,9 +226,9 @@ def managed(part):
     write(file, FILE)
     manager = socket.socket(socket.AF_UNIX, socket.SOCK_DGRAM | socket.SOCK_NONBLOCK)
     manager.bind(path)
-    told = []
+    told: list[str] = []
 
-    def hears(word):
+    def hears(word: str) -> bool:
         try:
             told.extend(manager.recv(4096).decode().split("\n"))
         except BlockingIOError:
@@ -243,17 +247,17 @@ def managed(part):
     theirs.ends("the other daemon")
 
 
-def ids_of_lines():
+def ids_of_lines() -> dict[str, str]:
     """The message ids of lines, by what the lines tell, as docs/LAGD.md has them."""
     with open(os.path.join(TOP, "docs", "LAGD.md"), encoding="utf-8") as page:
         return {what: number for what, number in re.findall(r"^\| (.+) \| `([0-9a-f]{32})` \|$", page.read(), re.M)}
 
 
-def entries(listener, daemon, wanted):
+def entries(listener: socket.socket, daemon: Daemon, wanted: int) -> list[dict[str, str]]:
     """What the daemon hands the journal, until there is so much of it: entries of fields."""
-    found = []
+    found: list[dict[str, str]] = []
 
-    def hears():
+    def hears() -> bool:
         try:
             while True:
                 found.append(dict(line.split("=", 1) for line in listener.recv(4096).decode().splitlines()))
@@ -264,7 +268,7 @@ def entries(listener, daemon, wanted):
     return found
 
 
-def message_ids(part):
+def message_ids(part: Part) -> None:
     """What the journal gets by its own protocol: each kind of line has its message id."""
     ids = ids_of_lines()
     with open(os.path.join(TOP, "lagd", "journal.c"), encoding="utf-8") as source:
@@ -294,7 +298,7 @@ def message_ids(part):
         check(True, "and standard output has none of them")
 
 
-def journal(part):
+def journal(part: Part) -> None:
     """A line for the journal begins with its priority, where the journal is not in its place."""
     reader, writer = socket.socketpair()
     found = os.fstat(writer.fileno())
@@ -306,7 +310,7 @@ def journal(part):
     ours.ends("the daemon")
 
 
-def rights(part):
+def rights(part: Part) -> None:
     """Started as root, the daemon keeps CAP_NET_RAW alone, and gets nothing back; an interface that comes later is taken up."""
     if "-DHAVE_CAP_NG" not in daemon_words()[0]:
         raise Skipped("built without libcap-ng")
@@ -323,7 +327,7 @@ def rights(part):
     ours.ends("the daemon")
 
 
-def unit(part):
+def unit(part: Part) -> None:
     """The unit: what systemd says of it, and a daemon with the rights that it gives."""
     if not shutil.which("systemd-analyze"):
         raise Skipped("no command systemd-analyze (Debian: systemd)")
@@ -349,7 +353,7 @@ def unit(part):
     shutil.rmtree(run)  # what the daemons of other parts have is root's
 
 
-PARTS = {
+PARTS: dict[str, Callable[[Part], None]] = {
     "files": files,
     "a reload": reloads,
     "watchers and metrics": watchers,
