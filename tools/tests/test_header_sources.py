@@ -134,6 +134,11 @@ def test_constants_have_their_numbers_and_some_their_own_names() -> None:
         header.numbers_of_sources(SOURCE + "const NOT_HERE: u32 = 8;\n")
 
 
+def test_lag_h_is_like_the_sources() -> None:
+    compared, _ = header.compared()
+    assert [line for _, differs in compared for line in differs] == []
+
+
 def test_what_differs_is_told_by_its_name() -> None:
     assert list(header.unlike("number", {"A": 1, "B": 2}, {"B": 3, "C": 4})) == [
         "number A: the sources have 1; the header has nothing",
