@@ -9,8 +9,8 @@ from bonds import DEVICE, FLIGHT, RATE, Cables, Event, Outcome, Programs, pair, 
 from checking import Skipped, check
 
 HEADINGS = ("way", "link down: longest gap, ms", "link silent: longest gap, ms", "memory of an end, MB")
-# Each link goes so often, each time for so many seconds, and is then back for as long.
-TIMES, DOWN, SILENT = 4, 2.0, 6.0
+# Both links go in turn, each for so many seconds, and are then back for as long.
+TIMES, DOWN, SILENT = 2, 2.0, 6.0
 
 
 def events(laid: Cables, words: tuple[str, str], seconds: float) -> list[Event]:
@@ -53,6 +53,6 @@ def print_failures(programs: Programs) -> None:
             rows.append(measure(name, programs, laid, processes, "br0")[0])
     except Skipped as why:
         print(f"skipped: Open vSwitch: {why}", flush=True)
-    print(f"links of 0 and 20 ms, 64 flows, {RATE:,} frames a second, flight {FLIGHT} ms; {TIMES} times a link is down for {DOWN:.0f} s, and {TIMES} times one is "
+    print(f"links of 0 and 20 ms, 64 flows, {RATE:,} frames a second, flight {FLIGHT} ms; each link is down for {DOWN:.0f} s, and then each is "
           f"silent for {SILENT:.0f} s")
     print_rows(HEADINGS, rows)
