@@ -5,12 +5,10 @@ from __future__ import annotations
 import os
 from typing import Callable
 
-from bonds import CACHE, COMES_UP, DEVICE, Cables, Event, Outcome, Programs, cables, move_all, pair, run_flows
-from checking import Skipped, check, within
-from fetching import Packages
+from beside import print_rows, switches
+from bonds import DEVICE, Cables, Event, Outcome, Programs, move_all, pair, run_flows
+from checking import Skipped, check
 from measuring import seconds_of
-from openvswitch import OpenVSwitch
-from spaces import OURS, THEIRS, ip
 
 # A round has four cuts of half a second, and one silence, in seconds from its begin; and conversations are asked to move each second.
 ROUND, CUTS, CUT, SILENCE, HEAR = 22.0, (0.0, 4.0, 8.0, 12.0), 0.5, 16.0, 19.5
@@ -50,23 +48,10 @@ def run_lagd(programs: Programs, name: str, rounds: int, *options: str) -> list[
 
 
 def run_open_vswitch(programs: Programs, rounds: int) -> list[str]:
-    packages = Packages(CACHE, True)
-    with cables(programs) as laid:
-        ends = [OpenVSwitch(packages, programs.folder, OURS, ("a0", "a1")), OpenVSwitch(packages, programs.folder)]
-        try:
-            for end in ends:
-                end.start()
-            if not within(2 * COMES_UP, lambda: all(len(end.carrying()) == 2 for end in ends)):
-                raise Skipped("two bonds of Open vSwitch do not come up")
-            for space in OURS, THEIRS:
-                ip(space, "link", "set", "br0", "txqueuelen", "4096", "up")
-            processes = [end.running[-1].pid for end in ends]
-            before = sum(map(seconds_of, processes))
-            outcome = run_flows(programs, rounds * ROUND + 2, failures(laid, rounds), rate=RATE, devices=("br0", "br0"))
-            return row(f"Open vSwitch {ends[0].version()}", outcome, 0, rounds, sum(map(seconds_of, processes)) - before)
-        finally:
-            for end in ends:
-                end.end()
+    with switches(programs) as (laid, name, processes):
+        before = sum(map(seconds_of, processes))
+        outcome = run_flows(programs, rounds * ROUND + 2, failures(laid, rounds), rate=RATE, devices=("br0", "br0"))
+        return row(name, outcome, 0, rounds, sum(map(seconds_of, processes)) - before)
 
 
 WAYS: dict[str, Callable[[Programs, int], list[str]]] = {
@@ -89,6 +74,4 @@ def print_long(programs: Programs, ways: list[str]) -> None:
             print(f"skipped: {way}: {why}", flush=True)
     print(f"links of 0 and 20 ms, 64 flows, {RATE:,} frames a second; each {ROUND:.0f} s four cuts of half a second and a silence of {HEAR - SILENCE} s, and each "
           f"second all conversations are asked to move; Open vSwitch has no command for that; processor: of both ends")
-    print(f"{os.cpu_count()} processors, load {os.getloadavg()[0]:.0f}")
-    for cells in (list(HEADINGS), ["---"] * len(HEADINGS), *rows):
-        print(f"| {' | '.join(cells)} |")
+    print_rows(HEADINGS, rows)

@@ -3,14 +3,11 @@
 from __future__ import annotations
 
 import glob
-import os
 from typing import Callable, Sequence
 
-from bonds import CACHE, COMES_UP, DELAYS, DEVICE, FLIGHT, RATE, Cables, End, Event, Outcome, Programs, cables, move_all, pair, run_flows
-from checking import Skipped, check, within
-from fetching import Packages
-from openvswitch import OpenVSwitch
-from spaces import OURS, THEIRS, ip
+from beside import print_rows, switches
+from bonds import DELAYS, DEVICE, FLIGHT, RATE, Cables, Event, Outcome, Programs, move_all, pair, run_flows
+from checking import Skipped, check
 
 HEADINGS = ("run", "frames", "overtaken", "twice", "lost", "longest gap, ms", "processor a frame, us")
 # How fast frames go where nothing happens to the links, and for how many seconds.
@@ -83,23 +80,10 @@ def measure_ours(programs: Programs) -> list[list[str]]:
 
 
 def measure_open_vswitch(programs: Programs, delays: Sequence[int] = DELAYS) -> list[list[str]]:
-    packages = Packages(CACHE, True)
-    with cables(programs, delays) as laid:
-        ends = [OpenVSwitch(packages, programs.folder, OURS, ("a0", "a1")), OpenVSwitch(packages, programs.folder)]
-        try:
-            for end in ends:
-                end.start()
-            if not within(2 * COMES_UP, lambda: all(len(end.carrying()) == 2 for end in ends)):
-                raise Skipped("two bonds of Open vSwitch do not come up")
-            for space in OURS, THEIRS:
-                ip(space, "link", "set", "br0", "txqueuelen", "4096", "up")
-            name, processes = f"Open vSwitch {ends[0].version()}", [end.running[-1].pid for end in ends]
-            if not delays:
-                return [measure_fast(name, programs, processes, ("br0", "br0"))]
-            return measure(name, programs, laid, processes, ("br0", "br0"))
-        finally:
-            for end in ends:
-                end.end()
+    with switches(programs, delays) as (laid, name, processes):
+        if not delays:
+            return [measure_fast(name, programs, processes, ("br0", "br0"))]
+        return measure(name, programs, laid, processes, ("br0", "br0"))
 
 
 def print_table(programs: Programs) -> None:
@@ -111,8 +95,6 @@ def print_table(programs: Programs) -> None:
         print(f"skipped: Open vSwitch: {why}", flush=True)
     print(f"64 flows, {RATE:,} frames a second where nothing else is said, flight {FLIGHT} ms; links of 0 and 20 ms, and without delay at "
           f"{FAST:,} frames a second; processor: of both ends, for each frame that came")
-    print(f"{os.cpu_count()} processors, load {os.getloadavg()[0]:.0f}")
-    for cells in (list(HEADINGS), ["---"] * len(HEADINGS), *rows):
-        print(f"| {' | '.join(cells)} |")
+    print_rows(HEADINGS, rows)
     ours = [cells for cells in rows if cells[0].startswith(("lagd,", "lagd --fast,"))]
     check(all(cells[2] == cells[3] == "0" for cells in ours), "with markers no frame was overtaken and none came twice")

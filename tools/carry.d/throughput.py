@@ -2,17 +2,15 @@
 
 from __future__ import annotations
 
-import os
 import re
 from dataclasses import dataclass
 from typing import Callable, Sequence
 
-from bonds import CACHE, COMES_UP, DEVICE, End, Programs, cables, pair, run_flows
-from checking import Failed, Skipped, check, within
-from fetching import Packages
+from beside import print_rows, switches
+from bonds import DEVICE, Programs, cables, pair, run_flows
+from checking import Failed, Skipped, check
 from measuring import seconds_of
-from openvswitch import OpenVSwitch
-from spaces import OURS, THEIRS, inside, ip
+from spaces import OURS, THEIRS, inside
 from streams import ADDRESSES, run_stream
 
 HEADINGS = ("way", "one stream, Gb/s", "of veth", "of Open vSwitch", "four streams, Gb/s", "of veth", "frames of 200 octets, 1/s", "of Open vSwitch",
@@ -61,21 +59,10 @@ def measure_lagd(programs: Programs, name: str, *options: str) -> Speed:
 
 
 def measure_open_vswitch(programs: Programs) -> Speed:
-    packages = Packages(CACHE, True)
-    with cables(programs, ()):
-        ends = [OpenVSwitch(packages, programs.folder, OURS, ("a0", "a1")), OpenVSwitch(packages, programs.folder)]
-        try:
-            for end in ends:
-                end.start()
-            if not within(2 * COMES_UP, lambda: all(len(end.carrying()) == 2 for end in ends)):
-                raise Skipped("two bonds of Open vSwitch do not come up")
-            for space in OURS, THEIRS:
-                inside(space, "sysctl", "-qw", "net.ipv4.conf.all.arp_ignore=1")
-                ip(space, "link", "set", "br0", "txqueuelen", "4096", "up")
-            return measure(f"Open vSwitch {ends[0].version()}", programs, ("br0", "br0"), [end.running[-1].pid for end in ends])
-        finally:
-            for end in ends:
-                end.end()
+    with switches(programs, ()) as (_, name, processes):
+        for space in OURS, THEIRS:
+            inside(space, "sysctl", "-qw", "net.ipv4.conf.all.arp_ignore=1")
+        return measure(name, programs, ("br0", "br0"), processes)
 
 
 def part_of(one: float, other: float) -> str:
@@ -101,7 +88,5 @@ def print_speeds(programs: Programs) -> None:
             speeds.append(Speed("-"))
     print(f"two links of veth without a delay, hash layer3+4; {SECONDS} s each; frames of 200 octets in 64 flows: {OFFERED:,} a second are offered, and "
           f"{MEASURED:,} where the processor's time of both ends is taken")
-    print(f"{os.cpu_count()} processors, load {os.getloadavg()[0]:.0f}")
-    for cells in (list(HEADINGS), ["---"] * len(HEADINGS), *(cells_of(speed, speeds[0], speeds[-1]) for speed in speeds if speed.name != "-")):
-        print(f"| {' | '.join(cells)} |")
+    print_rows(HEADINGS, [cells_of(speed, speeds[0], speeds[-1]) for speed in speeds if speed.name != "-"])
     check(all(speed.one > 0 for speed in speeds[:4]), "each way of the daemon carries a stream")
