@@ -19,6 +19,8 @@ use Rattle.lagsystem.specs.Assigning.{OffersConversation, OffersIf, frame_of_con
 use Rattle.lagsystem.specs.First.{IsFirst}
 use Rattle.lagsystem.specs.ModelView.{EffectsSeenAs, JoinedByLawfulMoves, model_setup, model_view}
 use Rattle.lagsystem.specs.Offers.{MayBeOffered, MayBeOfferedTo, has_aggregator, is_frame_length, longest_frame}
+use Rattle.lagsystem.specs.Probing.{ProbesLawfully}
+use Rattle.lagsystem.specs.Promises.{TablePromise}
 use Rattle.lagsystem.specs.Readers.{aggregator_numbered, conversation_count, conversation_in, number_of_conversation}
 use Rattle.lagsystem.specs.Sound.{CallPromise}
 use Rattle.lagsystem.specs.State.{SystemState}
@@ -100,6 +102,15 @@ pub kept : (gives : ℕ → ℕ → ℕ → Type 0) (old : SystemState) (call : 
 kept gives old call answer new p n i =
     let m = p.moves in
     quietly old new m.0 m.1 (no_frame old call answer m.1 n m.3) m.4 p.configured i
+
+pub left : (old new : SystemState) → TablePromise ModelCall.Move_conversation [] old new → IsInOneAggregator old
+    → IsInOneAggregator new
+left old new p i = quietly old new ModelCall.Move_conversation [] tt p.moves p.configured i
+
+pub probed : (port : ℕ) (old : SystemState) (answer : Result (Option (List ℕ)) SystemFault) (new : SystemState)
+    → ProbesLawfully port old answer new → IsInOneAggregator old → IsInOneAggregator new
+probed port old answer new p i = quietly old new ModelCall.Transmit p.0
+    (no_frame old (Transmit port) (reply.Transmit answer) p.0 tt p.1) p.2.moves p.2.configured i
 
 pub first : (s : SystemState) → IsFirst s → IsInOneAggregator s
 first s h =
