@@ -15,17 +15,21 @@ use Rattle.lagsystem.specs.declared.drive.Reply.{Reply}
 use Rattle.lagsystem.specs.declared.drive.Reply.TheVariants as reply
 use Rattle.lagsystem.specs.declared.fault.SystemFault.{SystemFault}
 use Rattle.lagsystem.specs.declared.received.Received.TheVariants.{Disabled, Dropped, Ignored, TookLacpdu, Respond, Released, Up}
+use Rattle.lagsystem.specs.Assigning.{OffersConversation, OffersIf, frame_of_conversation}
 use Rattle.lagsystem.specs.First.{IsFirst}
 use Rattle.lagsystem.specs.ModelView.{EffectsSeenAs, JoinedByLawfulMoves, model_setup, model_view}
-use Rattle.lagsystem.specs.Offers.{MayBeOfferedTo, has_aggregator, is_frame_length, longest_frame}
-use Rattle.lagsystem.specs.Readers.{aggregator_numbered, conversation_in, number_of_conversation}
+use Rattle.lagsystem.specs.Offers.{MayBeOffered, MayBeOfferedTo, has_aggregator, is_frame_length, longest_frame}
+use Rattle.lagsystem.specs.Probing.{ProbesLawfully}
+use Rattle.lagsystem.specs.Promises.{TablePromise}
+use Rattle.lagsystem.specs.Readers.{aggregator_numbered, conversation_count, conversation_in, number_of_conversation}
 use Rattle.lagsystem.specs.Sound.{CallPromise}
 use Rattle.lagsystem.specs.State.{SystemState}
 use Rattle.clientorder.specs.OneAggregator.{FreeElsewhere, InOneAggregator, NoneOnItsWayElsewhere, SendsNoFrame}
+use Rattle.lagsystem.proofs.AssigningLemmas.{framed}
 use Rattle.lagsystem.proofs.FirstView.{first_shows}
 use Rattle.clientorder.proofs.Staying as staying
 use Rattle.carrier.specs.Choice.{IsAggregator}
-use Rattle.carrier.specs.Offers.{IsElsewhere, IsHeldElsewhere, IsInOneAggregator, IsNoOffer}
+use Rattle.carrier.specs.Offers.{IsElsewhere, IsHeldElsewhere, IsInOneAggregator, IsNoOffer, IsNumberElsewhere}
 
 -- lists of keys that have the same elements are of one length
 as_many : (ks ls : List Key) (n : ℕ) → ((i : ℕ) → slice_get ls i ≡ slice_get ks i) → n < length ks → n < length ls
@@ -98,6 +102,15 @@ pub kept : (gives : ℕ → ℕ → ℕ → Type 0) (old : SystemState) (call : 
 kept gives old call answer new p n i =
     let m = p.moves in
     quietly old new m.0 m.1 (no_frame old call answer m.1 n m.3) m.4 p.configured i
+
+pub left : (old new : SystemState) → TablePromise ModelCall.Move_conversation [] old new → IsInOneAggregator old
+    → IsInOneAggregator new
+left old new p i = quietly old new ModelCall.Move_conversation [] tt p.moves p.configured i
+
+pub probed : (port : ℕ) (old : SystemState) (answer : Result (Option (List ℕ)) SystemFault) (new : SystemState)
+    → ProbesLawfully port old answer new → IsInOneAggregator old → IsInOneAggregator new
+probed port old answer new p i = quietly old new ModelCall.Transmit p.0
+    (no_frame old (Transmit port) (reply.Transmit answer) p.0 tt p.1) p.2.moves p.2.configured i
 
 pub first : (s : SystemState) → IsFirst s → IsInOneAggregator s
 first s h =
@@ -173,3 +186,30 @@ offered gives old agg octets (Ok port) new l p not i = record {
       | inl t ↦ subst (λ z. IsAggregator new (aggregator_numbered z)) (eqb-true agg.0 g t) (still_there old new agg p.configured (there old agg l may.0))
       | inr f ↦ other g k (λ z. eqb-false agg.0 g f z.0) busy
     ]
+
+-- the conversation of a number that there is has a frame
+pub frame_elsewhere : (s : SystemState) (agg : AggId) (conv : ℕ) → conv < conversation_count s
+    → IsHeldElsewhere s agg (conversation_in s (frame_of_conversation conv)) → IsNumberElsewhere s agg conv
+frame_elsewhere s agg conv l z = (l, subst (λ k. IsElsewhere s agg k) (framed s conv l).1 z)
+
+-- a number from the count on is refused
+nothing : (gives : ℕ → ℕ → ℕ → Type 0) (old : SystemState) (agg : AggId) (conv : ℕ) (answer : Result ℕ SystemFault)
+    (new : SystemState) (there : Bool) → OffersIf there false gives agg conv old answer new → new ≡ old
+nothing gives old agg conv answer new false h = h.1
+nothing gives old agg conv answer new true h = h.1
+
+pub offered_by_number : (gives : ℕ → ℕ → ℕ → Type 0) (old : SystemState) (agg : AggId) (conv : ℕ) (answer : Result ℕ SystemFault)
+    (new : SystemState) → agg.0 < 2 ^ 16 → OffersConversation gives agg conv old answer new
+    → ((octets : List ℕ) → MayBeOffered octets → number_of_conversation old octets ≡ conv
+    → CallPromise gives old (Offer agg octets) (reply.Offer answer) new)
+    → (IsNumberElsewhere old agg conv → ⊥) → IsInOneAggregator old → IsInOneAggregator new
+offered_by_number gives old agg conv answer new l h each not i = by_number (nat_lt conv (conversation_count old)) refl
+  where
+    by_number : (t : Bool) → nat_lt conv (conversation_count old) ≡ t → IsInOneAggregator new
+    by_number true e =
+        let within : conv < conversation_count old = grind (arith, nat_tests) in
+        let frame = framed old conv within in
+        offered gives old agg (frame_of_conversation conv) answer new l (each (frame_of_conversation conv) frame.0 frame.1)
+        (λ z. not (frame_elsewhere old agg conv within z)) i
+    by_number false e = subst IsInOneAggregator (sym (nothing gives old agg conv answer new (has_aggregator old agg)
+        (subst (λ t. OffersIf (has_aggregator old agg) t gives agg conv old answer new) e h))) i

@@ -43,3 +43,19 @@ pub fn each_call_keeps_one_aggregator<F: Fn(u16, usize) -> usize>()
     ensures behind { (x : WorldSetup) (w : World) (s : Side) (t : SystemState) (agg : AggId) (conv : ℕ) → OnItsCable x w
         → w.view s ≡ model_view t → IsInOneAggregator t → (IsElsewhere t agg conv → ⊥) → NoneOnItsWayElsewhere w s agg.0 conv }
 {}
+
+ghost use Rattle.std.specs.Prelude.{[], List, Result};
+ghost use Rattle.lagmodel.specs.View.{ModelCall};
+ghost use Rattle.lagsystem.specs.Probing.{ProbesLawfully};
+ghost use Rattle.lagsystem.specs.Promises.{TablePromise};
+ghost use Rattle.lagsystem.specs.declared.fault.SystemFault.{SystemFault};
+
+/// The two calls that are no `Call` keep it, too: where a conversation number is On, Wanted or Flushing in one aggregator at
+/// most, it is so after `leave_conversation` and after `probe`, of which the premises are the clauses `promise` and `lawful`
+/// (6.2.5, 6.5.3.3; profile).
+pub fn leaving_and_probing_keep_one_aggregator()
+    ensures left { (old new : SystemState) → TablePromise ModelCall.Move_conversation [] old new → IsInOneAggregator old
+        → IsInOneAggregator new }
+    ensures probed { (port : ℕ) (old : SystemState) (answer : Result (Option (List ℕ)) SystemFault) (new : SystemState)
+        → ProbesLawfully port old answer new → IsInOneAggregator old → IsInOneAggregator new }
+{}

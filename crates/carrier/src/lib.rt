@@ -1,7 +1,7 @@
 //! The aggregator that carries the frames of a client, where a system has several.
 //!
-//! `carrier` chooses it. `offer_in_carrier` is for the time after it changed: a conversation that is On, Wanted or Flushing in
-//! another aggregator is held. `laws` says what follows. The standard leaves the choice to the
+//! `carrier` chooses it. `offer_in_carrier` and `offer_conversation_in_carrier` are for the time after it changed: a conversation
+//! that is On, Wanted or Flushing in another aggregator is held. `laws` says what follows. The standard leaves the choice to the
 //! client of the aggregators; all of this is profile (docs/PROFILE.md).
 #![tactic(auto)]
 
@@ -10,5 +10,8 @@ mod laws;
 mod offering;
 
 pub use choosing::carrier;
-pub use laws::{both_ends_choose_alike, each_call_keeps_one_aggregator, the_carrier_stays};
-pub use offering::offer_in_carrier;
+pub use laws::{
+    both_ends_choose_alike, each_call_keeps_one_aggregator,
+    leaving_and_probing_keep_one_aggregator, the_carrier_stays,
+};
+pub use offering::{offer_conversation_in_carrier, offer_in_carrier};

@@ -1,14 +1,15 @@
 //! A client's frame where the aggregator that carries changes.
-ghost use Rattle.std.specs.Prelude.{true, ◌≡◌, ◌≢◌, ◌↔◌, ◌<◌, ◌^◌, IsTrue, IfSome, Err};
+ghost use Rattle.std.specs.Prelude.{true, ◌≡◌, ◌≢◌, ◌↔◌, ◌<◌, ◌^◌, ℕ, List, IsTrue, IfSome, Err};
 ghost use Rattle.distributor.specs.Calls.{PicksIndexes};
 ghost use Rattle.lagmodel.specs.View.{Free};
+ghost use Rattle.lagsystem.specs.Assigning.{OffersConversation};
 ghost use Rattle.lagsystem.specs.Calls.{Call};
 ghost use Rattle.lagsystem.specs.ModelView.{model_view};
-ghost use Rattle.lagsystem.specs.Offers.{has_aggregator};
-ghost use Rattle.lagsystem.specs.Readers.{conversation_count, conversation_in};
+ghost use Rattle.lagsystem.specs.Offers.{MayBeOffered, has_aggregator};
+ghost use Rattle.lagsystem.specs.Readers.{aggregator_numbered, conversation_count, conversation_in, number_of_conversation};
 ghost use Rattle.lagsystem.specs.Sound.{CallPromise};
 ghost use Rattle.lagsystem.specs.declared.drive.Reply.{Reply};
-ghost use Rattle.carrier.specs.Offers.{IsElsewhere, IsHeldElsewhere, IsInOneAggregator};
+ghost use Rattle.carrier.specs.Offers.{IsElsewhere, IsHeldElsewhere, IsInOneAggregator, IsNumberElsewhere};
 
 use crate::choosing::last_aggregator;
 use lagsystem::{AggId, Assignment, System, SystemFault};
@@ -86,4 +87,51 @@ pub fn offer_in_carrier<F: Fn(u16, usize) -> usize + Drop>(
         return Err(SystemFault::Held);
     }
     system.offer(agg, frame)
+}
+
+/// Whether there is a conversation of this number, and an aggregator.
+fn is_known<F: Fn(u16, usize) -> usize + Drop>(system: &System<F>, conv: u16) -> bool
+    ensures { IsTrue result ↔ (has_aggregator system.now.state (aggregator_numbered 1) ≡ true) × (conv < conversation_count system.now.state) }
+{
+    system.conversation_state(AggId(1), conv).is_some()
+}
+
+/// Whether there is a conversation of this number, and it is On, Wanted or Flushing in another aggregator than this one.
+fn is_number_elsewhere<F: Fn(u16, usize) -> usize + Drop>(
+    system: &System<F>,
+    agg: AggId,
+    conv: u16,
+) -> bool
+    ensures { IsTrue result ↔ IsNumberElsewhere system.now.state agg conv }
+{
+    if !is_known(system, conv) {
+        return false;
+    }
+    is_elsewhere(system, agg, conv)
+}
+
+/// Offers a client's frame of this conversation, whatever its octets are, in the aggregator that carries, where another one may
+/// have carried before: `Held`, before every other refusal, and nothing changes, while the conversation is On, Wanted or
+/// Flushing in another aggregator; else what `System::offer_conversation` answers and does, with its refusals: what
+/// `offer_in_carrier` does for each frame of the conversation (6.2.4; profile).
+pub fn offer_conversation_in_carrier<F: Fn(u16, usize) -> usize + Drop>(
+    system: &mut System<F>,
+    agg: AggId,
+    conv: u16,
+) -> Result<u16, SystemFault>
+    requires usable { PicksIndexes (F.pre system.old.algorithm) (F.post system.old.algorithm) }
+    ensures held { IsNumberElsewhere system.old.state agg conv → (result ≡ Err SystemFault.Held) × (system.new ≡ system.old) }
+    ensures offers { (IsNumberElsewhere system.old.state agg conv → ⊥)
+        → OffersConversation (F.post system.old.algorithm) agg conv system.old.state result system.new.state }
+    ensures answers { (IsNumberElsewhere system.old.state agg conv → ⊥)
+        → (octets : List ℕ) → MayBeOffered octets → number_of_conversation system.old.state octets ≡ conv
+        → CallPromise (F.post system.old.algorithm) system.old.state (Call.Offer agg octets) (Reply.Offer result) system.new.state }
+    ensures keeps { IsInOneAggregator system.old.state → IsInOneAggregator system.new.state }
+    ensures algorithm { system.new.algorithm ≡ system.old.algorithm }
+{
+    has_16_bits(agg.0);
+    if is_number_elsewhere(system, agg, conv) {
+        return Err(SystemFault::Held);
+    }
+    system.offer_conversation(agg, conv)
 }

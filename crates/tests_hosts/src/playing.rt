@@ -2,6 +2,7 @@ ghost use Rattle.std.specs.Prelude.{◌≡◌, ◌<◌};
 ghost use Rattle.distributor.specs.Calls.{PicksIndexes};
 
 use bitflags::Flags;
+use carrier::offer_conversation_in_carrier;
 use lagsystem::{
     AggId, Assignment, Config, Info, Key, NoMemory, PortConfig, PortId, Received, State, System,
     SystemFault, SystemId,
@@ -20,6 +21,8 @@ pub(crate) enum Row<'a> {
     Hears(u16),
     /// `offer_conversation` returns this.
     OffersConversation(u16, u16, Result<u16, SystemFault>),
+    /// `offer_conversation_in_carrier` returns this.
+    OffersInCarrier(u16, u16, Result<u16, SystemFault>),
     /// `offer` of a frame returns this.
     Offers(u16, &'a [u8], Result<u16, SystemFault>),
     Leaves(u16, u16, Result<(), SystemFault>),
@@ -242,6 +245,25 @@ fn asks<F: Fn(u16, usize) -> usize + Drop>(
             );
         }
         Row::ForcesPort(port, answer) => same(rt, place, &system.force_port(port), &answer),
+        _ => carries(rt, system, place, row),
+    }
+}
+
+/// Plays a row of what is offered in the aggregator that carries, or else of what goes out.
+fn carries<F: Fn(u16, usize) -> usize + Drop>(
+    rt: &impl Abort,
+    system: &mut System<F>,
+    place: usize,
+    row: Row<'_>,
+)
+    requires usable { PicksIndexes (F.pre system.old.algorithm) (F.post system.old.algorithm) }
+    ensures { system.new.algorithm ≡ system.old.algorithm }
+{
+    match row {
+        Row::OffersInCarrier(agg, conv, answer) => {
+            let came = offer_conversation_in_carrier(system, AggId(agg), conv);
+            same(rt, place, &came, &answer);
+        }
         _ => sends(rt, system, place, row),
     }
 }
