@@ -29,7 +29,7 @@ pub enum Cause {
     Interfaces,
     /// A resolution of time, as the option if_tsresol gives it, finer than 10^-19 or 2^-63 of a second.
     Resolution(u8),
-    /// The time is 2^64 nanoseconds after the beginning of 1970 or later.
+    /// The time is before the beginning of 1970, or 2^64 nanoseconds after it or later.
     Time,
     /// The file ends within a header, a block or a packet.
     CutShort,

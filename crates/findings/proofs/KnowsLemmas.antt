@@ -1,10 +1,10 @@
 -- How what is known follows one more frame.
-use Rattle.std.proofs.Common.{take, drop, ◌≡◌, ◌<◌, ◌≤◌, ◌+◌, ◌-◌, ◌^◌, ◌||◌, ◌∷◌, ◌++◌, ◌∙◌, ℕ, suc, Bool, true, false, List, [], length, map, filter, refl, ap, sym, subst, arith}
+use Rattle.std.proofs.Common.{take, drop, ◌≡◌, ◌<◌, ◌≤◌, ◌+◌, ◌-◌, ◌^◌, ◌||◌, ◌∷◌, ◌++◌, ◌∙◌, ℕ, suc, Bool, true, false, List, [], length, refl, ap, sym, subst, arith}
 use Rattle.std.proofs.Math.Bool.{or-true}
 use Rattle.std.proofs.Math.Seq.{take-append_seam}
 use Rattle.std.proofs.lemmas.List.{length-append, length-map, length-take, take-append-drop, take-append-le, take_all}
 use Rattle.std.proofs.lemmas.List.Folds.{list_any-append}
-use Rattle.std.specs.List.{AllByRecursion, AllZip, list_any, refill}
+use Rattle.std.specs.List.{AllByRecursion, AllZip, refill}
 use Rattle.std.specs.Prelude.{min}
 use Rattle.findings.specs.declared.observed.LinkEnd.{LinkEnd}
 use Rattle.findings.specs.declared.observed.Observed.{Observed}

@@ -6,9 +6,10 @@ use Rattle.findings.specs.declared.finding.Shown.{Shown}
 use Rattle.findings.specs.declared.recent.Heard.{Heard}
 use Rattle.findings.specs.declared.observed.LinkEnd.{LinkEnd}
 use Rattle.findings.specs.declared.observed.Observed.{Observed}
+use Rattle.findings.specs.declared.others.Other.{Other}
 use Rattle.findings.specs.declared.rule.Rule.{Rule}
 use Rattle.findings.specs.declared.rule.Rule.TheVariants as variants
-use Rattle.findings.specs.Ends.{frames_of, lacpdus}
+use Rattle.findings.specs.Ends.{faces, frames_of, lacpdus, latest}
 use Rattle.findings.specs.Holds.{is_rushed, is_passive, is_late, lasts, twice, is_attached, is_relapsing, is_unheard, is_discarded, is_desynchronized, is_individual, seconds}
 use Rattle.findings.specs.Holds.{has_other_system, has_other_port, has_other_key, has_other_keys, has_rival, is_one_way, is_silent}
 use Rattle.findings.specs.Markers.{first_unanswered}
@@ -50,6 +51,16 @@ first_frame holds e h = first shown_frame holds (frames_of e h)
 abbrev pub first_silent : ℕ → LinkEnd → List Observed → Option Shown
 first_silent until e h = option_or (first_heard is_late e h) (last_silent until (slice_get (lacpdus e h) 0))
 
+-- a finding, unless an LACPDU of another end has come on the interface
+abbrev pub unless_faced : Option Other → Option Shown → Option Shown
+unless_faced None shown = shown
+unless_faced (Some x) shown = None
+
+-- The first LACPDU of an end that shows that LACPDUs go in one direction only, unless the partner's come later: one that
+-- starts late, or begins behind the capture, is heard then.
+abbrev pub first_one_way : LinkEnd → List Observed → Option Shown
+first_one_way e h = unless_faced (latest faces e h) (first_heard is_one_way e h)
+
 -- the first frame of an end that shows a rule, where the capture goes up to this time
 abbrev pub first_of : Rule → ℕ → LinkEnd → List Observed → Option Shown
 first_of variants.Rate until = first_heard is_rushed
@@ -69,7 +80,7 @@ first_of variants.Individual until = first_heard is_individual
 first_of variants.Keys until = first_heard (twice has_other_keys)
 first_of variants.Segment until = first_heard has_rival
 first_of variants.Discarded until = first_heard (lasts is_discarded (seconds 3))
-first_of variants.OneWay until = first_heard is_one_way
+first_of variants.OneWay until = first_one_way
 first_of variants.Unanswered until = first_unanswered until
 first_of variants.Unasked until = first_unasked
 first_of variants.Late until = first_late

@@ -98,13 +98,13 @@ is_relapsing a before = is_relapse a before && has_relapsed before
 abbrev pub is_alone : Heard → Bool
 is_alone a = is_none a.others.facing
 
--- the timeout that the sender asks for (6.4.4)
-abbrev pub own_timeout : Heard → ℕ
-own_timeout a = if (actor a).timeout then seconds 3 else seconds 90
+-- the same, and the sender asks for Short Timeout (6.4.4)
+abbrev pub is_alone_short : Heard → Bool
+is_alone_short a = is_alone a && (actor a).timeout
 
--- LACPDUs in one direction only (6.4.4, 6.4.12): for longer than the timeout that the sender asks for.
+-- LACPDUs in one direction only so far (6.4.4, 6.4.12): for longer than the timeout that the sender has asked for ever since.
 abbrev pub is_one_way : Heard → List Heard → Bool
-is_one_way a before = lasts is_alone (own_timeout a) a before
+is_one_way a before = lasts is_alone_short (seconds 3) a before || lasts is_alone (seconds 90) a before
 
 -- Synchronization lost (6.4.15): the last one had it.
 abbrev pub is_desynchronized : Heard → List Heard → Bool

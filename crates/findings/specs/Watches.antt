@@ -10,7 +10,7 @@ use Rattle.findings.specs.declared.watch.Watch.{Watch}
 use Rattle.findings.specs.Ends.{frames_of, lacpdus, others, said}
 use Rattle.findings.specs.Firsts.{first, shown_heard, shown_frame}
 use Rattle.findings.specs.Holds.{is_rushed, is_passive, is_late, lasts, twice, since, is_attached, has_relapsed, is_relapsing, is_unheard, is_discarded, is_desynchronized, is_individual, seconds}
-use Rattle.findings.specs.Holds.{has_other_system, has_other_port, has_other_key, has_other_keys, has_rival, is_alone, is_one_way}
+use Rattle.findings.specs.Holds.{has_other_system, has_other_port, has_other_key, has_other_keys, has_rival, is_alone, is_alone_short, is_one_way}
 use Rattle.findings.specs.Markers.{asking}
 use Rattle.findings.specs.Responses.{responding}
 use Rattle.findings.specs.Holds.{has_other_version, has_other_length, has_reserved, has_other_destination, has_tag}
@@ -24,6 +24,7 @@ recent_of l = record {
   unheard_since = since is_unheard l;
   discarded_since = since is_discarded l;
   alone_since = since is_alone l;
+  alone_short_since = since is_alone_short l;
   attached_since = since is_attached l;
   relapsed = has_relapsed l;
 }

@@ -1,6 +1,6 @@
 ghost use Rattle.std.specs.Prelude.{◌≡◌, ◌∷◌, List, unwrap_or, Some, None, if◌then◌else◌};
 ghost use Rattle.findings.specs.declared.recent.Heard.{Heard};
-ghost use Rattle.findings.specs.Holds.{and_if, is_alone, is_one_way, is_ordered, is_over, own_timeout, is_attached, is_relapse, is_relapsing, is_unheard, is_discarded, is_periodic, is_rushed, is_late, is_silent, is_desynchronized, lasts, seconds, since, timeout};
+ghost use Rattle.findings.specs.Holds.{and_if, is_alone, is_alone_short, is_one_way, is_ordered, is_over, is_attached, is_relapse, is_relapsing, is_unheard, is_discarded, is_periodic, is_rushed, is_late, is_silent, is_desynchronized, lasts, seconds, since, timeout};
 ghost use Rattle.findings.specs.Holds.{has_other_system, has_other_port, has_other_key, has_other_keys, twice};
 ghost use Rattle.findings.specs.Firsts.{last_silent};
 ghost use Rattle.findings.specs.Watches.{recent_of};
@@ -57,6 +57,8 @@ pub(crate) struct Recent {
     pub(crate) discarded_since: Option<u64>,
     /// The first LACPDU's time, if none of another end has come on the interface behind it.
     pub(crate) alone_since: Option<u64>,
+    /// Since when the end has asked for Short Timeout, if none of another end has come on the interface.
+    pub(crate) alone_short_since: Option<u64>,
     /// When the end said first that it is ATTACHED and its partner is not synchronized, if it has said so ever since.
     pub(crate) attached_since: Option<u64>,
     /// Whether the end became Defaulted or Expired behind current information.
@@ -125,15 +127,11 @@ impl Heard {
         self.others.facing.is_none()
     }
 
-    /// The timeout that the sender asks for, in nanoseconds.
-    fn own_timeout(&self) -> u64
-        ensures { result ≡ own_timeout self.now }
+    /// Whether that is so, and the sender asks for Short Timeout.
+    fn is_alone_short(&self) -> bool
+        ensures { result ≡ is_alone_short self.now }
     {
-        if self.pdu.actor.state.is_short() {
-            SHORT_TIMEOUT
-        } else {
-            LONG_TIMEOUT
-        }
+        self.is_alone() && self.pdu.actor.state.is_short()
     }
 
     /// Whether the sender sends LACPDUs periodically.
@@ -174,6 +172,11 @@ impl Recent {
             unheard_since: since(now.is_unheard(), self.unheard_since, now.nanoseconds),
             discarded_since: since(now.is_discarded(), self.discarded_since, now.nanoseconds),
             alone_since: since(now.is_alone(), self.alone_since, now.nanoseconds),
+            alone_short_since: since(
+                now.is_alone_short(),
+                self.alone_short_since,
+                now.nanoseconds,
+            ),
             attached_since: since(now.is_attached(), self.attached_since, now.nanoseconds),
             relapsed: self.is_relapse(now) || self.relapsed,
         }
@@ -308,10 +311,12 @@ impl Recent {
         now.is_discarded() && is_over(MOST_DISCARDED, self.discarded_since, now.nanoseconds)
     }
 
-    /// Whether LACPDUs have come in one direction only for too long.
+    /// Whether LACPDUs have come in one direction only for longer than the timeout that the end has asked for ever since.
     pub(crate) fn is_one_way(&self, now: &Heard) -> bool
         ensures { (l : List Heard) → self.now ≡ recent_of l → result ≡ is_one_way now.now l }
     {
-        now.is_alone() && is_over(now.own_timeout(), self.alone_since, now.nanoseconds)
+        let is_over_short = is_over(SHORT_TIMEOUT, self.alone_short_since, now.nanoseconds);
+        let is_over_long = is_over(LONG_TIMEOUT, self.alone_since, now.nanoseconds);
+        now.is_alone_short() && is_over_short || now.is_alone() && is_over_long
     }
 }

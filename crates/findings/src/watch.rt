@@ -1,7 +1,7 @@
 ghost use Rattle.std.specs.Prelude.{◌≡◌, ◌∷◌, [], true, false, List};
 ghost use Rattle.findings.specs.declared.observed.Observed.{Observed};
 ghost use Rattle.findings.specs.Ends.{end_of, others, same_end};
-ghost use Rattle.findings.specs.Firsts.{first_of};
+ghost use Rattle.findings.specs.Firsts.{first_of, unless_faced};
 ghost use Rattle.findings.specs.Knows.{Takes};
 ghost use Rattle.findings.specs.Responses.{responding};
 ghost use Rattle.findings.specs.Watches.{watched};
@@ -123,6 +123,16 @@ impl Watch {
         }
     }
 
+    /// The first LACPDU that shows that LACPDUs go in one direction only, unless one of another end came later.
+    fn one_way(&self) -> Option<Shown>
+        ensures { result ≡ unless_faced self.now.others.facing self.now.lacpdus.one_way }
+    {
+        match self.others.facing {
+            Some(_) => None,
+            None => self.lacpdus.one_way,
+        }
+    }
+
     /// The first frame that shows the rule, where the capture goes up to this time.
     pub(crate) fn first(&self, rule: Rule, until: u64) -> Option<Shown>
         ensures { (h : List Observed) → self.now ≡ watched self.now.end h → result ≡ first_of rule until self.now.end h }
@@ -145,7 +155,7 @@ impl Watch {
             Rule::Keys => self.lacpdus.keys,
             Rule::Segment => self.lacpdus.segment,
             Rule::Discarded => self.lacpdus.discarded,
-            Rule::OneWay => self.lacpdus.one_way,
+            Rule::OneWay => self.one_way(),
             Rule::Unanswered => self.asking.first(until),
             Rule::Unasked => self.responding.unasked,
             Rule::Late => self.responding.late,

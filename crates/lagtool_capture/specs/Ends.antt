@@ -2,11 +2,14 @@
 use Rattle.std.specs.Prelude.{◌==◌, ◌&&◌, ◌+◌, ◌-◌, ◌++◌, ℕ, Bool, false, not, List, [], ◌∷◌, Option, Some, None, length, nat_le, nat_lt, option_map, slice_get, slice_set, if◌then◌else◌}
 use Rattle.std.specs.Str.{bytes_eq}
 use Rattle.slowpdu.specs.declared.pdu.Lacpdu.{Lacpdu}
+use Rattle.findings.specs.declared.observed.LinkEnd.{LinkEnd}
+use Rattle.lagtypes.specs.Same.{same_port, same_system}
 use Rattle.lagtypes.specs.States.{bits_of}
 use Rattle.lagtool_capture.specs.declared.ends.End.{End}
 use Rattle.lagtool_capture.specs.declared.ends.Phase.{Phase}
 use Rattle.lagtool_capture.specs.declared.ends.Sender.{Sender}
 use Rattle.lagtool_capture.specs.Counting.{one_more}
+use Rattle.lagtool_capture.specs.Gaps.{gaps_with, no_gaps}
 
 abbrev pub is_end : Sender → End → Bool
 is_end s e = (e.sender.interface == s.interface) && bytes_eq e.sender.source s.source && (e.sender.port == s.port)
@@ -63,6 +66,7 @@ first_seen s time v = record {
   latest = time;
   shortest = None;
   longest = None;
+  gaps = no_gaps;
   synchronized = first_phase (bits_of v.actor.state).synchronization time;
   collecting = first_phase (bits_of v.actor.state).collecting time;
   distributing = first_phase (bits_of v.actor.state).distributing time;
@@ -78,6 +82,7 @@ seen_again time v e = record {
   latest = time;
   shortest = shorter e.shortest (gap_between e.latest time);
   longest = longer e.longest (gap_between e.latest time);
+  gaps = gaps_with (gap_between e.latest time) e.gaps;
   synchronized = next_phase (bits_of e.last.actor.state).synchronization (bits_of v.actor.state).synchronization time e.synchronized;
   collecting = next_phase (bits_of e.last.actor.state).collecting (bits_of v.actor.state).collecting time e.collecting;
   distributing = next_phase (bits_of e.last.actor.state).distributing (bits_of v.actor.state).distributing time e.distributing;
@@ -102,3 +107,18 @@ ends_after es (Some n) s time v = with_again es n time v (slice_get es n)
 abbrev pub is_beyond : List End → Option ℕ → Bool
 is_beyond es None = nat_le most_ends (length es)
 is_beyond es (Some n) = false
+
+-- a sender as an end of a link
+abbrev pub link_end : Sender → LinkEnd
+link_end s = record { interface = s.interface; source = s.source; port = Some s.port }
+
+-- an end (second one) names this one (6.4.2.3): on the same interface, its last Partner is this end's Actor, a system and its port
+abbrev pub is_named_by : End → End → Bool
+is_named_by e x =
+    (x.sender.interface == e.sender.interface)
+    && (same_system x.last.partner.system e.last.actor.system && same_port x.last.partner.port e.last.actor.port)
+
+-- the first of these ends that names this one
+abbrev pub named_by : List End → End → Option LinkEnd
+named_by [] e = None
+named_by (x ∷ xs) e = if is_named_by e x then Some (link_end x.sender) else named_by xs e

@@ -161,12 +161,12 @@ observed packet b s = after_envelope packet.time (envelope_of packet b) b (count
 -- a line for each end that sent LACPDUs, a line for each finding, and the counts: as texts
 abbrev pub closing_texts : List Finding → ExplainerState → List ℕ
 closing_texts fs s =
-    ends_text s.first s.ends ++ (findings_text s.first fs ++ counts_text s.number s.slow (length s.ends) (length fs) s.beyond)
+    ends_text s.first s.names s.ends s.ends ++ (findings_text s.first fs ++ counts_text s.number s.slow (length s.ends) (length fs) s.beyond)
 
 -- the same as records
 abbrev pub closing_records : List Finding → ExplainerState → List ℕ
 closing_records fs s =
-    ends_records s.first s.ends ++ (findings_records s.first fs ++ counts_record s.number s.slow (length s.ends) (length fs) s.beyond)
+    ends_records s.first s.ends s.ends ++ (findings_records s.first fs ++ counts_record s.number s.slow (length s.ends) (length fs) s.beyond)
 
 -- after the last packet: the lines of the ends, of the findings, and of the counts
 abbrev pub with_ends : List Finding → ExplainerState → ExplainerState

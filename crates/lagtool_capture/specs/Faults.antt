@@ -19,7 +19,7 @@ cause_text (causes.Description found) = codes "too long a description: " ++ deci
 cause_text (causes.Interface found) = codes "unknown interface: " ++ decimal found
 cause_text causes.Interfaces = codes "more than 64 interfaces"
 cause_text (causes.Resolution found) = codes "unknown resolution of time: " ++ decimal found
-cause_text causes.Time = codes "a time after the year 2554"
+cause_text causes.Time = codes "a time before 1970 or after the year 2554"
 cause_text causes.CutShort = codes "cut short"
 
 -- octet AT: CAUSE

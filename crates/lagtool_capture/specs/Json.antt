@@ -15,7 +15,12 @@ use Rattle.lagtool_capture.specs.declared.ends.Phase.{Phase}
 use Rattle.lagtool_capture.specs.declared.envelope.Envelope.{Envelope}
 use Rattle.lagtool_capture.specs.declared.line.WhatText.{WhatText}
 use Rattle.lagtool_capture.specs.declared.line.WhatText.TheVariants as what
+use Rattle.lagtool_capture.specs.declared.names.Identity.{Identity}
+use Rattle.lagtool_capture.specs.Ends.{named_by}
+use Rattle.lagtool_capture.specs.EndTexts.{tenths_text}
 use Rattle.lagtool_capture.specs.FindingTexts.{number_text}
+use Rattle.lagtool_capture.specs.Gaps.{median}
+use Rattle.lagtool_capture.specs.Names.{identity_of}
 use Rattle.lagtool_capture.specs.LineTexts.{marker_word, seconds_text, signed_seconds}
 
 -- a string
@@ -102,11 +107,40 @@ sender_part e =
     ∷ member (codes "source") (mac_value e.sender.source) ∷ member (codes "port") (decimal e.sender.port)
     ∷ member (codes "lacpdus") (decimal e.count) ∷ [])
 
+-- the identifiers by which an LACPDU names an end
+unfoldable pub identity_value : Identity → List ℕ
+identity_value a =
+    object (member (codes "system") (quoted (system_text a.system)) ∷ member (codes "key") (decimal a.key.0)
+    ∷ member (codes "port") (quoted (port_text a.port)) ∷ [])
+
+-- an end of a link
+unfoldable pub link_end_value : LinkEnd → List ℕ
+link_end_value e =
+    object (member (codes "interface") (decimal e.interface) ∷ member (codes "source") (mac_value e.source)
+    ∷ member (codes "port") (port_value e.port) ∷ [])
+
+-- another end; null if there is none
+abbrev pub partner_value : Option LinkEnd → List ℕ
+partner_value (Some e) = link_end_value e
+partner_value None = codes "null"
+
+-- what it says of the end that it named last, and of the one that names it, among all ends
+unfoldable pub parties_part : List End → End → List ℕ
+parties_part all e =
+    members (member (codes "names") (identity_value (identity_of e.last.partner))
+    ∷ member (codes "named_by") (partner_value (named_by all e)) ∷ [])
+
+-- the median of times in tenths of a second; null if there is none
+abbrev pub median_value : Option ℕ → List ℕ
+median_value (Some tenths) = tenths_text tenths
+median_value None = codes "null"
+
 -- what it says of their times
 unfoldable pub times_part : Option ℕ → End → List ℕ
 times_part first e =
     members (member (codes "first") (since_value first e.first) ∷ member (codes "last") (since_value first e.latest)
-    ∷ member (codes "shortest") (gap_value e.shortest) ∷ member (codes "longest") (gap_value e.longest) ∷ [])
+    ∷ member (codes "shortest") (gap_value e.shortest) ∷ member (codes "longest") (gap_value e.longest)
+    ∷ member (codes "median") (median_value (median e.gaps)) ∷ [])
 
 -- what it says of the bits of the actor's state
 unfoldable pub phases_part : Option ℕ → End → List ℕ
@@ -115,24 +149,14 @@ phases_part first e =
     ∷ member (codes "collecting") (phase_value first e.collecting)
     ∷ member (codes "distributing") (phase_value first e.distributing) ∷ [])
 
--- the record of an end that sent LACPDUs
-unfoldable pub end_record : Option ℕ → End → List ℕ
-end_record first e = 123 ∷ (sender_part e ++ 44 ∷ (times_part first e ++ 44 ∷ (phases_part first e ++ codes "}\n")))
+-- the record of an end that sent LACPDUs, among all ends
+unfoldable pub end_record : Option ℕ → List End → End → List ℕ
+end_record first all e =
+    123 ∷ (sender_part e ++ 44 ∷ (parties_part all e ++ 44 ∷ (times_part first e ++ 44 ∷ (phases_part first e ++ codes "}\n"))))
 
--- the records of ends
-abbrev pub ends_records : Option ℕ → List End → List ℕ
-ends_records first ends = flat_map (end_record first) ends
-
--- an end of a link
-unfoldable pub link_end_value : LinkEnd → List ℕ
-link_end_value e =
-    object (member (codes "interface") (decimal e.interface) ∷ member (codes "source") (mac_value e.source)
-    ∷ member (codes "port") (port_value e.port) ∷ [])
-
--- the end that answers; null if there is none
-abbrev pub partner_value : Option LinkEnd → List ℕ
-partner_value (Some e) = link_end_value e
-partner_value None = codes "null"
+-- the records of ends among all ends
+abbrev pub ends_records : Option ℕ → List End → List End → List ℕ
+ends_records first all ends = flat_map (end_record first all) ends
 
 -- what the record of a finding says of its rule: its number and its name
 unfoldable pub rule_part : Rule → List ℕ

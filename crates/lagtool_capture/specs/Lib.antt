@@ -4,6 +4,7 @@ pub mod Counting
 pub mod Names
 pub mod LacpduTexts
 pub mod LineTexts
+pub mod Gaps
 pub mod Ends
 pub mod Explaining
 pub mod Faults

@@ -1,9 +1,13 @@
 ghost use Rattle.std.specs.Prelude.{Some};
-ghost use Rattle.lagtool_capture.specs.EndTexts.{counts_text, end_line, ends_text, gaps_part, phase_part};
+ghost use Rattle.lagtool_capture.specs.Ends.{named_by};
+ghost use Rattle.lagtool_capture.specs.EndTexts.{counts_text, end_line, ends_text, gaps_part, median_part, named_by_part, names_part, phase_part, tenths_text, who_text};
+ghost use Rattle.lagtool_capture.specs.Gaps.{median};
 
-use crate::ends::{End, Phase};
+use crate::ends::{End, Phase, named_by};
+use crate::finding_texts::EndText;
 use crate::line::{InterfacePart, SecondsText, SinceText};
-use crate::names::Identity;
+use crate::names::{Identity, NameText, place_of};
+use findings::LinkEnd;
 use lagtypes::MacText;
 use std::fmt;
 
@@ -27,6 +31,98 @@ impl fmt::Display for GapsPart {
             ),
             _ => Ok(()),
         }
+    }
+}
+
+/// Tenths of a second as seconds.
+#[derive(Clone, Copy)]
+pub(crate) struct TenthsText(pub usize);
+
+impl fmt::Display for TenthsText {
+    ghost output = { λ t. Some (tenths_text t.0) };
+
+    #[tactic(auto, unfolding(crate::specs::EndTexts::tenths_text))]
+    fn fmt<W: fmt::Write>(&self, f: &mut fmt::Formatter<W>) -> fmt::Result {
+        let tenths = self.0;
+        write!(f, "{}.{}", tenths / 10, tenths % 10)
+    }
+}
+
+/// The median of the times between LACPDUs, if there is one.
+#[derive(Clone, Copy)]
+struct MedianPart(Option<usize>);
+
+impl fmt::Display for MedianPart {
+    ghost output = { λ t. Some (median_part t.0) };
+
+    fn fmt<W: fmt::Write>(&self, f: &mut fmt::Formatter<W>) -> fmt::Result {
+        match self.0 {
+            Some(tenths) => write!(f, " median {}", TenthsText(tenths)),
+            None => Ok(()),
+        }
+    }
+}
+
+/// The end that it named last.
+#[derive(Clone, Copy)]
+struct NamesPart<'a> {
+    names: &'a [Identity],
+    end: &'a End,
+}
+
+impl fmt::Display for NamesPart<'_> {
+    ghost output = { λ t. Some (names_part t.names.now t.end.now) };
+
+    #[tactic(auto, unfolding(crate::specs::EndTexts::names_part))]
+    fn fmt<W: fmt::Write>(&self, f: &mut fmt::Formatter<W>) -> fmt::Result {
+        let identity = Identity::of(&self.end.last.partner);
+        let place = place_of(self.names, &identity);
+        let name = NameText { place, identity };
+        write!(f, " names {name}")
+    }
+}
+
+/// The end that names it, if there is one.
+#[derive(Clone, Copy)]
+struct NamedByPart(Option<LinkEnd>);
+
+impl fmt::Display for NamedByPart {
+    ghost output = { λ t. Some (named_by_part t.0) };
+
+    fn fmt<W: fmt::Write>(&self, f: &mut fmt::Formatter<W>) -> fmt::Result {
+        match self.0 {
+            Some(end) => write!(f, " named by {}", EndText(end)),
+            None => Ok(()),
+        }
+    }
+}
+
+/// Who it is, who it names and who names it, among all ends.
+#[derive(Clone, Copy)]
+struct WhoText<'a> {
+    names: &'a [Identity],
+    all: &'a [End],
+    end: &'a End,
+}
+
+impl fmt::Display for WhoText<'_> {
+    ghost output = { λ t. Some (who_text t.names.now t.all.now t.end.now) };
+
+    #[tactic(auto, unfolding(crate::specs::EndTexts::who_text))]
+    fn fmt<W: fmt::Write>(&self, f: &mut fmt::Formatter<W>) -> fmt::Result {
+        let sender = self.end.sender;
+        let interface = InterfacePart(sender.interface);
+        let names = NamesPart {
+            names: self.names,
+            end: self.end,
+        };
+        let named = NamedByPart(named_by(self.all, self.end));
+        write!(
+            f,
+            "{}{interface} port {}{names}{named}",
+            MacText(&sender.source),
+            sender.port
+        )
     }
 }
 
@@ -59,25 +155,32 @@ impl fmt::Display for PhasePart<'_> {
     }
 }
 
-/// The line of an end, with times from the first of the capture.
+/// The line of an end among all ends, with times from the first of the capture.
 #[derive(Clone, Copy)]
 struct EndLine<'a> {
     first: Option<u64>,
+    names: &'a [Identity],
+    all: &'a [End],
     end: &'a End,
 }
 
 impl fmt::Display for EndLine<'_> {
-    ghost output = { λ t. Some (end_line t.first t.end.now) };
+    ghost output = { λ t. Some (end_line t.first t.names.now t.all.now t.end.now) };
 
     #[tactic(auto, unfolding(crate::specs::EndTexts::end_line))]
     fn fmt<W: fmt::Write>(&self, f: &mut fmt::Formatter<W>) -> fmt::Result {
         let end = *self.end;
         let first = self.first;
-        let interface = InterfacePart(end.sender.interface);
+        let who = WhoText {
+            names: self.names,
+            all: self.all,
+            end: self.end,
+        };
         let gaps = GapsPart {
             shortest: end.shortest,
             longest: end.longest,
         };
+        let median = MedianPart(end.gaps.median());
         let from = SinceText {
             first,
             time: end.first,
@@ -103,28 +206,35 @@ impl fmt::Display for EndLine<'_> {
         };
         write!(
             f,
-            "end {}{interface} port {} lacpdus {} first {from} last {to}{gaps}{synchronized}{collecting}{distributing}\n",
-            MacText(&end.sender.source),
-            end.sender.port,
+            "end {who} lacpdus {} first {from} last {to}{gaps}{median}{synchronized}{collecting}{distributing}\n",
             end.count
         )
     }
 }
 
-/// The lines of ends.
+/// The lines of ends, by the short names.
 #[derive(Clone, Copy)]
 pub(crate) struct EndsText<'a> {
     pub first: Option<u64>,
+    pub names: &'a [Identity],
     pub ends: &'a [End],
 }
 
 impl fmt::Display for EndsText<'_> {
-    ghost output = { λ t. Some (ends_text t.first t.ends.now) };
+    ghost output = { λ t. Some (ends_text t.first t.names.now t.ends.now t.ends.now) };
 
     fn fmt<W: fmt::Write>(&self, f: &mut fmt::Formatter<W>) -> fmt::Result {
         let first = self.first;
-        for end in self.ends {
-            write!(f, "{}", EndLine { first, end })?;
+        let names = self.names;
+        let all = self.ends;
+        for end in all {
+            let line = EndLine {
+                first,
+                names,
+                all,
+                end,
+            };
+            write!(f, "{line}")?;
         }
         Ok(())
     }

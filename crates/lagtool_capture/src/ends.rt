@@ -1,6 +1,8 @@
 ghost use Rattle.std.specs.Prelude.{◌≡◌, ◌<◌, length, IfSome};
-ghost use Rattle.lagtool_capture.specs.Ends.{end_place, first_phase, first_seen, gap_between, is_end, last_of, longer, next_phase, seen_again, shorter};
+ghost use Rattle.lagtool_capture.specs.Ends.{end_place, first_phase, first_seen, gap_between, is_end, is_named_by, last_of, link_end, longer, named_by, next_phase, seen_again, shorter};
 
+use crate::gaps::Gaps;
+use findings::LinkEnd;
 use slowpdu::Lacpdu;
 
 /// The most ends of links that are told of.
@@ -15,6 +17,19 @@ pub struct Sender {
     pub source: [u8; 6],
     /// The number of the actor's port.
     pub port: u16,
+}
+
+impl Sender {
+    /// The sender as an end of a link.
+    fn link_end(&self) -> LinkEnd
+        ensures { result ≡ link_end self.now }
+    {
+        LinkEnd {
+            interface: self.interface,
+            source: self.source,
+            port: Some(self.port),
+        }
+    }
 }
 
 /// When a bit of a state octet began and ended to be 1.
@@ -95,6 +110,8 @@ pub struct End {
     pub shortest: Option<u64>,
     /// The longest such time, in nanoseconds.
     pub longest: Option<u64>,
+    /// All such times, in tenths of a second.
+    pub gaps: Gaps,
     /// When Synchronization of the actor was 1.
     pub synchronized: Phase,
     /// When Collecting of the actor was 1.
@@ -127,6 +144,28 @@ pub(crate) fn end_place(ends: &[End], sender: &Sender) -> Option<usize>
     None
 }
 
+/// Whether the other end names this one: on the same interface, its last Partner is this end's last Actor, a system and
+/// its port.
+fn is_named_by(end: &End, other: &End) -> bool
+    ensures { result ≡ is_named_by end.now other.now }
+{
+    other.sender.interface == end.sender.interface
+        && other.last.partner.system == end.last.actor.system
+        && other.last.partner.port == end.last.actor.port
+}
+
+/// The first of these ends that names this one.
+pub(crate) fn named_by(ends: &[End], end: &End) -> Option<LinkEnd>
+    ensures { result ≡ named_by ends.now end.now }
+{
+    for other in ends {
+        if is_named_by(end, other) {
+            return Some(other.sender.link_end());
+        }
+    }
+    None
+}
+
 /// The last LACPDU of the end at this place, if there is one.
 pub(crate) fn last_of(ends: &[End], place: Option<usize>) -> Option<Lacpdu>
     ensures { result ≡ last_of ends.now place }
@@ -150,6 +189,7 @@ impl End {
             latest: time,
             shortest: None,
             longest: None,
+            gaps: Gaps::none(),
             synchronized: Phase::first(state.is_synchronized(), time),
             collecting: Phase::first(state.is_collecting(), time),
             distributing: Phase::first(state.is_distributing(), time),
@@ -171,6 +211,7 @@ impl End {
             latest: time,
             shortest: shorter(self.shortest, gap),
             longest: longer(self.longest, gap),
+            gaps: self.gaps.with(gap),
             synchronized: self
                 .synchronized
                 .then(was.is_synchronized(), is.is_synchronized(), time),

@@ -292,6 +292,7 @@ impl Explainer {
         let counts = self.counts(findings);
         let ends = EndsText {
             first,
+            names: &self.names,
             ends: &self.ends,
         };
         write!(self.report, "{ends}")?;

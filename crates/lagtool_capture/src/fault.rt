@@ -72,7 +72,7 @@ impl fmt::Display for CauseText {
             Cause::Interface(found) => write!(f, "unknown interface: {found}"),
             Cause::Interfaces => f.write_str("more than 64 interfaces"),
             Cause::Resolution(found) => write!(f, "unknown resolution of time: {found}"),
-            Cause::Time => f.write_str("a time after the year 2554"),
+            Cause::Time => f.write_str("a time before 1970 or after the year 2554"),
             Cause::CutShort => f.write_str("cut short"),
         }
     }

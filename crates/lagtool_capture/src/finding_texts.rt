@@ -76,7 +76,7 @@ impl fmt::Display for RuleText {
 
 /// An end: its source address, its interface if that isn't the first, and its port if its frames name one.
 #[derive(Clone, Copy)]
-struct EndText(LinkEnd);
+pub(crate) struct EndText(pub LinkEnd);
 
 impl fmt::Display for EndText {
     ghost output = { λ t. Some (end_text t.0) };

@@ -1,10 +1,11 @@
 ghost use Rattle.std.specs.Prelude.{Some};
-ghost use Rattle.lagtool_capture.specs.Json.{advice_part, counts_record, end_record, ends_records, finding_record, findings_records, link_end_value, packets_part, partner_value, phases_part, rule_part, sender_part, shown_part, times_part, told_part};
+ghost use Rattle.lagtool_capture.specs.Json.{advice_part, counts_record, end_record, ends_records, finding_record, findings_records, identity_value, link_end_value, median_value, packets_part, parties_part, partner_value, phases_part, rule_part, sender_part, shown_part, times_part, told_part};
 
-use crate::end_texts::CountsText;
-use crate::ends::End;
+use crate::end_texts::{CountsText, TenthsText};
+use crate::ends::{End, named_by};
 use crate::finding_texts::{AdviceText, ClauseText, NumberText};
 use crate::json::{GapValue, PhaseValue, PortValue, SinceValue};
+use crate::names::Identity;
 use findings::{Finding, LinkEnd, Rule, Shown};
 use lagtypes::MacText;
 use std::fmt;
@@ -32,6 +33,57 @@ impl fmt::Display for SenderPart<'_> {
     }
 }
 
+/// The identifiers by which an LACPDU names an end.
+#[derive(Clone, Copy)]
+struct IdentityValue(Identity);
+
+impl fmt::Display for IdentityValue {
+    ghost output = { λ t. Some (identity_value t.0) };
+
+    #[tactic(auto, unfolding(crate::specs::Json::identity_value))]
+    fn fmt<W: fmt::Write>(&self, f: &mut fmt::Formatter<W>) -> fmt::Result {
+        let identity = self.0;
+        write!(
+            f,
+            "{{\"system\":\"{}\",\"key\":{},\"port\":\"{}\"}}",
+            identity.system, identity.key, identity.port
+        )
+    }
+}
+
+/// What it says of the end that it named last, and of the one that names it, among all ends.
+#[derive(Clone, Copy)]
+struct PartiesPart<'a> {
+    all: &'a [End],
+    end: &'a End,
+}
+
+impl fmt::Display for PartiesPart<'_> {
+    ghost output = { λ t. Some (parties_part t.all.now t.end.now) };
+
+    #[tactic(auto, unfolding(crate::specs::Json::parties_part))]
+    fn fmt<W: fmt::Write>(&self, f: &mut fmt::Formatter<W>) -> fmt::Result {
+        let names = IdentityValue(Identity::of(&self.end.last.partner));
+        let named = PartnerValue(named_by(self.all, self.end));
+        write!(f, "\"names\":{names},\"named_by\":{named}")
+    }
+}
+
+/// The median of times between LACPDUs in seconds; null if there is none.
+#[derive(Clone, Copy)]
+struct MedianValue(Option<usize>);
+
+impl fmt::Display for MedianValue {
+    ghost output = { λ t. Some (median_value t.0) };
+
+    fn fmt<W: fmt::Write>(&self, f: &mut fmt::Formatter<W>) -> fmt::Result {
+        match self.0 {
+            Some(tenths) => write!(f, "{}", TenthsText(tenths)),
+            None => f.write_str("null"),
+        }
+    }
+}
+
 /// What it says of times.
 #[derive(Clone, Copy)]
 struct TimesPart<'a> {
@@ -56,9 +108,10 @@ impl fmt::Display for TimesPart<'_> {
         };
         let shortest = GapValue(end.shortest);
         let longest = GapValue(end.longest);
+        let median = MedianValue(end.gaps.median());
         write!(
             f,
-            "\"first\":{from},\"last\":{to},\"shortest\":{shortest},\"longest\":{longest}"
+            "\"first\":{from},\"last\":{to},\"shortest\":{shortest},\"longest\":{longest},\"median\":{median}"
         )
     }
 }
@@ -96,24 +149,26 @@ impl fmt::Display for PhasesPart<'_> {
     }
 }
 
-/// The record of an end that sent LACPDUs.
+/// The record of an end that sent LACPDUs, among all ends.
 #[derive(Clone, Copy)]
 struct EndRecord<'a> {
     first: Option<u64>,
+    all: &'a [End],
     end: &'a End,
 }
 
 impl fmt::Display for EndRecord<'_> {
-    ghost output = { λ t. Some (end_record t.first t.end.now) };
+    ghost output = { λ t. Some (end_record t.first t.all.now t.end.now) };
 
     #[tactic(auto, unfolding(crate::specs::Json::end_record))]
     fn fmt<W: fmt::Write>(&self, f: &mut fmt::Formatter<W>) -> fmt::Result {
         let first = self.first;
         let end = self.end;
         let sender = SenderPart { end };
+        let parties = PartiesPart { all: self.all, end };
         let times = TimesPart { first, end };
         let phases = PhasesPart { first, end };
-        write!(f, "{{{sender},{times},{phases}}}\n")
+        write!(f, "{{{sender},{parties},{times},{phases}}}\n")
     }
 }
 
@@ -125,12 +180,13 @@ pub(crate) struct EndsRecords<'a> {
 }
 
 impl fmt::Display for EndsRecords<'_> {
-    ghost output = { λ t. Some (ends_records t.first t.ends.now) };
+    ghost output = { λ t. Some (ends_records t.first t.ends.now t.ends.now) };
 
     fn fmt<W: fmt::Write>(&self, f: &mut fmt::Formatter<W>) -> fmt::Result {
         let first = self.first;
-        for end in self.ends {
-            write!(f, "{}", EndRecord { first, end })?;
+        let all = self.ends;
+        for end in all {
+            write!(f, "{}", EndRecord { first, all, end })?;
         }
         Ok(())
     }

@@ -108,8 +108,8 @@ P3 = 32768/02-00-00-00-00-02 key 7 port 255/2
 6 3.250000 02-00-00-00-00-02 lacpdu same
 7 4.000001 02-00-00-00-00-01 marker port 1 system 02-00-00-00-00-01 id 9
 8 -0.000001 02-00-00-00-00-02 refused fewer than 110 octets: 46
-end 02-00-00-00-00-01 port 1 lacpdus 2 first 0.000000 last 1.005000 gaps 1.005000 to 1.005000 synchronized 0.000000 collecting 1.005000 distributing 1.005000
-end 02-00-00-00-00-02 port 2 lacpdus 3 first 1.000000 last 3.250000 gaps 1.000000 to 1.250000 synchronized 2.250000 collecting 2.250000 distributing 2.250000
+end 02-00-00-00-00-01 port 1 names P3 named by 02-00-00-00-00-02 port 2 lacpdus 2 first 0.000000 last 1.005000 gaps 1.005000 to 1.005000 median 1.0 synchronized 0.000000 collecting 1.005000 distributing 1.005000
+end 02-00-00-00-00-02 port 2 names P1 named by 02-00-00-00-00-01 port 1 lacpdus 3 first 1.000000 last 3.250000 gaps 1.000000 to 1.250000 median 1.0 synchronized 2.250000 collecting 2.250000 distributing 2.250000
 finding 7 end 02-00-00-00-00-02 packet 8 at -0.000001: a frame of another length (6.4.2.3). Compare the frames at the other end of the cable: a device between may pad or cut them.
 packets 8 slow 7 ends 2 findings 1
 ";
@@ -123,8 +123,8 @@ const RECORDS: &str = "\
 {\"record\":\"frame\",\"packet\":6,\"seconds\":3.250000,\"interface\":0,\"source\":\"02-00-00-00-00-02\",\"destination\":\"01-80-c2-00-00-02\",\"tags\":0,\"kind\":\"lacpdu\",\"actor\":{\"system\":\"32768/02-00-00-00-00-02\",\"key\":7,\"port\":\"255/2\",\"state\":61},\"partner\":{\"system\":\"32768/02-00-00-00-00-01\",\"key\":1,\"port\":\"255/1\",\"state\":61},\"max_delay\":0}
 {\"record\":\"frame\",\"packet\":7,\"seconds\":4.000001,\"interface\":0,\"source\":\"02-00-00-00-00-01\",\"destination\":\"01-80-c2-00-00-02\",\"tags\":0,\"kind\":\"marker\",\"port\":1,\"system\":\"02-00-00-00-00-01\",\"id\":9}
 {\"record\":\"frame\",\"packet\":8,\"seconds\":-0.000001,\"interface\":0,\"source\":\"02-00-00-00-00-02\",\"destination\":\"01-80-c2-00-00-02\",\"tags\":0,\"kind\":\"refused\",\"fault\":\"fewer than 110 octets: 46\"}
-{\"record\":\"end\",\"interface\":0,\"source\":\"02-00-00-00-00-01\",\"port\":1,\"lacpdus\":2,\"first\":0.000000,\"last\":1.005000,\"shortest\":1.005000,\"longest\":1.005000,\"synchronized\":{\"began\":0.000000,\"ended\":null},\"collecting\":{\"began\":1.005000,\"ended\":null},\"distributing\":{\"began\":1.005000,\"ended\":null}}
-{\"record\":\"end\",\"interface\":0,\"source\":\"02-00-00-00-00-02\",\"port\":2,\"lacpdus\":3,\"first\":1.000000,\"last\":3.250000,\"shortest\":1.000000,\"longest\":1.250000,\"synchronized\":{\"began\":2.250000,\"ended\":null},\"collecting\":{\"began\":2.250000,\"ended\":null},\"distributing\":{\"began\":2.250000,\"ended\":null}}
+{\"record\":\"end\",\"interface\":0,\"source\":\"02-00-00-00-00-01\",\"port\":1,\"lacpdus\":2,\"names\":{\"system\":\"32768/02-00-00-00-00-02\",\"key\":7,\"port\":\"255/2\"},\"named_by\":{\"interface\":0,\"source\":\"02-00-00-00-00-02\",\"port\":2},\"first\":0.000000,\"last\":1.005000,\"shortest\":1.005000,\"longest\":1.005000,\"median\":1.0,\"synchronized\":{\"began\":0.000000,\"ended\":null},\"collecting\":{\"began\":1.005000,\"ended\":null},\"distributing\":{\"began\":1.005000,\"ended\":null}}
+{\"record\":\"end\",\"interface\":0,\"source\":\"02-00-00-00-00-02\",\"port\":2,\"lacpdus\":3,\"names\":{\"system\":\"32768/02-00-00-00-00-01\",\"key\":1,\"port\":\"255/1\"},\"named_by\":{\"interface\":0,\"source\":\"02-00-00-00-00-01\",\"port\":1},\"first\":1.000000,\"last\":3.250000,\"shortest\":1.000000,\"longest\":1.250000,\"median\":1.0,\"synchronized\":{\"began\":2.250000,\"ended\":null},\"collecting\":{\"began\":2.250000,\"ended\":null},\"distributing\":{\"began\":2.250000,\"ended\":null}}
 {\"record\":\"finding\",\"rule\":7,\"name\":\"a frame of another length\",\"clause\":\"6.4.2.3\",\"advice\":\"Compare the frames at the other end of the cable: a device between may pad or cut them.\",\"end\":{\"interface\":0,\"source\":\"02-00-00-00-00-02\",\"port\":null},\"partner\":null,\"packet\":8,\"seconds\":-0.000001}
 {\"record\":\"counts\",\"packets\":8,\"slow\":7,\"ends\":2,\"findings\":1,\"beyond\":0}
 ";
@@ -278,5 +278,14 @@ fn what_is_no_capture_is_refused(rt: HostRuntime) -> Result<(), Fail> {
     };
     let text = format!(in alloc; "{fault}")?;
     assert_eq!(rt; text.as_str(), "octet 0: packed by gzip: unpack it first");
+    let fault = ReadFault {
+        at: 40,
+        cause: Cause::Time,
+    };
+    let text = format!(in alloc; "{fault}")?;
+    assert_eq!(rt;
+        text.as_str(),
+        "octet 40: a time before 1970 or after the year 2554"
+    );
     Ok(())
 }

@@ -137,3 +137,29 @@ fn a_frame_has_another_length(rt: HostRuntime) -> Result<(), Fail> {
     assert!(rt; has_just(rt.alloc(), &frames, line)?);
     Ok(())
 }
+
+// Three gaps of 1, 30 and 200 seconds; one of 200 seconds.
+#[test]
+fn the_median_is_the_gap_in_the_middle(rt: HostRuntime) -> Result<(), Fail> {
+    let sent = lacpdu(1, UP, 2, UP);
+    let frames = [
+        (100, 124, sent),
+        (101, 124, sent),
+        (131, 124, sent),
+        (331, 124, sent),
+    ];
+    let (_, text) = said(rt.alloc(), &capture(rt.alloc(), &frames)?);
+    let text = str::from_utf8(&text).unwrap_or("");
+    assert!(rt;
+        text.contains(" gaps 1.000000 to 200.000000 median 30.0 "),
+        "{text}"
+    );
+    let frames = [(100, 124, sent), (300, 124, sent)];
+    let (_, text) = said(rt.alloc(), &capture(rt.alloc(), &frames)?);
+    let text = str::from_utf8(&text).unwrap_or("");
+    assert!(rt;
+        text.contains(" gaps 200.000000 to 200.000000 median 100.0 "),
+        "{text}"
+    );
+    Ok(())
+}

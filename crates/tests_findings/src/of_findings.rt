@@ -418,3 +418,43 @@ fn lacpdus_go_in_one_direction_only(rt: HostRuntime) {
     assert!(rt; shows(&[alone[0], facing(0), alone[1], alone[2]], 3400, &[]));
     assert!(rt; shows(&[alone[0], facing(1), alone[1], alone[2]], 3400, &[(18, 4)]));
 }
+
+// The partner starts 10 seconds late: LACPDUs come in both directions.
+#[test]
+fn a_partner_that_starts_late_is_heard(rt: HostRuntime) {
+    let said = a_to_b(FAST, UP);
+    let mut facing = b_to_a(UP, UP);
+    facing.partner = info(C, UP);
+    let frames = [
+        at(0, said),
+        at(1500, said),
+        at(3001, said),
+        at(9000, said),
+        at(10_000, facing),
+    ];
+    assert!(rt; shows(&frames, 11_000, &[]));
+    assert!(rt; shows(&frames[..4], 11_000, &[(18, 3)]));
+}
+
+// 6.4.12: current_while_timer runs for the timeout that the end asked for when it was started.
+#[test]
+fn an_end_that_comes_to_ask_for_short_timeout_waits_anew(rt: HostRuntime) {
+    let long = a_to_b(UP, UP);
+    let short = a_to_b(FAST, UP);
+    let frames = [
+        at(0, long),
+        at(20_000, short),
+        at(23_000, short),
+        at(23_001, short),
+    ];
+    assert!(rt; shows(&frames, 24_000, &[(18, 4)]));
+    assert!(rt; shows(&frames[..3], 24_000, &[]));
+    let frames = [
+        at(0, long),
+        at(45_000, long),
+        at(90_000, long),
+        at(90_001, long),
+    ];
+    assert!(rt; shows(&frames, 91_000, &[(18, 4)]));
+    assert!(rt; shows(&frames[..3], 91_000, &[]));
+}
