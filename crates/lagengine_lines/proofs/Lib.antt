@@ -2,6 +2,7 @@ pub mod WordLemmas
 pub mod TextLemmas
 pub mod LookLemmas
 pub mod LineLemmas
+pub mod TableLemmas
 pub mod EngineLemmas
 pub mod TickLemmas
 pub mod Walks

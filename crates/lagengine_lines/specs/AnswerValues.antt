@@ -8,6 +8,7 @@ use Rattle.lagengine_lines.specs.declared.answer.Answer.{Answer}
 use Rattle.lagengine_lines.specs.declared.answer.Answer.TheVariants as answer
 use Rattle.lagengine_lines.specs.declared.fault.RequestFault.{RequestFault}
 use Rattle.lagengine_lines.specs.declared.looks.PortAnswer.{PortAnswer}
+use Rattle.lagengine_lines.specs.declared.tables.PortRow.{PortRow}
 
 -- an answer, with lists in the place of its Vecs
 pub data AnswerValue : Type 0 where
@@ -22,6 +23,8 @@ pub data AnswerValue : Type 0 where
   Aggregators : ℕ → AnswerValue
   Distributing : AggAnswerValue → AnswerValue
   Conversation : Option ℕ → AnswerValue
+  ConversationPorts : ℕ → List PortRow → AnswerValue
+  Released : ℕ → List ℕ → AnswerValue
   ConversationState : Option Assignment → AnswerValue
   NextMarker : Option ℕ → AnswerValue
   TicksUntilDue : Option ℕ → AnswerValue
@@ -41,6 +44,8 @@ answer_value (answer.Ports ports) = Ports ports.items
 answer_value (answer.Aggregators count) = Aggregators count
 answer_value (answer.Distributing answer) = Distributing (agg_answer_value answer)
 answer_value (answer.Conversation conv) = Conversation conv
+answer_value (answer.ConversationPorts agg rows) = ConversationPorts agg rows.items
+answer_value (answer.Released agg freed) = Released agg freed.items
 answer_value (answer.ConversationState assignment) = ConversationState assignment
 answer_value (answer.NextMarker id) = NextMarker id
 answer_value (answer.TicksUntilDue ticks) = TicksUntilDue ticks

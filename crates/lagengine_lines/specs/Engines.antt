@@ -1,5 +1,6 @@
 -- What an engine does for a line: it makes the call of the system that the line asks for.
-use Rattle.std.specs.Prelude.{◌≡◌, ⊤, ◌⊎◌, Vec, ℕ, List, [], ◌∷◌, ◌++◌, length, map, replicate, Option, Some, None, option_map, Result, Ok, Err}
+use Rattle.std.specs.Prelude.{◌≡◌, ⊤, ◌⊎◌, Vec, ℕ, List, [], ◌∷◌, ◌++◌, length, map, replicate, if◌then◌else◌, Option, Some, None, option_map, Result, Ok, Err}
+use Rattle.lagtypes.specs.declared.identifiers.AggId.{AggId}
 use Rattle.distributor.specs.Conversations.{next_identifier}
 use Rattle.lagsystem.specs.Assigning.{OffersConversation}
 use Rattle.lagsystem.specs.Calls.{Call, Tick}
@@ -8,7 +9,7 @@ use Rattle.lagsystem.specs.Forcing.{ForcesPort}
 use Rattle.lagsystem.specs.First.{ConfigValue, IsFirst, fault_or_no_memory, refusal}
 use Rattle.lagsystem.specs.Hosts.{conversation_at}
 use Rattle.lagsystem.specs.Leaving.{system_leave_result, system_rest_result}
-use Rattle.lagsystem.specs.Offers.{GivesOrRefuses}
+use Rattle.lagsystem.specs.Offers.{GivesOrRefuses, has_aggregator}
 use Rattle.lagsystem.specs.Probing.{Probes}
 use Rattle.lagsystem.specs.Readers.{conversation_in}
 use Rattle.lagsystem.specs.Sound.{CallPromise}
@@ -17,12 +18,14 @@ use Rattle.lagsystem.specs.Waiting.{ticks_until_due}
 use Rattle.lagsystem.specs.declared.drive.Call.{Call as Handed}
 use Rattle.lagsystem.specs.declared.fault.BadConfig.{BadConfig}
 use Rattle.lagsystem.specs.declared.fault.SystemFault.{SystemFault}
+use Rattle.lagsystem.specs.declared.fault.SystemFault.TheVariants.{NoAggregator}
 use Rattle.lagsystem.specs.declared.drive.Reply.{Reply}
 use Rattle.lagsystem.specs.declared.drive.Reply.TheVariants as reply
 use Rattle.lagengine_lines.specs.Lines.{request_in}
 use Rattle.lagengine_lines.specs.Looks.{all_aggregators, all_ports, port_answer, agg_answer}
 use Rattle.lagengine_lines.specs.Requests.{TaskValue, RequestValue, Start, Work, Make, Ticks, Keep, Drive, ForcePort, OfferConversation}
-use Rattle.lagengine_lines.specs.Requests.{LeaveConversation, Rest, Probe, Conversation, Ask}
+use Rattle.lagengine_lines.specs.Requests.{LeaveConversation, Rest, Probe, Conversation, Released, Ask}
+use Rattle.lagengine_lines.specs.Tables.{is_released, marked_below, most_conversations, port_at, rows_below}
 use Rattle.lagengine_lines.specs.AnswerValues.{AnswerValue}
 use Rattle.lagengine_lines.specs.AnswerValues as said
 use Rattle.lagengine_lines.specs.declared.engine.Inner.{Inner}
@@ -121,12 +124,23 @@ TicksOrKeeps gives n s None answer new =
 TicksOrKeeps gives n s (Some calls) answer new = (answer ≡ said.Kept)
     × (new ≡ record { system = Some s; kept = Some (calls ++ replicate n Tick) })
 
+-- the conversations of an aggregator that are On a port, of so many conversations; or there is no such aggregator
+abbrev pub conversation_ports_answer : ℕ → AggId → SystemState → AnswerValue
+conversation_ports_answer most agg s =
+    if has_aggregator s agg then said.ConversationPorts agg.0 (rows_below (port_at s agg) most) else said.Refused NoAggregator
+
+-- the listed conversations of an aggregator that are Free, of so many conversations; or there is no such aggregator
+abbrev pub released_answer : ℕ → AggId → List ℕ → SystemState → AnswerValue
+released_answer most agg listed s =
+    if has_aggregator s agg then said.Released agg.0 (marked_below (is_released s agg listed) most) else said.Refused NoAggregator
+
 -- the answer of a reader
 abbrev pub reader_answer : Question → SystemState → AnswerValue
 reader_answer (question.Port q n) s = said.Port (port_answer q s n)
 reader_answer question.Ports s = said.Ports (port_numbers s.system_ports)
 reader_answer question.Aggregators s = said.Aggregators (length s.keys)
 reader_answer (question.Distributing agg) s = said.Distributing (agg_answer s agg.0)
+reader_answer (question.ConversationPorts agg) s = conversation_ports_answer most_conversations agg s
 reader_answer (question.ConversationState agg conv) s = said.ConversationState (conversation_at s agg conv)
 reader_answer question.NextMarker s = said.NextMarker (next_identifier s.table)
 reader_answer question.TicksUntilDue s = said.TicksUntilDue (ticks_until_due s)
@@ -157,6 +171,8 @@ DoesTask gives (Probe port) s kept answer new =
     (sent : Result (Option (List ℕ)) SystemFault) × (t : SystemState) × Probes port s sent t
     × (answer ≡ said.Replied (reply.Transmit sent)) × (new ≡ record { system = Some t; kept = kept })
 DoesTask gives (Conversation octets) s kept answer new = (answer ≡ said.Conversation (conversation_in s octets))
+    × (new ≡ record { system = Some s; kept = kept })
+DoesTask gives (Released agg listed) s kept answer new = (answer ≡ released_answer most_conversations agg listed s)
     × (new ≡ record { system = Some s; kept = kept })
 DoesTask gives (Ask q) s kept answer new = (answer ≡ reader_answer q s) × (new ≡ record { system = Some s; kept = kept })
 

@@ -3,6 +3,7 @@ pub mod Words
 pub mod Requests
 pub mod Lines
 pub mod Looks
+pub mod Tables
 pub mod AnswerValues
 pub mod Texts
 pub mod Engines

@@ -7,9 +7,8 @@ use Rattle.lagtypes.specs.declared.identifiers.AggId.{AggId}
 use Rattle.lagsystem.specs.Calls.{Call, Receive, Tick, Set_link, Configure, Restart, Transmit, Offer, Move_conversation, Force}
 use Rattle.lagsystem.specs.Drives.{call_of}
 use Rattle.lagsystem.specs.First.{ConfigValue, config_value}
-use Rattle.lagsystem.specs.declared.config.Config.{Config}
 use Rattle.lagengine_lines.specs.Words.{◌>>=◌, SevenFields, each_at_place, number_word, ticks_word, long_number_word, mac_word, link_word, aggregation_word}
-use Rattle.lagengine_lines.specs.Words.{hex_word, keys_word, port_word}
+use Rattle.lagengine_lines.specs.Words.{hex_word, keys_word, numbers_word, port_word}
 use Rattle.lagengine_lines.specs.declared.fault.RequestError.{RequestError}
 use Rattle.lagengine_lines.specs.declared.fault.RequestError.TheVariants.{Fault, NoMemory}
 use Rattle.lagengine_lines.specs.declared.fault.RequestFault.{RequestFault}
@@ -36,6 +35,7 @@ pub data TaskValue : Type 0 where
   Rest : AggId → ℕ → TaskValue
   Probe : ℕ → TaskValue
   Conversation : List ℕ → TaskValue
+  Released : AggId → List ℕ → TaskValue  -- which of these conversations are Free
   Ask : Question → TaskValue
 
 -- the task, as a value of the logic
@@ -50,6 +50,7 @@ task_value (task.LeaveConversation agg conv) = LeaveConversation agg conv
 task_value (task.Rest agg conv) = Rest agg conv
 task_value (task.Probe port) = Probe port
 task_value (task.Conversation frame) = Conversation frame.items
+task_value (task.Released agg listed) = Released agg listed.items
 task_value (task.Ask question) = Ask question
 
 -- what a line asks for: a new system, or a task for the present one
@@ -224,6 +225,7 @@ question_named name =
     else if bytes_eq name (codes "ports") then with_no_words (Ask question.Ports)
     else if bytes_eq name (codes "aggregators") then with_no_words (Ask question.Aggregators)
     else if bytes_eq name (codes "distributing") then with_one_word number_word (λ n. Ask (question.Distributing (agg_id n)))
+    else if bytes_eq name (codes "conversation-ports") then with_one_word number_word (λ n. Ask (question.ConversationPorts (agg_id n)))
     else if bytes_eq name (codes "conversation-state") then with_two_words number_word number_word
     (λ g k. Ask (question.ConversationState (agg_id g) k))
     else if bytes_eq name (codes "next-marker") then with_no_words (Ask question.NextMarker)
@@ -265,6 +267,7 @@ task_named name =
     if bytes_eq name (codes "receive") then with_two_words number_word hex_word (λ port octets. Make (Receive port octets))
     else if bytes_eq name (codes "offer") then with_two_words number_word hex_word (λ g octets. Make (Offer (agg_id g) octets))
     else if bytes_eq name (codes "conversation") then with_one_word hex_word Conversation
+    else if bytes_eq name (codes "released") then with_two_words number_word numbers_word (λ g listed. Released (agg_id g) listed)
     else if bytes_eq name (codes "keep") then with_no_words Keep
     else if bytes_eq name (codes "drive") then with_no_words Drive
     else call_named name

@@ -37,6 +37,7 @@ use Rattle.lagengine_lines.specs.declared.looks.PortFact.{PortFact}
 use Rattle.lagengine_lines.specs.declared.looks.PortFact.TheVariants as fact
 use Rattle.lagengine_lines.specs.declared.looks.PortAnswer.{PortAnswer}
 use Rattle.lagengine_lines.specs.declared.stopped.Stopped.{Stopped}
+use Rattle.lagengine_lines.specs.declared.tables.PortRow.{PortRow}
 use Rattle.lagengine_lines.specs.declared.stopped.Stopped.TheVariants as stopped
 
 -- the texts of the elements of a list, one after another
@@ -250,6 +251,15 @@ abbrev pub numbers_text : List ℕ → List ℕ
 numbers_text [] = codes " none"
 numbers_text (n ∷ ns) = each_text spaced (n ∷ ns)
 
+-- a conversation and its port, with a space before them
+abbrev pub row_text : PortRow → List ℕ
+row_text r = 32 ∷ (decimal r.conversation ++ 58 ∷ decimal r.port)
+
+-- rows, with a space before each; or none
+abbrev pub rows_text : List PortRow → List ℕ
+rows_text [] = codes " none"
+rows_text (r ∷ rs) = each_text row_text (r ∷ rs)
+
 -- aggregator NUMBER: PORTS
 abbrev pub agg_answer_text : AggAnswerValue → List ℕ
 agg_answer_text t = codes "aggregator " ++ (decimal t.agg ++ 58 ∷ numbers_text t.ports)
@@ -307,6 +317,8 @@ answer_text (said.Ports ports) = codes "ports:" ++ numbers_text ports
 answer_text (said.Aggregators count) = codes "aggregators: " ++ decimal count
 answer_text (said.Distributing t) = agg_answer_text t
 answer_text (said.Conversation conv) = number_text conv
+answer_text (said.ConversationPorts agg rows) = codes "aggregator " ++ (decimal agg ++ 58 ∷ rows_text rows)
+answer_text (said.Released agg freed) = codes "aggregator " ++ (decimal agg ++ 58 ∷ numbers_text freed)
 answer_text (said.ConversationState assignment) = conversation_or_none assignment
 answer_text (said.NextMarker id) = number_text id
 answer_text (said.TicksUntilDue ticks) = number_text ticks

@@ -93,6 +93,10 @@ key_word place w = number_word place w >>= λ n. Ok (record { 0 = n })
 abbrev pub keys_word : ℕ → List ℕ → Result (List Key) RequestFault
 keys_word place w = if bytes_eq w (codes "-") then Ok [] else each (key_word place) (parts 44 w)
 
+-- numbers joined by commas, or a dash for none
+abbrev pub numbers_word : ℕ → List ℕ → Result (List ℕ) RequestFault
+numbers_word place w = if bytes_eq w (codes "-") then Ok [] else each (number_word place) (parts 44 w)
+
 -- seven texts
 abbrev pub SevenFields : Type 0
 SevenFields = List ℕ × List ℕ × List ℕ × List ℕ × List ℕ × List ℕ × List ℕ

@@ -6,6 +6,8 @@ use crate::fact_texts::{ConversationText, NumberText, write_all, write_numbers};
 use crate::fault::RequestFault;
 use crate::looks::{AggAnswer, PortAnswer};
 use crate::reply_texts::{ForcedText, RefusedText, ReplyText, write_replies};
+use crate::table_texts::write_rows;
+use crate::tables::PortRow;
 use arrayvec::ArrayVec;
 use lagsystem::{Assignment, Reply, SystemFault};
 use std::fmt;
@@ -23,7 +25,7 @@ pub enum Answer {
     Replies(Vec<Reply>),
     /// How many conversations were forced that were held on a port, or why not.
     ForcedPort(Result<u32, SystemFault>),
-    /// Why the system could not be made.
+    /// Why the system could not be made, or why the conversations of an aggregator are not told.
     Refused(SystemFault),
     /// What a reader returns for a port.
     Port(PortAnswer),
@@ -35,6 +37,10 @@ pub enum Answer {
     Distributing(AggAnswer),
     /// The conversation of a frame.
     Conversation(Option<u16>),
+    /// The conversations of an aggregator, with its number, that are On a port, ascending.
+    ConversationPorts(u16, Vec<PortRow>),
+    /// Which of the listed conversations of an aggregator, with its number, are Free, ascending.
+    Released(u16, Vec<u16>),
     /// The state of a conversation; None if there is no such conversation.
     ConversationState(Option<Assignment>),
     /// The identifier of the next marker.
@@ -66,6 +72,14 @@ impl fmt::Display for Answer {
             Answer::Aggregators(count) => write!(f, "aggregators: {count}"),
             Answer::Distributing(told) => write!(f, "{told}"),
             Answer::Conversation(conv) => write!(f, "{}", NumberText(conv.map(u32::from))),
+            Answer::ConversationPorts(agg, rows) => {
+                write!(f, "aggregator {agg}:")?;
+                write_rows(f, rows.as_slice())
+            }
+            Answer::Released(agg, freed) => {
+                write!(f, "aggregator {agg}:")?;
+                write_numbers(f, freed.as_slice())
+            }
             Answer::ConversationState(doing) => write!(f, "{}", ConversationText(*doing)),
             Answer::NextMarker(id) => write!(f, "{}", NumberText(*id)),
             Answer::TicksUntilDue(ticks) => write!(f, "{}", NumberText(ticks.map(u32::from))),

@@ -159,6 +159,15 @@ fn distributing(words: &[&str]) -> Result<Task, RequestFault>
     Ok(Task::Ask(Question::Distributing(AggId(number(2, agg)?))))
 }
 
+/// Reads the word of `conversation-ports`: an aggregator.
+fn conversation_ports(words: &[&str]) -> Result<Task, RequestFault>
+    ensures { task_result_value result ≡ with_one_word number_word (λ n. asked.Ask (question.ConversationPorts (asked.agg_id n)))
+        (map (λ w. w.now) words.now) }
+{
+    let agg = one_word(words)?;
+    Ok(Task::Ask(Question::ConversationPorts(AggId(number(2, agg)?))))
+}
+
 /// Reads the words of `conversation-state`: an aggregator and a conversation.
 fn conversation_state(words: &[&str]) -> Result<Task, RequestFault>
     ensures { task_result_value result ≡ with_two_words number_word number_word
@@ -189,6 +198,7 @@ fn question_named(name: &str, words: &[&str]) -> Result<Task, RequestFault>
         "ports" => task_alone(Task::Ask(Question::Ports), words),
         "aggregators" => task_alone(Task::Ask(Question::Aggregators), words),
         "distributing" => distributing(words),
+        "conversation-ports" => conversation_ports(words),
         "conversation-state" => conversation_state(words),
         "next-marker" => task_alone(Task::Ask(Question::NextMarker), words),
         "ticks-until-due" => task_alone(Task::Ask(Question::TicksUntilDue), words),
@@ -197,8 +207,8 @@ fn question_named(name: &str, words: &[&str]) -> Result<Task, RequestFault>
     }
 }
 
-/// Reads a task, by its first word and the words after it: all but receive, offer and conversation, whose words take
-/// memory, and keep and drive.
+/// Reads a task, by its first word and the words after it: all but receive, offer, conversation and released, whose
+/// words take memory, and keep and drive.
 pub(crate) fn call_named(name: &str, words: &[&str]) -> Result<Task, RequestFault>
     ensures { task_result_value result ≡ call_named name.now (map (λ w. w.now) words.now) }
 {

@@ -11,6 +11,7 @@ use crate::answer::Answer;
 use crate::fault::{RequestError, RequestFault};
 use crate::looks::{agg_answer, all_aggregators, all_ports, port_answer};
 use crate::request::{Question, Request, Task, request_in};
+use crate::tables::{MOST_CONVERSATIONS, conversation_ports, released};
 use crate::ticks::tick_or_keep;
 use lagsystem::{Call, Config, Reply, System};
 use std::alloc::{AllocError, Global};
@@ -58,6 +59,9 @@ fn answer_question<F: Fn(u16, usize) -> usize + Drop>(
         Question::Distributing(agg) => Ok(Answer::Distributing(agg_answer(system, agg.0))),
         Question::ConversationState(agg, conv) => {
             Ok(Answer::ConversationState(system.conversation_state(agg, conv)))
+        }
+        Question::ConversationPorts(agg) => {
+            conversation_ports(alloc, system, agg, MOST_CONVERSATIONS)
         }
         Question::NextMarker => Ok(Answer::NextMarker(system.next_marker())),
         Question::TicksUntilDue => Ok(Answer::TicksUntilDue(system.ticks_until_due())),
@@ -152,6 +156,9 @@ fn do_task<F: Fn(u16, usize) -> usize + Drop>(
         Task::Rest(agg, conv) => Ok(Answer::Reply(Reply::Force(system.rest(agg, conv)))),
         Task::Probe(port) => Ok(Answer::Reply(Reply::Transmit(system.probe(port)))),
         Task::Conversation(frame) => Ok(Answer::Conversation(system.conversation(&frame))),
+        Task::Released(agg, listed) => {
+            released(alloc, system, agg, listed.as_slice(), MOST_CONVERSATIONS)
+        }
         Task::Ask(question) => answer_question(alloc, system, question),
     }
 }

@@ -239,7 +239,7 @@ impl fmt::Display for PortAnswer {
     }
 }
 
-/// Writes port numbers, with a space before each, or `none`.
+/// Writes numbers, with a space before each, or `none`.
 pub(crate) fn write_numbers<W: fmt::Write>(f: &mut fmt::Formatter<W>, ports: &[u16]) -> fmt::Result
     ensures { DisplaysOnOk W.write_str_gives f.old result (Some (numbers_text ports.now)) f.new }
 {

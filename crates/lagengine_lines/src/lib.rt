@@ -16,6 +16,8 @@ mod request;
 mod serving;
 mod session;
 mod stopped;
+mod table_texts;
+mod tables;
 mod ticks;
 mod words;
 

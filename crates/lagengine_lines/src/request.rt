@@ -5,12 +5,12 @@ ghost use Rattle.lagengine_lines.specs.Requests.{ReadsAs, request_value, no_word
 ghost use Rattle.lagengine_lines.specs.Requests.{task_value, with_two_words};
 ghost use Rattle.lagengine_lines.specs.Requests as asked;
 ghost use Rattle.lagsystem.specs.Calls as call;
-ghost use Rattle.lagengine_lines.specs.Words.{hex_word, number_word};
+ghost use Rattle.lagengine_lines.specs.Words.{hex_word, number_word, numbers_word};
 
 use crate::call_words::call_named;
 use crate::config::system;
 use crate::fault::{RequestError, RequestFault};
-use crate::words::{number, octets, words_of};
+use crate::words::{number, numbers, octets, words_of};
 use lagstreams::{LONGEST_LINE, without_return};
 use lagsystem::{AggId, Call, Config};
 use std::alloc::Global;
@@ -54,6 +54,8 @@ pub enum Question {
     Aggregators,
     /// The numbers of the ports that distribute in an aggregator.
     Distributing(AggId),
+    /// The conversations of an aggregator that are On a port, each with its port.
+    ConversationPorts(AggId),
     /// The state of a conversation of an aggregator.
     ConversationState(AggId, u16),
     /// The identifier of the next marker.
@@ -87,6 +89,8 @@ pub enum Task {
     Probe(u16),
     /// Work out the conversation of a frame.
     Conversation(Vec<u8>),
+    /// Tell which of these conversations of an aggregator are Free: of those that the host knew as On, Wanted or Flushing.
+    Released(AggId, Vec<u16>),
     /// Answer this question.
     Ask(Question),
 }
@@ -162,6 +166,17 @@ fn conversation(alloc: Global, words: &[&str]) -> Result<Task, RequestError>
     Ok(Task::Conversation(octets))
 }
 
+/// Reads the words of `released`: an aggregator, and the numbers of conversations.
+fn released(alloc: Global, words: &[&str]) -> Result<Task, RequestError>
+    ensures { ReadsAs task_value (with_two_words number_word numbers_word (λ g listed. asked.Released (asked.agg_id g) listed)
+        (map (λ w. w.now) words.now)) result }
+{
+    let (agg, listed) = two_words(words)?;
+    let agg = AggId(number(2, agg)?);
+    let listed = numbers(alloc, 3, listed)?;
+    Ok(Task::Released(agg, listed))
+}
+
 /// A task that has no words after its first.
 pub(crate) fn task_alone(task: Task, words: &[&str]) -> Result<Task, RequestFault>
     ensures { asked.task_result_value result ≡ with_no_words (task_value task) (map (λ w. w.now) words.now) }
@@ -178,6 +193,7 @@ fn task_named(alloc: Global, name: &str, words: &[&str]) -> Result<Task, Request
         "receive" => receive(alloc, words),
         "offer" => offer(alloc, words),
         "conversation" => conversation(alloc, words),
+        "released" => released(alloc, words),
         "keep" => Ok(task_alone(Task::Keep, words)?),
         "drive" => Ok(task_alone(Task::Drive, words)?),
         _ => Ok(call_named(name, words)?),

@@ -1,7 +1,7 @@
 ghost use Rattle.std.specs.Prelude.{◌≡◌, IfOk, map};
 ghost use Rattle.lagengine_lines.specs.Requests.{ReadsAs};
 ghost use Rattle.lagengine_lines.specs.Words.{flag_word, hex_word, aggregation_word, link_word, long_number_word, mac_word, number_below};
-ghost use Rattle.lagengine_lines.specs.Words.{number_word, parts, ticks_word};
+ghost use Rattle.lagengine_lines.specs.Words.{each, number_word, numbers_word, parts, ticks_word};
 
 use crate::fault::{RequestError, RequestFault};
 use hex::{FromHex, FromHexError};
@@ -71,6 +71,29 @@ pub(crate) fn long_number(place: usize, word: &str) -> Result<u32, RequestFault>
     ensures { result ≡ long_number_word place word.now }
 {
     long_number_of(word).ok_or(RequestFault::Number(place))
+}
+
+/// Reads these numbers, which stand in the word at this place.
+fn each_number(alloc: Global, place: usize, words: &[&str]) -> Result<Vec<u16>, RequestError>
+    ensures { ReadsAs (λ v. v.items) (each (number_word place) (map (λ w. w.now) words.now)) result }
+{
+    let mut numbers = Vec::with_capacity(alloc, words.len())?;
+    for word in words {
+        let number = number(place, *word)?;
+        numbers.push(number)?;
+    }
+    Ok(numbers)
+}
+
+/// Reads the word at this place as numbers: joined by commas, or a dash for none.
+pub(crate) fn numbers(alloc: Global, place: usize, word: &str) -> Result<Vec<u16>, RequestError>
+    ensures { ReadsAs (λ v. v.items) (numbers_word place word.now) result }
+{
+    if word == "-" {
+        return Ok(Vec::new(alloc));
+    }
+    let words = items_of(alloc, word)?;
+    each_number(alloc, place, words.as_slice())
 }
 
 /// Reads the word at this place as a MAC address of twelve hexadecimal digits.

@@ -215,12 +215,78 @@ conversation-state 1 41 => free
 conversation-state 1 255 => wanted 70 preferred 3
 held 70 => port 70: held 1";
 
+/// The conversations of an aggregator at once: those that are On a port, and which of a list are free. Even numbers prefer port 3, odd
+/// ones port 70.
+const AT_ONCE: &str = "\
+system 24576 020000000011 1234 7 300,700 3:203:020000001103:300:1:1:0 70:270:020000001146:300:1:1:0 => ok
+conversation-ports 1 => aggregator 1: none
+conversation-ports 3 => refused 2 no-aggregator
+released 3 41 => refused 2 no-aggregator
+released 0 - => refused 2 no-aggregator
+link 3 up => ok
+link 70 up => ok
+receive 3 0180c20000020200000000778809010101141000020000000077012c004000170d00000002146000020000000011012c00cb0003050000000310003200000000000000000000000000000000000000000000000000000000000000000000000000000000000000000000000000000000000000000000000000000000 => took
+receive 70 0180c20000020200000000778809010101141000020000000077012c0040005a0d00000002146000020000000011012c010e0046050000000310003200000000000000000000000000000000000000000000000000000000000000000000000000000000000000000000000000000000000000000000000000000000 => took
+tick => ok
+tick => ok
+tick => ok
+tick => ok
+tick => ok
+tick => ok
+tick => ok
+tick => ok
+tick => ok
+tick => ok
+tick => ok
+tick => ok
+tick => ok
+tick => ok
+tick => ok
+tick => ok
+tick => ok
+tick => ok
+tick => ok
+tick => ok
+offer-conversation 1 52 => port 3
+offer-conversation 1 41 => port 70
+offer-conversation 1 255 => port 70
+offer-conversation 1 0 => port 3
+conversation-ports 1 => aggregator 1: 0:3 41:70 52:3 255:70
+conversation-ports 2 => aggregator 2: none
+released 1 0,41,52,255 => aggregator 1: none
+released 2 41,0 => aggregator 2: 0 41
+leave 1 41 => ok
+conversation-ports 1 => aggregator 1: 0:3 52:3 255:70
+released 1 255,41,52 => aggregator 1: none
+keep => ok
+probe 70 => marker 0180c200000202000000114688090201011000460200000000110000000700000000000000000000000000000000000000000000000000000000000000000000000000000000000000000000000000000000000000000000000000000000000000000000000000000000000000000000000000000000000000000000
+conversation-ports 1 => aggregator 1: 0:3 52:3 255:70
+released 1 255,41,52 => aggregator 1: none
+drive => 
+receive 70 0180c200000202000000114688090201021000460200000000110000000700000000000000000000000000000000000000000000000000000000000000000000000000000000000000000000000000000000000000000000000000000000000000000000000000000000000000000000000000000000000000000000 => released 1
+released 1 255,41,52 => aggregator 1: 41
+released 1 255,41,52 => aggregator 1: 41
+released 1 52,41,0,41 => aggregator 1: 41
+released 1 - => aggregator 1: none
+released 1 256,4096,65535 => aggregator 1: none
+link 3 down => ok
+conversation-ports 1 => aggregator 1: 255:70
+released 1 255,52,0 => aggregator 1: 0 52
+offer-conversation 1 52 => port 70
+conversation-ports 1 => aggregator 1: 52:70 255:70
+released 1 255,52,0 => aggregator 1: 0
+system 24576 020000000011 1234 7 300 conversations 4096 3:203:020000001103:300:1:1:0 => ok
+conversation-ports 1 => aggregator 1: none
+released 1 4096,4095,256 => aggregator 1: 256 4095";
+
 /// Lines that are no such requests.
 const FAULTS: &str = "\
 force-port 1 => fault no-system
 offer-conversation 1 41 => fault no-system
 probe 1 => fault no-system
 held 1 => fault no-system
+conversation-ports 1 => fault no-system
+released 1 41 => fault no-system
 port-status 1 => fault no-system
 ntt 1 => fault no-system
 system 24576 020000000011 1234 7 300 3:203:020000001103:300:1:1:0 => ok
@@ -259,6 +325,16 @@ probe x => fault number at word 2
 held => fault count
 held 3 3 => fault count
 held x => fault number at word 2
+conversation-ports => fault count
+conversation-ports 1 1 => fault count
+conversation-ports x => fault number at word 2
+released 1 => fault count
+released 1 41 52 => fault count
+released x 41 => fault number at word 2
+released 1 x => fault number at word 3
+released 1 41, => fault number at word 3
+released 1 41,65536 => fault number at word 3
+released 1 41,- => fault number at word 3
 force_port 3 => fault word
 status 3 => fault word";
 
@@ -275,6 +351,11 @@ fn what_waits_on_a_port_is_forced(rt: HostRuntime) -> Result<(), Fail> {
 #[test]
 fn conversations_go_by_their_numbers(rt: HostRuntime) -> Result<(), Fail> {
     check(&rt, rt.alloc(), BY_NUMBER)
+}
+
+#[test]
+fn conversations_are_told_at_once(rt: HostRuntime) -> Result<(), Fail> {
+    check(&rt, rt.alloc(), AT_ONCE)
 }
 
 #[test]

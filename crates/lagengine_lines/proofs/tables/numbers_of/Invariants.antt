@@ -1,0 +1,6 @@
+use Rattle.std.proofs.Common.{◌≡◌, get_or, false}
+use Rattle.lagengine_lines.specs.Tables.{marked_below}
+use Rattle.lagengine_lines.proofs.tables.numbers_of.Given as goal
+
+abbrev pub invariant-loop-conversation : goal.invariant-loop-conversation
+invariant-loop-conversation l = l.numbers.items ≡ marked_below (λ conv. get_or l.marks conv false) l.conversation

@@ -1,0 +1,6 @@
+use Rattle.std.proofs.Common.{◌≡◌, get_or}
+use Rattle.lagengine_lines.specs.Tables.{rows_below}
+use Rattle.lagengine_lines.proofs.tables.rows_of.Given as goal
+
+abbrev pub invariant-loop-conversation : goal.invariant-loop-conversation
+invariant-loop-conversation l = l.rows.items ≡ rows_below (λ conv. get_or l.ports conv 0) l.conversation
