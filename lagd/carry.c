@@ -42,13 +42,6 @@ bool is_held(const struct niw_assignment *state) {
     return state->what == NIW_CONVERSATION_WANTED || state->what == NIW_CONVERSATION_FLUSHING;
 }
 
-/* Frees a conversation, if it is not free. */
-void free_conversation(uint16_t aggregator, uint16_t number) {
-    uint32_t status = niw_force(&own_system, aggregator, number);
-    if (status != NIW_NOT_ASSIGNED) check_call(status, "niw_force");
-    carry.changed = true;
-}
-
 /* Whether the frames of a conversation may go in the active aggregator: none of it is on its way in another one. */
 bool is_home(const struct conversation *conversation, uint16_t number) {
     if (conversation->home == carry.active || conversation->home == 0) return true;
@@ -57,20 +50,8 @@ bool is_home(const struct conversation *conversation, uint16_t number) {
 
 /* Whether a conversation had a frame of late, in the active aggregator. */
 bool is_busy(const struct conversation *conversation) {
-    return conversation->home == carry.active && !is_unused(conversation);
-}
-
-/* Whether a conversation had no frame of late. */
-bool is_unused(const struct conversation *conversation) {
-    return !conversation->used && (conversation->last == 0 || carry.time - conversation->last >= BUSY);
-}
-
-/* Offers a frame of a conversation, however long it is: the library looks at the last octets of both addresses alone. */
-struct niw_number offer_number(uint16_t number) {
-    uint8_t header[NIW_SHORTEST_FRAME] = {0};
-    header[4] = (uint8_t)(number >> 8);
-    header[5] = (uint8_t)number;
-    return niw_offer(&own_system, carry.active, header, sizeof header);
+    bool is_recent = conversation->last != 0 && carry.time - conversation->last < BUSY;
+    return conversation->home == carry.active && (conversation->used || is_recent);
 }
 
 static void drop_first(struct conversation *conversation, enum carry_count why) {
@@ -99,10 +80,10 @@ static void keep(struct conversation *conversation, const uint8_t *packet, size_
 static bool send_on(struct conversation *conversation, uint16_t number, uint8_t *packet, size_t length) {
     struct niw_number answer;
     if (!is_home(conversation, number) || carry.time < conversation->fast.not_before) return false;
-    answer = offer_number(number);
+    answer = niw_offer_conversation(&own_system, carry.active, number);
     if (answer.status == NIW_HELD) return false;
     if (answer.status != NIW_OK) {
-        if (answer.status != NIW_NONE_DISTRIBUTING) check_call(answer.status, "niw_offer");
+        if (answer.status != NIW_NONE_DISTRIBUTING) check_call(answer.status, "niw_offer_conversation");
         carry.counts[NONE_CARRIES]++;
         return true;
     }

@@ -76,10 +76,10 @@ static void drop_old(struct conversation *conversation) {
     }
 }
 
-/* Frees a conversation of which nothing was sent for a flight: its next frame overtakes none. */
-static void rest(struct conversation *conversation, uint16_t number) {
-    free_conversation(conversation->home, number);
+/* A conversation was freed of which nothing was sent for a flight: its next frame overtakes none. */
+static void note_rested(struct conversation *conversation) {
     carry.counts[RESTED]++;
+    carry.changed = true;
     conversation->since = 0;
 }
 
@@ -87,9 +87,11 @@ static void rest(struct conversation *conversation, uint16_t number) {
  * of it. */
 static void watch_free(struct conversation *conversation, uint16_t number, const struct niw_assignment *state) {
     conversation->since = 0;
-    if (answering() == MUTE && state->what == NIW_CONVERSATION_ON && conversation->fast.port == 0
-        && carry.time - conversation->last >= settings.flight)
-        rest(conversation, number);
+    if (answering() != MUTE || state->what != NIW_CONVERSATION_ON || conversation->fast.port != 0
+        || carry.time - conversation->last < settings.flight)
+        return;
+    check_call(niw_rest(&own_system, conversation->home, number), "niw_rest");
+    note_rested(conversation);
 }
 
 /* A conversation that is held for long goes on: nothing of it was sent since. It waits for a peer that answers markers, which may have
@@ -99,8 +101,13 @@ static void watch_held(struct conversation *conversation, uint16_t number, const
     if (conversation->since == 0) conversation->since = carry.time;
     if (carry.time - conversation->since < (answered ? UNANSWERED : settings.flight)) return;
     if (is_held(state) && !distributes(state->port)) return;
-    if (is_held(state)) doubt_partner();
-    rest(conversation, number);
+    if (is_held(state)) {
+        doubt_partner();
+        check_call(niw_force(&own_system, conversation->home, number), "niw_force");
+    } else {
+        check_call(niw_rest(&own_system, conversation->home, number), "niw_rest");
+    }
+    note_rested(conversation);
 }
 
 static void watch_conversation(uint16_t number, uint64_t *again) {
@@ -125,7 +132,7 @@ static void watch_conversation(uint16_t number, uint64_t *again) {
 void pass_flight_tick(void) {
     uint64_t again = 0;
     for (uint16_t number = 0; number < CONVERSATIONS; number++) watch_conversation(number, &again);
-    pass_probe_tick(&again);
+    pass_probe_tick();
     for (uint16_t port = 1; port <= link_count; port++) {
         watch_port(port);
         wake_port(port);
