@@ -58,11 +58,11 @@ static bool is_lesser(uint16_t one, uint16_t other) {
 }
 
 /* Whether an aggregator is to carry rather than another: one with a partner, then one with more ports that carry. Of equal ones that
- * which carries now stays; where none of them does, it is the one with the least group, so that the other end chooses it, too. */
+ * which carries now stays, if it is kept; else it is the one with the least group, so that the other end chooses it, too. */
 static bool is_better(uint16_t one, uint16_t other) {
     unsigned rank = rank_of(one), rank_of_other = rank_of(other);
     if (rank != rank_of_other) return rank > rank_of_other;
-    if (one == chosen || other == chosen) return one == chosen;
+    if (keeps_aggregator() && (one == chosen || other == chosen)) return one == chosen;
     return is_lesser(one, other);
 }
 

@@ -9,12 +9,17 @@
 
 /* How many frames of a conversation wait at most. */
 #define LONGEST_WAIT 2048
+/* For how long frames of the peer tell that it has the same aggregator, in milliseconds. */
+#define HEARD 1000
 
 struct carry carry = {.changed = true};
 
 static int tap = -1;
 static uint8_t *rooms; /* for the packets of a batch */
 static bool to_balance; /* whether a tick passed since the last look at the loads */
+static uint16_t last_active;    /* the aggregator that was active last, or 0 */
+static uint64_t heard_at;       /* the time at which frames came in the active aggregator last, or 0 */
+static uint64_t handed_before;  /* how many were handed up then */
 
 bool carries_data(void) {
     return tap >= 0;
@@ -36,6 +41,18 @@ struct niw_assignment state_of(uint16_t aggregator, uint16_t number) {
     struct niw_assignment state = niw_conversation_state(&own_system, aggregator, number);
     check_call(state.status, "niw_conversation_state");
     return state;
+}
+
+/* The port of each conversation of an aggregator; 0 where it is free or held there, or there is no aggregator. */
+const uint16_t *ports_in(uint16_t aggregator) {
+    static uint16_t ports[CONVERSATIONS];
+    static bool changed[CONVERSATIONS];
+    if (aggregator == 0)
+        memset(ports, 0, sizeof ports);
+    else
+        check_call(niw_conversation_ports(&own_system, aggregator, ports, CONVERSATIONS, changed, CONVERSATIONS).status,
+            "niw_conversation_ports");
+    return ports;
 }
 
 bool is_held(const struct niw_assignment *state) {
@@ -146,11 +163,25 @@ static void take_host(void) {
     }
 }
 
+/* The peer sends in another aggregator than the active one. */
+void doubt_aggregator(void) {
+    if (heard_at == 0) return;
+    heard_at = 0;
+    carry.changed = true;
+}
+
+/* Whether the active aggregator stays where another one has as many ports: the peer has it, too, since its frames come there, or there
+ * is no data. Ends that differ so come together: then neither has frames of the other one, and both take the one with the least group. */
+bool keeps_aggregator(void) {
+    return !carries_data() || (heard_at != 0 && carry.time - heard_at < HEARD);
+}
+
 /* A packet came in an aggregator. */
 void hand_up(uint32_t aggregator, const uint8_t *packet, size_t length) {
-    if (aggregator != carry.active)
+    if (aggregator != carry.active) {
         carry.counts[OTHER_AGGREGATOR]++;
-    else if (write(tap, packet, length) == (ssize_t)length)
+        doubt_aggregator();
+    } else if (write(tap, packet, length) == (ssize_t)length)
         carry.counts[HANDED_UP]++;
     else
         carry.counts[HOST_UNTAKEN]++;
@@ -188,7 +219,29 @@ static void choose_active(void) {
     if (before != 0 && carry.active != 0 && before != carry.active) carry.counts[SWITCHES]++;
     if ((before == 0) != (carry.active == 0))
         (void)say(LOG_NOTICE | ABOUT_CARRIER, "carry %s: carrier %s", settings.carry, carry.active ? "on" : "off");
+    if (before != carry.active) heard_at = 0;
     set_carrier(carry.active != 0);
+}
+
+/* Another aggregator is active: what is on a port of the last one leaves it, behind a marker. Its frames wait until it is free there. One
+ * for which no marker is left goes on after a rest. */
+static void leave_last(void) {
+    uint16_t last = last_active;
+    const uint16_t *ports;
+    if (carry.active == 0 || carry.active == last) return;
+    last_active = carry.active;
+    ports = ports_in(last);
+    for (uint16_t number = 0; number < CONVERSATIONS; number++) {
+        uint32_t status = ports[number] == 0 ? NIW_OK : niw_leave_conversation(&own_system, last, number);
+        if (status != NIW_MARKERS_SPENT) check_call(status, "niw_leave_conversation");
+    }
+    send_due();
+}
+
+/* Notes whether frames of the peer come in the active aggregator. */
+static void note_heard(void) {
+    if (carry.counts[HANDED_UP] != handed_before && carry.active != 0) heard_at = carry.time;
+    handed_before = carry.counts[HANDED_UP];
 }
 
 /* After calls that may have changed something: the active aggregator, what goes on, and the next moves. */
@@ -198,6 +251,7 @@ void settle_carry(void) {
     take_views();
     choose_active();
     withdraw();
+    leave_last();
     set_collecting();
     look_at_partner();
     if (carry.waiting) release();
@@ -210,6 +264,7 @@ void pass_carry_tick(void) {
     if (!carries_data()) return;
     carry.time = milliseconds();
     pass_fast_tick();
+    note_heard();
     pass_flight_tick();
     count_losses();
     carry.changed = to_balance = true;

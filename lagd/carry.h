@@ -110,9 +110,11 @@ extern struct carry carry;
 
 /* carry.c */
 struct niw_assignment state_of(uint16_t aggregator, uint16_t number);
+const uint16_t *ports_in(uint16_t aggregator);
 bool is_held(const struct niw_assignment *state);
 bool is_home(const struct conversation *conversation, uint16_t number);
 bool is_busy(const struct conversation *conversation);
+void doubt_aggregator(void);
 void hand_up(uint32_t aggregator, const uint8_t *packet, size_t length);
 uint64_t milliseconds(void);
 

@@ -22,10 +22,6 @@ static bool distributes(uint16_t port) {
     return answer.is;
 }
 
-static uint64_t load_of(uint16_t port) {
-    return number_of(niw_load(&own_system, port), "niw_load");
-}
-
 /* A port on defaults sends an LACPDU each 30 s only, so a link that was silent for more than 6 s would be long in coming back. As one
  * whose link came up it sends one each second. It is done to ports that carry nothing, after a second, and then after twice as long each
  * time. */
@@ -36,7 +32,7 @@ static void wake_port(uint16_t port) {
     unsigned *after = &wakes_after[port - 1];
     if (link->view.receive_state == NIW_RECEIVE_CURRENT || *after == 0) *after = FIRST_WAKE;
     on_defaults[port - 1] = sleeps ? on_defaults[port - 1] + 1 : 0;
-    if (on_defaults[port - 1] < *after || load_of(port) > 0) return;
+    if (on_defaults[port - 1] < *after || number_of(niw_load(&own_system, port), "niw_load") > 0) return;
     *after = 2 * *after < LAST_WAKE ? 2 * *after : LAST_WAKE;
     check_call(niw_set_link(&own_system, port, false), "niw_set_link");
     check_call(niw_set_link(&own_system, port, true), "niw_set_link");
@@ -51,7 +47,7 @@ void note_sent(uint16_t port) {
 
 /* Frees what is held on a port that does not distribute for longer than frames can be on their way. */
 static void watch_port(uint16_t port) {
-    bool holds = !distributes(port) && load_of(port) > 0;
+    bool holds = !distributes(port) && number_of(niw_held(&own_system, port), "niw_held") > 0;
     struct niw_number freed;
     uint64_t *since = &silent_since[port - 1];
     if (!holds || *since == 0) *since = holds ? carry.time : 0;

@@ -210,6 +210,7 @@ void add_fast_counts(uint16_t port, const struct fast_member *more) {
     counts[UNCOLLECTED] += more->uncollected;
     counts[WRONG_LENGTH] += more->wrong_length;
     carry.counts[HANDED_UP] += more->passed_up;
+    if (more->uncollected > 0) doubt_aggregator();
 }
 
 /* So many frames more were passed on by the kernel alone, on a port. */

@@ -5,8 +5,7 @@
 #define NONE UINT16_MAX
 
 /* The port of each conversation in the active aggregator, or 0: it is free there, or held. */
-static uint16_t ports_of[CONVERSATIONS];
-static bool changed[CONVERSATIONS];
+static const uint16_t *ports_of;
 
 /* Whether a conversation is on its way from one port that distributes to another. */
 static bool any_moves(void) {
@@ -18,7 +17,7 @@ static bool any_moves(void) {
 /* Moves a conversation to a port; answers whether it is on the move. */
 static bool move(uint16_t number, uint16_t port) {
     if (niw_move_conversation(&own_system, carry.active, number, port) != NIW_OK) return false;
-    ports_of[number] = 0;
+    ports_of = ports_in(carry.active);
     carry.conversations[number].port = port;
     carry.counts[MOVES]++;
     return true;
@@ -74,8 +73,7 @@ static bool level(void) {
 /* Moves what has to move, once a tick, towards a peer that answers markers: one marker of a port tells of all that leave it. */
 void balance(void) {
     if (carry.port_count < 2 || answering() != ANSWERS || any_moves()) return;
-    check_call(niw_conversation_ports(&own_system, carry.active, ports_of, CONVERSATIONS, changed, CONVERSATIONS).status,
-        "niw_conversation_ports");
+    ports_of = ports_in(carry.active);
     if (move_asked() || level()) send_due();
 }
 
