@@ -10,7 +10,7 @@
 /* How many frames of a conversation wait at most. */
 #define LONGEST_WAIT 2048
 /* For how long frames of the peer tell that it has the same aggregator, in milliseconds. */
-#define HEARD 1000
+#define HEARD 3000
 
 struct carry carry = {.changed = true};
 
