@@ -8,6 +8,7 @@ struct bundle bundle;
 
 static unsigned lines = MOST_LINES; /* how many changes may still be told */
 static bool told;                   /* whether the first state was */
+static uint16_t chosen;             /* the aggregator that was chosen last, or 0 */
 
 static uint16_t carrying_in(uint16_t aggregator) {
     uint16_t carrying = 0;
@@ -30,14 +31,16 @@ static unsigned rank_of(uint16_t aggregator) {
     return carrying_in(aggregator) + (first->view.defaulted ? 0u : NIW_MOST_PORTS);
 }
 
-/* Writes one end of a group so that memcmp compares two of them. */
+/* Writes one end of a group so that memcmp compares two of them: system, key, port, each by its priority first. */
 static uint8_t *put_end(const struct niw_end *end, uint8_t *at) {
-    const uint16_t numbers[] = {end->system_priority, end->key, end->port_priority, end->port};
+    const uint16_t behind[] = {end->key, end->port_priority, end->port};
+    *at++ = (uint8_t)(end->system_priority >> 8);
+    *at++ = (uint8_t)end->system_priority;
     memcpy(at, end->system_mac, sizeof end->system_mac);
     at += sizeof end->system_mac;
-    for (size_t i = 0; i < sizeof numbers / sizeof *numbers; i++) {
-        *at++ = (uint8_t)(numbers[i] >> 8);
-        *at++ = (uint8_t)numbers[i];
+    for (size_t i = 0; i < sizeof behind / sizeof *behind; i++) {
+        *at++ = (uint8_t)(behind[i] >> 8);
+        *at++ = (uint8_t)behind[i];
     }
     return at;
 }
@@ -54,18 +57,22 @@ static bool is_lesser(uint16_t one, uint16_t other) {
     return memcmp(groups[0], groups[1], sizeof groups[0]) < 0;
 }
 
-/* Chooses the aggregator with most ports that carry; of several the one with the least group, so that the other end does so, too. One
- * without a partner is chosen where there is no other. */
+/* Whether an aggregator is to carry rather than another: one with a partner, then one with more ports that carry. Of equal ones that
+ * which carries now stays, if it is kept; else it is the one with the least group, so that the other end chooses it, too. */
+static bool is_better(uint16_t one, uint16_t other) {
+    unsigned rank = rank_of(one), rank_of_other = rank_of(other);
+    if (rank != rank_of_other) return rank > rank_of_other;
+    if (keeps_aggregator() && (one == chosen || other == chosen)) return one == chosen;
+    return is_lesser(one, other);
+}
+
+/* Chooses the aggregator whose ports carry. One without a partner is chosen where there is no other. */
 void choose_aggregator(struct bundle *now) {
-    unsigned best = 0;
-    now->aggregator = now->carrying = 0;
-    for (uint16_t aggregator = 1; aggregator <= aggregator_count; aggregator++) {
-        unsigned rank = rank_of(aggregator);
-        if (rank < best || rank == 0 || (rank == best && !is_lesser(aggregator, now->aggregator))) continue;
-        best = rank;
-        now->carrying = carrying_in(aggregator);
-        now->aggregator = aggregator;
-    }
+    uint16_t best = 0;
+    for (uint16_t aggregator = 1; aggregator <= aggregator_count; aggregator++)
+        if (rank_of(aggregator) > 0 && (best == 0 || is_better(aggregator, best))) best = aggregator;
+    chosen = now->aggregator = best;
+    now->carrying = best == 0 ? 0 : carrying_in(best);
 }
 
 /* How many links there may be. */

@@ -9,12 +9,17 @@
 
 /* How many frames of a conversation wait at most. */
 #define LONGEST_WAIT 2048
+/* For how long frames of the peer tell that it has the same aggregator, in milliseconds. */
+#define HEARD 3000
 
 struct carry carry = {.changed = true};
 
 static int tap = -1;
 static uint8_t *rooms; /* for the packets of a batch */
 static bool to_balance; /* whether a tick passed since the last look at the loads */
+static uint16_t last_active;    /* the aggregator that was active last, or 0 */
+static uint64_t heard_at;       /* the time at which frames came in the active aggregator last, or 0 */
+static uint64_t handed_before;  /* how many were handed up then */
 
 bool carries_data(void) {
     return tap >= 0;
@@ -38,15 +43,20 @@ struct niw_assignment state_of(uint16_t aggregator, uint16_t number) {
     return state;
 }
 
-bool is_held(const struct niw_assignment *state) {
-    return state->what == NIW_CONVERSATION_WANTED || state->what == NIW_CONVERSATION_FLUSHING;
+/* The port of each conversation of an aggregator; 0 where it is free or held there, or there is no aggregator. */
+const uint16_t *ports_in(uint16_t aggregator) {
+    static uint16_t ports[CONVERSATIONS];
+    static bool changed[CONVERSATIONS];
+    if (aggregator == 0)
+        memset(ports, 0, sizeof ports);
+    else
+        check_call(niw_conversation_ports(&own_system, aggregator, ports, CONVERSATIONS, changed, CONVERSATIONS).status,
+            "niw_conversation_ports");
+    return ports;
 }
 
-/* Frees a conversation, if it is not free. */
-void free_conversation(uint16_t aggregator, uint16_t number) {
-    uint32_t status = niw_force(&own_system, aggregator, number);
-    if (status != NIW_NOT_ASSIGNED) check_call(status, "niw_force");
-    carry.changed = true;
+bool is_held(const struct niw_assignment *state) {
+    return state->what == NIW_CONVERSATION_WANTED || state->what == NIW_CONVERSATION_FLUSHING;
 }
 
 /* Whether the frames of a conversation may go in the active aggregator: none of it is on its way in another one. */
@@ -57,20 +67,8 @@ bool is_home(const struct conversation *conversation, uint16_t number) {
 
 /* Whether a conversation had a frame of late, in the active aggregator. */
 bool is_busy(const struct conversation *conversation) {
-    return conversation->home == carry.active && !is_unused(conversation);
-}
-
-/* Whether a conversation had no frame of late. */
-bool is_unused(const struct conversation *conversation) {
-    return !conversation->used && (conversation->last == 0 || carry.time - conversation->last >= BUSY);
-}
-
-/* Offers a frame of a conversation, however long it is: the library looks at the last octets of both addresses alone. */
-struct niw_number offer_number(uint16_t number) {
-    uint8_t header[NIW_SHORTEST_FRAME] = {0};
-    header[4] = (uint8_t)(number >> 8);
-    header[5] = (uint8_t)number;
-    return niw_offer(&own_system, carry.active, header, sizeof header);
+    bool is_recent = conversation->last != 0 && carry.time - conversation->last < BUSY;
+    return conversation->home == carry.active && (conversation->used || is_recent);
 }
 
 static void drop_first(struct conversation *conversation, enum carry_count why) {
@@ -99,10 +97,10 @@ static void keep(struct conversation *conversation, const uint8_t *packet, size_
 static bool send_on(struct conversation *conversation, uint16_t number, uint8_t *packet, size_t length) {
     struct niw_number answer;
     if (!is_home(conversation, number) || carry.time < conversation->fast.not_before) return false;
-    answer = offer_number(number);
+    answer = niw_offer_conversation(&own_system, carry.active, number);
     if (answer.status == NIW_HELD) return false;
     if (answer.status != NIW_OK) {
-        if (answer.status != NIW_NONE_DISTRIBUTING) check_call(answer.status, "niw_offer");
+        if (answer.status != NIW_NONE_DISTRIBUTING) check_call(answer.status, "niw_offer_conversation");
         carry.counts[NONE_CARRIES]++;
         return true;
     }
@@ -165,11 +163,25 @@ static void take_host(void) {
     }
 }
 
+/* The peer sends in another aggregator than the active one. */
+void doubt_aggregator(void) {
+    if (heard_at == 0) return;
+    heard_at = 0;
+    carry.changed = true;
+}
+
+/* Whether the active aggregator stays where another one has as many ports: the peer has it, too, since its frames come there, or there
+ * is no data. Ends that differ so come together: then neither has frames of the other one, and both take the one with the least group. */
+bool keeps_aggregator(void) {
+    return !carries_data() || (heard_at != 0 && carry.time - heard_at < HEARD);
+}
+
 /* A packet came in an aggregator. */
 void hand_up(uint32_t aggregator, const uint8_t *packet, size_t length) {
-    if (aggregator != carry.active)
+    if (aggregator != carry.active) {
         carry.counts[OTHER_AGGREGATOR]++;
-    else if (write(tap, packet, length) == (ssize_t)length)
+        doubt_aggregator();
+    } else if (write(tap, packet, length) == (ssize_t)length)
         carry.counts[HANDED_UP]++;
     else
         carry.counts[HOST_UNTAKEN]++;
@@ -207,7 +219,29 @@ static void choose_active(void) {
     if (before != 0 && carry.active != 0 && before != carry.active) carry.counts[SWITCHES]++;
     if ((before == 0) != (carry.active == 0))
         (void)say(LOG_NOTICE | ABOUT_CARRIER, "carry %s: carrier %s", settings.carry, carry.active ? "on" : "off");
+    if (before != carry.active) heard_at = 0;
     set_carrier(carry.active != 0);
+}
+
+/* Another aggregator is active: what is on a port of the last one leaves it, behind a marker. Its frames wait until it is free there. One
+ * for which no marker is left goes on after a rest. */
+static void leave_last(void) {
+    uint16_t last = last_active;
+    const uint16_t *ports;
+    if (carry.active == 0 || carry.active == last) return;
+    last_active = carry.active;
+    ports = ports_in(last);
+    for (uint16_t number = 0; number < CONVERSATIONS; number++) {
+        uint32_t status = ports[number] == 0 ? NIW_OK : niw_leave_conversation(&own_system, last, number);
+        if (status != NIW_MARKERS_SPENT) check_call(status, "niw_leave_conversation");
+    }
+    send_due();
+}
+
+/* Notes whether frames of the peer come in the active aggregator. */
+static void note_heard(void) {
+    if (carry.counts[HANDED_UP] != handed_before && carry.active != 0) heard_at = carry.time;
+    handed_before = carry.counts[HANDED_UP];
 }
 
 /* After calls that may have changed something: the active aggregator, what goes on, and the next moves. */
@@ -217,6 +251,7 @@ void settle_carry(void) {
     take_views();
     choose_active();
     withdraw();
+    leave_last();
     set_collecting();
     look_at_partner();
     if (carry.waiting) release();
@@ -229,6 +264,7 @@ void pass_carry_tick(void) {
     if (!carries_data()) return;
     carry.time = milliseconds();
     pass_fast_tick();
+    note_heard();
     pass_flight_tick();
     count_losses();
     carry.changed = to_balance = true;

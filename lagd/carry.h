@@ -110,12 +110,11 @@ extern struct carry carry;
 
 /* carry.c */
 struct niw_assignment state_of(uint16_t aggregator, uint16_t number);
+const uint16_t *ports_in(uint16_t aggregator);
 bool is_held(const struct niw_assignment *state);
 bool is_home(const struct conversation *conversation, uint16_t number);
 bool is_busy(const struct conversation *conversation);
-bool is_unused(const struct conversation *conversation);
-struct niw_number offer_number(uint16_t number);
-void free_conversation(uint16_t aggregator, uint16_t number);
+void doubt_aggregator(void);
 void hand_up(uint32_t aggregator, const uint8_t *packet, size_t length);
 uint64_t milliseconds(void);
 
@@ -212,6 +211,7 @@ void put_data(uint16_t port, uint8_t *packet, size_t length);
 void flush_data(void);
 void take_data(uint16_t port);
 bool send_marker_again(uint16_t port);
+bool send_probe(uint16_t port, const uint8_t *marker);
 void count_losses(void);
 uint64_t member_count(uint16_t port, enum member_count count);
 
@@ -229,7 +229,7 @@ void balance(void);
 /* probe.c */
 enum answering answering(void);
 void look_at_partner(void);
-void pass_probe_tick(uint64_t *again);
+void pass_probe_tick(void);
 void doubt_partner(void);
 
 /* flight.c */

@@ -24,6 +24,7 @@ static int tap_at;                        /* the index of the TAP device */
 static int sender = -1, handover = -1;    /* what keeps its programs there */
 static struct fast_member counted[NIW_MOST_PORTS];
 static uint64_t counted_overflows;
+static const uint16_t *on; /* the port of each conversation in the active aggregator, as it was asked last */
 
 bool is_fast(void) {
     return rows != NULL;
@@ -160,7 +161,7 @@ static void take_back(bool (*is_chosen)(const struct conversation *conversation,
 
 static bool is_wrong(const struct conversation *conversation, uint16_t port) {
     (void)port;
-    return !may_pass(conversation, conversation->fast.port);
+    return on[number_in(conversation)] != conversation->fast.port || !has_fast_member(conversation->fast.port);
 }
 
 static bool is_on(const struct conversation *conversation, uint16_t port) {
@@ -175,7 +176,9 @@ static bool is_resting(const struct conversation *conversation, uint16_t port) {
 
 /* Takes back what is not, or no longer, on the port where the kernel passes it on: before a marker goes there. */
 void withdraw(void) {
-    if (is_fast()) take_back(is_wrong, 0);
+    if (!is_fast()) return;
+    on = ports_in(carry.active);
+    take_back(is_wrong, 0);
 }
 
 /* The link of a port goes down, or its interface: before the library hears of it. */

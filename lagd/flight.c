@@ -22,10 +22,6 @@ static bool distributes(uint16_t port) {
     return answer.is;
 }
 
-static uint64_t load_of(uint16_t port) {
-    return number_of(niw_load(&own_system, port), "niw_load");
-}
-
 /* A port on defaults sends an LACPDU each 30 s only, so a link that was silent for more than 6 s would be long in coming back. As one
  * whose link came up it sends one each second. It is done to ports that carry nothing, after a second, and then after twice as long each
  * time. */
@@ -36,7 +32,7 @@ static void wake_port(uint16_t port) {
     unsigned *after = &wakes_after[port - 1];
     if (link->view.receive_state == NIW_RECEIVE_CURRENT || *after == 0) *after = FIRST_WAKE;
     on_defaults[port - 1] = sleeps ? on_defaults[port - 1] + 1 : 0;
-    if (on_defaults[port - 1] < *after || load_of(port) > 0) return;
+    if (on_defaults[port - 1] < *after || number_of(niw_load(&own_system, port), "niw_load") > 0) return;
     *after = 2 * *after < LAST_WAKE ? 2 * *after : LAST_WAKE;
     check_call(niw_set_link(&own_system, port, false), "niw_set_link");
     check_call(niw_set_link(&own_system, port, true), "niw_set_link");
@@ -51,7 +47,7 @@ void note_sent(uint16_t port) {
 
 /* Frees what is held on a port that does not distribute for longer than frames can be on their way. */
 static void watch_port(uint16_t port) {
-    bool holds = !distributes(port) && load_of(port) > 0;
+    bool holds = !distributes(port) && number_of(niw_held(&own_system, port), "niw_held") > 0;
     struct niw_number freed;
     uint64_t *since = &silent_since[port - 1];
     if (!holds || *since == 0) *since = holds ? carry.time : 0;
@@ -76,10 +72,10 @@ static void drop_old(struct conversation *conversation) {
     }
 }
 
-/* Frees a conversation of which nothing was sent for a flight: its next frame overtakes none. */
-static void rest(struct conversation *conversation, uint16_t number) {
-    free_conversation(conversation->home, number);
+/* A conversation was freed of which nothing was sent for a flight: its next frame overtakes none. */
+static void note_rested(struct conversation *conversation) {
     carry.counts[RESTED]++;
+    carry.changed = true;
     conversation->since = 0;
 }
 
@@ -87,9 +83,11 @@ static void rest(struct conversation *conversation, uint16_t number) {
  * of it. */
 static void watch_free(struct conversation *conversation, uint16_t number, const struct niw_assignment *state) {
     conversation->since = 0;
-    if (answering() == MUTE && state->what == NIW_CONVERSATION_ON && conversation->fast.port == 0
-        && carry.time - conversation->last >= settings.flight)
-        rest(conversation, number);
+    if (answering() != MUTE || state->what != NIW_CONVERSATION_ON || conversation->fast.port != 0
+        || carry.time - conversation->last < settings.flight)
+        return;
+    check_call(niw_rest(&own_system, conversation->home, number), "niw_rest");
+    note_rested(conversation);
 }
 
 /* A conversation that is held for long goes on: nothing of it was sent since. It waits for a peer that answers markers, which may have
@@ -99,8 +97,13 @@ static void watch_held(struct conversation *conversation, uint16_t number, const
     if (conversation->since == 0) conversation->since = carry.time;
     if (carry.time - conversation->since < (answered ? UNANSWERED : settings.flight)) return;
     if (is_held(state) && !distributes(state->port)) return;
-    if (is_held(state)) doubt_partner();
-    rest(conversation, number);
+    if (is_held(state)) {
+        doubt_partner();
+        check_call(niw_force(&own_system, conversation->home, number), "niw_force");
+    } else {
+        check_call(niw_rest(&own_system, conversation->home, number), "niw_rest");
+    }
+    note_rested(conversation);
 }
 
 static void watch_conversation(uint16_t number, uint64_t *again) {
@@ -125,7 +128,7 @@ static void watch_conversation(uint16_t number, uint64_t *again) {
 void pass_flight_tick(void) {
     uint64_t again = 0;
     for (uint16_t number = 0; number < CONVERSATIONS; number++) watch_conversation(number, &again);
-    pass_probe_tick(&again);
+    pass_probe_tick();
     for (uint16_t port = 1; port <= link_count; port++) {
         watch_port(port);
         wake_port(port);

@@ -288,6 +288,7 @@ void open_carry(void);
 void end_carry(void);
 bool carries_data(void);
 void look_at_carry(void);
+bool keeps_aggregator(void);
 void settle_carry(void);
 void pass_carry_tick(void);
 void serve_data(uint32_t tag);

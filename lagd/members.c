@@ -210,6 +210,7 @@ void add_fast_counts(uint16_t port, const struct fast_member *more) {
     counts[UNCOLLECTED] += more->uncollected;
     counts[WRONG_LENGTH] += more->wrong_length;
     carry.counts[HANDED_UP] += more->passed_up;
+    if (more->uncollected > 0) doubt_aggregator();
 }
 
 /* So many frames more were passed on by the kernel alone, on a port. */
@@ -249,13 +250,13 @@ void put_data(uint16_t port, uint8_t *packet, size_t length) {
 
 /* Sends a marker behind the data of its port, by the same socket: by another one, of another priority, it would overtake them. What the
  * kernel passes on and no longer may is taken back before. */
-static bool send_marker(struct link *link) {
+static bool send_marker(struct link *link, const uint8_t *marker) {
     struct member *member = member_of(link);
     uint8_t sent[sizeof(struct virtio_net_hdr) + NIW_FRAME] = {0};
     size_t length = head_octets() + NIW_FRAME;
     flush_member(member);
     withdraw();
-    memcpy(sent + head_octets(), member->marker, NIW_FRAME);
+    memcpy(sent + head_octets(), marker, NIW_FRAME);
     memcpy(sent + head_octets() + ETH_ALEN, link->mac, ETH_ALEN);
     return member->socket >= 0 && send(member->socket, sent, length, 0) == (ssize_t)length;
 }
@@ -266,12 +267,17 @@ void take_marker(struct link *link, const uint8_t *frame) {
     memcpy(member->marker, frame, sizeof member->marker);
     member->has_marker = true;
     carry.counts[MARKERS_SENT]++;
-    (void)send_marker(link);
+    (void)send_marker(link, member->marker);
 }
 
 /* Sends the last marker of a port again: a cable may repeat control frames, and may lose one. Answers whether it went. */
 bool send_marker_again(uint16_t port) {
-    return members[port - 1].has_marker && send_marker(&links[port - 1]);
+    return members[port - 1].has_marker && send_marker(&links[port - 1], members[port - 1].marker);
+}
+
+/* Sends a marker that tells of no conversation, as others go; answers whether it went. */
+bool send_probe(uint16_t port, const uint8_t *marker) {
+    return send_marker(&links[port - 1], marker);
 }
 
 /* What the kernel tells beside a frame. */

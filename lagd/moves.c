@@ -4,28 +4,22 @@
 
 #define NONE UINT16_MAX
 
-/* Those that are moving: of them the loads are not looked at until each one is released. */
-static bool moving[CONVERSATIONS];
+/* The port of each conversation in the active aggregator, or 0: it is free there, or held. */
+static const uint16_t *ports_of;
 
-/* Whether one that was moved is still held. */
+/* Whether a conversation is on its way from one port that distributes to another. */
 static bool any_moves(void) {
-    bool any = false;
-    for (uint16_t number = 0; number < CONVERSATIONS; number++) {
-        struct niw_assignment state;
-        if (!moving[number]) continue;
-        state = state_of(carry.active, number);
-        moving[number] = is_held(&state);
-        any = any || moving[number];
-    }
-    return any;
+    for (uint16_t i = 0; i < carry.port_count; i++)
+        if (number_of(niw_held(&own_system, carry.ports[i]), "niw_held") > 0) return true;
+    return false;
 }
 
 /* Moves a conversation to a port; answers whether it is on the move. */
 static bool move(uint16_t number, uint16_t port) {
     if (niw_move_conversation(&own_system, carry.active, number, port) != NIW_OK) return false;
+    ports_of = ports_in(carry.active);
     carry.conversations[number].port = port;
     carry.counts[MOVES]++;
-    moving[number] = true;
     return true;
 }
 
@@ -43,19 +37,15 @@ static bool move_asked(void) {
         struct conversation *conversation = &carry.conversations[number];
         if (!conversation->asked) continue;
         conversation->asked = false;
-        if (is_busy(conversation) && move(number, next_port(conversation->port))) any = true;
+        if (is_busy(conversation) && ports_of[number] != 0 && move(number, next_port(ports_of[number]))) any = true;
     }
     return any;
 }
 
 /* A busy conversation that is on a port, or NONE. */
 static uint16_t find_busy(uint16_t port) {
-    for (uint16_t number = 0; number < CONVERSATIONS; number++) {
-        const struct conversation *conversation = &carry.conversations[number];
-        if (is_busy(conversation) && conversation->port == port && !moving[number]
-            && state_of(carry.active, number).what == NIW_CONVERSATION_ON)
-            return number;
-    }
+    for (uint16_t number = 0; number < CONVERSATIONS; number++)
+        if (ports_of[number] == port && is_busy(&carry.conversations[number])) return number;
     return NONE;
 }
 
@@ -64,7 +54,7 @@ static bool level(void) {
     unsigned loads[NIW_MOST_PORTS] = {0};
     bool any = false;
     for (uint16_t number = 0; number < CONVERSATIONS; number++)
-        if (is_busy(&carry.conversations[number])) loads[carry.conversations[number].port - 1]++;
+        if (ports_of[number] != 0 && is_busy(&carry.conversations[number])) loads[ports_of[number] - 1]++;
     for (;;) {
         uint16_t most = carry.ports[0], least = carry.ports[0], found;
         for (uint16_t i = 1; i < carry.port_count; i++) {
@@ -83,6 +73,7 @@ static bool level(void) {
 /* Moves what has to move, once a tick, towards a peer that answers markers: one marker of a port tells of all that leave it. */
 void balance(void) {
     if (carry.port_count < 2 || answering() != ANSWERS || any_moves()) return;
+    ports_of = ports_in(carry.active);
     if (move_asked() || level()) send_due();
 }
 

@@ -1,21 +1,20 @@
-/* Whether the peer answers markers: a conversation is moved, if there is one without frames, to see whether it is released. */
+/* Whether the peer answers markers: a marker that tells of no conversation asks it. */
 #define _GNU_SOURCE
 #include <string.h>
 
 #include "carry.h"
 
-/* How long the peer may take, and when one that does not answer is asked again, in milliseconds. */
+/* How long the peer may take, when the marker is sent again, and when a peer that does not answer is asked again, in milliseconds. */
 #define PATIENCE 1000
+#define AGAIN 200
 #define LATER 60000
-#define AGAIN_TICKS 2
 
 static enum answering peer = NOT_ASKED, told = NOT_ASKED;
-static uint16_t probe_number, probe_aggregator; /* the conversation, and its aggregator */
-static bool in_use;            /* whether it has frames */
-static uint16_t asked_on;      /* the port that had its marker */
-static uint64_t responses;       /* marker responses that came there before */
-static uint64_t asked_at;
-static struct system_id partner; /* of the active aggregator */
+static uint16_t asked_on;          /* the port that had the marker */
+static uint8_t marker[NIW_FRAME];
+static uint64_t responses;         /* marker responses that came there before */
+static uint64_t asked_at, sent_at; /* the times when the marker went first, and last */
+static struct system_id partner;   /* of the active aggregator */
 static uint16_t partner_key;
 
 enum answering answering(void) {
@@ -38,56 +37,27 @@ void look_at_partner(void) {
     partner_key = view->partner_key;
     partner.priority = view->partner_priority;
     memcpy(partner.mac, view->partner_mac, sizeof partner.mac);
-    if (peer == ASKED && !in_use) free_conversation(probe_aggregator, probe_number);
     peer = told = NOT_ASKED;
 }
 
-/* Finds a conversation that nobody uses, and offers a frame of it that is never sent; answers the port, or 0. */
-static uint16_t find_unused(void) {
-    for (uint16_t i = CONVERSATIONS; i > 0; i--) {
-        const struct conversation *conversation = &carry.conversations[i - 1];
-        struct niw_number answer;
-        probe_number = (uint16_t)(i - 1);
-        if (!is_unused(conversation)) continue;
-        if (state_of(carry.active, probe_number).what != NIW_CONVERSATION_FREE || !is_home(conversation, probe_number)) continue;
-        answer = offer_number(probe_number);
-        if (answer.status == NIW_OK) return (uint16_t)answer.number;
-    }
-    return 0;
-}
-
-/* Finds the conversation on a port that was not used for longest; answers the port, or 0. */
-static uint16_t find_oldest(void) {
-    uint64_t oldest = UINT64_MAX;
-    uint16_t from = 0;
-    for (uint16_t i = 0; i < CONVERSATIONS; i++) {
-        const struct conversation *conversation = &carry.conversations[i];
-        struct niw_assignment state;
-        if (conversation->home != carry.active || conversation->last >= oldest) continue;
-        state = state_of(carry.active, i);
-        if (state.what != NIW_CONVERSATION_ON) continue;
-        oldest = conversation->last;
-        probe_number = i;
-        from = state.port;
-    }
-    return from;
-}
-
+/* Sends a marker behind the data of a port of the active aggregator. There is none while no identifier is left. */
 static void ask_peer(void) {
-    uint16_t from = find_unused(), to;
-    in_use = from == 0;
-    if (in_use) from = find_oldest();
-    if (from == 0) return;
-    to = carry.ports[0] == from ? carry.ports[1] : carry.ports[0];
-    if (niw_move_conversation(&own_system, carry.active, probe_number, to) != NIW_OK) {
-        if (!in_use) free_conversation(carry.active, probe_number);
-        return;
-    }
+    struct niw_sent asked = niw_probe(&own_system, carry.ports[0], marker, sizeof marker);
+    check_call(asked.status, "niw_probe");
+    if (!asked.is) return;
     peer = ASKED;
-    probe_aggregator = carry.active;
-    asked_at = carry.time;
-    asked_on = from;
-    responses = links[from - 1].counts[RESPONSES_RECEIVED];
+    asked_on = carry.ports[0];
+    asked_at = sent_at = carry.time;
+    responses = links[asked_on - 1].counts[RESPONSES_RECEIVED];
+    carry.counts[MARKERS_SENT]++;
+    (void)send_probe(asked_on, marker);
+}
+
+/* Sends the marker again: a cable may lose one. */
+static void ask_again(void) {
+    if (carry.time - sent_at < AGAIN) return;
+    sent_at = carry.time;
+    if (send_probe(asked_on, marker)) carry.counts[MARKERS_AGAIN]++;
 }
 
 /* Says what the peer does, once. */
@@ -101,28 +71,26 @@ static void tell_peer(void) {
             settings.carry, settings.flight);
 }
 
+/* Whether a response came since the peer was asked, and the library took one as an answer to a marker of the port. */
+static bool has_answered(void) {
+    return links[asked_on - 1].counts[RESPONSES_RECEIVED] > responses
+        && number_of(niw_answers(&own_system, asked_on), "niw_answers") == NIW_ANSWERS_ANSWERED;
+}
+
 /* What is known of the peer now. One whose link went meanwhile is asked again. */
-static enum answering judge(bool held) {
-    if (links[asked_on - 1].counts[RESPONSES_RECEIVED] > responses) return ANSWERS;
-    if (!held || links[asked_on - 1].view.port_status != NIW_PORT_STATUS_DISTRIBUTING) return NOT_ASKED;
+static enum answering judge(void) {
+    if (has_answered()) return ANSWERS;
+    if (links[asked_on - 1].view.port_status != NIW_PORT_STATUS_DISTRIBUTING) return NOT_ASKED;
     return carry.time - asked_at < PATIENCE ? ASKED : MUTE;
 }
 
-/* Looks whether the probe was released. One that has frames is freed as others are. */
-static void look_at_probe(uint64_t *again) {
-    struct niw_assignment state = state_of(probe_aggregator, probe_number);
-    bool held = is_held(&state);
-    if (state.what == NIW_CONVERSATION_FLUSHING && state.age > 0 && state.age % AGAIN_TICKS == 0)
-        *again |= (uint64_t)1 << (state.port - 1);
-    peer = judge(held);
-    if (peer == ASKED) return;
-    if (held && !in_use) free_conversation(probe_aggregator, probe_number);
-    tell_peer();
-}
-
-/* 100 ms passed. `again` is a mask of the ports whose marker is to be sent again. */
-void pass_probe_tick(uint64_t *again) {
+/* 100 ms passed. */
+void pass_probe_tick(void) {
     if (peer == MUTE && carry.time - asked_at >= LATER) peer = NOT_ASKED;
-    if (peer == ASKED) look_at_probe(again);
+    if (peer == ASKED) {
+        peer = judge();
+        if (peer == ASKED) ask_again();
+        tell_peer();
+    }
     if (peer == NOT_ASKED && carry.port_count >= 2) ask_peer();
 }

@@ -4,11 +4,12 @@ from __future__ import annotations
 
 import shutil
 import signal
+import subprocess
 import time
 from typing import Callable
 
-from bonds import (CACHE, COMES_BACK, COMES_UP, DEVICE, FLOWS, RIGHTS, End, Event, Programs, ask_gro, cables, check_end, check_order, check_whole, every,
-                   lay_direct, move_all, pair, run_flows)
+from bonds import (CACHE, COMES_BACK, COMES_UP, DEVICE, FLOWS, RIGHTS, Cables, Carry, End, Event, Programs, ask_gro, cables, check_end,
+                   check_order, check_whole, every, lay_direct, move_all, pair, run_flows)
 from fast_parts import fast, fast_away, fast_ends, fast_hash, fast_overload, fast_refused, fast_troubles, kernel_hashes, offload
 from models import model
 from rows import rows
@@ -74,23 +75,45 @@ def silence(programs: Programs) -> None:
 
 def switches(programs: Programs) -> None:
     """Two groups of two links, by two keys of the other end, which has other numbers for their aggregators: data goes by the group that has
-    more links, and by the same one at both ends."""
+    more links, and by the same one at both ends. Where both have as many, it stays while the other end sends there."""
     with cables(programs, (0, 20000, 5000, 0)) as laid:
         ours, theirs = End(programs, OURS, links=4), End(programs, THEIRS, names=("b2:key=6", "b3:key=6", "b0", "b1"))
         try:
             two = lambda: ours.links() == theirs.links() == 2 and ours.carry()["markers"] == "answered"
             check(within(COMES_UP, two), "two of four links carry", ours.text(), theirs.text())
             time.sleep(LINKWATCH)
-            first, before = ours.carry()["aggregator"], ours.carry()["switches"]
+            first, before = ours.carry()["aggregator"], ours.carry()
             outcome = run_flows(programs, 10, [(1, lambda: laid.tell("cut", 0)), (4, lambda: laid.tell("join", 0))])
             carry = ours.carry()
-            told = f"it switched {carry['switches'] - before} times, and is at aggregator {first} again"
-            check(carry["switches"] - before == 2 and carry["aggregator"] == first, told, ours.printed())
+            told = f"it switched {carry['switches'] - before['switches']} times, and is at aggregator {first} again"
+            check(carry["switches"] - before["switches"] == 2 and carry["aggregator"] == first, told, ours.printed())
+            check(carry["rested"] == before["rested"], "conversations left the other one behind markers, none after a rest", ours.text())
             check_order(outcome, "through two switches of the aggregator", ours.text())
             check_whole(outcome, ours, theirs, cables_lose=True)
+            stays_while_heard(programs, laid, ours, theirs)
         finally:
             ours.stop()
             theirs.stop()
+
+
+def stays_while_heard(programs: Programs, laid: Cables, ours: End, theirs: End) -> None:
+    """With data from the other end, a group that has as many links again does not get the data back."""
+    first, before = ours.carry()["aggregator"], ours.carry()["switches"]
+    back = subprocess.Popen(["ip", "netns", "exec", THEIRS, programs.flows, "send", DEVICE, "1000", "8", "20", "macs"],
+                            stdout=subprocess.DEVNULL)
+    try:
+        seen: list[Carry] = []
+        events: list[Event] = [(1, lambda: laid.tell("cut", 0)), (3, lambda: laid.tell("join", 0)), (8, lambda: seen.append(ours.carry()))]
+        outcome = run_flows(programs, 9, events)
+        told = f"it switched {seen[0]['switches'] - before} times, and is not at aggregator {first}"
+        check(seen[0]["switches"] - before == 1 and seen[0]["aggregator"] != first, told, ours.printed())
+        check_order(outcome, "with data in both directions", ours.text())
+        outcome = run_flows(programs, 6, [(1, lambda: laid.tell("cut", 2)), (3, lambda: laid.tell("join", 2))])
+        check(ours.carry()["aggregator"] == first, f"a cut there brings it back to aggregator {first}", ours.printed())
+        check_order(outcome, "with data in both directions, and back", ours.text())
+    finally:
+        back.kill()
+        back.wait()
 
 
 def away(programs: Programs) -> None:
