@@ -9,7 +9,7 @@ import ctypes
 from enum import IntEnum, IntFlag
 from typing import Any, Callable, Final
 
-VERSION: Final = 5
+VERSION: Final = 6
 VERSION_TEXT: Final = "0.1.0"
 FRAME: Final = 124
 PAYLOAD_LENGTH: Final = 110
@@ -18,6 +18,7 @@ LONGEST_FRAME: Final = 1518
 MOST_PORTS: Final = 64
 FEW_CONVERSATIONS: Final = 256
 MANY_CONVERSATIONS: Final = 4096
+MOST_CONVERSATIONS: Final = 65536
 TICK_MILLISECONDS: Final = 100
 STATE_TEXT_ROOM: Final = 87
 
@@ -44,6 +45,10 @@ class Status(IntEnum):
     NULL = 16
     BAD_PAYLOAD = 17
     NO_PDU = 18
+    NO_QUEUE = 19
+    HAS_QUEUE = 20
+    CONVERSATION_FULL = 21
+    ALL_FULL = 22
 
 
 class Reason(IntEnum):
@@ -174,6 +179,17 @@ class MarkerKind(IntEnum):
 
 class NiwSystem(ctypes.Structure):
     """struct niw_system."""
+
+    live: bool
+    at: int | None
+    _fields_ = [
+        ("live", ctypes.c_bool),
+        ("at", ctypes.c_void_p),
+    ]
+
+
+class NiwQueue(ctypes.Structure):
+    """struct niw_queue."""
 
     live: bool
     at: int | None
@@ -516,6 +532,64 @@ class NiwDecoded(ctypes.Structure):
     ]
 
 
+class NiwCarried(ctypes.Structure):
+    """struct niw_carried."""
+
+    port: int
+    load: int
+    _fields_ = [
+        ("port", ctypes.c_uint16),
+        ("load", ctypes.c_uint32),
+    ]
+
+
+class NiwMove(ctypes.Structure):
+    """struct niw_move."""
+
+    status: int
+    is_: bool
+    conversation: int
+    port: int
+    _fields_ = [
+        ("status", ctypes.c_uint32),
+        ("is_", ctypes.c_bool),
+        ("conversation", ctypes.c_uint16),
+        ("port", ctypes.c_uint16),
+    ]
+
+
+class NiwQueued(ctypes.Structure):
+    """struct niw_queued."""
+
+    status: int
+    is_: bool
+    conversation: int
+    port: int
+    frame: int
+    _fields_ = [
+        ("status", ctypes.c_uint32),
+        ("is_", ctypes.c_bool),
+        ("conversation", ctypes.c_uint16),
+        ("port", ctypes.c_uint16),
+        ("frame", ctypes.c_uint64),
+    ]
+
+
+class NiwCounts(ctypes.Structure):
+    """struct niw_counts."""
+
+    status: int
+    waiting: int
+    dropped: int
+    refused: int
+    _fields_ = [
+        ("status", ctypes.c_uint32),
+        ("waiting", ctypes.c_uint64),
+        ("dropped", ctypes.c_uint64),
+        ("refused", ctypes.c_uint64),
+    ]
+
+
 def _bound(library: ctypes.CDLL, name: str, answer: Any, given: list[Any]) -> Callable[..., Any]:
     """A function of the library; AttributeError where it has none of this name."""
     function = getattr(library, name)
@@ -674,6 +748,30 @@ class Functions:
         self.encode: Callable[..., int] = _bound(
             library, "lagffi_encode", ctypes.c_uint32, [ctypes.POINTER(NiwPdu), ctypes.POINTER(ctypes.c_uint8), ctypes.c_size_t]
         )
+        self.next_move: Callable[..., NiwMove] = _bound(
+            library, "lagffi_next_move", NiwMove, [ctypes.POINTER(ctypes.c_uint16), ctypes.c_size_t, ctypes.POINTER(NiwCarried), ctypes.c_size_t]
+        )
+        self.queue_new: Callable[..., int] = _bound(
+            library, "lagffi_queue_new", ctypes.c_uint32, [ctypes.POINTER(NiwQueue), ctypes.c_uint16, ctypes.c_size_t, ctypes.c_size_t]
+        )
+        self.queue_free: Callable[..., int] = _bound(
+            library, "lagffi_queue_free", ctypes.c_uint32, [ctypes.POINTER(NiwQueue)]
+        )
+        self.queue_put: Callable[..., int] = _bound(
+            library, "lagffi_queue_put", ctypes.c_uint32, [ctypes.POINTER(NiwQueue), ctypes.c_uint16, ctypes.c_uint64]
+        )
+        self.queue_next: Callable[..., NiwQueued] = _bound(
+            library, "lagffi_queue_next", NiwQueued, [ctypes.POINTER(NiwQueue), ctypes.c_uint16]
+        )
+        self.queue_drop: Callable[..., NiwQueued] = _bound(
+            library, "lagffi_queue_drop", NiwQueued, [ctypes.POINTER(NiwQueue), ctypes.c_uint16]
+        )
+        self.queue_next_released: Callable[..., NiwQueued] = _bound(
+            library, "lagffi_queue_next_released", NiwQueued, [ctypes.POINTER(NiwQueue), ctypes.POINTER(ctypes.c_uint16), ctypes.c_size_t]
+        )
+        self.queue_counts: Callable[..., NiwCounts] = _bound(
+            library, "lagffi_queue_counts", NiwCounts, [ctypes.POINTER(NiwQueue)]
+        )
 
 
 STATUS_TEXTS: Final = (
@@ -696,6 +794,10 @@ STATUS_TEXTS: Final = (
     "a pointer is null",
     "the payload is refused",
     "it is neither an LACPDU nor a Marker PDU",
+    "the handle holds no queues",
+    "the handle holds queues already",
+    "as many frames of the conversation wait as may",
+    "as many frames wait as may in all",
 )
 REASON_TEXTS: Final = (
     "unknown",

@@ -1,7 +1,7 @@
 /* Calls every function of lag.h and checks what it answers: two systems of two ports each, joined port by port, come to
  * distribute; a conversation moves behind a marker, or is forced; under a limit of one link the second port is STANDBY until the first
  * link is down; payloads are read and written; each refusal has its number, each field its place, and each function refuses each null
- * pointer; niw_new and niw_free alone take and give back memory. It prints one line for each check that fails, with its function, and then
+ * pointer; calls of a system but niw_new and niw_free take and give back no memory. It prints one line for each check that fails, with its function, and then
  * 'calls: N passed, M failed', and ends with status 1 if one failed. It is linked with --wrap for malloc, realloc and free. */
 #include <stdio.h>
 #include <stdlib.h>
@@ -22,7 +22,8 @@ static const struct {
     EXPORT(conversation), EXPORT(conversation_state), EXPORT(next_marker), EXPORT(load), EXPORT(force_port), EXPORT(port_status),
     EXPORT(current_while), EXPORT(wait_while), EXPORT(ntt), EXPORT(ticks), EXPORT(views), EXPORT(due), EXPORT(ticks_until_due),
     EXPORT(decode), EXPORT(encode), EXPORT(offer_conversation), EXPORT(leave_conversation), EXPORT(rest), EXPORT(probe), EXPORT(held),
-    EXPORT(conversation_ports), EXPORT(released), EXPORT(answers),
+    EXPORT(conversation_ports), EXPORT(released), EXPORT(answers), EXPORT(next_move), EXPORT(queue_new), EXPORT(queue_free),
+    EXPORT(queue_put), EXPORT(queue_next), EXPORT(queue_drop), EXPORT(queue_next_released), EXPORT(queue_counts),
 };
 
 static unsigned passed, failed;
@@ -586,9 +587,9 @@ static void check_texts(void) {
         "ACTIVITY AGGREGATION DEFAULTED", "EXPIRED",
         "ACTIVITY TIMEOUT AGGREGATION SYNCHRONIZATION COLLECTING DISTRIBUTING DEFAULTED EXPIRED"};
     char text[NIW_STATE_TEXT_ROOM + 1];
-    for (uint32_t i = 0; i <= NIW_NO_PDU; i++)
+    for (uint32_t i = 0; i <= NIW_ALL_FULL; i++)
         for (uint32_t j = 0; j < i; j++) CHECK(strcmp(niw_status_text(i), niw_status_text(j)) != 0);
-    CHECK(strcmp(niw_status_text(NIW_NO_PDU + 1), "unknown") == 0 && strcmp(niw_status_text(UINT32_MAX), "unknown") == 0);
+    CHECK(strcmp(niw_status_text(NIW_ALL_FULL + 1), "unknown") == 0 && strcmp(niw_status_text(UINT32_MAX), "unknown") == 0);
     CHECK(strcmp(niw_status_text(NIW_NO_MEMORY), "out of memory") == 0 && strcmp(niw_reason_text(0), "unknown") == 0);
     CHECK(strstr(niw_reason_text(NIW_REASON_PORT_NUMBER), "number") && strcmp(niw_reason_text(77), "unknown") == 0);
     CHECK(strcmp(niw_port_status_text(NIW_PORT_STATUS_LINK_DOWN), "the link is down") == 0);
@@ -736,6 +737,8 @@ int main(void) {
     check_statuses();
     check_force_port();
     check_plane();
+    check_next_move();
+    check_queue();
     check_ticks();
     check_waits();
     check_masks();

@@ -26,4 +26,10 @@ void check_payloads(void);
 /* Conversations by their numbers, and what is told of all of them. */
 void check_plane(void);
 
+/* The next move between ports, by niw_next_move. */
+void check_next_move(void);
+
+/* Frames that wait, by niw_queue_new and the calls of its handle. */
+void check_queue(void);
+
 #endif

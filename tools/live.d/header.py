@@ -18,21 +18,23 @@ FAULTS = f"{CRATES}/lagsystem/src/fault.rt"
 WIRE_FAULTS = f"{CRATES}/slowpdu/src/fault.rt"
 STATES = f"{CRATES}/lagtypes/src/state.rt"
 OFFERS = f"{CRATES}/lagsystem/src/offers.rt"
+MOVES = f"{CRATES}/balance/src/moves.rt"
 # Types of C, and their sizes on x86-64, which are their alignments too.
 TYPES = {"u8": "uint8_t", "u16": "uint16_t", "u32": "uint32_t", "u64": "uint64_t", "usize": "size_t", "bool": "bool", "*mut u8": "void *"}
 SIZES = {"uint8_t": 1, "uint16_t": 2, "uint32_t": 4, "uint64_t": 8, "size_t": 8, "bool": 1, "void *": 8}
 # What has a name of its own in C: a handle, its block, and a buffer for port numbers.
 NAMES = {"lag": "handle", "held": "at", "buffer": "numbers"}
-# Structs that have another name in C: the handle, and two that would have the name of a function.
-STRUCTS = {"Lag": "niw_system", "LagParty": "niw_actor", "LagGroup": "niw_group_id"}
+# Structs that have another name in C: the handle, three that would have the name of a function, and one of another crate.
+STRUCTS = {"Lag": "niw_system", "LagParty": "niw_actor", "LagGroup": "niw_group_id", "LagQueueCounts": "niw_counts",
+           "Carried": "niw_carried"}
 # A slice is a pointer and a length, which has no name in the sources.
 LENGTHS = {"keys": "key_count", "ports": "port_count", "response": "room", "numbers": "room", "views": "room",
-           "changed": "changed_count", "busy": "busy_count", "freed": "freed_count"}
+           "changed": "changed_count", "busy": "busy_count", "freed": "freed_count", "carried": "carried_count"}
 # The enums whose variants lagffi tells as numbers, and what stands before a variant's name in the header; and the numbers of the
 # header alone: what it refuses itself, its version, the subtypes of PDUs, and what the sources say in words.
 TOLD = {"Received": "RECEIVED_", "ReceiveState": "RECEIVE_", "MuxState": "MUX_", "Assignment": "CONVERSATION_",
         "PortStatus": "PORT_STATUS_"}
-OWN = {"NIW_NULL": 16, "NIW_VERSION": 5, "NIW_SENT_NOTHING": 0, "NIW_SENT_LACPDU": 1, "NIW_SENT_MARKER": 2,
+OWN = {"NIW_NULL": 16, "NIW_VERSION": 6, "NIW_SENT_NOTHING": 0, "NIW_SENT_LACPDU": 1, "NIW_SENT_MARKER": 2,
        "NIW_SHORTEST_FRAME": 14, "NIW_TICK_MILLISECONDS": 100, "NIW_FEW_CONVERSATIONS": 256, "NIW_MANY_CONVERSATIONS": 4096,
        "NIW_BY_NUMBER": 0, "NIW_BY_SUM": 1, "NIW_REASON_ALGORITHM": 6,
        "NIW_STATE_TEXT_ROOM": 87}
@@ -40,7 +42,7 @@ OWN = {"NIW_NULL": 16, "NIW_VERSION": 5, "NIW_SENT_NOTHING": 0, "NIW_SENT_LACPDU
 # Variants that have a name of their own in C.
 VARIANTS = {"Received::Up": "HANDED_UP"}
 # Constants that have a name of their own in C.
-CONSTANTS = {"HOLDS_SYSTEM_ALREADY": "NIW_HAS_SYSTEM", "WRONG_BUFFER_LENGTH": "NIW_BUFFER", "FRAME_LENGTH_REFUSED": "NIW_FRAME_LENGTH",
+CONSTANTS = {"HOLDS_SYSTEM_ALREADY": "NIW_HAS_SYSTEM", "HOLDS_QUEUE_ALREADY": "NIW_HAS_QUEUE", "WRONG_BUFFER_LENGTH": "NIW_BUFFER", "FRAME_LENGTH_REFUSED": "NIW_FRAME_LENGTH",
              "NO_CONVERSATION": "NIW_NOT_ASSIGNED", "PORT_LIST_LENGTH": "NIW_MOST_PORTS", "CONTROL_FRAME_LENGTH": "NIW_FRAME", "LAST_ALGORITHM": "NIW_BY_FIRST"}
 
 
@@ -56,7 +58,7 @@ def text_of(*paths: str) -> str:
 
 def sources() -> str:
     found = [os.path.join(folder, name) for folder, _, names in os.walk(SOURCES) for name in sorted(names) if name.endswith(".rt")]
-    return text_of(*found)
+    return text_of(*found, MOVES)
 
 
 def one_line(text: str) -> str:
@@ -68,8 +70,13 @@ def snake(name: str) -> str:
     return re.sub(r"(?<=[a-z])(?=[A-Z])", "_", name).lower()
 
 
+def is_told(name: str) -> bool:
+    """Whether C sees a struct of the sources."""
+    return name.startswith("Lag") or name in STRUCTS
+
+
 def struct_name(name: str) -> str:
-    """The name in C of a struct Lag.. of the sources."""
+    """The name in C of a struct of the sources."""
     return STRUCTS.get(name, f"niw_{snake(name)[4:]}")
 
 
@@ -96,7 +103,7 @@ class Structs:
     def __init__(self, text: str) -> None:
         bodies = dict(re.findall(r"#\[repr\(C\)\]\s*(?:#\[[^\n]*\]\s*)*pub struct (\w+) \{(.*?)\n\}", text, re.S))
         self.rattle = {name: self.fields(body) for name, body in bodies.items()}
-        self.all = {struct_name(name): [self.in_c(*field) for field in body] for name, body in self.rattle.items() if name.startswith("Lag")}
+        self.all = {struct_name(name): [self.in_c(*field) for field in body] for name, body in self.rattle.items() if is_told(name)}
 
     @staticmethod
     def fields(body: str) -> list[tuple[str, str]]:
@@ -105,11 +112,11 @@ class Structs:
         return [(name, kind) for name, kind in lines if not name.startswith("ghost ") and kind != "Global"]
 
     def in_c(self, name: str, kind: str) -> Field:
-        """A field in C. A struct that is not called Lag.. has one field, which stands in its place."""
+        """A field in C. A struct that C does not see has one field, which stands in its place."""
         many = re.fullmatch(r"\[(\w+); (\d+)\]", kind)
         if many:
             return Field(self.in_c(name, many[1]).kind, name, int(many[2]))
-        if kind in self.rattle and not kind.startswith("Lag"):
+        if kind in self.rattle and not is_told(kind):
             if len(self.rattle[kind]) != 1:
                 raise Unread(f"{kind} has not one field")
             [(_, kind)] = self.rattle[kind]
@@ -226,7 +233,7 @@ def numbers_of_sources(text: str) -> dict[str, int]:
     numbers = [*variants(faults, {"SystemFault": ""}), *variants(reasons, {"BadConfig": "REASON_"}),
                *variants(of_wire, {"WireFault": "FAULT_"}), *variants(text, TOLD)]
     numbers += [(f"NIW_STATE_{bit}", int(number)) for bit, number in re.findall(r"const (\w+) = (\d+);", text_of(STATES))]
-    for name, number in re.findall(r"\bconst (\w+): (?:u8|u16|u32|usize) = (\d+);", text + text_of(OFFERS)):
+    for name, number in re.findall(r"\bconst (\w+): (?:u8|u16|u32|usize) = ([\d_]+);", text + text_of(OFFERS)):
         numbers.append((CONSTANTS.get(name, f"NIW_{name}"), int(number)))
     found: dict[str, int] = {}
     for name, number in numbers:

@@ -3,6 +3,7 @@ ghost use Rattle.std.specs.Prelude.{◌≡◌, ℕ, ◌+◌, ◌*◌, ◌-◌, �
 ghost use Rattle.balance.specs.Moves.{load_on, conversation_at, IsMove};
 
 /// What a conversation is for the spread over ports (profile).
+#[repr(C)]
 #[derive(Clone, Copy, Debug, PartialEq, Eq)]
 pub struct Carried {
     /// The number of the port that it is on; 0 if it is on none.

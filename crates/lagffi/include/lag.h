@@ -37,10 +37,16 @@ struct niw_system {
     bool live;
     void *at;
 };
+
+/* A handle for frames that wait. NIW_EMPTY holds no queues; niw_queue_new puts them in, and niw_queue_free takes them out again. */
+struct niw_queue {
+    bool live;
+    void *at;
+};
 #define NIW_EMPTY {false, NULL}
 
 /* The version of this header: it is to go up with each change of what stands here. */
-#define NIW_VERSION 5
+#define NIW_VERSION 6
 /* The version of the release that the header is of. */
 #define NIW_VERSION_TEXT "0.1.0"
 /* The octets of a frame that the library answers. */
@@ -55,6 +61,8 @@ struct niw_system {
 /* How many conversations an aggregator may have. */
 #define NIW_FEW_CONVERSATIONS 256
 #define NIW_MANY_CONVERSATIONS 4096
+/* The most conversations that niw_next_move and niw_queue_next_released are given. */
+#define NIW_MOST_CONVERSATIONS 65536
 /* The milliseconds of a tick. */
 #define NIW_TICK_MILLISECONDS 100
 
@@ -64,27 +72,33 @@ struct niw_system {
 /* The statuses. 1 to 12 are the refusals of a system. */
 enum {
     NIW_OK = 0,
-    NIW_NO_PORT = 1,           /* the system has no port of this number */
-    NIW_NO_AGGREGATOR = 2,     /* the system has no such aggregator */
-    NIW_FRAME_LENGTH = 3,      /* an offered frame has not 14 to 1518 octets; niw_conversation: fewer than 14 */
-    NIW_SLOW_FRAME = 4,        /* an offered frame is one of the slow protocols, EtherType 0x8809 */
-    NIW_HELD = 5,              /* the conversation is wanted or flushing, so its frames are held: until the marker's response comes,
-                                  the link of its port goes down, or niw_force or niw_force_port frees it. A link that falls
-                                  silent and stays up holds them for ever: once its port has not distributed for longer
-                                  than frames can take through the network, niw_force_port */
-    NIW_NONE_DISTRIBUTING = 6, /* the conversation is free, and no port distributes in the aggregator */
-    NIW_NOT_DISTRIBUTING = 7,  /* the port to move to does not distribute in the aggregator */
-    NIW_SAME_PORT = 8,         /* the port to move to is the one that the conversation is on */
-    NIW_NOT_ASSIGNED = 9,      /* the conversation is free, or there is no such conversation or aggregator */
-    NIW_MARKERS_SPENT = 10,    /* no marker identifier is left */
-    NIW_BAD_CONFIG = 11,       /* the configuration is refused */
-    NIW_NO_MEMORY = 12,        /* memory was refused; only niw_new answers it, of a configuration that is not refused */
-    NIW_NO_SYSTEM = 13,        /* the handle holds no system */
-    NIW_HAS_SYSTEM = 14,       /* niw_new: the handle holds a system already */
-    NIW_BUFFER = 15,           /* a buffer has less room than the function asks */
-    NIW_NULL = 16,             /* a pointer is null */
-    NIW_BAD_PAYLOAD = 17,      /* niw_decode: the payload is refused */
-    NIW_NO_PDU = 18            /* niw_encode: neither an LACPDU nor a Marker PDU */
+    NIW_NO_PORT = 1,            /* the system has no port of this number */
+    NIW_NO_AGGREGATOR = 2,      /* the system has no such aggregator */
+    NIW_FRAME_LENGTH = 3,       /* an offered frame has not 14 to 1518 octets; niw_conversation: fewer than 14 */
+    NIW_SLOW_FRAME = 4,         /* an offered frame is one of the slow protocols, EtherType 0x8809 */
+    NIW_HELD = 5,               /* the conversation is wanted or flushing, so its frames are held: until the marker's response comes,
+                                   the link of its port goes down, or niw_force or niw_force_port frees it. A link that falls
+                                   silent and stays up holds them for ever: once its port has not distributed for longer
+                                   than frames can take through the network, niw_force_port */
+    NIW_NONE_DISTRIBUTING = 6,  /* the conversation is free, and no port distributes in the aggregator */
+    NIW_NOT_DISTRIBUTING = 7,   /* the port to move to does not distribute in the aggregator */
+    NIW_SAME_PORT = 8,          /* the port to move to is the one that the conversation is on */
+    NIW_NOT_ASSIGNED = 9,       /* the conversation is free, or there is no such conversation or aggregator, or a list of
+                                   conversations has more than 65536 */
+    NIW_MARKERS_SPENT = 10,     /* no marker identifier is left */
+    NIW_BAD_CONFIG = 11,        /* the configuration is refused */
+    NIW_NO_MEMORY = 12,         /* memory was refused; only niw_new, of a configuration that is not refused, and niw_queue_new
+                                   answer it */
+    NIW_NO_SYSTEM = 13,         /* the handle holds no system */
+    NIW_HAS_SYSTEM = 14,        /* niw_new: the handle holds a system already */
+    NIW_BUFFER = 15,            /* a buffer has less room than the function asks */
+    NIW_NULL = 16,              /* a pointer is null */
+    NIW_BAD_PAYLOAD = 17,       /* niw_decode: the payload is refused */
+    NIW_NO_PDU = 18,            /* niw_encode: neither an LACPDU nor a Marker PDU */
+    NIW_NO_QUEUE = 19,          /* the handle holds no queues */
+    NIW_HAS_QUEUE = 20,         /* niw_queue_new: the handle holds queues already */
+    NIW_CONVERSATION_FULL = 21, /* niw_queue_put: as many frames of the conversation wait as may */
+    NIW_ALL_FULL = 22           /* niw_queue_put: as many frames wait as may in all */
 };
 
 /* Of NIW_BAD_CONFIG: the reason. */
@@ -338,6 +352,35 @@ struct niw_decoded {
     uint8_t found;
 };
 
+/* What a conversation is for niw_next_move. */
+struct niw_carried {
+    uint16_t port; /* the port that it is on; 0 if it is on none */
+    uint32_t load; /* in a unit of the program's: octets a second, frames, or 1 for each conversation */
+};
+
+struct niw_move {
+    uint32_t status;
+    bool is;               /* whether there is a move */
+    uint16_t conversation; /* that is to move; 0 where `is` is false */
+    uint16_t port;         /* to move to; 0 where `is` is false */
+};
+
+/* A frame that leaves a queue. */
+struct niw_queued {
+    uint32_t status;
+    bool is;               /* whether one leaves */
+    uint16_t conversation; /* of the frame; 0 where `is` is false */
+    uint16_t port;         /* of niw_queue_next_released: to send the frame on; else 0 */
+    uint64_t frame;        /* as niw_queue_put was given it; 0 where `is` is false */
+};
+
+struct niw_counts {
+    uint32_t status;
+    uint64_t waiting; /* the frames that wait now */
+    uint64_t dropped; /* those that niw_queue_drop took out, up to UINT64_MAX */
+    uint64_t refused; /* those that niw_queue_put refused, up to UINT64_MAX */
+};
+
 /* The library itself. No pointer given to these is null. */
 struct niw_made lagffi_new(struct niw_system *handle, const struct niw_config *config, const uint16_t *keys,
     size_t key_count, const struct niw_port *ports, size_t port_count);
@@ -392,6 +435,15 @@ struct niw_marker lagffi_next_marker(struct niw_system *handle);
 struct niw_wait lagffi_ticks_until_due(struct niw_system *handle);
 struct niw_decoded lagffi_decode(const uint8_t *payload, size_t length, struct niw_pdu *pdu);
 uint32_t lagffi_encode(const struct niw_pdu *pdu, uint8_t *payload, size_t room);
+struct niw_move lagffi_next_move(const uint16_t *ports, size_t port_count, const struct niw_carried *carried,
+    size_t carried_count);
+uint32_t lagffi_queue_new(struct niw_queue *handle, uint16_t conversations, size_t in_all, size_t each);
+uint32_t lagffi_queue_free(struct niw_queue *handle);
+uint32_t lagffi_queue_put(struct niw_queue *handle, uint16_t conv, uint64_t frame);
+struct niw_queued lagffi_queue_next(struct niw_queue *handle, uint16_t conv);
+struct niw_queued lagffi_queue_drop(struct niw_queue *handle, uint16_t conv);
+struct niw_queued lagffi_queue_next_released(struct niw_queue *handle, const uint16_t *ports, size_t port_count);
+struct niw_counts lagffi_queue_counts(struct niw_queue *handle);
 
 /* The functions to call: they refuse a null pointer, and else pass on. */
 
@@ -731,6 +783,72 @@ static inline uint32_t niw_encode(const struct niw_pdu *pdu, uint8_t *payload, s
     return (pdu && payload) ? lagffi_encode(pdu, payload, room) : niw_null_status();
 }
 
+/* The spread of the load over the ports, for which no handle is wanted. */
+
+/* The next move that makes the loads of these ports more alike: from a port with the most load to one with the least, of a conversation
+ * whose load is less than the difference. Each conversation stands at its number in `carried`, which has NIW_MOST_CONVERSATIONS or
+ * fewer: a longer list is refused with NIW_NOT_ASSIGNED. `is` is false if there is no such move. */
+static inline struct niw_move niw_next_move(const uint16_t *ports, size_t port_count, const struct niw_carried *carried,
+    size_t carried_count) {
+    struct niw_move refused;
+    if (ports && carried) return lagffi_next_move(ports, port_count, carried, carried_count);
+    memset(&refused, 0, sizeof refused);
+    refused.status = NIW_NULL;
+    return refused;
+}
+
+/* Frames that wait, as where their conversation is held. The program keeps the frames: the queues have a number of its own for each. */
+
+static inline struct niw_queued niw_null_queued(void) {
+    struct niw_queued refused;
+    memset(&refused, 0, sizeof refused);
+    refused.status = NIW_NULL;
+    return refused;
+}
+
+/* Makes empty queues and puts them into an empty handle: one for each of so many conversations, numbered from 0. At most `in_all`
+ * frames wait in all, and at most `each` in each. All memory is taken here. */
+static inline uint32_t niw_queue_new(struct niw_queue *handle, uint16_t conversations, size_t in_all, size_t each) {
+    return handle ? lagffi_queue_new(handle, conversations, in_all, each) : niw_null_status();
+}
+
+/* Frees the queues of a handle, which is empty then. Of frames that still wait no more is told. */
+static inline uint32_t niw_queue_free(struct niw_queue *handle) {
+    return handle ? lagffi_queue_free(handle) : niw_null_status();
+}
+
+/* Puts a frame behind those that wait in its conversation. One that is refused is counted, and not put: by NIW_NOT_ASSIGNED where there
+ * is no such conversation, NIW_CONVERSATION_FULL or NIW_ALL_FULL. */
+static inline uint32_t niw_queue_put(struct niw_queue *handle, uint16_t conv, uint64_t frame) {
+    return handle ? lagffi_queue_put(handle, conv, frame) : niw_null_status();
+}
+
+/* Takes the oldest frame of a conversation out, to be sent. `is` is false if none waits. */
+static inline struct niw_queued niw_queue_next(struct niw_queue *handle, uint16_t conv) {
+    return handle ? lagffi_queue_next(handle, conv) : niw_null_queued();
+}
+
+/* Takes the oldest frame of a conversation out, not to be sent, and counts it. `is` is false if none waits. */
+static inline struct niw_queued niw_queue_drop(struct niw_queue *handle, uint16_t conv) {
+    return handle ? lagffi_queue_drop(handle, conv) : niw_null_queued();
+}
+
+/* Takes out the oldest frame of the first conversation that is on a port and has one waiting, and tells the port. `ports` has for each
+ * conversation, by its number, the port that it is on, or 0, as niw_conversation_ports writes it. A list of more than
+ * NIW_MOST_CONVERSATIONS is refused with NIW_NOT_ASSIGNED. */
+static inline struct niw_queued niw_queue_next_released(struct niw_queue *handle, const uint16_t *ports, size_t port_count) {
+    return (handle && ports) ? lagffi_queue_next_released(handle, ports, port_count) : niw_null_queued();
+}
+
+/* How many frames wait, were dropped and were refused. */
+static inline struct niw_counts niw_queue_counts(struct niw_queue *handle) {
+    struct niw_counts refused;
+    if (handle) return lagffi_queue_counts(handle);
+    memset(&refused, 0, sizeof refused);
+    refused.status = NIW_NULL;
+    return refused;
+}
+
 /* Texts. */
 
 /* What a status means. */
@@ -754,8 +872,12 @@ static inline const char *niw_status_text(uint32_t status) {
         "a buffer has less room than the function asks",
         "a pointer is null",
         "the payload is refused",
-        "it is neither an LACPDU nor a Marker PDU"};
-    return status <= NIW_NO_PDU ? texts[status] : "unknown";
+        "it is neither an LACPDU nor a Marker PDU",
+        "the handle holds no queues",
+        "the handle holds queues already",
+        "as many frames of the conversation wait as may",
+        "as many frames wait as may in all"};
+    return status <= NIW_ALL_FULL ? texts[status] : "unknown";
 }
 
 /* What a reason to refuse a configuration means. */

@@ -1,6 +1,7 @@
 pub mod Algorithms
 pub mod Answering
 pub mod Asking
+pub mod Balancing
 pub mod Codec
 pub mod Frames
 pub mod Holding
@@ -10,6 +11,7 @@ pub mod Masks
 pub mod Numbers
 pub mod Owned
 pub mod PortViews
+pub mod Queues
 pub mod ReaderValues
 pub mod Tables
 pub mod Ticking

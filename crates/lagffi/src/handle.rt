@@ -3,11 +3,13 @@ ghost use Rattle.lagffi.specs.Holding.{held_value};
 
 mod held;
 mod parts;
+mod queue;
 
 use crate::answering::Answering;
-use crate::stored::StoredSystem;
+use crate::stored::Stored;
 pub(crate) use held::Held;
 use lagsystem::System;
+pub use queue::LagQueue;
 use std::alloc::Global;
 use std::mem::replace;
 
@@ -63,18 +65,20 @@ impl Lag {
         if !live {
             return None;
         }
-        let empty = StoredSystem {
-            system: None,
-            algorithm: 0,
-            answering: Answering::nobody_asked(),
-        };
-        let (stored, held) = held.replace(empty);
+        let (stored, held) = held.replace(Stored::nothing());
+        let Stored {
+            system,
+            algorithm: number,
+            answering,
+            queue,
+        } = stored;
+        drop(queue);
         let block = Block {
             held,
-            algorithm: stored.algorithm,
-            answering: stored.answering,
+            algorithm: number,
+            answering,
         };
-        match stored.system {
+        match system {
             Some(system) => Some((system.with_algorithm(algorithm), block)),
             None => unreachable!(),
         }
@@ -91,10 +95,11 @@ impl Lag {
             algorithm,
             answering,
         } = block;
-        let (old, held) = held.replace(StoredSystem {
+        let (old, held) = held.replace(Stored {
             system: Some(system.with_algorithm(())),
             algorithm,
             answering,
+            queue: None,
         });
         drop(old);
         let Lag {

@@ -8,6 +8,7 @@
 #![tactic(auto)]
 
 mod answering;
+mod balancing;
 mod calls;
 mod codec;
 mod codec_values;
@@ -16,6 +17,8 @@ mod handle;
 mod made;
 mod masks;
 mod probing;
+mod queued;
+mod queues;
 mod reader_values;
 mod readers;
 mod refusal;

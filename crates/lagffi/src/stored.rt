@@ -1,18 +1,50 @@
-ghost use Rattle.std.specs.Prelude.{◌≡◌};
+ghost use Rattle.std.specs.Prelude.{◌≡◌, None, Some};
 ghost use Rattle.distributor.specs.Calls.{index_by_number};
 ghost use Rattle.lagffi.specs.Algorithms.{index_by_sum};
 
 use crate::answering::Answering;
+use holding::Holding;
 use lagsystem::System;
 
-/// A system as a handle keeps it: with no algorithm, so that its type names none, and taken out while a call goes on.
+/// What the block of a handle keeps, taken out while a call goes on: a system with no algorithm, so that its type names none, or the
+/// queues of frames that wait.
 #[derive(Drop)]
-pub struct StoredSystem {
+pub struct Stored {
     pub(crate) system: Option<System<()>>,
     /// The number of its distribution algorithm.
     pub(crate) algorithm: u16,
     /// Whether the peers of its ports answer markers.
     pub(crate) answering: Answering,
+    /// The queues of frames that wait, by the numbers that the program has for them.
+    pub(crate) queue: Option<Holding<u64>>,
+}
+
+impl Stored {
+    /// Neither a system nor queues.
+    pub(crate) fn nothing() -> Stored
+        ensures system { result.system ≡ None }
+        ensures queue { result.queue ≡ None }
+    {
+        Stored {
+            system: None,
+            algorithm: 0,
+            answering: Answering::nobody_asked(),
+            queue: None,
+        }
+    }
+
+    /// Queues alone.
+    pub(crate) fn of_queue(queue: Holding<u64>) -> Stored
+        ensures system { result.system ≡ None }
+        ensures queue { result.queue ≡ Some queue }
+    {
+        Stored {
+            system: None,
+            algorithm: 0,
+            answering: Answering::nobody_asked(),
+            queue: Some(queue),
+        }
+    }
 }
 
 /// The distribution algorithm: the number of the conversation modulo the count of ports, and 0 if there are none.

@@ -21,6 +21,8 @@ pub(crate) const WRONG_BUFFER_LENGTH: u32 = 15;
 pub(crate) const FRAME_LENGTH_REFUSED: u32 = 3;
 /// A reader finds no such aggregator or conversation. Of a free conversation it tells the state, and refuses nothing.
 pub(crate) const NO_CONVERSATION: u32 = 9;
+/// Memory is refused.
+pub(crate) const NO_MEMORY: u32 = 12;
 /// The most ports and the most aggregators of a system.
 pub(crate) const PORT_LIST_LENGTH: usize = 64;
 /// The octets of a frame that a system makes: 14 of header, 110 of payload.

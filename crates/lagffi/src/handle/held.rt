@@ -1,21 +1,20 @@
 ghost use Rattle.std.specs.Prelude.{◌≡◌, IfSome, Option, None, Some, IsTrue, is_some};
 ghost use Rattle.lagffi.specs.Owned.{held_owns, kept_coded};
-ghost use Rattle.lagffi.specs.declared.stored.StoredSystem.{StoredSystem};
+ghost use Rattle.lagffi.specs.declared.stored.Stored.{Stored};
 
 use super::parts::Parts;
-use crate::answering::Answering;
-use crate::stored::StoredSystem;
+use crate::stored::Stored;
 use std::alloc::Global;
 use std::marker::Model;
 use std::ptr::null_mut;
 
-/// The block of a kept system, or none. Its type names no system, as C has to see it. Only an empty one may be dropped: a block
-/// goes by `free`.
+/// The block of what a handle keeps, or none. Its type names neither a system nor a queue, as C has to see it. Only an empty one may
+/// be dropped: a block goes by `free`.
 #[repr(C)]
 pub struct Held {
     ptr: *mut u8,
     alloc: Global,
-    pub ghost kept: { Option StoredSystem } by { kept_coded },
+    pub ghost kept: { Option Stored } by { kept_coded },
 }
 
 impl Model for Held {
@@ -41,25 +40,18 @@ impl Held {
         }
     }
 
-    /// A block with room for a system, if memory is not refused.
+    /// A block that keeps nothing yet, if memory is not refused.
     pub(crate) fn room(alloc: Global) -> Option<Held>
         ensures { IfSome result (λ held. IsTrue (is_some held.kept)) }
     {
-        match Box::new(
-            alloc,
-            StoredSystem {
-                system: None,
-                algorithm: 0,
-                answering: Answering::nobody_asked(),
-            },
-        ) {
+        match Box::new(alloc, Stored::nothing()) {
             Ok(block) => Some(Held::of_parts(Parts::of(block))),
             Err(_) => None,
         }
     }
 
-    /// Holds a kept system.
-    fn of_parts(parts: Parts<StoredSystem, Global>) -> Held
+    /// Holds what is kept.
+    fn of_parts(parts: Parts<Stored, Global>) -> Held
         ensures { result.kept ≡ Some parts.value }
     {
         let Parts { ptr, alloc } = parts;
@@ -69,20 +61,20 @@ impl Held {
         }
     }
 
-    /// Hands out the kept system that it holds.
-    fn into_parts(self) -> Parts<StoredSystem, Global>
+    /// Hands out what it keeps.
+    fn into_parts(self) -> Parts<Stored, Global>
         requires { IsTrue (is_some self.kept) }
         ensures { self.kept ≡ Some result.value }
     {
         let Held { ptr, alloc } = self;
         Parts {
-            ptr: ptr as *mut StoredSystem,
+            ptr: ptr as *mut Stored,
             alloc,
         }
     }
 
     /// Keeps this in the block, and hands out what was there.
-    pub(super) fn replace(self, stored: StoredSystem) -> (StoredSystem, Held)
+    pub(super) fn replace(self, stored: Stored) -> (Stored, Held)
         requires { IsTrue (is_some self.kept) }
         ensures out { self.kept ≡ Some result.0 }
         ensures kept { result.1.kept ≡ Some stored }

@@ -1,0 +1,62 @@
+ghost use Rattle.std.specs.Prelude.{◌≡◌, IfSome, IsTrue, MatchOption, None, Some, is_some};
+ghost use Rattle.lagffi.specs.Queues.{queue_value};
+
+use super::Held;
+use crate::stored::Stored;
+use holding::Holding;
+use std::alloc::Global;
+use std::mem::replace;
+
+/// The handle of a program in C for frames that wait: it holds queues, or none. It may not be dropped, so that no block is lost with it.
+#[repr(C)]
+pub struct LagQueue {
+    live: bool,
+    pub(crate) held: Held,
+    ghost tells: { live ≡ is_some held.kept },
+    ghost full: { is_some (queue_value held.kept) ≡ is_some held.kept },
+}
+
+impl LagQueue {
+    /// Takes the queues out, beside their block; None if the handle holds none.
+    pub(crate) fn take(&mut self, alloc: Global) -> Option<(Holding<u64>, Held)>
+        ensures taken { MatchOption result (queue_value self.old.held.kept ≡ None) (λ taken. queue_value self.old.held.kept ≡ Some taken.0) }
+        ensures block { IfSome result (λ taken. IsTrue (is_some taken.1.kept)) }
+        ensures left { self.new.held.kept ≡ None }
+    {
+        let empty = LagQueue {
+            live: false,
+            held: Held::none(alloc),
+        };
+        let LagQueue { live, held } = replace(self, empty);
+        if !live {
+            return None;
+        }
+        let (stored, held) = held.replace(Stored::nothing());
+        let Stored {
+            system,
+            algorithm: _,
+            answering: _,
+            queue,
+        } = stored;
+        drop(system);
+        match queue {
+            Some(queue) => Some((queue, held)),
+            None => unreachable!(),
+        }
+    }
+
+    /// Puts queues into the empty handle, with a block for them.
+    pub(crate) fn put(&mut self, queue: Holding<u64>, held: Held)
+        requires empty { self.old.held.kept ≡ None }
+        requires block { IsTrue (is_some held.kept) }
+        ensures { queue_value self.new.held.kept ≡ Some queue }
+    {
+        let (old, held) = held.replace(Stored::of_queue(queue));
+        drop(old);
+        let LagQueue {
+            live: _,
+            held: none,
+        } = replace(self, LagQueue { live: true, held });
+        drop(none);
+    }
+}

@@ -1,0 +1,155 @@
+ghost use Rattle.std.specs.Prelude.{◌≡◌, [], ℕ, IsTrue, MatchOption, None, Option, is_some, length, nat_le, replicate, slice_get};
+ghost use Rattle.std.specs.Bool.{IsFalse};
+ghost use Rattle.holding.specs.Calls.{after, DropOldest, Next, Put};
+ghost use Rattle.holding.specs.Holding.{holding_of, queue, refusal};
+ghost use Rattle.holding.specs.declared.queues.Released.{Released};
+ghost use Rattle.lagffi.specs.Queues.{CallsQueue, Releases, counts_of, frame_of, holds_queue_already, no_counts, no_frame, no_queue, queue_value};
+ghost use Rattle.lagffi.specs.Queues.{released_of, status_of_put};
+ghost use Rattle.lagsystem.specs.Faults.{fault_number};
+ghost use Rattle.lagsystem.specs.declared.fault.SystemFault.{SystemFault};
+
+use crate::balancing::MOST_CONVERSATIONS;
+use crate::handle::{Held, LagQueue};
+use crate::queued::{HOLDS_QUEUE_ALREADY, LagQueueCounts, LagQueued, NO_QUEUE, status_of_put};
+use crate::values::{NO_CONVERSATION, NO_MEMORY, OK};
+use holding::{Holding, Refusal};
+use std::alloc::Global;
+
+/// Makes empty queues, and puts them into an empty handle: one for each of so many conversations, numbered from 0. At most `in_all` frames
+/// wait in all, and at most `each` in each. All memory is taken here.
+#[unsafe(no_mangle)]
+pub extern "C" fn lagffi_queue_new(
+    alloc: Global,
+    lag: &mut LagQueue,
+    conversations: u16,
+    in_all: usize,
+    each: usize,
+) -> u32
+    ensures live { IsTrue (is_some (queue_value lag.old.held.kept)) → (result ≡ holds_queue_already)
+        × (queue_value lag.new.held.kept ≡ queue_value lag.old.held.kept) }
+    ensures made { queue_value lag.old.held.kept ≡ None → MatchOption (queue_value lag.new.held.kept) (result ≡ fault_number SystemFault.NoMemory)
+        (λ h. (h ≡ holding_of (replicate conversations []) in_all each 0 0) × (result ≡ 0)) }
+{
+    if let Some((queue, held)) = lag.take(alloc) {
+        lag.put(queue, held);
+        return HOLDS_QUEUE_ALREADY;
+    }
+    let Some(held) = Held::room(alloc) else {
+        return NO_MEMORY;
+    };
+    match Holding::new(alloc, conversations, in_all, each) {
+        Ok(queue) => {
+            lag.put(queue, held);
+            OK
+        }
+        Err(_) => {
+            held.free();
+            NO_MEMORY
+        }
+    }
+}
+
+/// Frees the queues of a handle, and leaves the handle empty. Answers 0, or 19 if the handle held none.
+#[unsafe(no_mangle)]
+pub extern "C" fn lagffi_queue_free(alloc: Global, lag: &mut LagQueue) -> u32
+    ensures left { queue_value lag.new.held.kept ≡ None }
+    ensures status { MatchOption (queue_value lag.old.held.kept) (result ≡ no_queue) (λ h. result ≡ 0) }
+{
+    match lag.take(alloc) {
+        Some((_, held)) => {
+            held.free();
+            OK
+        }
+        None => NO_QUEUE,
+    }
+}
+
+/// Why a put is refused, if it is.
+fn put_into(queue: &mut Holding<u64>, conv: u16, frame: u64) -> Option<Refusal>
+    ensures refusal { result ≡ refusal queue.old conv }
+    ensures after { queue.new ≡ after (Put conv frame) queue.old }
+{
+    match queue.put(conv, frame) {
+        Ok(()) => None,
+        Err((refusal, _)) => Some(refusal),
+    }
+}
+
+/// Puts a frame behind those that wait in its conversation. A frame that is refused is counted.
+#[unsafe(no_mangle)]
+pub extern "C" fn lagffi_queue_put(alloc: Global, lag: &mut LagQueue, conv: u16, frame: u64) -> u32
+    ensures { CallsQueue (queue_value lag.old.held.kept) (queue_value lag.new.held.kept)
+        (λ old new. (new ≡ after (Put conv frame) old) × (result ≡ status_of_put (refusal old conv))) (result ≡ no_queue) }
+{
+    let Some((mut queue, held)) = lag.take(alloc) else {
+        return NO_QUEUE;
+    };
+    let refusal = put_into(&mut queue, conv, frame);
+    lag.put(queue, held);
+    status_of_put(refusal)
+}
+
+/// Takes the oldest frame of a conversation out, to be sent.
+#[unsafe(no_mangle)]
+pub extern "C" fn lagffi_queue_next(alloc: Global, lag: &mut LagQueue, conv: u16) -> LagQueued
+    ensures { CallsQueue (queue_value lag.old.held.kept) (queue_value lag.new.held.kept)
+        (λ old new. (new ≡ after (Next conv) old) × (result ≡ frame_of conv (slice_get (queue old conv) 0))) (result ≡ no_frame no_queue) }
+{
+    let Some((mut queue, held)) = lag.take(alloc) else {
+        return LagQueued::none(NO_QUEUE);
+    };
+    let answer = queue.next(conv);
+    lag.put(queue, held);
+    LagQueued::of(conv, answer)
+}
+
+/// Takes the oldest frame of a conversation out, not to be sent, and counts it.
+#[unsafe(no_mangle)]
+pub extern "C" fn lagffi_queue_drop(alloc: Global, lag: &mut LagQueue, conv: u16) -> LagQueued
+    ensures { CallsQueue (queue_value lag.old.held.kept) (queue_value lag.new.held.kept)
+        (λ old new. (new ≡ after (DropOldest conv) old) × (result ≡ frame_of conv (slice_get (queue old conv) 0))) (result ≡ no_frame no_queue) }
+{
+    let Some((mut queue, held)) = lag.take(alloc) else {
+        return LagQueued::none(NO_QUEUE);
+    };
+    let answer = queue.drop_oldest(conv);
+    lag.put(queue, held);
+    LagQueued::of(conv, answer)
+}
+
+/// Takes out the oldest frame of the first conversation that is on a port and has one waiting: `ports` has the port of each conversation, 0
+/// for none. A list of more than 65,536 is refused.
+#[unsafe(no_mangle)]
+pub extern "C" fn lagffi_queue_next_released(
+    alloc: Global,
+    lag: &mut LagQueue,
+    ports: &[u16],
+) -> LagQueued
+    ensures length { IsFalse (nat_le (length ports.now) 65536) → (result ≡ no_frame (fault_number SystemFault.NotAssigned)) × (queue_value lag.new.held.kept ≡ queue_value lag.old.held.kept) }
+    ensures answers { IsTrue (nat_le (length ports.now) 65536) → CallsQueue (queue_value lag.old.held.kept) (queue_value lag.new.held.kept)
+        (λ old new. (answer : Option (Released ℕ)) × Releases ports.now old new answer × (result ≡ released_of answer)) (result ≡ no_frame no_queue) }
+{
+    if ports.len() > MOST_CONVERSATIONS {
+        return LagQueued::none(NO_CONVERSATION);
+    }
+    let Some((mut queue, held)) = lag.take(alloc) else {
+        return LagQueued::none(NO_QUEUE);
+    };
+    let answer = queue.next_released(ports);
+    lag.put(queue, held);
+    LagQueued::released(answer)
+}
+
+/// How many frames wait in all, were dropped and were refused.
+#[unsafe(no_mangle)]
+pub extern "C" fn lagffi_queue_counts(alloc: Global, lag: &mut LagQueue) -> LagQueueCounts
+    ensures { CallsQueue (queue_value lag.old.held.kept) (queue_value lag.new.held.kept)
+        (λ old new. (new ≡ old) × (result ≡ counts_of old)) (result ≡ no_counts no_queue) }
+{
+    let Some((queue, held)) = lag.take(alloc) else {
+        return LagQueueCounts::none(NO_QUEUE);
+    };
+    let answer = LagQueueCounts::of(&queue);
+    lag.put(queue, held);
+    answer
+}
