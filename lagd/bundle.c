@@ -31,7 +31,7 @@ static unsigned rank_of(uint16_t aggregator) {
     return carrying_in(aggregator) + (first->view.defaulted ? 0u : NIW_MOST_PORTS);
 }
 
-/* Writes one end of a group so that memcmp compares two of them: system, key, port, each by its priority first. */
+/* Writes one end of a group so that memcmp compares two of them: system by priority and MAC address, key, port by priority and number. */
 static uint8_t *put_end(const struct niw_end *end, uint8_t *at) {
     const uint16_t behind[] = {end->key, end->port_priority, end->port};
     *at++ = (uint8_t)(end->system_priority >> 8);
@@ -73,6 +73,11 @@ void choose_aggregator(struct bundle *now) {
         if (rank_of(aggregator) > 0 && (best == 0 || is_better(aggregator, best))) best = aggregator;
     chosen = now->aggregator = best;
     now->carrying = best == 0 ? 0 : carrying_in(best);
+}
+
+/* Whether two aggregators are alike but for their groups: both have a partner or none, and as many ports that carry. */
+bool is_as_good(uint16_t one, uint16_t other) {
+    return rank_of(one) == rank_of(other);
 }
 
 /* How many links there may be. */

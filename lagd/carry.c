@@ -16,10 +16,10 @@ struct carry carry = {.changed = true};
 
 static int tap = -1;
 static uint8_t *rooms; /* for the packets of a batch */
-static bool to_balance; /* whether a tick passed since the last look at the loads */
-static uint16_t last_active;    /* the aggregator that was active last, or 0 */
-static uint64_t heard_at;       /* the time at which frames came in the active aggregator last, or 0 */
-static uint64_t handed_before;  /* how many were handed up then */
+static bool to_balance;       /* whether a tick passed since the last look at the loads */
+static uint16_t previous;     /* the aggregator that was active before nothing or another one was, or 0 */
+static uint64_t heard_at;     /* the time at which frames came in the active aggregator last, or 0 */
+static uint64_t heard_before; /* how many had come in an active one then */
 
 bool carries_data(void) {
     return tap >= 0;
@@ -163,9 +163,21 @@ static void take_host(void) {
     }
 }
 
-/* The peer sends in another aggregator than the active one. */
-void doubt_aggregator(void) {
-    if (heard_at == 0) return;
+/* How many frames of the peer came in an aggregator that was active. */
+static uint64_t heard(void) {
+    return carry.counts[HANDED_UP] + carry.counts[HOST_UNTAKEN];
+}
+
+/* Another aggregator is active: nothing has come in it yet. */
+static void forget_heard(void) {
+    if (is_fast()) take_fast_counts();
+    heard_at = 0;
+    heard_before = heard();
+}
+
+/* A frame came in an aggregator that is not the active one. If it is as good as that, the peer may send there. */
+void doubt_aggregator(uint32_t aggregator) {
+    if (heard_at == 0 || carry.active == 0 || aggregator == carry.active || !is_as_good((uint16_t)aggregator, carry.active)) return;
     heard_at = 0;
     carry.changed = true;
 }
@@ -180,11 +192,12 @@ bool keeps_aggregator(void) {
 void hand_up(uint32_t aggregator, const uint8_t *packet, size_t length) {
     if (aggregator != carry.active) {
         carry.counts[OTHER_AGGREGATOR]++;
-        doubt_aggregator();
-    } else if (write(tap, packet, length) == (ssize_t)length)
+        doubt_aggregator(aggregator);
+    } else if (write(tap, packet, length) == (ssize_t)length) {
         carry.counts[HANDED_UP]++;
-    else
+    } else {
         carry.counts[HOST_UNTAKEN]++;
+    }
 }
 
 /* Offers again what waits, of each conversation until one is held. */
@@ -219,20 +232,20 @@ static void choose_active(void) {
     if (before != 0 && carry.active != 0 && before != carry.active) carry.counts[SWITCHES]++;
     if ((before == 0) != (carry.active == 0))
         (void)say(LOG_NOTICE | ABOUT_CARRIER, "carry %s: carrier %s", settings.carry, carry.active ? "on" : "off");
-    if (before != carry.active) heard_at = 0;
+    if (before != carry.active) forget_heard();
     set_carrier(carry.active != 0);
 }
 
-/* Another aggregator is active: what is on a port of the last one leaves it, behind a marker. Its frames wait until it is free there. One
+/* Another aggregator is active: what is on a port of the previous one leaves it, behind a marker. Its frames wait until it is free there. One
  * for which no marker is left goes on after a rest. */
-static void leave_last(void) {
-    uint16_t last = last_active;
+static void leave_previous(void) {
+    uint16_t left = previous;
     const uint16_t *ports;
-    if (carry.active == 0 || carry.active == last) return;
-    last_active = carry.active;
-    ports = ports_in(last);
+    if (carry.active == 0 || carry.active == left) return;
+    previous = carry.active;
+    ports = ports_in(left);
     for (uint16_t number = 0; number < CONVERSATIONS; number++) {
-        uint32_t status = ports[number] == 0 ? NIW_OK : niw_leave_conversation(&own_system, last, number);
+        uint32_t status = ports[number] == 0 ? NIW_OK : niw_leave_conversation(&own_system, left, number);
         if (status != NIW_MARKERS_SPENT) check_call(status, "niw_leave_conversation");
     }
     send_due();
@@ -240,8 +253,8 @@ static void leave_last(void) {
 
 /* Notes whether frames of the peer come in the active aggregator. */
 static void note_heard(void) {
-    if (carry.counts[HANDED_UP] != handed_before && carry.active != 0) heard_at = carry.time;
-    handed_before = carry.counts[HANDED_UP];
+    if (heard() != heard_before && carry.active != 0) heard_at = carry.time;
+    heard_before = heard();
 }
 
 /* After calls that may have changed something: the active aggregator, what goes on, and the next moves. */
@@ -251,7 +264,7 @@ void settle_carry(void) {
     take_views();
     choose_active();
     withdraw();
-    leave_last();
+    leave_previous();
     set_collecting();
     look_at_partner();
     if (carry.waiting) release();

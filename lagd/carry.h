@@ -114,7 +114,7 @@ const uint16_t *ports_in(uint16_t aggregator);
 bool is_held(const struct niw_assignment *state);
 bool is_home(const struct conversation *conversation, uint16_t number);
 bool is_busy(const struct conversation *conversation);
-void doubt_aggregator(void);
+void doubt_aggregator(uint32_t aggregator);
 void hand_up(uint32_t aggregator, const uint8_t *packet, size_t length);
 uint64_t milliseconds(void);
 
@@ -211,7 +211,6 @@ void put_data(uint16_t port, uint8_t *packet, size_t length);
 void flush_data(void);
 void take_data(uint16_t port);
 bool send_marker_again(uint16_t port);
-bool send_probe(uint16_t port, const uint8_t *marker);
 void count_losses(void);
 uint64_t member_count(uint16_t port, enum member_count count);
 

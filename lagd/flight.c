@@ -98,7 +98,7 @@ static void watch_held(struct conversation *conversation, uint16_t number, const
     if (carry.time - conversation->since < (answered ? UNANSWERED : settings.flight)) return;
     if (is_held(state) && !distributes(state->port)) return;
     if (is_held(state)) {
-        doubt_partner();
+        if (conversation->home == carry.active) doubt_partner();
         check_call(niw_force(&own_system, conversation->home, number), "niw_force");
     } else {
         check_call(niw_rest(&own_system, conversation->home, number), "niw_rest");

@@ -261,6 +261,7 @@ bool carries(const struct link *link);
 
 /* bundle.c */
 void choose_aggregator(struct bundle *now);
+bool is_as_good(uint16_t one, uint16_t other);
 void look_at_bundle(void);
 void allow_bundle_line(void);
 void end_bundle(void);

@@ -210,7 +210,7 @@ void add_fast_counts(uint16_t port, const struct fast_member *more) {
     counts[UNCOLLECTED] += more->uncollected;
     counts[WRONG_LENGTH] += more->wrong_length;
     carry.counts[HANDED_UP] += more->passed_up;
-    if (more->uncollected > 0) doubt_aggregator();
+    if (more->uncollected > 0) doubt_aggregator(links[port - 1].view.aggregator);
 }
 
 /* So many frames more were passed on by the kernel alone, on a port. */
@@ -273,11 +273,6 @@ void take_marker(struct link *link, const uint8_t *frame) {
 /* Sends the last marker of a port again: a cable may repeat control frames, and may lose one. Answers whether it went. */
 bool send_marker_again(uint16_t port) {
     return members[port - 1].has_marker && send_marker(&links[port - 1], members[port - 1].marker);
-}
-
-/* Sends a marker that tells of no conversation, as others go; answers whether it went. */
-bool send_probe(uint16_t port, const uint8_t *marker) {
-    return send_marker(&links[port - 1], marker);
 }
 
 /* What the kernel tells beside a frame. */

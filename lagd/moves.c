@@ -7,7 +7,7 @@
 /* The port of each conversation in the active aggregator, or 0: it is free there, or held. */
 static const uint16_t *ports_of;
 
-/* Whether a conversation is on its way from one port that distributes to another. */
+/* Whether a conversation is held on a port that carries. */
 static bool any_moves(void) {
     for (uint16_t i = 0; i < carry.port_count; i++)
         if (number_of(niw_held(&own_system, carry.ports[i]), "niw_held") > 0) return true;
@@ -49,12 +49,17 @@ static uint16_t find_busy(uint16_t port) {
     return NONE;
 }
 
+/* The port of a busy conversation: that which it is on, or, while it is free or held, that of its last frame. */
+static uint16_t last_port(uint16_t number) {
+    return ports_of[number] != 0 ? ports_of[number] : carry.conversations[number].port;
+}
+
 /* Moves busy conversations from the ports that have most of them to those that have fewest, until these differ by one at most. */
 static bool level(void) {
     unsigned loads[NIW_MOST_PORTS] = {0};
     bool any = false;
     for (uint16_t number = 0; number < CONVERSATIONS; number++)
-        if (ports_of[number] != 0 && is_busy(&carry.conversations[number])) loads[ports_of[number] - 1]++;
+        if (is_busy(&carry.conversations[number])) loads[last_port(number) - 1]++;
     for (;;) {
         uint16_t most = carry.ports[0], least = carry.ports[0], found;
         for (uint16_t i = 1; i < carry.port_count; i++) {

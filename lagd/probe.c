@@ -1,4 +1,4 @@
-/* Whether the peer answers markers: a marker that tells of no conversation asks it. */
+/* Whether the peer answers markers: a marker that no conversation waits for asks it. */
 #define _GNU_SOURCE
 #include <string.h>
 
@@ -11,8 +11,7 @@
 
 static enum answering peer = NOT_ASKED, told = NOT_ASKED;
 static uint16_t asked_on;          /* the port that had the marker */
-static uint8_t marker[NIW_FRAME];
-static uint64_t responses;         /* marker responses that came there before */
+static uint64_t responses_before;  /* marker responses that came there before */
 static uint64_t asked_at, sent_at; /* the times when the marker went first, and last */
 static struct system_id partner;   /* of the active aggregator */
 static uint16_t partner_key;
@@ -40,24 +39,24 @@ void look_at_partner(void) {
     peer = told = NOT_ASKED;
 }
 
-/* Sends a marker behind the data of a port of the active aggregator. There is none while no identifier is left. */
+/* Sends a marker behind the data of a port of the active aggregator. There is none while no identifier is left, or the link is down. */
 static void ask_peer(void) {
+    uint8_t marker[NIW_FRAME];
     struct niw_sent asked = niw_probe(&own_system, carry.ports[0], marker, sizeof marker);
     check_call(asked.status, "niw_probe");
     if (!asked.is) return;
     peer = ASKED;
     asked_on = carry.ports[0];
     asked_at = sent_at = carry.time;
-    responses = links[asked_on - 1].counts[RESPONSES_RECEIVED];
-    carry.counts[MARKERS_SENT]++;
-    (void)send_probe(asked_on, marker);
+    responses_before = links[asked_on - 1].counts[RESPONSES_RECEIVED];
+    take_marker(&links[asked_on - 1], marker);
 }
 
 /* Sends the marker again: a cable may lose one. */
 static void ask_again(void) {
     if (carry.time - sent_at < AGAIN) return;
     sent_at = carry.time;
-    if (send_probe(asked_on, marker)) carry.counts[MARKERS_AGAIN]++;
+    if (send_marker_again(asked_on)) carry.counts[MARKERS_AGAIN]++;
 }
 
 /* Says what the peer does, once. */
@@ -71,10 +70,9 @@ static void tell_peer(void) {
             settings.carry, settings.flight);
 }
 
-/* Whether a response came since the peer was asked, and the library took one as an answer to a marker of the port. */
+/* Whether a response came since the peer was asked. */
 static bool has_answered(void) {
-    return links[asked_on - 1].counts[RESPONSES_RECEIVED] > responses
-        && number_of(niw_answers(&own_system, asked_on), "niw_answers") == NIW_ANSWERS_ANSWERED;
+    return links[asked_on - 1].counts[RESPONSES_RECEIVED] > responses_before;
 }
 
 /* What is known of the peer now. One whose link went meanwhile is asked again. */
@@ -92,5 +90,5 @@ void pass_probe_tick(void) {
         if (peer == ASKED) ask_again();
         tell_peer();
     }
-    if (peer == NOT_ASKED && carry.port_count >= 2) ask_peer();
+    if (peer == NOT_ASKED && carry.port_count > 0) ask_peer();
 }
