@@ -311,7 +311,7 @@ def run_flows(programs: Programs, seconds: float, events: Sequence[Event] = (), 
 def check_order(outcome: Outcome, what: str, *told: object) -> None:
     """No frame was overtaken by a later one of its flow, and none came twice."""
     text = f"{outcome.received:,} of {outcome.sent:,} frames came, {outcome.overtaken} overtaken, {outcome.twice} twice"
-    holds = outcome.overtaken == outcome.twice == outcome.strange == 0 and outcome.received > outcome.sent // 4
+    holds = outcome.overtaken == outcome.twice == outcome.strange == 0 and outcome.received > (outcome.sent - outcome.refused) // 4
     check(holds, f"{what}: {text}, longest gap {outcome.gap_ms} ms", outcome, *told)
 
 
