@@ -1,4 +1,4 @@
-/* Whether the peer answers markers: a marker that no conversation waits for asks it. */
+/* Whether the peer answers markers: it is asked by a marker, whether or not a conversation waits for one. */
 #define _GNU_SOURCE
 #include <string.h>
 
