@@ -183,7 +183,8 @@ void doubt_aggregator(uint32_t aggregator) {
 }
 
 /* Whether the active aggregator stays where another one has as many ports: the peer has it, too, since its frames come there, or there
- * is no data. Ends that differ so come together: then neither has frames of the other one, and both take the one with the least group. */
+ * is no data. Ends that differ come together, if both send or neither does: neither has frames of the
+ * other one then, and both take the one with the least group. */
 bool keeps_aggregator(void) {
     return !carries_data() || (heard_at != 0 && carry.time - heard_at < HEARD);
 }
