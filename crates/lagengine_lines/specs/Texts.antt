@@ -17,6 +17,7 @@ use Rattle.portmachines.specs.declared.receive.ReceiveState.TheVariants as recei
 use Rattle.distributor.specs.declared.assignment.Assignment.{Assignment}
 use Rattle.distributor.specs.declared.assignment.Assignment.TheVariants.{Free, On, Wanted, Flushing}
 use Rattle.lagsystem.specs.Faults.{fault_number}
+use Rattle.lagsystem.specs.Texts.{fault_name}
 use Rattle.lagsystem.specs.declared.received.Received.{Received}
 use Rattle.lagsystem.specs.declared.received.Received.TheVariants.{Disabled, Dropped, Ignored, TookLacpdu, Respond, Released, Up}
 use Rattle.lagsystem.specs.declared.drive.Reply.{Reply}
@@ -70,23 +71,9 @@ reason_name (reason.PortNumber place) = codes "port-number " ++ decimal place
 reason_name reason.MaxLinks = codes "max-links"
 reason_name reason.Conversations = codes "conversations"
 
--- the name of a fault of a system
-abbrev pub fault_name : SystemFault → List ℕ
-fault_name system.NoPort = codes "no-port"
-fault_name system.NoAggregator = codes "no-aggregator"
-fault_name system.FrameLength = codes "frame-length"
-fault_name system.SlowFrame = codes "slow-frame"
-fault_name system.Held = codes "held"
-fault_name system.NoneDistributing = codes "none-distributing"
-fault_name system.NotDistributing = codes "not-distributing"
-fault_name system.SamePort = codes "same-port"
-fault_name system.NotAssigned = codes "not-assigned"
-fault_name system.MarkersSpent = codes "markers-spent"
-fault_name (system.BadConfig reason) = codes "bad-config " ++ reason_name reason
-fault_name system.NoMemory = codes "no-memory"
-
--- refused NUMBER NAME
+-- refused NUMBER NAME, and the reason of a configuration
 abbrev pub refused_text : SystemFault → List ℕ
+refused_text (system.BadConfig reason) = codes "refused 11 bad-config " ++ reason_name reason
 refused_text f = codes "refused " ++ (decimal (fault_number f) ++ 32 ∷ fault_name f)
 
 -- ignored, and why

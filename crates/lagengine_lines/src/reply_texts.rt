@@ -1,7 +1,7 @@
 ghost use Rattle.std.specs.Prelude.{◌≡◌, Some};
 ghost use Rattle.std.specs.Fmt.{DisplaysOnOk};
 ghost use Rattle.hex.specs.Hex.{encode_lower};
-ghost use Rattle.lagengine_lines.specs.Texts.{done_text, fault_name, ignored_text, reason_name, received_text, refused_text, replies_text};
+ghost use Rattle.lagengine_lines.specs.Texts.{done_text, ignored_text, reason_name, received_text, refused_text, replies_text};
 ghost use Rattle.lagengine_lines.specs.Texts.{forced_text};
 ghost use Rattle.lagengine_lines.specs.Texts.{reply_text, sent_text, subtype_word};
 
@@ -102,32 +102,7 @@ impl fmt::Display for ReasonName {
     }
 }
 
-/// Why a system could not be made, or refused a call, in a word or two.
-#[derive(Clone, Copy)]
-struct FaultName(SystemFault);
-
-impl fmt::Display for FaultName {
-    ghost output = { λ t. Some (fault_name t.0) };
-
-    fn fmt<W: fmt::Write>(&self, f: &mut fmt::Formatter<W>) -> fmt::Result {
-        match self.0 {
-            SystemFault::NoPort => f.write_str("no-port"),
-            SystemFault::NoAggregator => f.write_str("no-aggregator"),
-            SystemFault::FrameLength => f.write_str("frame-length"),
-            SystemFault::SlowFrame => f.write_str("slow-frame"),
-            SystemFault::Held => f.write_str("held"),
-            SystemFault::NoneDistributing => f.write_str("none-distributing"),
-            SystemFault::NotDistributing => f.write_str("not-distributing"),
-            SystemFault::SamePort => f.write_str("same-port"),
-            SystemFault::NotAssigned => f.write_str("not-assigned"),
-            SystemFault::MarkersSpent => f.write_str("markers-spent"),
-            SystemFault::BadConfig(reason) => write!(f, "bad-config {}", ReasonName(reason)),
-            SystemFault::NoMemory => f.write_str("no-memory"),
-        }
-    }
-}
-
-/// A fault, with its number.
+/// A fault, with its number and its name, and the reason why a configuration is refused.
 #[derive(Clone, Copy)]
 pub struct RefusedText(pub SystemFault);
 
@@ -136,7 +111,16 @@ impl fmt::Display for RefusedText {
 
     fn fmt<W: fmt::Write>(&self, f: &mut fmt::Formatter<W>) -> fmt::Result {
         let fault = self.0;
-        write!(f, "refused {} {}", fault.number(), FaultName(fault))
+        match fault {
+            SystemFault::BadConfig(reason) => write!(
+                f,
+                "refused {} {} {}",
+                fault.number(),
+                fault.name(),
+                ReasonName(reason)
+            ),
+            _ => write!(f, "refused {} {}", fault.number(), fault.name()),
+        }
     }
 }
 

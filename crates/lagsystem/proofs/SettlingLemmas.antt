@@ -1,6 +1,6 @@
 -- What settling does, from what its loops do.
 use Rattle.std.proofs.Common.{◌≡◌, ℕ, Bool, true, false, ◌||◌, ◌&&◌, cond, List, [], ◌∷◌, Option, Some, None, refl, sym, ◌∙◌}
-use Rattle.std.proofs.Common.{subst, ap, if◌then◌else◌, filter, slice_get, slice_set, ℕ, zero, suc, option_map}
+use Rattle.std.proofs.Common.{subst, ap, not, if◌then◌else◌, filter, slice_get, slice_set, ℕ, zero, suc, option_map}
 use Rattle.std.proofs.lemmas.Option.{same_Some}
 use Rattle.std.specs.List.{list_all, list_any}
 use Rattle.std.proofs.lemmas.Bool.{or_parts}
@@ -21,7 +21,7 @@ use Rattle.lagsystem.specs.declared.system_ports.SystemPort.{SystemPort}
 use Rattle.lagsystem.specs.Views.{selection_view, views}
 use Rattle.lagsystem.specs.State.{SystemState, aggregators_value, with_system_ports}
 use Rattle.lagsystem.specs.Settling.{PortsChangeBy, PortChangesBy, SettlesPorts, after_choice_at, with_choice, ready_of}
-use Rattle.lagsystem.specs.Settling.{ChoosesIn, aggregator_for, choice_for, choice_in}
+use Rattle.lagsystem.specs.Settling.{ChoosesIn, aggregator_for, choice_for, choice_in, is_restless}
 use Rattle.lagsystem.proofs.Lists.{AllZip-weaker}
 
 abbrev one_expired : List PortView → Bool
@@ -86,6 +86,32 @@ runs_unready keys olds news none h =
     AllZip-weaker (PortChangesBy (RunsToRest (mux_rows false)))
     (PortChangesBy (λ p q. RunsToRest (mux_rows (ready_of keys (views olds) p.choice)) p q))
     (λ x y m. (m.0, subst (λ b. RunsToRest (mux_rows b) x.port y.port) (sym (no_ready keys olds none x.port.choice)) m.1)) olds news h
+
+-- what has run to rest stays as it is when it runs again
+pub runs_again : (olds news : List SystemPort) → PortsChangeBy (RunsToRest (mux_rows false)) olds news
+    → PortsChangeBy (RunsToRest (mux_rows false)) news news
+runs_again [] [] h = h
+runs_again [] (y ∷ ys) h = absurd h
+runs_again (x ∷ xs) [] h = absurd h
+runs_again (x ∷ xs) (y ∷ ys) h = ((refl, (0, refl, h.0.1.2)), runs_again xs ys h.1)
+
+-- where no port is restless, each is SELECTED
+pub none_restless_unselected : (l : List SystemPort) → list_any (λ s. is_restless s) l ≡ false
+    → list_any (λ s. not (is_selected s.port.choice)) l ≡ false
+none_restless_unselected [] h = refl
+none_restless_unselected (s ∷ ss) h =
+    let both = or_parts (is_restless s) (list_any (λ s. is_restless s) ss) h in
+    let one = or_parts (not (is_selected s.port.choice)) (member_has_waited s) both.0 in
+    ap (λ b. b || list_any (λ s. not (is_selected s.port.choice)) ss) one.0 ∙ none_restless_unselected ss both.1
+
+-- and none has waited
+pub none_restless_has_waited : (l : List SystemPort) → list_any (λ s. is_restless s) l ≡ false
+    → list_any (λ s. member_has_waited s) l ≡ false
+none_restless_has_waited [] h = refl
+none_restless_has_waited (s ∷ ss) h =
+    let both = or_parts (is_restless s) (list_any (λ s. is_restless s) ss) h in
+    let one = or_parts (not (is_selected s.port.choice)) (member_has_waited s) both.0 in
+    ap (λ b. b || list_any (λ s. member_has_waited s) ss) one.1 ∙ none_restless_has_waited ss both.1
 
 pub settling_made : (base : SystemState) (aggs : AggregatorsValue) (system_ports one two four five : List SystemPort)
     → aggregators_value base ≡ aggs → base.system_ports ≡ system_ports

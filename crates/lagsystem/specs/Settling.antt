@@ -1,7 +1,8 @@
 -- Settling (profile): six steps after a call. Each is a relation between the states before and after it.
-use Rattle.std.specs.Prelude.{◌≡◌, ℕ, zero, suc, Bool, true, false, List, [], ◌∷◌, length, if◌then◌else◌, Option, Some, None}
+use Rattle.std.specs.Prelude.{◌≡◌, ℕ, zero, suc, Bool, true, false, List, [], ◌∷◌, length, if◌then◌else◌, Option, Some, None, ◌&&◌, ◌||◌, not}
 use Rattle.std.specs.Prelude.{slice_get, slice_set, option_map}
 use Rattle.std.specs.List.{AllZip}
+use Rattle.lagtypes.specs.Choices.{is_selected}
 use Rattle.lagtypes.specs.declared.identifiers.AggId.{AggId}
 use Rattle.lagtypes.specs.declared.identifiers.Key.{Key}
 use Rattle.lagtypes.specs.declared.party.Choice.{Choice}
@@ -11,7 +12,7 @@ use Rattle.portmachines.specs.Rows.{RunsToRest}
 use Rattle.portmachines.specs.Mux.{mux_rows}
 use Rattle.portmachines.specs.Periodic.{RunsPeriodic}
 use Rattle.selection.specs.declared.view.PortView.{PortView}
-use Rattle.selection.specs.Views.{is_eligible}
+use Rattle.selection.specs.Views.{has_waited, is_eligible}
 use Rattle.selection.specs.Choice.{chosen_aggregator}
 use Rattle.selection.specs.Limits.{AggregatorsValue, has_room, next_standby_index}
 use Rattle.selection.specs.Ready.{is_ready}
@@ -117,6 +118,15 @@ WorksOutReady old new = new ≡ old
 -- 4. every mux machine runs with Ready as step 3 worked it out
 abbrev pub RunsMux : SystemState → SystemState → Type 0
 RunsMux old new = OnlyPortsChangeBy (λ p q. RunsToRest (mux_rows (ready_of old.keys (views old.system_ports) p.choice)) p q) old new
+
+-- the port is not SELECTED, or it waits and wait_while has expired
+abbrev pub is_restless : SystemPort → Bool
+is_restless s = not (is_selected s.port.choice) || (is_selected s.port.choice && has_waited (selection_view s).stage)
+
+-- steps 2 to 4 of the ports alone
+abbrev pub ChoosesAndRunsMux : AggregatorsValue → List SystemPort → List SystemPort → Type 0
+ChoosesAndRunsMux aggs old new = (mid : List SystemPort) × ChoosesIn aggs old mid
+    × PortsChangeBy (λ p q. RunsToRest (mux_rows (ready_of aggs.keys (views mid) p.choice)) p q) mid new
 
 -- 5. every periodic machine runs
 abbrev pub RunsAllPeriodic : SystemState → SystemState → Type 0

@@ -1,4 +1,4 @@
--- The texts of the faults, as Display writes them.
+-- The texts of the faults, as Display writes them, and their names.
 use Rattle.std.specs.Prelude.{ℕ, List, ◌++◌, codes, decimal}
 use Rattle.lagsystem.specs.declared.fault.BadConfig.{BadConfig as Reason}
 use Rattle.lagsystem.specs.declared.fault.BadConfig.TheVariants.{Ports, Aggregators, PortNumber, MaxLinks, Conversations}
@@ -30,3 +30,18 @@ fault_text NotAssigned = codes "the conversation is free, or there is no such co
 fault_text MarkersSpent = codes "no marker identifier is left"
 fault_text (BadConfig reason) = reason_text reason
 fault_text NoMemory = codes "out of memory"
+
+-- the name of a fault of a system, in one word
+abbrev pub fault_name : SystemFault → List ℕ
+fault_name NoPort = codes "no-port"
+fault_name NoAggregator = codes "no-aggregator"
+fault_name FrameLength = codes "frame-length"
+fault_name SlowFrame = codes "slow-frame"
+fault_name Held = codes "held"
+fault_name NoneDistributing = codes "none-distributing"
+fault_name NotDistributing = codes "not-distributing"
+fault_name SamePort = codes "same-port"
+fault_name NotAssigned = codes "not-assigned"
+fault_name MarkersSpent = codes "markers-spent"
+fault_name (BadConfig reason) = codes "bad-config"
+fault_name NoMemory = codes "no-memory"

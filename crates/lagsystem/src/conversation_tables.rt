@@ -131,9 +131,9 @@ impl<F: Fn(u16, usize) -> usize + Drop> System<F> {
     /// Writes which conversations of an aggregator became free since `busy` was written. `busy` is the host's own list, by the
     /// number of the conversation: whether it was On, Wanted or Flushing when the host asked last, at first all false. It gets
     /// which are so now; `freed` gets which were so and are free now; the answer is how many. Asked after each `receive`,
-    /// `set_link`, `tick`, `force` and `force_port` it is what that call set free of the list. Rows are written as far as both lists
-    /// go, at most one for each conversation; what is behind them stays. `NoAggregator` if there is no such aggregator; then
-    /// nothing is written (profile).
+    /// `set_link`, `tick`, `rest`, `force` and `force_port` it is what that call set free of the list. Rows are written as far as
+    /// both lists go, at most one for each conversation; what is behind them stays. `NoAggregator` if there is no such aggregator;
+    /// then nothing is written (profile).
     ///
     /// It looks at the list and not at the calls between: a host sets its row at each `offer` that is answered with a port. A
     /// conversation that became On and free again since, and whose row was not set, is not told.

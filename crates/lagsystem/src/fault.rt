@@ -1,6 +1,6 @@
 ghost use Rattle.std.specs.Prelude.{◌≡◌, Some};
 ghost use Rattle.lagsystem.specs.Faults.{fault_number, reason_number, system_fault};
-ghost use Rattle.lagsystem.specs.Texts.{fault_text, reason_text};
+ghost use Rattle.lagsystem.specs.Texts.{fault_name, fault_text, reason_text};
 ghost use Rattle.lagsystem.specs.declared.fault.SystemFault.{SystemFault};
 
 use distributor::DistFault;
@@ -85,6 +85,27 @@ impl SystemFault {
             SystemFault::MarkersSpent => 10,
             SystemFault::BadConfig(_) => 11,
             SystemFault::NoMemory => 12,
+        }
+    }
+
+    /// The name of the fault in one word, as lines of a program have it, `no-port` to `no-memory`; a reason of `BadConfig` is not
+    /// told (profile).
+    pub fn name(&self) -> &'static str
+        ensures { result.now ≡ fault_name self.now }
+    {
+        match self {
+            SystemFault::NoPort => "no-port",
+            SystemFault::NoAggregator => "no-aggregator",
+            SystemFault::FrameLength => "frame-length",
+            SystemFault::SlowFrame => "slow-frame",
+            SystemFault::Held => "held",
+            SystemFault::NoneDistributing => "none-distributing",
+            SystemFault::NotDistributing => "not-distributing",
+            SystemFault::SamePort => "same-port",
+            SystemFault::NotAssigned => "not-assigned",
+            SystemFault::MarkersSpent => "markers-spent",
+            SystemFault::BadConfig(_) => "bad-config",
+            SystemFault::NoMemory => "no-memory",
         }
     }
 }

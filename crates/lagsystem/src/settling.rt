@@ -7,7 +7,7 @@ ghost use Rattle.portmachines.specs.Periodic.{RunsPeriodic};
 ghost use Rattle.selection.specs.Views.{has_waited, is_eligible};
 ghost use Rattle.lagsystem.specs.Views.{selection_view, views};
 ghost use Rattle.lagsystem.specs.Settling.{PortsChangeBy, PortChangesBy, SettlesPorts, after_choice_at, after_choices, ready_of};
-ghost use Rattle.lagsystem.specs.Settling.{ChoosesIn, choice_in};
+ghost use Rattle.lagsystem.specs.Settling.{ChoosesAndRunsMux, ChoosesIn, choice_in, is_restless};
 ghost use Rattle.lagsystem.specs.State.{SystemState, aggregators_value, with_system_ports};
 
 use crate::promoting::{may_promote, promote_each};
@@ -223,6 +223,34 @@ fn ready_of(aggregators: &Aggregators, port_views: &[PortView], choice: Choice) 
     }
 }
 
+/// Whether a port is not SELECTED, or is in WAITING with wait_while expired: only such a port makes steps 2 to 4 change anything.
+fn is_restless(system_port: &SystemPort) -> bool
+    ensures { result ≡ is_restless system_port.now }
+{
+    !is_selected(system_port) || member_has_waited(system_port)
+}
+
+/// Whether some port is so.
+fn any_restless(system_ports: &[SystemPort]) -> bool
+    ensures { result ≡ list_any (λ s. is_restless s) system_ports.now }
+{
+    system_ports
+        .iter()
+        .any(|system_port| is_restless(system_port))
+}
+
+/// Steps 2 to 4, behind step 1, which has run each mux machine with Ready false. Where no port is restless they change nothing.
+fn choose_and_run_mux(aggregators: &Aggregators, system_ports: &mut [SystemPort])
+    requires few { length system_ports.old ≤ 64 }
+    requires ran { PortsChangeBy (RunsToRest (mux_rows false)) system_ports.old system_ports.old }
+    ensures { ChoosesAndRunsMux aggregators.now system_ports.old system_ports.new }
+{
+    if any_restless(system_ports) {
+        choose_all(aggregators, system_ports);
+        run_mux(aggregators, system_ports);
+    }
+}
+
 /// Runs the periodic machine of a port.
 fn run_one_periodic(system_port: &mut SystemPort)
     ensures { PortChangesBy RunsPeriodic system_port.old system_port.new }
@@ -249,7 +277,6 @@ pub(crate) fn settle_ports(aggregators: &Aggregators, system_ports: &mut [System
         → SettlesPorts base (with_system_ports base system_ports.new) }
 {
     run_mux_not_ready(system_ports);
-    choose_all(aggregators, system_ports);
-    run_mux(aggregators, system_ports);
+    choose_and_run_mux(aggregators, system_ports);
     run_each_periodic(system_ports);
 }

@@ -4,7 +4,8 @@ use Rattle.lagtypes.specs.Octet.{octet}
 use Rattle.lagtypes.specs.Texts.{hex_text}
 use Rattle.lagsystem.specs.declared.config.PortChange.{PortChange}
 use Rattle.lagsystem.specs.declared.fault.SystemFault.{SystemFault}
-use Rattle.lagsystem.specs.declared.fault.SystemFault.TheVariants as refusal
+use Rattle.lagsystem.specs.Faults.{fault_number}
+use Rattle.lagsystem.specs.Texts.{fault_name}
 use Rattle.lagscript.specs.EventValues.{EventValue, tick, emit, deliver, lose, repeat, cut, join, sense, restart, configure, offer}
 use Rattle.lagscript.specs.EventValues.{move_to, force}
 use Rattle.lagworld.specs.declared.agreement.Agreement.{Agreement}
@@ -62,18 +63,7 @@ sent_or_lost_text accepted = if accepted then codes "sent" else codes "lost"
 
 -- why a system refused an event: `refused`, the number of the fault and its name
 abbrev pub refused_text : SystemFault → List ℕ
-refused_text refusal.NoPort = codes "refused 1 no-port"
-refused_text refusal.NoAggregator = codes "refused 2 no-aggregator"
-refused_text refusal.FrameLength = codes "refused 3 frame-length"
-refused_text refusal.SlowFrame = codes "refused 4 slow-frame"
-refused_text refusal.Held = codes "refused 5 held"
-refused_text refusal.NoneDistributing = codes "refused 6 none-distributing"
-refused_text refusal.NotDistributing = codes "refused 7 not-distributing"
-refused_text refusal.SamePort = codes "refused 8 same-port"
-refused_text refusal.NotAssigned = codes "refused 9 not-assigned"
-refused_text refusal.MarkersSpent = codes "refused 10 markers-spent"
-refused_text (refusal.BadConfig reason) = codes "refused 11 bad-config"
-refused_text refusal.NoMemory = codes "refused 12 no-memory"
+refused_text fault = codes "refused " ++ (decimal (fault_number fault) ++ 32 ∷ fault_name fault)
 
 -- the reply to an event, as a replay prints it
 abbrev pub reply_text : Reply → List ℕ

@@ -31,20 +31,7 @@ impl fmt::Display for RefusedText {
     ghost output = { λ t. Some (refused_text t.0) };
 
     fn fmt<W: fmt::Write>(&self, f: &mut fmt::Formatter<W>) -> fmt::Result {
-        match self.0 {
-            SystemFault::NoPort => f.write_str("refused 1 no-port"),
-            SystemFault::NoAggregator => f.write_str("refused 2 no-aggregator"),
-            SystemFault::FrameLength => f.write_str("refused 3 frame-length"),
-            SystemFault::SlowFrame => f.write_str("refused 4 slow-frame"),
-            SystemFault::Held => f.write_str("refused 5 held"),
-            SystemFault::NoneDistributing => f.write_str("refused 6 none-distributing"),
-            SystemFault::NotDistributing => f.write_str("refused 7 not-distributing"),
-            SystemFault::SamePort => f.write_str("refused 8 same-port"),
-            SystemFault::NotAssigned => f.write_str("refused 9 not-assigned"),
-            SystemFault::MarkersSpent => f.write_str("refused 10 markers-spent"),
-            SystemFault::BadConfig(_) => f.write_str("refused 11 bad-config"),
-            SystemFault::NoMemory => f.write_str("refused 12 no-memory"),
-        }
+        write!(f, "refused {} {}", self.0.number(), self.0.name())
     }
 }
 
