@@ -19,6 +19,7 @@ from ._numbers import (
     FRAME,
     LONGEST_FRAME,
     MANY_CONVERSATIONS,
+    MOST_CONVERSATIONS,
     MOST_PORTS,
     PAYLOAD_LENGTH,
     PORT_STATUS_TEXTS,
@@ -39,10 +40,29 @@ from ._numbers import (
     Status,
     WireFault,
 )
-from .errors import BadConfig, BadPayload, Closed, Held, LagError, NoMemory
+from .errors import BadConfig, BadPayload, Closed, Full, Held, LagError, NoMemory
+from .frames import HeldFrames, Released
+from .moves import next_move
 from .payloads import Lacpdu, Marker, Pdu, control_frame, decode, encode
 from .system import System
-from .values import Assignment, Config, End, Group, Info, Mac, Party, PortConfig, PortId, Received, Sent, SystemId, View
+from .values import (
+    Assignment,
+    Carried,
+    Config,
+    End,
+    FrameCounts,
+    Group,
+    Info,
+    Mac,
+    Move,
+    Party,
+    PortConfig,
+    PortId,
+    Received,
+    Sent,
+    SystemId,
+    View,
+)
 
 __version__ = VERSION_TEXT
 __all__ = [
@@ -50,6 +70,7 @@ __all__ = [
     "FRAME",
     "LONGEST_FRAME",
     "MANY_CONVERSATIONS",
+    "MOST_CONVERSATIONS",
     "MOST_PORTS",
     "PAYLOAD_LENGTH",
     "PORT_STATUS_TEXTS",
@@ -60,18 +81,23 @@ __all__ = [
     "Assignment",
     "BadConfig",
     "BadPayload",
+    "Carried",
     "Closed",
     "Config",
     "ConversationState",
     "End",
+    "FrameCounts",
+    "Full",
     "Group",
     "Held",
+    "HeldFrames",
     "Info",
     "Lacpdu",
     "LagError",
     "Mac",
     "Marker",
     "MarkerKind",
+    "Move",
     "MuxState",
     "NoMemory",
     "Party",
@@ -83,6 +109,7 @@ __all__ = [
     "ReceiveState",
     "Received",
     "ReceivedKind",
+    "Released",
     "Sent",
     "SentKind",
     "State",
@@ -94,4 +121,5 @@ __all__ = [
     "control_frame",
     "decode",
     "encode",
+    "next_move",
 ]

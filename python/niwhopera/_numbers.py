@@ -9,7 +9,7 @@ import ctypes
 from enum import IntEnum, IntFlag
 from typing import Any, Callable, Final
 
-VERSION: Final = 6
+VERSION: Final = 7
 VERSION_TEXT: Final = "0.1.0"
 FRAME: Final = 124
 PAYLOAD_LENGTH: Final = 110
@@ -652,6 +652,12 @@ class Functions:
         self.probe: Callable[..., NiwSent] = _bound(
             library, "lagffi_probe", NiwSent, [ctypes.POINTER(NiwSystem), ctypes.c_uint16, ctypes.POINTER(ctypes.c_uint8), ctypes.c_size_t]
         )
+        self.offer_in_carrier: Callable[..., NiwNumber] = _bound(
+            library, "lagffi_offer_in_carrier", NiwNumber, [ctypes.POINTER(NiwSystem), ctypes.c_uint16, ctypes.c_char_p, ctypes.c_size_t]
+        )
+        self.offer_conversation_in_carrier: Callable[..., NiwNumber] = _bound(
+            library, "lagffi_offer_conversation_in_carrier", NiwNumber, [ctypes.POINTER(NiwSystem), ctypes.c_uint16, ctypes.c_uint16]
+        )
         self.ports: Callable[..., NiwNumber] = _bound(
             library, "lagffi_ports", NiwNumber, [ctypes.POINTER(NiwSystem), ctypes.POINTER(ctypes.c_uint16), ctypes.c_size_t]
         )
@@ -723,6 +729,9 @@ class Functions:
         )
         self.distributing: Callable[..., NiwNumber] = _bound(
             library, "lagffi_distributing", NiwNumber, [ctypes.POINTER(NiwSystem), ctypes.c_uint16, ctypes.POINTER(ctypes.c_uint16), ctypes.c_size_t]
+        )
+        self.carrier: Callable[..., NiwNumber] = _bound(
+            library, "lagffi_carrier", NiwNumber, [ctypes.POINTER(NiwSystem), ctypes.c_uint16]
         )
         self.conversation: Callable[..., NiwNumber] = _bound(
             library, "lagffi_conversation", NiwNumber, [ctypes.POINTER(NiwSystem), ctypes.c_char_p, ctypes.c_size_t]

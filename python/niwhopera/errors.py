@@ -17,7 +17,8 @@ class LagError(Exception):
 
 
 class Held(LagError):
-    """The conversation moves, or its port stopped distributing: offer the frame, or ask for the move, later."""
+    """The conversation moves, its port stopped distributing, or it is on a port or held in another aggregator than the one that carries:
+    offer the frame, or ask for the move, later."""
 
 
 class BadConfig(LagError):
@@ -40,14 +41,25 @@ class BadPayload(LagError):
 
 
 class NoMemory(LagError, MemoryError):
-    """Memory was refused. `System` alone raises it, when it is made."""
+    """Memory was refused. `System` and `HeldFrames` alone raise it, when they are made."""
 
 
 class Closed(LagError):
-    """The system was closed."""
+    """The system was closed, or the held frames were."""
 
 
-_KINDS = {Status.HELD: Held, Status.NO_MEMORY: NoMemory, Status.NO_SYSTEM: Closed}
+class Full(LagError):
+    """As many frames wait as may, of the conversation or in all: the frame is not put."""
+
+
+_KINDS = {
+    Status.HELD: Held,
+    Status.NO_MEMORY: NoMemory,
+    Status.NO_SYSTEM: Closed,
+    Status.NO_QUEUE: Closed,
+    Status.CONVERSATION_FULL: Full,
+    Status.ALL_FULL: Full,
+}
 
 
 def check(status: int) -> None:

@@ -3,13 +3,10 @@
 from __future__ import annotations
 
 import ctypes
-import threading
-import warnings
-from types import TracebackType
-from typing import Any, Callable, Iterable, Iterator, NoReturn, Optional, Type, Union
+from typing import Any, Callable, Iterable, Iterator, Optional, Union
 
 from . import _numbers as c
-from ._library import functions
+from ._handle import Handle
 from ._numbers import Answers, ConversationState, MuxState, PortStatus, Reason, ReceivedKind, ReceiveState, SentKind, State, Status, WireFault
 from .errors import BadConfig, check
 from .values import Assignment, Config, End, Group, Info, Mac, Party, PortId, Received, Sent, SystemId, View, within
@@ -45,7 +42,7 @@ def _view(it: c.NiwView) -> View:
     )
 
 
-class System:
+class System(Handle):
     """One end of Link Aggregation: its ports, aggregators and conversations.
 
     It is made with all links down. Ports go by their numbers, aggregators from 1. A call that raises `LagError` has changed nothing:
@@ -56,9 +53,7 @@ class System:
 
     def __init__(self, config: Config) -> None:
         """Makes a system of a configuration; raises `BadConfig` where it is refused, and `NoMemory`."""
-        self._handle = c.NiwSystem()
-        self._thread = threading.get_ident()
-        self._c = functions()
+        super().__init__(c.NiwSystem())
         self._config = config
         ports = (c.NiwPort * len(config.ports))()
         for at, port in zip(ports, config.ports):
@@ -71,39 +66,10 @@ class System:
             raise BadConfig(Reason(made.reason), made.place or None)
         check(made.status)
 
-    # Its life.
-
-    def close(self) -> None:
-        """Gives its memory back. Of a system that is closed this does nothing."""
-        if self._handle.live:
-            check(self._c.free(self._at()))
-
-    @property
-    def closed(self) -> bool:
-        """Whether it was closed."""
-        return not self._handle.live
-
     @property
     def config(self) -> Config:
         """The configuration that it was made of."""
         return self._config
-
-    def __enter__(self) -> System:
-        return self
-
-    def __exit__(self, kind: Optional[Type[BaseException]], why: Optional[BaseException], trace: Optional[TracebackType]) -> None:
-        self.close()
-
-    def __del__(self) -> None:
-        handle = getattr(self, "_handle", None)
-        if handle is None or not handle.live:
-            return
-        warnings.warn("a system was not closed", ResourceWarning, source=self)
-        if threading.get_ident() == self._thread:
-            self.close()
-
-    def __reduce__(self) -> NoReturn:
-        raise TypeError("a system is not copied")
 
     # Calls.
 
@@ -176,6 +142,18 @@ class System:
         """A marker that asks whether the peer of a port answers markers, to be sent on it now; None while the link is down, and where no
         identifier is left."""
         return self._sent(self._c.probe, port)
+
+    def offer_in_carrier(self, aggregator: int, frame: Octets) -> int:
+        """What `offer` answers and does in the aggregator that carries. Raises `Held`, before every other refusal, while the conversation
+        of the frame is on a port or held in another aggregator: `leave_conversation` takes it off its port there. Where ports
+        distribute in several aggregators, offer each frame of the client by this or by `offer_conversation_in_carrier`."""
+        octets = bytes(frame)
+        return self._number(self._c.offer_in_carrier(self._at(), _aggregator(aggregator), octets, len(octets)))
+
+    def offer_conversation_in_carrier(self, aggregator: int, conversation: int) -> int:
+        """What `offer_conversation` answers and does in the aggregator that carries. Raises `Held`, before every other refusal, while the
+        conversation is on a port or held in another aggregator."""
+        return self._number(self._c.offer_conversation_in_carrier(self._at(), _aggregator(aggregator), _conversation(conversation)))
 
     def move_conversation(self, aggregator: int, conversation: int, port: int) -> None:
         """Moves a conversation to a port, behind a marker on the port that it is on. Raises `Held`; NOT_DISTRIBUTING, SAME_PORT,
@@ -316,6 +294,13 @@ class System:
         numbers = (ctypes.c_uint16 * c.MOST_PORTS)()
         return tuple(numbers[: self._number(self._c.distributing(self._at(), _aggregator(aggregator), numbers, len(numbers)))])
 
+    def carrier(self, now: Optional[int] = None) -> Optional[int]:
+        """The aggregator that carries the frames of the client, where `now` carried them before; None if no port distributes. One with a
+        partner is before one on defaults, and of those the one with the most ports. `now` stays unless another has strictly more;
+        of several others it is the one with the least LAG ID, then the lowest number. Ask after each call that may change which
+        ports distribute, and give the answer as `now` the next time."""
+        return self._number(self._c.carrier(self._at(), _aggregator(now or 0))) or None
+
     def conversation(self, frame: Octets) -> int:
         """The number of the conversation of a frame of at least 14 octets, the same in every aggregator. Raises FRAME_LENGTH."""
         octets = bytes(frame)
@@ -349,11 +334,8 @@ class System:
 
     # What the others share.
 
-    def _at(self) -> Any:
-        """The handle, by reference; RuntimeError in another thread than the one that made the system."""
-        if threading.get_ident() != self._thread:
-            raise RuntimeError("only the thread that made a system calls it")
-        return ctypes.byref(self._handle)
+    def _free(self) -> int:
+        return self._c.free(self._at())
 
     def _sent(self, call: Callable[..., c.NiwSent], port: int) -> Optional[Sent]:
         frame = (ctypes.c_uint8 * c.FRAME)()

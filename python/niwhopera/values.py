@@ -216,6 +216,36 @@ class Assignment:
 
 
 @dataclass(frozen=True)
+class Carried:
+    """What a conversation is for `next_move`: the port that it is on, or None, and its load, 0 to 4294967295, in a unit of the host's:
+    octets a second, frames, or 1 for each conversation."""
+
+    port: Optional[int]
+    load: int
+
+    def __post_init__(self) -> None:
+        within("the number of the port", self.port or 0, 0xFFFF)
+        within("the load of a conversation", self.load, 0xFFFFFFFF)
+
+
+@dataclass(frozen=True)
+class Move:
+    """A conversation, and the port that it is to move to."""
+
+    conversation: int
+    port: int
+
+
+@dataclass(frozen=True)
+class FrameCounts:
+    """How many frames wait now, and how many `drop` took out and `put` refused, up to 2^64 - 1 each."""
+
+    waiting: int
+    dropped: int
+    refused: int
+
+
+@dataclass(frozen=True)
 class View:
     """What there is to show of a port: no timer, and nothing that changes from tick to tick. `aggregator` is None for none."""
 

@@ -236,5 +236,6 @@ def test_every_export_of_the_module_is_documented() -> None:
         thing = getattr(niwhopera, name)
         if isinstance(thing, type):
             assert thing.__doc__ and not thing.__doc__.startswith(f"{name}("), name
-    for name, method in vars(System).items():
-        assert name.startswith("_") or method.__doc__, name
+    for kind in (System, niwhopera.HeldFrames):
+        for name in dir(kind):
+            assert name.startswith("_") or getattr(kind, name).__doc__, name

@@ -56,7 +56,7 @@ def build(made: str, sources: Sequence[str], libraries: Sequence[str], *words: s
 def build_calls(folder: str, libraries: Sequence[str]) -> str:
     """Builds the program that calls each function; answers its path."""
     words = ["-std=c11", "-Wall", "-Wextra", "-Werror", *COUNTED]
-    sources = [f"{TOP}/tools/live.d/{name}.c" for name in ("calls", "conversations", "payloads", "queues")]
+    sources = [f"{TOP}/tools/live.d/{name}.c" for name in ("calls", "conversations", "payloads", "queues", "carriers")]
     return build(os.path.join(folder, "calls"), sources, libraries, *words)
 
 

@@ -2,6 +2,7 @@ pub mod Algorithms
 pub mod Answering
 pub mod Asking
 pub mod Balancing
+pub mod Carrying
 pub mod Codec
 pub mod Frames
 pub mod Holding

@@ -10,6 +10,7 @@
 mod answering;
 mod balancing;
 mod calls;
+mod carrying;
 mod codec;
 mod codec_values;
 mod conversations;

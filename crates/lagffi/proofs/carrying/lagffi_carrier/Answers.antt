@@ -1,0 +1,12 @@
+use mathlib.Core.Path.{◌∙◌, ap, subst}
+use Rattle.carrier.specs.Choice.{Carries}
+use Rattle.lagffi.specs.Numbers.{number}
+use Rattle.lagffi.proofs.AskingLemmas.{asked}
+use Rattle.lagffi.proofs.carrying.lagffi_carrier.Goals as goal
+
+pub returns : goal.returns
+returns c = asked _ _ c.in-Some.ensures.taken c.put.ensures (
+  c.carrier-carries.result,
+  subst (λ now. Carries now c.in-Some.system.state c.carrier-carries.result) c.aggregator_or_none.ensures c.carrier-carries.ensures,
+  c.answered.ensures ∙ ap number c.number_or_0.ensures,
+)

@@ -1,0 +1,160 @@
+ghost use Rattle.std.specs.Prelude.{◌≡◌, ℕ, Option, Result};
+ghost use Rattle.carrier.specs.Choice.{Carries};
+ghost use Rattle.distributor.specs.Calls.{PicksIndexes};
+ghost use Rattle.lagtypes.specs.declared.identifiers.AggId.{AggId};
+ghost use Rattle.lagsystem.specs.declared.fault.SystemFault.{SystemFault};
+ghost use Rattle.lagffi.specs.Algorithms.{gives_by};
+ghost use Rattle.lagffi.specs.Asking.{OffersToHeldSystem, ReadsHeldSystem};
+ghost use Rattle.lagffi.specs.Carrying.{OffersFrameInCarrier, OffersNumberInCarrier, aggregator_or_none, number_or_0};
+ghost use Rattle.lagffi.specs.Holding.{held_value};
+ghost use Rattle.lagffi.specs.Numbers.{no_system, number, number_of, number_refused};
+
+use crate::handle::Lag;
+use crate::stored::{by_first, by_number, by_sum};
+use crate::values::{LagNumber, NO_SYSTEM};
+use carrier::{carrier, offer_conversation_in_carrier, offer_in_carrier};
+use lagsystem::{AggId, System, SystemFault};
+use std::alloc::Global;
+
+/// The aggregator with this number; 0 is none.
+fn aggregator_or_none(agg: u16) -> Option<AggId>
+    ensures { result ≡ aggregator_or_none agg }
+{
+    match agg {
+        0 => None,
+        _ => Some(AggId(agg)),
+    }
+}
+
+/// The number of the aggregator; 0 for none.
+fn number_or_0(agg: Option<AggId>) -> u64
+    ensures { result ≡ number_or_0 agg }
+{
+    match agg {
+        Some(AggId(agg)) => u64::from(agg),
+        None => 0,
+    }
+}
+
+/// The aggregator that carries the frames of a client, or 0 if no port distributes; `now` is the one that carried them before, or 0.
+#[unsafe(no_mangle)]
+pub extern "C" fn lagffi_carrier(alloc: Global, lag: &mut Lag, now: u16) -> LagNumber
+    ensures { ReadsHeldSystem (held_value lag.old.held.kept) (held_value lag.new.held.kept)
+        (λ s. (carries : Option AggId) × Carries (aggregator_or_none now) s carries × (result ≡ number (number_or_0 carries)))
+        (result ≡ number_refused no_system) }
+{
+    let Some((system, block)) = lag.take(alloc, by_number) else {
+        return LagNumber::refused(NO_SYSTEM);
+    };
+    let carries = carrier(&system, aggregator_or_none(now));
+    lag.put(system, block);
+    LagNumber::answered(number_or_0(carries))
+}
+
+/// Offers a frame in the aggregator that carries to a system under this algorithm.
+fn offer_in_carrier_by<F: Fn(u16, usize) -> usize + Drop>(
+    kept: System<()>,
+    algorithm: F,
+    agg: u16,
+    frame: &[u8],
+) -> (Result<u16, SystemFault>, System<()>)
+    requires usable { PicksIndexes (F.pre algorithm) (F.post algorithm) }
+    ensures { OffersFrameInCarrier (F.post algorithm) agg frame.now kept.state result.0 result.1.state }
+{
+    let mut system = kept.with_algorithm(algorithm);
+    let answer = offer_in_carrier(&mut system, AggId(agg), frame);
+    (answer, system.with_algorithm(()))
+}
+
+/// Offers a frame in the aggregator that carries to a system under the algorithm with this number.
+fn offer_in_carrier_with(
+    kept: System<()>,
+    algorithm: u16,
+    agg: u16,
+    frame: &[u8],
+) -> (Result<u16, SystemFault>, System<()>)
+    ensures { OffersFrameInCarrier (gives_by algorithm) agg frame.now kept.state result.0 result.1.state }
+{
+    if algorithm >= 2 {
+        return offer_in_carrier_by(kept, by_first, agg, frame);
+    }
+    if algorithm >= 1 {
+        return offer_in_carrier_by(kept, by_sum, agg, frame);
+    }
+    offer_in_carrier_by(kept, by_number, agg, frame)
+}
+
+/// The port to send a frame on, in the aggregator that carries, by the algorithm of the handle; held while the conversation of the
+/// frame is On, Wanted or Flushing in another aggregator.
+#[unsafe(no_mangle)]
+pub extern "C" fn lagffi_offer_in_carrier(
+    alloc: Global,
+    lag: &mut Lag,
+    agg: u16,
+    frame: &[u8],
+) -> LagNumber
+    ensures { OffersToHeldSystem (held_value lag.old.held.kept) (held_value lag.new.held.kept)
+        (λ gives old new. (answer : Result ℕ SystemFault) × OffersFrameInCarrier gives agg frame.now old answer new
+        × (result ≡ number_of answer)) (result ≡ number_refused no_system) }
+{
+    let Some((kept, block)) = lag.take(alloc, ()) else {
+        return LagNumber::refused(NO_SYSTEM);
+    };
+    let (answer, system) = offer_in_carrier_with(kept, block.algorithm, agg, frame);
+    lag.put(system, block);
+    LagNumber::of(&answer)
+}
+
+/// Offers a conversation in the aggregator that carries to a system under this algorithm.
+fn offer_conversation_in_carrier_by<F: Fn(u16, usize) -> usize + Drop>(
+    kept: System<()>,
+    algorithm: F,
+    agg: u16,
+    conv: u16,
+) -> (Result<u16, SystemFault>, System<()>)
+    requires usable { PicksIndexes (F.pre algorithm) (F.post algorithm) }
+    ensures { OffersNumberInCarrier (F.post algorithm) agg conv kept.state result.0 result.1.state }
+{
+    let mut system = kept.with_algorithm(algorithm);
+    let answer = offer_conversation_in_carrier(&mut system, AggId(agg), conv);
+    (answer, system.with_algorithm(()))
+}
+
+/// Offers a conversation in the aggregator that carries to a system under the algorithm with this number.
+fn offer_conversation_in_carrier_with(
+    kept: System<()>,
+    algorithm: u16,
+    agg: u16,
+    conv: u16,
+) -> (Result<u16, SystemFault>, System<()>)
+    ensures { OffersNumberInCarrier (gives_by algorithm) agg conv kept.state result.0 result.1.state }
+{
+    if algorithm >= 2 {
+        return offer_conversation_in_carrier_by(kept, by_first, agg, conv);
+    }
+    if algorithm >= 1 {
+        return offer_conversation_in_carrier_by(kept, by_sum, agg, conv);
+    }
+    offer_conversation_in_carrier_by(kept, by_number, agg, conv)
+}
+
+/// The port to send a frame of a conversation on, in the aggregator that carries, by the algorithm of the handle, whatever its octets;
+/// held while the conversation is On, Wanted or Flushing in another aggregator.
+#[unsafe(no_mangle)]
+pub extern "C" fn lagffi_offer_conversation_in_carrier(
+    alloc: Global,
+    lag: &mut Lag,
+    agg: u16,
+    conv: u16,
+) -> LagNumber
+    ensures { OffersToHeldSystem (held_value lag.old.held.kept) (held_value lag.new.held.kept)
+        (λ gives old new. (answer : Result ℕ SystemFault) × OffersNumberInCarrier gives agg conv old answer new
+        × (result ≡ number_of answer)) (result ≡ number_refused no_system) }
+{
+    let Some((kept, block)) = lag.take(alloc, ()) else {
+        return LagNumber::refused(NO_SYSTEM);
+    };
+    let (answer, system) = offer_conversation_in_carrier_with(kept, block.algorithm, agg, conv);
+    lag.put(system, block);
+    LagNumber::of(&answer)
+}

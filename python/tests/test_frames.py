@@ -1,0 +1,122 @@
+"""Frames that wait, and the next move: worked values."""
+
+from __future__ import annotations
+
+import copy
+import ctypes
+import gc
+import threading
+import warnings
+from typing import Optional
+
+import pytest
+from niwhopera import MOST_CONVERSATIONS, Carried, Closed, FrameCounts, Full, HeldFrames, LagError, Move, NoMemory, Released, Status, next_move
+
+
+def test_frames_leave_in_the_order_in_which_they_came() -> None:
+    """Three frames may wait, two of each conversation. The first conversation with a port and a frame goes first, its oldest first."""
+    none: list[Optional[int]] = [None, None, None]
+    with HeldFrames[bytes](3, 3, 2) as held:
+        held.put(1, b"one")
+        held.put(1, b"two")
+        held.put(2, b"three")
+        assert held.counts() == FrameCounts(waiting=3, dropped=0, refused=0)
+        assert held.next_released(none) is None and held.next_released([]) is None
+        assert held.next_released([1, 2, 1]) == Released(1, 2, b"one")
+        assert held.next_released([None, 2, None]) == Released(1, 2, b"two")
+        assert held.next_released([None, 2, None]) is None
+        held.put(2, b"four")
+        assert held.drop(2) == b"three" and held.next(2) == b"four" and held.next(2) is None
+        assert held.counts() == FrameCounts(waiting=0, dropped=1, refused=0)
+
+
+def test_a_frame_that_is_refused_is_counted_and_not_put() -> None:
+    with HeldFrames[str](3, 3, 2) as held:
+        for conversation, frame in ((1, "a"), (1, "b"), (2, "c")):
+            held.put(conversation, frame)
+        for conversation, status in ((1, Status.CONVERSATION_FULL), (0, Status.ALL_FULL)):
+            with pytest.raises(Full) as full:
+                held.put(conversation, "d")
+            assert full.value.status is status
+        with pytest.raises(LagError) as other:
+            held.put(3, "d")
+        assert other.value.status is Status.NOT_ASSIGNED
+        assert held.counts() == FrameCounts(waiting=3, dropped=0, refused=3)
+        assert [held.next(1), held.next(1), held.next(1), held.next(2), held.next(0), held.next(9)] == ["a", "b", None, "c", None, None]
+
+
+def test_a_list_of_too_many_conversations_is_refused() -> None:
+    with HeldFrames[int](1, 1, 1) as held:
+        held.put(0, 7)
+        with pytest.raises(LagError) as told:
+            held.next_released([1] * (MOST_CONVERSATIONS + 1))
+        assert told.value.status is Status.NOT_ASSIGNED
+        assert held.next_released([1] * MOST_CONVERSATIONS) == Released(0, 1, 7)
+
+
+def test_a_number_without_room_is_refused_by_python() -> None:
+    for numbers in ((65536, 1, 1), (-1, 1, 1), (1, -1, 1), (1, 1, ctypes.c_size_t(-1).value + 1)):
+        with pytest.raises(ValueError):
+            HeldFrames[int](*numbers)
+    with HeldFrames[int](1, 1, 1) as held:
+        for call in (held.next, held.drop, lambda number: held.put(number, 0), lambda number: held.next_released([number])):
+            with pytest.raises(ValueError):
+                call(65536)
+    with pytest.raises(ValueError):
+        Carried(1, 2**32)
+    with pytest.raises(ValueError):
+        next_move([65536], [])
+
+
+def test_held_frames_that_are_closed_raise_closed() -> None:
+    held = HeldFrames[int](1, 1, 1)
+    held.put(0, 7)
+    held.close()
+    held.close()
+    assert held.closed
+    for call in (held.counts, lambda: held.next(0), lambda: held.drop(0), lambda: held.put(0, 1), lambda: held.next_released([1])):
+        with pytest.raises(Closed) as told:
+            call()
+        assert told.value.status is Status.NO_QUEUE
+
+
+def test_more_memory_than_there_is_is_refused() -> None:
+    with pytest.raises(NoMemory):
+        HeldFrames[int](65535, 1, ctypes.c_size_t(-1).value)
+
+
+def test_held_frames_are_neither_copied_nor_called_by_another_thread() -> None:
+    raised: list[BaseException] = []
+
+    def ask(held: HeldFrames[int]) -> None:
+        try:
+            held.counts()
+        except RuntimeError as why:
+            raised.append(why)
+
+    with HeldFrames[int](1, 1, 1) as held:
+        with pytest.raises(TypeError):
+            copy.copy(held)
+        other = threading.Thread(target=ask, args=(held,))
+        other.start()
+        other.join()
+    assert [str(it) for it in raised] == ["only the thread that made a HeldFrames calls it"]
+
+
+def test_held_frames_that_are_not_closed_are_told() -> None:
+    with warnings.catch_warnings(record=True) as told:
+        warnings.simplefilter("always")
+        HeldFrames[int](1, 1, 1)
+        gc.collect()
+    assert [str(it.message) for it in told] == ["a HeldFrames was not closed"]
+
+
+def test_the_next_move_makes_the_loads_more_alike() -> None:
+    """Port 1 has the load 11 and port 2 the load 3: of conversations 0 and 1 only the load of the first is less than the difference."""
+    assert next_move([1, 2], [Carried(1, 2), Carried(1, 9), Carried(2, 3)]) == Move(conversation=0, port=2)
+    assert next_move([1, 2], [Carried(1, 5), Carried(2, 1), Carried(None, 9)]) is None
+    assert next_move([], [Carried(1, 2)]) is None and next_move([1, 2], []) is None
+    assert next_move([1, 2], [Carried(None, 0)] * MOST_CONVERSATIONS) is None
+    with pytest.raises(LagError) as told:
+        next_move([1, 2], [Carried(None, 0)] * (MOST_CONVERSATIONS + 1))
+    assert told.value.status is Status.NOT_ASSIGNED
