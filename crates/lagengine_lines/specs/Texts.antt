@@ -71,10 +71,24 @@ reason_name (reason.PortNumber place) = codes "port-number " ++ decimal place
 reason_name reason.MaxLinks = codes "max-links"
 reason_name reason.Conversations = codes "conversations"
 
+-- behind the name of a fault: why a configuration is refused
+abbrev pub reason_behind : SystemFault → List ℕ
+reason_behind (system.BadConfig reason) = 32 ∷ reason_name reason
+reason_behind system.NoPort = []
+reason_behind system.NoAggregator = []
+reason_behind system.FrameLength = []
+reason_behind system.SlowFrame = []
+reason_behind system.Held = []
+reason_behind system.NoneDistributing = []
+reason_behind system.NotDistributing = []
+reason_behind system.SamePort = []
+reason_behind system.NotAssigned = []
+reason_behind system.MarkersSpent = []
+reason_behind system.NoMemory = []
+
 -- refused NUMBER NAME, and the reason of a configuration
 abbrev pub refused_text : SystemFault → List ℕ
-refused_text (system.BadConfig reason) = codes "refused 11 bad-config " ++ reason_name reason
-refused_text f = codes "refused " ++ (decimal (fault_number f) ++ 32 ∷ fault_name f)
+refused_text f = codes "refused " ++ (decimal (fault_number f) ++ 32 ∷ (fault_name f ++ reason_behind f))
 
 -- ignored, and why
 abbrev pub ignored_text : WireFault → List ℕ

@@ -1,7 +1,7 @@
 ghost use Rattle.std.specs.Prelude.{◌≡◌, Some};
 ghost use Rattle.std.specs.Fmt.{DisplaysOnOk};
 ghost use Rattle.hex.specs.Hex.{encode_lower};
-ghost use Rattle.lagengine_lines.specs.Texts.{done_text, ignored_text, reason_name, received_text, refused_text, replies_text};
+ghost use Rattle.lagengine_lines.specs.Texts.{done_text, ignored_text, reason_behind, reason_name, received_text, refused_text, replies_text};
 ghost use Rattle.lagengine_lines.specs.Texts.{forced_text};
 ghost use Rattle.lagengine_lines.specs.Texts.{reply_text, sent_text, subtype_word};
 
@@ -102,6 +102,31 @@ impl fmt::Display for ReasonName {
     }
 }
 
+/// Behind the name of a fault: why a configuration is refused, and else nothing.
+#[derive(Clone, Copy)]
+struct ReasonBehind(SystemFault);
+
+impl fmt::Display for ReasonBehind {
+    ghost output = { λ t. Some (reason_behind t.0) };
+
+    fn fmt<W: fmt::Write>(&self, f: &mut fmt::Formatter<W>) -> fmt::Result {
+        match self.0 {
+            SystemFault::BadConfig(reason) => write!(f, " {}", ReasonName(reason)),
+            SystemFault::NoPort
+            | SystemFault::NoAggregator
+            | SystemFault::FrameLength
+            | SystemFault::SlowFrame
+            | SystemFault::Held
+            | SystemFault::NoneDistributing
+            | SystemFault::NotDistributing
+            | SystemFault::SamePort
+            | SystemFault::NotAssigned
+            | SystemFault::MarkersSpent
+            | SystemFault::NoMemory => f.write_str(""),
+        }
+    }
+}
+
 /// A fault, with its number and its name, and the reason why a configuration is refused.
 #[derive(Clone, Copy)]
 pub struct RefusedText(pub SystemFault);
@@ -111,16 +136,13 @@ impl fmt::Display for RefusedText {
 
     fn fmt<W: fmt::Write>(&self, f: &mut fmt::Formatter<W>) -> fmt::Result {
         let fault = self.0;
-        match fault {
-            SystemFault::BadConfig(reason) => write!(
-                f,
-                "refused {} {} {}",
-                fault.number(),
-                fault.name(),
-                ReasonName(reason)
-            ),
-            _ => write!(f, "refused {} {}", fault.number(), fault.name()),
-        }
+        write!(
+            f,
+            "refused {} {}{}",
+            fault.number(),
+            fault.name(),
+            ReasonBehind(fault)
+        )
     }
 }
 
