@@ -1,4 +1,6 @@
 mod ContentLemmas
+mod EndLemmas
 mod ExplainingLemmas
+mod GapLemmas
 mod NoticingLemmas
 mod StrideLemmas

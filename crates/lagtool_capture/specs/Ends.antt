@@ -1,5 +1,6 @@
 -- The ends of links, by the source address and the actor's port of the LACPDUs that they sent.
 use Rattle.std.specs.Prelude.{◌==◌, ◌&&◌, ◌+◌, ◌-◌, ◌++◌, ℕ, Bool, false, not, List, [], ◌∷◌, Option, Some, None, length, nat_le, nat_lt, option_map, slice_get, slice_set, if◌then◌else◌}
+use Rattle.std.specs.List.{cons_option}
 use Rattle.std.specs.Str.{bytes_eq}
 use Rattle.slowpdu.specs.declared.pdu.Lacpdu.{Lacpdu}
 use Rattle.findings.specs.declared.observed.LinkEnd.{LinkEnd}
@@ -88,6 +89,26 @@ seen_again time v e = record {
   distributing = next_phase (bits_of e.last.actor.state).distributing (bits_of v.actor.state).distributing time e.distributing;
   last = v;
 }
+
+-- an LACPDU, and its time if it is known
+pub record Sent : Type 0 where
+  pub time : Option ℕ
+  pub lacpdu : Lacpdu
+
+-- the end that sent these LACPDUs: the first of them, and the later ones, the latest first
+abbrev pub end_of : Sender → Sent → List Sent → End
+end_of s first [] = first_seen s first.time first.lacpdu
+end_of s first (x ∷ later) = seen_again x.time x.lacpdu (end_of s first later)
+
+-- the time of the latest of them
+abbrev pub latest_time : Sent → List Sent → Option ℕ
+latest_time first [] = first.time
+latest_time first (x ∷ later) = x.time
+
+-- the times between two of them that follow one another, as far as they are known
+abbrev pub gaps_between : Sent → List Sent → List ℕ
+gaps_between first [] = []
+gaps_between first (x ∷ later) = cons_option (gap_between (latest_time first later) x.time) (gaps_between first later)
 
 -- the most ends that are told of
 abbrev pub most_ends : ℕ

@@ -169,7 +169,7 @@ impl fmt::Display for EndLine<'_> {
 
     #[tactic(auto, unfolding(crate::specs::EndTexts::end_line))]
     fn fmt<W: fmt::Write>(&self, f: &mut fmt::Formatter<W>) -> fmt::Result {
-        let end = *self.end;
+        let end = self.end;
         let first = self.first;
         let who = WhoText {
             names: self.names,
@@ -180,7 +180,7 @@ impl fmt::Display for EndLine<'_> {
             shortest: end.shortest,
             longest: end.longest,
         };
-        let median = MedianPart(end.gaps.median());
+        let median = MedianPart(end.median());
         let from = SinceText {
             first,
             time: end.first,

@@ -1,5 +1,6 @@
-ghost use Rattle.std.specs.Prelude.{◌≡◌, ◌<◌, length, IfSome};
-ghost use Rattle.lagtool_capture.specs.Ends.{end_place, first_phase, first_seen, gap_between, is_end, is_named_by, last_of, link_end, longer, named_by, next_phase, seen_again, shorter};
+ghost use Rattle.std.specs.Prelude.{◌≡◌, ◌<◌, ◌^◌, List, length, IfSome};
+ghost use Rattle.lagtool_capture.specs.Ends.{Sent, end_of, end_place, first_phase, first_seen, gap_between, gaps_between, is_end, is_named_by, last_of, link_end, longer, named_by, next_phase, seen_again, shorter};
+ghost use Rattle.lagtool_capture.specs.Gaps.{IsMedianOf, median};
 
 use crate::gaps::Gaps;
 use findings::LinkEnd;
@@ -96,7 +97,7 @@ fn longer(one: Option<u64>, other: Option<u64>) -> Option<u64>
 }
 
 /// What LACPDUs of one sender said so far.
-#[derive(Clone, Copy, Debug, PartialEq, Eq)]
+#[derive(Debug, Drop, PartialEq, Eq)]
 pub struct End {
     /// The sender.
     pub sender: Sender,
@@ -197,31 +198,37 @@ impl End {
         }
     }
 
-    /// The end after one LACPDU more.
-    pub(crate) fn seen_again(self, time: Option<u64>, lacpdu: Lacpdu) -> End
-        ensures { result ≡ seen_again time lacpdu self }
+    /// The median of the times between two LACPDUs that follow one another, in tenths of a second, cut off: of an even number
+    /// the lower of the two in the middle. 1000 stands for 100 seconds and more; None if none of these times is known.
+    pub fn median(&self) -> Option<usize>
+        ensures by_counts { result ≡ median self.now.gaps }
+        ensures of_times { (s : Sender) (first : Sent) (later : List Sent) → length later < 2 ^ 64 → self.now ≡ end_of s first later
+            → IsMedianOf (gaps_between first later) result }
+    {
+        self.gaps.median()
+    }
+
+    /// Enters one LACPDU more.
+    pub(crate) fn see_again(&mut self, time: Option<u64>, lacpdu: Lacpdu)
+        ensures { self.new ≡ seen_again time lacpdu self.old }
     {
         let was = self.last.actor.state;
         let is = lacpdu.actor.state;
         let gap = gap_between(self.latest, time);
-        End {
-            sender: self.sender,
-            count: self.count.saturating_add(1),
-            first: self.first,
-            latest: time,
-            shortest: shorter(self.shortest, gap),
-            longest: longer(self.longest, gap),
-            gaps: self.gaps.with(gap),
-            synchronized: self
-                .synchronized
-                .then(was.is_synchronized(), is.is_synchronized(), time),
-            collecting: self
-                .collecting
-                .then(was.is_collecting(), is.is_collecting(), time),
-            distributing: self
-                .distributing
-                .then(was.is_distributing(), is.is_distributing(), time),
-            last: lacpdu,
-        }
+        self.count = self.count.saturating_add(1);
+        self.latest = time;
+        self.shortest = shorter(self.shortest, gap);
+        self.longest = longer(self.longest, gap);
+        self.gaps.add(gap);
+        self.synchronized = self
+            .synchronized
+            .then(was.is_synchronized(), is.is_synchronized(), time);
+        self.collecting = self
+            .collecting
+            .then(was.is_collecting(), is.is_collecting(), time);
+        self.distributing = self
+            .distributing
+            .then(was.is_distributing(), is.is_distributing(), time);
+        self.last = lacpdu;
     }
 }

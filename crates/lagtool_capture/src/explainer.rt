@@ -157,9 +157,8 @@ impl Explainer {
     {
         match place {
             Some(place) => {
-                if let Some(end) = self.ends.get(place) {
-                    let end = end.seen_again(time, lacpdu);
-                    self.ends[place] = end;
+                if place < self.ends.len() {
+                    self.ends[place].see_again(time, lacpdu);
                 }
             }
             None if self.ends.len() < MOST_ENDS => {

@@ -1,5 +1,5 @@
-ghost use Rattle.std.specs.Prelude.{◌≡◌, ◌<◌};
-ghost use Rattle.lagtool_capture.specs.Gaps.{gaps_with, median, no_gaps, tenths_of, tenths_up_to};
+ghost use Rattle.std.specs.Prelude.{◌≡◌, ◌<◌, ◌^◌, ℕ, List, length};
+ghost use Rattle.lagtool_capture.specs.Gaps.{IsMedianOf, gaps_of, gaps_with, median, no_gaps, tenths_of, tenths_up_to};
 
 /// How many times are told apart: 0 to 999 tenths of a second, and more.
 const ENTRIES: usize = 1001;
@@ -7,8 +7,9 @@ const ENTRIES: usize = 1001;
 /// The nanoseconds in a tenth of a second.
 const TENTH: u64 = 100_000_000;
 
-/// How often each time between two LACPDUs was seen, in tenths of a second.
-#[derive(Clone, Copy, Debug, PartialEq, Eq)]
+/// How often each time between two LACPDUs was seen, in tenths of a second. It takes 8 KB, so it is no `Copy` type: each
+/// time is counted in place.
+#[derive(Debug, Drop, PartialEq, Eq)]
 pub struct Gaps {
     /// How many times there are.
     known: u64,
@@ -43,7 +44,7 @@ fn tenths_up_to(counts: &[u64], wanted: u64) -> Option<usize>
 impl Gaps {
     /// Before the first time.
     #[tactic(auto, unfolding(crate::specs::Gaps::no_gaps))]
-    pub(crate) fn none() -> Gaps
+    pub fn none() -> Gaps
         ensures { result ≡ no_gaps }
     {
         Gaps {
@@ -52,34 +53,35 @@ impl Gaps {
         }
     }
 
-    /// The same with one time more, in nanoseconds, if it is known.
+    /// Counts one time more, in nanoseconds, if it is known.
     #[tactic(auto, unfolding(crate::specs::Gaps::gaps_with))]
-    pub(crate) fn with(self, gap: Option<u64>) -> Gaps
-        ensures { result ≡ gaps_with gap self }
+    pub fn add(&mut self, gap: Option<u64>)
+        ensures { self.new ≡ gaps_with gap self.old }
     {
-        match gap {
-            Some(gap) => {
-                let mut counts = self.counts;
-                let tenths = tenths_of(gap);
-                counts[tenths] = counts[tenths].saturating_add(1);
-                Gaps {
-                    known: self.known.saturating_add(1),
-                    counts,
-                }
-            }
-            None => self,
+        if let Some(gap) = gap {
+            let tenths = tenths_of(gap);
+            self.counts[tenths] = self.counts[tenths].saturating_add(1);
+            self.known = self.known.saturating_add(1);
         }
     }
 
-    /// The median of the times in tenths of a second, cut off: of an even number the lower of the two in the middle. 1000
-    /// stands for 100 seconds and more; None without a time.
+    /// The median by the counts.
     #[tactic(auto, unfolding(crate::specs::Gaps::median))]
-    pub(crate) fn median(&self) -> Option<usize>
+    fn by_counts(&self) -> Option<usize>
         ensures { result ≡ median self.now }
     {
         if self.known == 0 {
             return None;
         }
         tenths_up_to(&self.counts, self.known - self.known / 2)
+    }
+
+    /// The median of the times in tenths of a second, cut off: of an even number the lower of the two in the middle. 1000
+    /// stands for 100 seconds and more; None without a time.
+    pub fn median(&self) -> Option<usize>
+        ensures by_counts { result ≡ median self.now }
+        ensures of_times { (gaps : List ℕ) → length gaps < 2 ^ 64 → self.now ≡ gaps_of gaps → IsMedianOf gaps result }
+    {
+        self.by_counts()
     }
 }

@@ -21,7 +21,7 @@ impl fmt::Display for SenderPart<'_> {
 
     #[tactic(auto, unfolding(crate::specs::Json::sender_part))]
     fn fmt<W: fmt::Write>(&self, f: &mut fmt::Formatter<W>) -> fmt::Result {
-        let end = *self.end;
+        let end = self.end;
         write!(
             f,
             "\"record\":\"end\",\"interface\":{},\"source\":\"{}\",\"port\":{},\"lacpdus\":{}",
@@ -96,7 +96,7 @@ impl fmt::Display for TimesPart<'_> {
 
     #[tactic(auto, unfolding(crate::specs::Json::times_part))]
     fn fmt<W: fmt::Write>(&self, f: &mut fmt::Formatter<W>) -> fmt::Result {
-        let end = *self.end;
+        let end = self.end;
         let first = self.first;
         let from = SinceValue {
             first,
@@ -108,7 +108,7 @@ impl fmt::Display for TimesPart<'_> {
         };
         let shortest = GapValue(end.shortest);
         let longest = GapValue(end.longest);
-        let median = MedianValue(end.gaps.median());
+        let median = MedianValue(end.median());
         write!(
             f,
             "\"first\":{from},\"last\":{to},\"shortest\":{shortest},\"longest\":{longest},\"median\":{median}"
@@ -128,7 +128,7 @@ impl fmt::Display for PhasesPart<'_> {
 
     #[tactic(auto, unfolding(crate::specs::Json::phases_part))]
     fn fmt<W: fmt::Write>(&self, f: &mut fmt::Formatter<W>) -> fmt::Result {
-        let end = *self.end;
+        let end = self.end;
         let first = self.first;
         let synchronized = PhaseValue {
             first,

@@ -6,6 +6,8 @@
 #[cfg(test)]
 mod of_captures;
 #[cfg(test)]
+mod of_ends;
+#[cfg(test)]
 mod of_explained;
 #[cfg(test)]
 mod of_found;

@@ -1,0 +1,7 @@
+use Rattle.std.proofs.Common.{sym, subst}
+use Rattle.lagtool_capture.specs.Gaps.{IsMedianOf}
+use Rattle.lagtool_capture.proofs.GapLemmas.{median_is}
+use Rattle.lagtool_capture.proofs.gaps.Gaps.median.Goals as goal
+
+pub returns-clause-of_times : goal.returns-clause-of_times
+returns-clause-of_times c = λ gaps lt e. subst (IsMedianOf gaps) (sym c.by_counts.ensures) (median_is c.args.self.now gaps lt e)
