@@ -8,7 +8,7 @@ struct bundle bundle;
 
 static unsigned lines = MOST_LINES; /* how many changes may still be told */
 static bool told;                   /* whether the first state was */
-static uint16_t chosen;             /* the aggregator that was chosen last, or 0 */
+static uint16_t chosen_last;        /* what choose_aggregator answered last, or 0 */
 
 static uint16_t carrying_in(uint16_t aggregator) {
     uint16_t carrying = 0;
@@ -62,16 +62,17 @@ static bool is_lesser(uint16_t one, uint16_t other) {
 static bool is_better(uint16_t one, uint16_t other) {
     unsigned rank = rank_of(one), rank_of_other = rank_of(other);
     if (rank != rank_of_other) return rank > rank_of_other;
-    if (keeps_aggregator() && (one == chosen || other == chosen)) return one == chosen;
+    if (keeps_aggregator() && (one == chosen_last || other == chosen_last)) return one == chosen_last;
     return is_lesser(one, other);
 }
 
-/* Chooses the aggregator whose ports carry. One without a partner is chosen where there is no other. */
+/* Chooses the aggregator whose ports carry, and remembers it: among equals the next call keeps it, whoever calls. One without a partner is
+ * chosen where there is no other. */
 void choose_aggregator(struct bundle *now) {
     uint16_t best = 0;
     for (uint16_t aggregator = 1; aggregator <= aggregator_count; aggregator++)
         if (rank_of(aggregator) > 0 && (best == 0 || is_better(aggregator, best))) best = aggregator;
-    chosen = now->aggregator = best;
+    chosen_last = now->aggregator = best;
     now->carrying = best == 0 ? 0 : carrying_in(best);
 }
 

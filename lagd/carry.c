@@ -7,8 +7,6 @@
 
 #include "carry.h"
 
-/* How many frames of a conversation wait at most. */
-#define LONGEST_WAIT 2048
 /* For how long frames of the peer tell that it has the same aggregator, in milliseconds. */
 #define HEARD 3000
 
@@ -43,16 +41,13 @@ struct niw_assignment state_of(uint16_t aggregator, uint16_t number) {
     return state;
 }
 
-/* The port of each conversation of an aggregator; 0 where it is free or held there, or there is no aggregator. */
-const uint16_t *ports_in(uint16_t aggregator) {
-    static uint16_t ports[CONVERSATIONS];
-    static bool changed[CONVERSATIONS];
-    if (aggregator == 0)
-        memset(ports, 0, sizeof ports);
-    else
+/* Writes the port of each conversation of an aggregator: 0 where it is free or held there, or there is no aggregator. */
+void ask_ports(uint16_t aggregator, uint16_t *ports) {
+    bool changed[CONVERSATIONS] = {false};
+    memset(ports, 0, CONVERSATIONS * sizeof *ports);
+    if (aggregator != 0)
         check_call(niw_conversation_ports(&own_system, aggregator, ports, CONVERSATIONS, changed, CONVERSATIONS).status,
             "niw_conversation_ports");
-    return ports;
 }
 
 bool is_held(const struct niw_assignment *state) {
@@ -71,45 +66,35 @@ bool is_busy(const struct conversation *conversation) {
     return conversation->home == carry.active && (conversation->used || is_recent);
 }
 
-static void drop_first(struct conversation *conversation, enum carry_count why) {
-    carry.counts[why]++;
-    drop_held(&conversation->queue);
+/* Has a frame wait until its conversation goes on. Where there is no room the oldest one of it is lost, or else this one. */
+static void keep(uint16_t number, const uint8_t *packet, size_t length) {
+    bool kept = put_held(number, packet, length);
+    if (!kept && drop_held(number, QUEUE_FULL)) kept = put_held(number, packet, length);
+    carry.counts[kept ? HELD_FRAMES : QUEUE_FULL]++;
+    if (count_held(number) > 0) carry.waiting = true;
+    if (count_held(number) > carry.counts[LONGEST_QUEUE]) carry.counts[LONGEST_QUEUE] = count_held(number);
 }
 
-/* Has a frame wait until its conversation goes on. Where there is no room the oldest one is lost. */
-static void keep(struct conversation *conversation, const uint8_t *packet, size_t length) {
-    struct queue *queue = &conversation->queue;
-    if (queue->count == LONGEST_WAIT) drop_first(conversation, QUEUE_FULL);
-    if (put_held(queue, packet, length, carry.time)) {
-        carry.counts[HELD_FRAMES]++;
-    } else if (queue->count > 0) {
-        drop_first(conversation, QUEUE_FULL);
-        (void)put_held(queue, packet, length, carry.time);
-        carry.counts[HELD_FRAMES]++;
-    } else {
-        carry.counts[QUEUE_FULL]++;
-    }
-    if (queue->count > 0) carry.waiting = true;
-    if (queue->count > carry.counts[LONGEST_QUEUE]) carry.counts[LONGEST_QUEUE] = queue->count;
-}
+/* What becomes of the next frame of a conversation: it waits, there is no port for it, or it goes on the port of the conversation. */
+enum offered { WAITS, LOST, GOES };
 
-/* Offers a frame, and puts it behind those of its port; answers whether it is dealt with. One that is held is not. */
-static bool send_on(struct conversation *conversation, uint16_t number, uint8_t *packet, size_t length) {
+static enum offered offer(struct conversation *conversation, uint16_t number) {
     struct niw_number answer;
-    if (!is_home(conversation, number) || carry.time < conversation->fast.not_before) return false;
+    if (!is_home(conversation, number) || carry.time < conversation->fast.not_before) return WAITS;
     answer = niw_offer_conversation(&own_system, carry.active, number);
-    if (answer.status == NIW_HELD) return false;
-    if (answer.status != NIW_OK) {
-        if (answer.status != NIW_NONE_DISTRIBUTING) check_call(answer.status, "niw_offer_conversation");
-        carry.counts[NONE_CARRIES]++;
-        return true;
-    }
+    if (answer.status == NIW_HELD) return WAITS;
+    if (answer.status == NIW_NONE_DISTRIBUTING) return LOST;
+    check_call(answer.status, "niw_offer_conversation");
     conversation->home = carry.active;
     conversation->port = (uint16_t)answer.number;
     conversation->since = 0;
+    return GOES;
+}
+
+/* Puts a frame behind those of the port of its conversation. */
+static void send_on(const struct conversation *conversation, uint8_t *packet, size_t length) {
     note_sent(conversation->port);
     put_data(conversation->port, packet, length);
-    return true;
 }
 
 /* Whether a frame of the host may go: of a right length, and none of the slow protocols. */
@@ -120,12 +105,14 @@ static bool is_fit(const uint8_t *packet, size_t length) {
 
 /* A frame of a conversation came. It overtakes none that waits. */
 static void take_fit(struct conversation *conversation, uint16_t number, uint8_t *packet, size_t length) {
-    if (carry.active == 0) {
-        carry.counts[NONE_CARRIES]++;
-        return;
+    enum offered offered = LOST;
+    if (carry.active != 0) {
+        conversation->used = true;
+        offered = count_held(number) > 0 ? WAITS : offer(conversation, number);
     }
-    conversation->used = true;
-    if (conversation->queue.count > 0 || !send_on(conversation, number, packet, length)) keep(conversation, packet, length);
+    if (offered == WAITS) keep(number, packet, length);
+    if (offered == GOES) send_on(conversation, packet, length);
+    if (offered == LOST) carry.counts[NONE_CARRIES]++;
 }
 
 /* A packet came from the host. */
@@ -201,20 +188,26 @@ void hand_up(uint32_t aggregator, const uint8_t *packet, size_t length) {
     }
 }
 
+/* Offers the oldest frame of a conversation again, of which one waits; answers whether it left. */
+static bool release_one(struct conversation *conversation, uint16_t number) {
+    enum offered offered = carry.active == 0 ? WAITS : offer(conversation, number);
+    size_t length;
+    uint8_t *packet;
+    if (offered == WAITS) return false;
+    conversation->fast.touched = true;
+    if (offered == LOST) return drop_held(number, NONE_CARRIES);
+    packet = take_held(number, &length);
+    send_on(conversation, packet, length);
+    return true;
+}
+
 /* Offers again what waits, of each conversation until one is held. */
 static void release(void) {
     carry.waiting = false;
     for (uint16_t number = 0; number < CONVERSATIONS; number++) {
-        struct conversation *conversation = &carry.conversations[number];
-        while (conversation->queue.count > 0) {
-            size_t length;
-            uint64_t time;
-            uint8_t *packet = first_held(&conversation->queue, &length, &time);
-            if (carry.active == 0 || !send_on(conversation, number, packet, length)) break;
-            leave_held(&conversation->queue);
-            conversation->fast.touched = true;
-        }
-        if (conversation->queue.count > 0) carry.waiting = true;
+        while (count_held(number) > 0 && release_one(&carry.conversations[number], number))
+            ;
+        if (count_held(number) > 0) carry.waiting = true;
     }
     flush_data();
     pass_on();
@@ -241,10 +234,10 @@ static void choose_active(void) {
  * for which no marker is left goes on after a rest. */
 static void leave_previous(void) {
     uint16_t left = previous;
-    const uint16_t *ports;
+    uint16_t ports[CONVERSATIONS];
     if (carry.active == 0 || carry.active == left) return;
     previous = carry.active;
-    ports = ports_in(left);
+    ask_ports(left, ports);
     for (uint16_t number = 0; number < CONVERSATIONS; number++) {
         uint32_t status = ports[number] == 0 ? NIW_OK : niw_leave_conversation(&own_system, left, number);
         if (status != NIW_MARKERS_SPENT) check_call(status, "niw_leave_conversation");
@@ -318,4 +311,5 @@ void end_carry(void) {
     for (uint16_t i = 0; i < link_count; i++)
         if (links[i].socket >= 0) close_member(&links[i]);
     end_fast();
+    end_held();
 }

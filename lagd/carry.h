@@ -39,8 +39,8 @@ enum carry_count {
     MARKERS_SENT,
     MARKERS_AGAIN,
     MOVES,    /* of conversations, to another port */
-    RESTED,   /* conversations that were freed, since nothing of them could be on its way */
-    FORCED,   /* conversations that were freed from a port that no longer distributes */
+    RESTED,   /* conversations that were freed from the port that they were on, since none of their frames could be on its way */
+    FORCED,   /* conversations that were held, and were freed without a response to their marker */
     SWITCHES, /* of the active aggregator, to another one */
     WOKEN,    /* ports on defaults that were started again */
     SEGMENTED, /* frames of several segments, of those that came from the host */
@@ -66,11 +66,6 @@ enum member_count {
 /* Whether the peer answers markers. */
 enum answering { NOT_ASKED, ASKED, ANSWERS, MUTE };
 
-/* Frames that wait, of one conversation: the numbers of their slots. */
-struct queue {
-    uint32_t first, last, count;
-};
-
 /* What is known here of a conversation that the kernel may pass on. */
 struct fast {
     uint16_t port;    /* the port whose member its row names, or 0 */
@@ -90,7 +85,6 @@ struct conversation {
     uint64_t last;  /* the time of the last tick before which one came, or 0 */
     uint64_t since; /* the time of the tick that saw it held, or 0 */
     bool asked;     /* whether it is asked to move */
-    struct queue queue;
     struct fast fast;
 };
 
@@ -101,6 +95,7 @@ struct carry {
     uint16_t active;               /* the aggregator whose ports carry the data, or 0 */
     uint16_t ports[NIW_MOST_PORTS]; /* of it, those that distribute */
     uint16_t port_count;
+    uint16_t port_of[CONVERSATIONS]; /* of each conversation in it, as ask_ports told last: 0 where it is free or held there */
     bool changed;                  /* whether the library may answer otherwise now */
     bool waiting;                  /* whether some queue is not empty */
     struct conversation conversations[CONVERSATIONS];
@@ -110,7 +105,7 @@ extern struct carry carry;
 
 /* carry.c */
 struct niw_assignment state_of(uint16_t aggregator, uint16_t number);
-const uint16_t *ports_in(uint16_t aggregator);
+void ask_ports(uint16_t aggregator, uint16_t *ports);
 bool is_held(const struct niw_assignment *state);
 bool is_home(const struct conversation *conversation, uint16_t number);
 bool is_busy(const struct conversation *conversation);
@@ -216,10 +211,13 @@ uint64_t member_count(uint16_t port, enum member_count count);
 
 /* held.c */
 void start_held(void);
-bool put_held(struct queue *queue, const uint8_t *packet, size_t length, uint64_t time);
-uint8_t *first_held(const struct queue *queue, size_t *length, uint64_t *time);
-void drop_held(struct queue *queue);
-void leave_held(struct queue *queue);
+void end_held(void);
+uint64_t count_held(uint16_t number);
+uint64_t count_all_held(void);
+uint64_t oldest_held(uint16_t number);
+bool put_held(uint16_t number, const uint8_t *packet, size_t length);
+bool drop_held(uint16_t number, enum carry_count why);
+uint8_t *take_held(uint16_t number, size_t *length);
 void free_left(void);
 
 /* moves.c */

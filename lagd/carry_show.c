@@ -22,8 +22,8 @@ static const struct {
     [MARKERS_SENT] = {"markers_sent", "markers that were sent"},
     [MARKERS_AGAIN] = {"markers_again", "markers that were sent again"},
     [MOVES] = {"moves", "moves of conversations"},
-    [RESTED] = {"rested", "conversations that were freed after a rest"},
-    [FORCED] = {"forced", "conversations that were freed from a dead link"},
+    [RESTED] = {"rested", "conversations that were freed from their link after a rest"},
+    [FORCED] = {"forced", "conversations that were held, and freed without a response"},
     [SWITCHES] = {"switches", "switches to another aggregator"},
     [WOKEN] = {"woken", "ports on defaults that were started again"},
     [SEGMENTED] = {"segmented", "frames of several segments that came to the daemon"},
@@ -48,13 +48,6 @@ static const struct {
 static const char *answering_text(void) {
     static const char *const texts[] = {[NOT_ASKED] = "not asked", [ASKED] = "asked", [ANSWERS] = "answered", [MUTE] = "not answered"};
     return texts[answering()];
-}
-
-/* How many frames wait now. */
-static unsigned count_waiting(void) {
-    unsigned waiting = 0;
-    for (unsigned i = 0; i < CONVERSATIONS; i++) waiting += carry.conversations[i].queue.count;
-    return waiting;
 }
 
 /* How many conversations of a port are busy. */
@@ -84,7 +77,7 @@ void write_carry_text(void) {
     for (unsigned i = 0; i < CARRY_COUNTS; i++)
         add("%s %s %" PRIu64 "%s", i % 5 == 0 ? "  data:" : "", CARRY_COUNTERS[i].name, carry.counts[i],
             i % 5 == 4 || i == CARRY_COUNTS - 1 ? "\n" : "");
-    add("  waiting: %u, conversations of the kernel: %u\n", count_waiting(), count_fast());
+    add("  waiting: %" PRIu64 ", conversations of the kernel: %u\n", count_all_held(), count_fast());
 }
 
 void write_member_text(const struct link *link) {
@@ -100,8 +93,8 @@ void write_carry_json(void) {
     add("\"carry\":{\"device\":");
     add_string(settings.carry);
     add(",\"carrier\":%s,\"aggregator\":%u,\"hash\":\"%s\",", has_carrier() ? "true" : "false", carry.active, hash_text(settings.hash));
-    add("\"flight\":%u,\"markers\":\"%s\",\"way\":\"%s\",\"waiting\":%u,\"fast_conversations\":%u", settings.flight, answering_text(),
-        way_text(), count_waiting(), count_fast());
+    add("\"flight\":%u,\"markers\":\"%s\",\"way\":\"%s\",\"waiting\":%" PRIu64 ",\"fast_conversations\":%u", settings.flight, answering_text(),
+        way_text(), count_all_held(), count_fast());
     for (unsigned i = 0; i < CARRY_COUNTS; i++) add(",\"%s\":%" PRIu64, CARRY_COUNTERS[i].name, carry.counts[i]);
     add("},");
 }
@@ -119,7 +112,7 @@ void write_carry_metrics(void) {
     if (!carries_data()) return;
     take_fast_counts();
     add_bundle_value("carry_carrier", "gauge", "whether the TAP device has a carrier", has_carrier());
-    add_bundle_value("carry_waiting", "gauge", "how many frames wait", count_waiting());
+    add_bundle_value("carry_waiting", "gauge", "how many frames wait", count_all_held());
     add_bundle_value("carry_fast_conversations", "gauge", "how many conversations the kernel passes on", count_fast());
     for (unsigned i = 0; i < CARRY_COUNTS; i++) {
         bool most = i == LONGEST_QUEUE;

@@ -24,7 +24,6 @@ static int tap_at;                        /* the index of the TAP device */
 static int sender = -1, handover = -1;    /* what keeps its programs there */
 static struct fast_member counted[NIW_MOST_PORTS];
 static uint64_t counted_overflows;
-static const uint16_t *on; /* the port of each conversation in the active aggregator, as it was asked last */
 
 bool is_fast(void) {
     return rows != NULL;
@@ -161,7 +160,7 @@ static void take_back(bool (*is_chosen)(const struct conversation *conversation,
 
 static bool is_wrong(const struct conversation *conversation, uint16_t port) {
     (void)port;
-    return on[number_in(conversation)] != conversation->fast.port || !has_fast_member(conversation->fast.port);
+    return carry.port_of[number_in(conversation)] != conversation->fast.port || !has_fast_member(conversation->fast.port);
 }
 
 static bool is_on(const struct conversation *conversation, uint16_t port) {
@@ -177,7 +176,7 @@ static bool is_resting(const struct conversation *conversation, uint16_t port) {
 /* Takes back what is not, or no longer, on the port where the kernel passes it on: before a marker goes there. */
 void withdraw(void) {
     if (!is_fast()) return;
-    on = ports_in(carry.active);
+    ask_ports(carry.active, carry.port_of);
     take_back(is_wrong, 0);
 }
 
@@ -226,7 +225,7 @@ void pass_on(void) {
         if (conversation->fast.taken > 0) subtract(number, conversation->fast.taken);
         if (conversation->fast.taken > 0) conversation->fast.doubted = false;
         conversation->fast.taken = 0;
-        if (conversation->queue.count > 0 || conversation->port == 0 || conversation->fast.port > 0) continue;
+        if (count_held(number) > 0 || conversation->port == 0 || conversation->fast.port > 0) continue;
         if (may_pass(conversation, conversation->port)) pass(conversation);
     }
 }

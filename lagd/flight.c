@@ -61,20 +61,23 @@ static void watch_port(uint16_t port) {
 }
 
 /* Loses what has waited for longer than a flight and a second. */
-static void drop_old(struct conversation *conversation) {
-    while (conversation->queue.count > 0) {
-        size_t length;
-        uint64_t time;
-        (void)first_held(&conversation->queue, &length, &time);
-        if (carry.time - time < settings.flight + 1000u) return;
-        carry.counts[HELD_TOO_LONG]++;
-        drop_held(&conversation->queue);
-    }
+static void drop_old(uint16_t number) {
+    while (count_held(number) > 0 && carry.time - oldest_held(number) >= settings.flight + 1000u) (void)drop_held(number, HELD_TOO_LONG);
 }
 
-/* A conversation was freed of which nothing was sent for a flight: its next frame overtakes none. */
-static void note_rested(struct conversation *conversation) {
+/* Frees a conversation from the port that it is on: nothing of it was sent for a flight, so its next frame overtakes none. */
+static void rest(struct conversation *conversation, uint16_t number) {
+    check_call(niw_rest(&own_system, conversation->home, number), "niw_rest");
     carry.counts[RESTED]++;
+    carry.changed = true;
+    conversation->since = 0;
+}
+
+/* Frees a conversation that is held, and whose marker nobody answered: nothing of it was sent since. */
+static void force(struct conversation *conversation, uint16_t number) {
+    if (conversation->home == carry.active) doubt_partner();
+    check_call(niw_force(&own_system, conversation->home, number), "niw_force");
+    carry.counts[FORCED]++;
     carry.changed = true;
     conversation->since = 0;
 }
@@ -86,8 +89,7 @@ static void watch_free(struct conversation *conversation, uint16_t number, const
     if (answering() != MUTE || state->what != NIW_CONVERSATION_ON || conversation->fast.port != 0
         || carry.time - conversation->last < settings.flight)
         return;
-    check_call(niw_rest(&own_system, conversation->home, number), "niw_rest");
-    note_rested(conversation);
+    rest(conversation, number);
 }
 
 /* A conversation that is held for long goes on: nothing of it was sent since. It waits for a peer that answers markers, which may have
@@ -97,20 +99,17 @@ static void watch_held(struct conversation *conversation, uint16_t number, const
     if (conversation->since == 0) conversation->since = carry.time;
     if (carry.time - conversation->since < (answered ? UNANSWERED : settings.flight)) return;
     if (is_held(state) && !distributes(state->port)) return;
-    if (is_held(state)) {
-        if (conversation->home == carry.active) doubt_partner();
-        check_call(niw_force(&own_system, conversation->home, number), "niw_force");
-    } else {
-        check_call(niw_rest(&own_system, conversation->home, number), "niw_rest");
-    }
-    note_rested(conversation);
+    if (is_held(state))
+        force(conversation, number);
+    else
+        rest(conversation, number);
 }
 
 static void watch_conversation(uint16_t number, uint64_t *again) {
     struct conversation *conversation = &carry.conversations[number];
     struct niw_assignment state;
     bool away;
-    drop_old(conversation);
+    drop_old(number);
     if (conversation->used) conversation->last = carry.time;
     conversation->used = false;
     if (conversation->home == 0) return;
@@ -118,7 +117,7 @@ static void watch_conversation(uint16_t number, uint64_t *again) {
     away = conversation->home != carry.active && carry.active != 0 && state.what == NIW_CONVERSATION_ON;
     if (state.what == NIW_CONVERSATION_FLUSHING && state.age > 0 && state.age % AGAIN_TICKS == 0)
         *again |= (uint64_t)1 << (state.port - 1);
-    if (is_held(&state) || (away && conversation->queue.count > 0))
+    if (is_held(&state) || (away && count_held(number) > 0))
         watch_held(conversation, number, &state);
     else
         watch_free(conversation, number, &state);

@@ -1,5 +1,6 @@
-/* Frames of conversations that are held: a queue of each, of slots that are taken at the start: small ones, and, where packets may have
- * several segments, large ones. */
+/* Frames of conversations that are held. The library has a queue of each conversation, of numbers of slots: it knows which frame is next,
+ * and how many may wait. Their octets are here, in the slots of one block that is taken at the start: small ones, and, where packets may
+ * have several segments, large ones. */
 #define _GNU_SOURCE
 #include <errno.h>
 #include <string.h>
@@ -7,17 +8,19 @@
 
 #include "carry.h"
 
+/* How many frames of a conversation wait at most, and how many of all. */
+#define LONGEST_WAIT 2048
+#define MOST_WAIT 32768
 /* A number of a slot has its place in the pool, from 1 on, and this bit in the pool of large ones. */
 #define NONE 0
 #define LARGE 0x80000000u
-#define MOST_SMALL 32768
 #define MOST_LARGE 1024
 /* The octets of a packet that a small slot takes. */
 #define SMALL_ROOM 1536
 
 struct slot {
-    uint32_t next, length;
-    uint64_t time; /* at which its frame came */
+    uint32_t next; /* of those that are idle, or on their way */
+    uint32_t length;
     uint8_t packet[];
 };
 
@@ -28,96 +31,127 @@ static struct pool {
     uint32_t used, most; /* how many were ever used, and how many there are */
 } small, large;
 static uint32_t leaving = NONE; /* the first of those that are in use until they were sent */
+static struct niw_queue queues = NIW_EMPTY;
+/* What the library does not tell of a conversation: how many frames were put and taken ever, and when each that waits came. */
+static struct stay {
+    uint64_t put, taken;
+    uint64_t came[LONGEST_WAIT]; /* each at its number modulo LONGEST_WAIT, from 0 */
+} stays[CONVERSATIONS];
 
-static struct pool *pool_of(uint32_t number) {
-    return number & LARGE ? &large : &small;
+static struct pool *pool_of(uint32_t at) {
+    return at & LARGE ? &large : &small;
 }
 
-static struct slot *slot_of(uint32_t number) {
-    struct pool *pool = pool_of(number);
-    return (struct slot *)(void *)(pool->slots + (size_t)((number & ~LARGE) - 1) * pool->octets);
+static struct slot *slot_of(uint32_t at) {
+    struct pool *pool = pool_of(at);
+    return (struct slot *)(void *)(pool->slots + (size_t)((at & ~LARGE) - 1) * pool->octets);
 }
 
-static void start_pool(struct pool *pool, size_t room, uint32_t most) {
+/* Sets how many slots a pool has; answers their octets. */
+static size_t size_pool(struct pool *pool, size_t room, uint32_t most) {
     pool->octets = (sizeof(struct slot) + room + 15) / 16 * 16;
     pool->most = most;
-    pool->slots = mmap(NULL, pool->octets * most, PROT_READ | PROT_WRITE, MAP_PRIVATE | MAP_ANONYMOUS | MAP_NORESERVE, -1, 0);
-    if (pool->slots == MAP_FAILED) stop(REFUSED, "no room for held frames", strerror(errno));
+    return pool->octets * most;
 }
 
-/* Takes the slots. Their pages are in memory once they are used. */
+/* Takes all memory. Its pages are in use once they are written. */
 void start_held(void) {
-    start_pool(&small, SMALL_ROOM, MOST_SMALL);
-    if (packet_room() > SMALL_ROOM) start_pool(&large, packet_room(), MOST_LARGE);
+    size_t before = size_pool(&small, SMALL_ROOM, MOST_WAIT);
+    size_t behind = packet_room() > SMALL_ROOM ? size_pool(&large, packet_room(), MOST_LARGE) : 0;
+    small.slots = mmap(NULL, before + behind, PROT_READ | PROT_WRITE, MAP_PRIVATE | MAP_ANONYMOUS | MAP_NORESERVE, -1, 0);
+    if (small.slots == MAP_FAILED) stop(REFUSED, "no room for held frames", strerror(errno));
+    large.slots = small.slots + before;
+    check_call(niw_queue_new(&queues, CONVERSATIONS, MOST_WAIT, LONGEST_WAIT), "niw_queue_new");
+}
+
+/* The daemon ends. */
+void end_held(void) {
+    if (queues.live) check_call(niw_queue_free(&queues), "niw_queue_free");
 }
 
 /* A slot that is not in use, or NONE. */
 static uint32_t take_slot(struct pool *pool) {
-    uint32_t number = pool->idle;
-    if (number != NONE)
-        pool->idle = slot_of(number)->next;
+    uint32_t at = pool->idle;
+    if (at != NONE)
+        pool->idle = slot_of(at)->next;
     else if (pool->used < pool->most)
-        number = ++pool->used | (pool == &large ? LARGE : 0);
-    return number;
+        at = ++pool->used | (pool == &large ? LARGE : 0);
+    return at;
 }
 
-static void free_slot(uint32_t number) {
-    struct pool *pool = pool_of(number);
-    slot_of(number)->next = pool->idle;
-    pool->idle = number;
+static void free_slot(uint32_t at) {
+    struct pool *pool = pool_of(at);
+    slot_of(at)->next = pool->idle;
+    pool->idle = at;
 }
 
-/* Puts a packet at the end; answers whether there was a slot. */
-bool put_held(struct queue *queue, const uint8_t *packet, size_t length, uint64_t time) {
-    uint32_t number = take_slot(length > SMALL_ROOM ? &large : &small);
-    struct slot *slot;
-    if (number == NONE) return false;
-    slot = slot_of(number);
-    slot->next = NONE;
-    slot->length = (uint32_t)length;
-    slot->time = time;
-    memcpy(slot->packet, packet, length);
-    if (queue->count == 0)
-        queue->first = number;
-    else
-        slot_of(queue->last)->next = number;
-    queue->last = number;
-    queue->count++;
+/* How many frames of a conversation wait. */
+uint64_t count_held(uint16_t number) {
+    return stays[number].put - stays[number].taken;
+}
+
+/* How many frames wait in all. */
+uint64_t count_all_held(void) {
+    struct niw_counts counts = niw_queue_counts(&queues);
+    check_call(counts.status, "niw_queue_counts");
+    return counts.waiting;
+}
+
+/* The time at which the oldest frame of a conversation came. One waits. */
+uint64_t oldest_held(uint16_t number) {
+    return stays[number].came[stays[number].taken % LONGEST_WAIT];
+}
+
+/* Puts a packet behind those of its conversation; answers whether there was room. */
+bool put_held(uint16_t number, const uint8_t *packet, size_t length) {
+    struct stay *stay = &stays[number];
+    uint32_t at = take_slot(length > SMALL_ROOM ? &large : &small), status;
+    if (at == NONE) return false;
+    status = niw_queue_put(&queues, number, at);
+    if (status != NIW_OK) {
+        if (status != NIW_CONVERSATION_FULL && status != NIW_ALL_FULL) check_call(status, "niw_queue_put");
+        free_slot(at);
+        return false;
+    }
+    slot_of(at)->length = (uint32_t)length;
+    memcpy(slot_of(at)->packet, packet, length);
+    stay->came[stay->put++ % LONGEST_WAIT] = carry.time;
     return true;
 }
 
-/* The first packet of a queue that is not empty. */
-uint8_t *first_held(const struct queue *queue, size_t *length, uint64_t *time) {
-    struct slot *slot = slot_of(queue->first);
-    *length = slot->length;
-    *time = slot->time;
-    return slot->packet;
+/* Notes that the library took a frame out; answers its slot, or NONE where none waited. */
+static uint32_t note_taken_out(uint16_t number, const struct niw_queued *queued, const char *call) {
+    check_call(queued->status, call);
+    if (!queued->is) return NONE;
+    stays[number].taken++;
+    return (uint32_t)queued->frame;
 }
 
-static uint32_t take_first(struct queue *queue) {
-    uint32_t number = queue->first;
-    queue->first = slot_of(number)->next;
-    queue->count--;
-    return number;
+/* Loses the oldest frame of a conversation, and counts why; answers whether one waited. */
+bool drop_held(uint16_t number, enum carry_count why) {
+    struct niw_queued queued = niw_queue_drop(&queues, number);
+    uint32_t at = note_taken_out(number, &queued, "niw_queue_drop");
+    if (at == NONE) return false;
+    free_slot(at);
+    carry.counts[why]++;
+    return true;
 }
 
-/* Drops the first packet. */
-void drop_held(struct queue *queue) {
-    free_slot(take_first(queue));
-}
-
-/* The first packet is on its way: its slot is free once it was sent. */
-void leave_held(struct queue *queue) {
-    uint32_t number = take_first(queue);
-    slot_of(number)->next = leaving;
-    leaving = number;
+/* Takes the oldest frame of a conversation out, to be sent. One waits. Its packet stays where it is until free_left. */
+uint8_t *take_held(uint16_t number, size_t *length) {
+    struct niw_queued queued = niw_queue_next(&queues, number);
+    uint32_t at = note_taken_out(number, &queued, "niw_queue_next");
+    slot_of(at)->next = leaving;
+    leaving = at;
+    *length = slot_of(at)->length;
+    return slot_of(at)->packet;
 }
 
 /* All that was on its way was sent. */
 void free_left(void) {
     while (leaving != NONE) {
-        uint32_t number = leaving;
-        leaving = slot_of(number)->next;
-        free_slot(number);
+        uint32_t at = leaving;
+        leaving = slot_of(at)->next;
+        free_slot(at);
     }
 }

@@ -2,11 +2,6 @@
 #define _GNU_SOURCE
 #include "carry.h"
 
-#define NONE UINT16_MAX
-
-/* The port of each conversation in the active aggregator, or 0: it is free there, or held. */
-static const uint16_t *ports_of;
-
 /* Whether a conversation is held on a port that carries. */
 static bool any_moves(void) {
     for (uint16_t i = 0; i < carry.port_count; i++)
@@ -17,7 +12,7 @@ static bool any_moves(void) {
 /* Moves a conversation to a port; answers whether it is on the move. */
 static bool move(uint16_t number, uint16_t port) {
     if (niw_move_conversation(&own_system, carry.active, number, port) != NIW_OK) return false;
-    ports_of = ports_in(carry.active);
+    ask_ports(carry.active, carry.port_of);
     carry.conversations[number].port = port;
     carry.counts[MOVES]++;
     return true;
@@ -37,48 +32,31 @@ static bool move_asked(void) {
         struct conversation *conversation = &carry.conversations[number];
         if (!conversation->asked) continue;
         conversation->asked = false;
-        if (is_busy(conversation) && ports_of[number] != 0 && move(number, next_port(ports_of[number]))) any = true;
+        if (is_busy(conversation) && carry.port_of[number] != 0 && move(number, next_port(carry.port_of[number]))) any = true;
     }
     return any;
 }
 
-/* A busy conversation that is on a port, or NONE. */
-static uint16_t find_busy(uint16_t port) {
-    for (uint16_t number = 0; number < CONVERSATIONS; number++)
-        if (ports_of[number] == port && is_busy(&carry.conversations[number])) return number;
-    return NONE;
-}
-
-/* The port of a busy conversation: that which it is on, or, while it is free or held, that of its last frame. */
-static uint16_t last_port(uint16_t number) {
-    return ports_of[number] != 0 ? ports_of[number] : carry.conversations[number].port;
-}
-
-/* Moves busy conversations from the ports that have most of them to those that have fewest, until these differ by one at most. */
+/* Moves busy conversations from ports that have most of them to one that has fewest, until the numbers differ by one at most. The
+ * library tells each move. A conversation that is on no port counts for none, until its next frame. */
 static bool level(void) {
-    unsigned loads[NIW_MOST_PORTS] = {0};
+    struct niw_carried carried[CONVERSATIONS];
     bool any = false;
     for (uint16_t number = 0; number < CONVERSATIONS; number++)
-        if (is_busy(&carry.conversations[number])) loads[last_port(number) - 1]++;
+        carried[number] = (struct niw_carried){carry.port_of[number], is_busy(&carry.conversations[number])};
     for (;;) {
-        uint16_t most = carry.ports[0], least = carry.ports[0], found;
-        for (uint16_t i = 1; i < carry.port_count; i++) {
-            if (loads[carry.ports[i] - 1] > loads[most - 1]) most = carry.ports[i];
-            if (loads[carry.ports[i] - 1] < loads[least - 1]) least = carry.ports[i];
-        }
-        if (loads[most - 1] < loads[least - 1] + 2) return any;
-        found = find_busy(most);
-        if (found == NONE || !move(found, least)) return any;
+        struct niw_move next = niw_next_move(carry.ports, carry.port_count, carried, CONVERSATIONS);
+        check_call(next.status, "niw_next_move");
+        if (!next.is || !move(next.conversation, next.port)) return any;
+        carried[next.conversation].port = next.port;
         any = true;
-        loads[most - 1]--;
-        loads[least - 1]++;
     }
 }
 
 /* Moves what has to move, once a tick, towards a peer that answers markers: one marker of a port tells of all that leave it. */
 void balance(void) {
     if (carry.port_count < 2 || answering() != ANSWERS || any_moves()) return;
-    ports_of = ports_in(carry.active);
+    ask_ports(carry.active, carry.port_of);
     if (move_asked() || level()) send_due();
 }
 

@@ -87,7 +87,8 @@ def switches(programs: Programs) -> None:
             carry = ours.carry()
             told = f"it switched {carry['switches'] - before['switches']} times, and is at aggregator {first} again"
             check(carry["switches"] - before["switches"] == 2 and carry["aggregator"] == first, told, ours.printed())
-            check(carry["rested"] == before["rested"], "conversations left the other one behind markers, none after a rest", ours.text())
+            freed = carry["rested"] - before["rested"] + carry["forced"] - before["forced"]
+            check(freed == 0, "conversations left the other one behind markers, none after a rest or by force", ours.text())
             check_order(outcome, "through two switches of the aggregator", ours.text())
             check_whole(outcome, ours, theirs, cables_lose=True)
             stays_while_heard(programs, laid, ours, theirs)
