@@ -41,9 +41,12 @@ def test_a_plot_has_a_bar_for_each_lacpdu() -> None:
 
 def test_each_report_of_the_examples_is_plotted() -> None:
     folder = os.path.join(TOP, "examples")
+    frames = 0
     for name in sorted(it for it in os.listdir(folder) if it.endswith(".txt")):
         with open(os.path.join(folder, name), encoding="utf-8") as it:
             report = it.read()
         sent = len(re.findall(r"-> (?:lacpdu \w+|marker \d+) (?:sent|lost)$", report, re.M))
         told = plotted(report)
-        assert sent == told.count('stroke="#333"') + told.count("<circle") + told.count('stroke="#a33"') > 0, name
+        assert sent == told.count('stroke="#333"') + told.count("<circle") + told.count('stroke="#a33"'), name
+        frames += sent
+    assert frames > 0
