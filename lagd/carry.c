@@ -164,7 +164,7 @@ static void forget_heard(void) {
 
 /* A frame came in an aggregator that is not the active one. If it is as good as that, the peer may send there. */
 void doubt_aggregator(uint32_t aggregator) {
-    if (heard_at == 0 || carry.active == 0 || aggregator == carry.active || !is_as_good((uint16_t)aggregator, carry.active)) return;
+    if (heard_at == 0 || carry.active == 0 || aggregator == carry.active || !is_as_good_as_any((uint16_t)aggregator)) return;
     heard_at = 0;
     carry.changed = true;
 }

@@ -13,12 +13,11 @@
 
 #define VERSION NIW_VERSION_TEXT
 
-/* The statuses of a port: those of the library, and more. */
+/* The statuses of a port: those of the library, and from here on what it does not know. */
 enum {
-    MISSING = NIW_PORT_STATUS_PARTNER_NOT_SYNCHRONIZED + 1, /* its interface is missing */
-    WITHOUT_PARTNER,                                        /* it distributes on defaults */
-    PARTNER_WANTED,                                         /* so it does, but partner-required is given */
-    STATUSES,
+    MISSING = 128,   /* its interface is missing */
+    WITHOUT_PARTNER, /* it distributes on defaults */
+    PARTNER_WANTED,  /* so it does, but partner-required is given */
 };
 
 /* How the program ends. */
@@ -261,7 +260,7 @@ bool carries(const struct link *link);
 
 /* bundle.c */
 void choose_aggregator(struct bundle *now);
-bool is_as_good(uint16_t one, uint16_t other);
+bool is_as_good_as_any(uint16_t aggregator);
 void look_at_bundle(void);
 void allow_bundle_line(void);
 void end_bundle(void);

@@ -16,11 +16,12 @@ Here you can look up the functions and structs of the C library, a line each. `t
 [lag.h](../crates/lagffi/include/lag.h), which say more. [USING](USING.md#from-c) has the loop of a host and the rules for callers,
 [all faults](USING.md#all-faults) the statuses, [PERFORMANCE](PERFORMANCE.md#times-of-calls-a-later-run) how long the calls take.
 
-A function whose answer is a *status* answers `NIW_OK`, or why it refused. A struct that is an answer has its `status` first.
+A function that returns a *status* returns `NIW_OK`, or why it refused. A struct that is an answer has its `status` first: where that is a
+refusal, the other fields are 0.
 """
 COMMENT = r"/\* ((?:(?!\*/).)*?) \*/\n"
 FUNCTION = re.compile(COMMENT + r"static inline ([\w ]+?[ *]+)(niw_\w+)\(([^)]*)\) \{", re.S)
-STRUCT = re.compile(COMMENT + r"struct (niw_\w+) \{\n(.*?)\n\};", re.S)
+STRUCT = re.compile(rf"^(?:{COMMENT})?struct (niw_\w+) \{{\n(.*?)\n\}};", re.M | re.S)
 FIELD = re.compile(r"([\w*, \[\]]+);")
 # What a comment ends its first sentence with: a point or a colon, and what follows begins anew.
 SENTENCE = re.compile(r"(.*?[.])(?: [A-Z`]|$)", re.S)
@@ -46,17 +47,25 @@ def functions(text: str) -> Iterator[str]:
         yield f"| `{name}({', '.join(words)})` | {answer(kind)} | {first_sentence(comment)} |"
 
 
+def answer_of(name: str, text: str) -> str:
+    """What a struct is that has no comment: the answer of the functions that return it."""
+    found = [it for _, kind, it, _ in FUNCTION.findall(text) if kind.strip() == f"struct {name}"]
+    more = f", and of {len(found) - 3} more" if len(found) > 3 else ""
+    return f"The answer of {', '.join(f'`{it}`' for it in found[:3])}{more}."
+
+
 def structs(text: str) -> Iterator[str]:
-    """A row for each struct that has a comment."""
+    """A row for each struct."""
     for comment, name, body in STRUCT.findall(text):
         plain = re.sub(r"/\*.*?\*/", "", body, flags=re.S)
         fields = [re.sub(r"\[.*?\]", "", it).strip().lstrip("*") for line in FIELD.findall(plain) for it in re.sub(r"^\s*(?:const )?(?:struct )?\w+ ", "", line).split(",")]
-        yield f"| `{name}` | {', '.join(f'`{it}`' for it in fields)} | {first_sentence(comment)} |"
+        told = first_sentence(comment) or answer_of(name, text)
+        yield f"| `{name}` | {', '.join(f'`{it}`' for it in fields)} | {told} |"
 
 
 def page() -> str:
     """The whole page."""
     with open(HEADER, encoding="utf-8") as file:
         text = file.read()
-    parts = [HEAD, "## Functions\n", "| function | answers | what it does |\n|---|---|---|", *functions(text)]
+    parts = [HEAD, "## Functions\n", "| function | returns | what it does |\n|---|---|---|", *functions(text)]
     return "\n".join([*parts, "\n## Structs\n", "| struct | fields | what it is |\n|---|---|---|", *structs(text)]) + "\n"

@@ -24,11 +24,8 @@ ENTRIES = {
     "move": (f"{S} {N} {N} {N}", "moved"),
     "force": (f"{S} {N} {N}", "forced"),
 }
-REFUSALS = [
-    "no-port", "no-aggregator", "frame-length", "slow-frame", "held",
-    "none-distributing", "not-distributing", "same-port", "not-assigned", "markers-spent",
-]
-REFUSED = "|".join(f"refused {number} {name}" for number, name in enumerate(REFUSALS, 1))
+# A refusal has the number and the name of a fault: docs/COMMAND.md has those of all.
+REFUSED = rf"refused {N} [a-z]+(?:-[a-z]+)*"
 LINES = {word: re.compile(rf"({N}) {word} (?P<rest>{rest}) -> (?P<reply>{reply}|{REFUSED})") for word, (rest, reply) in ENTRIES.items()}
 AGREEMENT = re.compile(f"cable ({N}) agreement (?:same|differ|changed|not-both|defaults)")
 FLOW = re.compile(rf"flow ([12])/({N})/({N}) sent {N} collected (?:none|{N}(?: {N})*)(?: forced)?")

@@ -51,7 +51,7 @@ def test_a_conversation_is_of_4096_where_a_flow_names_it(flow: str, conversation
         ("1 tick 1 1 -> ticked\n\n", "line 2 can't stand there in a report: "),
         ("2 tick 1 1 -> ticked\n", "line 1 can't stand there in a report: 2 tick 1 1 -> ticked"),
         ("1 tick 3 1 -> ticked\n", "line 1 can't stand there in a report: 1 tick 3 1 -> ticked"),
-        ("1 tick 1 1 -> refused 7 held\n", "line 1 can't stand there in a report: 1 tick 1 1 -> refused 7 held"),
+        ("1 tick 1 1 -> refused held\n", "line 1 can't stand there in a report: 1 tick 1 1 -> refused held"),
         ("cable 2 agreement same\n", "line 1 can't stand there in a report: cable 2 agreement same"),
         ("cable 1 agreement same\n1 cut 1 -> cut\n", "line 2 can't stand there in a report: 1 cut 1 -> cut"),
     ],

@@ -1,0 +1,8 @@
+// Links liblag.a. LAG_FOLDER names its folder, if that is none where the linker looks.
+fn main() {
+    println!("cargo:rerun-if-env-changed=LAG_FOLDER");
+    if let Ok(folder) = std::env::var("LAG_FOLDER") {
+        println!("cargo:rustc-link-search=native={folder}");
+    }
+    println!("cargo:rustc-link-lib=static=lag");
+}
