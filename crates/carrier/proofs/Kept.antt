@@ -17,6 +17,7 @@ use Rattle.lagsystem.specs.declared.fault.SystemFault.{SystemFault}
 use Rattle.lagsystem.specs.declared.received.Received.TheVariants.{Disabled, Dropped, Ignored, TookLacpdu, Respond, Released, Up}
 use Rattle.lagsystem.specs.Assigning.{OffersConversation, OffersIf, frame_of_conversation}
 use Rattle.lagsystem.specs.First.{IsFirst}
+use Rattle.lagsystem.specs.Forcing.{ForcesFirst, ForcesIfHeld, ForcesIn, ForcesPort}
 use Rattle.lagsystem.specs.ModelView.{EffectsSeenAs, JoinedByLawfulMoves, model_setup, model_view}
 use Rattle.lagsystem.specs.Offers.{MayBeOffered, MayBeOfferedTo, has_aggregator, is_frame_length, longest_frame}
 use Rattle.lagsystem.specs.Probing.{ProbesLawfully}
@@ -213,3 +214,24 @@ offered_by_number gives old agg conv answer new l h each not i = by_number (nat_
         (λ z. not (frame_elsewhere old agg conv within z)) i
     by_number false e = subst IsInOneAggregator (sym (nothing gives old agg conv answer new (has_aggregator old agg)
         (subst (λ t. OffersIf (has_aggregator old agg) t gives agg conv old answer new) e h))) i
+
+forced_one : (gives : ℕ → ℕ → ℕ → Type 0) (port : ℕ) (agg : AggId) (conv : ℕ) (old : SystemState) (held : Bool) (new : SystemState)
+    → ForcesIfHeld gives port agg conv old held new → IsInOneAggregator old → IsInOneAggregator new
+forced_one gives port agg conv old true new h i = kept gives old (Force agg conv) (reply.Force (Ok tt)) new h.1 tt i
+forced_one gives port agg conv old false new h i = subst IsInOneAggregator (sym h.1) i
+
+forced_in : (gives : ℕ → ℕ → ℕ → Type 0) (port : ℕ) (agg : AggId) (k : ℕ) (old : SystemState) (n : ℕ) (new : SystemState)
+    → ForcesIn gives port agg k old n new → IsInOneAggregator old → IsInOneAggregator new
+forced_in gives port agg zero old n new h i = subst IsInOneAggregator (sym h.0) i
+forced_in gives port agg (suc k) old n new h i = forced_one gives port agg k h.0 h.2 new h.4 (forced_in gives port agg k old h.1 h.0 h.3 i)
+
+forced_first : (gives : ℕ → ℕ → ℕ → Type 0) (port g : ℕ) (old : SystemState) (n : ℕ) (new : SystemState)
+    → ForcesFirst gives port g old n new → IsInOneAggregator old → IsInOneAggregator new
+forced_first gives port zero old n new h i = subst IsInOneAggregator (sym h.0) i
+forced_first gives port (suc g) old n new h i = forced_in gives port (aggregator_numbered (suc g)) h.0.conversations h.0 h.2 new h.4
+    (forced_first gives port g old h.1 h.0 h.3 i)
+
+pub forced : (gives : ℕ → ℕ → ℕ → Type 0) (port : ℕ) (old : SystemState) (answer : Result ℕ SystemFault) (new : SystemState)
+    → ForcesPort gives port old answer new → IsInOneAggregator old → IsInOneAggregator new
+forced gives port old (Ok n) new h i = forced_first gives port (length old.keys) old n new h.1 i
+forced gives port old (Err fault) new h i = subst IsInOneAggregator (sym h.same) i

@@ -44,7 +44,7 @@ pub fn each_call_keeps_one_aggregator<F: Fn(u16, usize) -> usize>()
         → w.view s ≡ model_view t → IsInOneAggregator t → (IsElsewhere t agg conv → ⊥) → NoneOnItsWayElsewhere w s agg.0 conv }
 {}
 
-ghost use Rattle.std.specs.Prelude.{[], List, Result};
+ghost use Rattle.std.specs.Prelude.{[], List, Ok, Result};
 ghost use Rattle.lagmodel.specs.View.{ModelCall};
 ghost use Rattle.lagsystem.specs.Probing.{ProbesLawfully};
 ghost use Rattle.lagsystem.specs.Promises.{TablePromise};
@@ -58,4 +58,17 @@ pub fn leaving_and_probing_keep_one_aggregator()
         → IsInOneAggregator new }
     ensures probed { (port : ℕ) (old : SystemState) (answer : Result (Option (List ℕ)) SystemFault) (new : SystemState)
         → ProbesLawfully port old answer new → IsInOneAggregator old → IsInOneAggregator new }
+{}
+
+ghost use Rattle.lagsystem.specs.Forcing.{ForcesPort};
+
+/// The two calls that free without a response keep it, too: where a conversation number is On, Wanted or Flushing in one
+/// aggregator at most, it is so after `force_port`, and after a `rest` that is not refused, of which the premises are the clauses
+/// `forced` and `forces` (profile).
+pub fn forcing_and_resting_keep_one_aggregator<F: Fn(u16, usize) -> usize>()
+    ensures forced { (algorithm : F) (port : ℕ) (old : SystemState) (answer : Result ℕ SystemFault) (new : SystemState)
+        → ForcesPort (F.post algorithm) port old answer new → IsInOneAggregator old → IsInOneAggregator new }
+    ensures rested { (algorithm : F) (agg : AggId) (conv : ℕ) (old new : SystemState)
+        → CallPromise (F.post algorithm) old (Call.Force agg conv) (Reply.Force (Ok tt)) new → IsInOneAggregator old
+        → IsInOneAggregator new }
 {}

@@ -12,6 +12,7 @@ mod offering;
 pub use choosing::carrier;
 pub use laws::{
     both_ends_choose_alike, each_call_keeps_one_aggregator,
-    leaving_and_probing_keep_one_aggregator, the_carrier_stays,
+    forcing_and_resting_keep_one_aggregator, leaving_and_probing_keep_one_aggregator,
+    the_carrier_stays,
 };
 pub use offering::{offer_conversation_in_carrier, offer_in_carrier};
