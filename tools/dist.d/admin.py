@@ -63,9 +63,10 @@ def folder(it: Unit) -> list[str]:
 
 
 def file() -> str:
-    """The file of the bundle, as docs/INSTALL.md has it."""
+    """The file of the bundle without data, as docs/INSTALL.md has it: the unit alone gives no right to carry data."""
     with open(os.path.join(TOP, "docs", "INSTALL.md"), encoding="utf-8") as it:
-        [rows] = re.findall(r"^    \[Bundle\]\n(?:    \S.*\n)+", it.read(), re.M)
+        found = re.findall(r"^    \[Bundle\]\n(?:    \S.*\n)+", it.read(), re.M)
+    [rows] = [it for it in found if "carry=" not in it]
     return re.sub(r"^    ", "", rows, flags=re.M)
 
 
