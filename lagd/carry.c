@@ -69,10 +69,12 @@ bool is_busy(const struct conversation *conversation) {
 /* Has a frame wait until its conversation goes on. Where there is no room the oldest one of it is lost, or else this one. */
 static void keep(uint16_t number, const uint8_t *packet, size_t length) {
     bool kept = put_held(number, packet, length);
+    uint64_t waiting;
     if (!kept && drop_held(number, QUEUE_FULL)) kept = put_held(number, packet, length);
     carry.counts[kept ? HELD_FRAMES : QUEUE_FULL]++;
-    if (count_held(number) > 0) carry.waiting = true;
-    if (count_held(number) > carry.counts[LONGEST_QUEUE]) carry.counts[LONGEST_QUEUE] = count_held(number);
+    waiting = count_held(number);
+    if (waiting > 0) carry.waiting = true;
+    if (waiting > carry.counts[LONGEST_QUEUE]) carry.counts[LONGEST_QUEUE] = waiting;
 }
 
 /* What becomes of the next frame of a conversation: it waits, there is no port for it, or it goes on the port of the conversation. */
@@ -108,7 +110,7 @@ static void take_fit(struct conversation *conversation, uint16_t number, uint8_t
     enum offered offered = LOST;
     if (carry.active != 0) {
         conversation->used = true;
-        offered = count_held(number) > 0 ? WAITS : offer(conversation, number);
+        offered = carry.waiting && count_held(number) > 0 ? WAITS : offer(conversation, number);
     }
     if (offered == WAITS) keep(number, packet, length);
     if (offered == GOES) send_on(conversation, packet, length);
@@ -205,9 +207,9 @@ static bool release_one(struct conversation *conversation, uint16_t number) {
 static void release(void) {
     carry.waiting = false;
     for (uint16_t number = 0; number < CONVERSATIONS; number++) {
-        while (count_held(number) > 0 && release_one(&carry.conversations[number], number))
-            ;
-        if (count_held(number) > 0) carry.waiting = true;
+        uint64_t waiting = count_held(number);
+        while (waiting > 0 && release_one(&carry.conversations[number], number)) waiting--;
+        if (waiting > 0) carry.waiting = true;
     }
     flush_data();
     pass_on();

@@ -97,7 +97,7 @@ struct carry {
     uint16_t port_count;
     uint16_t port_of[CONVERSATIONS]; /* of each conversation in it, as ask_ports told last: 0 where it is free or held there */
     bool changed;                  /* whether the library may answer otherwise now */
-    bool waiting;                  /* whether some queue is not empty */
+    bool waiting;                  /* false only where no frame waits */
     struct conversation conversations[CONVERSATIONS];
     uint64_t counts[CARRY_COUNTS];
 };
@@ -214,7 +214,7 @@ void start_held(void);
 void end_held(void);
 uint64_t count_held(uint16_t number);
 uint64_t count_all_held(void);
-uint64_t oldest_held(uint16_t number);
+bool oldest_held(uint16_t number, uint64_t *came);
 bool put_held(uint16_t number, const uint8_t *packet, size_t length);
 bool drop_held(uint16_t number, enum carry_count why);
 uint8_t *take_held(uint16_t number, size_t *length);

@@ -225,7 +225,7 @@ void pass_on(void) {
         if (conversation->fast.taken > 0) subtract(number, conversation->fast.taken);
         if (conversation->fast.taken > 0) conversation->fast.doubted = false;
         conversation->fast.taken = 0;
-        if (count_held(number) > 0 || conversation->port == 0 || conversation->fast.port > 0) continue;
+        if (conversation->port == 0 || conversation->fast.port > 0 || count_held(number) > 0) continue;
         if (may_pass(conversation, conversation->port)) pass(conversation);
     }
 }

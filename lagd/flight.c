@@ -62,7 +62,8 @@ static void watch_port(uint16_t port) {
 
 /* Loses what has waited for longer than a flight and a second. */
 static void drop_old(uint16_t number) {
-    while (count_held(number) > 0 && carry.time - oldest_held(number) >= settings.flight + 1000u) (void)drop_held(number, HELD_TOO_LONG);
+    uint64_t came;
+    while (oldest_held(number, &came) && carry.time - came >= settings.flight + 1000u) (void)drop_held(number, HELD_TOO_LONG);
 }
 
 /* Frees a conversation from the port that it is on: nothing of it was sent for a flight, so its next frame overtakes none. */
@@ -109,7 +110,7 @@ static void watch_conversation(uint16_t number, uint64_t *again) {
     struct conversation *conversation = &carry.conversations[number];
     struct niw_assignment state;
     bool away;
-    drop_old(number);
+    if (carry.waiting) drop_old(number);
     if (conversation->used) conversation->last = carry.time;
     conversation->used = false;
     if (conversation->home == 0) return;

@@ -1,6 +1,6 @@
-/* Frames of conversations that are held. The library has a queue of each conversation, of numbers of slots: it knows which frame is next,
- * and how many may wait. Their octets are here, in the slots of one block that is taken at the start: small ones, and, where packets may
- * have several segments, large ones. */
+/* Frames of conversations that are held. The library has a queue of each conversation, of numbers of slots: it tells which frame is next,
+ * how many wait, and whether one more may. The frames are here, in the slots of one block that is taken at the start: small ones, and,
+ * where packets may have several segments, large ones. */
 #define _GNU_SOURCE
 #include <errno.h>
 #include <string.h>
@@ -21,6 +21,7 @@
 struct slot {
     uint32_t next; /* of those that are idle, or on their way */
     uint32_t length;
+    uint64_t came; /* the time at which the frame came */
     uint8_t packet[];
 };
 
@@ -32,11 +33,6 @@ static struct pool {
 } small, large;
 static uint32_t leaving = NONE; /* the first of those that are in use until they were sent */
 static struct niw_queue queues = NIW_EMPTY;
-/* What the library does not tell of a conversation: how many frames were put and taken ever, and when each that waits came. */
-static struct stay {
-    uint64_t put, taken;
-    uint64_t came[LONGEST_WAIT]; /* each at its number modulo LONGEST_WAIT, from 0 */
-} stays[CONVERSATIONS];
 
 static struct pool *pool_of(uint32_t at) {
     return at & LARGE ? &large : &small;
@@ -87,7 +83,9 @@ static void free_slot(uint32_t at) {
 
 /* How many frames of a conversation wait. */
 uint64_t count_held(uint16_t number) {
-    return stays[number].put - stays[number].taken;
+    struct niw_number waiting = niw_queue_waiting(&queues, number);
+    check_call(waiting.status, "niw_queue_waiting");
+    return waiting.number;
 }
 
 /* How many frames wait in all. */
@@ -97,14 +95,22 @@ uint64_t count_all_held(void) {
     return counts.waiting;
 }
 
-/* The time at which the oldest frame of a conversation came. One waits. */
-uint64_t oldest_held(uint16_t number) {
-    return stays[number].came[stays[number].taken % LONGEST_WAIT];
+/* The slot of a frame that the library tells, or NONE where it tells none. */
+static uint32_t slot_told(const struct niw_queued *queued, const char *call) {
+    check_call(queued->status, call);
+    return queued->is ? (uint32_t)queued->frame : NONE;
+}
+
+/* Writes the time at which the oldest frame of a conversation came; answers whether one waits. */
+bool oldest_held(uint16_t number, uint64_t *came) {
+    struct niw_queued queued = niw_queue_oldest(&queues, number);
+    uint32_t at = slot_told(&queued, "niw_queue_oldest");
+    if (at != NONE) *came = slot_of(at)->came;
+    return at != NONE;
 }
 
 /* Puts a packet behind those of its conversation; answers whether there was room. */
 bool put_held(uint16_t number, const uint8_t *packet, size_t length) {
-    struct stay *stay = &stays[number];
     uint32_t at = take_slot(length > SMALL_ROOM ? &large : &small), status;
     if (at == NONE) return false;
     status = niw_queue_put(&queues, number, at);
@@ -114,23 +120,15 @@ bool put_held(uint16_t number, const uint8_t *packet, size_t length) {
         return false;
     }
     slot_of(at)->length = (uint32_t)length;
+    slot_of(at)->came = carry.time;
     memcpy(slot_of(at)->packet, packet, length);
-    stay->came[stay->put++ % LONGEST_WAIT] = carry.time;
     return true;
-}
-
-/* Notes that the library took a frame out; answers its slot, or NONE where none waited. */
-static uint32_t note_taken_out(uint16_t number, const struct niw_queued *queued, const char *call) {
-    check_call(queued->status, call);
-    if (!queued->is) return NONE;
-    stays[number].taken++;
-    return (uint32_t)queued->frame;
 }
 
 /* Loses the oldest frame of a conversation, and counts why; answers whether one waited. */
 bool drop_held(uint16_t number, enum carry_count why) {
     struct niw_queued queued = niw_queue_drop(&queues, number);
-    uint32_t at = note_taken_out(number, &queued, "niw_queue_drop");
+    uint32_t at = slot_told(&queued, "niw_queue_drop");
     if (at == NONE) return false;
     free_slot(at);
     carry.counts[why]++;
@@ -140,7 +138,7 @@ bool drop_held(uint16_t number, enum carry_count why) {
 /* Takes the oldest frame of a conversation out, to be sent. One waits. Its packet stays where it is until free_left. */
 uint8_t *take_held(uint16_t number, size_t *length) {
     struct niw_queued queued = niw_queue_next(&queues, number);
-    uint32_t at = note_taken_out(number, &queued, "niw_queue_next");
+    uint32_t at = slot_told(&queued, "niw_queue_next");
     slot_of(at)->next = leaving;
     leaving = at;
     *length = slot_of(at)->length;

@@ -9,7 +9,7 @@ import ctypes
 from enum import IntEnum, IntFlag
 from typing import Any, Callable, Final
 
-VERSION: Final = 7
+VERSION: Final = 8
 VERSION_TEXT: Final = "0.1.0"
 FRAME: Final = 124
 PAYLOAD_LENGTH: Final = 110
@@ -775,8 +775,14 @@ class Functions:
         self.queue_drop: Callable[..., NiwQueued] = _bound(
             library, "lagffi_queue_drop", NiwQueued, [ctypes.POINTER(NiwQueue), ctypes.c_uint16]
         )
+        self.queue_oldest: Callable[..., NiwQueued] = _bound(
+            library, "lagffi_queue_oldest", NiwQueued, [ctypes.POINTER(NiwQueue), ctypes.c_uint16]
+        )
         self.queue_next_released: Callable[..., NiwQueued] = _bound(
             library, "lagffi_queue_next_released", NiwQueued, [ctypes.POINTER(NiwQueue), ctypes.POINTER(ctypes.c_uint16), ctypes.c_size_t]
+        )
+        self.queue_waiting: Callable[..., NiwNumber] = _bound(
+            library, "lagffi_queue_waiting", NiwNumber, [ctypes.POINTER(NiwQueue), ctypes.c_uint16]
         )
         self.queue_counts: Callable[..., NiwCounts] = _bound(
             library, "lagffi_queue_counts", NiwCounts, [ctypes.POINTER(NiwQueue)]

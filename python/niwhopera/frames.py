@@ -57,6 +57,12 @@ class HeldFrames(Handle, Generic[Frame]):
         """Takes the oldest frame of a conversation out, not to be sent, and counts it; None if none waits."""
         return self._taken(self._c.queue_drop(self._at(), _conversation(conversation)))
 
+    def oldest(self, conversation: int) -> Optional[Frame]:
+        """The oldest frame of a conversation, which stays: the one that `next` would take out. None if none waits."""
+        oldest = self._c.queue_oldest(self._at(), _conversation(conversation))
+        check(oldest.status)
+        return self._frames[oldest.frame] if oldest.is_ else None
+
     def next_released(self, ports: Iterable[Optional[int]]) -> Optional[Released[Frame]]:
         """Takes out the oldest frame of the first conversation that is on a port and has one waiting; None if there is no such one.
         `ports` has for each conversation, by its number, the port that it is on, or None, as `System.conversation_ports` answers.
@@ -65,6 +71,12 @@ class HeldFrames(Handle, Generic[Frame]):
         left = self._c.queue_next_released(self._at(), (ctypes.c_uint16 * len(numbers))(*numbers), len(numbers))
         check(left.status)
         return Released(left.conversation, left.port, self._frames.pop(left.frame)) if left.is_ else None
+
+    def waiting(self, conversation: int) -> int:
+        """How many frames of a conversation wait; 0 if there is no such conversation."""
+        it = self._c.queue_waiting(self._at(), _conversation(conversation))
+        check(it.status)
+        return it.number
 
     def counts(self) -> FrameCounts:
         """How many frames wait, were dropped and were refused."""

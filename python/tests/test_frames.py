@@ -30,6 +30,18 @@ def test_frames_leave_in_the_order_in_which_they_came() -> None:
         assert held.counts() == FrameCounts(waiting=0, dropped=1, refused=0)
 
 
+def test_the_oldest_of_those_that_wait_is_told_and_stays() -> None:
+    with HeldFrames[str](3, 3, 2) as held:
+        for conversation, frame in ((1, "a"), (1, "b"), (2, "c")):
+            held.put(conversation, frame)
+        for _ in range(2):
+            assert [held.oldest(conversation) for conversation in (0, 1, 2, 9)] == [None, "a", "c", None]
+            assert [held.waiting(conversation) for conversation in (0, 1, 2, 9)] == [0, 2, 1, 0]
+        assert held.next(1) == "a" and held.oldest(1) == "b" and held.waiting(1) == 1
+        assert held.drop(1) == "b" and held.oldest(1) is None and held.waiting(1) == 0
+        assert held.counts() == FrameCounts(waiting=1, dropped=1, refused=0)
+
+
 def test_a_frame_that_is_refused_is_counted_and_not_put() -> None:
     with HeldFrames[str](3, 3, 2) as held:
         for conversation, frame in ((1, "a"), (1, "b"), (2, "c")):
@@ -59,7 +71,8 @@ def test_a_number_without_room_is_refused_by_python() -> None:
         with pytest.raises(ValueError):
             HeldFrames[int](*numbers)
     with HeldFrames[int](1, 1, 1) as held:
-        for call in (held.next, held.drop, lambda number: held.put(number, 0), lambda number: held.next_released([number])):
+        calls = (held.next, held.drop, held.oldest, held.waiting, lambda number: held.put(number, 0), lambda number: held.next_released([number]))
+        for call in calls:
             with pytest.raises(ValueError):
                 call(65536)
     with pytest.raises(ValueError):
@@ -74,9 +87,10 @@ def test_held_frames_that_are_closed_raise_closed() -> None:
     held.close()
     held.close()
     assert held.closed
-    for call in (held.counts, lambda: held.next(0), lambda: held.drop(0), lambda: held.put(0, 1), lambda: held.next_released([1])):
+    of_one = (held.next, held.drop, held.oldest, held.waiting, lambda number: held.put(number, 1), lambda number: held.next_released([number]))
+    for call in (lambda _: held.counts(), *of_one):
         with pytest.raises(Closed) as told:
-            call()
+            call(0)
         assert told.value.status is Status.NO_QUEUE
 
 

@@ -23,8 +23,8 @@ static const struct {
     EXPORT(current_while), EXPORT(wait_while), EXPORT(ntt), EXPORT(ticks), EXPORT(views), EXPORT(due), EXPORT(ticks_until_due),
     EXPORT(decode), EXPORT(encode), EXPORT(offer_conversation), EXPORT(leave_conversation), EXPORT(rest), EXPORT(probe), EXPORT(held),
     EXPORT(conversation_ports), EXPORT(released), EXPORT(answers), EXPORT(next_move), EXPORT(queue_new), EXPORT(queue_free),
-    EXPORT(queue_put), EXPORT(queue_next), EXPORT(queue_drop), EXPORT(queue_next_released), EXPORT(queue_counts), EXPORT(carrier),
-    EXPORT(offer_in_carrier), EXPORT(offer_conversation_in_carrier),
+    EXPORT(queue_put), EXPORT(queue_next), EXPORT(queue_drop), EXPORT(queue_oldest), EXPORT(queue_next_released),
+    EXPORT(queue_waiting), EXPORT(queue_counts), EXPORT(carrier), EXPORT(offer_in_carrier), EXPORT(offer_conversation_in_carrier),
 };
 
 static unsigned passed, failed;

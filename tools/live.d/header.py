@@ -34,7 +34,7 @@ LENGTHS = {"keys": "key_count", "ports": "port_count", "response": "room", "numb
 # header alone: what it refuses itself, its version, the subtypes of PDUs, and what the sources say in words.
 TOLD = {"Received": "RECEIVED_", "ReceiveState": "RECEIVE_", "MuxState": "MUX_", "Assignment": "CONVERSATION_",
         "PortStatus": "PORT_STATUS_"}
-OWN = {"NIW_NULL": 16, "NIW_VERSION": 7, "NIW_SENT_NOTHING": 0, "NIW_SENT_LACPDU": 1, "NIW_SENT_MARKER": 2,
+OWN = {"NIW_NULL": 16, "NIW_VERSION": 8, "NIW_SENT_NOTHING": 0, "NIW_SENT_LACPDU": 1, "NIW_SENT_MARKER": 2,
        "NIW_SHORTEST_FRAME": 14, "NIW_TICK_MILLISECONDS": 100, "NIW_FEW_CONVERSATIONS": 256, "NIW_MANY_CONVERSATIONS": 4096,
        "NIW_BY_NUMBER": 0, "NIW_BY_SUM": 1, "NIW_REASON_ALGORITHM": 6,
        "NIW_STATE_TEXT_ROOM": 87}

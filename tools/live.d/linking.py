@@ -79,6 +79,12 @@ def build_planes(folder: str, libraries: Sequence[str]) -> str:
     return build(os.path.join(folder, "planes"), [f"{TOP}/tools/live.d/planes.c"], libraries, *STRICT)
 
 
+def build_held(folder: str, libraries: Sequence[str]) -> str:
+    """Builds the queues of the daemon's held frames alone, with ASan and UBSan; answers the path of the program."""
+    sources = [f"{TOP}/tools/live.d/held.c", f"{DAEMON}/held.c"]
+    return build(os.path.join(folder, "held"), sources, libraries, *STRICT, f"-I{DAEMON}", *SANITIZED)
+
+
 def build_minimal(folder: str, libraries: Sequence[str]) -> str:
     """Builds the example of one port, with ASan and UBSan; answers its path."""
     words = [*STRICT, "-g", "-fsanitize=address,undefined", "-fno-sanitize-recover=all"]

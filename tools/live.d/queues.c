@@ -26,10 +26,23 @@ static void check_queue_refusals(void) {
     CHECK(niw_queue_free(&empty) == NIW_NO_QUEUE && niw_queue_put(&empty, 0, 1) == NIW_NO_QUEUE);
     CHECK(niw_queue_next(&empty, 0).status == NIW_NO_QUEUE && niw_queue_drop(&empty, 0).status == NIW_NO_QUEUE);
     CHECK(niw_queue_next_released(&empty, ports, 2).status == NIW_NO_QUEUE && niw_queue_counts(&empty).status == NIW_NO_QUEUE);
+    CHECK(niw_queue_oldest(&empty, 0).status == NIW_NO_QUEUE && !niw_queue_oldest(&empty, 0).is);
+    CHECK(niw_queue_waiting(&empty, 0).status == NIW_NO_QUEUE && niw_queue_waiting(&empty, 0).number == 0);
     CHECK(niw_queue_new(NULL, 2, 3, 2) == NIW_NULL && niw_queue_free(NULL) == NIW_NULL && niw_queue_put(NULL, 0, 1) == NIW_NULL);
     CHECK(niw_queue_next(NULL, 0).status == NIW_NULL && niw_queue_drop(NULL, 0).status == NIW_NULL);
+    CHECK(niw_queue_oldest(NULL, 0).status == NIW_NULL && niw_queue_waiting(NULL, 0).status == NIW_NULL);
     CHECK(niw_queue_next_released(NULL, ports, 2).status == NIW_NULL && niw_queue_next_released(&empty, NULL, 2).status == NIW_NULL);
     CHECK(niw_queue_counts(NULL).status == NIW_NULL && !empty.live);
+}
+
+/* So many frames of a conversation wait, and this one is the oldest. Asking changes nothing. */
+static void check_waiting(struct niw_queue *queue, uint16_t conversation, uint64_t count, uint64_t frame) {
+    for (unsigned times = 0; times < 2; times++) {
+        struct niw_number waiting = niw_queue_waiting(queue, conversation);
+        struct niw_queued oldest = niw_queue_oldest(queue, conversation);
+        CHECK(waiting.status == NIW_OK && waiting.number == count && oldest.status == NIW_OK && oldest.is == (count > 0));
+        CHECK(oldest.frame == frame && oldest.conversation == (count > 0 ? conversation : 0) && oldest.port == 0);
+    }
 }
 
 /* Three frames may wait, two of each conversation. The first conversation with a port and a frame goes first, its oldest frame first. */
@@ -46,16 +59,23 @@ void check_queue(void) {
     CHECK(niw_queue_put(&queue, 2, 21) == NIW_OK && niw_queue_put(&queue, 0, 1) == NIW_ALL_FULL);
     counts = niw_queue_counts(&queue);
     CHECK(counts.status == NIW_OK && counts.waiting == 3 && counts.dropped == 0 && counts.refused == 3);
+    check_waiting(&queue, 0, 0, 0);
+    check_waiting(&queue, 1, 2, 11);
+    check_waiting(&queue, 2, 1, 21);
+    check_waiting(&queue, 3, 0, 0);
     left = niw_queue_next_released(&queue, none, 3);
     CHECK(left.status == NIW_OK && !left.is && left.frame == 0);
     left = niw_queue_next_released(&queue, all, 3);
     CHECK(left.is && left.conversation == 1 && left.port == 2 && left.frame == 11);
+    check_waiting(&queue, 1, 1, FULL);
     left = niw_queue_next_released(&queue, second, 3);
     CHECK(left.is && left.conversation == 1 && left.port == 2 && left.frame == FULL);
     CHECK(!niw_queue_next_released(&queue, second, 3).is && niw_queue_next_released(&queue, many, 65537).status == NIW_NOT_ASSIGNED);
     CHECK(niw_queue_put(&queue, 2, 22) == NIW_OK);
+    check_waiting(&queue, 2, 2, 21);
     left = niw_queue_drop(&queue, 2);
     CHECK(left.status == NIW_OK && left.is && left.conversation == 2 && left.port == 0 && left.frame == 21);
+    check_waiting(&queue, 2, 1, 22);
     left = niw_queue_next(&queue, 2);
     CHECK(left.status == NIW_OK && left.is && left.conversation == 2 && left.port == 0 && left.frame == 22);
     CHECK(!niw_queue_next(&queue, 2).is && !niw_queue_drop(&queue, 9).is && niw_queue_next(&queue, 9).status == NIW_OK);

@@ -1,5 +1,5 @@
 -- What each call of `Holding` does to what is held, and what it takes out (profile).
-use Rattle.std.specs.Prelude.{ℕ, eqb, cond, ◌&&◌, is_none, List, [], ◌∷◌, ◌++◌, length, take, drop, map}
+use Rattle.std.specs.Prelude.{ℕ, eqb, cond, ◌&&◌, is_none, Option, Some, None, List, [], ◌∷◌, ◌++◌, length, take, drop, map}
 use Rattle.holding.specs.Holding.{HoldingValue, queue, with_queue, refusal, counted}
 
 -- a call that changes what is held, with its conversation
@@ -42,3 +42,8 @@ module _ {X : Type 0} where
   gone k (Next conversation) h = cond (eqb conversation k) (map Sent (take 1 (queue h conversation))) []
   gone k (DropOldest conversation) h = cond (eqb conversation k) (map Dropped (take 1 (queue h conversation))) []
   gone k (Clear conversation) h = cond (eqb conversation k) (map Dropped (queue h conversation)) []
+
+  -- a handle that is taken out to be sent, or none
+  abbrev pub sent : Option X → List (Gone X)
+  sent (Some handle) = Sent handle ∷ []
+  sent None = []

@@ -1,5 +1,5 @@
 -- Held frames as contracts see them (profile).
-use Rattle.std.specs.Prelude.{◌≡◌, ℕ, ◌+◌, ◌-◌, ◌^◌, ◌<◌, ◌≤◌, nat_lt, min, List, [], length, map, sum_by, get_or, slice_set, Option, None, Some, cond, refl}
+use Rattle.std.specs.Prelude.{◌≡◌, ℕ, ◌+◌, ◌-◌, ◌^◌, ◌<◌, ◌≤◌, nat_lt, min, List, [], length, map, sum_by, get_or, slice_get, slice_set, Option, None, Some, cond, refl}
 use Rattle.std.specs.Coded.{Coded, code_by, coded×, coded_list, coded_ℕ}
 use Rattle.circular_buffer.specs.Buffer.{Buffer, buffer}
 use Rattle.holding.specs.declared.refusal.Refusal.{Refusal}
@@ -42,6 +42,10 @@ module _ {X : Type 0} where
   -- the handles that wait in a conversation, the oldest first
   abbrev pub queue : HoldingValue X → ℕ → List X
   queue h conversation = get_or h.queues conversation []
+
+  -- the handle that came into a conversation before the others that wait there, if one waits
+  abbrev pub oldest : HoldingValue X → ℕ → Option X
+  oldest h conversation = slice_get (queue h conversation) 0
 
   -- how many wait in all
   abbrev pub in_all : HoldingValue X → ℕ

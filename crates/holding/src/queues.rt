@@ -1,7 +1,7 @@
 //! The queues of held frames.
-ghost use Rattle.std.specs.Prelude.{◌≡◌, ◌≤◌, ◌<◌, ◌++◌, ◌∷◌, [], ℕ, Some, None, length, take, drop, replicate, slice_get, slice_index, get_or, IfOk, IfErr, OnOk, IfNone, IfSome, MatchOption};
-ghost use Rattle.holding.specs.Calls.{after, Put, Next, DropOldest, Clear};
-ghost use Rattle.holding.specs.Holding.{holding_of, queue, in_all, refusal};
+ghost use Rattle.std.specs.Prelude.{◌≡◌, ◌≤◌, ◌<◌, ◌++◌, ◌∷◌, [], ℕ, Some, None, length, take, drop, replicate, slice_index, get_or, IfOk, IfErr, OnOk, IfNone, IfSome, MatchOption, option_copied};
+ghost use Rattle.holding.specs.Calls.{after, gone, sent, Put, Next, DropOldest, Clear};
+ghost use Rattle.holding.specs.Holding.{holding_of, queue, oldest, in_all, refusal};
 
 use crate::refusal::Refusal;
 use crate::rings::{empty_one, empty_rings, put_behind, take_first};
@@ -86,7 +86,7 @@ impl<T: Drop> Holding<T> {
     /// Takes the oldest handle of a conversation out, to be sent; `None` if none waits or there is no such conversation
     /// (profile).
     pub fn next(&mut self, conversation: u16) -> Option<T>
-        ensures first { result ≡ slice_get (queue self.old conversation) 0 }
+        ensures first { result ≡ oldest self.old conversation }
         ensures after { self.new ≡ after (Next conversation) self.old }
     {
         let handle = take_first(&mut self.rings, usize::from(conversation))?;
@@ -102,7 +102,7 @@ impl<T: Drop> Holding<T> {
         ensures unchanged { IfNone result (self.new ≡ self.old) }
         ensures least { IfSome result (λ r. (k : ℕ) → k < r.conversation → 0 < slice_index ports.now k → queue self.old k ≡ []) }
         ensures port { IfSome result (λ r. (r.port ≡ slice_index ports.now r.conversation) × (0 < r.port)) }
-        ensures first { IfSome result (λ r. slice_get (queue self.old r.conversation) 0 ≡ Some r.handle) }
+        ensures first { IfSome result (λ r. oldest self.old r.conversation ≡ Some r.handle) }
         ensures after { IfSome result (λ r. self.new ≡ after (Next r.conversation) self.old) }
     {
         let conversation = self.first_released(ports)?;
@@ -132,7 +132,7 @@ impl<T: Drop> Holding<T> {
     /// Takes the oldest handle of a conversation out, not to be sent, and counts it; `None` if none waits or there is no
     /// such conversation (profile).
     pub fn drop_oldest(&mut self, conversation: u16) -> Option<T>
-        ensures first { result ≡ slice_get (queue self.old conversation) 0 }
+        ensures first { result ≡ oldest self.old conversation }
         ensures after { self.new ≡ after (DropOldest conversation) self.old }
     {
         let handle = take_first(&mut self.rings, usize::from(conversation))?;
@@ -167,6 +167,19 @@ impl<T: Drop> Holding<T> {
             return Some(Refusal::AllFull);
         }
         None
+    }
+
+    /// The oldest handle of a conversation, the one that `next` would take out; it stays. `None` if none waits or there is no
+    /// such conversation (profile).
+    pub fn oldest(&self, conversation: u16) -> Option<&T>
+        ensures first { option_copied result ≡ oldest self.now conversation }
+        ensures next { gone conversation (Next conversation) self.now ≡ sent (option_copied result) }
+    {
+        let place = usize::from(conversation);
+        if place >= self.rings.len() {
+            return None;
+        }
+        self.rings[place].front()
     }
 
     /// How many handles wait in a conversation; 0 if there is no such conversation (profile).

@@ -46,7 +46,7 @@ struct niw_queue {
 #define NIW_EMPTY {false, NULL}
 
 /* The version of this header: it is to go up with each change of what stands here. */
-#define NIW_VERSION 7
+#define NIW_VERSION 8
 /* The version of the release that the header is of. */
 #define NIW_VERSION_TEXT "0.1.0"
 /* The octets of a frame that the library answers. */
@@ -169,6 +169,7 @@ struct niw_change {
 };
 
 /* In each answer `status` is NIW_OK or the number of the refusal; what stands beside it is 0 where it is a refusal. */
+
 struct niw_made {
     uint32_t status;
     uint32_t reason; /* of NIW_BAD_CONFIG: NIW_REASON_.. */
@@ -322,7 +323,7 @@ struct niw_view {
 enum { NIW_SUBTYPE_LACPDU = 1, NIW_SUBTYPE_MARKER = 2 };
 enum { NIW_MARKER_INFORMATION = 1, NIW_MARKER_RESPONSE = 2 };
 
-/* What an LACPDU says of one end of a link. */
+/* The values of one end of a link in an LACPDU. */
 struct niw_participant {
     uint16_t system_priority;
     uint8_t system_mac[6];
@@ -366,10 +367,10 @@ struct niw_move {
     uint16_t port;         /* to move to; 0 where `is` is false */
 };
 
-/* A frame that leaves a queue. */
+/* A frame of a queue. */
 struct niw_queued {
     uint32_t status;
-    bool is;               /* whether one leaves */
+    bool is;               /* whether there is one */
     uint16_t conversation; /* of the frame; 0 where `is` is false */
     uint16_t port;         /* of niw_queue_next_released: to send the frame on; else 0 */
     uint64_t frame;        /* as niw_queue_put was given it; 0 where `is` is false */
@@ -446,7 +447,9 @@ uint32_t lagffi_queue_free(struct niw_queue *handle);
 uint32_t lagffi_queue_put(struct niw_queue *handle, uint16_t conv, uint64_t frame);
 struct niw_queued lagffi_queue_next(struct niw_queue *handle, uint16_t conv);
 struct niw_queued lagffi_queue_drop(struct niw_queue *handle, uint16_t conv);
+struct niw_queued lagffi_queue_oldest(struct niw_queue *handle, uint16_t conv);
 struct niw_queued lagffi_queue_next_released(struct niw_queue *handle, const uint16_t *ports, size_t port_count);
+struct niw_number lagffi_queue_waiting(struct niw_queue *handle, uint16_t conv);
 struct niw_counts lagffi_queue_counts(struct niw_queue *handle);
 
 /* The functions to call: they refuse a null pointer, and else pass on. */
@@ -501,7 +504,7 @@ static inline uint32_t niw_tick(struct niw_system *handle) {
     return handle ? lagffi_tick(handle) : niw_null_status();
 }
 
-/* `count` times 100 ms have passed: as so many niw_tick, with nothing between them. Up to niw_ticks_until_due of them let no frame
+/* `count` times 100 ms have passed: like `count` calls of niw_tick, with nothing between them. Up to niw_ticks_until_due of them let no frame
  * wait that is due; of more, a host makes up few at once, since nothing is sent between them. The call takes as long as they all do:
  * UINT32_MAX of them take minutes. */
 static inline uint32_t niw_ticks(struct niw_system *handle, uint32_t count) {
@@ -513,7 +516,7 @@ static inline uint32_t niw_set_link(struct niw_system *handle, uint16_t port, bo
     return handle ? lagffi_set_link(handle, port, up) : niw_null_status();
 }
 
-/* Gives a port another key, priority or Aggregation bit; answers whether anything differs. */
+/* Gives a port another key, priority or Aggregation bit; returns whether anything differs. */
 static inline struct niw_truth niw_configure(struct niw_system *handle, uint16_t port, const struct niw_change *change) {
     return (handle && change) ? lagffi_configure(handle, port, change) : niw_null_truth();
 }
@@ -543,17 +546,17 @@ static inline uint32_t niw_move_conversation(struct niw_system *handle, uint16_t
     return handle ? lagffi_move_conversation(handle, agg, conv, port) : niw_null_status();
 }
 
-/* Frees a conversation at once, so that its frames may overtake one another. */
+/* Frees a conversation at once, so that its frames may arrive out of order. */
 static inline uint32_t niw_force(struct niw_system *handle, uint16_t agg, uint16_t conv) {
     return handle ? lagffi_force(handle, agg, conv) : niw_null_status();
 }
 
-/* Frees each conversation that is held on a port, as niw_force does; answers how many. */
+/* Frees each conversation that is held on a port, as niw_force does; returns how many. */
 static inline struct niw_number niw_force_port(struct niw_system *handle, uint16_t port) {
     return handle ? lagffi_force_port(handle, port) : niw_null_number();
 }
 
-/* The port to send a frame of a conversation on, whatever its octets: what niw_offer answers and does for a frame of it. For a program
+/* The port to send a frame of a conversation on, whatever its octets: what niw_offer does and returns for a frame of it. For a program
  * that has a hash of its own, which gives each flow one conversation for ever. */
 static inline struct niw_number niw_offer_conversation(struct niw_system *handle, uint16_t agg, uint16_t conv) {
     return handle ? lagffi_offer_conversation(handle, agg, conv) : niw_null_number();
@@ -564,7 +567,7 @@ static inline uint32_t niw_leave_conversation(struct niw_system *handle, uint16_
     return handle ? lagffi_leave_conversation(handle, agg, conv) : niw_null_status();
 }
 
-/* Frees a conversation that is on a port, on the word of the program that none of its frames is on its way: else they may be overtaken. */
+/* Frees a conversation that is on a port, on the word of the program that none of its frames is on its way: else they may arrive out of order. */
 static inline uint32_t niw_rest(struct niw_system *handle, uint16_t agg, uint16_t conv) {
     return handle ? lagffi_rest(handle, agg, conv) : niw_null_status();
 }
@@ -584,12 +587,12 @@ static inline struct niw_sent niw_probe(struct niw_system *handle, uint16_t port
  * at most. */
 
 /* The port to send a frame on, in the aggregator that carries. NIW_HELD, before every other refusal, while the conversation of the frame
- * is on a port or held in another aggregator; else what niw_offer answers and does. niw_leave_conversation takes it off its port there. */
+ * is on a port or held in another aggregator; else what niw_offer does and returns. niw_leave_conversation takes it off its port there. */
 static inline struct niw_number niw_offer_in_carrier(struct niw_system *handle, uint16_t agg, const uint8_t *frame, size_t length) {
     return (handle && frame) ? lagffi_offer_in_carrier(handle, agg, frame, length) : niw_null_number();
 }
 
-/* The same of a frame of a conversation, whatever its octets: else what niw_offer_conversation answers and does. */
+/* As niw_offer_in_carrier, for a frame of a conversation, whatever its octets: NIW_HELD as there, else what niw_offer_conversation does. */
 static inline struct niw_number niw_offer_conversation_in_carrier(struct niw_system *handle, uint16_t agg, uint16_t conv) {
     return handle ? lagffi_offer_conversation_in_carrier(handle, agg, conv) : niw_null_number();
 }
@@ -601,13 +604,13 @@ static inline struct niw_number niw_ports(struct niw_system *handle, uint16_t *n
 }
 
 /* What changed: writes what there is to show of each port into `views`, which has room for NIW_MOST_PORTS views or more, in the order
- * of port numbers, and answers a mask of those that differ from what stood there. Bit 0, of the value 1, tells of the first port. The
+ * of port numbers, and returns a mask of those that differ from what stood there. Bit 0, of the value 1, tells of the first port. The
  * first time, `views` may hold zeros. */
 static inline struct niw_number niw_views(struct niw_system *handle, struct niw_view *views, size_t room) {
     return (handle && views) ? lagffi_views(handle, views, room) : niw_null_number();
 }
 
-/* A mask of the ports on which niw_transmit would answer a frame now. Bit 0, of the value 1, tells of the first port. */
+/* A mask of the ports on which niw_transmit would return a frame now. Bit 0, of the value 1, tells of the first port. */
 static inline struct niw_number niw_due(struct niw_system *handle) {
     return handle ? lagffi_due(handle) : niw_null_number();
 }
@@ -632,7 +635,7 @@ static inline struct niw_number niw_receive_state(struct niw_system *handle, uin
     return handle ? lagffi_receive_state(handle, port) : niw_null_number();
 }
 
-/* Whether niw_transmit would answer a frame now. */
+/* Whether niw_transmit would return a frame now. */
 static inline struct niw_truth niw_is_due(struct niw_system *handle, uint16_t port) {
     return handle ? lagffi_is_due(handle, port) : niw_null_truth();
 }
@@ -833,7 +836,7 @@ static inline struct niw_queued niw_null_queued(void) {
     return refused;
 }
 
-/* Makes empty queues and puts them into an empty handle: one for each of so many conversations, numbered from 0. At most `in_all`
+/* Makes empty queues and puts them into an empty handle: one for each conversation, numbered from 0. At most `in_all`
  * frames wait in all, and at most `each` in each. All memory is taken here. */
 static inline uint32_t niw_queue_new(struct niw_queue *handle, uint16_t conversations, size_t in_all, size_t each) {
     return handle ? lagffi_queue_new(handle, conversations, in_all, each) : niw_null_status();
@@ -860,11 +863,21 @@ static inline struct niw_queued niw_queue_drop(struct niw_queue *handle, uint16_
     return handle ? lagffi_queue_drop(handle, conv) : niw_null_queued();
 }
 
+/* The oldest frame of a conversation, the one that niw_queue_next would take out. It stays. `is` is false if none waits. */
+static inline struct niw_queued niw_queue_oldest(struct niw_queue *handle, uint16_t conv) {
+    return handle ? lagffi_queue_oldest(handle, conv) : niw_null_queued();
+}
+
 /* Takes out the oldest frame of the first conversation that is on a port and has one waiting, and tells the port. `ports` has for each
  * conversation, by its number, the port that it is on, or 0, as niw_conversation_ports writes it. A list of more than
  * NIW_MOST_CONVERSATIONS is refused with NIW_NOT_ASSIGNED. */
 static inline struct niw_queued niw_queue_next_released(struct niw_queue *handle, const uint16_t *ports, size_t port_count) {
     return (handle && ports) ? lagffi_queue_next_released(handle, ports, port_count) : niw_null_queued();
+}
+
+/* How many frames of a conversation wait; 0 if there is no such conversation. */
+static inline struct niw_number niw_queue_waiting(struct niw_queue *handle, uint16_t conv) {
+    return handle ? lagffi_queue_waiting(handle, conv) : niw_null_number();
 }
 
 /* How many frames wait, were dropped and were refused. */

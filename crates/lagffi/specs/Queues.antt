@@ -1,7 +1,7 @@
 -- The queues of a handle, and what a program in C is told of them (profile).
-use Rattle.std.specs.Prelude.{◌≡◌, ℕ, ◌<◌, true, false, List, [], length, Option, None, Some, slice_get, slice_index}
+use Rattle.std.specs.Prelude.{◌≡◌, ℕ, ◌<◌, true, false, List, [], length, Option, None, Some, slice_index}
 use Rattle.holding.specs.Calls.{after, Next}
-use Rattle.holding.specs.Holding.{HoldingValue, queue, in_all}
+use Rattle.holding.specs.Holding.{HoldingValue, queue, oldest, in_all}
 use Rattle.holding.specs.declared.queues.Released.{Released}
 use Rattle.holding.specs.declared.refusal.Refusal.{Refusal}
 use Rattle.holding.specs.declared.refusal.Refusal.TheVariants.{NoConversation, ConversationFull, AllFull}
@@ -46,7 +46,7 @@ status_of_put (Some AllFull) = all_full
 abbrev pub no_frame : ℕ → LagQueued
 no_frame status = record { status = status; is = false; conversation = 0; port = 0; frame = 0 }
 
--- the frame of a conversation that leaves, on no port yet, or none
+-- a frame of a conversation, on no port yet, or none
 abbrev pub frame_of : ℕ → Option ℕ → LagQueued
 frame_of conversation (Some frame) = record { status = 0; is = true; conversation = conversation; port = 0; frame = frame }
 frame_of conversation None = no_frame 0
@@ -64,7 +64,7 @@ NoneBefore ports h end = (k : ℕ) → k < end → 0 < slice_index ports k → q
 abbrev pub Releases : List ℕ → HoldingValue ℕ → HoldingValue ℕ → Option (Released ℕ) → Type 0
 Releases ports old new None = NoneBefore ports old (length ports) × (new ≡ old)
 Releases ports old new (Some r) = NoneBefore ports old r.conversation × ((r.port ≡ slice_index ports r.conversation) × (0 < r.port))
-    × (slice_get (queue old r.conversation) 0 ≡ Some r.handle) × (new ≡ after (Next r.conversation) old)
+    × (oldest old r.conversation ≡ Some r.handle) × (new ≡ after (Next r.conversation) old)
 
 -- no counts are told, with this status
 abbrev pub no_counts : ℕ → LagQueueCounts

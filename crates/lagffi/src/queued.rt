@@ -25,19 +25,19 @@ pub(crate) fn status_of_put(refusal: Option<Refusal>) -> u32
     }
 }
 
-/// A frame that leaves a queue, if one does, or why that is not told.
+/// A frame of a queue, if there is one, or why that is not told.
 #[repr(C)]
 #[derive(Clone, Copy)]
 pub struct LagQueued {
     /// 0, or the number of the refusal.
     pub status: u32,
-    /// Whether a frame leaves.
+    /// Whether there is one.
     pub is: bool,
-    /// Its conversation; 0 where none leaves.
+    /// Its conversation; 0 where there is none.
     pub conversation: u16,
     /// The port that it is to be sent on, where ports were asked; else 0.
     pub port: u16,
-    /// The number that the program has for the frame; 0 where none leaves.
+    /// The number that the program has for the frame; 0 where there is none.
     pub frame: u64,
 }
 
@@ -55,7 +55,7 @@ impl LagQueued {
         }
     }
 
-    /// The frame of a conversation that leaves, or none.
+    /// A frame of a conversation, or none.
     pub(crate) fn of(conversation: u16, frame: Option<u64>) -> LagQueued
         ensures { result ≡ frame_of conversation frame }
     {

@@ -1,8 +1,9 @@
-ghost use Rattle.std.specs.Prelude.{◌≡◌, [], ℕ, IsTrue, MatchOption, None, Option, is_some, length, nat_le, replicate, slice_get};
+ghost use Rattle.std.specs.Prelude.{◌≡◌, [], ℕ, IsTrue, MatchOption, None, Option, is_some, length, nat_le, replicate};
 ghost use Rattle.std.specs.Bool.{IsFalse};
 ghost use Rattle.holding.specs.Calls.{after, DropOldest, Next, Put};
-ghost use Rattle.holding.specs.Holding.{holding_of, queue, refusal};
+ghost use Rattle.holding.specs.Holding.{holding_of, oldest, queue, refusal};
 ghost use Rattle.holding.specs.declared.queues.Released.{Released};
+ghost use Rattle.lagffi.specs.Numbers.{number, number_refused};
 ghost use Rattle.lagffi.specs.Queues.{CallsQueue, Releases, counts_of, frame_of, holds_queue_already, no_counts, no_frame, no_queue, queue_value};
 ghost use Rattle.lagffi.specs.Queues.{released_of, status_of_put};
 ghost use Rattle.lagsystem.specs.Faults.{fault_number};
@@ -11,7 +12,7 @@ ghost use Rattle.lagsystem.specs.declared.fault.SystemFault.{SystemFault};
 use crate::balancing::MOST_CONVERSATIONS;
 use crate::handle::{Held, LagQueue};
 use crate::queued::{HOLDS_QUEUE_ALREADY, LagQueueCounts, LagQueued, NO_QUEUE, status_of_put};
-use crate::values::{NO_CONVERSATION, NO_MEMORY, OK};
+use crate::values::{LagNumber, NO_CONVERSATION, NO_MEMORY, OK};
 use holding::{Holding, Refusal};
 use std::alloc::Global;
 
@@ -93,7 +94,7 @@ pub extern "C" fn lagffi_queue_put(alloc: Global, lag: &mut LagQueue, conv: u16,
 #[unsafe(no_mangle)]
 pub extern "C" fn lagffi_queue_next(alloc: Global, lag: &mut LagQueue, conv: u16) -> LagQueued
     ensures { CallsQueue (queue_value lag.old.held.kept) (queue_value lag.new.held.kept)
-        (λ old new. (new ≡ after (Next conv) old) × (result ≡ frame_of conv (slice_get (queue old conv) 0))) (result ≡ no_frame no_queue) }
+        (λ old new. (new ≡ after (Next conv) old) × (result ≡ frame_of conv (oldest old conv))) (result ≡ no_frame no_queue) }
 {
     let Some((mut queue, held)) = lag.take(alloc) else {
         return LagQueued::none(NO_QUEUE);
@@ -107,12 +108,26 @@ pub extern "C" fn lagffi_queue_next(alloc: Global, lag: &mut LagQueue, conv: u16
 #[unsafe(no_mangle)]
 pub extern "C" fn lagffi_queue_drop(alloc: Global, lag: &mut LagQueue, conv: u16) -> LagQueued
     ensures { CallsQueue (queue_value lag.old.held.kept) (queue_value lag.new.held.kept)
-        (λ old new. (new ≡ after (DropOldest conv) old) × (result ≡ frame_of conv (slice_get (queue old conv) 0))) (result ≡ no_frame no_queue) }
+        (λ old new. (new ≡ after (DropOldest conv) old) × (result ≡ frame_of conv (oldest old conv))) (result ≡ no_frame no_queue) }
 {
     let Some((mut queue, held)) = lag.take(alloc) else {
         return LagQueued::none(NO_QUEUE);
     };
     let answer = queue.drop_oldest(conv);
+    lag.put(queue, held);
+    LagQueued::of(conv, answer)
+}
+
+/// The oldest frame of a conversation, the one that `lagffi_queue_next` would take out. It stays.
+#[unsafe(no_mangle)]
+pub extern "C" fn lagffi_queue_oldest(alloc: Global, lag: &mut LagQueue, conv: u16) -> LagQueued
+    ensures { CallsQueue (queue_value lag.old.held.kept) (queue_value lag.new.held.kept)
+        (λ old new. (new ≡ old) × (result ≡ frame_of conv (oldest old conv))) (result ≡ no_frame no_queue) }
+{
+    let Some((queue, held)) = lag.take(alloc) else {
+        return LagQueued::none(NO_QUEUE);
+    };
+    let answer = queue.oldest(conv).copied();
     lag.put(queue, held);
     LagQueued::of(conv, answer)
 }
@@ -138,6 +153,20 @@ pub extern "C" fn lagffi_queue_next_released(
     let answer = queue.next_released(ports);
     lag.put(queue, held);
     LagQueued::released(answer)
+}
+
+/// How many frames of a conversation wait.
+#[unsafe(no_mangle)]
+pub extern "C" fn lagffi_queue_waiting(alloc: Global, lag: &mut LagQueue, conv: u16) -> LagNumber
+    ensures { CallsQueue (queue_value lag.old.held.kept) (queue_value lag.new.held.kept)
+        (λ old new. (new ≡ old) × (result ≡ number (length (queue old conv)))) (result ≡ number_refused no_queue) }
+{
+    let Some((queue, held)) = lag.take(alloc) else {
+        return LagNumber::refused(NO_QUEUE);
+    };
+    let answer = queue.waiting(conv) as u64;
+    lag.put(queue, held);
+    LagNumber::answered(answer)
 }
 
 /// How many frames wait in all, were dropped and were refused.

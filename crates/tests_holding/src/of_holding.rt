@@ -8,7 +8,7 @@ use std::test::Fail;
 enum Row {
     /// A handle is put into a conversation, and waits or is handed back.
     Put(u16, u32, Option<Refusal>),
-    /// The oldest handle of a conversation is taken out, to be sent.
+    /// The oldest handle of a conversation is told, and then taken out, to be sent.
     Next(u16, Option<u32>),
     /// The oldest handle of a conversation is dropped.
     DropOldest(u16, Option<u32>),
@@ -27,6 +27,11 @@ fn plays(rt: &impl Abort, held: &mut Holding<u32>, place: usize, row: Row) {
             assert_eq!(rt; held.put(conversation, handle), wanted, "row {place}");
         }
         Row::Next(conversation, wanted) => {
+            assert_eq!(rt;
+                held.oldest(conversation).copied(),
+                wanted,
+                "oldest of row {place}"
+            );
             assert_eq!(rt; held.next(conversation), wanted, "row {place}");
         }
         Row::DropOldest(conversation, wanted) => {
