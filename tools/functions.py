@@ -1,4 +1,4 @@
-"""The page docs/LAG-H.md: the functions and structs of lag.h, a line each, from the comments above them."""
+"""The page docs/LAG-H.md: the functions, structs and numbers of lag.h, a line each, from their comments."""
 
 from __future__ import annotations
 
@@ -12,9 +12,9 @@ HEADER = os.path.join(TOP, "crates", "lagffi", "include", "lag.h")
 PAGE = "docs/LAG-H.md"
 HEAD = """# lag.h in short
 
-Here you can look up the functions and structs of the C library, a line each. `tools/pages` writes this page from the comments of
+Here you can look up the functions, structs and numbers of the C library, a line each. `tools/pages` writes this page from the comments of
 [lag.h](../crates/lagffi/include/lag.h), which say more. [USING](USING.md#from-c) has the loop of a host and the rules for callers,
-[all faults](USING.md#all-faults) the statuses, [PERFORMANCE](PERFORMANCE.md#times-of-calls-a-later-run) how long the calls take.
+[all faults](USING.md#all-faults) the statuses, [PERFORMANCE](PERFORMANCE.md#times-of-calls-the-code-of-today) how long the calls take.
 
 A function that returns a *status* returns `NIW_OK`, or why it refused. A struct that is an answer has its `status` first: where that is a
 refusal, the other fields are 0.
@@ -23,13 +23,16 @@ COMMENT = r"/\* ((?:(?!\*/).)*?) \*/\n"
 FUNCTION = re.compile(COMMENT + r"static inline ([\w ]+?[ *]+)(niw_\w+)\(([^)]*)\) \{", re.S)
 STRUCT = re.compile(rf"^(?:{COMMENT})?struct (niw_\w+) \{{\n(.*?)\n\}};", re.M | re.S)
 FIELD = re.compile(r"([\w*, \[\]]+);")
+ENUM = re.compile(rf"^(?:{COMMENT})?enum \{{(.*?)\}};", re.M | re.S)
+ENUMERATOR = re.compile(r"(NIW_\w+)(?: = (\d+))?,?(?:[ ]*/\* ((?:(?!\*/).)*?) \*/)?", re.S)
+SIZE = re.compile(COMMENT + r"#define (NIW_\w+) (\d+)$", re.M | re.S)
 # What a comment ends its first sentence with: a point or a colon, and what follows begins anew.
 SENTENCE = re.compile(r"(.*?[.])(?: [A-Z`]|$)", re.S)
 
 
 def first_sentence(comment: str) -> str:
     """The first sentence of a comment, on one line."""
-    text = re.sub(r"\s*\n\s*\* ?", " ", comment)
+    text = re.sub(r"\s*\n\s*(?:\* ?)?", " ", comment)
     found = SENTENCE.match(text)
     return (found[1] if found else text).replace("|", "\\|")
 
@@ -63,9 +66,21 @@ def structs(text: str) -> Iterator[str]:
         yield f"| `{name}` | {', '.join(f'`{it}`' for it in fields)} | {told} |"
 
 
+def numbers(text: str) -> Iterator[str]:
+    """A row for each number with a name: of each enum in turn, then those of `#define`. What an enum is for stands in its first row."""
+    for comment, body in ENUM.findall(text):
+        number = -1
+        for place, (name, value, told) in enumerate(ENUMERATOR.findall(body)):
+            number = int(value) if value else number + 1
+            yield f"| {first_sentence(comment) if place == 0 else ''} | `{name}` | {number} | {first_sentence(told)} |"
+    for comment, name, value in SIZE.findall(text):
+        yield f"| | `{name}` | {value} | {first_sentence(comment)} |"
+
+
 def page() -> str:
     """The whole page."""
     with open(HEADER, encoding="utf-8") as file:
         text = file.read()
     parts = [HEAD, "## Functions\n", "| function | returns | what it does |\n|---|---|---|", *functions(text)]
-    return "\n".join([*parts, "\n## Structs\n", "| struct | fields | what it is |\n|---|---|---|", *structs(text)]) + "\n"
+    parts += ["\n## Structs\n", "| struct | fields | what it is |\n|---|---|---|", *structs(text)]
+    return "\n".join([*parts, "\n## Numbers\n", "| of | name | number | means |\n|---|---|---|---|", *numbers(text)]) + "\n"
