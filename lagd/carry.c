@@ -73,7 +73,6 @@ static void keep(uint16_t number, const uint8_t *packet, size_t length) {
     if (!kept && drop_held(number, QUEUE_FULL)) kept = put_held(number, packet, length);
     carry.counts[kept ? HELD_FRAMES : QUEUE_FULL]++;
     waiting = count_held(number);
-    if (waiting > 0) carry.waiting = true;
     if (waiting > carry.counts[LONGEST_QUEUE]) carry.counts[LONGEST_QUEUE] = waiting;
 }
 
@@ -110,7 +109,7 @@ static void take_fit(struct conversation *conversation, uint16_t number, uint8_t
     enum offered offered = LOST;
     if (carry.active != 0) {
         conversation->used = true;
-        offered = carry.waiting && count_held(number) > 0 ? WAITS : offer(conversation, number);
+        offered = count_held(number) > 0 ? WAITS : offer(conversation, number);
     }
     if (offered == WAITS) keep(number, packet, length);
     if (offered == GOES) send_on(conversation, packet, length);
@@ -205,12 +204,15 @@ static bool release_one(struct conversation *conversation, uint16_t number) {
 
 /* Offers again what waits, of each conversation until one is held. */
 static void release(void) {
-    carry.waiting = false;
-    for (uint16_t number = 0; number < CONVERSATIONS; number++) {
+    uint64_t unseen = count_all_held(); /* of the conversations that are still to be looked at */
+    bool waits = false;
+    for (uint16_t number = 0; unseen > 0 && number < CONVERSATIONS; number++) {
         uint64_t waiting = count_held(number);
+        unseen -= waiting;
         while (waiting > 0 && release_one(&carry.conversations[number], number)) waiting--;
-        if (waiting > 0) carry.waiting = true;
+        if (waiting > 0) waits = true;
     }
+    carry.waiting = waits;
     flush_data();
     pass_on();
 }

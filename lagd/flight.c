@@ -110,7 +110,7 @@ static void watch_conversation(uint16_t number, uint64_t *again) {
     struct conversation *conversation = &carry.conversations[number];
     struct niw_assignment state;
     bool away;
-    if (carry.waiting) drop_old(number);
+    drop_old(number);
     if (conversation->used) conversation->last = carry.time;
     conversation->used = false;
     if (conversation->home == 0) return;

@@ -81,9 +81,11 @@ static void free_slot(uint32_t at) {
     pool->idle = at;
 }
 
-/* How many frames of a conversation wait. */
+/* How many frames of a conversation wait. The library is not asked where none of any does. */
 uint64_t count_held(uint16_t number) {
-    struct niw_number waiting = niw_queue_waiting(&queues, number);
+    struct niw_number waiting;
+    if (!carry.waiting) return 0;
+    waiting = niw_queue_waiting(&queues, number);
     check_call(waiting.status, "niw_queue_waiting");
     return waiting.number;
 }
@@ -103,8 +105,11 @@ static uint32_t slot_told(const struct niw_queued *queued, const char *call) {
 
 /* Writes the time at which the oldest frame of a conversation came; answers whether one waits. */
 bool oldest_held(uint16_t number, uint64_t *came) {
-    struct niw_queued queued = niw_queue_oldest(&queues, number);
-    uint32_t at = slot_told(&queued, "niw_queue_oldest");
+    struct niw_queued queued;
+    uint32_t at;
+    if (!carry.waiting) return false;
+    queued = niw_queue_oldest(&queues, number);
+    at = slot_told(&queued, "niw_queue_oldest");
     if (at != NONE) *came = slot_of(at)->came;
     return at != NONE;
 }
@@ -122,6 +127,7 @@ bool put_held(uint16_t number, const uint8_t *packet, size_t length) {
     slot_of(at)->length = (uint32_t)length;
     slot_of(at)->came = carry.time;
     memcpy(slot_of(at)->packet, packet, length);
+    carry.waiting = true;
     return true;
 }
 
