@@ -14,7 +14,7 @@ HEAD = """# lag.h in short
 
 Here you can look up the functions, structs and numbers of the C library, a line each. `tools/pages` writes this page from the comments of
 [lag.h](../crates/lagffi/include/lag.h), which say more. [USING](USING.md#from-c) has the loop of a host and the rules for callers,
-[all faults](USING.md#all-faults) the statuses, [PERFORMANCE](PERFORMANCE.md#times-of-calls-the-code-of-today) how long the calls take.
+[all faults](USING.md#all-faults) the statuses, [PERFORMANCE](PERFORMANCE.md#times-of-calls) how long the calls take.
 
 A function that returns a *status* returns `NIW_OK`, or why it refused. A struct that is an answer has its `status` first: where that is a
 refusal, the other fields are 0.

@@ -56,11 +56,12 @@ pub enum Kind {
     IsDue,
     TickFlushing,
     ForcePort,
+    OfferConversation,
 }
 
 use Kind::*;
 
-pub const CALLS: [(Kind, &str); 23] = [
+pub const CALLS: [(Kind, &str); 24] = [
     (TakeSame, "receive, LACPDU that changes nothing"),
     (TakeSync, "receive, LACPDU whose Sync flips"),
     (TakeKey, "receive, LACPDU whose key flips"),
@@ -79,6 +80,7 @@ pub const CALLS: [(Kind, &str); 23] = [
     (ConfigureSame, "configure, as it is"),
     (ConfigureKey, "configure, key flips"),
     (Offer, "offer"),
+    (OfferConversation, "offer_conversation"),
     (ForceAndOffer, "force and offer"),
     (Move, "move_conversation, transmit, receive, offer"),
     (ForcePort, "force_port, nothing held"),
@@ -132,7 +134,7 @@ fn calls_of(scene: &Scene, kind: Kind) -> u64 {
         TickFlushing => 58,
         TakeSync | TakeKey | LinkFlips | ConfigureSame | ConfigureKey => 2 * ports,
         Ask | AskAndTransmit => 3 * ports,
-        Offer | ForceAndOffer => u64::from(scene.in_use) * u64::from(scene.aggregators_in_use),
+        Offer | OfferConversation | ForceAndOffer => u64::from(scene.in_use) * u64::from(scene.aggregators_in_use),
         _ => ports,
     }
 }
