@@ -33,6 +33,7 @@ LOOKS = {
     "lagtool_capture": ["tests_capture"],
     "holding": ["tests_holding"],
     "balance": ["tests_holding"],
+    "answering": ["tests_engine"],
     "lagtool_jobs": ["tests_tool"],
     "lagengine_lines": ["tests_engine", "stored run"],
     "example_two_systems": ["run of two systems"],

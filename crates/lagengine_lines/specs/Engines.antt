@@ -3,7 +3,7 @@ use Rattle.std.specs.Prelude.{◌≡◌, ⊤, ◌⊎◌, Vec, ℕ, List, [], ◌
 use Rattle.lagtypes.specs.declared.identifiers.AggId.{AggId}
 use Rattle.distributor.specs.Conversations.{next_identifier}
 use Rattle.lagsystem.specs.Assigning.{OffersConversation}
-use Rattle.lagsystem.specs.Calls.{Call, Tick}
+use Rattle.lagsystem.specs.Calls.{Call, Tick, Transmit}
 use Rattle.lagsystem.specs.Drives.{Drives, call_of}
 use Rattle.lagsystem.specs.Forcing.{ForcesPort}
 use Rattle.lagsystem.specs.First.{ConfigValue, IsFirst, fault_or_no_memory, refusal}
@@ -21,8 +21,10 @@ use Rattle.lagsystem.specs.declared.fault.SystemFault.{SystemFault}
 use Rattle.lagsystem.specs.declared.fault.SystemFault.TheVariants.{NoAggregator}
 use Rattle.lagsystem.specs.declared.drive.Reply.{Reply}
 use Rattle.lagsystem.specs.declared.drive.Reply.TheVariants as reply
+use Rattle.answering.specs.Notes.{nobody_asked, notes_after, notes_after_all}
+use Rattle.answering.specs.declared.word.Answers.{Answers}
 use Rattle.lagengine_lines.specs.Lines.{request_in}
-use Rattle.lagengine_lines.specs.Looks.{all_aggregators, all_ports, port_answer, agg_answer}
+use Rattle.lagengine_lines.specs.Looks.{all_aggregators, all_ports, answers_of, port_answer, agg_answer}
 use Rattle.lagengine_lines.specs.Requests.{TaskValue, RequestValue, Start, Work, Make, Ticks, Keep, Drive, ForcePort, OfferConversation}
 use Rattle.lagengine_lines.specs.Requests.{LeaveConversation, Rest, Probe, Conversation, Released, Ask}
 use Rattle.lagengine_lines.specs.Tables.{is_released, marked_below, most_conversations, port_at, rows_below}
@@ -35,10 +37,12 @@ use Rattle.lagengine_lines.specs.declared.request.Question.{Question}
 use Rattle.lagengine_lines.specs.declared.request.Question.TheVariants as question
 use Rattle.std.specs.declared.alloc.Global.{Global}
 
--- The state of an engine: the system, if there is one, and the calls stored for `drive`, if calls are stored.
+-- The state of an engine: the system, if there is one; the calls stored for `drive`, if calls are stored; and whether the peers of the
+-- ports of the system answer markers.
 pub record EngineState : Type 0 where
   pub system : Option SystemState
   pub kept : Option (List Call)
+  pub notes : List Answers
 
 -- an engine as contracts see it: its state, and the distribution algorithm of its systems
 pub record EngineValue (F : Type 0) : Type 0 where
@@ -53,13 +57,13 @@ system_state system = option_map (λ w. w.state) system
 abbrev pub kept_of : Option (Vec Handed Global) → Option (List Call)
 kept_of kept = option_map (λ calls. map call_of calls.items) kept
 
--- the state of an engine that has this system and these stored calls
-abbrev pub engine_state : {F : Type 0} → SystemValue F → Option (Vec Handed Global) → EngineState
-engine_state w kept = record { system = Some w.state; kept = kept_of kept }
+-- the state of an engine that has this system, these stored calls and these notes
+abbrev pub engine_state : {F : Type 0} → SystemValue F → Option (Vec Handed Global) → List Answers → EngineState
+engine_state w kept notes = record { system = Some w.state; kept = kept_of kept; notes = notes }
 
 -- an engine, from its fields
 abbrev pub engine_value : {F : Type 0} → Inner F → EngineValue F
-engine_value c = record { algorithm = c.algorithm; state = record { system = system_state c.system; kept = kept_of c.kept } }
+engine_value c = record { algorithm = c.algorithm; state = record { system = system_state c.system; kept = kept_of c.kept; notes = c.answering } }
 
 -- the system has the engine's algorithm
 abbrev pub HasAlgorithm : {F : Type 0} → F → Option (SystemValue F) → Type 0
@@ -84,11 +88,11 @@ AnswersFault fault old answer new = (answer ≡ said.Fault fault) × (new ≡ ol
 abbrev pub config_refusal : ConfigValue → Option BadConfig
 config_refusal config = refusal config.aggregators config.ports config.max_links config.conversations
 
--- a new system in its first state, and no stored calls, if the configuration is accepted and memory is granted
+-- a new system in its first state, no stored calls, and no peer that was asked, if the configuration is accepted and memory is granted
 abbrev pub MakesSystem : ConfigValue → EngineState → Type 0
 MakesSystem config new =
     (s : SystemState) × (config_refusal config ≡ None) × HasConfig config s × IsFirst s
-    × (new ≡ record { system = Some s; kept = None })
+    × (new ≡ record { system = Some s; kept = None; notes = nobody_asked })
 
 -- the system is made; or the answer is why not, and nothing changes
 abbrev pub AnswersStart : ConfigValue → EngineState → AnswerValue → EngineState → Type 0
@@ -96,33 +100,34 @@ AnswersStart config old said.Done new = MakesSystem config new
 AnswersStart config old (said.Refused fault) new = (fault ≡ fault_or_no_memory (config_refusal config)) × (new ≡ old)
 AnswersStart config old answer new = ⊥
 
--- the call is made; or it is stored, if calls are stored
-abbrev pub CallsOrKeeps : (ℕ → ℕ → ℕ → Type 0) → Call → SystemState → Option (List Call) → AnswerValue → EngineState → Type 0
-CallsOrKeeps gives call s None answer new =
+-- the call is made, and noted; or it is stored, if calls are stored
+abbrev pub CallsOrKeeps : (ℕ → ℕ → ℕ → Type 0) → Call → SystemState → Option (List Call) → List Answers → AnswerValue → EngineState → Type 0
+CallsOrKeeps gives call s None notes answer new =
     (reply : Reply) × (t : SystemState) × CallPromise gives s call reply t × (answer ≡ said.Replied reply)
-    × (new ≡ record { system = Some t; kept = None })
-CallsOrKeeps gives call s (Some calls) answer new = (answer ≡ said.Kept)
-    × (new ≡ record { system = Some s; kept = Some (calls ++ call ∷ []) })
+    × (new ≡ record { system = Some t; kept = None; notes = notes_after call reply t.system_ports notes })
+CallsOrKeeps gives call s (Some calls) notes answer new = (answer ≡ said.Kept)
+    × (new ≡ record { system = Some s; kept = Some (calls ++ call ∷ []); notes = notes })
 
 -- the calls stored until now; none if calls were not stored
 abbrev pub kept_so_far : Option (List Call) → List Call
 kept_so_far None = []
 kept_so_far (Some calls) = calls
 
--- the stored calls are made
-abbrev pub DrivesKept : (ℕ → ℕ → ℕ → Type 0) → SystemState → Option (List Call) → AnswerValue → EngineState → Type 0
-DrivesKept gives s None answer new = (answer ≡ said.Fault NotKeeping) × (new ≡ record { system = Some s; kept = None })
-DrivesKept gives s (Some calls) answer new =
+-- the stored calls are made, and each is noted
+abbrev pub DrivesKept : (ℕ → ℕ → ℕ → Type 0) → SystemState → Option (List Call) → List Answers → AnswerValue → EngineState → Type 0
+DrivesKept gives s None notes answer new = (answer ≡ said.Fault NotKeeping)
+    × (new ≡ record { system = Some s; kept = None; notes = notes })
+DrivesKept gives s (Some calls) notes answer new =
     (replies : List Reply) × (t : SystemState) × Drives gives s calls replies t × (answer ≡ said.Drove replies)
-    × (new ≡ record { system = Some t; kept = None })
+    × (new ≡ record { system = Some t; kept = None; notes = notes_after_all calls replies t.system_ports notes })
 
 -- so many ticks are made, one after another; or so many ticks are stored, if calls are stored
-abbrev pub TicksOrKeeps : (ℕ → ℕ → ℕ → Type 0) → ℕ → SystemState → Option (List Call) → AnswerValue → EngineState → Type 0
-TicksOrKeeps gives n s None answer new =
+abbrev pub TicksOrKeeps : (ℕ → ℕ → ℕ → Type 0) → ℕ → SystemState → Option (List Call) → List Answers → AnswerValue → EngineState → Type 0
+TicksOrKeeps gives n s None notes answer new =
     (t : SystemState) × Drives gives s (replicate n Tick) (replicate n reply.Tick) t × (answer ≡ said.Done)
-    × (new ≡ record { system = Some t; kept = None })
-TicksOrKeeps gives n s (Some calls) answer new = (answer ≡ said.Kept)
-    × (new ≡ record { system = Some s; kept = Some (calls ++ replicate n Tick) })
+    × (new ≡ record { system = Some t; kept = None; notes = notes })
+TicksOrKeeps gives n s (Some calls) notes answer new = (answer ≡ said.Kept)
+    × (new ≡ record { system = Some s; kept = Some (calls ++ replicate n Tick); notes = notes })
 
 -- the conversations of an aggregator that are On a port, of so many conversations; or there is no such aggregator
 abbrev pub conversation_ports_answer : ℕ → AggId → SystemState → AnswerValue
@@ -135,57 +140,60 @@ released_answer most agg listed s =
     if has_aggregator s agg then said.Released agg.0 (marked_below (is_released s agg listed) most) else said.Refused NoAggregator
 
 -- the answer of a reader
-abbrev pub reader_answer : Question → SystemState → AnswerValue
-reader_answer (question.Port q n) s = said.Port (port_answer q s n)
-reader_answer question.Ports s = said.Ports (port_numbers s.system_ports)
-reader_answer question.Aggregators s = said.Aggregators (length s.keys)
-reader_answer (question.Distributing agg) s = said.Distributing (agg_answer s agg.0)
-reader_answer (question.ConversationPorts agg) s = conversation_ports_answer most_conversations agg s
-reader_answer (question.ConversationState agg conv) s = said.ConversationState (conversation_at s agg conv)
-reader_answer question.NextMarker s = said.NextMarker (next_identifier s.table)
-reader_answer question.TicksUntilDue s = said.TicksUntilDue (ticks_until_due s)
-reader_answer question.All s = said.All (all_ports s) (all_aggregators s)
+abbrev pub reader_answer : Question → SystemState → List Answers → AnswerValue
+reader_answer (question.Port q n) s notes = said.Port (port_answer q s n)
+reader_answer (question.Answers n) s notes = said.Port (answers_of n s notes)
+reader_answer question.Ports s notes = said.Ports (port_numbers s.system_ports)
+reader_answer question.Aggregators s notes = said.Aggregators (length s.keys)
+reader_answer (question.Distributing agg) s notes = said.Distributing (agg_answer s agg.0)
+reader_answer (question.ConversationPorts agg) s notes = conversation_ports_answer most_conversations agg s
+reader_answer (question.ConversationState agg conv) s notes = said.ConversationState (conversation_at s agg conv)
+reader_answer question.NextMarker s notes = said.NextMarker (next_identifier s.table)
+reader_answer question.TicksUntilDue s notes = said.TicksUntilDue (ticks_until_due s)
+reader_answer question.All s notes = said.All (all_ports s) (all_aggregators s)
 
 -- a task is done with the system
-abbrev pub DoesTask : (ℕ → ℕ → ℕ → Type 0) → TaskValue → SystemState → Option (List Call) → AnswerValue → EngineState → Type 0
-DoesTask gives (Make call) s kept answer new = CallsOrKeeps gives call s kept answer new
-DoesTask gives (Ticks n) s kept answer new = TicksOrKeeps gives n s kept answer new
+abbrev pub DoesTask : (ℕ → ℕ → ℕ → Type 0) → TaskValue → SystemState → Option (List Call) → List Answers → AnswerValue → EngineState → Type 0
+DoesTask gives (Make call) s kept notes answer new = CallsOrKeeps gives call s kept notes answer new
+DoesTask gives (Ticks n) s kept notes answer new = TicksOrKeeps gives n s kept notes answer new
 -- from now on, calls are stored
-DoesTask gives Keep s kept answer new = (answer ≡ said.Done) × (new ≡ record { system = Some s; kept = Some (kept_so_far kept) })
-DoesTask gives Drive s kept answer new = DrivesKept gives s kept answer new
+DoesTask gives Keep s kept notes answer new = (answer ≡ said.Done) × (new ≡ record { system = Some s; kept = Some (kept_so_far kept); notes = notes })
+DoesTask gives Drive s kept notes answer new = DrivesKept gives s kept notes answer new
 -- what is held on the port is forced, even while calls are stored
-DoesTask gives (ForcePort port) s kept answer new =
+DoesTask gives (ForcePort port) s kept notes answer new =
     (forced : Result ℕ SystemFault) × (t : SystemState) × ForcesPort gives port s forced t × (answer ≡ said.ForcedPort forced)
-    × (new ≡ record { system = Some t; kept = kept })
+    × (new ≡ record { system = Some t; kept = kept; notes = notes })
 -- the next four are made at once, even while calls are stored
-DoesTask gives (OfferConversation agg conv) s kept answer new =
+DoesTask gives (OfferConversation agg conv) s kept notes answer new =
     (given : Result ℕ SystemFault) × (t : SystemState) × OffersConversation gives agg conv s given t
-    × (answer ≡ said.Replied (reply.Offer given)) × (new ≡ record { system = Some t; kept = kept })
-DoesTask gives (LeaveConversation agg conv) s kept answer new =
+    × (answer ≡ said.Replied (reply.Offer given)) × (new ≡ record { system = Some t; kept = kept; notes = notes })
+DoesTask gives (LeaveConversation agg conv) s kept notes answer new =
     (left : Result Unit SystemFault) × (t : SystemState) × GivesOrRefuses agg conv (system_leave_result s agg conv) s left t
-    × (answer ≡ said.Replied (reply.MoveConversation left)) × (new ≡ record { system = Some t; kept = kept })
-DoesTask gives (Rest agg conv) s kept answer new =
+    × (answer ≡ said.Replied (reply.MoveConversation left)) × (new ≡ record { system = Some t; kept = kept; notes = notes })
+DoesTask gives (Rest agg conv) s kept notes answer new =
     (rests : Result Unit SystemFault) × (t : SystemState) × GivesOrRefuses agg conv (system_rest_result s agg conv) s rests t
-    × (answer ≡ said.Replied (reply.Force rests)) × (new ≡ record { system = Some t; kept = kept })
-DoesTask gives (Probe port) s kept answer new =
+    × (answer ≡ said.Replied (reply.Force rests)) × (new ≡ record { system = Some t; kept = kept; notes = notes })
+DoesTask gives (Probe port) s kept notes answer new =
     (sent : Result (Option (List ℕ)) SystemFault) × (t : SystemState) × Probes port s sent t
-    × (answer ≡ said.Replied (reply.Transmit sent)) × (new ≡ record { system = Some t; kept = kept })
-DoesTask gives (Conversation octets) s kept answer new = (answer ≡ said.Conversation (conversation_in s octets))
-    × (new ≡ record { system = Some s; kept = kept })
-DoesTask gives (Released agg listed) s kept answer new = (answer ≡ released_answer most_conversations agg listed s)
-    × (new ≡ record { system = Some s; kept = kept })
-DoesTask gives (Ask q) s kept answer new = (answer ≡ reader_answer q s) × (new ≡ record { system = Some s; kept = kept })
+    × (answer ≡ said.Replied (reply.Transmit sent))
+    × (new ≡ record { system = Some t; kept = kept; notes = notes_after (Transmit port) (reply.Transmit sent) t.system_ports notes })
+DoesTask gives (Conversation octets) s kept notes answer new = (answer ≡ said.Conversation (conversation_in s octets))
+    × (new ≡ record { system = Some s; kept = kept; notes = notes })
+DoesTask gives (Released agg listed) s kept notes answer new = (answer ≡ released_answer most_conversations agg listed s)
+    × (new ≡ record { system = Some s; kept = kept; notes = notes })
+DoesTask gives (Ask q) s kept notes answer new = (answer ≡ reader_answer q s notes) × (new ≡ record { system = Some s; kept = kept; notes = notes })
 
 -- without a system, the answer is NoSystem
-abbrev pub DoesTaskIfSystem : (ℕ → ℕ → ℕ → Type 0) → TaskValue → Option SystemState → Option (List Call)
+abbrev pub DoesTaskIfSystem : (ℕ → ℕ → ℕ → Type 0) → TaskValue → Option SystemState → Option (List Call) → List Answers
     → AnswerValue → EngineState → Type 0
-DoesTaskIfSystem gives asked None kept answer new = AnswersFault NoSystem (record { system = None; kept = kept }) answer new
-DoesTaskIfSystem gives asked (Some s) kept answer new = DoesTask gives asked s kept answer new
+DoesTaskIfSystem gives asked None kept notes answer new =
+    AnswersFault NoSystem (record { system = None; kept = kept; notes = notes }) answer new
+DoesTaskIfSystem gives asked (Some s) kept notes answer new = DoesTask gives asked s kept notes answer new
 
 -- a request is done; a line that is none is answered with its fault, and nothing changes
 abbrev pub DoesRequest : (ℕ → ℕ → ℕ → Type 0) → Result RequestValue RequestFault → EngineState → AnswerValue → EngineState → Type 0
 DoesRequest gives (Ok (Start config)) old answer new = AnswersStart config old answer new
-DoesRequest gives (Ok (Work asked)) old answer new = DoesTaskIfSystem gives asked old.system old.kept answer new
+DoesRequest gives (Ok (Work asked)) old answer new = DoesTaskIfSystem gives asked old.system old.kept old.notes answer new
 DoesRequest gives (Err fault) old answer new = AnswersFault fault old answer new
 
 -- what an engine does for a line, unless memory is refused; then nothing changes

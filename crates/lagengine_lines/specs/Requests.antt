@@ -222,6 +222,7 @@ question_named name =
     else if bytes_eq name (codes "current-while") then port_question of_port.CurrentWhile
     else if bytes_eq name (codes "wait-while") then port_question of_port.WaitWhile
     else if bytes_eq name (codes "ntt") then port_question of_port.Ntt
+    else if bytes_eq name (codes "answers") then with_one_word number_word (λ n. Ask (question.Answers n))
     else if bytes_eq name (codes "ports") then with_no_words (Ask question.Ports)
     else if bytes_eq name (codes "aggregators") then with_no_words (Ask question.Aggregators)
     else if bytes_eq name (codes "distributing") then with_one_word number_word (λ n. Ask (question.Distributing (agg_id n)))

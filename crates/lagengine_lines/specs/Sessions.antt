@@ -1,6 +1,7 @@
 -- The answers of a session to the octets that it reads.
-use Rattle.std.specs.Prelude.{◌≡◌, ℕ, ◌++◌, true, List, [], ◌∷◌, length, map, take, Option, Some, None, Result}
+use Rattle.std.specs.Prelude.{◌≡◌, ℕ, ◌++◌, true, List, [], ◌∷◌, length, map, take, Option, None, Result}
 use Rattle.std.specs.Io.KnownBytes.{Appends}
+use Rattle.answering.specs.Notes.{nobody_asked}
 use Rattle.lagengine_lines.specs.Engines.{AnswersLine, EngineState}
 use Rattle.lagstreams.specs.Lines.{lines_of, newline_count, continue_line}
 use Rattle.lagengine_lines.specs.Lines.{request_in}
@@ -40,7 +41,7 @@ session_of s = record { state = s.engine.state; line = s.line.items }
 
 -- the state of the engine before the first octet
 abbrev pub first_engine_state : EngineState
-first_engine_state = record { system = None; kept = None }
+first_engine_state = record { system = None; kept = None; notes = nobody_asked }
 
 -- a session before anything is read
 abbrev pub first_session : SessionState

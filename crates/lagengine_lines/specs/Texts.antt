@@ -28,6 +28,7 @@ use Rattle.lagsystem.specs.declared.fault.BadConfig.{BadConfig}
 use Rattle.lagsystem.specs.declared.fault.BadConfig.TheVariants as reason
 use Rattle.lagsystem.specs.declared.fault.SystemFault.{SystemFault}
 use Rattle.lagsystem.specs.declared.fault.SystemFault.TheVariants as system
+use Rattle.answering.specs.Notes.{answers_text}
 use Rattle.lagengine_lines.specs.Looks.{AggAnswerValue}
 use Rattle.lagengine_lines.specs.AnswerValues.{AnswerValue}
 use Rattle.lagengine_lines.specs.AnswerValues as said
@@ -233,6 +234,7 @@ fact_text (fact.Status s) = codes "status " ++ status_text s
 fact_text (fact.CurrentWhile ticks) = codes "current-while " ++ decimal ticks
 fact_text (fact.WaitWhile ticks) = codes "wait-while " ++ decimal ticks
 fact_text (fact.Ntt ntt) = codes "ntt " ++ flag_text ntt
+fact_text (fact.Answers answers) = codes "answers " ++ answers_text answers
 
 -- the answer for a port, or `none` if there is no such port
 abbrev pub fact_or_none : Option PortFact → List ℕ

@@ -150,6 +150,14 @@ fn port_question(asked: PortQuestion, words: &[&str]) -> Result<Task, RequestFau
     Ok(Task::Ask(Question::Port(asked, number(2, port)?)))
 }
 
+/// Reads the word of `answers`: a port.
+fn answers(words: &[&str]) -> Result<Task, RequestFault>
+    ensures { task_result_value result ≡ with_one_word number_word (λ n. asked.Ask (question.Answers n)) (map (λ w. w.now) words.now) }
+{
+    let port = one_word(words)?;
+    Ok(Task::Ask(Question::Answers(number(2, port)?)))
+}
+
 /// Reads the word of `distributing`: an aggregator.
 fn distributing(words: &[&str]) -> Result<Task, RequestFault>
     ensures { task_result_value result ≡ with_one_word number_word (λ n. asked.Ask (question.Distributing (asked.agg_id n)))
@@ -195,6 +203,7 @@ fn question_named(name: &str, words: &[&str]) -> Result<Task, RequestFault>
         "current-while" => port_question(PortQuestion::CurrentWhile, words),
         "wait-while" => port_question(PortQuestion::WaitWhile, words),
         "ntt" => port_question(PortQuestion::Ntt, words),
+        "answers" => answers(words),
         "ports" => task_alone(Task::Ask(Question::Ports), words),
         "aggregators" => task_alone(Task::Ask(Question::Aggregators), words),
         "distributing" => distributing(words),

@@ -2,6 +2,7 @@ ghost use Rattle.std.specs.Prelude.{◌≡◌, IfOk, None, Ok, OnErr, Some};
 ghost use Rattle.distributor.specs.Calls.{PicksIndexes};
 ghost use Rattle.lagsystem.specs.Drives.{call_of};
 ghost use Rattle.lagsystem.specs.First.{config_value};
+ghost use Rattle.answering.specs.Notes.{nobody_asked};
 ghost use Rattle.lagengine_lines.specs.Engines.{DoesTask, DoesTaskIfSystem, AnswersLine, CallsOrKeeps, DoesRequest, DrivesKept, HasAlgorithm};
 ghost use Rattle.lagengine_lines.specs.Engines.{AnswersStart, kept_so_far, engine_state, kept_of, system_state, reader_answer, engine_value};
 ghost use Rattle.lagengine_lines.specs.Requests.{request_value, task_value};
@@ -9,10 +10,11 @@ ghost use Rattle.lagengine_lines.specs.AnswerValues.{answer_value};
 
 use crate::answer::Answer;
 use crate::fault::{RequestError, RequestFault};
-use crate::looks::{agg_answer, all_aggregators, all_ports, port_answer};
+use crate::looks::{agg_answer, all_aggregators, all_ports, answers_of, port_answer};
 use crate::request::{Question, Request, Task, request_in};
 use crate::tables::{MOST_CONVERSATIONS, conversation_ports, released};
 use crate::ticks::tick_or_keep;
+use answering::Answering;
 use lagsystem::{Call, Config, Reply, System};
 use std::alloc::{AllocError, Global};
 use std::marker::Model;
@@ -25,6 +27,8 @@ struct Inner<F> {
     system: Option<System<F>>,
     /// The calls that are stored for `drive`; None if calls are made at once.
     kept: Option<Vec<Call>>,
+    /// Whether the peers of the ports of the system answer markers.
+    answering: Answering,
 }
 
 /// A system that is used through lines of text: each line is a request, and gets an answer (profile). `F` is the type
@@ -44,16 +48,18 @@ impl<F> Model for Engine<F> {
     ghost invariant = { λ e. HasAlgorithm e.inner.algorithm e.inner.system };
 }
 
-/// Answers a question by a reader of the system.
+/// Answers a question by a reader of the system, or by what is noted of a peer.
 fn answer_question<F: Fn(u16, usize) -> usize + Drop>(
     alloc: Global,
     system: &System<F>,
+    answering: &Answering,
     question: Question,
 ) -> Result<Answer, AllocError>
-    ensures { IfOk result (λ answer. answer_value answer ≡ reader_answer question system.now.state) }
+    ensures { IfOk result (λ answer. answer_value answer ≡ reader_answer question system.now.state answering.now) }
 {
     match question {
         Question::Port(asked, port) => Ok(Answer::Port(port_answer(system, asked, port))),
+        Question::Answers(port) => Ok(Answer::Port(answers_of(system, answering, port))),
         Question::Ports => Ok(Answer::Ports(system.ports())),
         Question::Aggregators => Ok(Answer::Aggregators(system.aggregators())),
         Question::Distributing(agg) => Ok(Answer::Distributing(agg_answer(system, agg.0))),
@@ -73,20 +79,25 @@ fn answer_question<F: Fn(u16, usize) -> usize + Drop>(
     }
 }
 
-/// Makes a call; or stores it for `drive`, if calls are stored.
+/// Makes a call, and notes it; or stores it for `drive`, if calls are stored.
 fn call_or_keep<F: Fn(u16, usize) -> usize + Drop>(
     system: &mut System<F>,
     kept: &mut Option<Vec<Call>>,
+    answering: &mut Answering,
     call: Call,
 ) -> Result<Answer, AllocError>
     requires usable { PicksIndexes (F.pre system.old.algorithm) (F.post system.old.algorithm) }
     ensures acts { IfOk result (λ answer. CallsOrKeeps (F.post system.old.algorithm) (call_of call) system.old.state (kept_of kept.old)
-        (answer_value answer) (engine_state system.new kept.new)) }
-    ensures err { OnErr result (engine_state system.new kept.new ≡ engine_state system.old kept.old) }
+        answering.old (answer_value answer) (engine_state system.new kept.new answering.new)) }
+    ensures err { OnErr result (engine_state system.new kept.new answering.new ≡ engine_state system.old kept.old answering.old) }
     ensures algorithm { system.new.algorithm ≡ system.old.algorithm }
 {
     match kept {
-        None => Ok(Answer::Reply(system.call(&call))),
+        None => {
+            let reply = system.call(&call);
+            answering.after_call(system, &call, &reply);
+            Ok(Answer::Reply(reply))
+        }
         Some(calls) => {
             calls.push(call)?;
             Ok(Answer::Kept)
@@ -94,22 +105,24 @@ fn call_or_keep<F: Fn(u16, usize) -> usize + Drop>(
     }
 }
 
-/// Makes the stored calls; from now on, calls are made at once.
+/// Makes the stored calls, and notes them; from now on, calls are made at once.
 fn drive<F: Fn(u16, usize) -> usize + Drop>(
     alloc: Global,
     system: &mut System<F>,
     kept: &mut Option<Vec<Call>>,
+    answering: &mut Answering,
 ) -> Result<Answer, AllocError>
     requires usable { PicksIndexes (F.pre system.old.algorithm) (F.post system.old.algorithm) }
-    ensures acts { IfOk result (λ answer. DrivesKept (F.post system.old.algorithm) system.old.state (kept_of kept.old) (answer_value answer)
-        (engine_state system.new kept.new)) }
-    ensures err { OnErr result (engine_state system.new kept.new ≡ engine_state system.old kept.old) }
+    ensures acts { IfOk result (λ answer. DrivesKept (F.post system.old.algorithm) system.old.state (kept_of kept.old) answering.old
+        (answer_value answer) (engine_state system.new kept.new answering.new)) }
+    ensures err { OnErr result (engine_state system.new kept.new answering.new ≡ engine_state system.old kept.old answering.old) }
     ensures algorithm { system.new.algorithm ≡ system.old.algorithm }
 {
-    let replies = match kept {
-        None => return Ok(Answer::Fault(RequestFault::NotKeeping)),
-        Some(calls) => system.drive(alloc, calls.as_slice())?,
+    let Some(calls) = kept else {
+        return Ok(Answer::Fault(RequestFault::NotKeeping));
     };
+    let replies = system.drive(alloc, calls.as_slice())?;
+    answering.after_calls(system, calls.as_slice(), replies.as_slice());
     *kept = None;
     Ok(Answer::Replies(replies))
 }
@@ -128,22 +141,23 @@ fn do_task<F: Fn(u16, usize) -> usize + Drop>(
     alloc: Global,
     system: &mut System<F>,
     kept: &mut Option<Vec<Call>>,
+    answering: &mut Answering,
     task: Task,
 ) -> Result<Answer, AllocError>
     requires usable { PicksIndexes (F.pre system.old.algorithm) (F.post system.old.algorithm) }
     ensures acts { IfOk result (λ answer. DoesTask (F.post system.old.algorithm) (task_value task) system.old.state (kept_of kept.old)
-        (answer_value answer) (engine_state system.new kept.new)) }
-    ensures err { OnErr result (engine_state system.new kept.new ≡ engine_state system.old kept.old) }
+        answering.old (answer_value answer) (engine_state system.new kept.new answering.new)) }
+    ensures err { OnErr result (engine_state system.new kept.new answering.new ≡ engine_state system.old kept.old answering.old) }
     ensures algorithm { system.new.algorithm ≡ system.old.algorithm }
 {
     match task {
-        Task::Make(call) => call_or_keep(system, kept, call),
+        Task::Make(call) => call_or_keep(system, kept, answering, call),
         Task::Ticks(count) => tick_or_keep(system, kept, count),
         Task::Keep => {
             keep(alloc, kept);
             Ok(Answer::Done)
         }
-        Task::Drive => drive(alloc, system, kept),
+        Task::Drive => drive(alloc, system, kept, answering),
         Task::ForcePort(port) => Ok(Answer::ForcedPort(system.force_port(port))),
         Task::OfferConversation(agg, conv) => {
             let answer = system.offer_conversation(agg, conv);
@@ -154,12 +168,16 @@ fn do_task<F: Fn(u16, usize) -> usize + Drop>(
             Ok(Answer::Reply(Reply::MoveConversation(answer)))
         }
         Task::Rest(agg, conv) => Ok(Answer::Reply(Reply::Force(system.rest(agg, conv)))),
-        Task::Probe(port) => Ok(Answer::Reply(Reply::Transmit(system.probe(port)))),
+        Task::Probe(port) => {
+            let sent = system.probe(port);
+            answering.after_transmit(system, port, &sent);
+            Ok(Answer::Reply(Reply::Transmit(sent)))
+        }
         Task::Conversation(frame) => Ok(Answer::Conversation(system.conversation(&frame))),
         Task::Released(agg, listed) => {
             released(alloc, system, agg, listed.as_slice(), MOST_CONVERSATIONS)
         }
-        Task::Ask(question) => answer_question(alloc, system, question),
+        Task::Ask(question) => answer_question(alloc, system, answering, question),
     }
 }
 
@@ -175,6 +193,7 @@ impl<F: Fn(u16, usize) -> usize + Copy + Drop> Inner<F> {
     {
         match System::new(self.alloc, config, self.algorithm) {
             Ok(system) => {
+                self.answering = Answering::nobody_asked();
                 self.system = Some(system);
                 self.kept = None;
                 Answer::Done
@@ -188,14 +207,20 @@ impl<F: Fn(u16, usize) -> usize + Copy + Drop> Inner<F> {
         requires usable { PicksIndexes (F.pre self.old.algorithm) (F.post self.old.algorithm) }
         requires same { HasAlgorithm self.old.algorithm self.old.system }
         ensures acts { IfOk result (λ answer. DoesTaskIfSystem (F.post self.old.algorithm) (task_value task) (system_state self.old.system)
-            (kept_of self.old.kept) (answer_value answer) (engine_value self.new).state) }
+            (kept_of self.old.kept) self.old.answering (answer_value answer) (engine_value self.new).state) }
         ensures err { OnErr result ((engine_value self.new).state ≡ (engine_value self.old).state) }
         ensures algorithm { self.new.algorithm ≡ self.old.algorithm }
         ensures same { HasAlgorithm self.new.algorithm self.new.system }
     {
         match &mut self.system {
             None => Ok(Answer::Fault(RequestFault::NoSystem)),
-            Some(system) => do_task(self.alloc, system, &mut self.kept, task),
+            Some(system) => do_task(
+                self.alloc,
+                system,
+                &mut self.kept,
+                &mut self.answering,
+                task,
+            ),
         }
     }
 
@@ -242,6 +267,7 @@ impl<F: Fn(u16, usize) -> usize + Copy + Drop> Engine<F> {
         ensures algorithm { result.algorithm ≡ algorithm }
         ensures system { result.state.system ≡ None }
         ensures kept { result.state.kept ≡ None }
+        ensures notes { result.state.notes ≡ nobody_asked }
     {
         Engine {
             inner: Inner {
@@ -249,6 +275,7 @@ impl<F: Fn(u16, usize) -> usize + Copy + Drop> Engine<F> {
                 algorithm,
                 system: None,
                 kept: None,
+                answering: Answering::nobody_asked(),
             },
         }
     }

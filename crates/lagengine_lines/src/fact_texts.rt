@@ -224,6 +224,7 @@ impl fmt::Display for FactText<'_> {
             PortFact::CurrentWhile(ticks) => write!(f, "current-while {ticks}"),
             PortFact::WaitWhile(ticks) => write!(f, "wait-while {ticks}"),
             PortFact::Ntt(ntt) => write!(f, "ntt {}", FlagText(*ntt)),
+            PortFact::Answers(answers) => write!(f, "answers {answers}"),
         }
     }
 }

@@ -1,8 +1,9 @@
 ghost use Rattle.std.specs.Prelude.{◌≡◌, IfOk, map, option_map};
-ghost use Rattle.lagengine_lines.specs.Looks.{all_aggregators, all_ports, fact_of, held_on, load_of, look_of, port_answer, agg_answer, agg_answer_value};
+ghost use Rattle.lagengine_lines.specs.Looks.{all_aggregators, all_ports, answers_of, fact_of, held_on, load_of, look_of, port_answer, agg_answer, agg_answer_value};
 ghost use Rattle.lagsystem.specs.State.{machines_of};
 
 use crate::request::PortQuestion;
+use answering::{Answering, Answers};
 use arrayvec::ArrayVec;
 use lagsystem::{
     AggId, Choice, Group, Info, MuxState, Party, PortStatus, ReceiveState, State, System,
@@ -47,6 +48,8 @@ pub enum PortFact {
     WaitWhile(u8),
     /// NTT: whether an LACPDU is to be sent.
     Ntt(bool),
+    /// Whether its peer answers markers.
+    Answers(Answers),
 }
 
 /// The answer for a port; without a value if there is no such port.
@@ -127,6 +130,21 @@ pub(crate) fn port_answer<F: Fn(u16, usize) -> usize + Drop>(
         port,
         fact: fact(system, asked, port),
     }
+}
+
+/// Whether the peer of a port answers markers, with the port's number.
+pub(crate) fn answers_of<F: Fn(u16, usize) -> usize + Drop>(
+    system: &System<F>,
+    answering: &Answering,
+    port: u16,
+) -> PortAnswer
+    ensures { result ≡ answers_of port system.now.state answering.now }
+{
+    let fact = match answering.of(system, port) {
+        Some(answers) => Some(PortFact::Answers(answers)),
+        None => None,
+    };
+    PortAnswer { port, fact }
 }
 
 /// The ports that distribute in an aggregator.

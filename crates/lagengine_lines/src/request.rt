@@ -43,11 +43,13 @@ pub enum PortQuestion {
     Ntt,
 }
 
-/// A question that a reader of the system answers.
+/// A question that a reader of the system answers, or what is noted of a peer.
 #[derive(Clone, Copy)]
 pub enum Question {
     /// About the port with this number.
     Port(PortQuestion, u16),
+    /// Whether the peer of the port with this number answers markers.
+    Answers(u16),
     /// The numbers of the ports.
     Ports,
     /// How many aggregators there are.

@@ -1,6 +1,5 @@
 pub mod AlgorithmLemmas
 pub mod AsBox
-pub mod PlaceLemmas
 pub mod AskingLemmas
 pub mod MadeLemmas
 pub mod MaskLemmas

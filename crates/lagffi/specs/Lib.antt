@@ -1,5 +1,4 @@
 pub mod Algorithms
-pub mod Answering
 pub mod Asking
 pub mod Balancing
 pub mod Carrying

@@ -5,8 +5,8 @@ mod held;
 mod parts;
 mod queue;
 
-use crate::answering::Answering;
 use crate::stored::Stored;
+use answering::Answering;
 pub(crate) use held::Held;
 use lagsystem::System;
 pub use queue::LagQueue;
@@ -52,7 +52,7 @@ impl Lag {
         algorithm: F,
     ) -> Option<(System<F>, Block)>
         ensures taken { MatchOption result (held_value self.old.held.kept ≡ None)
-            (λ taken. held_value self.old.held.kept ≡ Some (record { state = taken.0.state; algorithm = taken.1.algorithm; answering = taken.1.answering.notes })) }
+            (λ taken. held_value self.old.held.kept ≡ Some (record { state = taken.0.state; algorithm = taken.1.algorithm; answering = taken.1.answering })) }
         ensures algorithm { IfSome result (λ taken. taken.0.algorithm ≡ algorithm) }
         ensures block { IfSome result (λ taken. IsTrue (is_some taken.1.held.kept)) }
         ensures left { self.new.held.kept ≡ None }
@@ -88,7 +88,7 @@ impl Lag {
     pub(crate) fn put<F: Drop>(&mut self, system: System<F>, block: Block)
         requires empty { self.old.held.kept ≡ None }
         requires block { IsTrue (is_some block.held.kept) }
-        ensures { held_value self.new.held.kept ≡ Some (record { state = system.state; algorithm = block.algorithm; answering = block.answering.notes }) }
+        ensures { held_value self.new.held.kept ≡ Some (record { state = system.state; algorithm = block.algorithm; answering = block.answering }) }
     {
         let Block {
             held,

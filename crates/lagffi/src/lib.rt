@@ -7,7 +7,6 @@
 //! allocator. The inline functions of the header refuse null pointers before an export is called.
 #![tactic(auto)]
 
-mod answering;
 mod balancing;
 mod calls;
 mod carrying;

@@ -1,4 +1,4 @@
-ghost use Rattle.std.specs.Prelude.{◌≡◌, ◌<◌, [], IfSome, IsTrue, MatchOption, length, nat_le, option_map, slice_index};
+ghost use Rattle.std.specs.Prelude.{◌≡◌, ◌<◌, [], IfSome, IsTrue, MatchOption, length, nat_le, option_map};
 ghost use Rattle.std.specs.Bool.{IsFalse, OnFalse};
 ghost use Rattle.std.specs.List.Sorted.{IsStrictlyIncreasing};
 ghost use Rattle.portmachines.specs.Mux.{same_mux_state};
@@ -13,6 +13,7 @@ ghost use Rattle.lagsystem.specs.PortStatus.{status_of_port};
 ghost use Rattle.lagsystem.specs.Readers.{aggregator_numbered, conversation_count, conversation_in, distributing, group_at};
 ghost use Rattle.lagsystem.specs.State.{port_numbers, port_index, machines_of};
 ghost use Rattle.lagsystem.specs.Waiting.{ticks_until_due};
+ghost use Rattle.answering.specs.Notes.{answers_number, note_of};
 ghost use Rattle.lagffi.specs.Asking.{ReadsHeldSystem, ReadsNotes};
 ghost use Rattle.lagffi.specs.Holding.{held_value};
 ghost use Rattle.lagffi.specs.Lists.{port_list_length, put_first};
@@ -282,13 +283,13 @@ pub extern "C" fn lagffi_load(alloc: Global, lag: &mut Lag, port: u16) -> LagNum
 #[unsafe(no_mangle)]
 pub extern "C" fn lagffi_answers(alloc: Global, lag: &mut Lag, port: u16) -> LagNumber
     ensures { ReadsNotes (held_value lag.old.held.kept) (held_value lag.new.held.kept)
-        (λ s notes. result ≡ number_or_refused 1 (option_map (slice_index notes) (port_index port s.system_ports)))
+        (λ s notes. result ≡ number_or_refused 1 (option_map answers_number (note_of port s.system_ports notes)))
         (result ≡ number_refused no_system) }
 {
     let Some((system, block)) = lag.take(alloc, by_number) else {
         return LagNumber::refused(NO_SYSTEM);
     };
-    let answer = LagNumber::octet_or_no_port(block.answering.of(&system, port));
+    let answer = LagNumber::note_or_no_port(block.answering.of(&system, port));
     lag.put(system, block);
     answer
 }

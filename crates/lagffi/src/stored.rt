@@ -2,7 +2,7 @@ ghost use Rattle.std.specs.Prelude.{◌≡◌, None, Some};
 ghost use Rattle.distributor.specs.Calls.{index_by_number};
 ghost use Rattle.lagffi.specs.Algorithms.{index_by_sum};
 
-use crate::answering::Answering;
+use answering::Answering;
 use holding::Holding;
 use lagsystem::System;
 

@@ -1,4 +1,5 @@
-ghost use Rattle.std.specs.Prelude.{◌≡◌, ◌≤◌, length};
+ghost use Rattle.std.specs.Prelude.{◌≡◌, ◌≤◌, length, option_map};
+ghost use Rattle.answering.specs.Notes.{answers_number};
 ghost use Rattle.lagffi.specs.Lists.{port_list_length, put_first};
 ghost use Rattle.lagffi.specs.Frames.{received_of, sent_as, sent_of, sent_refused};
 ghost use Rattle.lagffi.specs.Numbers.{change_of, number_refused, received_refused, truth_refused, number, number_or_refused, number_of};
@@ -6,6 +7,7 @@ ghost use Rattle.lagffi.specs.Numbers.{status_of, truth, truth_or_no_port, truth
 ghost use Rattle.lagsystem.specs.Faults.{fault_number};
 ghost use Rattle.lagsystem.specs.declared.fault.SystemFault.{SystemFault};
 
+use answering::Answers;
 use arrayvec::ArrayVec;
 use lagsystem::{AggId, Key, PortChange, Received, SystemFault};
 
@@ -163,7 +165,18 @@ impl LagNumber {
         }
     }
 
-    /// The answer of `wait_while`, or a note on the peer of a port; or else that there is no such port.
+    /// The note on the peer of a port; or that there is no such port.
+    pub(crate) fn note_or_no_port(answer: Option<Answers>) -> LagNumber
+        ensures { result ≡ number_or_refused 1 (option_map answers_number answer) }
+    {
+        let number = match answer {
+            Some(answers) => Some(answers.number()),
+            None => None,
+        };
+        LagNumber::octet_or_no_port(number)
+    }
+
+    /// The answer of `wait_while`; or that there is no such port.
     pub(crate) fn octet_or_no_port(answer: Option<u8>) -> LagNumber
         ensures { result ≡ number_or_refused 1 answer }
     {

@@ -1,3 +1,4 @@
+mod peers;
 mod ports;
 mod requests;
 

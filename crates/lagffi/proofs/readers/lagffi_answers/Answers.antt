@@ -1,8 +1,10 @@
 use mathlib.Core.Path.{◌∙◌, ap}
+use Rattle.std.specs.Prelude.{option_map}
+use Rattle.answering.specs.Notes.{answers_number}
 use Rattle.lagffi.specs.Numbers.{number_or_refused}
 use Rattle.lagffi.proofs.AskingLemmas.{asked_of_notes}
 use Rattle.lagffi.proofs.readers.lagffi_answers.Goals as goal
 
 pub returns : goal.returns
 returns c = asked_of_notes _ _ c.in-Some.ensures.taken c.put.ensures
-    (c.octet_or_no_port-answer.ensures ∙ ap (number_or_refused 1) c.of.ensures)
+    (c.note_or_no_port-answer.ensures ∙ ap (λ note. number_or_refused 1 (option_map answers_number note)) c.of.ensures)

@@ -20,4 +20,4 @@ returns-in-Some-clause-acts g c =
     let there : c.args.self.now.system ≡ Some c.in-Some.system = search rules in
     let same = algorithm_of c.args.self.now.algorithm c.args.self.now.system c.in-Some.system there c.requires.same in
     acts_where (λ f conv count place. g.F.Fn.post f (conv, (count, tt)) place) c.args.self.now.algorithm c.args.self.now.system
-    c.in-Some.system (task_value c.args.task) (kept_of c.args.self.now.kept) c.do_task.result _ there same c.do_task.ensures.acts
+    c.in-Some.system (task_value c.args.task) (kept_of c.args.self.now.kept) c.args.self.now.answering c.do_task.result _ there same c.do_task.ensures.acts

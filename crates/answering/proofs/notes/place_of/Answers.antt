@@ -1,8 +1,8 @@
 use mathlib.Core.Path.{◌∙◌, ap}
 use Rattle.std.proofs.Common.{◌==◌}
 use Rattle.std.specs.List.{position}
-use Rattle.lagffi.proofs.PlaceLemmas.{place_of_number}
-use Rattle.lagffi.proofs.answering.place_of.Goals as goal
+use Rattle.answering.proofs.PlaceLemmas.{place_of_number}
+use Rattle.answering.proofs.notes.place_of.Goals as goal
 
 pub returns-clause-place : goal.returns-clause-place
 returns-clause-place g c =

@@ -1,0 +1,169 @@
+ghost use Rattle.std.specs.Prelude.{◌≡◌, ◌==◌, ◌<◌, IfSome, length, map};
+ghost use Rattle.std.specs.List.{position};
+ghost use Rattle.lagsystem.specs.Drives.{call_of};
+ghost use Rattle.lagsystem.specs.State.{port_index};
+ghost use Rattle.answering.specs.Notes.{nobody_asked, note_of, noted, noted_asked, notes_after, notes_after_all};
+ghost use Rattle.answering.specs.Notes.{notes_after_receive, notes_after_set_link, notes_after_transmit};
+
+use crate::word::Answers;
+use lagsystem::{Call, Received, Reply, System, SystemFault};
+use std::marker::Model;
+
+/// Whether the peers of the ports of a system answer markers: a note for each port, in the order of the port numbers (profile).
+#[derive(Drop)]
+pub struct Answering {
+    notes: [Answers; 64],
+}
+
+impl Model for Answering {
+    ghost use Rattle.std.specs.Prelude.{List};
+    ghost use Rattle.answering.specs.declared.word.Answers.{Answers};
+
+    ghost Value = { List Answers };
+
+    ghost view = { λ a. a.notes };
+}
+
+impl Answering {
+    /// No peer was asked: the notes of a system that was just made.
+    pub fn nobody_asked() -> Answering
+        ensures { result ≡ nobody_asked }
+    {
+        Answering {
+            notes: [Answers::NeverAsked; 64],
+        }
+    }
+
+    /// The note of a port; None if the system has no such port.
+    pub fn of<F: Fn(u16, usize) -> usize + Drop>(
+        &self,
+        system: &System<F>,
+        port: u16,
+    ) -> Option<Answers>
+        ensures { result ≡ note_of port system.now.state.system_ports self.now }
+    {
+        match place_of(system, port) {
+            Some(place) => Some(self.notes[place]),
+            None => None,
+        }
+    }
+
+    /// Notes this for the port at this index.
+    fn note(&mut self, place: Option<usize>, what: Answers)
+        requires { IfSome place (λ p. p < 64) }
+        ensures { self.new ≡ noted place what self.old }
+    {
+        if let Some(place) = place {
+            self.notes[place] = what;
+        }
+    }
+
+    /// Notes that a marker went out on the port at this index.
+    fn note_asked(&mut self, place: Option<usize>)
+        requires { IfSome place (λ p. p < 64) }
+        ensures { self.new ≡ noted_asked place self.old }
+    {
+        if let Some(place) = place {
+            self.notes[place] = self.notes[place].after_marker();
+        }
+    }
+
+    /// After `System::receive` gave this answer for a frame that came on a port: a response answers.
+    pub fn after_receive<F: Fn(u16, usize) -> usize + Drop>(
+        &mut self,
+        system: &System<F>,
+        port: u16,
+        answer: &Result<Received, SystemFault>,
+    )
+        ensures { self.new ≡ notes_after_receive (port_index port system.now.state.system_ports) answer.now self.old }
+    {
+        if let Ok(Received::Released(_)) = answer {
+            self.note(place_of(system, port), Answers::Answered);
+        }
+    }
+
+    /// After `System::transmit` or `System::probe` gave this answer for a port: a marker asks.
+    pub fn after_transmit<F: Fn(u16, usize) -> usize + Drop>(
+        &mut self,
+        system: &System<F>,
+        port: u16,
+        answer: &Result<Option<[u8; 124]>, SystemFault>,
+    )
+        ensures { self.new ≡ notes_after_transmit (port_index port system.now.state.system_ports) answer.now self.old }
+    {
+        if let Ok(Some(frame)) = answer {
+            if frame[14] == 2 {
+                self.note_asked(place_of(system, port));
+            }
+        }
+    }
+
+    /// After `System::set_link` gave this answer: a link that is down now forgets.
+    pub fn after_set_link<F: Fn(u16, usize) -> usize + Drop>(
+        &mut self,
+        system: &System<F>,
+        port: u16,
+        up: bool,
+        answer: &Result<(), SystemFault>,
+    )
+        ensures { self.new ≡ notes_after_set_link (port_index port system.now.state.system_ports) up answer.now self.old }
+    {
+        if answer.is_ok() && !up {
+            self.note(place_of(system, port), Answers::NeverAsked);
+        }
+    }
+
+    /// After `System::call` gave this reply to a call. A restart forgets all notes.
+    pub fn after_call<F: Fn(u16, usize) -> usize + Drop>(
+        &mut self,
+        system: &System<F>,
+        call: &Call,
+        reply: &Reply,
+    )
+        ensures { self.new ≡ notes_after (call_of call.now) reply.now system.now.state.system_ports self.old }
+    {
+        match (call, reply) {
+            (Call::Receive(port, _), Reply::Receive(answer)) => {
+                self.after_receive(system, *port, answer);
+            }
+            (Call::SetLink(port, up), Reply::SetLink(answer)) => {
+                self.after_set_link(system, *port, *up, answer);
+            }
+            (Call::Transmit(port), Reply::Transmit(answer)) => {
+                self.after_transmit(system, *port, answer);
+            }
+            (Call::Restart, Reply::Restart) => *self = Answering::nobody_asked(),
+            _ => {}
+        }
+    }
+
+    /// After `System::drive` gave these replies to these calls.
+    pub fn after_calls<F: Fn(u16, usize) -> usize + Drop>(
+        &mut self,
+        system: &System<F>,
+        calls: &[Call],
+        replies: &[Reply],
+    )
+        ensures { self.new ≡ notes_after_all (map call_of calls.now) replies.now system.now.state.system_ports self.old }
+    {
+        for (call, reply) in calls.iter().zip(replies) {
+            self.after_call(system, call, reply);
+        }
+    }
+}
+
+/// The index of a number in a list.
+fn index_of(numbers: &[u16], wanted: u16) -> Option<usize>
+    ensures index { result ≡ position (λ number. number == wanted) numbers.now }
+    ensures within { IfSome result (λ index. index < length numbers.now) }
+{
+    numbers.iter().position(|number| *number == wanted)
+}
+
+/// The index of a port in the list of ports.
+fn place_of<F: Fn(u16, usize) -> usize + Drop>(system: &System<F>, port: u16) -> Option<usize>
+    ensures place { result ≡ port_index port system.now.state.system_ports }
+    ensures few { IfSome result (λ p. p < 64) }
+{
+    index_of(&system.ports(), port)
+}
