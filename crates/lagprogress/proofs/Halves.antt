@@ -1,34 +1,31 @@
 -- What an event does to the two systems of a world is what some calls of theirs do.
-use Rattle.std.proofs.Common.{◌≡◌, ℕ, zero, suc, ◌++◌, Option, Some, None, Ok, Err, Result, List, [], ◌∷◌, map, refl, sym, subst}
+use Rattle.std.proofs.Common.{◌≡◌, ℕ, zero, suc, ◌++◌, Bool, true, Option, Some, None, Ok, Err, Result, List, [], ◌∷◌, map, refl, sym, subst}
 use Rattle.std.specs.Prelude.{slice_set}
 use Rattle.lagtypes.specs.declared.identifiers.AggId.{AggId}
 use Rattle.cables.specs.declared.item.Stamp.{Stamp}
 use Rattle.cables.specs.declared.item.Stamp.TheVariants as stamp
 use Rattle.lagmodel.specs.World.{Side, One, Two}
-use Rattle.lagmodel.proofs.Base.{value_of}
 use Rattle.lagsystem.specs.declared.config.Config.{Config}
 use Rattle.lagsystem.specs.declared.drive.Reply.{Reply as Answer}
 use Rattle.lagsystem.specs.declared.drive.Reply.TheVariants as answer
 use Rattle.lagsystem.specs.declared.fault.SystemFault.{SystemFault}
 use Rattle.lagsystem.specs.declared.received.Received.{Received}
 use Rattle.lagsystem.specs.declared.received.Received.TheVariants as received
-use Rattle.lagsystem.specs.Calls.{Call, Receive, Tick, Set_link, Configure, Restart, Transmit, Offer, Move_conversation, Force}
+use Rattle.lagsystem.specs.Calls.{Call, Receive, Tick, Restart, Transmit, Offer}
 use Rattle.lagsystem.specs.Calls.{TableRun}
 use Rattle.lagsystem.specs.First.{IsFirst}
 use Rattle.lagsystem.specs.State.{SystemState}
 use Rattle.lagsystem.proofs.Sound.{Step-sound, first_sound}
 use Rattle.lagscript.specs.declared.event.Event.{Event}
-use Rattle.lagscript.specs.declared.event.Event.TheVariants as event
 use Rattle.lagworld.specs.declared.reply.Reply.{Reply}
-use Rattle.lagworld.specs.Events.{Algorithms, AfterOffer, AfterReceive, AfterTransmit, DeliversFrom, DoesEvent, LosesFrom}
-use Rattle.lagworld.specs.Events.{RepeatsFrom}
-use Rattle.lagworld.specs.Events.{RepeatsItem, side_of, with_frame_counted, WorldReceives, WorldSteps, with_link_at, with_stamp_collected}
+use Rattle.lagworld.specs.Events.{Algorithms, AfterOffer, AfterReceive, AfterTransmit, InHalf, with_frame_counted, WorldReceives, WorldSteps}
+use Rattle.lagworld.specs.Events.{with_link_at, with_stamp_collected}
 use Rattle.lagworld.specs.HalfCalls.{HalfAnswers, HalfTicks, forced_if_accepted}
 use Rattle.lagworld.specs.Making.{AreFirst}
 use Rattle.lagworld.specs.Sound.{IsStart}
-use Rattle.lagworld.specs.State.{HalfState, ItemValue, LinkState, WorldState, emptied, half, port_at, towards, with_half}
-use Rattle.lagworld.specs.State.{with_links, with_towards}
-use Rattle.lagworld.proofs.Whole.{on_line}
+use Rattle.lagworld.specs.State.{HalfState, ItemValue, LinkState, WorldState, emptied, half, port_at, with_half, with_links}
+use Rattle.lagworld.proofs.Effects.{DoesEffect, Effect, HalfAsked, Recording, answer_to_force, asks, changes_counted, delivers, does_effect}
+use Rattle.lagworld.proofs.Effects.{emits, if_forced, no_record, offers, receives, recorded, restarts, nothing, shrinks, ticks}
 use Rattle.lagprogress.specs.Steady.{GoesByCalls, IsSteady, IsSteadySystem}
 use Rattle.lagprogress.proofs.EachPort.{Step-each, first_each}
 use Rattle.lagprogress.proofs.Timers.{TimedAt, timed_kept, timed_settles, timed_starts}
@@ -52,11 +49,11 @@ one_call : (gives : ℕ → ℕ → ℕ → Type 0) (call : Call) (a : Answer) (
     → GoesByCalls gives old.state new.state
 one_call gives call a old new h = (call ∷ [], a ∷ [], (new.state, h.answers.step, refl))
 
-ticks : (gives : ℕ → ℕ → ℕ → Type 0) (n : ℕ) (old new : HalfState) → HalfTicks gives n old new
+ticked : (gives : ℕ → ℕ → ℕ → Type 0) (n : ℕ) (old new : HalfState) → HalfTicks gives n old new
     → GoesByCalls gives old.state new.state
-ticks gives zero old new h = stays gives old.state new.state (λ i. (h i).state)
-ticks gives (suc n) old new h =
-    goes_on gives old.state h.0.state new.state (ticks gives n old h.0 h.1) (one_call gives Tick answer.Tick h.0 new h.2)
+ticked gives zero old new h = stays gives old.state new.state (λ i. (h i).state)
+ticked gives (suc n) old new h =
+    goes_on gives old.state h.0.state new.state (ticked gives n old h.0 h.1) (one_call gives Tick answer.Tick h.0 new h.2)
 
 -- worlds
 
@@ -114,29 +111,6 @@ arrives gives s p item j new r x =
     _ _ x.2))
     (arrived gives s p item x.0 (with_half s x.1 j) new r x.3)
 
-delivers : (gives : Algorithms) (s : Side) (i : ℕ) (l : LinkState) (xs : List ItemValue) (j new : WorldState) (r : Reply)
-    → DeliversFrom gives s i l xs j r new → Both gives j new
-delivers gives s i l [] j new r x = same gives j new x.1
-delivers gives s i l (item ∷ rest) j new r x =
-    let mid = with_link_at i (with_towards s rest l) j in
-    then gives j mid new (cables gives j (slice_set j.links i (with_towards s rest l)) mid refl) (arrives gives s (port_at s l) item mid new r x)
-
-loses : (gives : Algorithms) (s : Side) (i : ℕ) (l : LinkState) (xs : List ItemValue) (j new : WorldState) (r : Reply)
-    → LosesFrom s i l xs j r new → Both gives j new
-loses gives s i l [] j new r x = same gives j new x.1
-loses gives s i l (item ∷ rest) j new r x = cables gives j _ new x.1
-
-repeats_item : (gives : Algorithms) (s : Side) (p : ℕ) (octets : List ℕ) (st : Stamp) (j new : WorldState) (r : Reply)
-    → RepeatsItem gives s p octets st j r new → Both gives j new
-repeats_item gives s p octets (stamp.Control count) j new r x =
-    arrives gives s p (record { octets = octets; stamp = stamp.Control count }) j new r x
-repeats_item gives s p octets (stamp.Data system agg conv serial) j new r x = same gives j new x.1
-
-repeats : (gives : Algorithms) (s : Side) (l : LinkState) (xs : List ItemValue) (j new : WorldState) (r : Reply)
-    → RepeatsFrom gives s l xs j r new → Both gives j new
-repeats gives s l [] j new r x = same gives j new x.1
-repeats gives s l (item ∷ rest) j new r x = repeats_item gives s (port_at s l) item.octets item.stamp j new r x
-
 offered : (gives : Algorithms) (s : Side) (agg : AggId) (octets : List ℕ) (a : Result ℕ SystemFault) (j new : WorldState) (r :
     Reply)
     → AfterOffer s agg octets a j r new → Both gives j new
@@ -145,86 +119,55 @@ offered gives s agg octets (Ok port) j new r x =
     let mid = with_half s (with_frame_counted agg octets (half s j)) j in
     then gives j mid new (as_half gives s (with_frame_counted agg octets (half s j)) j refl) (cables gives mid _ new x.2)
 
-forced : (a : Result Unit SystemFault) (agg : AggId) (conv : ℕ) (h : HalfState) → (forced_if_accepted a agg conv h).state ≡ h.state
-forced (Ok done) agg conv h = refl
-forced (Err fault) agg conv h = refl
+-- what is recorded changes no state
+noted : (kept : Recording) (a : Answer) (h : HalfState) → (recorded kept a h).state ≡ h.state
+noted no_record a h = refl
+noted changes_counted a h = refl
+noted (if_forced agg conv) a h = forced (answer_to_force a)
+  where
+    forced : (a : Result Unit SystemFault) → (forced_if_accepted a agg conv h).state ≡ h.state
+    forced (Ok done) = refl
+    forced (Err fault) = refl
 
 changes : (gives : Algorithms) (s : Side) (h : HalfState) (j new : WorldState)
     → GoesByCalls (gives s) (half s j).state (half s new).state
     → new ≡ with_half s (half s new) j → Both gives j new
 changes gives s h j new g e = subst (Both gives j) (sym e) (in_half gives s (half s new) j g)
 
-does : (gives : Algorithms) (e : Event) (r : Reply) (old new : WorldState) → DoesEvent gives old e r new → Both gives old new
-does gives (event.Tick n count) r old new x =
-    let v = value_of (side_of n) _ x in
-    changes gives v.0 (half v.0 new) old new (ticks (gives v.0) count (half v.0 old) (half v.0 new) v.2.0.0) v.2.0.1
-does gives (event.Emit n p) r old new x =
-    let v = value_of (side_of n) _ x in
-    let s = v.0 in
-    then gives old (with_half s v.2.1 old) new
-    (in_half gives s v.2.1 old (one_call (gives s) (Transmit p) (answer.Transmit v.2.0) (half s old) v.2.1 v.2.2))
-    (emitted gives s p v.2.0 (with_half s v.2.1 old) new r v.2.3)
-does gives (event.Deliver c n) r old new x =
-    let v = value_of (side_of n) _ x in
-    let l = on_line c _ old.links v.2 in
-    delivers gives v.0 l.0 l.1 (towards v.0 l.1) old new r l.4
-does gives (event.Lose c n) r old new x =
-    let v = value_of (side_of n) _ x in
-    let l = on_line c _ old.links v.2 in
-    loses gives v.0 l.0 l.1 (towards v.0 l.1) old new r l.4
-does gives (event.Repeat c n) r old new x =
-    let v = value_of (side_of n) _ x in
-    let l = on_line c _ old.links v.2 in
-    repeats gives v.0 l.1 (towards v.0 l.1) old new r l.4
-does gives (event.Cut c) r old new x =
-    let l = on_line c _ old.links x in
-    cables gives old _ new l.4.1
-does gives (event.Join c) r old new x =
-    let l = on_line c _ old.links x in
-    cables gives old _ new l.4.1
-does gives (event.Sense c n) r old new x =
-    let v = value_of (side_of n) _ x in
-    let l = on_line c _ old.links v.2 in
-    let s = v.0 in
-    changes gives s (half s new) old new
-    (one_call (gives s) (Set_link (port_at s l.1) l.1.whole) (answer.SetLink l.4.0.0) (half s old) (half s new) l.4.0.1) l.4.1
-does gives (event.Restart n) r old new x =
-    let v = value_of (side_of n) _ x in
-    let s = v.0 in
+asked : (gives : Algorithms) (s : Side) (call : Call) (kept : Recording) (up : Bool) (r : Reply) (j new : WorldState)
+    → InHalf s (λ h k. HalfAsked (gives s) call kept up h r k) j new → Both gives j new
+asked gives s call kept up r j new x = changes gives s (half s new) j new
+    (subst (λ (h : HalfState). GoesByCalls (gives s) (half s j).state h.state) (sym x.0.4)
+    (subst (GoesByCalls (gives s) (half s j).state) (sym (noted kept x.0.0 x.0.1)) (one_call (gives s) call x.0.0 (half s j) x.0.1 x.0.2)))
+    x.1
+
+does : (gives : Algorithms) (e : Event) (d : Effect) (r : Reply) (old new : WorldState) → DoesEffect gives e old d r new → Both gives old new
+does gives e (nothing a) r old new x = same gives old new x.1
+does gives e (shrinks i l m a) r old new x = cables gives old _ new x.2
+does gives e (ticks s count) r old new x =
+    changes gives s (half s new) old new (ticked (gives s) count (half s old) (half s new) x.0.0) x.0.1
+does gives e (asks s call kept up) r old new x = asked gives s call kept up r old new x.1
+does gives e (restarts s) r old new x =
     let j = with_links old (map emptied old.links) in
-    let mid = v.2.1.0.0 in
-    then gives old j new (cables gives old (map emptied old.links) j refl)
-    (changes gives s (half s new) j new
-    (subst (λ (h : HalfState). GoesByCalls (gives s) (half s j).state h.state) (sym v.2.1.0.2)
-    (one_call (gives s) Restart answer.Restart (half s j) mid v.2.1.0.1)) v.2.1.1)
-does gives (event.Configure n p change) r old new x =
-    let v = value_of (side_of n) _ x in
-    let s = v.0 in
-    changes gives s (half s new) old new
-    (subst (λ (h : HalfState). GoesByCalls (gives s) (half s old).state h.state) (sym v.2.0.4)
-    (one_call (gives s) (Configure p change) (answer.Configure v.2.0.0) (half s old) v.2.0.1 v.2.0.2)) v.2.1
-does gives (event.Offer n agg octets) r old new x =
-    let v = value_of (side_of n) _ x in
-    let s = v.0 in
-    then gives old (with_half s v.2.1 old) new
-    (in_half gives s v.2.1 old (one_call (gives s) (Offer agg octets.items) (answer.Offer v.2.0) (half s old) v.2.1 v.2.2))
-    (offered gives s agg octets.items v.2.0 (with_half s v.2.1 old) new r v.2.3)
-does gives (event.Move n agg conv p) r old new x =
-    let v = value_of (side_of n) _ x in
-    let s = v.0 in
-    changes gives s (half s new) old new
-    (one_call (gives s) (Move_conversation agg conv p) (answer.MoveConversation v.2.0.0) (half s old) (half s new) v.2.0.1) v.2.1
-does gives (event.Force n agg conv) r old new x =
-    let v = value_of (side_of n) _ x in
-    let s = v.0 in
-    changes gives s (half s new) old new
-    (subst (λ (h : HalfState). GoesByCalls (gives s) (half s old).state h.state) (sym v.2.0.4)
-    (subst (GoesByCalls (gives s) (half s old).state) (sym (forced v.2.0.0 agg conv v.2.0.1))
-    (one_call (gives s) (Force agg conv) (answer.Force v.2.0.0) (half s old) v.2.0.1 v.2.0.2))) v.2.1
+    then gives old j new (cables gives old (map emptied old.links) j refl) (asked gives s Restart changes_counted true r j new x)
+does gives e (receives s p item) r old new x = arrives gives s p item old new r x
+does gives e (delivers s i l m item) r old new x =
+    let j = with_link_at i m old in
+    then gives old j new (cables gives old (slice_set old.links i m) j refl) (arrives gives s (port_at s l) item j new r x.1)
+does gives e (emits s p) r old new x =
+    then gives old (with_half s x.1 old) new
+    (in_half gives s x.1 old (one_call (gives s) (Transmit p) (answer.Transmit x.0) (half s old) x.1 x.2))
+    (emitted gives s p x.0 (with_half s x.1 old) new r x.3)
+does gives e (offers s agg octets) r old new (n, frame, named, e_is, x) =
+    then gives old (with_half s x.1 old) new
+    (in_half gives s x.1 old (one_call (gives s) (Offer agg octets) (answer.Offer x.0) (half s old) x.1 x.2))
+    (offered gives s agg octets x.0 (with_half s x.1 old) new r x.3)
 
 pub each_is_calls : (gives : Algorithms) (e : Event) (r : Reply) (old new : WorldState) → WorldSteps gives old e r new
     → (s : Side) → GoesByCalls (gives s) (half s old).state (half s new).state
-each_is_calls gives e r old new x s = does gives e r old (record new { acted = old.acted }) x.0 s
+each_is_calls gives e r old new x s =
+    let v = does_effect gives e r old (record new { acted = old.acted }) x.0 in
+    does gives e v.0 r old (record new { acted = old.acted }) v.2 s
 
 -- what holds of both systems
 

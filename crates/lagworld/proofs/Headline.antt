@@ -1,30 +1,20 @@
 -- Every world on the way of a run is sound, so the headline holds of each.
-use Rattle.std.proofs.Common.{◌≡◌, ◌≤◌, ◌<◌, ℕ, zero, suc, ◌+◌, Bool, true, false, Option, Some, None, IsSomeAnd, List, [], ◌∷◌, ◌++◌, refl}
+use Rattle.std.proofs.Common.{◌≡◌, ◌≤◌, ◌<◌, ℕ, ◌+◌, Bool, true, false, None, List, [], ◌∷◌, ◌++◌, refl}
 use Rattle.std.proofs.Common.{sym, subst, arith}
-use Rattle.std.specs.Prelude.{is_some, nat_le, slice_get}
+use Rattle.std.specs.Prelude.{nat_le}
 use Rattle.std.proofs.lemmas.Bool.{false≢true, true≢false}
 use Rattle.std.proofs.lemmas.Bool.Decides.{nat_tests}
-use Rattle.lagmodel.proofs.Base.{value_of}
 use Rattle.lagscript.specs.declared.event.Event.{Event}
 use Rattle.lagscript.specs.declared.event.Event.TheVariants as event
 use Rattle.lagworld.specs.declared.reply.Reply.{Reply}
-use Rattle.lagworld.specs.State.{WorldState, LinkState, element_numbered}
-use Rattle.lagworld.specs.Events.{Algorithms, DoesEvent, OnLink, WorldSteps, WorldRuns, cause, first_event_cause, has_cable, has_system}
-use Rattle.lagworld.specs.Events.{cable_named, system_named, side_of, most_events}
+use Rattle.lagworld.specs.State.{WorldState}
+use Rattle.lagworld.specs.Events.{Algorithms, WorldSteps, WorldRuns, cause, first_event_cause, has_cable, has_system}
+use Rattle.lagworld.specs.Events.{cable_named, system_named, most_events}
 use Rattle.lagworld.specs.Headline.{Headline, HoldsAllTheWay, LimitsHoldOnTheWay}
 use Rattle.lagworld.specs.Sound.{IsSound}
+use Rattle.lagworld.proofs.Effects.{named}
 use Rattle.lagworld.proofs.Keeping.{steps_sound}
 use Rattle.lagworld.proofs.Running.{one_partner_of, agree_of, in_order_of}
-
--- what is not absent
-some_there : {X : Type 0} (o : Option X) (P : X → Type 0) → IsSomeAnd o P → is_some o ≡ true
-some_there None P h = absurd h
-some_there (Some x) P h = refl
-
-link_there : (c : ℕ) (P : ℕ → LinkState → Type 0) (links : List LinkState) → OnLink c P links
-    → is_some (element_numbered links c) ≡ true
-link_there zero P links h = absurd h
-link_there (suc i) P links h = some_there (slice_get links i) (P i) h
 
 -- no reason to refuse it holds
 no_cause : (a b c : Bool) → a ≡ true → b ≡ true → c ≡ false → first_event_cause a b c ≡ None
@@ -32,27 +22,6 @@ no_cause true true false h k l = refl
 no_cause true true true h k l = absurd (true≢false l)
 no_cause true false c h k l = absurd (false≢true k)
 no_cause false b c h k l = absurd (false≢true h)
-
--- what an event names that acts
-named : (gives : Algorithms) (e : Event) (r : Reply) (old new : WorldState) → DoesEvent gives old e r new
-    → (has_cable old (cable_named e) ≡ true) × (has_system (system_named e) ≡ true)
-named gives (event.Tick n count) r old new h = (refl, some_there (side_of n) _ h)
-named gives (event.Emit n p) r old new h = (refl, some_there (side_of n) _ h)
-named gives (event.Deliver c n) r old new h =
-    let v = value_of (side_of n) _ h in (link_there c _ old.links v.2, some_there (side_of n) _ h)
-named gives (event.Lose c n) r old new h =
-    let v = value_of (side_of n) _ h in (link_there c _ old.links v.2, some_there (side_of n) _ h)
-named gives (event.Repeat c n) r old new h =
-    let v = value_of (side_of n) _ h in (link_there c _ old.links v.2, some_there (side_of n) _ h)
-named gives (event.Cut c) r old new h = (link_there c _ old.links h, refl)
-named gives (event.Join c) r old new h = (link_there c _ old.links h, refl)
-named gives (event.Sense c n) r old new h =
-    let v = value_of (side_of n) _ h in (link_there c _ old.links v.2, some_there (side_of n) _ h)
-named gives (event.Restart n) r old new h = (refl, some_there (side_of n) _ h)
-named gives (event.Configure n p change) r old new h = (refl, some_there (side_of n) _ h)
-named gives (event.Offer n agg octets) r old new h = (refl, some_there (side_of n) _ h)
-named gives (event.Move n agg conv p) r old new h = (refl, some_there (side_of n) _ h)
-named gives (event.Force n agg conv) r old new h = (refl, some_there (side_of n) _ h)
 
 -- there is room for one more event
 room_of : (b : Bool) (a : ℕ) → nat_le most_events a ≡ b → a < most_events → b ≡ false

@@ -1,7 +1,7 @@
 -- Each event preserves the invariant of a world.
 use Rattle.std.proofs.Common.{◌≡◌, ◌≤◌, ℕ, ◌+◌, ◌++◌, Bool, true, false, Option, Some, None, IsSome, List, [], ◌∷◌, map, sym, refl, ◌∙◌}
 use Rattle.std.proofs.Common.{subst, Ok, Err, Result, arith}
-use Rattle.std.specs.Prelude.{slice_get, nat_le}
+use Rattle.std.specs.Prelude.{nat_le}
 use Rattle.std.proofs.lemmas.Bool.Decides.{nat_tests}
 use Rattle.lagtypes.specs.declared.identifiers.AggId.{AggId}
 use Rattle.cables.specs.declared.item.Stamp.{Stamp}
@@ -11,40 +11,42 @@ use Rattle.slowpdu.specs.declared.pdu.Pdu.TheVariants as pdu
 use Rattle.slowpdu.specs.Frames.{IsSlowProtocolsFrame}
 use Rattle.slowpdu.specs.Readings.{pdu_in}
 use Rattle.lagmodel.specs.World.{Side, One, Two, peer, WorldSetup, IsCabling, Event as ModelEvent, Run, first_world, World, Happens}
-use Rattle.lagmodel.proofs.Base.{value_of}
 use Rattle.lagmodel.proofs.Runs.{runs_joined}
 use Rattle.lagsystem.specs.declared.received.Received.{Received}
 use Rattle.lagsystem.specs.declared.received.Received.TheVariants as received
+use Rattle.lagsystem.specs.declared.drive.Reply.{Reply as Answer}
 use Rattle.lagsystem.specs.declared.drive.Reply.TheVariants as answer
 use Rattle.lagsystem.specs.declared.fault.SystemFault.{SystemFault}
-use Rattle.lagsystem.specs.Calls.{Call, Receive, Set_link, Configure, Restart, Transmit, Offer, Move_conversation, Force}
+use Rattle.lagsystem.specs.Calls.{Call, Receive, Configure, Restart, Transmit, Offer}
 use Rattle.lagsystem.specs.Readers.{number_of_conversation}
 use Rattle.lagscript.specs.declared.event.Event.{Event}
 use Rattle.lagscript.specs.declared.event.Event.TheVariants as event
 use Rattle.lagworld.specs.declared.reply.Reply.{Reply}
 use Rattle.lagworld.specs.State.{ItemValue, HalfState, LinkState, WorldState, half, with_half, with_links, port_at, towards}
-use Rattle.lagworld.specs.State.{with_towards, emptied, cut, joined, flow_at, with_forced, with_sent, with_collected}
+use Rattle.lagworld.specs.State.{emptied, flow_at, with_forced, with_sent, with_collected}
 use Rattle.lagworld.specs.Messages.{payload_in, side_numbered, side_number}
 use Rattle.lagworld.specs.HalfCalls.{HalfAnswers, forced_if_accepted}
-use Rattle.lagworld.specs.Events.{Algorithms, first_event_cause, side_of, with_stamp_collected, DoesEvent, WorldSteps, cause}
+use Rattle.lagworld.specs.Events.{Algorithms, first_event_cause, with_stamp_collected, DoesEvent, WorldSteps, cause}
 use Rattle.lagworld.specs.Events.{with_link_at, with_item_sent, stamp_for, transmitted_item, stamped_in, AfterTransmit, WorldReceives}
-use Rattle.lagworld.specs.Events.{AfterReceive, DeliversFrom, LosesFrom, RepeatsItem, RepeatsFrom, AfterOffer, offered_item}
+use Rattle.lagworld.specs.Events.{AfterReceive, AfterOffer, InHalf, offered_item}
 use Rattle.lagworld.specs.Events.{with_frame_counted, model_event, most_events}
-use Rattle.lagworld.specs.Sound.{IsItem, AreItems, IsSound, IsReached}
+use Rattle.lagworld.specs.Sound.{IsItem, IsSound, IsReached}
 use Rattle.lagworld.specs.ModelWorld.{world_setup, model_world}
 use Rattle.lagworld.proofs.Sides.{half_there}
 use Rattle.lagworld.proofs.Soundness.{IsShaped, GoesOn, goes_on, Follows, follows_then, follows_same, follows_half, items_weaker}
 use Rattle.lagworld.proofs.Soundness.{follows_set, follows_emptied, follows_put, asked_on, ticks_on, counted_on, heard_on, flow_on}
-use Rattle.lagworld.proofs.Whole.{on_line, steps_happen}
+use Rattle.lagworld.proofs.Effects.{ChangesNoParty, DoesEffect, Effect, HalfAsked, Recording, Shrinks, answer_to_force, asks, changes_counted}
+use Rattle.lagworld.proofs.Effects.{delivers, does_effect, emits, if_forced, no_record, offers, receives, recorded, restarts, nothing, shrinks, ticks}
+use Rattle.lagworld.proofs.Whole.{steps_happen}
 
 -- counts may rise by one
 up_to_one : (a b : WorldState) → Follows 0 a b → Follows 1 a b
 up_to_one a b x = record { shaped = x.shaped; fixed = x.fixed; counts = λ s n m le h. x.counts s n m (omega arith) h }
 
 -- a call of a system, and no party can change
-asks : (gives : ℕ → ℕ → ℕ → Type 0) (s : Side) (call : Call) (a : _) (mid : HalfState) (j : WorldState) → IsShaped j → (call ≡ Restart → ⊥)
+asked : (gives : ℕ → ℕ → ℕ → Type 0) (s : Side) (call : Call) (a : _) (mid : HalfState) (j : WorldState) → IsShaped j → (call ≡ Restart → ⊥)
     → ((n : ℕ) (c : _) → call ≡ Configure n c → ⊥) → HalfAnswers gives call a (half s j) mid → Follows 0 j (with_half s mid j)
-asks gives s call a mid j i r c x = follows_half 0 s mid j i (asked_on gives call a (half s j) mid (i.kept s) r c x)
+asked gives s call a mid j i r c x = follows_half 0 s mid j i (asked_on gives call a (half s j) mid (i.kept s) r c x)
 
 control_item : (s : Side) (octets : List ℕ) (v : Pdu) (n : ℕ) (j : WorldState) → IsItem s octets (stamp_for v n) j
 control_item s octets (pdu.Lacpdu v) n j = tt
@@ -78,45 +80,12 @@ arrived s p item (Ok (received.Up agg)) j new r i x = subst (Follows 0 j) (sym x
 arrives : (gives : Algorithms) (s : Side) (p : ℕ) (item : ItemValue) (j new : WorldState) (r : Reply) → IsShaped j
     → WorldReceives gives s p item j r new → Follows 0 j new
 arrives gives s p item j new r i x =
-    let mid = asks (gives s) s (Receive p item.octets) (answer.Receive x.0) x.1 j i (λ e. cc) (λ n c e. cc) x.2 in
+    let mid = asked (gives s) s (Receive p item.octets) (answer.Receive x.0) x.1 j i (λ e. cc) (λ n c e. cc) x.2 in
     follows_then 0 j (with_half s x.1 j) new mid (arrived s p item x.0 (with_half s x.1 j) new r mid.shaped x.3)
 
--- an item is taken off
-popped_items : (s : Side) (l : LinkState) (item : ItemValue) (rest : List ItemValue) (j : WorldState) → towards s l ≡ item ∷ rest
-    → ((t : Side) → AreItems t (towards t l) j) → (t : Side) → AreItems t (towards t (with_towards s rest l)) j
-popped_items One l item rest j e h One = (subst (λ xs. AreItems One xs j) e (h One)).1
-popped_items One l item rest j e h Two = h Two
-popped_items Two l item rest j e h One = h One
-popped_items Two l item rest j e h Two = (subst (λ xs. AreItems Two xs j) e (h Two)).1
-
-popped : (s : Side) (i : ℕ) (l : LinkState) (item : ItemValue) (rest : List ItemValue) (j : WorldState) → IsShaped j
-    → slice_get j.links i ≡ Some l → towards s l ≡ item ∷ rest → Follows 0 j (with_link_at i (with_towards s rest l) j)
-popped s i l item rest j h there e = follows_set i l (with_towards s rest l) j h there refl (λ t. refl)
-    (popped_items s l item rest j e (λ t. h.items t i l there))
-
-delivers : (gives : Algorithms) (s : Side) (i : ℕ) (l : LinkState) (xs : List ItemValue) (j new : WorldState) (r : Reply) → IsShaped j
-    → slice_get j.links i ≡ Some l → towards s l ≡ xs → DeliversFrom gives s i l xs j r new → Follows 0 j new
-delivers gives s i l [] j new r h there e x = follows_same j new h x.1
-delivers gives s i l (item ∷ rest) j new r h there e x =
-    let off = popped s i l item rest j h there e in
-    follows_then 0 j (with_link_at i (with_towards s rest l) j) new off
-    (arrives gives s (port_at s l) item (with_link_at i (with_towards s rest l) j) new r off.shaped x)
-
-loses : (s : Side) (i : ℕ) (l : LinkState) (xs : List ItemValue) (j new : WorldState) (r : Reply) → IsShaped j
-    → slice_get j.links i ≡ Some l → towards s l ≡ xs → LosesFrom s i l xs j r new → Follows 0 j new
-loses s i l [] j new r h there e x = follows_same j new h x.1
-loses s i l (item ∷ rest) j new r h there e x = subst (Follows 0 j) (sym x.1) (popped s i l item rest j h there e)
-
-repeats_item : (gives : Algorithms) (s : Side) (p : ℕ) (octets : List ℕ) (st : Stamp) (j new : WorldState) (r : Reply) → IsShaped j
-    → RepeatsItem gives s p octets st j r new → Follows 0 j new
-repeats_item gives s p octets (stamp.Control count) j new r h x =
-    arrives gives s p (record { octets = octets; stamp = stamp.Control count }) j new r h x
-repeats_item gives s p octets (stamp.Data system agg conv serial) j new r h x = follows_same j new h x.1
-
-repeats : (gives : Algorithms) (s : Side) (l : LinkState) (xs : List ItemValue) (j new : WorldState) (r : Reply) → IsShaped j
-    → RepeatsFrom gives s l xs j r new → Follows 0 j new
-repeats gives s l [] j new r h x = follows_same j new h x.1
-repeats gives s l (item ∷ rest) j new r h x = repeats_item gives s (port_at s l) item.octets item.stamp j new r h x
+-- a cable becomes one with no more items
+shrunk : (i : ℕ) (l m : LinkState) (j : WorldState) → IsShaped j → Shrinks i l m j.links → Follows 0 j (with_link_at i m j)
+shrunk i l m j h k = follows_set i l m j h k.there k.ends k.ports (λ s. k.items s j (h.items s i l k.there))
 
 -- a frame is offered
 peer_twice : (s : Side) → peer (peer s) ≡ s
@@ -156,88 +125,49 @@ forces : (s : Side) (agg : AggId) (conv : ℕ) (a : Result Unit SystemFault) (mi
 forces s agg conv (Ok done) mid j i g = follows_half 0 s _ j i (goes_on (half s j) mid _ g (flow_on with_forced agg.0 conv mid g.kept))
 forces s agg conv (Err fault) mid j i g = follows_half 0 s mid j i g
 
-nothing_on : (s : Side) (l : LinkState) (j : WorldState) → AreItems s (towards s (cut l)) j
-nothing_on One l j = tt
-nothing_on Two l j = tt
+-- a system is asked
+noted : (gives : ℕ → ℕ → ℕ → Type 0) (s : Side) (call : Call) (kept : Recording) (a : Answer) (mid : HalfState) (j : WorldState) → IsShaped j
+    → ChangesNoParty kept call → HalfAnswers gives call a (half s j) mid → Follows 1 j (with_half s (recorded kept a mid) j)
+noted gives s call no_record a mid j i q x = up_to_one j _ (asked gives s call a mid j i q.0 q.1 x)
+noted gives s call changes_counted a mid j i q x = follows_half 1 s _ j i (counted_on gives call a (half s j) mid (i.kept s) x)
+noted gives s call (if_forced agg conv) a mid j i q x =
+    up_to_one j _ (forces s agg conv (answer_to_force a) mid j i (asked_on gives call a (half s j) mid (i.kept s) q.0 q.1 x))
+
+half_asked : (gives : ℕ → ℕ → ℕ → Type 0) (s : Side) (call : Call) (kept : Recording) (up : Bool) (r : Reply) (j new : WorldState)
+    → IsShaped j → ChangesNoParty kept call → InHalf s (λ h k. HalfAsked gives call kept up h r k) j new → Follows 1 j new
+half_asked gives s call kept up r j new i q x = subst (Follows 1 j) (sym x.1)
+    (subst (λ h. Follows 1 j (with_half s h j)) (sym x.0.4) (noted gives s call kept x.0.0 x.0.1 j i q x.0.2))
+
+effect_follows : (gives : Algorithms) (e : Event) (d : Effect) (r : Reply) (old new : WorldState) → IsShaped old
+    → DoesEffect gives e old d r new → Follows 1 old new
+effect_follows gives e (nothing a) r old new i x = up_to_one old new (follows_same old new i x.1)
+effect_follows gives e (shrinks n l m a) r old new i x = subst (Follows 1 old) (sym x.2) (up_to_one old _ (shrunk n l m old i x.0))
+effect_follows gives e (ticks s count) r old new i x = subst (Follows 1 old) (sym x.0.1)
+    (up_to_one old _ (follows_half 0 s (half s new) old i (ticks_on (gives s) count (half s old) (half s new) (i.kept s) x.0.0)))
+effect_follows gives e (asks s call kept up) r old new i x = half_asked (gives s) s call kept up r old new i x.0 x.1
+effect_follows gives e (restarts s) r old new i x =
+    let j = with_links old (map emptied old.links) in
+    let off = follows_emptied old i in
+    follows_then 1 old j new off (half_asked (gives s) s Restart changes_counted true r j new off.shaped tt x)
+effect_follows gives e (receives s p item) r old new i x = up_to_one old new (arrives gives s p item old new r i x)
+effect_follows gives e (delivers s n l m item) r old new i x =
+    let off = shrunk n l m old i x.0 in
+    let j = with_link_at n m old in
+    up_to_one old new (follows_then 0 old j new off (arrives gives s (port_at s l) item j new r off.shaped x.1))
+effect_follows gives e (emits s p) r old new i x =
+    let mid = asked (gives s) s (Transmit p) (answer.Transmit x.0) x.1 old i (λ e. cc) (λ n c e. cc) x.2 in
+    up_to_one old new (follows_then 0 old (with_half s x.1 old) new mid (emitted s p x.0 (with_half s x.1 old) new r mid.shaped x.3))
+effect_follows gives e (offers s agg octets) r old new i (n, frame, named, same, x) =
+    let mid = asked (gives s) s (Offer agg octets) (answer.Offer x.0) x.1 old i (λ e. cc) (λ n c e. cc) x.2 in
+    up_to_one old new (follows_then 0 old (with_half s x.1 old) new mid
+    (offered_on (gives s) s agg octets x.0 old (with_half s x.1 old) new r mid.shaped
+    (λ port e. plain (gives s) s agg octets port x.1 old
+    (subst (λ a. HalfAnswers (gives s) (Offer agg octets) (answer.Offer a) (half s old) x.1) e x.2)) x.3))
 
 pub does_follow : (gives : Algorithms) (e : Event) (r : Reply) (old new : WorldState) → IsShaped old
     → DoesEvent gives old e r new → Follows 1 old new
-does_follow gives (event.Tick n count) r old new i x =
-    let v = value_of (side_of n) _ x in
-    subst (Follows 1 old) (sym v.2.0.1)
-    (up_to_one old _
-    (follows_half 0 v.0 (half v.0 new) old i (ticks_on (gives v.0) count (half v.0 old) (half v.0 new) (i.kept v.0) v.2.0.0)))
-does_follow gives (event.Emit n p) r old new i x =
-    let v = value_of (side_of n) _ x in
-    let s = v.0 in
-    let mid = asks (gives s) s (Transmit p) (answer.Transmit v.2.0) v.2.1 old i (λ e. cc) (λ n c e. cc) v.2.2 in
-    up_to_one old new
-    (follows_then 0 old (with_half s v.2.1 old) new mid (emitted s p v.2.0 (with_half s v.2.1 old) new r mid.shaped v.2.3))
-does_follow gives (event.Deliver c n) r old new i x =
-    let v = value_of (side_of n) _ x in
-    let l = on_line c _ old.links v.2 in
-    up_to_one old new (delivers gives v.0 l.0 l.1 (towards v.0 l.1) old new r i l.3 refl l.4)
-does_follow gives (event.Lose c n) r old new i x =
-    let v = value_of (side_of n) _ x in
-    let l = on_line c _ old.links v.2 in
-    up_to_one old new (loses v.0 l.0 l.1 (towards v.0 l.1) old new r i l.3 refl l.4)
-does_follow gives (event.Repeat c n) r old new i x =
-    let v = value_of (side_of n) _ x in
-    let l = on_line c _ old.links v.2 in
-    up_to_one old new (repeats gives v.0 l.1 (towards v.0 l.1) old new r i l.4)
-does_follow gives (event.Cut c) r old new i x =
-    let l = on_line c _ old.links x in
-    subst (Follows 1 old) (sym l.4.1)
-    (up_to_one old _ (follows_set l.0 l.1 (cut l.1) old i l.3 refl (λ t. refl) (λ t. nothing_on t l.1 old)))
-does_follow gives (event.Join c) r old new i x =
-    let l = on_line c _ old.links x in
-    subst (Follows 1 old) (sym l.4.1)
-    (up_to_one old _ (follows_set l.0 l.1 (joined l.1) old i l.3 refl (λ t. refl) (λ t. i.items t l.0 l.1 l.3)))
-does_follow gives (event.Sense c n) r old new i x =
-    let v = value_of (side_of n) _ x in
-    let l = on_line c _ old.links v.2 in
-    let s = v.0 in
-    subst (Follows 1 old) (sym l.4.1)
-    (up_to_one old _ (asks (gives s) s (Set_link (port_at s l.1) l.1.whole) (answer.SetLink l.4.0.0) (half s new) old i
-    (λ e. cc) (λ n c e. cc) l.4.0.1))
-does_follow gives (event.Restart n) r old new i x =
-    let v = value_of (side_of n) _ x in
-    let s = v.0 in
-    let j = with_links old (map emptied old.links) in
-    let off = follows_emptied old i in
-    let mid = v.2.1.0.0 in
-    follows_then 1 old j new off
-    (subst (Follows 1 j) (sym v.2.1.1)
-    (subst (λ h. Follows 1 j (with_half s h j)) (sym v.2.1.0.2)
-    (follows_half 1 s _ j off.shaped (counted_on (gives s) Restart answer.Restart (half s j) mid (off.shaped.kept s) v.2.1.0.1))))
-does_follow gives (event.Configure n p change) r old new i x =
-    let v = value_of (side_of n) _ x in
-    let s = v.0 in
-    subst (Follows 1 old) (sym v.2.1)
-    (subst (λ h. Follows 1 old (with_half s h old)) (sym v.2.0.4)
-    (follows_half 1 s _ old i (counted_on (gives s) (Configure p change) (answer.Configure v.2.0.0)
-    (half s old) v.2.0.1 (i.kept s) v.2.0.2)))
-does_follow gives (event.Offer n agg octets) r old new i x =
-    let v = value_of (side_of n) _ x in
-    let s = v.0 in
-    let mid = asks (gives s) s (Offer agg octets.items) (answer.Offer v.2.0) v.2.1 old i (λ e. cc) (λ n c e. cc) v.2.2 in
-    up_to_one old new (follows_then 0 old (with_half s v.2.1 old) new mid
-    (offered_on (gives s) s agg octets.items v.2.0 old (with_half s v.2.1 old) new r mid.shaped
-    (λ port e. plain (gives s) s agg octets.items port v.2.1 old
-    (subst (λ a. HalfAnswers (gives s) (Offer agg octets.items) (answer.Offer a) (half s old) v.2.1) e v.2.2)) v.2.3))
-does_follow gives (event.Move n agg conv p) r old new i x =
-    let v = value_of (side_of n) _ x in
-    let s = v.0 in
-    subst (Follows 1 old) (sym v.2.1)
-    (up_to_one old _ (asks (gives s) s (Move_conversation agg conv p) (answer.MoveConversation v.2.0.0) (half s new) old i
-    (λ e. cc) (λ n c e. cc) v.2.0.1))
-does_follow gives (event.Force n agg conv) r old new i x =
-    let v = value_of (side_of n) _ x in
-    let s = v.0 in
-    subst (Follows 1 old) (sym v.2.1) (subst (λ h. Follows 1 old (with_half s h old)) (sym v.2.0.4)
-    (up_to_one old _
-    (forces s agg conv v.2.0.0 v.2.0.1 old i (asked_on (gives s) (Force agg conv) (answer.Force v.2.0.0) (half s old) v.2.0.1 (i.kept s)
-    (λ e. cc) (λ n c e. cc) v.2.0.2))))
+does_follow gives e r old new i x =
+    let v = does_effect gives e r old new x in effect_follows gives e v.0 r old new i v.2
 
 shaped_of : (j : WorldState) → IsSound j → IsShaped j
 shaped_of j i = record { kept = i.kept; items = i.items; ends = i.ends }

@@ -1,19 +1,18 @@
 -- An event has one reply and leads to one world.
-use Rattle.std.proofs.Common.{◌≡◌, ◌∙◌, ℕ, zero, suc, ◌+◌, Bool, List, [], ◌∷◌, length, map, Option, Some, None, IsSomeAnd, Result}
+use Rattle.std.proofs.Common.{◌≡◌, ◌∙◌, ℕ, zero, suc, ◌+◌, Bool, true, List, [], ◌∷◌, length, map, Option, Some, None, IsSomeAnd, Result}
 use Rattle.std.proofs.Common.{Ok, Err, refl, sym, ap, subst, arith}
-use Rattle.std.specs.Prelude.{slice_get, slice_set}
+use Rattle.std.specs.Prelude.{slice_set}
 use Rattle.lagtypes.specs.declared.identifiers.AggId.{AggId}
 use Rattle.cables.specs.declared.item.Stamp.{Stamp}
 use Rattle.cables.specs.declared.item.Stamp.TheVariants as stamp
 use Rattle.slowpdu.specs.Readings.{pdu_in}
 use Rattle.lagmodel.specs.World.{Side, One, Two}
-use Rattle.lagsystem.specs.declared.config.PortChange.{PortChange}
 use Rattle.lagsystem.specs.declared.drive.Reply.{Reply as Answer}
 use Rattle.lagsystem.specs.declared.drive.Reply.TheVariants as answer
 use Rattle.lagsystem.specs.declared.fault.SystemFault.{SystemFault}
 use Rattle.lagsystem.specs.declared.received.Received.{Received}
 use Rattle.lagsystem.specs.declared.received.Received.TheVariants as received
-use Rattle.lagsystem.specs.Calls.{Call, Configure, Force, Move_conversation, Offer, Receive, Restart, Set_link, Tick, Transmit}
+use Rattle.lagsystem.specs.Calls.{Call, Offer, Receive, Restart, Tick, Transmit}
 use Rattle.lagsystem.specs.OneAnswer.{IsFunction, SameState}
 use Rattle.lagsystem.specs.Readers.{number_of_conversation}
 use Rattle.lagsystem.specs.Sound.{PortsAgree}
@@ -24,18 +23,20 @@ use Rattle.lagscript.specs.declared.event.Event.TheVariants as event
 use Rattle.lagworld.specs.declared.histories.StampedLacpdu.{StampedLacpdu}
 use Rattle.lagworld.specs.declared.reply.Reply.{Reply}
 use Rattle.lagworld.specs.declared.reply.Reply.TheVariants as reply
-use Rattle.lagworld.specs.Events.{AfterOffer, AfterReceive, AfterTransmit, Algorithms, DeliversFrom, DoesEvent, InHalf, LosesFrom, OnLink}
-use Rattle.lagworld.specs.Events.{RepeatsFrom, RepeatsItem, WorldEmits, WorldOffers, WorldReceives}
-use Rattle.lagworld.specs.Events.{offered_item, sent_reply, set_last_lacpdu, side_of, stamped_in, transmitted_item, with_collected_in}
+use Rattle.lagworld.specs.Events.{AfterOffer, AfterReceive, AfterTransmit, Algorithms, DoesEvent}
+use Rattle.lagworld.specs.Events.{WorldEmits, WorldOffers, WorldReceives}
+use Rattle.lagworld.specs.Events.{offered_item, sent_reply, set_last_lacpdu, stamped_in, transmitted_item, with_collected_in}
 use Rattle.lagworld.specs.Events.{with_frame_counted, with_item_sent, with_last_lacpdu, with_link_at, with_stamp_collected}
-use Rattle.lagworld.specs.HalfCalls.{HalfAnswers, HalfConfigures, HalfForces, HalfMoves, HalfRestarts, HalfSenses, HalfTicks, change_counted}
-use Rattle.lagworld.specs.HalfCalls.{forced_if_accepted, or_refused, with_changes_counted}
+use Rattle.lagworld.specs.HalfCalls.{HalfAnswers, HalfTicks, change_counted}
+use Rattle.lagworld.specs.HalfCalls.{forced_if_accepted, with_changes_counted}
 use Rattle.lagworld.specs.Messages.{payload_in, side_number, side_numbered}
 use Rattle.lagworld.specs.OneReply.{AreFunctions, OneHistory, OneReply, SameHalf, SameWorld}
 use Rattle.lagworld.specs.Sound.{both_algorithms}
-use Rattle.lagworld.specs.State.{FlowValue, HalfState, ItemValue, LinkState, WorldState, change_flow, cut, emptied}
-use Rattle.lagworld.specs.State.{flow_at, half, is_accepted, joined, port_at, put_on_port, sent_in, towards, with_forced}
-use Rattle.lagworld.specs.State.{with_collected, with_half, with_links, with_sent, with_towards}
+use Rattle.lagworld.specs.State.{FlowValue, HalfState, ItemValue, LinkState, WorldState, change_flow, emptied}
+use Rattle.lagworld.specs.State.{flow_at, half, is_accepted, port_at, put_on_port, sent_in, with_forced}
+use Rattle.lagworld.specs.State.{with_collected, with_half, with_links, with_sent}
+use Rattle.lagworld.proofs.Effects.{DoesEffect, Effect, HalfAsked, Recording, answer_to_force, asks, changes_counted, delivers, does_some}
+use Rattle.lagworld.proofs.Effects.{effect, emits, if_forced, no_record, offers, receives, recorded, restarts, nothing, shrinks, ticks, told}
 use Rattle.lagworld.proofs.Headline.{accepted, rises}
 use Rattle.lagworld.proofs.Keeping.{steps_sound}
 
@@ -43,11 +44,6 @@ use Rattle.lagworld.proofs.Keeping.{steps_sound}
 some_both : {A : Type 0} {C : Type 0} (o : Option A) (P Q : A → Type 0) → IsSomeAnd o P → IsSomeAnd o Q → ((x : A) → P x → Q x → C) → C
 some_both None P Q h k f = absurd h
 some_both (Some x) P Q h k f = f x h k
-
-link_both : {C : Type 0} (c : ℕ) (links : List LinkState) (P Q : ℕ → LinkState → Type 0)
-    → ((i : ℕ) (l : LinkState) → P i l → Q i l → C) → OnLink c P links → OnLink c Q links → C
-link_both zero links P Q f h k = absurd h
-link_both (suc i) links P Q f h k = some_both (slice_get links i) (P i) (Q i) h k (f i)
 
 -- parts of worlds that are the same
 put_half : (s : Side) (j k : WorldState) (h g : HalfState) → SameWorld j k → SameHalf h g → SameWorld (with_half s h j) (with_half s g k)
@@ -120,50 +116,24 @@ ticks_one gives one (suc n) h k new last agrees same x y =
     let mid = ticks_one gives one n h k x.0 y.0 agrees same x.1 y.1 in
     (answers_one gives one Tick answer.Tick answer.Tick x.0 y.0 new last (ticked gives n h x.0 agrees x.1) mid x.2 y.2).1
 
-senses_one : (gives : Gives) → IsFunction gives → (p : ℕ) (up : Bool) (h k new last : HalfState) (r q : Reply) → PortsAgree h.state → SameHalf h k
-    → HalfSenses gives p up h r new → HalfSenses gives p up k q last → (q ≡ r) × SameHalf new last
-senses_one gives one p up h k new last r q agrees same x y =
-    let t = answers_one gives one (Set_link p up) (answer.SetLink x.0) (answer.SetLink y.0) h k new last agrees same x.1 y.1 in
-    let e : y.0 ≡ x.0 = let d = t.0 in cc in
-    (y.2 ∙ ap (or_refused (λ done. reply.Sensed up)) e ∙ sym x.2, t.1)
+recorded_same : (kept : Recording) (a : Answer) (h k : HalfState) → SameHalf h k → SameHalf (recorded kept a h) (recorded kept a k)
+recorded_same no_record a h k same = same
+recorded_same changes_counted a h k same = counted_same h k same
+recorded_same (if_forced agg conv) a h k same = forced_same (answer_to_force a) h k same
+  where
+    forced_same : (a : Result Unit SystemFault) (h k : HalfState) → SameHalf h k
+        → SameHalf (forced_if_accepted a agg conv h) (forced_if_accepted a agg conv k)
+    forced_same (Ok done) h k same = put_flows h k (λ f. change_flow with_forced agg.0 conv f) same
+    forced_same (Err fault) h k same = same
 
-configures_one : (gives : Gives) → IsFunction gives → (p : ℕ) (c : PortChange) (h k new last : HalfState) (r q : Reply) → PortsAgree h.state
-    → SameHalf h k → HalfConfigures gives p c h r new → HalfConfigures gives p c k q last → (q ≡ r) × SameHalf new last
-configures_one gives one p c h k new last r q agrees same x y =
-    let t = answers_one gives one (Configure p c) (answer.Configure x.0) (answer.Configure y.0) h k x.1 y.1 agrees same x.2 y.2 in
-    let e : y.0 ≡ x.0 = let d = t.0 in cc in (
-      y.3 ∙ ap (or_refused (λ done. reply.Configured done)) e ∙ sym x.3,
-      half_by (with_changes_counted x.1) (with_changes_counted y.1) new last x.4 y.4 (counted_same x.1 y.1 t.1),
-    )
-
-restarts_one : (gives : Gives) → IsFunction gives → (h k new last : HalfState) → PortsAgree h.state → SameHalf h k
-    → HalfRestarts gives h new → HalfRestarts gives k last → SameHalf new last
-restarts_one gives one h k new last agrees same x y =
-    let t = answers_one gives one Restart answer.Restart answer.Restart h k x.0 y.0 agrees same x.1 y.1 in
-    half_by (with_changes_counted x.0) (with_changes_counted y.0) new last x.2 y.2 (counted_same x.0 y.0 t.1)
-
-moves_one : (gives : Gives) → IsFunction gives → (agg : AggId) (conv port : ℕ) (h k new last : HalfState) (r q : Reply) → PortsAgree h.state
-    → SameHalf h k → HalfMoves gives agg conv port h r new → HalfMoves gives agg conv port k q last → (q ≡ r) × SameHalf new last
-moves_one gives one agg conv port h k new last r q agrees same x y =
-    let t = answers_one gives one (Move_conversation agg conv port) (answer.MoveConversation x.0) (answer.MoveConversation y.0) h k new last
-    agrees same x.1 y.1 in
-    let e : y.0 ≡ x.0 = let d = t.0 in cc in
-    (y.2 ∙ ap (or_refused (λ done. reply.Moved)) e ∙ sym x.2, t.1)
-
-forced_same : (a : Result Unit SystemFault) (agg : AggId) (conv : ℕ) (h k : HalfState) → SameHalf h k
-    → SameHalf (forced_if_accepted a agg conv h) (forced_if_accepted a agg conv k)
-forced_same (Ok done) agg conv h k same = put_flows h k (λ f. change_flow with_forced agg.0 conv f) same
-forced_same (Err fault) agg conv h k same = same
-
-forces_one : (gives : Gives) → IsFunction gives → (agg : AggId) (conv : ℕ) (h k new last : HalfState) (r q : Reply) → PortsAgree h.state
-    → SameHalf h k → HalfForces gives agg conv h r new → HalfForces gives agg conv k q last → (q ≡ r) × SameHalf new last
-forces_one gives one agg conv h k new last r q agrees same x y =
-    let t = answers_one gives one (Force agg conv) (answer.Force x.0) (answer.Force y.0) h k x.1 y.1 agrees same x.2 y.2 in
-    let e : y.0 ≡ x.0 = let d = t.0 in cc in (
-      y.3 ∙ ap (or_refused (λ done. reply.Forced)) e ∙ sym x.3,
-      half_by (forced_if_accepted x.0 agg conv x.1) (forced_if_accepted y.0 agg conv y.1) new last x.4 y.4
-          (subst (λ a. SameHalf (forced_if_accepted x.0 agg conv x.1) (forced_if_accepted a agg conv y.1)) (sym e)
-          (forced_same x.0 agg conv x.1 y.1 t.1)),
+asked_one : (gives : Gives) → IsFunction gives → (call : Call) (kept : Recording) (up : Bool) (h k new last : HalfState) (r q : Reply)
+    → PortsAgree h.state → SameHalf h k → HalfAsked gives call kept up h r new → HalfAsked gives call kept up k q last
+    → (q ≡ r) × SameHalf new last
+asked_one gives one call kept up h k new last r q agrees same x y =
+    let t = answers_one gives one call x.0 y.0 h k x.1 y.1 agrees same x.2 y.2 in (
+      y.3 ∙ ap (told up) t.0 ∙ sym x.3,
+      half_by (recorded kept x.0 x.1) (recorded kept y.0 y.1) new last x.4 y.4
+          (subst (λ a. SameHalf (recorded kept x.0 x.1) (recorded kept a y.1)) (sym t.0) (recorded_same kept x.0 x.1 y.1 t.1)),
     )
 
 -- a change of one system in the world
@@ -242,37 +212,6 @@ receives_one gives one s p item old twin r q new last agrees same x y =
     received_one s p item x.0 (with_half s x.1 old) (with_half s y.1 twin) r q new last (put_half s old twin x.1 y.1 same t.1) x.3
     (subst (λ a. AfterReceive s p item a (with_half s y.1 twin) q last) e y.3)
 
-delivers_one : (gives : Algorithms) → AreFunctions gives → (s : Side) (i : ℕ) (l : LinkState) (items : List ItemValue)
-    (old twin : WorldState) (r q : Reply) (new last : WorldState) → PortsAgree (half s old).state → SameWorld old twin
-    → DeliversFrom gives s i l items old r new → DeliversFrom gives s i l items twin q last → (q ≡ r) × SameWorld new last
-delivers_one gives one s i l [] old twin r q new last agrees same x y = (y.0 ∙ sym x.0, same_by old twin new last x.1 y.1 same)
-delivers_one gives one s i l (item ∷ rest) old twin r q new last agrees same x y =
-    let k = with_towards s rest l in
-    receives_one gives one s (port_at s l) item (with_link_at i k old) (with_link_at i k twin) r q new last agrees
-    (link_same old twin i k same) x y
-
-loses_one : (s : Side) (i : ℕ) (l : LinkState) (items : List ItemValue) (old twin : WorldState) (r q : Reply) (new last : WorldState)
-    → SameWorld old twin → LosesFrom s i l items old r new → LosesFrom s i l items twin q last → (q ≡ r) × SameWorld new last
-loses_one s i l [] old twin r q new last same x y = (y.0 ∙ sym x.0, same_by old twin new last x.1 y.1 same)
-loses_one s i l (item ∷ rest) old twin r q new last same x y =
-    let k = with_towards s rest l in
-    (y.0 ∙ sym x.0, same_by (with_link_at i k old) (with_link_at i k twin) new last x.1 y.1 (link_same old twin i k same))
-
-repeats_item : (gives : Algorithms) → AreFunctions gives → (s : Side) (p : ℕ) (octets : List ℕ) (st : Stamp) (old twin : WorldState)
-    (r q : Reply) (new last : WorldState) → PortsAgree (half s old).state → SameWorld old twin → RepeatsItem gives s p octets st old r new
-    → RepeatsItem gives s p octets st twin q last → (q ≡ r) × SameWorld new last
-repeats_item gives one s p octets (stamp.Control count) old twin r q new last agrees same x y =
-    receives_one gives one s p (record { octets = octets; stamp = stamp.Control count }) old twin r q new last agrees same x y
-repeats_item gives one s p octets (stamp.Data system agg conv serial) old twin r q new last agrees same x y =
-    (y.0 ∙ sym x.0, same_by old twin new last x.1 y.1 same)
-
-repeats_one : (gives : Algorithms) → AreFunctions gives → (s : Side) (l : LinkState) (items : List ItemValue) (old twin : WorldState)
-    (r q : Reply) (new last : WorldState) → PortsAgree (half s old).state → SameWorld old twin → RepeatsFrom gives s l items old r new
-    → RepeatsFrom gives s l items twin q last → (q ≡ r) × SameWorld new last
-repeats_one gives one s l [] old twin r q new last agrees same x y = (y.0 ∙ sym x.0, same_by old twin new last x.1 y.1 same)
-repeats_one gives one s l (item ∷ rest) old twin r q new last agrees same x y =
-    repeats_item gives one s (port_at s l) item.octets item.stamp old twin r q new last agrees same x y
-
 -- offering
 offered_one : (s : Side) (agg : AggId) (octets : List ℕ) (a : Result ℕ SystemFault) (old twin : WorldState) (r q : Reply)
     (new last : WorldState) → SameWorld old twin → AfterOffer s agg octets a old r new → AfterOffer s agg octets a twin q last
@@ -308,70 +247,44 @@ offers_one gives one s agg octets old twin r q new last agrees same x y =
     offered_one s agg octets x.0 (with_half s x.1 old) (with_half s y.1 twin) r q new last (put_half s old twin x.1 y.1 same t.1) x.3
     (subst (λ a. AfterOffer s agg octets a (with_half s y.1 twin) q last) e y.3)
 
--- each event
+-- each effect
+effect_one : (gives : Algorithms) → AreFunctions gives → (e : Event) (d : Effect) (old twin : WorldState) (r q : Reply) (new last : WorldState)
+    → ((s : Side) → PortsAgree (half s old).state) → SameWorld old twin → DoesEffect gives e old d r new → DoesEffect gives e twin d q last
+    → (q ≡ r) × SameWorld new last
+effect_one gives one e (nothing a) old twin r q new last agrees same x y = (y.0 ∙ sym x.0, same_by old twin new last x.1 y.1 same)
+effect_one gives one e (shrinks i l m a) old twin r q new last agrees same x y =
+    (y.1 ∙ sym x.1, same_by (with_link_at i m old) (with_link_at i m twin) new last x.2 y.2 (link_same old twin i m same))
+effect_one gives one e (ticks s count) old twin r q new last agrees same x y = (
+  y.1 ∙ sym x.1,
+  in_half s old twin new last same x.0.1 y.0.1
+      (ticks_one (gives s) (one s) count (half s old) (half s twin) (half s new) (half s last) (agrees s) (same.halves s) x.0.0 y.0.0),
+)
+effect_one gives one e (asks s call kept up) old twin r q new last agrees same x y =
+    let t = asked_one (gives s) (one s) call kept up (half s old) (half s twin) (half s new) (half s last) r q (agrees s) (same.halves s)
+    x.1.0 y.1.0 in (t.0, in_half s old twin new last same x.1.1 y.1.1 t.1)
+effect_one gives one e (restarts s) old twin r q new last agrees same x y =
+    let t = asked_one (gives s) (one s) Restart changes_counted true (half s old) (half s twin) (half s new) (half s last) r q (agrees s)
+    (same.halves s) x.0 y.0 in
+    let off = put_links old twin (map emptied old.links) (map emptied twin.links) same (ap (map emptied) same.links) in
+    (t.0, in_half s (with_links old (map emptied old.links)) (with_links twin (map emptied twin.links)) new last off x.1 y.1 t.1)
+effect_one gives one e (receives s p item) old twin r q new last agrees same x y =
+    receives_one gives one s p item old twin r q new last (agrees s) same x y
+effect_one gives one e (delivers s i l m item) old twin r q new last agrees same x y =
+    receives_one gives one s (port_at s l) item (with_link_at i m old) (with_link_at i m twin) r q new last (agrees s)
+    (link_same old twin i m same) x.1 y.1
+effect_one gives one e (emits s p) old twin r q new last agrees same x y = emits_one gives one s p old twin r q new last (agrees s) same x y
+effect_one gives one e (offers s agg octets) old twin r q new last agrees same x y =
+    offers_one gives one s agg octets old twin r q new last (agrees s) same x.4 y.4
+
+-- so each event, whose effect is the same in both worlds
 does_one : (gives : Algorithms) → AreFunctions gives → (e : Event) (old twin : WorldState) (r q : Reply) (new last : WorldState)
     → ((s : Side) → PortsAgree (half s old).state) → SameWorld old twin → DoesEvent gives old e r new → DoesEvent gives twin e q last
     → (q ≡ r) × SameWorld new last
-does_one gives one (event.Tick n count) old twin r q new last agrees same h k =
-    some_both (side_of n) _ _ h k (λ s x y. (
-      y.1 ∙ sym x.1,
-      in_half s old twin new last same x.0.1 y.0.1
-          (ticks_one (gives s) (one s) count (half s old) (half s twin) (half s new) (half s last) (agrees s) (same.halves s) x.0.0 y.0.0),
-    ))
-does_one gives one (event.Emit n p) old twin r q new last agrees same h k =
-    some_both (side_of n) _ _ h k (λ s x y. emits_one gives one s p old twin r q new last (agrees s) same x y)
-does_one gives one (event.Deliver c n) old twin r q new last agrees same h k =
-    some_both (side_of n) _ _ h k (λ s x y. link_both c old.links
-    (λ i l. DeliversFrom gives s i l (towards s l) old r new) (λ i l. DeliversFrom gives s i l (towards s l) twin q last)
-    (λ i l a b. delivers_one gives one s i l (towards s l) old twin r q new last (agrees s) same a b) x
-    (subst (OnLink c (λ i l. DeliversFrom gives s i l (towards s l) twin q last)) same.links y))
-does_one gives one (event.Lose c n) old twin r q new last agrees same h k =
-    some_both (side_of n) _ _ h k (λ s x y. link_both c old.links
-    (λ i l. LosesFrom s i l (towards s l) old r new) (λ i l. LosesFrom s i l (towards s l) twin q last)
-    (λ i l a b. loses_one s i l (towards s l) old twin r q new last same a b) x
-    (subst (OnLink c (λ i l. LosesFrom s i l (towards s l) twin q last)) same.links y))
-does_one gives one (event.Repeat c n) old twin r q new last agrees same h k =
-    some_both (side_of n) _ _ h k (λ s x y. link_both c old.links
-    (λ i l. RepeatsFrom gives s l (towards s l) old r new) (λ i l. RepeatsFrom gives s l (towards s l) twin q last)
-    (λ i l a b. repeats_one gives one s l (towards s l) old twin r q new last (agrees s) same a b) x
-    (subst (OnLink c (λ i l. RepeatsFrom gives s l (towards s l) twin q last)) same.links y))
-does_one gives one (event.Cut c) old twin r q new last agrees same h k =
-    link_both c old.links (λ i l. (r ≡ reply.Cut) × (new ≡ with_link_at i (cut l) old))
-    (λ i l. (q ≡ reply.Cut) × (last ≡ with_link_at i (cut l) twin)) (λ i l x y. (
-      y.0 ∙ sym x.0,
-      same_by (with_link_at i (cut l) old) (with_link_at i (cut l) twin) new last x.1 y.1 (link_same old twin i (cut l) same),
-    )) h (subst (OnLink c (λ i l. (q ≡ reply.Cut) × (last ≡ with_link_at i (cut l) twin))) same.links k)
-does_one gives one (event.Join c) old twin r q new last agrees same h k =
-    link_both c old.links (λ i l. (r ≡ reply.Joined) × (new ≡ with_link_at i (joined l) old))
-    (λ i l. (q ≡ reply.Joined) × (last ≡ with_link_at i (joined l) twin)) (λ i l x y. (
-      y.0 ∙ sym x.0,
-      same_by (with_link_at i (joined l) old) (with_link_at i (joined l) twin) new last x.1 y.1 (link_same old twin i (joined l) same),
-    )) h (subst (OnLink c (λ i l. (q ≡ reply.Joined) × (last ≡ with_link_at i (joined l) twin))) same.links k)
-does_one gives one (event.Sense c n) old twin r q new last agrees same h k =
-    some_both (side_of n) _ _ h k (λ s x y. link_both c old.links
-    (λ i l. InHalf s (λ h k. HalfSenses (gives s) (port_at s l) l.whole h r k) old new)
-    (λ i l. InHalf s (λ h k. HalfSenses (gives s) (port_at s l) l.whole h q k) twin last)
-    (λ i l a b. (let t = senses_one (gives s) (one s) (port_at s l) l.whole (half s old) (half s twin) (half s new) (half s last) r q
-    (agrees s) (same.halves s) a.0 b.0 in (t.0, in_half s old twin new last same a.1 b.1 t.1))) x
-    (subst (OnLink c (λ i l. InHalf s (λ h k. HalfSenses (gives s) (port_at s l) l.whole h q k) twin last)) same.links y))
-does_one gives one (event.Restart n) old twin r q new last agrees same h k =
-    some_both (side_of n) _ _ h k (λ s x y. (
-      y.0 ∙ sym x.0,
-      in_half s (with_links old (map emptied old.links)) (with_links twin (map emptied twin.links)) new last
-          (put_links old twin (map emptied old.links) (map emptied twin.links) same (ap (map emptied) same.links)) x.1.1 y.1.1
-          (restarts_one (gives s) (one s) (half s old) (half s twin) (half s new) (half s last) (agrees s) (same.halves s) x.1.0 y.1.0),
-    ))
-does_one gives one (event.Configure n p change) old twin r q new last agrees same h k =
-    some_both (side_of n) _ _ h k (λ s x y. (let t = configures_one (gives s) (one s) p change (half s old) (half s twin) (half s new)
-    (half s last) r q (agrees s) (same.halves s) x.0 y.0 in (t.0, in_half s old twin new last same x.1 y.1 t.1)))
-does_one gives one (event.Offer n agg octets) old twin r q new last agrees same h k =
-    some_both (side_of n) _ _ h k (λ s x y. offers_one gives one s agg octets.items old twin r q new last (agrees s) same x y)
-does_one gives one (event.Move n agg conv p) old twin r q new last agrees same h k =
-    some_both (side_of n) _ _ h k (λ s x y. (let t = moves_one (gives s) (one s) agg conv p (half s old) (half s twin) (half s new)
-    (half s last) r q (agrees s) (same.halves s) x.0 y.0 in (t.0, in_half s old twin new last same x.1 y.1 t.1)))
-does_one gives one (event.Force n agg conv) old twin r q new last agrees same h k =
-    some_both (side_of n) _ _ h k (λ s x y. (let t = forces_one (gives s) (one s) agg conv (half s old) (half s twin) (half s new)
-    (half s last) r q (agrees s) (same.halves s) x.0 y.0 in (t.0, in_half s old twin new last same x.1 y.1 t.1)))
+does_one gives one e old twin r q new last agrees same h k =
+    some_both (effect old.links e) (λ d. DoesEffect gives e old d r new) (λ d. DoesEffect gives e twin d q last)
+    (does_some gives e r old new h)
+    (subst (λ ls. IsSomeAnd (effect ls e) (λ d. DoesEffect gives e twin d q last)) same.links (does_some gives e q twin last k))
+    (λ d x y. effect_one gives one e d old twin r q new last agrees same x y)
 
 pub one_reply : (gives : Algorithms) → AreFunctions gives → OneReply gives
 one_reply gives one old twin e r q new last sound same h k =

@@ -1,18 +1,18 @@
--- Which events are never refused for memory (profile).
-use Rattle.std.specs.Prelude.{◌≡◌, ℕ, false}
+-- Which events may be refused for memory (profile).
+use Rattle.std.specs.Prelude.{◌≡◌, ℕ, true}
+use Rattle.std.specs.Global.{Vec}
 use Rattle.lagtypes.specs.declared.identifiers.AggId.{AggId}
-use Rattle.lagsystem.specs.declared.config.PortChange.{PortChange}
+use Rattle.lagscript.specs.declared.event.Event.{Event}
 use Rattle.lagscript.specs.declared.event.Event.TheVariants as event
 use Rattle.lagworld.specs.Events.{may_take_memory}
 
--- nine kinds of events are never refused for memory, whatever they name
-pub record NineTakeNoMemory : Type 0 where
-  pub tick : (system count : ℕ) → may_take_memory (event.Tick system count) ≡ false
-  pub lose : (cable system : ℕ) → may_take_memory (event.Lose cable system) ≡ false
-  pub cut : (cable : ℕ) → may_take_memory (event.Cut cable) ≡ false
-  pub join : (cable : ℕ) → may_take_memory (event.Join cable) ≡ false
-  pub sense : (cable system : ℕ) → may_take_memory (event.Sense cable system) ≡ false
-  pub restart : (system : ℕ) → may_take_memory (event.Restart system) ≡ false
-  pub configure : (system port : ℕ) (change : PortChange) → may_take_memory (event.Configure system port change) ≡ false
-  pub move : (system : ℕ) (agg : AggId) (conv port : ℕ) → may_take_memory (event.Move system agg conv port) ≡ false
-  pub force : (system : ℕ) (agg : AggId) (conv : ℕ) → may_take_memory (event.Force system agg conv) ≡ false
+-- the event is one of the four kinds that make or move frames
+pub data HandlesFrames : Event → Type 0 where
+  emit : (system port : ℕ) → HandlesFrames (event.Emit system port)
+  deliver : (cable system : ℕ) → HandlesFrames (event.Deliver cable system)
+  repeat : (cable system : ℕ) → HandlesFrames (event.Repeat cable system)
+  offer : (system : ℕ) (agg : AggId) (frame : Vec ℕ) → HandlesFrames (event.Offer system agg frame)
+
+-- an event that may take memory is of these four kinds, so no other is refused for memory, whatever it names
+abbrev pub FourMayTakeMemory : Type 0
+FourMayTakeMemory = (e : Event) → may_take_memory e ≡ true → HandlesFrames e

@@ -1,18 +1,20 @@
-use Rattle.std.proofs.Common.{refl}
+use Rattle.std.proofs.Common.{◌≡◌, true, refl}
+use Rattle.std.proofs.lemmas.Bool.{false≢true}
+use Rattle.lagscript.specs.declared.event.Event.{Event}
+use Rattle.lagscript.specs.declared.event.Event.TheVariants as event
+use Rattle.lagworld.specs.Events.{may_take_memory}
+use Rattle.lagworld.specs.Limits.{HandlesFrames, emit, deliver, repeat, offer}
 use Rattle.lagworld.proofs.laws.events_have_limits.Goals as goal
+
+of_four : (e : Event) → may_take_memory e ≡ true → HandlesFrames e
+of_four (event.Emit system port) h = emit system port
+of_four (event.Deliver cable system) h = deliver cable system
+of_four (event.Repeat cable system) h = repeat cable system
+of_four (event.Offer system agg frame) h = offer system agg frame
+of_four _ h = absurd (false≢true h)
 
 pub returns-clause-most : goal.returns-clause-most
 returns-clause-most c = refl
 
 pub returns-clause-memory : goal.returns-clause-memory
-returns-clause-memory c = record {
-  tick = λ system count. refl;
-  lose = λ cable system. refl;
-  cut = λ cable. refl;
-  join = λ cable. refl;
-  sense = λ cable system. refl;
-  restart = λ system. refl;
-  configure = λ system port change. refl;
-  move = λ system agg conv port. refl;
-  force = λ system agg conv. refl;
-}
+returns-clause-memory c = of_four
