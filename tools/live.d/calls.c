@@ -27,16 +27,7 @@ static const struct {
     EXPORT(queue_waiting), EXPORT(queue_counts), EXPORT(carrier), EXPORT(offer_in_carrier), EXPORT(offer_conversation_in_carrier),
 };
 
-static unsigned passed, failed;
-
-void check(bool holds, const char *where, const char *what) {
-    if (holds) {
-        passed++;
-        return;
-    }
-    failed++;
-    printf("calls: failed: %s: %s\n", where, what);
-}
+const char *const program = "calls";
 
 /* The library's memory: how many blocks it holds, how often it asked, and which asking is refused, if any. */
 static unsigned blocks, askings, refused;
@@ -749,6 +740,5 @@ int main(void) {
     check_payloads();
     check_texts();
     CHECK(niw_free(&one) == NIW_OK && !one.live && niw_free(&one) == NIW_NO_SYSTEM && niw_free(&other) == NIW_OK && blocks == 0);
-    printf("calls: %u passed, %u failed\n", passed, failed);
-    return failed > 0;
+    return tell_checks();
 }

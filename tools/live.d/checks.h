@@ -1,4 +1,4 @@
-/* What the files of the program that calls the library share. */
+/* What the programs of checks share, and the files of the one that calls the library. */
 #ifndef CHECKS_H
 #define CHECKS_H
 
@@ -7,9 +7,15 @@
 
 struct niw_system;
 
+/* The name of the program, which it has in its lines. */
+extern const char *const program;
+
 /* Counts a check; prints a line with the function and the text of one that fails. */
 void check(bool holds, const char *where, const char *what);
 #define CHECK(fact) check((fact), __func__, #fact)
+
+/* Prints how many checks passed and failed; answers the status of the program. */
+int tell_checks(void);
 
 /* A data frame of conversation 4. */
 extern uint8_t data[60];

@@ -17,16 +17,7 @@
 #define LARGE_OCTETS 9000
 
 struct carry carry;
-static unsigned passed, failed;
-
-void check(bool holds, const char *where, const char *what) {
-    if (holds) {
-        passed++;
-        return;
-    }
-    failed++;
-    printf("held: failed: %s: %s\n", where, what);
-}
+const char *const program = "held";
 
 void stop(int status, const char *what, const char *which) {
     printf("held: %s: %s\n", what, which);
@@ -129,6 +120,5 @@ int main(void) {
         check_large();
     }
     end_held();
-    printf("held: %u passed, %u failed\n", passed, failed);
-    return failed > 0;
+    return tell_checks();
 }

@@ -56,7 +56,7 @@ def build(made: str, sources: Sequence[str], libraries: Sequence[str], *words: s
 def build_calls(folder: str, libraries: Sequence[str]) -> str:
     """Builds the program that calls each function; answers its path."""
     words = ["-std=c11", "-Wall", "-Wextra", "-Werror", *COUNTED]
-    sources = [f"{TOP}/tools/live.d/{name}.c" for name in ("calls", "conversations", "payloads", "queues", "carriers")]
+    sources = [f"{TOP}/tools/live.d/{name}.c" for name in ("calls", "checks", "conversations", "payloads", "queues", "carriers")]
     return build(os.path.join(folder, "calls"), sources, libraries, *words)
 
 
@@ -81,7 +81,7 @@ def build_planes(folder: str, libraries: Sequence[str]) -> str:
 
 def build_held(folder: str, libraries: Sequence[str]) -> str:
     """Builds the queues of the daemon's held frames alone, with ASan and UBSan; answers the path of the program."""
-    sources = [f"{TOP}/tools/live.d/held.c", f"{DAEMON}/held.c"]
+    sources = [f"{TOP}/tools/live.d/held.c", f"{TOP}/tools/live.d/checks.c", f"{DAEMON}/held.c"]
     return build(os.path.join(folder, "held"), sources, libraries, *STRICT, f"-I{DAEMON}", *SANITIZED)
 
 
