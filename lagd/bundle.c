@@ -16,9 +16,9 @@ static uint16_t carrying_in(uint16_t aggregator) {
     return carrying;
 }
 
-/* The aggregator that carries, where `before` carried last; 0 for none. The library chooses, and chooses one without a partner only where
- * none has one: its links do not carry if a partner is required. */
-static uint16_t carrier_after(uint16_t before) {
+/* The aggregator that carries, where `before` carried last; 0 for none. The library takes one on defaults only where none has a partner. If
+ * a partner is required, its links do not carry, and the answer is 0. */
+static uint16_t aggregator_after(uint16_t before) {
     uint16_t aggregator = (uint16_t)number_of(niw_carrier(&own_system, before), "niw_carrier");
     return carrying_in(aggregator) > 0 ? aggregator : 0;
 }
@@ -26,13 +26,13 @@ static uint16_t carrier_after(uint16_t before) {
 /* Chooses the aggregator whose ports carry, and remembers it: while it is kept it stays among equals, whoever calls. Else, of equals, it is
  * the one with the least group, so that the other end chooses it, too. */
 void choose_aggregator(struct bundle *now) {
-    chosen_last = now->aggregator = carrier_after(keeps_aggregator() ? chosen_last : 0);
+    chosen_last = now->aggregator = aggregator_after(keeps_aggregator() ? chosen_last : 0);
     now->carrying = carrying_in(now->aggregator);
 }
 
 /* Whether no aggregator has more than this one: a partner where this one has none, or more ports. */
 bool is_as_good_as_any(uint16_t aggregator) {
-    return aggregator != 0 && carrier_after(aggregator) == aggregator;
+    return aggregator != 0 && aggregator_after(aggregator) == aggregator;
 }
 
 /* How many links there may be. */

@@ -163,8 +163,12 @@ static void forget_heard(void) {
     heard_before = heard();
 }
 
-/* A frame came in an aggregator that is not the active one. If it is as good as that, the peer may send there. */
+/* A frame came in an aggregator that is not the active one. If no aggregator has more than that one, the peer may send there. It is looked
+ * at once a millisecond, however many frames come. */
 void doubt_aggregator(uint32_t aggregator) {
+    static uint64_t looked_at;
+    if (looked_at == carry.time) return;
+    looked_at = carry.time;
     if (heard_at == 0 || carry.active == 0 || aggregator == carry.active || !is_as_good_as_any((uint16_t)aggregator)) return;
     heard_at = 0;
     carry.changed = true;
@@ -204,15 +208,15 @@ static bool release_one(struct conversation *conversation, uint16_t number) {
 
 /* Offers again what waits, of each conversation until one is held. */
 static void release(void) {
-    uint64_t unseen = count_all_held(); /* of the conversations that are still to be looked at */
-    bool waits = false;
+    uint64_t unseen = count_all_held(); /* the frames of the conversations that were not looked at yet */
+    bool any_left = false;
     for (uint16_t number = 0; unseen > 0 && number < CONVERSATIONS; number++) {
-        uint64_t waiting = count_held(number);
-        unseen -= waiting;
-        while (waiting > 0 && release_one(&carry.conversations[number], number)) waiting--;
-        if (waiting > 0) waits = true;
+        uint64_t left = count_held(number);
+        unseen -= left;
+        while (left > 0 && release_one(&carry.conversations[number], number)) left--;
+        if (left > 0) any_left = true;
     }
-    carry.waiting = waits;
+    carry.waiting = any_left;
     flush_data();
     pass_on();
 }

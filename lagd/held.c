@@ -9,7 +9,7 @@
 #include "carry.h"
 
 /* How many frames of a conversation wait at most, and how many of all. */
-#define LONGEST_WAIT 2048
+#define MOST_OF_ONE 2048
 #define MOST_WAIT 32768
 /* A number of a slot has its place in the pool, from 1 on, and this bit in the pool of large ones. */
 #define NONE 0
@@ -57,7 +57,7 @@ void start_held(void) {
     small.slots = mmap(NULL, before + behind, PROT_READ | PROT_WRITE, MAP_PRIVATE | MAP_ANONYMOUS | MAP_NORESERVE, -1, 0);
     if (small.slots == MAP_FAILED) stop(REFUSED, "no room for held frames", strerror(errno));
     large.slots = small.slots + before;
-    check_call(niw_queue_new(&queues, CONVERSATIONS, MOST_WAIT, LONGEST_WAIT), "niw_queue_new");
+    check_call(niw_queue_new(&queues, CONVERSATIONS, MOST_WAIT, MOST_OF_ONE), "niw_queue_new");
 }
 
 /* The daemon ends. */
@@ -81,7 +81,7 @@ static void free_slot(uint32_t at) {
     pool->idle = at;
 }
 
-/* How many frames of a conversation wait. The library is not asked where none of any does. */
+/* How many frames of a conversation wait. While no frame waits at all, the library is not asked. */
 uint64_t count_held(uint16_t number) {
     struct niw_number waiting;
     if (!carry.waiting) return 0;

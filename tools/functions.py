@@ -17,7 +17,7 @@ Here you can look up the functions, structs and numbers of the C library, a line
 [all faults](USING.md#all-faults) the statuses, [PERFORMANCE](PERFORMANCE.md#times-of-calls) how long the calls take.
 
 A function that returns a *status* returns `NIW_OK`, or why it refused. A struct that is an answer has its `status` first: where that is a
-refusal, the other fields are 0.
+refusal, the other fields are 0, except those that say more of the refusal.
 """
 COMMENT = r"/\* ((?:(?!\*/).)*?) \*/\n"
 FUNCTION = re.compile(COMMENT + r"static inline ([\w ]+?[ *]+)(niw_\w+)\(([^)]*)\) \{", re.S)
@@ -25,8 +25,9 @@ STRUCT = re.compile(rf"^(?:{COMMENT})?struct (niw_\w+) \{{\n(.*?)\n\}};", re.M |
 FIELD = re.compile(r"([\w*, \[\]]+);")
 ENUM = re.compile(rf"^(?:{COMMENT})?enum \{{(.*?)\}};", re.M | re.S)
 ENUMERATOR = re.compile(r"(NIW_\w+)(?: = (\d+))?,?(?:[ ]*/\* ((?:(?!\*/).)*?) \*/)?", re.S)
-SIZE = re.compile(COMMENT + r"#define (NIW_\w+) (\d+)$", re.M | re.S)
-# What a comment ends its first sentence with: a point or a colon, and what follows begins anew.
+SIZES = re.compile(COMMENT + r"((?:#define NIW_\w+ \d+\n)+)", re.S)
+SIZE = re.compile(r"#define (NIW_\w+) (\d+)")
+# What a comment ends its first sentence with: a point, and what follows begins anew.
 SENTENCE = re.compile(r"(.*?[.])(?: [A-Z`]|$)", re.S)
 
 
@@ -37,7 +38,7 @@ def first_sentence(comment: str) -> str:
     return (found[1] if found else text).replace("|", "\\|")
 
 
-def answer(kind: str) -> str:
+def returned(kind: str) -> str:
     """What a function answers, by its type in C."""
     plain = kind.strip()
     return {"uint32_t": "a status", "const char *": "a text", "size_t": "a length"}.get(plain, f"`{plain.removeprefix('struct ')}`")
@@ -47,10 +48,10 @@ def functions(text: str) -> Iterator[str]:
     """A row for each function that has a comment."""
     for comment, kind, name, given in FUNCTION.findall(text):
         words = [re.sub(r"\[.*\]", "", it).split()[-1].lstrip("*") for it in given.split(",") if it.strip() != "void"]
-        yield f"| `{name}({', '.join(words)})` | {answer(kind)} | {first_sentence(comment)} |"
+        yield f"| `{name}({', '.join(words)})` | {returned(kind)} | {first_sentence(comment)} |"
 
 
-def answer_of(name: str, text: str) -> str:
+def returned_by(name: str, text: str) -> str:
     """What a struct is that has no comment: the answer of the functions that return it."""
     found = [it for _, kind, it, _ in FUNCTION.findall(text) if kind.strip() == f"struct {name}"]
     more = f", and of {len(found) - 3} more" if len(found) > 3 else ""
@@ -62,7 +63,7 @@ def structs(text: str) -> Iterator[str]:
     for comment, name, body in STRUCT.findall(text):
         plain = re.sub(r"/\*.*?\*/", "", body, flags=re.S)
         fields = [re.sub(r"\[.*?\]", "", it).strip().lstrip("*") for line in FIELD.findall(plain) for it in re.sub(r"^\s*(?:const )?(?:struct )?\w+ ", "", line).split(",")]
-        told = first_sentence(comment) or answer_of(name, text)
+        told = first_sentence(comment) or returned_by(name, text)
         yield f"| `{name}` | {', '.join(f'`{it}`' for it in fields)} | {told} |"
 
 
@@ -73,8 +74,9 @@ def numbers(text: str) -> Iterator[str]:
         for place, (name, value, told) in enumerate(ENUMERATOR.findall(body)):
             number = int(value) if value else number + 1
             yield f"| {first_sentence(comment) if place == 0 else ''} | `{name}` | {number} | {first_sentence(told)} |"
-    for comment, name, value in SIZE.findall(text):
-        yield f"| | `{name}` | {value} | {first_sentence(comment)} |"
+    for comment, lines in SIZES.findall(text):
+        for place, (name, value) in enumerate(SIZE.findall(lines)):
+            yield f"| {first_sentence(comment) if place == 0 else ''} | `{name}` | {value} | |"
 
 
 def page() -> str:

@@ -66,7 +66,7 @@ def file() -> str:
     """The file of the bundle without data, as docs/INSTALL.md has it: the unit alone gives no right to carry data."""
     with open(os.path.join(TOP, "docs", "INSTALL.md"), encoding="utf-8") as it:
         found = re.findall(r"^    \[Bundle\]\n(?:    \S.*\n)+", it.read(), re.M)
-    [rows] = [it for it in found if "carry=" not in it]
+    [rows] = [row for row in found if "carry=" not in row]
     return re.sub(r"^    ", "", rows, flags=re.M)
 
 

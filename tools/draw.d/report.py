@@ -24,7 +24,7 @@ ENTRIES = {
     "move": (f"{S} {N} {N} {N}", "moved"),
     "force": (f"{S} {N} {N}", "forced"),
 }
-# A refusal has the number and the name of a fault: docs/COMMAND.md has those of all.
+# A refusal has the number and the name of a fault: docs/COMMAND.md lists them.
 REFUSED = rf"refused {N} [a-z]+(?:-[a-z]+)*"
 LINES = {word: re.compile(rf"({N}) {word} (?P<rest>{rest}) -> (?P<reply>{reply}|{REFUSED})") for word, (rest, reply) in ENTRIES.items()}
 AGREEMENT = re.compile(f"cable ({N}) agreement (?:same|differ|changed|not-both|defaults)")

@@ -1,4 +1,4 @@
-/* What the programs of checks share, and the files of the one that calls the library. */
+/* What the programs that count checks share; what follows them is for the files of calls.c. */
 #ifndef CHECKS_H
 #define CHECKS_H
 
@@ -7,7 +7,7 @@
 
 struct niw_system;
 
-/* The name of the program, which it has in its lines. */
+/* The name of the program: each of its lines begins with it. */
 extern const char *const program;
 
 /* Counts a check; prints a line with the function and the text of one that fails. */

@@ -1,5 +1,5 @@
 """The example in C that README.md quotes, and the same in Rust: each builds without a warning and prints what README says, which quotes
-the one in C to the letter."""
+the one in C to the letter. The C of docs/USING.md stands in programs that run."""
 
 from __future__ import annotations
 

@@ -39,7 +39,7 @@ def test_a_row_has_the_first_sentence_of_a_comment(comment: str, sentence: str) 
 
 
 def test_a_row_has_what_a_function_answers() -> None:
-    assert [functions.answer(it) for it in ("uint32_t ", "const char *", "struct niw_actor ", "bool ")] == ["a status", "a text", "`niw_actor`", "`bool`"]
+    assert [functions.returned(it) for it in ("uint32_t ", "const char *", "struct niw_actor ", "bool ")] == ["a status", "a text", "`niw_actor`", "`bool`"]
 
 
 def test_a_table_of_a_man_page_has_cells() -> None:

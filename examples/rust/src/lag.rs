@@ -1,4 +1,4 @@
-//! One end of link aggregation, by liblag: what `main.rs` needs of `lag.h`, in Rust's habits. A further function is declared in the same way.
+//! One end of link aggregation, by liblag: what `main.rs` needs of `lag.h`, in idiomatic Rust. Declare further functions the same way.
 
 use std::fmt;
 use std::ptr;
@@ -96,13 +96,22 @@ pub struct Port {
     pub short_timeout: bool,
 }
 
-/// Why a call was refused: its status, `NIW_NO_PORT` and so on. Nothing changed.
+/// Why a call was refused: its status, `NIW_NO_PORT` and so on, and with `NIW_BAD_CONFIG` the reason and the place of
+/// `struct niw_made`. Nothing changed.
 #[derive(Debug)]
-pub struct Refusal(pub u32);
+pub struct Refusal {
+    pub status: u32,
+    pub reason: u32,
+    pub place: usize,
+}
 
 impl fmt::Display for Refusal {
     fn fmt(&self, f: &mut fmt::Formatter) -> fmt::Result {
-        write!(f, "refused with status {} of lag.h", self.0)
+        write!(f, "refused with status {} of lag.h", self.status)?;
+        match self.reason {
+            0 => Ok(()),
+            reason => write!(f, ", reason {reason}, place {}", self.place),
+        }
     }
 }
 
@@ -111,7 +120,11 @@ impl std::error::Error for Refusal {}
 fn accepted(status: u32) -> Result<(), Refusal> {
     match status {
         0 => Ok(()),
-        _ => Err(Refusal(status)),
+        _ => Err(Refusal {
+            status,
+            reason: 0,
+            place: 0,
+        }),
     }
 }
 
@@ -123,7 +136,8 @@ pub enum Received {
     Other,
 }
 
-/// One end. It holds a pointer, so it is neither `Send` nor `Sync`: the thread that makes it makes every call.
+/// One end. It holds a pointer, so it is neither `Send` nor `Sync`: the thread that makes it makes every call. A move leaves no second
+/// handle behind, so it is not the copy that lag.h forbids.
 pub struct System(raw::System);
 
 impl System {
@@ -143,24 +157,32 @@ impl System {
                 ports.len(),
             )
         };
-        accepted(made.status)?;
-        Ok(system)
+        match made.status {
+            0 => Ok(system),
+            status => Err(Refusal {
+                status,
+                reason: made.reason,
+                place: made.place,
+            }),
+        }
     }
 
-    /// Says whether the link of a port is up.
+    /// Tells the library whether the link of a port is up.
     pub fn set_link(&mut self, port: u16, up: bool) -> Result<(), Refusal> {
+        // SAFETY: the handle came from `new` and is live.
         accepted(unsafe { raw::lagffi_set_link(&mut self.0, port, up) })
     }
 
     /// 100 ms passed.
     pub fn tick(&mut self) -> Result<(), Refusal> {
+        // SAFETY: the handle came from `new` and is live.
         accepted(unsafe { raw::lagffi_tick(&mut self.0) })
     }
 
     /// Hands over a frame that came on a port.
     pub fn receive(&mut self, port: u16, frame: &[u8]) -> Result<Received, Refusal> {
         let mut response = [0; FRAME];
-        // SAFETY: the frame is as long as its length says, and nothing of it is in the response.
+        // SAFETY: the frame is as long as its length says, and does not overlap `response`.
         let received = unsafe {
             raw::lagffi_receive(
                 &mut self.0,
@@ -179,10 +201,10 @@ impl System {
         })
     }
 
-    /// The frame that is due on a port, if one is: to be asked until it answers `None`.
+    /// The frame that is due on a port, if one is. Call it until it returns `None`.
     pub fn transmit(&mut self, port: u16) -> Result<Option<[u8; FRAME]>, Refusal> {
         let mut frame = [0; FRAME];
-        // SAFETY: the frame has the room that is told.
+        // SAFETY: `frame` has FRAME octets.
         let sent = unsafe { raw::lagffi_transmit(&mut self.0, port, frame.as_mut_ptr(), FRAME) };
         accepted(sent.status)?;
         Ok(sent.is.then_some(frame))
@@ -190,6 +212,7 @@ impl System {
 
     /// Whether a port distributes.
     pub fn distributes(&mut self, port: u16) -> Result<bool, Refusal> {
+        // SAFETY: the handle came from `new` and is live.
         let truth = unsafe { raw::lagffi_distributes(&mut self.0, port) };
         accepted(truth.status)?;
         Ok(truth.is)
@@ -199,6 +222,7 @@ impl System {
 impl Drop for System {
     fn drop(&mut self) {
         if self.0.live {
+            // SAFETY: the handle came from `new` and is live.
             unsafe { raw::lagffi_free(&mut self.0) };
         }
     }
