@@ -19,6 +19,7 @@ WIRE_FAULTS = f"{CRATES}/slowpdu/src/fault.rt"
 STATES = f"{CRATES}/lagtypes/src/state.rt"
 OFFERS = f"{CRATES}/lagsystem/src/offers.rt"
 MOVES = f"{CRATES}/balance/src/moves.rt"
+ANSWERS = f"{CRATES}/answering/src/word.rt"
 # Types of C, and their sizes on x86-64, which are their alignments too.
 TYPES = {"u8": "uint8_t", "u16": "uint16_t", "u32": "uint32_t", "u64": "uint64_t", "usize": "size_t", "bool": "bool", "*mut u8": "void *"}
 SIZES = {"uint8_t": 1, "uint16_t": 2, "uint32_t": 4, "uint64_t": 8, "size_t": 8, "bool": 1, "void *": 8}
@@ -227,11 +228,12 @@ def implemented(name: str, path: str) -> str:
 
 
 def numbers_of_sources(text: str) -> dict[str, int]:
-    """The refusals of a system, the numbers that lagffi gives to variants, and its constants."""
+    """The refusals of a system, the numbers that lagffi and answering give to variants, and the constants of lagffi."""
     faults, reasons = implemented("SystemFault", FAULTS), implemented("BadConfig", FAULTS)
     of_wire = implemented("WireFault", WIRE_FAULTS)
     numbers = [*variants(faults, {"SystemFault": ""}), *variants(reasons, {"BadConfig": "REASON_"}),
-               *variants(of_wire, {"WireFault": "FAULT_"}), *variants(text, TOLD)]
+               *variants(of_wire, {"WireFault": "FAULT_"}), *variants(text, TOLD),
+               *variants(implemented("Answers", ANSWERS), {"Answers": "ANSWERS_"})]
     numbers += [(f"NIW_STATE_{bit}", int(number)) for bit, number in re.findall(r"const (\w+) = (\d+);", text_of(STATES))]
     for name, number in re.findall(r"\bconst (\w+): (?:u8|u16|u32|usize) = ([\d_]+);", text + text_of(OFFERS)):
         numbers.append((CONSTANTS.get(name, f"NIW_{name}"), int(number)))
