@@ -31,7 +31,7 @@ static const char HELP[] =
     "  -q, --partner-required      a port without a partner does not carry\n"
     "  -b, --key-by-speed          links of another speed or duplex have another key, so that they share no group\n"
     "  -o, --marker-responses N    the most that a port sends in a second; 10 if not given\n"
-    "  -x, --hook PROGRAM          is run where the bundle is up, degraded or down\n"
+    "  -x, --hook PROGRAM          is run when the bundle becomes up, degraded or down\n"
     "  -C, --carry NAME            carries the data of a TAP device of this name, which it makes, with the MAC address of the system\n"
     "  -H, --hash layer2|layer2+3|layer3+4   what frames of one conversation have in common; layer2, if not given\n"
     "  -F, --flight MILLISECONDS   how long a frame can be on its way; 500 if not given\n"
