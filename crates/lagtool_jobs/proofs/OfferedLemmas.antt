@@ -1,5 +1,5 @@
 -- An aggregator that no event offers a frame to sends none.
-use Rattle.std.proofs.Common.{◌≡◌, ◌==◌, ◌<◌, ◌+◌, ◌++◌, ℕ, zero, suc, Bool, true, false, List, [], ◌∷◌, Option, Some, None, get_or}
+use Rattle.std.proofs.Common.{◌≡◌, ◌==◌, ◌<◌, ◌+◌, ◌++◌, ℕ, zero, suc, Bool, true, false, List, [], ◌∷◌, map, Option, Some, None, get_or}
 use Rattle.std.proofs.Common.{length, arith, refl, sym, ap, ◌∙◌, subst, inl, inr, if◌then◌else◌, eqb-true, eq-eqb}
 use Rattle.std.specs.Prelude.{◌&&◌, ◌||◌, Result, Ok, Err, flat_map, option_map}
 use Rattle.std.specs.List.{range_with_len}
@@ -10,28 +10,28 @@ use Rattle.cables.specs.declared.item.Stamp.{Stamp}
 use Rattle.cables.specs.declared.item.Stamp.TheVariants as stamp
 use Rattle.lagtypes.specs.declared.identifiers.AggId.{AggId}
 use Rattle.lagmodel.specs.World.{Side, One, Two}
-use Rattle.lagmodel.proofs.Base.{cond_true, cond_false, value_of}
+use Rattle.lagmodel.proofs.Base.{cond_true, cond_false}
 use Rattle.lagsystem.specs.declared.received.Received.{Received}
 use Rattle.lagsystem.specs.declared.received.Received.TheVariants as received
 use Rattle.lagsystem.specs.declared.drive.Reply.{Reply as Answer}
 use Rattle.lagsystem.specs.declared.drive.Reply.TheVariants as answer
 use Rattle.lagsystem.specs.declared.fault.SystemFault.{SystemFault}
-use Rattle.lagsystem.specs.Calls.{Call, Receive, Set_link, Transmit, Offer, Move_conversation}
+use Rattle.lagsystem.specs.Calls.{Call, Receive, Restart, Transmit, Offer}
 use Rattle.lagsystem.specs.Readers.{number_of_conversation}
 use Rattle.lagscript.specs.declared.event.Event.{Event}
-use Rattle.lagscript.specs.declared.event.Event.TheVariants as event
 use Rattle.lagworld.specs.declared.reply.Reply.{Reply}
 use Rattle.lagworld.specs.HalfCalls.{HalfAnswers, HalfTicks, forced_if_accepted}
 use Rattle.lagworld.specs.Events.{Algorithms, DoesEvent, WorldRuns, side_of, with_stamp_collected, with_link_at, with_item_sent}
 use Rattle.lagworld.specs.Events.{transmitted_item, with_collected_in, with_last_lacpdu, stamped_in, AfterTransmit, WorldReceives}
-use Rattle.lagworld.specs.Events.{AfterReceive, DeliversFrom, LosesFrom, RepeatsItem, RepeatsFrom, AfterOffer, with_frame_counted}
+use Rattle.lagworld.specs.Events.{AfterReceive, AfterOffer, InHalf, with_frame_counted}
 use Rattle.lagworld.specs.Messages.{side_numbered, side_number}
 use Rattle.lagworld.specs.Readers.{flow_of_system}
 use Rattle.lagworld.specs.Sound.{IsStart}
-use Rattle.lagworld.specs.State.{ItemValue, HalfState, WorldState, LinkState, FlowValue, half, with_half, port_at, towards, with_towards}
+use Rattle.lagworld.specs.State.{ItemValue, HalfState, WorldState, FlowValue, emptied, half, with_half, with_links, port_at}
 use Rattle.lagworld.specs.State.{flow_at, sent_in, with_sent, with_collected, with_forced}
 use Rattle.lagworld.proofs.Flows.{flow_other_row, read_same}
-use Rattle.lagworld.proofs.Whole.{on_line}
+use Rattle.lagworld.proofs.Effects.{DoesEffect, Effect, HalfAsked, Recording, answer_to_force, asks, changes_counted, delivers, does_effect}
+use Rattle.lagworld.proofs.Effects.{emits, if_forced, no_record, offers, receives, recorded, restarts, nothing, shrinks, ticks}
 use Rattle.lagtool_jobs.specs.Offered.{HasSentNothing, IsSentWhereOffered, is_offered, offers_to}
 use Rattle.lagtool_jobs.specs.ReplayReport.{flow_line, aggregator_flows_text}
 use Rattle.lagtool_jobs.proofs.ReplayLemmas.{append_none, appended_both, empties, range_more}
@@ -112,27 +112,6 @@ arrives gives s p item j new r x =
     followed j (with_half s x.1 j) new (asked (gives s) (Receive p item.octets) (answer.Receive x.0) s x.1 j x.2)
     (arrived s p item x.0 (with_half s x.1 j) new r x.3)
 
-delivers : (gives : Algorithms) (s : Side) (i : ℕ) (l : LinkState) (xs : List ItemValue) (j new : WorldState) (r : Reply)
-    → DeliversFrom gives s i l xs j r new → NoneSent j new
-delivers gives s i l [] j new r x = same j new x.1
-delivers gives s i l (item ∷ rest) j new r x = arrives gives s (port_at s l) item (with_link_at i (with_towards s rest l) j) new r x
-
-loses : (s : Side) (i : ℕ) (l : LinkState) (xs : List ItemValue) (j new : WorldState) (r : Reply)
-    → LosesFrom s i l xs j r new → NoneSent j new
-loses s i l [] j new r x = same j new x.1
-loses s i l (item ∷ rest) j new r x = same (with_link_at i (with_towards s rest l) j) new x.1
-
-repeats_item : (gives : Algorithms) (s : Side) (p : ℕ) (octets : List ℕ) (st : Stamp) (j new : WorldState) (r : Reply)
-    → RepeatsItem gives s p octets st j r new → NoneSent j new
-repeats_item gives s p octets (stamp.Control count) j new r x =
-    arrives gives s p (record { octets = octets; stamp = stamp.Control count }) j new r x
-repeats_item gives s p octets (stamp.Data system agg conv serial) j new r x = same j new x.1
-
-repeats : (gives : Algorithms) (s : Side) (l : LinkState) (xs : List ItemValue) (j new : WorldState) (r : Reply)
-    → RepeatsFrom gives s l xs j r new → NoneSent j new
-repeats gives s l [] j new r x = same j new x.1
-repeats gives s l (item ∷ rest) j new r x = repeats_item gives s (port_at s l) item.octets item.stamp j new r x
-
 forced_where_sent : (a : Result Unit SystemFault) (agg : AggId) (conv : ℕ) (h : HalfState) → SameSent h (forced_if_accepted a agg conv h)
 forced_where_sent (Ok done) agg conv h = read_same sent_in with_forced agg.0 conv h.flows forced_kept
 forced_where_sent (Err fault) agg conv h = λ g k. refl
@@ -175,82 +154,48 @@ other n s t agg g name free same_side same_agg =
     let there : (agg.0 == g) ≡ true = eq-eqb agg.0 g (sym same_agg) in
     true≢false (sym (ap (λ b. b && (agg.0 == g)) here ∙ there) ∙ free)
 
+-- what is recorded of a system is no sent frame
+noted : (kept : Recording) (a : Answer) (h : HalfState) → SameSent h (recorded kept a h)
+noted no_record a h = λ g k. refl
+noted changes_counted a h = λ g k. refl
+noted (if_forced agg conv) a h = forced_where_sent (answer_to_force a) agg conv h
+
+half_asked : (gives : ℕ → ℕ → ℕ → Type 0) (s : Side) (call : Call) (kept : Recording) (up : Bool) (r : Reply) (j new : WorldState)
+    → InHalf s (λ h k. HalfAsked gives call kept up h r k) j new → NoneSent j new
+half_asked gives s call kept up r j new x =
+    let mid = with_half s (half s new) j in
+    followed j mid new
+    (of_half s (half s new) j (λ g k. ap (λ (h : HalfState). sent_in (flow_at h.flows g k)) x.0.4 ∙ noted kept x.0.0 x.0.1 g k
+    ∙ ap (λ (h : HalfState). sent_in (flow_at h.flows g k)) x.0.2.same))
+    (same mid new x.1)
+
+effect_keeps : (gives : Algorithms) (e : Event) (d : Effect) (r : Reply) (old new : WorldState) → DoesEffect gives e old d r new
+    → (t : Side) (g k : ℕ) → offers_to (side_number t) g e ≡ false → sent_of t g k new ≡ sent_of t g k old
+effect_keeps gives e (nothing a) r old new x t g k free = ap (sent_of t g k) x.1
+effect_keeps gives e (shrinks i l m a) r old new x t g k free = ap (sent_of t g k) x.2
+effect_keeps gives e (ticks s count) r old new x t g k free =
+    let mid = with_half s (half s new) old in
+    followed old mid new
+    (of_half s (half s new) old (same_flows (half s old) (half s new) (ticked (gives s) count (half s old) (half s new) x.0.0)))
+    (same mid new x.0.1) t g k
+effect_keeps gives e (asks s call kept up) r old new x t g k free = half_asked (gives s) s call kept up r old new x.1 t g k
+effect_keeps gives e (restarts s) r old new x t g k free =
+    half_asked (gives s) s Restart changes_counted true r (with_links old (map emptied old.links)) new x t g k
+effect_keeps gives e (receives s p item) r old new x t g k free = arrives gives s p item old new r x t g k
+effect_keeps gives e (delivers s i l m item) r old new x t g k free =
+    arrives gives s (port_at s l) item (with_link_at i m old) new r x.1 t g k
+effect_keeps gives e (emits s p) r old new x t g k free =
+    let mid = with_half s x.1 old in
+    followed old mid new (asked (gives s) (Transmit p) (answer.Transmit x.0) s x.1 old x.2) (emitted s p x.0 mid new r x.3) t g k
+effect_keeps gives e (offers s agg octets) r old new (n, frame, named, is_offer, x) t g k free =
+    let mid = with_half s x.1 old in
+    offered_on s agg octets x.0 mid new r x.3 t g k
+    (other n s t agg g (number_named n s named) (subst (λ e. offers_to (side_number t) g e ≡ false) is_offer free))
+    ∙ asked (gives s) (Offer agg octets) (answer.Offer x.0) s x.1 old x.2 t g k
+
 does_keep : (gives : Algorithms) (e : Event) (r : Reply) (old new : WorldState) → DoesEvent gives old e r new
     → (t : Side) (g k : ℕ) → offers_to (side_number t) g e ≡ false → sent_of t g k new ≡ sent_of t g k old
-does_keep gives (event.Tick n count) r old new x t g k free =
-    let v = value_of (side_of n) _ x in
-    let s = v.0 in
-    let mid = with_half s (half s new) old in
-    followed old mid new
-    (of_half s (half s new) old (same_flows (half s old) (half s new) (ticked (gives s) count (half s old) (half s new) v.2.0.0)))
-    (same mid new v.2.0.1) t g k
-does_keep gives (event.Emit n p) r old new x t g k free =
-    let v = value_of (side_of n) _ x in
-    let s = v.0 in
-    let mid = with_half s v.2.1 old in
-    followed old mid new (asked (gives s) (Transmit p) (answer.Transmit v.2.0) s v.2.1 old v.2.2) (emitted s p v.2.0 mid new r v.2.3) t g k
-does_keep gives (event.Deliver c n) r old new x t g k free =
-    let v = value_of (side_of n) _ x in
-    let l = on_line c _ old.links v.2 in
-    delivers gives v.0 l.0 l.1 (towards v.0 l.1) old new r l.4 t g k
-does_keep gives (event.Lose c n) r old new x t g k free =
-    let v = value_of (side_of n) _ x in
-    let l = on_line c _ old.links v.2 in
-    loses v.0 l.0 l.1 (towards v.0 l.1) old new r l.4 t g k
-does_keep gives (event.Repeat c n) r old new x t g k free =
-    let v = value_of (side_of n) _ x in
-    let l = on_line c _ old.links v.2 in
-    repeats gives v.0 l.1 (towards v.0 l.1) old new r l.4 t g k
-does_keep gives (event.Cut c) r old new x t g k free =
-    let l = on_line c _ old.links x in
-    ap (sent_of t g k) l.4.1
-does_keep gives (event.Join c) r old new x t g k free =
-    let l = on_line c _ old.links x in
-    ap (sent_of t g k) l.4.1
-does_keep gives (event.Sense c n) r old new x t g k free =
-    let v = value_of (side_of n) _ x in
-    let l = on_line c _ old.links v.2 in
-    let s = v.0 in
-    let mid = with_half s (half s new) old in
-    followed old mid new (asked (gives s) (Set_link (port_at s l.1) l.1.whole) (answer.SetLink l.4.0.0) s (half s new) old l.4.0.1)
-    (same mid new l.4.1) t g k
-does_keep gives (event.Restart n) r old new x t g k free =
-    let v = value_of (side_of n) _ x in
-    let s = v.0 in
-    let mid = with_half s (half s new) old in
-    followed old mid new
-    (of_half s (half s new) old (same_flows (half s old) (half s new) (ap (λ (h : HalfState). h.flows) v.2.1.0.2
-    ∙ ap (λ (h : HalfState). h.flows) v.2.1.0.1.same)))
-    (λ u h i. ap (sent_of u h i) v.2.1.1) t g k
-does_keep gives (event.Configure n p change) r old new x t g k free =
-    let v = value_of (side_of n) _ x in
-    let s = v.0 in
-    let mid = with_half s (half s new) old in
-    followed old mid new
-    (of_half s (half s new) old (same_flows (half s old) (half s new) (ap (λ (h : HalfState). h.flows) v.2.0.4
-    ∙ ap (λ (h : HalfState). h.flows) v.2.0.2.same)))
-    (same mid new v.2.1) t g k
-does_keep gives (event.Offer n agg octets) r old new x t g k free =
-    let v = value_of (side_of n) _ x in
-    let s = v.0 in
-    let mid = with_half s v.2.1 old in
-    offered_on s agg octets.items v.2.0 mid new r v.2.3 t g k (other n s t agg g (number_named n s v.1) free)
-    ∙ asked (gives s) (Offer agg octets.items) (answer.Offer v.2.0) s v.2.1 old v.2.2 t g k
-does_keep gives (event.Move n agg conv p) r old new x t g k free =
-    let v = value_of (side_of n) _ x in
-    let s = v.0 in
-    let mid = with_half s (half s new) old in
-    followed old mid new (asked (gives s) (Move_conversation agg conv p) (answer.MoveConversation v.2.0.0) s (half s new) old v.2.0.1)
-    (same mid new v.2.1) t g k
-does_keep gives (event.Force n agg conv) r old new x t g k free =
-    let v = value_of (side_of n) _ x in
-    let s = v.0 in
-    let mid = with_half s (half s new) old in
-    followed old mid new
-    (of_half s (half s new) old
-    (λ h i. ap (λ (y : HalfState). sent_in (flow_at y.flows h i)) v.2.0.4 ∙ forced_where_sent v.2.0.0 agg conv v.2.0.1 h i
-    ∙ ap (λ (y : HalfState). sent_in (flow_at y.flows h i)) v.2.0.2.same))
-    (same mid new v.2.1) t g k
+does_keep gives e r old new x t g k free = let v = does_effect gives e r old new x in effect_keeps gives e v.0 r old new v.2 t g k free
 
 neither : (a b : Bool) → (a || b) ≡ false → (a ≡ false) × (b ≡ false)
 neither true b h = absurd (true≢false h)
