@@ -19,8 +19,9 @@ PARTS: dict[str, list[tuple[str, str | None, str | None]]] = {
 LEFT_OUT = {"### Before it is proved", "### Build it", "## Build it", "## How it is tested"}
 # How roff writes what has a meaning for it.
 ROFF = {"\\": "\\e", "-": "\\-", "'": "\\(aq", "`": "\\(ga", "^": "\\(ha", "~": "\\(ti"}
-# How many characters a line of a table has at most.
+# How many characters a line of a table has at most, and behind which of them a word of it may be broken.
 WIDTH = 70
+BREAKS = "_/,"
 
 
 def part_of(name: str) -> list[str]:
@@ -60,16 +61,27 @@ def guarded(line: str) -> str:
     return "\\&" + line if line[:1] in (".", "'") else line
 
 
+def breakable(text: str) -> str:
+    """Roff whose words may be broken behind BREAKS."""
+    return re.sub(f"[{BREAKS}]", lambda it: it[0] + "\\:", text)
+
+
 def cells_of(rows: Sequence[str]) -> list[list[str]]:
     """The cells of a table, row by row, without the line below its head. `\\|` is a stroke within a cell."""
     split = [[it.strip().replace("\0", "|") for it in row.strip().strip("|").replace("\\|", "\0").split("|")] for row in rows]
     return [split[0], *([*row, *[""] * len(split[0])][: len(split[0])] for row in split[2:])]
 
 
+def shown(text: str) -> str:
+    """A text as a reader sees it, without the marks of links and code."""
+    return re.sub(r"!?\[([^\]]*)\]\([^)]*\)", r"\1", text).replace("`", "")
+
+
 def widths(cells: list[list[str]]) -> list[int]:
-    """How wide each column is: each has room for its longest word, and what is left goes by the longest cells."""
-    columns = list(zip(*cells))
-    words = [max(len(word) for cell in column for word in cell.split() or [""]) for column in columns]
+    """How wide each column is: each has room for its longest word, and what is left goes by the longest cells. A word may be broken behind
+    BREAKS."""
+    columns = [[shown(cell) for cell in column] for column in zip(*cells)]
+    words = [max(len(word) for cell in column for word in re.split(rf"\s+|(?<=[{BREAKS}])", cell)) for column in columns]
     longest = [max(len(cell) for cell in column) for column in columns]
     left = max(0, WIDTH - 3 * (len(columns) - 1) - sum(words))
     wanted = [more - word for more, word in zip(longest, words)]
@@ -86,7 +98,7 @@ def table(cells: list[list[str]]) -> list[str]:
     columns = widths(cells)
     text = [".PP", ".TS", "tab(@);", *(" ".join(f"l{font}w({it}n)" for it in columns) + end for font, end in (("b", ""), ("", ".")))]
     for row in cells:
-        text.append("@".join(f"T{{\n{guarded(inline(it))}\nT}}" if it else "" for it in row))
+        text.append("@".join(f"T{{\n{guarded(breakable(inline(it)))}\nT}}" if it else "" for it in row))
     return [*text, ".TE"]
 
 
