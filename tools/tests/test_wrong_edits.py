@@ -42,6 +42,12 @@ def test_crates_and_tests_of_a_copy_have_its_number() -> None:
     assert named.place("/tests/src/systems/hostile.rt", "/tests/src") == "systems::hostile"
 
 
+def test_an_edited_crate_is_copied_where_a_named_one_stands_on_it(tmp_path: Path) -> None:
+    (tmp_path / "serving.rt").write_text("let task = lagengine_lines::asked_in(line);\n")
+    assert sorted(named.using("answering", str(tmp_path), ["serving"])) == ["answering", "lagengine_lines"]
+    assert named.using("carrier", str(tmp_path), ["serving"]) == []
+
+
 def test_a_module_comes_with_those_that_it_names(tmp_path: Path) -> None:
     for file, text in {"a.rt": "use crate::b::x;", "a/deep.rt": "use crate::c::y;", "b.rt": "", "c.rt": "", "d.rt": ""}.items():
         (tmp_path / file).parent.mkdir(exist_ok=True)

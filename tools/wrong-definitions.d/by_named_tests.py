@@ -26,9 +26,11 @@ Copy = tuple[int, str, list[str], list[Pair]]
 
 
 def using(crate: str, folder: str, modules: list[str]) -> list[str]:
-    """The crates that have to be copied with a crate so that modules of the tests meet the copy."""
+    """The crates that have to be copied with a crate so that modules of the tests meet the copy: those that they name and that stand on
+    it, the crates between, and the crate itself."""
     text = "".join(read(path) for module in modules for path in sources(folder, module))
-    return [name for name in below(*crates()) if crate in below(name) and re.search(rf"\b{name}::", text)]
+    met = [name for name in crates() if crate in below(name) and re.search(rf"\b{name}::", text)]
+    return [name for name in below(*crates()) if crate in below(name) and any(name in below(it) for it in met)]
 
 
 def with_named(folder: str, modules: list[str]) -> list[str]:
