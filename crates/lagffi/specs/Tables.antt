@@ -20,9 +20,13 @@ OffersByNumber gives agg conv old answer new = OffersConversation gives (aggrega
     × ((octets : List ℕ) → MayBeOffered octets → number_of_conversation old octets ≡ conv
     → CallPromise gives old (Offer (aggregator_numbered agg) octets) (reply.Offer answer) new)
 
--- a list of this length has no row for some conversation of the aggregator: there is one with that number. There are 4096 at most.
+-- how many conversations an aggregator has, where it has many (profile)
+abbrev pub many_conversations : ℕ
+many_conversations = 4096
+
+-- a list of this length has no row for some conversation of the aggregator: there is one with that number
 abbrev pub lacks_row : SystemState → ℕ → ℕ → Bool
-lacks_row s agg rows = is_some (conversation_at s (aggregator_numbered agg) (min rows 4096))
+lacks_row s agg rows = is_some (conversation_at s (aggregator_numbered agg) (min rows many_conversations))
 
 -- The first two arguments: one list or the other lacks a row; there is the aggregator. Where neither lacks one, the rows are told, and
 -- the answer is how many are marked; else the answer is why not, and the lists stay as they are.
