@@ -1,15 +1,22 @@
 -- Conversations leave stopped ports, one port after another.
 use Rattle.std.proofs.Common.{◌≡◌, ℕ, zero, suc, ◌+◌, ◌<◌, Bool, true, false, ◌==◌, ◌||◌, ◌&&◌, if◌then◌else◌, List, [], ◌∷◌, length}
-use Rattle.std.proofs.Common.{take, get_or, Option, None, refl, sym, ◌∙◌, ap, arith, add-one, inl, inr}
+use Rattle.std.proofs.Common.{take, get_or, slice_set, Option, Some, None, refl, sym, ◌∙◌, ap, arith, add-one, inl, inr}
 use Rattle.std.proofs.lemmas.Bool.{cases_eq, eq-eqb, ne_eqb}
 use Rattle.std.proofs.Math.Bool.{and-true}
+use Rattle.std.specs.Prelude.{not}
 use Rattle.lagtypes.specs.declared.identifiers.AggId.{AggId}
+use Rattle.lagtypes.specs.declared.party.Choice.{Choice}
+use Rattle.lagtypes.specs.declared.party.Choice.TheVariants.{Unselected, Selected, Standby}
+use Rattle.portmachines.specs.declared.mux.MuxState.TheVariants.{CollectingDistributing}
+use Rattle.portmachines.specs.Mux.{same_mux_state}
+use Rattle.selection.specs.Views.{has_chosen}
 use Rattle.distributor.specs.declared.assignment.Assignment.{Assignment}
 use Rattle.distributor.specs.declared.assignment.Assignment.TheVariants.{Free, On, Wanted, Flushing}
 use Rattle.distributor.specs.Changes.{ChangesAssignments, after_leave}
 use Rattle.distributor.specs.Conversations.{Table, assignment_of}
 use Rattle.lagsystem.specs.declared.system_ports.SystemPort.{SystemPort}
-use Rattle.lagsystem.specs.Holding.{after_holding, has_stopped, stopped}
+use Rattle.lagsystem.specs.Holding.{after_holding, aggregators_in_use, has_stopped, stopped}
+use Rattle.lagsystem.specs.Readers.{collecting, selected_aggregator}
 
 -- the port s left, if it is the one with the number p
 abbrev leaves : Option AggId → SystemPort → ℕ → Bool
@@ -110,4 +117,100 @@ left_same before system_ports i d e old new l same h stays =
       first = h.first;
       next = h.next;
       states = λ x y. h.states x y ∙ leave_same f g equal (assignment_of old x y);
+    }
+
+-- one port went on
+
+-- whether a port with this value of Selected, whose mux machine distributes or not, no longer distributes where it did
+abbrev still_in : Option AggId → Choice → Bool → Bool
+still_in None c d = false
+still_in (Some agg) c d = not (has_chosen agg c && d)
+
+has_stopped_is : (was : Option AggId) (s : SystemPort)
+    → has_stopped was s ≡ still_in was s.port.choice (same_mux_state CollectingDistributing s.port.mux)
+has_stopped_is None s = refl
+has_stopped_is (Some agg) s = refl
+
+stays_in : (c : Choice) (d : Bool) → still_in (if d then selected_aggregator c else None) c d ≡ false
+stays_in c false = refl
+stays_in Unselected true = refl
+stays_in (Standby agg) true = refl
+stays_in (Selected agg) true = ap (λ b. not (b && true)) (eq-eqb agg.0 agg.0 refl)
+
+-- a port distributes where it does
+never_stopped : (s : SystemPort) → has_stopped (collecting s.port) s ≡ false
+never_stopped s = has_stopped_is (collecting s.port) s ∙ stays_in s.port.choice (same_mux_state CollectingDistributing s.port.mux)
+
+or_neither : (b c d : Bool) → c ≡ false → d ≡ false → ((b && c) || d) ≡ false
+or_neither true c d e k = ap (λ (x : Bool). x || d) e ∙ k
+or_neither false c d e k = k
+
+or_first : (b c d : Bool) → d ≡ false → ((b && c) || d) ≡ (b && c)
+or_first true true d e = refl
+or_first true false d e = e
+or_first false c d e = e
+
+or_second : (b c d : Bool) → c ≡ false → ((b && c) || d) ≡ d
+or_second true c d e = ap (λ (x : Bool). x || d) e
+or_second false c d e = refl
+
+none_stopped : (system_ports : List SystemPort) (p : ℕ) → stopped (aggregators_in_use system_ports) system_ports p ≡ false
+none_stopped [] p = refl
+none_stopped (s ∷ ss) p =
+    or_neither (s.number == p) (has_stopped (collecting s.port) s) (stopped (aggregators_in_use ss) ss p) (never_stopped s) (none_stopped ss p)
+
+-- only the port at the place can have stopped
+stopped_at : (system_ports : List SystemPort) (i : ℕ) (was : Option AggId) (d : SystemPort) (p : ℕ) → i < length system_ports
+    → stopped (slice_set (aggregators_in_use system_ports) i was) system_ports p ≡ leaves was (get_or system_ports i d) p
+stopped_at [] i was d p l = absurd (omega arith)
+stopped_at (s ∷ ss) zero was d p l =
+    or_first (s.number == p) (has_stopped was s) (stopped (aggregators_in_use ss) ss p) (none_stopped ss p)
+stopped_at (s ∷ ss) (suc i) was d p l =
+    or_second (s.number == p) (has_stopped (collecting s.port) s) (stopped (slice_set (aggregators_in_use ss) i was) ss p) (never_stopped s)
+    ∙ stopped_at ss i was d p (omega arith)
+
+leave_only : (f : ℕ → Bool) (n : ℕ) → ((p : ℕ) → f p ≡ (n == p)) → (a : Assignment) → after_leave n a ≡ after_holding f a
+leave_only f n e (Free preferred) = refl
+leave_only f n e (On p) = leave_one false n p ∙ ap (λ b. if b then Wanted p None else On p) (sym (e p))
+leave_only f n e (Wanted p preferred) = refl
+leave_only f n e (Flushing p id preferred age) = refl
+
+leave_none : (f : ℕ → Bool) → ((p : ℕ) → f p ≡ false) → (a : Assignment) → a ≡ after_holding f a
+leave_none f e (Free preferred) = refl
+leave_none f e (On p) = ap (λ b. if b then Wanted p None else On p) (sym (e p))
+leave_none f e (Wanted p preferred) = refl
+leave_none f e (Flushing p id preferred age) = refl
+
+-- the port that alone went on stopped, and is left
+pub one_left : (system_ports : List SystemPort) (i : ℕ) (was : Option AggId) (d : SystemPort) (old new : Table) → i < length system_ports
+    → has_stopped was (get_or system_ports i d) ≡ true → ChangesAssignments old new (after_leave (get_or system_ports i d).number)
+    → ChangesAssignments old new (after_holding (stopped (slice_set (aggregators_in_use system_ports) i was) system_ports))
+one_left system_ports i was d old new l stops k =
+    let n = (get_or system_ports i d).number in
+    let f = stopped (slice_set (aggregators_in_use system_ports) i was) system_ports in
+    let only : (p : ℕ) → f p ≡ (n == p) =
+    λ p. stopped_at system_ports i was d p l ∙ ap (λ b. (n == p) && b) stops ∙ and-true (n == p) in
+    record {
+      aggs = k.aggs;
+      conversations = k.conversations;
+      first = k.first;
+      next = k.next;
+      states = λ x y. k.states x y ∙ leave_only f n only (assignment_of old x y);
+    }
+
+-- it did not stop
+pub one_stays : (system_ports : List SystemPort) (i : ℕ) (was : Option AggId) (d : SystemPort) (t : Table) → i < length system_ports
+    → has_stopped was (get_or system_ports i d) ≡ false
+    → ChangesAssignments t t (after_holding (stopped (slice_set (aggregators_in_use system_ports) i was) system_ports))
+one_stays system_ports i was d t l stays =
+    let n = (get_or system_ports i d).number in
+    let f = stopped (slice_set (aggregators_in_use system_ports) i was) system_ports in
+    let none : (p : ℕ) → f p ≡ false =
+    λ p. stopped_at system_ports i was d p l ∙ ap (λ b. (n == p) && b) stays ∙ or_none false (n == p) in
+    record {
+      aggs = refl;
+      conversations = refl;
+      first = refl;
+      next = refl;
+      states = λ x y. leave_none f none (assignment_of t x y);
     }

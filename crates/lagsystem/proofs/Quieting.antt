@@ -303,7 +303,7 @@ settling_still old new r h =
 
 -- if nothing is to be done
 
-still_mux : (keys : List Key) (system_ports xs : List SystemPort) → AllByRecursion (MuxIsSettled keys system_ports) xs
+pub still_mux : (keys : List Key) (system_ports xs : List SystemPort) → AllByRecursion (MuxIsSettled keys system_ports) xs
     → PortsChangeBy (RunsToRest (mux_rows false)) xs xs
 still_mux keys system_ports [] h = tt
 still_mux keys system_ports (x ∷ xs) h = ((refl, (0, refl, h.0.mux)), still_mux keys system_ports xs h.1)
@@ -330,15 +330,20 @@ still_chosen aggs (suc n) system_ports h =
     ∙ still_choose aggs system_ports n (slice_get system_ports n) refl h
 
 -- settling leaves all but the periodic machines
+-- a settling in which only step 1 and step 5 change ports
+pub settles_from : (s : SystemState) (ran news : List SystemPort) → PortsChangeBy (RunsToRest (mux_rows false)) s.system_ports ran
+    → MuxesAreSettled s.keys ran → NoneIsNext (aggregators_value s) (views ran) → PortsChangeBy RunsPeriodic ran news
+    → SettlesPorts s (with_system_ports s news)
+settles_from s ran news first h none m =
+    let aggs = aggregators_value s in
+    settling_made s aggs s.system_ports ran ran ran news refl refl first
+    (ran, nothing_promoted aggs (length s.keys) ran none, sym (still_chosen aggs (length ran) ran h)) (still_ready s.keys ran ran h) m
+
 pub still_settles : (s : SystemState) (news : List SystemPort) → MuxesAreSettled s.keys s.system_ports
     → NoneIsNext (aggregators_value s) (views s.system_ports) → PortsChangeBy RunsPeriodic s.system_ports news
     → SettlesPorts s (with_system_ports s news)
 still_settles s news h none m =
-    let aggs = aggregators_value s in
-    settling_made s aggs s.system_ports s.system_ports s.system_ports s.system_ports news refl refl
-    (still_mux s.keys s.system_ports s.system_ports h)
-    (s.system_ports, nothing_promoted aggs (length s.keys) s.system_ports none, sym (still_chosen aggs (length s.system_ports) s.system_ports h))
-    (still_ready s.keys s.system_ports s.system_ports h) m
+    settles_from s s.system_ports news (still_mux s.keys s.system_ports s.system_ports h) h none m
 
 pub paced_runs : (xs : List SystemPort) → PeriodicsAreSettled xs → PortsChangeBy RunsPeriodic xs xs
 paced_runs [] h = tt

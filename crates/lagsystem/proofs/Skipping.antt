@@ -1,50 +1,48 @@
--- An LACPDU after which the port looks the same to others: settling runs only the periodic machine of that port.
-use Rattle.std.proofs.Common.{◌≡◌, ◌∙◌, ℕ, zero, suc, Bool, true, false, cond, ◌||◌, List, [], ◌∷◌, map, filter, Option, Some, None}
+-- An LACPDU after which the port looks the same to the Selection Logic: a settling goes on with this port alone.
+use Rattle.std.proofs.Common.{◌≡◌, ◌∙◌, ℕ, zero, suc, Bool, true, false, ◌||◌, List, [], ◌∷◌, Option, Some, None}
 use Rattle.std.proofs.Common.{refl, sym, ap, subst, inl, inr, slice_get, slice_set, if◌then◌else◌}
 use Rattle.std.specs.Bool.{OnTrue}
 use Rattle.std.specs.List.{AllByRecursion}
 use Rattle.std.proofs.lemmas.Option.{same_Some}
 use Rattle.lagtypes.specs.declared.identifiers.AggId.{AggId}
 use Rattle.lagtypes.specs.declared.identifiers.Key.{Key}
-use Rattle.lagtypes.specs.declared.party.Choice.{Choice}
-use Rattle.lagtypes.specs.declared.state.State.{State as Octet}
+use Rattle.lagtypes.specs.declared.party.Choice.TheVariants.{Unselected}
 use Rattle.slowpdu.specs.declared.pdu.Lacpdu.{Lacpdu}
-use Rattle.portmachines.specs.declared.mux.MuxState.{MuxState}
 use Rattle.portmachines.specs.Machines.{Machines}
 use Rattle.portmachines.specs.Mux.{mux_rows}
-use Rattle.portmachines.specs.Periodic.{RunsPeriodic, periodic_rows}
+use Rattle.portmachines.specs.Periodic.{RunsPeriodic}
 use Rattle.portmachines.specs.Receive.{same_receive_state}
 use Rattle.portmachines.specs.declared.receive.ReceiveState.TheVariants.{Current, Defaulted}
-use Rattle.lagtypes.specs.declared.party.Choice.TheVariants.{Unselected}
-use Rattle.portmachines.specs.Rows.{AtRest}
+use Rattle.portmachines.specs.Rows.{AtRest, RunsToRest}
+use Rattle.portmachines.proofs.Choices.{one_mux}
 use Rattle.portmachines.proofs.Runs.{Reaches-keeps}
-use Rattle.distributor.specs.declared.assignment.Assignment.{Assignment}
-use Rattle.distributor.specs.declared.assignment.Assignment.TheVariants.{Free, On, Wanted, Flushing}
-use Rattle.distributor.specs.Calls.{is_among}
-use Rattle.distributor.specs.Conversations.{assignment_of}
+use Rattle.distributor.specs.Changes.{ChangesAssignments}
+use Rattle.distributor.specs.Conversations.{Table}
 use Rattle.selection.specs.declared.view.PortView.{PortView}
+use Rattle.selection.specs.declared.view.Stage.TheVariants as stage
 use Rattle.selection.specs.Views.{is_eligible}
 use Rattle.selection.specs.Choice.{chosen_aggregator}
 use Rattle.lagsystem.specs.declared.system_ports.SystemPort.{SystemPort}
 use Rattle.lagsystem.specs.Calls.{PortAtChangesBy, OnlyPortChangesBy, ThenSettles, ProcessesLacpdu}
+use Rattle.lagsystem.specs.Holding.{after_holding, aggregators_in_use, stopped}
 use Rattle.lagsystem.specs.NothingToSettle.{PeriodicsAreSettled, MuxesAreSettled, IsSamePartner, MuxIsSettled, HasRecordedActor}
 use Rattle.lagsystem.specs.NothingToSettle.{LooksUnchanged, ProcessesLacpduAt}
-use Rattle.lagsystem.specs.Readers.{aggregator_numbered, distributes_in, distributing}
-use Rattle.lagsystem.specs.Settling.{PortsChangeBy, HoldsConversations, PortChangesBy, Settling, held_unless_on, ready_of}
-use Rattle.lagsystem.specs.Sound.{OnlyOnDistributing}
 use Rattle.lagsystem.specs.Occupants.{NoneIsNext}
+use Rattle.lagsystem.specs.Readers.{collecting}
+use Rattle.lagsystem.specs.Settling.{PortsChangeBy, PortChangesBy, Settling, SettlesPorts, ready_of}
+use Rattle.lagsystem.specs.Sound.{IsSound}
 use Rattle.lagsystem.specs.State.{SystemState, aggregators_value, with_system_ports}
 use Rattle.lagsystem.specs.Views.{stage_of, selection_view, views}
-use Rattle.lagsystem.proofs.Keeps.{settling_joined}
-use Rattle.lagsystem.proofs.Quieting.{paced_runs, still_settles}
+use Rattle.lagsystem.proofs.Keeps.{ports_keep, ports_table, settling_joined}
+use Rattle.lagsystem.proofs.PlaceLemmas.{in_use_before}
+use Rattle.lagsystem.proofs.Quieting.{paced_runs, settles_from, still_mux}
 use Rattle.lagsystem.proofs.Rising.{all-get, all-set}
+use Rattle.lagsystem.proofs.Settled.{is_moved_on, moved_on, place_carried}
+use Rattle.lagsystem.proofs.Stopped.{leaves_made}
 
--- taking leaves the mux machine
-take_mux : (v : Lacpdu) (p q : Machines) → ProcessesLacpdu v p q → q.mux ≡ p.mux
-take_mux v p q h = elim h [
-  | inl f ↦ elim f [ inl g ↦ ap (λ (m : Machines). m.mux) g.1 | inr g ↦ absurd g ]
-  | inr r ↦ ap (λ (m : Machines). m.mux) r.1
-]
+-- an LACPDU, then the mux machine with Ready false
+abbrev pub ProcessesAndRuns : Lacpdu → Machines → Machines → Type 0
+ProcessesAndRuns v p q = (r : Machines) × ProcessesLacpdu v p r × RunsToRest (mux_rows false) r q
 
 -- the views
 pub alike_views : (system_ports : List SystemPort) (i : ℕ) (s t : SystemPort) → slice_get system_ports i ≡ Some s
@@ -52,19 +50,6 @@ pub alike_views : (system_ports : List SystemPort) (i : ℕ) (s t : SystemPort) 
 alike_views [] i s t e h = refl
 alike_views (x ∷ xs) zero s t e h = let same : s ≡ x = sym (same_Some x s e) in λ i. (h ∙ ap selection_view same) i ∷ views xs
 alike_views (x ∷ xs) (suc i) s t e h = ap (λ vs. selection_view x ∷ vs) (alike_views xs i s t e h)
-
--- what the mux rows look at
-with_looks : Machines → MuxState → Choice → Octet → Machines
-with_looks p m c o = record p { mux = m; choice = c; partner = record p.partner { state = o } }
-
-alike_rest : (p q : Machines) → q.mux ≡ p.mux → q.choice ≡ p.choice → q.partner.state ≡ p.partner.state → AtRest (mux_rows false) p
-    → AtRest (mux_rows false) q
-alike_rest p q m c o h =
-    subst (λ (x : MuxState). AtRest (mux_rows false)
-    (record p { mux = x; choice = q.choice; partner = record p.partner { state = q.partner.state } })) (sym m)
-    (subst (λ (x : Choice). AtRest (mux_rows false) (record p { choice = x; partner = record p.partner { state = q.partner.state } }))
-    (sym c)
-    (subst (λ (x : Octet). AtRest (mux_rows false) (record p { partner = record p.partner { state = x } })) (sym o) h))
 
 -- what a port takes, by what is seen
 abbrev takes_seen : List Key → List PortView → PortView → Option AggId
@@ -91,15 +76,23 @@ alike_still keys system_ports s t e r h = record {
   unready = ap (λ (v : PortView). ready_of keys (views system_ports) v.choice) e ∙ h.unready;
 }
 
-taken_still : (keys : List Key) (v : Lacpdu) (system_ports : List SystemPort) (i : ℕ) (s t : SystemPort) → slice_get system_ports i ≡ Some s
-    → PortChangesBy (ProcessesLacpdu v) s t → LooksUnchanged s t → MuxesAreSettled keys system_ports
-    → MuxesAreSettled keys (slice_set system_ports i t)
-taken_still keys v system_ports i s t e m a h =
+-- the ports are settled again once the mux machine of one that looks the same is at rest
+ran_still : (keys : List Key) (system_ports : List SystemPort) (i : ℕ) (s u : SystemPort) → slice_get system_ports i ≡ Some s
+    → AtRest (mux_rows false) u.port → LooksUnchanged s u → MuxesAreSettled keys system_ports
+    → MuxesAreSettled keys (slice_set system_ports i u)
+ran_still keys system_ports i s u e rest a h =
     let here = all-get (MuxIsSettled keys system_ports) system_ports i s e h in
-    let seen = alike_views system_ports i s t e a.0 in
-    let rest = alike_rest s.port t.port (take_mux v s.port t.port m.1) (ap (λ (x : PortView). x.choice) a.0) a.1 here.mux in
-    all_among keys system_ports (slice_set system_ports i t) (slice_set system_ports i t) seen
-    (all-set (MuxIsSettled keys system_ports) system_ports i t h (alike_still keys system_ports s t a.0 rest here))
+    let seen = alike_views system_ports i s u e a in
+    all_among keys system_ports (slice_set system_ports i u) (slice_set system_ports i u) seen
+    (all-set (MuxIsSettled keys system_ports) system_ports i u h (alike_still keys system_ports s u a rest here))
+
+-- every other mux machine is at rest
+set_ran : (keys : List Key) (all system_ports : List SystemPort) (i : ℕ) (t u : SystemPort) → AllByRecursion (MuxIsSettled keys all) system_ports
+    → PortChangesBy (RunsToRest (mux_rows false)) t u
+    → PortsChangeBy (RunsToRest (mux_rows false)) (slice_set system_ports i t) (slice_set system_ports i u)
+set_ran keys all [] i t u h m = tt
+set_ran keys all (x ∷ xs) zero t u h m = (m, still_mux keys all xs h.1)
+set_ran keys all (x ∷ xs) (suc i) t u h m = ((refl, (0, refl, h.0.mux)), set_ran keys all xs i t u h.1 m)
 
 -- all but the port at the place are paced
 set_runs : (system_ports : List SystemPort) (i : ℕ) (t u : SystemPort) → PeriodicsAreSettled system_ports → PortChangesBy RunsPeriodic t u
@@ -108,65 +101,84 @@ set_runs [] i t u h m = tt
 set_runs (x ∷ xs) zero t u h m = (m, paced_runs xs h.1)
 set_runs (x ∷ xs) (suc i) t u h m = ((refl, (x.port, (0, refl, h.0.rows), h.0.cleared)), set_runs xs i t u h.1 m)
 
--- the ports that distribute
-through : (b : Bool) (x : SystemPort) (xs : List SystemPort) → map (λ (s : SystemPort). s.number) (cond b (x ∷ xs) xs) ≡ cond b (x.number
-    ∷ map (λ (s : SystemPort). s.number) xs) (map (λ (s : SystemPort). s.number) xs)
-through true x xs = refl
-through false x xs = refl
+-- the port at the place goes on, and no other does
+get_set : (system_ports : List SystemPort) (i : ℕ) (s t u : SystemPort) → slice_get system_ports i ≡ Some s
+    → slice_get (slice_set system_ports i t) i ≡ Some u → u ≡ t
+get_set [] i s t u e h = absurd cc
+get_set (x ∷ xs) zero s t u e h = sym (same_Some t u h)
+get_set (x ∷ xs) (suc i) s t u e h = get_set xs i s t u e h
 
-more : (agg : AggId) (x : SystemPort) (xs : List SystemPort)
-    → distributing agg (x ∷ xs) ≡ cond (distributes_in agg x) (x.number ∷ distributing agg xs) (distributing agg xs)
-more agg x xs = through (distributes_in agg x) x (filter (distributes_in agg) xs)
+pub on_place_taken : (v : Lacpdu) (i : ℕ) (old : List SystemPort) (alike : Bool) (new : List SystemPort)
+    → ProcessesLacpduAt v i old alike new → PortAtChangesBy (ProcessesAndRuns v) (Some i) old new
+on_place_taken v i old alike new h =
+    (h.before, h.after.port, h.there, (h.changes.mid.port, h.changes.processes.1, h.changes.runs.1), h.others ∙ ap (slice_set old i) whole)
+  where
+    whole : h.after ≡ record h.before { port = h.after.port }
+    whole = h.changes.runs.0 ∙ ap (λ (x : SystemPort). record x { port = h.after.port }) h.changes.processes.0
 
-alike_distributing : (agg : AggId) (system_ports : List SystemPort) (i : ℕ) (s t : SystemPort) → slice_get system_ports i ≡ Some s
-    → t.number ≡ s.number → distributes_in agg t ≡ distributes_in agg s
-    → distributing agg (slice_set system_ports i t) ≡ distributing agg system_ports
-alike_distributing agg [] i s t e n d = refl
-alike_distributing agg (x ∷ xs) zero s t e n d =
-    let same : s ≡ x = sym (same_Some x s e) in
-    more agg t xs
-    ∙ ap (λ b. cond b (t.number ∷ distributing agg xs) (distributing agg xs)) (d ∙ ap (distributes_in agg) same)
-    ∙ ap (λ n. cond (distributes_in agg x) (n ∷ distributing agg xs) (distributing agg xs)) (n ∙ ap (λ (y : SystemPort). y.number) same)
-    ∙ sym (more agg x xs)
-alike_distributing agg (x ∷ xs) (suc i) s t e n d =
-    more agg x (slice_set xs i t)
-    ∙ ap (λ l. cond (distributes_in agg x) (x.number ∷ l) l) (alike_distributing agg xs i s t e n d)
-    ∙ sym (more agg x xs)
+-- the state right after the LACPDU
+abbrev pub processed : (v : Lacpdu) (old : SystemState) (i : ℕ) (alike : Bool) (new : List SystemPort)
+    → ProcessesLacpduAt v i old.system_ports alike new → SystemState
+processed v old i alike new h = with_system_ports old (slice_set old.system_ports i h.changes.mid)
 
--- no conversation leaves
-carried_on : (ports : List ℕ) (a : Assignment) → ((p : ℕ) → a ≡ On p → is_among ports p ≡ true) → a ≡ held_unless_on ports a
-carried_on ports (Free preferred) k = refl
-carried_on ports (On p) k = sym (ap (λ b. if b then On p else Wanted p None) (k p refl))
-carried_on ports (Wanted p preferred) k = refl
-carried_on ports (Flushing p id preferred age) k = refl
+-- what the call itself does
+pub own_made : (v : Lacpdu) (old : SystemState) (i : ℕ) (alike : Bool) (new : List SystemPort)
+    (h : ProcessesLacpduAt v i old.system_ports alike new)
+    → OnlyPortChangesBy (Some i) (ProcessesLacpdu v) old (processed v old i alike new h)
+own_made v old i alike new h =
+    ((h.before, h.changes.mid.port, h.there, h.changes.processes.1, ap (slice_set old.system_ports i) h.changes.processes.0), refl)
 
-stays_on : (old new : SystemState) → OnlyOnDistributing old → new.table ≡ old.table
-    → ((g : ℕ) → distributing (aggregator_numbered g) new.system_ports ≡ distributing (aggregator_numbered g) old.system_ports)
-    → HoldsConversations new new
-stays_on old new c t d = record {
-  frame = refl;
-  aggs = refl;
-  conversations = refl;
-  first = refl;
-  next = refl;
-  states = λ g k. carried_on (distributing (aggregator_numbered g) new.system_ports) (assignment_of new.table g k)
-      (λ p e. ap (λ l. is_among l p) (d g) ∙ c g k p (sym (ap (λ x. assignment_of x g k) t) ∙ e));
-}
+-- a settling that finds the mux machine of the port run already
+first_joined : (system_ports : List SystemPort) (i : ℕ) (t u : SystemPort) (xs : List SystemPort)
+    → PortChangesBy (RunsToRest (mux_rows false)) t u
+    → PortsChangeBy (RunsToRest (mux_rows false)) (slice_set system_ports i u) xs
+    → PortsChangeBy (RunsToRest (mux_rows false)) (slice_set system_ports i t) xs
+first_joined [] i t u xs m h = h
+first_joined (x ∷ xs) zero t u [] m h = absurd h
+first_joined (x ∷ xs) zero t u (y ∷ ys) m h =
+    let same : u.port ≡ y.port = one_mux false u.port u.port y.port (0, refl, m.1.2) h.0.1 in (
+      (
+        h.0.0 ∙ ap (λ (z : SystemPort). record z { port = y.port }) m.0,
+        subst (λ (q : Machines). RunsToRest (mux_rows false) t.port q) same m.1,
+      ),
+      h.1,
+    )
+first_joined (x ∷ xs) (suc i) t u [] m h = absurd h
+first_joined (x ∷ xs) (suc i) t u (y ∷ ys) m h = (h.0, first_joined xs i t u ys m h.1)
 
--- the periodic machine leaves what conversations look at
-paced_mux : (p q : Machines) → RunsPeriodic p q → q.mux ≡ p.mux
-paced_mux p q h = ap (λ (m : Machines). m.mux) h.2
-    ∙ Reaches-keeps (λ (m : Machines). m.mux) periodic_rows (
-      (λ p. refl),
-      ((λ p. refl), ((λ p. refl), ((λ p. refl), ((λ p. refl), ((λ p. refl), ((λ p. refl), tt)))))),
-    ) h.1.0 p h.0 h.1.1
+pub took_settled : (v : Lacpdu) (old : SystemState) (i : ℕ) (alike : Bool) (one : List SystemPort) (new : SystemState)
+    → ProcessesLacpduAt v i old.system_ports alike one → Settling (with_system_ports old one) new
+    → ThenSettles (OnlyPortChangesBy (Some i) (ProcessesLacpdu v)) old new
+took_settled v old i alike one new h k =
+    let k2 : Settling (with_system_ports old (slice_set old.system_ports i h.after)) new =
+    subst (λ l. Settling (with_system_ports old l) new) h.others k in (
+      processed v old i alike one h,
+      own_made v old i alike one h,
+      (
+        k2.0,
+        (first_joined old.system_ports i h.changes.mid h.after k2.0.system_ports h.changes.runs k2.1.0, k2.1.1),
+        k2.2,
+      ),
+    )
 
-paced_choice : (p q : Machines) → RunsPeriodic p q → q.choice ≡ p.choice
-paced_choice p q h = ap (λ (m : Machines). m.choice) h.2
-    ∙ Reaches-keeps (λ (m : Machines). m.choice) periodic_rows (
-      (λ p. refl),
-      ((λ p. refl), ((λ p. refl), ((λ p. refl), ((λ p. refl), ((λ p. refl), ((λ p. refl), tt)))))),
-    ) h.1.0 p h.0 h.1.1
+-- steps 1 to 5, where the port looks the same after each
+ports_settled : (v : Lacpdu) (old : SystemState) (i : ℕ) (one two : List SystemPort) → MuxesAreSettled old.keys old.system_ports
+    × PeriodicsAreSettled old.system_ports → NoneIsNext (aggregators_value old) (views old.system_ports)
+    → (h : ProcessesLacpduAt v i old.system_ports true one) → PortAtChangesBy RunsPeriodic (Some i) one two
+    → SettlesPorts (processed v old i true one h) (with_system_ports old two)
+ports_settled v old i one two q none h k =
+    let u = h.after in
+    let us = slice_set old.system_ports i u in
+    let is : k.0 ≡ u = get_set old.system_ports i h.before u k.0 h.there (ap (λ l. slice_get l i) (sym h.others) ∙ k.2) in
+    let runs : RunsPeriodic u.port k.1 = subst (λ (x : SystemPort). RunsPeriodic x.port k.1) is k.3 in
+    let w : SystemPort = record u { port = k.1 } in
+    let last : two ≡ slice_set us i w = k.4 ∙ (λ j. slice_set (h.others j) i (record (is j) { port = k.1 })) in
+    subst (λ l. SettlesPorts (processed v old i true one h) (with_system_ports old l)) (sym last)
+    (settles_from (processed v old i true one h) us (slice_set us i w)
+    (set_ran old.keys old.system_ports old.system_ports i h.changes.mid u q.0 h.changes.runs)
+    (ran_still old.keys old.system_ports i h.before u h.there h.changes.runs.1.2 h.changes.same.1 q.0)
+    (subst (λ l. NoneIsNext (aggregators_value old) l) (sym (alike_views old.system_ports i h.before u h.there h.changes.same.1)) none)
+    (set_runs old.system_ports i u w q.1 (refl, runs)))
 
 set_twice : (system_ports : List SystemPort) (i : ℕ) (t u : SystemPort)
     → slice_set (slice_set system_ports i t) i u ≡ slice_set system_ports i u
@@ -174,53 +186,39 @@ set_twice [] i t u = refl
 set_twice (x ∷ xs) zero t u = refl
 set_twice (x ∷ xs) (suc i) t u = ap (λ l. x ∷ l) (set_twice xs i t u)
 
-pub skipped : (v : Lacpdu) (old : SystemState) (i : ℕ) (s t u : SystemPort) → MuxesAreSettled old.keys old.system_ports
-    × PeriodicsAreSettled old.system_ports → NoneIsNext (aggregators_value old) (views old.system_ports) → OnlyOnDistributing old → slice_get old.system_ports i ≡ Some s
-    → PortChangesBy (ProcessesLacpdu v) s t → LooksUnchanged s t → PortChangesBy RunsPeriodic t u
-    → Settling (with_system_ports old (slice_set old.system_ports i t))
-    (with_system_ports old (slice_set (slice_set old.system_ports i t) i u))
-skipped v old i s t u q none c e m a r =
-    let mid : SystemState = with_system_ports old (slice_set old.system_ports i t) in
-    let news : List SystemPort = slice_set mid.system_ports i u in
-    let new : SystemState = with_system_ports old news in
-    let mux : u.port.mux ≡ s.port.mux = paced_mux t.port u.port r.1 ∙ take_mux v s.port t.port m.1 in
-    let chosen_aggregator : u.port.choice ≡ s.port.choice = paced_choice t.port u.port r.1 ∙ ap (λ (x : PortView). x.choice) a.0 in
-    let number : u.number ≡ s.number = ap (λ (x : SystemPort). x.number) r.0 ∙ ap (λ (x : SystemPort). x.number) m.0 in
-    let same : (agg : AggId) → distributing agg news ≡ distributing agg old.system_ports =
-    λ agg. ap (distributing agg) (set_twice old.system_ports i t u)
-    ∙ alike_distributing agg old.system_ports i s u e number
-    (λ j. distributes_in agg (record s { port = record s.port { mux = mux j; choice = chosen_aggregator j } })) in
-    settling_joined mid new new (still_settles mid news (taken_still old.keys v old.system_ports i s t e m a q.0)
-    (subst (λ l. NoneIsNext (aggregators_value old) l) (sym (alike_views old.system_ports i s t e a.0)) none)
-    (set_runs old.system_ports i t u q.1 r))
-    (stays_on old new c refl (λ g. same (aggregator_numbered g)))
+-- the aggregators in use before the call, from those after it
+abbrev Any : Machines → Machines → Type 0
+Any p q = Unit {0}
 
-pub on_place_taken : (v : Lacpdu) (i : ℕ) (old : List SystemPort) (alike : Bool) (new : List SystemPort)
-    → ProcessesLacpduAt v i old alike new → PortAtChangesBy (ProcessesLacpdu v) (Some i) old new
-on_place_taken v i old alike new h = (h.0, h.1.port, h.2, h.3.1, h.4 ∙ ap (slice_set old i) h.3.0)
+pub paced_too : (v : Lacpdu) (i : ℕ) (old one two : List SystemPort) (s : SystemPort) (was : Option AggId) → slice_get old i ≡ Some s
+    → was ≡ collecting s.port → ProcessesLacpduAt v i old true one → PortAtChangesBy RunsPeriodic (Some i) one two
+    → slice_set (aggregators_in_use two) i was ≡ aggregators_in_use old
+paced_too v i old one two s was e w h k =
+    let is : k.0 ≡ h.after = get_set old i h.before h.after k.0 h.there (ap (λ l. slice_get l i) (sym h.others) ∙ k.2) in
+    let whole : record k.0 { port = k.1 } ≡ record h.before { port = k.1 } =
+    ap (λ (x : SystemPort). record x { port = k.1 }) (is ∙ h.changes.runs.0 ∙ ap (λ (x : SystemPort). record x { port = h.after.port })
+    h.changes.processes.0) in
+    let last : two ≡ slice_set old i (record h.before { port = k.1 }) =
+    k.4 ∙ (λ j. slice_set (h.others j) i (whole j)) ∙ set_twice old i h.after (record h.before { port = k.1 }) in
+    ap (slice_set (aggregators_in_use two) i) w ∙ in_use_before Any i old two s (h.before, k.1, h.there, tt, last) e
 
-get_set : (system_ports : List SystemPort) (i : ℕ) (s t u : SystemPort) → slice_get system_ports i ≡ Some s
-    → slice_get (slice_set system_ports i t) i ≡ Some u → u ≡ t
-get_set [] i s t u e h = absurd cc
-get_set (x ∷ xs) zero s t u e h = sym (same_Some t u h)
-get_set (x ∷ xs) (suc i) s t u e h = get_set xs i s t u e h
-
--- the lists that the two parts of the call leave
-pub took_quietly : (v : Lacpdu) (old : SystemState) (i : ℕ) (one two : List SystemPort) → MuxesAreSettled old.keys old.system_ports
-    × PeriodicsAreSettled old.system_ports → NoneIsNext (aggregators_value old) (views old.system_ports) → OnlyOnDistributing old
-    → ProcessesLacpduAt v i old.system_ports true one → PortAtChangesBy RunsPeriodic (Some i) one two
-    → ThenSettles (OnlyPortChangesBy (Some i) (ProcessesLacpdu v)) old (with_system_ports old two)
-took_quietly v old i one two q none c h k =
-    let s = h.0 in
-    let t = h.1 in
-    let is : k.0 ≡ t = get_set old.system_ports i s t k.0 h.2 (ap (λ l. slice_get l i) (sym h.4) ∙ k.2) in
-    let u : SystemPort = record t { port = k.1 } in
-    let runs : RunsPeriodic t.port k.1 = subst (λ (x : SystemPort). RunsPeriodic x.port k.1) is k.3 in
-    let last : two ≡ slice_set (slice_set old.system_ports i t) i u = k.4 ∙ (λ j. slice_set (h.4 j) i (record (is j) { port = k.1 })) in (
-      with_system_ports old (slice_set old.system_ports i t),
-      ((s, t.port, h.2, h.3.1, ap (slice_set old.system_ports i) h.3.0), refl),
-      subst (λ l. Settling (with_system_ports old (slice_set old.system_ports i t)) (with_system_ports old l)) (sym last)
-          (skipped v old i s t u q none c h.2 h.3 h.5 (refl, runs)),
+-- the lists that the parts of the call leave, and the conversations that left
+pub took_alone : (v : Lacpdu) (old : SystemState) (i : ℕ) (one two : List SystemPort) (were : List (Option AggId)) (t : Table)
+    → IsSound old → old.first_marker ≡ old.table.first → (h : ProcessesLacpduAt v i old.system_ports true one)
+    → PortAtChangesBy RunsPeriodic (Some i) one two → were ≡ aggregators_in_use old.system_ports
+    → ChangesAssignments old.table t (after_holding (stopped were two))
+    → ThenSettles (OnlyPortChangesBy (Some i) (ProcessesLacpdu v)) old (moved_on old two t)
+took_alone v old i one two were t s f h k e c =
+    let start = processed v old i true one h in
+    let mid = with_system_ports old two in
+    let own = own_made v old i true one h in
+    let settled = ports_settled v old i one two s.quiet s.promoted h k in
+    let w = place_carried (ProcessesLacpdu v) (Some i) old start were s own e in (
+      start,
+      own,
+      settling_joined start mid (moved_on old two t) settled
+          (leaves_made were start mid (moved_on old two t) w (ports_keep start mid settled).same (ports_table start mid settled) c
+          (is_moved_on old two t (c.first ∙ sym f) (c.conversations ∙ s.conversations))),
     )
 
 -- what a known LACPDU leaves
@@ -230,7 +228,7 @@ now_settled false d h = absurd cc
 
 pub took_alike : (v : Lacpdu) (s : SystemPort) (q : Machines) → ProcessesLacpdu v s.port q → HasRecordedActor v s
     → IsSamePartner s.port.partner q.partner → LooksUnchanged s (record s { port = q })
-took_alike v s q h k same = (seen, same.1)
+took_alike v s q h k same = seen
   where
     p : Machines
     p = s.port
@@ -248,7 +246,7 @@ took_alike v s q h k same = (seen, same.1)
             λ i. record {
               number = s.number;
               party = (g.1 i).party;
-              partner = same.0 i;
+              partner = same i;
               enabled = (g.1 i).enabled;
               settled = settled i;
               stage = stage_of (g.1 i).mux (g.1 i).wait_while;
@@ -262,3 +260,20 @@ took_alike v s q h k same = (seen, same.1)
 pub alike_if : (b : Bool) (P Q : Type 0) → OnTrue b P → (P → Q) → OnTrue b Q
 alike_if true P Q h f = f h
 alike_if false P Q h f = tt
+
+-- running the mux machine changes no more than its stage
+pub ran_alike : (s : SystemPort) (q : Machines) → RunsToRest (mux_rows false) s.port q
+    → stage_of q.mux q.wait_while ≡ stage_of s.port.mux s.port.wait_while → LooksUnchanged s (record s { port = q })
+ran_alike s q h e = λ i. record (rest i) { stage = e i }
+  where
+    seen_but_stage : Machines → PortView
+    seen_but_stage m = record (selection_view (record s { port = m })) { stage = stage.Detached }
+
+    rest : seen_but_stage q ≡ seen_but_stage s.port
+    rest = Reaches-keeps seen_but_stage (mux_rows false)
+        ((λ p. refl), ((λ p. refl), ((λ p. refl), ((λ p. refl), ((λ p. refl), ((λ p. refl), tt)))))) h.0 s.port q h.1
+
+pub ran_looks : (s t : SystemPort) → PortChangesBy (RunsToRest (mux_rows false)) s t
+    → (selection_view t).stage ≡ (selection_view s).stage → LooksUnchanged s t
+ran_looks s t h e =
+    subst (λ x. LooksUnchanged s x) (sym h.0) (ran_alike s t.port h.1 e)

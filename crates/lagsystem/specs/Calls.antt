@@ -18,6 +18,8 @@ use Rattle.slowpdu.specs.Layout.{IsAddress}
 use Rattle.slowpdu.specs.Markers.{WritesMarker, response_to}
 use Rattle.slowpdu.specs.Pdus.{ReadsPdu}
 use Rattle.collector.specs.Collecting.{IsDataFrame}
+use Rattle.collector.specs.declared.Taken.{Taken}
+use Rattle.collector.specs.declared.Taken.TheVariants as taken
 use Rattle.distributor.specs.Changes.{ChangesAssignments, after_down, after_release, after_tick, awaits_response}
 use Rattle.distributor.specs.Conversations.{Table, count_conversations}
 use Rattle.portmachines.specs.Machines.{Machines}
@@ -156,6 +158,11 @@ IsFrame octets (Carries payload) = IsControlFrame octets × ReadsPdu (drop 14 oc
 abbrev pub up_or_dropped : Option AggId → Received
 up_or_dropped None = Dropped
 up_or_dropped (Some agg) = Up agg
+
+-- the answer of receive that says what the collector does with a data frame
+abbrev pub received_of : Taken → Received
+received_of taken.Dropped = Dropped
+received_of (taken.Up agg) = Up agg
 
 -- a Marker PDU is answered by a response from this MAC address; a Marker Response asks for a release
 abbrev pub AnswersMarker : List ℕ → Marker → Option Marker → FrameEffect → Type 0

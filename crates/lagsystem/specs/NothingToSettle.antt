@@ -6,7 +6,7 @@ use Rattle.std.specs.List.{AllByRecursion}
 use Rattle.lagtypes.specs.declared.identifiers.Key.{Key}
 use Rattle.portmachines.specs.Mux.{mux_rows}
 use Rattle.portmachines.specs.Periodic.{clear_ntt, periodic_rows}
-use Rattle.portmachines.specs.Rows.{AtRest}
+use Rattle.portmachines.specs.Rows.{AtRest, RunsToRest}
 use Rattle.portmachines.specs.Receive.{same_receive_state}
 use Rattle.portmachines.specs.declared.receive.ReceiveState.TheVariants.{Current}
 use Rattle.lagtypes.specs.Same.{same_party}
@@ -36,20 +36,29 @@ MuxesAreSettled keys system_ports = AllByRecursion (MuxIsSettled keys system_por
 abbrev pub PeriodicsAreSettled : List SystemPort → Type 0
 PeriodicsAreSettled system_ports = AllByRecursion PeriodicIsSettled system_ports
 
--- two ports that look the same to the Selection Logic, and whose partners have the same state
+-- two ports that look the same to the Selection Logic
 abbrev pub LooksUnchanged : SystemPort → SystemPort → Type 0
-LooksUnchanged s t = (selection_view t ≡ selection_view s) × (t.port.partner.state ≡ s.port.partner.state)
+LooksUnchanged s t = selection_view t ≡ selection_view s
 
--- the port at this index processes an LACPDU; if the answer is true it looks the same afterwards
-abbrev pub ProcessesLacpduAt : Lacpdu → ℕ → List SystemPort → Bool → List SystemPort → Type 0
-ProcessesLacpduAt v i old alike new =
-    (s : SystemPort) × (t : SystemPort) × (slice_get old i ≡ Some s) × PortChangesBy (ProcessesLacpdu v) s t × (new ≡ slice_set old i t)
-    × OnTrue alike (LooksUnchanged s t)
+-- A port processes an LACPDU, and its mux machine runs with Ready false; if the answer is true, it looks the same after each.
+pub record ProcessesLacpduAndRunsMux (v : Lacpdu) (old : SystemPort) (alike : Bool) (new : SystemPort) : Type 0 where
+  pub mid : SystemPort
+  pub processes : PortChangesBy (ProcessesLacpdu v) old mid
+  pub runs : PortChangesBy (RunsToRest (mux_rows false)) mid new
+  pub same : OnTrue alike (LooksUnchanged old mid × LooksUnchanged old new)
+
+-- the port at this index does so, and the other ports stay
+pub record ProcessesLacpduAt (v : Lacpdu) (i : ℕ) (old : List SystemPort) (alike : Bool) (new : List SystemPort) : Type 0 where
+  pub before : SystemPort
+  pub after : SystemPort
+  pub there : slice_get old i ≡ Some before
+  pub changes : ProcessesLacpduAndRunsMux v before alike after
+  pub others : new ≡ slice_set old i after
 
 -- the port is in CURRENT, and the actor of the LACPDU is the partner that it has recorded
 abbrev pub HasRecordedActor : Lacpdu → SystemPort → Type 0
 HasRecordedActor v s = (same_receive_state Current s.port.receive ≡ true) × (same_party (party_of v.actor) (party_of s.port.partner) ≡ true)
 
--- both name one party with one state octet
+-- both name one party
 abbrev pub IsSamePartner : Info → Info → Type 0
-IsSamePartner was new = (party_of new ≡ party_of was) × (new.state ≡ was.state)
+IsSamePartner was new = party_of new ≡ party_of was

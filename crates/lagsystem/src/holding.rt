@@ -66,6 +66,24 @@ pub(crate) fn hold_conversations<F: Fn(u16, usize) -> usize + Drop>(
     }
 }
 
+/// Step 6 of settling, where the port at this index alone went on: it distributed in the aggregator `was` before the call.
+pub(crate) fn hold_conversations_at<F: Fn(u16, usize) -> usize + Drop>(
+    distributor: &mut Distributor<F>,
+    system_ports: &[SystemPort],
+    place: usize,
+    was: Option<AggId>,
+)
+    requires { place < length system_ports.now }
+    ensures changed { ChangesAssignments distributor.old.table distributor.new.table
+        (after_holding (stopped (slice_set (aggregators_in_use system_ports.now) place was) system_ports.now)) }
+    ensures algorithm { distributor.new.algorithm ≡ distributor.old.algorithm }
+{
+    let system_port = &system_ports[place];
+    if has_stopped(was, system_port) {
+        distributor.leave(system_port.number);
+    }
+}
+
 /// Frees every conversation of a port if its link is down now.
 pub(crate) fn free_conversations_if_down<F: Fn(u16, usize) -> usize + Drop>(
     distributor: &mut Distributor<F>,

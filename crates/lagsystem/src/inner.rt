@@ -21,9 +21,10 @@ use crate::distributing_ports::{collecting, distributing};
 use crate::fault::SystemFault;
 use crate::holding::{
     aggregators_in_use, aggregators_in_use_before, free_conversations_if_down, hold_conversations,
+    hold_conversations_at,
 };
 use crate::offers::check_offer;
-use crate::parse::parse_frame;
+use crate::parse::{parse_frame, take_data_frame};
 use crate::process_lacpdu::{process_lacpdu_at, run_periodic_at};
 use crate::received::{FrameEffect, Received};
 use crate::set_link::set_link_at;
@@ -165,10 +166,15 @@ impl<F: Fn(u16, usize) -> usize + Drop> Inner<F> {
         ensures algorithm { self.new.distributor.algorithm ≡ self.old.distributor.algorithm }
     {
         let place = self.port_index(number)?;
-        Ok(self.receive_at(place, octets))
+        match take_data_frame(&self.system_ports[place], octets) {
+            Some(taken) => Ok(Received::from(taken)),
+            None => Ok(self.receive_at(place, octets)),
+        }
     }
 
-    /// Takes a frame that came on the port at this index, as `System::receive` does.
+    /// Takes a frame that came on the port at this index, as `System::receive` does. `receive` takes a data frame without it, since
+    /// the answers of this function have room for a Marker Response, which costs time to pass on.
+    #[inline(never)]
     fn receive_at(&mut self, place: usize, octets: &[u8]) -> Received
         requires sound { IsSound (inner_state self.old) }
         requires within { place < length self.old.system_ports.items }
@@ -186,9 +192,9 @@ impl<F: Fn(u16, usize) -> usize + Drop> Inner<F> {
         }
     }
 
-    /// Processes an LACPDU on the port at this index, and settles. Where `process_lacpdu_at` answers true, a settling can
-    /// change nothing but by the periodic machine of this port, so that alone is run: the result is the same, and the contract
-    /// does not say which of the two ways is taken.
+    /// Processes an LACPDU on the port at this index, and settles. Where `process_lacpdu_at` answers true, the rest of a settling
+    /// can change nothing but by the periodic machine of this port and by what leaves it, so these alone are done: the result is
+    /// the same, and the contract does not say which of the two ways is taken.
     fn process_lacpdu(&mut self, place: usize, pdu: &Lacpdu)
         requires sound { IsSound (inner_state self.old) }
         requires within { place < length self.old.system_ports.items }
@@ -199,6 +205,7 @@ impl<F: Fn(u16, usize) -> usize + Drop> Inner<F> {
         let was = collecting(&self.system_ports[place].port);
         if process_lacpdu_at(&mut self.system_ports, place, pdu) {
             run_periodic_at(&mut self.system_ports, place);
+            hold_conversations_at(&mut self.distributor, &self.system_ports, place, was);
         } else {
             let before = aggregators_in_use_before(&self.system_ports, place, was);
             self.settle(before.as_slice());

@@ -1,7 +1,8 @@
-ghost use Rattle.std.specs.Prelude.{◌≡◌};
+ghost use Rattle.std.specs.Prelude.{◌≡◌, IfSome};
 ghost use Rattle.collector.specs.Collecting.{IsDataFrame};
 ghost use Rattle.slowpdu.specs.Markers.{response_to};
-ghost use Rattle.lagsystem.specs.Calls.{AnswersMarker, ParsesFrame, ParsesPayload, up_or_dropped};
+ghost use Rattle.lagsystem.specs.Calls.{AnswersMarker, ParsesFrame, ParsesPayload, received_of, up_or_dropped};
+ghost use Rattle.lagsystem.specs.declared.received.FrameEffect.TheVariants.{Answered};
 ghost use Rattle.lagsystem.specs.Readers.{collecting};
 
 use crate::distributing_ports::collecting;
@@ -12,13 +13,24 @@ use collector::{Taken, answer, collect};
 use slowpdu::{Kind, Marker, Pdu, classify, decode};
 
 /// What a data frame on this port asks for: to be handed up, or dropped.
-fn collect_data_frame(system_port: &SystemPort, octets: &[u8]) -> Received
+fn collect_data_frame(system_port: &SystemPort, octets: &[u8]) -> Taken
     requires { IsDataFrame octets.now }
-    ensures { result ≡ up_or_dropped (collecting system_port.now.port) }
+    ensures { received_of result ≡ up_or_dropped (collecting system_port.now.port) }
 {
-    match collect(collecting(&system_port.port), octets) {
-        Taken::Up(agg) => Received::Up(agg),
-        Taken::Dropped => Received::Dropped,
+    collect(collecting(&system_port.port), octets)
+}
+
+/// What a data frame on a port whose link is up asks for: to be handed up, or dropped. None for any other frame, and while the link
+/// is down.
+pub(crate) fn take_data_frame(system_port: &SystemPort, octets: &[u8]) -> Option<Taken>
+    ensures { IfSome result (λ taken. ParsesFrame system_port.now octets.now (Answered (received_of taken))) }
+{
+    if !system_port.port.is_enabled() {
+        return None;
+    }
+    match classify(octets) {
+        Kind::Data => Some(collect_data_frame(system_port, octets)),
+        Kind::TooShort | Kind::Control(_) => None,
     }
 }
 
@@ -56,7 +68,9 @@ pub(crate) fn parse_frame(system_port: &SystemPort, octets: &[u8]) -> FrameEffec
     }
     match classify(octets) {
         Kind::TooShort => FrameEffect::Answered(Received::Dropped),
-        Kind::Data => FrameEffect::Answered(collect_data_frame(system_port, octets)),
+        Kind::Data => {
+            FrameEffect::Answered(Received::from(collect_data_frame(system_port, octets)))
+        }
         Kind::Control(payload) => parse_payload(system_port, payload),
     }
 }

@@ -1,3 +1,7 @@
+ghost use Rattle.std.specs.Prelude.{◌≡◌};
+ghost use Rattle.lagsystem.specs.Calls.{received_of};
+
+use collector::Taken;
 use lagtypes::AggId;
 use slowpdu::{Lacpdu, Marker, WireFault};
 
@@ -19,6 +23,17 @@ pub enum Received {
     Released(u32),
     /// A data frame: the caller hands it to the client of this aggregator (6.2.3).
     Up(AggId),
+}
+
+impl From<Taken> for Received {
+    ghost from_gives = { λ taken received. received ≡ received_of taken };
+
+    fn from(taken: Taken) -> Received {
+        match taken {
+            Taken::Up(agg) => Received::Up(agg),
+            Taken::Dropped => Received::Dropped,
+        }
+    }
 }
 
 /// What a received frame asks the system to do. Working it out changes nothing.

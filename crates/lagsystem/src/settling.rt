@@ -17,7 +17,7 @@ use lagtypes::{AggId, Choice};
 use selection::{Aggregators, PortView};
 
 /// Runs the mux machine of a port, with this value of Ready.
-fn run_mux_rows(system_port: &mut SystemPort, ready: bool)
+pub(crate) fn run_mux_rows(system_port: &mut SystemPort, ready: bool)
     ensures { PortChangesBy (RunsToRest (mux_rows ready)) system_port.old system_port.new }
 {
     let _fired = system_port.port.mux(ready);

@@ -51,6 +51,13 @@ fn stage_of(mux: MuxState, wait_while: u8) -> Stage
     }
 }
 
+/// How far the mux machine of a port has come.
+pub(crate) fn stage(system_port: &SystemPort) -> Stage
+    ensures { result ≡ (selection_view system_port.now).stage }
+{
+    stage_of(system_port.port.mux_state(), system_port.port.wait_while())
+}
+
 /// What the Selection Logic reads of a port.
 pub(crate) fn selection_view(system_port: &SystemPort) -> PortView
     ensures { result ≡ selection_view system_port.now }
@@ -65,7 +72,7 @@ pub(crate) fn selection_view(system_port: &SystemPort) -> PortView
             port.receive_state(),
             ReceiveState::Current | ReceiveState::Defaulted
         ),
-        stage: stage_of(port.mux_state(), port.wait_while()),
+        stage: stage(system_port),
         choice: port.choice(),
     }
 }
