@@ -95,18 +95,25 @@ def read_pairs(path: str) -> tuple[str, list[Pair]]:
     return says, pairs
 
 
-def apply(folder: str, pairs: list[Pair]) -> tuple[dict[str, str], str | None]:
-    """Makes the replacements in a crate; answers the files as they were, or what is wrong with the edit."""
+def replaced(folder: str, pairs: list[Pair]) -> tuple[dict[str, str], dict[str, str], str | None]:
+    """The files of a crate that the replacements change, as they are and as they would be; and what is wrong with the edit."""
     was: dict[str, str] = {}
+    now: dict[str, str] = {}
     for file, old, new in pairs:
         path = os.path.join(folder, file)
-        text = read(path) if os.path.isfile(path) else ""
+        text = now.get(path) or (read(path) if os.path.isfile(path) else "")
         if text.count(old) != 1 and not (isinstance(old, Everywhere) and old in text):
-            restore(was)
-            return {}, f"the old text stands in {file} {text.count(old)} times: {old}"
+            return {}, {}, f"the old text stands in {file} {text.count(old)} times: {old}"
         was.setdefault(path, text)
-        write(path, text.replace(old, new))
-    return was, None
+        now[path] = text.replace(old, new)
+    return was, now, None
+
+
+def apply(folder: str, pairs: list[Pair]) -> tuple[dict[str, str], str | None]:
+    """Makes the replacements in a crate; answers the files as they were, or what is wrong with the edit."""
+    was, now, wrong = replaced(folder, pairs)
+    restore(now)
+    return was, wrong
 
 
 def restore(was: dict[str, str]) -> None:

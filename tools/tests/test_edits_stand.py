@@ -1,0 +1,42 @@
+"""Each edit of the repository: its old texts stand once in their files, as they are today."""
+
+from __future__ import annotations
+
+import os
+
+import pytest
+
+import loading  # noqa: F401  (tools/ is looked up)
+import edits
+from repository import CRATES, TOOLS
+
+
+def listed() -> list[tuple[str, str]]:
+    """Each edit, as a pair of its crate and its path."""
+    folders = [
+        (crate, os.path.join(top, crate, *rest))
+        for top, rest in (
+            (os.path.join(TOOLS, "wrong-bodies.d"), ()),
+            (os.path.join(TOOLS, "wrong-definitions.d"), ()),
+            (CRATES, ("must-fail",)),
+        )
+        for crate in sorted(os.listdir(top))
+    ]
+    return [
+        (crate, os.path.join(folder, name))
+        for crate, folder in folders
+        if os.path.isdir(folder)
+        for name in sorted(os.listdir(folder))
+        if name.endswith(".edit")
+    ]
+
+
+@pytest.mark.parametrize("crate", sorted({crate for crate, _ in listed()}))
+def test_each_edit_of_a_crate_can_be_made(crate: str) -> None:
+    wrong = {}
+    for of, path in listed():
+        if of == crate:
+            why = edits.replaced(os.path.join(CRATES, crate), edits.read_pairs(path)[1])[2]
+            if why:
+                wrong[os.path.relpath(path, TOOLS)] = why
+    assert not wrong
