@@ -1,20 +1,18 @@
 -- The machines are deterministic: each call has exactly one effect.
-use Rattle.std.proofs.Common.{◌≡◌, ℕ, zero, suc, Bool, true, false, cond, not, ◌&&◌, ◌||◌, List, [], ◌∷◌, refl, sym, ◌∙◌, ap, subst, inl}
+use Rattle.std.proofs.Common.{◌≡◌, ℕ, zero, suc, Bool, true, false, not, ◌&&◌, List, [], ◌∷◌, refl, sym, ◌∙◌, ap, subst, inl}
 use Rattle.std.proofs.Common.{inr}
-use Rattle.std.proofs.lemmas.Bool.{and_left, and_right, and_parts, or_parts, not-true}
-use Rattle.lagtypes.specs.declared.party.Choice.{Choice}
-use Rattle.lagtypes.specs.declared.party.Choice.TheVariants.{Unselected, Selected, Standby}
+use Rattle.std.proofs.lemmas.Bool.{and_left, and_right, and_parts, cases_Bool}
 use Rattle.slowpdu.specs.declared.pdu.Lacpdu.{Lacpdu}
-use Rattle.portmachines.specs.declared.mux.MuxState.{MuxState}
-use Rattle.portmachines.specs.declared.mux.MuxState.TheVariants.{Detached, Waiting, Attached, CollectingDistributing}
 use Rattle.portmachines.specs.declared.receive.ReceiveState.{ReceiveState}
 use Rattle.portmachines.specs.declared.receive.ReceiveState.TheVariants.{Initialize, PortDisabled, Expired, Defaulted, Current}
 use Rattle.portmachines.specs.Machines.{Machines}
-use Rattle.portmachines.specs.Rows.{Row, Fires, AtRest, FiresTimes, RunsToRest, in_order}
-use Rattle.portmachines.specs.Receive.{receive_rows, lacpdu_rows, start_receive, current_while_expired, partner_not_synchronized}
-use Rattle.portmachines.specs.Periodic.{RunsPeriodic, periodic_table, periodic_rows, clear_ntt}
-use Rattle.portmachines.specs.Mux.{mux_rows, start_mux, partner_synchronized}
+use Rattle.portmachines.specs.Rows.{Row, Fires, AtRest, FiresTimes, OneEnabledAtMost, RunsToRest}
+use Rattle.portmachines.specs.Receive.{receive_rows, lacpdu_rows, same_receive_state, start_receive, current_while_expired}
+use Rattle.portmachines.specs.Receive.{partner_not_synchronized}
+use Rattle.portmachines.specs.Periodic.{RunsPeriodic, periodic_rows, clear_ntt}
+use Rattle.portmachines.specs.Mux.{mux_rows, start_mux}
 use Rattle.portmachines.specs.Transmit.{count_down}
+use Rattle.portmachines.proofs.OneRow.{one-mux, one-periodic, one-receive}
 use Rattle.portmachines.specs.Calls.{Tick, Transmit, Set_link, Take, Mux, Periodic, Select, Reinit, OneEffect}
 
 -- tests
@@ -58,116 +56,30 @@ settles_one : (I : Machines → Type 0) (rows : List Row) → OneWay I rows → 
     → RunsToRest rows p r → q ≡ r
 settles_one I rows way p q r i g h = one_end I rows way g.0 h.0 p q r i (goes rows g.0 p q g.1) (goes rows h.0 p r h.1) g.2 h.2
 
--- rows of which at most one is enabled
-
-abbrev none : List Bool → Bool
-none [] = true
-none (b ∷ bs) = not b && none bs
-
-abbrev at_most_one : List Bool → Bool
-at_most_one [] = true
-at_most_one (b ∷ bs) = cond b (none bs) true && at_most_one bs
-
-abbrev tests : List Row → Machines → List Bool
-tests [] p = []
-tests (row ∷ rows) p = row.enabled p ∷ tests rows p
-
-none-rest : (rows : List Row) (p : Machines) → none (tests rows p) ≡ true → AtRest rows p
-none-rest [] p h = tt
-none-rest (row ∷ rows) p h = (
-  not-true (row.enabled p) (and_parts (not (row.enabled p)) (none (tests rows p)) h).0,
-  none-rest rows p (and_parts (not (row.enabled p)) (none (tests rows p)) h).1,
-)
-
-cond-then : (b x : Bool) → cond b x true ≡ true → b ≡ true → x ≡ true
-cond-then true x h t = h
-cond-then false x h t = let e : false ≡ true = t in cc
-
-later-rest : (row : Row) (rows : List Row) (p : Machines) → at_most_one (tests (row ∷ rows) p) ≡ true → row.enabled p ≡ true → AtRest rows p
-later-rest row rows p h t =
-    none-rest rows p
-    (cond-then (row.enabled p) (none (tests rows p))
-    (and_parts (cond (row.enabled p) (none (tests rows p)) true) (at_most_one (tests rows p)) h).0 t)
-
-fires_one : (rows : List Row) (p q r : Machines) → at_most_one (tests rows p) ≡ true → Fires rows p q → Fires rows p r → q ≡ r
-fires_one [] p q r h f g = absurd f
-fires_one (row ∷ rows) p q r h f g =
+-- rows of which at most one is enabled do the same, where the test holds
+fires_one : (test : Machines → Bool) (rows : List Row) → OneEnabledAtMost test rows → (p q r : Machines) → test p ≡ true
+    → Fires rows p q → Fires rows p r → q ≡ r
+fires_one test [] one p q r t f g = absurd f
+fires_one test (row ∷ rows) one p q r t f g =
     elim f [
-      | inl x ↦ elim g [ inl y ↦ x.1 ∙ sym y.1 | inr y ↦ absurd (none_fires rows p r (later-rest row rows p h x.0) y) ]
-      | inr x ↦ elim g [
-        | inl y ↦ absurd (none_fires rows p q (later-rest row rows p h y.0) x)
-        | inr y ↦ fires_one rows p q r (and_parts (cond (row.enabled p) (none (tests rows p)) true) (at_most_one (tests rows p)) h).1 x y
-      ]
+      | inl x ↦ elim g [ inl y ↦ x.1 ∙ sym y.1 | inr y ↦ absurd (none_fires rows p r (one.0 p t x.0) y) ]
+      | inr x ↦ elim g [ inl y ↦ absurd (none_fires rows p q (one.0 p t y.0) x) | inr y ↦ fires_one test rows one.1 p q r t x y ]
     ]
-
--- rows in order
-
-in_order-not : (earlier : Machines → Bool) (rows : List Row) (p q : Machines) → Fires (in_order earlier rows) p q → earlier p ≡ false
-in_order-not earlier [] p q f = absurd f
-in_order-not earlier (row ∷ rows) p q f =
-    elim f [
-      | inl h ↦ not-true (earlier p) (and_parts (not (earlier p)) (row.enabled p) h.0).0
-      | inr h ↦ (or_parts (earlier p) (row.enabled p) (in_order-not (λ x. earlier x || row.enabled x) rows p q h)).0
-    ]
-
-in_order-one : (earlier : Machines → Bool) (rows : List Row) (p q r : Machines) → Fires (in_order earlier rows) p q
-    → Fires (in_order earlier rows) p r → q ≡ r
-in_order-one earlier [] p q r f g = absurd f
-in_order-one earlier (row ∷ rows) p q r f g =
-    let next : Machines → Bool = λ x. earlier x || row.enabled x in
-    elim f [
-      | inl x ↦ elim g [
-        | inl y ↦ x.1 ∙ sym y.1
-        | inr y ↦ no (row.enabled p) (and_parts (not (earlier p)) (row.enabled p) x.0).1
-            (or_parts (earlier p) (row.enabled p) (in_order-not next rows p r y)).1
-      ]
-      | inr x ↦ elim g [
-        | inl y ↦ no (row.enabled p) (and_parts (not (earlier p)) (row.enabled p) y.0).1
-            (or_parts (earlier p) (row.enabled p) (in_order-not next rows p q x)).1
-        | inr y ↦ in_order-one next rows p q r x y
-      ]
-    ]
-
--- the mux rows
-
-third_of_six : (b : Bool) → at_most_one (false ∷ false ∷ b ∷ false ∷ false ∷ false ∷ []) ≡ true
-third_of_six true = refl
-third_of_six false = refl
-
-fifth_of_six : (b : Bool) → at_most_one (false ∷ false ∷ false ∷ false ∷ b ∷ false ∷ []) ≡ true
-fifth_of_six true = refl
-fifth_of_six false = refl
-
-sixth_of_six : (b : Bool) → at_most_one (false ∷ false ∷ false ∷ false ∷ false ∷ b ∷ []) ≡ true
-sixth_of_six true = refl
-sixth_of_six false = refl
-
-mux-tests : (ready : Bool) (p : Machines) (s : MuxState) (c : Choice)
-    → at_most_one (tests (mux_rows ready) (record p { mux = s; choice = c })) ≡ true
-mux-tests ready p Detached Unselected = refl
-mux-tests ready p Detached (Selected agg) = refl
-mux-tests ready p Detached (Standby agg) = refl
-mux-tests ready p Waiting Unselected = refl
-mux-tests ready p Waiting (Selected agg) = third_of_six ready
-mux-tests ready p Waiting (Standby agg) = refl
-mux-tests ready p Attached Unselected = refl
-mux-tests ready p Attached (Selected agg) = fifth_of_six (partner_synchronized p)
-mux-tests ready p Attached (Standby agg) = refl
-mux-tests ready p CollectingDistributing Unselected = refl
-mux-tests ready p CollectingDistributing (Selected agg) = sixth_of_six (not (partner_synchronized p))
-mux-tests ready p CollectingDistributing (Standby agg) = refl
 
 abbrev Always : Machines → Type 0
 Always p = Unit {0}
 
 mux-way : (ready : Bool) → OneWay Always (mux_rows ready)
 mux-way ready = record {
-  same = λ p q r i f g. fires_one (mux_rows ready) p q r (mux-tests ready p p.mux p.choice) f g;
+  same = λ p q r i f g. fires_one (λ x. true) (mux_rows ready) (one-mux ready) p q r refl f g;
   stays = λ p q i f. tt;
 }
 
 periodic-way : OneWay Always periodic_rows
-periodic-way = record { same = λ p q r i f g. in_order-one (λ x. false) periodic_table p q r f g; stays = λ p q i f. tt }
+periodic-way = record {
+  same = λ p q r i f g. fires_one (λ x. true) periodic_rows one-periodic p q r refl f g;
+  stays = λ p q i f. tt;
+}
 
 -- the receive rows, if current_while does not expire while the link is down
 
@@ -181,32 +93,29 @@ safe Current enabled expired = (expired && not enabled) ≡ false
 abbrev IsSafe : Machines → Type 0
 IsSafe p = safe p.receive p.enabled (current_while_expired p)
 
-third_of_five : (b : Bool) → at_most_one (false ∷ false ∷ b ∷ false ∷ false ∷ []) ≡ true
-third_of_five true = refl
-third_of_five false = refl
+-- no row of an expired timer is enabled while the link is down
+not_expired : (s : ReceiveState) (up expired : Bool) → up ≡ false → safe s up expired → (same_receive_state Expired s && expired) ≡ true → ⊥
+not_expired Initialize up expired d i e = cc
+not_expired PortDisabled up expired d i e = cc
+not_expired Expired true expired d i e = cc
+not_expired Expired false true d i e = cc
+not_expired Expired false false d i e = cc
+not_expired Defaulted up expired d i e = cc
+not_expired Current up expired d i e = cc
 
-second_of_five : (b : Bool) → at_most_one (false ∷ b ∷ false ∷ false ∷ false ∷ []) ≡ true
-second_of_five true = refl
-second_of_five false = refl
+not_current : (s : ReceiveState) (up expired : Bool) → up ≡ false → safe s up expired → (same_receive_state Current s && expired) ≡ true → ⊥
+not_current Initialize up expired d i e = cc
+not_current PortDisabled up expired d i e = cc
+not_current Expired up expired d i e = cc
+not_current Defaulted up expired d i e = cc
+not_current Current true expired d i e = cc
+not_current Current false true d i e = cc
+not_current Current false false d i e = cc
 
-second_or_fourth : (enabled expired : Bool) → (expired && not enabled) ≡ false
-    → at_most_one (false ∷ not enabled ∷ false ∷ expired ∷ false ∷ []) ≡ true
-second_or_fourth true true h = refl
-second_or_fourth true false h = refl
-second_or_fourth false true h = sym h
-second_or_fourth false false h = refl
-
-second_or_fifth : (enabled expired : Bool) → (expired && not enabled) ≡ false
-    → at_most_one (false ∷ not enabled ∷ false ∷ false ∷ expired ∷ []) ≡ true
-second_or_fifth true true h = refl
-second_or_fifth true false h = refl
-second_or_fifth false true h = sym h
-second_or_fifth false false h = refl
-
--- INITIALIZE has two rows that do the same
-from_start : (p q : Machines) → Fires receive_rows (record p { receive = Initialize }) q
+-- while it is down, each row leads to PORT_DISABLED
+from_down : (p q : Machines) → p.enabled ≡ false → IsSafe p → Fires receive_rows p q
     → q ≡ partner_not_synchronized (record p { receive = PortDisabled })
-from_start p q f =
+from_down p q d i f =
     elim f [
       | inl h ↦ h.1
       | inr f ↦
@@ -214,22 +123,25 @@ from_start p q f =
             | inl h ↦ h.1
             | inr f ↦
                 elim f [
-                  | inl h ↦ no false h.0 refl
+                  | inl h ↦ no p.enabled (and_parts (same_receive_state PortDisabled p.receive) p.enabled h.0).1 d
                   | inr f ↦
-                      elim f [ inl h ↦ no false h.0 refl | inr f ↦ elim f [ inl h ↦ no false h.0 refl | inr f ↦ absurd f ] ]
+                      elim f [
+                        | inl h ↦ absurd (not_expired p.receive p.enabled (current_while_expired p) d i h.0)
+                        | inr f ↦ elim f [
+                          | inl h ↦ absurd (not_current p.receive p.enabled (current_while_expired p) d i h.0)
+                          | inr f ↦ absurd f
+                        ]
+                      ]
                 ]
           ]
     ]
 
-receive-same : (p : Machines) (s : ReceiveState) (q r : Machines) → safe s p.enabled (current_while_expired p)
-    → Fires receive_rows (record p { receive = s }) q → Fires receive_rows (record p { receive = s }) r → q ≡ r
-receive-same p Initialize q r i f g = from_start p q f ∙ sym (from_start p r g)
-receive-same p PortDisabled q r i f g = fires_one receive_rows (record p { receive = PortDisabled }) q r (third_of_five p.enabled) f g
-receive-same p Expired q r i f g = fires_one receive_rows (record p { receive = Expired }) q r
-    (second_or_fourth p.enabled (current_while_expired p) i) f g
-receive-same p Defaulted q r i f g = fires_one receive_rows (record p { receive = Defaulted }) q r (second_of_five (not p.enabled)) f g
-receive-same p Current q r i f g = fires_one receive_rows (record p { receive = Current }) q r
-    (second_or_fifth p.enabled (current_while_expired p) i) f g
+receive-same : (p q r : Machines) → IsSafe p → Fires receive_rows p q → Fires receive_rows p r → q ≡ r
+receive-same p q r i f g =
+    elim (cases_Bool p.enabled) [
+      | inl up ↦ fires_one (λ x. x.enabled) receive_rows one-receive p q r up f g
+      | inr down ↦ from_down p q down i f ∙ sym (from_down p r down i g)
+    ]
 
 receive-stays : (p q : Machines) → IsSafe p → Fires receive_rows p q → IsSafe q
 receive-stays p q i f =
@@ -248,7 +160,7 @@ receive-stays p q i f =
     ]
 
 receive-way : OneWay IsSafe receive_rows
-receive-way = record { same = λ p q r i f g. receive-same p p.receive q r i f g; stays = receive-stays }
+receive-way = record { same = receive-same; stays = receive-stays }
 
 -- at rest a port is still so after a tick
 rest-counted : (p : Machines) (s : ReceiveState) (expired : Bool) → AtRest receive_rows (record p { receive = s })

@@ -1,5 +1,5 @@
 -- No two rows of a machine are enabled together.
-use Rattle.std.proofs.Common.{◌≡◌, ℕ, Bool, true, false, not, ◌&&◌, ◌||◌, List, [], ◌∷◌, refl, drop, IsTrue}
+use Rattle.std.proofs.Common.{◌≡◌, Bool, true, false, not, ◌&&◌, ◌||◌, List, [], ◌∷◌, refl, drop}
 use Rattle.std.proofs.lemmas.Bool.{and_parts, or_right}
 use Rattle.lagtypes.specs.Choices.{is_selected, is_unselected}
 use Rattle.lagtypes.specs.declared.party.Choice.{Choice}
