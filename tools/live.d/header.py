@@ -16,6 +16,7 @@ HEADER = f"{CRATES}/lagffi/include/lag.h"
 SOURCES = f"{CRATES}/lagffi/src"
 FAULTS = f"{CRATES}/lagsystem/src/fault.rt"
 WIRE_FAULTS = f"{CRATES}/slowpdu/src/fault.rt"
+STATUSES = f"{CRATES}/lagsystem/src/port_status.rt"
 STATES = f"{CRATES}/lagtypes/src/state.rt"
 OFFERS = f"{CRATES}/lagsystem/src/offers.rt"
 MOVES = f"{CRATES}/balance/src/moves.rt"
@@ -33,8 +34,7 @@ LENGTHS = {"keys": "key_count", "ports": "port_count", "response": "room", "numb
            "changed": "changed_count", "busy": "busy_count", "freed": "freed_count", "carried": "carried_count"}
 # The enums whose variants lagffi tells as numbers, and what stands before a variant's name in the header; and the numbers of the
 # header alone: what it refuses itself, its version, the subtypes of PDUs, and what the sources say in words.
-TOLD = {"Received": "RECEIVED_", "ReceiveState": "RECEIVE_", "MuxState": "MUX_", "Assignment": "CONVERSATION_",
-        "PortStatus": "PORT_STATUS_"}
+TOLD = {"Received": "RECEIVED_", "ReceiveState": "RECEIVE_", "MuxState": "MUX_", "Assignment": "CONVERSATION_"}
 OWN = {"NIW_NULL": 16, "NIW_VERSION": 8, "NIW_SENT_NOTHING": 0, "NIW_SENT_LACPDU": 1, "NIW_SENT_MARKER": 2,
        "NIW_SHORTEST_FRAME": 14, "NIW_TICK_MILLISECONDS": 100, "NIW_FEW_CONVERSATIONS": 256, "NIW_MANY_CONVERSATIONS": 4096,
        "NIW_BY_NUMBER": 0, "NIW_BY_SUM": 1, "NIW_REASON_ALGORITHM": 6,
@@ -228,11 +228,12 @@ def implemented(name: str, path: str) -> str:
 
 
 def numbers_of_sources(text: str) -> dict[str, int]:
-    """The refusals of a system, the numbers that lagffi and answering give to variants, and the constants of lagffi."""
+    """The refusals of a system, the statuses of a port, the numbers that lagffi and answering give to variants, and the constants of lagffi."""
     faults, reasons = implemented("SystemFault", FAULTS), implemented("BadConfig", FAULTS)
     of_wire = implemented("WireFault", WIRE_FAULTS)
     numbers = [*variants(faults, {"SystemFault": ""}), *variants(reasons, {"BadConfig": "REASON_"}),
                *variants(of_wire, {"WireFault": "FAULT_"}), *variants(text, TOLD),
+               *variants(implemented("PortStatus", STATUSES), {"PortStatus": "PORT_STATUS_"}),
                *variants(implemented("Answers", ANSWERS), {"Answers": "ANSWERS_"})]
     numbers += [(f"NIW_STATE_{bit}", int(number)) for bit, number in re.findall(r"const (\w+) = (\d+);", text_of(STATES))]
     for name, number in re.findall(r"\bconst (\w+): (?:u8|u16|u32|usize) = ([\d_]+);", text + text_of(OFFERS)):

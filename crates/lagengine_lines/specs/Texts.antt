@@ -16,8 +16,8 @@ use Rattle.portmachines.specs.declared.receive.ReceiveState.{ReceiveState}
 use Rattle.portmachines.specs.declared.receive.ReceiveState.TheVariants as receive
 use Rattle.distributor.specs.declared.assignment.Assignment.{Assignment}
 use Rattle.distributor.specs.declared.assignment.Assignment.TheVariants.{Free, On, Wanted, Flushing}
-use Rattle.lagsystem.specs.Faults.{fault_number}
-use Rattle.lagsystem.specs.Texts.{fault_name}
+use Rattle.lagsystem.specs.Faults.{fault_name, fault_number}
+use Rattle.lagsystem.specs.PortStatus.{status_name}
 use Rattle.lagsystem.specs.declared.received.Received.{Received}
 use Rattle.lagsystem.specs.declared.received.Received.TheVariants.{Disabled, Dropped, Ignored, TookLacpdu, Respond, Released, Up}
 use Rattle.lagsystem.specs.declared.drive.Reply.{Reply}
@@ -193,18 +193,11 @@ receive_text receive.Expired = codes "expired"
 receive_text receive.Defaulted = codes "defaulted"
 receive_text receive.Current = codes "current"
 
--- whether a port distributes, and else the first reason why not
-abbrev pub status_text : PortStatus → List ℕ
-status_text status.Distributing = codes "distributing"
-status_text status.LinkDown = codes "link-down"
-status_text status.NoLacpdu = codes "no-lacpdu"
-status_text status.OnDefaults = codes "on-defaults"
-status_text status.OwnSystem = codes "own-system"
-status_text status.NoAggregator = codes "no-aggregator"
-status_text (status.Standby agg) = codes "standby " ++ decimal agg.0
-status_text (status.Waiting ticks) = codes "waiting " ++ decimal ticks
-status_text status.WaitingForMembers = codes "waiting-for-members"
-status_text status.PartnerNotSynchronized = codes "partner-not-synchronized"
+-- the name of a status, and behind it the aggregator or the ticks
+abbrev pub status_words : PortStatus → List ℕ
+status_words (status.Standby agg) = codes "standby " ++ decimal agg.0
+status_words (status.Waiting ticks) = codes "waiting " ++ decimal ticks
+status_words other = status_name other
 
 -- both ends of a port's link, and their group
 abbrev pub ends_text : Look → List ℕ
@@ -230,7 +223,7 @@ fact_text (fact.ReceiveState s) = codes "receive-state " ++ receive_text s
 fact_text (fact.Due due) = codes "due " ++ flag_text due
 fact_text (fact.Load load) = codes "load " ++ decimal load
 fact_text (fact.Held held) = codes "held " ++ decimal held
-fact_text (fact.Status s) = codes "status " ++ status_text s
+fact_text (fact.Status s) = codes "status " ++ status_words s
 fact_text (fact.CurrentWhile ticks) = codes "current-while " ++ decimal ticks
 fact_text (fact.WaitWhile ticks) = codes "wait-while " ++ decimal ticks
 fact_text (fact.Ntt ntt) = codes "ntt " ++ flag_text ntt

@@ -4,7 +4,7 @@ ghost use Rattle.lagengine_lines.specs.Looks.{agg_answer_value};
 ghost use Rattle.lagengine_lines.specs.Texts.{all_text, bar_agg_answer, choice_text, conversation_or_none, each_text, ends_text, fact_text};
 ghost use Rattle.lagengine_lines.specs.Texts.{flag_text, machines_text, aggregation_text, look_text, mux_text, number_text, numbers_text};
 ghost use Rattle.lagengine_lines.specs.Texts.{partner_text, party_text, port_bar, preferred_text, receive_text, agg_answer_text};
-ghost use Rattle.lagengine_lines.specs.Texts.{agg_answers_text, spaced, port_answer_text, status_text};
+ghost use Rattle.lagengine_lines.specs.Texts.{agg_answers_text, spaced, port_answer_text, status_words};
 
 use crate::looks::{AggAnswer, Look, PortAnswer, PortFact};
 use lagsystem::{Assignment, Choice, Info, MuxState, Party, PortStatus, ReceiveState};
@@ -130,25 +130,18 @@ impl fmt::Display for ReceiveText {
     }
 }
 
-/// Whether a port distributes, and else the first reason why not.
+/// The name of a status, and behind it the aggregator of `Standby` or the ticks of `Waiting`.
 #[derive(Clone, Copy)]
 struct StatusText(PortStatus);
 
 impl fmt::Display for StatusText {
-    ghost output = { λ t. Some (status_text t.0) };
+    ghost output = { λ t. Some (status_words t.0) };
 
     fn fmt<W: fmt::Write>(&self, f: &mut fmt::Formatter<W>) -> fmt::Result {
         match self.0 {
-            PortStatus::Distributing => f.write_str("distributing"),
-            PortStatus::LinkDown => f.write_str("link-down"),
-            PortStatus::NoLacpdu => f.write_str("no-lacpdu"),
-            PortStatus::OnDefaults => f.write_str("on-defaults"),
-            PortStatus::OwnSystem => f.write_str("own-system"),
-            PortStatus::NoAggregator => f.write_str("no-aggregator"),
             PortStatus::Standby(agg) => write!(f, "standby {agg}"),
             PortStatus::Waiting(ticks) => write!(f, "waiting {ticks}"),
-            PortStatus::WaitingForMembers => f.write_str("waiting-for-members"),
-            PortStatus::PartnerNotSynchronized => f.write_str("partner-not-synchronized"),
+            _ => f.write_str(self.0.name()),
         }
     }
 }

@@ -255,17 +255,17 @@ enum { NIW_MUX_DETACHED, NIW_MUX_WAITING, NIW_MUX_ATTACHED, NIW_MUX_COLLECTING_D
 
 /* Whether a port distributes, and else the first reason why not. */
 enum {
-    NIW_PORT_STATUS_DISTRIBUTING = 0,
-    NIW_PORT_STATUS_LINK_DOWN = 1,
-    NIW_PORT_STATUS_NO_LACPDU = 2,           /* the receive machine is EXPIRED: none came in time, or since the link came up */
-    NIW_PORT_STATUS_ON_DEFAULTS = 3,         /* so long that the port runs on defaults */
-    NIW_PORT_STATUS_OWN_SYSTEM = 4,          /* the partner is this very system */
-    NIW_PORT_STATUS_NO_AGGREGATOR = 5,       /* none has its key, or each that has it has ports of another group; for a port whose
-                                                link is individual: or each that has it has any port */
-    NIW_PORT_STATUS_STANDBY = 6,             /* niw_choice tells the aggregator, which has no room for one more link */
-    NIW_PORT_STATUS_WAITING = 7,             /* niw_wait_while tells for how many ticks */
-    NIW_PORT_STATUS_WAITING_FOR_MEMBERS = 8, /* the others of its aggregator are not ready */
-    NIW_PORT_STATUS_PARTNER_NOT_SYNCHRONIZED = 9
+    NIW_PORT_STATUS_DISTRIBUTING = 0,             /* the mux machine is in COLLECTING_DISTRIBUTING */
+    NIW_PORT_STATUS_LINK_DOWN = 1,                /* niw_is_up tells false */
+    NIW_PORT_STATUS_NO_LACPDU = 2,                /* the receive machine is EXPIRED: none came in time, or since the link came up */
+    NIW_PORT_STATUS_ON_DEFAULTS = 3,              /* so long that the port runs on defaults */
+    NIW_PORT_STATUS_OWN_SYSTEM = 4,               /* the partner is this very system */
+    NIW_PORT_STATUS_NO_AGGREGATOR = 5,            /* none has its key, or each that has it has ports of another group; for a port
+                                                     whose link is individual: or each that has it has any port */
+    NIW_PORT_STATUS_STANDBY = 6,                  /* niw_choice tells the aggregator, which has no room for one more link */
+    NIW_PORT_STATUS_WAITING = 7,                  /* niw_wait_while tells for how many ticks */
+    NIW_PORT_STATUS_WAITING_FOR_MEMBERS = 8,      /* the others of its aggregator are not ready */
+    NIW_PORT_STATUS_PARTNER_NOT_SYNCHRONIZED = 9  /* the mux machine is in ATTACHED */
 };
 
 /* Whether the peer of a port answers markers. */
@@ -917,7 +917,7 @@ static inline const char *niw_status_text(uint32_t status) {
         "the handle holds queues already",
         "as many frames of the conversation wait as may",
         "as many frames wait as may in all"};
-    return status <= NIW_ALL_FULL ? texts[status] : "unknown";
+    return status < sizeof texts / sizeof *texts ? texts[status] : "unknown";
 }
 
 /* What a reason to refuse a configuration means. */
@@ -930,7 +930,7 @@ static inline const char *niw_reason_text(uint32_t reason) {
         "the limit of links of an aggregator is above 64",
         "the configuration has neither 256 nor 4096 conversations",
         "the distribution algorithm is not 0 to 2"};
-    return texts[reason <= NIW_REASON_ALGORITHM ? reason : 0];
+    return texts[reason < sizeof texts / sizeof *texts ? reason : 0];
 }
 
 /* Whether a port distributes, and else why not. */
@@ -946,7 +946,7 @@ static inline const char *niw_port_status_text(uint64_t port_status) {
         "it waits for wait_while",
         "it waits for other ports of its aggregator",
         "the partner is not synchronized"};
-    return port_status <= NIW_PORT_STATUS_PARTNER_NOT_SYNCHRONIZED ? texts[port_status] : "unknown";
+    return port_status < sizeof texts / sizeof *texts ? texts[port_status] : "unknown";
 }
 
 /* The name of a state of the receive machine. */

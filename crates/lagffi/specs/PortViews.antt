@@ -5,9 +5,9 @@ use Rattle.lagtypes.specs.Choices.{is_standby}
 use Rattle.lagtypes.specs.Same.{same_bit}
 use Rattle.portmachines.specs.Machines.{Machines}
 use Rattle.portmachines.specs.Transmit.{actor_state}
-use Rattle.lagsystem.specs.PortStatus.{status_of_port}
+use Rattle.lagsystem.specs.PortStatus.{status_number, status_of_port}
 use Rattle.lagsystem.specs.State.{SystemState, machines_of}
-use Rattle.lagffi.specs.ReaderValues.{choice_number, mux_state_number, no_mac, port_status_number, receive_state_number}
+use Rattle.lagffi.specs.ReaderValues.{choice_number, mux_state_number, no_mac, receive_state_number}
 use Rattle.lagffi.specs.declared.views.LagView.{LagView}
 
 -- of a port that is not there
@@ -43,7 +43,7 @@ view_of_machines n p =
       state = (actor_state p).0;
       receive_state = receive_state_number p.receive;
       mux_state = mux_state_number p.mux;
-      port_status = port_status_number (status_of_port p);
+      port_status = status_number (status_of_port p);
       partner_state = p.partner.state.0;
       partner_mac = p.partner.system.mac;
       partner_priority = p.partner.system.priority;

@@ -12,7 +12,7 @@ use Rattle.lagtypes.specs.declared.party.Party.{Party}
 use Rattle.lagtypes.specs.declared.state.State.{State}
 use Rattle.lagtypes.specs.Group.{lower, upper}
 use Rattle.lagsystem.specs.declared.port_status.PortStatus.{PortStatus}
-use Rattle.lagsystem.specs.declared.port_status.PortStatus.TheVariants as status
+use Rattle.lagsystem.specs.PortStatus.{status_number}
 use Rattle.portmachines.specs.declared.mux.MuxState.{MuxState}
 use Rattle.portmachines.specs.declared.mux.MuxState.TheVariants as mux
 use Rattle.portmachines.specs.declared.receive.ReceiveState.{ReceiveState}
@@ -44,19 +44,6 @@ mux_state_number mux.Waiting = 1
 mux_state_number mux.Attached = 2
 mux_state_number mux.CollectingDistributing = 3
 
--- whether a port distributes, and else the reasons why not, in their order
-abbrev pub port_status_number : PortStatus → ℕ
-port_status_number status.Distributing = 0
-port_status_number status.LinkDown = 1
-port_status_number status.NoLacpdu = 2
-port_status_number status.OnDefaults = 3
-port_status_number status.OwnSystem = 4
-port_status_number status.NoAggregator = 5
-port_status_number (status.Standby agg) = 6
-port_status_number (status.Waiting ticks) = 7
-port_status_number status.WaitingForMembers = 8
-port_status_number status.PartnerNotSynchronized = 9
-
 -- the aggregator that a port is SELECTED or STANDBY with, or 0
 abbrev pub choice_number : Choice → ℕ
 choice_number Unselected = 0
@@ -75,7 +62,7 @@ mux_state_or_no_port None = number_refused 1
 
 -- likewise of the status of a port
 abbrev pub port_status_or_no_port : Option PortStatus → LagNumber
-port_status_or_no_port (Some status) = number (port_status_number status)
+port_status_or_no_port (Some status) = number (status_number status)
 port_status_or_no_port None = number_refused 1
 
 -- likewise of Selected: the aggregator that the port is SELECTED or STANDBY with, or 0

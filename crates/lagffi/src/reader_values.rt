@@ -4,7 +4,7 @@ ghost use Rattle.lagffi.specs.ReaderValues.{group_or_no_port, lag_group, info_or
 ghost use Rattle.lagffi.specs.ReaderValues.{assignment_refused, no_end, group_refused, info_refused, marker_refused, party_refused};
 ghost use Rattle.lagffi.specs.ReaderValues.{lag_wait, wait_refused};
 ghost use Rattle.lagtypes.specs.Choices.{is_standby};
-ghost use Rattle.lagffi.specs.ReaderValues.{choice_number, mux_state_number, port_status_number, receive_state_number};
+ghost use Rattle.lagffi.specs.ReaderValues.{choice_number, mux_state_number, receive_state_number};
 ghost use Rattle.lagffi.specs.ReaderValues.{port_status_or_no_port};
 ghost use Rattle.lagffi.specs.ReaderValues.{state_or_no_port, party_or_no_port, lag_party, receive_state_or_no_port, standby_or_no_port};
 
@@ -70,30 +70,12 @@ pub(crate) fn mux_state_or_no_port(answer: Option<MuxState>) -> LagNumber
     }
 }
 
-/// The number of a port's status.
-pub(crate) fn port_status_number(status: PortStatus) -> u8
-    ensures { result ≡ port_status_number status }
-{
-    match status {
-        PortStatus::Distributing => 0,
-        PortStatus::LinkDown => 1,
-        PortStatus::NoLacpdu => 2,
-        PortStatus::OnDefaults => 3,
-        PortStatus::OwnSystem => 4,
-        PortStatus::NoAggregator => 5,
-        PortStatus::Standby(_) => 6,
-        PortStatus::Waiting(_) => 7,
-        PortStatus::WaitingForMembers => 8,
-        PortStatus::PartnerNotSynchronized => 9,
-    }
-}
-
 /// Whether a port distributes, and else the first reason why not.
 pub(crate) fn port_status_or_no_port(answer: Option<PortStatus>) -> LagNumber
     ensures { result ≡ port_status_or_no_port answer }
 {
     match answer {
-        Some(status) => LagNumber::answered(u64::from(port_status_number(status))),
+        Some(status) => LagNumber::answered(u64::from(status.number())),
         None => LagNumber::refused(NO_PORT),
     }
 }

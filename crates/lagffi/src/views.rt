@@ -1,19 +1,17 @@
 ghost use Rattle.std.specs.Prelude.{◌≡◌, ◌≤◌, IsTrue, length, nat_le};
 ghost use Rattle.std.specs.Bool.{IsFalse};
+ghost use Rattle.lagsystem.specs.PortStatus.{status_number};
 ghost use Rattle.lagsystem.specs.State.{machines_of, port_numbers};
 ghost use Rattle.lagffi.specs.Asking.{ReadsHeldSystem};
 ghost use Rattle.lagffi.specs.Holding.{held_value};
 ghost use Rattle.lagffi.specs.Lists.{port_list_length, put_first};
 ghost use Rattle.lagffi.specs.Masks.{mask};
 ghost use Rattle.lagffi.specs.Numbers.{no_system, number, number_refused, wrong_buffer_length};
-ghost use Rattle.lagffi.specs.ReaderValues.{port_status_number};
 ghost use Rattle.lagffi.specs.PortViews.{changed, no_view, same_view, view_if_there, view_of_machines, views_of};
 
 use crate::handle::Lag;
 use crate::masks::mask;
-use crate::reader_values::{
-    choice_number, is_standby, mux_state_number, port_status_number, receive_state_number,
-};
+use crate::reader_values::{choice_number, is_standby, mux_state_number, receive_state_number};
 use crate::stored::by_number;
 use crate::values::{LagNumber, NO_SYSTEM, PORT_LIST_LENGTH, WRONG_BUFFER_LENGTH};
 use arrayvec::ArrayVec;
@@ -84,7 +82,7 @@ impl LagView {
 
     /// Of the port with this number, these machines and this status.
     fn of(number: u16, port: &Port, status: PortStatus) -> LagView
-        ensures { result ≡ record (view_of_machines number port.now) { port_status = port_status_number status } }
+        ensures { result ≡ record (view_of_machines number port.now) { port_status = status_number status } }
     {
         let partner = port.partner();
         LagView {
@@ -96,7 +94,7 @@ impl LagView {
             state: port.state().bits(),
             receive_state: receive_state_number(port.receive_state()),
             mux_state: mux_state_number(port.mux_state()),
-            port_status: port_status_number(status),
+            port_status: status.number(),
             partner_state: partner.state.bits(),
             partner_mac: partner.system.mac,
             partner_priority: partner.system.priority,

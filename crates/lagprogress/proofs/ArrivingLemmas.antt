@@ -14,17 +14,16 @@ use Rattle.lagmodel.specs.World.{Side, One, Two}
 use Rattle.lagmodel.proofs.Base.{value_of}
 use Rattle.lagsystem.specs.declared.drive.Reply.TheVariants as answer
 use Rattle.lagsystem.specs.declared.fault.SystemFault.{SystemFault}
-use Rattle.lagsystem.specs.declared.fault.SystemFault.TheVariants.{NoPort, NoAggregator, FrameLength, SlowFrame, Held, NoneDistributing}
-use Rattle.lagsystem.specs.declared.fault.SystemFault.TheVariants.{NotDistributing, SamePort, NotAssigned, MarkersSpent, BadConfig, NoMemory}
 use Rattle.lagsystem.specs.declared.received.Received.{Received}
 use Rattle.lagsystem.specs.declared.received.Received.TheVariants.{Up}
 use Rattle.lagsystem.specs.declared.system_ports.SystemPort.{SystemPort}
 use Rattle.lagsystem.specs.Calls.{Data_frame, IsFrame, Offer, ParsesWhere, Performs, ReceivesAt, Step, up_or_dropped}
-use Rattle.lagsystem.specs.Offers.{AssignsPort, MayBeOffered, RefusesOffer, assignment_of_frame, longest_frame}
+use Rattle.lagsystem.specs.Offers.{MayBeOffered, RefusesOffer, assignment_of_frame, longest_frame}
 use Rattle.lagsystem.specs.Readers.{collecting, distributing, number_of_conversation}
 use Rattle.lagsystem.specs.Sound.{IsSound}
 use Rattle.lagsystem.specs.State.{SystemState, port_index}
 use Rattle.lagsystem.proofs.Conversing.{assigned_may}
+use Rattle.lagsystem.proofs.OfferLemmas.{refused_by}
 use Rattle.lagsystem.proofs.OneFrame.{effect_one}
 use Rattle.lagworld.specs.declared.reply.Reply.{Reply}
 use Rattle.lagworld.specs.Events.{Algorithms, AfterOffer, AfterReceive, DeliversFrom, OnLink, WorldOffers, WorldReceives, side_of}
@@ -70,25 +69,12 @@ assigns gives conv p ports (On q) cause e free h = no_fault q cause h
 assigns gives conv p ports (Wanted q preferred) cause e free h = none-some q (sym free)
 assigns gives conv p ports (Flushing q id preferred age) cause e free h = none-some q (sym free)
 
-not_caused : (gives : ℕ → ℕ → ℕ → Type 0) (agg : AggId) (octets : List ℕ) (s : SystemState) (cause : DistFault) → TakesFrame agg octets s
-    → AssignsPort gives s agg octets (Err cause) → ⊥
-not_caused gives agg octets s cause t h = assigns gives (number_of_conversation s octets) t.distributor.0 (distributing agg s.system_ports)
-    (assignment_of_frame s agg octets) cause t.distributor.1 t.free h
-
 not_refused : (gives : ℕ → ℕ → ℕ → Type 0) (agg : AggId) (octets : List ℕ) (s : SystemState) (fault : SystemFault) → TakesFrame agg octets s
     → RefusesOffer gives s agg octets fault → ⊥
-not_refused gives agg octets s NoAggregator t h = true≢false (sym t.may.0 ∙ h)
-not_refused gives agg octets s FrameLength t h = true≢false (sym t.may.1.0 ∙ h.1)
-not_refused gives agg octets s SlowFrame t h = t.may.1.1 h.1.1
-not_refused gives agg octets s NoPort t h = not_caused gives agg octets s h.0 t h.2
-not_refused gives agg octets s Held t h = not_caused gives agg octets s h.0 t h.2
-not_refused gives agg octets s NoneDistributing t h = not_caused gives agg octets s h.0 t h.2
-not_refused gives agg octets s NotDistributing t h = not_caused gives agg octets s h.0 t h.2
-not_refused gives agg octets s SamePort t h = not_caused gives agg octets s h.0 t h.2
-not_refused gives agg octets s NotAssigned t h = not_caused gives agg octets s h.0 t h.2
-not_refused gives agg octets s MarkersSpent t h = not_caused gives agg octets s h.0 t h.2
-not_refused gives agg octets s (BadConfig reason) t h = not_caused gives agg octets s h.0 t h.2
-not_refused gives agg octets s NoMemory t h = not_caused gives agg octets s h.0 t h.2
+not_refused gives agg octets s fault t h =
+    let by = refused_by gives s agg octets fault t.may h in
+    assigns gives (number_of_conversation s octets) t.distributor.0 (distributing agg s.system_ports) (assignment_of_frame s agg octets) by.0
+    t.distributor.1 t.free by.1.1
 
 -- the port that it gives distributes
 given : (ports : List ℕ) (a : Assignment) (port : ℕ) → ((p : ℕ) → a ≡ On p → is_among ports p ≡ true) → MaySend ports a port

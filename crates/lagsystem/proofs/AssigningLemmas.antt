@@ -1,5 +1,5 @@
 -- What offer_conversation does is what `offer` does for each frame of the conversation.
-use Rattle.std.proofs.Common.{◌≡◌, ◌∙◌, ℕ, ◌*◌, ◌+◌, ◌/◌, ◌%◌, ◌<◌, Bool, true, false, List, Ok, Err, Result, ap, arith, refl, subst, sym}
+use Rattle.std.proofs.Common.{◌≡◌, ◌∙◌, ℕ, ◌*◌, ◌+◌, ◌/◌, ◌%◌, ◌<◌, Bool, true, false, List, Ok, Err, Result, ap, arith, inl, inr, refl, subst, sym}
 use Rattle.std.specs.Prelude.{bit_xor, nat_lt}
 use Rattle.std.proofs.lemmas.Bool.{true≢false}
 use Rattle.std.proofs.lemmas.Bool.Decides.{nat_tests}
@@ -18,7 +18,6 @@ use Rattle.lagsystem.specs.Readers.{conversation_count, distributing, number_of_
 use Rattle.lagsystem.specs.Sound.{CallPromise, IsSound}
 use Rattle.lagsystem.specs.State.{SystemState}
 use Rattle.lagsystem.proofs.Conversing.{assigned_may}
-use Rattle.lagsystem.proofs.OfferLemmas.{offer_refused}
 use Rattle.lagsystem.proofs.OnPorts.{may_carry, sets_carried}
 use Rattle.lagsystem.proofs.PromiseLemmas.{table_sound}
 use Rattle.lagsystem.proofs.Rising.{accepted_count}
@@ -29,8 +28,7 @@ pub taken_offers : (gives : ℕ → ℕ → ℕ → Type 0) (agg : AggId) (octet
     (new : SystemState) → MayBeOfferedTo old agg octets → TakesPort gives agg (number_of_conversation old octets) old answer new
     → Offers gives agg octets old answer new
 taken_offers gives agg octets old (Ok port) new may h = (may, h.0, h.1)
-taken_offers gives agg octets old (Err fault) new may h =
-    offer_refused gives agg octets old new (Err fault) h.0.0 h.0.2 may h.0.1 h.1
+taken_offers gives agg octets old (Err fault) new may h = (inr (inr (h.0.0, (may, h.0.1), h.0.2)), h.1)
 
 below_count : (s : SystemState) → is_conversation_count s.conversations ≡ true → (octets : List ℕ)
     → nat_lt (number_of_conversation s octets) (conversation_count s) ≡ true
@@ -40,7 +38,7 @@ offers_if : (gives : ℕ → ℕ → ℕ → Type 0) (agg : AggId) (octets : Lis
     (new : SystemState) (there known : Bool) → has_aggregator old agg ≡ there → known ≡ true → MayBeOffered octets
     → OffersIf there known gives agg (number_of_conversation old octets) old answer new → Offers gives agg octets old answer new
 offers_if gives agg octets old answer new false known e k may h =
-    subst (λ r. Offers gives agg octets old r new) (sym h.0) (e, h.1)
+    subst (λ r. Offers gives agg octets old r new) (sym h.0) (inl (e, refl), h.1)
 offers_if gives agg octets old answer new true false e k may h = absurd (true≢false (sym k))
 offers_if gives agg octets old answer new true true e k may h = taken_offers gives agg octets old answer new (e, may) h
 

@@ -1,18 +1,16 @@
 -- Frames that are offered.
 use Rattle.std.proofs.Common.{◌≡◌, ◌∙◌, ℕ, ◌<◌, ◌≤◌, ◌-◌, ◌%◌, Bool, true, false, eqb, eqb-true, inl, inr, List, length, arith, refl, subst, sym, Bor}
-use Rattle.std.specs.Prelude.{bit_and, ◌||◌, IsErrAnd, Result, Ok, Err}
-use Rattle.std.proofs.lemmas.Bool.{le-leb, lt-leb, and_from, and_left, and_right, cases_Bool}
+use Rattle.std.specs.Prelude.{bit_and, ◌||◌}
+use Rattle.std.proofs.lemmas.Bool.{le-leb, lt-leb, and_from, and_left, and_right, cases_Bool, true≢false}
 use Rattle.std.proofs.lemmas.Nat.{and_mask}
 use Rattle.distributor.specs.Conversations.{is_conversation_count}
 use Rattle.slowpdu.specs.declared.frames.Kind.{Kind}
 use Rattle.slowpdu.specs.declared.frames.Kind.TheVariants.{Control, TooShort}
 use Rattle.slowpdu.specs.Frames.{IsFrameOfKind, IsSlowProtocolsFrame}
 use Rattle.distributor.specs.declared.fault.DistFault.{DistFault}
-use Rattle.distributor.specs.declared.fault.DistFault.TheVariants as dist
 use Rattle.lagtypes.specs.declared.identifiers.AggId.{AggId}
 use Rattle.lagsystem.specs.declared.fault.SystemFault.{SystemFault}
-use Rattle.lagsystem.specs.Faults.{system_fault}
-use Rattle.lagsystem.specs.Offers.{AssignsPort, MayBeOfferedTo, Offers, RefusesOffer, is_frame_length, longest_frame}
+use Rattle.lagsystem.specs.Offers.{MayBeOffered, MayBeOfferedTo, RefusedBy, RefusesFrame, RefusesOffer, is_frame_length, longest_frame}
 use Rattle.lagsystem.specs.State.{SystemState}
 
 pub is_frame : (octets : List ℕ) → 14 ≤ length octets → length octets ≤ 1518 → is_frame_length octets ≡ true
@@ -44,18 +42,14 @@ low_bits n x h = elim (cases_Bool (eqb n 256)) [
     or_second : (a b : Bool) → a ≡ false → (a || b) ≡ b
     or_second a b e = subst (λ c. (c || b) ≡ b) (sym e) refl
 
--- what the distributor refuses is refused
-pub offer_refused : (gives : ℕ → ℕ → ℕ → Type 0) (agg : AggId) (octets : List ℕ) (old new : SystemState) (r : Result ℕ SystemFault)
-    (cause : DistFault) → IsErrAnd r (λ fault. fault ≡ system_fault cause) → MayBeOfferedTo old agg octets
-    → AssignsPort gives old agg octets (Err cause) → new ≡ old → Offers gives agg octets old r new
-offer_refused gives agg octets old new (Ok port) cause e may a same = absurd e
-offer_refused gives agg octets old new (Err fault) cause e may a same =
-    (subst (RefusesOffer gives old agg octets) (sym e) (by_cause cause a), same)
-  where
-    by_cause : (f : DistFault) → AssignsPort gives old agg octets (Err f) → RefusesOffer gives old agg octets (system_fault f)
-    by_cause dist.Held a = (dist.Held, may, a, refl)
-    by_cause dist.NoneDistributing a = (dist.NoneDistributing, may, a, refl)
-    by_cause dist.NotDistributing a = (dist.NotDistributing, may, a, refl)
-    by_cause dist.SamePort a = (dist.SamePort, may, a, refl)
-    by_cause dist.NotAssigned a = (dist.NotAssigned, may, a, refl)
-    by_cause dist.MarkersSpent a = (dist.MarkersSpent, may, a, refl)
+-- a frame that may be offered is not refused, and an offer of it only by the distributor
+
+pub not_both : (octets : List ℕ) (fault : SystemFault) → MayBeOffered octets → RefusesFrame octets fault → ⊥
+not_both octets fault may (inl h) = true≢false (sym may.0 ∙ h.0)
+not_both octets fault may (inr h) = may.1 h.1
+
+pub refused_by : (gives : ℕ → ℕ → ℕ → Type 0) (s : SystemState) (agg : AggId) (octets : List ℕ) (fault : SystemFault)
+    → MayBeOfferedTo s agg octets → RefusesOffer gives s agg octets fault → (cause : DistFault) × RefusedBy gives s agg octets cause
+refused_by gives s agg octets fault may (inl h) = absurd (true≢false (sym may.0 ∙ h.0))
+refused_by gives s agg octets fault may (inr (inl h)) = absurd (not_both octets fault may.1 h.1)
+refused_by gives s agg octets fault may (inr (inr h)) = (h.0, h.1)

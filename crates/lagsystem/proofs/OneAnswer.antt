@@ -9,7 +9,7 @@ use Rattle.lagtypes.specs.declared.identifiers.AggId.{AggId}
 use Rattle.slowpdu.specs.declared.pdu.Lacpdu.{Lacpdu}
 use Rattle.slowpdu.specs.declared.pdu.Marker.{Marker}
 use Rattle.slowpdu.specs.declared.pdu.Pdu.TheVariants as pdu
-use Rattle.slowpdu.specs.Frames.{IsSlowProtocolsFrame, frame_octets}
+use Rattle.slowpdu.specs.Frames.{frame_octets}
 use Rattle.slowpdu.proofs.PduLemmas.{one_written}
 use Rattle.portmachines.specs.Machines.{Machines}
 use Rattle.portmachines.specs.Calls.{PortCall}
@@ -28,8 +28,7 @@ use Rattle.lagsystem.specs.declared.config.PortChange.{PortChange}
 use Rattle.lagsystem.specs.declared.drive.Reply.{Reply}
 use Rattle.lagsystem.specs.declared.drive.Reply.TheVariants as reply
 use Rattle.lagsystem.specs.declared.fault.SystemFault.{SystemFault}
-use Rattle.lagsystem.specs.declared.fault.SystemFault.TheVariants.{NoPort, NoAggregator, FrameLength, SlowFrame, Held, NoneDistributing}
-use Rattle.lagsystem.specs.declared.fault.SystemFault.TheVariants.{NotDistributing, SamePort, NotAssigned, MarkersSpent, BadConfig, NoMemory}
+use Rattle.lagsystem.specs.declared.fault.SystemFault.TheVariants.{NoPort, NoAggregator}
 use Rattle.lagsystem.specs.declared.received.FrameEffect.{FrameEffect}
 use Rattle.lagsystem.specs.declared.received.FrameEffect.TheVariants.{ProcessLacpdu, Response, Answered}
 use Rattle.lagsystem.specs.declared.received.Received.{Received}
@@ -42,13 +41,14 @@ use Rattle.lagsystem.specs.Calls.{Step, ThenSettles, changed_party, choice_with_
 use Rattle.lagsystem.specs.Faults.{system_fault}
 use Rattle.lagsystem.specs.First.{IsFirst}
 use Rattle.lagsystem.specs.ModelView.{ReceivesAtRest, none_enabled}
-use Rattle.lagsystem.specs.Offers.{AssignsPort, GivesAssignment, GivesOrRefuses, MayBeOfferedTo, Offers, RefusesOffer}
+use Rattle.lagsystem.specs.Offers.{AssignsPort, GivesAssignment, GivesOrRefuses, MayBeOfferedTo, Offers, RefusesFrame, RefusesOffer}
 use Rattle.lagsystem.specs.Offers.{has_aggregator, in_system, is_frame_length, or_not_assigned, system_force_result, system_move_result}
 use Rattle.lagsystem.specs.OneAnswer.{IsFunction, OneAnswer, OneRun, SameConversations, SameState}
 use Rattle.lagsystem.specs.Readers.{distributing, number_of_conversation}
 use Rattle.lagsystem.specs.Sending.{PortTransmits, SendsMarkerOf, TransmitsAt, TransmitsIf, own_marker}
 use Rattle.lagsystem.specs.State.{SystemState, aggregators_value, port_index, system_port_at, with_system_ports, with_table}
 use Rattle.lagsystem.proofs.Keeps.{Step-frame}
+use Rattle.lagsystem.proofs.OfferLemmas.{not_both}
 use Rattle.lagsystem.proofs.OneFrame.{effect_one, lacpdu_one}
 use Rattle.lagsystem.proofs.OneSettling.{Changed, LeadsToOne, SameAfter, changed_one, one_at, one_of_each, settlings_one, stayed_one}
 use Rattle.lagsystem.proofs.OneStart.{one_first}
@@ -273,111 +273,56 @@ abbrev NoSuch : SystemState → AggId → Result ℕ SystemFault → Type 0
 NoSuch s agg x = IsFalse (has_aggregator s agg) × (x ≡ Err NoAggregator)
 
 abbrev Unfit : SystemState → AggId → List ℕ → Result ℕ SystemFault → Type 0
-Unfit s agg octets x = (has_aggregator s agg ≡ true) × IsFalse (is_frame_length octets) × (x ≡ Err FrameLength)
-
-abbrev Slow : SystemState → AggId → List ℕ → Result ℕ SystemFault → Type 0
-Slow s agg octets x = (has_aggregator s agg ≡ true) × (is_frame_length octets ≡ true) × IsSlowProtocolsFrame octets × (x ≡ Err SlowFrame)
+Unfit s agg octets x = (fault : SystemFault) × (has_aggregator s agg ≡ true) × RefusesFrame octets fault × (x ≡ Err fault)
 
 abbrev Asked : (ℕ → ℕ → ℕ → Type 0) → SystemState → AggId → List ℕ → Result ℕ SystemFault → Type 0
 Asked gives s agg octets x = (d : Result ℕ DistFault) × MayBeOfferedTo s agg octets × AssignsPort gives s agg octets d × (x ≡ as_fault d)
 
 abbrev Reason : (ℕ → ℕ → ℕ → Type 0) → SystemState → AggId → List ℕ → Result ℕ SystemFault → Type 0
-Reason gives s agg octets x = NoSuch s agg x ⊎ (Unfit s agg octets x ⊎ (Slow s agg octets x ⊎ Asked gives s agg octets x))
-
-asked : (gives : ℕ → ℕ → ℕ → Type 0) (s : SystemState) (agg : AggId) (octets : List ℕ) (fault : SystemFault) (cause : DistFault)
-    → MayBeOfferedTo s agg octets → AssignsPort gives s agg octets (Err cause) → fault ≡ system_fault cause
-    → Reason gives s agg octets (Err fault)
-asked gives s agg octets fault cause may h e = inr (inr (inr (Err cause, may, h, ap Err e)))
+Reason gives s agg octets x = NoSuch s agg x ⊎ (Unfit s agg octets x ⊎ Asked gives s agg octets x)
 
 refused : (gives : ℕ → ℕ → ℕ → Type 0) (s : SystemState) (agg : AggId) (octets : List ℕ) (fault : SystemFault)
     → RefusesOffer gives s agg octets fault → Reason gives s agg octets (Err fault)
-refused gives s agg octets NoAggregator h = inl (h, refl)
-refused gives s agg octets FrameLength h = inr (inl (h.0, h.1, refl))
-refused gives s agg octets SlowFrame h = inr (inr (inl (h.0, h.1.0, h.1.1, refl)))
-refused gives s agg octets NoPort h = asked gives s agg octets NoPort h.0 h.1 h.2 h.3
-refused gives s agg octets Held h = asked gives s agg octets Held h.0 h.1 h.2 h.3
-refused gives s agg octets NoneDistributing h = asked gives s agg octets NoneDistributing h.0 h.1 h.2 h.3
-refused gives s agg octets NotDistributing h = asked gives s agg octets NotDistributing h.0 h.1 h.2 h.3
-refused gives s agg octets SamePort h = asked gives s agg octets SamePort h.0 h.1 h.2 h.3
-refused gives s agg octets NotAssigned h = asked gives s agg octets NotAssigned h.0 h.1 h.2 h.3
-refused gives s agg octets MarkersSpent h = asked gives s agg octets MarkersSpent h.0 h.1 h.2 h.3
-refused gives s agg octets (BadConfig reason) h = asked gives s agg octets (BadConfig reason) h.0 h.1 h.2 h.3
-refused gives s agg octets NoMemory h = asked gives s agg octets NoMemory h.0 h.1 h.2 h.3
+refused gives s agg octets fault (inl h) = inl (h.0, ap Err h.1)
+refused gives s agg octets fault (inr (inl h)) = inr (inl (fault, h.0, h.1, refl))
+refused gives s agg octets fault (inr (inr h)) = inr (inr (Err h.0, h.1.0, h.1.1, ap Err h.2))
 
 offered : (gives : ℕ → ℕ → ℕ → Type 0) (s : SystemState) (agg : AggId) (octets : List ℕ) (x : Result ℕ SystemFault) (new : SystemState)
     → Offers gives agg octets s x new → Reason gives s agg octets x
-offered gives s agg octets (Ok port) new h = inr (inr (inr (Ok port, h.0, h.1, refl)))
+offered gives s agg octets (Ok port) new h = inr (inr (Ok port, h.0, h.1, refl))
 offered gives s agg octets (Err fault) new h = refused gives s agg octets fault h.0
 
 differ : {A : Type 0} (b : Bool) → b ≡ true → b ≡ false → A
 differ b t f = absurd (true≢false (sym t ∙ f))
 
+frame_one : (octets : List ℕ) (f g : SystemFault) → RefusesFrame octets f → RefusesFrame octets g → g ≡ f
+frame_one octets f g (inl a) (inl b) = b.1 ∙ sym a.1
+frame_one octets f g (inl a) (inr b) = differ (is_frame_length octets) b.0 a.0
+frame_one octets f g (inr a) (inl b) = differ (is_frame_length octets) a.0 b.0
+frame_one octets f g (inr a) (inr b) = b.2 ∙ sym a.2
+
 reason_one : (gives : ℕ → ℕ → ℕ → Type 0) → IsFunction gives → (s : SystemState) (agg : AggId) (octets : List ℕ) (x y : Result ℕ SystemFault)
     → Reason gives s agg octets x → Reason gives s agg octets y → y ≡ x
-reason_one gives one s agg octets x y h k = elim h [
-  | inl a ↦ elim k [
-    | inl b ↦ b.1 ∙ sym a.1
-    | inr k ↦ elim k [
-      | inl b ↦ differ (has_aggregator s agg) b.0 a.0
-      | inr k ↦ elim k [
-        | inl b ↦ differ (has_aggregator s agg) b.0 a.0
-        | inr b ↦ differ (has_aggregator s agg) b.1.0 a.0
-      ]
-    ]
-  ]
-  | inr h ↦ elim h [
-    | inl a ↦ elim k [
-      | inl b ↦ differ (has_aggregator s agg) a.0 b.0
-      | inr k ↦ elim k [
-        | inl b ↦ b.2 ∙ sym a.2
-        | inr k ↦ elim k [
-          | inl b ↦ differ (is_frame_length octets) b.1 a.1
-          | inr b ↦ differ (is_frame_length octets) b.1.1.0 a.1
-        ]
-      ]
-    ]
-    | inr h ↦ elim h [
-      | inl a ↦ elim k [
-        | inl b ↦ differ (has_aggregator s agg) a.0 b.0
-        | inr k ↦ elim k [
-          | inl b ↦ differ (is_frame_length octets) a.1 b.1
-          | inr k ↦ elim k [
-            | inl b ↦ b.3 ∙ sym a.3
-            | inr b ↦ absurd (b.1.1.1 a.2)
-          ]
-        ]
-      ]
-      | inr a ↦ elim k [
-        | inl b ↦ differ (has_aggregator s agg) a.1.0 b.0
-        | inr k ↦ elim k [
-          | inl b ↦ differ (is_frame_length octets) a.1.1.0 b.1
-          | inr k ↦ elim k [
-            | inl b ↦ absurd (a.1.1.1 b.2)
-            | inr b ↦ b.3
-                ∙ ap as_fault (assigns_one gives one (number_of_conversation s octets) (distributing agg s.system_ports) _ a.0 b.0 a.2 b.2)
-                ∙ sym a.3
-          ]
-        ]
-      ]
-    ]
-  ]
-]
+reason_one gives one s agg octets x y (inl a) (inl b) = b.1 ∙ sym a.1
+reason_one gives one s agg octets x y (inl a) (inr (inl b)) = differ (has_aggregator s agg) b.1 a.0
+reason_one gives one s agg octets x y (inl a) (inr (inr b)) = differ (has_aggregator s agg) b.1.0 a.0
+reason_one gives one s agg octets x y (inr (inl a)) (inl b) = differ (has_aggregator s agg) a.1 b.0
+reason_one gives one s agg octets x y (inr (inl a)) (inr (inl b)) = b.3 ∙ ap Err (frame_one octets a.0 b.0 a.2 b.2) ∙ sym a.3
+reason_one gives one s agg octets x y (inr (inl a)) (inr (inr b)) = absurd (not_both octets a.0 b.1.1 a.2)
+reason_one gives one s agg octets x y (inr (inr a)) (inl b) = differ (has_aggregator s agg) a.1.0 b.0
+reason_one gives one s agg octets x y (inr (inr a)) (inr (inl b)) = absurd (not_both octets b.0 a.1.1 b.2)
+reason_one gives one s agg octets x y (inr (inr a)) (inr (inr b)) = b.3
+    ∙ ap as_fault (assigns_one gives one (number_of_conversation s octets) (distributing agg s.system_ports) _ a.0 b.0 a.2 b.2)
+    ∙ sym a.3
 
 alike : (gives : ℕ → ℕ → ℕ → Type 0) (old : SystemState) (u : Table) (agg : AggId) (octets : List ℕ) (x : Result ℕ SystemFault)
     → SameConversations old.table u → Reason gives (with_table old u) agg octets x → Reason gives old agg octets x
-alike gives old u agg octets x same h = elim h [
-  | inl a ↦ inl a
-  | inr h ↦ elim h [
-    | inl a ↦ inr (inl a)
-    | inr h ↦ elim h [
-      | inl a ↦ inr (inr (inl a))
-      | inr a ↦
-          let conv = number_of_conversation old octets in
-          let assigns = subst (λ s. Assigns gives conv (distributing agg old.system_ports) s a.0) (same.states agg.0 conv) a.2 in
-          inr (inr (inr (a.0, a.1, assigns, a.3)))
-    ]
-  ]
-]
+alike gives old u agg octets x same (inl a) = inl a
+alike gives old u agg octets x same (inr (inl a)) = inr (inl a)
+alike gives old u agg octets x same (inr (inr a)) =
+    let conv = number_of_conversation old octets in
+    let assigns = subst (λ s. Assigns gives conv (distributing agg old.system_ports) s a.0) (same.states agg.0 conv) a.2 in
+    inr (inr (a.0, a.1, assigns, a.3))
 
 sets_one : (agg : AggId) (conv : ℕ) (s r : Assignment) (old : SystemState) (u : Table) (new last : SystemState) → r ≡ s
     → SameConversations old.table u → GivesAssignment agg conv s old new → GivesAssignment agg conv r (with_table old u) last

@@ -25,22 +25,25 @@ use Rattle.selection.specs.Limits.{has_room, is_below}
 use Rattle.selection.specs.Ready.{is_ready}
 use Rattle.selection.specs.Views.{has_chosen, has_waited, is_detached, is_detached_or_waiting, is_eligible, stands_by}
 use Rattle.selection.proofs.LimitLemmas.{NoneStandsBy, none_is_next}
-use Rattle.lagsystem.specs.declared.port_status.PortStatus.{PortStatus}
-use Rattle.lagsystem.specs.declared.port_status.PortStatus.TheVariants as status
 use Rattle.lagsystem.specs.declared.system_ports.SystemPort.{SystemPort}
 use Rattle.lagsystem.specs.ModelView.{key_of}
 use Rattle.lagsystem.specs.NothingToSettle.{MuxIsSettled}
 use Rattle.lagsystem.specs.Occupants.{WithinLimit, occupied}
-use Rattle.lagsystem.specs.PortStatus.{status_by_choice}
 use Rattle.lagsystem.specs.Readers.{aggregator_numbered}
 use Rattle.lagsystem.specs.Settling.{ready_of}
 use Rattle.lagsystem.specs.Sound.{IsSound}
 use Rattle.lagsystem.specs.State.{SystemState, aggregators_value}
-use Rattle.lagsystem.specs.StatusMeaning.{FindsNoAggregator, FindsNoRoom, Says, Waits, WaitsForMember, WaitsForPartner}
+use Rattle.lagsystem.specs.StatusMeaning.{FindsNoAggregator, FindsNoRoom, HearsPartner, Waits, WaitsForMember, WaitsForPartner, WaitsIn}
 use Rattle.lagsystem.specs.Views.{selection_view, stage_of, views}
 use Rattle.lagsystem.proofs.NoneLeft.{takes_is}
 use Rattle.lagsystem.proofs.Rising.{all-get, ports_rise}
-use Rattle.lagsystem.proofs.StatusLemmas.{by_mux, heard_at, other, standby_is, unselected_is}
+
+-- a port of a sound system that hears its partner, and does not distribute
+pub record Heard (s : SystemState) (i : ℕ) (x : SystemPort) : Type 0 where
+  pub sound : IsSound s
+  pub at : slice_get s.system_ports i ≡ Some x
+  pub idle : same_mux_state CollectingDistributing x.port.mux ≡ false
+  pub hears : HearsPartner x.port
 
 -- what no aggregator passes
 
@@ -108,20 +111,20 @@ none_if : (b : Bool) (o : Option AggId) → b ≡ true → (if b then o else Non
 none_if true o e h = h
 none_if false o e h = absurd (true≢false (sym e))
 
-pub finds_no_aggregator : Says status.NoAggregator FindsNoAggregator
-finds_no_aggregator s i x h at e =
+pub finds_no_aggregator : (s : SystemState) (i : ℕ) (x : SystemPort) → Heard s i x
+    → same_system x.port.partner.system x.port.party.system ≡ false → x.port.choice ≡ Unselected → FindsNoAggregator s x
+finds_no_aggregator s i x l other free =
     let p = x.port in
     let v = selection_view x in
     let seen = views s.system_ports in
-    let l = heard_at s i x status.NoAggregator h at e refl in
-    let o = other (same_system p.partner.system p.party.system) (status_by_choice p p.choice) status.NoAggregator l.status refl in
-    let free = unselected_is p p.choice o.1 in
+    let h = l.sound in
+    let at = l.at in
     let settled = settled_at s i x h at in
     let may : is_eligible v ≡ true =
     all_five p.enabled (same_receive_state Current p.receive || same_receive_state Defaulted p.receive)
     (is_detached (stage_of p.mux p.wait_while)) (is_unselected p.choice) (same_system p.partner.system p.party.system) l.hears.0
     (ap (λ r. same_receive_state Current r || same_receive_state Defaulted r) l.hears.1)
-    (detached_at p.mux p.wait_while p.choice _ free settled.mux.1.0 settled.mux.1.1.1.0 settled.mux.1.1.1.1.1.0) (ap is_unselected free) o.0 in
+    (detached_at p.mux p.wait_while p.choice _ free settled.mux.1.0 settled.mux.1.1.1.0 settled.mux.1.1.1.1.1.0) (ap is_unselected free) other in
     let nothing : chosen_if_eligible s.keys seen v ≡ None = is_chosen (is_eligible v) (chosen_if_eligible s.keys seen v) may
     (sym (takes_is s.keys s.system_ports i x (ports_rise s h.ports) at) ∙ settled.apart) in
     let both = first_none (lowest s.keys p.party.key (occupants_share_group seen v)) (lowest s.keys p.party.key (has_no_occupant seen)) nothing in
@@ -162,12 +165,11 @@ at_most : (max_links : Option ℕ) (agg : AggId) (ports : List SystemPort) → W
 at_most None agg ports w most e = absurd (none-some most e)
 at_most (Some limit) agg ports w most e = subst (λ n. length (ports_that_chose agg (views ports)) ≤ n) (same_Some limit most e) (w agg)
 
-pub finds_no_room : (agg : AggId) → Says (status.Standby agg) (FindsNoRoom agg)
-finds_no_room agg s i x h at e =
+pub finds_no_room : (agg : AggId) (s : SystemState) (i : ℕ) (x : SystemPort) → Heard s i x → x.port.choice ≡ Standby agg → FindsNoRoom agg s x
+finds_no_room agg s i x l stands =
     let p = x.port in
-    let l = heard_at s i x (status.Standby agg) h at e refl in
-    let o = other (same_system p.partner.system p.party.system) (status_by_choice p p.choice) (status.Standby agg) l.status refl in
-    let stands = standby_is p p.choice agg o.1 in
+    let h = l.sound in
+    let at = l.at in
     let known : is_aggregator s.keys agg ≡ true =
     known_number s.keys agg.0 p.party.key (h.occupants.key i agg.0 x at (ap occupied stands)) in
     let room : has_room (aggregators_value s) (views s.system_ports) agg ≡ false =
@@ -180,31 +182,6 @@ finds_no_room agg s i x h at e =
     record { hears = l.hears; chosen = stands; most = full.0; limit = full.1; full = full.2 }
 
 -- a SELECTED port waits
-
-abbrev ticks_of : PortStatus → Option ℕ
-ticks_of (status.Waiting ticks) = Some ticks
-ticks_of _ = None
-
-attached_of : (a b : Bool) (ticks : ℕ)
-    → (if a then status.PartnerNotSynchronized else (if b then status.Waiting ticks else status.WaitingForMembers)) ≡ status.PartnerNotSynchronized
-    → a ≡ true
-attached_of true b ticks h = refl
-attached_of false true ticks h = absurd cc
-attached_of false false ticks h = absurd cc
-
-waiting_of : (a b : Bool) (ticks left : ℕ)
-    → (if a then status.PartnerNotSynchronized else (if b then status.Waiting ticks else status.WaitingForMembers)) ≡ status.Waiting left
-    → (a ≡ false) × (b ≡ true) × (ticks ≡ left)
-waiting_of true b ticks left h = absurd cc
-waiting_of false true ticks left h = (refl, refl, same_Some ticks left (ap ticks_of h))
-waiting_of false false ticks left h = absurd cc
-
-waited_of : (a b : Bool) (ticks : ℕ)
-    → (if a then status.PartnerNotSynchronized else (if b then status.Waiting ticks else status.WaitingForMembers)) ≡ status.WaitingForMembers
-    → (a ≡ false) × (b ≡ false)
-waited_of true b ticks h = absurd cc
-waited_of false true ticks h = absurd cc
-waited_of false false ticks h = (refl, refl)
 
 mux_attached : (m : MuxState) → same_mux_state Attached m ≡ true → m ≡ Attached
 mux_attached Attached h = refl
@@ -228,38 +205,35 @@ above n h = grind (arith, nat_tests)
 not_above : (n : ℕ) → nat_lt 0 n ≡ false → n ≡ 0
 not_above n h = grind (arith, nat_tests)
 
-pub waits_for_partner : Says status.PartnerNotSynchronized WaitsForPartner
-waits_for_partner s i x h at e =
+pub waits_for_partner : (agg : AggId) (s : SystemState) (i : ℕ) (x : SystemPort) → Heard s i x → x.port.choice ≡ Selected agg
+    → same_mux_state Attached x.port.mux ≡ true → WaitsForPartner s x
+waits_for_partner agg s i x l chosen there =
     let p = x.port in
-    let l = heard_at s i x status.PartnerNotSynchronized h at e refl in
-    let g = by_mux p status.PartnerNotSynchronized l.status refl in
-    let there = attached_of (same_mux_state Attached p.mux) (nat_lt 0 p.wait_while) p.wait_while g.status in
-    let settled = settled_at s i x h at in
+    let settled = settled_at s i x l.sound l.at in
     record {
       hears = l.hears;
-      chosen = ap is_selected g.chosen;
+      chosen = ap is_selected chosen;
       mux = mux_attached p.mux there;
-      apart = third_false (same_mux_state Attached p.mux) (selected p) (partner_synchronized p) there (ap is_selected g.chosen)
+      apart = third_false (same_mux_state Attached p.mux) (selected p) (partner_synchronized p) there (ap is_selected chosen)
           settled.mux.1.1.1.1.0;
     }
 
-pub waits : (ticks : ℕ) → Says (status.Waiting ticks) (Waits ticks)
-waits ticks s i x h at e =
-    let p = x.port in
-    let l = heard_at s i x (status.Waiting ticks) h at e refl in
-    let g = by_mux p (status.Waiting ticks) l.status refl in
-    let w = waiting_of (same_mux_state Attached p.mux) (nat_lt 0 p.wait_while) p.wait_while ticks g.status in
-    let settled = settled_at s i x h at in
-    record {
-      hears = l.hears;
-      agg = g.agg;
-      waits = record {
-        chosen = g.chosen;
-        mux = mux_waiting p.mux p.choice g.agg g.chosen l.idle w.0 settled.mux.0;
-        wait_while = w.2;
-      };
-      runs = subst (λ n. 0 < n) w.2 (above p.wait_while w.1);
-    }
+waits_in : (agg : AggId) (s : SystemState) (i : ℕ) (x : SystemPort) → Heard s i x → x.port.choice ≡ Selected agg
+    → same_mux_state Attached x.port.mux ≡ false → WaitsIn agg x.port.wait_while x
+waits_in agg s i x l chosen early = record {
+  chosen = chosen;
+  mux = mux_waiting x.port.mux x.port.choice agg chosen l.idle early (settled_at s i x l.sound l.at).mux.0;
+  wait_while = refl;
+}
+
+pub waits : (agg : AggId) (s : SystemState) (i : ℕ) (x : SystemPort) → Heard s i x → x.port.choice ≡ Selected agg
+    → same_mux_state Attached x.port.mux ≡ false → nat_lt 0 x.port.wait_while ≡ true → Waits x.port.wait_while s x
+waits agg s i x l chosen early runs = record {
+  hears = l.hears;
+  agg = agg;
+  waits = waits_in agg s i x l chosen early;
+  runs = above x.port.wait_while runs;
+}
 
 -- an aggregator that is not Ready has a member that waits
 
@@ -338,33 +312,32 @@ not_all : (known any all : Bool) (seen : List PortView) → known ≡ true → l
 not_all true any all seen k e h = fails (list_any still seen) (has_waited_in seen) e h
 not_all false any all seen k e h = absurd (true≢false (sym k))
 
-pub waits_for_member : Says status.WaitingForMembers WaitsForMember
-waits_for_member s i x h at e =
+pub waits_for_member : (agg : AggId) (s : SystemState) (i : ℕ) (x : SystemPort) → Heard s i x → x.port.choice ≡ Selected agg
+    → same_mux_state Attached x.port.mux ≡ false → nat_lt 0 x.port.wait_while ≡ false → WaitsForMember s x
+waits_for_member agg s i x l chosen early waited =
     let p = x.port in
-    let l = heard_at s i x status.WaitingForMembers h at e refl in
-    let g = by_mux p status.WaitingForMembers l.status refl in
-    let w = waited_of (same_mux_state Attached p.mux) (nat_lt 0 p.wait_while) p.wait_while g.status in
+    let h = l.sound in
+    let at = l.at in
     let settled = settled_at s i x h at in
-    let agg = g.agg in
-    let waiting = mux_waiting p.mux p.choice agg g.chosen l.idle w.0 settled.mux.0 in
+    let waiting = waits_in agg s i x l chosen early in
     let known : is_aggregator s.keys agg ≡ true =
-    known_number s.keys agg.0 p.party.key (h.occupants.key i agg.0 x at (ap occupied g.chosen)) in
+    known_number s.keys agg.0 p.party.key (h.occupants.key i agg.0 x at (ap occupied chosen)) in
     let unready : is_ready s.keys (views s.system_ports) agg ≡ false =
-    sym (ap (ready_of s.keys (views s.system_ports)) g.chosen) ∙ settled.unready in
-    let any = any_here agg s.system_ports i x at (ap (has_chosen agg) g.chosen ∙ itself agg.0) (stays_at p.mux p.wait_while waiting) in
+    sym (ap (ready_of s.keys (views s.system_ports)) chosen) ∙ settled.unready in
+    let any = any_here agg s.system_ports i x at (ap (has_chosen agg) chosen ∙ itself agg.0) (stays_at p.mux p.wait_while waiting.mux) in
     let o = one_has_not agg s.system_ports
     (not_all (is_aggregator s.keys agg) true true (ports_that_chose agg (views s.system_ports)) known any unready) in
     let there = settled_at s o.index o.port h o.there in
-    let chosen = given_is agg o.port.port.choice o.member in
-    let runs = still_waits o.port.port.mux o.port.port.wait_while o.port.port.choice agg chosen o.stays o.early there.mux.0 in
+    let member = given_is agg o.port.port.choice o.member in
+    let runs = still_waits o.port.port.mux o.port.port.wait_while o.port.port.choice agg member o.stays o.early there.mux.0 in
     record {
       hears = l.hears;
       agg = agg;
-      waited = record { chosen = g.chosen; mux = waiting; wait_while = not_above p.wait_while w.1 };
+      waited = record { chosen = chosen; mux = waiting.mux; wait_while = not_above p.wait_while waited };
       index = o.index;
       other = o.port;
       there = o.there;
       ticks = o.port.port.wait_while;
-      waits = record { chosen = chosen; mux = runs.0; wait_while = refl };
+      waits = record { chosen = member; mux = runs.0; wait_while = refl };
       runs = runs.1;
     }

@@ -14,7 +14,6 @@ use Rattle.distributor.specs.Changes.{SetsAssignment, marker_due, wants_marker}
 use Rattle.distributor.specs.Conversations.{Table, assignment_of, count_conversations, sum_below}
 use Rattle.lagsystem.specs.declared.drive.Reply.TheVariants as reply
 use Rattle.lagsystem.specs.declared.fault.SystemFault.{SystemFault}
-use Rattle.lagsystem.specs.declared.fault.SystemFault.TheVariants as fault
 use Rattle.lagsystem.specs.declared.received.FrameEffect.{FrameEffect}
 use Rattle.lagsystem.specs.declared.received.FrameEffect.TheVariants.{Answered}
 use Rattle.lagsystem.specs.declared.received.Received.{Received}
@@ -24,11 +23,12 @@ use Rattle.lagsystem.specs.Assigning.{OffersIf, TakesPort}
 use Rattle.lagsystem.specs.Calls.{Data_frame, ParsesWhere, Performs, up_or_dropped}
 use Rattle.lagsystem.specs.ConversationTables.{port_on}
 use Rattle.lagsystem.specs.Hosts.{would_transmit_at}
-use Rattle.lagsystem.specs.Offers.{AssignsPort, GivesAssignment, MayBeOffered, RefusesOffer, assignment_of_frame, has_aggregator}
+use Rattle.lagsystem.specs.Offers.{GivesAssignment, MayBeOffered, RefusesOffer, assignment_of_frame, has_aggregator}
 use Rattle.lagsystem.specs.Readers.{collecting, conversation_count, distributing, number_of_conversation}
 use Rattle.lagsystem.specs.State.{SystemState, port_index, system_port_at, with_table}
 use Rattle.lagsystem.specs.StillDue.{DataChangesNothing, DueAsBefore, OfferConversationMakesNoneDue, OfferMakesNoneDue, RowIsAnswer, RowIsOffer}
 use Rattle.lagsystem.proofs.Conversing.{assigned_may}
+use Rattle.lagsystem.proofs.OfferLemmas.{refused_by}
 use Rattle.lagsystem.proofs.OneFrame.{effect_one}
 
 -- the same marker is due on each port where the same conversations want one
@@ -175,25 +175,11 @@ row_is_answer gives s new agg conv port answer there known e some h =
     (below conv (conversation_count s) known) h)
 
 -- a frame of a conversation that is on a port is not refused
-caused : (gives : ℕ → ℕ → ℕ → Type 0) (s : SystemState) (agg : AggId) (octets : List ℕ) (port : ℕ) (cause : DistFault)
-    → assignment_of_frame s agg octets ≡ On port → AssignsPort gives s agg octets (Err cause) → ⊥
-caused gives s agg octets port cause e h =
-    refused_on gives (number_of_conversation s octets) port (distributing agg s.system_ports) (assignment_of_frame s agg octets) cause e h
-
 refused_frame : (gives : ℕ → ℕ → ℕ → Type 0) (s : SystemState) (agg : AggId) (octets : List ℕ) (port : ℕ) (f : SystemFault)
     → has_aggregator s agg ≡ true → MayBeOffered octets → assignment_of_frame s agg octets ≡ On port → RefusesOffer gives s agg octets f → ⊥
-refused_frame gives s agg octets port fault.NoAggregator there may e h = true≢false (sym there ∙ h)
-refused_frame gives s agg octets port fault.FrameLength there may e h = true≢false (sym may.0 ∙ h.1)
-refused_frame gives s agg octets port fault.SlowFrame there may e h = may.1 h.1.1
-refused_frame gives s agg octets port fault.NoPort there may e h = caused gives s agg octets port h.0 e h.2
-refused_frame gives s agg octets port fault.Held there may e h = caused gives s agg octets port h.0 e h.2
-refused_frame gives s agg octets port fault.NoneDistributing there may e h = caused gives s agg octets port h.0 e h.2
-refused_frame gives s agg octets port fault.NotDistributing there may e h = caused gives s agg octets port h.0 e h.2
-refused_frame gives s agg octets port fault.SamePort there may e h = caused gives s agg octets port h.0 e h.2
-refused_frame gives s agg octets port fault.NotAssigned there may e h = caused gives s agg octets port h.0 e h.2
-refused_frame gives s agg octets port fault.MarkersSpent there may e h = caused gives s agg octets port h.0 e h.2
-refused_frame gives s agg octets port (fault.BadConfig reason) there may e h = caused gives s agg octets port h.0 e h.2
-refused_frame gives s agg octets port fault.NoMemory there may e h = caused gives s agg octets port h.0 e h.2
+refused_frame gives s agg octets port f there may e h =
+    let by = refused_by gives s agg octets f (there, may) h in
+    refused_on gives (number_of_conversation s octets) port (distributing agg s.system_ports) (assignment_of_frame s agg octets) by.0 e by.1.1
 
 pub row_is_offer : (gives : ℕ → ℕ → ℕ → Type 0) → RowIsOffer gives
 row_is_offer gives s new agg octets port (Ok q) there may e some h = ap (λ p. Ok p)

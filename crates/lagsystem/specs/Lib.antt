@@ -22,7 +22,6 @@ pub mod Hosts
 pub mod PortStatus
 pub mod StatusMeaning
 pub mod Due
-pub mod Texts
 pub mod Forcing
 pub mod Promises
 pub mod Assigning

@@ -1,5 +1,5 @@
 -- What offer, move_conversation and force do to the conversations (6.2.4; profile).
-use Rattle.std.specs.Prelude.{◌≡◌, ℕ, Bool, IsTrue, ◌&&◌, List, length, nat_le, nat_lt, if◌then◌else◌, is_some, Result, Ok, Err}
+use Rattle.std.specs.Prelude.{◌≡◌, ◌⊎◌, ℕ, Bool, IsTrue, ◌&&◌, List, length, nat_le, nat_lt, if◌then◌else◌, is_some, Result, Ok, Err}
 use Rattle.std.specs.Bool.{IsFalse}
 use Rattle.lagtypes.specs.declared.identifiers.AggId.{AggId}
 use Rattle.slowpdu.specs.Frames.{IsSlowProtocolsFrame}
@@ -40,11 +40,11 @@ GivesAssignment agg conv state old new = SetsAssignment old.table new.table agg.
 abbrev pub MayBeOffered : List ℕ → Type 0
 MayBeOffered octets = IsTrue (is_frame_length octets) × (IsSlowProtocolsFrame octets → ⊥)
 
--- a frame that may not be offered, with the first fault that holds
+-- a frame that may not be offered, with the first fault that holds: its length, or that it is a slow protocols frame
 abbrev pub RefusesFrame : List ℕ → SystemFault → Type 0
-RefusesFrame octets FrameLength = IsFalse (is_frame_length octets)
-RefusesFrame octets SlowFrame = IsTrue (is_frame_length octets) × IsSlowProtocolsFrame octets
-RefusesFrame octets fault = ⊥
+RefusesFrame octets fault =
+    (IsFalse (is_frame_length octets) × (fault ≡ FrameLength))
+    ⊎ (IsTrue (is_frame_length octets) × IsSlowProtocolsFrame octets × (fault ≡ SlowFrame))
 
 -- a frame that may be offered, for an aggregator that exists
 abbrev pub MayBeOfferedTo : SystemState → AggId → List ℕ → Type 0
@@ -55,13 +55,16 @@ abbrev pub AssignsPort : (ℕ → ℕ → ℕ → Type 0) → SystemState → Ag
 AssignsPort gives s agg octets answer = Assigns gives (number_of_conversation s octets) (distributing agg s.system_ports)
     (assignment_of_frame s agg octets) answer
 
--- an offered frame is refused with the first fault that holds
+-- the distributor refuses an offered frame, with this cause
+abbrev pub RefusedBy : (ℕ → ℕ → ℕ → Type 0) → SystemState → AggId → List ℕ → DistFault → Type 0
+RefusedBy gives s agg octets cause = MayBeOfferedTo s agg octets × AssignsPort gives s agg octets (Err cause)
+
+-- an offered frame is refused with the first fault that holds: of the aggregator, of the frame, or the distributor's
 abbrev pub RefusesOffer : (ℕ → ℕ → ℕ → Type 0) → SystemState → AggId → List ℕ → SystemFault → Type 0
-RefusesOffer gives s agg octets NoAggregator = IsFalse (has_aggregator s agg)
-RefusesOffer gives s agg octets FrameLength = IsTrue (has_aggregator s agg) × RefusesFrame octets FrameLength
-RefusesOffer gives s agg octets SlowFrame = IsTrue (has_aggregator s agg) × RefusesFrame octets SlowFrame
 RefusesOffer gives s agg octets fault =
-    (cause : DistFault) × MayBeOfferedTo s agg octets × AssignsPort gives s agg octets (Err cause) × (fault ≡ system_fault cause)
+    (IsFalse (has_aggregator s agg) × (fault ≡ NoAggregator))
+    ⊎ ((IsTrue (has_aggregator s agg) × RefusesFrame octets fault)
+    ⊎ ((cause : DistFault) × RefusedBy gives s agg octets cause × (fault ≡ system_fault cause)))
 
 -- a frame is to be sent on a port, and its conversation is now on that port; or it is refused, and nothing changes
 abbrev pub Offers : (ℕ → ℕ → ℕ → Type 0) → AggId → List ℕ → SystemState → Result ℕ SystemFault → SystemState → Type 0

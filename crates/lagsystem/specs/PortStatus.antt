@@ -1,5 +1,5 @@
--- Whether a port distributes, and else the first reason why not (profile).
-use Rattle.std.specs.Prelude.{not, nat_lt, if◌then◌else◌}
+-- Whether a port distributes, and else the first reason why not; its number, its name and its text (profile).
+use Rattle.std.specs.Prelude.{ℕ, List, codes, not, nat_lt, if◌then◌else◌}
 use Rattle.lagtypes.specs.declared.party.Choice.{Choice}
 use Rattle.lagtypes.specs.declared.party.Choice.TheVariants as choice
 use Rattle.lagtypes.specs.Same.{same_system}
@@ -40,3 +40,42 @@ abbrev pub status_of_port : Machines → PortStatus
 status_of_port p =
     if same_mux_state CollectingDistributing p.mux then status.Distributing
     else (if not p.enabled then status.LinkDown else status_by_receive p p.receive)
+
+-- the number of a status, in the order of `PortStatus`
+abbrev pub status_number : PortStatus → ℕ
+status_number status.Distributing = 0
+status_number status.LinkDown = 1
+status_number status.NoLacpdu = 2
+status_number status.OnDefaults = 3
+status_number status.OwnSystem = 4
+status_number status.NoAggregator = 5
+status_number (status.Standby agg) = 6
+status_number (status.Waiting ticks) = 7
+status_number status.WaitingForMembers = 8
+status_number status.PartnerNotSynchronized = 9
+
+-- the name of a status, in one word
+abbrev pub status_name : PortStatus → List ℕ
+status_name status.Distributing = codes "distributing"
+status_name status.LinkDown = codes "link-down"
+status_name status.NoLacpdu = codes "no-lacpdu"
+status_name status.OnDefaults = codes "on-defaults"
+status_name status.OwnSystem = codes "own-system"
+status_name status.NoAggregator = codes "no-aggregator"
+status_name (status.Standby agg) = codes "standby"
+status_name (status.Waiting ticks) = codes "waiting"
+status_name status.WaitingForMembers = codes "waiting-for-members"
+status_name status.PartnerNotSynchronized = codes "partner-not-synchronized"
+
+-- the text of a status, as Display writes it; neither the aggregator nor the ticks are told
+abbrev pub status_text : PortStatus → List ℕ
+status_text status.Distributing = codes "it distributes"
+status_text status.LinkDown = codes "the link is down"
+status_text status.NoLacpdu = codes "no LACPDU came in time"
+status_text status.OnDefaults = codes "it runs on defaults"
+status_text status.OwnSystem = codes "the partner is this very system"
+status_text status.NoAggregator = codes "no aggregator has its key, or each that has it has ports of another group"
+status_text (status.Standby agg) = codes "its aggregator has no room for one more link"
+status_text (status.Waiting ticks) = codes "it waits for wait_while"
+status_text status.WaitingForMembers = codes "it waits for other ports of its aggregator"
+status_text status.PartnerNotSynchronized = codes "the partner is not synchronized"

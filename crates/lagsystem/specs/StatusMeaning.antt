@@ -9,6 +9,7 @@ use Rattle.portmachines.specs.Mux.{partner_synchronized, selected}
 use Rattle.selection.specs.Choice.{chosen_aggregator, has_occupant, occupants_share_group, ports_that_chose}
 use Rattle.selection.specs.Views.{is_eligible}
 use Rattle.lagsystem.specs.declared.port_status.PortStatus.{PortStatus}
+use Rattle.lagsystem.specs.declared.port_status.PortStatus.TheVariants as status
 use Rattle.lagsystem.specs.declared.system_ports.SystemPort.{SystemPort}
 use Rattle.lagsystem.specs.ModelView.{key_of}
 use Rattle.lagsystem.specs.PortStatus.{status_of_port}
@@ -97,3 +98,16 @@ pub record WaitsForPartner (s : SystemState) (x : SystemPort) : Type 0 where
   pub chosen : selected x.port ≡ true
   pub mux : x.port.mux ≡ Attached
   pub apart : partner_synchronized x.port ≡ false
+
+-- what each status says
+abbrev pub meaning : PortStatus → SystemState → SystemPort → Type 0
+meaning status.Distributing = IsDistributing
+meaning status.LinkDown = IsDown
+meaning status.NoLacpdu = HearsNoPartner
+meaning status.OnDefaults = RunsOnDefaults
+meaning status.OwnSystem = HearsItself
+meaning status.NoAggregator = FindsNoAggregator
+meaning (status.Standby agg) = FindsNoRoom agg
+meaning (status.Waiting ticks) = Waits ticks
+meaning status.WaitingForMembers = WaitsForMember
+meaning status.PartnerNotSynchronized = WaitsForPartner

@@ -1,6 +1,5 @@
 ghost use Rattle.std.specs.Prelude.{◌≡◌, Some};
-ghost use Rattle.lagsystem.specs.Faults.{fault_number, reason_number, system_fault};
-ghost use Rattle.lagsystem.specs.Texts.{fault_name, fault_text, reason_text};
+ghost use Rattle.lagsystem.specs.Faults.{fault_name, fault_number, fault_text, reason_number, reason_text, system_fault};
 ghost use Rattle.lagsystem.specs.declared.fault.SystemFault.{SystemFault};
 
 use distributor::DistFault;

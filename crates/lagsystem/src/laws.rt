@@ -12,12 +12,10 @@ ghost use Rattle.distributor.specs.Calls.{index_by_number};
 ghost use Rattle.lagsystem.specs.First.{IsFirst};
 ghost use Rattle.lagsystem.specs.State.{SystemState, with_system_ports, with_table};
 ghost use Rattle.lagsystem.specs.OneAnswer.{IsFunction, OneAnswer, OneForcing, OneRun};
-ghost use Rattle.lagsystem.specs.StatusMeaning.{FindsNoAggregator, FindsNoRoom, HearsItself, HearsNoPartner, IsDistributing, IsDown};
-ghost use Rattle.lagsystem.specs.StatusMeaning.{RunsOnDefaults, Says, Waits, WaitsForMember, WaitsForPartner};
+ghost use Rattle.lagsystem.specs.StatusMeaning.{Says, meaning};
 ghost use Rattle.lagsystem.specs.Windows.{StartsWithoutAges, WindowFromStart, SystemWindowLaw};
 
 use crate::port_status::PortStatus;
-use lagtypes::AggId;
 
 /// The transmit limit: any eleven consecutive ticks since the last start of a system hold at most three LACPDUs of each
 /// port (6.4.16). This holds before and after each call of every list of calls with their results.
@@ -98,17 +96,8 @@ pub fn offers_and_data_make_none_due<F: Fn(u16, usize) -> usize>()
     ensures data { (algorithm : F) → DataChangesNothing (F.post algorithm) }
 {}
 
-/// What `port_status` says of a port and its system, in every system: one clause for each `PortStatus`, whose comments say the
-/// same (6.4.7, 6.4.8, 6.4.10, 6.4.12, 6.4.14, 6.4.15; profile).
+/// What `port_status` says of a port and its system, in every system: `meaning` has a row for each `PortStatus`, whose comments
+/// say the same (6.4.7, 6.4.8, 6.4.10, 6.4.12, 6.4.14, 6.4.15; profile).
 pub fn port_status_says_why()
-    ensures distributing { Says PortStatus.Distributing IsDistributing }
-    ensures link_down { Says PortStatus.LinkDown IsDown }
-    ensures no_lacpdu { Says PortStatus.NoLacpdu HearsNoPartner }
-    ensures on_defaults { Says PortStatus.OnDefaults RunsOnDefaults }
-    ensures own_system { Says PortStatus.OwnSystem HearsItself }
-    ensures no_aggregator { Says PortStatus.NoAggregator FindsNoAggregator }
-    ensures standby { (agg : AggId) → Says (PortStatus.Standby agg) (FindsNoRoom agg) }
-    ensures waiting { (ticks : ℕ) → Says (PortStatus.Waiting ticks) (Waits ticks) }
-    ensures waiting_for_members { Says PortStatus.WaitingForMembers WaitsForMember }
-    ensures partner_not_synchronized { Says PortStatus.PartnerNotSynchronized WaitsForPartner }
+    ensures { (status : PortStatus) → Says status (meaning status) }
 {}

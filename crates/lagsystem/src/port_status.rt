@@ -1,11 +1,13 @@
 ghost use Rattle.std.specs.Prelude.{◌≡◌, ◌↔◌, Some, option_map, true};
 ghost use Rattle.portmachines.specs.Mux.{same_mux_state};
-ghost use Rattle.lagsystem.specs.PortStatus.{status_of_port, status_when_current, status_when_selected};
+ghost use Rattle.lagsystem.specs.PortStatus.{status_name, status_number, status_of_port, status_text, status_when_current};
+ghost use Rattle.lagsystem.specs.PortStatus.{status_when_selected};
 ghost use Rattle.lagsystem.specs.State.{machines_of};
 
 use crate::calls::System;
 use lagtypes::{AggId, Choice};
 use portmachines::{MuxState, Port, ReceiveState};
+use std::fmt;
 
 /// Whether a port distributes, and else the first reason why not, in the order in which they stand here (profile). The
 /// clauses of `port_status_says_why` prove what each says.
@@ -34,6 +36,70 @@ pub enum PortStatus {
     WaitingForMembers,
     /// The port is SELECTED and in ATTACHED: its recorded partner is not synchronized (6.4.15).
     PartnerNotSynchronized,
+}
+
+impl PortStatus {
+    /// The number of the status, 0 for `Distributing` to 9, in the order in which they stand here (profile).
+    pub fn number(&self) -> u8
+        ensures { result ≡ status_number self.now }
+    {
+        match self {
+            PortStatus::Distributing => 0,
+            PortStatus::LinkDown => 1,
+            PortStatus::NoLacpdu => 2,
+            PortStatus::OnDefaults => 3,
+            PortStatus::OwnSystem => 4,
+            PortStatus::NoAggregator => 5,
+            PortStatus::Standby(_) => 6,
+            PortStatus::Waiting(_) => 7,
+            PortStatus::WaitingForMembers => 8,
+            PortStatus::PartnerNotSynchronized => 9,
+        }
+    }
+
+    /// The name of the status in one word, as lines of a program have it, `distributing` to `partner-not-synchronized`; neither
+    /// the aggregator of `Standby` nor the ticks of `Waiting` are told (profile).
+    pub fn name(&self) -> &'static str
+        ensures { result.now ≡ status_name self.now }
+    {
+        match self {
+            PortStatus::Distributing => "distributing",
+            PortStatus::LinkDown => "link-down",
+            PortStatus::NoLacpdu => "no-lacpdu",
+            PortStatus::OnDefaults => "on-defaults",
+            PortStatus::OwnSystem => "own-system",
+            PortStatus::NoAggregator => "no-aggregator",
+            PortStatus::Standby(_) => "standby",
+            PortStatus::Waiting(_) => "waiting",
+            PortStatus::WaitingForMembers => "waiting-for-members",
+            PortStatus::PartnerNotSynchronized => "partner-not-synchronized",
+        }
+    }
+}
+
+/// Says of a port whether it distributes, and else why not; neither the aggregator of `Standby` nor the ticks of `Waiting` are
+/// told.
+impl fmt::Display for PortStatus {
+    ghost output = { λ status. Some (status_text status) };
+
+    fn fmt<W: fmt::Write>(&self, f: &mut fmt::Formatter<W>) -> fmt::Result {
+        match self {
+            PortStatus::Distributing => f.write_str("it distributes"),
+            PortStatus::LinkDown => f.write_str("the link is down"),
+            PortStatus::NoLacpdu => f.write_str("no LACPDU came in time"),
+            PortStatus::OnDefaults => f.write_str("it runs on defaults"),
+            PortStatus::OwnSystem => f.write_str("the partner is this very system"),
+            PortStatus::NoAggregator => f.write_str(
+                "no aggregator has its key, or each that has it has ports of another group",
+            ),
+            PortStatus::Standby(_) => f.write_str("its aggregator has no room for one more link"),
+            PortStatus::Waiting(_) => f.write_str("it waits for wait_while"),
+            PortStatus::WaitingForMembers => f.write_str(
+                "it waits for other ports of its aggregator",
+            ),
+            PortStatus::PartnerNotSynchronized => f.write_str("the partner is not synchronized"),
+        }
+    }
 }
 
 /// The status of a port whose receive machine is CURRENT.

@@ -4,8 +4,7 @@ use Rattle.lagtypes.specs.Octet.{octet}
 use Rattle.lagtypes.specs.Texts.{hex_text}
 use Rattle.lagsystem.specs.declared.config.PortChange.{PortChange}
 use Rattle.lagsystem.specs.declared.fault.SystemFault.{SystemFault}
-use Rattle.lagsystem.specs.Faults.{fault_number}
-use Rattle.lagsystem.specs.Texts.{fault_name}
+use Rattle.lagsystem.specs.Faults.{fault_name, fault_number}
 use Rattle.lagscript.specs.EventValues.{EventValue, tick, emit, deliver, lose, repeat, cut, join, sense, restart, configure, offer}
 use Rattle.lagscript.specs.EventValues.{move_to, force}
 use Rattle.lagworld.specs.declared.agreement.Agreement.{Agreement}

@@ -1,5 +1,7 @@
+use crate::comparing::same;
 use crate::systems::{Row, config, end, plays, plays_lists, plays_with};
 use lagsystem::{AggId, Choice, PortStatus, SystemFault};
+use std::alloc::AllocError;
 
 /// A port that hears nobody runs on defaults after 30 ticks, waits for 20 more, and distributes then.
 const ALONE: [Row<'static>; 25] = [
@@ -172,4 +174,55 @@ fn a_long_timeout_runs_for_900_ticks(rt: HostRuntime) -> Result<(), SystemFault>
         Row::Status(1, PortStatus::Waiting(17)),
     ];
     plays(&rt, rt.alloc(), given, &rows)
+}
+
+/// The statuses of a port in the order of their numbers, from 0 on: the name of each, and its text.
+const STATUSES: [(PortStatus, &str, &str); 10] = [
+    (PortStatus::Distributing, "distributing", "it distributes"),
+    (PortStatus::LinkDown, "link-down", "the link is down"),
+    (PortStatus::NoLacpdu, "no-lacpdu", "no LACPDU came in time"),
+    (PortStatus::OnDefaults, "on-defaults", "it runs on defaults"),
+    (
+        PortStatus::OwnSystem,
+        "own-system",
+        "the partner is this very system",
+    ),
+    (
+        PortStatus::NoAggregator,
+        "no-aggregator",
+        "no aggregator has its key, or each that has it has ports of another group",
+    ),
+    (
+        PortStatus::Standby(AggId(5)),
+        "standby",
+        "its aggregator has no room for one more link",
+    ),
+    (
+        PortStatus::Waiting(17),
+        "waiting",
+        "it waits for wait_while",
+    ),
+    (
+        PortStatus::WaitingForMembers,
+        "waiting-for-members",
+        "it waits for other ports of its aggregator",
+    ),
+    (
+        PortStatus::PartnerNotSynchronized,
+        "partner-not-synchronized",
+        "the partner is not synchronized",
+    ),
+];
+
+#[test]
+fn statuses_have_numbers_names_and_texts(rt: HostRuntime) -> Result<(), AllocError> {
+    let mut number = 0u8;
+    for (status, name, text) in &STATUSES {
+        same(&rt, *text, &status.number(), &number);
+        same(&rt, "the name", &status.name(), name);
+        let printed = format!(in rt.alloc(); "{status}")?;
+        same(&rt, "the text", &printed.as_str(), text);
+        number = number.saturating_add(1);
+    }
+    Ok(())
 }
