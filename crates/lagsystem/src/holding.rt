@@ -1,4 +1,4 @@
-ghost use Rattle.std.specs.Prelude.{◌≡◌, ◌<◌, ◌≤◌, length, slice_set};
+ghost use Rattle.std.specs.Prelude.{◌≡◌, ◌<◌, ◌≤◌, [], length, slice_set};
 ghost use Rattle.distributor.specs.Changes.{ChangesAssignments};
 ghost use Rattle.lagsystem.specs.Calls.{FreesIfDown};
 ghost use Rattle.lagsystem.specs.Holding.{after_holding, aggregators_in_use, has_stopped, stopped};
@@ -9,32 +9,36 @@ use arrayvec::ArrayVec;
 use distributor::Distributor;
 use lagtypes::AggId;
 
-/// For each port, in order: the aggregator in which it distributes, or None.
-pub(crate) fn aggregators_in_use(system_ports: &[SystemPort]) -> ArrayVec<Option<AggId>, 64>
-    requires { length system_ports.now ≤ 64 }
-    ensures { result.items ≡ aggregators_in_use system_ports.now }
+/// Lists for each port, in order, the aggregator in which it distributes, or None. The caller has the list, which has room for 64
+/// ports, and would be copied if it were returned.
+pub(crate) fn list_aggregators_in_use(
+    system_ports: &[SystemPort],
+    found: &mut ArrayVec<Option<AggId>, 64>,
+)
+    requires few { length system_ports.now ≤ 64 }
+    requires empty { found.old.items ≡ [] }
+    ensures { found.new.items ≡ aggregators_in_use system_ports.now }
 {
-    let mut found = ArrayVec::new();
     for system_port in system_ports {
         found.push(collecting(&system_port.port));
     }
-    found
 }
 
-/// The same for a time when the port at this index distributed in the aggregator `was`.
-pub(crate) fn aggregators_in_use_before(
+/// Lists the aggregators as they were when the port at this index distributed in `was`.
+pub(crate) fn list_aggregators_in_use_before(
     system_ports: &[SystemPort],
     place: usize,
     was: Option<AggId>,
-) -> ArrayVec<Option<AggId>, 64>
+    found: &mut ArrayVec<Option<AggId>, 64>,
+)
     requires few { length system_ports.now ≤ 64 }
     requires within { place < length system_ports.now }
-    ensures { result.items ≡ slice_set (aggregators_in_use system_ports.now) place was }
+    requires empty { found.old.items ≡ [] }
+    ensures { found.new.items ≡ slice_set (aggregators_in_use system_ports.now) place was }
 {
-    let mut found = aggregators_in_use(system_ports);
+    list_aggregators_in_use(system_ports, found);
     let all = found.as_mut_slice();
     all[place] = was;
-    found
 }
 
 /// Whether a port distributed in this aggregator, and no longer does.

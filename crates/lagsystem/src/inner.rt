@@ -20,8 +20,8 @@ use crate::configure::configure_at;
 use crate::distributing_ports::{collecting, distributing};
 use crate::fault::SystemFault;
 use crate::holding::{
-    aggregators_in_use, aggregators_in_use_before, free_conversations_if_down, hold_conversations,
-    hold_conversations_at,
+    free_conversations_if_down, hold_conversations, hold_conversations_at, list_aggregators_in_use,
+    list_aggregators_in_use_before,
 };
 use crate::offers::check_offer;
 use crate::parse::{parse_frame, take_data_frame};
@@ -33,6 +33,7 @@ use crate::start::{aggregator_count, new_system_ports, restart_each};
 use crate::system_ports::{SystemPort, port_index};
 use crate::tick::tick_each;
 use crate::transmit::{control_frame, is_lacpdu_due, transmit_lacpdu_at};
+use arrayvec::ArrayVec;
 use distributor::{Assignment, Distributor};
 use lagtypes::{AggId, SystemId};
 use selection::Aggregators;
@@ -134,7 +135,8 @@ impl<F: Fn(u16, usize) -> usize + Drop> Inner<F> {
         ensures step { Step (F.post self.old.distributor.algorithm) (inner_state self.old) Call.Tick Reply.Tick (inner_state self.new) }
         ensures algorithm { self.new.distributor.algorithm ≡ self.old.distributor.algorithm }
     {
-        let before = aggregators_in_use(&self.system_ports);
+        let mut before = ArrayVec::new();
+        list_aggregators_in_use(&self.system_ports, &mut before);
         tick_each(&mut self.system_ports);
         self.distributor.tick();
         self.settle(before.as_slice());
@@ -147,7 +149,8 @@ impl<F: Fn(u16, usize) -> usize + Drop> Inner<F> {
         ensures algorithm { self.new.distributor.algorithm ≡ self.old.distributor.algorithm }
     {
         let place = self.port_index(number)?;
-        let before = aggregators_in_use(&self.system_ports);
+        let mut before = ArrayVec::new();
+        list_aggregators_in_use(&self.system_ports, &mut before);
         set_link_at(
             &mut self.system_ports,
             place,
@@ -207,7 +210,8 @@ impl<F: Fn(u16, usize) -> usize + Drop> Inner<F> {
             run_periodic_at(&mut self.system_ports, place);
             hold_conversations_at(&mut self.distributor, &self.system_ports, place, was);
         } else {
-            let before = aggregators_in_use_before(&self.system_ports, place, was);
+            let mut before = ArrayVec::new();
+            list_aggregators_in_use_before(&self.system_ports, place, was, &mut before);
             self.settle(before.as_slice());
         }
     }
@@ -238,7 +242,8 @@ impl<F: Fn(u16, usize) -> usize + Drop> Inner<F> {
         if !configure_at(&mut self.system_ports, place, change) {
             return Ok(false);
         }
-        let before = aggregators_in_use_before(&self.system_ports, place, was);
+        let mut before = ArrayVec::new();
+        list_aggregators_in_use_before(&self.system_ports, place, was, &mut before);
         self.settle(before.as_slice());
         Ok(true)
     }

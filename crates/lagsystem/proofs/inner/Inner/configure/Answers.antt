@@ -33,8 +33,8 @@ settle-requires g c =
     place_carried (ChangesParty change) (port_index c.args.number s.system_ports) s (with_system_ports s news)
     c.as_slice.result.now c.requires own
     (c.as_slice.ensures.value ∙ were_before (ChangesParty change) i s.system_ports olds ws news c.deref.result.now system_port
-    c.collecting-was.result c.aggregators_in_use_before-before.result.items c.deref_mut.ensures.value (with_items_is v ws (omega arith))
-    c.deref.ensures.value there acted c.collecting-was.ensures c.aggregators_in_use_before-before.ensures)
+    c.collecting-was.result c.list_aggregators_in_use_before.new.found.items c.deref_mut.ensures.value (with_items_is v ws (omega arith))
+    c.deref.ensures.value there acted c.collecting-was.ensures c.list_aggregators_in_use_before.ensures)
 
 pub returns-clause-step : goal.returns-clause-step
 returns-clause-step g c =

@@ -17,8 +17,8 @@ use Rattle.lagsystem.proofs.Skipping.{ProcessesAndRuns, on_place_taken, paced_to
 use Rattle.lagsystem.proofs.StateLemmas.{on_port_made}
 use Rattle.lagsystem.proofs.inner.Inner.process_lacpdu.Goals as goal
 
-pub aggregators_in_use_before-before-requires-clause-few : goal.aggregators_in_use_before-before-requires-clause-few
-aggregators_in_use_before-before-requires-clause-few g c =
+pub list_aggregators_in_use_before-requires-clause-few : goal.list_aggregators_in_use_before-requires-clause-few
+list_aggregators_in_use_before-requires-clause-few g c =
     let v = c.args.self.now.system_ports in
     let ws = c.process_lacpdu_at.new.system_ports in
     let few : length v.items ≤ 64 = few_ports (inner_state c.args.self.now) c.requires.sound.ports in
@@ -42,8 +42,8 @@ settle-requires g c =
     let own = on_port_made both (λ l. Some c.args.place) s olds ws news c.deref_mut.ensures.value (with_items_is v ws (omega arith)) took in
     place_carried both (Some c.args.place) s (with_system_ports s news) c.as_slice.result.now c.requires.sound own
     (c.as_slice.ensures.value ∙ were_before both i s.system_ports olds ws news c.deref-else-process_lacpdu_at.result.now system_port
-    c.collecting-was.result c.aggregators_in_use_before-before.result.items c.deref_mut.ensures.value (with_items_is v ws (omega arith))
-    c.deref-else-process_lacpdu_at.ensures.value there took c.collecting-was.ensures c.aggregators_in_use_before-before.ensures)
+    c.collecting-was.result c.list_aggregators_in_use_before.new.found.items c.deref_mut.ensures.value (with_items_is v ws (omega arith))
+    c.deref-else-process_lacpdu_at.ensures.value there took c.collecting-was.ensures c.list_aggregators_in_use_before.ensures)
 
 pub returns-then-process_lacpdu_at-clause-settled : goal.returns-then-process_lacpdu_at-clause-settled
 returns-then-process_lacpdu_at-clause-settled g c =

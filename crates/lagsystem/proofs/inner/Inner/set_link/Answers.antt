@@ -21,7 +21,7 @@ settle-requires g c =
     let own = link_made c.args.number c.args.up s c.deref_mut.result.now ws news t c.deref_mut.ensures.value
     (with_items_is v ws (omega arith)) refl refl acted c.free_conversations_if_down.ensures.frees in
     link_carried c.args.number c.args.up s (moved_on s news t) c.as_slice.result.now c.requires own (c.as_slice.ensures.value
-    ∙ c.aggregators_in_use-before.ensures ∙ ap aggregators_in_use c.deref.ensures.value)
+    ∙ c.list_aggregators_in_use.ensures ∙ ap aggregators_in_use c.deref.ensures.value)
 
 pub returns-clause-step : goal.returns-clause-step
 returns-clause-step g c =

@@ -15,7 +15,7 @@ settle-requires g c =
     let t = c.tick.new.self.table in
     let own = tick_made s c.deref_mut.result.now ws news t c.deref_mut.ensures.value (with_items_is v ws (omega arith)) refl refl
     c.tick_each.ensures c.tick.ensures.changed in
-    tick_carried s (moved_on s news t) c.as_slice.result.now c.requires own (c.as_slice.ensures.value ∙ c.aggregators_in_use-before.ensures
+    tick_carried s (moved_on s news t) c.as_slice.result.now c.requires own (c.as_slice.ensures.value ∙ c.list_aggregators_in_use.ensures
     ∙ ap aggregators_in_use c.deref.ensures.value)
 
 pub returns-clause-step : goal.returns-clause-step
