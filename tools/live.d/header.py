@@ -20,7 +20,7 @@ STATUSES = f"{CRATES}/lagsystem/src/port_status.rt"
 STATES = f"{CRATES}/lagtypes/src/state.rt"
 OFFERS = f"{CRATES}/lagsystem/src/offers.rt"
 MOVES = f"{CRATES}/balance/src/moves.rt"
-ANSWERS = f"{CRATES}/answering/src/word.rt"
+ANSWERS = f"{CRATES}/answering/src/note.rt"
 # Types of C, and their sizes on x86-64, which are their alignments too.
 TYPES = {"u8": "uint8_t", "u16": "uint16_t", "u32": "uint32_t", "u64": "uint64_t", "usize": "size_t", "bool": "bool", "*mut u8": "void *"}
 SIZES = {"uint8_t": 1, "uint16_t": 2, "uint32_t": 4, "uint64_t": 8, "size_t": 8, "bool": 1, "void *": 8}
@@ -234,7 +234,7 @@ def numbers_of_sources(text: str) -> dict[str, int]:
     numbers = [*variants(faults, {"SystemFault": ""}), *variants(reasons, {"BadConfig": "REASON_"}),
                *variants(of_wire, {"WireFault": "FAULT_"}), *variants(text, TOLD),
                *variants(implemented("PortStatus", STATUSES), {"PortStatus": "PORT_STATUS_"}),
-               *variants(implemented("Answers", ANSWERS), {"Answers": "ANSWERS_"})]
+               *variants(implemented("MarkerNote", ANSWERS), {"MarkerNote": "ANSWERS_"})]
     numbers += [(f"NIW_STATE_{bit}", int(number)) for bit, number in re.findall(r"const (\w+) = (\d+);", text_of(STATES))]
     for name, number in re.findall(r"\bconst (\w+): (?:u8|u16|u32|usize) = ([\d_]+);", text + text_of(OFFERS)):
         numbers.append((CONSTANTS.get(name, f"NIW_{name}"), int(number)))

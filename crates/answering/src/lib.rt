@@ -3,8 +3,8 @@
 //! In comments, numbers such as 6.5.3.3 are sections of IEEE 802.1AX-2014, and "profile" is docs/PROFILE.md.
 #![tactic(auto)]
 
+mod note;
 mod notes;
-mod word;
 
+pub use note::MarkerNote;
 pub use notes::Answering;
-pub use word::Answers;

@@ -5,21 +5,21 @@ ghost use Rattle.lagsystem.specs.State.{port_index};
 ghost use Rattle.answering.specs.Notes.{nobody_asked, note_of, noted, noted_asked, notes_after, notes_after_all};
 ghost use Rattle.answering.specs.Notes.{notes_after_receive, notes_after_set_link, notes_after_transmit};
 
-use crate::word::Answers;
+use crate::note::MarkerNote;
 use lagsystem::{Call, Received, Reply, System, SystemFault};
 use std::marker::Model;
 
 /// Whether the peers of the ports of a system answer markers: a note for each port, in the order of the port numbers (profile).
 #[derive(Drop)]
 pub struct Answering {
-    notes: [Answers; 64],
+    notes: [MarkerNote; 64],
 }
 
 impl Model for Answering {
     ghost use Rattle.std.specs.Prelude.{List};
-    ghost use Rattle.answering.specs.declared.word.Answers.{Answers};
+    ghost use Rattle.answering.specs.declared.note.MarkerNote.{MarkerNote};
 
-    ghost Value = { List Answers };
+    ghost Value = { List MarkerNote };
 
     ghost view = { λ a. a.notes };
 }
@@ -30,7 +30,7 @@ impl Answering {
         ensures { result ≡ nobody_asked }
     {
         Answering {
-            notes: [Answers::NeverAsked; 64],
+            notes: [MarkerNote::NeverAsked; 64],
         }
     }
 
@@ -39,7 +39,7 @@ impl Answering {
         &self,
         system: &System<F>,
         port: u16,
-    ) -> Option<Answers>
+    ) -> Option<MarkerNote>
         ensures { result ≡ note_of port system.now.state.system_ports self.now }
     {
         match place_of(system, port) {
@@ -49,7 +49,7 @@ impl Answering {
     }
 
     /// Notes this for the port at this index.
-    fn note(&mut self, place: Option<usize>, what: Answers)
+    fn note(&mut self, place: Option<usize>, what: MarkerNote)
         requires { IfSome place (λ p. p < 64) }
         ensures { self.new ≡ noted place what self.old }
     {
@@ -78,7 +78,7 @@ impl Answering {
         ensures { self.new ≡ notes_after_receive (port_index port system.now.state.system_ports) answer.now self.old }
     {
         if let Ok(Received::Released(_)) = answer {
-            self.note(place_of(system, port), Answers::Answered);
+            self.note(place_of(system, port), MarkerNote::Answered);
         }
     }
 
@@ -109,7 +109,7 @@ impl Answering {
         ensures { self.new ≡ notes_after_set_link (port_index port system.now.state.system_ports) up answer.now self.old }
     {
         if answer.is_ok() && !up {
-            self.note(place_of(system, port), Answers::NeverAsked);
+            self.note(place_of(system, port), MarkerNote::NeverAsked);
         }
     }
 

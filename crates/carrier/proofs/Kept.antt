@@ -1,6 +1,6 @@
 -- A conversation number stays in one aggregator.
 use Rattle.std.proofs.Common.{◌≡◌, ◌≢◌, ◌⊎◌, ◌<◌, ◌≤◌, ◌-◌, ◌+◌, ◌^◌, ℕ, zero, suc, Bool, true, false, refl, sym, ap, ◌∙◌, subst, inl, inr, arith, List, [], ◌∷◌, length, Option, None, Some, Result, Ok, Err, eqb, eqb-true}
-use Rattle.std.specs.Prelude.{slice_get, nat_lt, nat_le, if◌then◌else◌, ◌&&◌}
+use Rattle.std.specs.Prelude.{slice_get, nat_lt, nat_le, if◌then◌else◌, ◌&&◌, IfOk}
 use Rattle.std.proofs.lemmas.Bool.{and_parts, cases_Bool, eqb-false}
 use Rattle.std.proofs.lemmas.Bool.Decides.{nat_tests}
 use Rattle.std.proofs.lemmas.Option.{none-some}
@@ -11,6 +11,7 @@ use Rattle.lagmodel.specs.Move.{Act, LawfulMoves, Sends_frame}
 use Rattle.lagmodel.specs.World.{Side, World, WorldSetup}
 use Rattle.lagmodel.specs.Law.{OnItsCable}
 use Rattle.lagsystem.specs.Calls.{Call, Receive, Tick, Set_link, Configure, Restart, Transmit, Offer, Move_conversation, Force}
+use Rattle.distributor.specs.declared.assignment.Assignment.{Assignment}
 use Rattle.lagsystem.specs.declared.drive.Reply.{Reply}
 use Rattle.lagsystem.specs.declared.drive.Reply.TheVariants as reply
 use Rattle.lagsystem.specs.declared.fault.SystemFault.{SystemFault}
@@ -19,7 +20,7 @@ use Rattle.lagsystem.specs.Assigning.{OffersConversation, OffersIf, frame_of_con
 use Rattle.lagsystem.specs.First.{IsFirst}
 use Rattle.lagsystem.specs.Forcing.{ForcesFirst, ForcesIfHeld, ForcesIn, ForcesPort}
 use Rattle.lagsystem.specs.ModelView.{EffectsSeenAs, JoinedByLawfulMoves, model_setup, model_view}
-use Rattle.lagsystem.specs.Offers.{MayBeOffered, MayBeOfferedTo, has_aggregator, is_frame_length, longest_frame}
+use Rattle.lagsystem.specs.Offers.{GivesOrRefuses, MayBeOffered, MayBeOfferedTo, has_aggregator, is_frame_length, longest_frame}
 use Rattle.lagsystem.specs.Probing.{ProbesLawfully}
 use Rattle.lagsystem.specs.Promises.{TablePromise}
 use Rattle.lagsystem.specs.Readers.{aggregator_numbered, conversation_count, conversation_in, number_of_conversation}
@@ -235,3 +236,12 @@ pub forced : (gives : ℕ → ℕ → ℕ → Type 0) (port : ℕ) (old : System
     → ForcesPort gives port old answer new → IsInOneAggregator old → IsInOneAggregator new
 forced gives port old (Ok n) new h i = forced_first gives port (length old.keys) old n new h.1 i
 forced gives port old (Err fault) new h i = subst IsInOneAggregator (sym h.same) i
+
+-- a rest is a force, or is refused and changes nothing
+pub rested : (gives : ℕ → ℕ → ℕ → Type 0) (agg : AggId) (conv : ℕ) (old : SystemState) (answer : Result Unit SystemFault) (new : SystemState)
+    (result : Result Assignment SystemFault) → GivesOrRefuses agg conv result old answer new
+    → IfOk answer (λ done. CallPromise gives old (Force agg conv) (reply.Force (Ok tt)) new) → IsInOneAggregator old → IsInOneAggregator new
+rested gives agg conv old answer new (Ok state) h p i =
+    kept gives old (Force agg conv) (reply.Force (Ok tt)) new
+    (subst (λ a. IfOk a (λ (done : Unit {0}). CallPromise gives old (Force agg conv) (reply.Force (Ok tt)) new)) h.0 p) tt i
+rested gives agg conv old answer new (Err fault) h p i = subst IsInOneAggregator (sym h.1) i

@@ -1,11 +1,11 @@
 -- Which aggregator carries the frames of a client (profile).
-use Rattle.std.specs.Prelude.{◌≡◌, ◌≢◌, ℕ, ◌<◌, ◌≤◌, ◌^◌, ◌==◌, Bool, true, false, not, List, [], ◌∷◌, length, Option, Some, None, option_map, if◌then◌else◌}
+use Rattle.std.specs.Prelude.{◌≡◌, ◌≢◌, ℕ, zero, suc, ◌<◌, ◌≤◌, ◌^◌, ◌==◌, Bool, true, false, not, List, [], ◌∷◌, length, Option, Some, None, option_map, if◌then◌else◌}
 use Rattle.std.specs.declared.cmp.Ordering.{Ordering}
 use Rattle.std.specs.Ordering.{nat_cmp, bool_cmp, on, then_cmp, is_lt}
 use Rattle.lagtypes.specs.declared.group.Group.{Group}
 use Rattle.lagtypes.specs.declared.identifiers.AggId.{AggId}
 use Rattle.lagtypes.specs.Order.{end_cmp}
-use Rattle.lagsystem.specs.Readers.{distributing, group_at}
+use Rattle.lagsystem.specs.Readers.{aggregator_numbered, distributing, group_at}
 use Rattle.lagsystem.specs.State.{SystemState, machines_of}
 use Rattle.carrier.specs.declared.choosing.Rank.{Rank}
 
@@ -68,3 +68,8 @@ Carries now s None = (agg : AggId) → IsAggregator s agg → rank_in now s agg 
 Carries now s (Some agg) =
     IsAggregator s agg × (r : Rank) × (rank_in now s agg ≡ Some r)
     × ((other : AggId) (q : Rank) → IsAggregator s other → other ≢ agg → rank_in now s other ≡ Some q → is_before r q ≡ true)
+
+-- the aggregator with this number, where 0 stands for none
+abbrev pub aggregator_or_none : ℕ → Option AggId
+aggregator_or_none zero = None
+aggregator_or_none (suc n) = Some (aggregator_numbered (suc n))

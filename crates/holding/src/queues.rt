@@ -1,6 +1,6 @@
 //! The queues of held frames.
 ghost use Rattle.std.specs.Prelude.{◌≡◌, ◌≤◌, ◌<◌, ◌++◌, ◌∷◌, [], ℕ, Some, None, length, take, drop, replicate, slice_index, get_or, IfOk, IfErr, OnOk, IfNone, IfSome, MatchOption, option_copied};
-ghost use Rattle.holding.specs.Calls.{after, gone, sent, Put, Next, DropOldest, Clear};
+ghost use Rattle.holding.specs.Calls.{after, Put, Next, DropOldest, Clear};
 ghost use Rattle.holding.specs.Holding.{holding_of, queue, oldest, in_all, refusal};
 
 use crate::refusal::Refusal;
@@ -173,7 +173,6 @@ impl<T: Drop> Holding<T> {
     /// such conversation (profile).
     pub fn oldest(&self, conversation: u16) -> Option<&T>
         ensures first { option_copied result ≡ oldest self.now conversation }
-        ensures next { gone conversation (Next conversation) self.now ≡ sent (option_copied result) }
     {
         let place = usize::from(conversation);
         if place >= self.rings.len() {

@@ -2,7 +2,7 @@
 use Rattle.std.proofs.Common.{ℕ, ◌≡◌, List, Option, Some, IfOk, Result, subst}
 use Rattle.lagsystem.specs.Calls.{Call}
 use Rattle.lagsystem.specs.State.{SystemValue}
-use Rattle.answering.specs.declared.word.Answers.{Answers}
+use Rattle.answering.specs.declared.note.MarkerNote.{MarkerNote}
 use Rattle.lagengine_lines.specs.Engines.{DoesTask, DoesTaskIfSystem, HasAlgorithm, EngineState, system_state}
 use Rattle.lagengine_lines.specs.Requests.{TaskValue}
 use Rattle.lagengine_lines.specs.AnswerValues.{answer_value}
@@ -12,7 +12,7 @@ pub algorithm_of : {F : Type 0} (f : F) (o : Option (SystemValue F)) (w : System
 algorithm_of f o w e h = subst (HasAlgorithm f) e h
 
 pub acts_where : {F E : Type 0} (gives : F → ℕ → ℕ → ℕ → Type 0) (f : F) (o : Option (SystemValue F)) (w : SystemValue F) (task : TaskValue)
-    (kept : Option (List Call)) (notes : List Answers) (r : Result Answer E) (new : EngineState)
+    (kept : Option (List Call)) (notes : List MarkerNote) (r : Result Answer E) (new : EngineState)
     → o ≡ Some w → w.algorithm ≡ f → IfOk r (λ a. DoesTask (gives w.algorithm) task w.state kept notes (answer_value a) new)
     → IfOk r (λ a. DoesTaskIfSystem (gives f) task (system_state o) kept notes (answer_value a) new)
 acts_where gives f o w task kept notes r new e same h =

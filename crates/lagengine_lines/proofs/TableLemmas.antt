@@ -1,16 +1,21 @@
 -- What is told of the conversations of an aggregator, one after another.
-use Rattle.std.proofs.Common.{◌≡◌, ◌∙◌, ℕ, suc, zero, ◌+◌, ◌<◌, ◌≤◌, ◌≢◌, ◌==◌, ◌&&◌, ◌||◌, ◌++◌, [], ◌∷◌, Bool, true, false, List, length, drop, get_or, set, ap, arith, inl, inr, refl, sym, replicate}
-use Rattle.std.specs.Prelude.{nat_lt}
+use Rattle.std.proofs.Common.{◌≡◌, ◌∙◌, ℕ, suc, zero, ◌+◌, ◌<◌, ◌≤◌, ◌≢◌, ◌==◌, ◌&&◌, ◌||◌, ◌++◌, [], ◌∷◌, Bool, true, false, List, length, drop, get_or, set, ap, arith, inl, inr, refl, subst, sym, replicate}
+use Rattle.std.specs.Prelude.{nat_lt, MatchOption, Option}
 use Rattle.std.proofs.lemmas.Bool.{cases_Bool, ltb-true, ltb-false}
 use Rattle.std.proofs.lemmas.Bool.Decides.{nat_tests}
-use Rattle.std.proofs.lemmas.List.{drop_all, drop_more, get_or-replicate, get_or-set_other, get_or-set_same}
+use Rattle.std.proofs.lemmas.List.{drop_all, drop_more, get_or-replicate, get_or-set_other, get_or-set_same, length-append}
+use Rattle.balance.specs.Moves.{IsMove}
+use Rattle.balance.specs.declared.moves.Carried.{Carried}
+use Rattle.balance.specs.declared.moves.Move.{Move}
 use Rattle.lagtypes.specs.declared.identifiers.AggId.{AggId}
 use Rattle.distributor.specs.Conversations.{assignment_of}
 use Rattle.lagsystem.specs.ConversationTables.{TellsFreed, TellsPorts, has_freed, is_busy, told_rows}
 use Rattle.lagsystem.specs.Offers.{has_aggregator}
 use Rattle.lagsystem.specs.Readers.{conversation_count}
 use Rattle.lagsystem.specs.State.{SystemState}
-use Rattle.lagengine_lines.specs.Tables.{is_free_at, is_listed, is_released, marked_below, number_if_marked, port_at, row_if_on, rows_below}
+use Rattle.lagengine_lines.specs.AnswerValues.{NextMove}
+use Rattle.lagengine_lines.specs.Engines.{TellsMove}
+use Rattle.lagengine_lines.specs.Tables.{carried_below, carried_on, is_free_at, is_listed, is_released, marked_below, number_if_marked, port_at, row_if_on, rows_below}
 use Rattle.lagengine_lines.specs.declared.tables.PortRow.{PortRow}
 
 next : (n : ℕ) → suc n ≡ n + 1
@@ -31,6 +36,45 @@ rows_same f g zero same = refl
 rows_same f g (suc n) same =
     ap (λ rs. rs ++ row_if_on n (f n)) (rows_same f g n (λ k h. same k (omega (arith, h))))
     ∙ ap (λ p. rows_below g n ++ row_if_on n p) (same n (omega arith))
+
+pub no_carried : (port load : ℕ → ℕ) → carried_below port load 0 ≡ []
+unfolding carried_below
+no_carried port load = refl
+
+pub carried_more : (port load : ℕ → ℕ) (n : ℕ) (carried new : List Carried) → carried ≡ carried_below port load n
+    → new ≡ carried ++ carried_on (port n) (load n) ∷ [] → new ≡ carried_below port load (n + 1)
+unfolding carried_below
+carried_more port load n carried new h e =
+    e ∙ ap (λ cs. cs ++ carried_on (port n) (load n) ∷ []) h ∙ ap (carried_below port load) (next n)
+
+pub carried_same : (f g load : ℕ → ℕ) (n : ℕ) → ((k : ℕ) → k < n → f k ≡ g k) → carried_below f load n ≡ carried_below g load n
+unfolding carried_below
+carried_same f g load zero same = refl
+carried_same f g load (suc n) same =
+    ap (λ cs. cs ++ carried_on (f n) (load n) ∷ []) (carried_same f g load n (λ k h. same k (omega (arith, h))))
+    ∙ ap (λ p. carried_below g load n ++ carried_on p (load n) ∷ []) (same n (omega arith))
+
+pub carried_count : (port load : ℕ → ℕ) (n : ℕ) → length (carried_below port load n) ≡ n
+unfolding carried_below
+carried_count port load zero = refl
+carried_count port load (suc n) = simp length-append (omega (arith, carried_count port load n))
+
+-- a list of as many conversations as a number of 16 bits says
+pub few_rows : (port load : ℕ → ℕ) (n : ℕ) (seen carried : List Carried) → n < 65536 → seen ≡ carried → carried ≡ carried_below port load n
+    → length seen ≤ 65536
+few_rows port load n seen carried few e f =
+    let long : length seen ≡ n = ap length (e ∙ f) ∙ carried_count port load n in omega (arith, long, few)
+
+-- a move among the ports and the conversations that were found
+pub move_told : (ports from : List ℕ) (carried told : List Carried) (agg : ℕ) (move : Option Move) → ports ≡ from → carried ≡ told
+    → MatchOption move ((m : Move) → IsMove ports carried m → ⊥) (λ m. IsMove ports carried m)
+    → TellsMove from told agg (NextMove agg move)
+move_told ports from carried told agg move e f h = (
+  move,
+  subst (λ ps. MatchOption move ((m : Move) → IsMove ps told m → ⊥) (λ m. IsMove ps told m)) e
+      (subst (λ cs. MatchOption move ((m : Move) → IsMove ports cs m → ⊥) (λ m. IsMove ports cs m)) f h),
+  refl,
+)
 
 pub no_mark : (marked : ℕ → Bool) → marked_below marked 0 ≡ []
 unfolding marked_below

@@ -1,5 +1,7 @@
 -- The answer to a line (profile).
 use Rattle.std.specs.Prelude.{ℕ, List, map, Option, Result}
+use Rattle.balance.specs.declared.moves.Move.{Move}
+use Rattle.lagtypes.specs.declared.identifiers.AggId.{AggId}
 use Rattle.distributor.specs.declared.assignment.Assignment.{Assignment}
 use Rattle.lagsystem.specs.declared.drive.Reply.{Reply}
 use Rattle.lagsystem.specs.declared.fault.SystemFault.{SystemFault}
@@ -25,6 +27,8 @@ pub data AnswerValue : Type 0 where
   Conversation : Option ℕ → AnswerValue
   ConversationPorts : ℕ → List PortRow → AnswerValue
   Released : ℕ → List ℕ → AnswerValue
+  Carrier : Option AggId → AnswerValue
+  NextMove : ℕ → Option Move → AnswerValue
   ConversationState : Option Assignment → AnswerValue
   NextMarker : Option ℕ → AnswerValue
   TicksUntilDue : Option ℕ → AnswerValue
@@ -46,6 +50,8 @@ answer_value (answer.Distributing answer) = Distributing (agg_answer_value answe
 answer_value (answer.Conversation conv) = Conversation conv
 answer_value (answer.ConversationPorts agg rows) = ConversationPorts agg rows.items
 answer_value (answer.Released agg freed) = Released agg freed.items
+answer_value (answer.Carrier agg) = Carrier agg
+answer_value (answer.NextMove agg move) = NextMove agg move
 answer_value (answer.ConversationState assignment) = ConversationState assignment
 answer_value (answer.NextMarker id) = NextMarker id
 answer_value (answer.TicksUntilDue ticks) = TicksUntilDue ticks

@@ -13,7 +13,7 @@ use Rattle.lagsystem.specs.PortStatus.{status_of_port}
 use Rattle.lagsystem.specs.Readers.{aggregator_numbered, distributing, group_at}
 use Rattle.lagsystem.specs.State.{SystemState, port_numbers, port_index, machines_of}
 use Rattle.answering.specs.Notes.{note_of}
-use Rattle.answering.specs.declared.word.Answers.{Answers}
+use Rattle.answering.specs.declared.note.MarkerNote.{MarkerNote}
 use Rattle.lagengine_lines.specs.declared.looks.Look.{Look}
 use Rattle.lagengine_lines.specs.declared.looks.PortFact.{PortFact}
 use Rattle.lagengine_lines.specs.declared.looks.PortFact.TheVariants as fact
@@ -61,7 +61,7 @@ abbrev pub port_answer : PortQuestion → SystemState → ℕ → PortAnswer
 port_answer q s n = record { port = n; fact = fact_of q n s }
 
 -- whether the peer of the port with this number answers markers, with that number
-abbrev pub answers_of : ℕ → SystemState → List Answers → PortAnswer
+abbrev pub answers_of : ℕ → SystemState → List MarkerNote → PortAnswer
 answers_of n s notes = record { port = n; fact = option_map fact.Answers (note_of n s.system_ports notes) }
 
 -- the numbers of the ports that distribute in an aggregator, ascending

@@ -1,9 +1,10 @@
 -- The requests that lines make (profile).
-use Rattle.std.specs.Prelude.{◌≡◌, ⊤, ℕ, ◌+◌, Bool, List, [], ◌∷◌, codes, map, if◌then◌else◌, Option, Some, None, Result, Ok, Err}
+use Rattle.std.specs.Prelude.{◌≡◌, ⊤, ℕ, ◌+◌, Bool, List, [], ◌∷◌, codes, map, if◌then◌else◌, Option, Some, None, option_map, Result, Ok, Err}
 use Rattle.std.specs.Borrow.{Bor}
 use Rattle.std.specs.Option.{unwrap_or}
 use Rattle.std.specs.Str.{bytes_eq}
 use Rattle.lagtypes.specs.declared.identifiers.AggId.{AggId}
+use Rattle.carrier.specs.Choice.{aggregator_or_none}
 use Rattle.lagsystem.specs.Calls.{Call, Receive, Tick, Set_link, Configure, Restart, Transmit, Offer, Move_conversation, Force}
 use Rattle.lagsystem.specs.Drives.{call_of}
 use Rattle.lagsystem.specs.First.{ConfigValue, config_value}
@@ -35,6 +36,10 @@ pub data TaskValue : Type 0 where
   Rest : AggId → ℕ → TaskValue
   Probe : ℕ → TaskValue
   Conversation : List ℕ → TaskValue
+  OfferInCarrier : AggId → List ℕ → TaskValue
+  OfferConversationInCarrier : AggId → ℕ → TaskValue
+  Carrier : Option AggId → TaskValue  -- which aggregator carries, where this one carried before
+  NextMove : AggId → Option (List ℕ) → TaskValue  -- the next move, where the conversations have these loads, or 1 each
   Released : AggId → List ℕ → TaskValue  -- which of these conversations are Free
   Ask : Question → TaskValue
 
@@ -50,6 +55,10 @@ task_value (task.LeaveConversation agg conv) = LeaveConversation agg conv
 task_value (task.Rest agg conv) = Rest agg conv
 task_value (task.Probe port) = Probe port
 task_value (task.Conversation frame) = Conversation frame.items
+task_value (task.OfferInCarrier agg frame) = OfferInCarrier agg frame.items
+task_value (task.OfferConversationInCarrier agg conv) = OfferConversationInCarrier agg conv
+task_value (task.Carrier now) = Carrier now
+task_value (task.NextMove agg loads) = NextMove agg (option_map (λ v. v.items) loads)
 task_value (task.Released agg listed) = Released agg listed.items
 task_value (task.Ask question) = Ask question
 
@@ -240,6 +249,16 @@ ticks_asked [] = Ok (Make Tick)
 ticks_asked (w ∷ []) = ticks_word 2 w >>= λ n. Ok (Ticks n)
 ticks_asked _ = Err fault.Count
 
+-- an aggregator, and the loads of its conversations
+abbrev pub next_move_with : List ℕ → List ℕ → Result TaskValue RequestFault
+next_move_with agg loads = number_word 2 agg >>= λ g. numbers_word 3 loads >>= λ listed. Ok (NextMove (agg_id g) (Some listed))
+
+-- the same, or an aggregator alone, for a load of 1 each
+abbrev pub next_move_asked : List (List ℕ) → Result TaskValue RequestFault
+next_move_asked (agg ∷ []) = number_word 2 agg >>= λ g. Ok (NextMove (agg_id g) None)
+next_move_asked (agg ∷ loads ∷ []) = next_move_with agg loads
+next_move_asked _ = Err fault.Count
+
 -- a task for a conversation of an aggregator
 abbrev pub of_conversation : (AggId → ℕ → TaskValue) → List (List ℕ) → Result TaskValue RequestFault
 of_conversation make = with_two_words number_word number_word (λ g k. make (agg_id g) k)
@@ -257,9 +276,11 @@ call_named name =
     else if bytes_eq name (codes "force") then with_two_words number_word number_word (λ g k. Make (Force (agg_id g) k))
     else if bytes_eq name (codes "force-port") then with_one_word number_word ForcePort
     else if bytes_eq name (codes "offer-conversation") then of_conversation OfferConversation
+    else if bytes_eq name (codes "offer-conversation-in-carrier") then of_conversation OfferConversationInCarrier
     else if bytes_eq name (codes "leave") then of_conversation LeaveConversation
     else if bytes_eq name (codes "rest") then of_conversation Rest
     else if bytes_eq name (codes "probe") then with_one_word number_word Probe
+    else if bytes_eq name (codes "carrier") then with_one_word number_word (λ n. Carrier (aggregator_or_none n))
     else question_named name
 
 -- the tasks, by their first word
@@ -269,6 +290,9 @@ task_named name =
     else if bytes_eq name (codes "offer") then with_two_words number_word hex_word (λ g octets. Make (Offer (agg_id g) octets))
     else if bytes_eq name (codes "conversation") then with_one_word hex_word Conversation
     else if bytes_eq name (codes "released") then with_two_words number_word numbers_word (λ g listed. Released (agg_id g) listed)
+    else if bytes_eq name (codes "offer-in-carrier") then with_two_words number_word hex_word
+    (λ g octets. OfferInCarrier (agg_id g) octets)
+    else if bytes_eq name (codes "next-move") then next_move_asked
     else if bytes_eq name (codes "keep") then with_no_words Keep
     else if bytes_eq name (codes "drive") then with_no_words Drive
     else call_named name

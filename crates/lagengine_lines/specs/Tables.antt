@@ -1,6 +1,7 @@
 -- What a line tells of all conversations of an aggregator (profile).
-use Rattle.std.specs.Prelude.{ℕ, suc, zero, ◌==◌, ◌&&◌, ◌||◌, ◌++◌, Bool, false, not, List, [], ◌∷◌, if◌then◌else◌, option_map}
+use Rattle.std.specs.Prelude.{ℕ, suc, zero, ◌==◌, ◌&&◌, ◌||◌, ◌++◌, Bool, false, not, List, [], ◌∷◌, get_or, if◌then◌else◌, Option, None, Some, option_map}
 use Rattle.std.specs.Option.{unwrap_or}
+use Rattle.balance.specs.declared.moves.Carried.{Carried}
 use Rattle.lagtypes.specs.declared.identifiers.AggId.{AggId}
 use Rattle.lagsystem.specs.ConversationTables.{is_busy, port_on}
 use Rattle.lagsystem.specs.Hosts.{conversation_at}
@@ -45,3 +46,17 @@ number_if_marked conv marked = if marked then conv ∷ [] else []
 unfoldable pub marked_below : (ℕ → Bool) → ℕ → List ℕ
 marked_below marked zero = []
 marked_below marked (suc n) = marked_below marked n ++ number_if_marked n (marked n)
+
+-- the load of a conversation: what stands at its place, 0 behind the end of the list; 1 without a list
+abbrev pub load_at : Option (List ℕ) → ℕ → ℕ
+load_at None conv = 1
+load_at (Some loads) conv = get_or loads conv 0
+
+-- a conversation for the spread over ports, with its port and its load
+abbrev pub carried_on : ℕ → ℕ → Carried
+carried_on port load = record { port = port; load = load }
+
+-- the conversations below n, each at its number with its port and its load
+unfoldable pub carried_below : (ℕ → ℕ) → (ℕ → ℕ) → ℕ → List Carried
+carried_below port load zero = []
+carried_below port load (suc n) = carried_below port load n ++ carried_on (port n) (load n) ∷ []

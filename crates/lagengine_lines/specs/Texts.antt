@@ -2,8 +2,10 @@
 use Rattle.std.specs.Prelude.{ℕ, ◌==◌, ◌++◌, Bool, true, false, List, [], ◌∷◌, codes, decimal, slice_index, if◌then◌else◌, Option, Some}
 use Rattle.std.specs.Prelude.{None, Result, Ok, Err}
 use Rattle.hex.specs.Hex.{encode_lower}
+use Rattle.balance.specs.declared.moves.Move.{Move}
 use Rattle.lagtypes.specs.Octet.{octet}
 use Rattle.lagtypes.specs.Texts.{group_text, port_text, state_text, system_text}
+use Rattle.lagtypes.specs.declared.identifiers.AggId.{AggId}
 use Rattle.lagtypes.specs.declared.party.Choice.{Choice}
 use Rattle.lagtypes.specs.declared.party.Choice.TheVariants.{Unselected, Selected, Standby}
 use Rattle.lagtypes.specs.declared.party.Party.{Party}
@@ -283,6 +285,16 @@ abbrev pub conversation_or_none : Option Assignment → List ℕ
 conversation_or_none None = codes "none"
 conversation_or_none (Some assignment) = conversation_text assignment
 
+-- the aggregator that carries, or none
+abbrev pub carrier_text : Option AggId → List ℕ
+carrier_text None = codes "carrier none"
+carrier_text (Some agg) = codes "carrier " ++ decimal agg.0
+
+-- a conversation and the port that it is to move to, with a space before each; or none
+abbrev pub move_text : Option Move → List ℕ
+move_text None = codes " none"
+move_text (Some m) = 32 ∷ (decimal m.conversation ++ 32 ∷ decimal m.port)
+
 -- a port's answer, with a bar after it
 abbrev pub port_bar : PortAnswer → List ℕ
 port_bar t = port_answer_text t ++ codes " | "
@@ -315,6 +327,8 @@ answer_text (said.Distributing t) = agg_answer_text t
 answer_text (said.Conversation conv) = number_text conv
 answer_text (said.ConversationPorts agg rows) = codes "aggregator " ++ (decimal agg ++ 58 ∷ rows_text rows)
 answer_text (said.Released agg freed) = codes "aggregator " ++ (decimal agg ++ 58 ∷ numbers_text freed)
+answer_text (said.Carrier agg) = carrier_text agg
+answer_text (said.NextMove agg move) = codes "next-move " ++ (decimal agg ++ move_text move)
 answer_text (said.ConversationState assignment) = conversation_or_none assignment
 answer_text (said.NextMarker id) = number_text id
 answer_text (said.TicksUntilDue ticks) = number_text ticks

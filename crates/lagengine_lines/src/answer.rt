@@ -6,10 +6,11 @@ use crate::fact_texts::{ConversationText, NumberText, write_all, write_numbers};
 use crate::fault::RequestFault;
 use crate::looks::{AggAnswer, PortAnswer};
 use crate::reply_texts::{ForcedText, RefusedText, ReplyText, write_replies};
-use crate::table_texts::write_rows;
+use crate::table_texts::{CarrierText, MoveText, write_rows};
 use crate::tables::PortRow;
 use arrayvec::ArrayVec;
-use lagsystem::{Assignment, Reply, SystemFault};
+use balance::Move;
+use lagsystem::{AggId, Assignment, Reply, SystemFault};
 use std::fmt;
 
 /// The answer to a line (profile).
@@ -41,6 +42,10 @@ pub enum Answer {
     ConversationPorts(u16, Vec<PortRow>),
     /// Which of the listed conversations of an aggregator, with its number, are Free, ascending.
     Released(u16, Vec<u16>),
+    /// The aggregator that carries the frames of a client; None if no port distributes.
+    Carrier(Option<AggId>),
+    /// The next move of an aggregator, with its number; None if no move makes the loads more alike.
+    NextMove(u16, Option<Move>),
     /// The state of a conversation; None if there is no such conversation.
     ConversationState(Option<Assignment>),
     /// The identifier of the next marker.
@@ -80,6 +85,8 @@ impl fmt::Display for Answer {
                 write!(f, "aggregator {agg}:")?;
                 write_numbers(f, freed.as_slice())
             }
+            Answer::Carrier(carries) => write!(f, "{}", CarrierText(*carries)),
+            Answer::NextMove(agg, found) => write!(f, "next-move {agg}{}", MoveText(*found)),
             Answer::ConversationState(doing) => write!(f, "{}", ConversationText(*doing)),
             Answer::NextMarker(id) => write!(f, "{}", NumberText(*id)),
             Answer::TicksUntilDue(ticks) => write!(f, "{}", NumberText(ticks.map(u32::from))),

@@ -1,4 +1,5 @@
 ghost use Rattle.std.specs.Prelude.{◌≡◌, map};
+ghost use Rattle.carrier.specs.Choice.{aggregator_or_none};
 ghost use Rattle.lagengine_lines.specs.Requests.{call_named, configure_task, of_conversation, with_four_words, with_no_words, with_one_word, port_question};
 ghost use Rattle.lagengine_lines.specs.Requests.{question_named, task_result_value, ticks_asked, with_three_words, with_two_words};
 ghost use Rattle.lagengine_lines.specs.Requests as asked;
@@ -116,6 +117,15 @@ fn offer_conversation(words: &[&str]) -> Result<Task, RequestFault>
     Ok(Task::OfferConversation(agg, number(3, conv)?))
 }
 
+/// Reads the words of `offer-conversation-in-carrier`: an aggregator and a conversation.
+fn offer_conversation_in_carrier(words: &[&str]) -> Result<Task, RequestFault>
+    ensures { task_result_value result ≡ of_conversation asked.OfferConversationInCarrier (map (λ w. w.now) words.now) }
+{
+    let (agg, conv) = two_words(words)?;
+    let agg = AggId(number(2, agg)?);
+    Ok(Task::OfferConversationInCarrier(agg, number(3, conv)?))
+}
+
 /// Reads the words of `leave`: an aggregator and a conversation.
 fn leave_conversation(words: &[&str]) -> Result<Task, RequestFault>
     ensures { task_result_value result ≡ of_conversation asked.LeaveConversation (map (λ w. w.now) words.now) }
@@ -140,6 +150,24 @@ fn probe(words: &[&str]) -> Result<Task, RequestFault>
 {
     let port = one_word(words)?;
     Ok(Task::Probe(number(2, port)?))
+}
+
+/// The aggregator with this number; 0 is none.
+fn aggregator_or_none(agg: u16) -> Option<AggId>
+    ensures { result ≡ aggregator_or_none agg }
+{
+    match agg {
+        0 => None,
+        _ => Some(AggId(agg)),
+    }
+}
+
+/// Reads the word of `carrier`: the aggregator that carried before, or 0.
+fn carrier(words: &[&str]) -> Result<Task, RequestFault>
+    ensures { task_result_value result ≡ with_one_word number_word (λ n. asked.Carrier (aggregator_or_none n)) (map (λ w. w.now) words.now) }
+{
+    let agg = one_word(words)?;
+    Ok(Task::Carrier(aggregator_or_none(number(2, agg)?)))
 }
 
 /// Reads the words of a question about one port.
@@ -216,8 +244,8 @@ fn question_named(name: &str, words: &[&str]) -> Result<Task, RequestFault>
     }
 }
 
-/// Reads a task, by its first word and the words after it: all but receive, offer, conversation and released, whose
-/// words take memory, and keep and drive.
+/// Reads a task, by its first word and the words after it: all but receive, offer, offer-in-carrier, conversation, released and
+/// next-move, whose words take memory, and keep and drive.
 pub(crate) fn call_named(name: &str, words: &[&str]) -> Result<Task, RequestFault>
     ensures { task_result_value result ≡ call_named name.now (map (λ w. w.now) words.now) }
 {
@@ -231,9 +259,11 @@ pub(crate) fn call_named(name: &str, words: &[&str]) -> Result<Task, RequestFaul
         "force" => force(words),
         "force-port" => force_port(words),
         "offer-conversation" => offer_conversation(words),
+        "offer-conversation-in-carrier" => offer_conversation_in_carrier(words),
         "leave" => leave_conversation(words),
         "rest" => rest(words),
         "probe" => probe(words),
+        "carrier" => carrier(words),
         _ => question_named(name, words),
     }
 }

@@ -25,10 +25,11 @@ Options:
   -h, --help     Print help
   -V, --version  Print version
 
-Calls: system, tick [N], restart, link, receive, transmit, offer, offer-conversation, move, leave, rest,
-force, force-port, probe, configure, keep, drive. Readers: look, up, due, state, receive-state, load,
-held, port-status, current-while, wait-while, ntt, answers, ports, aggregators, distributing,
-conversation, conversation-ports, conversation-state, released, next-marker, ticks-until-due, all.
+Calls: system, tick [N], restart, link, receive, transmit, offer, offer-conversation, offer-in-carrier,
+offer-conversation-in-carrier, move, leave, rest, force, force-port, probe, configure, keep, drive.
+Readers: look, up, due, state, receive-state, load, held, port-status, current-while, wait-while, ntt,
+answers, ports, aggregators, distributing, carrier, next-move, conversation, conversation-ports,
+conversation-state, released, next-marker, ticks-until-due, all.
 docs/COMMAND.md has the words of each, and the answers.
 
 Status 0: the input ended. Status 2: it could not be read, an answer could not be written, or there is

@@ -1,10 +1,11 @@
-ghost use Rattle.std.specs.Prelude.{◌≡◌, IfOk, None, Ok, OnErr, Some};
+ghost use Rattle.std.specs.Prelude.{◌≡◌, IfOk, None, Ok, OnErr, Some, is_some, true};
 ghost use Rattle.distributor.specs.Calls.{PicksIndexes};
 ghost use Rattle.lagsystem.specs.Drives.{call_of};
 ghost use Rattle.lagsystem.specs.First.{config_value};
 ghost use Rattle.answering.specs.Notes.{nobody_asked};
 ghost use Rattle.lagengine_lines.specs.Engines.{DoesTask, DoesTaskIfSystem, AnswersLine, CallsOrKeeps, DoesRequest, DrivesKept, HasAlgorithm};
 ghost use Rattle.lagengine_lines.specs.Engines.{AnswersStart, kept_so_far, engine_state, kept_of, system_state, reader_answer, engine_value};
+ghost use Rattle.lagengine_lines.specs.Engines.{question_takes_memory, request_takes_memory, task_takes_memory};
 ghost use Rattle.lagengine_lines.specs.Requests.{request_value, task_value};
 ghost use Rattle.lagengine_lines.specs.AnswerValues.{answer_value};
 
@@ -12,9 +13,10 @@ use crate::answer::Answer;
 use crate::fault::{RequestError, RequestFault};
 use crate::looks::{agg_answer, all_aggregators, all_ports, answers_of, port_answer};
 use crate::request::{Question, Request, Task, request_in};
-use crate::tables::{MOST_CONVERSATIONS, conversation_ports, released};
+use crate::tables::{MOST_CONVERSATIONS, conversation_ports, next_move_in, released};
 use crate::ticks::tick_or_keep;
 use answering::Answering;
+use carrier::{carrier, offer_conversation_in_carrier, offer_in_carrier};
 use lagsystem::{Call, Config, Reply, System};
 use std::alloc::{AllocError, Global};
 use std::marker::Model;
@@ -55,7 +57,8 @@ fn answer_question<F: Fn(u16, usize) -> usize + Drop>(
     answering: &Answering,
     question: Question,
 ) -> Result<Answer, AllocError>
-    ensures { IfOk result (λ answer. answer_value answer ≡ reader_answer question system.now.state answering.now) }
+    ensures answers { IfOk result (λ answer. answer_value answer ≡ reader_answer question system.now.state answering.now) }
+    ensures memory { OnErr result (question_takes_memory question ≡ true) }
 {
     match question {
         Question::Port(asked, port) => Ok(Answer::Port(port_answer(system, asked, port))),
@@ -90,6 +93,7 @@ fn call_or_keep<F: Fn(u16, usize) -> usize + Drop>(
     ensures acts { IfOk result (λ answer. CallsOrKeeps (F.post system.old.algorithm) (call_of call) system.old.state (kept_of kept.old)
         answering.old (answer_value answer) (engine_state system.new kept.new answering.new)) }
     ensures err { OnErr result (engine_state system.new kept.new answering.new ≡ engine_state system.old kept.old answering.old) }
+    ensures memory { OnErr result (is_some (kept_of kept.old) ≡ true) }
     ensures algorithm { system.new.algorithm ≡ system.old.algorithm }
 {
     match kept {
@@ -116,6 +120,7 @@ fn drive<F: Fn(u16, usize) -> usize + Drop>(
     ensures acts { IfOk result (λ answer. DrivesKept (F.post system.old.algorithm) system.old.state (kept_of kept.old) answering.old
         (answer_value answer) (engine_state system.new kept.new answering.new)) }
     ensures err { OnErr result (engine_state system.new kept.new answering.new ≡ engine_state system.old kept.old answering.old) }
+    ensures memory { OnErr result (is_some (kept_of kept.old) ≡ true) }
     ensures algorithm { system.new.algorithm ≡ system.old.algorithm }
 {
     let Some(calls) = kept else {
@@ -148,6 +153,7 @@ fn do_task<F: Fn(u16, usize) -> usize + Drop>(
     ensures acts { IfOk result (λ answer. DoesTask (F.post system.old.algorithm) (task_value task) system.old.state (kept_of kept.old)
         answering.old (answer_value answer) (engine_state system.new kept.new answering.new)) }
     ensures err { OnErr result (engine_state system.new kept.new answering.new ≡ engine_state system.old kept.old answering.old) }
+    ensures memory { OnErr result (task_takes_memory (task_value task) (kept_of kept.old) ≡ true) }
     ensures algorithm { system.new.algorithm ≡ system.old.algorithm }
 {
     match task {
@@ -174,6 +180,16 @@ fn do_task<F: Fn(u16, usize) -> usize + Drop>(
             Ok(Answer::Reply(Reply::Transmit(sent)))
         }
         Task::Conversation(frame) => Ok(Answer::Conversation(system.conversation(&frame))),
+        Task::OfferInCarrier(agg, frame) => {
+            let answer = offer_in_carrier(system, agg, &frame);
+            Ok(Answer::Reply(Reply::Offer(answer)))
+        }
+        Task::OfferConversationInCarrier(agg, conv) => {
+            let answer = offer_conversation_in_carrier(system, agg, conv);
+            Ok(Answer::Reply(Reply::Offer(answer)))
+        }
+        Task::Carrier(now) => Ok(Answer::Carrier(carrier(system, now))),
+        Task::NextMove(agg, loads) => next_move_in(alloc, system, agg, &loads, MOST_CONVERSATIONS),
         Task::Released(agg, listed) => {
             released(alloc, system, agg, listed.as_slice(), MOST_CONVERSATIONS)
         }
@@ -209,6 +225,7 @@ impl<F: Fn(u16, usize) -> usize + Copy + Drop> Inner<F> {
         ensures acts { IfOk result (λ answer. DoesTaskIfSystem (F.post self.old.algorithm) (task_value task) (system_state self.old.system)
             (kept_of self.old.kept) self.old.answering (answer_value answer) (engine_value self.new).state) }
         ensures err { OnErr result ((engine_value self.new).state ≡ (engine_value self.old).state) }
+        ensures memory { OnErr result (task_takes_memory (task_value task) (kept_of self.old.kept) ≡ true) }
         ensures algorithm { self.new.algorithm ≡ self.old.algorithm }
         ensures same { HasAlgorithm self.new.algorithm self.new.system }
     {
@@ -232,6 +249,7 @@ impl<F: Fn(u16, usize) -> usize + Copy + Drop> Inner<F> {
             (engine_value self.old).state
             (answer_value answer) (engine_value self.new).state) }
         ensures err { OnErr result ((engine_value self.new).state ≡ (engine_value self.old).state) }
+        ensures memory { OnErr result (request_takes_memory (request_value request) (kept_of self.old.kept) ≡ true) }
         ensures algorithm { self.new.algorithm ≡ self.old.algorithm }
         ensures same { HasAlgorithm self.new.algorithm self.new.system }
     {

@@ -3,7 +3,7 @@ ghost use Rattle.lagengine_lines.specs.Looks.{all_aggregators, all_ports, answer
 ghost use Rattle.lagsystem.specs.State.{machines_of};
 
 use crate::request::PortQuestion;
-use answering::{Answering, Answers};
+use answering::{Answering, MarkerNote};
 use arrayvec::ArrayVec;
 use lagsystem::{
     AggId, Choice, Group, Info, MuxState, Party, PortStatus, ReceiveState, State, System,
@@ -49,7 +49,7 @@ pub enum PortFact {
     /// NTT: whether an LACPDU is to be sent.
     Ntt(bool),
     /// Whether its peer answers markers.
-    Answers(Answers),
+    Answers(MarkerNote),
 }
 
 /// The answer for a port; without a value if there is no such port.

@@ -2,7 +2,7 @@ ghost use Rattle.std.specs.Prelude.{◌≡◌, map};
 ghost use Rattle.lagengine_lines.specs.Lines.{request_in, request_of_octets, request_of_text, request_of_words};
 ghost use Rattle.lagstreams.specs.Lines.{longest_line, without_return};
 ghost use Rattle.lagengine_lines.specs.Requests.{ReadsAs, request_value, no_words, with_no_words, with_one_word, request_named, task_named};
-ghost use Rattle.lagengine_lines.specs.Requests.{task_value, with_two_words};
+ghost use Rattle.lagengine_lines.specs.Requests.{next_move_asked, next_move_with, task_value, with_two_words};
 ghost use Rattle.lagengine_lines.specs.Requests as asked;
 ghost use Rattle.lagsystem.specs.Calls as call;
 ghost use Rattle.lagengine_lines.specs.Words.{hex_word, number_word, numbers_word};
@@ -91,6 +91,15 @@ pub enum Task {
     Probe(u16),
     /// Work out the conversation of a frame.
     Conversation(Vec<u8>),
+    /// Offer a frame in the aggregator that carries, now, even while calls are stored.
+    OfferInCarrier(AggId, Vec<u8>),
+    /// Offer a conversation in the aggregator that carries by its number, now, even while calls are stored.
+    OfferConversationInCarrier(AggId, u16),
+    /// Tell which aggregator carries the frames of a client, where this one carried them before.
+    Carrier(Option<AggId>),
+    /// Tell the next move that makes the loads of the ports of an aggregator more alike. Each conversation has the load at its
+    /// place in the list, 0 behind its end; 1 without a list.
+    NextMove(AggId, Option<Vec<u16>>),
     /// Tell which of these conversations of an aggregator are Free: of those that the host knew as On, Wanted or Flushing.
     Released(AggId, Vec<u16>),
     /// Answer this question.
@@ -179,6 +188,37 @@ fn released(alloc: Global, words: &[&str]) -> Result<Task, RequestError>
     Ok(Task::Released(agg, listed))
 }
 
+/// Reads the words of `offer-in-carrier`: an aggregator and the octets of a frame.
+fn offer_in_carrier(alloc: Global, words: &[&str]) -> Result<Task, RequestError>
+    ensures { ReadsAs task_value (with_two_words number_word hex_word (λ g octets. asked.OfferInCarrier (asked.agg_id g) octets)
+        (map (λ w. w.now) words.now)) result }
+{
+    let (agg, frame) = two_words(words)?;
+    let agg = AggId(number(2, agg)?);
+    let octets = octets(alloc, 3, frame)?;
+    Ok(Task::OfferInCarrier(agg, octets))
+}
+
+/// Reads the two words of `next-move`: an aggregator, and the loads of its conversations.
+fn next_move_with(alloc: Global, agg: &str, loads: &str) -> Result<Task, RequestError>
+    ensures { ReadsAs task_value (next_move_with agg.now loads.now) result }
+{
+    let agg = AggId(number(2, agg)?);
+    let loads = numbers(alloc, 3, loads)?;
+    Ok(Task::NextMove(agg, Some(loads)))
+}
+
+/// Reads the words of `next-move`: an aggregator, and the loads of its conversations, or no word for a load of 1 each.
+fn next_move(alloc: Global, words: &[&str]) -> Result<Task, RequestError>
+    ensures { ReadsAs task_value (next_move_asked (map (λ w. w.now) words.now)) result }
+{
+    match words {
+        [agg] => Ok(Task::NextMove(AggId(number(2, *agg)?), None)),
+        [agg, loads] => next_move_with(alloc, *agg, *loads),
+        _ => Err(RequestError::Fault(RequestFault::Count)),
+    }
+}
+
 /// A task that has no words after its first.
 pub(crate) fn task_alone(task: Task, words: &[&str]) -> Result<Task, RequestFault>
     ensures { asked.task_result_value result ≡ with_no_words (task_value task) (map (λ w. w.now) words.now) }
@@ -196,6 +236,8 @@ fn task_named(alloc: Global, name: &str, words: &[&str]) -> Result<Task, Request
         "offer" => offer(alloc, words),
         "conversation" => conversation(alloc, words),
         "released" => released(alloc, words),
+        "offer-in-carrier" => offer_in_carrier(alloc, words),
+        "next-move" => next_move(alloc, words),
         "keep" => Ok(task_alone(Task::Keep, words)?),
         "drive" => Ok(task_alone(Task::Drive, words)?),
         _ => Ok(call_named(name, words)?),

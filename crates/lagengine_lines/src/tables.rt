@@ -1,9 +1,10 @@
-ghost use Rattle.std.specs.Prelude.{◌≡◌, ◌==◌, ◌||◌, ◌<◌, ◌≤◌, ◌++◌, ℕ, false, get_or, IfOk, OnOk, length, replicate};
+ghost use Rattle.std.specs.Prelude.{◌≡◌, ◌==◌, ◌||◌, ◌<◌, ◌≤◌, ◌++◌, ℕ, false, get_or, IfOk, OnOk, length, option_map, replicate};
 ghost use Rattle.lagengine_lines.specs.AnswerValues.{answer_value};
-ghost use Rattle.lagengine_lines.specs.Engines.{conversation_ports_answer, released_answer};
-ghost use Rattle.lagengine_lines.specs.Tables.{is_listed, marked_below, number_if_marked, row_if_on, rows_below};
+ghost use Rattle.lagengine_lines.specs.Engines.{TellsNextMove, conversation_ports_answer, released_answer};
+ghost use Rattle.lagengine_lines.specs.Tables.{carried_below, is_listed, load_at, marked_below, number_if_marked, row_if_on, rows_below};
 
 use crate::answer::Answer;
+use balance::{Carried, next_move};
 use lagsystem::{AggId, System};
 use std::alloc::{AllocError, Global};
 
@@ -83,6 +84,72 @@ fn mark(marks: &mut [bool], listed: &[u16])
     }
 }
 
+/// The load at this place of a list; 0 behind its end.
+fn load_in(loads: &[u16], conversation: u16) -> u32
+    ensures { result ≡ get_or loads.now conversation 0 }
+{
+    let place = usize::from(conversation);
+    if place >= loads.len() {
+        return 0;
+    }
+    u32::from(loads[place])
+}
+
+/// The load of a conversation: what stands at its place, 0 behind the end of the list; 1 without a list.
+fn load_of(loads: &Option<Vec<u16>>, conversation: u16) -> u32
+    ensures { result ≡ load_at (option_map (λ v. v.items) loads.now) conversation }
+{
+    match loads {
+        Some(listed) => load_in(listed.as_slice(), conversation),
+        None => 1,
+    }
+}
+
+/// The first conversations, each with its port and its load. `ports` has the port of each, 0 for none.
+fn carried_of(
+    alloc: Global,
+    ports: &[u16],
+    loads: &Option<Vec<u16>>,
+    count: u16,
+) -> Result<Vec<Carried>, AllocError>
+    requires { count ≤ length ports.now }
+    ensures { IfOk result (λ carried. carried.items
+        ≡ carried_below (λ conv. get_or ports.now conv 0) (load_at (option_map (λ v. v.items) loads.now)) count) }
+{
+    let mut carried = Vec::new(alloc);
+    for conversation in 0..count {
+        carried.push(Carried {
+            port: ports[usize::from(conversation)],
+            load: load_of(loads, conversation),
+        })?;
+    }
+    Ok(carried)
+}
+
+/// Tells the next move of an aggregator, with two lists of this many rows.
+fn tell_move<F: Fn(u16, usize) -> usize + Drop>(
+    alloc: Global,
+    system: &System<F>,
+    agg: AggId,
+    loads: &Option<Vec<u16>>,
+    ports: &mut [u16],
+    changed: &mut [bool],
+    most: u16,
+) -> Result<Answer, AllocError>
+    requires zeros { ports.old ≡ replicate most 0 }
+    requires long { length changed.old ≡ most }
+    ensures { IfOk result (λ answer. TellsNextMove most agg (option_map (λ v. v.items) loads.now) system.now.state (answer_value answer)) }
+{
+    match system.conversation_ports(agg, ports, changed) {
+        Ok(_) => {
+            let carried = carried_of(alloc, ports, loads, most)?;
+            let found = next_move(&system.distributing(agg), carried.as_slice());
+            Ok(Answer::NextMove(agg.0, found))
+        }
+        Err(fault) => Ok(Answer::Refused(fault)),
+    }
+}
+
 /// Tells which conversations of an aggregator are On a port, with two lists of this many rows.
 fn tell_ports<F: Fn(u16, usize) -> usize + Drop>(
     alloc: Global,
@@ -141,6 +208,22 @@ pub(crate) fn conversation_ports<F: Fn(u16, usize) -> usize + Drop>(
     let mut ports = vec![in alloc; 0u16; usize::from(most)]?;
     let mut changed = vec![in alloc; false; usize::from(most)]?;
     tell_ports(alloc, system, agg, &mut ports, &mut changed, most)
+}
+
+/// Tells the next move that makes the loads of the ports that distribute in an aggregator more alike. It has at most this many
+/// conversations, with these loads, or 1 each.
+pub(crate) fn next_move_in<F: Fn(u16, usize) -> usize + Drop>(
+    alloc: Global,
+    system: &System<F>,
+    agg: AggId,
+    loads: &Option<Vec<u16>>,
+    most: u16,
+) -> Result<Answer, AllocError>
+    ensures { IfOk result (λ answer. TellsNextMove most agg (option_map (λ v. v.items) loads.now) system.now.state (answer_value answer)) }
+{
+    let mut ports = vec![in alloc; 0u16; usize::from(most)]?;
+    let mut changed = vec![in alloc; false; usize::from(most)]?;
+    tell_move(alloc, system, agg, loads, &mut ports, &mut changed, most)
 }
 
 /// Tells which of these conversations of an aggregator are Free now; there are at most this many.

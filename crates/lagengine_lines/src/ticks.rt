@@ -1,9 +1,9 @@
-ghost use Rattle.std.specs.Prelude.{◌≡◌, ◌++◌, IfOk, List, OnErr, OnOk, map, replicate};
+ghost use Rattle.std.specs.Prelude.{◌≡◌, ◌++◌, IfOk, List, OnErr, OnOk, is_some, map, replicate, true};
 ghost use Rattle.distributor.specs.Calls.{PicksIndexes};
 ghost use Rattle.lagsystem.specs.Calls as call;
 ghost use Rattle.lagsystem.specs.Drives.{Drives, call_of};
 ghost use Rattle.lagsystem.specs.declared.drive.Reply.TheVariants as reply;
-ghost use Rattle.answering.specs.declared.word.Answers.{Answers};
+ghost use Rattle.answering.specs.declared.note.MarkerNote.{MarkerNote};
 ghost use Rattle.lagengine_lines.specs.AnswerValues.{answer_value};
 ghost use Rattle.lagengine_lines.specs.Engines.{TicksOrKeeps, engine_state, kept_of};
 
@@ -40,9 +40,10 @@ pub(crate) fn tick_or_keep<F: Fn(u16, usize) -> usize + Drop>(
     kept: &mut Option<Vec<Call>>,
     count: u16,
 ) -> Result<Answer, AllocError>
-    ensures acts { (notes : List Answers) → IfOk result (λ answer. TicksOrKeeps (F.post system.old.algorithm) count system.old.state
+    ensures acts { (notes : List MarkerNote) → IfOk result (λ answer. TicksOrKeeps (F.post system.old.algorithm) count system.old.state
         (kept_of kept.old) notes (answer_value answer) (engine_state system.new kept.new notes)) }
-    ensures err { (notes : List Answers) → OnErr result (engine_state system.new kept.new notes ≡ engine_state system.old kept.old notes) }
+    ensures err { (notes : List MarkerNote) → OnErr result (engine_state system.new kept.new notes ≡ engine_state system.old kept.old notes) }
+    ensures memory { OnErr result (is_some (kept_of kept.old) ≡ true) }
     ensures algorithm { system.new.algorithm ≡ system.old.algorithm }
 {
     match kept {

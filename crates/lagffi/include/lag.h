@@ -168,7 +168,8 @@ struct niw_change {
     bool aggregatable;
 };
 
-/* In each answer `status` is NIW_OK or the number of the refusal; what stands beside it is 0 where it is a refusal. */
+/* In each answer `status` is NIW_OK or the number of the refusal. Where it is a refusal, what stands beside it is 0, but for what niw_made
+ * and niw_decoded tell of the refusal itself. */
 
 struct niw_made {
     uint32_t status;

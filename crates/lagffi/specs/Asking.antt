@@ -2,7 +2,7 @@
 use Rattle.std.specs.Prelude.{◌≡◌, ℕ, List, Option, None, Some}
 use Rattle.distributor.specs.Calls.{index_by_number}
 use Rattle.lagsystem.specs.State.{SystemState}
-use Rattle.answering.specs.declared.word.Answers.{Answers}
+use Rattle.answering.specs.declared.note.MarkerNote.{MarkerNote}
 use Rattle.lagffi.specs.Algorithms.{gives_by}
 use Rattle.lagffi.specs.Holding.{HeldValue}
 
@@ -17,15 +17,15 @@ CallsHeldSystem None new does refuses = refuses × (new ≡ None)
 CallsHeldSystem (Some h) new does refuses = (t : SystemState) × (new ≡ Some (record h { state = t })) × does h.state t
 
 -- A reader of the notes on the peers, likewise.
-abbrev pub ReadsNotes : Option HeldValue → Option HeldValue → (SystemState → List Answers → Type 0) → Type 0 → Type 0
+abbrev pub ReadsNotes : Option HeldValue → Option HeldValue → (SystemState → List MarkerNote → Type 0) → Type 0 → Type 0
 ReadsNotes None new tells refuses = refuses × (new ≡ None)
 ReadsNotes (Some h) new tells refuses = tells h.state h.answering × (new ≡ Some h)
 
 -- A call that changes the notes on the peers, too: the last two arguments of the relation are those before and after.
-abbrev pub NotesHeldSystem : Option HeldValue → Option HeldValue → (SystemState → SystemState → List Answers → List Answers → Type 0) → Type 0 → Type 0
+abbrev pub NotesHeldSystem : Option HeldValue → Option HeldValue → (SystemState → SystemState → List MarkerNote → List MarkerNote → Type 0) → Type 0 → Type 0
 NotesHeldSystem None new does refuses = refuses × (new ≡ None)
 NotesHeldSystem (Some h) new does refuses =
-    (t : SystemState) × (notes : List Answers) × (new ≡ Some (record h { state = t; answering = notes })) × does h.state t h.answering notes
+    (t : SystemState) × (notes : List MarkerNote) × (new ≡ Some (record h { state = t; answering = notes })) × does h.state t h.answering notes
 
 -- A call that asks the algorithm of the handle, whose numbered places may be returned.
 abbrev pub OffersToHeldSystem : Option HeldValue → Option HeldValue → ((ℕ → ℕ → ℕ → Type 0) → SystemState → SystemState → Type 0)

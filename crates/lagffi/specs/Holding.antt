@@ -1,17 +1,17 @@
 -- The system of a handle, and what is kept beside it (profile).
 use Rattle.std.specs.Prelude.{ℕ, List, Option, None, Some}
 use Rattle.lagsystem.specs.State.{SystemState, SystemValue}
-use Rattle.answering.specs.declared.word.Answers.{Answers}
+use Rattle.answering.specs.declared.note.MarkerNote.{MarkerNote}
 use Rattle.lagffi.specs.declared.stored.Stored.{Stored}
 
 -- the state of the system, the number of the distribution algorithm, and whether the peers of the ports answer markers
 pub record HeldValue : Type 0 where
   pub state : SystemState
   pub algorithm : ℕ
-  pub answering : List Answers
+  pub answering : List MarkerNote
 
 -- the value of a system under this algorithm and with these notes, if there is one
-abbrev pub stored_value : ℕ → List Answers → Option (SystemValue (Unit {0})) → Option HeldValue
+abbrev pub stored_value : ℕ → List MarkerNote → Option (SystemValue (Unit {0})) → Option HeldValue
 stored_value algorithm notes None = None
 stored_value algorithm notes (Some system) = Some (record { state = system.state; algorithm = algorithm; answering = notes })
 

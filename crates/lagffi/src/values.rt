@@ -7,7 +7,7 @@ ghost use Rattle.lagffi.specs.Numbers.{status_of, truth, truth_or_no_port, truth
 ghost use Rattle.lagsystem.specs.Faults.{fault_number};
 ghost use Rattle.lagsystem.specs.declared.fault.SystemFault.{SystemFault};
 
-use answering::Answers;
+use answering::MarkerNote;
 use arrayvec::ArrayVec;
 use lagsystem::{AggId, Key, PortChange, Received, SystemFault};
 
@@ -166,7 +166,7 @@ impl LagNumber {
     }
 
     /// The note on the peer of a port; or that there is no such port.
-    pub(crate) fn note_or_no_port(answer: Option<Answers>) -> LagNumber
+    pub(crate) fn note_or_no_port(answer: Option<MarkerNote>) -> LagNumber
         ensures { result ≡ number_or_refused 1 (option_map answers_number answer) }
     {
         let number = match answer {

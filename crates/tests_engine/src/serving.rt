@@ -1,3 +1,4 @@
+mod carriers;
 mod peers;
 mod ports;
 mod requests;

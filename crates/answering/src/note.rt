@@ -3,9 +3,9 @@ ghost use Rattle.answering.specs.Notes.{after_marker, answers_number, answers_te
 
 use std::fmt;
 
-/// Whether the peer of a port answers markers (profile).
+/// What is noted of the peer of a port: whether it answers markers (profile).
 #[derive(Clone, Copy, Debug, PartialEq, Eq)]
-pub enum Answers {
+pub enum MarkerNote {
     /// No marker went out on the port since its link was down.
     NeverAsked,
     /// A marker went out on the port, and no response came.
@@ -14,37 +14,37 @@ pub enum Answers {
     Answered,
 }
 
-impl Answers {
+impl MarkerNote {
     /// Its number: 0 for `NeverAsked`, 1 for `Asked`, 2 for `Answered` (profile).
     pub fn number(&self) -> u8
         ensures { result ≡ answers_number self.now }
     {
         match self {
-            Answers::NeverAsked => 0,
-            Answers::Asked => 1,
-            Answers::Answered => 2,
+            MarkerNote::NeverAsked => 0,
+            MarkerNote::Asked => 1,
+            MarkerNote::Answered => 2,
         }
     }
 
     /// After a marker went out on the port. A peer that answered has answered still.
-    pub(crate) fn after_marker(&self) -> Answers
+    pub(crate) fn after_marker(&self) -> MarkerNote
         ensures { result ≡ after_marker self.now }
     {
         match self {
-            Answers::NeverAsked | Answers::Asked => Answers::Asked,
-            Answers::Answered => Answers::Answered,
+            MarkerNote::NeverAsked | MarkerNote::Asked => MarkerNote::Asked,
+            MarkerNote::Answered => MarkerNote::Answered,
         }
     }
 }
 
-impl fmt::Display for Answers {
+impl fmt::Display for MarkerNote {
     ghost output = { λ answers. Some (answers_text answers) };
 
     fn fmt<W: fmt::Write>(&self, f: &mut fmt::Formatter<W>) -> fmt::Result {
         f.write_str(match self {
-            Answers::NeverAsked => "never-asked",
-            Answers::Asked => "asked",
-            Answers::Answered => "answered",
+            MarkerNote::NeverAsked => "never-asked",
+            MarkerNote::Asked => "asked",
+            MarkerNote::Answered => "answered",
         })
     }
 }
