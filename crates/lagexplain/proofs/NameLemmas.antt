@@ -1,17 +1,17 @@
--- The events that have kinds, and the kinds of their words, are those that lagscript reads.
-use Rattle.std.proofs.Common.{◌≡◌, ◌∙◌, ℕ, Bool, true, false, List, [], ◌∷◌, Option, Some, None, Result, Ok, Err, ap, arith, codes, is_some, length}
-use Rattle.std.proofs.Common.{option_and_then, refl, sym, subst, if◌then◌else◌}
+-- The words that are said to be wrong are those that lagscript refuses.
+use Rattle.std.proofs.Common.{◌≡◌, ◌∙◌, ◌+◌, ℕ, suc, Bool, true, false, List, [], ◌∷◌, Option, Some, None, Result, Ok, Err}
+use Rattle.std.proofs.Common.{ap, arith, is_some, length, option_and_then, option_map, refl, slice_get, sym, subst, if◌then◌else◌}
 use Rattle.std.specs.Result.{result_err}
-use Rattle.std.specs.Str.{bytes_eq}
-use Rattle.std.proofs.lemmas.Slice.Eq.{bytes_eq-Decides}
-use Rattle.lagscript.specs.EventValues.{EventValue}
-use Rattle.lagscript.specs.Entries.{WordReader, event_named, frameless_event_named, with_one_word, with_two_words, with_three_words}
-use Rattle.lagscript.specs.Entries.{with_four_words, with_five_words}
+use Rattle.std.proofs.lemmas.Bool.{eq-eqb, ne_eqb}
+use Rattle.lagscript.specs.EventValues.{EntryForm, EventValue}
+use Rattle.lagscript.specs.Entries.{event_named, event_of_form, event_of_form_if_any, form_named, number_word, system_word, ticks_word}
+use Rattle.lagscript.specs.Entries.{aggregation_word, cable_word, hex_word, kinds_named, word_value, words_said}
 use Rattle.lagscript.specs.Readings.{◌>>=◌}
 use Rattle.lagscript.specs.declared.fault.EntryFault.{EntryFault}
 use Rattle.lagscript.specs.declared.fault.EntryFault.TheVariants.{Count, Word}
-use Rattle.lagexplain.specs.Entries.{fault_at, first_fault, kinds_named, word_fault}
-use Rattle.lagexplain.specs.declared.forms.WordKind.{WordKind}
+use Rattle.lagscript.specs.declared.forms.WordKind.{WordKind}
+use Rattle.lagscript.specs.declared.forms.WordKind.TheVariants.{System, Ticks, Cable, Number, Aggregation, Octets}
+use Rattle.lagexplain.specs.Entries.{fault_at, first_fault, first_wrong, is_wrong_at, word_fault}
 
 abbrev Reads : Type 0
 Reads = List (List ℕ) → Result EventValue EntryFault
@@ -26,9 +26,20 @@ abbrev pub AreOfName : ℕ → Option (List WordKind) → Reads → Type 0
 AreOfName cables None reads = (words : List (List ℕ)) → reads words ≡ Err Word
 AreOfName cables (Some kinds) reads = ReadsKinds cables kinds reads
 
--- what reads a word has its fault by this kind
-abbrev ReadsKind : {A : Type 0} → ℕ → WordKind → WordReader A → Type 0
-ReadsKind cables kind reads = (w : List ℕ) → word_fault cables kind w ≡ result_err (reads w)
+-- ---- one word
+
+made_err : {A B : Type 0} (r : Result A EntryFault) (make : A → B) → result_err r ≡ result_err (r >>= λ x. Ok (make x))
+made_err (Ok x) make = refl
+made_err (Err e) make = refl
+
+-- a word is wrong where it cannot be read
+fault_of_word : (cables : ℕ) (kind : WordKind) (w : List ℕ) → word_fault cables kind w ≡ result_err (word_value cables kind w)
+fault_of_word cables System w = made_err (system_word w) _
+fault_of_word cables Ticks w = made_err (ticks_word w) _
+fault_of_word cables Cable w = made_err (cable_word cables w) _
+fault_of_word cables Number w = made_err (number_word w) _
+fault_of_word cables Aggregation w = made_err (aggregation_word w) _
+fault_of_word cables Octets w = made_err (hex_word w) _
 
 -- One word more: its fault if it has one, else what the words behind it give.
 one_more : {A B : Type 0} (r : Result A EntryFault) (rest : A → Result B EntryFault) (fault : Option EntryFault) (at : ℕ → Option EntryFault)
@@ -43,151 +54,56 @@ one_more {A} r rest fault at place behind e here h =
     on (Ok x) found h = h x
     on (Err y) found h = sym found
 
-module _ (cables : ℕ) where
-  reads_one : {A : Type 0} (k : WordKind) (f : WordReader A) (make : A → EventValue) → ReadsKind cables k f
-      → ReadsKinds cables (k ∷ []) (with_one_word f make)
-  reads_one k f make p = (counts, faults)
-    where
-      counts : (words : List (List ℕ)) → ¬ (length words ≡ 1) → with_one_word f make words ≡ Err Count
-      counts [] other = refl
-      counts (a ∷ []) other = absurd (other refl)
-      counts (a ∷ b ∷ ws) other = refl
+-- ---- all words
 
-      faults : (words : List (List ℕ)) → length words ≡ 1 → result_err (with_one_word f make words) ≡ first_fault cables (k ∷ []) words
-      faults [] same = absurd (omega (arith, same))
-      faults (a ∷ []) same = one_more (f a) (λ x. Ok (make x)) _ (fault_at cables (k ∷ []) (a ∷ [])) 0 None (p a) refl (λ x. refl)
-      faults (a ∷ b ∷ ws) same = absurd (omega (arith, same))
+-- a kind in front moves each place by one
+moved : (cables : ℕ) (kind : WordKind) (kinds : List WordKind) (place : ℕ) (ws : List (List ℕ))
+    → first_wrong cables (kind ∷ kinds) (suc place) ws ≡ option_map suc (first_wrong cables kinds place ws)
+moved cables kind kinds place [] = refl
+moved cables kind kinds place (w ∷ ws) =
+    by (is_wrong_at cables (slice_get kinds place) w) (first_wrong cables (kind ∷ kinds) (suc place + 1) ws)
+    (first_wrong cables kinds (place + 1) ws)
+    (subst (λ n. first_wrong cables (kind ∷ kinds) n ws ≡ option_map suc (first_wrong cables kinds (place + 1) ws)) (omega arith)
+    (moved cables kind kinds (place + 1) ws))
+  where
+    by : (b : Bool) (x y : Option ℕ) → x ≡ option_map suc y
+        → (if b then Some (suc place) else x) ≡ option_map suc (if b then Some place else y)
+    by true x y e = refl
+    by false x y e = e
 
-  reads_two : {A B : Type 0} (k l : WordKind) (f : WordReader A) (g : WordReader B) (make : A → B → EventValue)
-      → ReadsKind cables k f → ReadsKind cables l g → ReadsKinds cables (k ∷ l ∷ []) (with_two_words f g make)
-  reads_two k l f g make p q = (counts, faults)
-    where
-      counts : (words : List (List ℕ)) → ¬ (length words ≡ 2) → with_two_words f g make words ≡ Err Count
-      counts [] other = refl
-      counts (a ∷ []) other = refl
-      counts (a ∷ b ∷ []) other = absurd (other refl)
-      counts (a ∷ b ∷ c ∷ ws) other = refl
+-- a word in front of places that are moved by one
+behind_one : (at : ℕ → Option EntryFault) (o : Option ℕ) → option_and_then at (option_map suc o) ≡ option_and_then (λ place. at (suc place)) o
+behind_one at None = refl
+behind_one at (Some place) = refl
 
-      faults : (words : List (List ℕ)) → length words ≡ 2
-          → result_err (with_two_words f g make words) ≡ first_fault cables (k ∷ l ∷ []) words
-      faults [] same = absurd (omega (arith, same))
-      faults (a ∷ []) same = absurd (omega (arith, same))
-      faults (a ∷ b ∷ []) same = let at = fault_at cables (k ∷ l ∷ []) (a ∷ b ∷ []) in
-          one_more (f a) _ _ at 0 _ (p a) refl (λ x.
-          one_more (g b) _ _ at 1 None (q b) refl (λ y. refl))
-      faults (a ∷ b ∷ c ∷ ws) same = absurd (omega (arith, same))
+-- the fault of words that are as many as their kinds
+fault_of_words : (cables : ℕ) (kinds : List WordKind) (ws : List (List ℕ)) → length ws ≡ length kinds
+    → result_err (words_said cables kinds ws) ≡ first_fault cables kinds ws
+fault_of_words cables [] [] same = refl
+fault_of_words cables [] (w ∷ ws) same = absurd (omega (arith, same))
+fault_of_words cables (kind ∷ kinds) [] same = absurd (omega (arith, same))
+fault_of_words cables (kind ∷ kinds) (w ∷ ws) same =
+    let at = fault_at cables (kind ∷ kinds) (w ∷ ws) in
+    one_more (word_value cables kind w) _ (word_fault cables kind w) at 0 (first_wrong cables (kind ∷ kinds) 1 ws)
+    (fault_of_word cables kind w) refl
+    (λ said. sym (made_err (words_said cables kinds ws) _)
+    ∙ fault_of_words cables kinds ws (omega (arith, same))
+    ∙ sym (behind_one at (first_wrong cables kinds 0 ws))
+    ∙ sym (ap (option_and_then at) (moved cables kind kinds 0 ws)))
 
-  reads_three : {A B C : Type 0} (k l m : WordKind) (f : WordReader A) (g : WordReader B) (h : WordReader C) (make : A → B → C → EventValue)
-      → ReadsKind cables k f → ReadsKind cables l g → ReadsKind cables m h
-      → ReadsKinds cables (k ∷ l ∷ m ∷ []) (with_three_words f g h make)
-  reads_three k l m f g h make p q r = (counts, faults)
-    where
-      counts : (words : List (List ℕ)) → ¬ (length words ≡ 3) → with_three_words f g h make words ≡ Err Count
-      counts [] other = refl
-      counts (a ∷ []) other = refl
-      counts (a ∷ b ∷ []) other = refl
-      counts (a ∷ b ∷ c ∷ []) other = absurd (other refl)
-      counts (a ∷ b ∷ c ∷ d ∷ ws) other = refl
+reads_form : (cables : ℕ) (f : EntryForm) → ReadsKinds cables f.kinds (event_of_form cables f)
+reads_form cables f = (counts, faults)
+  where
+    counts : (words : List (List ℕ)) → ¬ (length words ≡ length f.kinds) → event_of_form cables f words ≡ Err Count
+    counts words other = rw (ne_eqb (length words) (length f.kinds) other) refl
 
-      faults : (words : List (List ℕ)) → length words ≡ 3
-          → result_err (with_three_words f g h make words) ≡ first_fault cables (k ∷ l ∷ m ∷ []) words
-      faults [] same = absurd (omega (arith, same))
-      faults (a ∷ []) same = absurd (omega (arith, same))
-      faults (a ∷ b ∷ []) same = absurd (omega (arith, same))
-      faults (a ∷ b ∷ c ∷ []) same = let at = fault_at cables (k ∷ l ∷ m ∷ []) (a ∷ b ∷ c ∷ []) in
-          one_more (f a) _ _ at 0 _ (p a) refl (λ x.
-          one_more (g b) _ _ at 1 _ (q b) refl (λ y.
-          one_more (h c) _ _ at 2 None (r c) refl (λ z. refl)))
-      faults (a ∷ b ∷ c ∷ d ∷ ws) same = absurd (omega (arith, same))
+    faults : (words : List (List ℕ)) → length words ≡ length f.kinds → result_err (event_of_form cables f words) ≡ first_fault cables f.kinds words
+    faults words same = rw (eq-eqb (length words) (length f.kinds) same)
+        (sym (made_err (words_said cables f.kinds words) _) ∙ fault_of_words cables f.kinds words same)
 
-  reads_four : {A B C D : Type 0} (k l m n : WordKind) (f : WordReader A) (g : WordReader B) (h : WordReader C) (i : WordReader D)
-      (make : A → B → C → D → EventValue) → ReadsKind cables k f → ReadsKind cables l g → ReadsKind cables m h → ReadsKind cables n i
-      → ReadsKinds cables (k ∷ l ∷ m ∷ n ∷ []) (with_four_words f g h i make)
-  reads_four k l m n f g h i make p q r s = (counts, faults)
-    where
-      counts : (words : List (List ℕ)) → ¬ (length words ≡ 4) → with_four_words f g h i make words ≡ Err Count
-      counts [] other = refl
-      counts (a ∷ []) other = refl
-      counts (a ∷ b ∷ []) other = refl
-      counts (a ∷ b ∷ c ∷ []) other = refl
-      counts (a ∷ b ∷ c ∷ d ∷ []) other = absurd (other refl)
-      counts (a ∷ b ∷ c ∷ d ∷ e ∷ ws) other = refl
-
-      faults : (words : List (List ℕ)) → length words ≡ 4
-          → result_err (with_four_words f g h i make words) ≡ first_fault cables (k ∷ l ∷ m ∷ n ∷ []) words
-      faults [] same = absurd (omega (arith, same))
-      faults (a ∷ []) same = absurd (omega (arith, same))
-      faults (a ∷ b ∷ []) same = absurd (omega (arith, same))
-      faults (a ∷ b ∷ c ∷ []) same = absurd (omega (arith, same))
-      faults (a ∷ b ∷ c ∷ d ∷ []) same = let at = fault_at cables (k ∷ l ∷ m ∷ n ∷ []) (a ∷ b ∷ c ∷ d ∷ []) in
-          one_more (f a) _ _ at 0 _ (p a) refl (λ x.
-          one_more (g b) _ _ at 1 _ (q b) refl (λ y.
-          one_more (h c) _ _ at 2 _ (r c) refl (λ z.
-          one_more (i d) _ _ at 3 None (s d) refl (λ w. refl))))
-      faults (a ∷ b ∷ c ∷ d ∷ e ∷ ws) same = absurd (omega (arith, same))
-
-  reads_five : {A B C D E : Type 0} (k l m n o : WordKind) (f : WordReader A) (g : WordReader B) (h : WordReader C) (i : WordReader D)
-      (j : WordReader E) (make : A → B → C → D → E → EventValue) → ReadsKind cables k f → ReadsKind cables l g → ReadsKind cables m h
-      → ReadsKind cables n i → ReadsKind cables o j
-      → ReadsKinds cables (k ∷ l ∷ m ∷ n ∷ o ∷ []) (with_five_words f g h i j make)
-  reads_five k l m n o f g h i j make p q r s t = (counts, faults)
-    where
-      counts : (words : List (List ℕ)) → ¬ (length words ≡ 5) → with_five_words f g h i j make words ≡ Err Count
-      counts [] other = refl
-      counts (a ∷ []) other = refl
-      counts (a ∷ b ∷ []) other = refl
-      counts (a ∷ b ∷ c ∷ []) other = refl
-      counts (a ∷ b ∷ c ∷ d ∷ []) other = refl
-      counts (a ∷ b ∷ c ∷ d ∷ e ∷ []) other = absurd (other refl)
-      counts (a ∷ b ∷ c ∷ d ∷ e ∷ more ∷ ws) other = refl
-
-      faults : (words : List (List ℕ)) → length words ≡ 5
-          → result_err (with_five_words f g h i j make words) ≡ first_fault cables (k ∷ l ∷ m ∷ n ∷ o ∷ []) words
-      faults [] same = absurd (omega (arith, same))
-      faults (a ∷ []) same = absurd (omega (arith, same))
-      faults (a ∷ b ∷ []) same = absurd (omega (arith, same))
-      faults (a ∷ b ∷ c ∷ []) same = absurd (omega (arith, same))
-      faults (a ∷ b ∷ c ∷ d ∷ []) same = absurd (omega (arith, same))
-      faults (a ∷ b ∷ c ∷ d ∷ e ∷ []) same = let at = fault_at cables (k ∷ l ∷ m ∷ n ∷ o ∷ []) (a ∷ b ∷ c ∷ d ∷ e ∷ []) in
-          one_more (f a) _ _ at 0 _ (p a) refl (λ x.
-          one_more (g b) _ _ at 1 _ (q b) refl (λ y.
-          one_more (h c) _ _ at 2 _ (r c) refl (λ z.
-          one_more (i d) _ _ at 3 _ (s d) refl (λ w.
-          one_more (j e) _ _ at 4 None (t e) refl (λ v. refl)))))
-      faults (a ∷ b ∷ c ∷ d ∷ e ∷ more ∷ ws) same = absurd (omega (arith, same))
-
-  same_reads : (kinds : Option (List WordKind)) (f g : Reads) → ((words : List (List ℕ)) → f words ≡ g words) → AreOfName cables kinds g
-      → AreOfName cables kinds f
-  same_reads None f g same h = λ words. same words ∙ h words
-  same_reads (Some ks) f g same h = (λ words other. same words ∙ h.0 words other, λ words as_many. ap result_err (same words) ∙ h.1 words as_many)
-
-  named : (b : Bool) (ks : List WordKind) (kinds : Option (List WordKind)) (f g : Reads) → ReadsKinds cables ks f
-      → AreOfName cables kinds g → AreOfName cables (if b then Some ks else kinds) (if b then f else g)
-  named true ks kinds f g here there = here
-  named false ks kinds f g here there = there
-
-  frameless : (name : List ℕ) → bytes_eq name (codes "offer") ≡ false → AreOfName cables (kinds_named name) (frameless_event_named cables name)
-  frameless name other = rw other (
-      named (bytes_eq name (codes "tick")) _ _ _ _ (reads_two _ _ _ _ _ (λ w. refl) (λ w. refl)) (
-      named (bytes_eq name (codes "emit")) _ _ _ _ (reads_two _ _ _ _ _ (λ w. refl) (λ w. refl)) (
-      named (bytes_eq name (codes "deliver")) _ _ _ _ (reads_two _ _ _ _ _ (λ w. refl) (λ w. refl)) (
-      named (bytes_eq name (codes "lose")) _ _ _ _ (reads_two _ _ _ _ _ (λ w. refl) (λ w. refl)) (
-      named (bytes_eq name (codes "repeat")) _ _ _ _ (reads_two _ _ _ _ _ (λ w. refl) (λ w. refl)) (
-      named (bytes_eq name (codes "cut")) _ _ _ _ (reads_one _ _ _ (λ w. refl)) (
-      named (bytes_eq name (codes "join")) _ _ _ _ (reads_one _ _ _ (λ w. refl)) (
-      named (bytes_eq name (codes "sense")) _ _ _ _ (reads_two _ _ _ _ _ (λ w. refl) (λ w. refl)) (
-      named (bytes_eq name (codes "restart")) _ _ _ _ (reads_one _ _ _ (λ w. refl)) (
-      named (bytes_eq name (codes "configure")) _ _ _ _
-      (reads_five _ _ _ _ _ _ _ _ _ _ _ (λ w. refl) (λ w. refl) (λ w. refl) (λ w. refl) (λ w. refl)) (
-      named (bytes_eq name (codes "move")) _ _ _ _ (reads_four _ _ _ _ _ _ _ _ _ (λ w. refl) (λ w. refl) (λ w. refl) (λ w. refl)) (
-      named (bytes_eq name (codes "force")) _ _ _ _ (reads_three _ _ _ _ _ _ _ (λ w. refl) (λ w. refl) (λ w. refl)) (
-      λ words. refl
-      )))))))))))))
-
-  pub names_agree : (name : List ℕ) → AreOfName cables (kinds_named name) (event_named cables name)
-  names_agree name = by (bytes_eq name (codes "offer")) refl
-    where
-      by : (b : Bool) → bytes_eq name (codes "offer") ≡ b → AreOfName cables (kinds_named name) (event_named cables name)
-      by true same = subst (λ n. AreOfName cables (kinds_named n) (event_named cables n)) (sym ((bytes_eq-Decides name (codes "offer")).0 same))
-          (reads_three _ _ _ _ _ _ _ (λ w. refl) (λ w. refl) (λ w. refl))
-      by false other = same_reads (kinds_named name) _ _ (λ words. rw other refl) (frameless name other)
+pub names_agree : (cables : ℕ) (name : List ℕ) → AreOfName cables (kinds_named name) (event_named cables name)
+names_agree cables name = by (form_named name)
+  where
+    by : (o : Option EntryForm) → AreOfName cables (option_map (λ f. f.kinds) o) (event_of_form_if_any cables o)
+    by None = λ words. refl
+    by (Some f) = reads_form cables f

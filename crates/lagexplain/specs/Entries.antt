@@ -1,36 +1,12 @@
 -- Which entry of a script is at fault, and which of its words (profile).
-use Rattle.std.specs.Prelude.{ℕ, ◌+◌, ◌-◌, Bool, false, List, [], ◌∷◌, codes, is_some, nat_lt, slice_get, take}
+use Rattle.std.specs.Prelude.{ℕ, ◌+◌, ◌-◌, Bool, false, List, [], ◌∷◌, codes, is_some, nat_lt, slice_get}
 use Rattle.std.specs.Prelude.{if◌then◌else◌, Option, Some, None, option_and_then}
 use Rattle.std.specs.Result.{result_err}
-use Rattle.std.specs.Str.{bytes_eq}
 use Rattle.toml.specs.Data.{Members, as_str, at, get_member}
 use Rattle.lagscript.specs.Entries.{aggregation_word, cable_word, hex_word, number_word, system_word, ticks_word}
 use Rattle.lagscript.specs.declared.fault.EntryFault.{EntryFault}
-use Rattle.lagexplain.specs.declared.forms.Form.{Form}
-use Rattle.lagexplain.specs.declared.forms.WordKind.{WordKind}
-use Rattle.lagexplain.specs.declared.forms.WordKind.TheVariants.{System, Ticks, Cable, Number, Aggregation, Octets}
-
--- what the words behind the name of an event have to be
-abbrev pub kinds_of_form : Form → List WordKind
-kinds_of_form form = take form.count form.kinds
-
--- the same, by the name of the event; None if no event has it
-abbrev pub kinds_named : List ℕ → Option (List WordKind)
-kinds_named name =
-    if bytes_eq name (codes "tick") then Some (System ∷ Ticks ∷ [])
-    else if bytes_eq name (codes "emit") then Some (System ∷ Number ∷ [])
-    else if bytes_eq name (codes "deliver") then Some (Cable ∷ System ∷ [])
-    else if bytes_eq name (codes "lose") then Some (Cable ∷ System ∷ [])
-    else if bytes_eq name (codes "repeat") then Some (Cable ∷ System ∷ [])
-    else if bytes_eq name (codes "cut") then Some (Cable ∷ [])
-    else if bytes_eq name (codes "join") then Some (Cable ∷ [])
-    else if bytes_eq name (codes "sense") then Some (Cable ∷ System ∷ [])
-    else if bytes_eq name (codes "restart") then Some (System ∷ [])
-    else if bytes_eq name (codes "configure") then Some (System ∷ Number ∷ Number ∷ Number ∷ Aggregation ∷ [])
-    else if bytes_eq name (codes "offer") then Some (System ∷ Number ∷ Octets ∷ [])
-    else if bytes_eq name (codes "move") then Some (System ∷ Number ∷ Number ∷ Number ∷ [])
-    else if bytes_eq name (codes "force") then Some (System ∷ Number ∷ Number ∷ [])
-    else None
+use Rattle.lagscript.specs.declared.forms.WordKind.{WordKind}
+use Rattle.lagscript.specs.declared.forms.WordKind.TheVariants.{System, Ticks, Cable, Number, Aggregation, Octets}
 
 -- the fault of a word that is none of its kind, in a script with this many cables
 abbrev pub word_fault : ℕ → WordKind → List ℕ → Option EntryFault

@@ -4,10 +4,9 @@ ghost use Rattle.toml.specs.View.{table_view, view};
 ghost use Rattle.lagexplain.specs.Entries.{entry_at};
 
 use crate::arrays::count_at;
-use crate::forms::{Form, NAMES, WordKind, form_of};
 use crate::names::{is_among, list, nearest, quote};
 use crate::words::{first_wrong, words_of};
-use lagscript::EntryFault;
+use lagscript::{EntryFault, Form, NAMES, WordKind, form_of};
 use std::alloc::{AllocError, Global};
 use toml::{Table, Value};
 

@@ -1,9 +1,9 @@
 ghost use Rattle.std.specs.Prelude.{◌≡◌, ℕ, Err, List, None, Some, length};
 ghost use Rattle.std.specs.Result.{result_err};
-ghost use Rattle.lagscript.specs.Entries.{event_named};
+ghost use Rattle.lagscript.specs.Entries.{event_named, kinds_named};
 ghost use Rattle.lagscript.specs.declared.fault.EntryFault.TheVariants.{Count, Word};
-ghost use Rattle.lagexplain.specs.Entries.{first_fault, kinds_named};
-ghost use Rattle.lagexplain.specs.declared.forms.WordKind.{WordKind};
+ghost use Rattle.lagscript.specs.declared.forms.WordKind.{WordKind};
+ghost use Rattle.lagexplain.specs.Entries.{first_fault};
 
 /// The events that are known here are those that `lagscript` reads, and so are their words. Of a name without kinds it answers
 /// `Word`; of another count of words than there are kinds, `Count`; else the fault of the first word that is none of its kind, and

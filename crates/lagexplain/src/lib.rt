@@ -6,7 +6,6 @@ mod arrays;
 mod cables;
 mod entries;
 mod explaining;
-mod forms;
 mod keys;
 mod laws;
 mod names;

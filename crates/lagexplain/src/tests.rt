@@ -1,8 +1,7 @@
 use crate::explaining::explain;
-use crate::forms::WordKind;
 use crate::text_places::{Place, place_of};
 use crate::words::first_wrong;
-use lagscript::{EntryFault, ScriptFault, read_plan};
+use lagscript::{EntryFault, ScriptFault, WordKind, read_plan};
 use std::alloc::{AllocError, Global};
 use std::process::Abort;
 use std::test::Fail;

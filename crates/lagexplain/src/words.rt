@@ -2,8 +2,8 @@ ghost use Rattle.std.specs.Prelude.{◌≡◌, IfOk, map, slice_get};
 ghost use Rattle.lagscript.specs.Words.{number_below, words_of};
 ghost use Rattle.lagexplain.specs.Entries.{first_wrong, is_wrong, is_wrong_at};
 
-use crate::forms::WordKind;
 use hex::FromHexError;
+use lagscript::WordKind;
 use std::alloc::{AllocError, Global};
 
 /// The words of a text, cut at every single space.

@@ -2,6 +2,7 @@ pub mod ConfigLemmas
 pub mod DocumentFaults
 pub mod DocumentLemmas
 pub mod LimitLemmas
+pub mod EntryLemmas
 pub mod WordLemmas
 pub mod Walks
 pub mod ScriptLemmas

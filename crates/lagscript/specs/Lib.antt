@@ -5,5 +5,6 @@ pub mod Readings
 pub mod Keys
 pub mod Tables
 pub mod Entries
+pub mod EntryTexts
 pub mod Scripts
 pub mod Results

@@ -1,15 +1,14 @@
-ghost use Rattle.std.specs.Prelude.{◌≡◌, IfOk, map};
-ghost use Rattle.lagscript.specs.Entries.{event_in, event_named, cable_word, configure_event, with_five_words, five_words};
-ghost use Rattle.lagscript.specs.Entries.{with_four_words, four_words, hex_word, aggregation_word, number_word, with_one_word, one_word};
-ghost use Rattle.lagscript.specs.Entries.{frameless_event_named, event_result_value, system_word, with_three_words, three_words};
-ghost use Rattle.lagscript.specs.Entries.{ticks_word, with_two_words, two_words};
-ghost use Rattle.lagscript.specs.EventValues as act;
-ghost use Rattle.lagscript.specs.Results.{ReadsEntryAs, five_words_octets, four_words_octets, one_word_octets, three_words_octets};
-ghost use Rattle.lagscript.specs.Results.{two_words_octets};
+ghost use Rattle.std.specs.Prelude.{◌≡◌, ◌∷◌, [], ℕ, IfOk, codes, false, map, option_map, take};
+ghost use Rattle.std.specs.Str.{bytes_eq};
+ghost use Rattle.lagscript.specs.Entries.{aggregation_word, cable_word, event_in, event_named, event_result_value, kinds_named};
+ghost use Rattle.lagscript.specs.Entries.{kinds_of_form, number_word, system_word, ticks_word};
+ghost use Rattle.lagscript.specs.Results.{ReadsEntryAs};
 ghost use Rattle.lagscript.specs.declared.entries.EntryError.TheVariants.{Fault, NoMemory as Spent};
+ghost use Rattle.lagscript.specs.declared.forms.WordKind.TheVariants.{Number};
 
 use crate::event::Event;
 use crate::fault::EntryFault;
+use crate::forms::{Form, WordKind};
 use crate::words::{NoOctets, number_of, octets_of, words_of};
 use lagsystem::PortChange;
 use lagtypes::{AggId, Key};
@@ -37,6 +36,73 @@ impl From<AllocError> for EntryError {
 
     fn from(_e: AllocError) -> EntryError {
         EntryError::NoMemory
+    }
+}
+
+/// The names of the events, as the entries of a script begin with them (profile).
+pub const NAMES: [&str; 13] = [
+    "tick",
+    "emit",
+    "deliver",
+    "lose",
+    "repeat",
+    "cut",
+    "join",
+    "sense",
+    "restart",
+    "configure",
+    "offer",
+    "move",
+    "force",
+];
+
+/// The form of an event whose last words are numbers.
+fn with_numbers(text: &'static str, count: usize, first: WordKind, second: WordKind) -> Form
+    ensures { kinds_of_form result ≡ take count (first ∷ second ∷ Number ∷ Number ∷ Number ∷ []) }
+{
+    Form {
+        text,
+        count,
+        kinds: [
+            first,
+            second,
+            WordKind::Number,
+            WordKind::Number,
+            WordKind::Number,
+        ],
+    }
+}
+
+/// The form of the entries of the event with this name; None if no event has it.
+pub fn form_of(name: &str) -> Option<Form>
+    ensures { option_map kinds_of_form result ≡ kinds_named name.now }
+{
+    let system = WordKind::System;
+    let cable = WordKind::Cable;
+    let number = WordKind::Number;
+    match name {
+        "tick" => Some(with_numbers("tick S N", 2, system, WordKind::Ticks)),
+        "emit" => Some(with_numbers("emit S PORT", 2, system, number)),
+        "deliver" => Some(with_numbers("deliver C S", 2, cable, system)),
+        "lose" => Some(with_numbers("lose C S", 2, cable, system)),
+        "repeat" => Some(with_numbers("repeat C S", 2, cable, system)),
+        "cut" => Some(with_numbers("cut C", 1, cable, number)),
+        "join" => Some(with_numbers("join C", 1, cable, number)),
+        "sense" => Some(with_numbers("sense C S", 2, cable, system)),
+        "restart" => Some(with_numbers("restart S", 1, system, number)),
+        "configure" => Some(Form {
+            text: "configure S PORT KEY PRIORITY KIND",
+            count: 5,
+            kinds: [system, number, number, number, WordKind::Aggregation],
+        }),
+        "offer" => Some(Form {
+            text: "offer S AGG HEX",
+            count: 3,
+            kinds: [system, number, WordKind::Octets, number, number],
+        }),
+        "move" => Some(with_numbers("move S AGG CONV PORT", 4, system, number)),
+        "force" => Some(with_numbers("force S AGG CONV", 3, system, number)),
+        _ => None,
     }
 }
 
@@ -96,171 +162,146 @@ fn aggregation(word: &str) -> Result<bool, EntryFault>
     }
 }
 
-/// The word, if there is exactly one.
-fn one_word<'a>(words: &[&'a str]) -> Result<&'a str, EntryFault>
-    ensures { one_word_octets result ≡ one_word (map (λ w. w.now) words.now) }
+/// Reads the words of `tick`: a system and a number of ticks.
+fn tick(words: &[&str]) -> Result<Event, EntryFault>
+    ensures { (cables : ℕ) → event_result_value result ≡ event_named cables (codes "tick") (map (λ w. w.now) words.now) }
 {
     match words {
-        [a] => Ok(*a),
-        _ => Err(EntryFault::Count),
-    }
-}
-
-/// The words, if there are exactly two.
-fn two_words<'a>(words: &[&'a str]) -> Result<(&'a str, &'a str), EntryFault>
-    ensures { two_words_octets result ≡ two_words (map (λ w. w.now) words.now) }
-{
-    match words {
-        [a, b] => Ok((*a, *b)),
-        _ => Err(EntryFault::Count),
-    }
-}
-
-/// The words, if there are exactly three.
-fn three_words<'a>(words: &[&'a str]) -> Result<(&'a str, &'a str, &'a str), EntryFault>
-    ensures { three_words_octets result ≡ three_words (map (λ w. w.now) words.now) }
-{
-    match words {
-        [a, b, c] => Ok((*a, *b, *c)),
+        [s, n] => Ok(Event::Tick(system(s)?, ticks(n)?)),
         _ => Err(EntryFault::Count),
     }
 }
 
 /// Reads the words of `emit`: a system and a port.
 fn emit(words: &[&str]) -> Result<Event, EntryFault>
-    ensures { event_result_value result ≡ with_two_words system_word number_word act.emit (map (λ w. w.now) words.now) }
-{
-    let (s, port) = two_words(words)?;
-    Ok(Event::Emit(system(s)?, number(port)?))
-}
-
-/// Reads the words of `tick`: a system and a number of ticks.
-fn tick(words: &[&str]) -> Result<Event, EntryFault>
-    ensures { event_result_value result ≡ with_two_words system_word ticks_word act.tick (map (λ w. w.now) words.now) }
-{
-    let (s, n) = two_words(words)?;
-    Ok(Event::Tick(system(s)?, ticks(n)?))
-}
-
-/// The words, if there are exactly four.
-fn four_words<'a>(words: &[&'a str]) -> Result<(&'a str, &'a str, &'a str, &'a str), EntryFault>
-    ensures { four_words_octets result ≡ four_words (map (λ w. w.now) words.now) }
+    ensures { (cables : ℕ) → event_result_value result ≡ event_named cables (codes "emit") (map (λ w. w.now) words.now) }
 {
     match words {
-        [a, b, c, d] => Ok((*a, *b, *c, *d)),
-        _ => Err(EntryFault::Count),
-    }
-}
-
-/// The words, if there are exactly five.
-fn five_words<'a>(
-    words: &[&'a str],
-) -> Result<(&'a str, &'a str, &'a str, &'a str, &'a str), EntryFault>
-    ensures { five_words_octets result ≡ five_words (map (λ w. w.now) words.now) }
-{
-    match words {
-        [a, b, c, d, e] => Ok((*a, *b, *c, *d, *e)),
+        [s, port] => Ok(Event::Emit(system(s)?, number(port)?)),
         _ => Err(EntryFault::Count),
     }
 }
 
 /// Reads the words of `deliver`: a cable and the system that receives.
 fn deliver(cables: usize, words: &[&str]) -> Result<Event, EntryFault>
-    ensures { event_result_value result ≡ with_two_words (cable_word cables) system_word act.deliver (map (λ w. w.now) words.now) }
+    ensures { event_result_value result ≡ event_named cables (codes "deliver") (map (λ w. w.now) words.now) }
 {
-    let (c, s) = two_words(words)?;
-    Ok(Event::Deliver(cable(cables, c)?, system(s)?))
+    match words {
+        [c, s] => Ok(Event::Deliver(cable(cables, c)?, system(s)?)),
+        _ => Err(EntryFault::Count),
+    }
 }
 
 /// Reads the words of `lose`: a cable and the system towards which an item is lost.
 fn lose(cables: usize, words: &[&str]) -> Result<Event, EntryFault>
-    ensures { event_result_value result ≡ with_two_words (cable_word cables) system_word act.lose (map (λ w. w.now) words.now) }
+    ensures { event_result_value result ≡ event_named cables (codes "lose") (map (λ w. w.now) words.now) }
 {
-    let (c, s) = two_words(words)?;
-    Ok(Event::Lose(cable(cables, c)?, system(s)?))
+    match words {
+        [c, s] => Ok(Event::Lose(cable(cables, c)?, system(s)?)),
+        _ => Err(EntryFault::Count),
+    }
 }
 
 /// Reads the words of `repeat`: a cable and the system that receives.
 fn repeat(cables: usize, words: &[&str]) -> Result<Event, EntryFault>
-    ensures { event_result_value result ≡ with_two_words (cable_word cables) system_word act.repeat (map (λ w. w.now) words.now) }
+    ensures { event_result_value result ≡ event_named cables (codes "repeat") (map (λ w. w.now) words.now) }
 {
-    let (c, s) = two_words(words)?;
-    Ok(Event::Repeat(cable(cables, c)?, system(s)?))
-}
-
-/// Reads the words of `sense`: a cable and a system.
-fn sense(cables: usize, words: &[&str]) -> Result<Event, EntryFault>
-    ensures { event_result_value result ≡ with_two_words (cable_word cables) system_word act.sense (map (λ w. w.now) words.now) }
-{
-    let (c, s) = two_words(words)?;
-    Ok(Event::Sense(cable(cables, c)?, system(s)?))
+    match words {
+        [c, s] => Ok(Event::Repeat(cable(cables, c)?, system(s)?)),
+        _ => Err(EntryFault::Count),
+    }
 }
 
 /// Reads the word of `cut`: a cable.
 fn cut(cables: usize, words: &[&str]) -> Result<Event, EntryFault>
-    ensures { event_result_value result ≡ with_one_word (cable_word cables) act.cut (map (λ w. w.now) words.now) }
+    ensures { event_result_value result ≡ event_named cables (codes "cut") (map (λ w. w.now) words.now) }
 {
-    let c = one_word(words)?;
-    Ok(Event::Cut(cable(cables, c)?))
+    match words {
+        [c] => Ok(Event::Cut(cable(cables, c)?)),
+        _ => Err(EntryFault::Count),
+    }
 }
 
 /// Reads the word of `join`: a cable.
 fn join(cables: usize, words: &[&str]) -> Result<Event, EntryFault>
-    ensures { event_result_value result ≡ with_one_word (cable_word cables) act.join (map (λ w. w.now) words.now) }
+    ensures { event_result_value result ≡ event_named cables (codes "join") (map (λ w. w.now) words.now) }
 {
-    let c = one_word(words)?;
-    Ok(Event::Join(cable(cables, c)?))
+    match words {
+        [c] => Ok(Event::Join(cable(cables, c)?)),
+        _ => Err(EntryFault::Count),
+    }
+}
+
+/// Reads the words of `sense`: a cable and a system.
+fn sense(cables: usize, words: &[&str]) -> Result<Event, EntryFault>
+    ensures { event_result_value result ≡ event_named cables (codes "sense") (map (λ w. w.now) words.now) }
+{
+    match words {
+        [c, s] => Ok(Event::Sense(cable(cables, c)?, system(s)?)),
+        _ => Err(EntryFault::Count),
+    }
 }
 
 /// Reads the word of `restart`: a system.
 fn restart(words: &[&str]) -> Result<Event, EntryFault>
-    ensures { event_result_value result ≡ with_one_word system_word act.restart (map (λ w. w.now) words.now) }
+    ensures { (cables : ℕ) → event_result_value result ≡ event_named cables (codes "restart") (map (λ w. w.now) words.now) }
 {
-    let s = one_word(words)?;
-    Ok(Event::Restart(system(s)?))
+    match words {
+        [s] => Ok(Event::Restart(system(s)?)),
+        _ => Err(EntryFault::Count),
+    }
 }
 
 /// Reads the words of `configure`: a system, a port, its key and priority, and `aggregatable` or `individual`.
 fn configure(words: &[&str]) -> Result<Event, EntryFault>
-    ensures { event_result_value result ≡ with_five_words system_word number_word number_word number_word aggregation_word configure_event
-        (map (λ w. w.now) words.now) }
+    ensures { (cables : ℕ) → event_result_value result ≡ event_named cables (codes "configure") (map (λ w. w.now) words.now) }
 {
-    let (s, port, key, priority, aggregatable) = five_words(words)?;
-    let s = system(s)?;
-    let port = number(port)?;
-    let key = Key(number(key)?);
-    let priority = number(priority)?;
-    let aggregatable = aggregation(aggregatable)?;
-    let change = PortChange {
-        key,
-        priority,
-        aggregatable,
-    };
-    Ok(Event::Configure(s, port, change))
+    match words {
+        [s, port, key, priority, aggregatable] => {
+            let s = system(s)?;
+            let port = number(port)?;
+            let key = Key(number(key)?);
+            let priority = number(priority)?;
+            let aggregatable = aggregation(aggregatable)?;
+            let change = PortChange {
+                key,
+                priority,
+                aggregatable,
+            };
+            Ok(Event::Configure(s, port, change))
+        }
+        _ => Err(EntryFault::Count),
+    }
 }
 
 /// Reads the words of `move`: a system, an aggregator, a conversation and a port.
 fn move_to(words: &[&str]) -> Result<Event, EntryFault>
-    ensures { event_result_value result ≡ with_four_words system_word number_word number_word number_word act.move_to
-        (map (λ w. w.now) words.now) }
+    ensures { (cables : ℕ) → event_result_value result ≡ event_named cables (codes "move") (map (λ w. w.now) words.now) }
 {
-    let (s, agg, conv, port) = four_words(words)?;
-    let s = system(s)?;
-    let agg = AggId(number(agg)?);
-    Ok(Event::Move(s, agg, number(conv)?, number(port)?))
+    match words {
+        [s, agg, conv, port] => {
+            let s = system(s)?;
+            let agg = AggId(number(agg)?);
+            Ok(Event::Move(s, agg, number(conv)?, number(port)?))
+        }
+        _ => Err(EntryFault::Count),
+    }
 }
 
 /// Reads the words of `force`: a system, an aggregator and a conversation.
 fn force(words: &[&str]) -> Result<Event, EntryFault>
-    ensures { event_result_value result ≡ with_three_words system_word number_word number_word act.force (map (λ w. w.now) words.now) }
+    ensures { (cables : ℕ) → event_result_value result ≡ event_named cables (codes "force") (map (λ w. w.now) words.now) }
 {
-    let (s, agg, conv) = three_words(words)?;
-    Ok(Event::Force(system(s)?, AggId(number(agg)?), number(conv)?))
+    match words {
+        [s, agg, conv] => Ok(Event::Force(system(s)?, AggId(number(agg)?), number(conv)?)),
+        _ => Err(EntryFault::Count),
+    }
 }
 
-/// Reads an event, by its first word and the words after it; all events but `offer`.
+/// Reads an event, by its first word, which is not `offer`, and the words after it.
 fn frameless_event_named(cables: usize, name: &str, words: &[&str]) -> Result<Event, EntryFault>
-    ensures { event_result_value result ≡ frameless_event_named cables name.now (map (λ w. w.now) words.now) }
+    requires { bytes_eq name.now (codes "offer") ≡ false }
+    ensures { event_result_value result ≡ event_named cables name.now (map (λ w. w.now) words.now) }
 {
     match name {
         "tick" => tick(words),
@@ -281,15 +322,19 @@ fn frameless_event_named(cables: usize, name: &str, words: &[&str]) -> Result<Ev
 
 /// Reads the words of `offer`: a system, an aggregator and a frame.
 fn offer(alloc: Global, words: &[&str]) -> Result<Event, EntryError>
-    ensures { ReadsEntryAs (with_three_words system_word number_word hex_word act.offer (map (λ w. w.now) words.now)) result }
+    ensures { (cables : ℕ) → ReadsEntryAs (event_named cables (codes "offer") (map (λ w. w.now) words.now)) result }
 {
-    let (s, agg, frame) = three_words(words)?;
-    let s = system(s)?;
-    let agg = AggId(number(agg)?);
-    match octets_of(alloc, frame) {
-        Ok(octets) => Ok(Event::Offer(s, agg, octets)),
-        Err(NoOctets::NotHex) => Err(EntryError::Fault(EntryFault::Hex)),
-        Err(NoOctets::NoMemory) => Err(EntryError::NoMemory),
+    match words {
+        [s, agg, frame] => {
+            let s = system(s)?;
+            let agg = AggId(number(agg)?);
+            match octets_of(alloc, frame) {
+                Ok(octets) => Ok(Event::Offer(s, agg, octets)),
+                Err(NoOctets::NotHex) => Err(EntryError::Fault(EntryFault::Hex)),
+                Err(NoOctets::NoMemory) => Err(EntryError::NoMemory),
+            }
+        }
+        _ => Err(EntryError::Fault(EntryFault::Count)),
     }
 }
 
