@@ -1,11 +1,11 @@
 ghost use Rattle.std.specs.Prelude.{◌≡◌, ℕ, Option, Result};
-ghost use Rattle.carrier.specs.Choice.{Carries};
+ghost use Rattle.carrier.specs.Choice.{Carries, aggregator_or_none};
 ghost use Rattle.distributor.specs.Calls.{PicksIndexes};
 ghost use Rattle.lagtypes.specs.declared.identifiers.AggId.{AggId};
 ghost use Rattle.lagsystem.specs.declared.fault.SystemFault.{SystemFault};
 ghost use Rattle.lagffi.specs.Algorithms.{gives_by};
 ghost use Rattle.lagffi.specs.Asking.{OffersToHeldSystem, ReadsHeldSystem};
-ghost use Rattle.lagffi.specs.Carrying.{OffersFrameInCarrier, OffersNumberInCarrier, aggregator_or_none, number_or_0};
+ghost use Rattle.lagffi.specs.Carrying.{OffersFrameInCarrier, OffersNumberInCarrier, number_or_0};
 ghost use Rattle.lagffi.specs.Holding.{held_value};
 ghost use Rattle.lagffi.specs.Numbers.{no_system, number, number_of, number_refused};
 
