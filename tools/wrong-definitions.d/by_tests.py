@@ -23,7 +23,7 @@ LOOKS = {
     "collector": ["tests_parts", "stored run", "tests_system", "tests_world"],
     "lagsystem": ["stored run", "tests_system", "tests_world"],
     "cables": ["tests_parts", "tests_world"],
-    "lagscript": ["tests_system", "tests_world", "tests_tool"],
+    "lagscript": ["lagexplain", "tests_system", "tests_world", "tests_tool"],
     "lagexplain": ["lagexplain", "tests_tool"],
     "lagworld": ["tests_world", "tests_tool"],
     "lagtool_words": ["lagtool_words"],
