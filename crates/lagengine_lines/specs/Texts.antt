@@ -77,17 +77,7 @@ reason_name reason.Conversations = codes "conversations"
 -- behind the name of a fault: why a configuration is refused
 abbrev pub reason_behind : SystemFault → List ℕ
 reason_behind (system.BadConfig reason) = 32 ∷ reason_name reason
-reason_behind system.NoPort = []
-reason_behind system.NoAggregator = []
-reason_behind system.FrameLength = []
-reason_behind system.SlowFrame = []
-reason_behind system.Held = []
-reason_behind system.NoneDistributing = []
-reason_behind system.NotDistributing = []
-reason_behind system.SamePort = []
-reason_behind system.NotAssigned = []
-reason_behind system.MarkersSpent = []
-reason_behind system.NoMemory = []
+reason_behind other = []
 
 -- refused NUMBER NAME, and the reason of a configuration
 abbrev pub refused_text : SystemFault → List ℕ

@@ -112,17 +112,7 @@ impl fmt::Display for ReasonBehind {
     fn fmt<W: fmt::Write>(&self, f: &mut fmt::Formatter<W>) -> fmt::Result {
         match self.0 {
             SystemFault::BadConfig(reason) => write!(f, " {}", ReasonName(reason)),
-            SystemFault::NoPort
-            | SystemFault::NoAggregator
-            | SystemFault::FrameLength
-            | SystemFault::SlowFrame
-            | SystemFault::Held
-            | SystemFault::NoneDistributing
-            | SystemFault::NotDistributing
-            | SystemFault::SamePort
-            | SystemFault::NotAssigned
-            | SystemFault::MarkersSpent
-            | SystemFault::NoMemory => f.write_str(""),
+            _ => f.write_str(""),
         }
     }
 }
