@@ -20,7 +20,8 @@ use Rattle.lagworld.specs.State.{HalfState, ItemValue, LinkState, WorldState, cu
 use Rattle.lagworld.specs.State.{with_links, with_towards}
 use Rattle.lagworld.specs.HalfCalls.{HalfAnswers, HalfTicks, forced_if_accepted, or_refused, with_changes_counted}
 use Rattle.lagworld.specs.Events.{Algorithms, DeliversFrom, DoesEvent, InHalf, LosesFrom, OnLink, RepeatsFrom, RepeatsItem, WorldEmits}
-use Rattle.lagworld.specs.Events.{WorldOffers, WorldReceives, cable_named, has_cable, has_system, side_of, system_named, with_link_at}
+use Rattle.lagworld.specs.Events.{WorldOffers, WorldReceives, has_cable, has_system, side_of, with_link_at}
+use Rattle.lagscript.specs.EventValues.{cable_named, system_named}
 use Rattle.lagworld.specs.ModelWorld.{link_ends}
 use Rattle.lagworld.specs.Sound.{AreItems}
 

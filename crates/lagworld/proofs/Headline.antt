@@ -9,7 +9,8 @@ use Rattle.lagscript.specs.declared.event.Event.TheVariants as event
 use Rattle.lagworld.specs.declared.reply.Reply.{Reply}
 use Rattle.lagworld.specs.State.{WorldState}
 use Rattle.lagworld.specs.Events.{Algorithms, WorldSteps, WorldRuns, cause, first_event_cause, has_cable, has_system}
-use Rattle.lagworld.specs.Events.{cable_named, system_named, most_events}
+use Rattle.lagscript.specs.EventValues.{cable_named, system_named}
+use Rattle.lagworld.specs.Events.{most_events}
 use Rattle.lagworld.specs.Headline.{Headline, HoldsAllTheWay, LimitsHoldOnTheWay}
 use Rattle.lagworld.specs.Sound.{IsSound}
 use Rattle.lagworld.proofs.Effects.{named}

@@ -16,6 +16,7 @@ use Rattle.lagsystem.specs.declared.drive.Reply.TheVariants as answer
 use Rattle.lagsystem.specs.declared.fault.SystemFault.{SystemFault}
 use Rattle.lagsystem.specs.Calls.{Receive, Transmit, Offer}
 use Rattle.lagsystem.specs.Readers.{number_of_conversation}
+use Rattle.lagscript.specs.EventValues.{cable_named, system_named}
 use Rattle.lagscript.specs.declared.event.Event.{Event}
 use Rattle.lagscript.specs.declared.event.Event.TheVariants as event
 use Rattle.lagworld.specs.declared.reply.Reply.{Reply}
@@ -221,32 +222,6 @@ WorldRuns gives old (e ∷ es) [] new = ⊥
 -- the most events that may act in a world
 abbrev pub most_events : ℕ
 most_events = 9223372036854775808
-
--- the number of the cable that an event names, if it names one
-abbrev pub cable_named : Event → Option ℕ
-cable_named (event.Deliver c n) = Some c
-cable_named (event.Lose c n) = Some c
-cable_named (event.Repeat c n) = Some c
-cable_named (event.Cut c) = Some c
-cable_named (event.Join c) = Some c
-cable_named (event.Sense c n) = Some c
-cable_named _ = None
-
--- the number of the system that an event names, if it names one
-abbrev pub system_named : Event → Option ℕ
-system_named (event.Tick n count) = Some n
-system_named (event.Emit n p) = Some n
-system_named (event.Deliver c n) = Some n
-system_named (event.Lose c n) = Some n
-system_named (event.Repeat c n) = Some n
-system_named (event.Cut c) = None
-system_named (event.Join c) = None
-system_named (event.Sense c n) = Some n
-system_named (event.Restart n) = Some n
-system_named (event.Configure n p change) = Some n
-system_named (event.Offer n agg octets) = Some n
-system_named (event.Move n agg conv p) = Some n
-system_named (event.Force n agg conv) = Some n
 
 -- the cable with this number exists; true if there is no number
 abbrev pub has_cable : WorldState → Option ℕ → Bool

@@ -1,5 +1,5 @@
 -- Which events may be refused for memory (profile).
-use Rattle.std.specs.Prelude.{◌≡◌, ℕ, true}
+use Rattle.std.specs.Prelude.{◌≡◌, ◌↔◌, ℕ, true}
 use Rattle.std.specs.Global.{Vec}
 use Rattle.lagtypes.specs.declared.identifiers.AggId.{AggId}
 use Rattle.lagscript.specs.declared.event.Event.{Event}
@@ -13,6 +13,6 @@ pub data HandlesFrames : Event → Type 0 where
   repeat : (cable system : ℕ) → HandlesFrames (event.Repeat cable system)
   offer : (system : ℕ) (agg : AggId) (frame : Vec ℕ) → HandlesFrames (event.Offer system agg frame)
 
--- an event that may take memory is of these four kinds, so no other is refused for memory, whatever it names
-abbrev pub FourMayTakeMemory : Type 0
-FourMayTakeMemory = (e : Event) → may_take_memory e ≡ true → HandlesFrames e
+-- the events that may take memory are those of these four kinds; so no other is refused for memory, whatever it names
+abbrev pub MayTakeMemory : Type 0
+MayTakeMemory = (e : Event) → (may_take_memory e ≡ true) ↔ HandlesFrames e

@@ -9,7 +9,7 @@ ghost use Rattle.lagworld.specs.WorldCalls.{WorldMoves, WorldSenses, WorldTicks,
 ghost use Rattle.lagworld.specs.Messages.{side_numbered};
 ghost use Rattle.lagworld.specs.Sound.{IsSound, both_algorithms};
 
-use crate::causes::{Side, cable_named, has_system, side_numbered, system_named};
+use crate::causes::{Side, has_system, side_numbered};
 use crate::fault::WorldFault;
 use crate::half::Half;
 use crate::link::{Link, cut_at, join_at, link_status};
@@ -48,8 +48,8 @@ impl<C: Cable, F: Fn(u16, usize) -> usize + Drop> Inner<C, F> {
     fn cause(&self, event: &Event) -> Option<WorldFault>
         ensures { result ≡ cause (world_state C.items C.limit self.now) event.now }
     {
-        let cable = self.has_cable(cable_named(event));
-        let system = has_system(system_named(event));
+        let cable = self.has_cable(event.cable());
+        let system = has_system(event.system());
         WorldFault::first_of_event(cable, system, self.acted >= MOST_EVENTS)
     }
 

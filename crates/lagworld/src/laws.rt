@@ -60,11 +60,11 @@ pub fn each_event_has_one_reply<F: Fn(u16, usize) -> usize>()
 {}
 
 ghost use Rattle.std.specs.Prelude.{◌^◌};
-ghost use Rattle.lagworld.specs.Limits.{FourMayTakeMemory};
+ghost use Rattle.lagworld.specs.Limits.{MayTakeMemory};
 
 /// The most events that may act in a world are 2^63, and only Emit, Deliver, Repeat and Offer may be refused for memory
 /// (profile).
 pub fn events_have_limits()
     ensures most { most_events ≡ 2 ^ 63 }
-    ensures memory { FourMayTakeMemory }
+    ensures memory { MayTakeMemory }
 {}

@@ -13,8 +13,14 @@ of_four (event.Repeat cable system) h = repeat cable system
 of_four (event.Offer system agg frame) h = offer system agg frame
 of_four _ h = absurd (false≢true h)
 
+takes : (e : Event) → HandlesFrames e → may_take_memory e ≡ true
+takes _ (emit system port) = refl
+takes _ (deliver cable system) = refl
+takes _ (repeat cable system) = refl
+takes _ (offer system agg frame) = refl
+
 pub returns-clause-most : goal.returns-clause-most
 returns-clause-most c = refl
 
 pub returns-clause-memory : goal.returns-clause-memory
-returns-clause-memory c = of_four
+returns-clause-memory c = λ e. (of_four e, takes e)
