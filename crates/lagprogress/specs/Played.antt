@@ -11,7 +11,8 @@ use Rattle.lagworld.specs.declared.fault.WorldFault.TheVariants.{NoCable, NoMemo
 use Rattle.lagworld.specs.declared.reply.Reply.{Reply}
 use Rattle.lagworld.specs.declared.reply.Reply.TheVariants as reply
 use Rattle.lagworld.specs.Agreement.{agreement_at}
-use Rattle.lagworld.specs.Events.{Algorithms, WorldRuns, cable_named, has_system, most_events, system_named}
+use Rattle.lagscript.specs.EventValues.{cable_named, system_named}
+use Rattle.lagworld.specs.Events.{Algorithms, WorldRuns, has_system, most_events}
 use Rattle.lagworld.specs.Making.{IsMade, refusal_with}
 use Rattle.lagworld.specs.Sound.{IsStart}
 use Rattle.lagworld.specs.State.{LinkState, WorldState, half}

@@ -3,19 +3,16 @@ use Rattle.std.proofs.Common.{◌≡◌, ◌==◌, ◌+◌, ◌≤◌, ℕ, suc,
 use Rattle.std.proofs.Common.{sym, ap, ◌∙◌, subst, if◌then◌else◌}
 use Rattle.std.specs.Prelude.{◌&&◌, ◌||◌, Result, Ok, Err, codes, is_some, nat_le, option_and_then}
 use Rattle.std.specs.List.{list_all}
-use Rattle.std.specs.Str.{bytes_eq}
 use Rattle.std.proofs.lemmas.Bool.{true≢false}
 use Rattle.std.proofs.lemmas.Bool.Decides.{nat_tests}
 use Rattle.std.proofs.lemmas.List.{length-map}
 use Rattle.std.proofs.lemmas.Option.{none-some, same_Some}
 use Rattle.toml.specs.Data.{Data, Members, as_str, get_member}
 use Rattle.lagmodel.specs.World.{One, Two}
-use Rattle.lagscript.specs.EventValues.{EventValue, event_value, event_values, tick, emit, deliver, lose, repeat, cut, join, sense}
-use Rattle.lagscript.specs.EventValues.{restart, configure, offer, move_to, force}
-use Rattle.lagscript.specs.Entries.{WordReader, event_at, event_in, event_of_words, events_from, at_entry, cable_word, configure_event}
-use Rattle.lagscript.specs.Entries.{with_five_words, five_words, with_four_words, four_words, hex_word, aggregation_word, number_word}
-use Rattle.lagscript.specs.Entries.{with_one_word, one_word, frameless_event_named, system_word, with_three_words, three_words}
-use Rattle.lagscript.specs.Entries.{ticks_word, with_two_words, two_words}
+use Rattle.lagscript.specs.EventValues.{EntryForm, EventValue, WordValue, system, cable, number, aggregation, octets, event_value}
+use Rattle.lagscript.specs.EventValues.{event_values, cable_said, system_said, first_said, or_number}
+use Rattle.lagscript.specs.Entries.{event_at, event_in, event_of_form, event_of_form_if_any, event_of_words, events_from, at_entry, form_named}
+use Rattle.lagscript.specs.Entries.{aggregation_word, cable_word, hex_word, number_word, system_word, ticks_word, word_value, words_said}
 use Rattle.lagscript.specs.Configs.{refusal_of_all}
 use Rattle.lagscript.specs.Keys.{keys_among, list_in, value_at, value_or}
 use Rattle.lagscript.specs.Readings.{◌>>=◌, each_at_place, or_fault, if_or_fault}
@@ -24,10 +21,11 @@ use Rattle.lagscript.specs.Scripts.{plan_value, planned, systems_in, top_keys, u
 use Rattle.lagscript.specs.Words.{words_of}
 use Rattle.lagscript.specs.declared.plan.Plan.{Plan}
 use Rattle.lagscript.specs.declared.event.Event.{Event}
-use Rattle.lagscript.specs.declared.event.Event.TheVariants as event
 use Rattle.lagscript.specs.declared.fault.EntryFault.{EntryFault}
 use Rattle.lagscript.specs.declared.fault.ScriptFault.{ScriptFault}
 use Rattle.lagscript.specs.declared.fault.ScriptFault.TheVariants as script
+use Rattle.lagscript.specs.declared.forms.WordKind.{WordKind}
+use Rattle.lagscript.specs.declared.forms.WordKind.TheVariants.{System, Ticks, Cable, Number, Aggregation, Octets}
 use Rattle.lagworld.specs.Events.{has_system, most_events}
 use Rattle.lagtool_jobs.specs.Naming.{AllNameExisting, is_cable, names_existing}
 
@@ -51,36 +49,13 @@ unless_ok : {A E : Type 0} (b : Bool) (fault : E) (r : Result A E) (y : A) → i
 unless_ok true fault r y e = (refl, e)
 unless_ok false fault r y e = absurd (let h = e in cc)
 
+-- a word names only a cable of this many, and only system 1 or 2
+abbrev word_names : ℕ → WordValue → Bool
+word_names cables w = is_cable cables (cable_said w) && has_system (system_said w)
+
 -- what an act names
 abbrev act_names : ℕ → EventValue → Bool
-act_names cables (tick s n) = has_system (Some s)
-act_names cables (emit s port) = has_system (Some s)
-act_names cables (deliver c s) = is_cable cables (Some c) && has_system (Some s)
-act_names cables (lose c s) = is_cable cables (Some c) && has_system (Some s)
-act_names cables (repeat c s) = is_cable cables (Some c) && has_system (Some s)
-act_names cables (cut c) = is_cable cables (Some c) && true
-act_names cables (join c) = is_cable cables (Some c) && true
-act_names cables (sense c s) = is_cable cables (Some c) && has_system (Some s)
-act_names cables (restart s) = has_system (Some s)
-act_names cables (configure s port change) = has_system (Some s)
-act_names cables (offer s agg frame) = has_system (Some s)
-act_names cables (move_to s agg conv port) = has_system (Some s)
-act_names cables (force s agg conv) = has_system (Some s)
-
-same_names : (cables : ℕ) (e : Event) → act_names cables (event_value e) ≡ names_existing cables e
-same_names cables (event.Tick s n) = refl
-same_names cables (event.Emit s port) = refl
-same_names cables (event.Deliver c s) = refl
-same_names cables (event.Lose c s) = refl
-same_names cables (event.Repeat c s) = refl
-same_names cables (event.Cut c) = refl
-same_names cables (event.Join c) = refl
-same_names cables (event.Sense c s) = refl
-same_names cables (event.Restart s) = refl
-same_names cables (event.Configure s port change) = refl
-same_names cables (event.Offer s agg frame) = refl
-same_names cables (event.Move s agg conv port) = refl
-same_names cables (event.Force s agg conv) = refl
+act_names cables act = is_cable cables (first_said cable_said act.words) && has_system (first_said system_said act.words)
 
 -- ---- words
 
@@ -104,116 +79,78 @@ cable_ok cables w c e =
 both : (a b : Bool) → a ≡ true → b ≡ true → (a && b) ≡ true
 both a b e f = ap (λ x. x && b) e ∙ f
 
+halves : (a b : Bool) → (a && b) ≡ true → (a ≡ true) × (b ≡ true)
+halves true b k = (refl, k)
+halves false b k = absurd (true≢false (sym k))
+
 -- ---- entries
 
-abbrev Named : ℕ → EventValue → Type 0
-Named cables act = act_names cables act ≡ true
+-- a word that was read
+said_ok : {A : Type 0} (P : WordValue → Type 0) (r : Result A EntryFault) (make : A → WordValue) (said : WordValue)
+    → ((x : A) → r ≡ Ok x → P (make x)) → (r >>= λ x. Ok (make x)) ≡ Ok said → P said
+said_ok P r make said h e =
+    let x = bind_ok r _ said e in
+    subst P (same_ok (make x.0) said x.2) (h x.0 x.1)
 
--- an entry of words of which the first two say what it names
-one_ok : {A : Type 0} (Q : EventValue → Type 0) (f : WordReader A) (make : A → EventValue) (ws : List (List ℕ)) (act : EventValue)
-    → ((v : List ℕ) (x : A) → f v ≡ Ok x → Q (make x)) → with_one_word f make ws ≡ Ok act → Q act
-one_ok Q f make ws act h e =
-    let w = bind_ok (one_word ws) _ act e in
-    let a = bind_ok (f w.0) _ act w.2 in
-    subst Q (same_ok (make a.0) act a.2) (h w.0 a.0 a.1)
+word_ok : (cables : ℕ) (kind : WordKind) (w : List ℕ) (said : WordValue) → word_value cables kind w ≡ Ok said → word_names cables said ≡ true
+word_ok cables System w said = said_ok (λ v. word_names cables v ≡ true) (system_word w) system said (λ n e. system_ok w n e)
+word_ok cables Ticks w said = said_ok (λ v. word_names cables v ≡ true) (ticks_word w) number said (λ n e. refl)
+word_ok cables Cable w said = said_ok (λ v. word_names cables v ≡ true) (cable_word cables w) cable said
+    (λ n e. both (is_cable cables (Some n)) true (cable_ok cables w n e) refl)
+word_ok cables Number w said = said_ok (λ v. word_names cables v ≡ true) (number_word w) number said (λ n e. refl)
+word_ok cables Aggregation w said = said_ok (λ v. word_names cables v ≡ true) (aggregation_word w) aggregation said (λ b e. refl)
+word_ok cables Octets w said = said_ok (λ v. word_names cables v ≡ true) (hex_word w) octets said (λ os e. refl)
 
-two_ok : {A B : Type 0} (Q : EventValue → Type 0) (f : WordReader A) (g : WordReader B) (make : A → B → EventValue)
-    (ws : List (List ℕ)) (act : EventValue)
-    → ((u v : List ℕ) (x : A) (y : B) → f u ≡ Ok x → g v ≡ Ok y → Q (make x y)) → with_two_words f g make ws ≡ Ok act → Q act
-two_ok Q f g make ws act h e =
-    let w = bind_ok (two_words ws) _ act e in
-    let a = bind_ok (f w.0.0) _ act w.2 in
-    let b = bind_ok (g w.0.1) _ act a.2 in
-    subst Q (same_ok (make a.0 b.0) act b.2) (h w.0.0 w.0.1 a.0 b.0 a.1 b.1)
+said_all : (cables : ℕ) (kinds : List WordKind) (ws : List (List ℕ)) (said : List WordValue) → words_said cables kinds ws ≡ Ok said
+    → list_all (word_names cables) said ≡ true
+said_all cables (kind ∷ kinds) (w ∷ ws) said e =
+    let first = bind_ok (word_value cables kind w) _ said e in
+    let rest = bind_ok (words_said cables kinds ws) _ said first.2 in
+    subst (λ xs. list_all (word_names cables) xs ≡ true) (same_ok (first.0 ∷ rest.0) said rest.2)
+    (both (word_names cables first.0) (list_all (word_names cables) rest.0) (word_ok cables kind w first.0 first.1)
+    (said_all cables kinds ws rest.0 rest.1))
+said_all cables [] ws said e = subst (λ xs. list_all (word_names cables) xs ≡ true) (same_ok [] said e) refl
+said_all cables (kind ∷ kinds) [] said e = subst (λ xs. list_all (word_names cables) xs ≡ true) (same_ok [] said e) refl
 
-three_ok : {A B C : Type 0} (Q : EventValue → Type 0) (f : WordReader A) (g : WordReader B) (h : WordReader C) (make : A → B → C
-    → EventValue) (ws : List (List ℕ)) (act : EventValue)
-    → ((u : List ℕ) (x : A) (y : B) (z : C) → f u ≡ Ok x → Q (make x y z)) → with_three_words f g h make ws ≡ Ok act → Q act
-three_ok Q f g h make ws act q e =
-    let w = bind_ok (three_words ws) _ act e in
-    let a = bind_ok (f w.0.0) _ act w.2 in
-    let b = bind_ok (g w.0.1) _ act a.2 in
-    let c = bind_ok (h w.0.2) _ act b.2 in
-    subst Q (same_ok (make a.0 b.0 c.0) act c.2) (q w.0.0 a.0 b.0 c.0 a.1)
+-- the first that f gives is as all that it gives
+first_ok : (P : Option ℕ → Bool) (f : WordValue → Option ℕ) (said : List WordValue) → P None ≡ true
+    → list_all (λ w. P (f w)) said ≡ true → P (first_said f said) ≡ true
+first_ok P f [] none all = none
+first_ok P f (w ∷ ws) none all =
+    let parts = halves (P (f w)) (list_all (λ v. P (f v)) ws) all in
+    one (f w) (first_said f ws) parts.0 (first_ok P f ws none parts.1)
+  where
+    one : (o other : Option ℕ) → P o ≡ true → P other ≡ true → P (or_number o other) ≡ true
+    one None other h g = g
+    one (Some n) other h g = h
 
-four_ok : {A B C D : Type 0} (Q : EventValue → Type 0) (f : WordReader A) (g : WordReader B) (h : WordReader C) (i : WordReader D) (make : A
-    → B → C → D → EventValue) (ws : List (List ℕ)) (act : EventValue)
-    → ((u : List ℕ) (x : A) (y : B) (z : C) (t : D) → f u ≡ Ok x → Q (make x y z t)) → with_four_words f g h i make ws ≡ Ok act → Q act
-four_ok Q f g h i make ws act q e =
-    let w = bind_ok (four_words ws) _ act e in
-    let a = bind_ok (f w.0.0) _ act w.2 in
-    let b = bind_ok (g w.0.1) _ act a.2 in
-    let c = bind_ok (h w.0.2) _ act b.2 in
-    let d = bind_ok (i w.0.3) _ act c.2 in
-    subst Q (same_ok (make a.0 b.0 c.0 d.0) act d.2) (q w.0.0 a.0 b.0 c.0 d.0 a.1)
+-- each of two tests of words that are true together
+each_all : (f g : WordValue → Bool) (said : List WordValue) → list_all (λ w. f w && g w) said ≡ true
+    → (list_all f said ≡ true) × (list_all g said ≡ true)
+each_all f g [] all = (refl, refl)
+each_all f g (w ∷ ws) all =
+    let parts = halves (f w && g w) (list_all (λ v. f v && g v) ws) all in
+    let here = halves (f w) (g w) parts.0 in
+    let rest = each_all f g ws parts.1 in
+    (both (f w) (list_all f ws) here.0 rest.0, both (g w) (list_all g ws) here.1 rest.1)
 
-five_ok : {A B C D E : Type 0} (Q : EventValue → Type 0) (f : WordReader A) (g : WordReader B) (h : WordReader C) (i : WordReader D)
-    (j : WordReader E) (make : A → B → C → D → E → EventValue) (ws : List (List ℕ)) (act : EventValue)
-    → ((u : List ℕ) (x : A) (y : B) (z : C) (t : D) (s : E) → f u ≡ Ok x → Q (make x y z t s))
-    → with_five_words f g h i j make ws ≡ Ok act → Q act
-five_ok Q f g h i j make ws act q e =
-    let w = bind_ok (five_words ws) _ act e in
-    let a = bind_ok (f w.0.0) _ act w.2 in
-    let b = bind_ok (g w.0.1) _ act a.2 in
-    let c = bind_ok (h w.0.2) _ act b.2 in
-    let d = bind_ok (i w.0.3) _ act c.2 in
-    let k = bind_ok (j w.0.4) _ act d.2 in
-    subst Q (same_ok (make a.0 b.0 c.0 d.0 k.0) act k.2) (q w.0.0 a.0 b.0 c.0 d.0 k.0 a.1)
+form_ok : (cables : ℕ) (f : EntryForm) (ws : List (List ℕ)) (act : EventValue) → event_of_form cables f ws ≡ Ok act → act_names cables act ≡ true
+form_ok cables f ws act e =
+    let held = unless_ok (length ws == length f.kinds) _ _ act e in
+    let said = bind_ok (words_said cables f.kinds ws) _ act held.1 in
+    let each = each_all (λ w. is_cable cables (cable_said w)) (λ w. has_system (system_said w)) said.0
+    (said_all cables f.kinds ws said.0 said.1) in
+    subst (λ x. act_names cables x ≡ true) (same_ok (record { name = f.name; words = said.0 }) act said.2)
+    (both (is_cable cables (first_said cable_said said.0)) (has_system (first_said system_said said.0))
+    (first_ok (is_cable cables) cable_said said.0 refl each.0) (first_ok has_system system_said said.0 refl each.1))
 
--- one of two readings of words
-abbrev Reading : Type 0
-Reading = List (List ℕ) → Result EventValue EntryFault
-
-either : (b : Bool) (f g : Reading) (ws : List (List ℕ)) (act : EventValue) (P : Type 0) → (f ws ≡ Ok act → P) → (g ws ≡ Ok act → P)
-    → (if b then f else g) ws ≡ Ok act → P
-either true f g ws act P x y = x
-either false f g ws act P x y = y
-
-on_cable : (cables : ℕ) (make : ℕ → ℕ → EventValue)
-    → ((c s : ℕ) → act_names cables (make c s) ≡ (is_cable cables (Some c) && has_system (Some s)))
-    → (ws : List (List ℕ)) (act : EventValue) → with_two_words (cable_word cables) system_word make ws ≡ Ok act → Named cables act
-on_cable cables make names ws act =
-    two_ok (Named cables) (cable_word cables) system_word make ws act
-    (λ u v c s e f. names c s ∙ both (is_cable cables (Some c)) (has_system (Some s)) (cable_ok cables u c e) (system_ok v s f))
-
-cable_alone : (cables : ℕ) (make : ℕ → EventValue) → ((c : ℕ) → act_names cables (make c) ≡ (is_cable cables (Some c) && true))
-    → (ws : List (List ℕ)) (act : EventValue) → with_one_word (cable_word cables) make ws ≡ Ok act → Named cables act
-cable_alone cables make names ws act = one_ok (Named cables) (cable_word cables) make ws act (λ u c e. names c
-    ∙ both (is_cable cables (Some c)) true (cable_ok cables u c e) refl)
-
-plain_ok : (cables : ℕ) (name : List ℕ) (ws : List (List ℕ)) (act : EventValue)
-    → frameless_event_named cables name ws ≡ Ok act → Named cables act
-plain_ok cables name ws act =
-    either (bytes_eq name (codes "tick")) _ _ ws act (Named cables act)
-    (two_ok (Named cables) system_word ticks_word tick ws act (λ u v s n e f. system_ok u s e))
-    (either (bytes_eq name (codes "emit")) _ _ ws act (Named cables act)
-    (two_ok (Named cables) system_word number_word emit ws act (λ u v s p e f. system_ok u s e))
-    (either (bytes_eq name (codes "deliver")) _ _ ws act (Named cables act) (on_cable cables deliver (λ c s. refl) ws act)
-    (either (bytes_eq name (codes "lose")) _ _ ws act (Named cables act) (on_cable cables lose (λ c s. refl) ws act)
-    (either (bytes_eq name (codes "repeat")) _ _ ws act (Named cables act) (on_cable cables repeat (λ c s. refl) ws act)
-    (either (bytes_eq name (codes "cut")) _ _ ws act (Named cables act) (cable_alone cables cut (λ c. refl) ws act)
-    (either (bytes_eq name (codes "join")) _ _ ws act (Named cables act) (cable_alone cables join (λ c. refl) ws act)
-    (either (bytes_eq name (codes "sense")) _ _ ws act (Named cables act) (on_cable cables sense (λ c s. refl) ws act)
-    (either (bytes_eq name (codes "restart")) _ _ ws act (Named cables act)
-    (one_ok (Named cables) system_word restart ws act (λ u s e. system_ok u s e))
-    (either (bytes_eq name (codes "configure")) _ _ ws act (Named cables act)
-    (five_ok (Named cables) system_word number_word number_word number_word aggregation_word configure_event ws act
-    (λ u s p k i b e. system_ok u s e))
-    (either (bytes_eq name (codes "move")) _ _ ws act (Named cables act)
-    (four_ok (Named cables) system_word number_word number_word number_word move_to ws act (λ u s g k p e. system_ok u s e))
-    (either (bytes_eq name (codes "force")) _ _ ws act (Named cables act)
-    (three_ok (Named cables) system_word number_word number_word force ws act (λ u s g k e. system_ok u s e))
-    (λ e. absurd (let h = e in cc)))))))))))))
-
-named_ok : (b : Bool) (cables : ℕ) (name : List ℕ) (ws : List (List ℕ)) (act : EventValue)
-    → (if b then with_three_words system_word number_word hex_word offer ws else frameless_event_named cables name ws) ≡ Ok act
-    → Named cables act
-named_ok true cables name ws act = three_ok (Named cables) system_word number_word hex_word offer ws act (λ u s g o e. system_ok u s e)
-named_ok false cables name ws act = plain_ok cables name ws act
-
-words_ok : (cables : ℕ) (ws : List (List ℕ)) (act : EventValue) → event_of_words cables ws ≡ Ok act → Named cables act
+words_ok : (cables : ℕ) (ws : List (List ℕ)) (act : EventValue) → event_of_words cables ws ≡ Ok act → act_names cables act ≡ true
 words_ok cables [] act e = absurd (let h = e in cc)
-words_ok cables (name ∷ ws) act e = named_ok (bytes_eq name (codes "offer")) cables name ws act e
+words_ok cables (name ∷ ws) act e = by (form_named name) e
+  where
+    by : (o : Option EntryForm) → event_of_form_if_any cables o ws ≡ Ok act → act_names cables act ≡ true
+    by None h = absurd (let k = h in cc)
+    by (Some f) h = form_ok cables f ws act h
 
 entry_ok : {A : Type 0} (place : ℕ) (r : Result A EntryFault) (x : A) → at_entry place r ≡ Ok x → r ≡ Ok x
 entry_ok place (Ok y) x e = ap (good EntryFault) (same_ok y x e)
@@ -267,12 +204,8 @@ events_named : (cables : ℕ) (es : List Event) → list_all (act_names cables) 
 events_named cables [] h = refl
 events_named cables (e ∷ es) h =
     let parts = halves (act_names cables (event_value e)) (list_all (act_names cables) (event_values es)) h in
-    both (names_existing cables e) (list_all (names_existing cables) es) (sym (same_names cables e) ∙ parts.0)
+    both (names_existing cables e) (list_all (names_existing cables) es) parts.0
     (events_named cables es parts.1)
-  where
-    halves : (a b : Bool) → (a && b) ≡ true → (a ≡ true) × (b ≡ true)
-    halves true b k = (refl, k)
-    halves false b k = absurd (true≢false (sym k))
 
 -- the events of a plan name nothing but what there is
 pub plan_names : (text : List ℕ) (plan : Plan) → HasPlan text (plan_value plan)

@@ -14,8 +14,9 @@ use Rattle.lagsystem.specs.First.{or_first}
 use Rattle.lagscript.specs.declared.config.BadWorld.{BadWorld}
 use Rattle.lagscript.specs.declared.config.BadWorld.TheVariants.{Lines}
 use Rattle.lagscript.specs.declared.event.Event.{Event}
-use Rattle.lagworld.specs.Events.{Algorithms, WorldRuns, cable_named, cause, cause_or_no_memory, first_event_cause, has_cable}
-use Rattle.lagworld.specs.Events.{has_system, most_events, system_named}
+use Rattle.lagscript.specs.EventValues.{cable_named, system_named}
+use Rattle.lagworld.specs.Events.{Algorithms, WorldRuns, cause, cause_or_no_memory, first_event_cause, has_cable}
+use Rattle.lagworld.specs.Events.{has_system, most_events}
 use Rattle.lagworld.specs.Making.{RefusesToMake, are_empty_lines, first_link, has_empty_directions}
 use Rattle.lagworld.specs.Messages.{item_value}
 use Rattle.lagworld.specs.Sound.{RefusesNext, RunStops, next_of}

@@ -6,7 +6,7 @@ pub mod Verdicts
 pub mod CheckReport
 pub mod Scans
 pub mod CheckEnds
-pub mod EntryTexts
+pub mod ReplyTexts
 pub mod Naming
 pub mod Offered
 pub mod ReplayReport

@@ -2,7 +2,8 @@
 use Rattle.std.specs.Prelude.{◌≡◌, ℕ, ◌&&◌, Bool, true, List, Option, Some, None, nat_le}
 use Rattle.std.specs.List.{list_all}
 use Rattle.lagscript.specs.declared.event.Event.{Event}
-use Rattle.lagworld.specs.Events.{cable_named, has_system, system_named}
+use Rattle.lagscript.specs.EventValues.{cable_named, system_named}
+use Rattle.lagworld.specs.Events.{has_system}
 
 -- the number, if there is one, is that of one of this many cables, which are numbered from 1
 abbrev pub is_cable : ℕ → Option ℕ → Bool

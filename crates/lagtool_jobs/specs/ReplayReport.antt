@@ -19,7 +19,8 @@ use Rattle.lagworld.specs.Sound.{IsSound}
 use Rattle.lagworld.specs.State.{WorldState, LinkState, FlowValue, collected_in, forced_in, sent_in}
 use Rattle.lagworld.specs.declared.agreement.Agreement.{Agreement}
 use Rattle.lagworld.specs.declared.reply.Reply.{Reply}
-use Rattle.lagtool_jobs.specs.EntryTexts.{entry_text, agreement_text, reply_text}
+use Rattle.lagscript.specs.EntryTexts.{entry_text}
+use Rattle.lagtool_jobs.specs.ReplyTexts.{agreement_text, reply_text}
 use Rattle.lagstreams.specs.Sinks.{WritesPart, SinkState, WritesWhole}
 use Rattle.lagtool_jobs.specs.declared.fault.ToolFault.{ToolFault}
 use Rattle.lagtool_jobs.specs.declared.fault.ToolFault.TheVariants.{Read, Write, NoMemory, Script, NotHex, NotMac}

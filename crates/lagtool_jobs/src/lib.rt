@@ -8,7 +8,6 @@
 mod algorithm;
 mod checking;
 mod directions;
-mod entry_text;
 mod expectation;
 mod explaining;
 mod fault;
@@ -30,7 +29,6 @@ mod texts;
 mod verdict;
 
 pub use checking::{check, check_watched};
-pub use entry_text::EntryText;
 pub use expectation::Expectation;
 pub use explaining::{digits_text, script_text, unread_text, utf8_text};
 pub use fault::{FaultText, ToolFault};

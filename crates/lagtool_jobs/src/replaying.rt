@@ -11,7 +11,6 @@ ghost use Rattle.lagtool_jobs.specs.ReplaySteps.{AreCounts, counts_of, replay_re
 ghost use Rattle.lagtool_jobs.specs.declared.fault.ToolFault.TheVariants.{NoMemory};
 
 use crate::directions::all_directions;
-use crate::entry_text::EntryText;
 use crate::fault::ToolFault;
 use crate::flows::{Counts, push_flows};
 use crate::progress::{Unwatched, Watch};
@@ -34,12 +33,7 @@ fn push_entry(
 ) -> Result<(), AllocError>
     ensures { OnOk result (string_bytes text.new ≡ string_bytes text.old ++ entry_line number event.now reply) }
 {
-    write!(
-        text,
-        "{number} {} -> {}\n",
-        EntryText(event),
-        ReplyText(reply)
-    )
+    write!(text, "{number} {event} -> {}\n", ReplyText(reply))
 }
 
 /// Adds a line for each entry.

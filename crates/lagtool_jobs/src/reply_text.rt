@@ -1,8 +1,8 @@
 ghost use Rattle.std.specs.Prelude.{Some};
-ghost use Rattle.lagtool_jobs.specs.EntryTexts.{agreement_text, sent_or_lost_text, refused_text, reply_text};
+ghost use Rattle.lagtool_jobs.specs.ReplyTexts.{agreement_text, sent_or_lost_text, refused_text, reply_text};
 
-use crate::entry_text::OctetText;
 use bitflags::Flags;
+use lagscript::OctetText;
 use lagsystem::SystemFault;
 use lagworld::{Agreement, Reply};
 use std::fmt;

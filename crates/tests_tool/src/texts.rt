@@ -1,7 +1,7 @@
 use crate::telling::told;
 use bitflags::Flags;
 use lagsystem::{BadConfig, PortChange, SystemFault};
-use lagtool_jobs::{AgreementText, EntryText, ReplyText};
+use lagtool_jobs::{AgreementText, ReplyText};
 use lagtypes::{AggId, Key, State};
 use lagworld::{Agreement, Event, Reply};
 use std::alloc::{AllocError, Global};
@@ -44,7 +44,7 @@ fn entries(alloc: Global) -> Result<[(Event, &'static str); 14], AllocError> {
 fn each_event_has_its_entry(rt: HostRuntime) -> Result<(), Fail> {
     let rows = entries(rt.alloc())?;
     for (event, text) in rows.iter() {
-        told(&rt, EntryText(event), *text)?;
+        told(&rt, event, *text)?;
     }
     Ok(())
 }

@@ -1,8 +1,0 @@
-use Rattle.std.proofs.Common.{take}
-use Rattle.std.specs.Fmt.{HasWritten, IsPlainFormatter}
-use Rattle.lagtool_jobs.specs.EntryTexts.{frame_text}
-use Rattle.lagtool_jobs.proofs.entry_text.FrameTextDisplay.fmt.Given as goal
-
-abbrev pub invariant-loop-octet : goal.invariant-loop-octet
-invariant-loop-octet g l =
-    IsPlainFormatter l.initial.f → HasWritten g.W.Write.write_str_gives l.initial.f (frame_text (take l.octet-index l.octet-items)) l.f
