@@ -3,14 +3,7 @@ use Rattle.std.specs.Prelude.{ℕ, ◌++◌, Bool, List, ◌∷◌, codes, decim
 use Rattle.lagtypes.specs.Octet.{octet}
 use Rattle.lagtypes.specs.Texts.{hex_text}
 use Rattle.lagsystem.specs.declared.fault.SystemFault.{SystemFault}
-<<<<<<< ours
 use Rattle.lagsystem.specs.Faults.{fault_name, fault_number}
-use Rattle.lagscript.specs.EventValues.{EventValue, tick, emit, deliver, lose, repeat, cut, join, sense, restart, configure, offer}
-use Rattle.lagscript.specs.EventValues.{move_to, force}
-=======
-use Rattle.lagsystem.specs.Faults.{fault_number}
-use Rattle.lagsystem.specs.Texts.{fault_name}
->>>>>>> theirs
 use Rattle.lagworld.specs.declared.agreement.Agreement.{Agreement}
 use Rattle.lagworld.specs.declared.agreement.Agreement.TheVariants as agreement
 use Rattle.lagworld.specs.declared.reply.Reply.{Reply}
