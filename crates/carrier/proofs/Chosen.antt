@@ -1,5 +1,5 @@
 -- What follows of the aggregators that are chosen.
-use Rattle.std.proofs.Common.{◌≡◌, ◌≢◌, ◌⊎◌, ℕ, Bool, true, false, refl, sym, ap, ◌∙◌, subst, inl, inr, Option, None, Some, eqb, eqb-true, eq-eqb}
+use Rattle.std.proofs.Common.{◌≡◌, ◌≢◌, ◌⊎◌, Bool, true, false, refl, sym, ap, ◌∙◌, subst, inl, inr, Option, None, Some, eqb, eqb-true, eq-eqb}
 use Rattle.std.specs.Prelude.{not, ◌==◌}
 use Rattle.std.proofs.lemmas.Bool.{cases_Bool, eqb-false}
 use Rattle.std.proofs.lemmas.Option.{none-some, same_Some}
@@ -7,7 +7,7 @@ use Rattle.lagtypes.specs.declared.identifiers.AggId.{AggId}
 use Rattle.lagsystem.specs.State.{SystemState}
 use Rattle.lagsystem.specs.Readers.{aggregator_numbered}
 use Rattle.carrier.specs.declared.choosing.Rank.{Rank}
-use Rattle.carrier.specs.Choice.{Carries, IsAggregator, is_before, is_other, rank_in}
+use Rattle.carrier.specs.Choice.{Carries, IsAggregator, is_before, rank_in}
 use Rattle.carrier.specs.Ends.{Alike, HasMore, ShowTheSame}
 use Rattle.carrier.proofs.Best.{names}
 use Rattle.carrier.proofs.Ranks.{alike, has_more}

@@ -1,6 +1,6 @@
 -- A conversation number stays in one aggregator.
-use Rattle.std.proofs.Common.{◌≡◌, ◌≢◌, ◌⊎◌, ◌<◌, ◌≤◌, ◌-◌, ◌+◌, ◌^◌, ℕ, zero, suc, Bool, true, false, refl, sym, ap, ◌∙◌, subst, inl, inr, arith, List, [], ◌∷◌, length, Option, None, Some, Result, Ok, Err, eqb, eqb-true}
-use Rattle.std.specs.Prelude.{slice_get, nat_lt, nat_le, if◌then◌else◌, ◌&&◌, IfOk}
+use Rattle.std.proofs.Common.{◌≡◌, ◌≢◌, ◌⊎◌, ◌<◌, ◌-◌, ◌^◌, ℕ, zero, suc, Bool, true, false, refl, sym, ap, subst, inl, inr, arith, List, [], ◌∷◌, length, Option, None, Some, Result, Ok, Err, eqb, eqb-true}
+use Rattle.std.specs.Prelude.{slice_get, nat_lt, nat_le, if◌then◌else◌, IfOk}
 use Rattle.std.proofs.lemmas.Bool.{and_parts, cases_Bool, eqb-false}
 use Rattle.std.proofs.lemmas.Bool.Decides.{nat_tests}
 use Rattle.std.proofs.lemmas.Option.{none-some}
@@ -26,7 +26,7 @@ use Rattle.lagsystem.specs.Promises.{TablePromise}
 use Rattle.lagsystem.specs.Readers.{aggregator_numbered, conversation_count, conversation_in, number_of_conversation}
 use Rattle.lagsystem.specs.Sound.{CallPromise}
 use Rattle.lagsystem.specs.State.{SystemState}
-use Rattle.clientorder.specs.OneAggregator.{FreeElsewhere, InOneAggregator, NoneOnItsWayElsewhere, SendsNoFrame}
+use Rattle.clientorder.specs.OneAggregator.{FreeElsewhere, NoneOnItsWayElsewhere, SendsNoFrame}
 use Rattle.lagsystem.proofs.AssigningLemmas.{framed}
 use Rattle.lagsystem.proofs.FirstView.{first_shows}
 use Rattle.clientorder.proofs.Staying as staying

@@ -1,10 +1,9 @@
 -- Whether a conversation is On, Wanted or Flushing in another aggregator, as far as it was searched.
-use Rattle.std.proofs.Common.{◌≡◌, ◌≢◌, ◌⊎◌, ◌<◌, ◌≤◌, ◌+◌, ℕ, Bool, true, false, refl, sym, ap, subst, ◌∙◌, inl, inr, arith, eqb, eqb-true}
+use Rattle.std.proofs.Common.{◌≡◌, ◌≢◌, ◌≤◌, ◌+◌, ℕ, subst, ◌∙◌, inl, inr, arith, eqb, eqb-true}
 use Rattle.std.proofs.lemmas.Bool.{cases_Bool, eqb-false}
 use Rattle.lagtypes.specs.declared.identifiers.AggId.{AggId}
 use Rattle.lagmodel.specs.View.{Free}
 use Rattle.lagsystem.specs.ModelView.{model_view}
-use Rattle.lagsystem.specs.Readers.{aggregator_numbered}
 use Rattle.lagsystem.specs.State.{SystemState}
 use Rattle.carrier.specs.Offers.{IsElsewhere}
 

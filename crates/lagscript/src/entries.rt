@@ -1,4 +1,4 @@
-ghost use Rattle.std.specs.Prelude.{◌≡◌, ◌∷◌, [], ℕ, IfOk, codes, false, map, option_map, take};
+ghost use Rattle.std.specs.Prelude.{◌≡◌, ◌∷◌, [], ℕ, codes, false, map, option_map, take};
 ghost use Rattle.std.specs.Str.{bytes_eq};
 ghost use Rattle.lagscript.specs.Entries.{aggregation_word, cable_word, event_in, event_named, event_result_value, kinds_named};
 ghost use Rattle.lagscript.specs.Entries.{kinds_of_form, number_word, system_word, ticks_word};

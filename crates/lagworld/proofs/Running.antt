@@ -1,6 +1,6 @@
 -- What a sound world promises, and runs of events.
-use Rattle.std.proofs.Common.{◌≡◌, ◌<◌, ℕ, ◌+◌, ◌++◌, Option, Some, None, List, [], ◌∷◌, map, take, length, get_or, sym, refl, ap, ◌∙◌}
-use Rattle.std.proofs.Common.{subst, inl, inr, ◌⊎◌, true, Ok, Err, Result, IfOk, IfErr}
+use Rattle.std.proofs.Common.{◌≡◌, ◌<◌, ℕ, ◌+◌, ◌++◌, None, List, [], ◌∷◌, map, take, length, get_or, sym, refl, ap, ◌∙◌}
+use Rattle.std.proofs.Common.{subst, true, Ok, Err, Result, IfOk, IfErr}
 use Rattle.std.proofs.lemmas.List.{take_more, map-append}
 use Rattle.std.proofs.lemmas.Option.{slice_get-get_or}
 use Rattle.lagmodel.specs.World.{Side, World, WorldSetup, IsWorldSetup, Happens, Run}
@@ -14,7 +14,6 @@ use Rattle.lagsystem.proofs.FirstView.{configured_setup}
 use Rattle.lagscript.specs.declared.event.Event.{Event}
 use Rattle.lagworld.specs.declared.reply.Reply.{Reply}
 use Rattle.lagworld.specs.declared.fault.WorldFault.{WorldFault}
-use Rattle.lagworld.specs.declared.fault.WorldFault.TheVariants.{NoMemory}
 use Rattle.lagworld.specs.State.{WorldState, half}
 use Rattle.lagworld.specs.Events.{Algorithms, WorldSteps, WorldRuns, cause, cause_or_no_memory, may_take_memory, model_event}
 use Rattle.lagworld.specs.Sound.{IsSound, HeadlineFacts, RefusesNext, next_of}

@@ -1,4 +1,4 @@
-use Rattle.std.proofs.Common.{◌≡◌, ◌∙◌, ◌+◌, ◌≤◌, sym, subst, arith}
+use Rattle.std.proofs.Common.{◌+◌, ◌≤◌, sym, subst, arith}
 use Rattle.lagsystem.specs.Readers.{aggregator_numbered}
 use Rattle.carrier.specs.Choice.{Carries, IsAggregator}
 use Rattle.lagtypes.specs.declared.identifiers.AggId.{AggId}

@@ -1,4 +1,3 @@
-use Rattle.std.proofs.Common.{ℕ}
 use Rattle.carrier.proofs.Kept.{behind, first, kept}
 use Rattle.carrier.proofs.laws.each_call_keeps_one_aggregator.Goals as goal
 

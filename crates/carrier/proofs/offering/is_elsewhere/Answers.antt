@@ -1,4 +1,4 @@
-use Rattle.std.proofs.Common.{◌≡◌, ◌∙◌, ◌+◌, ◌≤◌, sym, refl, true, arith}
+use Rattle.std.proofs.Common.{◌∙◌, ◌+◌, ◌≤◌, sym, refl, true, arith}
 use Rattle.std.proofs.lemmas.Bool.{false≢true}
 use Rattle.lagsystem.specs.Readers.{aggregator_numbered}
 use Rattle.carrier.proofs.Searched.{none_more}

@@ -1,4 +1,4 @@
-use Rattle.std.proofs.Common.{◌≡◌, ◌⊎◌, ◌∙◌, None, arith, inr, map, take, subst, sym, true}
+use Rattle.std.proofs.Common.{◌≡◌, ◌∙◌, None, arith, inr, map, take, subst, sym, true}
 use Rattle.distributor.specs.Calls.{PicksIndexes}
 use Rattle.lagmodel.specs.World.{Run, Happens}
 use Rattle.lagscript.specs.declared.event.Event.{Event}
