@@ -101,7 +101,7 @@ def replaced(folder: str, pairs: list[Pair]) -> tuple[dict[str, str], dict[str, 
     now: dict[str, str] = {}
     for file, old, new in pairs:
         path = os.path.join(folder, file)
-        text = now.get(path) or (read(path) if os.path.isfile(path) else "")
+        text = now[path] if path in now else read(path) if os.path.isfile(path) else ""
         if text.count(old) != 1 and not (isinstance(old, Everywhere) and old in text):
             return {}, {}, f"the old text stands in {file} {text.count(old)} times: {old}"
         was.setdefault(path, text)
@@ -112,7 +112,8 @@ def replaced(folder: str, pairs: list[Pair]) -> tuple[dict[str, str], dict[str, 
 def apply(folder: str, pairs: list[Pair]) -> tuple[dict[str, str], str | None]:
     """Makes the replacements in a crate; answers the files as they were, or what is wrong with the edit."""
     was, now, wrong = replaced(folder, pairs)
-    restore(now)
+    for path, text in now.items():
+        write(path, text)
     return was, wrong
 
 

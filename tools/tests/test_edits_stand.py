@@ -1,4 +1,4 @@
-"""Each edit of the repository: its old texts stand once in their files, as they are today."""
+"""Each edit of the repository can be made: an old text stands once in its file, one of `everywhere:` at least once."""
 
 from __future__ import annotations
 

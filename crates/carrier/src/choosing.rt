@@ -1,7 +1,7 @@
 //! The choice of the aggregator that carries.
 ghost use Rattle.std.specs.Prelude.{◌≡◌, ◌≤◌, length, option_map};
 ghost use Rattle.lagtypes.specs.declared.identifiers.AggId.{AggId};
-ghost use Rattle.carrier.specs.Choice.{Carries, IsAggregator, better, is_before, is_other, lesser, rank_in};
+ghost use Rattle.carrier.specs.Choice.{Carries, IsAggregator, aggregator_or_none, better, is_before, is_other, lesser, rank_in};
 
 use lagsystem::{AggId, Group, System};
 use std::cmp::Reverse;
@@ -116,4 +116,14 @@ pub fn carrier<F: Fn(u16, usize) -> usize + Drop>(
         best = better(best, next);
     }
     aggregator_of(best)
+}
+
+/// The aggregator with this number; 0 is none, as for one that carried before (profile).
+pub fn aggregator_or_none(agg: u16) -> Option<AggId>
+    ensures { result ≡ aggregator_or_none agg }
+{
+    match agg {
+        0 => None,
+        _ => Some(AggId(agg)),
+    }
 }

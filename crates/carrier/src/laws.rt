@@ -50,9 +50,8 @@ ghost use Rattle.lagsystem.specs.Probing.{ProbesLawfully};
 ghost use Rattle.lagsystem.specs.Promises.{TablePromise};
 ghost use Rattle.lagsystem.specs.declared.fault.SystemFault.{SystemFault};
 
-/// Of the calls that `Call` does not name, `leave_conversation` and `probe` keep it, too: where a conversation number is On,
-/// Wanted or Flushing in one aggregator at most, it is so after each of them. The premises are their clauses `promise` and
-/// `lawful` (6.2.5, 6.5.3.3; profile).
+/// A conversation number that is On, Wanted or Flushing in one aggregator at most is so after `leave_conversation` and after
+/// `probe`, which `Call` does not name. The premises are their clauses `promise` and `lawful` (6.2.5, 6.5.3.3; profile).
 pub fn leaving_and_probing_keep_one_aggregator()
     ensures left { (old new : SystemState) → TablePromise ModelCall.Move_conversation [] old new → IsInOneAggregator old
         → IsInOneAggregator new }
@@ -65,9 +64,9 @@ ghost use Rattle.lagsystem.specs.Forcing.{ForcesPort};
 ghost use Rattle.lagsystem.specs.Leaving.{system_rest_result};
 ghost use Rattle.lagsystem.specs.Offers.{GivesOrRefuses};
 
-/// So do `force_port` and `rest`, which `Call` does not name either and which free without a response: where a conversation
-/// number is On, Wanted or Flushing in one aggregator at most, it is so after each of them, refused or not. The premises are the
-/// clause `forced` of `force_port`, and the clauses `gives` and `forces` of `rest` (profile).
+/// A conversation number that is On, Wanted or Flushing in one aggregator at most is so after `force_port` and after `rest`,
+/// which `Call` does not name, refused or not. The premises are the clause `forced` of `force_port`, and the clauses `gives` and
+/// `forces` of `rest` (profile).
 pub fn forcing_and_resting_keep_one_aggregator<F: Fn(u16, usize) -> usize>()
     ensures forced { (algorithm : F) (port : ℕ) (old : SystemState) (answer : Result ℕ SystemFault) (new : SystemState)
         → ForcesPort (F.post algorithm) port old answer new → IsInOneAggregator old → IsInOneAggregator new }

@@ -9,7 +9,7 @@ mod choosing;
 mod laws;
 mod offering;
 
-pub use choosing::carrier;
+pub use choosing::{aggregator_or_none, carrier};
 pub use laws::{
     both_ends_choose_alike, each_call_keeps_one_aggregator,
     forcing_and_resting_keep_one_aggregator, leaving_and_probing_keep_one_aggregator,

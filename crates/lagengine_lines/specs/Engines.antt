@@ -233,7 +233,7 @@ task_takes_memory (NextMove agg loads) kept = true
 task_takes_memory (Ask q) kept = question_takes_memory q
 task_takes_memory asked kept = false
 
--- so do the requests: a new system is answered with its own refusal
+-- the requests that take memory, where these calls are stored; a new system is refused by its own refusal
 abbrev pub request_takes_memory : RequestValue → Option (List Call) → Bool
 request_takes_memory (Start config) kept = false
 request_takes_memory (Work asked) kept = task_takes_memory asked kept

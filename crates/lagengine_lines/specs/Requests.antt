@@ -253,7 +253,7 @@ ticks_asked _ = Err fault.Count
 abbrev pub next_move_with : List ℕ → List ℕ → Result TaskValue RequestFault
 next_move_with agg loads = number_word 2 agg >>= λ g. numbers_word 3 loads >>= λ listed. Ok (NextMove (agg_id g) (Some listed))
 
--- the same, or an aggregator alone, for a load of 1 each
+-- the words of `next-move`: an aggregator and the loads, or an aggregator alone, for a load of 1 each
 abbrev pub next_move_asked : List (List ℕ) → Result TaskValue RequestFault
 next_move_asked (agg ∷ []) = number_word 2 agg >>= λ g. Ok (NextMove (agg_id g) None)
 next_move_asked (agg ∷ loads ∷ []) = next_move_with agg loads

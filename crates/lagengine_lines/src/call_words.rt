@@ -1,6 +1,6 @@
 ghost use Rattle.std.specs.Prelude.{◌≡◌, map};
 ghost use Rattle.carrier.specs.Choice.{aggregator_or_none};
-ghost use Rattle.lagengine_lines.specs.Requests.{call_named, configure_task, of_conversation, with_four_words, with_no_words, with_one_word, port_question};
+ghost use Rattle.lagengine_lines.specs.Requests.{call_named, configure_task, of_conversation, with_four_words, with_one_word, port_question};
 ghost use Rattle.lagengine_lines.specs.Requests.{question_named, task_result_value, ticks_asked, with_three_words, with_two_words};
 ghost use Rattle.lagengine_lines.specs.Requests as asked;
 ghost use Rattle.lagsystem.specs.Calls as call;
@@ -10,6 +10,7 @@ ghost use Rattle.lagengine_lines.specs.declared.request.Question.TheVariants as 
 use crate::fault::RequestFault;
 use crate::request::{PortQuestion, Question, Task, one_word, task_alone, two_words};
 use crate::words::{aggregation, link, number, ticks};
+use carrier::aggregator_or_none;
 use lagsystem::{AggId, Call, Key, PortChange};
 
 /// The words, if there are exactly three.
@@ -150,16 +151,6 @@ fn probe(words: &[&str]) -> Result<Task, RequestFault>
 {
     let port = one_word(words)?;
     Ok(Task::Probe(number(2, port)?))
-}
-
-/// The aggregator with this number; 0 is none.
-fn aggregator_or_none(agg: u16) -> Option<AggId>
-    ensures { result ≡ aggregator_or_none agg }
-{
-    match agg {
-        0 => None,
-        _ => Some(AggId(agg)),
-    }
 }
 
 /// Reads the word of `carrier`: the aggregator that carried before, or 0.

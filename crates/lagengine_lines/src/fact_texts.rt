@@ -4,7 +4,7 @@ ghost use Rattle.lagengine_lines.specs.Looks.{agg_answer_value};
 ghost use Rattle.lagengine_lines.specs.Texts.{all_text, bar_agg_answer, choice_text, conversation_or_none, each_text, ends_text, fact_text};
 ghost use Rattle.lagengine_lines.specs.Texts.{flag_text, machines_text, aggregation_text, look_text, mux_text, number_text, numbers_text};
 ghost use Rattle.lagengine_lines.specs.Texts.{partner_text, party_text, port_bar, preferred_text, receive_text, agg_answer_text};
-ghost use Rattle.lagengine_lines.specs.Texts.{agg_answers_text, spaced, port_answer_text, status_words};
+ghost use Rattle.lagengine_lines.specs.Texts.{agg_answers_text, port_answer_text, status_words};
 
 use crate::looks::{AggAnswer, Look, PortAnswer, PortFact};
 use lagsystem::{Assignment, Choice, Info, MuxState, Party, PortStatus, ReceiveState};

@@ -3,7 +3,7 @@ ghost use Rattle.std.specs.Fmt.{DisplaysOnOk};
 ghost use Rattle.hex.specs.Hex.{encode_lower};
 ghost use Rattle.lagengine_lines.specs.Texts.{done_text, ignored_text, reason_behind, reason_name, received_text, refused_text, replies_text};
 ghost use Rattle.lagengine_lines.specs.Texts.{forced_text};
-ghost use Rattle.lagengine_lines.specs.Texts.{reply_text, sent_text, subtype_word};
+ghost use Rattle.lagengine_lines.specs.Texts.{reply_text, sent_text};
 
 use lagsystem::{BadConfig, Received, Reply, SystemFault, WireFault};
 use std::fmt;

@@ -1,6 +1,6 @@
 ghost use Rattle.std.specs.Prelude.{◌≡◌, map};
 ghost use Rattle.lagengine_lines.specs.Lines.{request_in, request_of_octets, request_of_text, request_of_words};
-ghost use Rattle.lagstreams.specs.Lines.{longest_line, without_return};
+ghost use Rattle.lagstreams.specs.Lines.{without_return};
 ghost use Rattle.lagengine_lines.specs.Requests.{ReadsAs, request_value, no_words, with_no_words, with_one_word, request_named, task_named};
 ghost use Rattle.lagengine_lines.specs.Requests.{next_move_asked, next_move_with, task_value, with_two_words};
 ghost use Rattle.lagengine_lines.specs.Requests as asked;

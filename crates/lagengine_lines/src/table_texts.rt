@@ -1,6 +1,6 @@
 ghost use Rattle.std.specs.Prelude.{◌≡◌, Some};
 ghost use Rattle.std.specs.Fmt.{DisplaysOnOk};
-ghost use Rattle.lagengine_lines.specs.Texts.{carrier_text, move_text, row_text, rows_text};
+ghost use Rattle.lagengine_lines.specs.Texts.{carrier_text, move_text, rows_text};
 
 use crate::tables::PortRow;
 use balance::Move;

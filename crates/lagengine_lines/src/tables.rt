@@ -210,8 +210,8 @@ pub(crate) fn conversation_ports<F: Fn(u16, usize) -> usize + Drop>(
     tell_ports(alloc, system, agg, &mut ports, &mut changed, most)
 }
 
-/// Tells the next move that makes the loads of the ports that distribute in an aggregator more alike. It has at most this many
-/// conversations, with these loads, or 1 each.
+/// Tells the next move that makes the loads of the ports that distribute in an aggregator more alike. The aggregator has at most
+/// `most` conversations. `loads` has their loads; without it each is 1.
 pub(crate) fn next_move_in<F: Fn(u16, usize) -> usize + Drop>(
     alloc: Global,
     system: &System<F>,

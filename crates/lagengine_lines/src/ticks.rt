@@ -1,5 +1,4 @@
 ghost use Rattle.std.specs.Prelude.{◌≡◌, ◌++◌, IfOk, List, OnErr, OnOk, is_some, map, replicate, true};
-ghost use Rattle.distributor.specs.Calls.{PicksIndexes};
 ghost use Rattle.lagsystem.specs.Calls as call;
 ghost use Rattle.lagsystem.specs.Drives.{Drives, call_of};
 ghost use Rattle.lagsystem.specs.declared.drive.Reply.TheVariants as reply;

@@ -168,8 +168,8 @@ struct niw_change {
     bool aggregatable;
 };
 
-/* In each answer `status` is NIW_OK or the number of the refusal. Where it is a refusal, what stands beside it is 0, but for what niw_made
- * and niw_decoded tell of the refusal itself. */
+/* In each answer `status` is NIW_OK or the number of the refusal. After a refusal every other field
+ * is 0, except `reason` and `place` of niw_made and `fault`, `at` and `found` of niw_decoded. */
 
 struct niw_made {
     uint32_t status;

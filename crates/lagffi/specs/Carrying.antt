@@ -1,4 +1,4 @@
--- What a program in C is told of the aggregator that carries, and what an offer in it is (profile).
+-- The number of the aggregator that carries, and offers in it, as programs in C have them (profile).
 use Rattle.std.specs.Prelude.{ℕ, List, Option, None, Some, Result}
 use Rattle.carrier.specs.Offers as of_carrier
 use Rattle.lagtypes.specs.declared.identifiers.AggId.{AggId}

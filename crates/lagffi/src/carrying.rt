@@ -12,19 +12,9 @@ ghost use Rattle.lagffi.specs.Numbers.{no_system, number, number_of, number_refu
 use crate::handle::Lag;
 use crate::stored::{by_first, by_number, by_sum};
 use crate::values::{LagNumber, NO_SYSTEM};
-use carrier::{carrier, offer_conversation_in_carrier, offer_in_carrier};
+use carrier::{aggregator_or_none, carrier, offer_conversation_in_carrier, offer_in_carrier};
 use lagsystem::{AggId, System, SystemFault};
 use std::alloc::Global;
-
-/// The aggregator with this number; 0 is none.
-fn aggregator_or_none(agg: u16) -> Option<AggId>
-    ensures { result ≡ aggregator_or_none agg }
-{
-    match agg {
-        0 => None,
-        _ => Some(AggId(agg)),
-    }
-}
 
 /// The number of the aggregator; 0 for none.
 fn number_or_0(agg: Option<AggId>) -> u64

@@ -1,4 +1,4 @@
-ghost use Rattle.std.specs.Prelude.{◌≡◌, ◌∷◌, [], ℕ, codes, false, map, option_map, take};
+ghost use Rattle.std.specs.Prelude.{◌≡◌, ◌∷◌, [], ℕ, IfSome, codes, false, length, map, option_map, take};
 ghost use Rattle.std.specs.Str.{bytes_eq};
 ghost use Rattle.lagscript.specs.Entries.{aggregation_word, cable_word, event_in, event_named, event_result_value, kinds_named};
 ghost use Rattle.lagscript.specs.Entries.{kinds_of_form, number_word, system_word, ticks_word};
@@ -58,7 +58,8 @@ pub const NAMES: [&str; 13] = [
 
 /// The form of an event whose last words are numbers.
 fn with_numbers(text: &'static str, count: usize, first: WordKind, second: WordKind) -> Form
-    ensures { kinds_of_form result ≡ take count (first ∷ second ∷ Number ∷ Number ∷ Number ∷ []) }
+    ensures kinds { kinds_of_form result ≡ take count (first ∷ second ∷ Number ∷ Number ∷ Number ∷ []) }
+    ensures count { result.count ≡ count }
 {
     Form {
         text,
@@ -75,7 +76,8 @@ fn with_numbers(text: &'static str, count: usize, first: WordKind, second: WordK
 
 /// The form of the entries of the event with this name; None if no event has it.
 pub fn form_of(name: &str) -> Option<Form>
-    ensures { option_map kinds_of_form result ≡ kinds_named name.now }
+    ensures kinds { option_map kinds_of_form result ≡ kinds_named name.now }
+    ensures count { IfSome result (λ form. form.count ≡ length (kinds_of_form form)) }
 {
     let system = WordKind::System;
     let cable = WordKind::Cable;

@@ -22,6 +22,6 @@ pub struct Form {
     pub text: &'static str,
     /// How many words follow the name of the event, 1 to 5.
     pub count: usize,
-    /// What these words have to be; behind them more, which say nothing.
+    /// What these words have to be: `count` of these are read, the others are fillers.
     pub kinds: [WordKind; 5],
 }

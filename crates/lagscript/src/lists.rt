@@ -1,6 +1,6 @@
 ghost use Rattle.std.specs.Prelude.{◌≡◌, IfOk, map, option_map};
 ghost use Rattle.toml.specs.Data.{as_str, as_table};
-ghost use Rattle.toml.specs.View.{items_view, table_view, view};
+ghost use Rattle.toml.specs.View.{items_view, view};
 ghost use Rattle.lagscript.specs.Keys.{each_in, key_in, list_in};
 ghost use Rattle.lagscript.specs.Results.{table_members, word_octets};
 

@@ -1,6 +1,5 @@
 ghost use Rattle.std.specs.Prelude.{◌≡◌, Some, None, IfOk, Err, map};
 ghost use Rattle.lagscript.specs.declared.words.NoOctets.TheVariants.{NotHex};
-ghost use Rattle.std.specs.Result.{result_ok};
 ghost use Rattle.lagscript.specs.Words.{is_dashed, mac_of, number_below, octets_of, words_of};
 
 use hex::{FromHex, FromHexError};

@@ -1,6 +1,6 @@
 ghost use Rattle.std.specs.Prelude.{◌≡◌, ℕ, Bool};
 ghost use Rattle.lagworld.specs.Inner.{half_state};
-ghost use Rattle.lagworld.specs.HalfCalls.{HalfTicks, HalfSenses, HalfConfigures, HalfRestarts, HalfMoves, HalfForces};
+ghost use Rattle.lagworld.specs.HalfCalls.{HalfTicks, HalfSenses, HalfMoves};
 
 use crate::histories::{Flow, PortHistory};
 use crate::reply::Reply;
