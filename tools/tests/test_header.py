@@ -55,6 +55,11 @@ def test_variants_have_numbers_lines_and_texts() -> None:
     assert header.variants(SOURCE, "SystemFault") == KNOWN
 
 
+def test_a_variant_with_a_value_may_have_a_text_alone() -> None:
+    source = SOURCE.replace('Other(what) => write!(f, "{what}")', 'Other(_) => f.write_str("something else")')
+    assert header.variants(source, "SystemFault")[2].text == "something else"
+
+
 @pytest.mark.parametrize(("old", "new"), [("NoRoad => 1", "NoRoad => 2"), ("::Other(_) => 4,", ""), ("    /// 4: this is wrong.\n", "")])
 def test_a_source_that_is_read_in_part_is_refused(old: str, new: str) -> None:
     with pytest.raises(header.Missing):
