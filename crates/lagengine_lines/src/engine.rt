@@ -1,4 +1,4 @@
-ghost use Rattle.std.specs.Prelude.{◌≡◌, IfOk, None, Ok, OnErr, Some, is_some, true};
+ghost use Rattle.std.specs.Prelude.{◌≡◌, IfOk, List, None, Ok, OnErr, Option, Some, is_some, true};
 ghost use Rattle.distributor.specs.Calls.{PicksIndexes};
 ghost use Rattle.lagsystem.specs.Drives.{call_of};
 ghost use Rattle.lagsystem.specs.First.{config_value};
@@ -7,7 +7,11 @@ ghost use Rattle.lagengine_lines.specs.Engines.{DoesTask, DoesTaskIfSystem, Answ
 ghost use Rattle.lagengine_lines.specs.Engines.{AnswersStart, kept_so_far, engine_state, kept_of, system_state, reader_answer, engine_value};
 ghost use Rattle.lagengine_lines.specs.Engines.{question_takes_memory, request_takes_memory, task_takes_memory};
 ghost use Rattle.lagengine_lines.specs.Requests.{request_value, task_value};
+ghost use Rattle.lagengine_lines.specs.Requests as asked;
 ghost use Rattle.lagengine_lines.specs.AnswerValues.{answer_value};
+ghost use Rattle.lagengine_lines.specs.AnswerValues as said;
+ghost use Rattle.lagsystem.specs.Calls.{Call as CallValue};
+ghost use Rattle.lagsystem.specs.declared.drive.Reply.TheVariants as reply;
 
 use crate::answer::Answer;
 use crate::fault::{RequestError, RequestFault};
@@ -17,7 +21,7 @@ use crate::tables::{MOST_CONVERSATIONS, conversation_ports, next_move_in, releas
 use crate::ticks::tick_or_keep;
 use answering::Answering;
 use carrier::{carrier, offer_conversation_in_carrier, offer_in_carrier};
-use lagsystem::{Call, Config, Reply, System};
+use lagsystem::{Call, Config, Reply, System, SystemFault};
 use std::alloc::{AllocError, Global};
 use std::marker::Model;
 
@@ -141,6 +145,29 @@ fn keep(alloc: Global, kept: &mut Option<Vec<Call>>)
     }
 }
 
+/// The answer to an offer that was made at once.
+fn offered(given: Result<u16, SystemFault>) -> Answer
+    ensures { answer_value result ≡ said.Replied (reply.Offer given) }
+{
+    Answer::Reply(Reply::Offer(given))
+}
+
+/// Asks whether the peer of a port answers markers, and notes it.
+fn probe<F: Fn(u16, usize) -> usize + Drop>(
+    system: &mut System<F>,
+    answering: &mut Answering,
+    port: u16,
+) -> Answer
+    ensures asks { (kept : Option (List CallValue)) → DoesTask (F.post system.old.algorithm) (asked.Probe port) system.old.state kept
+        answering.old (answer_value result)
+        (record { system = Some system.new.state; kept = kept; notes = answering.new }) }
+    ensures algorithm { system.new.algorithm ≡ system.old.algorithm }
+{
+    let sent = system.probe(port);
+    answering.after_transmit(system, port, &sent);
+    Answer::Reply(Reply::Transmit(sent))
+}
+
 /// Does a task with a system.
 fn do_task<F: Fn(u16, usize) -> usize + Drop>(
     alloc: Global,
@@ -165,28 +192,17 @@ fn do_task<F: Fn(u16, usize) -> usize + Drop>(
         }
         Task::Drive => drive(alloc, system, kept, answering),
         Task::ForcePort(port) => Ok(Answer::ForcedPort(system.force_port(port))),
-        Task::OfferConversation(agg, conv) => {
-            let answer = system.offer_conversation(agg, conv);
-            Ok(Answer::Reply(Reply::Offer(answer)))
-        }
+        Task::OfferConversation(agg, conv) => Ok(offered(system.offer_conversation(agg, conv))),
         Task::LeaveConversation(agg, conv) => {
             let answer = system.leave_conversation(agg, conv);
             Ok(Answer::Reply(Reply::MoveConversation(answer)))
         }
         Task::Rest(agg, conv) => Ok(Answer::Reply(Reply::Force(system.rest(agg, conv)))),
-        Task::Probe(port) => {
-            let sent = system.probe(port);
-            answering.after_transmit(system, port, &sent);
-            Ok(Answer::Reply(Reply::Transmit(sent)))
-        }
+        Task::Probe(port) => Ok(probe(system, answering, port)),
         Task::Conversation(frame) => Ok(Answer::Conversation(system.conversation(&frame))),
-        Task::OfferInCarrier(agg, frame) => {
-            let answer = offer_in_carrier(system, agg, &frame);
-            Ok(Answer::Reply(Reply::Offer(answer)))
-        }
+        Task::OfferInCarrier(agg, frame) => Ok(offered(offer_in_carrier(system, agg, &frame))),
         Task::OfferConversationInCarrier(agg, conv) => {
-            let answer = offer_conversation_in_carrier(system, agg, conv);
-            Ok(Answer::Reply(Reply::Offer(answer)))
+            Ok(offered(offer_conversation_in_carrier(system, agg, conv)))
         }
         Task::Carrier(now) => Ok(Answer::Carrier(carrier(system, now))),
         Task::NextMove(agg, loads) => next_move_in(alloc, system, agg, &loads, MOST_CONVERSATIONS),

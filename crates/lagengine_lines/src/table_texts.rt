@@ -20,7 +20,7 @@ pub(crate) fn write_rows<W: fmt::Write>(f: &mut fmt::Formatter<W>, rows: &[PortR
     Ok(())
 }
 
-/// The aggregator that carries, or `none`.
+/// The answer to `carrier`: the aggregator that carries, or `none`.
 #[derive(Clone, Copy)]
 pub(crate) struct CarrierText(pub(crate) Option<AggId>);
 
@@ -35,7 +35,8 @@ impl fmt::Display for CarrierText {
     }
 }
 
-/// A conversation and the port that it is to move to, with a space before each, or `none`.
+/// What stands behind the aggregator in the answer to `next-move`: a conversation and the port that it is to move to, with a space
+/// before each, or `none`.
 #[derive(Clone, Copy)]
 pub(crate) struct MoveText(pub(crate) Option<Move>);
 

@@ -136,6 +136,6 @@ fn the_next_move_makes_the_loads_more_alike(rt: HostRuntime) -> Result<(), Fail>
 }
 
 #[test]
-fn lines_that_name_no_aggregator(rt: HostRuntime) -> Result<(), Fail> {
+fn lines_that_are_faults(rt: HostRuntime) -> Result<(), Fail> {
     check(&rt, rt.alloc(), FAULTS)
 }

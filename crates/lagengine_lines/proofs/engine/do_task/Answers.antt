@@ -7,7 +7,7 @@ returns-in-Ticks-clause-acts g c = rw c.in-Ticks.is (c.tick_or_keep.ensures.acts
 
 pub returns-in-OfferInCarrier-clause-acts : goal.returns-in-OfferInCarrier-clause-acts
 returns-in-OfferInCarrier-clause-acts g c =
-    let offer = c.offer_in_carrier-answer in
+    let offer = c.offer_in_carrier in
     let gives = λ (conv count place : ℕ). g.F.Fn.post c.args.system.now.algorithm (conv, (count, tt)) place in
     rw c.in-OfferInCarrier.is (
       offer.result,
@@ -18,13 +18,13 @@ returns-in-OfferInCarrier-clause-acts g c =
             offered = offer.ensures.answers;
             keeps = offer.ensures.keeps;
           }),
-      refl,
+      c.offered-in-OfferInCarrier.ensures,
       refl,
     )
 
 pub returns-in-OfferConversationInCarrier-clause-acts : goal.returns-in-OfferConversationInCarrier-clause-acts
 returns-in-OfferConversationInCarrier-clause-acts g c =
-    let offer = c.offer_conversation_in_carrier-answer in rw c.in-OfferConversationInCarrier.is (
+    let offer = c.offer_conversation_in_carrier in rw c.in-OfferConversationInCarrier.is (
       offer.result,
       offer.new.system.state,
       record {
@@ -32,6 +32,6 @@ returns-in-OfferConversationInCarrier-clause-acts g c =
         offered = λ n. (offer.ensures.offers n, offer.ensures.answers n);
         keeps = offer.ensures.keeps;
       },
-      refl,
+      c.offered-in-OfferConversationInCarrier.ensures,
       refl,
     )
