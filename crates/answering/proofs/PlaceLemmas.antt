@@ -1,7 +1,7 @@
 -- The place of a port among the numbers of the ports.
-use Rattle.std.proofs.Common.{◌≡◌, ◌==◌, ℕ, ◌+◌, not, cond, List, [], ◌∷◌, ap, refl}
+use Rattle.std.proofs.Common.{◌≡◌, ◌==◌, ℕ, ◌+◌, not, cond, List, [], ◌∷◌, ap, refl, position}
 use Rattle.std.proofs.lemmas.List.{length-map}
-use Rattle.std.specs.List.{position, position_or_len}
+use Rattle.std.specs.List.{position_or_len}
 use Rattle.lagsystem.specs.State.{port_index, port_numbers}
 use Rattle.lagsystem.specs.declared.system_ports.SystemPort.{SystemPort}
 

@@ -1,13 +1,6 @@
 -- Where each conversation counts one and no move is left, the loads are alike; and where they are alike there is no move.
-use Rattle.std.proofs.Common.{◌≡◌, ℕ, zero, suc, ◌+◌, ◌<◌, ◌≤◌, eqb, cond, inl, inr, List, [], ◌∷◌, length, refl, sym, ap, arith}
-use Rattle.std.specs.Prelude.{Contains}
-use Rattle.std.proofs.lemmas.List.Sums.{sum_by-cons}
-use Rattle.std.proofs.lemmas.Bool.{cases_lt}
-use Rattle.std.proofs.lemmas.Bool.Decides.{eqb_tells}
-use Rattle.balance.specs.declared.moves.Carried.{Carried}
-use Rattle.balance.specs.declared.moves.Move.{Move}
-use Rattle.balance.specs.Moves.{load_on, conversation_at, IsMove}
-use Rattle.balance.specs.Laws.{CountsOne}
+use Rattle.balance.proofs.Common.{List, [], ap, arith, cond, eqb, inl, inr, length, refl, suc, sym, zero, ℕ, ◌+◌, ◌<◌, ◌∷◌, ◌≡◌, ◌≤◌, cases_lt}
+use Rattle.balance.proofs.Common.{eqb_tells, sum_by-cons, Contains, Carried, Move, CountsOne, IsMove, conversation_at, load_on}
 use Rattle.balance.proofs.Sums.{IsAmong, among}
 
 pub contained : (ports : List ℕ) (p : ℕ) → IsAmong p ports → Contains ports p

@@ -1,3 +1,4 @@
+mod Common
 pub mod Extremes
 pub mod Loads
 pub mod Ports

@@ -1,13 +1,6 @@
 -- The loads of ports, where conversations move.
-use Rattle.std.proofs.Common.{◌≡◌, ◌≢◌, ℕ, zero, suc, ◌+◌, ◌*◌, ◌-◌, ◌<◌, eqb, cond, inl, inr, List, length, slice_set, refl, sym, ◌∙◌, ap, arith}
-use Rattle.std.specs.Prelude.{sum_by}
-use Rattle.std.proofs.lemmas.List.Sums.{sum_by-set}
-use Rattle.std.proofs.lemmas.Bool.{eq-eqb}
-use Rattle.std.proofs.lemmas.Bool.Decides.{eqb_tells}
-use Rattle.balance.specs.declared.moves.Carried.{Carried}
-use Rattle.balance.specs.declared.moves.Move.{Move}
-use Rattle.balance.specs.Moves.{load_on, conversation_at, IsMove}
-use Rattle.balance.specs.Laws.{AllDiffer, moved, squares}
+use Rattle.balance.proofs.Common.{List, ap, arith, cond, eq-eqb, eqb, inl, inr, length, refl, slice_set, suc, sym, zero, ℕ, ◌*◌, ◌+◌, ◌-◌, ◌<◌, ◌∙◌}
+use Rattle.balance.proofs.Common.{◌≡◌, ◌≢◌, eqb_tells, sum_by-set, sum_by, Carried, Move, AllDiffer, moved, squares, IsMove, conversation_at, load_on}
 use Rattle.balance.proofs.Sums.{among, two_differ}
 
 pub hits : (a p w : ℕ) → a ≡ p → cond (eqb a p) w 0 ≡ w

@@ -1,10 +1,7 @@
 -- When no move is left.
-use Rattle.std.proofs.Common.{◌≡◌, ℕ, ◌-◌, ◌<◌, ◌≤◌, List, length, get_or, sym, ◌∙◌, arith}
-use Rattle.std.specs.Prelude.{Contains}
+use Rattle.balance.proofs.Common.{List, arith, get_or, length, sym, ℕ, ◌-◌, ◌<◌, ◌∙◌, ◌≡◌, ◌≤◌, Contains, Carried, Move, IsMove, conversation_at}
+use Rattle.balance.proofs.Common.{load_on}
 use Rattle.std.proofs.lemmas.Grind.{get_or_default_zero}
-use Rattle.balance.specs.declared.moves.Carried.{Carried}
-use Rattle.balance.specs.declared.moves.Move.{Move}
-use Rattle.balance.specs.Moves.{load_on, conversation_at, IsMove}
 
 pub no_move : (ports : List ℕ) (carried : List Carried) (most least : ℕ) (best : ℕ)
     → Contains ports best → most ≡ load_on best carried

@@ -1,14 +1,8 @@
 -- A run of moves is no longer than there are conversations, where each counts one.
-use Rattle.std.proofs.Common.{◌≡◌, ℕ, zero, suc, ◌+◌, ◌*◌, ◌-◌, ◌/◌, ◌<◌, ◌≤◌, eqb, cond, inl, inr, List, [], ◌∷◌, length, slice_set, refl, ◌∙◌, ap, arith}
-use Rattle.std.specs.Prelude.{sum_by}
-use Rattle.std.proofs.lemmas.List.Sums.{sum_by-cons, sum_by-le-sum_by}
-use Rattle.std.proofs.lemmas.Bool.{cases_lt}
+use Rattle.balance.proofs.Common.{List, [], ap, arith, cond, eqb, inl, inr, length, refl, slice_set, suc, zero, ℕ, ◌*◌, ◌+◌, ◌-◌, ◌/◌, ◌<◌, ◌∙◌, ◌∷◌}
+use Rattle.balance.proofs.Common.{◌≡◌, ◌≤◌, cases_lt, eqb_tells, sum_by-cons, sum_by-le-sum_by, sum_by, Carried, Move, AllDiffer, CountsOne, IsNew}
+use Rattle.balance.proofs.Common.{IsRunOfMoves, moved, IsMove, conversation_at, load_on}
 use Rattle.std.proofs.Math.Nat.{mul-div-le, lt-div-mul-add}
-use Rattle.std.proofs.lemmas.Bool.Decides.{eqb_tells}
-use Rattle.balance.specs.declared.moves.Carried.{Carried}
-use Rattle.balance.specs.declared.moves.Move.{Move}
-use Rattle.balance.specs.Moves.{load_on, conversation_at, IsMove}
-use Rattle.balance.specs.Laws.{IsNew, AllDiffer, CountsOne, moved, IsRunOfMoves}
 use Rattle.balance.proofs.Sums.{IsAmong, among, two_differ, same_sum}
 use Rattle.balance.proofs.Loads.{Shift, shift_of, hits, misses}
 use Rattle.balance.proofs.Extremes.{one_at, contained}

@@ -1,10 +1,6 @@
 -- Sums over ports that differ.
-use Rattle.std.proofs.Common.{◌≡◌, ◌≢◌, ℕ, zero, suc, ◌+◌, ◌<◌, eqb, cond, ◌⊎◌, inl, inr, List, [], ◌∷◌, length, get_or, refl, sym, ◌∙◌, ap, arith}
-use Rattle.std.specs.Prelude.{sum_by, Contains}
-use Rattle.std.proofs.lemmas.List.Sums.{sum_by-cons}
-use Rattle.std.proofs.lemmas.Bool.{eq-eqb}
-use Rattle.std.proofs.lemmas.Bool.Decides.{eqb_tells}
-use Rattle.balance.specs.Laws.{IsNew, AllDiffer}
+use Rattle.balance.proofs.Common.{List, [], ap, arith, cond, eq-eqb, eqb, get_or, inl, inr, length, refl, suc, sym, zero, ℕ, ◌+◌, ◌<◌, ◌∙◌, ◌∷◌, ◌≡◌}
+use Rattle.balance.proofs.Common.{◌≢◌, ◌⊎◌, eqb_tells, sum_by-cons, Contains, sum_by, AllDiffer, IsNew}
 
 -- a port is one of these
 abbrev pub IsAmong : ℕ → List ℕ → Type 0

@@ -1,14 +1,9 @@
 -- The best aggregator so far.
-use Rattle.std.proofs.Common.{◌≡◌, ◌≢◌, ◌⊎◌, ◌≤◌, ◌+◌, ℕ, Bool, true, false, refl, sym, ap, ◌∙◌, subst, inl, inr, arith, List, [], ◌∷◌, Option, None, Some, eqb, eqb-true, length}
-use Rattle.std.specs.Prelude.{if◌then◌else◌, option_map}
-use Rattle.std.proofs.lemmas.Bool.{cases_Bool, eqb-false}
-use Rattle.std.proofs.lemmas.Option.{none-some, same_Some}
-use Rattle.lagtypes.specs.declared.identifiers.AggId.{AggId}
+use Rattle.carrier.proofs.Common.{Bool, List, None, Option, Some, [], ap, arith, eqb, eqb-true, false, if◌then◌else◌, inl, inr, length, option_map}
+use Rattle.carrier.proofs.Common.{refl, subst, sym, true, ℕ, ◌+◌, ◌∙◌, ◌∷◌, ◌≡◌, ◌≢◌, ◌≤◌, ◌⊎◌, cases_Bool, eqb-false, none-some, same_Some, AggId}
+use Rattle.carrier.proofs.Common.{aggregator_numbered, distributing, group_at, SystemState, machines_of, Rank, Carries, IsAggregator, better}
+use Rattle.carrier.proofs.Common.{is_before, is_other, lesser, rank_by, rank_in}
 use Rattle.portmachines.specs.Machines.{Machines}
-use Rattle.lagsystem.specs.State.{SystemState, machines_of}
-use Rattle.lagsystem.specs.Readers.{aggregator_numbered, distributing, group_at}
-use Rattle.carrier.specs.declared.choosing.Rank.{Rank}
-use Rattle.carrier.specs.Choice.{Carries, IsAggregator, better, is_before, is_other, lesser, rank_by, rank_in}
 use Rattle.carrier.proofs.Ranks.{before_in_turn, else_before}
 
 -- a rank names its aggregator, and whether that is another one

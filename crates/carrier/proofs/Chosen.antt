@@ -1,14 +1,7 @@
 -- What follows of the aggregators that are chosen.
-use Rattle.std.proofs.Common.{◌≡◌, ◌≢◌, ◌⊎◌, Bool, true, false, refl, sym, ap, ◌∙◌, subst, inl, inr, Option, None, Some, eqb, eqb-true, eq-eqb}
-use Rattle.std.specs.Prelude.{not, ◌==◌}
-use Rattle.std.proofs.lemmas.Bool.{cases_Bool, eqb-false}
-use Rattle.std.proofs.lemmas.Option.{none-some, same_Some}
-use Rattle.lagtypes.specs.declared.identifiers.AggId.{AggId}
-use Rattle.lagsystem.specs.State.{SystemState}
-use Rattle.lagsystem.specs.Readers.{aggregator_numbered}
-use Rattle.carrier.specs.declared.choosing.Rank.{Rank}
-use Rattle.carrier.specs.Choice.{Carries, IsAggregator, is_before, rank_in}
-use Rattle.carrier.specs.Ends.{Alike, HasMore, ShowTheSame}
+use Rattle.carrier.proofs.Common.{Bool, None, Option, Some, ap, eq-eqb, eqb, eqb-true, false, inl, inr, not, refl, subst, sym, true, ◌==◌, ◌∙◌, ◌≡◌}
+use Rattle.carrier.proofs.Common.{◌≢◌, ◌⊎◌, cases_Bool, eqb-false, none-some, same_Some, AggId, aggregator_numbered, SystemState, Rank, Carries}
+use Rattle.carrier.proofs.Common.{IsAggregator, is_before, rank_in, Alike, HasMore, ShowTheSame}
 use Rattle.carrier.proofs.Best.{names}
 use Rattle.carrier.proofs.Ranks.{alike, has_more}
 

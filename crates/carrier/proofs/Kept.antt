@@ -1,12 +1,12 @@
 -- A conversation number stays in one aggregator.
-use Rattle.std.proofs.Common.{◌≡◌, ◌≢◌, ◌⊎◌, ◌<◌, ◌-◌, ◌^◌, ℕ, zero, suc, Bool, true, false, refl, sym, ap, subst, inl, inr, arith, List, [], ◌∷◌, length, Option, None, Some, Result, Ok, Err, eqb, eqb-true}
-use Rattle.std.specs.Prelude.{slice_get, nat_lt, nat_le, if◌then◌else◌, IfOk}
-use Rattle.std.proofs.lemmas.Bool.{and_parts, cases_Bool, eqb-false}
+use Rattle.carrier.proofs.Common.{Bool, Err, IfOk, List, None, Ok, Option, Result, Some, [], ap, arith, eqb, eqb-true, false, if◌then◌else◌, inl, inr}
+use Rattle.carrier.proofs.Common.{length, nat_le, nat_lt, refl, slice_get, subst, suc, sym, true, zero, ℕ, ◌-◌, ◌<◌, ◌^◌, ◌∷◌, ◌≡◌, ◌≢◌, ◌⊎◌}
+use Rattle.carrier.proofs.Common.{and_parts, cases_Bool, eqb-false, none-some, AggId, Conversation, Flushing, Free, ModelCall, On, SystemSetup, View}
+use Rattle.carrier.proofs.Common.{Wanted, EffectsSeenAs, JoinedByLawfulMoves, model_setup, model_view, aggregator_numbered, conversation_count}
+use Rattle.carrier.proofs.Common.{conversation_in, number_of_conversation, SystemState, IsAggregator, IsElsewhere, IsHeldElsewhere, IsInOneAggregator}
+use Rattle.carrier.proofs.Common.{IsNoOffer, IsNumberElsewhere}
 use Rattle.std.proofs.lemmas.Bool.Decides.{nat_tests}
-use Rattle.std.proofs.lemmas.Option.{none-some}
-use Rattle.lagtypes.specs.declared.identifiers.AggId.{AggId}
 use Rattle.lagtypes.specs.declared.identifiers.Key.{Key}
-use Rattle.lagmodel.specs.View.{Conversation, Free, On, Wanted, Flushing, ModelCall, View, SystemSetup}
 use Rattle.lagmodel.specs.Move.{Act, LawfulMoves, Sends_frame}
 use Rattle.lagmodel.specs.World.{Side, World, WorldSetup}
 use Rattle.lagmodel.specs.Law.{OnItsCable}
@@ -19,19 +19,14 @@ use Rattle.lagsystem.specs.declared.received.Received.TheVariants.{Disabled, Dro
 use Rattle.lagsystem.specs.Assigning.{OffersConversation, OffersIf, frame_of_conversation}
 use Rattle.lagsystem.specs.First.{IsFirst}
 use Rattle.lagsystem.specs.Forcing.{ForcesFirst, ForcesIfHeld, ForcesIn, ForcesPort}
-use Rattle.lagsystem.specs.ModelView.{EffectsSeenAs, JoinedByLawfulMoves, model_setup, model_view}
 use Rattle.lagsystem.specs.Offers.{GivesOrRefuses, MayBeOffered, MayBeOfferedTo, has_aggregator, is_frame_length, longest_frame}
 use Rattle.lagsystem.specs.Probing.{ProbesLawfully}
 use Rattle.lagsystem.specs.Promises.{TablePromise}
-use Rattle.lagsystem.specs.Readers.{aggregator_numbered, conversation_count, conversation_in, number_of_conversation}
 use Rattle.lagsystem.specs.Sound.{CallPromise}
-use Rattle.lagsystem.specs.State.{SystemState}
 use Rattle.clientorder.specs.OneAggregator.{FreeElsewhere, NoneOnItsWayElsewhere, SendsNoFrame}
 use Rattle.lagsystem.proofs.AssigningLemmas.{framed}
 use Rattle.lagsystem.proofs.FirstView.{first_shows}
 use Rattle.clientorder.proofs.Staying as staying
-use Rattle.carrier.specs.Choice.{IsAggregator}
-use Rattle.carrier.specs.Offers.{IsElsewhere, IsHeldElsewhere, IsInOneAggregator, IsNoOffer, IsNumberElsewhere}
 
 -- lists of keys that have the same elements are of one length
 as_many : (ks ls : List Key) (n : ℕ) → ((i : ℕ) → slice_get ls i ≡ slice_get ks i) → n < length ks → n < length ls

@@ -1,3 +1,4 @@
+mod Common
 pub mod Best
 pub mod Chosen
 pub mod Kept

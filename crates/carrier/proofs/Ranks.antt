@@ -1,21 +1,17 @@
 -- The order of ranks.
-use Rattle.std.proofs.Common.{◌≡◌, ◌≢◌, ◌<◌, ℕ, Bool, true, false, refl, sym, ap, ◌∙◌, inl, inr, rules, arith}
+use Rattle.carrier.proofs.Common.{Bool, ap, arith, false, if◌then◌else◌, inl, inr, refl, rules, sym, true, ℕ, ◌<◌, ◌∙◌, ◌≡◌, ◌≢◌, false≢true, Rank}
+use Rattle.carrier.proofs.Common.{group_cmp, is_before, rank_cmp, HasMore}
 use Rattle.std.proofs.lemmas.Grind.{common_steps}
-use Rattle.std.specs.Prelude.{if◌then◌else◌}
 use Rattle.std.specs.declared.cmp.Ordering.{Ordering}
 use Rattle.std.specs.declared.cmp.Ordering.TheVariants.{Less, Equal, Greater}
 use Rattle.std.specs.Ordering.{is_lt, nat_cmp, bool_cmp, on, ordering_then, ordering_reverse}
 use Rattle.std.specs.Cmp.{IsTotalOrder, then_total, on_total, back_total, nat_cmp_total, bool_cmp_total}
 use Rattle.std.specs.Cmp.Rules.{comparing}
-use Rattle.std.proofs.lemmas.Bool.{false≢true}
 use Rattle.std.proofs.lemmas.Map.Lookups.{exact_unsigned}
 use Rattle.lagtypes.specs.declared.group.End.{End}
 use Rattle.lagtypes.specs.declared.group.Group.{Group}
 use Rattle.lagtypes.specs.Order.{end_cmp}
 use Rattle.lagtypes.proofs.GroupLemmas.{groups_from_pairs}
-use Rattle.carrier.specs.declared.choosing.Rank.{Rank}
-use Rattle.carrier.specs.Choice.{group_cmp, rank_cmp, is_before}
-use Rattle.carrier.specs.Ends.{HasMore}
 
 first_equal : (o p : Ordering) → ordering_then o p ≡ Equal → o ≡ Equal
 first_equal Less p e = e

@@ -1,11 +1,6 @@
 -- Whether a conversation is On, Wanted or Flushing in another aggregator, as far as it was searched.
-use Rattle.std.proofs.Common.{◌≡◌, ◌≢◌, ◌≤◌, ◌+◌, ℕ, subst, ◌∙◌, inl, inr, arith, eqb, eqb-true}
-use Rattle.std.proofs.lemmas.Bool.{cases_Bool, eqb-false}
-use Rattle.lagtypes.specs.declared.identifiers.AggId.{AggId}
-use Rattle.lagmodel.specs.View.{Free}
-use Rattle.lagsystem.specs.ModelView.{model_view}
-use Rattle.lagsystem.specs.State.{SystemState}
-use Rattle.carrier.specs.Offers.{IsElsewhere}
+use Rattle.carrier.proofs.Common.{arith, eqb, eqb-true, inl, inr, subst, ℕ, ◌+◌, ◌∙◌, ◌≡◌, ◌≢◌, ◌≤◌, cases_Bool, eqb-false, AggId, Free, model_view}
+use Rattle.carrier.proofs.Common.{SystemState, IsElsewhere}
 
 -- it is in none of the aggregators up to number n
 abbrev pub NoneUpTo : SystemState → AggId → ℕ → ℕ → Type 0

@@ -1,10 +1,14 @@
 -- What is Free stays Free where no frame is sent of it.
-use Rattle.std.proofs.Common.{◌≡◌, ◌≢◌, ◌⊎◌, ℕ, true, false, Bool, inl, inr, List, [], ◌∷◌, ◌++◌, eqb, eqb-true, Option, None, Some, refl, sym, ◌∙◌, ap, subst}
+use Rattle.std.proofs.Common.{◌≡◌, ◌≢◌, ◌⊎◌, ℕ, true, false, Bool, inl, inr, List, [], ◌∷◌, ◌++◌, eqb, eqb-true, Option, None, Some, refl, sym, ◌∙◌}
+use Rattle.std.proofs.Common.{ap, subst}
 use Rattle.std.specs.Prelude.{option_to_list}
 use Rattle.std.proofs.lemmas.Bool.{cases_Bool, eqb-false}
 use Rattle.std.proofs.lemmas.Option.{none-some}
-use Rattle.lagmodel.specs.View.{Conversation, Free, On, Wanted, Flushing, conversation_port, View, SystemSetup, ModelCall, DistributorFacts, first_view, at_conversation}
-use Rattle.lagmodel.specs.Move.{Act, Sends, Sends_frame, Took, Move, Port, Flow, Restart, DistributorMove, DistributorMoveAllowed, ConversationMove, conversation_after, ConversationMoveAllowed, flushed, distributor_after, distributor_act, act, act_of_port, acts, AllAllowed, view_after, view_after_all, LawfulMoves, Distributes}
+use Rattle.lagmodel.specs.View.{Conversation, Free, On, Wanted, Flushing, conversation_port, View, SystemSetup, ModelCall, DistributorFacts}
+use Rattle.lagmodel.specs.View.{first_view, at_conversation}
+use Rattle.lagmodel.specs.Move.{Act, Sends, Sends_frame, Took, Move, Port, Flow, Restart, DistributorMove, DistributorMoveAllowed, ConversationMove}
+use Rattle.lagmodel.specs.Move.{conversation_after, ConversationMoveAllowed, flushed, distributor_after, distributor_act, act, act_of_port, acts}
+use Rattle.lagmodel.specs.Move.{AllAllowed, view_after, view_after_all, LawfulMoves, Distributes}
 use Rattle.lagmodel.specs.World.{Side, peer, World, WorldSetup, end_at}
 use Rattle.lagmodel.specs.Law.{OnItsCable, serials}
 use Rattle.lagmodel.proofs.Lanes.{conversation_cases}

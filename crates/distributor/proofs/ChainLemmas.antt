@@ -1,11 +1,8 @@
 -- Rings of slots: one taken out, one put in, and what stays as it is.
-use Rattle.std.proofs.Common.{ℕ, ◌+◌, ◌<◌, ◌≤◌, ◌≡◌, ◌++◌, Bool, true, false, cond, eqb, List, [], ◌∷◌, length, None, Some, get_or, set}
-use Rattle.std.proofs.Common.{refl, sym, ap, ◌∙◌, arith, subst, ⊎_elim, inl, inr}
-use Rattle.std.proofs.lemmas.Bool.{cases_Bool, cases_eq, eqb-true, eq-eqb, ne_eqb, cond-true, cond-false, false≢true}
-use Rattle.std.proofs.lemmas.List.{length-set, get_or-set_same, get_or-set_other, get_or_past, append-nil}
-use Rattle.distributor.specs.declared.assignment.Assignment.{Assignment}
-use Rattle.distributor.specs.declared.assignment.Assignment.TheVariants.{Free, On, Wanted, Flushing}
-use Rattle.distributor.specs.Chains.{assignment_port, chain_of, is_in_chain, occurs, Path, slot_state, IsChained}
+use Rattle.distributor.proofs.Common.{Bool, List, None, Some, [], ap, append-nil, arith, cond, eq-eqb, eqb, eqb-true, false, get_or, inl, inr, length}
+use Rattle.distributor.proofs.Common.{refl, set, subst, sym, true, ℕ, ⊎_elim, ◌++◌, ◌+◌, ◌<◌, ◌∙◌, ◌∷◌, ◌≡◌, ◌≤◌, cases_Bool, cases_eq, cond-false}
+use Rattle.distributor.proofs.Common.{cond-true, false≢true, ne_eqb, get_or-set_other, get_or-set_same, get_or_past, length-set, Assignment, Flushing}
+use Rattle.distributor.proofs.Common.{Free, On, Wanted, IsChained, Path, assignment_port, chain_of, is_in_chain, occurs, slot_state}
 
 abbrev pub last_of : ℕ → List ℕ → ℕ
 last_of a [] = a

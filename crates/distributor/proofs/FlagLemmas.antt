@@ -1,19 +1,12 @@
 -- The flags of the chains in which a conversation is Wanted or Flushing.
-use Rattle.std.proofs.Common.{ℕ, zero, suc, ◌<◌, ◌≡◌, ◌||◌, Bool, true, false, cond, eqb, List, length, None, get_or, map, nat_lt, set, refl, ap, sym, ◌∙◌, arith}
-use Rattle.std.proofs.Common.{⊎_elim, inl, inr}
-use Rattle.std.proofs.lemmas.Bool.{cases_Bool, cases_eq, cond-true, cond-false, false≢true, or_right}
-use Rattle.std.proofs.lemmas.List.{ext_get_or, get_or-map, get_or-set_other, get_or-set_same, length-map, length-set}
+use Rattle.distributor.proofs.Common.{Bool, List, None, ap, arith, cond, eqb, false, get_or, inl, inr, length, map, nat_lt, refl, set, suc, sym, true}
+use Rattle.distributor.proofs.Common.{zero, ℕ, ⊎_elim, ◌<◌, ◌||◌, ◌∙◌, ◌≡◌, cases_Bool, cases_eq, cond-false, cond-true, false≢true, or_right}
+use Rattle.distributor.proofs.Common.{ext_get_or, get_or-map, get_or-set_other, get_or-set_same, length-map, length-set, Assignment, Flushing, Free}
+use Rattle.distributor.proofs.Common.{On, Wanted, Change, Mark, Release, AwaitsResponse, HeldOn, WantsMarker, IsFlagged, assignment_port, chain_of}
+use Rattle.distributor.proofs.Common.{changed_in_chain, is_flagged, is_flushing, is_in_chain, is_wanted, passes, slot_state, after_change}
+use Rattle.distributor.proofs.Common.{wants_marker}
 use Rattle.std.proofs.lemmas.Bool.Decides.{nat_tests}
-use Rattle.distributor.specs.declared.assignment.Assignment.{Assignment}
-use Rattle.distributor.specs.declared.assignment.Assignment.TheVariants.{Free, On, Wanted, Flushing}
-use Rattle.distributor.specs.declared.change.Change.{Change}
-use Rattle.distributor.specs.declared.change.Change.TheVariants.{Mark, Release}
-use Rattle.distributor.specs.declared.slots.ConversationTest.TheVariants.{WantsMarker, AwaitsResponse, HeldOn}
 use Rattle.distributor.specs.Conversations.{sum_below}
-use Rattle.distributor.specs.Changes.{after_change, wants_marker}
-use Rattle.distributor.specs.Chains.{assignment_port, chain_of, is_in_chain, is_flagged, is_flushing, is_wanted, changed_in_chain}
-use Rattle.distributor.specs.Chains.{slot_state}
-use Rattle.distributor.specs.Chains.{passes, IsFlagged}
 use Rattle.distributor.proofs.ChainLemmas.{stands_none, stands_once}
 use Rattle.distributor.proofs.WalkLemmas.{after_port, bit, cond_same, none_sum, passes_stands, same_sum, stands_alike}
 

@@ -1,3 +1,4 @@
+mod Common
 pub mod ChainLemmas
 pub mod WalkLemmas
 pub mod FlagLemmas

@@ -1,24 +1,16 @@
 -- Each call changes the conversations only by moves that the model allows.
-use Rattle.std.proofs.Common.{◌≡◌, ℕ, zero, suc, ◌+◌, ◌-◌, ◌/◌, ◌%◌, ◌<◌, ◌^◌, length, arith, ⊎_elim, Bool, true, false, cond, ◌&&◌}
-use Rattle.std.proofs.Common.{eqb, Option, Some, None, Ok, Err, List, [], ◌∷◌, sym, refl, ap, ◌∙◌, subst, ◌⊎◌, inl, inr}
-use Rattle.std.specs.Prelude.{ltb, is_none}
-use Rattle.std.proofs.lemmas.Bool.{cases_Bool, and_parts, eqb-true, eq-eqb, cond-true, cond-false, false≢true, cases_eq, ltb-true}
-use Rattle.std.proofs.lemmas.Bool.{ltb-false}
-use Rattle.std.proofs.lemmas.Nat.{mod-mul-add, div-mul-add}
-use Rattle.std.proofs.lemmas.List.{get_or_past}
-use Rattle.distributor.specs.declared.assignment.Assignment.{Assignment}
+use Rattle.distributor.proofs.Common.{Bool, Err, List, None, Ok, Option, Some, [], ap, arith, cond, eq-eqb, eqb, eqb-true, false, inl, inr, length}
+use Rattle.distributor.proofs.Common.{ltb, refl, subst, suc, sym, true, zero, ℕ, ⊎_elim, ◌%◌, ◌&&◌, ◌+◌, ◌-◌, ◌/◌, ◌<◌, ◌^◌, ◌∙◌, ◌∷◌, ◌≡◌, ◌⊎◌}
+use Rattle.distributor.proofs.Common.{and_parts, cases_Bool, cases_eq, cond-false, cond-true, false≢true, ltb-false, ltb-true, get_or_past}
+use Rattle.distributor.proofs.Common.{div-mul-add, mod-mul-add, is_none, Assignment, MaySend, force_result, is_among, leave_result, move_result}
+use Rattle.distributor.proofs.Common.{rest_result, ChangesAssignments, Marks, SetsAssignment, after_down, after_leave, after_mark, after_release}
+use Rattle.distributor.proofs.Common.{after_tick, Table, assignment_of, first_table, slot_index}
 use Rattle.distributor.specs.declared.assignment.Assignment.TheVariants as state
 use Rattle.distributor.specs.declared.fault.DistFault.{DistFault}
-use Rattle.lagmodel.specs.View.{Conversation, ModelCall, ControlMessage, SystemSetup, at_conversation, first_view, replies_frame}
-use Rattle.lagmodel.specs.View.{conversation_port}
-use Rattle.lagmodel.specs.Move.{Act, ConversationMove, ConversationMoveAllowed, conversation_after, DistributorMove, DistributorMoves}
-use Rattle.lagmodel.specs.Move.{flushed}
+use Rattle.lagmodel.specs.View.{Conversation, ModelCall, ControlMessage, SystemSetup, at_conversation, first_view, replies_frame, conversation_port}
+use Rattle.lagmodel.specs.Move.{Act, ConversationMove, ConversationMoveAllowed, conversation_after, DistributorMove, DistributorMoves, flushed}
 use Rattle.lagmodel.specs.Bridge.{IsAmong, BecomeByMoves}
 use Rattle.lagmodel.proofs.Uses.{flows_become}
-use Rattle.distributor.specs.Conversations.{Table, first_table, assignment_of, slot_index}
-use Rattle.distributor.specs.Changes.{SetsAssignment, ChangesAssignments, Marks, after_leave, after_mark, after_release, after_down}
-use Rattle.distributor.specs.Changes.{after_tick}
-use Rattle.distributor.specs.Calls.{MaySend, move_result, force_result, is_among, leave_result, rest_result}
 use Rattle.distributor.proofs.TableLemmas.{first_free}
 use Rattle.distributor.specs.Moves.{model_conversation, model_distributor, OnlyListedDistribute, NoneDistributes}
 

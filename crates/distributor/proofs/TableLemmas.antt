@@ -1,15 +1,10 @@
 -- The states of the conversations, by their indices in the list.
-use Rattle.std.proofs.Common.{ℕ, ◌+◌, ◌-◌, ◌*◌, ◌<◌, ◌≤◌, ◌≡◌, zero, suc, Bool, cond, ◌&&◌, List, length, None, get_or, set, map, replicate}
-use Rattle.std.proofs.Common.{sym, ap, ◌∙◌, arith, inl, inr}
-use Rattle.std.specs.Prelude.{eqb, ltb}
-use Rattle.std.proofs.lemmas.Bool.{cases_Bool, and_from, and_parts, cond-true, cond-false, eqb-true, eq-eqb, false≢true, lt-ltb, ltb-true}
-use Rattle.std.proofs.lemmas.Bool.{ltb-false}
-use Rattle.std.proofs.lemmas.List.{get_or-map, get_or_past, get_or-replicate, get_or-set_same, get_or-set_other, length-map, length-replicate}
-use Rattle.std.proofs.lemmas.Nat.{mul-add-lt, same_from_place}
-use Rattle.distributor.specs.declared.assignment.Assignment.{Assignment}
-use Rattle.distributor.specs.declared.assignment.Assignment.TheVariants.{Free}
-use Rattle.distributor.specs.Conversations.{Table, first_table, assignment_of, slot_index, count_conversations, sum_below}
-use Rattle.distributor.specs.Chains.{slot_state}
+use Rattle.distributor.proofs.Common.{Bool, List, None, ap, arith, cond, eq-eqb, eqb, eqb-true, get_or, inl, inr, length, ltb, map, replicate, set}
+use Rattle.distributor.proofs.Common.{suc, sym, zero, ℕ, ◌&&◌, ◌*◌, ◌+◌, ◌-◌, ◌<◌, ◌∙◌, ◌≡◌, ◌≤◌, and_from, and_parts, cases_Bool, cond-false}
+use Rattle.distributor.proofs.Common.{cond-true, false≢true, lt-ltb, ltb-false, ltb-true, get_or-map, get_or-replicate, get_or-set_other}
+use Rattle.distributor.proofs.Common.{get_or-set_same, get_or_past, length-map, length-replicate, mul-add-lt, same_from_place, Assignment, Free}
+use Rattle.distributor.proofs.Common.{slot_state, Table, assignment_of, count_conversations, first_table, slot_index}
+use Rattle.distributor.specs.Conversations.{sum_below}
 use Rattle.distributor.proofs.WalkLemmas.{same_sum, bit}
 
 -- the state at a place, if the numbers are in range and each aggregator has w conversations

@@ -1,16 +1,9 @@
 -- A tick, which is applied to one chain after the other.
-use Rattle.std.proofs.Common.{ℕ, ◌+◌, ◌<◌, ◌≤◌, ◌≡◌, ◌&&◌, Bool, true, false, cond, eqb, List, length, None, get_or, map, refl, ap, sym}
-use Rattle.std.proofs.Common.{◌∙◌, arith, inl, inr}
-use Rattle.std.specs.Prelude.{ltb}
-use Rattle.std.proofs.lemmas.Bool.{cases_Bool, cond-true, cond-false, eq-eqb, eqb-true, false≢true, le-ltb, lt-ltb, ltb-false, ltb-true}
-use Rattle.std.proofs.lemmas.Bool.{ne_eqb}
-use Rattle.std.proofs.lemmas.List.{ext_get_or, get_or-map, length-map}
-use Rattle.std.proofs.lemmas.Nat.{mod_below}
-use Rattle.distributor.specs.declared.assignment.Assignment.{Assignment}
-use Rattle.distributor.specs.declared.assignment.Assignment.TheVariants.{Free, On, Wanted, Flushing}
-use Rattle.distributor.specs.Changes.{after_tick}
-use Rattle.distributor.specs.Chains.{chain_of, assignment_port, is_in_chain, is_flagged, is_flushing, changed_in_chain, slot_state}
-use Rattle.distributor.specs.Chains.{IsFlagged}
+use Rattle.distributor.proofs.Common.{Bool, List, None, ap, arith, cond, eq-eqb, eqb, eqb-true, false, get_or, inl, inr, length, ltb, map, refl, sym}
+use Rattle.distributor.proofs.Common.{true, ℕ, ◌&&◌, ◌+◌, ◌<◌, ◌∙◌, ◌≡◌, ◌≤◌, cases_Bool, cond-false, cond-true, false≢true, le-ltb, lt-ltb}
+use Rattle.distributor.proofs.Common.{ltb-false, ltb-true, ne_eqb, ext_get_or, get_or-map, length-map, mod_below, Assignment, Flushing, Free, On}
+use Rattle.distributor.proofs.Common.{Wanted, IsFlagged, assignment_port, chain_of, changed_in_chain, is_flagged, is_flushing, is_in_chain}
+use Rattle.distributor.proofs.Common.{slot_state, after_tick}
 use Rattle.distributor.proofs.WalkLemmas.{cond_same, stands_alike, tick_port}
 use Rattle.distributor.proofs.TableLemmas.{map_at}
 

@@ -1,15 +1,10 @@
 -- The soonest of many numbers of ticks, and a walk along a chain in search of it.
-use Rattle.std.proofs.Common.{ℕ, zero, suc, ◌+◌, ◌*◌, ◌<◌, ◌≡◌, ◌++◌, Bool, true, false, cond, List, [], ◌∷◌, length, Option}
-use Rattle.std.proofs.Common.{None, Some, get_or, refl, sym, ap, ◌∙◌, arith, subst, ⊎_elim}
-use Rattle.std.specs.Prelude.{ltb, min, IfSome}
-use Rattle.std.proofs.lemmas.Bool.{cases_eq, eq-eqb, false≢true, le-leb, leb-true}
-use Rattle.std.proofs.lemmas.List.{append_assoc}
-use Rattle.std.proofs.lemmas.Nat.{mod_below}
-use Rattle.distributor.specs.declared.assignment.Assignment.{Assignment}
-use Rattle.distributor.specs.declared.assignment.Assignment.TheVariants.{Free, On, Wanted, Flushing}
-use Rattle.distributor.specs.Conversations.{Table, assignment_of, slot_index}
-use Rattle.distributor.specs.Chains.{chain_of, is_in_chain, is_flagged, occurs, slot_state, IsChained, IsFlagged}
-use Rattle.distributor.specs.Waiting.{is_by, sooner, soonest_below, ticks_until_next_wanted, ticks_until_wanted}
+use Rattle.distributor.proofs.Common.{Bool, List, None, Option, Some, [], ap, append_assoc, arith, cond, eq-eqb, false, get_or, length, ltb, min}
+use Rattle.distributor.proofs.Common.{refl, subst, suc, sym, true, zero, ℕ, ⊎_elim, ◌*◌, ◌++◌, ◌+◌, ◌<◌, ◌∙◌, ◌∷◌, ◌≡◌, cases_eq, false≢true, le-leb}
+use Rattle.distributor.proofs.Common.{leb-true, mod_below, IfSome, Assignment, Flushing, Free, On, Wanted, IsChained, IsFlagged, chain_of, is_flagged}
+use Rattle.distributor.proofs.Common.{is_in_chain, occurs, slot_state, Table, assignment_of, slot_index, is_by, sooner, ticks_until_next_wanted}
+use Rattle.distributor.proofs.Common.{ticks_until_wanted}
+use Rattle.distributor.specs.Waiting.{soonest_below}
 use Rattle.distributor.proofs.ChainLemmas.{one_other}
 use Rattle.distributor.proofs.TableLemmas.{stated_in}
 use Rattle.distributor.proofs.WalkLemmas.{Walking, after_first, cond_same, split_first, steps, walk_begins, walk_below, walk_next, walk_over}

@@ -1,24 +1,15 @@
 -- A walk along one chain that changes each state on its way.
-use Rattle.std.proofs.Common.{ℕ, ◌+◌, ◌<◌, ◌≤◌, ◌≡◌, ◌++◌, ◌&&◌, zero, suc, Bool, true, false, cond, eqb, List, [], ◌∷◌, length, Option}
-use Rattle.std.proofs.Common.{None, Some, get_or, set, map, replicate, ◌^◌, refl, sym, ap, ◌∙◌, arith, subst, ⊎_elim, inl, inr, ◌⊎◌}
-use Rattle.std.specs.Prelude.{ltb}
-use Rattle.std.proofs.lemmas.Bool.{cases_Bool, cases_eq, eqb-true, eq-eqb, ne_eqb, cond-true, cond-false, false≢true, lt-ltb}
-use Rattle.std.proofs.lemmas.Bool.{ltb-false, ltb-true, and_left, and_right}
-use Rattle.std.proofs.lemmas.List.{length-map, get_or-set_same, get_or-set_other, get_or-map, get_or_past, append_assoc, ext_get_or}
-use Rattle.std.proofs.lemmas.List.{length-replicate, get_or-replicate}
-use Rattle.distributor.specs.declared.assignment.Assignment.{Assignment}
-use Rattle.distributor.specs.declared.assignment.Assignment.TheVariants.{Free, On, Wanted, Flushing}
-use Rattle.distributor.specs.declared.change.Change.{Change}
-use Rattle.distributor.specs.declared.change.Change.TheVariants.{Leave, Mark, Release, Tick, Down}
-use Rattle.distributor.specs.declared.slots.ConversationTest.{ConversationTest}
-use Rattle.distributor.specs.declared.slots.ConversationTest.TheVariants.{WantsMarker, AwaitsResponse, NamesPort, HeldOn}
+use Rattle.distributor.proofs.Common.{Bool, List, None, Option, Some, [], ap, append_assoc, arith, cond, eq-eqb, eqb, eqb-true, false, get_or, inl}
+use Rattle.distributor.proofs.Common.{inr, length, ltb, map, refl, replicate, set, subst, suc, sym, true, zero, ℕ, ⊎_elim, ◌&&◌, ◌++◌, ◌+◌, ◌<◌, ◌^◌}
+use Rattle.distributor.proofs.Common.{◌∙◌, ◌∷◌, ◌≡◌, ◌≤◌, ◌⊎◌, and_left, and_right, cases_Bool, cases_eq, cond-false, cond-true, false≢true, lt-ltb}
+use Rattle.distributor.proofs.Common.{ltb-false, ltb-true, ne_eqb, ext_get_or, get_or-map, get_or-replicate, get_or-set_other, get_or-set_same}
+use Rattle.distributor.proofs.Common.{get_or_past, length-map, length-replicate, Assignment, Flushing, Free, On, Wanted, Change, Down, Leave, Mark}
+use Rattle.distributor.proofs.Common.{Release, Tick, ConversationTest, AwaitsResponse, HeldOn, NamesPort, WantsMarker, IsChained, Path}
+use Rattle.distributor.proofs.Common.{assignment_port, chain_of, changed_in_chain, is_in_chain, occurs, passes, slot_state, tested_port, after_change}
+use Rattle.distributor.proofs.Common.{after_tick}
 use Rattle.distributor.specs.Conversations.{sum_below}
-use Rattle.distributor.specs.Changes.{after_change, after_tick}
-use Rattle.distributor.specs.Chains.{assignment_port, chain_of, is_in_chain, changed_in_chain, occurs}
-use Rattle.distributor.specs.Chains.{Path, slot_state, IsChained, passes, tested_port}
-use Rattle.distributor.proofs.ChainLemmas.{last_of, first_of, one, one_same, one_other, occurs_append, path_first, path_split}
-use Rattle.distributor.proofs.ChainLemmas.{stands_some, stands_none, member_stands, member_below, few_on, on_below, before_on, after_on}
-use Rattle.distributor.proofs.ChainLemmas.{taken_out, stayed}
+use Rattle.distributor.proofs.ChainLemmas.{last_of, first_of, one, one_same, one_other, occurs_append, path_first, path_split, stands_some}
+use Rattle.distributor.proofs.ChainLemmas.{stands_none, member_stands, member_below, few_on, on_below, before_on, after_on, taken_out, stayed}
 
 abbrev pub after_first : List ℕ → List ℕ
 after_first [] = []

@@ -1,7 +1,7 @@
 -- What the counts of a list of calls are.
-use Rattle.std.proofs.Common.{◌≡◌, ℕ, ◌+◌, ◌^◌, ◌<◌, cond, List, [], ◌∷◌, ◌++◌, map, length, Option, None, Some, refl, sym, ◌∙◌, ap, arith}
-use Rattle.std.specs.Prelude.{is_none, is_some}
-use Rattle.std.proofs.lemmas.Bool.{eq-eqb}
+use Rattle.std.proofs.Common.{◌≡◌, ℕ, ◌+◌, ◌^◌, ◌<◌, cond, List, [], ◌∷◌, ◌++◌, map, length, Option, None, Some, refl, sym, ◌∙◌, ap, arith, is_some}
+use Rattle.std.proofs.Common.{eq-eqb}
+use Rattle.std.specs.Prelude.{is_none}
 use Rattle.std.proofs.Math.Seq.{take-length}
 use Rattle.holding.specs.declared.refusal.Refusal.{Refusal}
 use Rattle.holding.specs.Holding.{HoldingValue, queue, with_queue, refusal, counted}

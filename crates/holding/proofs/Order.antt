@@ -1,8 +1,9 @@
 -- What every list of calls keeps.
-use Rattle.std.proofs.Common.{◌≡◌, ◌≢◌, ℕ, zero, suc, ◌<◌, Bool, true, false, eqb, cond, ◌&&◌, inl, inr, List, [], ◌∷◌, ◌++◌, map, take, drop, length, get_or, slice_set, Option, None, Some, refl, sym, ◌∙◌, ap, arith, append_assoc}
+use Rattle.std.proofs.Common.{◌≡◌, ◌≢◌, ℕ, zero, suc, ◌<◌, Bool, true, false, eqb, cond, ◌&&◌, inl, inr, List, [], ◌∷◌, ◌++◌, map, take, drop, length}
+use Rattle.std.proofs.Common.{get_or, slice_set, Option, None, Some, refl, sym, ◌∙◌, ap, arith, append_assoc, append-nil, eqb-true}
 use Rattle.std.specs.Prelude.{is_none}
-use Rattle.std.proofs.lemmas.List.{map-append, append-nil, get_or-set_same, get_or-set_other}
-use Rattle.std.proofs.lemmas.Bool.{eqb-true, eqb-false}
+use Rattle.std.proofs.lemmas.List.{map-append, get_or-set_same, get_or-set_other}
+use Rattle.std.proofs.lemmas.Bool.{eqb-false}
 use Rattle.std.proofs.lemmas.Grind.{common_steps}
 use Rattle.std.proofs.Math.Seq.{take-length}
 use Rattle.holding.specs.declared.refusal.Refusal.{Refusal}

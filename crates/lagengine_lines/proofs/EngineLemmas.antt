@@ -1,11 +1,7 @@
 -- What an engine does with its system.
-use Rattle.std.proofs.Common.{ℕ, ◌≡◌, List, Option, Some, IfOk, Result, subst}
-use Rattle.lagsystem.specs.Calls.{Call}
-use Rattle.lagsystem.specs.State.{SystemValue}
+use Rattle.lagengine_lines.proofs.Common.{IfOk, List, Option, Result, Some, subst, ℕ, ◌≡◌, Call, SystemValue, answer_value, DoesTask}
+use Rattle.lagengine_lines.proofs.Common.{DoesTaskIfSystem, EngineState, HasAlgorithm, system_state, TaskValue}
 use Rattle.answering.specs.declared.note.MarkerNote.{MarkerNote}
-use Rattle.lagengine_lines.specs.Engines.{DoesTask, DoesTaskIfSystem, HasAlgorithm, EngineState, system_state}
-use Rattle.lagengine_lines.specs.Requests.{TaskValue}
-use Rattle.lagengine_lines.specs.AnswerValues.{answer_value}
 use Rattle.lagengine_lines.specs.declared.answer.Answer.{Answer}
 
 pub algorithm_of : {F : Type 0} (f : F) (o : Option (SystemValue F)) (w : SystemValue F) → o ≡ Some w → HasAlgorithm f o → w.algorithm ≡ f

@@ -1,14 +1,8 @@
 -- What the lines of octets that arrive in several reads ask for.
-use Rattle.std.proofs.Common.{ℕ, ◌+◌, ◌<◌, ◌≡◌, ◌++◌, ◌==◌, false, List, [], ◌∷◌, length, map, take, refl}
-use Rattle.std.proofs.Common.{sym, ap, ◌∙◌, arith}
-use Rattle.std.proofs.lemmas.List.{length-append, map-append, take-map, take_at}
-use Rattle.std.proofs.lemmas.Bool.{lt-ltb}
-use Rattle.std.specs.Prelude.{Err}
-use Rattle.lagstreams.specs.Lines.{lines_of, continue_line, longest_line}
-use Rattle.lagstreams.proofs.LineLemmas.{octet_joined}
-use Rattle.lagengine_lines.specs.Lines.{request_in}
+use Rattle.lagengine_lines.proofs.Common.{Err, List, [], ap, arith, false, length, length-append, map, refl, sym, take, ℕ, ◌++◌, ◌+◌, ◌<◌, ◌==◌, ◌∙◌}
+use Rattle.lagengine_lines.proofs.Common.{◌∷◌, ◌≡◌, lt-ltb, map-append, take-map, take_at, continue_line, lines_of, longest_line, octet_joined}
+use Rattle.lagengine_lines.proofs.Common.{TooLong, request_in}
 use Rattle.lagengine_lines.specs.Sessions.{requests}
-use Rattle.lagengine_lines.specs.declared.fault.RequestFault.TheVariants.{TooLong}
 
 pub requests_both : (a b : List (List ℕ)) → requests (a ++ b) ≡ requests a ++ requests b
 unfolding requests

@@ -1,10 +1,6 @@
 -- The reading of a line, by its text.
-use Rattle.std.proofs.Common.{ℕ, ◌≡◌, Bool, true, false, List, refl}
-use Rattle.std.specs.Str.{IsUtf8, is_utf8}
+use Rattle.lagengine_lines.proofs.Common.{Bool, Err, List, false, refl, true, ℕ, ◌≡◌, IsUtf8, is_utf8, NotText, request_of_octets, request_of_text}
 use Rattle.std.proofs.lemmas.Str.{IsUtf8-from_is_utf8, is_utf8-from_IsUtf8}
-use Rattle.std.specs.Prelude.{Err}
-use Rattle.lagengine_lines.specs.Lines.{request_of_octets, request_of_text}
-use Rattle.lagengine_lines.specs.declared.fault.RequestFault.TheVariants.{NotText}
 
 pub reads_text : (line text : List ℕ) → text ≡ line → IsUtf8 line → request_of_text text ≡ request_of_octets line
 reads_text line text same utf8 = rw (is_utf8-from_IsUtf8 line utf8, same) refl

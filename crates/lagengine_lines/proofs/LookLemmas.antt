@@ -1,10 +1,7 @@
 -- The answers for aggregators, one after another.
-use Rattle.std.proofs.Common.{ℕ, ◌≡◌, ◌+◌, List, [], ◌∷◌, ◌++◌, map, arith, sym, ap, ◌∙◌}
-use Rattle.std.specs.List.{range_with_len}
-use Rattle.std.proofs.lemmas.List.{map-append}
+use Rattle.lagengine_lines.proofs.Common.{List, [], ap, arith, map, sym, ℕ, ◌++◌, ◌+◌, ◌∙◌, ◌∷◌, ◌≡◌, map-append, range_with_len, SystemState}
+use Rattle.lagengine_lines.proofs.Common.{agg_answer, agg_answer_value}
 use Rattle.std.proofs.lemmas.List.FromFn.{map-range_with_len_more}
-use Rattle.lagsystem.specs.State.{SystemState}
-use Rattle.lagengine_lines.specs.Looks.{agg_answer, agg_answer_value}
 use Rattle.lagengine_lines.specs.declared.looks.AggAnswer.{AggAnswer}
 
 -- one more

@@ -1,20 +1,11 @@
 -- What was read and answered so far, and what `serve` returns.
-use Rattle.std.proofs.Common.{ℕ, ◌+◌, ◌≤◌, ◌≡◌, ◌++◌, false, List, [], ◌∷◌, Option, length, take, refl, sym, ap, subst, ◌∙◌}
-use Rattle.std.proofs.Common.{arith}
-use Rattle.std.proofs.lemmas.List.{append-nil, length-append}
-use Rattle.std.proofs.KnownBytes.{Consumes-nil, Consumes-trans}
-use Rattle.std.specs.Prelude.{⊤, IsErrAnd, Result, Ok, Err}
-use Rattle.std.specs.Io.KnownBytes.{IsAtEnd}
-use Rattle.lagstreams.specs.Lines.{line_if_any, ended_lines, lines_of, newline_count, continue_line}
-use Rattle.lagengine_lines.specs.Sessions.{AnswersLines, WritesAllButAnEnd, Feeds, Finishes, StopsAnswering, SessionState, answer_lines}
-use Rattle.lagengine_lines.specs.Sessions.{first_engine_state, first_session, requests}
-use Rattle.lagengine_lines.specs.AnswerValues.{AnswerValue}
+use Rattle.lagengine_lines.proofs.Common.{Err, List, Ok, Option, Result, [], ap, append-nil, arith, false, length, length-append, refl, subst, sym}
+use Rattle.lagengine_lines.proofs.Common.{take, ℕ, ◌++◌, ◌+◌, ◌∙◌, ◌∷◌, ◌≡◌, ◌≤◌, Consumes-nil, Consumes-trans, IsAtEnd, IsErrAnd, ⊤, continue_line}
+use Rattle.lagengine_lines.proofs.Common.{ended_lines, line_if_any, lines_of, newline_count, SinkState, WritesAndFlushes, prepend_none, Stopped}
+use Rattle.lagengine_lines.proofs.Common.{NoMemory, Read, Write, AnswerValue, AnswersLines, Feeds, Finishes, SessionState, StopsAnswering}
+use Rattle.lagengine_lines.proofs.Common.{WritesAllButAnEnd, answer_lines, first_engine_state, first_session, requests}
 use Rattle.lagengine_lines.specs.Serves.{Completes, HasCause, Serves, Stops}
-use Rattle.lagstreams.specs.Sinks.{WritesAndFlushes, SinkState}
 use Rattle.lagstreams.specs.Sources.{Fails, Gives, SourceState}
-use Rattle.lagengine_lines.specs.declared.stopped.Stopped.{Stopped}
-use Rattle.lagengine_lines.specs.declared.stopped.Stopped.TheVariants.{Read, Write, NoMemory}
-use Rattle.lagstreams.proofs.LineLemmas.{prepend_none}
 use Rattle.lagengine_lines.proofs.InputLemmas.{first_lines}
 use Rattle.lagengine_lines.proofs.SessionLemmas.{answers_length, answers_same, cuts_after, feeds_both, feeds_none, finishes_after, sent_both}
 use Rattle.lagengine_lines.proofs.SessionLemmas.{some_after}

@@ -1,21 +1,12 @@
 -- The answers to octets that arrive in several reads.
-use Rattle.std.proofs.Common.{ℕ, ◌+◌, suc, ◌<◌, ◌≤◌, ◌≡◌, ◌++◌, ◌==◌, ◌⊎◌, true, false, List, [], ◌∷◌, Option, length, take, refl, sym}
-use Rattle.std.proofs.Common.{ap, ap₂, subst, ◌∙◌, append_assoc, arith}
-use Rattle.std.proofs.lemmas.List.{append-nil, length-append}
-use Rattle.std.proofs.KnownBytes.{Appends-trans}
-use Rattle.std.specs.Prelude.{IfErr, IsErrAnd, Result, Ok, Err}
-use Rattle.std.specs.Io.KnownBytes.{Appends}
-use Rattle.lagengine_lines.specs.Engines.{AnswersLine, DoesRequest, AnswersFault, EngineState}
-use Rattle.lagstreams.specs.Lines.{line_if_any, lines_of, continue_line, longest_line}
-use Rattle.lagengine_lines.specs.Lines.{request_in}
-use Rattle.lagengine_lines.specs.AnswerValues.{AnswerValue}
-use Rattle.lagengine_lines.specs.Sessions.{AnswersLines, AnswersSome, WritesAllButAnEnd, Feeds, Finishes, StopsAnswering, ReadsOctets}
-use Rattle.lagengine_lines.specs.Sessions.{SessionState, WritesAnswer, FailsToAnswer, answer_line, answer_lines, requests}
-use Rattle.lagstreams.specs.Sinks.{WritesAndFlushes, SinkState}
-use Rattle.lagengine_lines.specs.declared.fault.RequestFault.TheVariants.{NoMemory as Spent}
-use Rattle.lagengine_lines.specs.declared.stopped.Stopped.{Stopped}
-use Rattle.lagengine_lines.specs.declared.stopped.Stopped.TheVariants.{Read, Write, NoMemory}
-use Rattle.lagstreams.proofs.LineLemmas.{closed, newline_joined, newlines_both, no_newline, octet_joined, one_newline}
+use Rattle.lagengine_lines.proofs.Common.{Err, IfErr, List, Ok, Option, Result, [], ap, append-nil, append_assoc, ap₂, arith, false, length}
+use Rattle.lagengine_lines.proofs.Common.{length-append, refl, subst, suc, sym, take, true, ℕ, ◌++◌, ◌+◌, ◌<◌, ◌==◌, ◌∙◌, ◌∷◌, ◌≡◌, ◌≤◌, ◌⊎◌}
+use Rattle.lagengine_lines.proofs.Common.{Appends-trans, Appends, IsErrAnd, continue_line, line_if_any, lines_of, longest_line, SinkState}
+use Rattle.lagengine_lines.proofs.Common.{WritesAndFlushes, closed, newline_joined, newlines_both, no_newline, octet_joined, one_newline, Spent}
+use Rattle.lagengine_lines.proofs.Common.{Stopped, NoMemory, Read, Write, AnswerValue, AnswersFault, AnswersLine, DoesRequest, EngineState}
+use Rattle.lagengine_lines.proofs.Common.{request_in, AnswersLines, AnswersSome, FailsToAnswer, Feeds, Finishes, ReadsOctets, SessionState}
+use Rattle.lagengine_lines.proofs.Common.{StopsAnswering, WritesAllButAnEnd, WritesAnswer, answer_line, answer_lines}
+use Rattle.lagengine_lines.specs.Sessions.{requests}
 use Rattle.lagengine_lines.proofs.InputLemmas.{long_joined, requests_both}
 use Rattle.lagstreams.proofs.SinkLemmas.{sends_more, sends_none}
 use Rattle.lagengine_lines.proofs.TextLemmas.{each_append}

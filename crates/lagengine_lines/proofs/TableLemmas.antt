@@ -1,9 +1,12 @@
 -- What is told of the conversations of an aggregator, one after another.
-use Rattle.std.proofs.Common.{◌≡◌, ◌∙◌, ℕ, suc, zero, ◌+◌, ◌<◌, ◌≤◌, ◌≢◌, ◌==◌, ◌&&◌, ◌||◌, ◌++◌, [], ◌∷◌, Bool, true, false, List, length, drop, get_or, set, ap, arith, inl, inr, refl, subst, sym, replicate}
-use Rattle.std.specs.Prelude.{nat_lt, MatchOption, Option}
-use Rattle.std.proofs.lemmas.Bool.{cases_Bool, ltb-true, ltb-false}
+use Rattle.lagengine_lines.proofs.Common.{Bool, List, Option, [], ap, arith, drop, false, get_or, inl, inr, length, length-append, nat_lt, refl}
+use Rattle.lagengine_lines.proofs.Common.{replicate, set, subst, suc, sym, true, zero, ℕ, ◌&&◌, ◌++◌, ◌+◌, ◌<◌, ◌==◌, ◌||◌, ◌∙◌, ◌∷◌, ◌≡◌, ◌≢◌, ◌≤◌}
+use Rattle.lagengine_lines.proofs.Common.{cases_Bool, ltb-false, ltb-true, drop_all, drop_more, get_or-replicate, get_or-set_other, get_or-set_same}
+use Rattle.lagengine_lines.proofs.Common.{MatchOption, SystemState, NextMove, TellsMove, carried_on, is_free_at, is_listed, is_released}
+use Rattle.lagengine_lines.proofs.Common.{number_if_marked, port_at, row_if_on}
+use Rattle.lagengine_lines.specs.Tables.{carried_below}
+use Rattle.lagengine_lines.specs.Tables.{marked_below, rows_below}
 use Rattle.std.proofs.lemmas.Bool.Decides.{nat_tests}
-use Rattle.std.proofs.lemmas.List.{drop_all, drop_more, get_or-replicate, get_or-set_other, get_or-set_same, length-append}
 use Rattle.balance.specs.Moves.{IsMove}
 use Rattle.balance.specs.declared.moves.Carried.{Carried}
 use Rattle.balance.specs.declared.moves.Move.{Move}
@@ -12,10 +15,6 @@ use Rattle.distributor.specs.Conversations.{assignment_of}
 use Rattle.lagsystem.specs.ConversationTables.{TellsFreed, TellsPorts, has_freed, is_busy, told_rows}
 use Rattle.lagsystem.specs.Offers.{has_aggregator}
 use Rattle.lagsystem.specs.Readers.{conversation_count}
-use Rattle.lagsystem.specs.State.{SystemState}
-use Rattle.lagengine_lines.specs.AnswerValues.{NextMove}
-use Rattle.lagengine_lines.specs.Engines.{TellsMove}
-use Rattle.lagengine_lines.specs.Tables.{carried_below, carried_on, is_free_at, is_listed, is_released, marked_below, number_if_marked, port_at, row_if_on, rows_below}
 use Rattle.lagengine_lines.specs.declared.tables.PortRow.{PortRow}
 
 next : (n : ℕ) → suc n ≡ n + 1

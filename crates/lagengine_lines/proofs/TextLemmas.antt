@@ -1,8 +1,6 @@
 -- Lists that are written one after another.
-use Rattle.std.proofs.Common.{ℕ, ◌≡◌, ◌<◌, ◌+◌, List, [], ◌∷◌, ◌++◌, length, take, get_or, map, refl, sym, ap, ◌∙◌, append_assoc}
-use Rattle.std.proofs.Common.{append-nil}
-use Rattle.std.proofs.lemmas.List.{map-append, take_more}
-use Rattle.lagengine_lines.specs.Texts.{each_text}
+use Rattle.lagengine_lines.proofs.Common.{List, [], ap, append-nil, append_assoc, get_or, length, map, refl, sym, take, ℕ, ◌++◌, ◌+◌, ◌<◌, ◌∙◌, ◌∷◌}
+use Rattle.lagengine_lines.proofs.Common.{◌≡◌, map-append, take_more, each_text}
 
 pub each_append : {A : Type 0} (text : A → List ℕ) (xs ys : List A) → each_text text (xs ++ ys) ≡ each_text text xs ++ each_text text ys
 each_append text [] ys = refl

@@ -1,9 +1,6 @@
 -- Ticks, one after another.
-use Rattle.std.proofs.Common.{◌≡◌, ◌∙◌, ℕ, zero, suc, ◌+◌, List, [], ◌∷◌, ◌++◌, replicate, arith, ap, refl, subst, append_assoc}
-use Rattle.lagsystem.specs.Calls.{Tick}
-use Rattle.lagsystem.specs.Drives.{Drives}
-use Rattle.lagsystem.specs.Sound.{CallPromise}
-use Rattle.lagsystem.specs.State.{SystemState}
+use Rattle.lagengine_lines.proofs.Common.{List, [], ap, append_assoc, arith, refl, replicate, subst, suc, zero, ℕ, ◌++◌, ◌+◌, ◌∙◌, ◌∷◌, ◌≡◌, Tick}
+use Rattle.lagengine_lines.proofs.Common.{Drives, CallPromise, SystemState}
 use Rattle.lagsystem.specs.declared.drive.Reply.TheVariants as reply
 use Rattle.lagsystem.proofs.DriveLemmas.{drives_more}
 

@@ -1,12 +1,9 @@
 -- The value that `parse` reads from a word without a plus sign is the word's number.
-use Rattle.std.proofs.Common.{ℕ, ◌≡◌, ◌≢◌, ◌<◌, ◌&&◌, Bool, true, false, cond, List, length, get_or, nat_lt, Some, None, Result, Ok, Err}
-use Rattle.std.proofs.Common.{refl}
+use Rattle.lagengine_lines.proofs.Common.{Bool, Err, List, None, Ok, Result, Some, cond, false, get_or, length, nat_lt, refl, true, ℕ, ◌&&◌, ◌<◌, ◌≡◌}
+use Rattle.lagengine_lines.proofs.Common.{◌≢◌, lt-ltb, ltb-true, all_ascii_digits, number_below}
 use Rattle.std.specs.Result.{OkIff, result_ok}
-use Rattle.std.specs.Str.{all_ascii_digits}
 use Rattle.std.specs.Str.Parse.{ParsesUnsigned, digits_value}
 use Rattle.std.proofs.lemmas.Str.Parse.{IsNumeralModel, numerals_by_value, parse_plain, tells_all_ascii_digits}
-use Rattle.std.proofs.lemmas.Bool.{lt-ltb, ltb-true}
-use Rattle.lagengine_lines.specs.Words.{number_below}
 
 numerals : IsNumeralModel (λ ds. all_ascii_digits ds ≡ true) (digits_value 10)
 numerals = numerals_by_value _ tells_all_ascii_digits

@@ -1,8 +1,8 @@
 -- The words that are said to be wrong are those that lagscript refuses.
-use Rattle.std.proofs.Common.{◌≡◌, ◌∙◌, ◌+◌, ℕ, suc, Bool, true, false, List, [], ◌∷◌, Option, Some, None, Result, Ok, Err}
-use Rattle.std.proofs.Common.{ap, arith, is_some, length, option_and_then, option_map, refl, slice_get, sym, subst, if◌then◌else◌}
+use Rattle.std.proofs.Common.{◌≡◌, ◌∙◌, ◌+◌, ℕ, suc, Bool, true, false, List, [], ◌∷◌, Option, Some, None, Result, Ok, Err, ap, arith, is_some}
+use Rattle.std.proofs.Common.{length, option_and_then, option_map, refl, slice_get, sym, subst, if◌then◌else◌, eq-eqb}
 use Rattle.std.specs.Result.{result_err}
-use Rattle.std.proofs.lemmas.Bool.{eq-eqb, ne_eqb}
+use Rattle.std.proofs.lemmas.Bool.{ne_eqb}
 use Rattle.lagscript.specs.EventValues.{EntryForm, EventValue}
 use Rattle.lagscript.specs.Entries.{event_named, event_of_form, event_of_form_if_any, form_named, number_word, system_word, ticks_word}
 use Rattle.lagscript.specs.Entries.{aggregation_word, cable_word, hex_word, kinds_named, word_value, words_said}

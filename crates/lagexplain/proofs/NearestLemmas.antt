@@ -1,6 +1,6 @@
 -- The nearest of the names so far.
-use Rattle.std.proofs.Common.{◌≡◌, ◌≤◌, ◌<◌, ◌+◌, ◌++◌, ◌∙◌, ℕ, All, List, [], ◌∷◌, length, Option, Some, None, ap, append_assoc, arith}
-use Rattle.std.proofs.Common.{get_or, inr, map, option_map, refl, sym, subst, take}
+use Rattle.std.proofs.Common.{◌≡◌, ◌≤◌, ◌<◌, ◌+◌, ◌++◌, ◌∙◌, ℕ, All, List, [], ◌∷◌, length, Option, Some, None, ap, append_assoc, arith, get_or, inr}
+use Rattle.std.proofs.Common.{map, option_map, refl, sym, subst, take}
 use Rattle.std.proofs.lemmas.List.Elements.{All-append, All-cons, All-nil, All-push, All-weaker}
 use Rattle.std.proofs.lemmas.List.{map-append, take_more}
 use Rattle.lagscript.specs.Results.{Word, word_octets}

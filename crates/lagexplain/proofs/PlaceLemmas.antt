@@ -1,9 +1,8 @@
 -- What is left of a list of octets is no longer than the list; how a place and a subject are told.
-use Rattle.std.proofs.Common.{◌≡◌, ◌≤◌, ◌<◌, ◌++◌, ◌^◌, ◌∙◌, ℕ, suc, Bool, true, false, cond, List, [], ◌∷◌, filter, length, reverse}
-use Rattle.std.proofs.Common.{take, take_while, ap, append_assoc, arith, codes, decimal, subst, sym, Option, Some, Result, Ok, Err, IfOk, String}
-use Rattle.std.proofs.Common.{string_bytes}
+use Rattle.std.proofs.Common.{◌≡◌, ◌≤◌, ◌<◌, ◌++◌, ◌^◌, ◌∙◌, ℕ, suc, Bool, true, false, cond, List, [], ◌∷◌, filter, length, reverse, take}
+use Rattle.std.proofs.Common.{take_while, ap, append_assoc, arith, codes, decimal, subst, sym, Option, Some, Result, Ok, Err, IfOk, String}
+use Rattle.std.proofs.Common.{string_bytes, Global}
 use Rattle.std.specs.declared.alloc.AllocError.{AllocError}
-use Rattle.std.specs.declared.alloc.Global.{Global}
 use Rattle.std.specs.List.{prefix_len}
 use Rattle.std.proofs.lemmas.List.{length-reverse, length-take-le}
 use Rattle.std.proofs.lemmas.List.Sums.{prefix_len-le-length}

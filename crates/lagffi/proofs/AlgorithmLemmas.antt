@@ -1,7 +1,5 @@
 -- What is promised by an algorithm is promised by its number.
-use Rattle.std.proofs.Common.{◌≡◌, ◌≤◌, ◌<◌, ℕ, zero, suc, arith}
-use Rattle.distributor.specs.Calls.{index_by_number}
-use Rattle.lagffi.specs.Algorithms.{gives_by, index_by_sum}
+use Rattle.lagffi.proofs.Common.{arith, suc, zero, ℕ, ◌<◌, ◌≡◌, ◌≤◌, index_by_number, gives_by, index_by_sum}
 
 pub by_number_0 : (R : (ℕ → ℕ → ℕ → Type 0) → Type 0) (n : ℕ) → n < 1 → R (λ conv count place. place ≡ index_by_number conv count)
     → R (gives_by n)

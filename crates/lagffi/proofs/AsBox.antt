@@ -1,8 +1,7 @@
 -- Parts and a handle that holds them own what a box at the same types owns.
+use Rattle.lagffi.proofs.Common.{[], Bx}
 use mir.Syntax.{impl, tnil, dnil}
-use mathlib.Core.List.{[]}
 use denote.Signature.{Slot, plain}
-use Rattle.std_alloc.proofs.BoxSteps.Form.{Bx}
 use Rattle.std_heap.specs.contracts.Global as Heap
 use Rattle.std_heap.specs.contracts.GlobalAllocator.TheImpl.{ghosts, dict}
 use Rattle.std_heap.proofs.Global.TheLaws as heap

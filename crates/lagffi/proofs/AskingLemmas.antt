@@ -1,10 +1,9 @@
 -- A call of a handle that holds a system is a call of that system.
-use mathlib.Core.Path.{◌≡◌, sym, subst}
-use Rattle.std.specs.Prelude.{ℕ, List, Option, Some}
-use Rattle.lagsystem.specs.State.{SystemState}
+use Rattle.lagffi.proofs.Common.{subst, sym, Option, Some, ℕ, SystemState, gives_by, CallsHeldSystem, NotesHeldSystem, OffersToHeldSystem}
+use Rattle.lagffi.proofs.Common.{ReadsHeldSystem, ReadsNotes}
+use mathlib.Core.Path.{◌≡◌}
+use Rattle.std.proofs.Common.{List}
 use Rattle.answering.specs.declared.note.MarkerNote.{MarkerNote}
-use Rattle.lagffi.specs.Algorithms.{gives_by}
-use Rattle.lagffi.specs.Asking.{CallsHeldSystem, NotesHeldSystem, OffersToHeldSystem, ReadsHeldSystem, ReadsNotes}
 use Rattle.lagffi.specs.Holding.{HeldValue}
 
 pub called : (R : SystemState → SystemState → Type 0) (N : Type 0) {o n : Option HeldValue} {g : ℕ} {w : List MarkerNote} {k z : SystemState}

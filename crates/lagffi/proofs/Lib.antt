@@ -1,3 +1,4 @@
+mod Common
 pub mod AlgorithmLemmas
 pub mod AsBox
 pub mod AskingLemmas

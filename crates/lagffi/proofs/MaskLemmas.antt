@@ -1,8 +1,8 @@
 -- Masks of at most 64 bits fit.
-use Rattle.std.proofs.Common.{◌≡◌, ◌<◌, ◌≤◌, ◌^◌, ℕ, zero, suc, Bool, true, false, List, [], ◌∷◌, length, drop, arith, length-drop}
+use Rattle.lagffi.proofs.Common.{Bool, arith, drop, false, length, length-drop, suc, true, zero, ℕ, ◌<◌, ◌^◌, ◌≡◌, ◌≤◌, mask}
+use Rattle.std.proofs.Common.{List, [], ◌∷◌}
 use mir.Val.{bool_byte}
 use Rattle.std.proofs.lemmas.Nat.{pow_pos}
-use Rattle.lagffi.specs.Masks.{mask}
 
 pub mask_below : (bits : List Bool) (k : ℕ) → length bits ≤ k → mask bits < 2 ^ k
 mask_below [] k h = pow_pos k

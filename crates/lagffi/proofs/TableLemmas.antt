@@ -1,12 +1,8 @@
 -- What is told of all conversations of an aggregator.
-use mathlib.Core.Path.{◌≡◌, ◌∙◌, ap, sym, subst}
-use Rattle.std.specs.Prelude.{ℕ, Bool, true, false, Result, Ok, Err, IfErr, IfOk, OnErr}
-use Rattle.lagsystem.specs.declared.fault.SystemFault.{SystemFault}
-use Rattle.lagsystem.specs.declared.fault.SystemFault.TheVariants.{NoAggregator}
+use Rattle.lagffi.proofs.Common.{ap, subst, sym, ◌∙◌, Bool, Err, IfErr, IfOk, Ok, Result, false, true, ℕ, OnErr, SystemFault, NoAggregator, LagNumber}
+use Rattle.lagffi.proofs.Common.{number_of, number_refused, wrong_buffer_length, TellsRowsIf}
+use mathlib.Core.Path.{◌≡◌}
 use Rattle.lagsystem.specs.Faults.{fault_number}
-use Rattle.lagffi.specs.declared.values.LagNumber.{LagNumber}
-use Rattle.lagffi.specs.Numbers.{number_of, number_refused, wrong_buffer_length}
-use Rattle.lagffi.specs.Tables.{TellsRowsIf}
 
 pub rows_told : (short there : Bool) (r : Result ℕ SystemFault) {answer : LagNumber} (A B : Type 0) (tells : ℕ → Type 0)
     → answer ≡ number_of r → short ≡ false → IfOk r tells → IfOk r (λ count. there ≡ true) → IfErr r (λ fault. there ≡ false)

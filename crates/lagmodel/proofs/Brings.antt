@@ -1,7 +1,9 @@
 -- Moves that a receive allows if nothing came are allowed whatever came: only receiving, answering and being released
 -- depend on it. So a receive of nothing may be regarded as a receive of what came.
-use Rattle.lagmodel.proofs.Common.{ℕ, Bool, true, false, Option, Some, None, List, [], ◌∷◌, ap, IsSomeAnd, true≢false, none-some, PortFacts, Conversation, DistributorFacts, View, SystemSetup, ModelCall, ControlMessage, Lacp, Marker, Response, Receive, Act, PortMove, PortAllowed, DistributorMove, DistributorMoveAllowed, Move, Port, Flow, Restart, MoveAllowed, view_after, AllAllowed, Distributes, LawfulMoves}
-use Rattle.lagmodel.specs.Move.{ConversationMove, ConversationMoveAllowed}
+use Rattle.lagmodel.proofs.Common.{Bool, IsSomeAnd, List, None, Option, Some, [], ap, false, true, ℕ, ◌∷◌, true≢false, none-some, Act, AllAllowed}
+use Rattle.lagmodel.proofs.Common.{ConversationMove, ConversationMoveAllowed, Distributes, DistributorMove, DistributorMoveAllowed, Flow, LawfulMoves}
+use Rattle.lagmodel.proofs.Common.{Move, MoveAllowed, Port, PortAllowed, PortMove, Restart, view_after, ControlMessage, Conversation}
+use Rattle.lagmodel.proofs.Common.{DistributorFacts, Lacp, Marker, ModelCall, PortFacts, Receive, Response, SystemSetup, View}
 
 abbrev is_receive : ModelCall → Bool
 is_receive (Receive p pdu) = true

@@ -1,8 +1,10 @@
 -- What calls of one system preserve, whatever it receives: that the members of an aggregator have its key and one group
 -- (members_call, and members_driven of a list of calls), and, but in a configure and a restart, the own parameters of
 -- its ports (parties_same).
-use Rattle.lagmodel.proofs.Common.{◌≡◌, ℕ, false, eqb, Option, Some, List, [], ◌∷◌, sym, refl, ap, ◌∙◌, subst, inl, inr, eqb-true, option_map, cases_Bool, true≢false, Party, is_restart, PortFacts, View, SystemSetup, IsSystemSetup, first_view, ModelCall, MoveAllowed, Act, PortMove, PortAllowed, port_after, Move, Port, Flow, Restart, view_after, AllAllowed, view_after_all, LawfulMoves, party_at, Members}
-use Rattle.lagmodel.specs.Law.{LawfulRun}
+use Rattle.lagmodel.proofs.Common.{List, Option, Some, [], ap, eqb, eqb-true, false, inl, inr, option_map, refl, subst, sym, ℕ, ◌∙◌, ◌∷◌, ◌≡◌}
+use Rattle.lagmodel.proofs.Common.{cases_Bool, true≢false, Party, LawfulRun, Members, Act, AllAllowed, Flow, LawfulMoves, Move, MoveAllowed, Port}
+use Rattle.lagmodel.proofs.Common.{PortAllowed, PortMove, Restart, port_after, view_after, view_after_all, IsSystemSetup, ModelCall, PortFacts}
+use Rattle.lagmodel.proofs.Common.{SystemSetup, View, first_view, is_restart, party_at}
 use Rattle.lagmodel.proofs.Base.{value_of, cond_true, cond_false}
 use Rattle.lagmodel.proofs.Ports.{members_kept, members_first}
 

@@ -1,11 +1,10 @@
 -- The serial numbers of each conversation are 0, 1, 2 and so on.
-use Rattle.lagmodel.proofs.Common.{◌≡◌, ℕ, ◌<◌, Bool, true, false, Option, Some, None, List, [], ◌∷◌, ◌++◌, length, sym, ◌∙◌, subst, inl, inr, arith, ModelCall, Receive, Act, Move, act, Side, One, Two, Message, Control, Data, end_at, World, WorldSetup, first_world, sent_after, world_after, world_after_all, CallHappens, Event, with_messages, handed_up, Happens, Run}
-use Rattle.std.proofs.Common.{get_or, length-append}
-use Rattle.std.proofs.lemmas.Bool.{cases_lt}
+use Rattle.lagmodel.proofs.Common.{Bool, List, None, Option, Some, [], arith, false, get_or, inl, inr, length, length-append, subst, sym, true, ℕ}
+use Rattle.lagmodel.proofs.Common.{◌++◌, ◌<◌, ◌∙◌, ◌∷◌, ◌≡◌, cases_lt, CountsFromZero, Act, Move, Sends, Sends_frame, Took, act, ModelCall, Receive}
+use Rattle.lagmodel.proofs.Common.{CallHappens, Control, Data, DeliversFirst, Event, Happens, LosesFirst, Message, One, RepeatsFirst, Run}
+use Rattle.lagmodel.proofs.Common.{SensesCable, Side, Two, World, WorldSetup, end_at, first_world, handed_up, sent_after, with_messages, world_after}
+use Rattle.lagmodel.proofs.Common.{world_after_all}
 use Rattle.std.proofs.lemmas.List.{get_or_append_left, get_or_push}
-use Rattle.lagmodel.specs.Move.{Sends, Sends_frame, Took}
-use Rattle.lagmodel.specs.World.{DeliversFirst, RepeatsFirst, LosesFirst, SensesCable}
-use Rattle.lagmodel.specs.Law.{CountsFromZero}
 use Rattle.lagmodel.proofs.Lanes.{two_cases}
 
 abbrev IsCount : List ℕ → Type 0

@@ -1,11 +1,16 @@
 -- Every event preserves the facts of two systems, and so does every run.
-use Rattle.lagmodel.proofs.Common.{◌≡◌, ◌≢◌, ℕ, suc, Bool, true, false, Option, Some, None, List, [], ◌∷◌, ◌++◌, sym, refl, ap, ◌∙◌, subst, ◌⊎◌, inl, inr, true≢false, false≢true, Party, View, SystemSetup, IsSystemSetup, first_view, ControlMessage, ModelCall, Receive, is_restart, Move, Side, One, Two, peer, at_two, at_cable, Message, Control, Data, end_at, TakenLacpdu, World, WorldSetup, IsWorldSetup, first_world, party_at, AllMoves, world_after_all, CallHappens, Event, with_messages, handed_up, Happens, Run}
-use Rattle.lagmodel.specs.View.{Set_link, Tick, Configure, Transmit, Offer, Move_conversation, Force, Restart}
-use Rattle.lagmodel.specs.World.{at_side, CountsChanges, DeliversFirst, RepeatsFirst, LosesFirst, SensesCable}
+use Rattle.lagmodel.proofs.Common.{Bool, List, None, Option, Some, [], ap, false, inl, inr, refl, subst, suc, sym, true, ℕ, ◌++◌, ◌∙◌, ◌∷◌, ◌≡◌, ◌≢◌}
+use Rattle.lagmodel.proofs.Common.{◌⊎◌, false≢true, true≢false, Party, Move, Configure, ControlMessage, Force, IsSystemSetup, ModelCall}
+use Rattle.lagmodel.proofs.Common.{Move_conversation, Offer, Receive, Set_link, SystemSetup, Tick, Transmit, View, first_view, is_restart, AllMoves}
+use Rattle.lagmodel.proofs.Common.{CallHappens, Control, CountsChanges, Data, DeliversFirst, Event, Happens, IsWorldSetup, LosesFirst, Message, One}
+use Rattle.lagmodel.proofs.Common.{RepeatsFirst, Run, SensesCable, Side, TakenLacpdu, Two, World, WorldSetup, at_cable, at_side, at_two, end_at}
+use Rattle.lagmodel.proofs.Common.{first_world, handed_up, party_at, peer, with_messages, world_after_all}
+use Rattle.lagmodel.specs.View.{Restart}
 use Rattle.lagmodel.proofs.Lines.{IsFrom, Every}
 use Rattle.lagmodel.proofs.Ports.{members_first}
 use Rattle.lagmodel.proofs.Lanes.{Lanes, two_cases}
-use Rattle.lagmodel.proofs.LaneMoves.{Within, lanes_out_taken, lanes_back_taken, lanes_handed, lanes_forced, lanes_cut, lanes_joined, lanes_emptied, lanes_restarted, lanes_first}
+use Rattle.lagmodel.proofs.LaneMoves.{Within, lanes_out_taken, lanes_back_taken, lanes_handed, lanes_forced, lanes_cut, lanes_joined, lanes_emptied}
+use Rattle.lagmodel.proofs.LaneMoves.{lanes_restarted, lanes_first}
 use Rattle.lagmodel.proofs.Stamps.{heard_first, stamps_out_taken, stamps_cut, stamps_emptied, stamps_counted, stamps_first, Stamps}
 use Rattle.lagmodel.proofs.Worlds.{Half, Lawful, Calling, calling_all}
 

@@ -1,8 +1,9 @@
 -- What follows in a world in which the facts hold.
-use Rattle.lagmodel.proofs.Common.{◌≡◌, ℕ, Bool, true, false, ◌&&◌, Some, List, [], ◌∷◌, sym, refl, ap, ◌∙◌, subst, inl, inr, eq-eqb, option_map, true≢false, cases_Bool, same_Some, Party, PortFacts, conversation_port, View, Lacp, Marker, Response, Side, One, Two, peer, Message, Control, Data, end_at, party_at, TakenLacpdu, World, WorldSetup, IsWorldSetup, serials}
-use Rattle.std.proofs.Common.{not}
-use Rattle.lagtypes.specs.Group.{individual, SamePair, pair_of, end_of}
-use Rattle.lagmodel.specs.Law.{OnePartner, EndsAgree, InOrder, LastLacpduSaysInSync, UpToDateLacpdusNameSender, OnItsCable, FlushedByMarker, BelowNext, CollectedThenInFlight}
+use Rattle.lagmodel.proofs.Common.{Bool, List, Some, [], ap, eq-eqb, false, inl, inr, not, option_map, refl, subst, sym, true, ℕ, ◌&&◌, ◌∙◌, ◌∷◌, ◌≡◌}
+use Rattle.lagmodel.proofs.Common.{cases_Bool, true≢false, same_Some, Party, SamePair, end_of, individual, pair_of, BelowNext, CollectedThenInFlight}
+use Rattle.lagmodel.proofs.Common.{EndsAgree, FlushedByMarker, InOrder, LastLacpduSaysInSync, OnItsCable, OnePartner, UpToDateLacpdusNameSender}
+use Rattle.lagmodel.proofs.Common.{serials, Lacp, Marker, PortFacts, Response, View, conversation_port, Control, Data, IsWorldSetup, Message, One}
+use Rattle.lagmodel.proofs.Common.{Side, TakenLacpdu, Two, World, WorldSetup, end_at, party_at, peer}
 use Rattle.lagmodel.proofs.Base.{same_value, cond_false}
 use Rattle.lagmodel.proofs.Ports.{one_partner}
 use Rattle.lagmodel.proofs.Lines.{IsFrom, Every, every_contains, MarkerBelow, ResponseBelow, answers, NoneBehind, behind_split, is_of, is_of-true}

@@ -1,13 +1,11 @@
 -- The ports of one system: the members of an aggregator have its key and one group.
-use Rattle.lagmodel.proofs.Common.{◌≡◌, ℕ, Bool, true, false, cond, eqb, Option, Some, None, IsSomeAnd, sym, refl, ap, ◌∙◌, subst, ◌⊎◌, inl, inr, eqb-true, option_map, eqb-false, false≢true, none-some, same_Some, Party, PortFacts, SystemSetup, IsSystemSetup, first_port, first_view, ModelCall, at_port, View, PortMove, Stop, Leave, Desynchronize, Reconfigure, Default, Take, Join, Distribute, Announce, Respond, PortAllowed, port_after, Members}
-use Rattle.std.proofs.Common.{IsSome}
-use Rattle.std.specs.Prelude.{is_some}
-use Rattle.std.proofs.lemmas.Bool.{cases_eq, and_parts}
+use Rattle.lagmodel.proofs.Common.{Bool, IsSome, IsSomeAnd, None, Option, Some, ap, cond, eqb, eqb-true, false, inl, inr, is_some, option_map, refl}
+use Rattle.lagmodel.proofs.Common.{subst, sym, true, ℕ, ◌∙◌, ◌≡◌, ◌⊎◌, and_parts, cases_eq, eqb-false, false≢true, none-some, same_Some, Party, Pair}
+use Rattle.lagmodel.proofs.Common.{SamePair, individual, pair_of, Members, OnePartner, Announce, Default, Desynchronize, Distribute, Join, Leave}
+use Rattle.lagmodel.proofs.Common.{PortAllowed, PortMove, Reconfigure, Respond, Stop, Take, pair_at, port_after, IsSystemSetup, ModelCall, PortFacts}
+use Rattle.lagmodel.proofs.Common.{SystemSetup, View, at_port, first_port, first_view}
 use Rattle.lagtypes.specs.declared.identifiers.PortId.{PortId}
-use Rattle.lagtypes.specs.Group.{individual, Pair, SamePair, pair_of}
 use Rattle.lagtypes.specs.declared.group.End.{End}
-use Rattle.lagmodel.specs.Move.{pair_at}
-use Rattle.lagmodel.specs.Law.{OnePartner}
 use Rattle.lagmodel.proofs.Base.{no_value, none-is_some, same_value, value_of, mapped_some, chosen}
 
 pub group_sym : (g h : Pair) → SamePair g h → SamePair h g

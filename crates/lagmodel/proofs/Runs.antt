@@ -1,12 +1,11 @@
 -- Runs of worlds, for a crate of two systems. A call of one of them as an event: calls_from, no_call. Cables:
 -- end_there, put_on, put_nowhere. One side: itself, self. Worlds: same_world, same_view, runs_joined. What holds after
 -- a run: `lawful` of Events, and the lemma of each fact in Laws.
-use Rattle.lagmodel.proofs.Common.{◌≡◌, ℕ, zero, suc, Bool, true, false, cond, ◌&&◌, Option, Some, None, List, [], ◌∷◌, ◌++◌, sym, refl, ap, ◌∙◌, subst, ◌⊎◌, inl, inr, eq-eqb, none-some, View, ModelCall, Act, Move, view_after, act, AllAllowed, view_after_all, LawfulMoves, end_at, Message, Event, Run, put_on_cable, at_cable, Side, One, Two, peer, World, WorldSetup, world_after, AllMoves, world_after_all, CallHappens}
-use Rattle.std.proofs.Common.{map}
-use Rattle.std.specs.Prelude.{option_to_list, slice_get}
-use Rattle.lagmodel.specs.Move.{acts}
-use Rattle.lagmodel.specs.World.{Ends, port_on, is_port, at_side, CountsChanges}
-use Rattle.lagmodel.specs.Bridge.{world_after_call}
+use Rattle.lagmodel.proofs.Common.{Bool, List, None, Option, Some, [], ap, cond, eq-eqb, false, inl, inr, map, refl, slice_get, subst, suc, sym, true}
+use Rattle.lagmodel.proofs.Common.{zero, ℕ, ◌&&◌, ◌++◌, ◌∙◌, ◌∷◌, ◌≡◌, ◌⊎◌, none-some, option_to_list, world_after_call, Act, AllAllowed, LawfulMoves}
+use Rattle.lagmodel.proofs.Common.{Move, act, acts, view_after, view_after_all, ModelCall, View, AllMoves, CallHappens, CountsChanges, Ends, Event}
+use Rattle.lagmodel.proofs.Common.{Message, One, Run, Side, Two, World, WorldSetup, at_cable, at_side, end_at, is_port, peer, port_on, put_on_cable}
+use Rattle.lagmodel.proofs.Common.{world_after, world_after_all}
 use Rattle.lagmodel.proofs.Base.{mapped_some, cond_true}
 use Rattle.lagmodel.proofs.Lines.{put_cases}
 use Rattle.lagmodel.proofs.LaneMoves.{cable_cases}

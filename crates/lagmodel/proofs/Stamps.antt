@@ -1,9 +1,11 @@
 -- The Actor of an LACPDU is its sender, and the partner that a port recorded is the sender of an LACPDU.
-use Rattle.lagmodel.proofs.Common.{◌≡◌, ◌≢◌, ℕ, suc, Bool, true, false, eqb, Option, Some, None, IsSomeAnd, List, [], ◌∷◌, length, sym, refl, ap, ◌∙◌, subst, ◌⊎◌, inl, inr, arith, eqb-true, option_map, eqb-false, true≢false, false≢true, cases_Bool, none-some, same_Some, Party, PortFacts, DistributorFacts, View, SystemSetup, first_port, first_view, Lacp, Marker, Response, ModelCall, at_port, is_restart, replies_frame, PortMove, Stop, Leave, Desynchronize, Reconfigure, Default, Take, Join, Distribute, Announce, Respond, DistributorMove, Send, Mark, distributor_act, Move, Port, Flow, Restart, PortAllowed, port_after, MoveAllowed, view_after, act, act_of_port, Side, Message, Control, Data, put_on_cable, at_cable, on_cable_after, TakenLacpdu, party_at}
-use Rattle.std.proofs.Common.{◌≤◌}
-use Rattle.lagmodel.specs.View.{LacpMessage}
-use Rattle.lagmodel.specs.Move.{Took, Become, port_act}
-use Rattle.lagmodel.specs.World.{taken_after}
+use Rattle.lagmodel.proofs.Common.{Bool, IsSomeAnd, List, None, Option, Some, [], ap, arith, eqb, eqb-true, false, inl, inr, length, option_map, refl}
+use Rattle.lagmodel.proofs.Common.{subst, suc, sym, true, ℕ, ◌∙◌, ◌∷◌, ◌≡◌, ◌≢◌, ◌≤◌, ◌⊎◌, cases_Bool, eqb-false, false≢true, true≢false, none-some}
+use Rattle.lagmodel.proofs.Common.{same_Some, Party, Announce, Become, Default, Desynchronize, Distribute, DistributorMove, Flow, Join, Leave, Mark}
+use Rattle.lagmodel.proofs.Common.{Move, MoveAllowed, Port, PortAllowed, PortMove, Reconfigure, Respond, Restart, Send, Stop, Take, Took, act}
+use Rattle.lagmodel.proofs.Common.{act_of_port, distributor_act, port_act, port_after, view_after, DistributorFacts, Lacp, LacpMessage, Marker}
+use Rattle.lagmodel.proofs.Common.{ModelCall, PortFacts, Response, SystemSetup, View, at_port, first_port, first_view, is_restart, replies_frame}
+use Rattle.lagmodel.proofs.Common.{Control, Data, Message, Side, TakenLacpdu, at_cable, on_cable_after, party_at, put_on_cable, taken_after}
 use Rattle.lagmodel.proofs.Base.{cond_true, cond_false, value_of, mapped_some}
 use Rattle.lagmodel.proofs.Ports.{changed_port}
 use Rattle.lagmodel.proofs.Lines.{Every, every_push, every_weaker, put_cases}

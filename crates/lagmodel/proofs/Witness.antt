@@ -1,9 +1,11 @@
 -- A run in which two systems agree and a frame arrives: the headline is not empty.
-use Rattle.lagmodel.proofs.Common.{◌≡◌, ℕ, zero, suc, Bool, true, false, cond, eqb, Option, Some, None, List, [], ◌∷◌, sym, refl, ap, ◌∙◌, ◌≢◌, inl, inr, arith, eqb-true, none-some, same_Some, false≢true, Party, PortFacts, SystemSetup, Lacp, first_port, first_view, ModelCall, Receive, at_port, is_restart, replies_frame, Move, Port, Flow, Announce, Take, Join, Distribute, Send, port_after, Side, One, Two, World, WorldSetup, IsWorldSetup, first_world, party_at, world_after, AllMoves, world_after_all, CallHappens, with_messages, handed_up, Data, Event, Happens}
+use Rattle.lagmodel.proofs.Common.{Bool, List, None, Option, Some, [], ap, arith, cond, eqb, eqb-true, false, inl, inr, refl, suc, sym, true, zero, ℕ}
+use Rattle.lagmodel.proofs.Common.{◌∙◌, ◌∷◌, ◌≡◌, ◌≢◌, false≢true, none-some, same_Some, Party, SomethingArrives, Announce, Distribute, Flow, Join}
+use Rattle.lagmodel.proofs.Common.{Move, Port, Send, Take, port_after, Lacp, LacpMessage, ModelCall, PortFacts, Receive, SystemSetup, at_port}
+use Rattle.lagmodel.proofs.Common.{first_port, first_view, is_restart, replies_frame, zero_party, AllMoves, CallHappens, Data, Event, Happens}
+use Rattle.lagmodel.proofs.Common.{IsCabling, IsWorldSetup, One, Side, Two, World, WorldSetup, first_world, handed_up, party_at, with_messages}
+use Rattle.lagmodel.proofs.Common.{world_after, world_after_all}
 use Rattle.lagtypes.specs.declared.identifiers.SystemId.{SystemId}
-use Rattle.lagmodel.specs.View.{zero_party, LacpMessage}
-use Rattle.lagmodel.specs.World.{IsCabling}
-use Rattle.lagmodel.specs.Law.{SomethingArrives}
 use Rattle.lagmodel.proofs.Base.{chosen, mapped_some}
 use Rattle.lagmodel.proofs.Ports.{changed_port}
 use Rattle.lagmodel.proofs.Stamps.{parties_kept}

@@ -1,6 +1,8 @@
 -- What every event of two systems preserves.
-use Rattle.lagmodel.proofs.Common.{◌≡◌, ℕ, Bool, true, false, Option, List, [], ◌∷◌, sym, ◌∙◌, true≢false, Party, View, SystemSetup, ModelCall, replies_frame, is_restart, Move, Port, Flow, Restart, MoveAllowed, view_after, act, Side, One, Two, peer, Message, end_at, TakenLacpdu, World, WorldSetup, party_at, on_cable_after, sent_after, world_after, AllMoves, world_after_all, Members}
-use Rattle.lagmodel.specs.World.{taken_after}
+use Rattle.lagmodel.proofs.Common.{Bool, List, Option, [], false, sym, true, ℕ, ◌∙◌, ◌∷◌, ◌≡◌, true≢false, Party, Members, Flow, Move, MoveAllowed}
+use Rattle.lagmodel.proofs.Common.{Port, Restart, act, view_after, ModelCall, SystemSetup, View, is_restart, replies_frame, AllMoves, Message, One}
+use Rattle.lagmodel.proofs.Common.{Side, TakenLacpdu, Two, World, WorldSetup, end_at, on_cable_after, party_at, peer, sent_after, taken_after}
+use Rattle.lagmodel.proofs.Common.{world_after, world_after_all}
 use Rattle.lagmodel.proofs.Ports.{members_kept}
 use Rattle.lagmodel.proofs.Lanes.{Lanes}
 use Rattle.lagmodel.proofs.LaneMoves.{Within, lanes_own, lanes_peer}

@@ -1,38 +1,17 @@
 -- How a data frame gets a port, and how it is handed up at the other end of its cable.
-use Rattle.std.proofs.Common.{◌≡◌, ◌∙◌, ℕ, suc, ◌&&◌, Bool, true, false, cond, List, [], ◌∷◌, Some, None}
-use Rattle.std.proofs.Common.{Result, Ok, Err, refl, sym, subst, ap, arith, length}
-use Rattle.std.specs.Prelude.{slice_get, nat_le, MatchOption}
-use Rattle.std.proofs.lemmas.Bool.{true≢false}
-use Rattle.std.proofs.lemmas.Bool.Decides.{nat_tests}
-use Rattle.std.proofs.lemmas.Option.{none-some, same_Some}
-use Rattle.lagtypes.specs.declared.identifiers.AggId.{AggId}
-use Rattle.distributor.specs.declared.assignment.Assignment.{Assignment}
-use Rattle.distributor.specs.declared.assignment.Assignment.TheVariants.{Free, On, Wanted, Flushing}
+use Rattle.lagprogress.proofs.Common.{Bool, Err, List, None, Ok, Result, Some, [], ap, arith, cond, false, length, nat_le, refl, slice_get, subst}
+use Rattle.lagprogress.proofs.Common.{suc, sym, true, ℕ, ◌&&◌, ◌∙◌, ◌∷◌, ◌≡◌, true≢false, nat_tests, none-some, same_Some, MatchOption, AggId, One}
+use Rattle.lagprogress.proofs.Common.{Side, Two, value_of, Assignment, Flushing, Free, On, Wanted, Assigns, MaySend, PicksPort, is_among, SystemFault}
+use Rattle.lagprogress.proofs.Common.{Received, Up, SystemPort, Data_frame, IsFrame, Offer, ParsesWhere, Performs, ReceivesAt, Step, up_or_dropped}
+use Rattle.lagprogress.proofs.Common.{MayBeOffered, RefusesOffer, assignment_of_frame, longest_frame, collecting, distributing}
+use Rattle.lagprogress.proofs.Common.{number_of_conversation, IsSound, SystemState, port_index, effect_one, Reply, AfterOffer, AfterReceive}
+use Rattle.lagprogress.proofs.Common.{Algorithms, DeliversFrom, OnLink, WorldOffers, WorldReceives, offered_item, side_of, with_frame_counted}
+use Rattle.lagprogress.proofs.Common.{with_link_at, HalfState, ItemValue, LinkState, WorldState, half, port_at, towards, with_half, with_towards}
+use Rattle.lagprogress.proofs.Common.{half_there, DeliverHandsUp, GetsPort, IsHandedUp, OfferGetsPort, TakesFrame, held_on, EndIsUp}
 use Rattle.distributor.specs.declared.fault.DistFault.{DistFault}
-use Rattle.distributor.specs.Calls.{Assigns, MaySend, PicksPort, is_among}
-use Rattle.lagmodel.specs.World.{Side, One, Two}
-use Rattle.lagmodel.proofs.Base.{value_of}
 use Rattle.lagsystem.specs.declared.drive.Reply.TheVariants as answer
-use Rattle.lagsystem.specs.declared.fault.SystemFault.{SystemFault}
-use Rattle.lagsystem.specs.declared.received.Received.{Received}
-use Rattle.lagsystem.specs.declared.received.Received.TheVariants.{Up}
-use Rattle.lagsystem.specs.declared.system_ports.SystemPort.{SystemPort}
-use Rattle.lagsystem.specs.Calls.{Data_frame, IsFrame, Offer, ParsesWhere, Performs, ReceivesAt, Step, up_or_dropped}
-use Rattle.lagsystem.specs.Offers.{MayBeOffered, RefusesOffer, assignment_of_frame, longest_frame}
-use Rattle.lagsystem.specs.Readers.{collecting, distributing, number_of_conversation}
-use Rattle.lagsystem.specs.Sound.{IsSound}
-use Rattle.lagsystem.specs.State.{SystemState, port_index}
 use Rattle.lagsystem.proofs.Conversing.{assigned_may}
 use Rattle.lagsystem.proofs.OfferLemmas.{refused_by}
-use Rattle.lagsystem.proofs.OneFrame.{effect_one}
-use Rattle.lagworld.specs.declared.reply.Reply.{Reply}
-use Rattle.lagworld.specs.Events.{Algorithms, AfterOffer, AfterReceive, DeliversFrom, OnLink, WorldOffers, WorldReceives, side_of}
-use Rattle.lagworld.specs.Events.{offered_item, with_frame_counted, with_link_at}
-use Rattle.lagworld.specs.State.{HalfState, ItemValue, LinkState, WorldState, half, port_at, towards, with_half, with_towards}
-use Rattle.lagworld.proofs.Sides.{half_there}
-use Rattle.lagprogress.specs.Arriving.{DeliverHandsUp, GetsPort, IsHandedUp, OfferGetsPort, TakesFrame}
-use Rattle.lagprogress.specs.Freed.{held_on}
-use Rattle.lagprogress.specs.Passing.{EndIsUp}
 use Rattle.lagprogress.proofs.OneCable.{collected_links, collected_states, with_half_states}
 
 -- the answer to an offer

@@ -1,40 +1,16 @@
 -- What is cut off does no harm: the other links come up beside it.
-use Rattle.std.proofs.Common.{◌≡◌, ◌∙◌, ℕ, ◌-◌, ◌==◌, true, false, inl, inr, refl, sym, subst, ap, arith, Some}
-use Rattle.std.specs.Prelude.{slice_get}
-use Rattle.std.proofs.lemmas.Bool.{cases_Bool}
-use Rattle.std.proofs.lemmas.Option.{same_Some}
-use Rattle.lagtypes.specs.declared.party.Choice.{Choice}
-use Rattle.lagtypes.specs.declared.party.Choice.TheVariants.{Unselected, Selected, Standby}
-use Rattle.lagtypes.specs.declared.party.Party.{Party}
-use Rattle.lagtypes.specs.Choices.{is_selected}
-use Rattle.lagtypes.specs.Same.{same_system}
-use Rattle.lagtypes.proofs.SameLemmas.{exact_system, system-itself}
-use Rattle.slowpdu.specs.declared.pdu.Info.{Info}
-use Rattle.portmachines.specs.declared.receive.ReceiveState.TheVariants.{Initialize, PortDisabled, Expired, Defaulted, Current}
-use Rattle.portmachines.specs.Machines.{Machines}
-use Rattle.portmachines.specs.Mux.{mux_rows}
-use Rattle.portmachines.specs.Periodic.{periodic_rows}
-use Rattle.portmachines.specs.Receive.{receive_rows, same_receive_state}
-use Rattle.portmachines.specs.Rows.{RunsToRest}
-use Rattle.portmachines.specs.Transmit.{count_down}
-use Rattle.lagmodel.specs.World.{Side, peer}
-use Rattle.lagsystem.specs.declared.system_ports.SystemPort.{SystemPort}
-use Rattle.lagsystem.specs.NothingToSettle.{MuxIsSettled}
-use Rattle.lagsystem.specs.Occupants.{occupied}
-use Rattle.lagsystem.specs.State.{SystemState}
-use Rattle.lagsystem.proofs.Rising.{all-get, found_place, ports_rise}
-use Rattle.lagworld.specs.Events.{Algorithms}
-use Rattle.lagworld.specs.State.{LinkState, WorldState, half, port_at}
-use Rattle.lagprogress.specs.Bundle.{EnoughAggregators, EnoughLinks, OneIsActive}
-use Rattle.lagprogress.specs.CutOff.{EachLinkAgreesBesideCutOffs, EachLinkComesUpBesideCutOffs, IsBundleBesideCutOffs, IsCutOff, NoneIsHeldBesideCutOffs}
-use Rattle.lagprogress.specs.Rounds.{IsHealthyAt, Rounds}
-use Rattle.lagprogress.specs.Selecting.{WantsAggregator}
-use Rattle.lagprogress.specs.Timers.{IsTimed}
-use Rattle.lagprogress.proofs.Bundling.{IsMixed, agree_of, distribute_of, as_before, ends_at, never_stands, old_port, one_wakes, still_aggregators, still_links}
+use Rattle.lagprogress.proofs.Common.{Some, ap, arith, false, inl, inr, refl, slice_get, subst, sym, true, ℕ, ◌-◌, ◌==◌, ◌∙◌, ◌≡◌, cases_Bool}
+use Rattle.lagprogress.proofs.Common.{same_Some, Choice, Selected, Standby, Unselected, Party, is_selected, same_system, exact_system, system-itself}
+use Rattle.lagprogress.proofs.Common.{Info, Side, peer, Current, Defaulted, Expired, Initialize, PortDisabled, Machines, mux_rows, periodic_rows}
+use Rattle.lagprogress.proofs.Common.{receive_rows, same_receive_state, RunsToRest, count_down, SystemPort, MuxIsSettled, occupied, SystemState}
+use Rattle.lagprogress.proofs.Common.{all-get, found_place, ports_rise, Algorithms, LinkState, WorldState, half, port_at, EnoughAggregators}
+use Rattle.lagprogress.proofs.Common.{EnoughLinks, OneIsActive, EachLinkAgreesBesideCutOffs, EachLinkComesUpBesideCutOffs, IsBundleBesideCutOffs}
+use Rattle.lagprogress.proofs.Common.{IsCutOff, NoneIsHeldBesideCutOffs, IsHealthyAt, Rounds, WantsAggregator, IsSteady, IsTimed}
+use Rattle.lagprogress.proofs.Bundling.{IsMixed, agree_of, distribute_of, as_before, ends_at, never_stands, old_port, one_wakes, still_aggregators}
+use Rattle.lagprogress.proofs.Bundling.{still_links}
 use Rattle.lagprogress.proofs.Climbing.{Ripe, Rising, rising_first, rising_rows, state_not}
 use Rattle.lagprogress.proofs.ComingUp.{active_at, zero_on}
 use Rattle.lagprogress.proofs.CutOffLemmas.{Severed, WereDown, cut_off_is_defaulted, cut_round, cut_since}
-use Rattle.lagprogress.specs.Steady.{IsSteady}
 use Rattle.lagprogress.proofs.EachPort.{KeptBySettling}
 use Rattle.lagprogress.proofs.EachRound.{EachAt, rounds_steady}
 use Rattle.lagprogress.proofs.Freeing.{freed_of}

@@ -1,58 +1,20 @@
 -- How the links of a bundle come up and agree.
+use Rattle.lagprogress.proofs.Common.{Bool, IsSome, List, None, Option, Some, [], ap, arith, cond, false, filter, inl, inr, is_some, length, map}
+use Rattle.lagprogress.proofs.Common.{option_map, refl, slice_get, subst, suc, sym, true, zero, ℕ, ◌++◌, ◌+◌, ◌-◌, ◌==◌, ◌∙◌, ◌∷◌, ◌≡◌, ◌≢◌, ◌≤◌, ◌⊎◌}
+use Rattle.lagprogress.proofs.Common.{cases_Bool, nat_tests, none-some, same_Some, slice_get_cases, slice_get_within, AllByRecursion, AggId, Key}
+use Rattle.lagprogress.proofs.Common.{Choice, Selected, Standby, Unselected, Party, is_selected, itself, Lacpdu, IsCabling, One, Side, Two, end_at}
+use Rattle.lagprogress.proofs.Common.{peer, find_at, Machines, mux_rows, periodic_rows, lacpdu_rows, receive_rows, RunsToRest, count_down}
+use Rattle.lagprogress.proofs.Common.{ports_that_chose, has_chosen, Table, PortConfig, SystemPort, configured_numbers, first_bad_port_number}
+use Rattle.lagprogress.proofs.Common.{or_first, refusal_of_limits, model_port_of, number_of_port, MuxIsSettled, occupied, IsSound, SystemState}
+use Rattle.lagprogress.proofs.Common.{port_numbers, with_system_ports, with_table, selection_view, views, all-get, are_numbered, found_place, if_then}
+use Rattle.lagprogress.proofs.Common.{ports_rise, Same, agreement_at, Algorithms, link_ends, world_setup, IsWorldSound, LinkState, WorldState, half}
+use Rattle.lagprogress.proofs.Common.{history_at, port_at, towards, end_is, AllHeard, BothAreActive, EachActiveLinkAgrees, EachActiveLinkComesUp}
+use Rattle.lagprogress.proofs.Common.{EachLinkAgrees, EachLinkComesUp, EndsHealthyCable, EnoughAggregators, EnoughLinks, IsBundle, OneIsActive}
+use Rattle.lagprogress.proofs.Common.{SystemsDiffer, ActiveLinkComesUp, AreApart, Distributes, HasRoom, LinkComesUp, AtEnd, IsHealthy, IsHealthyAt}
+use Rattle.lagprogress.proofs.Common.{Rounds, asks_all, ticks_of_both, WantsAggregator, aggregators_with, ports_with, IsSteady, IsTimed}
 use Rattle.lagsystem.specs.declared.fault.BadConfig.{BadConfig}
-use Rattle.std.proofs.lemmas.Bool.Decides.{nat_tests}
-use Rattle.std.proofs.Common.{◌≡◌, ◌≢◌, ◌∙◌, ℕ, zero, suc, ◌+◌, ◌-◌, ◌≤◌, ◌==◌, Bool, true, false, cond, List, [], ◌∷◌, ◌++◌, ◌⊎◌, inl, inr, refl, sym}
-use Rattle.std.proofs.Common.{subst, ap, arith, Some, None, Option, length, map}
-use Rattle.std.specs.Prelude.{filter, slice_get, IsSome, is_some, option_map}
-use Rattle.std.specs.List.{AllByRecursion}
-use Rattle.std.proofs.lemmas.Bool.{cases_Bool}
-use Rattle.std.proofs.lemmas.Option.{none-some, same_Some, slice_get_cases, slice_get_within}
-use Rattle.lagtypes.specs.declared.identifiers.AggId.{AggId}
-use Rattle.lagtypes.specs.declared.identifiers.Key.{Key}
-use Rattle.lagtypes.specs.declared.party.Choice.{Choice}
-use Rattle.lagtypes.specs.declared.party.Choice.TheVariants.{Unselected, Selected, Standby}
-use Rattle.lagtypes.specs.declared.party.Party.{Party}
-use Rattle.lagtypes.specs.Choices.{is_selected}
-use Rattle.lagtypes.proofs.SameLemmas.{itself}
-use Rattle.selection.specs.Choice.{ports_that_chose}
-use Rattle.selection.specs.Views.{has_chosen}
-use Rattle.slowpdu.specs.declared.pdu.Lacpdu.{Lacpdu}
-use Rattle.portmachines.specs.Machines.{Machines}
-use Rattle.portmachines.specs.Mux.{mux_rows}
-use Rattle.portmachines.specs.Periodic.{periodic_rows}
-use Rattle.portmachines.specs.Receive.{lacpdu_rows, receive_rows}
-use Rattle.portmachines.specs.Rows.{RunsToRest}
-use Rattle.portmachines.specs.Transmit.{count_down}
-use Rattle.distributor.specs.Conversations.{Table}
-use Rattle.lagmodel.specs.World.{Side, One, Two, end_at, peer}
-use Rattle.lagmodel.proofs.Uses.{find_at}
-use Rattle.lagsystem.specs.declared.config.PortConfig.{PortConfig}
-use Rattle.lagsystem.specs.declared.system_ports.SystemPort.{SystemPort}
 use Rattle.lagsystem.specs.declared.fault.BadConfig.TheVariants.{MaxLinks, PortNumber}
-use Rattle.lagsystem.specs.First.{configured_numbers, first_bad_port_number, or_first, refusal_of_limits}
-use Rattle.lagsystem.specs.ModelView.{model_port_of, number_of_port}
-use Rattle.lagsystem.specs.NothingToSettle.{MuxIsSettled}
-use Rattle.lagsystem.specs.Occupants.{occupied}
-use Rattle.lagsystem.specs.Sound.{IsSound}
-use Rattle.lagsystem.specs.State.{SystemState, port_numbers, with_system_ports, with_table}
-use Rattle.lagsystem.specs.Views.{views, selection_view}
-use Rattle.lagsystem.proofs.Rising.{all-get, are_numbered, found_place, ports_rise, if_then}
-use Rattle.lagworld.specs.declared.agreement.Agreement.TheVariants.{Same}
-use Rattle.lagworld.specs.Agreement.{agreement_at}
-use Rattle.lagworld.specs.Events.{Algorithms}
-use Rattle.lagmodel.specs.World.{IsCabling}
-use Rattle.lagworld.specs.ModelWorld.{link_ends, world_setup}
-use Rattle.lagworld.specs.Sound.{IsSound as IsWorldSound}
-use Rattle.lagworld.specs.State.{LinkState, WorldState, half, history_at, port_at, towards}
-use Rattle.lagworld.proofs.Cables.{end_is}
 use Rattle.lagprogress.specs.Agreeing.{ActiveLinkAgrees, LinkAgrees}
-use Rattle.lagprogress.specs.Bundle.{AllHeard, BothAreActive, EachActiveLinkAgrees, EachActiveLinkComesUp, EachLinkAgrees, EachLinkComesUp}
-use Rattle.lagprogress.specs.Bundle.{EndsHealthyCable, EnoughAggregators, EnoughLinks, IsBundle, OneIsActive, SystemsDiffer}
-use Rattle.lagprogress.specs.ComingUp.{ActiveLinkComesUp, AreApart, Distributes, HasRoom, LinkComesUp}
-use Rattle.lagprogress.specs.Rounds.{AtEnd, IsHealthy, IsHealthyAt, Rounds, asks_all, ticks_of_both}
-use Rattle.lagprogress.specs.Selecting.{WantsAggregator, aggregators_with, ports_with}
-use Rattle.lagprogress.specs.Steady.{IsSteady}
-use Rattle.lagprogress.specs.Timers.{IsTimed}
 use Rattle.lagprogress.proofs.Climbing.{Down, Ripe, Rising, climbed, down_settles, down_takes, down_ticks, rising_first}
 use Rattle.lagprogress.proofs.ComingUp.{Climbs, EndPort, Up, active_at, agrees_now, apart_at, at_end, awake_at, climbs_first, climbs_on, comes_up}
 use Rattle.lagprogress.proofs.ComingUp.{end_here, end_with, events_keep, splits, rounds_kept, up_now, zero_on}
@@ -65,8 +27,8 @@ use Rattle.lagprogress.proofs.Linked.{many}
 use Rattle.lagprogress.proofs.OneActive.{named_at, one_meets}
 use Rattle.lagprogress.proofs.OnePort.{AtPort, at_number, same_place}
 use Rattle.lagprogress.proofs.OneRound.{Nothing}
-use Rattle.lagprogress.proofs.Progressing.{AtIt, Ends, Fresh, active_meet, end_of, healthy_cable, knows_peer, only_cable}
-use Rattle.lagprogress.proofs.Progressing.{only_cabling, said_by, starts}
+use Rattle.lagprogress.proofs.Progressing.{AtIt, Ends, Fresh, active_meet, end_of, healthy_cable, knows_peer, only_cable, only_cabling, said_by}
+use Rattle.lagprogress.proofs.Progressing.{starts}
 use Rattle.lagprogress.proofs.Selecting.{finds_aggregator, waits_for_room}
 use Rattle.lagprogress.proofs.Timers.{fires_keep, runs_keep}
 

@@ -1,57 +1,19 @@
 -- The link of each port that carries a conversation, or on which one is held, is up.
-use Rattle.lagsystem.proofs.Sound.{Step-sound, first_sound}
-use Rattle.std.proofs.Common.{◌≡◌, ◌∙◌, ℕ, ◌==◌, ◌&&◌, ◌||◌, Bool, true, false, not, cond, eqb, List, [], ◌∷◌, ◌⊎◌, inl, inr, refl, sym}
-use Rattle.std.proofs.Common.{subst, ap, arith, Some, None, Option, Ok, Err, Result, length}
-use Rattle.std.specs.Prelude.{is_none}
-use Rattle.std.proofs.lemmas.Bool.Decides.{nat_tests}
-use Rattle.std.proofs.lemmas.Option.{none-some, same_Some, slice_get_cases, slice_get_within}
-use Rattle.lagtypes.specs.declared.identifiers.AggId.{AggId}
-use Rattle.lagtypes.specs.declared.state.State.{State}
-use Rattle.lagtypes.specs.declared.state.StateBits.{StateBits}
-use Rattle.lagtypes.specs.States.{bits_of, with_synchronization}
-use Rattle.lagtypes.proofs.StateLemmas.{encode_then_decode}
-use Rattle.distributor.specs.declared.assignment.Assignment.{Assignment}
-use Rattle.distributor.specs.declared.assignment.Assignment.TheVariants.{Free, On, Wanted, Flushing}
+use Rattle.lagprogress.proofs.Common.{Bool, Err, List, None, Ok, Option, Result, Some, [], ap, arith, cond, eqb, false, inl, inr, length, not, refl}
+use Rattle.lagprogress.proofs.Common.{subst, sym, true, ℕ, ◌&&◌, ◌==◌, ◌||◌, ◌∙◌, ◌∷◌, ◌≡◌, ◌⊎◌, nat_tests, none-some, same_Some, slice_get_cases}
+use Rattle.lagprogress.proofs.Common.{slice_get_within, is_none, AggId, State, StateBits, bits_of, with_synchronization, encode_then_decode, Side}
+use Rattle.lagprogress.proofs.Common.{CollectingDistributing, Setup, ReceiveState, Current, Defaulted, Expired, Initialize, PortDisabled, Machines}
+use Rattle.lagprogress.proofs.Common.{mux_rows, partner_synchronized, same_mux_state, selected, periodic_rows, lacpdu_rows, receive_rows}
+use Rattle.lagprogress.proofs.Common.{same_receive_state, start_receive, Starts, before_start, count_down, has_chosen, Assignment, Flushing, Free, On}
+use Rattle.lagprogress.proofs.Common.{Wanted, force_result, is_among, move_result, SetsAssignment, after_down, Table, assignment_of, next_identifier}
+use Rattle.lagprogress.proofs.Common.{first_free, Answer, SystemFault, SystemPort, Call, Configure, Force, FreesIfDown, Move_conversation, Offer}
+use Rattle.lagprogress.proofs.Common.{Receive, Restart, Set_link, Step, TableRun, Tick, Transmit, changed_party, choice_with_link, IsFirst}
+use Rattle.lagprogress.proofs.Common.{configured_numbers, none_enabled, MuxIsSettled, GivesOrRefuses, Offers, system_force_result, system_move_result}
+use Rattle.lagprogress.proofs.Common.{aggregator_numbered, distributing, IsSound, SystemState, port_numbers, Step-frame, rests, all-get, ports_rise}
+use Rattle.lagprogress.proofs.Common.{Step-sound, first_sound, forced_to, moved_to, Event, Reply, Algorithms, WorldRuns, WorldState, half}
+use Rattle.lagprogress.proofs.Common.{EachReachedHasCarriersUp, HasPortUp, carrier_of, held_on, takes_down}
 use Rattle.distributor.specs.declared.fault.DistFault.TheVariants as dist
-use Rattle.distributor.specs.Calls.{force_result, is_among, move_result}
-use Rattle.distributor.specs.Changes.{SetsAssignment, after_down}
-use Rattle.distributor.specs.Conversations.{Table, assignment_of, next_identifier}
-use Rattle.distributor.proofs.TableLemmas.{first_free}
-use Rattle.portmachines.specs.declared.mux.MuxState.TheVariants.{CollectingDistributing}
-use Rattle.portmachines.specs.declared.port.Setup.{Setup}
-use Rattle.portmachines.specs.declared.receive.ReceiveState.{ReceiveState}
-use Rattle.portmachines.specs.declared.receive.ReceiveState.TheVariants.{Initialize, PortDisabled, Expired, Defaulted, Current}
-use Rattle.portmachines.specs.Machines.{Machines}
-use Rattle.portmachines.specs.Mux.{mux_rows, partner_synchronized, same_mux_state, selected}
-use Rattle.portmachines.specs.Periodic.{periodic_rows}
-use Rattle.portmachines.specs.Receive.{lacpdu_rows, receive_rows, same_receive_state, start_receive}
-use Rattle.portmachines.specs.Start.{Starts, before_start}
-use Rattle.portmachines.specs.Transmit.{count_down}
-use Rattle.selection.specs.Views.{has_chosen}
-use Rattle.lagmodel.specs.World.{Side}
-use Rattle.lagsystem.specs.declared.drive.Reply.{Reply as Answer}
 use Rattle.lagsystem.specs.declared.drive.Reply.TheVariants as reply
-use Rattle.lagsystem.specs.declared.fault.SystemFault.{SystemFault}
-use Rattle.lagsystem.specs.declared.system_ports.SystemPort.{SystemPort}
-use Rattle.lagsystem.specs.Calls.{Call, Tick, Set_link, Receive, Configure, Restart, Transmit, Offer, Move_conversation, Force}
-use Rattle.lagsystem.specs.Calls.{FreesIfDown, Step, TableRun, choice_with_link, changed_party}
-use Rattle.lagsystem.specs.First.{IsFirst, configured_numbers}
-use Rattle.lagsystem.specs.ModelView.{none_enabled}
-use Rattle.lagsystem.specs.NothingToSettle.{MuxIsSettled}
-use Rattle.lagsystem.specs.Offers.{GivesOrRefuses, Offers, system_force_result, system_move_result}
-use Rattle.lagsystem.specs.Readers.{aggregator_numbered, distributing}
-use Rattle.lagsystem.specs.Sound.{IsSound}
-use Rattle.lagsystem.specs.State.{SystemState, port_numbers}
-use Rattle.lagsystem.proofs.Keeps.{Step-frame}
-use Rattle.lagsystem.proofs.Rest.{rests}
-use Rattle.lagsystem.proofs.Rising.{all-get, ports_rise}
-use Rattle.lagsystem.proofs.Steps.{forced_to, moved_to}
-use Rattle.lagscript.specs.declared.event.Event.{Event}
-use Rattle.lagworld.specs.declared.reply.Reply.{Reply}
-use Rattle.lagworld.specs.Events.{Algorithms, WorldRuns}
-use Rattle.lagworld.specs.State.{WorldState, half}
-use Rattle.lagprogress.specs.Freed.{EachReachedHasCarriersUp, HasPortUp, carrier_of, held_on}
-use Rattle.lagprogress.specs.Heartbeat.{takes_down}
 use Rattle.lagprogress.proofs.Answering.{among_port}
 use Rattle.lagprogress.proofs.EachPort.{KeptByCall, KeptBySettling, OfEach, Step-each, first_each}
 use Rattle.lagprogress.proofs.Freeing.{Stays, TableStays, asks_stay, comes_stay, held_carries, settles_stay, table_same, table_through, ticks_stay}

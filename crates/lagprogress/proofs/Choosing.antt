@@ -1,35 +1,12 @@
 -- Selected stays what it is in a bundle, once each end knows its partner.
+use Rattle.lagprogress.proofs.Common.{Bool, List, Some, [], ap, false, if◌then◌else◌, inl, inr, not, refl, slice_get, slice_set, subst, suc, sym}
+use Rattle.lagprogress.proofs.Common.{true, zero, ℕ, ◌&&◌, ◌==◌, ◌||◌, ◌∙◌, ◌∷◌, ◌≡◌, ◌⊎◌, none-some, same_Some, AllByRecursion, Choice, Party}
+use Rattle.lagprogress.proofs.Common.{is_unselected, same_system, system-itself, Lacpdu, party_of, ReceiveState, Current, Defaulted, Expired}
+use Rattle.lagprogress.proofs.Common.{Initialize, PortDisabled, Machines, mux_rows, RunsPeriodic, periodic_rows, lacpdu_rows, receive_rows}
+use Rattle.lagprogress.proofs.Common.{same_receive_state, AtRest, RunsToRest, count_down, is_detached, is_eligible, SystemPort, ProcessesLacpdu}
+use Rattle.lagprogress.proofs.Common.{can_receive, can_receive_in, ChoosesIn, PortsChangeBy, Settling, ready_of, IsSound, SystemState}
+use Rattle.lagprogress.proofs.Common.{aggregators_value, selection_view, views, last_slots, HasRecorded, WantsAggregator}
 use Rattle.lagprogress.proofs.Knowing.{recorded}
-use Rattle.lagsystem.specs.ModelView.{can_receive, can_receive_in}
-use Rattle.std.proofs.Common.{◌≡◌, ◌∙◌, ℕ, zero, suc, ◌==◌, ◌&&◌, ◌||◌, Bool, true, false, not, List, [], ◌∷◌, ◌⊎◌, Some, refl, sym, subst, ap, inl, inr}
-use Rattle.std.specs.Prelude.{slice_get, slice_set, if◌then◌else◌}
-use Rattle.std.specs.List.{AllByRecursion}
-use Rattle.std.proofs.lemmas.Option.{none-some, same_Some}
-use Rattle.lagtypes.specs.declared.party.Choice.{Choice}
-use Rattle.lagtypes.specs.declared.party.Party.{Party}
-use Rattle.lagtypes.specs.Choices.{is_unselected}
-use Rattle.lagtypes.specs.Same.{same_system}
-use Rattle.lagtypes.proofs.SameLemmas.{system-itself}
-use Rattle.slowpdu.specs.declared.pdu.Lacpdu.{Lacpdu}
-use Rattle.slowpdu.specs.Parties.{party_of}
-use Rattle.portmachines.specs.declared.receive.ReceiveState.{ReceiveState}
-use Rattle.portmachines.specs.declared.receive.ReceiveState.TheVariants.{Initialize, PortDisabled, Expired, Defaulted, Current}
-use Rattle.portmachines.specs.Machines.{Machines}
-use Rattle.portmachines.specs.Mux.{mux_rows}
-use Rattle.portmachines.specs.Periodic.{RunsPeriodic, periodic_rows}
-use Rattle.portmachines.specs.Receive.{receive_rows, same_receive_state, lacpdu_rows}
-use Rattle.portmachines.specs.Rows.{AtRest, RunsToRest}
-use Rattle.portmachines.specs.Transmit.{count_down}
-use Rattle.selection.specs.Views.{is_detached, is_eligible}
-use Rattle.lagsystem.specs.declared.system_ports.SystemPort.{SystemPort}
-use Rattle.lagsystem.specs.Calls.{ProcessesLacpdu}
-use Rattle.lagsystem.specs.Settling.{PortsChangeBy, Settling, ready_of, ChoosesIn}
-use Rattle.lagsystem.specs.Sound.{IsSound}
-use Rattle.lagsystem.specs.State.{SystemState, aggregators_value}
-use Rattle.lagsystem.specs.Views.{selection_view, views}
-use Rattle.lagsystem.proofs.Rest.{last_slots}
-use Rattle.lagprogress.specs.Knowing.{HasRecorded}
-use Rattle.lagprogress.specs.Selecting.{WantsAggregator}
 use Rattle.lagprogress.proofs.Bundling.{all_by_place}
 use Rattle.lagprogress.proofs.Climbing.{keeps_selected}
 use Rattle.lagprogress.proofs.EachPort.{OfEach, zip_kept}

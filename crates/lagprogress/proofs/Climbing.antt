@@ -1,45 +1,15 @@
 -- How the mux machine of a SELECTED port climbs, and what a round keeps of what holds of one end.
-use Rattle.std.proofs.lemmas.Option.{none-some, same_Some}
+use Rattle.lagprogress.proofs.Common.{Bool, List, Some, [], ap, arith, cond, false, filter, if◌then◌else◌, inl, inr, not, refl, slice_get, subst, suc}
+use Rattle.lagprogress.proofs.Common.{sym, true, zero, ℕ, ◌&&◌, ◌-◌, ◌==◌, ◌||◌, ◌∙◌, ◌∷◌, ◌≡◌, ◌≤◌, ◌⊎◌, nat_tests, none-some, same_Some}
+use Rattle.lagprogress.proofs.Common.{AllByRecursion, list_all, list_any, AggId, Key, Choice, Selected, Standby, Unselected, is_selected}
+use Rattle.lagprogress.proofs.Common.{is_unselected, same_party, itself, party_itself, Lacpdu, party_of, MuxState, Attached, CollectingDistributing}
+use Rattle.lagprogress.proofs.Common.{Detached, Waiting, ReceiveState, Current, Expired, Initialize, PortDisabled, Machines, is_synchronized}
+use Rattle.lagprogress.proofs.Common.{mux_rows, partner_synchronized, same_mux_state, periodic_rows, default_partner, lacpdu_rows, receive_rows}
+use Rattle.lagprogress.proofs.Common.{same_receive_state, AtRest, RunsToRest, count_down, PortView, is_aggregator, ports_that_chose, has_chosen}
+use Rattle.lagprogress.proofs.Common.{has_waited, is_detached_or_waiting, SystemPort, ProcessesLacpdu, MuxIsSettled, occupied, ready_of, IsSound}
+use Rattle.lagprogress.proofs.Common.{SystemState, selection_view, stage_of, views, all-get, HasRecorded, IsTimed}
 use Rattle.lagprogress.proofs.EachPort.{KeptBySettling}
-use Rattle.selection.specs.declared.view.PortView.{PortView}
-use Rattle.std.specs.List.{AllByRecursion, list_all, list_any}
-use Rattle.std.proofs.Common.{◌≡◌, ◌∙◌, ℕ, zero, suc, ◌-◌, ◌≤◌, ◌==◌, ◌&&◌, Bool, true, false, not, List, [], ◌∷◌, ◌⊎◌, inl, inr, refl, sym, cond, ◌||◌}
-use Rattle.std.proofs.Common.{subst, ap, arith, Some}
-use Rattle.std.specs.Prelude.{slice_get, if◌then◌else◌, filter}
-use Rattle.std.proofs.lemmas.Bool.Decides.{nat_tests}
-use Rattle.lagtypes.specs.declared.identifiers.AggId.{AggId}
-use Rattle.lagtypes.specs.declared.identifiers.Key.{Key}
-use Rattle.lagtypes.specs.declared.party.Choice.{Choice}
-use Rattle.lagtypes.specs.declared.party.Choice.TheVariants.{Unselected, Selected, Standby}
-use Rattle.lagtypes.specs.Choices.{is_selected, is_unselected}
-use Rattle.lagtypes.specs.Same.{same_party}
-use Rattle.lagtypes.proofs.SameLemmas.{itself, party_itself}
-use Rattle.slowpdu.specs.declared.pdu.Lacpdu.{Lacpdu}
-use Rattle.slowpdu.specs.Parties.{party_of}
-use Rattle.portmachines.specs.declared.mux.MuxState.{MuxState}
-use Rattle.portmachines.specs.declared.mux.MuxState.TheVariants.{Detached, Waiting, Attached, CollectingDistributing}
-use Rattle.portmachines.specs.declared.receive.ReceiveState.{ReceiveState}
-use Rattle.portmachines.specs.declared.receive.ReceiveState.TheVariants.{Initialize, PortDisabled, Expired, Current}
-use Rattle.portmachines.specs.Machines.{Machines}
-use Rattle.portmachines.specs.Mux.{is_synchronized, mux_rows, partner_synchronized, same_mux_state}
-use Rattle.portmachines.specs.Periodic.{periodic_rows}
-use Rattle.portmachines.specs.Receive.{receive_rows, same_receive_state, default_partner, lacpdu_rows}
-use Rattle.portmachines.specs.Rows.{AtRest, RunsToRest}
-use Rattle.portmachines.specs.Transmit.{count_down}
-use Rattle.selection.specs.Choice.{is_aggregator, ports_that_chose}
 use Rattle.selection.specs.Ready.{is_ready}
-use Rattle.selection.specs.Views.{has_chosen, is_detached_or_waiting, has_waited}
-use Rattle.lagsystem.specs.declared.system_ports.SystemPort.{SystemPort}
-use Rattle.lagsystem.specs.Calls.{ProcessesLacpdu}
-use Rattle.lagsystem.specs.Settling.{ready_of}
-use Rattle.lagsystem.specs.Sound.{IsSound}
-use Rattle.lagsystem.specs.State.{SystemState}
-use Rattle.lagsystem.specs.Views.{stage_of, views, selection_view}
-use Rattle.lagsystem.specs.NothingToSettle.{MuxIsSettled}
-use Rattle.lagsystem.specs.Occupants.{occupied}
-use Rattle.lagsystem.proofs.Rising.{all-get}
-use Rattle.lagprogress.specs.Knowing.{HasRecorded}
-use Rattle.lagprogress.specs.Timers.{IsTimed}
 use Rattle.lagprogress.proofs.EndFacts.{Along, IsEnd, SameActor, Synced, activity, not_attached, takes_sync}
 use Rattle.lagprogress.proofs.Hearing.{EnabledKeep, no, not_down, times_keep}
 use Rattle.lagprogress.proofs.Knowing.{Known, counts}

@@ -1,44 +1,17 @@
 -- How both ends of a cable come to distribute, round by round.
-use Rattle.std.proofs.Common.{◌≡◌, ◌≢◌, ◌∙◌, ℕ, zero, suc, ◌+◌, ◌-◌, ◌≤◌, Bool, true, false, List, [], ◌∷◌, ◌⊎◌, inl, inr, refl, sym}
-use Rattle.std.proofs.Common.{subst, ap, arith, Some}
-use Rattle.std.specs.Prelude.{is_some, option_map, slice_get}
-use Rattle.lagtypes.specs.declared.party.Party.{Party}
-use Rattle.lagtypes.specs.Choices.{is_selected}
-use Rattle.slowpdu.specs.declared.pdu.Lacpdu.{Lacpdu}
-use Rattle.slowpdu.specs.Parties.{party_of}
-use Rattle.portmachines.specs.Machines.{Machines}
-use Rattle.lagmodel.specs.World.{Side, One, Two, peer}
-use Rattle.lagsystem.specs.declared.drive.Reply.{Reply as Answer}
-use Rattle.lagsystem.specs.declared.system_ports.SystemPort.{SystemPort}
-use Rattle.lagsystem.specs.Calls.{Call, TableRun}
-use Rattle.lagsystem.specs.NothingToSettle.{MuxIsSettled}
-use Rattle.lagsystem.specs.State.{SystemState, machines_of, with_system_ports, with_table}
-use Rattle.distributor.specs.Conversations.{Table}
-use Rattle.lagsystem.proofs.Keeps.{Step-frame}
-use Rattle.lagsystem.proofs.Rising.{all-get, found_place, ports_rise}
-use Rattle.lagscript.specs.declared.event.Event.{Event}
-use Rattle.lagworld.specs.declared.reply.Reply.{Reply}
-use Rattle.lagworld.specs.Events.{Algorithms, WorldRuns}
-use Rattle.lagworld.specs.State.{ItemValue, LinkState, WorldState, change_count_in, half, history_at, port_at}
+use Rattle.lagprogress.proofs.Common.{Bool, List, Some, [], ap, arith, false, inl, inr, is_some, not, option_map, refl, slice_get, subst, suc, sym}
+use Rattle.lagprogress.proofs.Common.{true, zero, ℕ, ◌&&◌, ◌+◌, ◌-◌, ◌||◌, ◌∙◌, ◌∷◌, ◌≡◌, ◌≢◌, ◌≤◌, ◌⊎◌, unwrap_or, Party, is_selected, group_end}
+use Rattle.lagprogress.proofs.Common.{group_of, individual, pair_of, same_group, group-itself, Lacpdu, party_of, One, Side, Two, peer}
+use Rattle.lagprogress.proofs.Common.{CollectingDistributing, Machines, same_mux_state, Table, Answer, SystemPort, Call, TableRun, MuxIsSettled}
+use Rattle.lagprogress.proofs.Common.{group_at, SystemState, machines_of, with_system_ports, with_table, Step-frame, all-get, found_place, ports_rise}
+use Rattle.lagprogress.proofs.Common.{Event, Same, Reply, agreement_at, agreement_of, end_facts, first_agreement, is_stamp, same_groups, Algorithms}
+use Rattle.lagprogress.proofs.Common.{WorldRuns, ItemValue, LinkState, WorldState, change_count_in, half, history_at, port_at, AreApart, Distributes}
+use Rattle.lagprogress.proofs.Common.{AtEnd, IsRound, OfPort, Rounds, IsSteady, IsTimed}
 use Rattle.lagprogress.proofs.Stamps.{Stamped, stamped_round}
-use Rattle.lagtypes.specs.Group.{end_of as group_end, group_of, individual, pair_of}
-use Rattle.lagtypes.specs.Same.{same_group}
 use Rattle.lagtypes.proofs.GroupLemmas.{groups_from_pairs}
-use Rattle.lagtypes.proofs.SameLemmas.{group-itself}
-use Rattle.std.specs.Option.{unwrap_or}
-use Rattle.std.specs.Prelude.{not, ◌&&◌, ◌||◌}
-use Rattle.portmachines.specs.declared.mux.MuxState.TheVariants.{CollectingDistributing}
-use Rattle.portmachines.specs.Mux.{same_mux_state}
-use Rattle.lagsystem.specs.Readers.{group_at}
-use Rattle.lagworld.specs.declared.agreement.Agreement.TheVariants.{Same}
-use Rattle.lagworld.specs.Agreement.{agreement_at, agreement_of, end_facts, first_agreement, is_stamp, same_groups}
-use Rattle.lagprogress.specs.ComingUp.{AreApart, Distributes}
-use Rattle.lagprogress.specs.Rounds.{AtEnd, IsRound, OfPort, Rounds}
-use Rattle.lagprogress.specs.Steady.{IsSteady}
-use Rattle.lagprogress.specs.Timers.{IsTimed}
 use Rattle.lagprogress.proofs.Claims.{Owes}
-use Rattle.lagprogress.proofs.Climbing.{PartnerInSync, Rising, distributes_now, partner_along, rising_along, rising_first}
-use Rattle.lagprogress.proofs.Climbing.{ticks_partner, ticks_rising}
+use Rattle.lagprogress.proofs.Climbing.{PartnerInSync, Rising, distributes_now, partner_along, rising_along, rising_first, ticks_partner}
+use Rattle.lagprogress.proofs.Climbing.{ticks_rising}
 use Rattle.lagprogress.proofs.EachPort.{OfEach}
 use Rattle.lagprogress.proofs.OneCable.{cable, OnCable}
 use Rattle.lagprogress.proofs.EndFacts.{IsEnd, Learnt, Synced, activity}
@@ -46,8 +19,8 @@ use Rattle.lagprogress.proofs.Halves.{each_is_calls}
 use Rattle.lagprogress.proofs.Linked.{EndIs, Fits, Link, each_map, each_side, found, peer_twice}
 use Rattle.lagprogress.proofs.OnePort.{AtPort, at_number}
 use Rattle.lagprogress.proofs.OneRound.{Nothing, join, round_nears, ticked, round_holds}
-use Rattle.lagprogress.proofs.Progressing.{AtIt, Ends, FreshAt, able_fresh, beside, emptied, fits_fresh, knows_peer}
-use Rattle.lagprogress.proofs.Progressing.{machines_there, mode, own_says, said_by, stays_fresh, wait}
+use Rattle.lagprogress.proofs.Progressing.{AtIt, Ends, FreshAt, able_fresh, beside, emptied, fits_fresh, knows_peer, machines_there, mode, own_says}
+use Rattle.lagprogress.proofs.Progressing.{said_by, stays_fresh, wait}
 use Rattle.lagprogress.proofs.Sounding.{Sounds, all_leave}
 
 -- what no event changes

@@ -1,62 +1,27 @@
 -- A port that is cut off hears nothing, and is DEFAULTED in the end.
-use Rattle.std.proofs.lemmas.Option.{none-some}
-use Rattle.lagprogress.proofs.OneRound.{Unrolled}
-use Rattle.lagprogress.proofs.Hearing.{no}
-use Rattle.lagworld.proofs.Sides.{position_there}
-use Rattle.lagsystem.proofs.Rising.{found_place}
-use Rattle.lagsystem.specs.State.{port_index}
-use Rattle.lagsystem.specs.Calls.{ParsesWhere, Performs, ReceivesAt, Step}
-use Rattle.lagsystem.specs.Sending.{TransmitsAt, TransmitsIf}
-use Rattle.portmachines.specs.Transmit.{is_due}
-use Rattle.portmachines.specs.Receive.{lacpdu_rows}
-use Rattle.portmachines.specs.Periodic.{periodic_rows}
-use Rattle.portmachines.specs.Mux.{mux_rows}
+use Rattle.lagprogress.proofs.Common.{Bool, Err, List, None, Ok, Option, Result, Some, [], ap, arith, false, if◌then◌else◌, inl, inr, length, not}
+use Rattle.lagprogress.proofs.Common.{refl, slice_get, slice_set, subst, sym, true, ℕ, ◌&&◌, ◌++◌, ◌+◌, ◌-◌, ◌==◌, ◌∙◌, ◌∷◌, ◌≡◌, ◌≤◌, ◌⊎◌}
+use Rattle.lagprogress.proofs.Common.{cases_Bool, nat_tests, none-some, same_Some, One, Side, Two, peer, value_of, ReceiveState, Current, Defaulted}
+use Rattle.lagprogress.proofs.Common.{Expired, Initialize, PortDisabled, Machines, mux_rows, periodic_rows, lacpdu_rows, receive_rows, RunsToRest}
+use Rattle.lagprogress.proofs.Common.{after_sending, count_down, is_due, SystemFault, Received, SystemPort, ParsesWhere, Performs, Receive}
+use Rattle.lagprogress.proofs.Common.{ReceivesAt, Step, Transmit, can_receive_in, none_enabled, TransmitsAt, TransmitsIf, SystemState, port_index}
+use Rattle.lagprogress.proofs.Common.{can_receive_at_rest, all-get, found_place, Reply, AfterTransmit, Algorithms, WorldSteps, side_of, HalfState}
+use Rattle.lagprogress.proofs.Common.{ItemValue, LinkState, WorldState, change_link, half, is_at_limit, link_at, link_index, port_at, put_on_port}
+use Rattle.lagprogress.proofs.Common.{sent_on, towards, with_half, with_towards, set_elsewhere, set_here, towards_other, position_there}
+use Rattle.lagprogress.proofs.Common.{CutOffIsDefaulted, IsCutOff, timeout_time, IsRound, Rounds, asks_all, IsSteady, IsTimed}
+use Rattle.lagprogress.proofs.OneRound.{Unrolled, all_ask, ask_all, deliver_all, one_of_both, unroll}
+use Rattle.lagprogress.proofs.Hearing.{no, Unheard, Within, begins, counts, is_defaulted, receives, rested, unheard_settles, when_up}
 use Rattle.lagprogress.proofs.Timers.{fires_keep, runs_keep}
-use Rattle.lagprogress.proofs.EachRound.{RoundKeeps, asks_each, delivers_each, ticks_each}
-use Rattle.std.proofs.Common.{◌≡◌, ◌∙◌, ℕ, ◌+◌, ◌-◌, ◌≤◌, ◌==◌, ◌&&◌, Bool, true, false, not, List, [], ◌∷◌, ◌++◌, Option, Some, None, ◌⊎◌, inl, inr}
-use Rattle.std.proofs.Common.{Result, Ok, Err, refl, sym, subst, ap, arith, length}
-use Rattle.std.specs.Prelude.{slice_get, slice_set, if◌then◌else◌}
-use Rattle.std.proofs.lemmas.Bool.{cases_Bool}
-use Rattle.std.proofs.lemmas.Bool.Decides.{nat_tests}
-use Rattle.std.proofs.lemmas.Option.{same_Some}
-use Rattle.portmachines.specs.declared.receive.ReceiveState.{ReceiveState}
-use Rattle.portmachines.specs.declared.receive.ReceiveState.TheVariants.{Current, Defaulted, Expired, Initialize, PortDisabled}
-use Rattle.portmachines.specs.Machines.{Machines}
-use Rattle.portmachines.specs.Receive.{receive_rows}
-use Rattle.portmachines.specs.Rows.{RunsToRest}
-use Rattle.portmachines.specs.Transmit.{count_down, after_sending}
-use Rattle.lagmodel.specs.World.{Side, One, Two, peer}
-use Rattle.lagmodel.proofs.Base.{value_of}
+use Rattle.lagprogress.proofs.EachRound.{RoundKeeps, asks_each, delivers_each, ticks_each, EachAt, rounds_steady}
 use Rattle.lagsystem.specs.declared.drive.Reply.TheVariants as answer
-use Rattle.lagsystem.specs.declared.fault.SystemFault.{SystemFault}
-use Rattle.lagsystem.specs.declared.received.Received.{Received}
 use Rattle.lagsystem.specs.declared.received.Received.TheVariants as received
-use Rattle.lagsystem.specs.declared.system_ports.SystemPort.{SystemPort}
-use Rattle.lagsystem.specs.Calls.{Receive, Transmit}
-use Rattle.lagsystem.specs.ModelView.{can_receive_in, none_enabled}
-use Rattle.lagsystem.specs.State.{SystemState}
-use Rattle.lagsystem.proofs.Rest.{can_receive_at_rest}
-use Rattle.lagsystem.proofs.Rising.{all-get}
 use Rattle.lagscript.specs.declared.event.Event.TheVariants as event
-use Rattle.lagworld.specs.declared.reply.Reply.{Reply}
-use Rattle.lagworld.specs.Events.{Algorithms, AfterTransmit, WorldSteps, side_of}
-use Rattle.lagworld.specs.State.{HalfState, ItemValue, LinkState, WorldState, change_link, half, is_at_limit, link_at, link_index, port_at, put_on_port}
-use Rattle.lagworld.specs.State.{sent_on, towards, with_half, with_towards}
-use Rattle.lagworld.proofs.Cables.{set_elsewhere, set_here, towards_other}
-use Rattle.lagprogress.specs.CutOff.{CutOffIsDefaulted, IsCutOff}
-use Rattle.lagprogress.specs.Hearing.{timeout_time}
-use Rattle.lagprogress.specs.Rounds.{IsRound, asks_all, Rounds}
-use Rattle.lagprogress.specs.Steady.{IsSteady}
-use Rattle.lagprogress.specs.Timers.{IsTimed}
 use Rattle.lagprogress.proofs.Bundling.{Alike, all_by_place, as_before, rounds_alike}
 use Rattle.lagprogress.proofs.ComingUp.{splits, zero_on}
 use Rattle.lagprogress.proofs.EachPort.{OfEach, Step-each, Tick-each, KeptBySettling}
-use Rattle.lagprogress.proofs.EachRound.{EachAt, rounds_steady}
-use Rattle.lagprogress.proofs.Hearing.{Unheard, Within, begins, counts, is_defaulted, receives, rested, unheard_settles, when_up}
 use Rattle.lagprogress.proofs.Linked.{each_side, peer_twice}
 use Rattle.lagprogress.proofs.OneCable.{Comes, Sends, came_off, emits, ticks}
 use Rattle.lagprogress.proofs.OnePort.{AtPort, same_place}
-use Rattle.lagprogress.proofs.OneRound.{all_ask, ask_all, deliver_all, one_of_both, unroll}
 
 -- a port that is down says nothing
 

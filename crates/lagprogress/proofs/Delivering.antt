@@ -1,27 +1,12 @@
 -- What a Deliver event leaves of a cable and its ends.
-use Rattle.std.proofs.Common.{refl, ◌≡◌, ◌∙◌, ℕ, ◌≤◌, List, [], ◌∷◌, Some, Result, Ok, Err}
-use Rattle.std.proofs.Common.{◌⊎◌, inl, inr, sym, subst, true}
-use Rattle.std.specs.Prelude.{slice_get}
-use Rattle.std.specs.List.{AllByRecursion}
-use Rattle.std.proofs.lemmas.Option.{none-some}
-use Rattle.slowpdu.specs.declared.pdu.Lacpdu.{Lacpdu}
+use Rattle.lagprogress.proofs.Common.{Err, List, Ok, Result, Some, [], inl, inr, refl, slice_get, subst, sym, true, ℕ, ◌∙◌, ◌∷◌, ◌≡◌, ◌≤◌, ◌⊎◌}
+use Rattle.lagprogress.proofs.Common.{none-some, AllByRecursion, Lacpdu, all-append, Side, peer, Machines, SystemFault, Received, SystemPort, Carries}
+use Rattle.lagprogress.proofs.Common.{IsFrame, Receive, CallPromise, SystemState, port_index, all-get, found_place, Reply, Algorithms, WorldSteps}
+use Rattle.lagprogress.proofs.Common.{ItemValue, WorldState, half}
 use Rattle.slowpdu.specs.declared.pdu.Pdu.TheVariants as pdu
-use Rattle.slowpdu.proofs.LayoutLemmas.{all-append}
-use Rattle.portmachines.specs.Machines.{Machines}
-use Rattle.lagmodel.specs.World.{Side, peer}
 use Rattle.lagsystem.specs.declared.drive.Reply.TheVariants as answer
-use Rattle.lagsystem.specs.declared.fault.SystemFault.{SystemFault}
-use Rattle.lagsystem.specs.declared.received.Received.{Received}
 use Rattle.lagsystem.specs.declared.received.Received.TheVariants as received
-use Rattle.lagsystem.specs.declared.system_ports.SystemPort.{SystemPort}
-use Rattle.lagsystem.specs.Calls.{Carries, IsFrame, Receive}
-use Rattle.lagsystem.specs.Sound.{CallPromise}
-use Rattle.lagsystem.specs.State.{SystemState, port_index}
-use Rattle.lagsystem.proofs.Rising.{all-get, found_place}
 use Rattle.lagscript.specs.declared.event.Event.TheVariants as event
-use Rattle.lagworld.specs.declared.reply.Reply.{Reply}
-use Rattle.lagworld.specs.Events.{Algorithms, WorldSteps}
-use Rattle.lagworld.specs.State.{ItemValue, WorldState, half}
 use Rattle.lagprogress.proofs.EachPort.{OfEach}
 use Rattle.lagprogress.proofs.EndFacts.{Along, IsEnd, Learnt, Suits, both_along, end_settles, known_along, takes_each, takes_end, takes_learnt}
 use Rattle.lagprogress.proofs.EndFacts.{wait_of}
@@ -30,8 +15,7 @@ use Rattle.lagprogress.proofs.OneCable.{Arrives, Back, delivers, put, Beside}
 use Rattle.lagprogress.proofs.OnePort.{AtPort}
 use Rattle.lagprogress.proofs.Passing.{marker_carries_none}
 use Rattle.lagprogress.proofs.Linked.{Arrived, EndIs, Fits, Flying, IsGood, Link, along_if, arrival, each_map, each_side, flying_on, found}
-use Rattle.lagprogress.proofs.Linked.{beside_link}
-use Rattle.lagprogress.proofs.Linked.{place_kept, pushed, put_other, put_there}
+use Rattle.lagprogress.proofs.Linked.{beside_link, place_kept, pushed, put_other, put_there}
 
 -- what goes back
 

@@ -1,56 +1,21 @@
 -- What the machines of a port keep, every call of a system keeps of each port.
-use Rattle.std.proofs.Common.{◌≡◌, ◌∙◌, ◌&&◌, ◌==◌, ℕ, Bool, true, false, Option, Some, None, Ok, Err, List, [], ◌∷◌, drop, refl}
-use Rattle.std.proofs.Common.{sym}
-use Rattle.std.proofs.Common.{subst, ap, arith, inl, inr}
-use Rattle.std.specs.Prelude.{slice_get, slice_set, length, not, option_map, if◌then◌else◌, ◌⊎◌, ◌||◌}
-use Rattle.std.specs.List.{AllByRecursion}
-use Rattle.std.proofs.lemmas.Bool.Decides.{nat_tests}
-use Rattle.std.proofs.lemmas.Bool.{cases_Bool}
-use Rattle.std.proofs.lemmas.Option.{none-some}
-use Rattle.lagtypes.specs.declared.identifiers.AggId.{AggId}
-use Rattle.lagtypes.specs.declared.party.Choice.{Choice}
-use Rattle.lagtypes.specs.declared.party.Choice.TheVariants.{Unselected, Selected, Standby}
-use Rattle.lagtypes.specs.Choices.{is_selected, is_unselected}
-use Rattle.lagtypes.specs.Same.{same_system}
-use Rattle.selection.specs.Choice.{chosen_aggregator}
-use Rattle.selection.specs.Limits.{AggregatorsValue}
-use Rattle.selection.specs.Views.{is_detached, is_eligible}
-use Rattle.selection.specs.declared.view.PortView.{PortView}
-use Rattle.slowpdu.specs.declared.pdu.Lacpdu.{Lacpdu}
-use Rattle.slowpdu.specs.Frames.{frame_octets}
-use Rattle.slowpdu.specs.Layout.{HoldsNumber, IsAddress, read_field}
-use Rattle.slowpdu.proofs.LayoutLemmas.{octet_stands}
+use Rattle.lagprogress.proofs.Common.{Bool, Err, List, None, Ok, Option, Some, [], ap, arith, drop, false, if◌then◌else◌, inl, inr, length, not}
+use Rattle.lagprogress.proofs.Common.{option_map, refl, slice_get, slice_set, subst, sym, true, ℕ, ◌&&◌, ◌==◌, ◌||◌, ◌∙◌, ◌∷◌, ◌≡◌, ◌⊎◌, cases_Bool}
+use Rattle.lagprogress.proofs.Common.{nat_tests, none-some, AllByRecursion, AggId, Choice, Selected, Standby, Unselected, is_selected, is_unselected}
+use Rattle.lagprogress.proofs.Common.{same_system, Lacpdu, frame_octets, HoldsNumber, IsAddress, read_field, octet_stands, MuxState, Attached}
+use Rattle.lagprogress.proofs.Common.{CollectingDistributing, Detached, Waiting, Setup, Machines, is_synchronized, mux_rows, partner_synchronized}
+use Rattle.lagprogress.proofs.Common.{same_mux_state, RunsPeriodic, receive_rows, RunsToRest, Starts, before_start, after_sending, count_down, is_due}
+use Rattle.lagprogress.proofs.Common.{PortView, chosen_aggregator, AggregatorsValue, is_detached, is_eligible, marker_due, Received, TookLacpdu}
+use Rattle.lagprogress.proofs.Common.{SystemPort, Call, ChangesParty, Configure, Force, Move_conversation, Offer, PortAtChangesBy, ProcessesLacpdu}
+use Rattle.lagprogress.proofs.Common.{Receive, Restart, Set_link, SetsPortEnabled, Step, Tick, Transmit, HasJustStarted, IsFirst, setup_of}
+use Rattle.lagprogress.proofs.Common.{system_force_result, system_move_result, TransmitsAt, TransmitsIf, ChoosesIn, PortsChangeBy, PromotesNext}
+use Rattle.lagprogress.proofs.Common.{Settling, choice_for, choice_in, ready_of, with_choice, SystemState, aggregators_value, port_index}
+use Rattle.lagprogress.proofs.Common.{with_system_ports, selection_view, views, reply_has_lacpdu, subtype, next_stands, ProcessesOrStays}
+use Rattle.lagprogress.proofs.Common.{processes_or_stays, choices_keep, promotions_keep, becomes_slots, last_slots, marker_slots, offers_slots}
+use Rattle.lagprogress.proofs.Common.{same_slots, zip_all, all-get, all-set, found_place}
 use Rattle.slowpdu.proofs.WritingLemmas.{framed_payload}
-use Rattle.distributor.specs.Changes.{marker_due}
-use Rattle.portmachines.specs.declared.port.Setup.{Setup}
-use Rattle.portmachines.specs.Machines.{Machines}
-use Rattle.portmachines.specs.declared.mux.MuxState.{MuxState}
-use Rattle.portmachines.specs.declared.mux.MuxState.TheVariants.{Detached, Waiting, Attached, CollectingDistributing}
-use Rattle.portmachines.specs.Mux.{is_synchronized, mux_rows, partner_synchronized, same_mux_state}
-use Rattle.portmachines.specs.Periodic.{RunsPeriodic}
-use Rattle.portmachines.specs.Receive.{receive_rows}
-use Rattle.portmachines.specs.Rows.{RunsToRest}
-use Rattle.portmachines.specs.Start.{Starts, before_start}
-use Rattle.portmachines.specs.Transmit.{after_sending, count_down, is_due}
 use Rattle.lagsystem.specs.declared.drive.Reply.{Reply}
 use Rattle.lagsystem.specs.declared.drive.Reply.TheVariants as reply
-use Rattle.lagsystem.specs.declared.received.Received.{Received}
-use Rattle.lagsystem.specs.declared.received.Received.TheVariants.{TookLacpdu}
-use Rattle.lagsystem.specs.declared.system_ports.SystemPort.{SystemPort}
-use Rattle.lagsystem.specs.Calls.{Call, Tick, Set_link, Receive, Configure, Restart, Transmit, Offer, Move_conversation, Force}
-use Rattle.lagsystem.specs.Calls.{ChangesParty, PortAtChangesBy, ProcessesLacpdu, SetsPortEnabled, Step}
-use Rattle.lagsystem.specs.First.{IsFirst, HasJustStarted, setup_of}
-use Rattle.lagsystem.specs.Offers.{system_force_result, system_move_result}
-use Rattle.lagsystem.specs.Sending.{TransmitsAt, TransmitsIf}
-use Rattle.lagsystem.specs.Settling.{ChoosesIn, PortsChangeBy, PromotesNext, Settling, choice_for, choice_in, ready_of, with_choice}
-use Rattle.lagsystem.specs.State.{SystemState, aggregators_value, port_index, with_system_ports}
-use Rattle.lagsystem.specs.Views.{selection_view, views}
-use Rattle.lagsystem.specs.Windows.{reply_has_lacpdu, subtype}
-use Rattle.lagsystem.proofs.Performed.{ProcessesOrStays, processes_or_stays}
-use Rattle.lagsystem.proofs.Limiting.{next_stands}
-use Rattle.lagsystem.proofs.PromotionLemmas.{choices_keep, promotions_keep}
-use Rattle.lagsystem.proofs.Rest.{becomes_slots, last_slots, marker_slots, offers_slots, same_slots, zip_all}
-use Rattle.lagsystem.proofs.Rising.{all-get, all-set, found_place}
 
 -- Selected of the port may get another value: its link is up, or it is STANDBY; and it is not synchronized
 abbrev pub MayBeGiven : Machines → Type 0

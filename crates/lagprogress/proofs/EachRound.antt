@@ -1,23 +1,10 @@
 -- What healthy rounds keep of each port of a system, and of the cables.
-use Rattle.std.proofs.Common.{◌≡◌, ◌∙◌, ℕ, suc, List, ◌++◌, map, refl, sym, subst, ap, arith, inl, inr, Some}
-use Rattle.std.specs.Prelude.{slice_get}
-use Rattle.slowpdu.specs.declared.pdu.Lacpdu.{Lacpdu}
-use Rattle.portmachines.specs.Machines.{Machines}
-use Rattle.portmachines.specs.Receive.{receive_rows}
-use Rattle.portmachines.specs.Rows.{RunsToRest}
-use Rattle.portmachines.specs.Transmit.{after_sending, count_down}
-use Rattle.lagmodel.specs.World.{Side, One, Two, end_at}
+use Rattle.lagprogress.proofs.Common.{List, Some, ap, arith, inl, inr, map, refl, slice_get, subst, suc, sym, ℕ, ◌++◌, ◌∙◌, ◌≡◌, Lacpdu, One, Side}
+use Rattle.lagprogress.proofs.Common.{Two, end_at, Machines, receive_rows, RunsToRest, after_sending, count_down, ProcessesLacpdu, Receive, Transmit}
+use Rattle.lagprogress.proofs.Common.{SystemState, Reply, Algorithms, WorldSteps, link_ends, ItemValue, LinkState, WorldState, half, port_at, end_is}
+use Rattle.lagprogress.proofs.Common.{IsRound, Rounds, asks_all, ticks_of_both, IsSteady}
 use Rattle.lagsystem.specs.declared.drive.Reply.TheVariants as answer
-use Rattle.lagsystem.specs.Calls.{ProcessesLacpdu, Receive, Transmit}
-use Rattle.lagsystem.specs.State.{SystemState}
 use Rattle.lagscript.specs.declared.event.Event.TheVariants as event
-use Rattle.lagworld.specs.declared.reply.Reply.{Reply}
-use Rattle.lagworld.specs.Events.{Algorithms, WorldSteps}
-use Rattle.lagworld.specs.ModelWorld.{link_ends}
-use Rattle.lagworld.specs.State.{ItemValue, LinkState, WorldState, half, port_at}
-use Rattle.lagworld.proofs.Cables.{end_is}
-use Rattle.lagprogress.specs.Rounds.{IsRound, Rounds, asks_all, ticks_of_both}
-use Rattle.lagprogress.specs.Steady.{IsSteady}
 use Rattle.lagprogress.proofs.ComingUp.{zero_on}
 use Rattle.lagprogress.proofs.EachPort.{KeptBySettling, OfEach, Step-each, Tick-each}
 use Rattle.lagprogress.proofs.Linked.{each_side}

@@ -1,42 +1,16 @@
 -- A port of a healthy cable is drained of the conversations that are held on it.
-use Rattle.lagsystem.specs.Readers.{aggregator_numbered, distributing}
-use Rattle.distributor.specs.Calls.{is_among}
+use Rattle.lagprogress.proofs.Common.{Bool, Err, IsSome, List, None, Ok, Option, Result, Some, [], ap, arith, cond, false, inl, inr, length, ltb}
+use Rattle.lagprogress.proofs.Common.{refl, slice_get, slice_set, subst, suc, sym, true, zero, ℕ, ◌++◌, ◌+◌, ◌-◌, ◌^◌, ◌∙◌, ◌∷◌, ◌≡◌, ◌≤◌, ◌⊎◌}
+use Rattle.lagprogress.proofs.Common.{cases_Bool, nat_tests, none-some, same_Some, AllByRecursion, Choice, is_selected, Lacpdu, One, Side, Two, peer}
+use Rattle.lagprogress.proofs.Common.{Machines, after_sending, is_due, On, is_among, after_tick, marker_due, Table, assignment_of, next_identifier}
+use Rattle.lagprogress.proofs.Common.{SystemFault, SystemPort, Receive, Step, Tick, Transmit, aggregator_numbered, distributing, SendsMarkerOf}
+use Rattle.lagprogress.proofs.Common.{TransmitsAt, TransmitsIf, Settling, CallPromise, SystemState, port_index, ports_table, settling_parts}
+use Rattle.lagprogress.proofs.Common.{TableChanges, table_changes, all-get, found_place, ports_rise, Event, Reply, Algorithms, WorldRuns, WorldSteps}
+use Rattle.lagprogress.proofs.Common.{side_of, ItemValue, LinkState, WorldState, half, port_at, set_here, IsRound, NothingInFlight, Rounds, asks_all}
+use Rattle.lagprogress.proofs.Common.{asks_ends, IsSteady}
 use Rattle.lagprogress.proofs.EachPort.{OfEach}
-use Rattle.std.proofs.Common.{◌≡◌, ◌∙◌, ℕ, zero, suc, ◌+◌, ◌-◌, ◌≤◌, Bool, true, false, cond, ltb, List, [], ◌∷◌, ◌++◌, ◌⊎◌, inl, inr, refl, sym, ◌^◌}
-use Rattle.std.proofs.Common.{subst, ap, arith, Some, None, Option, Ok, Err, Result, length}
-use Rattle.std.specs.Prelude.{slice_get, slice_set, IsSome}
-use Rattle.std.specs.List.{AllByRecursion}
-use Rattle.std.proofs.lemmas.Bool.{cases_Bool}
-use Rattle.std.proofs.lemmas.Bool.Decides.{nat_tests}
-use Rattle.std.proofs.lemmas.Option.{none-some, same_Some}
-use Rattle.lagtypes.specs.declared.party.Choice.{Choice}
-use Rattle.lagtypes.specs.Choices.{is_selected}
-use Rattle.slowpdu.specs.declared.pdu.Lacpdu.{Lacpdu}
-use Rattle.distributor.specs.declared.assignment.Assignment.TheVariants.{On}
-use Rattle.distributor.specs.Changes.{after_tick, marker_due}
-use Rattle.distributor.specs.Conversations.{Table, assignment_of, next_identifier}
-use Rattle.portmachines.specs.Machines.{Machines}
-use Rattle.portmachines.specs.Transmit.{after_sending, is_due}
-use Rattle.lagmodel.specs.World.{Side, One, Two, peer}
 use Rattle.lagsystem.specs.declared.drive.Reply.TheVariants as answer
-use Rattle.lagsystem.specs.declared.fault.SystemFault.{SystemFault}
-use Rattle.lagsystem.specs.declared.system_ports.SystemPort.{SystemPort}
-use Rattle.lagsystem.specs.Calls.{Receive, Step, Tick, Transmit}
-use Rattle.lagsystem.specs.Sending.{SendsMarkerOf, TransmitsAt, TransmitsIf}
-use Rattle.lagsystem.specs.Settling.{Settling}
-use Rattle.lagsystem.specs.Sound.{CallPromise}
-use Rattle.lagsystem.specs.State.{SystemState, port_index}
-use Rattle.lagsystem.proofs.Keeps.{ports_table, settling_parts}
-use Rattle.lagsystem.proofs.Performed.{TableChanges, table_changes}
-use Rattle.lagsystem.proofs.Rising.{all-get, found_place, ports_rise}
-use Rattle.lagscript.specs.declared.event.Event.{Event}
 use Rattle.lagscript.specs.declared.event.Event.TheVariants as event
-use Rattle.lagworld.specs.declared.reply.Reply.{Reply}
-use Rattle.lagworld.specs.Events.{Algorithms, WorldRuns, WorldSteps, side_of}
-use Rattle.lagworld.specs.State.{ItemValue, LinkState, WorldState, half, port_at}
-use Rattle.lagworld.proofs.Cables.{set_here}
-use Rattle.lagprogress.specs.Rounds.{IsRound, NothingInFlight, Rounds, asks_all, asks_ends}
-use Rattle.lagprogress.specs.Steady.{IsSteady}
 use Rattle.lagprogress.proofs.Answering.{AllFine, Steady, all_map, each_by, marks_now, sends_fine, settles_all, stays_on, went_flights}
 use Rattle.lagprogress.proofs.Climbing.{PartnerInSync, choice_along, partner_along, ticks_choice, ticks_partner}
 use Rattle.lagprogress.proofs.ComingUp.{calls_keep}
@@ -46,9 +20,11 @@ use Rattle.lagprogress.proofs.EndFacts.{Along, activity, both_along}
 use Rattle.lagprogress.proofs.Halves.{each_is_calls, keeps_steady}
 use Rattle.lagprogress.proofs.Holding.{Fine, Flights, Has, ticked_fine, IsMarker, asking, answering}
 use Rattle.lagprogress.proofs.Linked.{EndIs, Fits, Link, asked_which, each_side, emit_any, found, peer_twice}
-use Rattle.lagprogress.proofs.OneCable.{Arrives, Asks, OnCable, Went, asks, cable, came_off, delivers, emits, ticks, towards_there, Beside, port_there}
+use Rattle.lagprogress.proofs.OneCable.{Arrives, Asks, OnCable, Went, asks, cable, came_off, delivers, emits, ticks, towards_there, Beside}
+use Rattle.lagprogress.proofs.OneCable.{port_there}
 use Rattle.lagprogress.proofs.OnePort.{AtPort, at_number}
-use Rattle.lagprogress.proofs.OneRound.{IsAsk, Unrolled, all_ask, ask_all, deliver_all, join, one_of_both, tick_both, ticked, unroll, first_acts, runs_apart}
+use Rattle.lagprogress.proofs.OneRound.{IsAsk, Unrolled, all_ask, ask_all, deliver_all, join, one_of_both, tick_both, ticked, unroll, first_acts}
+use Rattle.lagprogress.proofs.OneRound.{runs_apart}
 use Rattle.lagprogress.proofs.Progressing.{AtIt, FreshAt, beside, fits_fresh, knows_peer, stays_fresh, along_rounds}
 
 -- identifiers

@@ -1,36 +1,12 @@
 -- What ticks, receipts and settlings leave of a port at an end of a cable whose other end sends LACPDUs of one kind.
-use Rattle.std.proofs.Common.{◌≡◌, ◌∙◌, ℕ, ◌-◌, ◌≤◌, Bool, true, false, not, ◌||◌, ◌&&◌, ◌⊎◌, inl, inr, refl, sym, subst}
-use Rattle.std.proofs.Common.{arith, ap, Some, ◌==◌, if◌then◌else◌}
-use Rattle.std.proofs.lemmas.Option.{same_Some}
-use Rattle.std.specs.Prelude.{slice_get}
-use Rattle.lagtypes.specs.declared.party.Choice.{Choice}
-use Rattle.lagtypes.specs.declared.party.Choice.TheVariants.{Unselected}
-use Rattle.lagtypes.specs.declared.state.StateBits.{StateBits}
-use Rattle.lagtypes.specs.Choices.{is_selected}
-use Rattle.lagtypes.specs.Same.{same_party}
-use Rattle.lagtypes.specs.States.{bits_of}
-use Rattle.lagtypes.proofs.SameLemmas.{party_itself}
-use Rattle.slowpdu.specs.declared.pdu.Lacpdu.{Lacpdu}
-use Rattle.slowpdu.specs.Parties.{party_of}
-use Rattle.portmachines.specs.Machines.{Machines}
-use Rattle.portmachines.specs.declared.mux.MuxState.{MuxState}
-use Rattle.portmachines.specs.declared.mux.MuxState.TheVariants.{Detached, Waiting, Attached, CollectingDistributing}
-use Rattle.portmachines.specs.declared.receive.ReceiveState.TheVariants.{Expired}
-use Rattle.portmachines.specs.Mux.{is_synchronized, mux_rows, partner_synchronized, same_mux_state}
-use Rattle.portmachines.specs.Periodic.{RunsPeriodic, periodic_rows}
-use Rattle.portmachines.specs.Receive.{is_maintained, lacpdu_rows, receive_rows, recorded_synchronization, same_receive_state}
-use Rattle.portmachines.specs.Rows.{AtRest, RunsToRest}
-use Rattle.portmachines.specs.Transmit.{count_down}
-use Rattle.lagsystem.specs.declared.system_ports.SystemPort.{SystemPort}
-use Rattle.lagsystem.specs.Calls.{OnlyPortChangesBy, ProcessesLacpdu, ThenSettles}
-use Rattle.lagsystem.specs.ModelView.{can_receive, can_receive_in, none_enabled}
-use Rattle.lagsystem.specs.Sound.{IsSound}
-use Rattle.lagsystem.specs.State.{SystemState, port_numbers}
-use Rattle.lagsystem.proofs.Keeps.{keeps_place}
-use Rattle.lagsystem.proofs.Rest.{can_receive_at_rest}
-use Rattle.lagsystem.proofs.Rising.{Rises, all-get, ports_rise}
-use Rattle.lagprogress.specs.Hearing.{timeout_time}
-use Rattle.lagprogress.specs.Knowing.{HasRecorded}
+use Rattle.lagprogress.proofs.Common.{Bool, Some, ap, arith, false, if◌then◌else◌, inl, inr, not, refl, slice_get, subst, sym, true, ℕ, ◌&&◌, ◌-◌}
+use Rattle.lagprogress.proofs.Common.{◌==◌, ◌||◌, ◌∙◌, ◌≡◌, ◌≤◌, ◌⊎◌, same_Some, Choice, Unselected, StateBits, is_selected, same_party, bits_of}
+use Rattle.lagprogress.proofs.Common.{party_itself, Lacpdu, party_of, MuxState, Attached, CollectingDistributing, Detached, Waiting, Expired}
+use Rattle.lagprogress.proofs.Common.{Machines, is_synchronized, mux_rows, partner_synchronized, same_mux_state, RunsPeriodic, periodic_rows}
+use Rattle.lagprogress.proofs.Common.{is_maintained, lacpdu_rows, receive_rows, recorded_synchronization, same_receive_state, AtRest, RunsToRest}
+use Rattle.lagprogress.proofs.Common.{count_down, SystemPort, OnlyPortChangesBy, ProcessesLacpdu, ThenSettles, can_receive, can_receive_in}
+use Rattle.lagprogress.proofs.Common.{none_enabled, IsSound, SystemState, port_numbers, keeps_place, can_receive_at_rest, Rises, all-get, ports_rise}
+use Rattle.lagprogress.proofs.Common.{timeout_time, HasRecorded}
 use Rattle.lagprogress.proofs.EachPort.{KeptBySettling, OfEach, settling_each}
 use Rattle.lagprogress.proofs.Heartbeat.{raised}
 use Rattle.lagprogress.proofs.Hearing.{EnabledKeep, no, not_down, times_keep}

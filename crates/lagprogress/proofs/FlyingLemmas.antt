@@ -1,47 +1,21 @@
 -- How a frame that was sent on a healthy cable stays first on it through a round, until it is handed up.
-use Rattle.std.proofs.Common.{◌≡◌, ◌∙◌, ℕ, zero, suc, ◌≤◌, ◌==◌, true, List, [], ◌∷◌, ◌++◌, Option, Some, None}
-use Rattle.std.proofs.Common.{Result, Ok, Err, ◌⊎◌, inl, inr, refl, sym, subst, ap, arith, map}
-use Rattle.std.specs.Prelude.{slice_get, if◌then◌else◌}
-use Rattle.std.specs.List.{AllByRecursion}
-use Rattle.std.proofs.lemmas.Bool.{cases_Bool, true≢false}
-use Rattle.std.proofs.lemmas.Bool.Decides.{nat_tests}
-use Rattle.std.proofs.lemmas.Option.{same_Some}
-use Rattle.lagtypes.specs.declared.identifiers.AggId.{AggId}
-use Rattle.lagtypes.specs.declared.party.Choice.{Choice}
-use Rattle.lagtypes.specs.declared.party.Choice.TheVariants.{Unselected, Selected, Standby}
-use Rattle.lagtypes.specs.Choices.{is_selected}
-use Rattle.slowpdu.specs.declared.pdu.Lacpdu.{Lacpdu}
-use Rattle.slowpdu.proofs.LayoutLemmas.{all-append}
-use Rattle.portmachines.specs.declared.mux.MuxState.{MuxState}
-use Rattle.portmachines.specs.declared.mux.MuxState.TheVariants.{CollectingDistributing}
-use Rattle.portmachines.specs.Mux.{same_mux_state}
-use Rattle.lagmodel.specs.World.{Side, One, Two, peer}
-use Rattle.lagmodel.proofs.Base.{value_of}
-use Rattle.lagsystem.specs.declared.fault.SystemFault.{SystemFault}
-use Rattle.lagsystem.specs.declared.received.Received.{Received}
+use Rattle.lagprogress.proofs.Common.{Err, List, None, Ok, Option, Result, Some, [], ap, arith, if◌then◌else◌, inl, inr, map, refl, slice_get, subst}
+use Rattle.lagprogress.proofs.Common.{suc, sym, true, zero, ℕ, ◌++◌, ◌==◌, ◌∙◌, ◌∷◌, ◌≡◌, ◌≤◌, ◌⊎◌, cases_Bool, true≢false, nat_tests, same_Some}
+use Rattle.lagprogress.proofs.Common.{AllByRecursion, AggId, Choice, Selected, Standby, Unselected, is_selected, Lacpdu, all-append, One, Side, Two}
+use Rattle.lagprogress.proofs.Common.{peer, value_of, MuxState, CollectingDistributing, same_mux_state, SystemFault, Received, SystemPort, Data_frame}
+use Rattle.lagprogress.proofs.Common.{IsFrame, MuxIsSettled, collecting, selected_aggregator, machines_of, port_index, all-get, found_place, Event}
+use Rattle.lagprogress.proofs.Common.{Reply, Algorithms, DeliversFrom, OnLink, WorldRuns, WorldSteps, side_of, link_ends, ItemValue, LinkState}
+use Rattle.lagprogress.proofs.Common.{WorldState, half, port_at, towards, HandsUp, InRound, Sometime, IsDeliver, IsRound, OfPort, asks_all}
 use Rattle.lagsystem.specs.declared.received.Received.TheVariants as received
-use Rattle.lagsystem.specs.declared.system_ports.SystemPort.{SystemPort}
-use Rattle.lagsystem.specs.Calls.{Data_frame, IsFrame}
-use Rattle.lagsystem.specs.NothingToSettle.{MuxIsSettled}
-use Rattle.lagsystem.specs.Readers.{collecting, selected_aggregator}
-use Rattle.lagsystem.specs.State.{machines_of, port_index}
-use Rattle.lagsystem.proofs.Rising.{all-get, found_place}
-use Rattle.lagscript.specs.declared.event.Event.{Event}
 use Rattle.lagscript.specs.declared.event.Event.TheVariants as event
-use Rattle.lagworld.specs.declared.reply.Reply.{Reply}
-use Rattle.lagworld.specs.Events.{Algorithms, DeliversFrom, OnLink, WorldRuns, WorldSteps, side_of}
-use Rattle.lagworld.specs.ModelWorld.{link_ends}
-use Rattle.lagworld.specs.State.{ItemValue, LinkState, WorldState, half, port_at, towards}
-use Rattle.lagprogress.specs.Arriving.{HandsUp, InRound, Sometime}
-use Rattle.lagprogress.specs.Rounds.{IsDeliver, IsRound, OfPort, asks_all}
 use Rattle.lagprogress.proofs.ArrivingLemmas.{deliver_hands_up}
 use Rattle.lagprogress.proofs.Climbing.{PartnerInSync, distributes_now, partner_along, ticks_partner}
 use Rattle.lagprogress.proofs.Delivering.{deliver_link}
 use Rattle.lagprogress.proofs.EachRound.{same_index}
 use Rattle.lagprogress.proofs.EndFacts.{activity, Along}
 use Rattle.lagprogress.proofs.Linked.{EndIs, Fits, Link, asked_which, emit_any, found}
-use Rattle.lagprogress.proofs.OneCable.{Arrives, Back, Beside, Comes, OnCable, Went, arrived, asks, cable, came_from, deliver_ends}
-use Rattle.lagprogress.proofs.OneCable.{emits, passed_by, port_there, push, put, stays_beside, ticks, towards_there}
+use Rattle.lagprogress.proofs.OneCable.{Arrives, Back, Beside, Comes, OnCable, Went, arrived, asks, cable, came_from, deliver_ends, emits, passed_by}
+use Rattle.lagprogress.proofs.OneCable.{port_there, push, put, stays_beside, ticks, towards_there}
 use Rattle.lagprogress.proofs.OnePort.{AtPort}
 use Rattle.lagprogress.proofs.OneRound.{IsAsk, all_ask, one_of_both, tick_both, ticked}
 use Rattle.lagprogress.proofs.Progressing.{machines_there}

@@ -1,33 +1,17 @@
 -- No conversation stays held on a port of a healthy cable of a bundle.
+use Rattle.lagprogress.proofs.Common.{Bool, Err, List, None, Ok, Option, Result, Some, ap, arith, cond, eqb, false, inl, inr, length, ltb, refl}
+use Rattle.lagprogress.proofs.Common.{slice_get, subst, sym, true, ℕ, ◌&&◌, ◌+◌, ◌-◌, ◌<◌, ◌∙◌, ◌≡◌, ◌≤◌, ◌⊎◌, none-some, same_Some, One, Side, Two}
+use Rattle.lagprogress.proofs.Common.{peer, is_due, Assignment, Flushing, Free, On, Wanted, is_among, after_mark, after_release, after_tick}
+use Rattle.lagprogress.proofs.Common.{marker_due, IsConversation, Table, assignment_of, SystemFault, Received, SystemPort, Receive, Step, Tick}
+use Rattle.lagprogress.proofs.Common.{Transmit, aggregator_numbered, distributing, SendsMarkerOf, TransmitsAt, TransmitsIf, Settling, held_unless_on}
+use Rattle.lagprogress.proofs.Common.{SystemState, port_index, ports_table, settling_parts, TableChanges, table_changes, Reply, Algorithms}
+use Rattle.lagprogress.proofs.Common.{WorldSteps, LinkState, WorldState, half, port_at, BothAreActive, IsBundle, OneIsActive, CarriersAreUp}
+use Rattle.lagprogress.proofs.Common.{HasIdentifierLeft, NoneIsHeld, NoneIsHeldOn, NoneIsHeldOnActiveEnds, NoneIsHeldOnEnds, NoneIsHeldWhereActive}
+use Rattle.lagprogress.proofs.Common.{NothingIsHeld, carrier_of, held_on, IsHealthyAt, IsRound, Rounds, asks_all}
 use Rattle.lagprogress.proofs.OneCable.{came_off, emits, ticks}
 use Rattle.lagprogress.proofs.EachRound.{rounds_steady}
-use Rattle.lagworld.specs.declared.reply.Reply.{Reply}
-use Rattle.portmachines.specs.Transmit.{is_due}
-use Rattle.lagsystem.proofs.Performed.{TableChanges, table_changes}
-use Rattle.lagsystem.proofs.Keeps.{ports_table, settling_parts}
-use Rattle.lagsystem.specs.declared.received.Received.{Received}
-use Rattle.lagsystem.specs.declared.fault.SystemFault.{SystemFault}
-use Rattle.lagsystem.specs.declared.system_ports.SystemPort.{SystemPort}
-use Rattle.lagsystem.specs.Calls.{Receive, Step, Tick, Transmit}
-use Rattle.lagsystem.specs.Sending.{SendsMarkerOf, TransmitsAt, TransmitsIf}
-use Rattle.lagsystem.specs.Readers.{aggregator_numbered, distributing}
-use Rattle.lagsystem.specs.Settling.{Settling, held_unless_on}
-use Rattle.distributor.specs.Calls.{is_among}
-use Rattle.distributor.specs.Changes.{after_tick, after_mark, after_release, marker_due}
-use Rattle.std.proofs.Common.{◌≡◌, ◌∙◌, ℕ, ◌+◌, ◌-◌, ◌≤◌, ◌<◌, ◌⊎◌, inl, inr, refl, sym, subst, ap, arith, Some, None, Option, true, Bool, false, cond, eqb, ltb, ◌&&◌, List, Ok, Err, Result, length, slice_get}
-use Rattle.std.proofs.lemmas.Option.{none-some, same_Some}
-use Rattle.distributor.specs.declared.assignment.Assignment.{Assignment}
-use Rattle.distributor.specs.declared.assignment.Assignment.TheVariants.{Free, On, Wanted, Flushing}
-use Rattle.distributor.specs.Conversations.{IsConversation, Table, assignment_of}
-use Rattle.lagmodel.specs.World.{Side, One, Two, peer}
 use Rattle.lagsystem.specs.declared.drive.Reply.TheVariants as answer
 use Rattle.lagscript.specs.declared.event.Event.TheVariants as event
-use Rattle.lagsystem.specs.State.{SystemState, port_index}
-use Rattle.lagworld.specs.Events.{Algorithms, WorldSteps}
-use Rattle.lagworld.specs.State.{LinkState, WorldState, half, port_at}
-use Rattle.lagprogress.specs.Bundle.{BothAreActive, IsBundle, OneIsActive}
-use Rattle.lagprogress.specs.Freed.{HasIdentifierLeft, NoneIsHeldOn, NoneIsHeldOnActiveEnds, NoneIsHeldOnEnds, held_on, CarriersAreUp, NoneIsHeld, NoneIsHeldWhereActive, NothingIsHeld, carrier_of}
-use Rattle.lagprogress.specs.Rounds.{IsHealthyAt, Rounds, IsRound, asks_all}
 use Rattle.lagprogress.proofs.Bundling.{IsMixed, Nowhere, both_meet, both_wake, ends_at, holds_of, mixed, one_meet, one_wakes, rounds_keep, ups_of}
 use Rattle.lagprogress.proofs.Climbing.{PartnerInSync, Ripe}
 use Rattle.lagprogress.proofs.ComingUp.{Up, at_end, end_here, splits, told, zero_on}

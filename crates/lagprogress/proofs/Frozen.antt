@@ -1,38 +1,14 @@
 -- Selected stays what it is in the rounds of a world in which each end of a healthy cable knows its partner.
-use Rattle.std.proofs.Common.{◌≡◌, ◌∙◌, ℕ, ◌≤◌, true, List, ◌⊎◌, Option, Some, None, Ok, Err, Result, refl, sym, subst, ap, arith, inl, inr}
-use Rattle.std.specs.Prelude.{slice_get}
-use Rattle.std.specs.List.{AllByRecursion}
-use Rattle.std.proofs.lemmas.Bool.{cases_Bool}
-use Rattle.std.proofs.lemmas.Option.{none-some, same_Some}
-use Rattle.lagtypes.specs.declared.party.Choice.{Choice}
+use Rattle.lagprogress.proofs.Common.{Err, List, None, Ok, Option, Result, Some, ap, arith, inl, inr, refl, slice_get, subst, sym, true, ℕ, ◌∙◌, ◌≡◌}
+use Rattle.lagprogress.proofs.Common.{◌≤◌, ◌⊎◌, cases_Bool, none-some, same_Some, AllByRecursion, Choice, Lacpdu, One, Side, Two, peer, Machines}
+use Rattle.lagprogress.proofs.Common.{receive_rows, RunsToRest, count_down, PortConfig, SystemFault, Received, SystemPort, Carries, IsFrame}
+use Rattle.lagprogress.proofs.Common.{OnlyPortChangesBy, ProcessesLacpdu, Receive, ReceivesAt, Step, ThenSettles, Tick, Transmit, configured_numbers}
+use Rattle.lagprogress.proofs.Common.{none_enabled, CallPromise, SystemState, aggregators_value, port_index, port_numbers, processes_or_stays, rests}
+use Rattle.lagprogress.proofs.Common.{all-get, found_place, Event, Reply, Algorithms, WorldSteps, LinkState, WorldState, half, port_at, towards}
+use Rattle.lagprogress.proofs.Common.{AllHeard, IsHealthyAt, IsRound, Rounds, asks_all, IsSteady}
 use Rattle.slowpdu.specs.declared.pdu.Pdu.TheVariants as pdu
-use Rattle.slowpdu.specs.declared.pdu.Lacpdu.{Lacpdu}
-use Rattle.portmachines.specs.Machines.{Machines}
-use Rattle.portmachines.specs.Receive.{receive_rows}
-use Rattle.portmachines.specs.Rows.{RunsToRest}
-use Rattle.portmachines.specs.Transmit.{count_down}
-use Rattle.lagmodel.specs.World.{Side, One, Two, peer}
-use Rattle.lagsystem.specs.declared.config.PortConfig.{PortConfig}
 use Rattle.lagsystem.specs.declared.drive.Reply.TheVariants as answer
-use Rattle.lagsystem.specs.declared.fault.SystemFault.{SystemFault}
-use Rattle.lagsystem.specs.declared.received.Received.{Received}
-use Rattle.lagsystem.specs.declared.system_ports.SystemPort.{SystemPort}
-use Rattle.lagsystem.specs.Calls.{OnlyPortChangesBy, ProcessesLacpdu, Receive, ReceivesAt, Step, ThenSettles, Tick, Transmit, IsFrame, Carries}
-use Rattle.lagsystem.specs.First.{configured_numbers}
-use Rattle.lagsystem.specs.ModelView.{none_enabled}
-use Rattle.lagsystem.specs.Sound.{CallPromise}
-use Rattle.lagsystem.specs.State.{SystemState, aggregators_value, port_index, port_numbers}
-use Rattle.lagsystem.proofs.Performed.{processes_or_stays}
-use Rattle.lagsystem.proofs.Rest.{rests}
-use Rattle.lagsystem.proofs.Rising.{all-get, found_place}
-use Rattle.lagscript.specs.declared.event.Event.{Event}
 use Rattle.lagscript.specs.declared.event.Event.TheVariants as event
-use Rattle.lagworld.specs.declared.reply.Reply.{Reply}
-use Rattle.lagworld.specs.Events.{Algorithms, WorldSteps}
-use Rattle.lagworld.specs.State.{LinkState, WorldState, half, port_at, towards}
-use Rattle.lagprogress.specs.Bundle.{AllHeard}
-use Rattle.lagprogress.specs.Rounds.{IsHealthyAt, IsRound, asks_all, Rounds}
-use Rattle.lagprogress.specs.Steady.{IsSteady}
 use Rattle.lagprogress.proofs.Bundling.{Alike, alike_keeps, alike_ticks, all_by_place, ends_at, old_port}
 use Rattle.lagprogress.proofs.Choosing.{AllAsRead, AsRead, Chose, down_as_read, down_still, one_as_read, settles_choice, takes_as_read, zip_as_read}
 use Rattle.lagprogress.proofs.Climbing.{ticks_still}

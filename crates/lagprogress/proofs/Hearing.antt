@@ -1,27 +1,11 @@
 -- A port that processes no LACPDU comes nearer to EXPIRED and DEFAULTED with each tick.
-use Rattle.std.proofs.Common.{◌≡◌, ◌∙◌, ◌==◌, ◌&&◌, ℕ, zero, suc, ◌+◌, ◌-◌, ◌≤◌, Bool, true, false, not, List, [], ◌∷◌, refl}
-use Rattle.std.proofs.Common.{sym}
-use Rattle.std.proofs.Common.{subst, ap, arith, inl, inr}
-use Rattle.std.specs.Prelude.{IsTrue, if◌then◌else◌}
-use Rattle.std.proofs.lemmas.Bool.Decides.{nat_tests}
-use Rattle.portmachines.specs.declared.receive.ReceiveState.{ReceiveState}
-use Rattle.portmachines.specs.declared.receive.ReceiveState.TheVariants.{Initialize, PortDisabled, Expired, Defaulted, Current}
-use Rattle.portmachines.specs.Machines.{Machines}
-use Rattle.portmachines.specs.Mux.{mux_rows}
-use Rattle.portmachines.specs.Periodic.{periodic_rows}
-use Rattle.portmachines.specs.Receive.{receive_rows, same_receive_state}
-use Rattle.portmachines.specs.Rows.{AtRest, Fires, FiresTimes, Row, RunsToRest}
-use Rattle.portmachines.specs.Transmit.{count_down}
+use Rattle.lagprogress.proofs.Common.{Bool, IsTrue, List, [], ap, arith, false, if◌then◌else◌, inl, inr, not, refl, subst, suc, sym, true, zero, ℕ}
+use Rattle.lagprogress.proofs.Common.{◌&&◌, ◌+◌, ◌-◌, ◌==◌, ◌∙◌, ◌∷◌, ◌≡◌, ◌≤◌, nat_tests, ReceiveState, Current, Defaulted, Expired, Initialize}
+use Rattle.lagprogress.proofs.Common.{PortDisabled, Machines, mux_rows, periodic_rows, receive_rows, same_receive_state, AtRest, Fires, FiresTimes}
+use Rattle.lagprogress.proofs.Common.{Row, RunsToRest, count_down, SystemPort, Call, Configure, Force, Move_conversation, Offer, Receive, Restart}
+use Rattle.lagprogress.proofs.Common.{Set_link, Tick, Transmit, choice_with_link, can_receive_in, none_enabled, can_receive_at_rest, all-get}
+use Rattle.lagprogress.proofs.Common.{IsNoticed, LeavesUnheard, processed_on, timeout_time, tick_count, IsTimed, most_current_while}
 use Rattle.lagsystem.specs.declared.drive.Reply.{Reply}
-use Rattle.lagsystem.specs.declared.system_ports.SystemPort.{SystemPort}
-use Rattle.lagsystem.specs.Calls.{Call, Tick, Set_link, Receive, Configure, Restart, Transmit, Offer, Move_conversation, Force}
-use Rattle.lagsystem.specs.Calls.{choice_with_link}
-use Rattle.lagsystem.specs.ModelView.{can_receive_in, none_enabled}
-use Rattle.lagsystem.proofs.Rest.{can_receive_at_rest}
-use Rattle.lagsystem.proofs.Rising.{all-get}
-use Rattle.lagprogress.specs.Hearing.{IsNoticed, LeavesUnheard, processed_on, timeout_time}
-use Rattle.lagprogress.specs.Heartbeat.{tick_count}
-use Rattle.lagprogress.specs.Timers.{IsTimed, most_current_while}
 use Rattle.lagprogress.proofs.EachPort.{KeptByCall, KeptBySettling}
 use Rattle.lagprogress.proofs.OnePort.{AtPort, GoesOn, goes_on}
 use Rattle.lagprogress.proofs.Timers.{RowsKeep, runs_keep}

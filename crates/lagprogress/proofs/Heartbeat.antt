@@ -1,30 +1,13 @@
 -- A port that is active, whose link stays up and that sends nothing comes nearer to its next LACPDU with each tick.
-use Rattle.std.proofs.Common.{◌≡◌, ◌∙◌, ◌==◌, ◌&&◌, ℕ, zero, suc, ◌+◌, ◌-◌, ◌<◌, ◌≤◌, Bool, true, false, not, cond, ◌⊎◌, inl, inr}
-use Rattle.std.proofs.Common.{List, [], ◌∷◌, length, refl, sym, subst, ap, arith, if◌then◌else◌}
-use Rattle.std.specs.Prelude.{◌||◌, nat_lt}
-use Rattle.std.specs.List.{AllByRecursion}
-use Rattle.std.proofs.lemmas.Bool.Decides.{nat_tests}
-use Rattle.slowpdu.specs.declared.pdu.Lacpdu.{Lacpdu}
-use Rattle.portmachines.specs.declared.periodic.PeriodicState.{PeriodicState}
-use Rattle.portmachines.specs.declared.periodic.PeriodicState.TheVariants.{NoPeriodic, Fast, Slow, PeriodicTx}
-use Rattle.portmachines.specs.Machines.{Machines}
-use Rattle.portmachines.specs.Mux.{mux_rows}
-use Rattle.portmachines.specs.Periodic.{RunsPeriodic, partner_short, periodic_rows}
-use Rattle.portmachines.specs.Receive.{lacpdu_rows, receive_rows, start_receive}
-use Rattle.portmachines.specs.Rows.{AtRest, RunsToRest}
-use Rattle.portmachines.specs.Start.{Starts}
-use Rattle.portmachines.specs.Transmit.{aged, count_down, is_due}
+use Rattle.lagprogress.proofs.Common.{Bool, List, [], ap, arith, cond, false, if◌then◌else◌, inl, inr, length, nat_lt, not, refl, subst, suc, sym}
+use Rattle.lagprogress.proofs.Common.{true, zero, ℕ, ◌&&◌, ◌+◌, ◌-◌, ◌<◌, ◌==◌, ◌||◌, ◌∙◌, ◌∷◌, ◌≡◌, ◌≤◌, ◌⊎◌, nat_tests, AllByRecursion, Lacpdu}
+use Rattle.lagprogress.proofs.Common.{PeriodicState, Fast, NoPeriodic, PeriodicTx, Slow, Machines, mux_rows, RunsPeriodic, partner_short}
+use Rattle.lagprogress.proofs.Common.{periodic_rows, lacpdu_rows, receive_rows, start_receive, AtRest, RunsToRest, Starts, aged, count_down, is_due}
+use Rattle.lagprogress.proofs.Common.{SystemPort, Call, Configure, Force, Move_conversation, Offer, Receive, Restart, Set_link, Tick, Transmit}
+use Rattle.lagprogress.proofs.Common.{changed_party, choice_with_link, PeriodicIsSettled, reply_has_lacpdu, all-get, IsHeard, IsSilentShortly}
+use Rattle.lagprogress.proofs.Common.{LeavesUpAndSilent, takes_down, tick_count, IsLoud, SilentFor, Speaks, IsTimed, most_periodic_timer}
 use Rattle.portmachines.proofs.Windows.{periodic-ages}
 use Rattle.lagsystem.specs.declared.drive.Reply.{Reply}
-use Rattle.lagsystem.specs.declared.system_ports.SystemPort.{SystemPort}
-use Rattle.lagsystem.specs.Calls.{Call, Tick, Set_link, Receive, Configure, Restart, Transmit, Offer, Move_conversation, Force}
-use Rattle.lagsystem.specs.Calls.{changed_party, choice_with_link}
-use Rattle.lagsystem.specs.NothingToSettle.{PeriodicIsSettled}
-use Rattle.lagsystem.specs.Windows.{reply_has_lacpdu}
-use Rattle.lagsystem.proofs.Rising.{all-get}
-use Rattle.lagprogress.specs.Heartbeat.{IsHeard, IsSilentShortly, LeavesUpAndSilent, takes_down, tick_count}
-use Rattle.lagprogress.specs.Silence.{IsLoud, SilentFor, Speaks}
-use Rattle.lagprogress.specs.Timers.{IsTimed, most_periodic_timer}
 use Rattle.lagprogress.proofs.EachPort.{KeptByCall, KeptBySettling}
 use Rattle.lagprogress.proofs.OnePort.{AtPort, GoesOn, goes_on}
 use Rattle.lagprogress.proofs.Silence.{silence_comes, silence_settles, silence_ticks}

@@ -1,36 +1,14 @@
 -- A port keeps what it recorded of an LACPDU while current_while has ticks left.
-use Rattle.std.proofs.Common.{◌≡◌, ◌∙◌, ◌==◌, ◌&&◌, ℕ, zero, suc, ◌+◌, ◌-◌, ◌≤◌, Bool, true, false, List, [], ◌∷◌, Some}
-use Rattle.std.proofs.Common.{refl, sym}
-use Rattle.std.proofs.Common.{subst, ap, arith, inl, inr, if◌then◌else◌}
-use Rattle.std.specs.Prelude.{slice_get, slice_set}
-use Rattle.std.proofs.lemmas.Bool.Decides.{nat_tests}
-use Rattle.std.proofs.lemmas.Option.{none-some, same_Some}
-use Rattle.lagtypes.specs.States.{bits_of, with_synchronization}
-use Rattle.lagtypes.specs.declared.state.StateBits.{StateBits}
-use Rattle.lagtypes.proofs.StateLemmas.{encode_then_decode}
-use Rattle.slowpdu.specs.declared.pdu.Info.{Info}
-use Rattle.slowpdu.specs.declared.pdu.Lacpdu.{Lacpdu}
-use Rattle.portmachines.specs.declared.receive.ReceiveState.{ReceiveState}
-use Rattle.portmachines.specs.declared.receive.ReceiveState.TheVariants.{Initialize, PortDisabled, Expired, Defaulted, Current}
-use Rattle.portmachines.specs.Machines.{Machines}
-use Rattle.portmachines.specs.Mux.{mux_rows}
-use Rattle.portmachines.specs.Periodic.{periodic_rows}
-use Rattle.portmachines.specs.Receive.{receive_rows, recorded_synchronization, same_receive_state}
-use Rattle.portmachines.specs.Rows.{AtRest, RunsToRest}
-use Rattle.portmachines.specs.Transmit.{count_down}
+use Rattle.lagprogress.proofs.Common.{Bool, List, Some, [], ap, arith, false, if◌then◌else◌, inl, inr, refl, slice_get, slice_set, subst, suc, sym}
+use Rattle.lagprogress.proofs.Common.{true, zero, ℕ, ◌&&◌, ◌+◌, ◌-◌, ◌==◌, ◌∙◌, ◌∷◌, ◌≡◌, ◌≤◌, nat_tests, none-some, same_Some, StateBits, bits_of}
+use Rattle.lagprogress.proofs.Common.{with_synchronization, encode_then_decode, Info, Lacpdu, ReceiveState, Current, Defaulted, Expired, Initialize}
+use Rattle.lagprogress.proofs.Common.{PortDisabled, Machines, mux_rows, periodic_rows, receive_rows, recorded_synchronization, same_receive_state}
+use Rattle.lagprogress.proofs.Common.{AtRest, RunsToRest, count_down, SystemPort, Call, Configure, Force, Move_conversation, Offer, OnlyPortChangesBy}
+use Rattle.lagprogress.proofs.Common.{ProcessesLacpdu, Receive, Restart, Set_link, ThenSettles, Tick, Transmit, choice_with_link, can_receive}
+use Rattle.lagprogress.proofs.Common.{can_receive_in, none_enabled, IsSound, SystemState, port_numbers, named, keeps_place, keeps_settled}
+use Rattle.lagprogress.proofs.Common.{can_receive_at_rest, Rises, all-get, ports_rise, LeavesUnheard, processed_on, timeout_time, HasRecorded}
+use Rattle.lagprogress.proofs.Common.{IsKnown}
 use Rattle.lagsystem.specs.declared.drive.Reply.{Reply}
-use Rattle.lagsystem.specs.declared.system_ports.SystemPort.{SystemPort}
-use Rattle.lagsystem.specs.Calls.{Call, Tick, Set_link, Receive, Configure, Restart, Transmit, Offer, Move_conversation, Force}
-use Rattle.lagsystem.specs.Calls.{OnlyPortChangesBy, ProcessesLacpdu, ThenSettles, choice_with_link}
-use Rattle.lagsystem.specs.ModelView.{can_receive, can_receive_in, none_enabled}
-use Rattle.lagsystem.proofs.Rest.{can_receive_at_rest}
-use Rattle.lagsystem.specs.Sound.{IsSound}
-use Rattle.lagsystem.specs.State.{SystemState, port_numbers}
-use Rattle.lagsystem.proofs.Effects.{named}
-use Rattle.lagsystem.proofs.Keeps.{keeps_place, keeps_settled}
-use Rattle.lagsystem.proofs.Rising.{Rises, all-get, ports_rise}
-use Rattle.lagprogress.specs.Hearing.{LeavesUnheard, processed_on, timeout_time}
-use Rattle.lagprogress.specs.Knowing.{HasRecorded, IsKnown}
 use Rattle.lagprogress.proofs.EachPort.{KeptByCall, KeptBySettling, settling_each}
 use Rattle.lagprogress.proofs.Hearing.{EnabledKeep, both, is_number, no, not_down, stays_up, times_keep}
 use Rattle.lagprogress.proofs.OnePort.{AtPort, GoesOn, at_number, goes_on, same_place}

@@ -1,24 +1,9 @@
 -- A port that is kept from silence by an active partner alone: it is CURRENT, or EXPIRED and about to speak.
-use Rattle.std.proofs.Common.{◌≡◌, ◌∙◌, ℕ, zero, suc, ◌+◌, ◌-◌, ◌≤◌, ◌==◌, ◌&&◌, Bool, true, false, not, ◌⊎◌, inl, inr, refl, sym, subst, ap, arith}
-use Rattle.std.proofs.lemmas.Bool.Decides.{nat_tests}
-use Rattle.lagtypes.specs.declared.party.Choice.{Choice}
-use Rattle.lagtypes.specs.declared.state.State.{State}
-use Rattle.lagtypes.specs.declared.state.StateBits.{StateBits}
-use Rattle.lagtypes.specs.Choices.{is_selected}
-use Rattle.lagtypes.specs.States.{bits_of, with_synchronization, with_timeout}
-use Rattle.lagtypes.proofs.StateLemmas.{encode_then_decode}
-use Rattle.slowpdu.specs.declared.pdu.Lacpdu.{Lacpdu}
-use Rattle.portmachines.specs.declared.receive.ReceiveState.{ReceiveState}
-use Rattle.portmachines.specs.declared.receive.ReceiveState.TheVariants.{Initialize, PortDisabled, Expired, Current}
-use Rattle.portmachines.specs.Machines.{Machines}
-use Rattle.portmachines.specs.Mux.{mux_rows}
-use Rattle.portmachines.specs.Periodic.{RunsPeriodic, periodic_rows}
-use Rattle.portmachines.specs.Receive.{lacpdu_rows, receive_rows, same_receive_state}
-use Rattle.portmachines.specs.Rows.{AtRest, RunsToRest}
-use Rattle.portmachines.specs.Transmit.{count_down, is_due}
-use Rattle.lagprogress.specs.Hearing.{timeout_time}
-use Rattle.lagprogress.specs.Knowing.{HasRecorded}
-use Rattle.lagprogress.specs.Timers.{IsTimed}
+use Rattle.lagprogress.proofs.Common.{Bool, ap, arith, false, inl, inr, not, refl, subst, suc, sym, true, zero, ℕ, ◌&&◌, ◌+◌, ◌-◌, ◌==◌, ◌∙◌, ◌≡◌}
+use Rattle.lagprogress.proofs.Common.{◌≤◌, ◌⊎◌, nat_tests, Choice, State, StateBits, is_selected, bits_of, with_synchronization, with_timeout}
+use Rattle.lagprogress.proofs.Common.{encode_then_decode, Lacpdu, ReceiveState, Current, Expired, Initialize, PortDisabled, Machines, mux_rows}
+use Rattle.lagprogress.proofs.Common.{RunsPeriodic, periodic_rows, lacpdu_rows, receive_rows, same_receive_state, AtRest, RunsToRest, count_down}
+use Rattle.lagprogress.proofs.Common.{is_due, timeout_time, HasRecorded, IsTimed}
 use Rattle.lagprogress.proofs.EndFacts.{Along, activity, both_along, not_silent, short_timeout, sounds_takes, takes_known}
 use Rattle.lagprogress.proofs.Hearing.{EnabledKeep, no, not_down, times_keep}
 use Rattle.lagprogress.proofs.Knowing.{Recorded}

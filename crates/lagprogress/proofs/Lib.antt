@@ -1,3 +1,4 @@
+mod Common
 mod Silence
 mod Counting
 mod Selecting

@@ -1,53 +1,19 @@
 -- How the links of a bundle agree where one system has a limit of links.
-use Rattle.std.proofs.Common.{◌≡◌, ◌∙◌, ℕ, suc, Bool, true, false, List, [], ◌∷◌, Option, Some, None, ◌⊎◌, inl, inr, refl, sym, subst, ap, arith, map}
-use Rattle.std.proofs.Common.{Ok, Err}
-use Rattle.std.specs.Prelude.{IsSome, if◌then◌else◌, slice_get}
-use Rattle.std.proofs.lemmas.Bool.{cases_Bool}
-use Rattle.std.proofs.lemmas.Option.{same_Some}
-use Rattle.lagtypes.specs.declared.identifiers.AggId.{AggId}
-use Rattle.lagtypes.specs.declared.identifiers.SystemId.{SystemId}
-use Rattle.lagtypes.specs.declared.party.Choice.{Choice}
-use Rattle.lagtypes.specs.declared.party.Choice.TheVariants.{Selected, Standby, Unselected}
-use Rattle.lagtypes.specs.declared.party.Party.{Party}
-use Rattle.lagtypes.specs.Choices.{is_selected}
-use Rattle.lagtypes.specs.Same.{same_party}
-use Rattle.slowpdu.specs.declared.pdu.Lacpdu.{Lacpdu}
-use Rattle.slowpdu.specs.Parties.{party_of}
-use Rattle.selection.specs.Views.{has_chosen}
-use Rattle.portmachines.specs.declared.port.Setup.{Setup}
-use Rattle.portmachines.specs.Machines.{Machines}
-use Rattle.portmachines.specs.Mux.{mux_rows, selected}
-use Rattle.portmachines.specs.Periodic.{periodic_rows}
-use Rattle.portmachines.specs.Receive.{default_partner, lacpdu_rows, receive_rows, start_receive}
-use Rattle.portmachines.specs.Rows.{RunsToRest}
-use Rattle.portmachines.specs.Start.{Starts, before_start}
-use Rattle.portmachines.specs.Transmit.{count_down}
-use Rattle.lagmodel.specs.World.{IsCabling, Side, One, Two, end_at, peer}
-use Rattle.lagsystem.specs.declared.drive.Reply.{Reply as Answer}
+use Rattle.lagprogress.proofs.Common.{Bool, Err, IsSome, List, None, Ok, Option, Some, [], ap, arith, false, if◌then◌else◌, inl, inr, map, refl}
+use Rattle.lagprogress.proofs.Common.{slice_get, subst, suc, sym, true, ℕ, ◌∙◌, ◌∷◌, ◌≡◌, ◌⊎◌, cases_Bool, same_Some, AggId, SystemId, Choice}
+use Rattle.lagprogress.proofs.Common.{Selected, Standby, Unselected, Party, is_selected, same_party, Lacpdu, party_of, IsCabling, One, Side, Two}
+use Rattle.lagprogress.proofs.Common.{end_at, peer, Setup, Machines, mux_rows, selected, periodic_rows, default_partner, lacpdu_rows, receive_rows}
+use Rattle.lagprogress.proofs.Common.{start_receive, RunsToRest, Starts, before_start, count_down, has_chosen, Answer, SystemPort, Call, Configure}
+use Rattle.lagprogress.proofs.Common.{Force, Move_conversation, Offer, ProcessesLacpdu, Receive, Restart, Set_link, SetsPortEnabled, Step, TableRun}
+use Rattle.lagprogress.proofs.Common.{Tick, Transmit, changed_party, choice_with_link, SystemState, port_index, Step-frame, all-get, found_place}
+use Rattle.lagprogress.proofs.Common.{ports_rise, Event, Same, Reply, agreement_at, Algorithms, WorldRuns, link_ends, world_setup, IsWorldSound}
+use Rattle.lagprogress.proofs.Common.{LinkState, WorldState, half, port_at, end_is, AllHeard, BothAreActive, OneIsActive, EndKnows, Knows, AtEnd}
+use Rattle.lagprogress.proofs.Common.{IsHealthyAt, OfPort, Rounds, StandsByFull, WantsAggregator}
 use Rattle.lagsystem.specs.declared.drive.Reply.TheVariants as reply
-use Rattle.lagsystem.specs.declared.system_ports.SystemPort.{SystemPort}
-use Rattle.lagsystem.specs.Calls.{Call, Configure, ProcessesLacpdu, Force, Move_conversation, Offer, Receive, Restart, Set_link, SetsPortEnabled, Step, TableRun, Tick}
-use Rattle.lagsystem.specs.Calls.{Transmit, changed_party, choice_with_link}
-use Rattle.lagsystem.specs.State.{SystemState, port_index}
-use Rattle.lagsystem.proofs.Keeps.{Step-frame}
-use Rattle.lagsystem.proofs.Rising.{all-get, found_place, ports_rise}
-use Rattle.lagscript.specs.declared.event.Event.{Event}
-use Rattle.lagworld.specs.declared.reply.Reply.{Reply}
-use Rattle.lagworld.specs.declared.agreement.Agreement.TheVariants.{Same}
-use Rattle.lagworld.specs.Agreement.{agreement_at}
-use Rattle.lagworld.specs.Events.{Algorithms, WorldRuns}
-use Rattle.lagworld.specs.ModelWorld.{link_ends, world_setup}
-use Rattle.lagworld.specs.Sound.{IsSound as IsWorldSound}
-use Rattle.lagworld.specs.State.{LinkState, WorldState, half, port_at}
-use Rattle.lagworld.proofs.Cables.{end_is}
-use Rattle.lagprogress.specs.Bundle.{AllHeard, BothAreActive, OneIsActive}
 use Rattle.lagprogress.specs.Limited.{CarriesOnAll, DownAreUnselected, EachActiveLimitedLinkAgrees, EachLimitedLinkAgrees}
 use Rattle.lagprogress.specs.Limited.{EachReachedHasDownUnselected, EndsAgreed, IsLimitedBundle, StandsByOthers}
-use Rattle.lagprogress.specs.Progress.{EndKnows, Knows}
-use Rattle.lagprogress.specs.Rounds.{AtEnd, IsHealthyAt, OfPort, Rounds}
-use Rattle.lagprogress.specs.Selecting.{StandsByFull, WantsAggregator}
-use Rattle.lagprogress.proofs.Bundling.{all_by_place, as_before, ends_at, never_stands, old_port, own_system, rounds_alike, rounds_keep, still_aggregators}
-use Rattle.lagprogress.proofs.Bundling.{still_links, Alike}
+use Rattle.lagprogress.proofs.Bundling.{all_by_place, as_before, ends_at, never_stands, old_port, own_system, rounds_alike, rounds_keep}
+use Rattle.lagprogress.proofs.Bundling.{still_aggregators, still_links, Alike}
 use Rattle.lagprogress.proofs.ComingUp.{zero_on}
 use Rattle.lagprogress.proofs.EachPort.{KeptBySettling, OfEach, Step-each, first_each, place_each, settling_each}
 use Rattle.lagprogress.proofs.EachRound.{EachAt, RoundKeeps, round_each, rounds_join, rounds_steady}

@@ -1,24 +1,13 @@
 -- A world that events lead to from one that was made is a bundle, if its links are up as it wants them.
+use Rattle.lagprogress.proofs.Common.{Bool, List, None, Option, Some, [], ap, false, if◌then◌else◌, map, refl, sym, true, ℕ, ◌∙◌, ◌∷◌, ◌≡◌, none-some}
+use Rattle.lagprogress.proofs.Common.{SystemId, same_system, system-itself, One, Side, Two, Config, config_value, or_first, Algorithms, AreFirst}
+use Rattle.lagprogress.proofs.Common.{LinkState, WorldState, half, BothAreActive, IsBundle, OneIsActive, ReachedIsApart, ReachedIsBundle}
+use Rattle.lagprogress.proofs.Common.{SystemsDiffer, CarriersAreUp, EachAgrees, EachDistributes, IsReached, IsReady, LeadsTo, NothingStaysHeld}
+use Rattle.lagprogress.proofs.Common.{Rounds, freed_if_both_active, freed_if_one_is, up_if_both_active, up_if_one_is}
 use Rattle.lagscript.specs.declared.config.BadWorld.TheVariants.{SameSystem}
-use Rattle.std.proofs.Common.{◌≡◌, ◌∙◌, Bool, true, false, List, [], ◌∷◌, Option, Some, None, ℕ, sym, ap, map, refl}
-use Rattle.std.specs.Prelude.{if◌then◌else◌}
-use Rattle.std.proofs.lemmas.Option.{none-some}
 use Rattle.cables.specs.declared.item.Item.{Item}
-use Rattle.lagtypes.specs.declared.identifiers.SystemId.{SystemId}
-use Rattle.lagtypes.specs.Same.{same_system}
-use Rattle.lagtypes.proofs.SameLemmas.{system-itself}
-use Rattle.lagmodel.specs.World.{Side, One, Two}
-use Rattle.lagsystem.specs.declared.config.Config.{Config}
-use Rattle.lagsystem.specs.First.{or_first, config_value}
 use Rattle.lagscript.specs.Configs.{refusal_of_all}
-use Rattle.lagworld.specs.Events.{Algorithms}
-use Rattle.lagworld.specs.Making.{AreFirst}
 use Rattle.lagworld.specs.Sound.{IsSound}
-use Rattle.lagworld.specs.State.{LinkState, WorldState, half}
-use Rattle.lagprogress.specs.Bundle.{BothAreActive, IsBundle, OneIsActive, ReachedIsApart, ReachedIsBundle, SystemsDiffer}
-use Rattle.lagprogress.specs.Freed.{CarriersAreUp}
-use Rattle.lagprogress.specs.Played.{EachAgrees, EachDistributes, IsReached, IsReady, LeadsTo, NothingStaysHeld}
-use Rattle.lagprogress.specs.Rounds.{Rounds, freed_if_both_active, freed_if_one_is, up_if_both_active, up_if_one_is}
 use Rattle.lagprogress.proofs.Bundling.{each_active_link_agrees, each_active_link_comes_up, each_link_agrees, each_link_comes_up}
 use Rattle.lagprogress.proofs.Carrying.{each_reached_has_carriers_up}
 use Rattle.lagprogress.proofs.ComingUp.{events_keep}

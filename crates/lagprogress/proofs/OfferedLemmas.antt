@@ -1,30 +1,13 @@
 -- A frame that a bundle is offered after its links came up arrives within one round.
-use Rattle.std.proofs.Common.{◌≡◌, ◌∙◌, ℕ, zero, suc, ◌+◌, ◌≤◌, true, List, [], ◌∷◌, ◌++◌, Some, ◌⊎◌, inl, inr, refl, sym, subst, ap, arith, map}
-use Rattle.std.specs.Prelude.{slice_get}
-use Rattle.std.specs.Global.{Vec}
-use Rattle.lagtypes.specs.declared.identifiers.AggId.{AggId}
-use Rattle.slowpdu.specs.declared.pdu.Lacpdu.{Lacpdu}
-use Rattle.portmachines.specs.Machines.{Machines}
-use Rattle.portmachines.specs.Receive.{lacpdu_rows, receive_rows}
-use Rattle.portmachines.specs.Transmit.{count_down}
-use Rattle.lagmodel.specs.World.{Side, One, peer}
-use Rattle.lagsystem.specs.declared.drive.Reply.{Reply as Answer}
-use Rattle.lagsystem.specs.declared.system_ports.SystemPort.{SystemPort}
-use Rattle.lagsystem.specs.Calls.{Call, Data_frame, IsFrame, TableRun}
-use Rattle.lagsystem.specs.State.{SystemState}
-use Rattle.lagsystem.proofs.Rising.{all-get}
-use Rattle.lagscript.specs.declared.event.Event.{Event}
+use Rattle.lagprogress.proofs.Common.{List, Some, Vec, [], ap, arith, inl, inr, map, refl, slice_get, subst, suc, sym, true, zero, ℕ, ◌++◌, ◌+◌, ◌∙◌}
+use Rattle.lagprogress.proofs.Common.{◌∷◌, ◌≡◌, ◌≤◌, ◌⊎◌, AggId, Lacpdu, One, Side, peer, Machines, lacpdu_rows, receive_rows, count_down, Answer}
+use Rattle.lagprogress.proofs.Common.{SystemPort, Call, Data_frame, IsFrame, TableRun, SystemState, all-get, Event, Reply, Algorithms, WorldRuns}
+use Rattle.lagprogress.proofs.Common.{WorldSteps, side_of, link_ends, ItemValue, LinkState, WorldState, accepts_at, half, is_accepted, link_at}
+use Rattle.lagprogress.proofs.Common.{port_at, put_on_port, put_ends, Arrives, DisabledAreUnsynchronized, EachActiveFrameArrives, EachFrameArrives}
+use Rattle.lagprogress.proofs.Common.{EachReachedHasUnsynchronized, GetsPort, TakesFrame, BothAreActive, IsBundle, OneIsActive, IsHealthyAt, IsRound}
+use Rattle.lagprogress.proofs.Common.{NothingInFlight, Rounds}
 use Rattle.lagscript.specs.declared.event.Event.TheVariants as event
-use Rattle.lagworld.specs.declared.reply.Reply.{Reply}
 use Rattle.lagworld.specs.declared.reply.Reply.TheVariants as reply
-use Rattle.lagworld.specs.Events.{Algorithms, WorldRuns, WorldSteps, side_of}
-use Rattle.lagworld.specs.ModelWorld.{link_ends}
-use Rattle.lagworld.specs.State.{ItemValue, LinkState, WorldState, accepts_at, half, is_accepted, link_at, port_at, put_on_port}
-use Rattle.lagworld.proofs.Cables.{put_ends}
-use Rattle.lagprogress.specs.Arriving.{Arrives, DisabledAreUnsynchronized, EachActiveFrameArrives, EachFrameArrives, EachReachedHasUnsynchronized}
-use Rattle.lagprogress.specs.Arriving.{GetsPort, TakesFrame}
-use Rattle.lagprogress.specs.Bundle.{BothAreActive, IsBundle, OneIsActive}
-use Rattle.lagprogress.specs.Rounds.{IsHealthyAt, IsRound, NothingInFlight, Rounds}
 use Rattle.lagprogress.proofs.ArrivingLemmas.{is_data, offer_gets_port}
 use Rattle.lagprogress.proofs.Bundling.{all_by_place, as_before, both_meet, both_wake, ends_at, holds, old_port, one_meet, one_wakes, ups}
 use Rattle.lagprogress.proofs.Carrying.{Lapses, LapsesAt, distributes_up, lapse_first, lapse_kept, lapse_settles, receive_lapses}

@@ -1,33 +1,18 @@
 -- How the ends of a cable come to know each other if one of them is active.
-use Rattle.lagprogress.specs.Bundle.{EndsOfEachKnow}
-use Rattle.std.proofs.Common.{◌≡◌, ◌∙◌, ℕ, ◌+◌, ◌-◌, ◌<◌, ◌≤◌, true, false, ◌⊎◌, inl, inr, refl, sym, subst, ap, arith, zero, suc}
-use Rattle.std.proofs.Common.{List, [], ◌∷◌, Some}
-use Rattle.std.specs.Prelude.{option_map, slice_get}
-use Rattle.std.proofs.lemmas.Option.{none-some, same_Some}
-use Rattle.lagtypes.specs.declared.party.Party.{Party}
-use Rattle.lagmodel.proofs.Uses.{find_at}
-use Rattle.lagsystem.specs.declared.system_ports.SystemPort.{SystemPort}
-use Rattle.lagsystem.specs.ModelView.{model_port_of, number_of_port}
-use Rattle.lagsystem.specs.Sound.{IsSound}
-use Rattle.lagsystem.specs.State.{SystemState, port_numbers}
-use Rattle.lagsystem.proofs.Rising.{Rises, are_numbered, ports_rise}
-use Rattle.std.proofs.lemmas.Bool.{cases_Bool}
-use Rattle.slowpdu.specs.declared.pdu.Lacpdu.{Lacpdu}
-use Rattle.lagmodel.specs.World.{Side, One, peer}
-use Rattle.lagworld.specs.Events.{Algorithms}
-use Rattle.lagworld.specs.State.{LinkState, WorldState, half, port_at}
-use Rattle.lagprogress.specs.Progress.{EndsComeToKnow}
-use Rattle.lagprogress.specs.Steady.{IsSteady}
-use Rattle.lagprogress.specs.Rounds.{IsRound, NothingInFlight, OfPort, Rounds}
+use Rattle.lagprogress.proofs.Common.{List, Some, [], ap, arith, false, inl, inr, option_map, refl, slice_get, subst, suc, sym, true, zero, ℕ, ◌+◌}
+use Rattle.lagprogress.proofs.Common.{◌-◌, ◌<◌, ◌∙◌, ◌∷◌, ◌≡◌, ◌≤◌, ◌⊎◌, cases_Bool, none-some, same_Some, Party, Lacpdu, One, Side, peer, find_at}
+use Rattle.lagprogress.proofs.Common.{SystemPort, model_port_of, number_of_port, IsSound, SystemState, port_numbers, Rises, are_numbered, ports_rise}
+use Rattle.lagprogress.proofs.Common.{Algorithms, LinkState, WorldState, half, port_at, EndsOfEachKnow, EndsComeToKnow, IsRound, NothingInFlight}
+use Rattle.lagprogress.proofs.Common.{OfPort, Rounds, IsSteady}
 use Rattle.lagprogress.proofs.Claims.{IsNamed}
 use Rattle.lagprogress.proofs.EndFacts.{Learnt, activity, short_timeout}
 use Rattle.lagprogress.proofs.Hearing.{no}
 use Rattle.lagprogress.proofs.Lapsing.{Lapsed, Lasting, Phase, Tails, begins_lasting, lasting_active, lasting_passes, some_wait}
 use Rattle.lagprogress.proofs.Linked.{Link, each_side, peer_twice}
 use Rattle.lagprogress.proofs.OneRound.{Nothing, at_rest, end_port, round_nears, round_passes, ticked}
-use Rattle.lagprogress.proofs.Progressing.{Answers, Calls, Comes, Ends, Fresh, Linked, along_rounds, answered, answers, called, came, comes, comes_first, only_cabling, only_cable, beside}
-use Rattle.lagprogress.proofs.Progressing.{end_of, first_round, fits_first, fresh_knows, hears, lower, machines_there, meets_short, mode, own_says}
-use Rattle.lagprogress.proofs.Progressing.{room_short, said_by, starts, stays_fresh, wait}
+use Rattle.lagprogress.proofs.Progressing.{Answers, Calls, Comes, Ends, Fresh, Linked, along_rounds, answered, answers, called, came, comes}
+use Rattle.lagprogress.proofs.Progressing.{comes_first, only_cabling, only_cable, beside, end_of, first_round, fits_first, fresh_knows, hears, lower}
+use Rattle.lagprogress.proofs.Progressing.{machines_there, meets_short, mode, own_says, room_short, said_by, starts, stays_fresh, wait}
 use Rattle.lagprogress.proofs.Sounding.{Sounds, silence_of}
 use Rattle.lagprogress.proofs.Stamps.{present_heard}
 use Rattle.lagprogress.proofs.Telling.{told_heard}

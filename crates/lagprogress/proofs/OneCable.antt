@@ -1,45 +1,21 @@
 -- What ticks, Emit and Deliver events do to a cable that is whole and has no limit, and what they leave to itself.
-use Rattle.std.proofs.Common.{◌≡◌, ◌∙◌, ℕ, zero, suc, ◌+◌, ◌<◌, ◌==◌, Bool, true, false, not, cond, List, [], ◌∷◌, ◌++◌, map, Option, Some, None, Result}
-use Rattle.std.proofs.Common.{Ok, Err, length}
-use Rattle.std.proofs.Common.{refl, sym, subst, ap, arith, ◌⊎◌, inl, inr}
-use Rattle.std.specs.Prelude.{nat_lt, slice_get, slice_set}
-use Rattle.std.proofs.lemmas.Bool.Decides.{nat_tests}
-use Rattle.std.proofs.lemmas.Option.{none-some, same_Some, slice_get-get_or}
-use Rattle.std.proofs.lemmas.List.Quantifiers.{position-Some}
-use Rattle.std.proofs.lemmas.Bool.{cases_Bool}
-use Rattle.lagmodel.specs.World.{IsCabling, Side, One, Two, end_at, peer}
-use Rattle.lagmodel.proofs.Base.{value_of}
+use Rattle.lagprogress.proofs.Common.{Bool, Err, List, None, Ok, Option, Result, Some, [], ap, arith, cond, false, inl, inr, length, map, nat_lt, not}
+use Rattle.lagprogress.proofs.Common.{position, refl, slice_get, slice_set, subst, suc, sym, true, zero, ℕ, ◌++◌, ◌+◌, ◌<◌, ◌==◌, ◌∙◌, ◌∷◌, ◌≡◌, ◌⊎◌}
+use Rattle.lagprogress.proofs.Common.{cases_Bool, nat_tests, position-Some, none-some, same_Some, slice_get-get_or, AllByRecursion, position_or_len}
+use Rattle.lagprogress.proofs.Common.{Lacpdu, all-append, IsCabling, One, Side, Two, end_at, peer, value_of, Stamp, Answer, SystemFault, Received}
+use Rattle.lagprogress.proofs.Common.{Call, Carries, IsFrame, Receive, Step, Tick, Transmit, CallPromise, SystemState, PortHistory, Reply}
+use Rattle.lagprogress.proofs.Common.{AfterReceive, AfterTransmit, Algorithms, DeliversFrom, OnLink, WorldEmits, WorldReceives, WorldSteps}
+use Rattle.lagprogress.proofs.Common.{set_last_lacpdu, side_of, stamp_for, stamped_in, transmitted_item, with_collected_in, with_link_at}
+use Rattle.lagprogress.proofs.Common.{with_stamp_collected, HalfTicks, payload_in, side_numbered, stamp_count, link_ends, HalfState, ItemValue}
+use Rattle.lagprogress.proofs.Common.{LinkState, WorldState, accepts, change_count_in, change_link, half, history_at, limit_towards, link_at}
+use Rattle.lagprogress.proofs.Common.{link_index, port_at, put_on_port, sent_on, towards, with_half, with_towards, read_log, end_is, mapped_set}
+use Rattle.lagprogress.proofs.Common.{put_ends, set_elsewhere, set_here, half_there, position_there}
 use Rattle.lagsystem.specs.declared.drive.Reply.TheVariants as answer
-use Rattle.lagsystem.specs.declared.fault.SystemFault.{SystemFault}
-use Rattle.lagsystem.specs.declared.received.Received.{Received}
 use Rattle.lagsystem.specs.declared.received.Received.TheVariants as received
-use Rattle.lagsystem.specs.Calls.{Call, Receive, Step, Tick, Transmit}
-use Rattle.lagsystem.specs.declared.drive.Reply.{Reply as Answer}
-use Rattle.lagsystem.specs.State.{SystemState}
-use Rattle.lagsystem.specs.Sound.{CallPromise}
 use Rattle.lagscript.specs.declared.event.Event.TheVariants as event
-use Rattle.lagworld.specs.declared.reply.Reply.{Reply}
-use Rattle.lagworld.specs.Events.{Algorithms, AfterReceive, AfterTransmit, DeliversFrom, OnLink, WorldEmits, WorldReceives}
-use Rattle.lagworld.specs.Events.{WorldSteps, side_of, with_link_at, with_stamp_collected}
-use Rattle.lagworld.specs.HalfCalls.{HalfTicks}
-use Rattle.lagworld.specs.declared.histories.PortHistory.{PortHistory}
-use Rattle.lagworld.specs.Messages.{payload_in, side_numbered, stamp_count}
-use Rattle.slowpdu.specs.declared.pdu.Lacpdu.{Lacpdu}
 use Rattle.slowpdu.specs.declared.pdu.Pdu.TheVariants as pdu
-use Rattle.slowpdu.proofs.LayoutLemmas.{all-append}
 use Rattle.slowpdu.proofs.PduInLemmas.{pdu_read}
-use Rattle.std.specs.List.{AllByRecursion, position, position_or_len}
-use Rattle.lagsystem.specs.Calls.{Carries, IsFrame}
-use Rattle.lagworld.specs.Events.{set_last_lacpdu, with_collected_in, stamp_for, stamped_in, transmitted_item}
-use Rattle.lagworld.specs.State.{change_count_in, history_at}
-use Rattle.lagworld.specs.State.{HalfState, ItemValue, LinkState, WorldState, accepts, half, limit_towards, link_index, port_at}
-use Rattle.lagworld.specs.State.{change_link, link_at, put_on_port, sent_on, towards, with_half, with_towards}
-use Rattle.cables.specs.declared.item.Stamp.{Stamp}
 use Rattle.cables.specs.declared.item.Stamp.TheVariants as stamp
-use Rattle.lagworld.specs.ModelWorld.{link_ends}
-use Rattle.lagworld.proofs.Arrives.{read_log}
-use Rattle.lagworld.proofs.Cables.{end_is, mapped_set, put_ends, set_elsewhere, set_here}
-use Rattle.lagworld.proofs.Sides.{half_there, position_there}
 use Rattle.lagprogress.proofs.Passing.{peer_there, put_there}
 
 -- the cable that joins these ports, with these items on it towards each system

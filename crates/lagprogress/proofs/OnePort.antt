@@ -1,25 +1,10 @@
 -- Of one port, what each call keeps and each tick moves on, over a list of calls.
-use Rattle.std.proofs.Common.{◌≡◌, ◌∙◌, ℕ, zero, suc, ◌+◌, ◌-◌, ◌<◌, ◌≤◌, List, [], ◌∷◌, Some, sym, subst, ap, arith}
-use Rattle.std.specs.Prelude.{slice_get}
-use Rattle.std.specs.List.{AllByRecursion}
-use Rattle.std.proofs.lemmas.Option.{none-some, same_Some}
-use Rattle.portmachines.specs.Machines.{Machines}
-use Rattle.portmachines.specs.Periodic.{periodic_rows}
-use Rattle.portmachines.specs.Receive.{receive_rows}
-use Rattle.portmachines.specs.Rows.{AtRest, RunsToRest}
-use Rattle.portmachines.specs.Transmit.{count_down}
+use Rattle.lagprogress.proofs.Common.{List, Some, [], ap, arith, slice_get, subst, suc, sym, zero, ℕ, ◌+◌, ◌-◌, ◌<◌, ◌∙◌, ◌∷◌, ◌≡◌, ◌≤◌, none-some}
+use Rattle.lagprogress.proofs.Common.{same_Some, AllByRecursion, Machines, periodic_rows, receive_rows, AtRest, RunsToRest, count_down, SystemPort}
+use Rattle.lagprogress.proofs.Common.{Call, Configure, Force, Move_conversation, Offer, Receive, Restart, Set_link, TableRun, Tick, Transmit}
+use Rattle.lagprogress.proofs.Common.{configured_numbers, PeriodicIsSettled, IsSound, SystemState, port_numbers, Step-frame, Rises, all-get}
+use Rattle.lagprogress.proofs.Common.{ports_rise, Step-sound, EachCall, tick_count}
 use Rattle.lagsystem.specs.declared.drive.Reply.{Reply}
-use Rattle.lagsystem.specs.declared.system_ports.SystemPort.{SystemPort}
-use Rattle.lagsystem.specs.Calls.{Call, Tick, Set_link, Receive, Configure, Restart, Transmit, Offer, Move_conversation, Force}
-use Rattle.lagsystem.specs.Calls.{TableRun}
-use Rattle.lagsystem.specs.First.{configured_numbers}
-use Rattle.lagsystem.specs.NothingToSettle.{PeriodicIsSettled}
-use Rattle.lagsystem.specs.Sound.{IsSound}
-use Rattle.lagsystem.specs.State.{SystemState, port_numbers}
-use Rattle.lagsystem.proofs.Keeps.{Step-frame}
-use Rattle.lagsystem.proofs.Rising.{Rises, all-get, ports_rise}
-use Rattle.lagsystem.proofs.Sound.{Step-sound}
-use Rattle.lagprogress.specs.Heartbeat.{EachCall, tick_count}
 use Rattle.lagprogress.proofs.EachPort.{KeptByCall, KeptBySettling, OfEach, Step-each, Tick-each}
 
 -- the port with number n is so

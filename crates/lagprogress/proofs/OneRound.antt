@@ -1,38 +1,17 @@
 -- What a healthy round leaves of a cable: an LACPDU of an end is nearer by a tick, or was heard.
-use Rattle.std.proofs.Common.{◌≡◌, ◌∙◌, ℕ, zero, suc, ◌-◌, ◌≤◌, Bool, true, false, List, [], ◌∷◌, ◌++◌, Option, Some, None}
-use Rattle.std.proofs.Common.{Result, Ok, Err, ◌⊎◌, inl, inr, refl, sym, subst, ap, arith}
-use Rattle.std.specs.Prelude.{slice_get}
-use Rattle.std.specs.List.{AllByRecursion}
-use Rattle.std.proofs.lemmas.Bool.{cases_Bool}
-use Rattle.std.proofs.lemmas.Option.{none-some, same_Some}
-use Rattle.slowpdu.specs.declared.pdu.Lacpdu.{Lacpdu}
+use Rattle.lagprogress.proofs.Common.{Bool, Err, List, None, Ok, Option, Result, Some, [], ap, arith, false, inl, inr, refl, slice_get, subst, suc}
+use Rattle.lagprogress.proofs.Common.{sym, true, zero, ℕ, ◌++◌, ◌-◌, ◌∙◌, ◌∷◌, ◌≡◌, ◌≤◌, ◌⊎◌, cases_Bool, none-some, same_Some, AllByRecursion}
+use Rattle.lagprogress.proofs.Common.{Lacpdu, One, Side, Two, peer, Machines, is_silent, periodic_rows, receive_rows, AtRest, RunsToRest}
+use Rattle.lagprogress.proofs.Common.{after_sending, count_down, is_due, pdu_of, marker_due, SystemFault, SystemPort, Step, Tick, Transmit}
+use Rattle.lagprogress.proofs.Common.{PeriodicIsSettled, IsLacpduOf, TransmitsAt, TransmitsIf, SystemState, port_index, marker_slots, same_slots}
+use Rattle.lagprogress.proofs.Common.{all-get, found_place, ports_rise, Event, Reply, Algorithms, WorldRuns, WorldSteps, side_of, ItemValue}
+use Rattle.lagprogress.proofs.Common.{LinkState, WorldState, half, port_at, IsDeliver, IsRound, NothingInFlight, asks_all, asks_ends, IsTimed}
 use Rattle.slowpdu.specs.declared.pdu.Pdu.TheVariants as pdu
-use Rattle.distributor.specs.Changes.{marker_due}
-use Rattle.portmachines.specs.Machines.{Machines}
-use Rattle.portmachines.specs.Periodic.{is_silent, periodic_rows}
-use Rattle.portmachines.specs.Receive.{receive_rows}
-use Rattle.portmachines.specs.Rows.{AtRest, RunsToRest}
-use Rattle.portmachines.specs.Transmit.{after_sending, count_down, is_due, pdu_of}
-use Rattle.lagmodel.specs.World.{Side, One, Two, peer}
 use Rattle.lagsystem.specs.declared.drive.Reply.TheVariants as answer
-use Rattle.lagsystem.specs.declared.fault.SystemFault.{SystemFault}
-use Rattle.lagsystem.specs.declared.system_ports.SystemPort.{SystemPort}
-use Rattle.lagsystem.specs.Calls.{Step, Tick, Transmit}
-use Rattle.lagsystem.specs.NothingToSettle.{PeriodicIsSettled}
-use Rattle.lagsystem.specs.Sending.{IsLacpduOf, TransmitsAt, TransmitsIf}
-use Rattle.lagsystem.specs.State.{SystemState, port_index}
-use Rattle.lagsystem.proofs.Rest.{marker_slots, same_slots}
-use Rattle.lagsystem.proofs.Rising.{all-get, found_place, ports_rise}
-use Rattle.lagscript.specs.declared.event.Event.{Event}
 use Rattle.lagscript.specs.declared.event.Event.TheVariants as event
-use Rattle.lagworld.specs.declared.reply.Reply.{Reply}
-use Rattle.lagworld.specs.Events.{Algorithms, WorldRuns, WorldSteps, side_of}
-use Rattle.lagworld.specs.State.{ItemValue, LinkState, WorldState, half, port_at}
-use Rattle.lagprogress.specs.Rounds.{IsDeliver, IsRound, NothingInFlight, asks_all, asks_ends}
-use Rattle.lagprogress.specs.Timers.{IsTimed}
 use Rattle.lagprogress.proofs.EachPort.{OfEach, Tick-each}
-use Rattle.lagprogress.proofs.EndFacts.{Along, CanSound, IsEnd, Learnt, both_along, calm, known_along, nothing_along, sounds_along, ticks_end, ticks_sounds}
-use Rattle.lagprogress.proofs.EndFacts.{wait_of}
+use Rattle.lagprogress.proofs.EndFacts.{Along, CanSound, IsEnd, Learnt, both_along, calm, known_along, nothing_along, sounds_along, ticks_end}
+use Rattle.lagprogress.proofs.EndFacts.{ticks_sounds, wait_of}
 use Rattle.lagprogress.proofs.Halves.{keeps_steady}
 use Rattle.lagprogress.proofs.Delivering.{deliver_link}
 use Rattle.lagprogress.proofs.Hearing.{no}
@@ -40,8 +19,8 @@ use Rattle.lagprogress.proofs.OneCable.{OnCable, Went, cable, port_there, ticks,
 use Rattle.lagprogress.proofs.OnePort.{AtPort, at_number, with_rest}
 use Rattle.lagprogress.proofs.Passing.{lacpdu_is_sent, sends_due, sent_carries}
 use Rattle.lagprogress.proofs.Sounding.{Sounds, now_due}
-use Rattle.lagprogress.proofs.Linked.{EndIs, Fits, Flying, Link, each_both, each_map, each_side, emit_link, end_kept, flying_last, found}
-use Rattle.lagprogress.proofs.Linked.{asked_which, beside_link, emit_any, other_side, place_kept, push_there}
+use Rattle.lagprogress.proofs.Linked.{EndIs, Fits, Flying, Link, each_both, each_map, each_side, emit_link, end_kept, flying_last, found, asked_which}
+use Rattle.lagprogress.proofs.Linked.{beside_link, emit_any, other_side, place_kept, push_there}
 
 abbrev pub Nothing : Machines → Type 0
 Nothing p = Unit {0}

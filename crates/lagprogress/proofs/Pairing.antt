@@ -1,29 +1,11 @@
 -- Cables of which both ends are SELECTED agree, however few aggregators and links there are.
-use Rattle.std.proofs.Common.{◌≡◌, ◌∙◌, ℕ, suc, ◌+◌, ◌-◌, ◌≤◌, true, List, ◌⊎◌, Option, Some, None, refl, sym, subst, ap, arith, inl, inr, map}
-use Rattle.std.specs.Prelude.{IsSome, is_some, slice_get}
-use Rattle.std.specs.List.{AllByRecursion}
-use Rattle.std.proofs.lemmas.Bool.{cases_Bool}
-use Rattle.std.proofs.lemmas.Option.{same_Some}
-use Rattle.lagtypes.specs.Choices.{is_selected}
-use Rattle.slowpdu.specs.declared.pdu.Lacpdu.{Lacpdu}
-use Rattle.portmachines.specs.Mux.{selected}
-use Rattle.lagmodel.specs.World.{IsCabling, Side, One, end_at, peer}
-use Rattle.lagsystem.specs.declared.config.PortConfig.{PortConfig}
-use Rattle.lagsystem.specs.declared.system_ports.SystemPort.{SystemPort}
-use Rattle.lagsystem.specs.NothingToSettle.{MuxIsSettled}
-use Rattle.lagsystem.proofs.Rising.{all-get, found_place, ports_rise}
-use Rattle.lagworld.specs.declared.agreement.Agreement.TheVariants.{Same}
-use Rattle.lagworld.specs.Agreement.{agreement_at}
-use Rattle.lagworld.specs.Events.{Algorithms}
-use Rattle.lagworld.specs.ModelWorld.{link_ends, world_setup}
-use Rattle.lagworld.specs.Sound.{IsSound as IsWorldSound}
-use Rattle.lagworld.specs.State.{LinkState, WorldState, half, history_at, port_at, towards}
-use Rattle.lagworld.proofs.Cables.{end_is}
-use Rattle.lagprogress.specs.Bundle.{ActiveSelectedPairsAgree, ActiveSelectedPairsComeUp, AllHeard, BothAreActive, OneIsActive, SelectedPairsAgree, SelectedPairsComeUp}
-use Rattle.lagprogress.specs.ComingUp.{Distributes}
-use Rattle.lagprogress.specs.Rounds.{AtEnd, IsHealthyAt, IsRound, OfPort, Rounds}
-use Rattle.lagprogress.specs.Steady.{IsSteady}
-use Rattle.lagprogress.specs.Timers.{IsTimed}
+use Rattle.lagprogress.proofs.Common.{IsSome, List, None, Option, Some, ap, arith, inl, inr, is_some, map, refl, slice_get, subst, suc, sym, true, ℕ}
+use Rattle.lagprogress.proofs.Common.{◌+◌, ◌-◌, ◌∙◌, ◌≡◌, ◌≤◌, ◌⊎◌, cases_Bool, same_Some, AllByRecursion, is_selected, Lacpdu, IsCabling, One, Side}
+use Rattle.lagprogress.proofs.Common.{end_at, peer, selected, PortConfig, SystemPort, MuxIsSettled, all-get, found_place, ports_rise, Same}
+use Rattle.lagprogress.proofs.Common.{agreement_at, Algorithms, link_ends, world_setup, IsWorldSound, LinkState, WorldState, half, history_at}
+use Rattle.lagprogress.proofs.Common.{port_at, towards, end_is, ActiveSelectedPairsAgree, ActiveSelectedPairsComeUp, AllHeard, BothAreActive}
+use Rattle.lagprogress.proofs.Common.{OneIsActive, SelectedPairsAgree, SelectedPairsComeUp, Distributes, AtEnd, IsHealthyAt, IsRound, OfPort, Rounds}
+use Rattle.lagprogress.proofs.Common.{IsSteady, IsTimed}
 use Rattle.lagprogress.proofs.Bundling.{all_by_place, as_before, both_wake, ends_at, old_port, one_wakes, rounds_alike, rounds_keep}
 use Rattle.lagprogress.proofs.Choosing.{Chose}
 use Rattle.lagprogress.proofs.Climbing.{Down, Ripe, Rising, climbed, down_settles, down_takes, down_ticks, rising_along, rising_first, ticks_rising}
@@ -35,7 +17,8 @@ use Rattle.lagprogress.proofs.Hearing.{no}
 use Rattle.lagprogress.proofs.OneActive.{named_at, one_meets}
 use Rattle.lagprogress.proofs.OnePort.{AtPort, at_number}
 use Rattle.lagprogress.proofs.OneRound.{Nothing, join, round_holds, ticked}
-use Rattle.lagprogress.proofs.Progressing.{AtIt, Fresh, FreshAt, active_meet, beside, fits_fresh, healthy_cable, knows_peer, said_by, starts, stays_fresh}
+use Rattle.lagprogress.proofs.Progressing.{AtIt, Fresh, FreshAt, active_meet, beside, fits_fresh, healthy_cable, knows_peer, said_by, starts}
+use Rattle.lagprogress.proofs.Progressing.{stays_fresh}
 
 -- one end climbs
 

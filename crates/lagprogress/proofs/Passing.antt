@@ -1,36 +1,18 @@
 -- What a system sends is what it carries; and how an LACPDU goes onto a cable and comes off it.
-use Rattle.std.proofs.Common.{◌≡◌, ◌∙◌, ℕ, suc, Bool, true, List, [], ◌∷◌, ◌++◌, Option, Some, None, Result, Ok, Err, refl, sym}
-use Rattle.std.proofs.Common.{subst, ap, drop}
-use Rattle.std.specs.Prelude.{slice_get, slice_set, if◌then◌else◌}
-use Rattle.std.proofs.lemmas.Option.{none-some, same_Some}
-use Rattle.slowpdu.specs.declared.pdu.Lacpdu.{Lacpdu}
-use Rattle.slowpdu.specs.declared.pdu.Marker.{Marker}
-use Rattle.slowpdu.specs.declared.pdu.Pdu.{Pdu}
+use Rattle.lagprogress.proofs.Common.{Bool, Err, List, None, Ok, Option, Result, Some, [], ap, drop, if◌then◌else◌, refl, slice_get, slice_set, subst}
+use Rattle.lagprogress.proofs.Common.{suc, sym, true, ℕ, ◌++◌, ◌∙◌, ◌∷◌, ◌≡◌, none-some, same_Some, Lacpdu, Marker, Pdu, written_pdu, One, Side, Two}
+use Rattle.lagprogress.proofs.Common.{peer, value_of, is_due, pdu_of, SystemFault, Received, TookLacpdu, SystemPort, Carries, IsFrame}
+use Rattle.lagprogress.proofs.Common.{OnlyPortChangesBy, ParsesWhere, Performs, ProcessesLacpdu, ReceivesAt, Step, ThenSettles, Transmit, IsSent}
+use Rattle.lagprogress.proofs.Common.{IsLacpduOf, PortTransmits, SendsLacpdu, TransmitsAt, TransmitsIf, SystemState, port_index, effect_one, Reply}
+use Rattle.lagprogress.proofs.Common.{AfterReceive, AfterTransmit, Algorithms, DeliversFrom, OnLink, WorldEmits, WorldReceives, side_of, with_link_at}
+use Rattle.lagprogress.proofs.Common.{HalfState, ItemValue, LinkState, WorldState, accepts, change_link, half, link_at, link_index, port_at}
+use Rattle.lagprogress.proofs.Common.{put_on_port, sent_on, towards, with_half, with_towards, half_there, DeliverProcessesLacpdu, EmitSendsLacpdu}
+use Rattle.lagprogress.proofs.Common.{EndIsUp, IsHeardOn, IsSentOn}
 use Rattle.slowpdu.specs.declared.pdu.Pdu.TheVariants as pdu
 use Rattle.slowpdu.proofs.LacpduLemmas.{one_reading}
 use Rattle.slowpdu.proofs.MarkerLemmas.{not_both}
-use Rattle.slowpdu.proofs.PduLemmas.{written_pdu}
-use Rattle.portmachines.specs.Transmit.{is_due, pdu_of}
-use Rattle.lagmodel.specs.World.{Side, One, Two, peer}
-use Rattle.lagmodel.proofs.Base.{value_of}
 use Rattle.lagsystem.specs.declared.drive.Reply.TheVariants as answer
-use Rattle.lagsystem.specs.declared.fault.SystemFault.{SystemFault}
-use Rattle.lagsystem.specs.declared.received.Received.{Received}
-use Rattle.lagsystem.specs.declared.received.Received.TheVariants.{TookLacpdu}
-use Rattle.lagsystem.specs.declared.system_ports.SystemPort.{SystemPort}
-use Rattle.lagsystem.specs.Calls.{Carries, IsFrame, OnlyPortChangesBy, ParsesWhere, Performs, ProcessesLacpdu, ReceivesAt}
-use Rattle.lagsystem.specs.Calls.{Step, ThenSettles, Transmit}
-use Rattle.lagsystem.specs.ModelView.{IsSent}
-use Rattle.lagsystem.specs.Sending.{IsLacpduOf, PortTransmits, SendsLacpdu, TransmitsAt, TransmitsIf}
-use Rattle.lagsystem.specs.State.{SystemState, port_index}
-use Rattle.lagsystem.proofs.OneFrame.{effect_one}
 use Rattle.lagsystem.proofs.Sent.{sent_control, sent_payload}
-use Rattle.lagworld.specs.declared.reply.Reply.{Reply}
-use Rattle.lagworld.specs.Events.{Algorithms, AfterReceive, AfterTransmit, DeliversFrom, OnLink, WorldEmits, WorldReceives, side_of, with_link_at}
-use Rattle.lagworld.specs.State.{HalfState, ItemValue, LinkState, WorldState, accepts, change_link, half, link_at, link_index, port_at}
-use Rattle.lagworld.specs.State.{put_on_port, sent_on, towards, with_half, with_towards}
-use Rattle.lagworld.proofs.Sides.{half_there}
-use Rattle.lagprogress.specs.Passing.{DeliverProcessesLacpdu, EmitSendsLacpdu, EndIsUp, IsHeardOn, IsSentOn}
 
 -- what frames carry
 

@@ -1,34 +1,22 @@
 -- Healthy rounds that are played.
-use Rattle.std.proofs.Common.{◌≡◌, ◌∙◌, ℕ, zero, suc, ◌+◌, ◌≤◌, ◌<◌, Bool, true, false, List, [], ◌∷◌, ◌++◌, length, map, drop, take}
-use Rattle.std.proofs.Common.{Option, Some, None, Result, Ok, Err, inl, inr, refl, sym, subst, ap, arith, nat_le}
-use Rattle.std.specs.Prelude.{◌⊎◌, ◌&&◌, IfErr, IsErrAnd, IfOk, is_some, option_map, slice_get}
-use Rattle.std.specs.List.{AllByRecursion}
-use Rattle.std.proofs.lemmas.Bool.{false≢true}
-use Rattle.std.proofs.lemmas.Bool.Decides.{nat_tests}
-use Rattle.std.proofs.lemmas.List.{append_assoc, length-map, take-append-drop, take_all}
-use Rattle.std.proofs.lemmas.Option.{none-some, same_Some, slice_get-map, slice_get_within}
-use Rattle.slowpdu.proofs.LayoutLemmas.{all-append}
-use Rattle.lagmodel.specs.World.{Ends, Side, One, Two, WorldSetup}
-use Rattle.lagmodel.proofs.Base.{value_of}
-use Rattle.lagsystem.specs.declared.fault.SystemFault.{SystemFault}
-use Rattle.lagsystem.specs.declared.received.Received.{Received}
+use Rattle.lagprogress.proofs.Common.{Bool, Err, IfErr, IfOk, List, None, Ok, Option, Result, Some, [], ap, append_assoc, arith, drop, false, inl}
+use Rattle.lagprogress.proofs.Common.{inr, is_some, length, map, nat_le, option_map, refl, slice_get, subst, suc, sym, take, take-append-drop}
+use Rattle.lagprogress.proofs.Common.{take_all, true, zero, ℕ, ◌&&◌, ◌++◌, ◌+◌, ◌<◌, ◌∙◌, ◌∷◌, ◌≡◌, ◌≤◌, ◌⊎◌, false≢true, nat_tests, none-some}
+use Rattle.lagprogress.proofs.Common.{same_Some, slice_get-map, slice_get_within, AllByRecursion, IsErrAnd, all-append, Ends, One, Side, Two}
+use Rattle.lagprogress.proofs.Common.{WorldSetup, value_of, SystemFault, Received, Event, Reply, AfterReceive, Algorithms, DeliversFrom, OnLink}
+use Rattle.lagprogress.proofs.Common.{WorldRuns, WorldSteps, cause, cause_or_no_memory, first_event_cause, has_cable, most_events, side_of, link_ends}
+use Rattle.lagprogress.proofs.Common.{world_setup, RefusesNext, RunStops, both_algorithms, next_of, ItemValue, LinkState, WorldState}
+use Rattle.lagprogress.proofs.Common.{element_numbered, towards, Delivers, IsOutOfMemoryOrSpent, IsRefused, NamesNoCable, PlaysPart, RunsAll}
+use Rattle.lagprogress.proofs.Common.{RunsPart, found_nothing, IsDeliver, IsRound, NothingInFlight, Rounds, asks_all, asks_ends, ticks_of_both}
+use Rattle.lagprogress.specs.Played.{most_cables}
+use Rattle.std.proofs.lemmas.List.{length-map}
 use Rattle.lagsystem.specs.declared.received.Received.TheVariants as received
-use Rattle.lagscript.specs.declared.event.Event.{Event}
 use Rattle.lagscript.specs.declared.event.Event.TheVariants as event
 use Rattle.lagworld.specs.declared.fault.RunFault.{RunFault}
 use Rattle.lagworld.specs.declared.fault.WorldFault.{WorldFault}
 use Rattle.lagworld.specs.declared.fault.WorldFault.TheVariants.{NoCable}
-use Rattle.lagworld.specs.declared.reply.Reply.{Reply}
 use Rattle.lagworld.specs.declared.reply.Reply.TheVariants as reply
-use Rattle.lagworld.specs.Events.{AfterReceive, Algorithms, DeliversFrom, OnLink, WorldRuns, WorldSteps, cause}
-use Rattle.lagworld.specs.Events.{cause_or_no_memory, first_event_cause, has_cable, most_events, side_of}
-use Rattle.lagworld.specs.ModelWorld.{link_ends, world_setup}
 use Rattle.lagworld.specs.Readers.{ends_of_cable}
-use Rattle.lagworld.specs.Sound.{RefusesNext, RunStops, both_algorithms, next_of}
-use Rattle.lagworld.specs.State.{ItemValue, LinkState, WorldState, element_numbered, towards}
-use Rattle.lagprogress.specs.Played.{Delivers, IsOutOfMemoryOrSpent, IsRefused, NamesNoCable, PlaysPart, RunsAll, RunsPart}
-use Rattle.lagprogress.specs.Played.{found_nothing, most_cables}
-use Rattle.lagprogress.specs.Rounds.{IsDeliver, IsRound, NothingInFlight, Rounds, asks_all, asks_ends, ticks_of_both}
 
 -- what holds of algorithms holds of the same ones
 pub same_algorithms : {F : Type 0} (Q : Algorithms → Type 0) (a b f h : F) (post : F → ℕ → ℕ → ℕ → Type 0) → f ≡ a → h ≡ b

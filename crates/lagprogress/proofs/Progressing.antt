@@ -1,35 +1,12 @@
 -- How the ends of a cable come to know each other, round by round.
-use Rattle.std.proofs.lemmas.Option.{none-some}
-use Rattle.std.proofs.Common.{◌≡◌, ◌∙◌, ℕ, zero, suc, ◌+◌, ◌-◌, ◌≤◌, Bool, true, false, List, [], ◌∷◌, Option, Some, None, map}
-use Rattle.std.proofs.Common.{◌⊎◌, inl, inr, refl, sym, subst, ap, arith}
-use Rattle.std.specs.Prelude.{slice_get, option_map}
-use Rattle.std.specs.List.{AllByRecursion}
-use Rattle.std.proofs.lemmas.Bool.{cases_Bool}
-use Rattle.lagtypes.specs.declared.state.StateBits.{StateBits}
-use Rattle.lagtypes.proofs.StateLemmas.{encode_then_decode}
-use Rattle.slowpdu.specs.declared.pdu.Lacpdu.{Lacpdu}
-use Rattle.portmachines.specs.declared.mux.MuxState.TheVariants.{CollectingDistributing}
-use Rattle.portmachines.specs.Machines.{Machines}
-use Rattle.portmachines.specs.Mux.{is_synchronized, same_mux_state}
-use Rattle.portmachines.specs.Transmit.{actor_of, count_down, pdu_of}
-use Rattle.portmachines.specs.Periodic.{periodic_rows}
-use Rattle.portmachines.specs.Receive.{receive_rows}
-use Rattle.portmachines.specs.Rows.{AtRest, RunsToRest}
-use Rattle.lagmodel.specs.World.{Side, One, Two, peer, IsCabling, end_at}
-use Rattle.lagsystem.specs.declared.system_ports.SystemPort.{SystemPort}
-use Rattle.lagsystem.specs.NothingToSettle.{PeriodicIsSettled}
-use Rattle.lagsystem.specs.State.{SystemState, machines_of, port_index, system_port_at}
-use Rattle.lagsystem.proofs.Effects.{named}
-use Rattle.lagsystem.proofs.Rising.{all-get, found_place, ports_rise}
-use Rattle.lagworld.specs.Events.{Algorithms}
-use Rattle.lagworld.specs.State.{ItemValue, LinkState, WorldState, half, port_at, towards}
-use Rattle.lagprogress.specs.Hearing.{timeout_time}
-use Rattle.lagprogress.specs.Progress.{ActiveEndsComeToKnow, EndKnows, Knows}
-use Rattle.lagprogress.specs.Rounds.{AtEnd, IsHealthy, IsHealthyAt, IsRound, NothingInFlight, OfPort, Rounds}
-use Rattle.lagworld.specs.ModelWorld.{link_ends, world_setup}
-use Rattle.lagprogress.specs.Bundle.{ActiveEndsOfEachKnow}
-use Rattle.lagprogress.specs.Steady.{IsSteady}
-use Rattle.lagprogress.specs.Timers.{IsTimed}
+use Rattle.lagprogress.proofs.Common.{Bool, List, None, Option, Some, [], ap, arith, false, inl, inr, map, option_map, refl, slice_get, subst, suc}
+use Rattle.lagprogress.proofs.Common.{sym, true, zero, ℕ, ◌+◌, ◌-◌, ◌∙◌, ◌∷◌, ◌≡◌, ◌≤◌, ◌⊎◌, cases_Bool, none-some, AllByRecursion, StateBits}
+use Rattle.lagprogress.proofs.Common.{encode_then_decode, Lacpdu, IsCabling, One, Side, Two, end_at, peer, CollectingDistributing, Machines}
+use Rattle.lagprogress.proofs.Common.{is_synchronized, same_mux_state, periodic_rows, receive_rows, AtRest, RunsToRest, actor_of, count_down, pdu_of}
+use Rattle.lagprogress.proofs.Common.{SystemPort, PeriodicIsSettled, SystemState, machines_of, port_index, system_port_at, named, all-get}
+use Rattle.lagprogress.proofs.Common.{found_place, ports_rise, Algorithms, link_ends, world_setup, ItemValue, LinkState, WorldState, half, port_at}
+use Rattle.lagprogress.proofs.Common.{towards, ActiveEndsOfEachKnow, timeout_time, ActiveEndsComeToKnow, EndKnows, Knows, AtEnd, IsHealthy}
+use Rattle.lagprogress.proofs.Common.{IsHealthyAt, IsRound, NothingInFlight, OfPort, Rounds, IsSteady, IsTimed}
 use Rattle.lagprogress.proofs.EachPort.{OfEach}
 use Rattle.lagprogress.proofs.EndFacts.{CanSound, IsEnd, Learnt, Says, Synced, activity, calm, less_known, short_timeout, ticks_end, wait_of}
 use Rattle.lagprogress.proofs.Hearing.{no}

@@ -1,16 +1,10 @@
 -- What holds of each world that events lead to.
-use Rattle.std.proofs.Common.{◌≤◌, List, [], ◌∷◌, sym, subst, arith}
-use Rattle.lagsystem.specs.declared.config.Config.{Config}
-use Rattle.lagscript.specs.declared.event.Event.{Event}
-use Rattle.lagworld.specs.declared.reply.Reply.{Reply}
-use Rattle.lagworld.specs.Events.{Algorithms, WorldRuns, most_events}
-use Rattle.lagworld.specs.Making.{AreFirst}
-use Rattle.lagworld.specs.Sound.{IsSound, IsStart}
-use Rattle.lagworld.specs.State.{WorldState}
+use Rattle.lagprogress.proofs.Common.{List, [], arith, subst, sym, ◌∷◌, ◌≤◌, Config, Event, Reply, Algorithms, WorldRuns, most_events, AreFirst}
+use Rattle.lagprogress.proofs.Common.{IsStart, WorldState, IsSteady}
+use Rattle.lagworld.specs.Sound.{IsSound}
 use Rattle.lagworld.proofs.Headline.{accepted, rises}
 use Rattle.lagworld.proofs.Keeping.{steps_sound}
 use Rattle.lagworld.proofs.Starts.{start_sound}
-use Rattle.lagprogress.specs.Steady.{IsSteady}
 use Rattle.lagprogress.proofs.Halves.{keeps_steady, start_steady}
 
 pub runs_steady : (gives : Algorithms) (es : List Event) (rs : List Reply) (old new : WorldState) → WorldRuns gives old es rs new

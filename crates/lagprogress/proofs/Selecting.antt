@@ -1,39 +1,14 @@
 -- Where each aggregator of a key has an occupant, there are fewer of them than ports of that key.
-use Rattle.std.proofs.Common.{◌≡◌, ◌∙◌, ℕ, zero, suc, ◌+◌, ◌≤◌, ◌⊎◌, Bool, true, false, cond, not, ◌&&◌, ◌||◌, List, [], ◌∷◌}
-use Rattle.std.proofs.Common.{Option, Some, None, inl, inr, refl, sym, subst, ap, arith, if◌then◌else◌}
-use Rattle.std.specs.Prelude.{◌==◌, nat_le, find, length, option_map, slice_get}
-use Rattle.std.specs.List.{enumerate_from, list_any}
-use Rattle.std.proofs.lemmas.Bool.{and_parts, cases_Bool, eqb-true}
-use Rattle.std.proofs.lemmas.Bool.Decides.{nat_tests}
-use Rattle.std.proofs.lemmas.Option.{none-some, same_Some}
-use Rattle.lagtypes.specs.Choices.{is_selected, is_unselected}
-use Rattle.lagtypes.specs.Same.{same_system}
-use Rattle.lagtypes.specs.declared.identifiers.AggId.{AggId}
-use Rattle.lagtypes.specs.declared.identifiers.Key.{Key}
-use Rattle.lagtypes.specs.declared.party.Choice.{Choice}
-use Rattle.lagtypes.specs.declared.party.Choice.TheVariants.{Unselected, Selected, Standby}
-use Rattle.lagtypes.proofs.SameLemmas.{exact_system, itself}
-use Rattle.portmachines.specs.declared.mux.MuxState.{MuxState}
-use Rattle.portmachines.specs.declared.mux.MuxState.TheVariants.{Detached, Waiting, Attached, CollectingDistributing}
-use Rattle.portmachines.specs.declared.receive.ReceiveState.{ReceiveState}
-use Rattle.portmachines.specs.declared.receive.ReceiveState.TheVariants.{Current, Defaulted}
-use Rattle.portmachines.specs.Mux.{same_mux_state}
-use Rattle.portmachines.specs.Receive.{same_receive_state}
-use Rattle.selection.specs.Choice.{aggregator_of_entry, chosen_if_eligible, has_no_occupant, is_aggregator, lowest, or_else}
-use Rattle.selection.specs.Choice.{occupants_share_group, ports_that_chose}
-use Rattle.selection.specs.Limits.{has_room, is_below}
-use Rattle.selection.specs.Views.{is_detached, is_eligible, occupies, stands_by}
-use Rattle.selection.proofs.LimitLemmas.{NoneStandsBy, none_is_next}
-use Rattle.lagsystem.specs.declared.system_ports.SystemPort.{SystemPort}
-use Rattle.lagsystem.specs.ModelView.{key_of}
-use Rattle.lagsystem.specs.NothingToSettle.{MuxIsSettled}
-use Rattle.lagsystem.specs.Occupants.{OccupantsAgree, WithinLimit, occupied}
-use Rattle.lagsystem.specs.Sound.{IsSound}
-use Rattle.lagsystem.specs.State.{SystemState, aggregators_value}
-use Rattle.lagsystem.specs.Views.{selection_view, stage_of, views}
-use Rattle.lagsystem.proofs.NoneLeft.{takes_is}
-use Rattle.lagsystem.proofs.Rising.{all-get, ports_rise}
-use Rattle.lagprogress.specs.Selecting.{IsFull, StandsByFull, WantsAggregator, aggregators_with, ports_with}
+use Rattle.lagprogress.proofs.Common.{Bool, List, None, Option, Some, [], ap, arith, cond, eqb-true, false, find, if◌then◌else◌, inl, inr, length}
+use Rattle.lagprogress.proofs.Common.{nat_le, not, option_map, refl, slice_get, subst, suc, sym, true, zero, ℕ, ◌&&◌, ◌+◌, ◌==◌, ◌||◌, ◌∙◌, ◌∷◌, ◌≡◌}
+use Rattle.lagprogress.proofs.Common.{◌≤◌, ◌⊎◌, and_parts, cases_Bool, nat_tests, none-some, same_Some, enumerate_from, list_any, AggId, Key, Choice}
+use Rattle.lagprogress.proofs.Common.{Selected, Standby, Unselected, is_selected, is_unselected, same_system, exact_system, itself, MuxState}
+use Rattle.lagprogress.proofs.Common.{Attached, CollectingDistributing, Detached, Waiting, ReceiveState, Current, Defaulted, same_mux_state}
+use Rattle.lagprogress.proofs.Common.{same_receive_state, aggregator_of_entry, chosen_if_eligible, has_no_occupant, is_aggregator, lowest}
+use Rattle.lagprogress.proofs.Common.{occupants_share_group, or_else, ports_that_chose, has_room, is_below, is_detached, is_eligible, occupies}
+use Rattle.lagprogress.proofs.Common.{stands_by, NoneStandsBy, none_is_next, SystemPort, key_of, MuxIsSettled, OccupantsAgree, WithinLimit, occupied}
+use Rattle.lagprogress.proofs.Common.{IsSound, SystemState, aggregators_value, selection_view, stage_of, views, takes_is, all-get, ports_rise, IsFull}
+use Rattle.lagprogress.proofs.Common.{StandsByFull, WantsAggregator, aggregators_with, ports_with}
 use Rattle.lagprogress.proofs.Counting.{count, counted, count_less, count_more}
 
 -- the number of the aggregator that a port occupies; aggregators are numbered from 1

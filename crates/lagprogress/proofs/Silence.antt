@@ -1,12 +1,7 @@
 -- The rows of the periodic machine and the silence of an active port.
-use Rattle.std.proofs.Common.{◌≡◌, ℕ, zero, suc, ◌+◌, ◌-◌, ◌≤◌, Bool, true, false, refl, sym, subst, inl, inr, ◌⊎◌, arith}
-use Rattle.std.specs.Prelude.{IsTrue, not, ◌&&◌, ◌==◌}
-use Rattle.portmachines.specs.declared.periodic.PeriodicState.{PeriodicState}
-use Rattle.portmachines.specs.declared.periodic.PeriodicState.TheVariants.{NoPeriodic, Fast, Slow, PeriodicTx}
-use Rattle.portmachines.specs.Machines.{Machines}
-use Rattle.portmachines.specs.Periodic.{RunsPeriodic, periodic_rows, clear_ntt, partner_short}
-use Rattle.portmachines.specs.Rows.{AtRest, Fires, FiresTimes}
-use Rattle.lagprogress.specs.Silence.{Speaks, IsLoud}
+use Rattle.lagprogress.proofs.Common.{Bool, IsTrue, arith, false, inl, inr, not, refl, subst, suc, sym, true, zero, ℕ, ◌&&◌, ◌+◌, ◌-◌, ◌==◌, ◌≡◌, ◌≤◌}
+use Rattle.lagprogress.proofs.Common.{◌⊎◌, PeriodicState, Fast, NoPeriodic, PeriodicTx, Slow, Machines, RunsPeriodic, clear_ntt, partner_short}
+use Rattle.lagprogress.proofs.Common.{periodic_rows, AtRest, Fires, FiresTimes, IsLoud, Speaks}
 
 -- the port, with its link up, active, in this state with this timer
 abbrev at : PeriodicState → ℕ → Machines → Machines

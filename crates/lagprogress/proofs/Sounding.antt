@@ -1,18 +1,9 @@
 -- In how many ticks an LACPDU of a port is due that neither its own end nor its partner keeps silent.
-use Rattle.std.proofs.Common.{◌≡◌, ℕ, zero, suc, ◌+◌, ◌-◌, ◌<◌, ◌≤◌, Bool, true, false, not, cond, ◌&&◌, ◌||◌, ◌==◌, ◌⊎◌, inl, inr}
-use Rattle.std.proofs.Common.{List, [], ◌∷◌, length, refl, sym, subst, arith}
-use Rattle.std.specs.Prelude.{nat_lt}
-use Rattle.std.specs.List.{AllByRecursion}
-use Rattle.std.proofs.lemmas.Bool.Decides.{nat_tests}
-use Rattle.portmachines.specs.declared.periodic.PeriodicState.{PeriodicState}
-use Rattle.portmachines.specs.declared.periodic.PeriodicState.TheVariants.{NoPeriodic, Fast, Slow, PeriodicTx}
-use Rattle.portmachines.specs.Machines.{Machines}
-use Rattle.portmachines.specs.Mux.{mux_rows}
-use Rattle.portmachines.specs.Periodic.{RunsPeriodic, is_silent, partner_short, periodic_rows, periodic_table}
-use Rattle.portmachines.specs.Periodic.{same_periodic_state, timer_expired}
-use Rattle.portmachines.specs.Rows.{AtRest, Row, in_order}
-use Rattle.portmachines.specs.Transmit.{aged, count_down, is_due}
-use Rattle.lagprogress.specs.Timers.{IsTimed, most_periodic_timer}
+use Rattle.lagprogress.proofs.Common.{Bool, List, [], arith, cond, false, inl, inr, length, nat_lt, not, refl, subst, suc, sym, true, zero, ℕ, ◌&&◌}
+use Rattle.lagprogress.proofs.Common.{◌+◌, ◌-◌, ◌<◌, ◌==◌, ◌||◌, ◌∷◌, ◌≡◌, ◌≤◌, ◌⊎◌, nat_tests, AllByRecursion, PeriodicState, Fast, NoPeriodic}
+use Rattle.lagprogress.proofs.Common.{PeriodicTx, Slow, Machines, mux_rows, RunsPeriodic, is_silent, partner_short, periodic_rows, periodic_table}
+use Rattle.lagprogress.proofs.Common.{same_periodic_state, timer_expired, AtRest, Row, in_order, aged, count_down, is_due, IsTimed}
+use Rattle.lagprogress.proofs.Common.{most_periodic_timer}
 use Rattle.lagprogress.proofs.Hearing.{EnabledKeep, no, times_keep}
 use Rattle.lagprogress.proofs.Timers.{RowsKeep}
 

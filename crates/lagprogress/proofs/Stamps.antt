@@ -1,53 +1,25 @@
 -- What the ends of a cable took last bears the present change counts.
-use Rattle.std.proofs.Common.{◌≡◌, ◌∙◌, ℕ, ◌+◌, ◌≤◌, ◌==◌, Bool, true, false, List, [], ◌∷◌, Some, Result, Ok, Err}
-use Rattle.std.proofs.Common.{◌⊎◌, inl, inr, refl, sym, subst, ap, arith, eqb-true, eqb}
-use Rattle.std.specs.Prelude.{is_some}
-use Rattle.std.specs.List.{AllByRecursion}
-use Rattle.std.proofs.lemmas.Bool.{cases_Bool, true≢false}
-use Rattle.std.proofs.lemmas.Bool.Decides.{nat_tests}
-use Rattle.slowpdu.specs.declared.pdu.Lacpdu.{Lacpdu}
+use Rattle.lagprogress.proofs.Common.{Bool, Err, List, Ok, Result, Some, [], ap, arith, eqb, eqb-true, false, inl, inr, is_some, refl, subst, sym}
+use Rattle.lagprogress.proofs.Common.{true, ℕ, ◌+◌, ◌==◌, ◌∙◌, ◌∷◌, ◌≡◌, ◌≤◌, ◌⊎◌, cases_Bool, true≢false, nat_tests, AllByRecursion, Lacpdu, One}
+use Rattle.lagprogress.proofs.Common.{Side, Two, peer, cond_false, cond_true, ReceiveState, Current, Machines, mux_rows, periodic_rows, receive_rows}
+use Rattle.lagprogress.proofs.Common.{AtRest, RunsToRest, count_down, SystemFault, Received, SystemPort, Carries, IsFrame, Receive, Step, Tick}
+use Rattle.lagprogress.proofs.Common.{Transmit, CallPromise, SystemState, port_index, processes_or_stays, all-get, found_place, PortHistory, Reply}
+use Rattle.lagprogress.proofs.Common.{is_stamp, Algorithms, WorldSteps, set_last_lacpdu, side_of, stamped_in, set_taken, stamp_count, ItemValue}
+use Rattle.lagprogress.proofs.Common.{WorldState, change_count_in, half, history_at, taken_in, count_heard, read_log, timeout_time, IsRound}
+use Rattle.lagprogress.proofs.Common.{NothingInFlight, asks_all, IsSteadySystem, IsTimed, most_current_while}
 use Rattle.slowpdu.specs.declared.pdu.Pdu.TheVariants as pdu
-use Rattle.portmachines.specs.declared.receive.ReceiveState.{ReceiveState}
-use Rattle.portmachines.specs.declared.receive.ReceiveState.TheVariants.{Current}
-use Rattle.portmachines.specs.Machines.{Machines}
-use Rattle.portmachines.specs.Mux.{mux_rows}
-use Rattle.portmachines.specs.Periodic.{periodic_rows}
-use Rattle.portmachines.specs.Receive.{receive_rows}
-use Rattle.portmachines.specs.Rows.{AtRest, RunsToRest}
-use Rattle.portmachines.specs.Transmit.{count_down}
-use Rattle.lagmodel.specs.World.{Side, One, Two, peer}
-use Rattle.lagmodel.proofs.Base.{cond_true, cond_false}
 use Rattle.lagsystem.specs.declared.drive.Reply.TheVariants as answer
-use Rattle.lagsystem.specs.declared.fault.SystemFault.{SystemFault}
-use Rattle.lagsystem.specs.declared.received.Received.{Received}
 use Rattle.lagsystem.specs.declared.received.Received.TheVariants as received
-use Rattle.lagsystem.specs.Calls.{Carries, IsFrame, Receive, Step, Tick, Transmit}
-use Rattle.lagsystem.specs.Sound.{CallPromise}
-use Rattle.lagsystem.specs.State.{SystemState, port_index}
-use Rattle.lagsystem.proofs.Performed.{processes_or_stays}
-use Rattle.lagsystem.proofs.Rising.{all-get, found_place}
-use Rattle.lagsystem.specs.declared.system_ports.SystemPort.{SystemPort}
 use Rattle.lagscript.specs.declared.event.Event.TheVariants as event
 use Rattle.lagworld.specs.declared.histories.StampedLacpdu.{StampedLacpdu}
-use Rattle.lagworld.specs.declared.histories.PortHistory.{PortHistory}
-use Rattle.lagworld.specs.declared.reply.Reply.{Reply}
-use Rattle.lagworld.specs.Agreement.{is_stamp}
-use Rattle.lagworld.specs.Events.{Algorithms, WorldSteps, set_last_lacpdu, side_of, stamped_in}
-use Rattle.lagworld.specs.HalfCalls.{set_taken}
-use Rattle.lagworld.specs.Messages.{stamp_count}
-use Rattle.lagworld.specs.State.{ItemValue, WorldState, change_count_in, half, history_at, taken_in}
-use Rattle.lagworld.proofs.Arrives.{count_heard, read_log}
-use Rattle.lagprogress.specs.Hearing.{timeout_time}
-use Rattle.lagprogress.specs.Rounds.{IsRound, NothingInFlight, asks_all}
-use Rattle.lagprogress.specs.Steady.{IsSteadySystem}
-use Rattle.lagprogress.specs.Timers.{IsTimed, most_current_while}
 use Rattle.lagprogress.proofs.EachPort.{KeptBySettling, OfEach, Step-each, Tick-each}
 use Rattle.lagprogress.proofs.EndFacts.{Learnt, Says, short_timeout, wait_of}
 use Rattle.lagprogress.proofs.Halves.{keeps_steady}
 use Rattle.lagprogress.proofs.Lapsing.{some_wait}
 use Rattle.lagprogress.proofs.OneRound.{all_ask, ask_all, deliver_all, timed_ends, unroll}
 use Rattle.lagprogress.proofs.Linked.{EndIs, Link, asked_which, each_side, elsewhere_each, found, is_took, peer_twice, put_other, put_there}
-use Rattle.lagprogress.proofs.OneCable.{Arrives, Back, Beside, IsStamped, OnCable, Ticked, asks, cable, delivers, logged, push_each, put, ticks, towards_there}
+use Rattle.lagprogress.proofs.OneCable.{Arrives, Back, Beside, IsStamped, OnCable, Ticked, asks, cable, delivers, logged, push_each, put, ticks}
+use Rattle.lagprogress.proofs.OneCable.{towards_there}
 use Rattle.lagprogress.proofs.OnePort.{AtPort}
 use Rattle.lagprogress.proofs.Passing.{marker_carries_none}
 use Rattle.lagprogress.proofs.Timers.{runs_keep}

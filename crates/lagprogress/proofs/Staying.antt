@@ -1,30 +1,12 @@
 -- A settling gives no port another value of Selected where what the Selection Logic reads is as it was at rest.
-use Rattle.std.proofs.Common.{◌≡◌, ◌∙◌, ℕ, zero, suc, ◌&&◌, ◌||◌, Bool, true, false, not, cond, List, [], ◌∷◌, Some, None, refl, sym, subst, ap, length, inl, inr}
-use Rattle.std.specs.Prelude.{option_map, slice_get, slice_set, if◌then◌else◌}
-use Rattle.std.specs.List.{list_all}
-use Rattle.std.proofs.lemmas.Option.{none-some, same_Some}
-use Rattle.lagtypes.specs.declared.identifiers.AggId.{AggId}
-use Rattle.lagtypes.specs.declared.identifiers.Key.{Key}
-use Rattle.lagtypes.specs.declared.party.Party.{Party}
-use Rattle.lagtypes.specs.Group.{group_of, individual}
-use Rattle.lagtypes.specs.Same.{same_group}
-use Rattle.slowpdu.specs.Parties.{party_of}
-use Rattle.selection.specs.declared.view.PortView.{PortView}
-use Rattle.selection.specs.Choice.{chosen_if_eligible, has_group_of, has_no_occupant, has_occupant, is_aggregator, lowest, occupants, occupants_share_group}
-use Rattle.selection.specs.Choice.{or_else, ports_that_chose}
-use Rattle.selection.specs.Limits.{is_below}
-use Rattle.selection.specs.Views.{has_chosen, is_eligible, occupies, stands_by}
-use Rattle.selection.proofs.LimitLemmas.{is_next, none_is_next}
-use Rattle.lagsystem.specs.declared.system_ports.SystemPort.{SystemPort}
-use Rattle.lagsystem.specs.NothingToSettle.{MuxIsSettled}
-use Rattle.lagsystem.specs.Settling.{ChoosesIn, PromotesNext, choice_for, choice_in, with_choice}
-use Rattle.lagsystem.specs.Sound.{IsSound}
-use Rattle.lagsystem.specs.State.{SystemState, aggregators_value, port_numbers}
-use Rattle.lagsystem.specs.Views.{selection_view, views}
-use Rattle.lagsystem.proofs.Limiting.{next_stands}
-use Rattle.lagsystem.proofs.NoneLeft.{takes_is}
-use Rattle.lagsystem.proofs.PromotionLemmas.{choices_keep, promotions_keep}
-use Rattle.lagsystem.proofs.Rising.{Rises, all-get, ports_rise}
+use Rattle.lagprogress.proofs.Common.{Bool, List, None, Some, [], ap, cond, false, if◌then◌else◌, inl, inr, length, not, option_map, refl, slice_get}
+use Rattle.lagprogress.proofs.Common.{slice_set, subst, suc, sym, true, zero, ℕ, ◌&&◌, ◌||◌, ◌∙◌, ◌∷◌, ◌≡◌, none-some, same_Some, list_all, AggId}
+use Rattle.lagprogress.proofs.Common.{Key, Party, group_of, individual, same_group, party_of, PortView, chosen_if_eligible, has_group_of}
+use Rattle.lagprogress.proofs.Common.{has_no_occupant, has_occupant, is_aggregator, lowest, occupants, occupants_share_group, or_else}
+use Rattle.lagprogress.proofs.Common.{ports_that_chose, is_below, has_chosen, is_eligible, occupies, stands_by, is_next, none_is_next, SystemPort}
+use Rattle.lagprogress.proofs.Common.{MuxIsSettled, ChoosesIn, PromotesNext, choice_for, choice_in, with_choice, IsSound, SystemState}
+use Rattle.lagprogress.proofs.Common.{aggregators_value, port_numbers, selection_view, views, next_stands, takes_is, choices_keep, promotions_keep}
+use Rattle.lagprogress.proofs.Common.{Rises, all-get, ports_rise}
 use Rattle.lagsystem.proofs.SettlingLemmas.{set_same}
 use Rattle.lagprogress.proofs.Hearing.{no}
 use Rattle.lagprogress.proofs.Selecting.{clash, seen_stands, stands, when_is}

@@ -1,46 +1,25 @@
 -- Once an end has heard the other, it is told by an LACPDU when the other is synchronized.
-use Rattle.std.proofs.Common.{◌≡◌, ◌∙◌, ℕ, ◌+◌, ◌≤◌, Bool, true, false, List, [], ◌∷◌, ◌++◌, Option, Some, None}
-use Rattle.std.proofs.Common.{Result, Ok, Err, ◌⊎◌, inl, inr, refl, sym, subst, ap, arith}
-use Rattle.std.specs.Prelude.{slice_get}
-use Rattle.std.specs.List.{AllByRecursion}
-use Rattle.std.proofs.lemmas.Bool.{cases_Bool}
-use Rattle.std.proofs.lemmas.Option.{none-some, same_Some}
-use Rattle.slowpdu.specs.declared.pdu.Lacpdu.{Lacpdu}
+use Rattle.lagprogress.proofs.Common.{Bool, Err, List, None, Ok, Option, Result, Some, [], ap, arith, false, inl, inr, refl, slice_get, subst, sym}
+use Rattle.lagprogress.proofs.Common.{true, ℕ, ◌++◌, ◌+◌, ◌∙◌, ◌∷◌, ◌≡◌, ◌≤◌, ◌⊎◌, cases_Bool, none-some, same_Some, AllByRecursion, Lacpdu, One}
+use Rattle.lagprogress.proofs.Common.{Side, Two, peer, Machines, mux_rows, partner_synchronized, periodic_rows, receive_rows, AtRest, RunsToRest}
+use Rattle.lagprogress.proofs.Common.{after_sending, count_down, is_due, pdu_of, marker_due, SystemFault, Received, SystemPort, Carries, IsFrame}
+use Rattle.lagprogress.proofs.Common.{OnlyPortChangesBy, ProcessesLacpdu, Receive, Step, ThenSettles, Transmit, IsLacpduOf, SendsMarkerOf}
+use Rattle.lagprogress.proofs.Common.{TransmitsAt, TransmitsIf, CallPromise, SystemState, port_index, same_slots, all-get, found_place, ports_rise}
+use Rattle.lagprogress.proofs.Common.{Reply, Algorithms, WorldSteps, side_of, ItemValue, WorldState, half, IsRound, NothingInFlight, asks_all}
+use Rattle.lagprogress.proofs.Common.{IsTimed}
 use Rattle.slowpdu.specs.declared.pdu.Pdu.TheVariants as pdu
-use Rattle.distributor.specs.Changes.{marker_due}
-use Rattle.portmachines.specs.Machines.{Machines}
-use Rattle.portmachines.specs.Mux.{mux_rows, partner_synchronized}
-use Rattle.portmachines.specs.Periodic.{periodic_rows}
-use Rattle.portmachines.specs.Receive.{receive_rows}
-use Rattle.portmachines.specs.Rows.{AtRest, RunsToRest}
-use Rattle.portmachines.specs.Transmit.{after_sending, count_down, is_due, pdu_of}
-use Rattle.lagmodel.specs.World.{Side, One, Two, peer}
 use Rattle.lagsystem.specs.declared.drive.Reply.TheVariants as answer
-use Rattle.lagsystem.specs.declared.fault.SystemFault.{SystemFault}
-use Rattle.lagsystem.specs.declared.received.Received.{Received}
 use Rattle.lagsystem.specs.declared.received.Received.TheVariants as received
-use Rattle.lagsystem.specs.declared.system_ports.SystemPort.{SystemPort}
-use Rattle.lagsystem.specs.Calls.{Carries, IsFrame, OnlyPortChangesBy, ProcessesLacpdu, Receive, Step, ThenSettles, Transmit}
-use Rattle.lagsystem.specs.Sending.{IsLacpduOf, SendsMarkerOf, TransmitsAt, TransmitsIf}
-use Rattle.lagsystem.specs.Sound.{CallPromise}
-use Rattle.lagsystem.specs.State.{SystemState, port_index}
-use Rattle.lagsystem.proofs.Rest.{same_slots}
-use Rattle.lagsystem.proofs.Rising.{all-get, found_place, ports_rise}
 use Rattle.lagscript.specs.declared.event.Event.TheVariants as event
-use Rattle.lagworld.specs.declared.reply.Reply.{Reply}
-use Rattle.lagworld.specs.Events.{Algorithms, WorldSteps, side_of}
-use Rattle.lagworld.specs.State.{ItemValue, WorldState, half}
-use Rattle.lagprogress.specs.Rounds.{IsRound, NothingInFlight, asks_all}
-use Rattle.lagprogress.specs.Timers.{IsTimed}
-use Rattle.lagprogress.proofs.Claims.{Claims, Owes, Owing, SaysSynced, Wakeful, claim_said, claims_or_not, owes_takes, owes_ticks, owing_settles, takes_claim}
-use Rattle.lagprogress.proofs.Claims.{wakeful_along}
+use Rattle.lagprogress.proofs.Claims.{Claims, Owes, Owing, SaysSynced, Wakeful, claim_said, claims_or_not, owes_takes, owes_ticks, owing_settles}
+use Rattle.lagprogress.proofs.Claims.{takes_claim, wakeful_along}
 use Rattle.lagprogress.proofs.Climbing.{PartnerInSync, ticks_partner}
 use Rattle.lagprogress.proofs.Delivering.{deliver_moves}
 use Rattle.lagprogress.proofs.EachPort.{KeptBySettling, OfEach, Tick-each, transmits_each}
 use Rattle.lagprogress.proofs.EndFacts.{Along, IsEnd, Learnt, SameActor, short_timeout, takes_each, takes_end, ticks_end, wait_of}
 use Rattle.lagprogress.proofs.Lapsing.{some_wait}
-use Rattle.lagprogress.proofs.Linked.{Arrived, EndIs, Fits, IsGood, Link, arrival, asked_which, beside_link, each_both, each_map, each_side, elsewhere_each}
-use Rattle.lagprogress.proofs.Linked.{emit_link, found, peer_twice, push_other, push_there, put_other, put_there}
+use Rattle.lagprogress.proofs.Linked.{Arrived, EndIs, Fits, IsGood, Link, arrival, asked_which, beside_link, each_both, each_map, each_side}
+use Rattle.lagprogress.proofs.Linked.{elsewhere_each, emit_link, found, peer_twice, push_other, push_there, put_other, put_there}
 use Rattle.lagprogress.proofs.OneCable.{Arrives, Back, Beside, Went, cable, put, ticks, towards_there}
 use Rattle.lagprogress.proofs.OnePort.{AtPort, at_number}
 use Rattle.lagprogress.proofs.OneRound.{Unrolled, all_ask, ask_all, deliver_all, one_of_both, same_ports_then, tick_both, ticked, timed_ends, unroll}

@@ -1,26 +1,11 @@
 -- What happens to a port leaves no timer above the ticks that it can start with.
-use Rattle.std.proofs.Common.{◌≡◌, ℕ, zero, suc, ◌+◌, ◌<◌, ◌≤◌, Bool, true, false, cond, List, [], ◌∷◌, ◌++◌, inl, inr}
-use Rattle.std.proofs.Common.{refl, sym, subst, arith, if◌then◌else◌}
-use Rattle.std.specs.Prelude.{nat_lt}
-use Rattle.std.specs.List.{AllByRecursion}
-use Rattle.std.proofs.lemmas.Bool.Decides.{nat_tests}
-use Rattle.slowpdu.specs.declared.pdu.Lacpdu.{Lacpdu}
-use Rattle.portmachines.specs.declared.port.Setup.{Setup}
-use Rattle.portmachines.specs.declared.receive.ReceiveState.{ReceiveState}
-use Rattle.portmachines.specs.declared.receive.ReceiveState.TheVariants.{Initialize, PortDisabled, Expired, Defaulted, Current}
-use Rattle.portmachines.specs.declared.periodic.PeriodicState.{PeriodicState}
-use Rattle.portmachines.specs.declared.periodic.PeriodicState.TheVariants.{NoPeriodic, Fast, Slow, PeriodicTx}
-use Rattle.portmachines.specs.Machines.{Machines}
-use Rattle.portmachines.specs.Mux.{mux_rows}
-use Rattle.portmachines.specs.Periodic.{periodic_rows}
-use Rattle.portmachines.specs.Receive.{lacpdu_rows, receive_rows, start_receive}
-use Rattle.portmachines.specs.Rows.{Fires, FiresTimes, Row, RunsToRest}
-use Rattle.portmachines.specs.Start.{Starts, before_start}
-use Rattle.portmachines.specs.Transmit.{aged, count_down}
+use Rattle.lagprogress.proofs.Common.{Bool, List, [], arith, cond, false, if◌then◌else◌, inl, inr, nat_lt, refl, subst, suc, sym, true, zero, ℕ, ◌++◌}
+use Rattle.lagprogress.proofs.Common.{◌+◌, ◌<◌, ◌∷◌, ◌≡◌, ◌≤◌, nat_tests, AllByRecursion, Lacpdu, PeriodicState, Fast, NoPeriodic, PeriodicTx, Slow}
+use Rattle.lagprogress.proofs.Common.{Setup, ReceiveState, Current, Defaulted, Expired, Initialize, PortDisabled, Machines, mux_rows, periodic_rows}
+use Rattle.lagprogress.proofs.Common.{lacpdu_rows, receive_rows, start_receive, Fires, FiresTimes, Row, RunsToRest, Starts, before_start, aged}
+use Rattle.lagprogress.proofs.Common.{count_down, Call, Configure, Force, Move_conversation, Offer, ProcessesLacpdu, Receive, Restart, Set_link, Tick}
+use Rattle.lagprogress.proofs.Common.{Transmit, changed_party, choice_with_link, IsTimed, most_current_while, most_periodic_timer}
 use Rattle.lagsystem.specs.declared.drive.Reply.{Reply}
-use Rattle.lagsystem.specs.Calls.{Call, Tick, Set_link, Receive, Configure, Restart, Transmit, Offer, Move_conversation, Force}
-use Rattle.lagsystem.specs.Calls.{ProcessesLacpdu, changed_party, choice_with_link}
-use Rattle.lagprogress.specs.Timers.{IsTimed, most_current_while, most_periodic_timer}
 use Rattle.lagprogress.proofs.EachPort.{KeptByCall, KeptBySettling}
 
 -- what each row keeps, its machine keeps

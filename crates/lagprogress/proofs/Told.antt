@@ -1,23 +1,12 @@
 -- Bounds of the ticks that are told.
-use Rattle.std.proofs.Common.{◌≡◌, ℕ, zero, suc, ◌≤◌, ◌<◌, Bool, true, false, List, [], ◌∷◌, Option, Some, None, refl, subst, ap, arith}
-use Rattle.std.proofs.Common.{inl, inr}
-use Rattle.std.specs.Prelude.{slice_get}
-use Rattle.std.specs.List.{AllByRecursion}
-use Rattle.std.proofs.lemmas.Option.{none-some, same_Some}
-use Rattle.portmachines.specs.declared.receive.ReceiveState.{ReceiveState}
-use Rattle.portmachines.specs.declared.receive.ReceiveState.TheVariants.{Initialize, PortDisabled, Expired, Defaulted, Current}
-use Rattle.portmachines.specs.declared.periodic.PeriodicState.{PeriodicState}
-use Rattle.portmachines.specs.declared.periodic.PeriodicState.TheVariants.{NoPeriodic, Fast, Slow, PeriodicTx}
-use Rattle.portmachines.specs.Machines.{Machines}
-use Rattle.lagsystem.specs.declared.system_ports.SystemPort.{SystemPort}
+use Rattle.lagprogress.proofs.Common.{Bool, List, None, Option, Some, [], ap, arith, false, inl, inr, refl, slice_get, subst, suc, true, zero, ℕ, ◌<◌}
+use Rattle.lagprogress.proofs.Common.{◌∷◌, ◌≡◌, ◌≤◌, none-some, same_Some, AllByRecursion, PeriodicState, Fast, NoPeriodic, PeriodicTx, Slow}
+use Rattle.lagprogress.proofs.Common.{ReceiveState, Current, Defaulted, Expired, Initialize, PortDisabled, Machines, SystemPort, SystemState, all-get}
+use Rattle.lagprogress.proofs.Common.{IsTimed, PortsAreTimed, most_current_while, most_periodic_timer, IsAwaited, WaitsAreShort}
 use Rattle.lagsystem.specs.Soonest.{HappensIn, IsFirstToHappen, TimerHas, WindowHas}
-use Rattle.lagsystem.specs.State.{SystemState}
 use Rattle.lagsystem.specs.Waiting.{ticks_until_due}
-use Rattle.lagsystem.proofs.Rising.{all-get}
 use Rattle.lagsystem.proofs.Soonest.{tells_the_first}
-use Rattle.lagprogress.specs.Timers.{IsTimed, PortsAreTimed, most_current_while, most_periodic_timer}
 use Rattle.lagprogress.specs.Told.{SomeFrameIsDue, TellsAtMost900}
-use Rattle.lagprogress.specs.Waits.{IsAwaited, WaitsAreShort}
 
 current_within : (short : Bool) (r : ReceiveState) → most_current_while short r ≤ 900
 current_within true r = omega arith

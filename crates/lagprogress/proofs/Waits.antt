@@ -1,33 +1,15 @@
 -- No call leaves a conversation waiting for a response for 30 ticks.
-use Rattle.std.proofs.Common.{◌≡◌, ◌∙◌, ℕ, ◌+◌, ◌<◌, Bool, true, false, cond, ◌&&◌, eqb, ltb, Option, Some, None, Result, Ok, Err, List}
-use Rattle.std.proofs.Common.{length, refl, sym, subst, ap, arith, inl, inr}
-use Rattle.std.specs.Prelude.{is_none}
-use Rattle.std.proofs.lemmas.Bool.{ltb-true}
-use Rattle.lagtypes.specs.declared.identifiers.AggId.{AggId}
-use Rattle.distributor.specs.declared.assignment.Assignment.{Assignment}
-use Rattle.distributor.specs.declared.assignment.Assignment.TheVariants.{Free, On, Wanted, Flushing}
+use Rattle.lagprogress.proofs.Common.{Bool, Err, List, None, Ok, Option, Result, Some, ap, arith, cond, eqb, false, inl, inr, length, ltb, refl}
+use Rattle.lagprogress.proofs.Common.{subst, sym, true, ℕ, ◌&&◌, ◌+◌, ◌<◌, ◌∙◌, ◌≡◌, ltb-true, is_none, AggId, is_due, Assignment, Flushing, Free, On}
+use Rattle.lagprogress.proofs.Common.{Wanted, force_result, is_among, move_result, SetsAssignment, after_down, after_mark, after_release, after_tick}
+use Rattle.lagprogress.proofs.Common.{marker_due, Table, assignment_of, next_identifier, first_free, SystemFault, SystemPort, Call, Configure, Force}
+use Rattle.lagprogress.proofs.Common.{FreesIfDown, Move_conversation, Offer, Receive, Restart, Set_link, Step, Tick, Transmit, IsFirst}
+use Rattle.lagprogress.proofs.Common.{GivesOrRefuses, Offers, system_force_result, system_move_result, aggregator_numbered, distributing}
+use Rattle.lagprogress.proofs.Common.{SendsMarkerOf, TransmitsAt, TransmitsIf, Settling, held_unless_on, SystemState, port_index, ports_table}
+use Rattle.lagprogress.proofs.Common.{settling_parts, TableChanges, table_changes, forced_to, moved_to, IsAwaited, WaitsAreShort}
 use Rattle.distributor.specs.declared.fault.DistFault.TheVariants as dist
-use Rattle.distributor.specs.Calls.{force_result, is_among, move_result}
-use Rattle.distributor.specs.Changes.{SetsAssignment, after_down, after_mark, after_release, after_tick, marker_due}
-use Rattle.distributor.specs.Conversations.{Table, assignment_of, next_identifier}
-use Rattle.distributor.proofs.TableLemmas.{first_free}
-use Rattle.portmachines.specs.Transmit.{is_due}
 use Rattle.lagsystem.specs.declared.drive.Reply.{Reply}
 use Rattle.lagsystem.specs.declared.drive.Reply.TheVariants as reply
-use Rattle.lagsystem.specs.declared.fault.SystemFault.{SystemFault}
-use Rattle.lagsystem.specs.declared.system_ports.SystemPort.{SystemPort}
-use Rattle.lagsystem.specs.Calls.{Call, Tick, Set_link, Receive, Configure, Restart, Transmit, Offer, Move_conversation, Force}
-use Rattle.lagsystem.specs.Calls.{FreesIfDown, Step}
-use Rattle.lagsystem.specs.First.{IsFirst}
-use Rattle.lagsystem.specs.Offers.{GivesOrRefuses, Offers, system_force_result, system_move_result}
-use Rattle.lagsystem.specs.Readers.{aggregator_numbered, distributing}
-use Rattle.lagsystem.specs.Sending.{SendsMarkerOf, TransmitsAt, TransmitsIf}
-use Rattle.lagsystem.specs.Settling.{Settling, held_unless_on}
-use Rattle.lagsystem.specs.State.{SystemState, port_index}
-use Rattle.lagsystem.proofs.Keeps.{ports_table, settling_parts}
-use Rattle.lagsystem.proofs.Performed.{TableChanges, table_changes}
-use Rattle.lagsystem.proofs.Steps.{forced_to, moved_to}
-use Rattle.lagprogress.specs.Waits.{IsAwaited, WaitsAreShort}
 
 abbrev Each : Table → Type 0
 Each t = (g k : ℕ) → IsAwaited (assignment_of t g k)

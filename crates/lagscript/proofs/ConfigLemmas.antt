@@ -1,8 +1,7 @@
 -- The first number below a limit.
-use Rattle.std.proofs.Common.{ℕ, zero, suc, ◌≡◌, ◌<◌, ◌⊎◌, inl, inr, Bool, true, cond, None, Some, refl, ap₂, subst, arith}
+use Rattle.lagscript.proofs.Common.{Bool, None, Some, ap₂, arith, cond, inl, inr, refl, subst, suc, true, zero, ℕ, ◌<◌, ◌≡◌, ◌⊎◌, or_first}
+use Rattle.lagscript.proofs.Common.{first_below}
 use Rattle.std.proofs.Math.Nat.{eq-or-lt_of_le}
-use Rattle.lagsystem.specs.First.{or_first}
-use Rattle.lagscript.specs.Configs.{first_below}
 
 -- if the numbers below i fail and i passes, it is i
 pub first_below_found : (test : ℕ → Bool) (i n : ℕ) → i < n → first_below test i ≡ None → test i ≡ true → first_below test n ≡ Some i

@@ -1,27 +1,19 @@
 -- The faults of a document are others than that its text is not TOML.
-use Rattle.std.proofs.Common.{ℕ, ◌≡◌, ◌+◌, Bool, true, false, List, [], ◌∷◌, codes, length, Option, None, Some, Result, Ok, Err}
-use Rattle.std.proofs.Common.{option_and_then, option_map, ap}
-use Rattle.toml.specs.Data.{Members, as_table}
+use Rattle.lagscript.proofs.Common.{Bool, Err, List, None, Ok, Option, Result, Some, [], ap, codes, false, length, option_and_then, option_map, true}
+use Rattle.lagscript.proofs.Common.{ℕ, ◌+◌, ◌∷◌, ◌≡◌, Members, as_table, ConfigValue, BadWorld, ScriptFault, CablePlan, refusal_of_all, at_entry}
+use Rattle.lagscript.proofs.Common.{event_at, event_in, events_from, ends_in, flag_in, integer_in, just_two, key_in, keys_among, limit_in, list_in}
+use Rattle.lagscript.proofs.Common.{mac_in, value_at, each_at_place, if_or_fault, or_fault, ◌>>=◌, PlanValue, cables_in, ends_of, entries_in}
+use Rattle.lagscript.proofs.Common.{events_in, no_fault, plan_in, planned, script_fault_for, systems_in, top_keys, two_systems, aggregators_in}
+use Rattle.lagscript.proofs.Common.{cable_keys, cable_of, conversations_in, limit_of, max_links_in, port_config_of, port_keys, ports_in, system_keys}
+use Rattle.lagscript.proofs.Common.{system_of, system_values_in}
 use Rattle.lagtypes.specs.declared.identifiers.Key.{Key}
 use Rattle.lagsystem.specs.declared.config.PortConfig.{PortConfig}
 use Rattle.lagsystem.specs.declared.fault.BadConfig.TheVariants as bad
-use Rattle.lagscript.specs.Configs.{refusal_of_all}
-use Rattle.lagsystem.specs.First.{ConfigValue}
-use Rattle.lagscript.specs.Entries.{event_at, event_in, events_from, at_entry}
-use Rattle.lagscript.specs.Keys.{ends_in, flag_in, key_in, keys_among, limit_in, list_in, mac_in, integer_in, just_two, value_at}
-use Rattle.lagscript.specs.Readings.{◌>>=◌, each_at_place, or_fault, if_or_fault}
-use Rattle.lagscript.specs.Scripts.{PlanValue, events_in, cables_in, script_fault_for, ends_of, entries_in, no_fault, plan_in, planned}
-use Rattle.lagscript.specs.Scripts.{systems_in, top_keys, two_systems}
-use Rattle.lagscript.specs.Tables.{aggregators_in, cable_keys, cable_of, conversations_in, limit_of, max_links_in}
-use Rattle.lagscript.specs.Tables.{port_config_of, port_keys, ports_in, system_keys, system_of, system_values_in}
-use Rattle.lagscript.specs.declared.config.BadWorld.{BadWorld}
 use Rattle.lagscript.specs.declared.config.BadWorld.TheVariants as refused
 use Rattle.lagscript.specs.declared.fault.EntryFault.{EntryFault}
 use Rattle.lagscript.specs.declared.fault.PortKey.TheVariants as port_key
-use Rattle.lagscript.specs.declared.fault.ScriptFault.{ScriptFault}
 use Rattle.lagscript.specs.declared.fault.ScriptFault.TheVariants as fault
 use Rattle.lagscript.specs.declared.fault.SystemKey.TheVariants as system_key
-use Rattle.lagscript.specs.declared.tables.CablePlan.{CablePlan}
 use Rattle.lagscript.specs.declared.tables.SystemValues.{SystemValues}
 
 abbrev Fine : {A : Type 0} → Result A ScriptFault → Type 0

@@ -1,11 +1,9 @@
 -- Tables and arrays of a document, from the maps and vectors that hold them.
-use Rattle.std.proofs.Common.{ℕ, ◌≡◌, ◌&&◌, List, [], ◌∷◌, length, Option, None, Some, refl, ap, ap₂, ◌||◌, Bor, string_bytes, String}
-use Rattle.std.proofs.Common.{map, option_map, option_and_then, bytes_eq}
+use Rattle.lagscript.proofs.Common.{Bor, Global, List, None, Option, Some, String, [], ap, ap₂, bytes_eq, length, map, option_and_then, option_map}
+use Rattle.lagscript.proofs.Common.{refl, string_bytes, ℕ, ◌&&◌, ◌||◌, ◌∷◌, ◌≡◌, items_view, members_view, view, each_in, integer_in, just_two}
+use Rattle.lagscript.proofs.Common.{keys_among}
 use Rattle.std.specs.List.{list_all, list_any}
-use Rattle.std.specs.declared.alloc.Global.{Global}
 use Rattle.toml.specs.declared.value.Value.{Value}
-use Rattle.toml.specs.View.{view, members_view, items_view}
-use Rattle.lagscript.specs.Keys.{each_in, keys_among, integer_in, just_two}
 
 -- a test of what the references point to
 any_of : (k : List ℕ) (known : List (Bor (List ℕ))) → list_any (λ name. bytes_eq name.now k) known ≡ list_any (λ name. bytes_eq name k)

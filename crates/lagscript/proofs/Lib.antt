@@ -1,3 +1,4 @@
+mod Common
 pub mod ConfigLemmas
 pub mod DocumentFaults
 pub mod DocumentLemmas

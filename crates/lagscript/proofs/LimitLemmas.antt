@@ -1,16 +1,10 @@
 -- No cable of a document has the limit 0.
-use Rattle.std.proofs.Common.{ℕ, ◌≡◌, ◌≢◌, ◌+◌, Bool, true, false, List, [], ◌∷◌, codes, nat_le, Option, None, Some, Result, Ok, Err}
-use Rattle.std.proofs.Common.{option_and_then, option_map, refl, ap, subst, ◌∙◌, if◌then◌else◌}
-use Rattle.std.specs.List.{All}
+use Rattle.lagscript.proofs.Common.{All, Bool, Err, List, None, Ok, Option, Result, Some, [], ap, codes, false, if◌then◌else◌, nat_le}
+use Rattle.lagscript.proofs.Common.{option_and_then, option_map, refl, subst, true, ℕ, ◌+◌, ◌∙◌, ◌∷◌, ◌≡◌, ◌≢◌, Data, Members, as_table, get_member}
+use Rattle.lagscript.proofs.Common.{ScriptFault, CablePlan, ends_in, from_one, integer_in, keys_among, limit_in, list_in, value_at, value_or}
+use Rattle.lagscript.proofs.Common.{each_at_place, if_or_fault, or_fault, ◌>>=◌, cables_in, limits_of, cable_keys, cable_of, limit_of}
 use Rattle.std.proofs.lemmas.List.Elements.{All-cons, All-map, All-nil}
-use Rattle.toml.specs.Data.{Data, Members, as_table, get_member}
-use Rattle.lagscript.specs.Keys.{ends_in, from_one, keys_among, limit_in, list_in, integer_in, value_at, value_or}
-use Rattle.lagscript.specs.Readings.{◌>>=◌, each_at_place, or_fault, if_or_fault}
-use Rattle.lagscript.specs.Scripts.{cables_in, limits_of}
-use Rattle.lagscript.specs.Tables.{cable_keys, cable_of, limit_of}
-use Rattle.lagscript.specs.declared.fault.ScriptFault.{ScriptFault}
 use Rattle.lagscript.specs.declared.fault.ScriptFault.TheVariants as fault
-use Rattle.lagscript.specs.declared.tables.CablePlan.{CablePlan}
 
 abbrev IsLimit : Option ℕ → Type 0
 IsLimit limit = limit ≢ Some 0

@@ -1,23 +1,15 @@
 -- A configuration without a fault is accepted; and a plan made from its parts.
-use Rattle.std.proofs.Common.{ℕ, ◌≡◌, inl, inr, Bool, true, false, List, [], ◌∷◌, length, Option, None, Some, Result, Ok, Err}
-use Rattle.std.proofs.Common.{option_and_then, option_map, cond, refl, ap, subst, sym}
-use Rattle.toml.specs.Data.{Members}
+use Rattle.lagscript.proofs.Common.{Bool, Err, List, None, Ok, Option, Result, Some, [], ap, cond, false, inl, inr, length, option_and_then}
+use Rattle.lagscript.proofs.Common.{option_map, refl, subst, sym, true, ℕ, ◌∷◌, ◌≡◌, Members, ConfigValue, or_first, refusal, BadWorld, ScriptFault}
+use Rattle.lagscript.proofs.Common.{CablePlan, bad_end, refusal_of_all, EventValue, ReadsAs, if_or_fault, ◌>>=◌, HasPlan, HasScript, IsRefused}
+use Rattle.lagscript.proofs.Common.{PlanValue, ReadsPlan, ends_of, no_fault, plan_in, plan_value, planned, script_fault_for}
 use Rattle.toml.specs.Parse.{parse_document}
 use Rattle.lagtypes.specs.Same.{same_system}
-use Rattle.lagsystem.specs.First.{ConfigValue, or_first, refusal}
 use Rattle.lagsystem.specs.declared.fault.BadConfig.{BadConfig}
 use Rattle.lagsystem.specs.declared.fault.BadConfig.TheVariants as bad
-use Rattle.lagscript.specs.EventValues.{EventValue}
-use Rattle.lagscript.specs.Configs.{bad_end, refusal_of_all}
-use Rattle.lagscript.specs.Readings.{◌>>=◌, ReadsAs, if_or_fault}
-use Rattle.lagscript.specs.Scripts.{HasPlan, HasScript, IsRefused, ReadsPlan, PlanValue, script_fault_for, ends_of, no_fault, plan_in}
-use Rattle.lagscript.specs.Scripts.{plan_value, planned}
-use Rattle.lagscript.specs.declared.config.BadWorld.{BadWorld}
 use Rattle.lagscript.specs.declared.config.BadWorld.TheVariants.{System, SameSystem, CableEnd}
-use Rattle.lagscript.specs.declared.fault.ScriptFault.{ScriptFault}
 use Rattle.lagscript.specs.declared.fault.ScriptFault.TheVariants as fault
 use Rattle.lagscript.specs.declared.plan.Plan.{Plan}
-use Rattle.lagscript.specs.declared.tables.CablePlan.{CablePlan}
 use Rattle.lagscript.proofs.DocumentFaults.{plan_fine}
 
 -- the reasons of two systems and their cables, in their order

@@ -1,5 +1,5 @@
 -- Loops that read the elements of a list one after another.
-use Rattle.std.proofs.Common.{List, ◌++◌, Option, Result, Ok, Err, option_map}
+use Rattle.lagscript.proofs.Common.{Err, List, Ok, Option, Result, option_map, ◌++◌}
 
 -- what is made already, and then what is read of the rest
 abbrev pub after : {A E : Type 0} → List A → Result (List A) E → Result (List A) E

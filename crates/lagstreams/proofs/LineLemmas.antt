@@ -1,8 +1,6 @@
 -- The lines of octets that arrive in several reads.
-use Rattle.std.proofs.Common.{ℕ, zero, suc, ◌+◌, ◌<◌, ◌≡◌, ◌++◌, ◌==◌, true, false, cond, Bool, List, [], ◌∷◌, length, refl}
-use Rattle.std.proofs.Common.{sym, ap, ◌∙◌, append_assoc, arith}
-use Rattle.std.proofs.lemmas.List.{append-nil}
-use Rattle.std.proofs.lemmas.Bool.{eqb-true}
+use Rattle.std.proofs.Common.{ℕ, zero, suc, ◌+◌, ◌<◌, ◌≡◌, ◌++◌, ◌==◌, true, false, cond, Bool, List, [], ◌∷◌, length, refl, sym, ap, ◌∙◌}
+use Rattle.std.proofs.Common.{append_assoc, arith, append-nil, eqb-true}
 use Rattle.lagstreams.specs.Lines.{line_if_any, lines_of, newline_count, continue_line}
 
 pub prepend_none : (ls : List (List ℕ)) → continue_line [] ls ≡ ls

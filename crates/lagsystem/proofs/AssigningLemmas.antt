@@ -1,22 +1,13 @@
 -- What offer_conversation does is what `offer` does for each frame of the conversation.
-use Rattle.std.proofs.Common.{◌≡◌, ◌∙◌, ℕ, ◌*◌, ◌+◌, ◌/◌, ◌%◌, ◌<◌, Bool, true, false, List, Ok, Err, Result, ap, arith, inl, inr, refl, subst, sym}
-use Rattle.std.specs.Prelude.{bit_xor, nat_lt}
-use Rattle.std.proofs.lemmas.Bool.{true≢false}
-use Rattle.std.proofs.lemmas.Bool.Decides.{nat_tests}
+use Rattle.lagsystem.proofs.Common.{Bool, Err, List, Ok, Result, ap, arith, false, inl, inr, nat_lt, refl, subst, sym, true, ℕ, ◌%◌, ◌*◌, ◌+◌, ◌/◌}
+use Rattle.lagsystem.proofs.Common.{◌<◌, ◌∙◌, ◌≡◌, true≢false, nat_tests, AllByRecursion, bit_xor, AggId, On, assignment_of, is_conversation_count}
+use Rattle.lagsystem.proofs.Common.{SystemFault, OffersConversation, OffersIf, TakesPort, frame_of_conversation, Offer, MayBeOffered, MayBeOfferedTo}
+use Rattle.lagsystem.proofs.Common.{Offers, has_aggregator, conversation_count, distributing, number_of_conversation, CallPromise, IsSound}
+use Rattle.lagsystem.proofs.Common.{SystemState}
+use Rattle.lagsystem.specs.Offers.{longest_frame}
 use Rattle.std.proofs.Math.Nat.{mod-eq_of_lt}
 use Rattle.std.specs.Int.Bits.{xor_zero_r}
-use Rattle.std.specs.List.{AllByRecursion}
-use Rattle.lagtypes.specs.declared.identifiers.AggId.{AggId}
-use Rattle.distributor.specs.declared.assignment.Assignment.TheVariants.{On}
-use Rattle.distributor.specs.Conversations.{assignment_of, is_conversation_count}
 use Rattle.lagsystem.specs.declared.drive.Reply.TheVariants as reply
-use Rattle.lagsystem.specs.declared.fault.SystemFault.{SystemFault}
-use Rattle.lagsystem.specs.Assigning.{OffersConversation, OffersIf, TakesPort, frame_of_conversation}
-use Rattle.lagsystem.specs.Calls.{Offer}
-use Rattle.lagsystem.specs.Offers.{MayBeOffered, MayBeOfferedTo, Offers, has_aggregator, longest_frame}
-use Rattle.lagsystem.specs.Readers.{conversation_count, distributing, number_of_conversation}
-use Rattle.lagsystem.specs.Sound.{CallPromise, IsSound}
-use Rattle.lagsystem.specs.State.{SystemState}
 use Rattle.lagsystem.proofs.Conversing.{assigned_may}
 use Rattle.lagsystem.proofs.OnPorts.{may_carry, sets_carried}
 use Rattle.lagsystem.proofs.PromiseLemmas.{table_sound}

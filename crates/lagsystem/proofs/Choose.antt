@@ -1,38 +1,15 @@
 -- Choosing an aggregator is the model's move of joining it.
-use Rattle.std.proofs.Common.{◌≡◌, ◌≢◌, ℕ, Bool, true, false, List, [], ◌∷◌, inl, inr, refl, sym, ◌∙◌, subst, ap}
-use Rattle.std.proofs.Common.{Option, Some, None}
-use Rattle.std.specs.Prelude.{◌&&◌, length, option_map, slice_get, slice_set, not}
-use Rattle.std.specs.List.{AllByRecursion}
-use Rattle.std.proofs.lemmas.Bool.{cases_eq, false≢true}
-use Rattle.std.proofs.lemmas.Option.{none-some, same_Some}
-use Rattle.lagtypes.specs.declared.identifiers.AggId.{AggId}
-use Rattle.lagtypes.specs.declared.identifiers.Key.{Key}
-use Rattle.lagtypes.specs.declared.party.Choice.{Choice}
-use Rattle.lagtypes.specs.declared.party.Choice.TheVariants.{Unselected, Selected, Standby}
-use Rattle.lagtypes.specs.Group.{SamePair, individual}
-use Rattle.slowpdu.specs.Parties.{party_of}
-use Rattle.portmachines.specs.declared.mux.MuxState.{MuxState}
-use Rattle.portmachines.specs.declared.mux.MuxState.TheVariants.{Detached, Waiting, Attached, CollectingDistributing}
-use Rattle.lagtypes.specs.Choices.{is_selected}
-use Rattle.portmachines.specs.Mux.{same_mux_state, partner_synchronized}
-use Rattle.selection.specs.Choice.{chosen_aggregator, chosen_for_view}
-use Rattle.selection.specs.Joining.{IsOccupant, MayJoin, ends}
-use Rattle.lagtypes.specs.Same.{same_system}
-use Rattle.lagtypes.specs.Choices.{is_standby, is_unselected}
-use Rattle.selection.specs.Views.{is_detached, is_eligible}
-use Rattle.selection.specs.Limits.{AggregatorsValue, has_room}
+use Rattle.lagsystem.proofs.Common.{Bool, List, None, Option, Some, [], ap, false, inl, inr, length, not, option_map, refl, slice_get, slice_set}
+use Rattle.lagsystem.proofs.Common.{subst, sym, true, ℕ, ◌&&◌, ◌∙◌, ◌∷◌, ◌≡◌, ◌≢◌, cases_eq, false≢true, none-some, same_Some, AllByRecursion, AggId}
+use Rattle.lagsystem.proofs.Common.{Key, Choice, Selected, Standby, Unselected, is_selected, is_standby, is_unselected, SamePair, individual}
+use Rattle.lagsystem.proofs.Common.{same_system, party_of, find_number, ports_of, LawfulMoves, PortAllowed, PortMove, pair_at, port_after}
+use Rattle.lagsystem.proofs.Common.{DistributorFacts, ModelCall, PortFacts, SystemSetup, mapped_some, moves_at, moves_joined, MuxState, Attached}
+use Rattle.lagsystem.proofs.Common.{CollectingDistributing, Detached, Waiting, partner_synchronized, same_mux_state, chosen_aggregator}
+use Rattle.lagsystem.proofs.Common.{chosen_for_view, IsOccupant, MayJoin, ends, AggregatorsValue, has_room, is_detached, is_eligible, SystemPort}
+use Rattle.lagsystem.proofs.Common.{key_of, model_port, model_port_of, model_view_at, number_of_port, selected_number, OccupantsAgree, occupied}
+use Rattle.lagsystem.proofs.Common.{ChoosesIn, PromotesNext, after_choices, aggregator_for, choice_for, choice_if, choice_in, with_choice}
+use Rattle.lagsystem.proofs.Common.{port_numbers, selection_view, stage_of, views}
 use Rattle.selection.proofs.Joining.{choice-joins, if-some}
-use Rattle.lagmodel.specs.View.{PortFacts, SystemSetup, ModelCall, DistributorFacts}
-use Rattle.lagmodel.specs.Move.{PortMove, PortAllowed, port_after, pair_at, LawfulMoves}
-use Rattle.lagmodel.specs.Bridge.{find_number, ports_of}
-use Rattle.lagmodel.proofs.Base.{mapped_some}
-use Rattle.lagmodel.proofs.Uses.{moves_at, moves_joined}
-use Rattle.lagsystem.specs.declared.system_ports.SystemPort.{SystemPort}
-use Rattle.lagsystem.specs.Settling.{ChoosesIn, PromotesNext, after_choices, with_choice, aggregator_for, choice_for, choice_if, choice_in}
-use Rattle.lagsystem.specs.Occupants.{OccupantsAgree, occupied}
-use Rattle.lagsystem.specs.ModelView.{number_of_port, model_port, model_port_of, model_view_at, key_of, selected_number}
-use Rattle.lagsystem.specs.State.{port_numbers}
-use Rattle.lagsystem.specs.Views.{views, selection_view, stage_of}
 use Rattle.lagsystem.proofs.Keeps.{given_number, numbers_set}
 use Rattle.lagsystem.proofs.Limiting.{next_stands}
 use Rattle.lagsystem.proofs.NoneLeft.{each_place}

@@ -1,19 +1,8 @@
 -- Ports choose one after another, and the list of views stays equal to their views.
-use Rattle.std.proofs.Common.{◌≡◌, ◌∙◌, ℕ, zero, suc, ◌<◌, Bool, true, false, ◌&&◌, ◌||◌, not, List, [], ◌∷◌, length, Option, Some, None, get_or, slice_get}
-use Rattle.std.proofs.Common.{slice_set, refl, subst, sym, ap, arith}
-use Rattle.std.specs.List.{list_any}
-use Rattle.std.proofs.lemmas.Option.{same_Some}
-use Rattle.std.proofs.lemmas.Bool.{or_parts}
-use Rattle.lagtypes.specs.declared.party.Choice.{Choice}
-use Rattle.lagtypes.specs.declared.party.Choice.TheVariants.{Unselected, Selected, Standby}
-use Rattle.lagtypes.specs.Choices.{is_selected, is_unselected}
-use Rattle.lagtypes.specs.Same.{same_system}
-use Rattle.selection.specs.Views.{is_detached, is_eligible}
-use Rattle.selection.specs.declared.view.PortView.{PortView}
-use Rattle.selection.specs.Limits.{AggregatorsValue}
-use Rattle.lagsystem.specs.declared.system_ports.SystemPort.{SystemPort}
-use Rattle.lagsystem.specs.Settling.{after_choice_at, after_choices, with_choice}
-use Rattle.lagsystem.specs.Views.{selection_view, views}
+use Rattle.lagsystem.proofs.Common.{Bool, List, None, Option, Some, [], ap, arith, false, get_or, length, not, refl, slice_get, slice_set, subst, suc}
+use Rattle.lagsystem.proofs.Common.{sym, true, zero, ℕ, ◌&&◌, ◌<◌, ◌||◌, ◌∙◌, ◌∷◌, ◌≡◌, or_parts, same_Some, list_any, Choice, Selected, Standby}
+use Rattle.lagsystem.proofs.Common.{Unselected, is_selected, is_unselected, same_system, PortView, AggregatorsValue, is_detached, is_eligible}
+use Rattle.lagsystem.proofs.Common.{SystemPort, after_choice_at, after_choices, with_choice, selection_view, views}
 use Rattle.lagsystem.proofs.SettlingLemmas.{none_taken}
 
 abbrev one_eligible : List SystemPort → Bool

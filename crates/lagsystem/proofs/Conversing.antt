@@ -1,35 +1,14 @@
 -- Each call changes the conversations of a system by lawful moves of the model.
-use Rattle.std.proofs.Common.{◌≡◌, ◌∙◌, ℕ, zero, suc, Bool, true, false, cond, List, [], ◌∷◌, Option, Some, None, Result, Ok, Err, refl}
-use Rattle.std.proofs.Common.{sym, ap, subst, arith, inl, inr, eqb, eqb-true, eq-eqb}
-use Rattle.std.specs.Prelude.{◌&&◌, ◌||◌, if◌then◌else◌, option_map, slice_get, IsSomeAnd, MatchOption}
-use Rattle.std.proofs.lemmas.Bool.{and_parts, cases_Bool, false≢true}
-use Rattle.std.proofs.lemmas.Bool.Decides.{Decides-eqb}
-use Rattle.std.proofs.lemmas.Option.{none-some, same_Some}
-use Rattle.lagtypes.specs.declared.identifiers.AggId.{AggId}
-use Rattle.lagtypes.specs.declared.party.Choice.{Choice}
-use Rattle.lagtypes.specs.declared.party.Choice.TheVariants.{Unselected, Selected, Standby}
-use Rattle.portmachines.specs.declared.mux.MuxState.{MuxState}
-use Rattle.portmachines.specs.declared.mux.MuxState.TheVariants.{Detached, Waiting, Attached, CollectingDistributing}
-use Rattle.portmachines.specs.Mux.{same_mux_state, partner_synchronized, selected}
-use Rattle.selection.specs.Views.{has_chosen}
-use Rattle.distributor.specs.declared.assignment.Assignment.{Assignment}
-use Rattle.distributor.specs.declared.assignment.Assignment.TheVariants.{Free, On, Wanted, Flushing}
-use Rattle.distributor.specs.declared.fault.DistFault.{DistFault}
-use Rattle.distributor.specs.Calls.{Assigns, MaySend, PicksPort, is_among}
-use Rattle.distributor.specs.Conversations.{Table}
-use Rattle.distributor.specs.Moves.{OnlyListedDistribute, NoneDistributes, model_distributor}
-use Rattle.distributor.proofs.MoveLemmas.{Makes, each_moves}
-use Rattle.lagmodel.specs.View.{ModelCall as Told, PortFacts, SystemSetup}
-use Rattle.lagmodel.specs.Move.{Act, ConversationMove, Distributes, DistributorMoves, LawfulMoves}
-use Rattle.lagmodel.specs.Bridge.{find_number}
-use Rattle.lagmodel.proofs.Base.{cond_false, cond_true}
-use Rattle.lagmodel.proofs.Uses.{flows_weaker, moves_flows}
-use Rattle.lagsystem.specs.declared.system_ports.SystemPort.{SystemPort}
-use Rattle.lagsystem.specs.Readers.{aggregator_numbered, distributes_in, distributing}
-use Rattle.lagsystem.specs.Settling.{HoldsConversations, held_unless_on}
-use Rattle.lagsystem.specs.ModelView.{MuxesConsistent, selected_number, number_of_port, model_port_of, mux_consistent_of, model_view_at}
-use Rattle.lagsystem.specs.ModelView.{model_view}
-use Rattle.lagsystem.specs.State.{SystemState, port_numbers}
+use Rattle.lagsystem.proofs.Common.{Bool, Err, IsSomeAnd, List, None, Ok, Option, Result, Some, [], ap, arith, cond, eq-eqb, eqb, eqb-true, false}
+use Rattle.lagsystem.proofs.Common.{if◌then◌else◌, inl, inr, option_map, refl, slice_get, subst, suc, sym, true, zero, ℕ, ◌&&◌, ◌||◌, ◌∙◌, ◌∷◌, ◌≡◌}
+use Rattle.lagsystem.proofs.Common.{and_parts, cases_Bool, false≢true, Decides-eqb, none-some, same_Some, MatchOption, AggId, Choice, Selected}
+use Rattle.lagsystem.proofs.Common.{Standby, Unselected, find_number, Act, ConversationMove, Distributes, DistributorMoves, LawfulMoves, PortFacts}
+use Rattle.lagsystem.proofs.Common.{SystemSetup, Told, cond_false, cond_true, flows_weaker, moves_flows, MuxState, Attached, CollectingDistributing}
+use Rattle.lagsystem.proofs.Common.{Detached, Waiting, partner_synchronized, same_mux_state, selected, has_chosen, Assignment, Flushing, Free, On}
+use Rattle.lagsystem.proofs.Common.{Wanted, DistFault, Assigns, MaySend, PicksPort, is_among, Table, NoneDistributes, OnlyListedDistribute}
+use Rattle.lagsystem.proofs.Common.{model_distributor, Makes, each_moves, SystemPort, MuxesConsistent, model_port_of, model_view, model_view_at}
+use Rattle.lagsystem.proofs.Common.{mux_consistent_of, number_of_port, selected_number, aggregator_numbered, distributes_in, distributing}
+use Rattle.lagsystem.proofs.Common.{HoldsConversations, held_unless_on, SystemState, port_numbers}
 use Rattle.lagsystem.proofs.Stopped.{from_here, from_rest, none_on, on, on_more}
 use Rattle.lagsystem.proofs.Rising.{Rises}
 

@@ -1,23 +1,8 @@
 -- The ports that distribute in an aggregator, and the numbers of ports, in ascending order.
-use Rattle.std.proofs.Common.{◌≡◌, ◌∙◌, ℕ, zero, suc, ◌+◌, ◌<◌, Bool, true, false, cond, Option, Some, None, List, [], ◌∷◌, arith, ap}
-use Rattle.std.proofs.Common.{refl, subst, sym, eq-eqb}
-use Rattle.std.specs.Prelude.{◌&&◌, ◌||◌, filter, length, nat_le, nat_lt, slice_get, slice_index}
-use Rattle.std.specs.Bool.{OnFalse}
-use Rattle.std.specs.List.Sorted.{IsStrictlyIncreasing}
-use Rattle.std.specs.Option.{IsSomeAnd}
-use Rattle.std.proofs.lemmas.Bool.{false≢true}
-use Rattle.std.proofs.lemmas.Bool.Decides.{nat_tests}
-use Rattle.std.proofs.lemmas.Option.{none-some, slice_get_past}
-use Rattle.lagtypes.specs.declared.identifiers.AggId.{AggId}
-use Rattle.lagtypes.specs.declared.identifiers.Key.{Key}
-use Rattle.distributor.specs.Calls.{is_among}
-use Rattle.lagmodel.specs.View.{PortFacts}
-use Rattle.lagsystem.specs.declared.system_ports.SystemPort.{SystemPort}
-use Rattle.lagsystem.specs.Offers.{has_aggregator}
-use Rattle.lagsystem.specs.Readers.{distributes_in, distributing}
-use Rattle.lagsystem.specs.ModelView.{key_of, model_view}
-use Rattle.lagsystem.specs.Sound.{HasPorts, IsSound}
-use Rattle.lagsystem.specs.State.{SystemState, port_numbers}
+use Rattle.lagsystem.proofs.Common.{Bool, IsSomeAnd, List, None, Option, Some, [], ap, arith, cond, eq-eqb, false, filter, length, nat_le, nat_lt}
+use Rattle.lagsystem.proofs.Common.{refl, slice_get, slice_index, subst, suc, sym, true, zero, ℕ, ◌&&◌, ◌+◌, ◌<◌, ◌||◌, ◌∙◌, ◌∷◌, ◌≡◌, false≢true}
+use Rattle.lagsystem.proofs.Common.{nat_tests, none-some, slice_get_past, OnFalse, IsStrictlyIncreasing, AggId, Key, PortFacts, is_among, SystemPort}
+use Rattle.lagsystem.proofs.Common.{key_of, model_view, has_aggregator, distributes_in, distributing, HasPorts, IsSound, SystemState, port_numbers}
 use Rattle.lagsystem.proofs.Conversing.{seen_distributing}
 use Rattle.lagsystem.proofs.Rising.{Rises, ports_rise}
 

@@ -1,12 +1,7 @@
 -- Lists of calls, one after another.
-use Rattle.std.proofs.Common.{◌≡◌, ◌∙◌, ℕ, ◌+◌, ◌<◌, ◌≤◌, List, [], ◌∷◌, ◌++◌, length, map, take, get_or, ap, refl, subst, sym}
-use Rattle.std.proofs.lemmas.List.{map-append, take_all, take_more}
+use Rattle.lagsystem.proofs.Common.{List, [], ap, get_or, length, map, refl, subst, sym, take, take_all, ℕ, ◌++◌, ◌+◌, ◌<◌, ◌∙◌, ◌∷◌, ◌≡◌, ◌≤◌}
+use Rattle.lagsystem.proofs.Common.{map-append, take_more, Reply, Call, TableRun, Drives, call_of, CallPromise, SystemState}
 use Rattle.lagsystem.specs.declared.drive.Call.{Call as Asked}
-use Rattle.lagsystem.specs.declared.drive.Reply.{Reply}
-use Rattle.lagsystem.specs.Calls.{Call, TableRun}
-use Rattle.lagsystem.specs.Drives.{Drives, call_of}
-use Rattle.lagsystem.specs.Sound.{CallPromise}
-use Rattle.lagsystem.specs.State.{SystemState}
 
 -- one more call
 pub drives_more : (gives : ℕ → ℕ → ℕ → Type 0) (old mid new : SystemState) (calls : List Call) (answers : List Reply) (call : Call)

@@ -1,30 +1,12 @@
 -- How the own effect of a call changes the model's view of a port.
-use Rattle.std.proofs.Common.{◌≡◌, ℕ, Bool, true, false, ◌&&◌, ◌||◌, not, Option, Some, None, List, [], ◌∷◌, sym, refl, ap, ◌∙◌, subst}
-use Rattle.std.proofs.Common.{◌⊎◌, inl, inr, IsSome}
-use Rattle.std.specs.Prelude.{if◌then◌else◌}
-use Rattle.std.proofs.lemmas.Bool.{false≢true}
-use Rattle.lagtypes.specs.declared.party.Party.{Party}
-use Rattle.lagtypes.specs.declared.party.Choice.{Choice}
-use Rattle.lagtypes.specs.declared.party.Choice.TheVariants.{Unselected}
-use Rattle.lagtypes.specs.declared.state.StateBits.{StateBits}
-use Rattle.lagtypes.specs.States.{bits_of, with_synchronization, with_timeout}
-use Rattle.lagtypes.proofs.SameLemmas.{exact_party}
-use Rattle.lagtypes.proofs.StateLemmas.{encode_then_decode}
-use Rattle.slowpdu.specs.declared.pdu.Info.{Info}
-use Rattle.slowpdu.specs.declared.pdu.Lacpdu.{Lacpdu}
-use Rattle.slowpdu.specs.Parties.{party_of}
-use Rattle.portmachines.specs.declared.mux.MuxState.TheVariants.{CollectingDistributing}
-use Rattle.portmachines.specs.Machines.{Machines}
-use Rattle.lagtypes.specs.Same.{same_party}
-use Rattle.portmachines.specs.Mux.{same_mux_state, is_synchronized, partner_synchronized}
-use Rattle.portmachines.specs.Receive.{receive_rows, lacpdu_rows, default_partner, start_receive, is_maintained, recorded_synchronization}
-use Rattle.portmachines.specs.Rows.{Fires, RunsToRest}
-use Rattle.portmachines.specs.Transmit.{count_down, pdu_of, after_sending}
-use Rattle.lagmodel.specs.View.{zero_party, PortFacts, SystemSetup, ModelCall, Lacp, Receive, replies_frame, LacpMessage as Told_lacpdu}
-use Rattle.lagmodel.specs.Move.{Act, Sends as Shows, Took, PortMove}
-use Rattle.lagsystem.specs.declared.config.PortChange.{PortChange}
-use Rattle.lagsystem.specs.Calls.{SetsPortEnabled, choice_with_link, ChangesParty, changed_party}
-use Rattle.lagsystem.specs.ModelView.{selected_number, lacp_message}
+use Rattle.lagsystem.proofs.Common.{Bool, IsSome, List, None, Option, Some, [], ap, false, if◌then◌else◌, inl, inr, not, refl, subst, sym, true, ℕ}
+use Rattle.lagsystem.proofs.Common.{◌&&◌, ◌||◌, ◌∙◌, ◌∷◌, ◌≡◌, ◌⊎◌, false≢true, Choice, Unselected, Party, StateBits, same_party, bits_of}
+use Rattle.lagsystem.proofs.Common.{with_synchronization, with_timeout, exact_party, encode_then_decode, Info, Lacpdu, party_of, Act, PortMove, Shows}
+use Rattle.lagsystem.proofs.Common.{Took, Lacp, ModelCall, PortFacts, SystemSetup, Told_lacpdu, replies_frame, zero_party, CollectingDistributing}
+use Rattle.lagsystem.proofs.Common.{Machines, is_synchronized, partner_synchronized, same_mux_state, default_partner, is_maintained, lacpdu_rows}
+use Rattle.lagsystem.proofs.Common.{receive_rows, recorded_synchronization, start_receive, Fires, RunsToRest, after_sending, count_down, pdu_of}
+use Rattle.lagsystem.proofs.Common.{PortChange, ChangesParty, SetsPortEnabled, changed_party, choice_with_link, lacp_message, selected_number}
+use Rattle.lagmodel.specs.View.{Receive}
 use Rattle.lagsystem.proofs.OfPort.{PortMoves, port_joined}
 use Rattle.lagsystem.proofs.Rows.{quiet, QuietMoves, EachMoves, settles_moves}
 

@@ -1,51 +1,23 @@
 -- The first state of a system has the model's first view.
-use Rattle.std.proofs.Common.{◌≡◌, ℕ, zero, suc, Bool, true, false, cond, eqb, Option, Some, None, List, [], ◌∷◌, length, refl, sym, ◌∙◌}
-use Rattle.std.proofs.Common.{subst, ap, ◌⊎◌, inl, inr}
-use Rattle.std.specs.Prelude.{◌&&◌, not, if◌then◌else◌, option_map, slice_get, slice_set}
-use Rattle.std.specs.List.{AllZip, AllByRecursion}
-use Rattle.std.proofs.lemmas.Bool.{and_parts, and_left, and_right}
-use Rattle.lagtypes.specs.declared.identifiers.SystemId.{SystemId}
-use Rattle.lagtypes.specs.declared.party.Party.{Party}
-use Rattle.lagtypes.specs.declared.party.Choice.TheVariants.{Unselected, Standby}
-use Rattle.lagtypes.specs.States.{bits_of, with_synchronization}
-use Rattle.lagtypes.proofs.StateLemmas.{encode_then_decode}
-use Rattle.portmachines.specs.declared.mux.MuxState.TheVariants.{Detached, Waiting, Attached, CollectingDistributing}
-use Rattle.portmachines.specs.declared.port.Setup.{Setup as Start}
-use Rattle.portmachines.specs.declared.receive.ReceiveState.TheVariants.{Initialize, PortDisabled, Expired, Current}
-use Rattle.portmachines.specs.Machines.{Machines}
-use Rattle.lagtypes.specs.Choices.{is_selected, is_unselected}
-use Rattle.portmachines.specs.Mux.{same_mux_state, mux_rows, partner_synchronized}
-use Rattle.portmachines.specs.Periodic.{periodic_rows, RunsPeriodic}
-use Rattle.portmachines.specs.Receive.{same_receive_state, receive_rows, start_receive}
-use Rattle.portmachines.specs.Rows.{AtRest, Fires, FiresTimes, Row, RunsToRest}
-use Rattle.portmachines.specs.Start.{Starts, before_start}
-use Rattle.selection.specs.Choice.{chosen_aggregator}
-use Rattle.selection.specs.Views.{is_eligible}
-use Rattle.lagmodel.specs.View.{PortFacts, first_port, first_view, IsSystemSetup}
-use Rattle.lagmodel.specs.Bridge.{find_number, ports_of}
-use Rattle.distributor.specs.Moves.{model_distributor}
-use Rattle.distributor.proofs.MoveLemmas.{first_flows}
-use Rattle.lagmodel.proofs.Base.{mapped_some, chosen as whichever}
-use Rattle.std.proofs.Common.{eqb-true}
-use Rattle.std.proofs.lemmas.Option.{none-some, same_Some}
-use Rattle.lagsystem.specs.declared.config.PortConfig.{PortConfig}
-use Rattle.lagsystem.specs.declared.system_ports.SystemPort.{SystemPort}
-use Rattle.lagsystem.specs.First.{IsFirst, HasJustStarted, configured_number, setup_of}
-use Rattle.lagsystem.specs.Settling.{PortsChangeBy, PortChangesBy, after_choice_at, after_choices, with_choice, ready_of}
-use Rattle.lagsystem.specs.Settling.{ChoosesIn, PromotesFirst, PromotesNext, choice_for}
-use Rattle.lagsystem.specs.ModelView.{model_setup, number_of_port, configured_party, model_port, model_port_of, model_view}
-use Rattle.lagsystem.specs.State.{SystemState, aggregators_value, with_system_ports, with_table}
-use Rattle.lagsystem.specs.Views.{views, selection_view as seen_at}
+use Rattle.lagsystem.proofs.Common.{Bool, List, None, Option, Some, [], ap, cond, eqb, eqb-true, false, if◌then◌else◌, inl, inr, length, not}
+use Rattle.lagsystem.proofs.Common.{option_map, refl, slice_get, slice_set, subst, suc, sym, true, zero, ℕ, ◌&&◌, ◌∙◌, ◌∷◌, ◌≡◌, ◌⊎◌, and_left}
+use Rattle.lagsystem.proofs.Common.{and_parts, and_right, none-some, same_Some, AllByRecursion, AllZip, AggId, SystemId, Standby, Unselected, Party}
+use Rattle.lagsystem.proofs.Common.{is_selected, is_unselected, bits_of, with_synchronization, encode_then_decode, find_number, ports_of}
+use Rattle.lagsystem.proofs.Common.{IsSystemSetup, PortFacts, first_port, first_view, mapped_some, whichever, Attached, CollectingDistributing}
+use Rattle.lagsystem.proofs.Common.{Detached, Waiting, Start, Current, Expired, Initialize, PortDisabled, Machines, mux_rows, partner_synchronized}
+use Rattle.lagsystem.proofs.Common.{same_mux_state, RunsPeriodic, periodic_rows, receive_rows, same_receive_state, start_receive, AtRest, Fires}
+use Rattle.lagsystem.proofs.Common.{FiresTimes, Row, RunsToRest, Starts, before_start, Reaches-keeps, chosen_aggregator, AggregatorsValue}
+use Rattle.lagsystem.proofs.Common.{is_eligible, model_distributor, first_flows, PortConfig, SystemPort, HasJustStarted, IsFirst, configured_number}
+use Rattle.lagsystem.proofs.Common.{setup_of, configured_party, model_port, model_port_of, model_setup, model_view, number_of_port, ChoosesIn}
+use Rattle.lagsystem.proofs.Common.{PortChangesBy, PortsChangeBy, PromotesFirst, PromotesNext, after_choice_at, after_choices, choice_for, ready_of}
+use Rattle.lagsystem.proofs.Common.{with_choice, SystemState, aggregators_value, with_system_ports, with_table, seen_at, views}
 use Rattle.lagsystem.proofs.Effects.{named, zero_named}
-use Rattle.portmachines.proofs.Runs.{Reaches-keeps}
 use Rattle.lagsystem.proofs.Rest.{last_slots, zip_all}
 use Rattle.lagsystem.proofs.Rising.{all-get}
 use Rattle.lagsystem.proofs.SettlingLemmas.{none_for, set_same}
 use Rattle.lagsystem.proofs.Limiting.{next_stands}
-use Rattle.lagtypes.specs.declared.identifiers.AggId.{AggId}
 use Rattle.lagsystem.proofs.Occupying.{periodic_stays}
 use Rattle.lagsystem.proofs.PromotionLemmas.{promotions_keep}
-use Rattle.selection.specs.Limits.{AggregatorsValue}
 
 clash : (b : Bool) → b ≡ true → b ≡ false → ⊥
 clash true h k = cc

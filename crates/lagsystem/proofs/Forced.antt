@@ -1,26 +1,12 @@
 -- To force what is held on a port frees just that, and counts it.
-use Rattle.std.proofs.Common.{◌≡◌, ◌∙◌, ℕ, zero, suc, ◌+◌, ◌<◌, ◌≤◌, ◌⊎◌, inl, inr, Bool, true, false, cond, eqb, ◌&&◌, length, Ok, Err, Result}
-use Rattle.std.proofs.Common.{Option, None, refl, sym, ap, arith, subst, if◌then◌else◌}
-use Rattle.std.specs.Prelude.{◌==◌, nat_lt}
-use Rattle.std.proofs.lemmas.Bool.{and_parts, cases_Bool, eqb-true, true≢false}
-use Rattle.std.proofs.lemmas.Bool.Decides.{nat_tests}
-use Rattle.lagtypes.specs.declared.identifiers.AggId.{AggId}
-use Rattle.lagtypes.proofs.SameLemmas.{itself}
-use Rattle.distributor.proofs.WalkLemmas.{same_sum}
-use Rattle.distributor.specs.declared.assignment.Assignment.{Assignment}
-use Rattle.distributor.specs.declared.assignment.Assignment.TheVariants.{Free, On, Wanted, Flushing}
-use Rattle.distributor.specs.declared.fault.DistFault.{DistFault}
+use Rattle.lagsystem.proofs.Common.{Bool, Err, None, Ok, Option, Result, ap, arith, cond, eqb, eqb-true, false, if◌then◌else◌, inl, inr, length}
+use Rattle.lagsystem.proofs.Common.{nat_lt, refl, subst, suc, sym, true, zero, ℕ, ◌&&◌, ◌+◌, ◌<◌, ◌==◌, ◌∙◌, ◌≡◌, ◌≤◌, ◌⊎◌, and_parts, cases_Bool}
+use Rattle.lagsystem.proofs.Common.{true≢false, nat_tests, AggId, itself, Assignment, Flushing, Free, On, Wanted, DistFault, force_result, is_held_on}
+use Rattle.lagsystem.proofs.Common.{Table, assignment_of, same_sum, SystemFault, NoAggregator, ForcesFirst, ForcesIfHeld, ForcesIn, ForcesPort}
+use Rattle.lagsystem.proofs.Common.{FreesHeld, NoneIsHeldOn, after_forcing, count_held_on, GivesAssignment, GivesOrRefuses, has_aggregator, in_system}
+use Rattle.lagsystem.proofs.Common.{system_force_result, aggregator_numbered, conversation_count, IsSound, SystemState, with_table}
+use Rattle.distributor.specs.Conversations.{sum_below}
 use Rattle.distributor.specs.declared.fault.DistFault.TheVariants as dist
-use Rattle.distributor.specs.Calls.{force_result}
-use Rattle.distributor.specs.Chains.{is_held_on}
-use Rattle.distributor.specs.Conversations.{Table, assignment_of, sum_below}
-use Rattle.lagsystem.specs.declared.fault.SystemFault.{SystemFault}
-use Rattle.lagsystem.specs.declared.fault.SystemFault.TheVariants.{NoAggregator}
-use Rattle.lagsystem.specs.Forcing.{ForcesFirst, ForcesIfHeld, ForcesIn, ForcesPort, FreesHeld, NoneIsHeldOn, after_forcing, count_held_on}
-use Rattle.lagsystem.specs.Offers.{GivesAssignment, GivesOrRefuses, has_aggregator, in_system, system_force_result}
-use Rattle.lagsystem.specs.Readers.{aggregator_numbered, conversation_count}
-use Rattle.lagsystem.specs.Sound.{IsSound}
-use Rattle.lagsystem.specs.State.{SystemState, with_table}
 
 -- The conversations that the test names are forced on the port; every other keeps its state, and nothing else changes.
 record Forced (port : ℕ) (Named : ℕ → ℕ → Type 0) (old new : SystemState) : Type 0 where

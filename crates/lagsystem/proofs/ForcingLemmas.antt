@@ -1,9 +1,6 @@
 -- What is forced on a port, one conversation and one aggregator after another.
-use Rattle.std.proofs.Common.{◌≡◌, ℕ, suc, ◌+◌, Bool, cond, arith, subst, sym}
-use Rattle.lagtypes.specs.declared.identifiers.AggId.{AggId}
-use Rattle.lagsystem.specs.Forcing.{ForcesFirst, ForcesIfHeld, ForcesIn}
-use Rattle.lagsystem.specs.Readers.{aggregator_numbered}
-use Rattle.lagsystem.specs.State.{SystemState}
+use Rattle.lagsystem.proofs.Common.{Bool, arith, cond, subst, suc, sym, ℕ, ◌+◌, ◌≡◌, AggId, ForcesFirst, ForcesIfHeld, ForcesIn, aggregator_numbered}
+use Rattle.lagsystem.proofs.Common.{SystemState}
 
 -- one conversation more
 pub one_conversation_more : (gives : ℕ → ℕ → ℕ → Type 0) (port : ℕ) (agg : AggId) (k : ℕ) (old mid new : SystemState) (before n : ℕ)

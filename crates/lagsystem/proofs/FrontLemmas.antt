@@ -1,16 +1,8 @@
 -- Ports in front of the first that is not SELECTED.
-use Rattle.std.proofs.Common.{◌≡◌, ◌∙◌, ℕ, zero, suc, ◌<◌, Bool, false, ◌||◌, not, List, [], ◌∷◌, drop, length, position, Option, Some, None}
-use Rattle.std.proofs.Common.{◌≤◌, cond, get_or, inl, inr, refl, sym, ap, arith, slice_get, subst}
-use Rattle.std.specs.Prelude.{nat_lt}
-use Rattle.std.proofs.lemmas.Bool.{cases_Bool, cond-true}
-use Rattle.std.proofs.lemmas.Bool.Decides.{nat_tests}
-use Rattle.std.proofs.lemmas.List.Folds.{list_any_none}
-use Rattle.std.proofs.lemmas.List.Sums.{fails_before_first}
-use Rattle.std.specs.List.{list_any, position_or_len}
-use Rattle.std.proofs.lemmas.List.Quantifiers.{position-Some}
-use Rattle.std.proofs.lemmas.Option.{none-some, same_Some, slice_get-get_or}
-use Rattle.lagtypes.specs.Choices.{is_selected, is_standby}
-use Rattle.lagsystem.specs.declared.system_ports.SystemPort.{SystemPort}
+use Rattle.lagsystem.proofs.Common.{Bool, List, None, Option, Some, [], ap, arith, cond, drop, false, get_or, inl, inr, length, nat_lt, not, position}
+use Rattle.lagsystem.proofs.Common.{refl, slice_get, subst, suc, sym, zero, ℕ, ◌<◌, ◌||◌, ◌∙◌, ◌∷◌, ◌≡◌, ◌≤◌, cases_Bool, cond-true, nat_tests}
+use Rattle.lagsystem.proofs.Common.{list_any_none, position-Some, fails_before_first, none-some, same_Some, slice_get-get_or, list_any}
+use Rattle.lagsystem.proofs.Common.{position_or_len, is_selected, is_standby, SystemPort}
 use Rattle.lagsystem.proofs.NextLemmas.{selected_not_standby}
 
 -- the index of the first port that is not SELECTED

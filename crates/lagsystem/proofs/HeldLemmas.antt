@@ -1,12 +1,8 @@
 -- Where no conversation is held on a port, to force what is held there changes nothing.
-use Rattle.std.proofs.Common.{◌≡◌, ◌∙◌, ℕ, zero, suc, ◌+◌, ◌<◌, Bool, true, false, cond, length, Ok, ap, arith, inl, inr, is_some, refl, subst}
-use Rattle.lagtypes.specs.declared.identifiers.AggId.{AggId}
-use Rattle.distributor.specs.Chains.{is_held_on}
-use Rattle.distributor.specs.Conversations.{assignment_of, sum_below}
-use Rattle.lagsystem.specs.Forcing.{ForcesFirst, ForcesIn, ForcesPort, count_held_on}
-use Rattle.lagsystem.specs.Readers.{aggregator_numbered}
-use Rattle.lagsystem.specs.Sound.{IsSound}
-use Rattle.lagsystem.specs.State.{SystemState, port_index}
+use Rattle.lagsystem.proofs.Common.{Bool, Ok, ap, arith, cond, false, inl, inr, is_some, length, refl, subst, suc, true, zero, ℕ, ◌+◌, ◌<◌, ◌∙◌, ◌≡◌}
+use Rattle.lagsystem.proofs.Common.{AggId, is_held_on, assignment_of, ForcesFirst, ForcesIn, ForcesPort, count_held_on, aggregator_numbered, IsSound}
+use Rattle.lagsystem.proofs.Common.{SystemState, port_index}
+use Rattle.distributor.specs.Conversations.{sum_below}
 use Rattle.lagsystem.proofs.TellingLemmas.{below_or_at}
 
 -- each number of a sum that is 0 is 0

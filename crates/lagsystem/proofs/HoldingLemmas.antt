@@ -1,22 +1,10 @@
 -- Conversations leave stopped ports, one port after another.
-use Rattle.std.proofs.Common.{◌≡◌, ℕ, zero, suc, ◌+◌, ◌<◌, Bool, true, false, ◌==◌, ◌||◌, ◌&&◌, if◌then◌else◌, List, [], ◌∷◌, length}
-use Rattle.std.proofs.Common.{take, get_or, slice_set, Option, Some, None, refl, sym, ◌∙◌, ap, arith, add-one, inl, inr}
-use Rattle.std.proofs.lemmas.Bool.{cases_eq, eq-eqb, ne_eqb}
+use Rattle.lagsystem.proofs.Common.{Bool, List, None, Option, Some, [], add-one, ap, arith, eq-eqb, false, get_or, if◌then◌else◌, inl, inr, length}
+use Rattle.lagsystem.proofs.Common.{not, refl, slice_set, suc, sym, take, true, zero, ℕ, ◌&&◌, ◌+◌, ◌<◌, ◌==◌, ◌||◌, ◌∙◌, ◌∷◌, ◌≡◌, cases_eq, ne_eqb}
+use Rattle.lagsystem.proofs.Common.{AggId, Choice, Selected, Standby, Unselected, CollectingDistributing, same_mux_state, has_chosen, Assignment}
+use Rattle.lagsystem.proofs.Common.{Flushing, Free, On, Wanted, ChangesAssignments, after_leave, Table, assignment_of, SystemPort, after_holding}
+use Rattle.lagsystem.proofs.Common.{aggregators_in_use, has_stopped, stopped, collecting, selected_aggregator}
 use Rattle.std.proofs.Math.Bool.{and-true}
-use Rattle.std.specs.Prelude.{not}
-use Rattle.lagtypes.specs.declared.identifiers.AggId.{AggId}
-use Rattle.lagtypes.specs.declared.party.Choice.{Choice}
-use Rattle.lagtypes.specs.declared.party.Choice.TheVariants.{Unselected, Selected, Standby}
-use Rattle.portmachines.specs.declared.mux.MuxState.TheVariants.{CollectingDistributing}
-use Rattle.portmachines.specs.Mux.{same_mux_state}
-use Rattle.selection.specs.Views.{has_chosen}
-use Rattle.distributor.specs.declared.assignment.Assignment.{Assignment}
-use Rattle.distributor.specs.declared.assignment.Assignment.TheVariants.{Free, On, Wanted, Flushing}
-use Rattle.distributor.specs.Changes.{ChangesAssignments, after_leave}
-use Rattle.distributor.specs.Conversations.{Table, assignment_of}
-use Rattle.lagsystem.specs.declared.system_ports.SystemPort.{SystemPort}
-use Rattle.lagsystem.specs.Holding.{after_holding, aggregators_in_use, has_stopped, stopped}
-use Rattle.lagsystem.specs.Readers.{collecting, selected_aggregator}
 
 -- the port s left, if it is the one with the number p
 abbrev leaves : Option AggId → SystemPort → ℕ → Bool

@@ -1,44 +1,17 @@
 -- Every call preserves the configuration of a system, and the numbers of its ports.
-use Rattle.std.proofs.Common.{◌≡◌, ◌∙◌, ℕ, zero, suc, ◌≤◌, Bool, true, false, List, [], ◌∷◌, Option, Some, None, ◌⊎◌}
-use Rattle.std.proofs.Common.{inl, inr, length, ap, sym, refl, subst, arith}
-use Rattle.std.specs.Prelude.{if◌then◌else◌, nat_le, slice_get, slice_set}
-use Rattle.std.specs.List.{AllZip}
-use Rattle.std.proofs.lemmas.Bool.{and_parts}
-use Rattle.std.proofs.lemmas.Bool.Decides.{nat_tests}
-use Rattle.std.proofs.lemmas.List.{length-map}
-use Rattle.lagtypes.specs.declared.identifiers.Key.{Key}
-use Rattle.lagtypes.specs.declared.identifiers.SystemId.{SystemId}
-use Rattle.portmachines.specs.Machines.{Machines}
-use Rattle.portmachines.specs.Mux.{mux_rows}
-use Rattle.portmachines.specs.Periodic.{RunsPeriodic}
-use Rattle.portmachines.specs.Receive.{receive_rows}
-use Rattle.portmachines.specs.Rows.{RunsToRest}
-use Rattle.portmachines.specs.Transmit.{count_down, after_sending}
-use Rattle.distributor.specs.declared.assignment.Assignment.TheVariants.{Free}
-use Rattle.distributor.specs.Conversations.{Table, first_table, assignment_of}
-use Rattle.distributor.proofs.TableLemmas.{first_free}
-use Rattle.lagsystem.specs.Readers.{aggregator_numbered, distributing}
-use Rattle.lagsystem.specs.declared.config.PortConfig.{PortConfig}
-use Rattle.lagsystem.specs.declared.fault.BadConfig.{BadConfig}
-use Rattle.lagsystem.specs.declared.system_ports.SystemPort.{SystemPort}
-use Rattle.lagsystem.specs.State.{SystemState, aggregators_value, with_system_ports, with_table, port_index}
-use Rattle.lagsystem.specs.Settling.{PortsChangeBy, OnlyPortsChangeBy, HoldsConversations, Settling, SettlesPorts, after_choices}
-use Rattle.lagsystem.specs.Settling.{ChoosesIn, PromotesFirst, choice_for, with_choice, held_unless_on, ready_of}
+use Rattle.lagsystem.proofs.Common.{Bool, List, None, Option, Some, [], ap, arith, false, if◌then◌else◌, inl, inr, length, nat_le, refl, slice_get}
+use Rattle.lagsystem.proofs.Common.{slice_set, subst, suc, sym, true, zero, ℕ, ◌∙◌, ◌∷◌, ◌≡◌, ◌≤◌, ◌⊎◌, and_parts, nat_tests, length-map, AllZip, Key}
+use Rattle.lagsystem.proofs.Common.{SystemId, Choice, Selected, Machines, mux_rows, RunsPeriodic, receive_rows, RunsToRest, after_sending, count_down}
+use Rattle.lagsystem.proofs.Common.{AggregatorsValue, Free, Table, assignment_of, first_table, first_free, PortConfig, Reply, BadConfig, SystemPort}
+use Rattle.lagsystem.proofs.Common.{Call, ChangesParty, FreesIfDown, OnlyPortChangesBy, PortAtChangesBy, ProcessesLacpdu, SetsLink, SetsPortEnabled}
+use Rattle.lagsystem.proofs.Common.{Step, ThenSettles, Ticks, HasJustStarted, IsConfigured, IsFirst, config_refusal, configured_number}
+use Rattle.lagsystem.proofs.Common.{configured_numbers, is_count, refusal, aggregator_numbered, distributing, ChoosesIn, HoldsConversations}
+use Rattle.lagsystem.proofs.Common.{OnlyPortsChangeBy, PortsChangeBy, PromotesFirst, SettlesPorts, Settling, after_choices, choice_for}
+use Rattle.lagsystem.proofs.Common.{held_unless_on, ready_of, with_choice, HasPorts, SystemState, aggregators_value, port_index, port_numbers}
+use Rattle.lagsystem.proofs.Common.{with_system_ports, with_table, views}
 use Rattle.lagsystem.proofs.Preserves.{Preserves, Step-preserves}
 use Rattle.lagsystem.proofs.PromotionLemmas.{KeptByChoices, choices_keep, choosing_keeps, promotions_keep}
-use Rattle.lagtypes.specs.declared.party.Choice.{Choice}
-use Rattle.lagtypes.specs.declared.party.Choice.TheVariants.{Selected}
-use Rattle.selection.specs.Limits.{AggregatorsValue}
-use Rattle.lagsystem.specs.Views.{views}
-use Rattle.lagsystem.specs.First.{IsConfigured, IsFirst, HasJustStarted, configured_number, configured_numbers, refusal, config_refusal}
-use Rattle.lagsystem.specs.First.{is_count}
 use Rattle.lagsystem.specs.declared.config.Config.{Config}
-use Rattle.lagsystem.specs.Sound.{HasPorts}
-use Rattle.lagsystem.specs.State.{port_numbers}
-use Rattle.lagsystem.specs.declared.drive.Reply.{Reply}
-use Rattle.lagsystem.specs.Calls.{Call, Ticks}
-use Rattle.lagsystem.specs.Calls.{SetsPortEnabled, ChangesParty, FreesIfDown, SetsLink, PortAtChangesBy, OnlyPortChangesBy}
-use Rattle.lagsystem.specs.Calls.{ThenSettles, ProcessesLacpdu, Step}
 use Rattle.lagsystem.proofs.Rising.{if_then}
 
 pub record Keeps (old new : SystemState) : Type 0 where

@@ -1,27 +1,12 @@
 -- A conversation leaves its port, or rests.
-use Rattle.std.proofs.Common.{◌≡◌, ◌∙◌, ℕ, Bool, true, false, [], Ok, Err, Result, ap, refl, subst, sym}
-use Rattle.std.specs.Prelude.{IfOk, if◌then◌else◌, nat_lt}
-use Rattle.lagtypes.specs.declared.identifiers.AggId.{AggId}
-use Rattle.distributor.specs.declared.assignment.Assignment.{Assignment}
-use Rattle.distributor.specs.declared.assignment.Assignment.TheVariants.{Free, On, Wanted, Flushing}
-use Rattle.distributor.specs.declared.fault.DistFault.{DistFault}
+use Rattle.lagsystem.proofs.Common.{Bool, Err, IfOk, Ok, Result, [], ap, false, if◌then◌else◌, nat_lt, refl, subst, sym, true, ℕ, ◌∙◌, ◌≡◌, AggId}
+use Rattle.lagsystem.proofs.Common.{LawfulMoves, Conversation, ModelCall, Assignment, Flushing, Free, On, Wanted, DistFault, force_result}
+use Rattle.lagsystem.proofs.Common.{leave_result, rest_result, assignment_of, next_identifier, is_left, leave_one_moves, SystemFault, NoAggregator}
+use Rattle.lagsystem.proofs.Common.{Force, system_leave_result, system_rest_result, model_setup, model_view, GivesOrRefuses, has_aggregator}
+use Rattle.lagsystem.proofs.Common.{in_system, or_not_assigned, system_force_result, TablePromise, conversation_count, CallPromise, IsSound}
+use Rattle.lagsystem.proofs.Common.{SystemState, with_table}
 use Rattle.distributor.specs.declared.fault.DistFault.TheVariants as dist
-use Rattle.distributor.specs.Calls.{force_result, leave_result, rest_result}
-use Rattle.distributor.specs.Conversations.{assignment_of, next_identifier}
-use Rattle.distributor.proofs.MoveLemmas.{is_left, leave_one_moves}
-use Rattle.lagmodel.specs.View.{Conversation, ModelCall}
-use Rattle.lagmodel.specs.Move.{LawfulMoves}
 use Rattle.lagsystem.specs.declared.drive.Reply.TheVariants as reply
-use Rattle.lagsystem.specs.declared.fault.SystemFault.{SystemFault}
-use Rattle.lagsystem.specs.declared.fault.SystemFault.TheVariants.{NoAggregator}
-use Rattle.lagsystem.specs.Calls.{Force}
-use Rattle.lagsystem.specs.Leaving.{system_leave_result, system_rest_result}
-use Rattle.lagsystem.specs.ModelView.{model_setup, model_view}
-use Rattle.lagsystem.specs.Offers.{GivesOrRefuses, has_aggregator, in_system, or_not_assigned, system_force_result}
-use Rattle.lagsystem.specs.Promises.{TablePromise}
-use Rattle.lagsystem.specs.Readers.{conversation_count}
-use Rattle.lagsystem.specs.Sound.{CallPromise, IsSound}
-use Rattle.lagsystem.specs.State.{SystemState, with_table}
 use Rattle.lagsystem.proofs.Conversing.{table_moves}
 use Rattle.lagsystem.proofs.OnPorts.{not_on, sets_carried}
 use Rattle.lagsystem.proofs.PromiseLemmas.{table_promise, table_sound}

@@ -1,3 +1,4 @@
+mod Common
 pub mod Lists
 pub mod SettlingLemmas
 pub mod Choosing

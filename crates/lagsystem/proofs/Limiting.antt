@@ -1,26 +1,11 @@
 -- How many members an aggregator has, and that no STANDBY port comes next after step 2 of settling.
-use Rattle.std.proofs.Common.{◌≡◌, ℕ, zero, suc, ◌+◌, ◌<◌, ◌≤◌, Bool, true, false, cond, ◌&&◌, List, [], ◌∷◌, ◌⊎◌, inl, inr, refl, sym, ◌∙◌}
-use Rattle.std.proofs.Common.{subst, ap, arith, length, Option, Some, None}
-use Rattle.std.specs.Prelude.{◌==◌, nat_le, nat_lt, option_map, slice_get, slice_set}
-use Rattle.std.specs.List.{AllByRecursion}
-use Rattle.std.proofs.lemmas.Bool.{and_parts, cases_Bool, eqb-true}
-use Rattle.std.proofs.lemmas.Bool.Decides.{nat_tests}
-use Rattle.std.proofs.lemmas.Option.{none-some, same_Some}
-use Rattle.lagtypes.specs.declared.identifiers.AggId.{AggId}
-use Rattle.lagtypes.specs.declared.party.Choice.{Choice}
-use Rattle.lagtypes.specs.declared.party.Choice.TheVariants.{Unselected, Selected, Standby}
-use Rattle.portmachines.specs.Machines.{Machines}
-use Rattle.selection.specs.declared.view.PortView.{PortView}
-use Rattle.selection.specs.Views.{has_chosen, is_eligible, stands_by}
-use Rattle.selection.specs.Choice.{chosen_aggregator, is_aggregator, ports_that_chose}
-use Rattle.selection.specs.Limits.{AggregatorsValue, has_room, is_below}
-use Rattle.selection.proofs.LimitLemmas.{NoneStandsBy, is_next, none_is_next, nothing_is_next}
-use Rattle.lagsystem.specs.declared.system_ports.SystemPort.{SystemPort}
-use Rattle.lagsystem.specs.Occupants.{NoneIsNext, WithinLimit}
-use Rattle.lagsystem.specs.Readers.{aggregator_numbered}
-use Rattle.lagsystem.specs.Settling.{ChoosesIn, PortsChangeBy, PromotesFirst, PromotesNext, aggregator_for}
-use Rattle.lagsystem.specs.Settling.{choice_if, choice_in, with_choice}
-use Rattle.lagsystem.specs.Views.{selection_view, views}
+use Rattle.lagsystem.proofs.Common.{Bool, List, None, Option, Some, [], ap, arith, cond, eqb-true, false, inl, inr, length, nat_le, nat_lt}
+use Rattle.lagsystem.proofs.Common.{option_map, refl, slice_get, slice_set, subst, suc, sym, true, zero, ℕ, ◌&&◌, ◌+◌, ◌<◌, ◌==◌, ◌∙◌, ◌∷◌, ◌≡◌, ◌≤◌}
+use Rattle.lagsystem.proofs.Common.{◌⊎◌, and_parts, cases_Bool, nat_tests, none-some, same_Some, AllByRecursion, AggId, Choice, Selected, Standby}
+use Rattle.lagsystem.proofs.Common.{Unselected, Machines, PortView, chosen_aggregator, is_aggregator, ports_that_chose, AggregatorsValue, has_room}
+use Rattle.lagsystem.proofs.Common.{is_below, has_chosen, is_eligible, stands_by, NoneStandsBy, is_next, none_is_next, nothing_is_next, SystemPort}
+use Rattle.lagsystem.proofs.Common.{NoneIsNext, WithinLimit, aggregator_numbered, ChoosesIn, PortsChangeBy, PromotesFirst, PromotesNext}
+use Rattle.lagsystem.proofs.Common.{aggregator_for, choice_if, choice_in, with_choice, selection_view, views}
 use Rattle.lagsystem.proofs.NoneLeft.{eligible_then, unselected}
 use Rattle.lagsystem.proofs.Occupying.{LeavesOrStays}
 use Rattle.lagsystem.proofs.PromotionLemmas.{all_keep, choices_keep, promotions_keep}

@@ -1,6 +1,5 @@
 -- A loop that writes each element of a list in turn.
-use Rattle.std.proofs.Common.{◌≡◌, ℕ, zero, suc, ◌+◌, ◌<◌, ◌≤◌, List, [], ◌∷◌, ◌++◌, length, get_or, set, add-one, arith, refl, subst}
-use Rattle.std.specs.List.{AllZip}
+use Rattle.lagsystem.proofs.Common.{List, [], add-one, arith, get_or, length, refl, set, subst, suc, zero, ℕ, ◌++◌, ◌+◌, ◌<◌, ◌∷◌, ◌≡◌, ◌≤◌, AllZip}
 
 -- the first i elements were written, each as R says, and the others are as they were
 abbrev pub SoFar : {X : Type 0} → (X → X → Type 0) → ℕ → List X → List X → Type 0

@@ -1,17 +1,8 @@
 -- The walk that counts the members of each aggregator, and what its counts say.
-use Rattle.std.proofs.Common.{◌≡◌, ◌∙◌, ℕ, suc, ◌+◌, ◌<◌, ◌≤◌, Bool, true, false, cond, List, [], ◌∷◌, filter, length, take, get_or}
-use Rattle.std.proofs.Common.{inl, inr, Option, refl, sym, ap, arith}
-use Rattle.std.proofs.lemmas.Bool.{cases_lt}
-use Rattle.std.proofs.lemmas.List.{get_or_past, length-take-le}
+use Rattle.lagsystem.proofs.Common.{Bool, List, Option, [], ap, arith, cond, false, filter, get_or, inl, inr, length, refl, suc, sym, take, true, ℕ}
+use Rattle.lagsystem.proofs.Common.{◌+◌, ◌<◌, ◌∙◌, ◌∷◌, ◌≡◌, ◌≤◌, cases_lt, get_or_past, length-take-le, AggId, Choice, Selected, Standby, Unselected}
+use Rattle.lagsystem.proofs.Common.{AggregatorsValue, has_room, is_below, has_chosen, SystemPort, CountsMembers, views}
 use Rattle.std.proofs.lemmas.List.Filters.{length-filter_more}
-use Rattle.lagtypes.specs.declared.identifiers.AggId.{AggId}
-use Rattle.lagtypes.specs.declared.party.Choice.{Choice}
-use Rattle.lagtypes.specs.declared.party.Choice.TheVariants.{Unselected, Selected, Standby}
-use Rattle.selection.specs.Limits.{AggregatorsValue, has_room, is_below}
-use Rattle.selection.specs.Views.{has_chosen}
-use Rattle.lagsystem.specs.declared.system_ports.SystemPort.{SystemPort}
-use Rattle.lagsystem.specs.Promoting.{CountsMembers}
-use Rattle.lagsystem.specs.Views.{views}
 use Rattle.lagsystem.proofs.NextLemmas.{full_no_room}
 
 -- one port more

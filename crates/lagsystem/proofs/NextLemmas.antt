@@ -1,25 +1,10 @@
 -- What promoting the STANDBY port that comes next does.
-use Rattle.std.proofs.Common.{◌≡◌, ◌∙◌, ℕ, zero, suc, ◌+◌, ◌<◌, ◌≤◌, Bool, true, false, cond, not, List, [], ◌∷◌, ◌&&◌, ◌||◌, ⊎_elim, length}
-use Rattle.std.proofs.Common.{filter, Option, None, Some, refl, sym}
-use Rattle.std.proofs.Common.{ap, subst, arith, slice_get, slice_set}
-use Rattle.std.specs.List.{list_any}
-use Rattle.std.proofs.lemmas.Bool.{cases_eq, false≢true, or_parts}
-use Rattle.std.proofs.lemmas.Option.{none-some, same_Some}
-use Rattle.lagtypes.specs.declared.identifiers.AggId.{AggId}
-use Rattle.lagtypes.specs.Choices.{is_selected, is_standby}
-use Rattle.lagtypes.specs.declared.party.Choice.{Choice}
-use Rattle.lagtypes.specs.declared.party.Choice.TheVariants.{Unselected, Selected, Standby}
-use Rattle.lagtypes.proofs.SameLemmas.{itself}
-use Rattle.selection.specs.Choice.{is_aggregator, ports_that_chose}
-use Rattle.selection.specs.Limits.{AggregatorsValue, has_room, is_below, next_standby_index}
-use Rattle.selection.specs.Views.{has_chosen, stands_by}
-use Rattle.selection.specs.declared.view.PortView.{PortView}
-use Rattle.selection.proofs.LimitLemmas.{is_next}
-use Rattle.lagsystem.specs.declared.system_ports.SystemPort.{SystemPort}
-use Rattle.lagsystem.specs.Promoting.{count_standby}
-use Rattle.lagsystem.specs.Readers.{aggregator_numbered}
-use Rattle.lagsystem.specs.Settling.{PromotesAll, PromotesFirst, PromotesNext, with_choice}
-use Rattle.lagsystem.specs.Views.{selection_view, views}
+use Rattle.lagsystem.proofs.Common.{Bool, List, None, Option, Some, [], ap, arith, cond, false, filter, length, not, refl, slice_get, slice_set}
+use Rattle.lagsystem.proofs.Common.{subst, suc, sym, true, zero, ℕ, ⊎_elim, ◌&&◌, ◌+◌, ◌<◌, ◌||◌, ◌∙◌, ◌∷◌, ◌≡◌, ◌≤◌, cases_eq, false≢true, or_parts}
+use Rattle.lagsystem.proofs.Common.{none-some, same_Some, list_any, AggId, Choice, Selected, Standby, Unselected, is_selected, is_standby, itself}
+use Rattle.lagsystem.proofs.Common.{PortView, is_aggregator, ports_that_chose, AggregatorsValue, has_room, is_below, next_standby_index, has_chosen}
+use Rattle.lagsystem.proofs.Common.{stands_by, is_next, SystemPort, count_standby, aggregator_numbered, PromotesAll, PromotesFirst, PromotesNext}
+use Rattle.lagsystem.proofs.Common.{with_choice, selection_view, views}
 use Rattle.lagsystem.proofs.Limiting.{next_stands}
 
 within_views : (l : List SystemPort) (i : ℕ) (v : PortView) → slice_get (views l) i ≡ Some v → i < length l

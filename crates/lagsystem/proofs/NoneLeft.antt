@@ -1,21 +1,9 @@
 -- When all ports have chosen, none that is still eligible finds an aggregator.
-use Rattle.std.proofs.Common.{◌≡◌, ◌∙◌, ℕ, zero, suc, ◌<◌, Bool, true, false, ◌&&◌, ◌⊎◌, List, [], ◌∷◌, length, Option, Some, None, refl}
-use Rattle.std.proofs.Common.{sym, ap, subst, arith, inl, inr, slice_get, slice_set, if◌then◌else◌, option_map}
-use Rattle.std.specs.List.{AllByRecursion}
-use Rattle.std.proofs.lemmas.Option.{same_Some}
-use Rattle.lagtypes.specs.declared.identifiers.AggId.{AggId}
-use Rattle.lagtypes.specs.declared.identifiers.Key.{Key}
-use Rattle.lagtypes.specs.declared.party.Choice.{Choice}
-use Rattle.lagtypes.specs.declared.party.Choice.TheVariants.{Unselected, Selected, Standby}
-use Rattle.lagtypes.specs.Choices.{is_unselected}
-use Rattle.selection.specs.declared.view.PortView.{PortView}
-use Rattle.selection.specs.Views.{is_eligible}
-use Rattle.selection.specs.Choice.{chosen_aggregator, chosen_if_eligible, chosen_for_view}
-use Rattle.selection.specs.Limits.{AggregatorsValue, has_room}
-use Rattle.lagsystem.specs.declared.system_ports.SystemPort.{SystemPort}
-use Rattle.lagsystem.specs.Settling.{after_choice_at, after_choices, with_choice, aggregator_for, choice_for, choice_if, choice_in}
-use Rattle.lagsystem.specs.State.{port_numbers}
-use Rattle.lagsystem.specs.Views.{selection_view, views}
+use Rattle.lagsystem.proofs.Common.{Bool, List, None, Option, Some, [], ap, arith, false, if◌then◌else◌, inl, inr, length, option_map, refl}
+use Rattle.lagsystem.proofs.Common.{slice_get, slice_set, subst, suc, sym, true, zero, ℕ, ◌&&◌, ◌<◌, ◌∙◌, ◌∷◌, ◌≡◌, ◌⊎◌, same_Some, AllByRecursion}
+use Rattle.lagsystem.proofs.Common.{AggId, Key, Choice, Selected, Standby, Unselected, is_unselected, PortView, chosen_aggregator, chosen_for_view}
+use Rattle.lagsystem.proofs.Common.{chosen_if_eligible, AggregatorsValue, has_room, is_eligible, SystemPort, after_choice_at, after_choices}
+use Rattle.lagsystem.proofs.Common.{aggregator_for, choice_for, choice_if, choice_in, with_choice, port_numbers, selection_view, views}
 use Rattle.lagsystem.proofs.Keeps.{chosen_numbers, numbers_set}
 use Rattle.lagsystem.proofs.NoneStays.{none_after}
 use Rattle.lagsystem.proofs.Rising.{Rises, all-get, find_here}

@@ -1,21 +1,9 @@
 -- A port that found no aggregator finds none after another port chose one, nor after mux machines ran.
-use Rattle.std.proofs.Common.{◌≡◌, ◌∙◌, ℕ, zero, suc, Bool, true, false, cond, not, ◌==◌, ◌&&◌, ◌||◌, List, [], ◌∷◌, Option, Some, None}
-use Rattle.std.proofs.Common.{find, option_map, refl, ap, slice_get, slice_set}
-use Rattle.std.specs.List.{enumerate_from, list_all}
-use Rattle.std.proofs.lemmas.Option.{same_Some}
-use Rattle.std.proofs.lemmas.Bool.{not-false, not_from_true, and_right}
-use Rattle.lagtypes.specs.declared.identifiers.AggId.{AggId}
-use Rattle.lagtypes.specs.declared.identifiers.Key.{Key}
-use Rattle.lagtypes.specs.declared.party.Choice.{Choice}
-use Rattle.lagtypes.specs.declared.party.Choice.TheVariants.{Unselected}
-use Rattle.lagtypes.specs.Group.{individual}
-use Rattle.selection.specs.declared.view.PortView.{PortView}
-use Rattle.selection.specs.Views.{occupies}
-use Rattle.selection.specs.Choice.{chosen_if_eligible, occupants, has_group_of, has_occupant, has_no_occupant, occupants_share_group}
-use Rattle.selection.specs.Choice.{lowest, aggregator_of_entry, or_else}
-use Rattle.lagsystem.specs.declared.system_ports.SystemPort.{SystemPort}
-use Rattle.lagsystem.specs.Settling.{with_choice}
-use Rattle.lagsystem.specs.Views.{selection_view, views}
+use Rattle.lagsystem.proofs.Common.{Bool, List, None, Option, Some, [], ap, cond, false, find, not, option_map, refl, slice_get, slice_set, suc, true}
+use Rattle.lagsystem.proofs.Common.{zero, ℕ, ◌&&◌, ◌==◌, ◌||◌, ◌∙◌, ◌∷◌, ◌≡◌, and_right, not-false, not_from_true, same_Some, enumerate_from}
+use Rattle.lagsystem.proofs.Common.{list_all, AggId, Key, Choice, Unselected, individual, PortView, aggregator_of_entry, chosen_if_eligible}
+use Rattle.lagsystem.proofs.Common.{has_group_of, has_no_occupant, has_occupant, lowest, occupants, occupants_share_group, or_else, occupies}
+use Rattle.lagsystem.proofs.Common.{SystemPort, with_choice, selection_view, views}
 
 none_or : (x y : Option AggId) → or_else x y ≡ None → (x ≡ None) × (y ≡ None)
 none_or None None e = (refl, refl)

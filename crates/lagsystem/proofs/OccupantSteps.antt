@@ -1,34 +1,17 @@
 -- Every call keeps that the occupants of an aggregator agree, and that it has no more members than the limit.
-use Rattle.std.proofs.Common.{◌≡◌, ◌∙◌, ℕ, Bool, true, false, List, Option, Some, None, refl, sym, ap, subst, slice_get, slice_set}
-use Rattle.std.proofs.Common.{length, option_map}
-use Rattle.lagtypes.specs.declared.identifiers.AggId.{AggId}
-use Rattle.lagtypes.specs.declared.identifiers.Key.{Key}
-use Rattle.portmachines.specs.Machines.{Machines}
-use Rattle.portmachines.specs.Mux.{mux_rows}
-use Rattle.portmachines.specs.Periodic.{RunsPeriodic}
-use Rattle.portmachines.specs.Receive.{receive_rows}
-use Rattle.portmachines.specs.Rows.{RunsToRest}
-use Rattle.portmachines.specs.Transmit.{after_sending, count_down}
-use Rattle.selection.specs.Limits.{AggregatorsValue, has_room}
-use Rattle.lagsystem.specs.declared.drive.Reply.{Reply}
-use Rattle.lagsystem.specs.declared.system_ports.SystemPort.{SystemPort}
-use Rattle.lagsystem.specs.Calls.{Call, Ticks}
-use Rattle.lagsystem.specs.Calls.{ChangesParty, SetsLink, SetsPortEnabled, OnlyPortChangesBy, PortAtChangesBy, ProcessesLacpdu, Step}
-use Rattle.lagsystem.specs.Calls.{ThenSettles}
-use Rattle.lagsystem.specs.First.{IsFirst}
-use Rattle.lagsystem.specs.Occupants.{OccupantsAgree, WithinLimit, occupied}
-use Rattle.lagsystem.specs.Settling.{ChoosesIn, PortsChangeBy, Settling, aggregator_for, choice_for, choice_if, choice_in, ready_of, with_choice}
-use Rattle.lagsystem.specs.Sound.{HasPorts}
-use Rattle.lagsystem.specs.State.{SystemState, aggregators_value, port_index, port_numbers}
-use Rattle.lagsystem.specs.Views.{views}
+use Rattle.lagsystem.proofs.Common.{Bool, List, None, Option, Some, ap, false, length, option_map, refl, slice_get, slice_set, subst, sym, true, ℕ}
+use Rattle.lagsystem.proofs.Common.{◌∙◌, ◌≡◌, AggId, Key, Machines, mux_rows, RunsPeriodic, receive_rows, RunsToRest, after_sending, count_down}
+use Rattle.lagsystem.proofs.Common.{AggregatorsValue, has_room, Reply, SystemPort, Call, ChangesParty, OnlyPortChangesBy, PortAtChangesBy}
+use Rattle.lagsystem.proofs.Common.{ProcessesLacpdu, SetsLink, SetsPortEnabled, Step, ThenSettles, Ticks, IsFirst, OccupantsAgree, WithinLimit}
+use Rattle.lagsystem.proofs.Common.{occupied, ChoosesIn, PortsChangeBy, Settling, aggregator_for, choice_for, choice_if, choice_in, ready_of}
+use Rattle.lagsystem.proofs.Common.{with_choice, HasPorts, SystemState, aggregators_value, port_index, port_numbers, views}
 use Rattle.lagsystem.proofs.Choose.{taken_joins}
 use Rattle.lagsystem.proofs.FirstView.{first_unselected}
-use Rattle.lagsystem.proofs.Keeps.{Keeps, Step-frame, given_number, keeps_each, keeps_link, keeps_place, keeps_tick, numbers_set}
-use Rattle.lagsystem.proofs.Keeps.{promoted_numbers, settling_keeps}
+use Rattle.lagsystem.proofs.Keeps.{Keeps, Step-frame, given_number, keeps_each, keeps_link, keeps_place, keeps_tick, numbers_set, promoted_numbers}
+use Rattle.lagsystem.proofs.Keeps.{settling_keeps}
 use Rattle.lagsystem.proofs.Limiting.{Fewer, choosing_within, next_stands, none_within, set_fewer, within_fewer, zip_fewer}
-use Rattle.lagsystem.proofs.Occupying.{EachStays, LeavesOrStays, configure_stays, joining_agrees, link_stays, mux_stays, none_agrees}
-use Rattle.lagsystem.proofs.Occupying.{periodic_stays, place_stays, promotion_agrees, sending_stays, set_stays, stay_agrees}
-use Rattle.lagsystem.proofs.Occupying.{taking_stays, tick_stays, zip_stay}
+use Rattle.lagsystem.proofs.Occupying.{EachStays, LeavesOrStays, configure_stays, joining_agrees, link_stays, mux_stays, none_agrees, periodic_stays}
+use Rattle.lagsystem.proofs.Occupying.{place_stays, promotion_agrees, sending_stays, set_stays, stay_agrees, taking_stays, tick_stays, zip_stay}
 use Rattle.lagsystem.proofs.Preserves.{Step-preserves_ports}
 use Rattle.lagsystem.proofs.PromotionLemmas.{choices_keep, promotions_keep}
 use Rattle.lagsystem.proofs.Rest.{last_slots}

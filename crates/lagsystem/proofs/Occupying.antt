@@ -1,41 +1,13 @@
 -- The occupants of an aggregator keep its key and one group: no call changes what an occupant is seen as, but that it leaves.
-use Rattle.std.proofs.Common.{◌≡◌, ◌≢◌, ℕ, zero, suc, ◌<◌, ◌-◌, Bool, true, false, List, [], ◌∷◌, ◌⊎◌, inl, inr, refl, sym, ◌∙◌, subst, ap}
-use Rattle.std.proofs.Common.{arith, Option, Some, None}
-use Rattle.std.specs.Prelude.{slice_get, slice_set, if◌then◌else◌}
-use Rattle.std.specs.List.{All, AllByRecursion}
-use Rattle.std.proofs.lemmas.Option.{none-some, same_Some}
-use Rattle.lagtypes.specs.declared.identifiers.AggId.{AggId}
-use Rattle.lagtypes.specs.declared.identifiers.Key.{Key}
-use Rattle.lagtypes.specs.declared.party.Choice.{Choice}
-use Rattle.lagtypes.specs.declared.party.Choice.TheVariants.{Unselected, Selected, Standby}
-use Rattle.lagtypes.specs.declared.party.Party.{Party}
-use Rattle.lagtypes.specs.declared.state.StateBits.{StateBits}
-use Rattle.lagtypes.specs.Group.{SamePair, individual, pair_of}
-use Rattle.lagtypes.specs.Same.{same_party}
-use Rattle.lagtypes.specs.States.{bits_of, with_synchronization, with_timeout}
-use Rattle.lagtypes.proofs.SameLemmas.{exact_party}
-use Rattle.lagtypes.proofs.StateLemmas.{encode_then_decode}
-use Rattle.slowpdu.specs.declared.pdu.Info.{Info}
-use Rattle.slowpdu.specs.declared.pdu.Lacpdu.{Lacpdu}
-use Rattle.slowpdu.specs.Parties.{party_of}
-use Rattle.portmachines.specs.Machines.{Machines}
-use Rattle.portmachines.specs.Mux.{mux_rows}
-use Rattle.portmachines.specs.Periodic.{RunsPeriodic, periodic_rows}
-use Rattle.portmachines.specs.Receive.{default_partner, lacpdu_rows, receive_rows, recorded_synchronization, start_receive}
-use Rattle.portmachines.specs.Rows.{Row, RunsToRest}
-use Rattle.portmachines.specs.Start.{Starts}
-use Rattle.portmachines.specs.Transmit.{after_sending, count_down}
-use Rattle.selection.specs.declared.view.PortView.{PortView as Seen}
-use Rattle.selection.specs.Joining.{IsOccupant, MayJoin, ends}
-use Rattle.lagmodel.proofs.Ports.{group_sym, individual_along}
-use Rattle.lagsystem.specs.declared.config.PortChange.{PortChange}
-use Rattle.lagsystem.specs.declared.system_ports.SystemPort.{SystemPort}
-use Rattle.lagsystem.specs.Calls.{ChangesParty, PortAtChangesBy, ProcessesLacpdu, SetsPortEnabled, changed_party, choice_with_link}
-use Rattle.lagsystem.specs.ModelView.{key_of}
-use Rattle.lagsystem.specs.Occupants.{OccupantsAgree, occupied}
-use Rattle.lagsystem.specs.Settling.{PortsChangeBy, with_choice}
-use Rattle.lagsystem.specs.Views.{selection_view, views}
-use Rattle.portmachines.proofs.Runs.{EachRelates, Fires-relates, Rests-relates}
+use Rattle.lagsystem.proofs.Common.{All, Bool, List, None, Option, Some, [], ap, arith, false, if◌then◌else◌, inl, inr, refl, slice_get, slice_set}
+use Rattle.lagsystem.proofs.Common.{subst, suc, sym, true, zero, ℕ, ◌-◌, ◌<◌, ◌∙◌, ◌∷◌, ◌≡◌, ◌≢◌, ◌⊎◌, none-some, same_Some, AllByRecursion, AggId}
+use Rattle.lagsystem.proofs.Common.{Key, Choice, Selected, Standby, Unselected, Party, StateBits, SamePair, individual, pair_of, same_party, bits_of}
+use Rattle.lagsystem.proofs.Common.{with_synchronization, with_timeout, exact_party, encode_then_decode, Info, Lacpdu, party_of, group_sym}
+use Rattle.lagsystem.proofs.Common.{individual_along, Machines, mux_rows, RunsPeriodic, periodic_rows, default_partner, lacpdu_rows, receive_rows}
+use Rattle.lagsystem.proofs.Common.{recorded_synchronization, start_receive, Row, RunsToRest, Starts, after_sending, count_down, EachRelates}
+use Rattle.lagsystem.proofs.Common.{Fires-relates, Rests-relates, Seen, IsOccupant, MayJoin, ends, PortChange, SystemPort, ChangesParty}
+use Rattle.lagsystem.proofs.Common.{PortAtChangesBy, ProcessesLacpdu, SetsPortEnabled, changed_party, choice_with_link, key_of, OccupantsAgree}
+use Rattle.lagsystem.proofs.Common.{occupied, PortsChangeBy, with_choice, selection_view, views}
 use Rattle.lagsystem.proofs.Effects.{named}
 
 -- a port that becomes UNSELECTED, or keeps Selected and both parties

@@ -1,16 +1,9 @@
 -- Moves of one port, whatever the other ports are, and moves of each port of a list.
-use Rattle.std.proofs.Common.{◌≡◌, ℕ, Bool, true, false, cond, eqb, Option, Some, None, List, [], ◌∷◌, ◌++◌, length, sym, refl, ap, ◌∙◌}
-use Rattle.std.proofs.Common.{subst, append_assoc, inl, inr, eqb-true, eq-eqb}
-use Rattle.std.specs.Prelude.{option_map, option_to_list, slice_get, slice_set}
-use Rattle.std.specs.List.{AllZip}
-use Rattle.std.proofs.lemmas.Bool.{cases_Bool}
-use Rattle.lagmodel.specs.View.{PortFacts, DistributorFacts, View, SystemSetup, ModelCall, at_port}
-use Rattle.lagmodel.specs.Move.{Act, PortMove, PortAllowed, port_after, port_act, LawfulMoves}
-use Rattle.lagmodel.specs.Bridge.{AreNumbered}
-use Rattle.lagmodel.proofs.Uses.{moves_joined, moves_port, ports_set, find_at, numbered_set}
-use Rattle.lagmodel.proofs.Base.{cond_true, cond_false}
-use Rattle.lagsystem.specs.declared.system_ports.SystemPort.{SystemPort}
-use Rattle.lagsystem.specs.ModelView.{number_of_port, model_port_of, model_view_at}
+use Rattle.lagsystem.proofs.Common.{Bool, List, None, Option, Some, [], ap, append_assoc, cond, eq-eqb, eqb, eqb-true, false, inl, inr, length}
+use Rattle.lagsystem.proofs.Common.{option_map, refl, slice_get, slice_set, subst, sym, true, ℕ, ◌++◌, ◌∙◌, ◌∷◌, ◌≡◌, cases_Bool, AllZip}
+use Rattle.lagsystem.proofs.Common.{option_to_list, AreNumbered, Act, LawfulMoves, PortAllowed, PortMove, port_act, port_after, DistributorFacts}
+use Rattle.lagsystem.proofs.Common.{ModelCall, PortFacts, SystemSetup, View, at_port, cond_false, cond_true, find_at, moves_joined, moves_port}
+use Rattle.lagsystem.proofs.Common.{numbered_set, ports_set, SystemPort, model_port_of, model_view_at, number_of_port}
 
 abbrev pub AllPortAllowed : SystemSetup → ModelCall → ℕ → List PortMove → PortFacts → Type 0
 AllPortAllowed u call p [] a = Unit {0}

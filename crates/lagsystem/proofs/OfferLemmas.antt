@@ -1,17 +1,12 @@
 -- Frames that are offered.
-use Rattle.std.proofs.Common.{◌≡◌, ◌∙◌, ℕ, ◌<◌, ◌≤◌, ◌-◌, ◌%◌, Bool, true, false, eqb, eqb-true, inl, inr, List, length, arith, refl, subst, sym, Bor}
-use Rattle.std.specs.Prelude.{bit_and, ◌||◌}
-use Rattle.std.proofs.lemmas.Bool.{le-leb, lt-leb, and_from, and_left, and_right, cases_Bool, true≢false}
+use Rattle.lagsystem.proofs.Common.{Bool, Bor, List, arith, eqb, eqb-true, false, inl, inr, length, refl, subst, sym, true, ℕ, ◌%◌, ◌-◌, ◌<◌, ◌||◌}
+use Rattle.lagsystem.proofs.Common.{◌∙◌, ◌≡◌, ◌≤◌, and_from, and_left, and_right, cases_Bool, le-leb, lt-leb, true≢false, bit_and, AggId}
+use Rattle.lagsystem.proofs.Common.{IsFrameOfKind, IsSlowProtocolsFrame, DistFault, is_conversation_count, SystemFault, MayBeOffered, MayBeOfferedTo}
+use Rattle.lagsystem.proofs.Common.{RefusedBy, RefusesFrame, RefusesOffer, is_frame_length, SystemState}
+use Rattle.lagsystem.specs.Offers.{longest_frame}
 use Rattle.std.proofs.lemmas.Nat.{and_mask}
-use Rattle.distributor.specs.Conversations.{is_conversation_count}
 use Rattle.slowpdu.specs.declared.frames.Kind.{Kind}
 use Rattle.slowpdu.specs.declared.frames.Kind.TheVariants.{Control, TooShort}
-use Rattle.slowpdu.specs.Frames.{IsFrameOfKind, IsSlowProtocolsFrame}
-use Rattle.distributor.specs.declared.fault.DistFault.{DistFault}
-use Rattle.lagtypes.specs.declared.identifiers.AggId.{AggId}
-use Rattle.lagsystem.specs.declared.fault.SystemFault.{SystemFault}
-use Rattle.lagsystem.specs.Offers.{MayBeOffered, MayBeOfferedTo, RefusedBy, RefusesFrame, RefusesOffer, is_frame_length, longest_frame}
-use Rattle.lagsystem.specs.State.{SystemState}
 
 pub is_frame : (octets : List ℕ) → 14 ≤ length octets → length octets ≤ 1518 → is_frame_length octets ≡ true
 unfolding longest_frame

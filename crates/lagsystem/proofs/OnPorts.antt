@@ -1,31 +1,11 @@
 -- After every call a conversation is On a port only if the port distributes in its aggregator.
-use Rattle.std.proofs.Common.{◌≡◌, ◌∙◌, ℕ, zero, suc, Bool, true, false, cond, ◌&&◌, eqb, List, [], ◌∷◌, Some, None, Option}
-use Rattle.std.proofs.Common.{refl, sym, ap, subst, ◌⊎◌, inl, inr, length}
-use Rattle.std.specs.Prelude.{if◌then◌else◌, slice_get, slice_set, filter, map}
-use Rattle.std.proofs.lemmas.Bool.{and_parts, eqb-true}
-use Rattle.std.proofs.lemmas.Option.{same_Some}
-use Rattle.lagtypes.specs.declared.identifiers.AggId.{AggId}
-use Rattle.portmachines.specs.Transmit.{after_sending}
-use Rattle.distributor.specs.declared.assignment.Assignment.{Assignment}
-use Rattle.distributor.specs.declared.assignment.Assignment.TheVariants.{Free, On, Wanted, Flushing}
-use Rattle.distributor.specs.Calls.{MaySend, is_among}
-use Rattle.distributor.specs.Changes.{SetsAssignment, after_mark, after_release}
-use Rattle.distributor.specs.Conversations.{Table, next_identifier, assignment_of}
-use Rattle.distributor.specs.Moves.{model_conversation}
-use Rattle.distributor.proofs.MoveLemmas.{is_forced, is_moved}
-use Rattle.distributor.proofs.TableLemmas.{first_free}
-use Rattle.lagmodel.specs.View.{Conversation}
-use Rattle.lagsystem.specs.Sending.{SendsMarkerOf}
-use Rattle.lagsystem.specs.declared.drive.Reply.{Reply}
-use Rattle.lagsystem.specs.declared.system_ports.SystemPort.{SystemPort}
-use Rattle.lagsystem.specs.Calls.{Call}
-use Rattle.lagsystem.specs.Calls.{Step}
-use Rattle.lagsystem.specs.First.{IsFirst}
-use Rattle.lagsystem.specs.Offers.{assignment_of_frame}
-use Rattle.lagsystem.specs.Readers.{aggregator_numbered, number_of_conversation as conversation_number, distributes_in, distributing}
-use Rattle.lagsystem.specs.Settling.{HoldsConversations, held_unless_on, Settling}
-use Rattle.lagsystem.specs.Sound.{OnlyOnDistributing}
-use Rattle.lagsystem.specs.State.{SystemState, with_table}
+use Rattle.lagsystem.proofs.Common.{Bool, List, None, Option, Some, [], ap, cond, eqb, eqb-true, false, filter, if◌then◌else◌, inl, inr, length, map}
+use Rattle.lagsystem.proofs.Common.{refl, slice_get, slice_set, subst, suc, sym, true, zero, ℕ, ◌&&◌, ◌∙◌, ◌∷◌, ◌≡◌, ◌⊎◌, and_parts, same_Some, AggId}
+use Rattle.lagsystem.proofs.Common.{Conversation, after_sending, Assignment, Flushing, Free, On, Wanted, MaySend, is_among, SetsAssignment}
+use Rattle.lagsystem.proofs.Common.{after_mark, after_release, Table, assignment_of, next_identifier, model_conversation, is_forced, is_moved}
+use Rattle.lagsystem.proofs.Common.{first_free, Reply, SystemPort, Call, Step, IsFirst, assignment_of_frame, aggregator_numbered, conversation_number}
+use Rattle.lagsystem.proofs.Common.{distributes_in, distributing, SendsMarkerOf, HoldsConversations, Settling, held_unless_on, OnlyOnDistributing}
+use Rattle.lagsystem.proofs.Common.{SystemState, with_table}
 use Rattle.lagsystem.proofs.Conversing.{assigned_may}
 use Rattle.lagsystem.proofs.Keeps.{settling_parts}
 use Rattle.lagsystem.proofs.Preserves.{Step-preserves}

@@ -1,52 +1,23 @@
 -- A call of a system has one answer and one state after it.
-use Rattle.std.proofs.Common.{◌≡◌, ◌∙◌, ℕ, ◌+◌, ◌^◌, Bool, true, false, cond, List, [], ◌∷◌, Option, Some, None, Result, Ok, Err, ◌⊎◌}
-use Rattle.std.proofs.Common.{inl, inr, refl, sym, ap, subst, arith, slice_get, slice_set}
-use Rattle.std.specs.Prelude.{◌&&◌, eqb, ltb, if◌then◌else◌, is_some, MatchOption}
-use Rattle.std.specs.Bool.{IsFalse}
-use Rattle.std.proofs.lemmas.Bool.{true≢false}
-use Rattle.std.proofs.lemmas.Option.{none-some, same_Some}
-use Rattle.lagtypes.specs.declared.identifiers.AggId.{AggId}
-use Rattle.slowpdu.specs.declared.pdu.Lacpdu.{Lacpdu}
-use Rattle.slowpdu.specs.declared.pdu.Marker.{Marker}
+use Rattle.lagsystem.proofs.Common.{Bool, Err, List, None, Ok, Option, Result, Some, [], ap, arith, cond, eqb, false, if◌then◌else◌, inl, inr}
+use Rattle.lagsystem.proofs.Common.{is_some, ltb, refl, slice_get, slice_set, subst, sym, true, ℕ, ◌&&◌, ◌+◌, ◌^◌, ◌∙◌, ◌∷◌, ◌≡◌, ◌⊎◌, true≢false}
+use Rattle.lagsystem.proofs.Common.{none-some, same_Some, IsFalse, MatchOption, AggId, Lacpdu, Marker, frame_octets, one_written, PortCall, Machines}
+use Rattle.lagsystem.proofs.Common.{receive_rows, RunsToRest, after_sending, count_down, is_due, one_effect, Assignment, Flushing, Free, On, Wanted}
+use Rattle.lagsystem.proofs.Common.{DistFault, Assigns, PicksPort, force_result, move_result, preferred_among, ChangesAssignments, Marks}
+use Rattle.lagsystem.proofs.Common.{SetsAssignment, after_down, after_mark, after_release, after_tick, awaits_response, marker_due, wants_marker}
+use Rattle.lagsystem.proofs.Common.{Table, count_conversations, next_identifier, sum_below, PortChange, Reply, SystemFault, NoAggregator, NoPort}
+use Rattle.lagsystem.proofs.Common.{FrameEffect, Answered, ProcessLacpdu, Response, Received, Released, SystemPort, AlreadyConfigured, Call}
+use Rattle.lagsystem.proofs.Common.{ChangesParty, Configure, Force, FreesIfDown, Move_conversation, Offer, OnlyPortChangesBy, ParsesFrame, Performs}
+use Rattle.lagsystem.proofs.Common.{PortAtChangesBy, ProcessesLacpdu, Receive, ReceivesAt, RefusesNoPort, Releases, Restart, Set_link, SetsLink}
+use Rattle.lagsystem.proofs.Common.{SetsPortEnabled, Step, ThenSettles, Tick, Ticks, Transmit, changed_party, choice_with_link, differs}
+use Rattle.lagsystem.proofs.Common.{is_own_response, IsFirst, ReceivesAtRest, none_enabled, AssignsPort, GivesAssignment, GivesOrRefuses}
+use Rattle.lagsystem.proofs.Common.{MayBeOfferedTo, Offers, RefusesFrame, RefusesOffer, has_aggregator, in_system, is_frame_length, or_not_assigned}
+use Rattle.lagsystem.proofs.Common.{system_force_result, system_move_result, IsFunction, OneAnswer, OneRun, SameConversations, SameState}
+use Rattle.lagsystem.proofs.Common.{distributing, number_of_conversation, PortTransmits, SendsMarkerOf, TransmitsAt, TransmitsIf, own_marker}
+use Rattle.lagsystem.proofs.Common.{SystemState, aggregators_value, port_index, system_port_at, with_system_ports, with_table}
 use Rattle.slowpdu.specs.declared.pdu.Pdu.TheVariants as pdu
-use Rattle.slowpdu.specs.Frames.{frame_octets}
-use Rattle.slowpdu.proofs.PduLemmas.{one_written}
-use Rattle.portmachines.specs.Machines.{Machines}
-use Rattle.portmachines.specs.Calls.{PortCall}
-use Rattle.portmachines.specs.Receive.{receive_rows}
-use Rattle.portmachines.specs.Rows.{RunsToRest}
-use Rattle.portmachines.specs.Transmit.{count_down, is_due, after_sending}
-use Rattle.portmachines.proofs.Choices.{one_effect}
-use Rattle.distributor.specs.declared.assignment.Assignment.{Assignment}
-use Rattle.distributor.specs.declared.assignment.Assignment.TheVariants.{Free, On, Wanted, Flushing}
-use Rattle.distributor.specs.declared.fault.DistFault.{DistFault}
-use Rattle.distributor.specs.Calls.{Assigns, PicksPort, force_result, move_result, preferred_among}
-use Rattle.distributor.specs.Changes.{ChangesAssignments, Marks, SetsAssignment, after_down, after_mark, after_release, after_tick}
-use Rattle.distributor.specs.Changes.{awaits_response, marker_due, wants_marker}
-use Rattle.distributor.specs.Conversations.{Table, count_conversations, next_identifier, sum_below}
-use Rattle.lagsystem.specs.declared.config.PortChange.{PortChange}
-use Rattle.lagsystem.specs.declared.drive.Reply.{Reply}
 use Rattle.lagsystem.specs.declared.drive.Reply.TheVariants as reply
-use Rattle.lagsystem.specs.declared.fault.SystemFault.{SystemFault}
-use Rattle.lagsystem.specs.declared.fault.SystemFault.TheVariants.{NoPort, NoAggregator}
-use Rattle.lagsystem.specs.declared.received.FrameEffect.{FrameEffect}
-use Rattle.lagsystem.specs.declared.received.FrameEffect.TheVariants.{ProcessLacpdu, Response, Answered}
-use Rattle.lagsystem.specs.declared.received.Received.{Received}
-use Rattle.lagsystem.specs.declared.received.Received.TheVariants.{Released}
-use Rattle.lagsystem.specs.declared.system_ports.SystemPort.{SystemPort}
-use Rattle.lagsystem.specs.Calls.{Call, Tick, Set_link, Receive, Configure, Restart, Transmit, Offer, Move_conversation, Force, Ticks}
-use Rattle.lagsystem.specs.Calls.{AlreadyConfigured, ChangesParty, FreesIfDown, OnlyPortChangesBy, ParsesFrame}
-use Rattle.lagsystem.specs.Calls.{Performs, PortAtChangesBy, ProcessesLacpdu, ReceivesAt, RefusesNoPort, Releases, SetsLink, SetsPortEnabled}
-use Rattle.lagsystem.specs.Calls.{Step, ThenSettles, changed_party, choice_with_link, differs, is_own_response}
 use Rattle.lagsystem.specs.Faults.{system_fault}
-use Rattle.lagsystem.specs.First.{IsFirst}
-use Rattle.lagsystem.specs.ModelView.{ReceivesAtRest, none_enabled}
-use Rattle.lagsystem.specs.Offers.{AssignsPort, GivesAssignment, GivesOrRefuses, MayBeOfferedTo, Offers, RefusesFrame, RefusesOffer}
-use Rattle.lagsystem.specs.Offers.{has_aggregator, in_system, is_frame_length, or_not_assigned, system_force_result, system_move_result}
-use Rattle.lagsystem.specs.OneAnswer.{IsFunction, OneAnswer, OneRun, SameConversations, SameState}
-use Rattle.lagsystem.specs.Readers.{distributing, number_of_conversation}
-use Rattle.lagsystem.specs.Sending.{PortTransmits, SendsMarkerOf, TransmitsAt, TransmitsIf, own_marker}
-use Rattle.lagsystem.specs.State.{SystemState, aggregators_value, port_index, system_port_at, with_system_ports, with_table}
 use Rattle.lagsystem.proofs.Keeps.{Step-frame}
 use Rattle.lagsystem.proofs.OfferLemmas.{not_both}
 use Rattle.lagsystem.proofs.OneFrame.{effect_one, lacpdu_one}

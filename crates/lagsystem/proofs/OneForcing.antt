@@ -1,16 +1,8 @@
 -- To force what is held on a port has one answer and one state after it.
-use Rattle.std.proofs.Common.{◌≡◌, ◌∙◌, ℕ, zero, suc, ◌+◌, Bool, true, false, cond, length, Ok, Err, refl, sym, ap, subst}
-use Rattle.std.specs.Prelude.{is_some}
-use Rattle.std.proofs.lemmas.Bool.{true≢false}
-use Rattle.lagtypes.specs.declared.identifiers.AggId.{AggId}
+use Rattle.lagsystem.proofs.Common.{Bool, Err, Ok, ap, cond, false, is_some, length, refl, subst, suc, sym, true, zero, ℕ, ◌+◌, ◌∙◌, ◌≡◌, true≢false}
+use Rattle.lagsystem.proofs.Common.{AggId, is_held_on, Force, ForcesFirst, ForcesIfHeld, ForcesIn, IsFunction, OneForcing, SameState}
+use Rattle.lagsystem.proofs.Common.{aggregator_numbered, PortsAgree, SystemState, port_index}
 use Rattle.lagsystem.specs.declared.drive.Reply.TheVariants as reply
-use Rattle.distributor.specs.Chains.{is_held_on}
-use Rattle.lagsystem.specs.Calls.{Force}
-use Rattle.lagsystem.specs.Forcing.{ForcesFirst, ForcesIfHeld, ForcesIn}
-use Rattle.lagsystem.specs.OneAnswer.{IsFunction, OneForcing, SameState}
-use Rattle.lagsystem.specs.Readers.{aggregator_numbered}
-use Rattle.lagsystem.specs.Sound.{PortsAgree}
-use Rattle.lagsystem.specs.State.{SystemState, port_index}
 use Rattle.lagsystem.proofs.OneAnswer.{one_answer}
 
 -- one count, one state and, if it is the first of two, one that agrees

@@ -1,22 +1,10 @@
 -- What a received frame asks for is one thing, and so is the frame that is sent.
-use Rattle.std.proofs.Common.{◌≡◌, ◌∙◌, ℕ, ◌<◌, ◌≤◌, Bool, true, false, List, length, drop, Option, Some, None, refl, sym, ap, subst, arith}
-use Rattle.std.proofs.lemmas.Option.{none-some, same_Some}
+use Rattle.lagsystem.proofs.Common.{Bool, List, None, Option, Some, ap, arith, drop, false, length, refl, subst, sym, true, ℕ, ◌<◌, ◌∙◌, ◌≡◌, ◌≤◌}
+use Rattle.lagsystem.proofs.Common.{none-some, same_Some, Marker, Pdu, fault_of, frame_octets, response_to, ReadsPdu, no_fault, one_pdu, one_written}
+use Rattle.lagsystem.proofs.Common.{pdu_of, FrameEffect, Answered, Respond, SystemPort, AnswersMarker, Carries, Data_frame, Faulty, GivesEffect}
+use Rattle.lagsystem.proofs.Common.{IsFrame, ParsesWhere, ReceivedFrame, Runt, IsLacpduOf}
 use Rattle.slowpdu.specs.declared.fault.WireFault.{WireFault}
-use Rattle.slowpdu.specs.declared.pdu.Marker.{Marker}
-use Rattle.slowpdu.specs.declared.pdu.Pdu.{Pdu}
 use Rattle.slowpdu.specs.declared.pdu.Pdu.TheVariants as pdu
-use Rattle.slowpdu.specs.Faults.{fault_of}
-use Rattle.slowpdu.specs.Frames.{frame_octets}
-use Rattle.slowpdu.specs.Markers.{response_to}
-use Rattle.slowpdu.specs.Pdus.{ReadsPdu}
-use Rattle.slowpdu.proofs.PduLemmas.{no_fault, one_pdu, one_written}
-use Rattle.portmachines.specs.Transmit.{pdu_of}
-use Rattle.lagsystem.specs.declared.received.FrameEffect.{FrameEffect}
-use Rattle.lagsystem.specs.declared.received.FrameEffect.TheVariants.{Answered}
-use Rattle.lagsystem.specs.declared.received.Received.TheVariants.{Respond}
-use Rattle.lagsystem.specs.declared.system_ports.SystemPort.{SystemPort}
-use Rattle.lagsystem.specs.Calls.{AnswersMarker, Carries, Data_frame, Faulty, GivesEffect, IsFrame, ParsesWhere, ReceivedFrame, Runt}
-use Rattle.lagsystem.specs.Sending.{IsLacpduOf}
 
 read_faulty : (b : List ℕ) (v : Pdu) (e : WireFault) → ReadsPdu b v → fault_of b ≡ Some e → ⊥
 read_faulty b v e h k = none-some e (sym (no_fault b v h) ∙ k)

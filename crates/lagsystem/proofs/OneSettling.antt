@@ -1,26 +1,10 @@
 -- Settling is deterministic: the ports after it, and the state of each conversation.
-use Rattle.std.proofs.Common.{◌≡◌, ◌∙◌, ℕ, zero, suc, ◌+◌, false, List, [], ◌∷◌, length, Option, Some, None, refl, sym, ap}
-use Rattle.std.proofs.Common.{subst, slice_get, slice_set, arith}
-use Rattle.std.specs.List.{AllByRecursion}
-use Rattle.std.proofs.lemmas.Option.{none-some, same_Some}
-use Rattle.lagtypes.specs.declared.identifiers.AggId.{AggId}
-use Rattle.lagtypes.specs.declared.party.Choice.TheVariants.{Selected}
-use Rattle.portmachines.specs.Machines.{Machines}
-use Rattle.portmachines.specs.Mux.{mux_rows}
-use Rattle.portmachines.specs.Periodic.{RunsPeriodic}
-use Rattle.portmachines.specs.Rows.{RunsToRest}
-use Rattle.portmachines.proofs.Choices.{one_mux, one_periodic}
-use Rattle.selection.specs.Limits.{AggregatorsValue, next_standby_index}
-use Rattle.distributor.specs.declared.assignment.Assignment.{Assignment}
-use Rattle.distributor.specs.Conversations.{Table, assignment_of}
-use Rattle.lagsystem.specs.declared.system_ports.SystemPort.{SystemPort}
-use Rattle.lagsystem.specs.Calls.{PortAtChangesBy}
-use Rattle.lagsystem.specs.OneAnswer.{SameConversations}
-use Rattle.lagsystem.specs.Readers.{aggregator_numbered, distributing}
-use Rattle.lagsystem.specs.Settling.{ChoosesIn, PortsChangeBy, PromotesAll, PromotesFirst, PromotesNext, PromotesTimes}
-use Rattle.lagsystem.specs.Settling.{Settling, after_choices, held_unless_on, ready_of, with_choice}
-use Rattle.lagsystem.specs.State.{SystemState, aggregators_value}
-use Rattle.lagsystem.specs.Views.{views}
+use Rattle.lagsystem.proofs.Common.{List, None, Option, Some, [], ap, arith, false, length, refl, slice_get, slice_set, subst, suc, sym, zero, ℕ, ◌+◌}
+use Rattle.lagsystem.proofs.Common.{◌∙◌, ◌∷◌, ◌≡◌, none-some, same_Some, AllByRecursion, AggId, Selected, Machines, mux_rows, RunsPeriodic}
+use Rattle.lagsystem.proofs.Common.{RunsToRest, one_mux, one_periodic, AggregatorsValue, next_standby_index, Assignment, Table, assignment_of}
+use Rattle.lagsystem.proofs.Common.{SystemPort, PortAtChangesBy, SameConversations, aggregator_numbered, distributing, ChoosesIn, PortsChangeBy}
+use Rattle.lagsystem.proofs.Common.{PromotesAll, PromotesFirst, PromotesNext, PromotesTimes, Settling, after_choices, held_unless_on, ready_of}
+use Rattle.lagsystem.proofs.Common.{with_choice, SystemState, aggregators_value, views}
 use Rattle.lagsystem.proofs.Keeps.{ports_table, settling_parts}
 use Rattle.lagsystem.proofs.Rest.{last_slots}
 use Rattle.lagsystem.proofs.Rising.{all-get}

@@ -1,22 +1,7 @@
 -- A configuration has exactly one first state.
-use Rattle.std.proofs.Common.{◌≡◌, List, [], ◌∷◌, length, refl, sym, ◌∙◌, subst, ap}
-use Rattle.std.specs.List.{AllZip}
-use Rattle.lagtypes.specs.declared.identifiers.SystemId.{SystemId}
-use Rattle.portmachines.specs.declared.port.Setup.{Setup}
-use Rattle.portmachines.specs.declared.receive.ReceiveState.TheVariants.{PortDisabled}
-use Rattle.portmachines.specs.Calls.{PortCall}
-use Rattle.portmachines.specs.Machines.{Machines}
-use Rattle.portmachines.specs.Periodic.{RunsPeriodic}
-use Rattle.portmachines.specs.Receive.{receive_rows}
-use Rattle.portmachines.specs.Rows.{AtRest}
-use Rattle.portmachines.specs.Start.{Starts, before_start}
-use Rattle.portmachines.proofs.Choices.{one_effect}
-use Rattle.distributor.specs.Conversations.{first_table}
-use Rattle.lagsystem.specs.declared.config.PortConfig.{PortConfig}
-use Rattle.lagsystem.specs.declared.system_ports.SystemPort.{SystemPort}
-use Rattle.lagsystem.specs.First.{IsFirst, HasJustStarted, setup_of}
-use Rattle.lagsystem.specs.Settling.{PortsChangeBy}
-use Rattle.lagsystem.specs.State.{SystemState, with_system_ports, with_table}
+use Rattle.lagsystem.proofs.Common.{List, [], ap, length, refl, subst, sym, ◌∙◌, ◌∷◌, ◌≡◌, AllZip, SystemId, Setup, PortDisabled, PortCall, Machines}
+use Rattle.lagsystem.proofs.Common.{RunsPeriodic, receive_rows, AtRest, Starts, before_start, one_effect, first_table, PortConfig, SystemPort}
+use Rattle.lagsystem.proofs.Common.{HasJustStarted, IsFirst, setup_of, PortsChangeBy, SystemState, with_system_ports, with_table}
 use Rattle.lagsystem.proofs.FirstView.{first_periodic}
 
 one_start : (s : Setup) (p q : Machines) → Starts (before_start s) p → Starts (before_start s) q → p ≡ q

@@ -1,14 +1,7 @@
 -- What comes on a port is an LACPDU that it processes, or it changes no port; and what it changes of conversations.
-use Rattle.std.proofs.Common.{◌≡◌, ℕ, Bool, true, false, Option, ◌⊎◌, inl, inr, ap}
-use Rattle.slowpdu.specs.declared.pdu.Lacpdu.{Lacpdu}
-use Rattle.slowpdu.specs.declared.pdu.Marker.{Marker}
-use Rattle.distributor.specs.Changes.{ChangesAssignments, after_release}
-use Rattle.lagsystem.specs.declared.received.FrameEffect.{FrameEffect}
-use Rattle.lagsystem.specs.declared.received.FrameEffect.TheVariants.{ProcessLacpdu, Response, Answered}
-use Rattle.lagsystem.specs.declared.received.Received.{Received}
-use Rattle.lagsystem.specs.declared.received.Received.TheVariants.{TookLacpdu}
-use Rattle.lagsystem.specs.Calls.{OnlyPortChangesBy, Performs, ProcessesLacpdu, Releases, ThenSettles, is_own_response}
-use Rattle.lagsystem.specs.State.{SystemState}
+use Rattle.lagsystem.proofs.Common.{Bool, Option, ap, false, inl, inr, true, ℕ, ◌≡◌, ◌⊎◌, Lacpdu, Marker, ChangesAssignments, after_release}
+use Rattle.lagsystem.proofs.Common.{FrameEffect, Answered, ProcessLacpdu, Response, Received, TookLacpdu, OnlyPortChangesBy, Performs}
+use Rattle.lagsystem.proofs.Common.{ProcessesLacpdu, Releases, ThenSettles, is_own_response, SystemState}
 use Rattle.lagsystem.proofs.Rest.{releases_slots, same_slots}
 
 -- the port at the index processes an LACPDU, which a settling follows; or all ports stay

@@ -1,21 +1,9 @@
 -- The places of ports.
-use Rattle.std.proofs.Common.{◌≡◌, ◌∙◌, ℕ, zero, suc, ◌<◌, ◌==◌, true, false, cond, List, [], ◌∷◌, Option, Some, None, length, get_or}
-use Rattle.std.proofs.Common.{slice_get, slice_set, refl, sym, ap, subst, arith}
-use Rattle.std.specs.Prelude.{nat_lt}
-use Rattle.std.specs.List.Sorted.{IsStrictlyIncreasing}
-use Rattle.std.proofs.lemmas.Bool.Decides.{nat_tests}
-use Rattle.std.proofs.lemmas.List.{get_or-map, length-map}
+use Rattle.lagsystem.proofs.Common.{List, None, Option, Some, [], ap, arith, cond, false, get_or, length, nat_lt, refl, slice_get, slice_set, subst}
+use Rattle.lagsystem.proofs.Common.{suc, sym, true, zero, ℕ, ◌<◌, ◌==◌, ◌∙◌, ◌∷◌, ◌≡◌, lt-ltb, nat_tests, get_or-map, length-map, position_or_len_is}
+use Rattle.lagsystem.proofs.Common.{same_Some, IsStrictlyIncreasing, AggId, Machines, SystemPort, PortAtChangesBy, aggregators_in_use, collecting}
+use Rattle.lagsystem.proofs.Common.{port_index, port_numbers}
 use Rattle.std.proofs.lemmas.List.Kept.{AllPairs-from_increasing}
-use Rattle.std.proofs.lemmas.List.Sums.{position_or_len_is}
-use Rattle.std.proofs.lemmas.Option.{same_Some}
-use Rattle.std.proofs.lemmas.Bool.{lt-ltb}
-use Rattle.lagtypes.specs.declared.identifiers.AggId.{AggId}
-use Rattle.portmachines.specs.Machines.{Machines}
-use Rattle.lagsystem.specs.declared.system_ports.SystemPort.{SystemPort}
-use Rattle.lagsystem.specs.Calls.{PortAtChangesBy}
-use Rattle.lagsystem.specs.Holding.{aggregators_in_use}
-use Rattle.lagsystem.specs.Readers.{collecting}
-use Rattle.lagsystem.specs.State.{port_index, port_numbers}
 
 -- of ascending ports the one with the number at a place is the first with that number
 pub place_at : (n : ℕ) (system_ports : List SystemPort) (i : ℕ) (d : SystemPort) → IsStrictlyIncreasing (port_numbers system_ports)

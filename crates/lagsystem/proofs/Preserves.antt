@@ -1,31 +1,15 @@
 -- A walk over the calls of a system: what holds after each kind of change holds after every call.
-use Rattle.std.proofs.Common.{◌≡◌, ◌∙◌, ◌==◌, ◌&&◌, ◌++◌, ℕ, Bool, true, false, List, [], ◌∷◌, Option, Some, None, Result, Ok, Err}
-use Rattle.std.proofs.Common.{if◌then◌else◌, drop, slice_get, slice_set, refl, sym, ap, subst}
-use Rattle.lagtypes.specs.declared.identifiers.AggId.{AggId}
-use Rattle.slowpdu.specs.declared.pdu.Lacpdu.{Lacpdu}
-use Rattle.slowpdu.specs.Frames.{frame_octets}
-use Rattle.slowpdu.specs.Layout.{HoldsNumber, IsAddress, read_field}
+use Rattle.lagsystem.proofs.Common.{Bool, Err, List, None, Ok, Option, Result, Some, [], ap, drop, false, if◌then◌else◌, refl, slice_get, slice_set}
+use Rattle.lagsystem.proofs.Common.{subst, sym, true, ℕ, ◌&&◌, ◌++◌, ◌==◌, ◌∙◌, ◌∷◌, ◌≡◌, AggId, Lacpdu, frame_octets, HoldsNumber, IsAddress}
+use Rattle.lagsystem.proofs.Common.{read_field, framed_payload, after_sending, is_due, Assignment, ChangesAssignments, Marks, after_release}
+use Rattle.lagsystem.proofs.Common.{marker_due, PortChange, Reply, SystemFault, FrameEffect, Answered, ProcessLacpdu, Response, Received, TookLacpdu}
+use Rattle.lagsystem.proofs.Common.{SystemPort, Call, ChangesParty, Configure, Force, Move_conversation, Offer, OnlyPortChangesBy, Performs}
+use Rattle.lagsystem.proofs.Common.{ProcessesLacpdu, Receive, Releases, Restart, Set_link, SetsLink, Step, ThenSettles, Tick, Ticks, Transmit}
+use Rattle.lagsystem.proofs.Common.{is_own_response, IsFirst, GivesAssignment, GivesOrRefuses, Offers, system_force_result, system_move_result}
+use Rattle.lagsystem.proofs.Common.{IsLacpduOf, SendsMarkerOf, TransmitsAt, TransmitsIf, SystemState, port_index, with_system_ports, with_table}
+use Rattle.lagsystem.proofs.Common.{sends_after, subtype, tick_after}
 use Rattle.slowpdu.proofs.LayoutLemmas.{octet_stands}
-use Rattle.slowpdu.proofs.WritingLemmas.{framed_payload}
-use Rattle.distributor.specs.declared.assignment.Assignment.{Assignment}
-use Rattle.distributor.specs.Changes.{ChangesAssignments, Marks, after_release, marker_due}
-use Rattle.portmachines.specs.Transmit.{after_sending, is_due}
-use Rattle.lagsystem.specs.declared.config.PortChange.{PortChange}
-use Rattle.lagsystem.specs.declared.drive.Reply.{Reply}
 use Rattle.lagsystem.specs.declared.drive.Reply.TheVariants as reply
-use Rattle.lagsystem.specs.declared.fault.SystemFault.{SystemFault}
-use Rattle.lagsystem.specs.declared.received.FrameEffect.{FrameEffect}
-use Rattle.lagsystem.specs.declared.received.FrameEffect.TheVariants.{ProcessLacpdu, Response, Answered}
-use Rattle.lagsystem.specs.declared.received.Received.{Received}
-use Rattle.lagsystem.specs.declared.received.Received.TheVariants.{TookLacpdu}
-use Rattle.lagsystem.specs.declared.system_ports.SystemPort.{SystemPort}
-use Rattle.lagsystem.specs.Calls.{Call, Tick, Set_link, Receive, Configure, Restart, Transmit, Offer, Move_conversation, Force, Ticks, Step}
-use Rattle.lagsystem.specs.Calls.{ChangesParty, OnlyPortChangesBy, Performs, ProcessesLacpdu, Releases, SetsLink, ThenSettles, is_own_response}
-use Rattle.lagsystem.specs.First.{IsFirst}
-use Rattle.lagsystem.specs.Offers.{GivesAssignment, GivesOrRefuses, Offers, system_force_result, system_move_result}
-use Rattle.lagsystem.specs.Sending.{IsLacpduOf, SendsMarkerOf, TransmitsAt, TransmitsIf}
-use Rattle.lagsystem.specs.State.{SystemState, port_index, with_system_ports, with_table}
-use Rattle.lagsystem.specs.Windows.{sends_after, subtype, tick_after}
 
 -- no tick, no start, and no LACPDU in the reply: the ticks at which a port sent stay as they are
 abbrev pub IsSilent : Call → Reply → Type 0

@@ -1,18 +1,9 @@
 -- A marker that asks whether the peer answers markers is a lawful move.
-use Rattle.std.proofs.Common.{◌≡◌, ◌∙◌, ℕ, Bool, true, false, List, Option, Some, None, Ok, Err, Result, refl, subst, sym, slice_get}
-use Rattle.std.proofs.lemmas.Option.{same_Some}
-use Rattle.distributor.specs.Conversations.{next_identifier}
-use Rattle.lagmodel.specs.View.{ModelCall}
-use Rattle.lagmodel.specs.Move.{LawfulMoves}
+use Rattle.lagsystem.proofs.Common.{Bool, Err, List, None, Ok, Option, Result, Some, false, refl, slice_get, subst, sym, true, ℕ, ◌∙◌, ◌≡◌, same_Some}
+use Rattle.lagsystem.proofs.Common.{LawfulMoves, ModelCall, next_identifier, SystemFault, SystemPort, Transmit, JoinedByLawfulMoves, model_setup}
+use Rattle.lagsystem.proofs.Common.{model_view, Probes, ProbesAt, ProbesIf, ProbesLawfully, SendsMarkerOf, IsSound, SystemState, port_index}
+use Rattle.lagsystem.proofs.Common.{with_table}
 use Rattle.lagsystem.specs.declared.drive.Reply.TheVariants as reply
-use Rattle.lagsystem.specs.declared.fault.SystemFault.{SystemFault}
-use Rattle.lagsystem.specs.declared.system_ports.SystemPort.{SystemPort}
-use Rattle.lagsystem.specs.Calls.{Transmit}
-use Rattle.lagsystem.specs.ModelView.{JoinedByLawfulMoves, model_setup, model_view}
-use Rattle.lagsystem.specs.Probing.{Probes, ProbesAt, ProbesIf, ProbesLawfully}
-use Rattle.lagsystem.specs.Sending.{SendsMarkerOf}
-use Rattle.lagsystem.specs.Sound.{IsSound}
-use Rattle.lagsystem.specs.State.{SystemState, port_index, with_table}
 use Rattle.lagsystem.proofs.OnPorts.{marker_carried}
 use Rattle.lagsystem.proofs.PromiseLemmas.{table_promise, table_sound}
 use Rattle.lagsystem.proofs.Rising.{found_place}

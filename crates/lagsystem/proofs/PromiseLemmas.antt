@@ -1,11 +1,6 @@
 -- Calls that change the conversations alone keep the invariant of a system.
-use Rattle.std.proofs.Common.{◌≡◌, ◌∙◌, List, ap, subst, sym}
-use Rattle.lagmodel.specs.View.{ModelCall}
-use Rattle.lagmodel.specs.Move.{Act, LawfulMoves}
-use Rattle.lagsystem.specs.ModelView.{model_setup, model_view}
-use Rattle.lagsystem.specs.Promises.{TablePromise}
-use Rattle.lagsystem.specs.Sound.{IsSound, OnlyOnDistributing}
-use Rattle.lagsystem.specs.State.{SystemState, with_table}
+use Rattle.lagsystem.proofs.Common.{List, ap, subst, sym, ◌∙◌, ◌≡◌, Act, LawfulMoves, ModelCall, model_setup, model_view, TablePromise, IsSound}
+use Rattle.lagsystem.proofs.Common.{OnlyOnDistributing, SystemState, with_table}
 use Rattle.lagsystem.proofs.Sound.{agrees}
 
 pub table_sound : (old new : SystemState) → new ≡ with_table old new.table → new.table.aggs ≡ old.table.aggs

@@ -1,13 +1,7 @@
 -- Step 2 of settling keeps what each value of Selected keeps that a port gets.
-use Rattle.std.proofs.Common.{◌≡◌, ℕ, zero, suc, List, length, Option, Some, None, refl, sym, subst, slice_get, slice_set}
-use Rattle.lagtypes.specs.declared.identifiers.AggId.{AggId}
-use Rattle.lagtypes.specs.declared.party.Choice.{Choice}
-use Rattle.lagtypes.specs.declared.party.Choice.TheVariants.{Selected}
-use Rattle.selection.specs.Limits.{AggregatorsValue}
-use Rattle.lagsystem.specs.declared.system_ports.SystemPort.{SystemPort}
-use Rattle.lagsystem.specs.Readers.{aggregator_numbered}
-use Rattle.lagsystem.specs.Settling.{ChoosesIn, PromotesAll, PromotesFirst, PromotesNext, PromotesTimes, after_choice_at, after_choices}
-use Rattle.lagsystem.specs.Settling.{choice_for, with_choice}
+use Rattle.lagsystem.proofs.Common.{List, None, Option, Some, length, refl, slice_get, slice_set, subst, suc, sym, zero, ℕ, ◌≡◌, AggId, Choice}
+use Rattle.lagsystem.proofs.Common.{Selected, AggregatorsValue, SystemPort, aggregator_numbered, ChoosesIn, PromotesAll, PromotesFirst, PromotesNext}
+use Rattle.lagsystem.proofs.Common.{PromotesTimes, after_choice_at, after_choices, choice_for, with_choice}
 
 -- what each promotion keeps, all promotions keep
 times_keep : (aggs : AggregatorsValue) (agg : AggId) (P : List SystemPort → Type 0)

@@ -1,25 +1,12 @@
 -- The ticks until something happens are one fewer after a tick in which nothing is soon.
-use Rattle.std.proofs.Common.{◌≡◌, ◌∙◌, ℕ, zero, suc, ◌+◌, ◌-◌, ◌≤◌, ◌<◌, Bool, true, false, List, [], ◌∷◌, map, Option, Some, None}
-use Rattle.std.proofs.Common.{nat_lt, refl, sym, ap, subst, arith, inl, inr, ◌&&◌}
-use Rattle.std.proofs.Common.{if◌then◌else◌}
-use Rattle.std.specs.Prelude.{is_some, min}
-use Rattle.std.specs.List.{AllByRecursion}
-use Rattle.std.proofs.lemmas.Bool.{leb-true, lt-ltb}
-use Rattle.portmachines.specs.Machines.{Machines}
-use Rattle.portmachines.specs.Transmit.{aged}
-use Rattle.distributor.specs.declared.assignment.Assignment.{Assignment}
-use Rattle.distributor.specs.declared.assignment.Assignment.TheVariants.{Free, On, Wanted, Flushing}
-use Rattle.distributor.specs.Changes.{marker_due}
-use Rattle.distributor.specs.Conversations.{Table, assignment_of}
-use Rattle.distributor.specs.Waiting.{is_by, sooner, soonest_below, ticks_until_next_wanted, ticks_until_wanted}
-use Rattle.distributor.proofs.WaitLemmas.{by_first, by_second, same_soonest}
-use Rattle.lagsystem.specs.declared.system_ports.SystemPort.{SystemPort}
-use Rattle.lagsystem.specs.Hosts.{would_transmit}
-use Rattle.lagsystem.specs.Quiet.{counted, fewer, waited}
-use Rattle.lagsystem.specs.State.{SystemState}
-use Rattle.lagsystem.specs.Waiting.{soonest, ticks_in_window, ticks_until_due_on, ticks_until_expired, ticks_until_frame, ticks_until_room}
-use Rattle.lagsystem.proofs.QuietTicks.{Lasts, PortLasts, TableTicked, aged_on, frame_not, lasting, still_not_due}
-use Rattle.lagsystem.proofs.QuietTicks.{table_lasts, waits_on}
+use Rattle.lagsystem.proofs.Common.{Bool, List, None, Option, Some, [], ap, arith, false, if◌then◌else◌, inl, inr, is_some, map, min, nat_lt, refl}
+use Rattle.lagsystem.proofs.Common.{subst, suc, sym, true, zero, ℕ, ◌&&◌, ◌+◌, ◌-◌, ◌<◌, ◌∙◌, ◌∷◌, ◌≡◌, ◌≤◌, leb-true, lt-ltb, AllByRecursion}
+use Rattle.lagsystem.proofs.Common.{Machines, aged, Assignment, Flushing, Free, On, Wanted, marker_due, Table, assignment_of, is_by, sooner}
+use Rattle.lagsystem.proofs.Common.{ticks_until_next_wanted, ticks_until_wanted, by_first, by_second, same_soonest, SystemPort, would_transmit}
+use Rattle.lagsystem.proofs.Common.{counted, fewer, waited, SystemState, soonest, ticks_in_window, ticks_until_due_on, ticks_until_expired}
+use Rattle.lagsystem.proofs.Common.{ticks_until_frame, ticks_until_room}
+use Rattle.distributor.specs.Waiting.{soonest_below}
+use Rattle.lagsystem.proofs.QuietTicks.{Lasts, PortLasts, TableTicked, aged_on, frame_not, lasting, still_not_due, table_lasts, waits_on}
 
 -- numbers of ticks
 

@@ -1,40 +1,21 @@
 -- A run of ticks in which nothing is soon.
-use Rattle.std.proofs.Common.{◌≡◌, ◌∙◌, ℕ, zero, suc, ◌+◌, ◌-◌, ◌≤◌, ◌<◌, true, false, List, [], ◌∷◌, map, replicate, Option, Some, None}
-use Rattle.std.proofs.Common.{refl, sym, ap, subst, arith, slice_get, option_map}
-use Rattle.std.specs.Prelude.{is_some}
-use Rattle.std.specs.List.{AllByRecursion}
-use Rattle.std.proofs.lemmas.Bool.{false≢true}
-use Rattle.std.proofs.lemmas.Bool.Decides.{nat_tests}
-use Rattle.std.proofs.lemmas.Option.{none-some, same_Some}
-use Rattle.lagtypes.specs.declared.identifiers.Key.{Key}
-use Rattle.selection.specs.Limits.{AggregatorsValue}
-use Rattle.distributor.specs.Calls.{is_among}
-use Rattle.distributor.specs.Changes.{after_tick}
-use Rattle.distributor.specs.Conversations.{IsConversation, assignment_of}
-use Rattle.distributor.specs.Waiting.{is_by, sooner, ticks_until_next_wanted}
-use Rattle.distributor.specs.declared.assignment.Assignment.{Assignment}
-use Rattle.distributor.specs.declared.assignment.Assignment.TheVariants.{Free, On, Wanted, Flushing}
-use Rattle.distributor.proofs.WaitLemmas.{by_both, by_first, by_second}
+use Rattle.lagsystem.proofs.Common.{List, None, Option, Some, [], ap, arith, false, is_some, map, option_map, refl, replicate, slice_get, subst, suc}
+use Rattle.lagsystem.proofs.Common.{sym, true, zero, ℕ, ◌+◌, ◌-◌, ◌<◌, ◌∙◌, ◌∷◌, ◌≡◌, ◌≤◌, false≢true, nat_tests, none-some, same_Some}
+use Rattle.lagsystem.proofs.Common.{AllByRecursion, Key, AggregatorsValue, Assignment, Flushing, Free, On, Wanted, is_among, after_tick}
+use Rattle.lagsystem.proofs.Common.{IsConversation, assignment_of, is_by, sooner, ticks_until_next_wanted, by_both, by_first, by_second, SystemPort}
+use Rattle.lagsystem.proofs.Common.{Step, TableRun, Tick, Ticks, would_transmit, MuxIsSettled, MuxesAreSettled, PeriodicsAreSettled, NoneIsNext}
+use Rattle.lagsystem.proofs.Common.{IsBeyond, NothingIsDue, OnlyCounted, counted, counted_times, fewer, waited, aggregator_numbered, distributing}
+use Rattle.lagsystem.proofs.Common.{HoldsConversations, Settling, IsSound, SystemState, aggregators_value, port_index, system_port_at}
+use Rattle.lagsystem.proofs.Common.{with_system_ports, with_table, views, soonest, ticks_until_due, ticks_until_due_on, ticks_until_expired}
+use Rattle.lagsystem.proofs.Common.{ticks_until_frame, ticks_until_room}
 use Rattle.lagsystem.specs.declared.drive.Reply.TheVariants as reply
-use Rattle.lagsystem.specs.declared.system_ports.SystemPort.{SystemPort}
-use Rattle.lagsystem.specs.Calls.{Step, TableRun, Tick, Ticks}
-use Rattle.lagsystem.specs.Hosts.{would_transmit}
-use Rattle.lagsystem.specs.NothingToSettle.{MuxIsSettled, MuxesAreSettled, PeriodicsAreSettled}
-use Rattle.lagsystem.specs.Occupants.{NoneIsNext}
-use Rattle.lagsystem.specs.Quiet.{IsBeyond, NothingIsDue, OnlyCounted, counted, counted_times, fewer, waited}
-use Rattle.lagsystem.specs.Readers.{aggregator_numbered, distributing}
-use Rattle.lagsystem.specs.Settling.{HoldsConversations, Settling}
-use Rattle.lagsystem.specs.Sound.{IsSound}
-use Rattle.lagsystem.specs.State.{SystemState, aggregators_value, port_index, system_port_at, with_system_ports, with_table}
-use Rattle.lagsystem.specs.Views.{views}
-use Rattle.lagsystem.specs.Waiting.{soonest, ticks_until_due, ticks_until_due_on, ticks_until_expired, ticks_until_frame, ticks_until_room}
 use Rattle.lagsystem.proofs.Keeps.{keeps_settled, keeps_tick, settling_joined}
 use Rattle.lagsystem.proofs.OneSettling.{SameAfter, settlings_one}
 use Rattle.lagsystem.proofs.QuietLeft.{each_left, fewer_sooner, fewer_twice, none_fewer, table_left}
 use Rattle.lagsystem.proofs.Quieting.{paced_runs, still_settles}
-use Rattle.lagsystem.proofs.QuietTicks.{Lasts, PortLasts, Remains, TableTicked, carried_on, counted_distributing, counted_paced}
-use Rattle.lagsystem.proofs.QuietTicks.{counted_ports, counted_view, counted_views, each_lasts, each_remains, frame_not, on_before}
-use Rattle.lagsystem.proofs.QuietTicks.{same_marker, table_lasts, table_remains, waits_on}
+use Rattle.lagsystem.proofs.QuietTicks.{Lasts, PortLasts, Remains, TableTicked, carried_on, counted_distributing, counted_paced, counted_ports}
+use Rattle.lagsystem.proofs.QuietTicks.{counted_view, counted_views, each_lasts, each_remains, frame_not, on_before, same_marker, table_lasts}
+use Rattle.lagsystem.proofs.QuietTicks.{table_remains, waits_on}
 use Rattle.lagsystem.proofs.Rising.{all-get}
 use Rattle.lagsystem.proofs.Skipping.{alike_still, all_among}
 use Rattle.lagsystem.proofs.Sound.{Step-sound}

@@ -1,44 +1,17 @@
 -- A tick in which nothing is soon.
-use Rattle.std.proofs.Common.{◌≡◌, ◌∙◌, ℕ, zero, suc, ◌+◌, ◌-◌, ◌==◌, ◌≤◌, ◌<◌, Bool, true, false, cond, not, ◌&&◌, ◌||◌, List, [], ◌∷◌}
-use Rattle.std.proofs.Common.{map, filter, length, Option, Some, None, nat_lt, refl, sym, ap, subst, arith, inl, inr, ◌⊎◌}
-use Rattle.std.proofs.Common.{if◌then◌else◌}
-use Rattle.std.specs.Prelude.{ltb, is_some, ◌^◌}
-use Rattle.std.specs.Bool.{IsFalse}
-use Rattle.std.specs.List.{AllByRecursion}
-use Rattle.std.proofs.lemmas.Bool.{cases_Bool, cond-true, cond-false, false≢true, lt-ltb, le-leb, leb-true, ltb-true}
-use Rattle.std.proofs.lemmas.Bool.Decides.{nat_tests}
-use Rattle.lagtypes.specs.declared.identifiers.AggId.{AggId}
-use Rattle.portmachines.specs.declared.mux.MuxState.{MuxState}
-use Rattle.portmachines.specs.declared.mux.MuxState.TheVariants.{Detached, Waiting, Attached, CollectingDistributing}
-use Rattle.portmachines.specs.declared.periodic.PeriodicState.TheVariants.{NoPeriodic, Fast, Slow, PeriodicTx}
-use Rattle.portmachines.specs.declared.receive.ReceiveState.TheVariants.{Expired, Current}
-use Rattle.portmachines.specs.Calls.{Tick as PortTick}
-use Rattle.portmachines.specs.Machines.{Machines}
-use Rattle.portmachines.specs.Mux.{set_ntt}
-use Rattle.portmachines.specs.Periodic.{is_silent, partner_short, periodic_row, same_periodic_state, start_periodic}
-use Rattle.portmachines.specs.Receive.{receive_rows, same_receive_state}
-use Rattle.portmachines.specs.Rows.{AtRest, Row, RunsToRest, in_order}
-use Rattle.portmachines.specs.Transmit.{aged, count_down}
-use Rattle.portmachines.proofs.Choices.{one_effect}
-use Rattle.distributor.specs.declared.assignment.Assignment.{Assignment}
-use Rattle.distributor.specs.declared.assignment.Assignment.TheVariants.{Free, On, Wanted, Flushing}
-use Rattle.distributor.specs.Calls.{is_among}
-use Rattle.distributor.specs.Changes.{after_tick, marker_due, wants_marker}
-use Rattle.distributor.specs.Conversations.{Table, assignment_of, count_conversations, sum_below}
-use Rattle.distributor.specs.Waiting.{is_by, soonest_below, ticks_until_next_wanted, ticks_until_wanted}
-use Rattle.distributor.proofs.WaitLemmas.{by_both, by_first, by_second, soonest_all}
-use Rattle.distributor.proofs.WalkLemmas.{same_sum}
+use Rattle.lagsystem.proofs.Common.{Bool, List, None, Option, Some, [], ap, arith, cond, false, filter, if◌then◌else◌, inl, inr, is_some, length, ltb}
+use Rattle.lagsystem.proofs.Common.{map, nat_lt, not, refl, subst, suc, sym, true, zero, ℕ, ◌&&◌, ◌+◌, ◌-◌, ◌<◌, ◌==◌, ◌^◌, ◌||◌, ◌∙◌, ◌∷◌, ◌≡◌, ◌≤◌}
+use Rattle.lagsystem.proofs.Common.{◌⊎◌, cases_Bool, cond-false, cond-true, false≢true, le-leb, leb-true, lt-ltb, ltb-true, nat_tests, IsFalse}
+use Rattle.lagsystem.proofs.Common.{AllByRecursion, AggId, MuxState, Attached, CollectingDistributing, Detached, Waiting, Fast, NoPeriodic}
+use Rattle.lagsystem.proofs.Common.{PeriodicTx, Slow, Current, Expired, PortTick, Machines, set_ntt, is_silent, partner_short, periodic_row}
+use Rattle.lagsystem.proofs.Common.{same_periodic_state, start_periodic, receive_rows, same_receive_state, AtRest, Row, RunsToRest, in_order, aged}
+use Rattle.lagsystem.proofs.Common.{count_down, one_effect, Assignment, Flushing, Free, On, Wanted, is_among, after_tick, marker_due, wants_marker}
+use Rattle.lagsystem.proofs.Common.{Table, assignment_of, count_conversations, sum_below, is_by, ticks_until_next_wanted, ticks_until_wanted, by_both}
+use Rattle.lagsystem.proofs.Common.{by_first, by_second, soonest_all, same_sum, SystemPort, would_transmit, none_enabled, PeriodicIsSettled, counted}
+use Rattle.lagsystem.proofs.Common.{waited, distributes_in, distributing, PortsChangeBy, held_unless_on, SystemState, selection_view, stage_of, views}
+use Rattle.lagsystem.proofs.Common.{soonest, ticks_in_window, ticks_until_due_on, ticks_until_expired, ticks_until_frame, ticks_until_room}
+use Rattle.distributor.specs.Waiting.{soonest_below}
 use Rattle.selection.specs.declared.view.Stage.{Stage}
-use Rattle.lagsystem.specs.declared.system_ports.SystemPort.{SystemPort}
-use Rattle.lagsystem.specs.Hosts.{would_transmit}
-use Rattle.lagsystem.specs.ModelView.{none_enabled}
-use Rattle.lagsystem.specs.NothingToSettle.{PeriodicIsSettled}
-use Rattle.lagsystem.specs.Quiet.{counted, waited}
-use Rattle.lagsystem.specs.Readers.{distributes_in, distributing}
-use Rattle.lagsystem.specs.Settling.{PortsChangeBy, held_unless_on}
-use Rattle.lagsystem.specs.State.{SystemState}
-use Rattle.lagsystem.specs.Views.{selection_view, stage_of, views}
-use Rattle.lagsystem.specs.Waiting.{soonest, ticks_in_window, ticks_until_due_on, ticks_until_expired, ticks_until_frame, ticks_until_room}
 
 -- ---- numbers of ticks
 

@@ -1,31 +1,13 @@
 -- Right after a settling, another one has nothing to do; and if there is nothing to do, a settling changes nothing.
-use Rattle.std.proofs.Common.{◌≡◌, ◌∙◌, ℕ, zero, suc, Bool, true, false, cond, not, ◌&&◌, ◌||◌, List, [], ◌∷◌, length, Option, Some}
-use Rattle.std.proofs.Common.{None, refl, sym, ap, subst, inl, inr, slice_get, slice_set, option_map}
-use Rattle.std.specs.List.{AllByRecursion, AllZip, list_all}
-use Rattle.lagtypes.specs.declared.identifiers.AggId.{AggId}
-use Rattle.lagtypes.specs.declared.identifiers.Key.{Key}
-use Rattle.lagtypes.specs.declared.party.Choice.{Choice}
-use Rattle.lagtypes.specs.declared.party.Choice.TheVariants.{Unselected, Selected, Standby}
-use Rattle.lagtypes.specs.Choices.{is_selected, is_unselected}
-use Rattle.portmachines.specs.Machines.{Machines}
-use Rattle.portmachines.specs.Mux.{same_mux_state, mux_rows}
-use Rattle.portmachines.specs.declared.mux.MuxState.TheVariants.{Waiting}
-use Rattle.portmachines.specs.Periodic.{RunsPeriodic, clear_ntt, same_periodic_state, periodic_rows}
-use Rattle.portmachines.specs.declared.periodic.PeriodicState.TheVariants.{NoPeriodic}
-use Rattle.portmachines.specs.Rows.{AtRest, Fires, FiresTimes, Row, RunsToRest}
-use Rattle.portmachines.proofs.Runs.{Reaches-keeps}
-use Rattle.selection.specs.declared.view.PortView.{PortView}
-use Rattle.selection.specs.Limits.{AggregatorsValue, has_room}
-use Rattle.std.proofs.lemmas.Bool.{false≢true}
-use Rattle.selection.specs.Views.{is_eligible, occupies}
-use Rattle.selection.specs.Choice.{chosen_if_eligible, occupants, has_group_of, has_occupant}
-use Rattle.lagsystem.specs.declared.system_ports.SystemPort.{SystemPort}
-use Rattle.lagsystem.specs.NothingToSettle.{PeriodicsAreSettled, MuxesAreSettled, PeriodicIsSettled, MuxIsSettled}
-use Rattle.lagsystem.specs.Settling.{PortsChangeBy, PortChangesBy, PromotesFirst, Settling, SettlesPorts, after_choice_at, after_choices}
-use Rattle.lagsystem.specs.Settling.{ready_of, aggregator_for, choice_for, choice_if, choice_in, with_choice}
-use Rattle.lagsystem.specs.Occupants.{NoneIsNext}
-use Rattle.lagsystem.specs.State.{SystemState, aggregators_value, port_numbers, with_system_ports}
-use Rattle.lagsystem.specs.Views.{selection_view, views}
+use Rattle.lagsystem.proofs.Common.{Bool, List, None, Option, Some, [], ap, cond, false, inl, inr, length, not, option_map, refl, slice_get}
+use Rattle.lagsystem.proofs.Common.{slice_set, subst, suc, sym, true, zero, ℕ, ◌&&◌, ◌||◌, ◌∙◌, ◌∷◌, ◌≡◌, false≢true, AllByRecursion, AllZip}
+use Rattle.lagsystem.proofs.Common.{list_all, AggId, Key, Choice, Selected, Standby, Unselected, is_selected, is_unselected, Waiting, NoPeriodic}
+use Rattle.lagsystem.proofs.Common.{Machines, mux_rows, same_mux_state, RunsPeriodic, clear_ntt, periodic_rows, same_periodic_state, AtRest, Fires}
+use Rattle.lagsystem.proofs.Common.{FiresTimes, Row, RunsToRest, Reaches-keeps, PortView, chosen_if_eligible, has_group_of, has_occupant, occupants}
+use Rattle.lagsystem.proofs.Common.{AggregatorsValue, has_room, is_eligible, occupies, SystemPort, MuxIsSettled, MuxesAreSettled, PeriodicIsSettled}
+use Rattle.lagsystem.proofs.Common.{PeriodicsAreSettled, NoneIsNext, PortChangesBy, PortsChangeBy, PromotesFirst, SettlesPorts, Settling}
+use Rattle.lagsystem.proofs.Common.{after_choice_at, after_choices, aggregator_for, choice_for, choice_if, choice_in, ready_of, with_choice}
+use Rattle.lagsystem.proofs.Common.{SystemState, aggregators_value, port_numbers, with_system_ports, selection_view, views}
 use Rattle.lagsystem.proofs.Keeps.{chosen_numbers, promoted_numbers, settling_keeps, settling_parts, zip_numbers}
 use Rattle.lagsystem.proofs.Limiting.{nothing_promoted, settled_none}
 use Rattle.lagsystem.proofs.PromotionLemmas.{choices_keep, promotions_keep}

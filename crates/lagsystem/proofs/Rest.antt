@@ -1,45 +1,17 @@
 -- What holds of each port after every call: its machines are at rest.
-use Rattle.std.proofs.Common.{◌≡◌, ℕ, Bool, true, false, Option, Some, None, Result, Ok, Err, List, [], ◌∷◌, refl}
-use Rattle.std.proofs.Common.{sym, ◌∙◌, subst, ap, inl, inr}
-use Rattle.std.specs.Prelude.{◌&&◌, ◌||◌, ◌==◌, not, if◌then◌else◌, slice_get, slice_set}
-use Rattle.std.specs.List.{AllZip, AllByRecursion}
-use Rattle.std.proofs.lemmas.Bool.{and_parts, not-true, true≢false}
-use Rattle.lagtypes.specs.declared.identifiers.AggId.{AggId}
-use Rattle.lagtypes.specs.declared.party.Choice.{Choice}
-use Rattle.lagtypes.specs.declared.party.Choice.TheVariants.{Unselected, Selected, Standby}
-use Rattle.slowpdu.specs.declared.pdu.Lacpdu.{Lacpdu}
-use Rattle.slowpdu.specs.declared.pdu.Marker.{Marker}
-use Rattle.distributor.specs.declared.assignment.Assignment.{Assignment}
-use Rattle.portmachines.specs.declared.mux.MuxState.{MuxState}
-use Rattle.portmachines.specs.declared.mux.MuxState.TheVariants.{Detached, Waiting, Attached, CollectingDistributing}
-use Rattle.portmachines.specs.declared.receive.ReceiveState.{ReceiveState}
-use Rattle.portmachines.specs.declared.receive.ReceiveState.TheVariants.{Initialize, PortDisabled, Expired, Defaulted, Current}
-use Rattle.portmachines.specs.Machines.{Machines}
-use Rattle.lagtypes.specs.Choices.{is_selected}
-use Rattle.portmachines.specs.Mux.{same_mux_state, mux_rows, partner_synchronized}
-use Rattle.portmachines.specs.Periodic.{periodic_rows, RunsPeriodic}
-use Rattle.portmachines.specs.Receive.{same_receive_state, receive_rows, start_receive}
-use Rattle.portmachines.specs.Rows.{Row, AtRest, RunsToRest}
-use Rattle.portmachines.specs.Start.{Starts, before_start}
-use Rattle.portmachines.specs.Transmit.{count_down, after_sending}
-use Rattle.lagsystem.specs.declared.received.Received.{Received}
-use Rattle.lagsystem.specs.declared.drive.Reply.{Reply}
-use Rattle.lagsystem.specs.declared.fault.SystemFault.{SystemFault}
-use Rattle.lagsystem.specs.declared.system_ports.SystemPort.{SystemPort}
-use Rattle.lagsystem.specs.Views.{views}
-use Rattle.lagsystem.specs.State.{SystemState, aggregators_value, with_system_ports, port_index}
-use Rattle.lagsystem.specs.First.{IsFirst, HasJustStarted, setup_of}
-use Rattle.lagsystem.specs.Settling.{Settling, with_choice, ready_of}
+use Rattle.lagsystem.proofs.Common.{Bool, Err, List, None, Ok, Option, Result, Some, [], ap, false, if◌then◌else◌, inl, inr, not, refl, slice_get}
+use Rattle.lagsystem.proofs.Common.{slice_set, subst, sym, true, ℕ, ◌&&◌, ◌==◌, ◌||◌, ◌∙◌, ◌∷◌, ◌≡◌, and_parts, not-true, true≢false, AllByRecursion}
+use Rattle.lagsystem.proofs.Common.{AllZip, AggId, Choice, Selected, Standby, Unselected, is_selected, Lacpdu, Marker, MuxState, Attached}
+use Rattle.lagsystem.proofs.Common.{CollectingDistributing, Detached, Waiting, ReceiveState, Current, Defaulted, Expired, Initialize, PortDisabled}
+use Rattle.lagsystem.proofs.Common.{Machines, mux_rows, partner_synchronized, same_mux_state, RunsPeriodic, periodic_rows, receive_rows}
+use Rattle.lagsystem.proofs.Common.{same_receive_state, start_receive, AtRest, Row, RunsToRest, Starts, before_start, after_sending, count_down}
+use Rattle.lagsystem.proofs.Common.{Reaches-keeps, Assignment, Reply, SystemFault, Received, SystemPort, Call, ChangesParty, OnlyPortChangesBy}
+use Rattle.lagsystem.proofs.Common.{PortAtChangesBy, ProcessesLacpdu, Releases, SetsLink, SetsPortEnabled, Step, ThenSettles, Ticks, changed_party}
+use Rattle.lagsystem.proofs.Common.{choice_with_link, HasJustStarted, IsFirst, setup_of, MuxesConsistent, PortsConsistent, ReceivesAtRest}
+use Rattle.lagsystem.proofs.Common.{can_receive, can_receive_in, mux_consistent, mux_consistent_of, none_enabled, GivesOrRefuses, Offers}
+use Rattle.lagsystem.proofs.Common.{SendsMarkerOf, Settling, ready_of, with_choice, SystemState, aggregators_value, port_index, with_system_ports}
+use Rattle.lagsystem.proofs.Common.{views}
 use Rattle.lagsystem.proofs.PromotionLemmas.{KeptByChoices, choosing_keeps}
-use Rattle.lagsystem.specs.Offers.{GivesOrRefuses, Offers}
-use Rattle.lagsystem.specs.Sending.{SendsMarkerOf}
-use Rattle.lagsystem.specs.Calls.{Call, Ticks}
-use Rattle.lagsystem.specs.Calls.{SetsPortEnabled, choice_with_link, ChangesParty, SetsLink, PortAtChangesBy, OnlyPortChangesBy, Releases}
-use Rattle.lagsystem.specs.Calls.{ThenSettles, ProcessesLacpdu, changed_party, Step}
-use Rattle.lagsystem.specs.ModelView.{can_receive_in, can_receive, mux_consistent_of, mux_consistent, none_enabled, ReceivesAtRest}
-use Rattle.lagsystem.specs.ModelView.{MuxesConsistent}
-use Rattle.lagsystem.specs.ModelView.{PortsConsistent}
-use Rattle.portmachines.proofs.Runs.{Reaches-keeps}
 use Rattle.lagsystem.proofs.Preserves.{Step-preserves_ports}
 use Rattle.lagsystem.proofs.Rising.{all-set, all-get}
 

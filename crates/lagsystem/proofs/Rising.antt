@@ -1,26 +1,11 @@
 -- Ports in ascending order of their numbers.
-use Rattle.std.proofs.Common.{◌≡◌, ℕ, zero, suc, ◌+◌, ◌<◌, ◌==◌, Bool, true, false, cond, eqb, List, [], ◌∷◌, Option, Some, None, refl}
-use Rattle.std.proofs.Common.{sym, ◌∙◌, subst, ap, arith, inl, inr}
-use Rattle.std.specs.Prelude.{find, if◌then◌else◌, nat_lt, option_map, slice_get, slice_set}
-use Rattle.std.specs.List.{AllByRecursion}
-use Rattle.std.proofs.lemmas.Bool.{eqb-true}
-use Rattle.std.proofs.lemmas.Bool.Decides.{Decides-eqb, nat_tests}
-use Rattle.std.proofs.lemmas.List.Quantifiers.{position-Some}
-use Rattle.std.proofs.lemmas.Option.{get_or_from_slice_get, none-some, same_Some}
-use Rattle.lagmodel.specs.Bridge.{AreNumbered, find_number}
-use Rattle.lagmodel.proofs.Base.{chosen as whichever, cond_false}
-use Rattle.distributor.specs.Conversations.{is_conversation_count}
-use Rattle.lagsystem.specs.declared.config.PortConfig.{PortConfig}
-use Rattle.lagsystem.specs.declared.fault.BadConfig.{BadConfig}
+use Rattle.lagsystem.proofs.Common.{Bool, List, None, Option, Some, [], ap, arith, cond, eqb, eqb-true, false, find, if◌then◌else◌, inl, inr, nat_lt}
+use Rattle.lagsystem.proofs.Common.{option_map, refl, slice_get, slice_set, subst, suc, sym, true, zero, ℕ, ◌+◌, ◌<◌, ◌==◌, ◌∙◌, ◌∷◌, ◌≡◌}
+use Rattle.lagsystem.proofs.Common.{Decides-eqb, nat_tests, position-Some, get_or_from_slice_get, none-some, same_Some, AllByRecursion, Key}
+use Rattle.lagsystem.proofs.Common.{AreNumbered, find_number, cond_false, whichever, PortView, is_conversation_count, PortConfig, BadConfig}
+use Rattle.lagsystem.proofs.Common.{SystemPort, configured_numbers, first_bad_port_number, or_first, refusal, refusal_of_limits, number_of_port}
+use Rattle.lagsystem.proofs.Common.{HasPorts, SystemState, port_index, port_numbers, selection_view, views}
 use Rattle.lagsystem.specs.declared.fault.BadConfig.TheVariants.{PortNumber, Conversations}
-use Rattle.lagsystem.specs.declared.system_ports.SystemPort.{SystemPort}
-use Rattle.lagsystem.specs.First.{first_bad_port_number, configured_numbers, or_first, refusal, refusal_of_limits}
-use Rattle.lagsystem.specs.ModelView.{number_of_port}
-use Rattle.lagsystem.specs.Sound.{HasPorts}
-use Rattle.lagsystem.specs.State.{SystemState, port_numbers, port_index}
-use Rattle.lagsystem.specs.Views.{selection_view, views}
-use Rattle.lagtypes.specs.declared.identifiers.Key.{Key}
-use Rattle.selection.specs.declared.view.PortView.{PortView}
 
 -- each number is above the one before it
 abbrev pub Rises : ℕ → List ℕ → Type 0

@@ -1,21 +1,8 @@
 -- How rows change the model's view of a port.
-use Rattle.std.proofs.Common.{◌≡◌, ℕ, Bool, true, false, ◌&&◌, Option, List, [], ◌∷◌, sym, refl, ap, subst}
-use Rattle.std.proofs.Common.{IsSome}
-use Rattle.std.proofs.lemmas.Bool.{false≢true}
-use Rattle.std.proofs.lemmas.List.{append-nil}
-use Rattle.lagtypes.specs.declared.party.Party.{Party}
-use Rattle.lagtypes.specs.declared.party.Choice.{Choice}
-use Rattle.lagtypes.specs.declared.party.Choice.TheVariants.{Unselected, Selected, Standby}
-use Rattle.portmachines.specs.declared.mux.MuxState.TheVariants.{CollectingDistributing}
-use Rattle.portmachines.specs.Machines.{Machines}
-use Rattle.portmachines.specs.Rows.{Row, RunsToRest}
-use Rattle.lagtypes.specs.Choices.{is_selected}
-use Rattle.portmachines.specs.Mux.{mux_rows, same_mux_state, partner_synchronized}
-use Rattle.portmachines.specs.Periodic.{periodic_rows, RunsPeriodic}
-use Rattle.lagmodel.specs.View.{PortFacts, SystemSetup, ModelCall}
-use Rattle.lagmodel.specs.Move.{Act, PortMove}
-use Rattle.lagsystem.specs.ModelView.{model_port, selected_number}
-use Rattle.portmachines.proofs.Runs.{EachRelates, Rests-relates}
+use Rattle.lagsystem.proofs.Common.{Bool, IsSome, List, Option, [], ap, append-nil, false, refl, subst, sym, true, ℕ, ◌&&◌, ◌∷◌, ◌≡◌, false≢true}
+use Rattle.lagsystem.proofs.Common.{Choice, Selected, Standby, Unselected, Party, is_selected, Act, PortMove, ModelCall, PortFacts, SystemSetup}
+use Rattle.lagsystem.proofs.Common.{CollectingDistributing, Machines, mux_rows, partner_synchronized, same_mux_state, RunsPeriodic, periodic_rows}
+use Rattle.lagsystem.proofs.Common.{Row, RunsToRest, EachRelates, Rests-relates, model_port, selected_number}
 use Rattle.lagsystem.proofs.OfPort.{PortMoves, port_joined, port_stays}
 
 -- the view of a port that was stopped: rows are looked at between a stop and a new beginning

@@ -1,19 +1,9 @@
 -- What readers return for a port is what the model sees of it.
-use Rattle.std.proofs.Common.{◌≡◌, ◌∙◌, ℕ, suc, ◌+◌, ◌==◌, eqb, Bool, true, false, cond, Option, Some, None, List, [], ◌∷◌, refl, sym}
-use Rattle.std.proofs.Common.{ap, inl, inr, eqb-true, eq-eqb, arith}
-use Rattle.std.specs.Prelude.{not, length, nat_lt, slice_get, option_map}
-use Rattle.std.specs.List.{position_or_len}
-use Rattle.std.proofs.lemmas.Bool.Decides.{nat_tests}
-use Rattle.std.proofs.lemmas.Bool.{cases_Bool, true≢false}
-use Rattle.std.proofs.lemmas.Option.{slice_get_past}
-use Rattle.portmachines.specs.Machines.{Machines}
-use Rattle.lagmodel.specs.View.{PortFacts}
+use Rattle.lagsystem.proofs.Common.{Bool, List, None, Option, Some, [], ap, arith, cond, eq-eqb, eqb, eqb-true, false, inl, inr, length, nat_lt, not}
+use Rattle.lagsystem.proofs.Common.{option_map, refl, slice_get, suc, sym, true, ℕ, ◌+◌, ◌==◌, ◌∙◌, ◌∷◌, ◌≡◌, cases_Bool, true≢false, nat_tests}
+use Rattle.lagsystem.proofs.Common.{slice_get_past, position_or_len, find_number, PortFacts, cond_false, cond_true, Machines, SystemPort, model_port}
+use Rattle.lagsystem.proofs.Common.{model_view, number_of_port, SystemState, machines_of, port_index, system_port_at}
 use Rattle.lagmodel.specs.World.{party_at}
-use Rattle.lagmodel.specs.Bridge.{find_number}
-use Rattle.lagmodel.proofs.Base.{cond_true, cond_false}
-use Rattle.lagsystem.specs.declared.system_ports.SystemPort.{SystemPort}
-use Rattle.lagsystem.specs.State.{SystemState, port_index, system_port_at, machines_of}
-use Rattle.lagsystem.specs.ModelView.{number_of_port, model_port, model_view}
 
 eqb_turned : (m n : ℕ) → eqb m n ≡ eqb n m
 eqb_turned m n = elim (cases_Bool (eqb m n)) [

@@ -1,17 +1,9 @@
 -- What a system sends on a port.
-use Rattle.std.proofs.Common.{◌≡◌, ◌∙◌, ℕ, true, false, Bool, List, Option, Some, None, if◌then◌else◌, ap, refl, subst, sym, slice_get}
-use Rattle.std.proofs.Common.{slice_set, length, get_or, ◌<◌}
-use Rattle.std.proofs.lemmas.Bool.{cond-true}
-use Rattle.std.proofs.lemmas.Option.{cond_some, same_Some, slice_get-get_or}
-use Rattle.slowpdu.specs.declared.pdu.Lacpdu.{Lacpdu}
-use Rattle.slowpdu.specs.Frames.{frame_octets}
+use Rattle.lagsystem.proofs.Common.{Bool, List, None, Option, Some, ap, false, get_or, if◌then◌else◌, length, refl, slice_get, slice_set, subst, sym}
+use Rattle.lagsystem.proofs.Common.{true, ℕ, ◌<◌, ◌∙◌, ◌≡◌, cond-true, cond_some, same_Some, slice_get-get_or, Lacpdu, frame_octets, IsAddress}
+use Rattle.lagsystem.proofs.Common.{Machines, after_sending, is_due, pdu_of, SystemPort, PortSendsLacpduIfDue, SendsLacpdu, SendsLacpduIfDue}
+use Rattle.lagsystem.proofs.Common.{SendsMarker, TransmitsAt, TransmitsIf, SystemState, port_index, with_system_ports}
 use Rattle.slowpdu.specs.Lacpdus.{Writes}
-use Rattle.slowpdu.specs.Layout.{IsAddress}
-use Rattle.portmachines.specs.Machines.{Machines}
-use Rattle.portmachines.specs.Transmit.{is_due, pdu_of, after_sending}
-use Rattle.lagsystem.specs.declared.system_ports.SystemPort.{SystemPort}
-use Rattle.lagsystem.specs.State.{SystemState, port_index, with_system_ports}
-use Rattle.lagsystem.specs.Sending.{SendsLacpduIfDue, TransmitsAt, SendsLacpdu, SendsMarker, TransmitsIf, PortSendsLacpduIfDue}
 use Rattle.lagsystem.proofs.Rising.{found_place}
 use Rattle.lagsystem.proofs.SettlingLemmas.{set_same}
 

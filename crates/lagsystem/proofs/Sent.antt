@@ -1,12 +1,7 @@
 -- What is sent is a control frame of 124 octets.
-use Rattle.std.proofs.Common.{◌≡◌, ◌∙◌, ℕ, ◌++◌, List, length, drop, arith, ap, subst, sym, length-append}
-use Rattle.slowpdu.specs.declared.pdu.Pdu.{Pdu}
+use Rattle.lagsystem.proofs.Common.{List, ap, arith, drop, length, length-append, subst, sym, ℕ, ◌++◌, ◌∙◌, ◌≡◌, Pdu, IsSlowProtocolsFrame}
+use Rattle.lagsystem.proofs.Common.{frame_octets, slow_type, WritesPdu, framed_payload, framed_slow, IsControlFrame, IsSent}
 use Rattle.slowpdu.specs.declared.pdu.Pdu.TheVariants as pdu
-use Rattle.slowpdu.specs.Frames.{IsSlowProtocolsFrame, frame_octets, slow_type}
-use Rattle.slowpdu.specs.Pdus.{WritesPdu}
-use Rattle.slowpdu.proofs.WritingLemmas.{framed_payload, framed_slow}
-use Rattle.lagsystem.specs.Calls.{IsControlFrame}
-use Rattle.lagsystem.specs.ModelView.{IsSent}
 
 whole_payload : (written : List ℕ) (payload : Pdu) → WritesPdu written payload → length written ≡ 110
 whole_payload written (pdu.Lacpdu v) h = h.table.whole

@@ -1,21 +1,9 @@
 -- The calls that settle: their own effect, from what its parts do, and the ports that distributed before it.
-use Rattle.std.proofs.Common.{◌≡◌, ◌∙◌, ℕ, Bool, true, false, cond, ◌+◌, eqb, List, Option, None, sym, ap, subst}
-use Rattle.std.specs.Prelude.{ltb}
-use Rattle.lagtypes.specs.declared.identifiers.AggId.{AggId}
-use Rattle.portmachines.specs.Machines.{Machines}
-use Rattle.portmachines.specs.Receive.{receive_rows}
-use Rattle.portmachines.specs.Rows.{RunsToRest}
-use Rattle.portmachines.specs.Transmit.{count_down}
-use Rattle.distributor.specs.declared.assignment.Assignment.{Assignment}
-use Rattle.distributor.specs.declared.assignment.Assignment.TheVariants.{Free, On, Wanted, Flushing}
-use Rattle.distributor.specs.Changes.{ChangesAssignments, after_down, after_tick}
-use Rattle.distributor.specs.Conversations.{Table, assignment_of}
-use Rattle.lagsystem.specs.declared.system_ports.SystemPort.{SystemPort}
-use Rattle.lagsystem.specs.Calls.{Ticks, SetsPortEnabled, FreesIfDown, SetsLink, PortAtChangesBy, OnlyPortChangesBy}
-use Rattle.lagsystem.specs.Holding.{WereInUse, aggregators_in_use}
-use Rattle.lagsystem.specs.Settling.{PortsChangeBy}
-use Rattle.lagsystem.specs.Sound.{IsSound}
-use Rattle.lagsystem.specs.State.{SystemState, port_index, with_system_ports, with_table}
+use Rattle.lagsystem.proofs.Common.{Bool, List, None, Option, ap, cond, eqb, false, ltb, subst, sym, true, ℕ, ◌+◌, ◌∙◌, ◌≡◌, AggId, Machines}
+use Rattle.lagsystem.proofs.Common.{receive_rows, RunsToRest, count_down, Assignment, Flushing, Free, On, Wanted, ChangesAssignments, after_down}
+use Rattle.lagsystem.proofs.Common.{after_tick, Table, assignment_of, SystemPort, FreesIfDown, OnlyPortChangesBy, PortAtChangesBy, SetsLink}
+use Rattle.lagsystem.proofs.Common.{SetsPortEnabled, Ticks, WereInUse, aggregators_in_use, PortsChangeBy, IsSound, SystemState, port_index}
+use Rattle.lagsystem.proofs.Common.{with_system_ports, with_table}
 use Rattle.lagsystem.proofs.Keeps.{Keeps, keeps_link, keeps_place, keeps_tick}
 
 -- a state of these fields, with other ports and conversations

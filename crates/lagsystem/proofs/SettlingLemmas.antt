@@ -1,27 +1,11 @@
 -- What settling does, from what its loops do.
-use Rattle.std.proofs.Common.{◌≡◌, ℕ, Bool, true, false, ◌||◌, ◌&&◌, cond, List, [], ◌∷◌, Option, Some, None, refl, sym, ◌∙◌}
-use Rattle.std.proofs.Common.{subst, ap, not, if◌then◌else◌, filter, slice_get, slice_set, ℕ, zero, suc, option_map}
-use Rattle.std.proofs.lemmas.Option.{same_Some}
-use Rattle.std.specs.List.{list_all, list_any}
-use Rattle.std.proofs.lemmas.Bool.{or_parts}
-use Rattle.lagtypes.specs.Choices.{is_selected}
-use Rattle.lagtypes.specs.declared.identifiers.AggId.{AggId}
-use Rattle.lagtypes.specs.declared.identifiers.Key.{Key}
-use Rattle.lagtypes.specs.declared.party.Choice.{Choice}
-use Rattle.lagtypes.specs.declared.party.Choice.TheVariants.{Unselected, Selected, Standby}
-use Rattle.portmachines.specs.Rows.{RunsToRest}
-use Rattle.portmachines.specs.Mux.{mux_rows}
-use Rattle.portmachines.specs.Periodic.{RunsPeriodic}
-use Rattle.selection.specs.declared.view.PortView.{PortView}
-use Rattle.selection.specs.Views.{has_waited, is_eligible, has_chosen, is_detached_or_waiting}
-use Rattle.selection.specs.Choice.{chosen_aggregator, ports_that_chose, is_aggregator}
-use Rattle.selection.specs.Ready.{members}
-use Rattle.selection.specs.Limits.{AggregatorsValue}
-use Rattle.lagsystem.specs.declared.system_ports.SystemPort.{SystemPort}
-use Rattle.lagsystem.specs.Views.{selection_view, views}
-use Rattle.lagsystem.specs.State.{SystemState, aggregators_value, with_system_ports}
-use Rattle.lagsystem.specs.Settling.{PortsChangeBy, PortChangesBy, SettlesPorts, after_choice_at, with_choice, ready_of}
-use Rattle.lagsystem.specs.Settling.{ChoosesIn, aggregator_for, choice_for, choice_in, is_restless}
+use Rattle.lagsystem.proofs.Common.{Bool, List, None, Option, Some, [], ap, cond, false, filter, if◌then◌else◌, not, option_map, refl, slice_get}
+use Rattle.lagsystem.proofs.Common.{slice_set, subst, suc, sym, true, zero, ℕ, ◌&&◌, ◌||◌, ◌∙◌, ◌∷◌, ◌≡◌, or_parts, same_Some, list_all, list_any}
+use Rattle.lagsystem.proofs.Common.{AggId, Key, Choice, Selected, Standby, Unselected, is_selected, mux_rows, RunsPeriodic, RunsToRest, PortView}
+use Rattle.lagsystem.proofs.Common.{chosen_aggregator, is_aggregator, ports_that_chose, AggregatorsValue, members, has_chosen, has_waited}
+use Rattle.lagsystem.proofs.Common.{is_detached_or_waiting, is_eligible, SystemPort, ChoosesIn, PortChangesBy, PortsChangeBy, SettlesPorts}
+use Rattle.lagsystem.proofs.Common.{after_choice_at, aggregator_for, choice_for, choice_in, is_restless, ready_of, with_choice, SystemState}
+use Rattle.lagsystem.proofs.Common.{aggregators_value, with_system_ports, selection_view, views}
 use Rattle.lagsystem.proofs.Lists.{AllZip-weaker}
 
 abbrev one_expired : List PortView → Bool

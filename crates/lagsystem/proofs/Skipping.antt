@@ -1,38 +1,13 @@
 -- An LACPDU after which the port looks the same to the Selection Logic: a settling goes on with this port alone.
-use Rattle.std.proofs.Common.{◌≡◌, ◌∙◌, ℕ, zero, suc, Bool, true, false, ◌||◌, List, [], ◌∷◌, Option, Some, None}
-use Rattle.std.proofs.Common.{refl, sym, ap, subst, inl, inr, slice_get, slice_set, if◌then◌else◌}
-use Rattle.std.specs.Bool.{OnTrue}
-use Rattle.std.specs.List.{AllByRecursion}
-use Rattle.std.proofs.lemmas.Option.{same_Some}
-use Rattle.lagtypes.specs.declared.identifiers.AggId.{AggId}
-use Rattle.lagtypes.specs.declared.identifiers.Key.{Key}
-use Rattle.lagtypes.specs.declared.party.Choice.TheVariants.{Unselected}
-use Rattle.slowpdu.specs.declared.pdu.Lacpdu.{Lacpdu}
-use Rattle.portmachines.specs.Machines.{Machines}
-use Rattle.portmachines.specs.Mux.{mux_rows}
-use Rattle.portmachines.specs.Periodic.{RunsPeriodic}
-use Rattle.portmachines.specs.Receive.{same_receive_state}
-use Rattle.portmachines.specs.declared.receive.ReceiveState.TheVariants.{Current, Defaulted}
-use Rattle.portmachines.specs.Rows.{AtRest, RunsToRest}
-use Rattle.portmachines.proofs.Choices.{one_mux}
-use Rattle.portmachines.proofs.Runs.{Reaches-keeps}
-use Rattle.distributor.specs.Changes.{ChangesAssignments}
-use Rattle.distributor.specs.Conversations.{Table}
-use Rattle.selection.specs.declared.view.PortView.{PortView}
+use Rattle.lagsystem.proofs.Common.{Bool, List, None, Option, Some, [], ap, false, if◌then◌else◌, inl, inr, refl, slice_get, slice_set, subst, suc}
+use Rattle.lagsystem.proofs.Common.{sym, true, zero, ℕ, ◌||◌, ◌∙◌, ◌∷◌, ◌≡◌, same_Some, OnTrue, AllByRecursion, AggId, Key, Unselected, Lacpdu}
+use Rattle.lagsystem.proofs.Common.{Current, Defaulted, Machines, mux_rows, RunsPeriodic, same_receive_state, AtRest, RunsToRest, one_mux}
+use Rattle.lagsystem.proofs.Common.{Reaches-keeps, PortView, chosen_aggregator, is_eligible, ChangesAssignments, Table, SystemPort, OnlyPortChangesBy}
+use Rattle.lagsystem.proofs.Common.{PortAtChangesBy, ProcessesLacpdu, ThenSettles, after_holding, aggregators_in_use, stopped, HasRecordedActor}
+use Rattle.lagsystem.proofs.Common.{IsSamePartner, LooksUnchanged, MuxIsSettled, MuxesAreSettled, PeriodicsAreSettled, ProcessesLacpduAt, NoneIsNext}
+use Rattle.lagsystem.proofs.Common.{collecting, PortChangesBy, PortsChangeBy, SettlesPorts, Settling, ready_of, IsSound, SystemState}
+use Rattle.lagsystem.proofs.Common.{aggregators_value, with_system_ports, selection_view, stage_of, views}
 use Rattle.selection.specs.declared.view.Stage.TheVariants as stage
-use Rattle.selection.specs.Views.{is_eligible}
-use Rattle.selection.specs.Choice.{chosen_aggregator}
-use Rattle.lagsystem.specs.declared.system_ports.SystemPort.{SystemPort}
-use Rattle.lagsystem.specs.Calls.{PortAtChangesBy, OnlyPortChangesBy, ThenSettles, ProcessesLacpdu}
-use Rattle.lagsystem.specs.Holding.{after_holding, aggregators_in_use, stopped}
-use Rattle.lagsystem.specs.NothingToSettle.{PeriodicsAreSettled, MuxesAreSettled, IsSamePartner, MuxIsSettled, HasRecordedActor}
-use Rattle.lagsystem.specs.NothingToSettle.{LooksUnchanged, ProcessesLacpduAt}
-use Rattle.lagsystem.specs.Occupants.{NoneIsNext}
-use Rattle.lagsystem.specs.Readers.{collecting}
-use Rattle.lagsystem.specs.Settling.{PortsChangeBy, PortChangesBy, Settling, SettlesPorts, ready_of}
-use Rattle.lagsystem.specs.Sound.{IsSound}
-use Rattle.lagsystem.specs.State.{SystemState, aggregators_value, with_system_ports}
-use Rattle.lagsystem.specs.Views.{stage_of, selection_view, views}
 use Rattle.lagsystem.proofs.Keeps.{ports_keep, ports_table, settling_joined}
 use Rattle.lagsystem.proofs.PlaceLemmas.{in_use_before}
 use Rattle.lagsystem.proofs.Quieting.{paced_runs, settles_from, still_mux}

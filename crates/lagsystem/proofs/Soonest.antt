@@ -1,23 +1,12 @@
 -- What is told is the first of what happens.
-use Rattle.std.proofs.Common.{◌≡◌, ◌∙◌, ◌⊎◌, ℕ, zero, suc, ◌+◌, ◌-◌, ◌≤◌, ◌<◌, ◌&&◌, Bool, true, false, List, [], ◌∷◌, map, Option, Some}
-use Rattle.std.proofs.Common.{None, nat_le, nat_lt, refl, sym, ap, subst, arith, inl, inr, slice_get}
-use Rattle.std.proofs.Common.{if◌then◌else◌}
-use Rattle.std.specs.Prelude.{min}
-use Rattle.std.proofs.lemmas.Bool.{and_parts, cases_Bool, false≢true, leb-true, lt-ltb, le-leb}
-use Rattle.std.proofs.lemmas.Bool.Decides.{nat_tests}
-use Rattle.std.proofs.lemmas.Option.{none-some, same_Some}
-use Rattle.portmachines.specs.Machines.{Machines}
-use Rattle.distributor.specs.declared.assignment.Assignment.{Assignment}
-use Rattle.distributor.specs.declared.assignment.Assignment.TheVariants.{Free, On, Wanted, Flushing}
-use Rattle.distributor.specs.Conversations.{Table, assignment_of}
-use Rattle.distributor.specs.Waiting.{is_by, sooner, soonest_below, ticks_until_next_wanted, ticks_until_wanted}
-use Rattle.distributor.proofs.WaitLemmas.{by_left, by_right, soonest_member}
-use Rattle.lagsystem.specs.declared.system_ports.SystemPort.{SystemPort}
-use Rattle.lagsystem.specs.Hosts.{would_transmit}
+use Rattle.lagsystem.proofs.Common.{Bool, List, None, Option, Some, [], ap, arith, false, if◌then◌else◌, inl, inr, map, min, nat_le, nat_lt, refl}
+use Rattle.lagsystem.proofs.Common.{slice_get, subst, suc, sym, true, zero, ℕ, ◌&&◌, ◌+◌, ◌-◌, ◌<◌, ◌∙◌, ◌∷◌, ◌≡◌, ◌≤◌, ◌⊎◌, and_parts, cases_Bool}
+use Rattle.lagsystem.proofs.Common.{false≢true, le-leb, leb-true, lt-ltb, nat_tests, none-some, same_Some, Machines, Assignment, Flushing, Free, On}
+use Rattle.lagsystem.proofs.Common.{Wanted, Table, assignment_of, is_by, sooner, ticks_until_next_wanted, ticks_until_wanted, by_left, by_right}
+use Rattle.lagsystem.proofs.Common.{soonest_member, SystemPort, would_transmit, SystemState, soonest, ticks_in_window, ticks_until_due}
+use Rattle.lagsystem.proofs.Common.{ticks_until_due_on, ticks_until_expired, ticks_until_frame, ticks_until_room}
+use Rattle.distributor.specs.Waiting.{soonest_below}
 use Rattle.lagsystem.specs.Soonest.{ConversationHas, FrameHas, HappensIn, IsFirstToHappen, TimerHas, WindowHas}
-use Rattle.lagsystem.specs.State.{SystemState}
-use Rattle.lagsystem.specs.Waiting.{soonest, ticks_in_window, ticks_until_due, ticks_until_due_on, ticks_until_expired, ticks_until_frame}
-use Rattle.lagsystem.specs.Waiting.{ticks_until_room}
 
 by_trans : (a b c : Option ℕ) → is_by a b ≡ true → is_by b c ≡ true → is_by a c ≡ true
 by_trans None None None h k = refl

@@ -1,19 +1,9 @@
 -- Every call preserves the invariant of a system, and the invariant implies that the ports agree.
-use Rattle.std.proofs.Common.{ℕ, List, [], ◌∷◌, sym, subst, ap, refl}
-use Rattle.portmachines.specs.Mux.{partner_synchronized, selected}
-use Rattle.distributor.specs.Conversations.{Table}
+use Rattle.lagsystem.proofs.Common.{List, [], ap, refl, subst, sym, ℕ, ◌∷◌, View, members_first, one_partner, partner_synchronized, selected, Table}
+use Rattle.lagsystem.proofs.Common.{Reply, SystemPort, Call, Step, IsFirst, JoinedByLawfulMoves, MuxesConsistent, model_setup, model_view}
+use Rattle.lagsystem.proofs.Common.{CallPromise, DistributeAsMuxDoes, HasPorts, IsSound, PortsAgree, SystemState, KeepsTransmitLimit}
 use Rattle.lagmodel.specs.Law.{Members}
-use Rattle.lagmodel.specs.View.{View}
-use Rattle.lagmodel.proofs.Ports.{members_first, one_partner}
 use Rattle.lagmodel.proofs.Calls.{members_call}
-use Rattle.lagsystem.specs.declared.system_ports.SystemPort.{SystemPort}
-use Rattle.lagsystem.specs.declared.drive.Reply.{Reply}
-use Rattle.lagsystem.specs.Calls.{Call, Step}
-use Rattle.lagsystem.specs.First.{IsFirst}
-use Rattle.lagsystem.specs.ModelView.{MuxesConsistent, JoinedByLawfulMoves, model_setup, model_view}
-use Rattle.lagsystem.specs.Sound.{PortsAgree, CallPromise, DistributeAsMuxDoes, HasPorts, IsSound}
-use Rattle.lagsystem.specs.State.{SystemState}
-use Rattle.lagsystem.specs.Windows.{KeepsTransmitLimit}
 use Rattle.lagsystem.proofs.FirstView.{configured_setup, first_shows}
 use Rattle.lagsystem.proofs.Keeps.{Step-aggregators, Step-conversations, Step-frame, Step-ports}
 use Rattle.lagsystem.proofs.OccupantSteps.{Step-placed, first_placed}

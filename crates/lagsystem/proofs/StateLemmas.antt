@@ -1,14 +1,7 @@
 -- States from the lists of their ports.
-use Rattle.std.proofs.Common.{◌≡◌, ◌≤◌, ℕ, true, List, Option, Some, length, drop, refl, sym, subst, inl, inr}
-use Rattle.slowpdu.specs.Faults.{fault_of}
-use Rattle.slowpdu.specs.Frames.{IsSlowProtocolsFrame}
-use Rattle.slowpdu.specs.Pdus.{ReadsPdu}
-use Rattle.lagsystem.specs.declared.received.FrameEffect.{FrameEffect}
-use Rattle.portmachines.specs.Machines.{Machines}
-use Rattle.lagsystem.specs.declared.system_ports.SystemPort.{SystemPort}
-use Rattle.lagsystem.specs.State.{SystemState, with_system_ports}
-use Rattle.lagsystem.specs.Settling.{SettlesPorts}
-use Rattle.lagsystem.specs.Calls.{PortAtChangesBy, OnlyPortChangesBy, Faulty, Carries, ParsesFrame, ParsesPayload, ParsesWhere}
+use Rattle.lagsystem.proofs.Common.{List, Option, Some, drop, inl, inr, length, refl, subst, sym, true, ℕ, ◌≡◌, ◌≤◌, fault_of, IsSlowProtocolsFrame}
+use Rattle.lagsystem.proofs.Common.{ReadsPdu, Machines, FrameEffect, SystemPort, Carries, Faulty, OnlyPortChangesBy, ParsesFrame, ParsesPayload}
+use Rattle.lagsystem.proofs.Common.{ParsesWhere, PortAtChangesBy, SettlesPorts, SystemState, with_system_ports}
 
 pub on_port_made : (R : Machines → Machines → Type 0) (place : List SystemPort → Option ℕ) (s : SystemState)
     (olds ws news : List SystemPort) → olds ≡ s.system_ports → news ≡ ws → PortAtChangesBy R (place olds) olds ws

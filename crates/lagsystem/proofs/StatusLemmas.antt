@@ -1,27 +1,12 @@
 -- What each status of a port says of the port and its system: by the cases of its definition.
-use Rattle.std.proofs.Common.{◌≡◌, ℕ, Bool, true, false, not, ◌&&◌, Some}
-use Rattle.std.proofs.Common.{refl, sym, subst, if◌then◌else◌}
-use Rattle.std.specs.Prelude.{nat_lt, slice_get}
-use Rattle.std.proofs.lemmas.Bool.{and_parts, true≢false}
-use Rattle.lagtypes.specs.declared.identifiers.AggId.{AggId}
-use Rattle.lagtypes.specs.declared.party.Choice.{Choice}
-use Rattle.lagtypes.specs.declared.party.Choice.TheVariants.{Unselected, Selected, Standby}
-use Rattle.lagtypes.specs.Same.{same_system}
-use Rattle.lagtypes.proofs.SameLemmas.{exact_system}
-use Rattle.portmachines.specs.declared.mux.MuxState.{MuxState}
-use Rattle.portmachines.specs.declared.mux.MuxState.TheVariants.{Detached, Waiting, Attached, CollectingDistributing}
-use Rattle.portmachines.specs.declared.receive.ReceiveState.{ReceiveState}
-use Rattle.portmachines.specs.declared.receive.ReceiveState.TheVariants.{Initialize, PortDisabled, Expired, Defaulted, Current}
-use Rattle.portmachines.specs.Mux.{is_synchronized, partner_synchronized, same_mux_state, selected}
-use Rattle.portmachines.specs.Receive.{receive_rows}
+use Rattle.lagsystem.proofs.Common.{Bool, Some, false, if◌then◌else◌, nat_lt, not, refl, slice_get, subst, sym, true, ℕ, ◌&&◌, ◌≡◌, and_parts}
+use Rattle.lagsystem.proofs.Common.{true≢false, AggId, Choice, Selected, Standby, Unselected, same_system, exact_system, MuxState, Attached}
+use Rattle.lagsystem.proofs.Common.{CollectingDistributing, Detached, Waiting, ReceiveState, Current, Defaulted, Expired, Initialize, PortDisabled}
+use Rattle.lagsystem.proofs.Common.{is_synchronized, partner_synchronized, same_mux_state, selected, receive_rows, SystemPort, can_receive_in}
+use Rattle.lagsystem.proofs.Common.{mux_consistent, none_enabled, IsSound, SystemState, IsDistributing, Says, meaning}
 use Rattle.lagsystem.specs.declared.port_status.PortStatus.{PortStatus}
 use Rattle.lagsystem.specs.declared.port_status.PortStatus.TheVariants as status
-use Rattle.lagsystem.specs.declared.system_ports.SystemPort.{SystemPort}
-use Rattle.lagsystem.specs.ModelView.{can_receive_in, mux_consistent, none_enabled}
 use Rattle.lagsystem.specs.PortStatus.{status_by_choice, status_by_receive}
-use Rattle.lagsystem.specs.Sound.{IsSound}
-use Rattle.lagsystem.specs.State.{SystemState}
-use Rattle.lagsystem.specs.StatusMeaning.{IsDistributing, Says, meaning}
 use Rattle.lagsystem.proofs.Rest.{can_receive_at_rest}
 use Rattle.lagsystem.proofs.Rising.{all-get}
 use Rattle.lagsystem.proofs.StatusReasons.{Heard, finds_no_aggregator, finds_no_room, waits, waits_for_member, waits_for_partner}

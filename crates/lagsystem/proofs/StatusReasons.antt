@@ -1,40 +1,15 @@
 -- Why the Selection Logic finds no aggregator or no room for a port, and for what a SELECTED port waits.
-use Rattle.std.proofs.Common.{◌≡◌, ◌∙◌, ℕ, zero, suc, ◌+◌, ◌<◌, ◌≤◌, Bool, true, false, cond, not, ◌&&◌, ◌||◌, List, [], ◌∷◌, ◌⊎◌, inl, inr}
-use Rattle.std.proofs.Common.{Option, Some, None, filter, length, refl, sym, subst, ap, arith, if◌then◌else◌}
-use Rattle.std.specs.Prelude.{◌==◌, find, nat_le, nat_lt, option_map, slice_get}
-use Rattle.std.specs.List.{enumerate_from, list_all, list_any}
-use Rattle.std.proofs.lemmas.Bool.{eqb-true, true≢false, not-false}
-use Rattle.std.proofs.lemmas.Bool.Decides.{nat_tests}
-use Rattle.std.proofs.lemmas.Option.{none-some, same_Some}
-use Rattle.lagtypes.specs.declared.identifiers.AggId.{AggId}
-use Rattle.lagtypes.specs.declared.identifiers.Key.{Key}
-use Rattle.lagtypes.specs.declared.party.Choice.{Choice}
-use Rattle.lagtypes.specs.declared.party.Choice.TheVariants.{Unselected, Selected, Standby}
-use Rattle.lagtypes.specs.Choices.{is_selected, is_unselected}
-use Rattle.lagtypes.specs.Same.{same_system}
-use Rattle.lagtypes.proofs.SameLemmas.{itself}
-use Rattle.portmachines.specs.declared.mux.MuxState.{MuxState}
-use Rattle.portmachines.specs.declared.mux.MuxState.TheVariants.{Detached, Waiting, Attached, CollectingDistributing}
-use Rattle.portmachines.specs.declared.receive.ReceiveState.TheVariants.{Current, Defaulted}
-use Rattle.portmachines.specs.Mux.{partner_synchronized, same_mux_state, selected}
-use Rattle.portmachines.specs.Receive.{same_receive_state}
-use Rattle.selection.specs.declared.view.PortView.{PortView}
-use Rattle.selection.specs.Choice.{aggregator_of_entry, chosen_aggregator, chosen_if_eligible, has_no_occupant, has_occupant, is_aggregator, lowest}
-use Rattle.selection.specs.Choice.{occupants_share_group, or_else, ports_that_chose}
-use Rattle.selection.specs.Limits.{has_room, is_below}
-use Rattle.selection.specs.Ready.{is_ready}
-use Rattle.selection.specs.Views.{has_chosen, has_waited, is_detached, is_detached_or_waiting, is_eligible, stands_by}
-use Rattle.selection.proofs.LimitLemmas.{NoneStandsBy, none_is_next}
-use Rattle.lagsystem.specs.declared.system_ports.SystemPort.{SystemPort}
-use Rattle.lagsystem.specs.ModelView.{key_of}
-use Rattle.lagsystem.specs.NothingToSettle.{MuxIsSettled}
-use Rattle.lagsystem.specs.Occupants.{WithinLimit, occupied}
-use Rattle.lagsystem.specs.Readers.{aggregator_numbered}
-use Rattle.lagsystem.specs.Settling.{ready_of}
-use Rattle.lagsystem.specs.Sound.{IsSound}
-use Rattle.lagsystem.specs.State.{SystemState, aggregators_value}
-use Rattle.lagsystem.specs.StatusMeaning.{FindsNoAggregator, FindsNoRoom, HearsPartner, Waits, WaitsForMember, WaitsForPartner, WaitsIn}
-use Rattle.lagsystem.specs.Views.{selection_view, stage_of, views}
+use Rattle.lagsystem.proofs.Common.{Bool, List, None, Option, Some, [], ap, arith, cond, eqb-true, false, filter, find, if◌then◌else◌, inl, inr}
+use Rattle.lagsystem.proofs.Common.{length, nat_le, nat_lt, not, option_map, refl, slice_get, subst, suc, sym, true, zero, ℕ, ◌&&◌, ◌+◌, ◌<◌, ◌==◌}
+use Rattle.lagsystem.proofs.Common.{◌||◌, ◌∙◌, ◌∷◌, ◌≡◌, ◌≤◌, ◌⊎◌, not-false, true≢false, nat_tests, none-some, same_Some, enumerate_from, list_all}
+use Rattle.lagsystem.proofs.Common.{list_any, AggId, Key, Choice, Selected, Standby, Unselected, is_selected, is_unselected, same_system, itself}
+use Rattle.lagsystem.proofs.Common.{MuxState, Attached, CollectingDistributing, Detached, Waiting, Current, Defaulted, partner_synchronized}
+use Rattle.lagsystem.proofs.Common.{same_mux_state, selected, same_receive_state, PortView, aggregator_of_entry, chosen_aggregator}
+use Rattle.lagsystem.proofs.Common.{chosen_if_eligible, has_no_occupant, has_occupant, is_aggregator, lowest, occupants_share_group, or_else}
+use Rattle.lagsystem.proofs.Common.{ports_that_chose, has_room, is_below, is_ready, has_chosen, has_waited, is_detached, is_detached_or_waiting}
+use Rattle.lagsystem.proofs.Common.{is_eligible, stands_by, NoneStandsBy, none_is_next, SystemPort, key_of, MuxIsSettled, WithinLimit, occupied}
+use Rattle.lagsystem.proofs.Common.{aggregator_numbered, ready_of, IsSound, SystemState, aggregators_value, FindsNoAggregator, FindsNoRoom}
+use Rattle.lagsystem.proofs.Common.{HearsPartner, Waits, WaitsForMember, WaitsForPartner, WaitsIn, selection_view, stage_of, views}
 use Rattle.lagsystem.proofs.NoneLeft.{takes_is}
 use Rattle.lagsystem.proofs.Rising.{all-get, ports_rise}
 

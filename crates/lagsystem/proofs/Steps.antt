@@ -1,66 +1,31 @@
 -- Each call of a system is a list of lawful moves.
-use Rattle.std.proofs.Common.{◌≡◌, ℕ, ◌<◌, ◌^◌, ◌==◌, Bool, true, false, cond, Option, Some, None, Result, Ok, Err, List, [], ◌∷◌}
-use Rattle.std.proofs.Common.{refl, sym, ◌∙◌, subst, ap, inl, inr, IsSome}
-use Rattle.std.specs.Prelude.{◌&&◌, ◌||◌, not, if◌then◌else◌, is_some, ltb, nat_lt, slice_get, slice_set}
-use Rattle.std.proofs.lemmas.Bool.{and_parts, false≢true, ltb-true, and_from}
+use Rattle.lagsystem.proofs.Common.{Bool, Err, IsSome, List, None, Ok, Option, Result, Some, [], ap, append-nil, bytes_eq, cond, false, if◌then◌else◌}
+use Rattle.lagsystem.proofs.Common.{inl, inr, is_some, ltb, nat_lt, not, refl, slice_get, slice_set, subst, sym, true, ℕ, ◌&&◌, ◌<◌, ◌==◌, ◌^◌, ◌||◌}
+use Rattle.lagsystem.proofs.Common.{◌∙◌, ◌∷◌, ◌≡◌, and_from, and_parts, false≢true, ltb-true, Decides-eqb, none-some, same_Some, AggId, Choice}
+use Rattle.lagsystem.proofs.Common.{Selected, Standby, Unselected, is_selected, is_standby, Lacpdu, Marker, answer_of, Act, LawfulMoves, Move}
+use Rattle.lagsystem.proofs.Common.{PortMove, Sends_frame, Shows, Took, DistributorFacts, Lacp, Message, SystemSetup, Told, Told_receive}
+use Rattle.lagsystem.proofs.Common.{moves_joined, CollectingDistributing, Machines, is_synchronized, mux_rows, partner_synchronized, same_mux_state}
+use Rattle.lagsystem.proofs.Common.{RunsPeriodic, receive_rows, RunsToRest, after_sending, count_down, is_due, pdu_of, Assignment, DistFault}
+use Rattle.lagsystem.proofs.Common.{force_result, move_result, ChangesAssignments, Marks, after_release, marker_due, wants_marker, Table}
+use Rattle.lagsystem.proofs.Common.{assignment_of, count_conversations, next_identifier, model_distributor, conversations_tick, down_moves}
+use Rattle.lagsystem.proofs.Common.{force_moves, mark_moves, move_moves, release_moves, send_moves, Reply, SystemFault, NoAggregator, NoPort}
+use Rattle.lagsystem.proofs.Common.{FrameEffect, Answered, ProcessLacpdu, Response, Received, Disabled, Dropped, Ignored, Released, Up, SystemPort}
+use Rattle.lagsystem.proofs.Common.{AnswersMarker, Call, Carries, ChangesParty, Configure, Data_frame, Faulty, Force, FreesIfDown, GivesEffect}
+use Rattle.lagsystem.proofs.Common.{IsFrame, Move_conversation, Offer, OnlyPortChangesBy, ParsesWhere, Performs, PortAtChangesBy, ProcessesLacpdu}
+use Rattle.lagsystem.proofs.Common.{Receive, ReceivedFrame, Releases, Restart, Runt, Set_link, SetsLink, SetsPortEnabled, Step, ThenSettles, Tick}
+use Rattle.lagsystem.proofs.Common.{Ticks, Transmit, is_own_response, up_or_dropped, CallSeenAs, EffectsSeenAs, JoinedByLawfulMoves, PortsConsistent}
+use Rattle.lagsystem.proofs.Common.{can_receive, can_receive_in, control_message, lacp_message, marker_message, model_port, model_setup, model_view}
+use Rattle.lagsystem.proofs.Common.{model_view_at, mux_consistent, none_enabled, number_of_port, selected_number, OccupantsAgree, GivesOrRefuses}
+use Rattle.lagsystem.proofs.Common.{Offers, assignment_of_frame, has_aggregator, in_system, or_not_assigned, system_force_result, system_move_result}
+use Rattle.lagsystem.proofs.Common.{collecting, conversation_count, distributing, number_of_conversation, SendsLacpdu, SendsMarkerOf, TransmitsAt}
+use Rattle.lagsystem.proofs.Common.{TransmitsIf, own_marker, PortChangesBy, PortsChangeBy, SettlesPorts, Settling, ready_of, SystemState}
+use Rattle.lagsystem.proofs.Common.{aggregators_value, port_index, port_numbers, system_port_at, with_system_ports, with_table, views}
 use Rattle.std.proofs.lemmas.Slice.Eq.{bytes_eq-Decides}
-use Rattle.std.specs.Str.{bytes_eq}
-use Rattle.std.proofs.lemmas.Bool.Decides.{Decides-eqb}
-use Rattle.std.proofs.lemmas.List.{append-nil}
-use Rattle.std.proofs.lemmas.Option.{none-some, same_Some}
-use Rattle.lagtypes.specs.declared.identifiers.AggId.{AggId}
-use Rattle.lagtypes.specs.declared.party.Choice.{Choice}
-use Rattle.lagtypes.specs.declared.party.Choice.TheVariants.{Unselected, Selected, Standby}
-use Rattle.slowpdu.specs.declared.pdu.Lacpdu.{Lacpdu}
-use Rattle.slowpdu.specs.declared.pdu.Marker.{Marker}
 use Rattle.slowpdu.specs.declared.pdu.MarkerKind.{MarkerKind}
 use Rattle.slowpdu.specs.declared.pdu.MarkerKind.TheVariants as kind
 use Rattle.slowpdu.specs.declared.pdu.Pdu.TheVariants as pdu
-use Rattle.slowpdu.specs.Markers.{answer_of}
-use Rattle.portmachines.specs.declared.mux.MuxState.TheVariants.{CollectingDistributing}
-use Rattle.portmachines.specs.Machines.{Machines}
-use Rattle.lagtypes.specs.Choices.{is_selected, is_standby}
-use Rattle.portmachines.specs.Mux.{same_mux_state, is_synchronized, mux_rows, partner_synchronized}
-use Rattle.portmachines.specs.Periodic.{RunsPeriodic}
-use Rattle.portmachines.specs.Receive.{receive_rows}
-use Rattle.portmachines.specs.Rows.{RunsToRest}
-use Rattle.portmachines.specs.Transmit.{count_down, is_due, pdu_of, after_sending}
-use Rattle.distributor.specs.declared.assignment.Assignment.{Assignment}
-use Rattle.distributor.specs.declared.fault.DistFault.{DistFault}
 use Rattle.distributor.specs.declared.fault.DistFault.TheVariants.{NotAssigned}
-use Rattle.distributor.specs.Calls.{force_result, move_result}
-use Rattle.distributor.specs.Changes.{ChangesAssignments, Marks, after_release, marker_due, wants_marker}
-use Rattle.distributor.specs.Conversations.{Table, count_conversations, next_identifier, assignment_of}
-use Rattle.distributor.specs.Moves.{model_distributor}
-use Rattle.distributor.proofs.MoveLemmas.{down_moves, force_moves, mark_moves, move_moves, release_moves, send_moves}
-use Rattle.distributor.proofs.MoveLemmas.{tick_moves as conversations_tick}
-use Rattle.lagmodel.specs.View.{SystemSetup, DistributorFacts, Lacp, ControlMessage as Message, ModelCall as Told, Receive as Told_receive}
-use Rattle.lagmodel.specs.Move.{Act, Sends as Shows, Sends_frame, Took, LawfulMoves, PortMove, Move}
-use Rattle.lagmodel.proofs.Uses.{moves_joined}
-use Rattle.lagsystem.specs.declared.received.FrameEffect.{FrameEffect}
-use Rattle.lagsystem.specs.declared.received.FrameEffect.TheVariants.{ProcessLacpdu, Response, Answered}
-use Rattle.lagsystem.specs.declared.received.Received.{Received}
-use Rattle.lagsystem.specs.declared.received.Received.TheVariants.{Disabled, Dropped, Ignored, Released, Up}
-use Rattle.lagsystem.specs.declared.system_ports.SystemPort.{SystemPort}
-use Rattle.lagsystem.specs.State.{SystemState, aggregators_value, with_system_ports, with_table, port_index, system_port_at}
-use Rattle.lagsystem.specs.Settling.{PortChangesBy, PortsChangeBy, Settling, SettlesPorts, ready_of}
-use Rattle.lagsystem.specs.Views.{views}
-use Rattle.lagsystem.specs.declared.drive.Reply.{Reply}
 use Rattle.lagsystem.specs.declared.drive.Reply.TheVariants as reply
-use Rattle.lagsystem.specs.declared.fault.SystemFault.{SystemFault}
-use Rattle.lagsystem.specs.declared.fault.SystemFault.TheVariants.{NoPort, NoAggregator}
-use Rattle.lagsystem.specs.Readers.{collecting, number_of_conversation, conversation_count, distributing}
-use Rattle.lagsystem.specs.Offers.{GivesOrRefuses, Offers, system_force_result, has_aggregator, in_system, or_not_assigned}
-use Rattle.lagsystem.specs.Offers.{system_move_result, assignment_of_frame}
-use Rattle.lagsystem.specs.Sending.{TransmitsAt, SendsLacpdu, SendsMarkerOf, TransmitsIf, own_marker}
-use Rattle.lagsystem.specs.Calls.{Call, Tick, Set_link, Receive, Configure, Restart, Transmit, Offer, Move_conversation, Force, Ticks}
-use Rattle.lagsystem.specs.Calls.{AnswersMarker, SetsPortEnabled, ChangesParty, Performs, ReceivedFrame, Runt, Data_frame, Faulty}
-use Rattle.lagsystem.specs.Calls.{Carries, FreesIfDown, ParsesWhere, IsFrame, SetsLink, GivesEffect, PortAtChangesBy, OnlyPortChangesBy}
-use Rattle.lagsystem.specs.Calls.{Releases, ThenSettles, ProcessesLacpdu, up_or_dropped, is_own_response, Step}
-use Rattle.lagsystem.specs.ModelView.{JoinedByLawfulMoves, EffectsSeenAs, CallSeenAs, selected_number, can_receive, model_setup}
-use Rattle.lagsystem.specs.ModelView.{lacp_message, marker_message, number_of_port, control_message, model_port, mux_consistent}
-use Rattle.lagsystem.specs.ModelView.{can_receive_in, model_view_at, model_view, none_enabled, PortsConsistent}
-use Rattle.lagsystem.specs.State.{port_numbers}
 use Rattle.lagsystem.proofs.Conversing.{assigned_may, carrying_moves, leaving_moves, table_moves}
 use Rattle.lagsystem.proofs.Keeps.{Keeps, keeps_each, keeps_link, keeps_place, keeps_tick, ports_keep, ports_table, settling_parts}
 use Rattle.lagsystem.proofs.FirstView.{restarted_shows}
@@ -72,9 +37,8 @@ use Rattle.lagsystem.proofs.OfPort.{PortMoves, SlotMoves, slot_moves, all_slots_
 use Rattle.lagsystem.proofs.Rows.{QuietMoves, loudly, settles_moves, mux_moves, runs_periodic_moves}
 use Rattle.lagsystem.proofs.Effects.{tick_moves, links_moves, taking_moves, configures_moves, sending}
 use Rattle.lagsystem.proofs.Choose.{Fits, StandbyIsIdle, choosing_moves}
-use Rattle.lagsystem.proofs.Occupying.{EachStays, configure_stays, link_stays, mux_stays, place_stays, stay_agrees, taking_stays}
-use Rattle.lagsystem.proofs.Occupying.{tick_stays, zip_stay}
-use Rattle.lagsystem.specs.Occupants.{OccupantsAgree}
+use Rattle.lagsystem.proofs.Occupying.{EachStays, configure_stays, link_stays, mux_stays, place_stays, stay_agrees, taking_stays, tick_stays}
+use Rattle.lagsystem.proofs.Occupying.{zip_stay}
 
 -- each port moves
 each_moves : (u : SystemSetup) (call : Told) (f : DistributorFacts) (R : Machines → Machines → Type 0)

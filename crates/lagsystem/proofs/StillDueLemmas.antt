@@ -1,31 +1,13 @@
 -- Offers make no frame due, data changes nothing, and a row names what an offer answers.
-use Rattle.std.proofs.Common.{◌≡◌, ◌∙◌, ℕ, ◌+◌, ◌<◌, ◌^◌, ◌&&◌, ◌||◌, Bool, true, false, cond, eqb, List, Some, None, Ok, Err, Result, ap, arith, refl, subst, sym}
-use Rattle.std.specs.Prelude.{is_some, ltb, nat_lt, option_map}
-use Rattle.std.proofs.lemmas.Bool.{and_parts, eqb-true, true≢false}
-use Rattle.std.proofs.lemmas.Bool.Decides.{nat_tests}
+use Rattle.lagsystem.proofs.Common.{Bool, Err, List, None, Ok, Result, Some, ap, arith, cond, eqb, eqb-true, false, is_some, ltb, nat_lt, option_map}
+use Rattle.lagsystem.proofs.Common.{refl, subst, sym, true, ℕ, ◌&&◌, ◌+◌, ◌<◌, ◌^◌, ◌||◌, ◌∙◌, ◌≡◌, and_parts, true≢false, nat_tests, AggId, is_due}
+use Rattle.lagsystem.proofs.Common.{Assignment, Flushing, Free, On, Wanted, DistFault, Assigns, MaySend, SetsAssignment, marker_due, wants_marker}
+use Rattle.lagsystem.proofs.Common.{Table, assignment_of, count_conversations, sum_below, SystemFault, FrameEffect, Answered, Received, Disabled}
+use Rattle.lagsystem.proofs.Common.{SystemPort, OffersIf, TakesPort, Data_frame, ParsesWhere, Performs, up_or_dropped, port_on, would_transmit_at}
+use Rattle.lagsystem.proofs.Common.{GivesAssignment, MayBeOffered, RefusesOffer, assignment_of_frame, has_aggregator, collecting, conversation_count}
+use Rattle.lagsystem.proofs.Common.{distributing, number_of_conversation, SystemState, port_index, system_port_at, with_table}
 use Rattle.collector.specs.Collecting.{IsDataFrame}
-use Rattle.lagtypes.specs.declared.identifiers.AggId.{AggId}
-use Rattle.portmachines.specs.Transmit.{is_due}
-use Rattle.distributor.specs.declared.assignment.Assignment.{Assignment}
-use Rattle.distributor.specs.declared.assignment.Assignment.TheVariants.{Free, On, Wanted, Flushing}
-use Rattle.distributor.specs.declared.fault.DistFault.{DistFault}
-use Rattle.distributor.specs.Calls.{Assigns, MaySend}
-use Rattle.distributor.specs.Changes.{SetsAssignment, marker_due, wants_marker}
-use Rattle.distributor.specs.Conversations.{Table, assignment_of, count_conversations, sum_below}
 use Rattle.lagsystem.specs.declared.drive.Reply.TheVariants as reply
-use Rattle.lagsystem.specs.declared.fault.SystemFault.{SystemFault}
-use Rattle.lagsystem.specs.declared.received.FrameEffect.{FrameEffect}
-use Rattle.lagsystem.specs.declared.received.FrameEffect.TheVariants.{Answered}
-use Rattle.lagsystem.specs.declared.received.Received.{Received}
-use Rattle.lagsystem.specs.declared.received.Received.TheVariants.{Disabled}
-use Rattle.lagsystem.specs.declared.system_ports.SystemPort.{SystemPort}
-use Rattle.lagsystem.specs.Assigning.{OffersIf, TakesPort}
-use Rattle.lagsystem.specs.Calls.{Data_frame, ParsesWhere, Performs, up_or_dropped}
-use Rattle.lagsystem.specs.ConversationTables.{port_on}
-use Rattle.lagsystem.specs.Hosts.{would_transmit_at}
-use Rattle.lagsystem.specs.Offers.{GivesAssignment, MayBeOffered, RefusesOffer, assignment_of_frame, has_aggregator}
-use Rattle.lagsystem.specs.Readers.{collecting, conversation_count, distributing, number_of_conversation}
-use Rattle.lagsystem.specs.State.{SystemState, port_index, system_port_at, with_table}
 use Rattle.lagsystem.specs.StillDue.{DataChangesNothing, DueAsBefore, OfferConversationMakesNoneDue, OfferMakesNoneDue, RowIsAnswer, RowIsOffer}
 use Rattle.lagsystem.proofs.Conversing.{assigned_may}
 use Rattle.lagsystem.proofs.OfferLemmas.{refused_by}

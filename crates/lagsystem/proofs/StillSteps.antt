@@ -1,24 +1,11 @@
 -- Every call ends in a state in which one more settling has nothing to do.
-use Rattle.portmachines.specs.Machines.{Machines}
-use Rattle.std.proofs.Common.{◌≡◌, ℕ, Bool, true, false, not, ◌&&◌, List, Some, refl, sym, ap, subst, slice_get}
-use Rattle.std.proofs.Common.{slice_set}
-use Rattle.portmachines.specs.Periodic.{same_periodic_state}
-use Rattle.portmachines.specs.declared.periodic.PeriodicState.TheVariants.{NoPeriodic}
-use Rattle.portmachines.specs.Transmit.{after_sending}
-use Rattle.lagsystem.specs.declared.drive.Reply.{Reply}
-use Rattle.lagsystem.specs.declared.system_ports.SystemPort.{SystemPort}
-use Rattle.lagsystem.specs.Calls.{Call, Ticks}
-use Rattle.lagsystem.specs.Calls.{ChangesParty, SetsLink, OnlyPortChangesBy, ThenSettles, ProcessesLacpdu}
-use Rattle.lagsystem.specs.Calls.{Step}
-use Rattle.lagsystem.specs.First.{IsFirst}
-use Rattle.lagsystem.specs.NothingToSettle.{PeriodicsAreSettled, MuxesAreSettled, PeriodicIsSettled, MuxIsSettled}
-use Rattle.lagsystem.specs.Sound.{HasPorts}
-use Rattle.lagsystem.specs.State.{SystemState, aggregators_value, port_numbers, port_index, with_system_ports}
+use Rattle.lagsystem.proofs.Common.{Bool, List, Some, ap, false, not, refl, slice_get, slice_set, subst, sym, true, ℕ, ◌&&◌, ◌≡◌, NoPeriodic}
+use Rattle.lagsystem.proofs.Common.{Machines, same_periodic_state, after_sending, AggregatorsValue, Reply, SystemPort, Call, ChangesParty}
+use Rattle.lagsystem.proofs.Common.{OnlyPortChangesBy, ProcessesLacpdu, SetsLink, Step, ThenSettles, Ticks, IsFirst, MuxIsSettled, MuxesAreSettled}
+use Rattle.lagsystem.proofs.Common.{PeriodicIsSettled, PeriodicsAreSettled, NoneIsNext, HasPorts, SystemState, aggregators_value, port_index}
+use Rattle.lagsystem.proofs.Common.{port_numbers, with_system_ports, views}
 use Rattle.lagsystem.proofs.Keeps.{Keeps, Step-frame, Step-ports, keeps_link, keeps_place, keeps_tick, settling_keeps}
 use Rattle.lagsystem.proofs.Quieting.{settling_none, settling_quiet}
-use Rattle.lagsystem.specs.Occupants.{NoneIsNext}
-use Rattle.lagsystem.specs.Views.{views}
-use Rattle.selection.specs.Limits.{AggregatorsValue}
 use Rattle.lagsystem.proofs.Preserves.{Step-preserves_ports}
 use Rattle.lagsystem.proofs.Rising.{Rises, all-get, all-set, ports_rise}
 use Rattle.lagsystem.proofs.Skipping.{alike_still, alike_views, all_among}

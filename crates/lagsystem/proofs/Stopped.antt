@@ -1,25 +1,11 @@
 -- The conversations that leave stopped ports are those on ports that distributed before the call and no longer do.
-use Rattle.std.proofs.Common.{◌≡◌, ◌∙◌, ℕ, ◌==◌, ◌<◌, ◌+◌, Bool, true, false, cond, List, [], ◌∷◌, Option, Some, None, length, map, refl}
-use Rattle.std.proofs.Common.{sym, ap, subst, arith, inl, inr, eqb, eqb-true}
-use Rattle.std.specs.Prelude.{◌&&◌, ◌||◌, not, filter, if◌then◌else◌}
-use Rattle.std.proofs.lemmas.Bool.{cases_Bool, false≢true, true≢false, or_from, and_right}
-use Rattle.std.proofs.lemmas.Bool.Decides.{Decides-eqb, nat_tests}
-use Rattle.lagtypes.specs.declared.identifiers.AggId.{AggId}
-use Rattle.lagtypes.specs.declared.party.Choice.{Choice}
-use Rattle.lagtypes.specs.declared.party.Choice.TheVariants.{Unselected, Selected, Standby}
-use Rattle.portmachines.specs.declared.mux.MuxState.TheVariants.{CollectingDistributing}
-use Rattle.portmachines.specs.Mux.{same_mux_state}
-use Rattle.selection.specs.Views.{has_chosen}
-use Rattle.distributor.specs.declared.assignment.Assignment.{Assignment}
-use Rattle.distributor.specs.declared.assignment.Assignment.TheVariants.{Free, On, Wanted, Flushing}
-use Rattle.distributor.specs.Calls.{is_among}
-use Rattle.distributor.specs.Changes.{ChangesAssignments}
-use Rattle.distributor.specs.Conversations.{assignment_of}
-use Rattle.lagsystem.specs.declared.system_ports.SystemPort.{SystemPort}
-use Rattle.lagsystem.specs.Holding.{WereInUse, after_holding, aggregators_in_use, has_stopped, stopped}
-use Rattle.lagsystem.specs.Readers.{selected_aggregator, aggregator_numbered, collecting, distributes_in, distributing}
-use Rattle.lagsystem.specs.Settling.{HoldsConversations, held_unless_on}
-use Rattle.lagsystem.specs.State.{SystemState, port_numbers, with_table}
+use Rattle.lagsystem.proofs.Common.{Bool, List, None, Option, Some, [], ap, arith, cond, eqb, eqb-true, false, filter, if◌then◌else◌, inl, inr}
+use Rattle.lagsystem.proofs.Common.{length, map, not, refl, subst, sym, true, ℕ, ◌&&◌, ◌+◌, ◌<◌, ◌==◌, ◌||◌, ◌∙◌, ◌∷◌, ◌≡◌, and_right, cases_Bool}
+use Rattle.lagsystem.proofs.Common.{false≢true, or_from, true≢false, Decides-eqb, nat_tests, AggId, Choice, Selected, Standby, Unselected}
+use Rattle.lagsystem.proofs.Common.{CollectingDistributing, same_mux_state, has_chosen, Assignment, Flushing, Free, On, Wanted, is_among}
+use Rattle.lagsystem.proofs.Common.{ChangesAssignments, assignment_of, SystemPort, WereInUse, after_holding, aggregators_in_use, has_stopped, stopped}
+use Rattle.lagsystem.proofs.Common.{aggregator_numbered, collecting, distributes_in, distributing, selected_aggregator, HoldsConversations}
+use Rattle.lagsystem.proofs.Common.{held_unless_on, SystemState, port_numbers, with_table}
 use Rattle.lagsystem.proofs.Rising.{Rises, ports_rise}
 
 -- whether the port distributes in the aggregator

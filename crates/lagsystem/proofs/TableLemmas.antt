@@ -1,7 +1,5 @@
 -- States with another table.
-use Rattle.std.proofs.Common.{◌≡◌}
-use Rattle.distributor.specs.Conversations.{Table}
-use Rattle.lagsystem.specs.State.{SystemState, with_table}
+use Rattle.lagsystem.proofs.Common.{◌≡◌, Table, SystemState, with_table}
 
 -- the table keeps the first identifier and the number of conversations, which are part of the configuration
 pub table_taken : (s : SystemState) (t : Table) → t.first ≡ s.first_marker → t.conversations ≡ s.conversations

@@ -1,12 +1,8 @@
 -- Rows that are told one after another.
-use Rattle.std.proofs.Common.{◌≡◌, ◌∙◌, ℕ, suc, ◌+◌, ◌<◌, ◌≤◌, ◌≢◌, ◌⊎◌, Bool, true, false, cond, List, length, get_or, set, ap, arith, inl, inr, refl, subst, sym}
-use Rattle.std.specs.Prelude.{nat_lt}
+use Rattle.lagsystem.proofs.Common.{Bool, List, ap, arith, cond, false, get_or, inl, inr, length, nat_lt, refl, set, subst, suc, sym, true, ℕ, ◌+◌}
+use Rattle.lagsystem.proofs.Common.{◌<◌, ◌∙◌, ◌≡◌, ◌≢◌, ◌≤◌, ◌⊎◌, cases_Bool, nat_tests, get_or-set_other, get_or-set_same, length-set, TellsRows}
 use mir.Val.{bool_byte}
-use Rattle.std.proofs.lemmas.Bool.{cases_Bool}
-use Rattle.std.proofs.lemmas.Bool.Decides.{nat_tests}
-use Rattle.std.proofs.lemmas.List.{get_or-set_other, get_or-set_same, length-set}
 use Rattle.distributor.specs.Conversations.{sum_below}
-use Rattle.lagsystem.specs.ConversationTables.{TellsRows}
 
 pub no_rows : (A : Type 0) (default : A) (value : ℕ → A) (mark : A → A → Bool) (before : List A) (unmarked : List Bool)
     → TellsRows A default value mark 0 before before unmarked unmarked 0

@@ -1,26 +1,10 @@
 -- After mux machines ran with Ready as worked out before, no aggregator is Ready.
-use Rattle.std.proofs.Common.{◌≡◌, ◌∙◌, ℕ, zero, suc, Bool, true, false, cond, not, ◌&&◌, ◌||◌, List, [], ◌∷◌, filter, refl, sym, ap}
-use Rattle.std.proofs.Common.{subst, inl, inr, if◌then◌else◌}
-use Rattle.std.specs.List.{list_all, list_any}
-use Rattle.std.proofs.lemmas.Bool.{eqb-true, and_right, or_parts, and_from, and_left}
-use Rattle.lagtypes.specs.declared.identifiers.AggId.{AggId}
-use Rattle.lagtypes.specs.declared.identifiers.Key.{Key}
-use Rattle.lagtypes.specs.declared.party.Choice.{Choice}
-use Rattle.lagtypes.specs.declared.party.Choice.TheVariants.{Unselected, Selected, Standby}
-use Rattle.lagtypes.specs.Choices.{is_selected, is_unselected}
-use Rattle.portmachines.specs.declared.mux.MuxState.{MuxState}
-use Rattle.portmachines.specs.declared.mux.MuxState.TheVariants.{Detached, Waiting, Attached, CollectingDistributing}
-use Rattle.portmachines.specs.Machines.{Machines}
-use Rattle.portmachines.specs.Mux.{same_mux_state, is_synchronized, mux_rows}
-use Rattle.portmachines.specs.Rows.{Fires, FiresTimes, Row, RunsToRest}
-use Rattle.portmachines.proofs.Runs.{Reaches-keeps}
-use Rattle.selection.specs.declared.view.PortView.{PortView}
-use Rattle.selection.specs.Views.{has_waited, has_chosen, is_detached_or_waiting}
-use Rattle.selection.specs.Choice.{ports_that_chose, is_aggregator}
-use Rattle.selection.specs.Ready.{is_ready}
-use Rattle.lagsystem.specs.declared.system_ports.SystemPort.{SystemPort}
-use Rattle.lagsystem.specs.Settling.{PortsChangeBy, ready_of}
-use Rattle.lagsystem.specs.Views.{stage_of, selection_view, views}
+use Rattle.lagsystem.proofs.Common.{Bool, List, [], ap, cond, eqb-true, false, filter, if◌then◌else◌, inl, inr, not, refl, subst, suc, sym, true}
+use Rattle.lagsystem.proofs.Common.{zero, ℕ, ◌&&◌, ◌||◌, ◌∙◌, ◌∷◌, ◌≡◌, and_from, and_left, and_right, or_parts, list_all, list_any, AggId, Key}
+use Rattle.lagsystem.proofs.Common.{Choice, Selected, Standby, Unselected, is_selected, is_unselected, MuxState, Attached, CollectingDistributing}
+use Rattle.lagsystem.proofs.Common.{Detached, Waiting, Machines, is_synchronized, mux_rows, same_mux_state, Fires, FiresTimes, Row, RunsToRest}
+use Rattle.lagsystem.proofs.Common.{Reaches-keeps, PortView, is_aggregator, ports_that_chose, is_ready, has_chosen, has_waited}
+use Rattle.lagsystem.proofs.Common.{is_detached_or_waiting, SystemPort, PortsChangeBy, ready_of, selection_view, stage_of, views}
 
 -- what rows keep if they are enabled
 abbrev KeptBy : (Machines → Bool) → List Row → Type 0

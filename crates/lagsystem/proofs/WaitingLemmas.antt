@@ -1,10 +1,7 @@
 -- The soonest of a list, as far as a loop has come.
-use Rattle.std.proofs.Common.{◌≡◌, ◌∙◌, ℕ, suc, ◌+◌, ◌<◌, List, ◌∷◌, length, drop, get_or, map, Option, sym, ap, arith}
+use Rattle.lagsystem.proofs.Common.{List, Option, ap, arith, drop, get_or, length, map, suc, sym, ℕ, ◌+◌, ◌<◌, ◌∙◌, ◌∷◌, ◌≡◌, sooner, sooner_assoc}
+use Rattle.lagsystem.proofs.Common.{SystemPort, soonest}
 use Rattle.std.proofs.Math.Seq.{drop-cons}
-use Rattle.distributor.specs.Waiting.{sooner}
-use Rattle.distributor.proofs.WaitLemmas.{sooner_assoc}
-use Rattle.lagsystem.specs.declared.system_ports.SystemPort.{SystemPort}
-use Rattle.lagsystem.specs.Waiting.{soonest}
 
 -- one port more was looked at
 pub soonest_on : (f : SystemPort → Option ℕ) (xs : List SystemPort) (i : ℕ) (x : SystemPort) (first next all : Option ℕ) → i < length xs

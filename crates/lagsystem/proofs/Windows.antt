@@ -1,47 +1,23 @@
 -- Any eleven consecutive ticks hold at most three LACPDUs of a port, over lists of calls of a system.
-use Rattle.std.proofs.Common.{◌≡◌, ◌&&◌, ◌∙◌, ◌<◌, ◌≤◌, ◌+◌, ◌==◌, ◌++◌, ℕ, zero, suc, Bool, true, false, cond, List, [], ◌∷◌, Option}
-use Rattle.std.proofs.Common.{Some, None, Ok, length, ap, sym, refl, subst, arith, get_or, nat_lt, append_assoc}
-use Rattle.std.specs.Prelude.{if◌then◌else◌, slice_get, slice_set, option_map}
-use Rattle.std.specs.List.{AllByRecursion, AllZip, find, position_or_len}
-use Rattle.slowpdu.specs.declared.pdu.Lacpdu.{Lacpdu}
-use Rattle.std.proofs.lemmas.Bool.{and_parts, eqb-true}
-use Rattle.std.proofs.lemmas.Bool.Decides.{nat_tests}
-use Rattle.std.proofs.lemmas.List.{append-nil, length-append}
+use Rattle.lagsystem.proofs.Common.{Bool, List, None, Ok, Option, Some, [], ap, append-nil, append_assoc, arith, cond, eqb-true, false, find, get_or}
+use Rattle.lagsystem.proofs.Common.{if◌then◌else◌, length, length-append, nat_lt, option_map, refl, slice_get, slice_set, subst, suc, sym, true, zero}
+use Rattle.lagsystem.proofs.Common.{ℕ, ◌&&◌, ◌++◌, ◌+◌, ◌<◌, ◌==◌, ◌∙◌, ◌∷◌, ◌≡◌, ◌≤◌, and_parts, nat_tests, position-Some, get_or_from_slice_get}
+use Rattle.lagsystem.proofs.Common.{same_Some, slice_get_past, AllByRecursion, AllZip, position_or_len, SystemId, Choice, Lacpdu, read_field, Setup}
+use Rattle.lagsystem.proofs.Common.{Machines, mux_rows, RunsPeriodic, receive_rows, RunsToRest, Starts, before_start, after_sending, aged, count_down}
+use Rattle.lagsystem.proofs.Common.{is_due, Reaches-keeps, PortChange, PortConfig, Reply, SystemPort, Call, ChangesParty, OnlyPortChangesBy}
+use Rattle.lagsystem.proofs.Common.{PortAtChangesBy, ProcessesLacpdu, SetsLink, SetsPortEnabled, Step, TableRun, ThenSettles, Transmit, changed_party}
+use Rattle.lagsystem.proofs.Common.{choice_with_link, HasJustStarted, IsFirst, setup_of, PortsChangeBy, Settling, ready_of, with_choice, SystemState}
+use Rattle.lagsystem.proofs.Common.{aggregators_value, machines_of, port_index, system_port_at, with_system_ports, views, AgesSince, AtMostThreeAges}
+use Rattle.lagsystem.proofs.Common.{EachAtMostThreeAges, StartsWithoutAges, StaysWindowed, SystemWindowLaw, WindowFromStart, remembered_sends}
+use Rattle.lagsystem.proofs.Common.{sends_after, tick_after}
 use Rattle.std.proofs.lemmas.List.Folds.{find_at}
-use Rattle.std.proofs.lemmas.List.Quantifiers.{position-Some}
-use Rattle.std.proofs.lemmas.Option.{slice_get_past, get_or_from_slice_get, same_Some}
-use Rattle.lagtypes.specs.declared.identifiers.SystemId.{SystemId}
-use Rattle.lagtypes.specs.declared.party.Choice.{Choice}
-use Rattle.slowpdu.specs.Layout.{read_field}
 use Rattle.portmachines.specs.Calls as port
-use Rattle.portmachines.specs.Machines.{Machines}
-use Rattle.portmachines.specs.Mux.{mux_rows}
-use Rattle.portmachines.specs.Periodic.{RunsPeriodic}
-use Rattle.portmachines.specs.Receive.{receive_rows}
-use Rattle.portmachines.specs.Rows.{RunsToRest}
-use Rattle.portmachines.specs.Start.{Starts, before_start}
-use Rattle.portmachines.specs.Transmit.{aged, count_down, is_due, after_sending}
 use Rattle.portmachines.specs.Window as window
 use Rattle.portmachines.specs.Window.{KeepsWindow, sent_before}
-use Rattle.portmachines.proofs.Runs.{Reaches-keeps}
-use Rattle.portmachines.specs.declared.port.Setup.{Setup}
 use Rattle.portmachines.proofs.Windows.{ages_of, mux-same, periodic-ages, settles-same, starts-ages, taking-ages, window_law as port_window}
-use Rattle.lagsystem.specs.declared.config.PortChange.{PortChange}
-use Rattle.lagsystem.specs.declared.config.PortConfig.{PortConfig}
-use Rattle.lagsystem.specs.declared.drive.Reply.{Reply}
 use Rattle.lagsystem.specs.declared.drive.Reply.TheVariants as reply
-use Rattle.lagsystem.specs.declared.system_ports.SystemPort.{SystemPort}
-use Rattle.lagsystem.specs.State.{SystemState, aggregators_value, with_system_ports, port_index, machines_of, system_port_at}
-use Rattle.lagsystem.specs.Settling.{PortsChangeBy, Settling, with_choice, ready_of}
 use Rattle.lagsystem.proofs.Preserves.{Step-preserves_ports, lacpdu_subtype}
 use Rattle.lagsystem.proofs.PromotionLemmas.{KeptByChoices, choosing_keeps}
-use Rattle.lagsystem.specs.Views.{views}
-use Rattle.lagsystem.specs.First.{IsFirst, HasJustStarted, setup_of}
-use Rattle.lagsystem.specs.Calls.{Call, Transmit, SetsLink}
-use Rattle.lagsystem.specs.Calls.{SetsPortEnabled, choice_with_link, ChangesParty, changed_party, PortAtChangesBy, OnlyPortChangesBy}
-use Rattle.lagsystem.specs.Calls.{ThenSettles, ProcessesLacpdu, Step, TableRun}
-use Rattle.lagsystem.specs.Windows.{EachAtMostThreeAges, AtMostThreeAges, AgesSince, StartsWithoutAges, StaysWindowed, WindowFromStart}
-use Rattle.lagsystem.specs.Windows.{SystemWindowLaw, sends_after, remembered_sends, tick_after}
 use Rattle.lagsystem.proofs.Keeps.{given_number}
 use Rattle.lagsystem.proofs.Rest.{last_slots, same_slots}
 

@@ -1,6 +1,5 @@
 -- What `decode` answers is what the payload holds.
-use Rattle.std.proofs.Common.{◌≡◌, ◌∙◌, ap, sym, ℕ, List, Some}
-use Rattle.std.specs.Prelude.{IfErr, IfOk, Result, Ok, Err}
+use Rattle.lagtool_capture.proofs.Common.{Err, IfErr, IfOk, List, Ok, Result, Some, ap, sym, ℕ, ◌∙◌, ◌≡◌}
 use Rattle.slowpdu.specs.Faults.{fault_of}
 use Rattle.slowpdu.specs.Pdus.{ReadsPdu}
 use Rattle.slowpdu.specs.declared.fault.WireFault.{WireFault}

@@ -1,11 +1,9 @@
 -- What an end keeps of the times between its LACPDUs.
-use Rattle.std.proofs.Common.{◌≡◌, ◌≤◌, ◌<◌, ◌+◌, ◌^◌, ◌∙◌, ap, refl, ℕ, List, [], ◌∷◌, Option, Some, None, arith, length}
-use Rattle.std.specs.List.{cons_option}
+use Rattle.lagtool_capture.proofs.Common.{List, None, Option, Some, [], ap, arith, length, refl, ℕ, ◌+◌, ◌<◌, ◌^◌, ◌∙◌, ◌∷◌, ◌≡◌, ◌≤◌, cons_option}
+use Rattle.lagtool_capture.proofs.Common.{Gaps, Sent, end_of, gap_between, gaps_between, latest_time, IsMedianOf, gaps_of, median}
+use Rattle.lagtool_capture.specs.Gaps.{gaps_with}
 use Rattle.lagtool_capture.specs.declared.ends.End.{End}
 use Rattle.lagtool_capture.specs.declared.ends.Sender.{Sender}
-use Rattle.lagtool_capture.specs.declared.gaps.Gaps.{Gaps}
-use Rattle.lagtool_capture.specs.Ends.{Sent, end_of, gap_between, gaps_between, latest_time}
-use Rattle.lagtool_capture.specs.Gaps.{IsMedianOf, gaps_of, gaps_with, median}
 use Rattle.lagtool_capture.proofs.GapLemmas.{median_is}
 
 latest_is : (s : Sender) (first : Sent) (later : List Sent) → (end_of s first later).latest ≡ latest_time first later

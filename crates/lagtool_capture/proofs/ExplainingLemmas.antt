@@ -1,15 +1,12 @@
 -- From the steps of an explanation to the whole.
-use Rattle.std.proofs.Common.{◌≡◌, ◌∙◌, ap, ℕ, Option}
-use Rattle.std.specs.Prelude.{OnOk, Result, Ok, Err}
+use Rattle.lagtool_capture.proofs.Common.{Err, Ok, OnOk, Option, Result, ap, ℕ, ◌∙◌, ◌≡◌, end_place, ExplainerState, after_placed, last_shown}
+use Rattle.lagtool_capture.proofs.Common.{name_place, named, sender_of, with_end, with_line, identity_of}
+use Rattle.lagtool_capture.specs.Explaining.{after_lacpdu, after_named}
 use Rattle.slowpdu.specs.declared.pdu.Lacpdu.{Lacpdu}
 use Rattle.lagtool_capture.specs.declared.envelope.Envelope.{Envelope}
 use Rattle.lagtool_capture.specs.declared.lacpdu_texts.Shown.{Shown}
 use Rattle.lagtool_capture.specs.declared.names.Identity.{Identity}
-use Rattle.lagtool_capture.specs.Ends.{end_place}
 use Rattle.lagtool_capture.specs.LacpduTexts.{shown_of}
-use Rattle.lagtool_capture.specs.Names.{identity_of}
-use Rattle.lagtool_capture.specs.Explaining.{ExplainerState, after_lacpdu, after_named, after_placed, last_shown, name_place, named, sender_of}
-use Rattle.lagtool_capture.specs.Explaining.{with_end, with_line}
 use Rattle.lagtool_capture.specs.declared.line.WhatText.TheVariants as what
 
 pub on_ok-map : {T E P Q : Type 0} (r : Result T E) → (P → Q) → OnOk r P → OnOk r Q

@@ -1,3 +1,4 @@
+mod Common
 mod ContentLemmas
 mod EndLemmas
 mod ExplainingLemmas

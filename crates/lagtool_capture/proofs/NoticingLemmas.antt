@@ -1,11 +1,9 @@
 -- Findings that were added so far, and those of one element more.
-use Rattle.std.proofs.Common.{◌≡◌, ◌<◌, ◌+◌, ◌∙◌, ◌++◌, ap, sym, ℕ, List, [], Some, None, length, take}
-use Rattle.std.proofs.lemmas.List.{flat_map_more, take_more}
+use Rattle.lagtool_capture.proofs.Common.{List, None, Some, [], ap, get_or, length, slice_get, sym, take, ℕ, ◌++◌, ◌+◌, ◌<◌, ◌∙◌, ◌≡◌, flat_map_more}
+use Rattle.lagtool_capture.proofs.Common.{take_more, flat_map, Log, all_rules, findings_by, findings_in}
 use Rattle.std.proofs.lemmas.Option.{slice_get-get_or}
-use Rattle.std.specs.Prelude.{flat_map, get_or, slice_get}
 use Rattle.findings.specs.declared.finding.Finding.{Finding}
 use Rattle.findings.specs.declared.observed.LinkEnd.{LinkEnd}
-use Rattle.lagtool_capture.specs.Noticing.{Log, all_rules, findings_by, findings_in}
 
 -- what one element more adds
 pub one_added : {A B : Type 0} (f : A → List B) (xs : List A) (i : ℕ) (d : A) (before now next : List B) → i < length xs

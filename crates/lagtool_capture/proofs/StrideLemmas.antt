@@ -1,14 +1,12 @@
 -- The strides that were taken so far, and one more.
-use Rattle.std.proofs.Common.{◌≡◌, ◌≤◌, ◌<◌, ◌+◌, ◌-◌, ◌∙◌, ◌++◌, ap, refl, sym, subst, ℕ, inl, inr, List, [], ◌∷◌, Option, Some, None, arith, length, take, drop}
-use Rattle.std.proofs.lemmas.List.{length-drop, take_rest}
-use Rattle.std.specs.Prelude.{Ok, Err}
+use Rattle.lagtool_capture.proofs.Common.{Err, List, None, Ok, Option, Some, [], ap, arith, drop, inl, inr, length, length-drop, refl, subst, sym}
+use Rattle.lagtool_capture.proofs.Common.{take, ℕ, ◌++◌, ◌+◌, ◌-◌, ◌<◌, ◌∙◌, ◌∷◌, ◌≡◌, ◌≤◌, take_rest, ExplainerState, Follows, Log}
 use Rattle.captures.specs.Steps.{ReaderState, step}
 use Rattle.captures.specs.declared.fault.Fault.{Fault}
 use Rattle.captures.specs.declared.fault.Stop.{Stop}
 use Rattle.captures.specs.declared.fault.Stop.TheVariants.{Refused, Wants}
-use Rattle.lagtool_capture.specs.Explaining.{ExplainerState}
-use Rattle.lagtool_capture.specs.Noticing.{Follows, Log}
-use Rattle.lagtool_capture.specs.Strides.{Explains, Stops, Stride, Strides, all_logged, all_observed, at_hand, logged_if_any, observed_if_any, stopped_at}
+use Rattle.lagtool_capture.specs.Strides.{Explains, Stops, Stride, Strides, all_logged, all_observed, at_hand, logged_if_any, observed_if_any}
+use Rattle.lagtool_capture.specs.Strides.{stopped_at}
 use Rattle.lagtool_capture.specs.declared.noticing.Noticed.{Noticed}
 use Rattle.lagtool_capture.specs.declared.strides.Taken.{Taken}
 

@@ -1,13 +1,11 @@
 -- What stands first in a text that is formed of parts.
-use Rattle.std.proofs.Common.{◌≡◌, ◌∙◌, ℕ, ◌+◌, ◌++◌, Bool, false, List, [], ◌∷◌, ap, append_assoc, codes, decimal, length, subst}
-use Rattle.std.proofs.Common.{String, Result, Ok, Err, IfOk, string_bytes, sym, take}
+use Rattle.lagtool_jobs.proofs.Common.{Bool, Err, Global, IfOk, List, Ok, Result, String, [], ap, append_assoc, codes, decimal, false, length}
+use Rattle.lagtool_jobs.proofs.Common.{string_bytes, subst, sym, take, ℕ, ◌++◌, ◌+◌, ◌∙◌, ◌∷◌, ◌≡◌, take-append_seam, SaysUnreadOf, character_text}
+use Rattle.lagtool_jobs.proofs.Common.{name_of, utf8_text}
 use Rattle.std.specs.declared.alloc.AllocError.{AllocError}
-use Rattle.std.specs.declared.alloc.Global.{Global}
-use Rattle.std.proofs.Math.Seq.{take-append_seam}
 use Rattle.std.specs.Io.{StartsWith}
 use Rattle.lagexplain.specs.TextPlaces.{column_behind, line_behind}
 use Rattle.lagexplain.proofs.PlaceLemmas.{colons_joined}
-use Rattle.lagtool_jobs.specs.Explained.{SaysUnreadOf, character_text, name_of, utf8_text}
 
 -- a text of two parts begins with the first
 begins : (said first rest : List ℕ) → said ≡ first ++ rest → StartsWith said first

@@ -1,23 +1,12 @@
 -- The last lines of a report say what holds of every world.
-use Rattle.std.proofs.Common.{◌≡◌, ◌<◌, ◌+◌, ℕ, List, Option, Some, None, false, length, get_or, refl, sym, ap, ◌∙◌, subst, arith}
-use Rattle.std.specs.Prelude.{Ok, Err}
-use Rattle.std.specs.List.{range_with_len}
-use Rattle.std.proofs.lemmas.List.{ext_get_or}
+use Rattle.lagtool_jobs.proofs.Common.{Err, List, None, Ok, Option, Some, ap, arith, false, get_or, length, refl, subst, sym, ℕ, ◌+◌, ◌<◌, ◌∙◌, ◌≡◌}
+use Rattle.lagtool_jobs.proofs.Common.{ext_get_or, none-some, same_Some, range_with_len, Members, Side, HasNoScript, ScriptFault, ◌>>=◌, HasScript}
+use Rattle.lagtool_jobs.proofs.Common.{Script, plan_in, script_of, flow_of_system, IsSound, WorldState, collected_in, forced_in, sent_in}
 use Rattle.std.proofs.lemmas.List.FromFn.{get_or-range_with_len, length-range_with_len}
-use Rattle.std.proofs.lemmas.Option.{none-some, same_Some}
-use Rattle.toml.specs.Data.{Members}
 use Rattle.toml.specs.Parse.{parse_document}
 use Rattle.lagmodel.specs.Law.{IsSubsequence}
-use Rattle.lagmodel.specs.World.{Side}
-use Rattle.lagscript.specs.Readings.{◌>>=◌}
-use Rattle.lagscript.specs.Scripts.{HasScript, Script, plan_in, script_of}
-use Rattle.lagscript.specs.declared.fault.ScriptFault.{ScriptFault}
 use Rattle.lagscript.specs.declared.fault.ScriptFault.TheVariants as script
 use Rattle.lagworld.proofs.Running.{carries_of, in_order_of}
-use Rattle.lagworld.specs.Readers.{flow_of_system}
-use Rattle.lagworld.specs.Sound.{IsSound}
-use Rattle.lagworld.specs.State.{WorldState, collected_in, forced_in, sent_in}
-use Rattle.lagtool_jobs.specs.ReplayReport.{HasNoScript}
 
 counted : (xs : List ℕ) → ((i : ℕ) → i < length xs → get_or xs i 0 ≡ i) → xs ≡ range_with_len 0 (length xs)
 counted xs h =

@@ -1,3 +1,4 @@
+mod Common
 mod OctetLemmas
 mod ReportLemmas
 mod VerdictLemmas

@@ -1,33 +1,20 @@
 -- The entries of a script name only systems and cables that exist.
-use Rattle.std.proofs.Common.{◌≡◌, ◌==◌, ◌+◌, ◌≤◌, ℕ, suc, arith, Bool, true, false, List, [], ◌∷◌, Option, Some, None, length, refl}
-use Rattle.std.proofs.Common.{sym, ap, ◌∙◌, subst, if◌then◌else◌}
-use Rattle.std.specs.Prelude.{◌&&◌, ◌||◌, Result, Ok, Err, codes, is_some, nat_le, option_and_then}
-use Rattle.std.specs.List.{list_all}
-use Rattle.std.proofs.lemmas.Bool.{true≢false}
-use Rattle.std.proofs.lemmas.Bool.Decides.{nat_tests}
-use Rattle.std.proofs.lemmas.List.{length-map}
-use Rattle.std.proofs.lemmas.Option.{none-some, same_Some}
-use Rattle.toml.specs.Data.{Data, Members, as_str, get_member}
-use Rattle.lagmodel.specs.World.{One, Two}
-use Rattle.lagscript.specs.EventValues.{EntryForm, EventValue, WordValue, system, cable, number, aggregation, octets, event_value}
-use Rattle.lagscript.specs.EventValues.{event_values, cable_said, system_said, first_said, or_number}
+use Rattle.lagtool_jobs.proofs.Common.{Bool, Err, List, None, Ok, Option, Result, Some, [], ap, arith, codes, false, if◌then◌else◌, is_some, length}
+use Rattle.lagtool_jobs.proofs.Common.{nat_le, option_and_then, refl, subst, suc, sym, true, ℕ, ◌&&◌, ◌+◌, ◌==◌, ◌||◌, ◌∙◌, ◌∷◌, ◌≡◌, ◌≤◌, true≢false}
+use Rattle.lagtool_jobs.proofs.Common.{nat_tests, length-map, none-some, same_Some, list_all, Data, Members, as_str, get_member, One, Two}
+use Rattle.lagtool_jobs.proofs.Common.{AllNameExisting, is_cable, names_existing, Event, ScriptFault, Plan, refusal_of_all, EntryForm, EventValue}
+use Rattle.lagtool_jobs.proofs.Common.{WordValue, aggregation, cable, cable_said, event_value, event_values, first_said, number, octets, or_number}
+use Rattle.lagtool_jobs.proofs.Common.{system, system_said, each_at_place, if_or_fault, or_fault, ◌>>=◌, HasPlan, PlanValue, cables_in, ends_of}
+use Rattle.lagtool_jobs.proofs.Common.{entries_in, events_in, no_fault, plan_in, plan_value, planned, script_fault_for, systems_in, top_keys}
+use Rattle.lagtool_jobs.proofs.Common.{up_to_most, has_system, most_events}
 use Rattle.lagscript.specs.Entries.{event_at, event_in, event_of_form, event_of_form_if_any, event_of_words, events_from, at_entry, form_named}
 use Rattle.lagscript.specs.Entries.{aggregation_word, cable_word, hex_word, number_word, system_word, ticks_word, word_value, words_said}
-use Rattle.lagscript.specs.Configs.{refusal_of_all}
 use Rattle.lagscript.specs.Keys.{keys_among, list_in, value_at, value_or}
-use Rattle.lagscript.specs.Readings.{◌>>=◌, each_at_place, or_fault, if_or_fault}
-use Rattle.lagscript.specs.Scripts.{HasPlan, PlanValue, events_in, cables_in, script_fault_for, ends_of, entries_in, no_fault, plan_in}
-use Rattle.lagscript.specs.Scripts.{plan_value, planned, systems_in, top_keys, up_to_most}
 use Rattle.lagscript.specs.Words.{words_of}
-use Rattle.lagscript.specs.declared.plan.Plan.{Plan}
-use Rattle.lagscript.specs.declared.event.Event.{Event}
 use Rattle.lagscript.specs.declared.fault.EntryFault.{EntryFault}
-use Rattle.lagscript.specs.declared.fault.ScriptFault.{ScriptFault}
 use Rattle.lagscript.specs.declared.fault.ScriptFault.TheVariants as script
 use Rattle.lagscript.specs.declared.forms.WordKind.{WordKind}
 use Rattle.lagscript.specs.declared.forms.WordKind.TheVariants.{System, Ticks, Cable, Number, Aggregation, Octets}
-use Rattle.lagworld.specs.Events.{has_system, most_events}
-use Rattle.lagtool_jobs.specs.Naming.{AllNameExisting, is_cable, names_existing}
 
 -- ---- a reading that answers a value
 

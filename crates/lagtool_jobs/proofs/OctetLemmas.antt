@@ -1,7 +1,5 @@
 -- The octets of a sink or a source over several calls.
-use Rattle.std.proofs.Common.{ℕ, ◌++◌, List, [], Option, None, Some, refl, sym, ap, ◌∙◌, append_assoc}
-use Rattle.std.proofs.lemmas.List.{append-nil}
-use Rattle.std.specs.Io.KnownBytes.{Appends, Consumes}
+use Rattle.lagtool_jobs.proofs.Common.{List, None, Option, Some, [], ap, append-nil, append_assoc, refl, sym, ℕ, ◌++◌, ◌∙◌, Appends, Consumes}
 
 pub appends_none : (old : Option (List ℕ)) → Appends old old []
 appends_none None = tt

@@ -1,15 +1,16 @@
 -- An aggregator that no event offers a frame to sends none.
-use Rattle.std.proofs.Common.{◌≡◌, ◌==◌, ◌<◌, ◌+◌, ◌++◌, ℕ, zero, suc, Bool, true, false, List, [], ◌∷◌, map, Option, Some, None, get_or}
-use Rattle.std.proofs.Common.{length, arith, refl, sym, ap, ◌∙◌, subst, inl, inr, if◌then◌else◌, eqb-true, eq-eqb}
-use Rattle.std.specs.Prelude.{◌&&◌, ◌||◌, Result, Ok, Err, flat_map, option_map}
-use Rattle.std.specs.List.{range_with_len}
-use Rattle.std.proofs.lemmas.Bool.{cases_Bool, true≢false}
-use Rattle.std.proofs.lemmas.List.{get_or_read}
-use Rattle.std.proofs.lemmas.Option.{none-some, same_Some}
+use Rattle.lagtool_jobs.proofs.Common.{Bool, Err, List, None, Ok, Option, Result, Some, [], ap, arith, eq-eqb, eqb-true, false, get_or, if◌then◌else◌}
+use Rattle.lagtool_jobs.proofs.Common.{inl, inr, length, map, option_map, refl, subst, suc, sym, true, zero, ℕ, ◌&&◌, ◌++◌, ◌+◌, ◌<◌, ◌==◌, ◌||◌, ◌∙◌}
+use Rattle.lagtool_jobs.proofs.Common.{◌∷◌, ◌≡◌, cases_Bool, true≢false, get_or_read, none-some, same_Some, range_with_len, flat_map, One, Side, Two}
+use Rattle.lagtool_jobs.proofs.Common.{HasSentNothing, IsSentWhereOffered, is_offered, offers_to, aggregator_flows_text, flow_line, Event, Reply}
+use Rattle.lagtool_jobs.proofs.Common.{AfterOffer, AfterReceive, AfterTransmit, Algorithms, DoesEvent, InHalf, WorldReceives, WorldRuns, side_of}
+use Rattle.lagtool_jobs.proofs.Common.{stamped_in, transmitted_item, with_collected_in, with_frame_counted, with_item_sent, with_last_lacpdu}
+use Rattle.lagtool_jobs.proofs.Common.{with_link_at, with_stamp_collected, side_number, side_numbered, flow_of_system, IsStart, FlowValue, HalfState}
+use Rattle.lagtool_jobs.proofs.Common.{ItemValue, WorldState, emptied, flow_at, half, port_at, sent_in, with_collected, with_forced, with_half}
+use Rattle.lagtool_jobs.proofs.Common.{with_links, with_sent}
 use Rattle.cables.specs.declared.item.Stamp.{Stamp}
 use Rattle.cables.specs.declared.item.Stamp.TheVariants as stamp
 use Rattle.lagtypes.specs.declared.identifiers.AggId.{AggId}
-use Rattle.lagmodel.specs.World.{Side, One, Two}
 use Rattle.lagmodel.proofs.Base.{cond_true, cond_false}
 use Rattle.lagsystem.specs.declared.received.Received.{Received}
 use Rattle.lagsystem.specs.declared.received.Received.TheVariants as received
@@ -18,22 +19,10 @@ use Rattle.lagsystem.specs.declared.drive.Reply.TheVariants as answer
 use Rattle.lagsystem.specs.declared.fault.SystemFault.{SystemFault}
 use Rattle.lagsystem.specs.Calls.{Call, Receive, Restart, Transmit, Offer}
 use Rattle.lagsystem.specs.Readers.{number_of_conversation}
-use Rattle.lagscript.specs.declared.event.Event.{Event}
-use Rattle.lagworld.specs.declared.reply.Reply.{Reply}
 use Rattle.lagworld.specs.HalfCalls.{HalfAnswers, HalfTicks, forced_if_accepted}
-use Rattle.lagworld.specs.Events.{Algorithms, DoesEvent, WorldRuns, side_of, with_stamp_collected, with_link_at, with_item_sent}
-use Rattle.lagworld.specs.Events.{transmitted_item, with_collected_in, with_last_lacpdu, stamped_in, AfterTransmit, WorldReceives}
-use Rattle.lagworld.specs.Events.{AfterReceive, AfterOffer, InHalf, with_frame_counted}
-use Rattle.lagworld.specs.Messages.{side_numbered, side_number}
-use Rattle.lagworld.specs.Readers.{flow_of_system}
-use Rattle.lagworld.specs.Sound.{IsStart}
-use Rattle.lagworld.specs.State.{ItemValue, HalfState, WorldState, FlowValue, emptied, half, with_half, with_links, port_at}
-use Rattle.lagworld.specs.State.{flow_at, sent_in, with_sent, with_collected, with_forced}
 use Rattle.lagworld.proofs.Flows.{flow_other_row, read_same}
-use Rattle.lagworld.proofs.Effects.{DoesEffect, Effect, HalfAsked, Recording, answer_to_force, asks, changes_counted, delivers, does_effect}
-use Rattle.lagworld.proofs.Effects.{emits, if_forced, no_record, offers, receives, recorded, restarts, nothing, shrinks, ticks}
-use Rattle.lagtool_jobs.specs.Offered.{HasSentNothing, IsSentWhereOffered, is_offered, offers_to}
-use Rattle.lagtool_jobs.specs.ReplayReport.{flow_line, aggregator_flows_text}
+use Rattle.lagworld.proofs.Effects.{DoesEffect, Effect, HalfAsked, Recording, answer_to_force, asks, changes_counted, delivers, does_effect, emits}
+use Rattle.lagworld.proofs.Effects.{if_forced, no_record, offers, receives, recorded, restarts, nothing, shrinks, ticks}
 use Rattle.lagtool_jobs.proofs.ReplayLemmas.{append_none, appended_both, empties, range_more}
 
 -- what a conversation of a system sent

@@ -1,33 +1,17 @@
 -- A script is refused nothing but memory.
-use Rattle.std.proofs.Common.{◌≡◌, ◌+◌, ◌++◌, ◌<◌, ◌≤◌, ◌==◌, ℕ, zero, suc, Bool, true, false, List, [], ◌∷◌, Option, Some, None, length, map}
-use Rattle.std.proofs.Common.{take, refl, sym, ap, ap₂, ◌∙◌, subst, inl, inr, if◌then◌else◌, arith}
-use Rattle.std.specs.Prelude.{◌&&◌, is_some, nat_le, slice_get}
-use Rattle.std.specs.List.{list_all}
-use Rattle.std.proofs.lemmas.Bool.{true≢false}
-use Rattle.std.proofs.lemmas.Bool.Decides.{nat_tests}
-use Rattle.std.proofs.lemmas.List.{length-append, length-map, length-take-le}
-use Rattle.std.proofs.lemmas.Option.{none-some, same_Some, slice_get_within}
-use Rattle.cables.specs.AnyCable.{any_items, any_limit}
-use Rattle.cables.specs.declared.any.AnyCable.{AnyCable}
-use Rattle.lagmodel.specs.World.{WorldSetup}
-use Rattle.lagsystem.specs.First.{or_first}
+use Rattle.lagtool_jobs.proofs.Common.{Bool, List, None, Option, Some, [], ap, ap₂, arith, false, if◌then◌else◌, inl, inr, is_some, length}
+use Rattle.lagtool_jobs.proofs.Common.{length-append, map, nat_le, refl, slice_get, subst, suc, sym, take, true, zero, ℕ, ◌&&◌, ◌++◌, ◌+◌, ◌<◌, ◌==◌}
+use Rattle.lagtool_jobs.proofs.Common.{◌∙◌, ◌∷◌, ◌≡◌, ◌≤◌, true≢false, nat_tests, length-map, length-take-le, none-some, same_Some, slice_get_within}
+use Rattle.lagtool_jobs.proofs.Common.{list_all, WorldSetup, AnyCable, any_items, any_limit, AllNameExisting, is_cable, names_existing, empty_link}
+use Rattle.lagtool_jobs.proofs.Common.{empty_links, or_first, Event, cable_named, system_named, Reply, Algorithms, WorldRuns, cause}
+use Rattle.lagtool_jobs.proofs.Common.{cause_or_no_memory, first_event_cause, has_cable, has_system, most_events, RefusesToMake, are_empty_lines}
+use Rattle.lagtool_jobs.proofs.Common.{first_link, has_empty_directions, item_value, link_ends, world_setup, RefusesNext, RunStops, next_of}
+use Rattle.lagtool_jobs.proofs.Common.{LinkState, WorldState}
 use Rattle.lagscript.specs.declared.config.BadWorld.{BadWorld}
 use Rattle.lagscript.specs.declared.config.BadWorld.TheVariants.{Lines}
-use Rattle.lagscript.specs.declared.event.Event.{Event}
-use Rattle.lagscript.specs.EventValues.{cable_named, system_named}
-use Rattle.lagworld.specs.Events.{Algorithms, WorldRuns, cause, cause_or_no_memory, first_event_cause, has_cable}
-use Rattle.lagworld.specs.Events.{has_system, most_events}
-use Rattle.lagworld.specs.Making.{RefusesToMake, are_empty_lines, first_link, has_empty_directions}
-use Rattle.lagworld.specs.Messages.{item_value}
-use Rattle.lagworld.specs.Sound.{RefusesNext, RunStops, next_of}
-use Rattle.lagworld.specs.State.{WorldState, LinkState}
-use Rattle.lagworld.specs.ModelWorld.{link_ends, world_setup}
 use Rattle.lagworld.specs.declared.fault.RunFault.{RunFault}
 use Rattle.lagworld.specs.declared.fault.WorldFault.{WorldFault}
 use Rattle.lagworld.specs.declared.fault.WorldFault.TheVariants.{NoMemory}
-use Rattle.lagworld.specs.declared.reply.Reply.{Reply}
-use Rattle.lagtool_jobs.specs.Naming.{AllNameExisting, is_cable, names_existing}
-use Rattle.lagtool_jobs.specs.ReplayReport.{empty_link, empty_links}
 
 -- ---- a world is made
 

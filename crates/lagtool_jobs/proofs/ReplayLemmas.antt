@@ -1,20 +1,11 @@
 -- The lines of a report, one after another.
-use Rattle.std.proofs.Common.{◌≡◌, ℕ, zero, suc, ◌+◌, ◌<◌, ◌≤◌, ◌++◌, List, [], ◌∷◌, Option, Some, None, length, take, get_or, refl, sym}
-use Rattle.std.proofs.Common.{ap, ap₂, ◌∙◌, append_assoc, arith}
-use Rattle.std.specs.Fmt.{decimal}
-use Rattle.std.specs.Prelude.{option_map, slice_get}
-use Rattle.std.proofs.lemmas.Option.{none-some}
-use Rattle.lagworld.specs.Agreement.{agreement_at, agreement_of, end_facts}
-use Rattle.lagworld.specs.Events.{Algorithms, WorldRuns}
-use Rattle.lagworld.specs.State.{WorldState, LinkState}
-use Rattle.std.specs.Prelude.{flat_map}
-use Rattle.std.specs.List.{range_with_len}
-use Rattle.std.proofs.lemmas.List.{take_more}
+use Rattle.lagtool_jobs.proofs.Common.{List, None, Option, Some, [], ap, append_assoc, ap₂, arith, decimal, get_or, length, option_map, refl}
+use Rattle.lagtool_jobs.proofs.Common.{slice_get, suc, sym, take, zero, ℕ, ◌++◌, ◌+◌, ◌<◌, ◌∙◌, ◌∷◌, ◌≡◌, ◌≤◌, take_more, none-some, range_with_len}
+use Rattle.lagtool_jobs.proofs.Common.{flat_map, agreement_line, agreements_text, collected_text, entries_text, entry_line, Event, Reply}
+use Rattle.lagtool_jobs.proofs.Common.{agreement_at, agreement_of, end_facts, Algorithms, WorldRuns, LinkState, WorldState}
+use Rattle.lagtool_jobs.specs.ReplayReport.{cable_numbers}
 use Rattle.std.proofs.lemmas.List.Concat.{flat_map-append}
-use Rattle.lagscript.specs.declared.event.Event.{Event}
-use Rattle.lagworld.specs.declared.reply.Reply.{Reply}
 use Rattle.lagworld.specs.declared.agreement.Agreement.{Agreement}
-use Rattle.lagtool_jobs.specs.ReplayReport.{agreement_line, agreements_text, cable_numbers, collected_text, entries_text, entry_line}
 
 -- a text to which one is appended, and then another
 pub appended_both : (t u v a b c : List ℕ) → u ≡ t ++ a → v ≡ u ++ b → a ++ b ≡ c → v ≡ t ++ c

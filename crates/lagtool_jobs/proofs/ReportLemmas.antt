@@ -1,25 +1,16 @@
 -- The report so far and what is still to come.
-use Rattle.std.proofs.Common.{ℕ, zero, suc, ◌+◌, ◌-◌, ◌<◌, ◌≤◌, ◌≡◌, ◌++◌, ◌==◌, min, true, false, cond, Bool, List, [], ◌∷◌, Option}
-use Rattle.std.proofs.Common.{get_or, inl, inr, length, refl, sym, ap, ◌∙◌, append_assoc, arith, subst, take, drop}
-use Rattle.std.proofs.lemmas.List.{append-nil, drop_more, get_or-take, length-append, length-drop, length-take-le, take_rest}
-use Rattle.std.proofs.lemmas.List.{take-append-drop, take_all}
-use Rattle.std.proofs.lemmas.Bool.{cases_lt, eqb-true, lt-ltb}
-use Rattle.std.specs.Prelude.{IfErr, IfOk, IsErrAnd, OnOk, Result, Ok, Err, is_ok}
-use Rattle.std.specs.Fmt.{decimal}
-use Rattle.std.specs.Io.KnownBytes.{Appends, IsAtEnd}
+use Rattle.lagtool_jobs.proofs.Common.{Bool, Err, IfErr, IfOk, List, Ok, OnOk, Option, Result, [], ap, append-nil, append_assoc, arith, cond, decimal}
+use Rattle.lagtool_jobs.proofs.Common.{drop, eqb-true, false, get_or, inl, inr, length, length-append, length-drop, min, refl, subst, suc, sym, take}
+use Rattle.lagtool_jobs.proofs.Common.{take-append-drop, take_all, true, zero, ℕ, ◌++◌, ◌+◌, ◌-◌, ◌<◌, ◌==◌, ◌∙◌, ◌∷◌, ◌≡◌, ◌≤◌, cases_lt, lt-ltb}
+use Rattle.lagtool_jobs.proofs.Common.{drop_more, get_or-take, length-take-le, take_rest, Appends, IsAtEnd, IsErrAnd, is_ok, AppendsPart, SinkState}
+use Rattle.lagtool_jobs.proofs.Common.{WritesWhole, ToolFault, NoMemory, Read, Write, Checks, Completes, HasCause, Stops, ReadsOctets, ScanState}
+use Rattle.lagtool_jobs.proofs.Common.{summary_after, to_write_after, unwritten, hex_verdict, is_fault, line_verdict, verdict_text}
 use Rattle.memchr.specs.Find.{Nowhere, Passes, is_byte}
 use Rattle.hex.specs.Hex.{decode_of}
-use Rattle.lagtool_jobs.specs.CheckEnds.{Checks, Completes, HasCause, Stops}
-use Rattle.lagstreams.specs.Lines.{continue_line, lines_of, newline_count}
-use Rattle.lagtool_jobs.specs.CheckReport.{summary_from, summary_text, ended_lines_text, fault_count}
-use Rattle.lagtool_jobs.specs.CheckReport.{verdict_line, check_report, check_report_from, summary, verdicts_from}
-use Rattle.lagtool_jobs.specs.Scans.{ReadsOctets, ScanState, summary_after, to_write_after, unwritten}
-use Rattle.lagstreams.specs.Sinks.{AppendsPart, SinkState, WritesWhole}
+use Rattle.lagstreams.specs.Lines.{continue_line, lines_of, newline_count, without_return}
+use Rattle.lagtool_jobs.specs.CheckReport.{summary_from, summary_text, ended_lines_text, fault_count, verdict_line, check_report, check_report_from}
+use Rattle.lagtool_jobs.specs.CheckReport.{summary, verdicts_from}
 use Rattle.lagstreams.specs.Sources.{Fails, Gives, SourceState}
-use Rattle.lagtool_jobs.specs.Verdicts.{hex_verdict, is_fault, line_verdict, verdict_text}
-use Rattle.lagstreams.specs.Lines.{without_return}
-use Rattle.lagtool_jobs.specs.declared.fault.ToolFault.{ToolFault}
-use Rattle.lagtool_jobs.specs.declared.fault.ToolFault.TheVariants.{NoMemory, Read, Write}
 use Rattle.lagtool_jobs.specs.declared.summary.Summary.{Summary}
 use Rattle.lagtool_jobs.specs.declared.verdict.Verdict.{Verdict}
 use Rattle.lagtool_jobs.specs.declared.verdict.Verdict.TheVariants.{TooLong}

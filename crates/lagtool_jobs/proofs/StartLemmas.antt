@@ -1,27 +1,13 @@
 -- A world before any event, and its report as that of a text.
-use Rattle.std.proofs.Common.{◌≡◌, ◌++◌, ℕ, List, [], ◌∷◌, map, get_or, drop, refl, ap, ap₂, sym, subst, None, length, arith}
-use Rattle.std.specs.Prelude.{⊤, IsErrAnd, Option, Result, Ok, Err, slice_index_or}
-use Rattle.cables.specs.AnyCable.{any_items, any_limit}
-use Rattle.cables.specs.declared.any.AnyCable.{AnyCable}
-use Rattle.lagscript.specs.Configs.{world_refusal}
-use Rattle.lagscript.specs.Scripts.{HasPlan, plan_value}
-use Rattle.lagscript.specs.declared.event.Event.{Event}
+use Rattle.lagtool_jobs.proofs.Common.{Err, List, None, Ok, Option, Result, [], ap, ap₂, arith, drop, get_or, length, map, refl, subst, sym, ℕ, ◌++◌}
+use Rattle.lagtool_jobs.proofs.Common.{◌∷◌, ◌≡◌, IsErrAnd, slice_index_or, ⊤, AnyCable, any_items, any_limit, SinkState, WritesPart, ToolFault, Write}
+use Rattle.lagtool_jobs.proofs.Common.{IsReplayReport, IsReportOfScript, Replays, agreements_text, empty_link, empty_links, entries_text}
+use Rattle.lagtool_jobs.proofs.Common.{replay_report, AreCounts, flows_with_counts, replay_report_with_counts, refusal_of_one, Event, Plan}
+use Rattle.lagtool_jobs.proofs.Common.{world_refusal, HasPlan, plan_value, Reply, Algorithms, first_link, first_links, LinkState, WorldState}
 use Rattle.lagscript.specs.declared.config.WorldConfig.{WorldConfig}
-use Rattle.lagscript.specs.declared.plan.Plan.{Plan}
-use Rattle.lagsystem.specs.First.{config_refusal as refusal_of_one}
 use Rattle.lagsystem.specs.declared.config.Config.{Config}
 use Rattle.lagworld.proofs.Making.{second_accepted}
-use Rattle.lagworld.specs.Events.{Algorithms}
-use Rattle.lagworld.specs.Making.{first_link, first_links}
-use Rattle.lagworld.specs.State.{WorldState, LinkState}
-use Rattle.lagworld.specs.declared.reply.Reply.{Reply}
-use Rattle.lagtool_jobs.specs.ReplayReport.{IsReportOfScript, IsReplayReport, Replays, agreements_text, entries_text, empty_link, empty_links}
-use Rattle.lagtool_jobs.specs.ReplayReport.{replay_report}
-use Rattle.lagtool_jobs.specs.ReplaySteps.{AreCounts, flows_with_counts, replay_report_with_counts}
 use Rattle.lagtool_jobs.specs.declared.flows.Counts.{Counts}
-use Rattle.lagstreams.specs.Sinks.{WritesPart, SinkState}
-use Rattle.lagtool_jobs.specs.declared.fault.ToolFault.{ToolFault}
-use Rattle.lagtool_jobs.specs.declared.fault.ToolFault.TheVariants.{Write}
 
 abbrev with_ends : ℕ × ℕ → LinkState → LinkState
 with_ends ends l = record l { one = ends.0; two = ends.1 }

@@ -1,7 +1,6 @@
 -- The lines of the vectors, one after another.
-use Rattle.std.proofs.Common.{◌≡◌, ℕ, zero, suc, ◌+◌, ◌<◌, ◌++◌, Bool, List, [], ◌∷◌, length, take, get_or, sym, ap, ◌∙◌}
-use Rattle.std.proofs.Common.{append_assoc, arith}
-use Rattle.lagtool_jobs.specs.Vectors.{vector_lines_from, vector_line}
+use Rattle.lagtool_jobs.proofs.Common.{Bool, List, [], ap, append_assoc, arith, get_or, length, suc, sym, take, zero, ℕ, ◌++◌, ◌+◌, ◌<◌, ◌∙◌, ◌∷◌}
+use Rattle.lagtool_jobs.proofs.Common.{◌≡◌, vector_line, vector_lines_from}
 use Rattle.lagtool_jobs.proofs.ReplayLemmas.{append_none, appended_both}
 
 lines_next : (n i : ℕ) (xs : List Bool) (d : Bool) → i < length xs → vector_lines_from n (take i xs)

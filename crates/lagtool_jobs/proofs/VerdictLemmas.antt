@@ -1,5 +1,5 @@
 -- The verdict on a payload that reads as a PDU.
-use Rattle.std.proofs.Common.{ℕ, ◌≡◌, ◌==◌, ◌∙◌, cond, sym, ap, refl, List, slice_index}
+use Rattle.lagtool_jobs.proofs.Common.{List, ap, cond, refl, slice_index, sym, ℕ, ◌==◌, ◌∙◌, ◌≡◌, kind_verdict, payload_verdict, verdict_in}
 use Rattle.slowpdu.specs.Lacpdus.{Reads}
 use Rattle.slowpdu.specs.Markers.{ReadsMarker, tlv_type}
 use Rattle.slowpdu.specs.declared.pdu.Lacpdu.{Lacpdu}
@@ -9,7 +9,6 @@ use Rattle.slowpdu.specs.declared.pdu.MarkerKind.TheVariants.{Information, Respo
 use Rattle.slowpdu.specs.declared.pdu.Pdu.TheVariants as pdu
 use Rattle.slowpdu.proofs.LayoutLemmas.{octet_stands}
 use Rattle.slowpdu.proofs.PduLemmas.{no_fault}
-use Rattle.lagtool_jobs.specs.Verdicts.{kind_verdict, payload_verdict, verdict_in}
 use Rattle.lagtool_jobs.specs.declared.verdict.Verdict.TheVariants as verdict
 
 pub lacpdu_verdict : (b : List ℕ) (v : Lacpdu) → Reads b v → payload_verdict b ≡ verdict.Lacpdu

@@ -1,8 +1,8 @@
 -- If `clap` states no fault for the words of a command line, they name a subcommand with each argument that it takes.
-use Rattle.std.proofs.Common.{◌≡◌, ◌∙◌, ◌&&◌, Bool, true, false, cond, not, ap, ap₂, refl, subst, sym, inl, inr, codes, List, [], ◌∷◌}
-use Rattle.std.proofs.Common.{Option, Some, None, is_some, find, option_map}
+use Rattle.std.proofs.Common.{◌≡◌, ◌∙◌, ◌&&◌, Bool, true, false, cond, not, ap, ap₂, refl, subst, sym, inl, inr, codes, List, [], ◌∷◌, Option, Some}
+use Rattle.std.proofs.Common.{None, is_some, find, option_map, ◌≢◌}
 use Rattle.std.proofs.lemmas.Bool.{not-false, or_parts}
-use Rattle.std.specs.Prelude.{◌≢◌, ⊤}
+use Rattle.std.specs.Prelude.{⊤}
 use Rattle.std.specs.List.{list_any}
 use Rattle.std.specs.Option.{option_map_or}
 use Rattle.clap.specs.Kinds.{HasKind, IsAmong, Kinds, check_kinds, or_else}
@@ -10,12 +10,12 @@ use Rattle.clap.specs.Values.{kind_of}
 use Rattle.clap.specs.declared.error.Error.{Error}
 use Rattle.clap.specs.declared.error.kind.ErrorKind.TheVariants.{DisplayHelp, DisplayVersion, OutOfMemory}
 use Rattle.clap.specs.Faults.{check_fault, defaults_fault, entered_fault, fault_of, level_fault, settle_fault, walk_fault}
-use Rattle.clap.specs.Simple.{App, Shape, argument_words, built, built_leaf, entered, inherited, is_simple, label_of, marked_built}
-use Rattle.clap.specs.Simple.{names_of, rows_at, subcommand_of, with_leaf_noted}
+use Rattle.clap.specs.Simple.{App, Shape, argument_words, built, built_leaf, entered, inherited, is_simple, label_of, marked_built, names_of, rows_at}
+use Rattle.clap.specs.Simple.{subcommand_of, with_leaf_noted}
 use Rattle.clap.specs.Takes.{is_given}
 use Rattle.clap.specs.Walk.{Row, Rule, Text, answers_to, finished, nothing_held, rows_after, settled, walk, walk_from}
-use Rattle.lagtool_words.specs.Lines.{IsHelpOrVersion, IsCause, KeepsKind, capture_subcommand, check_subcommand, decode_subcommand, has_text, has_each_argument}
-use Rattle.lagtool_words.specs.Lines.{program, replay_subcommand, respond_subcommand, vectors_subcommand}
+use Rattle.lagtool_words.specs.Lines.{IsHelpOrVersion, IsCause, KeepsKind, capture_subcommand, check_subcommand, decode_subcommand, has_text}
+use Rattle.lagtool_words.specs.Lines.{has_each_argument, program, replay_subcommand, respond_subcommand, vectors_subcommand}
 use Rattle.lagtool_words.specs.declared.line.LineFault.{LineFault}
 use Rattle.lagtool_words.specs.declared.line.LineFault.TheVariants.{Help, Usage, NoMemory}
 use Rattle.clap.specs.Words.{app_of, is_simple_and_free, subcommand_rows_of, HasMatchesOf}

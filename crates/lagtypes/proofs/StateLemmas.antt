@@ -1,7 +1,6 @@
 -- A state octet and its eight bits determine each other; each of the 256 cases is computed.
-use Rattle.std.proofs.Common.{◌≡◌, ◌<◌, ℕ, zero, suc, Bool, true, false, ◌&&◌, refl, ap, sym, ◌∙◌, arith, nat_eq}
-use Rattle.std.proofs.lemmas.Bool.{and_parts, eqb-true}
-use Rattle.std.specs.Prelude.{◌==◌, if◌then◌else◌}
+use Rattle.std.proofs.Common.{◌≡◌, ◌<◌, ℕ, zero, suc, Bool, true, false, ◌&&◌, refl, ap, sym, ◌∙◌, arith, nat_eq, eqb-true, ◌==◌, if◌then◌else◌}
+use Rattle.std.proofs.lemmas.Bool.{and_parts}
 use Rattle.std.specs.Int.RustNames.{bit_or}
 use Rattle.lagtypes.specs.declared.state.State.{State}
 use Rattle.lagtypes.specs.declared.state.StateBits.{StateBits}

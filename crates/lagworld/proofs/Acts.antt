@@ -1,19 +1,8 @@
 -- What an event did to the system or cable that it names.
-use Rattle.std.proofs.Common.{◌≡◌, ℕ, ◌==◌, Bool, true, false, if◌then◌else◌, Some, None, IsSomeAnd, Result, Ok, Err, IfOk, nat_le, sym}
-use Rattle.std.proofs.Common.{refl, subst}
-use Rattle.std.specs.Prelude.{is_some}
-use Rattle.std.specs.Global.{Vec}
-use Rattle.std.proofs.lemmas.Bool.{true≢false}
-use Rattle.lagtypes.specs.declared.identifiers.AggId.{AggId}
-use Rattle.lagmodel.specs.World.{Side, One, Two}
-use Rattle.lagscript.specs.declared.event.Event.{Event}
+use Rattle.lagworld.proofs.Common.{Bool, Err, IfOk, IsSomeAnd, None, Ok, Result, Some, Vec, false, if◌then◌else◌, is_some, nat_le, refl, subst, sym}
+use Rattle.lagworld.proofs.Common.{true, ℕ, ◌==◌, ◌≡◌, true≢false, AggId, One, Side, Two, Event, WorldFault, Reply, Algorithms, DoesEvent, WorldEmits}
+use Rattle.lagworld.proofs.Common.{WorldOffers, cause, first_event_cause, has_cable, has_system, most_events, side_of, side_numbered, WorldState}
 use Rattle.lagscript.specs.declared.event.Event.TheVariants as event
-use Rattle.lagworld.specs.declared.fault.WorldFault.{WorldFault}
-use Rattle.lagworld.specs.declared.reply.Reply.{Reply}
-use Rattle.lagworld.specs.State.{WorldState}
-use Rattle.lagworld.specs.Messages.{side_numbered}
-use Rattle.lagworld.specs.Events.{Algorithms, DoesEvent, WorldEmits, WorldOffers, side_of, cause, first_event_cause, has_cable}
-use Rattle.lagworld.specs.Events.{has_system, most_events}
 
 pub second : (a b c : Bool) → first_event_cause a b c ≡ None → (a ≡ true) × (b ≡ true)
 second true true c h = (refl, refl)

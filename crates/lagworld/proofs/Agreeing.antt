@@ -1,34 +1,19 @@
 -- The ends of a cable never have different groups if none of the earlier variants of `Agreement` holds.
-use Rattle.std.proofs.Common.{◌≡◌, ◌≢◌, ℕ, zero, suc, ◌+◌, ◌&&◌, ◌||◌, Bool, true, false, Option, Some, None, IsSomeAnd, List, map, ap}
-use Rattle.std.proofs.Common.{sym, refl, ◌∙◌, subst, arith, eqb-true}
-use Rattle.std.specs.Prelude.{not, is_some, option_map, slice_get}
-use Rattle.std.specs.Option.{unwrap_or}
-use Rattle.std.proofs.lemmas.Bool.{and_parts, true≢false, not-false, or_parts}
-use Rattle.std.proofs.lemmas.Option.{none-some, same_Some, slice_get-map}
+use Rattle.lagworld.proofs.Common.{Bool, IsSomeAnd, List, None, Option, Some, ap, arith, eqb-true, false, is_some, map, not, option_map, refl}
+use Rattle.lagworld.proofs.Common.{slice_get, subst, suc, sym, true, zero, ℕ, ◌&&◌, ◌+◌, ◌||◌, ◌∙◌, ◌≡◌, ◌≢◌, and_parts, not-false, or_parts}
+use Rattle.lagworld.proofs.Common.{true≢false, none-some, same_Some, slice_get-map, unwrap_or, same_group, group-itself, LastLacpduIsUpToDate, One}
+use Rattle.lagworld.proofs.Common.{Side, TakenLacpdu, Two, end_at, peer, port_on, Machines, model_port, group_at, PortsAgree, SystemState}
+use Rattle.lagworld.proofs.Common.{machines_of, port_index, system_port_at, all-get, port_seen, StampedLacpdu, agreement_at, agreement_of, end_facts}
+use Rattle.lagworld.proofs.Common.{first_agreement, is_stamp, same_groups, link_ends, model_taken, model_world, IsSound, LinkState, WorldState}
+use Rattle.lagworld.proofs.Common.{change_count_in, half, history_at, port_at, taken_in}
 use Rattle.lagtypes.specs.declared.group.Group.{Group}
 use Rattle.lagtypes.specs.Group.{SamePair, pair_of}
-use Rattle.lagtypes.specs.Same.{same_group}
 use Rattle.lagtypes.proofs.GroupLemmas.{groups_from_pairs}
-use Rattle.lagtypes.proofs.SameLemmas.{group-itself}
 use Rattle.slowpdu.specs.Parties.{party_of}
 use Rattle.portmachines.specs.declared.mux.MuxState.TheVariants.{CollectingDistributing}
-use Rattle.portmachines.specs.Machines.{Machines}
 use Rattle.portmachines.specs.Mux.{same_mux_state}
-use Rattle.lagmodel.specs.World.{Side, One, Two, peer, TakenLacpdu, end_at, port_on}
-use Rattle.lagmodel.specs.Law.{LastLacpduIsUpToDate}
 use Rattle.lagsystem.specs.declared.system_ports.SystemPort.{SystemPort}
-use Rattle.lagsystem.specs.Readers.{group_at}
-use Rattle.lagsystem.specs.ModelView.{model_port}
-use Rattle.lagsystem.specs.Sound.{PortsAgree}
-use Rattle.lagsystem.specs.State.{SystemState, machines_of, port_index, system_port_at}
-use Rattle.lagsystem.proofs.Rising.{all-get}
-use Rattle.lagsystem.proofs.Seen.{port_seen}
 use Rattle.lagworld.specs.declared.agreement.Agreement.TheVariants.{Differ}
-use Rattle.lagworld.specs.declared.histories.StampedLacpdu.{StampedLacpdu}
-use Rattle.lagworld.specs.State.{LinkState, WorldState, half, port_at, history_at, change_count_in, taken_in}
-use Rattle.lagworld.specs.Agreement.{agreement_at, agreement_of, end_facts, first_agreement, is_stamp, same_groups}
-use Rattle.lagworld.specs.Sound.{IsSound}
-use Rattle.lagworld.specs.ModelWorld.{link_ends, model_world, model_taken}
 use Rattle.lagworld.proofs.Running.{agree_of}
 
 -- the answer is the last one only if none of the others holds

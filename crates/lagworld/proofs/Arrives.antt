@@ -1,46 +1,24 @@
 -- What an item that arrives on a port does.
-use Rattle.std.proofs.Common.{◌≡◌, ℕ, suc, ◌==◌, eqb, ◌++◌, Bool, true, false, cond, Option, Some, None, IsSome, List, [], ◌∷◌, map, sym}
-use Rattle.std.proofs.Common.{refl, ap, ◌∙◌, subst, inl, inr, ◌⊎◌, Ok, Err, Result, eqb-true, eq-eqb}
-use Rattle.std.specs.Prelude.{option_map, option_to_list, slice_get}
-use Rattle.std.proofs.lemmas.Bool.{cases_Bool, true≢false}
-use Rattle.lagtypes.specs.declared.identifiers.AggId.{AggId}
-use Rattle.cables.specs.declared.item.Stamp.{Stamp}
+use Rattle.lagworld.proofs.Common.{Bool, Err, IsSome, List, None, Ok, Option, Result, Some, [], ap, cond, eq-eqb, eqb, eqb-true, false, inl, inr, map}
+use Rattle.lagworld.proofs.Common.{option_map, refl, slice_get, subst, suc, sym, true, ℕ, ◌++◌, ◌==◌, ◌∙◌, ◌∷◌, ◌≡◌, ◌⊎◌, cases_Bool, true≢false}
+use Rattle.lagworld.proofs.Common.{option_to_list, AggId, Lacpdu, Pdu, IsSlowProtocolsFrame, Reads, lacpdu_in, number_at, pdu_read, Act, LawfulMoves}
+use Rattle.lagworld.proofs.Common.{Sends, Took, Message_pdu, ModelEvent, CallHappens, Control, Data, DeliversFirst, Ends, Happens, IsCabling}
+use Rattle.lagworld.proofs.Common.{LosesFirst, Message, One, Receives, RepeatsFirst, Side, Two, WorldSetup, at_side, at_two, end_at, handed_up, peer}
+use Rattle.lagworld.proofs.Common.{stamp_of, with_messages, cond_false, cond_true, same_world, Stamp, SystemFault, Received, Receive, EffectsSeenAs}
+use Rattle.lagworld.proofs.Common.{FrameSeenAs, JoinedByLawfulMoves, control_message, model_lacpdu, model_setup, model_view, SystemState, PortHistory}
+use Rattle.lagworld.proofs.Common.{StampedLacpdu, Reply, AfterReceive, DeliversFrom, LosesFrom, RepeatsFrom, RepeatsItem, WorldReceives}
+use Rattle.lagworld.proofs.Common.{set_last_lacpdu, stamped_in, with_collected_in, with_last_lacpdu, with_link_at, HalfAnswers, set_taken}
+use Rattle.lagworld.proofs.Common.{item_message, message_in, payload_in, side_numbered, stamp_count, link_ends, messages, model_taken, model_world}
+use Rattle.lagworld.proofs.Common.{world_setup, AreItems, IsItem, FlowValue, HalfState, ItemValue, LinkState, WorldState, change_count_in}
+use Rattle.lagworld.proofs.Common.{collected_in, flow_at, forced_in, half, history_at, is_accepted, port_at, put_on_port, sent_in, taken_in, towards}
+use Rattle.lagworld.proofs.Common.{with_collected, with_half, with_towards}
+use Rattle.slowpdu.specs.Readings.{pdu_in}
+use Rattle.lagmodel.specs.World.{Event}
 use Rattle.cables.specs.declared.item.Stamp.TheVariants as stamp
-use Rattle.slowpdu.specs.declared.pdu.Lacpdu.{Lacpdu}
-use Rattle.slowpdu.specs.declared.pdu.Pdu.{Pdu}
 use Rattle.slowpdu.specs.declared.pdu.Pdu.TheVariants as pdu
-use Rattle.slowpdu.specs.Frames.{IsSlowProtocolsFrame}
-use Rattle.slowpdu.specs.Lacpdus.{Reads}
-use Rattle.slowpdu.specs.Readings.{number_at, pdu_in, lacpdu_in}
-use Rattle.slowpdu.proofs.PduInLemmas.{pdu_read}
-use Rattle.lagmodel.specs.View.{ModelCall as ModelEvent, ControlMessage as Message_pdu}
-use Rattle.lagmodel.specs.Move.{Act, Sends, Took, LawfulMoves}
-use Rattle.lagmodel.specs.World.{Side, One, Two, peer, Message, Control, Data, WorldSetup, Ends, IsCabling, end_at, CallHappens}
-use Rattle.lagmodel.specs.World.{Event, Happens, with_messages, at_side, at_two, handed_up, stamp_of, DeliversFirst, RepeatsFirst}
-use Rattle.lagmodel.specs.World.{LosesFirst, Receives}
-use Rattle.lagmodel.proofs.Base.{cond_true, cond_false}
 use Rattle.lagmodel.proofs.Brings.{moves_bring}
-use Rattle.lagmodel.proofs.Runs.{same_world}
-use Rattle.lagsystem.specs.declared.received.Received.{Received}
 use Rattle.lagsystem.specs.declared.received.Received.TheVariants as received
 use Rattle.lagsystem.specs.declared.drive.Reply.TheVariants as answer
-use Rattle.lagsystem.specs.declared.fault.SystemFault.{SystemFault}
-use Rattle.lagsystem.specs.Calls.{Receive}
-use Rattle.lagsystem.specs.ModelView.{model_setup, model_view, JoinedByLawfulMoves, FrameSeenAs, EffectsSeenAs, control_message}
-use Rattle.lagsystem.specs.ModelView.{lacp_message as model_lacpdu}
-use Rattle.lagsystem.specs.State.{SystemState}
-use Rattle.lagworld.specs.declared.reply.Reply.{Reply}
-use Rattle.lagworld.specs.declared.histories.StampedLacpdu.{StampedLacpdu}
-use Rattle.lagworld.specs.declared.histories.PortHistory.{PortHistory}
-use Rattle.lagworld.specs.State.{ItemValue, HalfState, LinkState, WorldState, FlowValue, half, with_half, port_at, towards, with_towards}
-use Rattle.lagworld.specs.State.{put_on_port, is_accepted, history_at, change_count_in, taken_in, flow_at, sent_in, collected_in}
-use Rattle.lagworld.specs.State.{forced_in, with_collected}
-use Rattle.lagworld.specs.Messages.{payload_in, message_in, item_message, stamp_count, side_numbered}
-use Rattle.lagworld.specs.HalfCalls.{HalfAnswers, set_taken}
-use Rattle.lagworld.specs.Events.{with_link_at, stamped_in, set_last_lacpdu, with_last_lacpdu, with_collected_in, WorldReceives}
-use Rattle.lagworld.specs.Events.{AfterReceive, DeliversFrom, LosesFrom, RepeatsFrom, RepeatsItem}
-use Rattle.lagworld.specs.Sound.{IsItem, AreItems}
-use Rattle.lagworld.specs.ModelWorld.{world_setup, model_world, link_ends, messages, model_taken}
 use Rattle.lagworld.proofs.Sides.{half_after, kept_at}
 use Rattle.lagworld.proofs.Cables.{mapped_set, end_is}
 use Rattle.lagworld.proofs.Flows.{read_changed, read_same}

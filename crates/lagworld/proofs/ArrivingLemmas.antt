@@ -1,42 +1,19 @@
 -- An item arrives, step by step.
-use Rattle.std.proofs.Common.{◌≡◌, ◌+◌, ◌==◌, ◌<◌, ◌≤◌, ℕ, zero, suc, Bool, true, false, cond, length, List, [], ◌∷◌, map, get_or, set}
-use Rattle.std.proofs.Common.{nat_lt, Option, Some, None, IsSomeAnd, IsTrue, Result, Ok, Err, refl, sym, ap, ◌∙◌, subst, arith}
-use Rattle.std.specs.Prelude.{IfSome, not, option_map, position, slice_get, slice_set, drop}
-use Rattle.std.specs.List.{position_or_len}
-use Rattle.std.proofs.lemmas.Bool.{true≢false}
-use Rattle.std.proofs.lemmas.Bool.Decides.{nat_tests}
-use Rattle.std.proofs.lemmas.List.{length-set, map-set, set_past}
-use Rattle.std.proofs.lemmas.Option.{cond_some, none-some, same_Some, slice_get-map, slice_get_read}
-use Rattle.cables.specs.declared.item.Item.{Item}
-use Rattle.cables.specs.declared.item.Stamp.{Stamp}
+use Rattle.lagworld.proofs.Common.{Bool, Err, IsSomeAnd, IsTrue, List, None, Ok, Option, Result, Some, [], ap, arith, cond, drop, false, get_or}
+use Rattle.lagworld.proofs.Common.{length, map, nat_lt, not, option_map, position, refl, set, slice_get, slice_set, subst, suc, sym, true, zero, ℕ}
+use Rattle.lagworld.proofs.Common.{◌+◌, ◌<◌, ◌==◌, ◌∙◌, ◌∷◌, ◌≡◌, ◌≤◌, true≢false, nat_tests, length-set, map-set, set_past, cond_some, none-some}
+use Rattle.lagworld.proofs.Common.{same_Some, slice_get-map, slice_get_read, position_or_len, IfSome, Lacpdu, lacpdu_in, One, Side, Two, Item, Stamp}
+use Rattle.lagworld.proofs.Common.{SystemFault, Received, Receive, JoinedByLawfulMoves, CallPromise, SystemState, PortHistory, StampedLacpdu, Cabled}
+use Rattle.lagworld.proofs.Common.{Reply, CarriesLacpdu, Concludes, HalfReceives, HalfReceivesFirst, IsToRecord, WorldDelivers, WorldReceivesFirst}
+use Rattle.lagworld.proofs.Common.{WorldRepeats, first_head, head_in, history_index, is_data, last_lacpdu_recorded, with_lacpdu_recorded}
+use Rattle.lagworld.proofs.Common.{AfterReceive, Algorithms, DeliversFrom, InHalf, RepeatsFrom, RepeatsItem, WorldReceives, set_last_lacpdu}
+use Rattle.lagworld.proofs.Common.{stamped_in, set_taken, with_state, link_state, link_states, item_value, payload_in, stamp_count, IsReserved}
+use Rattle.lagworld.proofs.Common.{IsReservedAt, is_reserved, FlowValue, HalfState, ItemValue, LinkState, WorldState, half, link_index, port_at}
+use Rattle.lagworld.proofs.Common.{towards, with_half, with_links, with_towards, without_first}
 use Rattle.cables.specs.declared.item.Stamp.TheVariants as stamp
-use Rattle.slowpdu.specs.declared.pdu.Lacpdu.{Lacpdu}
-use Rattle.slowpdu.specs.Readings.{lacpdu_in}
-use Rattle.lagmodel.specs.World.{Side, One, Two}
-use Rattle.lagsystem.specs.declared.received.Received.{Received}
 use Rattle.lagsystem.specs.declared.received.Received.TheVariants as received
 use Rattle.lagsystem.specs.declared.drive.Reply.TheVariants as answer
-use Rattle.lagsystem.specs.declared.fault.SystemFault.{SystemFault}
-use Rattle.lagsystem.specs.Calls.{Receive}
-use Rattle.lagsystem.specs.ModelView.{JoinedByLawfulMoves}
-use Rattle.lagsystem.specs.Sound.{CallPromise}
-use Rattle.lagsystem.specs.State.{SystemState}
 use Rattle.lagworld.specs.declared.delivering.Head.{Head}
-use Rattle.lagworld.specs.declared.link.Link.{Link as Cabled}
-use Rattle.lagworld.specs.declared.histories.StampedLacpdu.{StampedLacpdu}
-use Rattle.lagworld.specs.declared.histories.PortHistory.{PortHistory}
-use Rattle.lagworld.specs.declared.reply.Reply.{Reply}
-use Rattle.lagworld.specs.State.{ItemValue, HalfState, LinkState, WorldState, FlowValue, half, with_half, with_links, port_at, towards}
-use Rattle.lagworld.specs.State.{with_towards, without_first, link_index}
-use Rattle.lagworld.specs.HalfCalls.{set_taken, with_state}
-use Rattle.lagworld.specs.Events.{Algorithms, InHalf, WorldReceives, AfterReceive, DeliversFrom, RepeatsFrom, RepeatsItem, stamped_in}
-use Rattle.lagworld.specs.Events.{set_last_lacpdu}
-use Rattle.lagworld.specs.Messages.{item_value, stamp_count, payload_in}
-use Rattle.lagworld.specs.Inner.{link_state, link_states}
-use Rattle.lagworld.specs.Places.{IsReserved, IsReservedAt, is_reserved}
-use Rattle.lagworld.specs.Arriving.{CarriesLacpdu, HalfReceives, Concludes, WorldDelivers, HalfReceivesFirst, WorldReceivesFirst}
-use Rattle.lagworld.specs.Arriving.{IsToRecord, WorldRepeats, first_head, head_in, is_data, last_lacpdu_recorded, history_index}
-use Rattle.lagworld.specs.Arriving.{with_lacpdu_recorded}
 use Rattle.lagworld.proofs.LineLemmas.{on_place}
 use Rattle.lagworld.proofs.Arrives.{lacpdu_read}
 

@@ -1,13 +1,7 @@
 -- Serial numbers that are collected, and the places that are reserved for them.
-use Rattle.std.proofs.Common.{◌≡◌, ◌<◌, ◌≤◌, ◌+◌, ◌++◌, ℕ, suc, Bool, List, [], ◌∷◌, length, map, get_or, set, Option, Some, Result, Ok}
-use Rattle.std.proofs.Common.{Err, refl, sym, ap, ◌∙◌, subst, arith}
-use Rattle.std.specs.Prelude.{OnOk, slice_get, vec_capacity, vec_len}
-use Rattle.std.specs.Global.{Vec}
-use Rattle.std.proofs.lemmas.Option.{slice_get_read}
-use Rattle.lagworld.specs.declared.histories.Flow.{Flow}
-use Rattle.lagworld.specs.State.{FlowValue, with_collected}
-use Rattle.lagworld.specs.Arriving.{CanCollect, CanCollectAt, CanCollectIn}
-use Rattle.lagworld.specs.Inner.{flow_value}
+use Rattle.lagworld.proofs.Common.{Bool, Err, List, Ok, OnOk, Option, Result, Some, Vec, [], ap, arith, get_or, length, map, refl, set, slice_get}
+use Rattle.lagworld.proofs.Common.{subst, suc, sym, vec_capacity, vec_len, ℕ, ◌++◌, ◌+◌, ◌<◌, ◌∙◌, ◌∷◌, ◌≡◌, ◌≤◌, slice_get_read, Flow, CanCollect}
+use Rattle.lagworld.proofs.Common.{CanCollectAt, CanCollectIn, flow_value, FlowValue, with_collected}
 use Rattle.lagworld.proofs.Cables.{mapped_set, set_here}
 
 -- what is written is seen as what was there

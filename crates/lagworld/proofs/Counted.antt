@@ -1,36 +1,16 @@
 -- The events that change parameters of ports, a configure and a restart, and the change counts.
-use Rattle.std.proofs.Common.{◌≡◌, ◌≢◌, ℕ, zero, suc, ◌+◌, eqb, Bool, true, if◌then◌else◌, Option, Some, None, IsSome, List, [], ◌∷◌}
-use Rattle.std.proofs.Common.{map, sym, refl, ap, ◌∙◌, subst, inl, inr, ◌⊎◌, Result, eqb-true, arith}
-use Rattle.std.specs.Prelude.{option_map, slice_get, is_some}
-use Rattle.std.proofs.lemmas.Bool.{cases_Bool, true≢false}
-use Rattle.std.proofs.lemmas.Option.{none-some, same_Some}
-use Rattle.lagtypes.specs.declared.party.Party.{Party}
-use Rattle.lagtypes.specs.Same.{same_party}
-use Rattle.lagtypes.proofs.SameLemmas.{exact_party, party_itself}
-use Rattle.lagmodel.specs.View.{View, first_view, ModelCall as ModelEvent}
-use Rattle.lagmodel.specs.Move.{LawfulMoves}
-use Rattle.lagmodel.specs.World.{Side, One, Two, at_side, World, CallHappens, CountsChanges, Event, Happens}
-use Rattle.lagmodel.proofs.Base.{cond_true, cond_false, none-is_some}
-use Rattle.lagmodel.proofs.Runs.{same_world}
-use Rattle.portmachines.specs.Machines.{Machines}
-use Rattle.lagsystem.specs.declared.config.PortChange.{PortChange}
-use Rattle.lagsystem.specs.declared.drive.Reply.{Reply as Answer}
+use Rattle.lagworld.proofs.Common.{Bool, IsSome, List, None, Option, Result, Some, [], ap, arith, eqb, eqb-true, if◌then◌else◌, inl, inr, is_some}
+use Rattle.lagworld.proofs.Common.{map, option_map, refl, slice_get, subst, suc, sym, true, zero, ℕ, ◌+◌, ◌∙◌, ◌∷◌, ◌≡◌, ◌≢◌, ◌⊎◌, cases_Bool}
+use Rattle.lagworld.proofs.Common.{true≢false, none-some, same_Some, Party, same_party, exact_party, party_itself, LawfulMoves, ModelEvent, View}
+use Rattle.lagworld.proofs.Common.{first_view, CallHappens, CountsChanges, Happens, One, Side, Two, World, at_side, cond_false, cond_true}
+use Rattle.lagworld.proofs.Common.{none-is_some, same_world, Machines, PortChange, Answer, SystemFault, Call, Configure, Restart, JoinedByLawfulMoves}
+use Rattle.lagworld.proofs.Common.{model_port, model_setup, model_view, SystemState, machines_of, first_shows, party_seen, port_seen, PortHistory}
+use Rattle.lagworld.proofs.Common.{Reply, InHalf, model_change, HalfAnswers, HalfConfigures, HalfRestarts, change_counted, is_party, party_of_port}
+use Rattle.lagworld.proofs.Common.{with_changes_counted, is_whole, messages, model_taken, model_world, world_setup, IsHalfSound, HalfState, LinkState}
+use Rattle.lagworld.proofs.Common.{WorldState, change_count_in, collected_in, element_numbered, emptied, flow_at, forced_in, half, history_at}
+use Rattle.lagworld.proofs.Common.{sent_in, taken_in, with_half, with_links}
+use Rattle.lagmodel.specs.World.{Event}
 use Rattle.lagsystem.specs.declared.drive.Reply.TheVariants as answer
-use Rattle.lagsystem.specs.declared.fault.SystemFault.{SystemFault}
-use Rattle.lagsystem.specs.Calls.{Call, Configure, Restart}
-use Rattle.lagsystem.specs.ModelView.{model_setup, model_port, model_view, JoinedByLawfulMoves}
-use Rattle.lagsystem.specs.State.{SystemState, machines_of}
-use Rattle.lagsystem.proofs.FirstView.{first_shows}
-use Rattle.lagsystem.proofs.Seen.{party_seen, port_seen}
-use Rattle.lagworld.specs.declared.reply.Reply.{Reply}
-use Rattle.lagworld.specs.declared.histories.PortHistory.{PortHistory}
-use Rattle.lagworld.specs.State.{HalfState, LinkState, WorldState, half, with_half, with_links, emptied, element_numbered, history_at}
-use Rattle.lagworld.specs.State.{change_count_in, taken_in, flow_at, sent_in, collected_in, forced_in}
-use Rattle.lagworld.specs.HalfCalls.{HalfAnswers, HalfConfigures, HalfRestarts, with_changes_counted, change_counted, party_of_port}
-use Rattle.lagworld.specs.HalfCalls.{is_party}
-use Rattle.lagworld.specs.Events.{InHalf, model_change}
-use Rattle.lagworld.specs.Sound.{IsHalfSound}
-use Rattle.lagworld.specs.ModelWorld.{world_setup, model_world, is_whole, messages, model_taken}
 use Rattle.lagworld.proofs.Sides.{half_after, kept_at, moved_at}
 use Rattle.lagworld.proofs.OneSystem.{CountsParty, after_call, one_call, quietly, configured_kept}
 

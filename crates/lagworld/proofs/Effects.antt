@@ -1,29 +1,15 @@
 -- What an event does: nothing, one cable changes, one system is called, or both. Each law about events is proved of these.
-use Rattle.std.proofs.Common.{◌≡◌, ℕ, zero, suc, Bool, true, Option, Some, None, IsSomeAnd, List, [], ◌∷◌, map, Result, Ok, refl, subst}
-use Rattle.std.specs.Prelude.{is_some, option_and_then, slice_get}
-use Rattle.std.specs.Global.{Vec}
-use Rattle.cables.specs.declared.item.Stamp.{Stamp}
+use Rattle.lagworld.proofs.Common.{Bool, IsSomeAnd, List, None, Ok, Option, Result, Some, Vec, [], is_some, map, option_and_then, refl, slice_get}
+use Rattle.lagworld.proofs.Common.{subst, suc, true, zero, ℕ, ◌∷◌, ◌≡◌, AggId, One, Side, Two, value_of, Stamp, PortChange, Answer, SystemFault, Call}
+use Rattle.lagworld.proofs.Common.{Configure, Force, Move_conversation, Restart, Set_link, Event, cable_named, system_named, Reply, Algorithms}
+use Rattle.lagworld.proofs.Common.{DeliversFrom, DoesEvent, InHalf, LosesFrom, OnLink, RepeatsFrom, RepeatsItem, WorldEmits, WorldOffers}
+use Rattle.lagworld.proofs.Common.{WorldReceives, has_cable, has_system, side_of, with_link_at, HalfAnswers, HalfTicks, forced_if_accepted}
+use Rattle.lagworld.proofs.Common.{or_refused, with_changes_counted, link_ends, AreItems, HalfState, ItemValue, LinkState, WorldState, cut}
+use Rattle.lagworld.proofs.Common.{element_numbered, emptied, half, joined, port_at, towards, with_links, with_towards}
 use Rattle.cables.specs.declared.item.Stamp.TheVariants as stamp
-use Rattle.lagtypes.specs.declared.identifiers.AggId.{AggId}
-use Rattle.lagmodel.specs.World.{Side, One, Two}
-use Rattle.lagmodel.proofs.Base.{value_of}
-use Rattle.lagsystem.specs.declared.config.PortChange.{PortChange}
-use Rattle.lagsystem.specs.declared.drive.Reply.{Reply as Answer}
 use Rattle.lagsystem.specs.declared.drive.Reply.TheVariants as answer
-use Rattle.lagsystem.specs.declared.fault.SystemFault.{SystemFault}
-use Rattle.lagsystem.specs.Calls.{Call, Set_link, Configure, Restart, Move_conversation, Force}
-use Rattle.lagscript.specs.declared.event.Event.{Event}
 use Rattle.lagscript.specs.declared.event.Event.TheVariants as event
-use Rattle.lagworld.specs.declared.reply.Reply.{Reply}
 use Rattle.lagworld.specs.declared.reply.Reply.TheVariants as reply
-use Rattle.lagworld.specs.State.{HalfState, ItemValue, LinkState, WorldState, cut, element_numbered, emptied, half, joined, port_at, towards}
-use Rattle.lagworld.specs.State.{with_links, with_towards}
-use Rattle.lagworld.specs.HalfCalls.{HalfAnswers, HalfTicks, forced_if_accepted, or_refused, with_changes_counted}
-use Rattle.lagworld.specs.Events.{Algorithms, DeliversFrom, DoesEvent, InHalf, LosesFrom, OnLink, RepeatsFrom, RepeatsItem, WorldEmits}
-use Rattle.lagworld.specs.Events.{WorldOffers, WorldReceives, has_cable, has_system, side_of, with_link_at}
-use Rattle.lagscript.specs.EventValues.{cable_named, system_named}
-use Rattle.lagworld.specs.ModelWorld.{link_ends}
-use Rattle.lagworld.specs.Sound.{AreItems}
 
 -- what is recorded of a system that has answered
 pub data Recording : Type 0 where

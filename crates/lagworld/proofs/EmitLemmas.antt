@@ -1,20 +1,8 @@
 -- What becomes of a frame that a system sends.
-use Rattle.std.proofs.Common.{◌≡◌, ℕ, Bool, Option, Some, List, ap, ◌∙◌, subst, Ok, Err, Result, IfErr}
-use Rattle.slowpdu.specs.declared.pdu.Pdu.{Pdu}
-use Rattle.slowpdu.specs.Pdus.{ReadsPdu}
-use Rattle.slowpdu.specs.Readings.{pdu_in}
-use Rattle.slowpdu.proofs.PduLemmas.{written_pdu}
-use Rattle.cables.specs.declared.item.Stamp.{Stamp}
-use Rattle.lagmodel.specs.World.{Side}
-use Rattle.lagsystem.specs.declared.fault.SystemFault.{SystemFault}
-use Rattle.lagsystem.specs.ModelView.{IsSent}
-use Rattle.lagsystem.proofs.Sent.{sent_payload}
-use Rattle.lagworld.specs.declared.reply.Reply.{Reply}
-use Rattle.lagworld.specs.Asking.{WorldAsksTransmit}
-use Rattle.lagworld.specs.Events.{Algorithms, WorldEmits, AfterTransmit, sent_reply, stamp_for, transmitted_item}
-use Rattle.lagworld.specs.Messages.{payload_in}
-use Rattle.lagworld.specs.State.{ItemValue, HalfState, LinkState, WorldState, half, with_links, put_on_port, is_accepted}
-use Rattle.lagworld.specs.State.{change_count_in, history_at}
+use Rattle.lagworld.proofs.Common.{Bool, Err, IfErr, List, Ok, Option, Result, Some, ap, subst, ℕ, ◌∙◌, ◌≡◌, Pdu, ReadsPdu, pdu_in, written_pdu, Side}
+use Rattle.lagworld.proofs.Common.{Stamp, SystemFault, IsSent, sent_payload, Reply, WorldAsksTransmit, AfterTransmit, Algorithms, WorldEmits}
+use Rattle.lagworld.proofs.Common.{sent_reply, stamp_for, transmitted_item, payload_in, HalfState, ItemValue, LinkState, WorldState, change_count_in}
+use Rattle.lagworld.proofs.Common.{half, history_at, is_accepted, put_on_port, with_links}
 
 abbrev made : List ℕ → Stamp → ItemValue
 made octets stamp = record { octets = octets; stamp = stamp }

@@ -1,12 +1,8 @@
 -- The record of a conversation is at its index, and so are the ports that a cable joins.
-use Rattle.std.proofs.Common.{◌≡◌, ◌<◌, ◌≤◌, ◌+◌, ℕ, suc, Bool, false, IsSomeAnd, Option, Some, None, List, length, map, get_or, ap, arith, refl, ◌∙◌}
-use Rattle.std.proofs.Common.{subst, sym}
-use Rattle.std.specs.Prelude.{is_some, option_map, slice_get}
-use Rattle.std.proofs.lemmas.Bool.{true≢false}
-use Rattle.std.proofs.lemmas.List.{length-map}
-use Rattle.std.proofs.lemmas.Option.{slice_get-map, slice_get_past, slice_get_read}
+use Rattle.lagworld.proofs.Common.{Bool, IsSomeAnd, List, None, Option, Some, ap, arith, false, get_or, is_some, length, map, option_map, refl}
+use Rattle.lagworld.proofs.Common.{slice_get, subst, suc, sym, ℕ, ◌+◌, ◌<◌, ◌∙◌, ◌≡◌, ◌≤◌, true≢false, length-map, slice_get-map, slice_get_past}
+use Rattle.lagworld.proofs.Common.{slice_get_read, FlowValue, LinkState, WorldState, flow_at, flow_in_aggregator}
 use Rattle.lagworld.specs.Readers.{ends_of_cable, ports_joined}
-use Rattle.lagworld.specs.State.{FlowValue, LinkState, WorldState, flow_at, flow_in_aggregator}
 
 module _ {R X : Type 0} (v : X → FlowValue) (items : R → List X) where
   row_there : (rows : List R) (i k : ℕ) (row : R) → i < length rows → row ≡ get_or rows i row

@@ -1,15 +1,8 @@
 -- The record of a conversation changes, in code and as contracts see it.
-use Rattle.std.proofs.Common.{◌≡◌, ◌<◌, ◌≤◌, ◌+◌, ℕ, zero, suc, Some, None, List, [], ◌∷◌, length, map, set, get_or, sym, refl, ap, ◌∙◌}
-use Rattle.std.proofs.Common.{subst, inl, inr, ◌⊎◌, arith}
-use Rattle.std.specs.Prelude.{slice_get, option_map}
-use Rattle.std.specs.Global.{Vec}
-use Rattle.std.proofs.lemmas.List.{map-set}
-use Rattle.std.proofs.lemmas.Option.{slice_get-map, slice_get_read, slice_get_past}
-use Rattle.lagworld.specs.declared.histories.Flow.{Flow}
-use Rattle.lagworld.specs.Inner.{flow_value}
-use Rattle.lagworld.specs.Places.{HasRoom, HasRoomAt, HasRoomIn, flow_values}
-use Rattle.lagworld.specs.State.{FlowValue, change_flow, change_flow_of, change_flow_in, sent_in, flow_at, flow_in_aggregator}
-use Rattle.lagworld.specs.State.{element_numbered}
+use Rattle.lagworld.proofs.Common.{List, None, Some, Vec, [], ap, arith, get_or, inl, inr, length, map, option_map, refl, set, slice_get, subst, suc}
+use Rattle.lagworld.proofs.Common.{sym, zero, ℕ, ◌+◌, ◌<◌, ◌∙◌, ◌∷◌, ◌≡◌, ◌≤◌, ◌⊎◌, map-set, slice_get-map, slice_get_past, slice_get_read, Flow}
+use Rattle.lagworld.proofs.Common.{flow_value, HasRoom, HasRoomAt, HasRoomIn, flow_values, FlowValue, change_flow, change_flow_in, change_flow_of}
+use Rattle.lagworld.proofs.Common.{element_numbered, flow_at, flow_in_aggregator, sent_in}
 
 abbrev pub aggregator_flow_values : Vec Flow → List FlowValue
 aggregator_flow_values xs = map flow_value xs.items

@@ -1,24 +1,12 @@
 -- A conversation is freed by force, and counts as forced from then on.
-use Rattle.std.proofs.Common.{◌≡◌, ℕ, Bool, true, Option, Some, None, IsSome, [], sym, refl, ap, ◌∙◌, subst, inl, inr, Ok, Err, Result}
-use Rattle.std.specs.Prelude.{option_map}
-use Rattle.lagtypes.specs.declared.identifiers.AggId.{AggId}
-use Rattle.distributor.specs.declared.assignment.Assignment.{Assignment}
-use Rattle.lagmodel.specs.View.{ModelCall as ModelEvent}
-use Rattle.lagmodel.specs.Move.{LawfulMoves}
-use Rattle.lagmodel.specs.World.{Side, One, Two, at_side, at_two, CallHappens, Event, Happens}
-use Rattle.lagmodel.proofs.Runs.{same_world}
+use Rattle.lagworld.proofs.Common.{Bool, Err, IsSome, None, Ok, Option, Result, Some, [], ap, inl, inr, option_map, refl, subst, sym, true, ℕ, ◌∙◌}
+use Rattle.lagworld.proofs.Common.{◌≡◌, AggId, LawfulMoves, ModelEvent, CallHappens, Happens, One, Side, Two, at_side, at_two, same_world, Assignment}
+use Rattle.lagworld.proofs.Common.{SystemFault, Force, JoinedByLawfulMoves, model_setup, model_view, GivesOrRefuses, system_force_result, SystemState}
+use Rattle.lagworld.proofs.Common.{Reply, InHalf, HalfAnswers, HalfForces, forced_if_accepted, with_state, model_taken, model_world, world_setup}
+use Rattle.lagworld.proofs.Common.{FlowValue, HalfState, WorldState, change_count_in, change_flow, collected_in, flow_at, forced_in, half, history_at}
+use Rattle.lagworld.proofs.Common.{sent_in, taken_in, with_forced, with_half}
+use Rattle.lagmodel.specs.World.{Event}
 use Rattle.lagsystem.specs.declared.drive.Reply.TheVariants as answer
-use Rattle.lagsystem.specs.declared.fault.SystemFault.{SystemFault}
-use Rattle.lagsystem.specs.Calls.{Force}
-use Rattle.lagsystem.specs.Offers.{GivesOrRefuses, system_force_result}
-use Rattle.lagsystem.specs.ModelView.{model_setup, model_view, JoinedByLawfulMoves}
-use Rattle.lagsystem.specs.State.{SystemState}
-use Rattle.lagworld.specs.declared.reply.Reply.{Reply}
-use Rattle.lagworld.specs.State.{HalfState, WorldState, FlowValue, half, with_half, history_at, change_count_in, taken_in, flow_at}
-use Rattle.lagworld.specs.State.{sent_in, collected_in, forced_in, change_flow, with_forced}
-use Rattle.lagworld.specs.HalfCalls.{HalfAnswers, HalfForces, forced_if_accepted, with_state}
-use Rattle.lagworld.specs.Events.{InHalf}
-use Rattle.lagworld.specs.ModelWorld.{world_setup, model_world, model_taken}
 use Rattle.lagworld.proofs.Sides.{half_after, kept_at}
 use Rattle.lagworld.proofs.Flows.{read_changed, read_same}
 use Rattle.lagworld.proofs.OneSystem.{after_call, one_call, quietly, counts_kept, setup_kept}

@@ -1,25 +1,12 @@
 -- Each event of a world is an event of the model.
-use Rattle.std.proofs.Common.{◌≡◌, ℕ, suc, true, false, Some, None, List, [], map, sym, refl, ap, subst, Result}
-use Rattle.std.specs.Prelude.{slice_get, slice_set}
-use Rattle.lagtypes.specs.declared.identifiers.AggId.{AggId}
-use Rattle.lagmodel.specs.View.{ModelCall as ModelEvent, is_restart}
-use Rattle.lagmodel.specs.Move.{LawfulMoves}
-use Rattle.lagmodel.specs.World.{Side, One, Two, CallHappens, Event, Happens, with_messages, at_cable, at_side}
-use Rattle.lagmodel.specs.World.{SensesCable as Told_senses}
-use Rattle.lagmodel.proofs.Runs.{same_world}
-use Rattle.lagsystem.specs.declared.drive.Reply.{Reply as Answer}
+use Rattle.lagworld.proofs.Common.{List, None, Result, Some, [], ap, false, map, refl, slice_get, slice_set, subst, suc, sym, true, ℕ, ◌≡◌, AggId}
+use Rattle.lagworld.proofs.Common.{LawfulMoves, ModelEvent, is_restart, CallHappens, Happens, One, Side, Told_senses, Two, at_cable, at_side}
+use Rattle.lagworld.proofs.Common.{with_messages, same_world, Answer, SystemFault, Call, Move_conversation, Set_link, JoinedByLawfulMoves}
+use Rattle.lagworld.proofs.Common.{model_setup, model_view, SystemState, Reply, InHalf, with_link_at, HalfAnswers, HalfMoves, HalfSenses, HalfTicks}
+use Rattle.lagworld.proofs.Common.{item_message, is_whole, messages, model_world, world_setup, HalfState, ItemValue, LinkState, WorldState}
+use Rattle.lagworld.proofs.Common.{change_count_in, cut, element_numbered, half, history_at, joined, port_at, taken_in, with_half, with_towards}
+use Rattle.lagmodel.specs.World.{Event}
 use Rattle.lagsystem.specs.declared.drive.Reply.TheVariants as answer
-use Rattle.lagsystem.specs.declared.fault.SystemFault.{SystemFault}
-use Rattle.lagsystem.specs.Calls.{Call, Set_link, Move_conversation}
-use Rattle.lagsystem.specs.ModelView.{model_setup, model_view, JoinedByLawfulMoves}
-use Rattle.lagsystem.specs.State.{SystemState}
-use Rattle.lagworld.specs.declared.reply.Reply.{Reply}
-use Rattle.lagworld.specs.State.{ItemValue, HalfState, LinkState, WorldState, half, with_half, port_at, with_towards, element_numbered}
-use Rattle.lagworld.specs.State.{cut, joined, history_at, change_count_in, taken_in}
-use Rattle.lagworld.specs.Messages.{item_message}
-use Rattle.lagworld.specs.HalfCalls.{HalfAnswers, HalfTicks, HalfSenses, HalfMoves}
-use Rattle.lagworld.specs.Events.{InHalf, with_link_at}
-use Rattle.lagworld.specs.ModelWorld.{world_setup, model_world, is_whole, messages}
 use Rattle.lagworld.proofs.Cables.{nth_set, nth_same, end_is}
 use Rattle.lagworld.proofs.OneSystem.{one_call, quietly, counts_kept, ticks_moves, told_link}
 

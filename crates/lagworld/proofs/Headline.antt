@@ -1,18 +1,9 @@
 -- Every world on the way of a run is sound, so the headline holds of each.
-use Rattle.std.proofs.Common.{◌≡◌, ◌≤◌, ◌<◌, ℕ, ◌+◌, Bool, true, false, None, List, [], ◌∷◌, ◌++◌, refl}
-use Rattle.std.proofs.Common.{sym, subst, arith}
-use Rattle.std.specs.Prelude.{nat_le}
-use Rattle.std.proofs.lemmas.Bool.{false≢true, true≢false}
-use Rattle.std.proofs.lemmas.Bool.Decides.{nat_tests}
-use Rattle.lagscript.specs.declared.event.Event.{Event}
+use Rattle.lagworld.proofs.Common.{Bool, List, None, [], arith, false, nat_le, refl, subst, sym, true, ℕ, ◌++◌, ◌+◌, ◌<◌, ◌∷◌, ◌≡◌, ◌≤◌, false≢true}
+use Rattle.lagworld.proofs.Common.{true≢false, nat_tests, Event, cable_named, system_named, Reply, Algorithms, WorldRuns, WorldSteps, cause}
+use Rattle.lagworld.proofs.Common.{first_event_cause, has_cable, has_system, most_events, IsSound, WorldState}
 use Rattle.lagscript.specs.declared.event.Event.TheVariants as event
-use Rattle.lagworld.specs.declared.reply.Reply.{Reply}
-use Rattle.lagworld.specs.State.{WorldState}
-use Rattle.lagworld.specs.Events.{Algorithms, WorldSteps, WorldRuns, cause, first_event_cause, has_cable, has_system}
-use Rattle.lagscript.specs.EventValues.{cable_named, system_named}
-use Rattle.lagworld.specs.Events.{most_events}
 use Rattle.lagworld.specs.Headline.{Headline, HoldsAllTheWay, LimitsHoldOnTheWay}
-use Rattle.lagworld.specs.Sound.{IsSound}
 use Rattle.lagworld.proofs.Effects.{named}
 use Rattle.lagworld.proofs.Keeping.{steps_sound}
 use Rattle.lagworld.proofs.Running.{one_partner_of, agree_of, in_order_of}

@@ -1,14 +1,7 @@
 -- Counting the changes of all ports, and emptying all cables: loops that replace each element of a list.
-use Rattle.std.proofs.Common.{◌≡◌, ◌<◌, ◌≤◌, ◌+◌, ◌++◌, ℕ, zero, suc, List, [], ◌∷◌, length, map, set, get_or, take, drop, ap, sym, ◌∙◌}
-use Rattle.std.proofs.Common.{subst, arith}
-use Rattle.std.proofs.Math.ListN.{get_or-map}
-use Rattle.std.proofs.lemmas.List.{map-set, length-map}
-use Rattle.std.proofs.lemmas.List.Edits.{map_over_more}
-use Rattle.lagmodel.specs.World.{Side}
-use Rattle.lagworld.specs.declared.histories.PortHistory.{PortHistory}
-use Rattle.lagworld.specs.State.{WorldState, half}
-use Rattle.lagworld.specs.Events.{most_events}
-use Rattle.lagworld.specs.Sound.{AreBelow, IsSound}
+use Rattle.lagworld.proofs.Common.{List, [], ap, arith, drop, get_or, length, map, set, subst, suc, sym, take, zero, ℕ, ◌++◌, ◌+◌, ◌<◌, ◌∙◌, ◌∷◌, ◌≡◌}
+use Rattle.lagworld.proofs.Common.{◌≤◌, get_or-map, length-map, map-set, map_over_more, Side, PortHistory, most_events, AreBelow, IsSound, WorldState}
+use Rattle.lagworld.proofs.Common.{half}
 use Rattle.lagworld.proofs.Soundness.{below_more}
 
 -- no port can have changed so often that its count overflows

@@ -1,40 +1,22 @@
 -- Each event preserves the invariant of a world.
-use Rattle.std.proofs.Common.{◌≡◌, ◌≤◌, ℕ, ◌+◌, ◌++◌, Bool, true, false, Option, Some, None, IsSome, List, [], ◌∷◌, map, sym, refl, ◌∙◌}
-use Rattle.std.proofs.Common.{subst, Ok, Err, Result, arith}
-use Rattle.std.specs.Prelude.{nat_le}
-use Rattle.std.proofs.lemmas.Bool.Decides.{nat_tests}
-use Rattle.lagtypes.specs.declared.identifiers.AggId.{AggId}
-use Rattle.cables.specs.declared.item.Stamp.{Stamp}
+use Rattle.lagworld.proofs.Common.{Bool, Err, IsSome, List, None, Ok, Option, Result, Some, [], arith, false, map, nat_le, refl, subst, sym, true, ℕ}
+use Rattle.lagworld.proofs.Common.{◌++◌, ◌+◌, ◌∙◌, ◌∷◌, ◌≡◌, ◌≤◌, nat_tests, AggId, Pdu, IsSlowProtocolsFrame, pdu_in, Happens, IsCabling, One, Run}
+use Rattle.lagworld.proofs.Common.{Side, Two, World, WorldSetup, first_world, peer, runs_joined, Stamp, Answer, SystemFault, Received, Call}
+use Rattle.lagworld.proofs.Common.{Configure, Offer, Receive, Restart, Transmit, number_of_conversation, Event, Reply, AfterOffer, AfterReceive}
+use Rattle.lagworld.proofs.Common.{AfterTransmit, Algorithms, DoesEvent, InHalf, WorldReceives, WorldSteps, cause, first_event_cause, model_event}
+use Rattle.lagworld.proofs.Common.{most_events, offered_item, stamp_for, stamped_in, transmitted_item, with_frame_counted, with_item_sent}
+use Rattle.lagworld.proofs.Common.{with_link_at, with_stamp_collected, HalfAnswers, forced_if_accepted, payload_in, side_number, side_numbered}
+use Rattle.lagworld.proofs.Common.{model_world, world_setup, IsItem, IsReached, IsSound, HalfState, ItemValue, LinkState, WorldState, emptied}
+use Rattle.lagworld.proofs.Common.{flow_at, half, port_at, towards, with_collected, with_forced, with_half, with_links, with_sent}
+use Rattle.lagmodel.specs.World.{Event as ModelEvent}
 use Rattle.cables.specs.declared.item.Stamp.TheVariants as stamp
-use Rattle.slowpdu.specs.declared.pdu.Pdu.{Pdu}
 use Rattle.slowpdu.specs.declared.pdu.Pdu.TheVariants as pdu
-use Rattle.slowpdu.specs.Frames.{IsSlowProtocolsFrame}
-use Rattle.slowpdu.specs.Readings.{pdu_in}
-use Rattle.lagmodel.specs.World.{Side, One, Two, peer, WorldSetup, IsCabling, Event as ModelEvent, Run, first_world, World, Happens}
-use Rattle.lagmodel.proofs.Runs.{runs_joined}
-use Rattle.lagsystem.specs.declared.received.Received.{Received}
 use Rattle.lagsystem.specs.declared.received.Received.TheVariants as received
-use Rattle.lagsystem.specs.declared.drive.Reply.{Reply as Answer}
 use Rattle.lagsystem.specs.declared.drive.Reply.TheVariants as answer
-use Rattle.lagsystem.specs.declared.fault.SystemFault.{SystemFault}
-use Rattle.lagsystem.specs.Calls.{Call, Receive, Configure, Restart, Transmit, Offer}
-use Rattle.lagsystem.specs.Readers.{number_of_conversation}
-use Rattle.lagscript.specs.declared.event.Event.{Event}
 use Rattle.lagscript.specs.declared.event.Event.TheVariants as event
-use Rattle.lagworld.specs.declared.reply.Reply.{Reply}
-use Rattle.lagworld.specs.State.{ItemValue, HalfState, LinkState, WorldState, half, with_half, with_links, port_at, towards}
-use Rattle.lagworld.specs.State.{emptied, flow_at, with_forced, with_sent, with_collected}
-use Rattle.lagworld.specs.Messages.{payload_in, side_numbered, side_number}
-use Rattle.lagworld.specs.HalfCalls.{HalfAnswers, forced_if_accepted}
-use Rattle.lagworld.specs.Events.{Algorithms, first_event_cause, with_stamp_collected, DoesEvent, WorldSteps, cause}
-use Rattle.lagworld.specs.Events.{with_link_at, with_item_sent, stamp_for, transmitted_item, stamped_in, AfterTransmit, WorldReceives}
-use Rattle.lagworld.specs.Events.{AfterReceive, AfterOffer, InHalf, offered_item}
-use Rattle.lagworld.specs.Events.{with_frame_counted, model_event, most_events}
-use Rattle.lagworld.specs.Sound.{IsItem, IsSound, IsReached}
-use Rattle.lagworld.specs.ModelWorld.{world_setup, model_world}
 use Rattle.lagworld.proofs.Sides.{half_there}
-use Rattle.lagworld.proofs.Soundness.{IsShaped, GoesOn, goes_on, Follows, follows_then, follows_same, follows_half, items_weaker}
-use Rattle.lagworld.proofs.Soundness.{follows_set, follows_emptied, follows_put, asked_on, ticks_on, counted_on, heard_on, flow_on}
+use Rattle.lagworld.proofs.Soundness.{IsShaped, GoesOn, goes_on, Follows, follows_then, follows_same, follows_half, items_weaker, follows_set}
+use Rattle.lagworld.proofs.Soundness.{follows_emptied, follows_put, asked_on, ticks_on, counted_on, heard_on, flow_on}
 use Rattle.lagworld.proofs.Effects.{ChangesNoParty, DoesEffect, Effect, HalfAsked, Recording, Shrinks, answer_to_force, asks, changes_counted}
 use Rattle.lagworld.proofs.Effects.{delivers, does_effect, emits, if_forced, no_record, offers, receives, recorded, restarts, nothing, shrinks, ticks}
 use Rattle.lagworld.proofs.Whole.{steps_happen}

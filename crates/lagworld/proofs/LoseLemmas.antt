@@ -1,13 +1,7 @@
 -- The first item on a cable is lost.
-use Rattle.std.proofs.Common.{◌≡◌, ℕ, zero, suc, Bool, Option, Some, None, IsSomeAnd, List, [], ◌∷◌, drop, map, set, sym, refl, ap, ◌∙◌}
-use Rattle.std.proofs.Common.{subst}
-use Rattle.std.specs.Prelude.{is_some, slice_get}
-use Rattle.std.proofs.lemmas.Option.{same_Some}
-use Rattle.lagmodel.specs.World.{Side, One, Two}
-use Rattle.lagworld.specs.declared.reply.Reply.{Reply}
-use Rattle.lagworld.specs.Asking.{lost_reply}
-use Rattle.lagworld.specs.Events.{LosesFrom}
-use Rattle.lagworld.specs.State.{ItemValue, LinkState, WorldState, towards, with_towards, without_first, with_links}
+use Rattle.lagworld.proofs.Common.{Bool, IsSomeAnd, List, None, Option, Some, [], ap, drop, is_some, map, refl, set, slice_get, subst, suc, sym, zero}
+use Rattle.lagworld.proofs.Common.{ℕ, ◌∙◌, ◌∷◌, ◌≡◌, same_Some, One, Side, Two, Reply, lost_reply, LosesFrom, ItemValue, LinkState, WorldState}
+use Rattle.lagworld.proofs.Common.{towards, with_links, with_towards, without_first}
 
 pub first_some : {X Y : Type 0} (f : X → Y) (xs : List X) → is_some (slice_get xs 0) ≡ is_some (slice_get (map f xs) 0)
 first_some f [] = refl

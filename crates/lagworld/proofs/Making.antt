@@ -1,41 +1,22 @@
 -- A world made from a configuration that is accepted is a start.
-use Rattle.std.proofs.Common.{◌≡◌, ◌≢◌, ◌≤◌, ◌<◌, ℕ, zero, suc, ◌==◌, eqb, ◌&&◌, ◌||◌, Bool, true, false, if◌then◌else◌, Option, Some}
-use Rattle.std.proofs.Common.{None, IsSome, List, [], ◌∷◌, length, map, take, replicate, get_or, sym, refl, ap, ◌∙◌, subst, inl, inr}
-use Rattle.std.proofs.Common.{◌⊎◌, eqb-true, eq-eqb, arith}
-use Rattle.std.specs.Prelude.{not, option_map, slice_get}
-use Rattle.std.specs.List.{list_all}
-use Rattle.std.proofs.lemmas.Bool.{and_parts, cases_Bool, true≢false, not-false, not-true}
-use Rattle.std.proofs.lemmas.Option.{none-some, same_Some, slice_get-map, slice_get_within, get_or_from_slice_get}
-use Rattle.cables.specs.declared.item.Item.{Item}
+use Rattle.lagworld.proofs.Common.{Bool, IsSome, List, None, Option, Some, [], ap, arith, eq-eqb, eqb, eqb-true, false, get_or, if◌then◌else◌, inl}
+use Rattle.lagworld.proofs.Common.{inr, length, map, not, option_map, refl, replicate, slice_get, subst, suc, sym, take, true, zero, ℕ, ◌&&◌, ◌<◌}
+use Rattle.lagworld.proofs.Common.{◌==◌, ◌||◌, ◌∙◌, ◌∷◌, ◌≡◌, ◌≢◌, ◌≤◌, ◌⊎◌, and_parts, cases_Bool, not-false, not-true, true≢false}
+use Rattle.lagworld.proofs.Common.{get_or_from_slice_get, none-some, same_Some, slice_get-map, slice_get_within, list_all, Party, same_system}
+use Rattle.lagworld.proofs.Common.{find_number, PortFacts, first_port, first_view, IsCabling, One, Side, Two, end_at, party_at, port_on, cond_false}
+use Rattle.lagworld.proofs.Common.{cond_true, Item, configured_party, model_setup, model_view, conversation_count, PortsAgree, SystemState}
+use Rattle.lagworld.proofs.Common.{first_shows, party_seen, PortHistory, party_of_port, IsFirstHalf, are_empty_lines, empty_flow}
+use Rattle.lagworld.proofs.Common.{first_aggregator_flows, first_flows, first_histories, first_history, first_link, first_links, has_empty_directions}
+use Rattle.lagworld.proofs.Common.{item_value, link_ends, AreBelow, IsHalfSound, IsStart, FlowValue, HalfState, LinkState, WorldState, flow_at}
+use Rattle.lagworld.proofs.Common.{flow_in_aggregator, half, history_at, port_at, towards}
 use Rattle.lagtypes.specs.declared.identifiers.SystemId.{SystemId}
-use Rattle.lagtypes.specs.declared.party.Party.{Party}
-use Rattle.lagtypes.specs.Same.{same_system}
-use Rattle.lagmodel.specs.View.{PortFacts, first_port, first_view}
-use Rattle.lagmodel.specs.World.{Side, One, Two, IsCabling, end_at, party_at, port_on}
-use Rattle.lagmodel.specs.Bridge.{find_number}
-use Rattle.lagmodel.proofs.Base.{cond_true, cond_false}
 use Rattle.lagsystem.specs.declared.config.Config.{Config}
 use Rattle.lagsystem.specs.declared.config.PortConfig.{PortConfig}
 use Rattle.lagsystem.specs.First.{ConfigValue, config_value, configured_number, or_first, refusal, config_refusal as refusal_of_one}
-use Rattle.lagsystem.specs.ModelView.{model_setup, configured_party, model_view}
-use Rattle.lagsystem.specs.Sound.{PortsAgree}
-use Rattle.lagsystem.specs.State.{SystemState}
-use Rattle.lagsystem.specs.Readers.{conversation_count}
-use Rattle.lagsystem.proofs.FirstView.{first_shows}
-use Rattle.lagsystem.proofs.Seen.{party_seen}
 use Rattle.lagscript.specs.declared.config.BadWorld.TheVariants.{SameSystem, CableEnd, System}
 use Rattle.lagscript.specs.declared.config.WorldConfig.{WorldConfig}
-use Rattle.lagscript.specs.Configs.{bad_end, can_join, first_below, has_bad_end, has_port}
-use Rattle.lagscript.specs.Configs.{world_refusal, refusal_of_all, refusal_of_two, shares_end, system_refusal}
-use Rattle.lagworld.specs.declared.histories.PortHistory.{PortHistory}
-use Rattle.lagworld.specs.State.{HalfState, WorldState, LinkState, FlowValue, half, port_at, towards, history_at, flow_at}
-use Rattle.lagworld.specs.State.{flow_in_aggregator}
-use Rattle.lagworld.specs.Messages.{item_value}
-use Rattle.lagworld.specs.HalfCalls.{party_of_port}
-use Rattle.lagworld.specs.Making.{IsFirstHalf, are_empty_lines, first_flows, first_link, first_links}
-use Rattle.lagworld.specs.Making.{first_history, first_histories, first_aggregator_flows, has_empty_directions, empty_flow}
-use Rattle.lagworld.specs.Sound.{AreBelow, IsHalfSound, IsStart}
-use Rattle.lagworld.specs.ModelWorld.{link_ends}
+use Rattle.lagscript.specs.Configs.{bad_end, can_join, first_below, has_bad_end, has_port, world_refusal, refusal_of_all, refusal_of_two, shares_end}
+use Rattle.lagscript.specs.Configs.{system_refusal}
 
 -- what is kept of a port is what its configuration says
 log_found : (system : SystemId) (ports : List PortConfig) (p : ℕ)

@@ -1,31 +1,13 @@
 -- What becomes of a frame that is offered, and of a conversation that is forced.
-use Rattle.std.proofs.Common.{◌%◌, zero, suc}
-use Rattle.std.proofs.Common.{◌≡◌, ◌<◌, ◌≤◌, ℕ, Bool, true, Option, Some, None, IsSome, List, length, sym, refl, ap, ◌∙◌}
-use Rattle.std.proofs.Common.{subst, Ok, Err, Result, nat_lt, nat_le, arith}
-use Rattle.std.specs.Prelude.{bit_xor}
-use Rattle.std.proofs.lemmas.Bool.{true≢false, and_parts}
-use Rattle.std.proofs.lemmas.Bool.Decides.{nat_tests}
-use Rattle.lagtypes.specs.declared.identifiers.AggId.{AggId}
-use Rattle.distributor.specs.Conversations.{is_conversation_count}
-use Rattle.cables.specs.declared.item.Stamp.{Stamp}
+use Rattle.lagworld.proofs.Common.{Bool, Err, IsSome, List, None, Ok, Option, Result, Some, ap, arith, length, nat_le, nat_lt, refl, subst, suc, sym}
+use Rattle.lagworld.proofs.Common.{true, zero, ℕ, ◌%◌, ◌<◌, ◌∙◌, ◌≡◌, ◌≤◌, and_parts, true≢false, nat_tests, bit_xor, AggId, Side, Stamp}
+use Rattle.lagworld.proofs.Common.{is_conversation_count, SystemFault, conversation_count, number_of_conversation, two_octets, PortsAgree}
+use Rattle.lagworld.proofs.Common.{SystemState, accepted_count, Cabled, Reply, HalfAsksForce, WorldAsksOffer, with_sent_in, AfterOffer, Algorithms}
+use Rattle.lagworld.proofs.Common.{WorldOffers, offered_item, HalfForces, side_number, AreReserved, IsReservedAt, IsHalfSound, HalfState, ItemValue}
+use Rattle.lagworld.proofs.Common.{LinkState, WorldState, change_flow, flow_at, half, is_accepted, put_on_port, sent_in, with_forced, with_half}
+use Rattle.lagworld.proofs.Common.{with_links}
 use Rattle.cables.specs.declared.item.Stamp.TheVariants as stamp
-use Rattle.lagmodel.specs.World.{Side}
-use Rattle.lagsystem.specs.declared.fault.SystemFault.{SystemFault}
-use Rattle.lagsystem.specs.Readers.{number_of_conversation, conversation_count, two_octets}
-use Rattle.lagsystem.specs.Sound.{PortsAgree}
-use Rattle.lagsystem.specs.State.{SystemState}
-use Rattle.lagsystem.proofs.Rising.{accepted_count}
-use Rattle.lagworld.specs.declared.link.Link.{Link as Cabled}
-use Rattle.lagworld.specs.declared.reply.Reply.{Reply}
 use Rattle.lagworld.specs.declared.reply.Reply.TheVariants as reply
-use Rattle.lagworld.specs.Asking.{WorldAsksOffer, HalfAsksForce, with_sent_in}
-use Rattle.lagworld.specs.HalfCalls.{HalfForces}
-use Rattle.lagworld.specs.Events.{Algorithms, WorldOffers, AfterOffer, offered_item}
-use Rattle.lagworld.specs.Messages.{side_number}
-use Rattle.lagworld.specs.Places.{AreReserved, IsReservedAt}
-use Rattle.lagworld.specs.Sound.{IsHalfSound}
-use Rattle.lagworld.specs.State.{ItemValue, HalfState, LinkState, WorldState, half, with_half, with_links, put_on_port, is_accepted}
-use Rattle.lagworld.specs.State.{flow_at, sent_in, change_flow, with_forced}
 
 -- a place is reserved on any cable
 pub any_reserved : {C : Type 0} (reserved : C → Bool) (s : Side) (ls : List (Cabled C)) → AreReserved reserved s ls → (o : Option ℕ)

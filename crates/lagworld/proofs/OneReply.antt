@@ -1,42 +1,23 @@
 -- An event has one reply and leads to one world.
-use Rattle.std.proofs.Common.{◌≡◌, ◌∙◌, ℕ, zero, suc, ◌+◌, Bool, true, List, [], ◌∷◌, length, map, Option, Some, None, IsSomeAnd, Result}
-use Rattle.std.proofs.Common.{Ok, Err, refl, sym, ap, subst, arith}
-use Rattle.std.specs.Prelude.{slice_set}
-use Rattle.lagtypes.specs.declared.identifiers.AggId.{AggId}
-use Rattle.cables.specs.declared.item.Stamp.{Stamp}
+use Rattle.lagworld.proofs.Common.{Bool, Err, IsSomeAnd, List, None, Ok, Option, Result, Some, [], ap, arith, length, map, refl, slice_set, subst}
+use Rattle.lagworld.proofs.Common.{suc, sym, true, zero, ℕ, ◌+◌, ◌∙◌, ◌∷◌, ◌≡◌, AggId, pdu_in, One, Side, Two, Stamp, Answer, SystemFault, Received}
+use Rattle.lagworld.proofs.Common.{Call, Offer, Receive, Restart, Tick, Transmit, number_of_conversation, PortsAgree, SystemState, Event}
+use Rattle.lagworld.proofs.Common.{StampedLacpdu, Reply, AfterOffer, AfterReceive, AfterTransmit, Algorithms, DoesEvent, WorldEmits, WorldOffers}
+use Rattle.lagworld.proofs.Common.{WorldReceives, offered_item, sent_reply, set_last_lacpdu, stamped_in, transmitted_item, with_collected_in}
+use Rattle.lagworld.proofs.Common.{with_frame_counted, with_item_sent, with_last_lacpdu, with_link_at, with_stamp_collected, HalfAnswers, HalfTicks}
+use Rattle.lagworld.proofs.Common.{change_counted, forced_if_accepted, with_changes_counted, payload_in, side_number, side_numbered, both_algorithms}
+use Rattle.lagworld.proofs.Common.{FlowValue, HalfState, ItemValue, LinkState, WorldState, change_flow, emptied, flow_at, half, is_accepted, port_at}
+use Rattle.lagworld.proofs.Common.{put_on_port, sent_in, with_collected, with_forced, with_half, with_links, with_sent}
 use Rattle.cables.specs.declared.item.Stamp.TheVariants as stamp
-use Rattle.slowpdu.specs.Readings.{pdu_in}
-use Rattle.lagmodel.specs.World.{Side, One, Two}
-use Rattle.lagsystem.specs.declared.drive.Reply.{Reply as Answer}
 use Rattle.lagsystem.specs.declared.drive.Reply.TheVariants as answer
-use Rattle.lagsystem.specs.declared.fault.SystemFault.{SystemFault}
-use Rattle.lagsystem.specs.declared.received.Received.{Received}
 use Rattle.lagsystem.specs.declared.received.Received.TheVariants as received
-use Rattle.lagsystem.specs.Calls.{Call, Offer, Receive, Restart, Tick, Transmit}
 use Rattle.lagsystem.specs.OneAnswer.{IsFunction, SameState}
-use Rattle.lagsystem.specs.Readers.{number_of_conversation}
-use Rattle.lagsystem.specs.Sound.{PortsAgree}
-use Rattle.lagsystem.specs.State.{SystemState}
 use Rattle.lagsystem.proofs.OneAnswer.{one_answer}
-use Rattle.lagscript.specs.declared.event.Event.{Event}
 use Rattle.lagscript.specs.declared.event.Event.TheVariants as event
-use Rattle.lagworld.specs.declared.histories.StampedLacpdu.{StampedLacpdu}
-use Rattle.lagworld.specs.declared.reply.Reply.{Reply}
 use Rattle.lagworld.specs.declared.reply.Reply.TheVariants as reply
-use Rattle.lagworld.specs.Events.{AfterOffer, AfterReceive, AfterTransmit, Algorithms, DoesEvent}
-use Rattle.lagworld.specs.Events.{WorldEmits, WorldOffers, WorldReceives}
-use Rattle.lagworld.specs.Events.{offered_item, sent_reply, set_last_lacpdu, stamped_in, transmitted_item, with_collected_in}
-use Rattle.lagworld.specs.Events.{with_frame_counted, with_item_sent, with_last_lacpdu, with_link_at, with_stamp_collected}
-use Rattle.lagworld.specs.HalfCalls.{HalfAnswers, HalfTicks, change_counted}
-use Rattle.lagworld.specs.HalfCalls.{forced_if_accepted, with_changes_counted}
-use Rattle.lagworld.specs.Messages.{payload_in, side_number, side_numbered}
 use Rattle.lagworld.specs.OneReply.{AreFunctions, OneHistory, OneReply, SameHalf, SameWorld}
-use Rattle.lagworld.specs.Sound.{both_algorithms}
-use Rattle.lagworld.specs.State.{FlowValue, HalfState, ItemValue, LinkState, WorldState, change_flow, emptied}
-use Rattle.lagworld.specs.State.{flow_at, half, is_accepted, port_at, put_on_port, sent_in, with_forced}
-use Rattle.lagworld.specs.State.{with_collected, with_half, with_links, with_sent}
-use Rattle.lagworld.proofs.Effects.{DoesEffect, Effect, HalfAsked, Recording, answer_to_force, asks, changes_counted, delivers, does_some}
-use Rattle.lagworld.proofs.Effects.{effect, emits, if_forced, no_record, offers, receives, recorded, restarts, nothing, shrinks, ticks, told}
+use Rattle.lagworld.proofs.Effects.{DoesEffect, Effect, HalfAsked, Recording, answer_to_force, asks, changes_counted, delivers, does_some, effect}
+use Rattle.lagworld.proofs.Effects.{emits, if_forced, no_record, offers, receives, recorded, restarts, nothing, shrinks, ticks, told}
 use Rattle.lagworld.proofs.Headline.{accepted, rises}
 use Rattle.lagworld.proofs.Keeping.{steps_sound}
 

@@ -1,15 +1,9 @@
 -- What is put on a cable, in code and as contracts see it.
-use Rattle.std.proofs.Common.{◌≡◌, ℕ, zero, suc, ◌+◌, ◌<◌, ◌≤◌, eqb, inl, inr, eqb-true, eq-eqb, arith, Bool, false, not, cond, Option}
-use Rattle.std.proofs.Common.{Some, None, IsSomeAnd, Result, Ok, Err, OnOk, List, [], ◌∷◌, map, length, set, get_or, sym, refl, ap, ◌∙◌}
-use Rattle.std.proofs.Common.{subst, nat_lt}
-use Rattle.std.specs.Prelude.{slice_get, position, option_map, IfSome}
-use Rattle.std.specs.List.{position_or_len}
-use Rattle.std.proofs.lemmas.List.{length-map, map-set, set-get_or}
-use Rattle.std.proofs.lemmas.Bool.{cases_Bool, true≢false}
-use Rattle.std.proofs.lemmas.Option.{slice_get-map, slice_get_read}
-use Rattle.lagmodel.specs.World.{Side}
-use Rattle.lagworld.specs.State.{ItemValue, LinkState, accepts, sent_on, link_index, link_at, change_link, accepts_at, put_on_port}
-use Rattle.lagworld.specs.State.{is_accepted}
+use Rattle.lagworld.proofs.Common.{Bool, Err, IsSomeAnd, List, None, Ok, OnOk, Option, Result, Some, [], ap, arith, cond, eq-eqb, eqb, eqb-true}
+use Rattle.lagworld.proofs.Common.{false, get_or, inl, inr, length, map, nat_lt, not, option_map, position, refl, set, slice_get, subst, suc, sym}
+use Rattle.lagworld.proofs.Common.{zero, ℕ, ◌+◌, ◌<◌, ◌∙◌, ◌∷◌, ◌≡◌, ◌≤◌, cases_Bool, true≢false, length-map, map-set, set-get_or, slice_get-map}
+use Rattle.lagworld.proofs.Common.{slice_get_read, position_or_len, IfSome, Side, ItemValue, LinkState, accepts, accepts_at, change_link, is_accepted}
+use Rattle.lagworld.proofs.Common.{link_at, link_index, put_on_port, sent_on}
 
 first_seen : {X Y : Type 0} (f : X → Y) (q : Y → Bool) (xs : List X) → position_or_len q (map f xs) ≡ position_or_len (λ x. q (f x)) xs
 first_seen f q [] = refl

@@ -1,23 +1,13 @@
 -- What a sound world promises, and runs of events.
-use Rattle.std.proofs.Common.{◌≡◌, ◌<◌, ℕ, ◌+◌, ◌++◌, None, List, [], ◌∷◌, map, take, length, get_or, sym, refl, ap, ◌∙◌}
-use Rattle.std.proofs.Common.{subst, true, Ok, Err, Result, IfOk, IfErr}
-use Rattle.std.proofs.lemmas.List.{take_more, map-append}
-use Rattle.std.proofs.lemmas.Option.{slice_get-get_or}
-use Rattle.lagmodel.specs.World.{Side, World, WorldSetup, IsWorldSetup, Happens, Run}
-use Rattle.lagmodel.specs.Law.{OnePartner, EndsAgree, InOrder}
+use Rattle.lagworld.proofs.Common.{Err, IfErr, IfOk, List, None, Ok, Result, [], ap, get_or, length, map, refl, subst, sym, take, true, ℕ, ◌++◌, ◌+◌}
+use Rattle.lagworld.proofs.Common.{◌<◌, ◌∙◌, ◌∷◌, ◌≡◌, map-append, take_more, slice_get-get_or, EndsAgree, InOrder, OnePartner, Happens, IsWorldSetup}
+use Rattle.lagworld.proofs.Common.{Run, Side, World, WorldSetup, runs_joined, configured_setup, Event, WorldFault, Reply, Algorithms, WorldRuns}
+use Rattle.lagworld.proofs.Common.{WorldSteps, cause, cause_or_no_memory, may_take_memory, model_event, model_world, world_setup, HeadlineFacts}
+use Rattle.lagworld.proofs.Common.{IsSound, RefusesNext, next_of, WorldState, half}
 use Rattle.lagmodel.proofs.Counting.{counts_from_zero}
 use Rattle.lagmodel.proofs.Events.{lawful}
-use Rattle.lagmodel.proofs.Laws.{one_partner_holds, agree_holds, in_order_holds, last_lacpdu_in_sync, names_present_holds}
-use Rattle.lagmodel.proofs.Laws.{on_its_cable_holds, flushed_by_marker_holds, below_next_holds, collected_then_in_flight_holds}
-use Rattle.lagmodel.proofs.Runs.{runs_joined}
-use Rattle.lagsystem.proofs.FirstView.{configured_setup}
-use Rattle.lagscript.specs.declared.event.Event.{Event}
-use Rattle.lagworld.specs.declared.reply.Reply.{Reply}
-use Rattle.lagworld.specs.declared.fault.WorldFault.{WorldFault}
-use Rattle.lagworld.specs.State.{WorldState, half}
-use Rattle.lagworld.specs.Events.{Algorithms, WorldSteps, WorldRuns, cause, cause_or_no_memory, may_take_memory, model_event}
-use Rattle.lagworld.specs.Sound.{IsSound, HeadlineFacts, RefusesNext, next_of}
-use Rattle.lagworld.specs.ModelWorld.{world_setup, model_world}
+use Rattle.lagmodel.proofs.Laws.{one_partner_holds, agree_holds, in_order_holds, last_lacpdu_in_sync, names_present_holds, on_its_cable_holds}
+use Rattle.lagmodel.proofs.Laws.{flushed_by_marker_holds, below_next_holds, collected_then_in_flight_holds}
 use Rattle.lagworld.proofs.Keeping.{steps_sound, steps_fixed}
 use Rattle.lagworld.proofs.Whole.{steps_happen}
 

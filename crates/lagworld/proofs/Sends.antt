@@ -1,34 +1,19 @@
 -- What a system sends goes onto the cable as the model's message for its octets.
-use Rattle.std.proofs.Common.{◌≡◌, ℕ, ◌++◌, Option, Some, None, IsSome, List, [], ◌∷◌, length, sym, refl, ap, ◌∙◌, subst, Ok, Err, Result}
-use Rattle.std.specs.Prelude.{option_map}
-use Rattle.lagtypes.specs.declared.identifiers.AggId.{AggId}
+use Rattle.lagworld.proofs.Common.{Err, IsSome, List, None, Ok, Option, Result, Some, [], ap, length, option_map, refl, subst, sym, ℕ, ◌++◌, ◌∙◌, ◌∷◌}
+use Rattle.lagworld.proofs.Common.{◌≡◌, AggId, Pdu, pdu_in, pdu_read, written_pdu, Act, LawfulMoves, Sends, Sends_frame, Message_pdu, ModelEvent}
+use Rattle.lagworld.proofs.Common.{CallHappens, Control, Data, Happens, IsCabling, One, Side, Two, end_at, peer, put_in, stamp_of, SystemFault, Offer}
+use Rattle.lagworld.proofs.Common.{Transmit, EffectsSeenAs, IsSent, JoinedByLawfulMoves, control_message, marker_message, model_setup, model_view}
+use Rattle.lagworld.proofs.Common.{number_of_conversation, SystemState, sent_payload, Reply, AfterOffer, AfterTransmit, WorldEmits, WorldOffers}
+use Rattle.lagworld.proofs.Common.{offered_item, stamp_for, transmitted_item, with_frame_counted, with_item_sent, HalfAnswers, item_message}
+use Rattle.lagworld.proofs.Common.{message_in, payload_in, side_number, side_numbered, model_taken, model_world, world_setup, FlowValue, HalfState}
+use Rattle.lagworld.proofs.Common.{ItemValue, WorldState, change_count_in, change_flow, collected_in, flow_at, forced_in, half, history_at}
+use Rattle.lagworld.proofs.Common.{is_accepted, put_on_port, sent_in, taken_in, with_half, with_sent}
+use Rattle.lagmodel.specs.World.{Event}
 use Rattle.slowpdu.specs.declared.pdu.Marker.{Marker}
 use Rattle.slowpdu.specs.declared.pdu.MarkerKind.{MarkerKind}
 use Rattle.slowpdu.specs.declared.pdu.MarkerKind.TheVariants as kind
-use Rattle.slowpdu.specs.declared.pdu.Pdu.{Pdu}
 use Rattle.slowpdu.specs.declared.pdu.Pdu.TheVariants as pdu
-use Rattle.slowpdu.specs.Readings.{pdu_in}
-use Rattle.slowpdu.proofs.PduLemmas.{written_pdu}
-use Rattle.slowpdu.proofs.PduInLemmas.{pdu_read}
-use Rattle.lagmodel.specs.View.{ModelCall as ModelEvent, ControlMessage as Message_pdu}
-use Rattle.lagmodel.specs.Move.{Act, Sends, Sends_frame, LawfulMoves}
-use Rattle.lagmodel.specs.World.{Side, One, Two, peer, Control, Data, IsCabling, end_at, stamp_of, CallHappens, Event, Happens}
-use Rattle.lagmodel.specs.World.{put_on_cable as put_in}
 use Rattle.lagsystem.specs.declared.drive.Reply.TheVariants as answer
-use Rattle.lagsystem.specs.declared.fault.SystemFault.{SystemFault}
-use Rattle.lagsystem.specs.Calls.{Transmit, Offer}
-use Rattle.lagsystem.specs.Readers.{number_of_conversation}
-use Rattle.lagsystem.specs.ModelView.{model_setup, model_view, JoinedByLawfulMoves, EffectsSeenAs, IsSent, control_message, marker_message}
-use Rattle.lagsystem.specs.State.{SystemState}
-use Rattle.lagsystem.proofs.Sent.{sent_payload}
-use Rattle.lagworld.specs.declared.reply.Reply.{Reply}
-use Rattle.lagworld.specs.State.{ItemValue, HalfState, WorldState, FlowValue, half, with_half, put_on_port, is_accepted, history_at}
-use Rattle.lagworld.specs.State.{change_count_in, taken_in, flow_at, sent_in, collected_in, forced_in, change_flow, with_sent}
-use Rattle.lagworld.specs.Messages.{payload_in, message_in, item_message, side_number, side_numbered}
-use Rattle.lagworld.specs.HalfCalls.{HalfAnswers}
-use Rattle.lagworld.specs.Events.{with_item_sent, stamp_for, transmitted_item, WorldEmits, AfterTransmit, WorldOffers, AfterOffer}
-use Rattle.lagworld.specs.Events.{offered_item, with_frame_counted}
-use Rattle.lagworld.specs.ModelWorld.{world_setup, model_world, model_taken}
 use Rattle.lagworld.proofs.Cables.{put_away, put_towards, put_whole}
 use Rattle.lagworld.proofs.Flows.{read_changed, read_same}
 use Rattle.lagworld.proofs.OneSystem.{Leaves, after_call, one_call, counts_kept}

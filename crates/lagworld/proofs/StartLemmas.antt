@@ -1,6 +1,6 @@
 -- Lists that are filled in a loop.
-use Rattle.std.proofs.Common.{◌≡◌, ◌<◌, ◌+◌, ◌++◌, ℕ, List, [], ◌∷◌, length, map, get_or, take, replicate, ap, refl, sym, ◌∙◌, arith}
-use Rattle.std.proofs.lemmas.List.{take_more, map-append, replicate_more}
+use Rattle.lagworld.proofs.Common.{List, [], ap, arith, get_or, length, map, refl, replicate, sym, take, ℕ, ◌++◌, ◌+◌, ◌<◌, ◌∙◌, ◌∷◌, ◌≡◌, map-append}
+use Rattle.lagworld.proofs.Common.{replicate_more, take_more}
 
 -- one more is made of each item in turn
 pub mapped_more : {X Y : Type 0} (f : X → Y) (xs : List X) (ys new : List Y) (i : ℕ) (d : X) (y : Y) → i < length xs

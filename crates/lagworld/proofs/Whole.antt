@@ -1,36 +1,21 @@
 -- Every event of a sound world is an event of the model, and every run is a run of the model.
-use Rattle.std.proofs.Common.{◌≡◌, ℕ, zero, suc, ◌==◌, Bool, true, false, if◌then◌else◌, Some, None, IsSome, List, sym, refl, ◌∙◌, subst}
-use Rattle.std.proofs.Common.{inl, inr, arith}
-use Rattle.std.specs.Prelude.{slice_get, nat_lt, nat_le, length, Result, Ok, Err}
-use Rattle.std.proofs.lemmas.Bool.{cases_Bool, and_parts}
-use Rattle.std.proofs.lemmas.Option.{none-some, same_Some}
-use Rattle.lagmodel.specs.World.{Side, One, Two, Event as ModelEvent, Happens}
-use Rattle.lagmodel.proofs.Base.{cond_true, cond_false, value_of}
-use Rattle.lagtypes.specs.declared.identifiers.AggId.{AggId}
-use Rattle.distributor.specs.declared.assignment.Assignment.{Assignment}
-use Rattle.lagsystem.specs.declared.fault.SystemFault.{SystemFault}
+use Rattle.lagworld.proofs.Common.{Bool, Err, IsSome, List, None, Ok, Result, Some, arith, false, if◌then◌else◌, inl, inr, length, nat_le, nat_lt}
+use Rattle.lagworld.proofs.Common.{refl, slice_get, subst, suc, sym, true, zero, ℕ, ◌==◌, ◌∙◌, ◌≡◌, and_parts, cases_Bool, nat_tests, none-some}
+use Rattle.lagworld.proofs.Common.{same_Some, AggId, Happens, One, Side, Two, cond_false, cond_true, value_of, Assignment, force_result}
+use Rattle.lagworld.proofs.Common.{assignment_of, SystemFault, GivesOrRefuses, has_aggregator, in_system, or_not_assigned, system_force_result}
+use Rattle.lagworld.proofs.Common.{conversation_count, SystemState, Event, Reply, Algorithms, DoesEvent, OnLink, WorldSteps, model_change}
+use Rattle.lagworld.proofs.Common.{model_event, side_of, side_numbered, model_world, world_setup, IsHalfSound, IsSound, HalfState, LinkState}
+use Rattle.lagworld.proofs.Common.{WorldState, flow_at, half, towards}
+use Rattle.lagmodel.specs.World.{Event as ModelEvent}
 use Rattle.lagsystem.specs.declared.fault.SystemFault.TheVariants.{NoAggregator}
 use Rattle.distributor.specs.declared.fault.DistFault.{DistFault}
 use Rattle.distributor.specs.declared.fault.DistFault.TheVariants as dist
-use Rattle.distributor.specs.Calls.{force_result}
-use Rattle.distributor.specs.Conversations.{assignment_of}
-use Rattle.lagsystem.specs.Readers.{conversation_count}
-use Rattle.lagsystem.specs.Offers.{GivesOrRefuses, system_force_result, has_aggregator, in_system, or_not_assigned}
-use Rattle.lagsystem.specs.State.{SystemState}
-use Rattle.lagscript.specs.declared.event.Event.{Event}
 use Rattle.lagscript.specs.declared.event.Event.TheVariants as event
-use Rattle.lagworld.specs.declared.reply.Reply.{Reply}
-use Rattle.lagworld.specs.State.{LinkState, HalfState, WorldState, half, towards, flow_at}
-use Rattle.lagworld.specs.Messages.{side_numbered}
-use Rattle.lagworld.specs.Events.{Algorithms, DoesEvent, WorldSteps, side_of, model_event, model_change, OnLink}
-use Rattle.lagworld.specs.Sound.{IsSound, IsHalfSound}
-use Rattle.lagworld.specs.ModelWorld.{world_setup, model_world}
 use Rattle.lagworld.proofs.Happens.{tick_happens, sense_happens, move_happens, cut_happens, join_happens}
 use Rattle.lagworld.proofs.Sends.{emit_happens, offer_happens}
 use Rattle.lagworld.proofs.Arrives.{deliver_happens, repeat_happens, lose_happens}
 use Rattle.lagworld.proofs.Counted.{configure_happens, restart_happens}
 use Rattle.lagworld.proofs.Forced.{force_happens}
-use Rattle.std.proofs.lemmas.Bool.Decides.{nat_tests}
 
 -- a number that names a system names this one
 pub named : (n : ℕ) (s : Side) → side_of n ≡ Some s → side_numbered n ≡ s

@@ -1,19 +1,11 @@
 -- The machines are deterministic: each call has exactly one effect.
-use Rattle.std.proofs.Common.{◌≡◌, ℕ, zero, suc, Bool, true, false, not, ◌&&◌, List, [], ◌∷◌, refl, sym, ◌∙◌, ap, subst, inl}
-use Rattle.std.proofs.Common.{inr}
-use Rattle.std.proofs.lemmas.Bool.{and_left, and_right, and_parts, cases_Bool}
-use Rattle.slowpdu.specs.declared.pdu.Lacpdu.{Lacpdu}
-use Rattle.portmachines.specs.declared.receive.ReceiveState.{ReceiveState}
-use Rattle.portmachines.specs.declared.receive.ReceiveState.TheVariants.{Initialize, PortDisabled, Expired, Defaulted, Current}
-use Rattle.portmachines.specs.Machines.{Machines}
-use Rattle.portmachines.specs.Rows.{Row, Fires, AtRest, FiresTimes, OneEnabledAtMost, RunsToRest}
-use Rattle.portmachines.specs.Receive.{receive_rows, lacpdu_rows, same_receive_state, start_receive, current_while_expired}
-use Rattle.portmachines.specs.Receive.{partner_not_synchronized}
-use Rattle.portmachines.specs.Periodic.{RunsPeriodic, periodic_rows, clear_ntt}
-use Rattle.portmachines.specs.Mux.{mux_rows, start_mux}
-use Rattle.portmachines.specs.Transmit.{count_down}
+use Rattle.portmachines.proofs.Common.{Bool, List, [], ap, false, inl, inr, not, refl, subst, suc, sym, true, zero, ℕ, ◌&&◌, ◌∙◌, ◌∷◌, ◌≡◌, and_left}
+use Rattle.portmachines.proofs.Common.{and_parts, and_right, cases_Bool, Lacpdu, ReceiveState, Current, Defaulted, Expired, Initialize, PortDisabled}
+use Rattle.portmachines.proofs.Common.{Mux, OneEffect, Periodic, Reinit, Select, Set_link, Take, Tick, Transmit, Machines, mux_rows, start_mux}
+use Rattle.portmachines.proofs.Common.{RunsPeriodic, clear_ntt, periodic_rows, current_while_expired, lacpdu_rows, partner_not_synchronized}
+use Rattle.portmachines.proofs.Common.{receive_rows, same_receive_state, start_receive, AtRest, Fires, FiresTimes, OneEnabledAtMost, Row, RunsToRest}
+use Rattle.portmachines.proofs.Common.{count_down}
 use Rattle.portmachines.proofs.OneRow.{one-mux, one-periodic, one-receive}
-use Rattle.portmachines.specs.Calls.{Tick, Transmit, Set_link, Take, Mux, Periodic, Select, Reinit, OneEffect}
 
 -- tests
 

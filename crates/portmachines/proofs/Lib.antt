@@ -1,3 +1,4 @@
+mod Common
 pub mod Runs
 pub mod Rest
 pub mod Choices

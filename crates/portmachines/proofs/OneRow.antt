@@ -1,18 +1,13 @@
 -- No two rows of a machine are enabled together.
-use Rattle.std.proofs.Common.{◌≡◌, Bool, true, false, not, ◌&&◌, ◌||◌, List, [], ◌∷◌, refl, drop}
-use Rattle.std.proofs.lemmas.Bool.{and_parts, or_right}
+use Rattle.portmachines.proofs.Common.{Bool, List, [], drop, false, not, refl, true, ◌&&◌, ◌||◌, ◌∷◌, ◌≡◌, and_parts, or_right, ReceiveState, Current}
+use Rattle.portmachines.proofs.Common.{Defaulted, Expired, Initialize, PortDisabled, Machines, mux_rows, partner_synchronized, same_mux_state}
+use Rattle.portmachines.proofs.Common.{periodic_rows, periodic_table, current_while_expired, receive_rows, same_receive_state, AtRest}
+use Rattle.portmachines.proofs.Common.{OneEnabledAtMost, Row, in_order}
 use Rattle.lagtypes.specs.Choices.{is_selected, is_unselected}
 use Rattle.lagtypes.specs.declared.party.Choice.{Choice}
 use Rattle.lagtypes.specs.declared.party.Choice.TheVariants.{Unselected, Selected, Standby}
 use Rattle.portmachines.specs.declared.mux.MuxState.{MuxState}
 use Rattle.portmachines.specs.declared.mux.MuxState.TheVariants.{Detached, Waiting, Attached, CollectingDistributing}
-use Rattle.portmachines.specs.declared.receive.ReceiveState.{ReceiveState}
-use Rattle.portmachines.specs.declared.receive.ReceiveState.TheVariants.{Initialize, PortDisabled, Expired, Defaulted, Current}
-use Rattle.portmachines.specs.Machines.{Machines}
-use Rattle.portmachines.specs.Rows.{Row, AtRest, OneEnabledAtMost, in_order}
-use Rattle.portmachines.specs.Receive.{receive_rows, same_receive_state, current_while_expired}
-use Rattle.portmachines.specs.Periodic.{periodic_table, periodic_rows}
-use Rattle.portmachines.specs.Mux.{mux_rows, same_mux_state, partner_synchronized}
 
 -- rows in order
 

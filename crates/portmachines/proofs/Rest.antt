@@ -1,11 +1,6 @@
 -- The mux and periodic machines leave the receive machine at rest.
-use Rattle.std.proofs.Common.{◌≡◌, ℕ, Bool, refl, subst, sym}
-use Rattle.portmachines.specs.declared.receive.ReceiveState.{ReceiveState}
-use Rattle.portmachines.specs.Machines.{Machines}
-use Rattle.portmachines.specs.Rows.{AtRest, FiresTimes}
-use Rattle.portmachines.specs.Receive.{receive_rows}
-use Rattle.portmachines.specs.Periodic.{periodic_rows, RunsPeriodic}
-use Rattle.portmachines.specs.Mux.{mux_rows}
+use Rattle.portmachines.proofs.Common.{Bool, refl, subst, sym, ℕ, ◌≡◌, ReceiveState, Machines, mux_rows, RunsPeriodic, periodic_rows, receive_rows}
+use Rattle.portmachines.proofs.Common.{AtRest, FiresTimes}
 use Rattle.portmachines.proofs.Runs.{EachKeeps, Reaches-keeps}
 
 -- what the receive rows look at

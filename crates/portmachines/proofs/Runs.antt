@@ -1,7 +1,6 @@
 -- Rows that fire one after another.
-use Rattle.std.proofs.Common.{◌≡◌, ℕ, zero, suc, ◌+◌, List, [], ◌∷◌, IsTrue, ap, sym, subst, ◌∙◌, inl, inr, add-one}
-use Rattle.portmachines.specs.Machines.{Machines}
-use Rattle.portmachines.specs.Rows.{Row, Fires, FiresTimes, RunsToRest}
+use Rattle.portmachines.proofs.Common.{IsTrue, List, [], add-one, ap, inl, inr, subst, suc, sym, zero, ℕ, ◌+◌, ◌∙◌, ◌∷◌, ◌≡◌, Machines, Fires}
+use Rattle.portmachines.proofs.Common.{FiresTimes, Row, RunsToRest}
 
 -- one more row fires
 pub Reaches-more : (rows : List Row) (n : ℕ) (old mid new : Machines) → FiresTimes rows n old mid → Fires rows mid new

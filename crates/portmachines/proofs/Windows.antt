@@ -1,19 +1,13 @@
 -- Any eleven consecutive ticks hold at most three LACPDUs.
-use Rattle.std.proofs.Common.{◌≡◌, ℕ, zero, suc, ◌+◌, ◌-◌, ◌≤◌, ◌<◌, Bool, true, false, ◌&&◌, cond, List, [], ◌∷◌, ◌++◌, length, nat_le}
-use Rattle.std.proofs.Common.{nat_lt, if◌then◌else◌, refl, sym, ◌∙◌, ap, subst, arith, append_assoc, inl, inr, append-nil}
+use Rattle.portmachines.proofs.Common.{Bool, List, [], ap, append-nil, append_assoc, arith, cond, false, if◌then◌else◌, inl, inr, length, nat_le}
+use Rattle.portmachines.proofs.Common.{nat_lt, refl, subst, suc, sym, true, zero, ℕ, ◌&&◌, ◌++◌, ◌+◌, ◌-◌, ◌<◌, ◌∙◌, ◌∷◌, ◌≡◌, ◌≤◌, and_parts, le-leb}
+use Rattle.portmachines.proofs.Common.{leb-true, lt-leb, ltb-false, ltb-true, Lacpdu, Mux, Periodic, PortCall, Reinit, Select, Set_link, Take, Tick}
+use Rattle.portmachines.proofs.Common.{Transmit, Machines, mux_rows, RunsPeriodic, periodic_rows, lacpdu_rows, receive_rows, start_receive}
+use Rattle.portmachines.proofs.Common.{FiresIfEnabled, RunsToRest, after_sending, aged, count_down, is_due}
 use Rattle.std.specs.List.{AllByRecursion}
 use Rattle.std.proofs.lemmas.Bool.Decides.{nat_tests}
-use Rattle.std.proofs.lemmas.Bool.{and_parts, lt-leb, le-leb, leb-true, ltb-true, ltb-false}
-use Rattle.slowpdu.specs.declared.pdu.Lacpdu.{Lacpdu}
-use Rattle.portmachines.specs.Machines.{Machines}
-use Rattle.portmachines.specs.Rows.{FiresIfEnabled, RunsToRest}
-use Rattle.portmachines.specs.Receive.{receive_rows, lacpdu_rows, start_receive}
-use Rattle.portmachines.specs.Periodic.{RunsPeriodic, periodic_rows}
-use Rattle.portmachines.specs.Mux.{mux_rows}
-use Rattle.portmachines.specs.Transmit.{count_down, aged, is_due, after_sending}
 use Rattle.portmachines.specs.Start.{Starts}
 use Rattle.portmachines.proofs.Runs.{EachKeeps, Fires-keeps, Reaches-keeps}
-use Rattle.portmachines.specs.Calls.{PortCall, Tick, Transmit, Set_link, Take, Mux, Periodic, Select, Reinit}
 use Rattle.portmachines.specs.Window.{SendsAtTicks, sent_before, within_eleven, count_passing, KeepsWindow, WindowLaw}
 
 -- rows leave the ages as they are

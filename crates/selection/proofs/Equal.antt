@@ -1,21 +1,12 @@
 -- The Boolean tests in the definitions mean equality.
-use Rattle.std.proofs.Common.{◌≡◌, ◌↔◌, ◌||◌, Bool, IsTrue, true, false, refl, subst}
-use Rattle.std.specs.Prelude.{if◌then◌else◌}
-use Rattle.std.specs.Ordering.{is_lt}
-use Rattle.std.proofs.lemmas.Bool.{and_from, or_left, or_right}
+use Rattle.selection.proofs.Common.{Bool, IsTrue, false, if◌then◌else◌, refl, subst, true, ◌||◌, ◌↔◌, ◌≡◌, and_from, or_left, or_right, is_lt}
+use Rattle.selection.proofs.Common.{SamePair, end_of, group_of, individual, end_cmp, same_group, same_system, exact_group, exact_system, group-itself}
+use Rattle.selection.proofs.Common.{itself, system-itself, PortView, has_group_of, ends, has_side}
 use Rattle.lagtypes.specs.declared.identifiers.SystemId.{SystemId}
 use Rattle.lagtypes.specs.declared.group.End.{End}
 use Rattle.lagtypes.specs.declared.group.Group.{Group}
 use Rattle.lagtypes.specs.declared.party.Party.{Party}
-use Rattle.lagtypes.specs.Group.{SamePair, end_of, group_of, individual}
-use Rattle.lagtypes.specs.Order.{end_cmp}
 use Rattle.lagtypes.proofs.GroupLemmas.{groups_from_pairs, pairs_from_groups}
-use Rattle.lagtypes.proofs.SameLemmas.{exact_group, exact_system, group-itself, itself, system-itself}
-use Rattle.selection.specs.declared.view.PortView.{PortView}
-use Rattle.lagtypes.specs.Same.{same_group, same_system}
-use Rattle.selection.specs.Standing.{has_side}
-use Rattle.selection.specs.Choice.{has_group_of}
-use Rattle.selection.specs.Joining.{ends}
 
 pub system-test : (s t : SystemId) → IsTrue (same_system s t) ↔ (s ≡ t)
 system-test s t = (exact_system s t, λ e. subst (λ u. same_system s u ≡ true) e (system-itself s))

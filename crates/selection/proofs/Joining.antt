@@ -1,24 +1,14 @@
 -- The choice of a port leads to an aggregator that it may join.
-use Rattle.std.proofs.Common.{◌≡◌, ◌≢◌, ℕ, zero, suc, ◌+◌, ◌-◌, Bool, true, false, not, ◌&&◌, cond, List, [], ◌∷◌, ◌⊎◌, inl, inr}
-use Rattle.std.proofs.Common.{refl, sym, ◌∙◌, subst, ap, arith, Option, Some, None}
-use Rattle.std.specs.Prelude.{◌==◌, IfSome, IsSomeAnd, if◌then◌else◌, slice_get, find}
-use Rattle.std.specs.List.{All, AllByRecursion, list_all, enumerate_from}
-use Rattle.std.specs.Option.{option_map}
-use Rattle.lagtypes.specs.declared.identifiers.AggId.{AggId}
+use Rattle.selection.proofs.Common.{All, Bool, IsSomeAnd, List, None, Option, Some, [], ap, arith, cond, false, find, if◌then◌else◌, inl, inr, not}
+use Rattle.selection.proofs.Common.{option_map, refl, slice_get, subst, suc, sym, true, zero, ℕ, ◌&&◌, ◌+◌, ◌-◌, ◌==◌, ◌∙◌, ◌∷◌, ◌≡◌, ◌≢◌, ◌⊎◌}
+use Rattle.selection.proofs.Common.{and_parts, not-true, or_parts, AllByRecursion, enumerate_from, list_all, IfSome, AggId, Choice, Selected, Standby}
+use Rattle.selection.proofs.Common.{Unselected, SamePair, individual, same_system, exact_key, itself, system-itself, PortView, aggregator_of_entry}
+use Rattle.selection.proofs.Common.{chosen_for_view, chosen_if_eligible, has_group_of, has_no_occupant, has_occupant, lowest_from, occupants}
+use Rattle.selection.proofs.Common.{occupants_share_group, or_else, HasNoOccupant, IsOccupant, MayJoin, OccupantsShareGroup, ends, is_detached}
+use Rattle.selection.proofs.Common.{is_eligible, occupies}
 use Rattle.lagtypes.specs.declared.identifiers.Key.{Key}
-use Rattle.lagtypes.specs.declared.party.Choice.{Choice}
-use Rattle.lagtypes.specs.declared.party.Choice.TheVariants.{Unselected, Selected, Standby}
-use Rattle.lagtypes.specs.Group.{SamePair, individual}
-use Rattle.std.proofs.lemmas.Bool.{or_parts, and_parts, not-true}
-use Rattle.lagtypes.proofs.SameLemmas.{exact_key, itself, system-itself}
 use Rattle.selection.proofs.Equal.{group-test}
-use Rattle.selection.specs.declared.view.PortView.{PortView}
-use Rattle.lagtypes.specs.Same.{same_system}
 use Rattle.lagtypes.specs.Choices.{is_unselected}
-use Rattle.selection.specs.Views.{is_detached, is_eligible, occupies}
-use Rattle.selection.specs.Choice.{chosen_if_eligible, chosen_for_view, occupants, has_group_of, has_occupant, has_no_occupant}
-use Rattle.selection.specs.Choice.{occupants_share_group, lowest_from, aggregator_of_entry, or_else}
-use Rattle.selection.specs.Joining.{HasNoOccupant, IsOccupant, OccupantsShareGroup, MayJoin, ends}
 
 -- tests
 

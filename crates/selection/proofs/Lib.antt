@@ -1,3 +1,4 @@
+mod Common
 pub mod Equal
 pub mod Joining
 pub mod Rising

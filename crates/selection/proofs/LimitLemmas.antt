@@ -1,24 +1,13 @@
 -- Which STANDBY port comes next in an aggregator.
-use Rattle.std.proofs.Common.{◌≡◌, ℕ, suc, ◌+◌, Bool, true, false, ◌&&◌, ◌||◌, cond, List, [], ◌∷◌, ◌⊎◌, inl, inr, refl, sym, ◌∙◌}
-use Rattle.std.proofs.Common.{subst, ap, arith, Option, Some, None}
-use Rattle.std.specs.Prelude.{◌==◌, nat_lt, if◌then◌else◌, slice_get, option_map, IfSome}
-use Rattle.std.specs.List.{AllByRecursion}
-use Rattle.std.specs.Ordering.{is_lt, ordering_then}
+use Rattle.selection.proofs.Common.{Bool, List, None, Option, Some, [], ap, arith, cond, false, if◌then◌else◌, inl, inr, nat_lt, option_map, refl}
+use Rattle.selection.proofs.Common.{slice_get, subst, suc, sym, true, ℕ, ◌&&◌, ◌+◌, ◌==◌, ◌||◌, ◌∙◌, ◌∷◌, ◌≡◌, ◌⊎◌, and_parts, Decides-eqb, nat_tests}
+use Rattle.selection.proofs.Common.{AllByRecursion, is_lt, ordering_then, IfSome, AggId, Choice, Selected, Standby, Unselected, port_cmp, itself}
+use Rattle.selection.proofs.Common.{PortView, AggregatorsValue, IsNext, better_row, has_room, is_before, lowest_standby_from, next_standby_index}
+use Rattle.selection.proofs.Common.{next_standby_row, row_index, stands_by}
 use Rattle.std.specs.declared.cmp.Ordering.TheVariants.{Less, Equal, Greater}
-use Rattle.std.proofs.lemmas.Bool.{and_parts}
-use Rattle.std.proofs.lemmas.Bool.Decides.{Decides-eqb, nat_tests}
 use Rattle.std.proofs.lemmas.Option.{same_Some}
-use Rattle.lagtypes.specs.declared.identifiers.AggId.{AggId}
 use Rattle.lagtypes.specs.declared.identifiers.PortId.{PortId}
-use Rattle.lagtypes.specs.declared.party.Choice.{Choice}
-use Rattle.lagtypes.specs.declared.party.Choice.TheVariants.{Unselected, Selected, Standby}
-use Rattle.lagtypes.specs.Order.{port_cmp}
-use Rattle.lagtypes.proofs.SameLemmas.{itself}
 use Rattle.selection.specs.declared.limits.StandbyRow.{StandbyRow}
-use Rattle.selection.specs.declared.view.PortView.{PortView}
-use Rattle.selection.specs.Views.{stands_by}
-use Rattle.selection.specs.Limits.{AggregatorsValue, has_room, is_before, better_row, lowest_standby_from, next_standby_row}
-use Rattle.selection.specs.Limits.{next_standby_index, row_index, IsNext}
 use Rattle.selection.proofs.Joining.{all-from_each}
 
 -- identifiers

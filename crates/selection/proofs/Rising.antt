@@ -1,13 +1,8 @@
 -- Views in ascending order of their port numbers, and anything else in ascending order of its numbers.
-use Rattle.std.proofs.Common.{◌≡◌, ◌↔◌, ℕ, ◌+◌, ◌<◌, Bool, true, false, List, [], ◌∷◌, length, refl, arith, IsTrue}
-use Rattle.std.specs.Prelude.{filter, map, nat_lt}
-use Rattle.std.specs.List.{AllPairs, IsAllAdjacentAnswer, slice_index, slice_index_or}
+use Rattle.selection.proofs.Common.{Bool, IsTrue, List, [], arith, false, filter, length, map, nat_lt, refl, slice_index, true, ℕ, ◌+◌, ◌<◌, ◌↔◌, ◌∷◌}
+use Rattle.selection.proofs.Common.{◌≡◌, nat_tests, get_or-map, AllPairs, IsAllAdjacentAnswer, slice_index_or, PortView, numbers}
 use Rattle.std.specs.List.Sorted.{IsStrictlyIncreasing}
-use Rattle.std.proofs.lemmas.Bool.Decides.{nat_tests}
-use Rattle.std.proofs.lemmas.List.{get_or-map}
 use Rattle.std.proofs.lemmas.List.Kept.{AllPairs-filter, AllPairs-from_increasing}
-use Rattle.selection.specs.declared.view.PortView.{PortView}
-use Rattle.selection.specs.Views.{numbers}
 
 -- Things in ascending order of their numbers, whatever they are.
 

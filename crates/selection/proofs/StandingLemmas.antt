@@ -1,19 +1,11 @@
 -- How an aggregator stands after one view more.
-use Rattle.std.proofs.Common.{◌≡◌, ℕ, ◌+◌, ◌<◌, Bool, true, false, not, ◌&&◌, ◌||◌, cond, List, [], ◌∷◌, length, take, get_or, refl, ◌∙◌}
-use Rattle.std.proofs.Common.{ap}
-use Rattle.std.specs.Prelude.{filter, if◌then◌else◌}
-use Rattle.std.specs.List.{list_all, list_any}
+use Rattle.selection.proofs.Common.{Bool, List, [], ap, cond, false, filter, get_or, if◌then◌else◌, length, not, refl, take, true, ℕ, ◌&&◌, ◌+◌, ◌<◌}
+use Rattle.selection.proofs.Common.{◌||◌, ◌∙◌, ◌∷◌, ◌≡◌, list_all, list_any, AggId, individual, Empty, Joinable, Taken, PortView, has_group_of}
+use Rattle.selection.proofs.Common.{standing, with_occupant, with_port, occupies}
 use Rattle.std.proofs.lemmas.List.Folds.{list_all-append, list_any_more}
 use Rattle.std.proofs.lemmas.List.Elements.{filter_more}
 use Rattle.std.proofs.Math.Bool.{and-true}
-use Rattle.lagtypes.specs.declared.identifiers.AggId.{AggId}
-use Rattle.lagtypes.specs.Group.{individual}
 use Rattle.selection.specs.declared.standings.Standing.{Standing}
-use Rattle.selection.specs.declared.standings.Standing.TheVariants.{Empty, Joinable, Taken}
-use Rattle.selection.specs.declared.view.PortView.{PortView}
-use Rattle.selection.specs.Views.{occupies}
-use Rattle.selection.specs.Choice.{has_group_of}
-use Rattle.selection.specs.Standing.{standing, with_occupant, with_port}
 
 -- tests
 

@@ -1,17 +1,10 @@
 -- The octets that are written for an LACPDU.
-use Rattle.std.proofs.Common.{◌≡◌, ◌<◌, ◌+◌, ◌*◌, ◌/◌, ◌%◌, ◌^◌, ℕ, List, [], ◌∷◌, ◌++◌, replicate, refl, sym, ap, subst, ◌∙◌, arith}
-use Rattle.byteorder.specs.Endian.{big_bytes}
-use Rattle.lagtypes.specs.Octet.{octet}
-use Rattle.slowpdu.specs.declared.pdu.Lacpdu.{Lacpdu}
-use Rattle.std.specs.List.{AllByRecursion}
-use Rattle.slowpdu.specs.Layout.{Field, read_field, ignored_field, HoldsNumber, AreOctets, IsAddress}
-use Rattle.slowpdu.specs.Lacpdus.{Writes, info_fields, lacpdu_table}
-use Rattle.slowpdu.specs.declared.pdu.MarkerKind.{MarkerKind}
-use Rattle.slowpdu.specs.declared.pdu.Marker.{Marker}
-use Rattle.slowpdu.specs.Markers.{WritesMarker, tlv_type, marker_table}
+use Rattle.slowpdu.proofs.Common.{List, [], ap, arith, refl, replicate, subst, sym, ℕ, ◌%◌, ◌*◌, ◌++◌, ◌+◌, ◌/◌, ◌<◌, ◌^◌, ◌∙◌, ◌∷◌, ◌≡◌}
+use Rattle.slowpdu.proofs.Common.{AllByRecursion, big_bytes, octet, Lacpdu, Marker, MarkerKind, Writes, info_fields, lacpdu_table, AreOctets, Field}
+use Rattle.slowpdu.proofs.Common.{HoldsNumber, IsAddress, ignored_field, read_field, WritesMarker, marker_table, tlv_type, InfoFits, info_octets}
+use Rattle.slowpdu.proofs.Common.{replaced}
 use Rattle.slowpdu.proofs.LayoutLemmas.{all-append}
 use Rattle.slowpdu.proofs.MarkerLemmas.{make_marker}
-use Rattle.slowpdu.specs.Writing.{InfoFits, replaced, info_octets}
 use Rattle.slowpdu.proofs.WritingLemmas.{others_zero, six}
 use Rattle.slowpdu.proofs.LacpduLemmas.{make_info, make_lacpdu}
 

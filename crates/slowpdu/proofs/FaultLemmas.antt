@@ -1,15 +1,9 @@
 -- The fault of a payload, cause by cause.
-use Rattle.std.proofs.Common.{◌≡◌, ◌≤◌, ◌<◌, ◌⊎◌, ◌++◌, ℕ, Bool, true, false, List, [], ◌∷◌, length, slice_index, None, refl, sym, ◌∙◌}
-use Rattle.std.proofs.Common.{inl, inr, arith}
-use Rattle.std.specs.Prelude.{◌==◌, ◌&&◌, ◌||◌, not, nat_lt}
+use Rattle.slowpdu.proofs.Common.{Bool, List, None, [], arith, false, inl, inr, length, length-append, nat_lt, not, refl, slice_index, sym, true, ℕ}
+use Rattle.slowpdu.proofs.Common.{◌&&◌, ◌++◌, ◌<◌, ◌==◌, ◌||◌, ◌∙◌, ◌∷◌, ◌≡◌, ◌≤◌, ◌⊎◌, le-ltb, get_or_append_left, WireFault, BadLength, MarkerTlv}
+use Rattle.slowpdu.proofs.Common.{OtherSubtype, Short, Cause, fault_of, first_cause, payload_len}
 use Rattle.std.proofs.lemmas.Bool.Decides.{nat_tests}
 use Rattle.std.proofs.lemmas.Grind.{common_steps}
-use Rattle.std.proofs.lemmas.List.{get_or_append_left, length-append}
-use Rattle.std.proofs.lemmas.Bool.{le-ltb}
-use Rattle.slowpdu.specs.declared.fault.WireFault.{WireFault}
-use Rattle.slowpdu.specs.declared.fault.WireFault.TheVariants.{Short, OtherSubtype, BadLength, MarkerTlv}
-use Rattle.slowpdu.specs.Layout.{payload_len}
-use Rattle.slowpdu.specs.Faults.{Cause, first_cause, fault_of}
 
 pub no_fault_1 : (b : List ℕ) → payload_len ≤ length b → slice_index b 0 ≡ 1 → slice_index b 3 ≡ 20
     → slice_index b 23 ≡ 20 → slice_index b 43 ≡ 16

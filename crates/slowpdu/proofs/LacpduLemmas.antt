@@ -1,16 +1,9 @@
 -- The readings of an LACPDU.
-use Rattle.std.proofs.Common.{◌≡◌, ◌≤◌, ◌++◌, ℕ, List, [], ◌∷◌, length, drop, slice_index, None, refl, sym, ap, ◌∙◌}
-use Rattle.byteorder.specs.Endian.{big_number}
-use Rattle.lagtypes.specs.Octet.{octet}
-use Rattle.slowpdu.specs.declared.pdu.Info.{Info}
-use Rattle.slowpdu.specs.declared.pdu.Lacpdu.{Lacpdu}
-use Rattle.std.specs.List.{AllByRecursion}
-use Rattle.slowpdu.specs.Layout.{IsAddress, Field, HoldsNumber, read_fields, payload_len, read_field}
-use Rattle.slowpdu.specs.Lacpdus.{Reads, Writes, lacpdu_table, info_fields}
-use Rattle.slowpdu.specs.Faults.{fault_of}
+use Rattle.slowpdu.proofs.Common.{List, None, [], ap, drop, length, refl, slice_index, sym, ℕ, ◌++◌, ◌∙◌, ◌∷◌, ◌≡◌, ◌≤◌, AllByRecursion, big_number}
+use Rattle.slowpdu.proofs.Common.{octet, Info, Lacpdu, fault_of, Reads, Writes, info_fields, lacpdu_table, Field, HoldsNumber, IsAddress, payload_len}
+use Rattle.slowpdu.proofs.Common.{read_field, read_fields}
 use Rattle.slowpdu.proofs.FaultLemmas.{no_fault_1}
-use Rattle.slowpdu.proofs.LayoutLemmas.{one_number, one_table, numbers, octet_stands, all-append, table-append, table_of_append}
-use Rattle.slowpdu.proofs.LayoutLemmas.{written_table}
+use Rattle.slowpdu.proofs.LayoutLemmas.{one_number, one_table, numbers, octet_stands, all-append, table-append, table_of_append, written_table}
 
 abbrev pub number_at : ℕ → List ℕ → ℕ
 number_at i ns = slice_index ns i

@@ -1,14 +1,11 @@
 -- Facts about tables of fields, for any table.
-use Rattle.std.proofs.Common.{◌≡◌, ◌≤◌, ◌<◌, ◌+◌, ◌-◌, ◌*◌, ◌/◌, ◌^◌, ◌++◌, ℕ, zero, suc, Bool, true, false, cond, List, [], ◌∷◌, length, drop, take, map, filter, slice_index, refl, sym, ap, ◌∙◌, add-zero, arith, inl, inr}
-use Rattle.std.specs.Prelude.{nat_le, nat_lt}
-use Rattle.std.specs.List.{AllByRecursion, list_all}
-use Rattle.std.proofs.lemmas.List.{drop-append-le, length-append, length-drop, get_or-drop, get_or-take, get_or_past, length-take}
-use Rattle.std.proofs.lemmas.List.{ext_get_or}
-use Rattle.std.proofs.lemmas.Bool.{and_parts, cases_Bool, cases_lt, or_cases, leb-true}
+use Rattle.slowpdu.proofs.Common.{Bool, List, [], add-zero, ap, arith, cond, drop, false, filter, inl, inr, length, length-append, length-drop, map}
+use Rattle.slowpdu.proofs.Common.{nat_le, nat_lt, refl, slice_index, suc, sym, take, true, zero, ℕ, ◌*◌, ◌++◌, ◌+◌, ◌-◌, ◌/◌, ◌<◌, ◌^◌, ◌∙◌, ◌∷◌, ◌≡◌}
+use Rattle.slowpdu.proofs.Common.{◌≤◌, and_parts, cases_Bool, cases_lt, leb-true, or_cases, drop-append-le, ext_get_or, get_or-drop, get_or-take}
+use Rattle.slowpdu.proofs.Common.{get_or_past, length-take, AllByRecursion, list_all, big_from, big_number, big_from-append, big_from-cons}
+use Rattle.slowpdu.proofs.Common.{big_from-lt, big_from-take, AreOctets, Field, HoldsNumber, ReadsTable, WritesTable, is_covered, is_within}
+use Rattle.slowpdu.proofs.Common.{payload_len, read_fields}
 use Rattle.std.proofs.lemmas.Nat.{same_from_place}
-use Rattle.byteorder.specs.Endian.{big_from, big_number}
-use Rattle.byteorder.specs.Numbers.{big_from-cons, big_from-lt, big_from-append, big_from-take}
-use Rattle.slowpdu.specs.Layout.{Field, HoldsNumber, is_within, is_covered, AreOctets, ReadsTable, WritesTable, read_fields, payload_len}
 
 -- what stands in a payload stands in it whatever follows
 pub stands-append : (b rest : List ℕ) (p : Field) → p.offset + p.width ≤ length b

@@ -1,3 +1,4 @@
+mod Common
 pub mod LayoutLemmas
 pub mod FaultLemmas
 pub mod LacpduLemmas

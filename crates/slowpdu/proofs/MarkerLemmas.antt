@@ -1,15 +1,7 @@
 -- The readings of a Marker PDU.
-use Rattle.std.proofs.Common.{◌≡◌, ◌≤◌, ◌⊎◌, ◌++◌, ℕ, List, length, drop, slice_index, None, refl, sym, ap, ◌∙◌, inl, inr, arith}
-use Rattle.byteorder.specs.Endian.{big_number}
-use Rattle.slowpdu.specs.declared.pdu.Lacpdu.{Lacpdu}
-use Rattle.slowpdu.specs.declared.pdu.Marker.{Marker}
-use Rattle.slowpdu.specs.declared.pdu.MarkerKind.{MarkerKind}
-use Rattle.slowpdu.specs.declared.pdu.MarkerKind.TheVariants.{Information, Response}
-use Rattle.std.specs.List.{AllByRecursion}
-use Rattle.slowpdu.specs.Layout.{IsAddress, HoldsNumber, read_fields, payload_len, read_field}
-use Rattle.slowpdu.specs.Lacpdus.{Reads}
-use Rattle.slowpdu.specs.Markers.{ReadsMarker, WritesMarker, tlv_type, marker_table}
-use Rattle.slowpdu.specs.Faults.{fault_of}
+use Rattle.slowpdu.proofs.Common.{List, None, ap, arith, drop, inl, inr, length, refl, slice_index, sym, ℕ, ◌++◌, ◌∙◌, ◌≡◌, ◌≤◌, ◌⊎◌, AllByRecursion}
+use Rattle.slowpdu.proofs.Common.{big_number, Lacpdu, Marker, MarkerKind, Information, Response, fault_of, Reads, HoldsNumber, IsAddress, payload_len}
+use Rattle.slowpdu.proofs.Common.{read_field, read_fields, ReadsMarker, WritesMarker, marker_table, tlv_type}
 use Rattle.slowpdu.proofs.FaultLemmas.{no_fault_2}
 use Rattle.slowpdu.proofs.LayoutLemmas.{one_table, numbers, octet_stands, table-append, table_of_append, written_table}
 use Rattle.slowpdu.proofs.LacpduLemmas.{number_at, one_address}

@@ -1,20 +1,10 @@
 -- The reading of a payload as a function gives the PDU that the payload reads as.
-use Rattle.std.proofs.Common.{◌≡◌, ◌<◌, ◌+◌, ◌^◌, ℕ, zero, suc, List, [], refl, sym, ap, ◌∙◌, arith, subst, append-nil}
+use Rattle.slowpdu.proofs.Common.{List, [], ap, append-nil, arith, refl, subst, suc, sym, zero, ℕ, ◌+◌, ◌<◌, ◌^◌, ◌∙◌, ◌≡◌, big_number, big_from-lt}
+use Rattle.slowpdu.proofs.Common.{big_number-reads_back, length-bytes_high_first, Info, Lacpdu, Marker, MarkerKind, Information, Response, Pdu, Reads}
+use Rattle.slowpdu.proofs.Common.{AreOctets, IsAddress, ReadsMarker, tlv_type, ReadsPdu}
 use Rattle.std.proofs.Math.Nat.{mod-lt}
 use Rattle.std.specs.Int.{byte_at, bytes_high_first}
-use Rattle.byteorder.specs.Endian.{big_number}
-use Rattle.byteorder.specs.Numbers.{length-bytes_high_first, big_number-reads_back, big_from-lt}
-use Rattle.slowpdu.specs.declared.pdu.Info.{Info}
-use Rattle.slowpdu.specs.declared.pdu.Lacpdu.{Lacpdu}
-use Rattle.slowpdu.specs.declared.pdu.Marker.{Marker}
-use Rattle.slowpdu.specs.declared.pdu.MarkerKind.{MarkerKind}
-use Rattle.slowpdu.specs.declared.pdu.MarkerKind.TheVariants.{Information, Response}
-use Rattle.slowpdu.specs.declared.pdu.Pdu.{Pdu}
 use Rattle.slowpdu.specs.declared.pdu.Pdu.TheVariants as pdu
-use Rattle.slowpdu.specs.Layout.{AreOctets, IsAddress}
-use Rattle.slowpdu.specs.Lacpdus.{Reads}
-use Rattle.slowpdu.specs.Markers.{ReadsMarker, tlv_type}
-use Rattle.slowpdu.specs.Pdus.{ReadsPdu}
 use Rattle.slowpdu.specs.Readings.{number_at, address_in, info_at, lacpdu_in, kind_of_tlv_type, marker_in, pdu_in}
 use Rattle.slowpdu.proofs.LacpduLemmas.{one_address, make_info, make_lacpdu}
 use Rattle.slowpdu.proofs.MarkerLemmas.{make_marker}

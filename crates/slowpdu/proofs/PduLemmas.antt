@@ -1,18 +1,8 @@
 -- The readings of a PDU of either kind.
-use Rattle.std.proofs.Common.{◌≡◌, ◌≤◌, ◌<◌, ◌++◌, ◌↔◌, ℕ, List, length, take, drop, Result, Ok, Err, None, Some, refl, sym, ap, ◌∙◌}
-use Rattle.std.proofs.Common.{subst, inl, inr, arith}
-use Rattle.std.proofs.lemmas.Bool.{cases_lt}
-use Rattle.std.proofs.lemmas.List.{take-append-drop, take_all, length-take}
-use Rattle.slowpdu.specs.declared.pdu.Lacpdu.{Lacpdu}
-use Rattle.slowpdu.specs.declared.pdu.Marker.{Marker}
-use Rattle.slowpdu.specs.declared.pdu.Pdu.{Pdu}
+use Rattle.slowpdu.proofs.Common.{Err, List, None, Ok, Result, Some, ap, arith, drop, inl, inr, length, refl, subst, sym, take, take-append-drop}
+use Rattle.slowpdu.proofs.Common.{take_all, ℕ, ◌++◌, ◌<◌, ◌↔◌, ◌∙◌, ◌≡◌, ◌≤◌, cases_lt, length-take, WireFault, Lacpdu, Marker, Pdu, fault_of}
+use Rattle.slowpdu.proofs.Common.{lacpdu_table, payload_len, marker_table, IsDecoded, ReadsPdu, WritesPdu}
 use Rattle.slowpdu.specs.declared.pdu.Pdu.TheVariants as pdu
-use Rattle.slowpdu.specs.declared.fault.WireFault.{WireFault}
-use Rattle.slowpdu.specs.Pdus.{ReadsPdu, WritesPdu, IsDecoded}
-use Rattle.slowpdu.specs.Faults.{fault_of}
-use Rattle.slowpdu.specs.Layout.{payload_len}
-use Rattle.slowpdu.specs.Lacpdus.{lacpdu_table}
-use Rattle.slowpdu.specs.Markers.{marker_table}
 use Rattle.slowpdu.proofs.FaultLemmas.{fault-append}
 use Rattle.slowpdu.proofs.LayoutLemmas.{one_payload}
 use Rattle.slowpdu.proofs.LacpduLemmas.{one_reading, written_reads, no_lacpdu_fault, reads-append, reads_of_append}

@@ -1,20 +1,8 @@
 -- A payload that is not refused reads as a PDU.
-use Rattle.std.proofs.Common.{◌≡◌, ◌≤◌, ◌+◌, ℕ, List, length, drop, take, slice_index, None, refl, sym, inl, inr, arith}
-use Rattle.std.specs.List.{AllByRecursion}
-use Rattle.std.proofs.lemmas.List.{length-drop, length-take}
-use Rattle.byteorder.specs.Endian.{big_number}
-use Rattle.slowpdu.specs.declared.pdu.Info.{Info}
-use Rattle.slowpdu.specs.declared.pdu.Lacpdu.{Lacpdu}
-use Rattle.slowpdu.specs.declared.pdu.Marker.{Marker}
-use Rattle.slowpdu.specs.declared.pdu.MarkerKind.{MarkerKind}
-use Rattle.slowpdu.specs.declared.pdu.MarkerKind.TheVariants.{Information, Response}
-use Rattle.slowpdu.specs.declared.pdu.Pdu.{Pdu}
+use Rattle.slowpdu.proofs.Common.{List, None, arith, drop, inl, inr, length, length-drop, refl, slice_index, sym, take, ℕ, ◌+◌, ◌≡◌, ◌≤◌, length-take}
+use Rattle.slowpdu.proofs.Common.{AllByRecursion, big_number, Info, Lacpdu, Marker, MarkerKind, Information, Response, Pdu, fault_of, Reads}
+use Rattle.slowpdu.proofs.Common.{info_fields, AreOctets, HoldsNumber, IsAddress, payload_len, read_field, ReadsMarker, tlv_type, ReadsPdu}
 use Rattle.slowpdu.specs.declared.pdu.Pdu.TheVariants as pdu
-use Rattle.slowpdu.specs.Layout.{AreOctets, IsAddress, HoldsNumber, payload_len, read_field}
-use Rattle.slowpdu.specs.Lacpdus.{Reads, info_fields}
-use Rattle.slowpdu.specs.Markers.{ReadsMarker, tlv_type}
-use Rattle.slowpdu.specs.Pdus.{ReadsPdu}
-use Rattle.slowpdu.specs.Faults.{fault_of}
 use Rattle.slowpdu.proofs.FaultLemmas.{IsLacpdu, IsMarker, accepted}
 use Rattle.slowpdu.proofs.LacpduLemmas.{all_read, make_info, make_lacpdu}
 use Rattle.slowpdu.proofs.LayoutLemmas.{number_of_taken, octets-cut}

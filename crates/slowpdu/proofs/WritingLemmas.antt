@@ -1,12 +1,8 @@
 -- Octets put into a payload, one after the other.
-use Rattle.std.proofs.Common.{◌≡◌, ◌≤◌, ◌<◌, ◌+◌, ℕ, zero, suc, Bool, true, false, List, [], ◌∷◌, ◌++◌, length, take, drop, slice_index}
-use Rattle.std.proofs.Common.{refl, sym, ap, subst, ◌∙◌, append_assoc, append-nil, add-zero, zero-add, arith}
-use Rattle.std.specs.Prelude.{◌&&◌, ◌||◌, ◌==◌}
-use Rattle.std.proofs.lemmas.Bool.{and_parts}
-use Rattle.std.proofs.lemmas.List.{take_at, drop_at, drop-drop, drop_all, length-append, length-take}
-use Rattle.slowpdu.specs.Layout.{Field, is_covered, payload_len}
+use Rattle.slowpdu.proofs.Common.{Bool, List, [], add-zero, ap, append-nil, append_assoc, arith, drop, false, length, length-append, refl}
+use Rattle.slowpdu.proofs.Common.{slice_index, subst, suc, sym, take, true, zero, zero-add, ℕ, ◌&&◌, ◌++◌, ◌+◌, ◌<◌, ◌==◌, ◌||◌, ◌∙◌, ◌∷◌, ◌≡◌, ◌≤◌}
+use Rattle.slowpdu.proofs.Common.{and_parts, drop-drop, drop_all, drop_at, length-take, take_at, Field, is_covered, payload_len, replaced}
 use Rattle.slowpdu.specs.Frames.{IsSlowProtocolsFrame, frame_octets}
-use Rattle.slowpdu.specs.Writing.{replaced}
 
 -- what is put right behind other octets is put with them
 pub then_put : (b p q xs ys : List ℕ) (o m : ℕ) → p ≡ replaced b o xs → q ≡ replaced p m ys → m ≡ o + length xs → m + length ys ≤ length b

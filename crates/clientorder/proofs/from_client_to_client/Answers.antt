@@ -1,5 +1,4 @@
-use Rattle.std.proofs.Common.{◌≡◌, ℕ, ◌+◌, ◌<◌, ◌∙◌, ◌++◌, List, [], length, sym, ap, subst, arith}
-use Rattle.std.specs.Prelude.{slice_index}
+use Rattle.std.proofs.Common.{◌≡◌, ℕ, ◌+◌, ◌<◌, ◌∙◌, ◌++◌, List, [], length, sym, ap, subst, arith, slice_index}
 use Rattle.holding.specs.Laws.{IsSubsequence, all_gone, all_sent, all_accepted}
 use Rattle.holding.specs.Holding.{queue}
 use Rattle.holding.proofs.Order.{subsequence}

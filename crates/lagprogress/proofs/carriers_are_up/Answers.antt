@@ -1,4 +1,4 @@
-use Rattle.lagworld.specs.Sound.{both_algorithms}
+use Rattle.lagprogress.proofs.Common.{both_algorithms}
 use Rattle.lagprogress.proofs.Carrying.{each_reached_has_carriers_up}
 use Rattle.lagprogress.proofs.carriers_are_up.Goals as goal
 

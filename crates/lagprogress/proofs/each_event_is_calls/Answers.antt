@@ -1,4 +1,4 @@
-use Rattle.lagworld.specs.Sound.{both_algorithms}
+use Rattle.lagprogress.proofs.Common.{both_algorithms}
 use Rattle.lagprogress.proofs.Halves.{each_is_calls}
 use Rattle.lagprogress.proofs.each_event_is_calls.Goals as goal
 

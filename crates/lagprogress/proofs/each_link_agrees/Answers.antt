@@ -1,4 +1,4 @@
-use Rattle.lagworld.specs.Sound.{both_algorithms}
+use Rattle.lagprogress.proofs.Common.{both_algorithms}
 use Rattle.lagprogress.proofs.Bundling.{each_active_link_agrees, each_link_agrees}
 use Rattle.lagprogress.proofs.each_link_agrees.Goals as goal
 

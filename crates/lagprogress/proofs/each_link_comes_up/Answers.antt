@@ -1,4 +1,4 @@
-use Rattle.lagworld.specs.Sound.{both_algorithms}
+use Rattle.lagprogress.proofs.Common.{both_algorithms}
 use Rattle.lagprogress.proofs.Bundling.{each_active_link_comes_up, each_link_comes_up}
 use Rattle.lagprogress.proofs.each_link_comes_up.Goals as goal
 

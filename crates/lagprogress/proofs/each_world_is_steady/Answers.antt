@@ -1,4 +1,4 @@
-use Rattle.lagworld.specs.Sound.{both_algorithms}
+use Rattle.lagprogress.proofs.Common.{both_algorithms}
 use Rattle.lagprogress.proofs.Halves.{keeps_steady, start_steady}
 use Rattle.lagprogress.proofs.Reaching.{reached_steady, runs_steady}
 use Rattle.lagprogress.proofs.each_world_is_steady.Goals as goal

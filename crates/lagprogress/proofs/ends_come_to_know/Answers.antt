@@ -1,4 +1,4 @@
-use Rattle.lagworld.specs.Sound.{both_algorithms}
+use Rattle.lagprogress.proofs.Common.{both_algorithms}
 use Rattle.lagprogress.proofs.OneActive.{ends_know}
 use Rattle.lagprogress.proofs.ends_come_to_know.Goals as goal
 

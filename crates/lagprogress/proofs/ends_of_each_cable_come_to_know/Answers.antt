@@ -1,4 +1,4 @@
-use Rattle.lagworld.specs.Sound.{both_algorithms}
+use Rattle.lagprogress.proofs.Common.{both_algorithms}
 use Rattle.lagprogress.proofs.OneActive.{ends_of_each_know}
 use Rattle.lagprogress.proofs.Progressing.{active_ends_of_each_know}
 use Rattle.lagprogress.proofs.ends_of_each_cable_come_to_know.Goals as goal

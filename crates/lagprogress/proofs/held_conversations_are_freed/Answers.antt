@@ -1,4 +1,4 @@
-use Rattle.lagworld.specs.Sound.{both_algorithms}
+use Rattle.lagprogress.proofs.Common.{both_algorithms}
 use Rattle.lagprogress.proofs.Freeing.{none_is_held_on_active_ends, none_is_held_on_ends, none_is_held_where_active, nothing_is_held}
 use Rattle.lagprogress.proofs.held_conversations_are_freed.Goals as goal
 

@@ -1,4 +1,4 @@
-use Rattle.lagworld.specs.Sound.{both_algorithms}
+use Rattle.lagprogress.proofs.Common.{both_algorithms}
 use Rattle.lagprogress.proofs.Passing.{deliver_processes, emit_sends}
 use Rattle.lagprogress.proofs.lacpdus_pass_cables.Goals as goal
 

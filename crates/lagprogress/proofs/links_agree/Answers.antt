@@ -1,4 +1,4 @@
-use Rattle.lagworld.specs.Sound.{both_algorithms}
+use Rattle.lagprogress.proofs.Common.{both_algorithms}
 use Rattle.lagprogress.proofs.Bundling.{active_link_agrees, link_agrees}
 use Rattle.lagprogress.proofs.links_agree.Goals as goal
 

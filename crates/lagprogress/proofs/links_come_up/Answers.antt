@@ -1,4 +1,4 @@
-use Rattle.lagworld.specs.Sound.{both_algorithms}
+use Rattle.lagprogress.proofs.Common.{both_algorithms}
 use Rattle.lagprogress.proofs.Bundling.{active_link_comes_up, link_comes_up}
 use Rattle.lagprogress.proofs.links_come_up.Goals as goal
 

@@ -1,5 +1,4 @@
-use Rattle.lagworld.specs.Sound.{both_algorithms}
-use Rattle.lagprogress.specs.Bundle.{BothAreActive, OneIsActive}
+use Rattle.lagprogress.proofs.Common.{both_algorithms, BothAreActive, OneIsActive}
 use Rattle.lagprogress.proofs.MadeWorlds.{reached_apart, reached_is_bundle}
 use Rattle.lagprogress.proofs.reached_worlds_are_bundles.Goals as goal
 

@@ -1,4 +1,4 @@
-use Rattle.lagworld.specs.Sound.{both_algorithms}
+use Rattle.lagprogress.proofs.Common.{both_algorithms}
 use Rattle.lagprogress.proofs.Pairing.{active_selected_pairs_agree, active_selected_pairs_come_up, selected_pairs_agree, selected_pairs_come_up}
 use Rattle.lagprogress.proofs.selected_pairs_agree.Goals as goal
 

@@ -1,6 +1,5 @@
 use mathlib.Core.Path.{◌∙◌, ap}
-use Rattle.std.proofs.Common.{◌==◌}
-use Rattle.std.specs.List.{position}
+use Rattle.std.proofs.Common.{◌==◌, position}
 use Rattle.answering.proofs.PlaceLemmas.{place_of_number}
 use Rattle.answering.proofs.notes.place_of.Goals as goal
 

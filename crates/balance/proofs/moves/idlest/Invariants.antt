@@ -1,6 +1,4 @@
-use Rattle.std.proofs.Common.{ℕ, ◌<◌, ◌≤◌, get_or}
-use Rattle.std.specs.Prelude.{Contains}
-use Rattle.balance.specs.Moves.{load_on}
+use Rattle.balance.proofs.Common.{get_or, ℕ, ◌<◌, ◌≤◌, Contains, load_on}
 use Rattle.balance.proofs.moves.idlest.Given as goal
 
 abbrev pub invariant-loop-port : goal.invariant-loop-port

@@ -1,5 +1,4 @@
-use Rattle.std.proofs.Common.{◌≡◌, ℕ, ◌<◌, ◌≤◌}
-use Rattle.balance.specs.Moves.{conversation_at}
+use Rattle.balance.proofs.Common.{ℕ, ◌<◌, ◌≡◌, ◌≤◌, conversation_at}
 use Rattle.balance.proofs.moves.lighter.Given as goal
 
 abbrev pub invariant-loop-place : goal.invariant-loop-place

@@ -1,4 +1,4 @@
-use Rattle.std.proofs.Common.{arith}
+use Rattle.balance.proofs.Common.{arith}
 use Rattle.balance.proofs.Ports.{no_move}
 use Rattle.balance.proofs.moves.next_move.Goals as goal
 

@@ -1,5 +1,4 @@
-use Rattle.std.proofs.Common.{◌≡◌, ℕ, ◌-◌, ◌<◌, ◌≤◌, length, get_or}
-use Rattle.balance.specs.Moves.{load_on, conversation_at}
+use Rattle.balance.proofs.Common.{get_or, length, ℕ, ◌-◌, ◌<◌, ◌≡◌, ◌≤◌, conversation_at, load_on}
 use Rattle.balance.proofs.moves.next_move.Given as goal
 
 abbrev pub invariant-loop-port : goal.invariant-loop-port

@@ -1,5 +1,4 @@
-use Rattle.std.proofs.Common.{◌≡◌, ◌*◌, ◌≤◌, take}
-use Rattle.balance.specs.Moves.{load_on}
+use Rattle.balance.proofs.Common.{take, ◌*◌, ◌≡◌, ◌≤◌, load_on}
 use Rattle.balance.proofs.moves.port_load.Given as goal
 
 abbrev pub invariant-loop-one : goal.invariant-loop-one

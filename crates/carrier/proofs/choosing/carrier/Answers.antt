@@ -1,7 +1,4 @@
-use Rattle.std.proofs.Common.{◌+◌, ◌≤◌, sym, subst, arith}
-use Rattle.lagsystem.specs.Readers.{aggregator_numbered}
-use Rattle.carrier.specs.Choice.{Carries, IsAggregator}
-use Rattle.lagtypes.specs.declared.identifiers.AggId.{AggId}
+use Rattle.carrier.proofs.Common.{arith, subst, sym, ◌+◌, ◌≤◌, AggId, aggregator_numbered, Carries, IsAggregator}
 use Rattle.carrier.proofs.Best.{BestOf, best_carries, one_better}
 use Rattle.carrier.proofs.choosing.carrier.Goals as goal
 

@@ -1,6 +1,4 @@
-use Rattle.std.proofs.Common.{◌∙◌, ◌+◌, ◌≤◌, sym, refl, true, arith}
-use Rattle.std.proofs.lemmas.Bool.{false≢true}
-use Rattle.lagsystem.specs.Readers.{aggregator_numbered}
+use Rattle.carrier.proofs.Common.{arith, refl, sym, true, ◌+◌, ◌∙◌, ◌≤◌, false≢true, aggregator_numbered}
 use Rattle.carrier.proofs.Searched.{none_more}
 use Rattle.carrier.proofs.offering.is_elsewhere.Goals as goal
 use Rattle.carrier.proofs.offering.is_elsewhere.Goals.{else-other-agg-via-then-other-agg+else-is_busy, else-other-agg-via-else-other-agg}

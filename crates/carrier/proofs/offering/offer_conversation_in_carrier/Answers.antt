@@ -1,5 +1,4 @@
-use Rattle.std.proofs.Common.{sym, ◌∙◌}
-use Rattle.std.proofs.lemmas.Bool.{false≢true}
+use Rattle.carrier.proofs.Common.{sym, ◌∙◌, false≢true}
 use Rattle.carrier.proofs.Kept.{offered_by_number}
 use Rattle.carrier.proofs.offering.offer_conversation_in_carrier.Goals as goal
 

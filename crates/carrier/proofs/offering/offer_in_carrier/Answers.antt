@@ -1,7 +1,4 @@
-use Rattle.std.proofs.Common.{◌∙◌, sym, subst}
-use Rattle.std.proofs.lemmas.Bool.{false≢true}
-use Rattle.lagsystem.specs.Readers.{conversation_in}
-use Rattle.carrier.specs.Offers.{IsHeldElsewhere}
+use Rattle.carrier.proofs.Common.{subst, sym, ◌∙◌, false≢true, conversation_in, IsHeldElsewhere}
 use Rattle.carrier.proofs.Kept.{offered}
 use Rattle.carrier.proofs.offering.offer_in_carrier.Goals as goal
 

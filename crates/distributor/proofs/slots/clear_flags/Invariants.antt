@@ -1,4 +1,4 @@
-use Rattle.std.proofs.Common.{◌≡◌, ◌<◌, ℕ, true, false, length, get_or}
+use Rattle.distributor.proofs.Common.{false, get_or, length, true, ℕ, ◌<◌, ◌≡◌}
 use Rattle.distributor.proofs.slots.clear_flags.Given as goal
 
 abbrev pub invariant-loop-chain : goal.invariant-loop-chain

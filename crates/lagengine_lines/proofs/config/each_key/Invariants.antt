@@ -1,6 +1,4 @@
-use Rattle.std.proofs.Common.{◌≡◌, drop, map}
-use Rattle.lagengine_lines.specs.Requests.{word_octets}
-use Rattle.lagengine_lines.specs.Words.{each, key_word}
+use Rattle.lagengine_lines.proofs.Common.{drop, map, ◌≡◌, word_octets, each, key_word}
 use Rattle.lagengine_lines.proofs.Walks.{after}
 use Rattle.lagengine_lines.proofs.config.each_key.Given as goal
 

@@ -1,6 +1,4 @@
-use Rattle.std.proofs.Common.{◌≡◌, ◌+◌, drop, map}
-use Rattle.lagengine_lines.specs.Requests.{word_octets}
-use Rattle.lagengine_lines.specs.Words.{each_at_place, port_word}
+use Rattle.lagengine_lines.proofs.Common.{drop, map, ◌+◌, ◌≡◌, word_octets, each_at_place, port_word}
 use Rattle.lagengine_lines.proofs.Walks.{after}
 use Rattle.lagengine_lines.proofs.config.each_port.Given as goal
 

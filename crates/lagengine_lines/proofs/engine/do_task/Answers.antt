@@ -1,4 +1,4 @@
-use Rattle.std.proofs.Common.{ℕ, ap, refl, subst}
+use Rattle.lagengine_lines.proofs.Common.{ap, refl, subst, ℕ}
 use Rattle.carrier.specs.Offers.{OffersFrameInCarrier}
 use Rattle.lagengine_lines.proofs.engine.do_task.Goals as goal
 

@@ -1,7 +1,4 @@
-use Rattle.std.proofs.Common.{refl}
-use Rattle.std.proofs.Output.{has_written_append, has_written_of_eq}
-use Rattle.lagengine_lines.specs.Texts.{bar_agg_answer}
-use Rattle.lagengine_lines.specs.Looks.{agg_answer_value}
+use Rattle.lagengine_lines.proofs.Common.{refl, has_written_append, has_written_of_eq, agg_answer_value, bar_agg_answer}
 use Rattle.lagengine_lines.proofs.TextLemmas.{each_more_item}
 use Rattle.lagengine_lines.proofs.fact_texts.write_more.Goals as goal
 

@@ -1,7 +1,4 @@
-use Rattle.std.proofs.Common.{take, map}
-use Rattle.std.specs.Fmt.{HasWritten, IsPlainFormatter}
-use Rattle.lagengine_lines.specs.Texts.{each_text, bar_agg_answer}
-use Rattle.lagengine_lines.specs.Looks.{agg_answer_value}
+use Rattle.lagengine_lines.proofs.Common.{map, take, HasWritten, IsPlainFormatter, agg_answer_value, bar_agg_answer, each_text}
 use Rattle.lagengine_lines.proofs.fact_texts.write_more.Given as goal
 
 -- those so far are written

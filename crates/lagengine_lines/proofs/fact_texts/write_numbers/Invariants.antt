@@ -1,6 +1,4 @@
-use Rattle.std.proofs.Common.{take}
-use Rattle.std.specs.Fmt.{HasWritten, IsPlainFormatter}
-use Rattle.lagengine_lines.specs.Texts.{each_text, spaced}
+use Rattle.lagengine_lines.proofs.Common.{take, HasWritten, IsPlainFormatter, each_text, spaced}
 use Rattle.lagengine_lines.proofs.fact_texts.write_numbers.Given as goal
 
 -- those so far are written

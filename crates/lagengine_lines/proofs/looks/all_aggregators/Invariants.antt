@@ -1,6 +1,4 @@
-use Rattle.std.proofs.Common.{◌≡◌, map}
-use Rattle.std.specs.List.{range_with_len}
-use Rattle.lagengine_lines.specs.Looks.{agg_answer, agg_answer_value}
+use Rattle.lagengine_lines.proofs.Common.{map, ◌≡◌, range_with_len, agg_answer, agg_answer_value}
 use Rattle.lagengine_lines.proofs.looks.all_aggregators.Given as goal
 
 abbrev pub invariant-loop-agg : goal.invariant-loop-agg

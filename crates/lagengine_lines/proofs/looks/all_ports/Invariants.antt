@@ -1,5 +1,4 @@
-use Rattle.std.proofs.Common.{◌≡◌, map, take}
-use Rattle.lagengine_lines.specs.Looks.{port_answer}
+use Rattle.lagengine_lines.proofs.Common.{map, take, ◌≡◌, port_answer}
 use Rattle.lagengine_lines.specs.declared.request.PortQuestion.TheVariants as of_port
 use Rattle.lagengine_lines.proofs.looks.all_ports.Given as goal
 

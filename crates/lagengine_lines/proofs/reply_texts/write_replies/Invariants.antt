@@ -1,6 +1,4 @@
-use Rattle.std.proofs.Common.{take}
-use Rattle.std.specs.Fmt.{HasWritten, IsPlainFormatter}
-use Rattle.lagengine_lines.specs.Texts.{each_text, reply_and_semicolon}
+use Rattle.lagengine_lines.proofs.Common.{take, HasWritten, IsPlainFormatter, each_text, reply_and_semicolon}
 use Rattle.lagengine_lines.proofs.reply_texts.write_replies.Given as goal
 
 -- those so far are written

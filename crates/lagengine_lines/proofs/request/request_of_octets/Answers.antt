@@ -1,5 +1,4 @@
-use Rattle.std.proofs.Common.{subst}
-use Rattle.lagengine_lines.specs.Requests.{ReadsAs, request_value}
+use Rattle.lagengine_lines.proofs.Common.{subst, ReadsAs, request_value}
 use Rattle.lagengine_lines.proofs.LineLemmas.{reads_none, reads_text}
 use Rattle.lagengine_lines.proofs.request.request_of_octets.Goals as goal
 

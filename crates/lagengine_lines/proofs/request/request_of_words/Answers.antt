@@ -1,7 +1,6 @@
-use Rattle.std.proofs.Common.{◌≡◌, ◌∙◌, ◌≤◌, ◌-◌, ◌∷◌, [], ℕ, suc, List, Bor, map, length, get_or, take, drop, ap, sym, subst, arith}
+use Rattle.lagengine_lines.proofs.Common.{Bor, List, [], ap, arith, drop, get_or, length, map, subst, suc, sym, take, ℕ, ◌-◌, ◌∙◌, ◌∷◌, ◌≡◌, ◌≤◌}
+use Rattle.lagengine_lines.proofs.Common.{request_of_words, ReadsAs, request_named, request_value}
 use Rattle.std.proofs.Math.Seq.{take-length}
-use Rattle.lagengine_lines.specs.Lines.{request_of_words}
-use Rattle.lagengine_lines.specs.Requests.{ReadsAs, request_named, request_value}
 use Rattle.lagengine_lines.proofs.request.request_of_words.Goals as goal
 
 rest_is : (w : Bor (List ℕ)) (ws : List (Bor (List ℕ))) → take (length (w ∷ ws) - 1) ws ≡ ws

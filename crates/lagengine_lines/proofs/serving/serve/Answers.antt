@@ -1,9 +1,5 @@
-use Rattle.std.proofs.Common.{ℕ, ◌∙◌, ◌≡◌, ◌≤◌, [], ap, arith, length, subst, sym, take}
-use Rattle.std.proofs.lemmas.List.{length-take-le}
-use Rattle.distributor.specs.Calls.{PicksIndexes}
-use Rattle.lagstreams.specs.Lines.{line_if_any, lines_of, continue_line}
-use Rattle.lagengine_lines.specs.Sessions.{Feeds, Finishes, StopsAnswering, session_of}
-use Rattle.lagengine_lines.specs.declared.stopped.Stopped.TheVariants.{Read}
+use Rattle.lagengine_lines.proofs.Common.{[], ap, arith, length, subst, sym, take, ℕ, ◌∙◌, ◌≡◌, ◌≤◌, length-take-le, continue_line, line_if_any}
+use Rattle.lagengine_lines.proofs.Common.{lines_of, PicksIndexes, Read, Feeds, Finishes, StopsAnswering, session_of}
 use Rattle.lagengine_lines.proofs.ServeLemmas.{ends, stops_by, stops_inside, stops_reading, told_first, told_more}
 use Rattle.lagengine_lines.proofs.serving.serve.Goals as goal
 

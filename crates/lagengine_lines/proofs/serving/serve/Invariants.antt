@@ -1,6 +1,5 @@
 -- The loop's invariant: what was read so far is answered.
-use Rattle.std.proofs.Common.{◌≡◌}
-use Rattle.lagengine_lines.specs.Sessions.{session_of}
+use Rattle.lagengine_lines.proofs.Common.{◌≡◌, session_of}
 use Rattle.lagengine_lines.proofs.ServeLemmas.{Told}
 use Rattle.lagengine_lines.proofs.serving.serve.Given as goal
 

@@ -1,6 +1,4 @@
-use Rattle.std.proofs.Common.{refl}
-use Rattle.std.proofs.Output.{has_written_append, has_written_of_eq}
-use Rattle.lagengine_lines.specs.Texts.{row_text}
+use Rattle.lagengine_lines.proofs.Common.{refl, has_written_append, has_written_of_eq, row_text}
 use Rattle.lagengine_lines.proofs.TextLemmas.{each_more}
 use Rattle.lagengine_lines.proofs.table_texts.write_rows.Goals as goal
 

@@ -1,6 +1,4 @@
-use Rattle.std.proofs.Common.{◌∙◌, ◌∷◌, ◌++◌, [], ap, get_or}
-use Rattle.std.specs.Prelude.{option_map}
-use Rattle.lagengine_lines.specs.Tables.{carried_on, load_at}
+use Rattle.lagengine_lines.proofs.Common.{[], ap, get_or, option_map, ◌++◌, ◌∙◌, ◌∷◌, carried_on, load_at}
 use Rattle.lagengine_lines.proofs.TableLemmas.{carried_more, no_carried}
 use Rattle.lagengine_lines.proofs.tables.carried_of.Goals as goal
 

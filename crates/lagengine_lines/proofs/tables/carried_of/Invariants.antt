@@ -1,6 +1,4 @@
-use Rattle.std.proofs.Common.{◌≡◌, get_or}
-use Rattle.std.specs.Prelude.{option_map}
-use Rattle.lagengine_lines.specs.Tables.{carried_below, load_at}
+use Rattle.lagengine_lines.proofs.Common.{get_or, option_map, ◌≡◌, carried_below, load_at}
 use Rattle.lagengine_lines.proofs.tables.carried_of.Given as goal
 
 abbrev pub invariant-loop-conversation : goal.invariant-loop-conversation

@@ -1,5 +1,4 @@
-use Rattle.std.proofs.Common.{◌≡◌, ◌||◌, ◌<◌, ℕ, drop, false, get_or, length}
-use Rattle.lagengine_lines.specs.Tables.{is_listed}
+use Rattle.lagengine_lines.proofs.Common.{drop, false, get_or, length, ℕ, ◌<◌, ◌||◌, ◌≡◌, is_listed}
 use Rattle.lagengine_lines.proofs.tables.mark.Given as goal
 
 -- those of the list so far are marked

@@ -1,5 +1,4 @@
-use Rattle.std.proofs.Common.{◌∙◌, ◌++◌, ap, false, get_or}
-use Rattle.lagengine_lines.specs.Tables.{number_if_marked}
+use Rattle.lagengine_lines.proofs.Common.{ap, false, get_or, ◌++◌, ◌∙◌, number_if_marked}
 use Rattle.lagengine_lines.proofs.TableLemmas.{mark_more, no_mark}
 use Rattle.lagengine_lines.proofs.tables.numbers_of.Goals as goal
 

@@ -1,5 +1,4 @@
-use Rattle.std.proofs.Common.{◌≡◌, get_or, false}
-use Rattle.lagengine_lines.specs.Tables.{marked_below}
+use Rattle.lagengine_lines.proofs.Common.{false, get_or, ◌≡◌, marked_below}
 use Rattle.lagengine_lines.proofs.tables.numbers_of.Given as goal
 
 abbrev pub invariant-loop-conversation : goal.invariant-loop-conversation

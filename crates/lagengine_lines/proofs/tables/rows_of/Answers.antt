@@ -1,5 +1,4 @@
-use Rattle.std.proofs.Common.{◌∙◌, ◌++◌, ap, get_or}
-use Rattle.lagengine_lines.specs.Tables.{row_if_on}
+use Rattle.lagengine_lines.proofs.Common.{ap, get_or, ◌++◌, ◌∙◌, row_if_on}
 use Rattle.lagengine_lines.proofs.TableLemmas.{no_row, row_more}
 use Rattle.lagengine_lines.proofs.tables.rows_of.Goals as goal
 

@@ -1,5 +1,4 @@
-use Rattle.std.proofs.Common.{◌≡◌, get_or}
-use Rattle.lagengine_lines.specs.Tables.{rows_below}
+use Rattle.lagengine_lines.proofs.Common.{get_or, ◌≡◌, rows_below}
 use Rattle.lagengine_lines.proofs.tables.rows_of.Given as goal
 
 abbrev pub invariant-loop-conversation : goal.invariant-loop-conversation

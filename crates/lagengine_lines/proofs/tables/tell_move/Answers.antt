@@ -1,7 +1,4 @@
-use Rattle.std.proofs.Common.{◌≡◌, ◌∙◌, ap, get_or, length}
-use Rattle.std.specs.Prelude.{option_map}
-use Rattle.std.proofs.lemmas.List.{length-replicate}
-use Rattle.lagengine_lines.specs.Tables.{carried_below, load_at, port_at}
+use Rattle.lagengine_lines.proofs.Common.{ap, get_or, length, option_map, ◌∙◌, ◌≡◌, length-replicate, carried_below, load_at, port_at}
 use Rattle.lagengine_lines.proofs.TableLemmas.{carried_same, few_rows, move_told, ports_told}
 use Rattle.lagengine_lines.proofs.tables.tell_move.Goals as goal
 

@@ -1,7 +1,4 @@
-use Rattle.std.proofs.Common.{◌≡◌, ◌∙◌, ap, get_or, length}
-use Rattle.std.proofs.lemmas.List.{length-replicate}
-use Rattle.lagengine_lines.specs.AnswerValues.{ConversationPorts}
-use Rattle.lagengine_lines.specs.Tables.{port_at, rows_below}
+use Rattle.lagengine_lines.proofs.Common.{ap, get_or, length, ◌∙◌, ◌≡◌, length-replicate, ConversationPorts, port_at, rows_below}
 use Rattle.lagengine_lines.proofs.TableLemmas.{ports_told, rows_same}
 use Rattle.lagengine_lines.proofs.tables.tell_ports.Goals as goal
 

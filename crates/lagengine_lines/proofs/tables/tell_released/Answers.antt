@@ -1,7 +1,5 @@
-use Rattle.std.proofs.Common.{◌≡◌, ◌∙◌, ◌<◌, ℕ, ◌||◌, ap, arith, false, get_or, length}
-use Rattle.std.proofs.lemmas.List.{get_or-replicate, length-replicate}
-use Rattle.lagengine_lines.specs.AnswerValues.{Released}
-use Rattle.lagengine_lines.specs.Tables.{is_listed, is_released, marked_below}
+use Rattle.lagengine_lines.proofs.Common.{ap, arith, false, get_or, length, ℕ, ◌<◌, ◌||◌, ◌∙◌, ◌≡◌, get_or-replicate, length-replicate, Released}
+use Rattle.lagengine_lines.proofs.Common.{is_listed, is_released, marked_below}
 use Rattle.lagengine_lines.proofs.TableLemmas.{freed_told, marks_same}
 use Rattle.lagengine_lines.proofs.tables.tell_released.Goals as goal
 

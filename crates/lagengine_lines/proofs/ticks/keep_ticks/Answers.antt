@@ -1,7 +1,4 @@
-use Rattle.std.proofs.Common.{◌∙◌, ◌∷◌, ◌++◌, [], ap, arith, map}
-use Rattle.std.proofs.lemmas.List.{map-append}
-use Rattle.lagsystem.specs.Calls.{Tick}
-use Rattle.lagsystem.specs.Drives.{call_of}
+use Rattle.lagengine_lines.proofs.Common.{[], ap, arith, map, ◌++◌, ◌∙◌, ◌∷◌, map-append, Tick, call_of}
 use Rattle.lagsystem.specs.declared.drive.Call.TheVariants as asked
 use Rattle.lagengine_lines.proofs.TickLemmas.{replicate_behind}
 use Rattle.lagengine_lines.proofs.ticks.keep_ticks.Goals as goal

@@ -1,6 +1,4 @@
-use Rattle.std.proofs.Common.{◌≡◌, ◌+◌, ◌≤◌, ◌++◌, map, replicate, vec_capacity, vec_len}
-use Rattle.lagsystem.specs.Calls.{Tick}
-use Rattle.lagsystem.specs.Drives.{call_of}
+use Rattle.lagengine_lines.proofs.Common.{map, replicate, vec_capacity, vec_len, ◌++◌, ◌+◌, ◌≡◌, ◌≤◌, Tick, call_of}
 use Rattle.lagengine_lines.proofs.ticks.keep_ticks.Given as goal
 
 abbrev pub invariant-loop-done : goal.invariant-loop-done

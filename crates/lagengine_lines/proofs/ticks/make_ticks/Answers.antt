@@ -1,6 +1,4 @@
-use Rattle.std.proofs.Common.{◌∙◌, subst}
-use Rattle.lagsystem.specs.Calls.{Tick}
-use Rattle.lagsystem.specs.Sound.{CallPromise}
+use Rattle.lagengine_lines.proofs.Common.{subst, ◌∙◌, Tick, CallPromise}
 use Rattle.lagsystem.specs.declared.drive.Reply.TheVariants as reply
 use Rattle.lagengine_lines.proofs.TickLemmas.{ticks_more}
 use Rattle.lagengine_lines.proofs.ticks.make_ticks.Goals as goal

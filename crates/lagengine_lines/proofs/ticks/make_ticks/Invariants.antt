@@ -1,6 +1,4 @@
-use Rattle.std.proofs.Common.{◌≡◌, replicate}
-use Rattle.lagsystem.specs.Calls.{Tick}
-use Rattle.lagsystem.specs.Drives.{Drives}
+use Rattle.lagengine_lines.proofs.Common.{replicate, ◌≡◌, Tick, Drives}
 use Rattle.lagsystem.specs.declared.drive.Reply.TheVariants as reply
 use Rattle.lagengine_lines.proofs.ticks.make_ticks.Given as goal
 

@@ -1,6 +1,4 @@
-use Rattle.std.proofs.Common.{◌≡◌, drop, map}
-use Rattle.lagengine_lines.specs.Requests.{word_octets}
-use Rattle.lagengine_lines.specs.Words.{each, number_word}
+use Rattle.lagengine_lines.proofs.Common.{drop, map, ◌≡◌, word_octets, each, number_word}
 use Rattle.lagengine_lines.proofs.Walks.{after}
 use Rattle.lagengine_lines.proofs.words.each_number.Given as goal
 

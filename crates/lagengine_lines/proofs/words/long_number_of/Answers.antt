@@ -1,5 +1,4 @@
-use Rattle.std.proofs.Common.{◌∙◌, sym, lit<}
-use Rattle.std.proofs.lemmas.Bool.{eqb-false}
+use Rattle.lagengine_lines.proofs.Common.{lit<, sym, ◌∙◌, eqb-false}
 use Rattle.lagengine_lines.proofs.WordLemmas.{long_parsed}
 use Rattle.lagengine_lines.proofs.words.long_number_of.Goals as goal
 

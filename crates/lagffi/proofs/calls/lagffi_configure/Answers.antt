@@ -1,8 +1,5 @@
-use mathlib.Core.Path.{subst}
-use Rattle.lagsystem.specs.Calls.{Call}
-use Rattle.lagsystem.specs.Sound.{CallPromise}
+use Rattle.lagffi.proofs.Common.{subst, Call, CallPromise, by_number_gives}
 use Rattle.lagsystem.specs.declared.drive.Reply.{Reply}
-use Rattle.lagffi.specs.Asking.{by_number_gives}
 use Rattle.lagffi.proofs.AskingLemmas.{called}
 use Rattle.lagffi.proofs.calls.lagffi_configure.Goals as goal
 

@@ -1,5 +1,4 @@
-use mathlib.Core.Path.{subst, sym}
-use Rattle.distributor.specs.Calls.{PicksIndexes}
+use Rattle.lagffi.proofs.Common.{subst, sym, PicksIndexes}
 use Rattle.lagffi.proofs.calls.offer_by.Goals as goal
 
 pub offer-answer-requires : goal.offer-answer-requires

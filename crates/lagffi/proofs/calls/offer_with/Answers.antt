@@ -1,5 +1,4 @@
-use Rattle.lagsystem.specs.Calls.{Offer}
-use Rattle.lagsystem.specs.Sound.{CallPromise}
+use Rattle.lagffi.proofs.Common.{Offer, CallPromise}
 use Rattle.lagsystem.specs.declared.drive.Reply.TheVariants as reply
 use Rattle.lagffi.proofs.AlgorithmLemmas.{by_first_2, by_number_0, by_sum_1}
 use Rattle.lagffi.proofs.calls.offer_with.Goals as goal

@@ -1,4 +1,4 @@
-use Rattle.std.proofs.Common.{◌≡◌}
+use Rattle.lagffi.proofs.Common.{◌≡◌}
 use Rattle.lagffi.specs.Ticking.{TicksInTurn}
 use Rattle.lagffi.proofs.calls.tick_times.Given as goal
 

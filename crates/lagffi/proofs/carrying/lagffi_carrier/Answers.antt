@@ -1,6 +1,5 @@
-use mathlib.Core.Path.{◌∙◌, ap, subst}
+use Rattle.lagffi.proofs.Common.{ap, subst, ◌∙◌, number}
 use Rattle.carrier.specs.Choice.{Carries}
-use Rattle.lagffi.specs.Numbers.{number}
 use Rattle.lagffi.proofs.AskingLemmas.{asked}
 use Rattle.lagffi.proofs.carrying.lagffi_carrier.Goals as goal
 

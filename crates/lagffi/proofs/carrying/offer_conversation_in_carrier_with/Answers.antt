@@ -1,4 +1,4 @@
-use Rattle.lagffi.specs.Carrying.{OffersNumberInCarrier}
+use Rattle.lagffi.proofs.Common.{OffersNumberInCarrier}
 use Rattle.lagffi.proofs.AlgorithmLemmas.{by_first_2, by_number_0, by_sum_1}
 use Rattle.lagffi.proofs.carrying.offer_conversation_in_carrier_with.Goals as goal
 

@@ -1,7 +1,4 @@
-use mathlib.Core.Path.{ap, subst, sym}
-use Rattle.std.specs.Prelude.{ℕ}
-use Rattle.distributor.specs.Calls.{PicksIndexes}
-use Rattle.lagffi.specs.Carrying.{OffersFrameInCarrier}
+use Rattle.lagffi.proofs.Common.{ap, subst, sym, ℕ, PicksIndexes, OffersFrameInCarrier}
 use Rattle.lagffi.proofs.carrying.offer_in_carrier_by.Goals as goal
 
 pub offer_in_carrier-answer-requires : goal.offer_in_carrier-answer-requires

@@ -1,7 +1,4 @@
-use mathlib.Core.Path.{subst, sym}
-use Rattle.std.specs.Prelude.{ℕ}
-use Rattle.distributor.specs.Calls.{PicksIndexes}
-use Rattle.lagffi.specs.Tables.{OffersByNumber}
+use Rattle.lagffi.proofs.Common.{subst, sym, ℕ, PicksIndexes, OffersByNumber}
 use Rattle.lagffi.proofs.conversations.offer_conversation_by.Goals as goal
 
 pub offer_conversation-answer-requires : goal.offer_conversation-answer-requires

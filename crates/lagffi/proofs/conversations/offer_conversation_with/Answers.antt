@@ -1,4 +1,4 @@
-use Rattle.lagffi.specs.Tables.{OffersByNumber}
+use Rattle.lagffi.proofs.Common.{OffersByNumber}
 use Rattle.lagffi.proofs.AlgorithmLemmas.{by_first_2, by_number_0, by_sum_1}
 use Rattle.lagffi.proofs.conversations.offer_conversation_with.Goals as goal
 

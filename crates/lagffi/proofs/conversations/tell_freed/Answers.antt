@@ -1,5 +1,4 @@
-use mathlib.Core.Path.{refl}
-use Rattle.std.proofs.Common.{rules}
+use Rattle.lagffi.proofs.Common.{refl, rules}
 use Rattle.lagffi.proofs.TableLemmas.{rows_refused, rows_told}
 use Rattle.lagffi.proofs.conversations.tell_freed.Goals as goal
 

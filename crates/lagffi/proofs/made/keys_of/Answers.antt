@@ -1,5 +1,5 @@
-use Rattle.std.proofs.Common.{arith, refl}
-use Rattle.lagffi.specs.Made.{lag_key}
+use Rattle.lagffi.proofs.Common.{arith, lag_key}
+use Rattle.std.proofs.Common.{refl}
 use Rattle.lagffi.proofs.MadeLemmas.{mapped_more}
 use Rattle.lagffi.proofs.made.keys_of.Goals as goal
 

@@ -1,5 +1,4 @@
-use Rattle.std.proofs.Common.{◌≡◌, ◌≤◌, length, map, take, vec_capacity, vec_len}
-use Rattle.lagffi.specs.Made.{lag_key}
+use Rattle.lagffi.proofs.Common.{length, map, take, vec_capacity, vec_len, ◌≡◌, ◌≤◌, lag_key}
 use Rattle.lagffi.proofs.made.keys_of.Given as goal
 
 abbrev pub invariant-loop-key : goal.invariant-loop-key

@@ -1,5 +1,4 @@
-use Rattle.std.proofs.Common.{arith}
-use Rattle.lagffi.specs.Made.{lag_port_config}
+use Rattle.lagffi.proofs.Common.{arith, lag_port_config}
 use Rattle.lagffi.proofs.MadeLemmas.{mapped_more}
 use Rattle.lagffi.proofs.made.ports_of.Goals as goal
 

@@ -1,5 +1,4 @@
-use Rattle.std.proofs.Common.{◌≡◌, ◌≤◌, length, map, take, vec_capacity, vec_len}
-use Rattle.lagffi.specs.Made.{lag_port_config}
+use Rattle.lagffi.proofs.Common.{length, map, take, vec_capacity, vec_len, ◌≡◌, ◌≤◌, lag_port_config}
 use Rattle.lagffi.proofs.made.ports_of.Given as goal
 
 abbrev pub invariant-loop-port : goal.invariant-loop-port

@@ -1,6 +1,5 @@
-use mathlib.Core.Path.{◌∙◌, ap, subst, sym}
+use Rattle.lagffi.proofs.Common.{ap, subst, sym, ◌∙◌, IsMadeOfLagConfig}
 use Rattle.lagtypes.specs.declared.identifiers.SystemId.{SystemId}
-use Rattle.lagffi.specs.Made.{IsMadeOfLagConfig}
 use Rattle.lagffi.proofs.made.system_of.Goals as goal
 
 pub returns-clause-made : goal.returns-clause-made

@@ -1,6 +1,5 @@
-use mathlib.Core.Path.{◌∙◌, ap}
+use Rattle.lagffi.proofs.Common.{ap, ◌∙◌, is_so}
 use Rattle.lagsystem.specs.Hosts.{would_transmit_at}
-use Rattle.lagffi.specs.Masks.{is_so}
 use Rattle.lagffi.proofs.MadeLemmas.{mapped_more}
 use Rattle.lagffi.proofs.masks.due_on.Goals as goal
 

@@ -1,5 +1,4 @@
-use Rattle.std.proofs.Common.{◌≡◌, take}
-use Rattle.lagffi.specs.Masks.{due_on}
+use Rattle.lagffi.proofs.Common.{take, ◌≡◌, due_on}
 use Rattle.lagffi.proofs.masks.due_on.Given as goal
 
 abbrev pub invariant-loop-number : goal.invariant-loop-number

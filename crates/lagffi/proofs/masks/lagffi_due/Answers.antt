@@ -1,6 +1,4 @@
-use mathlib.Core.Path.{◌∙◌, ap}
-use Rattle.lagffi.specs.Masks.{due_on, mask}
-use Rattle.lagffi.specs.Numbers.{number}
+use Rattle.lagffi.proofs.Common.{ap, ◌∙◌, due_on, mask, number}
 use Rattle.lagffi.proofs.AskingLemmas.{asked}
 use Rattle.lagffi.proofs.masks.lagffi_due.Goals as goal
 

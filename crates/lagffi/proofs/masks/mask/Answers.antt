@@ -1,5 +1,4 @@
-use Rattle.std.proofs.Common.{arith, ◌<◌, ◌≤◌, ◌^◌, drop}
-use Rattle.lagffi.specs.Masks.{mask}
+use Rattle.lagffi.proofs.Common.{arith, drop, ◌<◌, ◌^◌, ◌≤◌, mask}
 use Rattle.lagffi.proofs.MaskLemmas.{bit_at_most, room_for_a_bit}
 use Rattle.lagffi.proofs.masks.mask.Goals as goal
 

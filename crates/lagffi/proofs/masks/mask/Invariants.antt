@@ -1,5 +1,4 @@
-use Rattle.std.proofs.Common.{◌≡◌, ◌≤◌, drop, length}
-use Rattle.lagffi.specs.Masks.{mask}
+use Rattle.lagffi.proofs.Common.{drop, length, ◌≡◌, ◌≤◌, mask}
 use Rattle.lagffi.proofs.masks.mask.Given as goal
 
 abbrev pub invariant-loop-left : goal.invariant-loop-left

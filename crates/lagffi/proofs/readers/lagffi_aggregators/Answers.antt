@@ -1,5 +1,4 @@
-use mathlib.Core.Path.{◌∙◌, ap}
-use Rattle.lagffi.specs.Numbers.{number}
+use Rattle.lagffi.proofs.Common.{ap, ◌∙◌, number}
 use Rattle.lagffi.proofs.AskingLemmas.{asked}
 use Rattle.lagffi.proofs.readers.lagffi_aggregators.Goals as goal
 

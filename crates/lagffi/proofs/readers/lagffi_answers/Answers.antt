@@ -1,7 +1,5 @@
-use mathlib.Core.Path.{◌∙◌, ap}
-use Rattle.std.specs.Prelude.{option_map}
+use Rattle.lagffi.proofs.Common.{ap, ◌∙◌, option_map, number_or_refused}
 use Rattle.answering.specs.Notes.{answers_number}
-use Rattle.lagffi.specs.Numbers.{number_or_refused}
 use Rattle.lagffi.proofs.AskingLemmas.{asked_of_notes}
 use Rattle.lagffi.proofs.readers.lagffi_answers.Goals as goal
 

@@ -1,7 +1,4 @@
-use mathlib.Core.Path.{◌∙◌, ap, subst}
-use Rattle.std.specs.Prelude.{IfSome, ◌<◌}
-use Rattle.lagsystem.specs.Readers.{conversation_count}
-use Rattle.lagffi.specs.Numbers.{number_or_refused}
+use Rattle.lagffi.proofs.Common.{ap, subst, ◌∙◌, ◌<◌, IfSome, conversation_count, number_or_refused}
 use Rattle.lagffi.proofs.AskingLemmas.{asked}
 use Rattle.lagffi.proofs.readers.lagffi_conversation.Goals as goal
 

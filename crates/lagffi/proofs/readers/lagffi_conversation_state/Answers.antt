@@ -1,5 +1,4 @@
-use mathlib.Core.Path.{◌∙◌, ap}
-use Rattle.lagffi.specs.ReaderValues.{assignment_or_refused}
+use Rattle.lagffi.proofs.Common.{ap, ◌∙◌, assignment_or_refused}
 use Rattle.lagffi.proofs.AskingLemmas.{asked}
 use Rattle.lagffi.proofs.readers.lagffi_conversation_state.Goals as goal
 

@@ -1,5 +1,4 @@
-use mathlib.Core.Path.{◌∙◌, ap}
-use Rattle.lagffi.specs.Numbers.{number_or_refused}
+use Rattle.lagffi.proofs.Common.{ap, ◌∙◌, number_or_refused}
 use Rattle.lagffi.proofs.AskingLemmas.{asked}
 use Rattle.lagffi.proofs.readers.lagffi_current_while.Goals as goal
 

@@ -1,11 +1,8 @@
-use mathlib.Core.Path.{◌≡◌, ◌∙◌, ap, subst}
-use Rattle.std.specs.Prelude.{ℕ, List, [], length}
+use Rattle.lagffi.proofs.Common.{ap, subst, ◌∙◌, length, ℕ, IsStrictlyIncreasing, aggregator_numbered, put_first, number}
+use mathlib.Core.Path.{◌≡◌}
+use Rattle.std.proofs.Common.{List, []}
 use Rattle.std.specs.Bool.{OnFalse}
-use Rattle.std.specs.List.Sorted.{IsStrictlyIncreasing}
 use Rattle.lagsystem.specs.Offers.{has_aggregator}
-use Rattle.lagsystem.specs.Readers.{aggregator_numbered}
-use Rattle.lagffi.specs.Lists.{put_first}
-use Rattle.lagffi.specs.Numbers.{number}
 use Rattle.lagffi.proofs.AskingLemmas.{asked}
 use Rattle.lagffi.proofs.readers.lagffi_distributing.Goals as goal
 

@@ -1,5 +1,4 @@
-use mathlib.Core.Path.{◌∙◌, ap}
-use Rattle.lagffi.specs.Numbers.{truth_or_no_port}
+use Rattle.lagffi.proofs.Common.{ap, ◌∙◌, truth_or_no_port}
 use Rattle.lagffi.proofs.AskingLemmas.{asked}
 use Rattle.lagffi.proofs.readers.lagffi_is_due.Goals as goal
 

@@ -1,5 +1,4 @@
-use mathlib.Core.Path.{◌∙◌, ap}
-use Rattle.lagffi.specs.ReaderValues.{lag_marker}
+use Rattle.lagffi.proofs.Common.{ap, ◌∙◌, lag_marker}
 use Rattle.lagffi.proofs.AskingLemmas.{asked}
 use Rattle.lagffi.proofs.readers.lagffi_next_marker.Goals as goal
 

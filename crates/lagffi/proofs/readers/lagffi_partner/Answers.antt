@@ -1,5 +1,4 @@
-use mathlib.Core.Path.{◌∙◌, ap}
-use Rattle.lagffi.specs.ReaderValues.{info_or_no_port}
+use Rattle.lagffi.proofs.Common.{ap, ◌∙◌, info_or_no_port}
 use Rattle.lagffi.proofs.AskingLemmas.{asked}
 use Rattle.lagffi.proofs.readers.lagffi_partner.Goals as goal
 

@@ -1,8 +1,4 @@
-use mathlib.Core.Path.{◌∙◌, ap, subst}
-use Rattle.std.specs.Prelude.{length}
-use Rattle.std.specs.List.Sorted.{IsStrictlyIncreasing}
-use Rattle.lagffi.specs.Lists.{put_first}
-use Rattle.lagffi.specs.Numbers.{number}
+use Rattle.lagffi.proofs.Common.{ap, subst, ◌∙◌, length, IsStrictlyIncreasing, put_first, number}
 use Rattle.lagffi.proofs.AskingLemmas.{asked}
 use Rattle.lagffi.proofs.readers.lagffi_ports.Goals as goal
 

@@ -1,5 +1,4 @@
-use mathlib.Core.Path.{◌∙◌, ap}
-use Rattle.lagffi.specs.ReaderValues.{state_or_no_port}
+use Rattle.lagffi.proofs.Common.{ap, ◌∙◌, state_or_no_port}
 use Rattle.lagffi.proofs.AskingLemmas.{asked}
 use Rattle.lagffi.proofs.readers.lagffi_state.Goals as goal
 

@@ -1,5 +1,4 @@
-use mathlib.Core.Path.{◌∙◌, ap}
-use Rattle.lagffi.specs.ReaderValues.{lag_wait}
+use Rattle.lagffi.proofs.Common.{ap, ◌∙◌, lag_wait}
 use Rattle.lagffi.proofs.AskingLemmas.{asked}
 use Rattle.lagffi.proofs.readers.lagffi_ticks_until_due.Goals as goal
 

@@ -1,5 +1,4 @@
-use mathlib.Core.Path.{◌∙◌, ap}
-use Rattle.lagffi.specs.Numbers.{number_or_refused}
+use Rattle.lagffi.proofs.Common.{ap, ◌∙◌, number_or_refused}
 use Rattle.lagffi.proofs.AskingLemmas.{asked}
 use Rattle.lagffi.proofs.readers.lagffi_wait_while.Goals as goal
 

@@ -1,6 +1,5 @@
-use Rattle.std.proofs.Common.{◌≡◌, ◌+◌, drop, map}
+use Rattle.lagffi.proofs.Common.{drop, map, ◌+◌, ◌≡◌, lag_port_config}
 use Rattle.lagsystem.specs.First.{first_bad_port_number, configured_numbers}
-use Rattle.lagffi.specs.Made.{lag_port_config}
 use Rattle.lagffi.proofs.refusal.first_bad_port_number.Given as goal
 
 abbrev pub invariant-loop-port : goal.invariant-loop-port

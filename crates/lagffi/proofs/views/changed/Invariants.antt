@@ -1,5 +1,5 @@
-use Rattle.std.proofs.Common.{◌≡◌, ◌++◌, drop, length}
-use Rattle.lagffi.specs.PortViews.{changed}
+use Rattle.lagffi.proofs.Common.{drop, length, ◌≡◌, changed}
+use Rattle.std.proofs.Common.{◌++◌}
 use Rattle.lagffi.proofs.views.changed.Given as goal
 
 abbrev pub invariant-loop-place : goal.invariant-loop-place

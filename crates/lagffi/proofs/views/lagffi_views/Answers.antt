@@ -1,8 +1,4 @@
-use mathlib.Core.Path.{◌∙◌, ap}
-use Rattle.lagffi.specs.Lists.{put_first}
-use Rattle.lagffi.specs.Masks.{mask}
-use Rattle.lagffi.specs.Numbers.{number}
-use Rattle.lagffi.specs.PortViews.{changed, views_of}
+use Rattle.lagffi.proofs.Common.{ap, ◌∙◌, put_first, mask, number, changed, views_of}
 use Rattle.lagffi.proofs.AskingLemmas.{asked}
 use Rattle.lagffi.proofs.views.lagffi_views.Goals as goal
 

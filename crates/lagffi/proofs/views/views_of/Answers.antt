@@ -1,5 +1,4 @@
-use Rattle.lagsystem.specs.State.{machines_of}
-use Rattle.lagffi.specs.PortViews.{view_if_there}
+use Rattle.lagffi.proofs.Common.{machines_of, view_if_there}
 use Rattle.lagffi.proofs.MadeLemmas.{mapped_more}
 use Rattle.lagffi.proofs.views.views_of.Goals as goal
 

@@ -1,5 +1,4 @@
-use Rattle.std.proofs.Common.{◌≡◌, take}
-use Rattle.lagffi.specs.PortViews.{views_of}
+use Rattle.lagffi.proofs.Common.{take, ◌≡◌, views_of}
 use Rattle.lagffi.proofs.views.views_of.Given as goal
 
 abbrev pub invariant-loop-number : goal.invariant-loop-number

@@ -1,4 +1,4 @@
-use Rattle.lagworld.specs.Sound.{both_algorithms}
+use Rattle.lagprogress.proofs.Common.{both_algorithms}
 use Rattle.lagprogress.proofs.OfferedLemmas.{each_reached_has_unsynchronized}
 use Rattle.lagprogress.proofs.arriving.disabled_ports_have_unsynchronized_partners.Goals as goal
 

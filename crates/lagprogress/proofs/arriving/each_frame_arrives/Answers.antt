@@ -1,4 +1,4 @@
-use Rattle.lagworld.specs.Sound.{both_algorithms}
+use Rattle.lagprogress.proofs.Common.{both_algorithms}
 use Rattle.lagprogress.proofs.OfferedLemmas.{each_active_frame_arrives, each_frame_arrives}
 use Rattle.lagprogress.proofs.arriving.each_frame_arrives.Goals as goal
 

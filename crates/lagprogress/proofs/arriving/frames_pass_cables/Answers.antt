@@ -1,4 +1,4 @@
-use Rattle.lagworld.specs.Sound.{both_algorithms}
+use Rattle.lagprogress.proofs.Common.{both_algorithms}
 use Rattle.lagprogress.proofs.ArrivingLemmas.{deliver_hands_up, offer_gets_port}
 use Rattle.lagprogress.proofs.arriving.frames_pass_cables.Goals as goal
 

@@ -1,4 +1,4 @@
-use Rattle.lagworld.specs.Sound.{both_algorithms}
+use Rattle.lagprogress.proofs.Common.{both_algorithms}
 use Rattle.lagprogress.proofs.CutOffLemmas.{cut_off_is_defaulted}
 use Rattle.lagprogress.proofs.cut_off.cut_off_ports_are_defaulted.Goals as goal
 

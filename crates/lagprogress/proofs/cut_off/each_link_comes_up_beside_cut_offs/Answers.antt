@@ -1,4 +1,4 @@
-use Rattle.lagworld.specs.Sound.{both_algorithms}
+use Rattle.lagprogress.proofs.Common.{both_algorithms}
 use Rattle.lagprogress.proofs.BesideCutOffs.{each_link_agrees_beside, each_link_comes_up_beside, none_is_held_beside}
 use Rattle.lagprogress.proofs.cut_off.each_link_comes_up_beside_cut_offs.Goals as goal
 

@@ -1,4 +1,4 @@
-use Rattle.lagworld.specs.Sound.{both_algorithms}
+use Rattle.lagprogress.proofs.Common.{both_algorithms}
 use Rattle.lagprogress.proofs.LimitLemmas.{each_reached_has_down_unselected}
 use Rattle.lagprogress.proofs.limits.down_ports_are_unselected.Goals as goal
 

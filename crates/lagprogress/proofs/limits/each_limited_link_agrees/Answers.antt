@@ -1,4 +1,4 @@
-use Rattle.lagworld.specs.Sound.{both_algorithms}
+use Rattle.lagprogress.proofs.Common.{both_algorithms}
 use Rattle.lagprogress.proofs.LimitLemmas.{each_active_limited_link_agrees, each_limited_link_agrees}
 use Rattle.lagprogress.proofs.limits.each_limited_link_agrees.Goals as goal
 

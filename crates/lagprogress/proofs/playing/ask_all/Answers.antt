@@ -1,9 +1,4 @@
-use Rattle.std.proofs.Common.{◌∙◌, arith, subst, sym}
-use Rattle.distributor.specs.Calls.{PicksIndexes}
-use Rattle.lagworld.specs.Events.{Algorithms}
-use Rattle.lagworld.specs.Sound.{both_algorithms}
-use Rattle.lagprogress.specs.Played.{RunsAll, RunsPart}
-use Rattle.lagprogress.specs.Rounds.{asks_all}
+use Rattle.lagprogress.proofs.Common.{arith, subst, sym, ◌∙◌, PicksIndexes, Algorithms, both_algorithms, RunsAll, RunsPart, asks_all}
 use Rattle.lagprogress.proofs.Played.{asks_more, asks_pair, asks_part, of_err, same_algorithms}
 use Rattle.lagprogress.proofs.playing.ask_all.Goals as goal
 

@@ -1,8 +1,4 @@
-use Rattle.std.proofs.Common.{◌∙◌, subst, sym}
-use Rattle.distributor.specs.Calls.{PicksIndexes}
-use Rattle.lagworld.specs.Events.{Algorithms}
-use Rattle.lagworld.specs.Sound.{both_algorithms}
-use Rattle.lagprogress.specs.Played.{Delivers}
+use Rattle.lagprogress.proofs.Common.{subst, sym, ◌∙◌, PicksIndexes, Algorithms, both_algorithms, Delivers}
 use Rattle.lagprogress.proofs.Played.{delivers_both, same_algorithms}
 use Rattle.lagprogress.proofs.playing.deliver_all.Goals as goal
 

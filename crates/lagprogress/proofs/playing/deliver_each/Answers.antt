@@ -1,10 +1,6 @@
-use Rattle.std.proofs.Common.{◌∙◌, ◌+◌, ◌<◌, ◌≤◌, ◌≡◌, length, arith, refl, subst, sym}
-use Rattle.distributor.specs.Calls.{PicksIndexes}
-use Rattle.lagmodel.specs.World.{One, Two}
+use Rattle.lagprogress.proofs.Common.{arith, length, refl, subst, sym, ◌+◌, ◌<◌, ◌∙◌, ◌≡◌, ◌≤◌, One, Two, PicksIndexes, Algorithms, WorldSteps}
+use Rattle.lagprogress.proofs.Common.{both_algorithms, Delivers}
 use Rattle.lagscript.specs.declared.event.Event.TheVariants as event
-use Rattle.lagworld.specs.Events.{Algorithms, WorldSteps}
-use Rattle.lagworld.specs.Sound.{both_algorithms}
-use Rattle.lagprogress.specs.Played.{Delivers}
 use Rattle.lagprogress.proofs.Played.{nothing_left, on_fault, one_more, quiet_more, refused_delivery, same_algorithms}
 use Rattle.lagprogress.proofs.playing.deliver_each.Goals as goal
 

@@ -1,7 +1,4 @@
-use Rattle.std.specs.List.{AllByRecursion}
-use Rattle.lagworld.specs.Events.{Algorithms}
-use Rattle.lagworld.specs.Sound.{both_algorithms}
-use Rattle.lagprogress.specs.Played.{IsOutOfMemoryOrSpent, NamesNoCable, RunsPart}
+use Rattle.lagprogress.proofs.Common.{AllByRecursion, Algorithms, both_algorithms, IsOutOfMemoryOrSpent, NamesNoCable, RunsPart}
 use Rattle.lagprogress.proofs.Played.{refused_run, stopped_part, was_err, was_ok}
 use Rattle.lagprogress.proofs.playing.play.Goals as goal
 use Rattle.lagprogress.proofs.playing.play.Goals.{in-Err, in-Ok}

@@ -1,9 +1,5 @@
-use Rattle.std.proofs.Common.{◌∙◌, subst, sym}
-use Rattle.distributor.specs.Calls.{PicksIndexes}
-use Rattle.lagworld.specs.Events.{Algorithms}
-use Rattle.lagworld.specs.Sound.{both_algorithms}
-use Rattle.lagprogress.specs.Played.{Delivers, PlaysPart, RunsAll, RunsPart}
-use Rattle.lagprogress.specs.Rounds.{IsRound, NothingInFlight, asks_all}
+use Rattle.lagprogress.proofs.Common.{subst, sym, ◌∙◌, PicksIndexes, Algorithms, both_algorithms, Delivers, PlaysPart, RunsAll, RunsPart, IsRound}
+use Rattle.lagprogress.proofs.Common.{NothingInFlight, asks_all}
 use Rattle.lagprogress.proofs.Played.{if_ok, of_err, round_played, same_algorithms, stops_asking, stops_delivering, stops_ticking, too_many}
 use Rattle.lagprogress.proofs.playing.play_round.Goals as goal
 

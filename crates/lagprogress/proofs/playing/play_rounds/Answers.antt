@@ -1,9 +1,5 @@
-use Rattle.std.proofs.Common.{◌∙◌, ◌≡◌, arith, subst, sym}
-use Rattle.distributor.specs.Calls.{PicksIndexes}
-use Rattle.lagworld.specs.Events.{Algorithms}
-use Rattle.lagworld.specs.Sound.{both_algorithms}
-use Rattle.lagprogress.specs.Played.{PlaysPart, StopsInRound}
-use Rattle.lagprogress.specs.Rounds.{IsRound, Rounds}
+use Rattle.lagprogress.proofs.Common.{arith, subst, sym, ◌∙◌, ◌≡◌, PicksIndexes, Algorithms, both_algorithms, PlaysPart, StopsInRound, IsRound}
+use Rattle.lagprogress.proofs.Common.{Rounds}
 use Rattle.lagprogress.proofs.MadeWorlds.{active_agree, active_distribute, active_free, one_agrees, one_distributes, one_frees}
 use Rattle.lagprogress.proofs.Played.{on_err, round_more, same_algorithms}
 use Rattle.lagprogress.proofs.playing.play_rounds.Goals as goal

@@ -1,6 +1,5 @@
-use Rattle.std.proofs.Common.{◌∙◌, length, refl, sym, add-one}
+use Rattle.lagscript.proofs.Common.{add-one, length, refl, sym, ◌∙◌, has_bad_end}
 use Rattle.lagscript.proofs.ConfigLemmas.{first_below_found}
-use Rattle.lagscript.specs.Configs.{has_bad_end}
 use Rattle.lagscript.proofs.config.bad_end.Goals as goal
 
 pub returns-then-has_bad_end : goal.returns-then-has_bad_end

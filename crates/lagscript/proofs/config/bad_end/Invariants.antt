@@ -1,5 +1,4 @@
-use Rattle.std.proofs.Common.{◌≡◌, None}
-use Rattle.lagscript.specs.Configs.{first_below, has_bad_end}
+use Rattle.lagscript.proofs.Common.{None, ◌≡◌, first_below, has_bad_end}
 use Rattle.lagscript.proofs.config.bad_end.Given as goal
 
 abbrev pub invariant-loop-index : goal.invariant-loop-index

@@ -1,6 +1,4 @@
-use Rattle.std.proofs.Common.{◌∙◌, codes, map, sym}
-use Rattle.lagscript.specs.Entries.{event_named}
-use Rattle.lagscript.specs.Results.{ReadsEntryAs, word_octets}
+use Rattle.lagscript.proofs.Common.{codes, map, sym, ◌∙◌, event_named, ReadsEntryAs, word_octets}
 use Rattle.lagscript.proofs.EntryLemmas.{of_name}
 use Rattle.lagscript.proofs.entries.event_named.Goals as goal
 

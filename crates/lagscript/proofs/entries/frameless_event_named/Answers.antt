@@ -1,6 +1,4 @@
-use Rattle.std.proofs.Common.{◌≡◌, map, subst, sym}
-use Rattle.lagscript.specs.Entries.{event_named, event_result_value}
-use Rattle.lagscript.specs.Results.{word_octets}
+use Rattle.lagscript.proofs.Common.{map, subst, sym, ◌≡◌, event_named, event_result_value, word_octets}
 use Rattle.lagscript.proofs.entries.frameless_event_named.Goals as goal
 
 pub returns-in-configure : goal.returns-in-configure

@@ -1,7 +1,6 @@
-use Rattle.std.proofs.Common.{◌≡◌, ◌∙◌, ◌<◌, ◌≤◌, ◌^◌, ℕ, Bool, true, false, List, length, Some, None, refl, ap, arith, nat_le}
-use Rattle.std.specs.Prelude.{if◌then◌else◌, option_and_then}
+use Rattle.lagscript.proofs.Common.{Bool, List, None, Some, ap, arith, false, if◌then◌else◌, length, nat_le, option_and_then, refl, true, ℕ, ◌<◌, ◌^◌}
+use Rattle.lagscript.proofs.Common.{◌∙◌, ◌≡◌, ◌≤◌, up_to_most}
 use Rattle.std.proofs.lemmas.Bool.Decides.{nat_tests}
-use Rattle.lagscript.specs.Scripts.{up_to_most}
 use Rattle.lagscript.proofs.laws.scripts_have_a_limit_of_entries.Goals as goal
 
 few : (b : Bool) (n most : ℕ) (texts : List (List ℕ)) → nat_le n most ≡ b → n ≤ most → (if b then Some texts else None) ≡ Some texts

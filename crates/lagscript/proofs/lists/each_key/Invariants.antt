@@ -1,6 +1,4 @@
-use Rattle.std.proofs.Common.{◌≡◌, drop}
-use Rattle.toml.specs.View.{items_view}
-use Rattle.lagscript.specs.Keys.{each_in, key_in}
+use Rattle.lagscript.proofs.Common.{drop, ◌≡◌, items_view, each_in, key_in}
 use Rattle.lagscript.proofs.Walks.{gathered}
 use Rattle.lagscript.proofs.lists.each_key.Given as goal
 

@@ -1,8 +1,4 @@
-use Rattle.std.proofs.Common.{◌≡◌, drop, map}
-use Rattle.toml.specs.Data.{as_table}
-use Rattle.toml.specs.View.{items_view}
-use Rattle.lagscript.specs.Keys.{each_in}
-use Rattle.lagscript.specs.Results.{table_members}
+use Rattle.lagscript.proofs.Common.{drop, map, ◌≡◌, as_table, items_view, each_in, table_members}
 use Rattle.lagscript.proofs.Walks.{gathered}
 use Rattle.lagscript.proofs.lists.each_table.Given as goal
 

@@ -1,8 +1,4 @@
-use Rattle.std.proofs.Common.{◌≡◌, drop, map}
-use Rattle.toml.specs.Data.{as_str}
-use Rattle.toml.specs.View.{items_view}
-use Rattle.lagscript.specs.Keys.{each_in}
-use Rattle.lagscript.specs.Results.{word_octets}
+use Rattle.lagscript.proofs.Common.{drop, map, ◌≡◌, as_str, items_view, each_in, word_octets}
 use Rattle.lagscript.proofs.Walks.{gathered}
 use Rattle.lagscript.proofs.lists.each_text.Given as goal
 

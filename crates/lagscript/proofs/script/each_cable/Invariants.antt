@@ -1,7 +1,4 @@
-use Rattle.std.proofs.Common.{◌≡◌, ◌+◌, drop, map}
-use Rattle.lagscript.specs.Readings.{each_at_place}
-use Rattle.lagscript.specs.Results.{table_members}
-use Rattle.lagscript.specs.Tables.{cable_of}
+use Rattle.lagscript.proofs.Common.{drop, map, ◌+◌, ◌≡◌, each_at_place, table_members, cable_of}
 use Rattle.lagscript.proofs.Walks.{after}
 use Rattle.lagscript.proofs.script.each_cable.Given as goal
 

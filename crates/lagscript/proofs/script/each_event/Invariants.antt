@@ -1,8 +1,4 @@
-use Rattle.std.proofs.Common.{◌≡◌, ◌+◌, drop, map}
-use Rattle.lagscript.specs.Readings.{each_at_place}
-use Rattle.lagscript.specs.EventValues.{event_values}
-use Rattle.lagscript.specs.Entries.{event_at}
-use Rattle.lagscript.specs.Results.{word_octets}
+use Rattle.lagscript.proofs.Common.{drop, map, ◌+◌, ◌≡◌, event_at, event_values, each_at_place, word_octets}
 use Rattle.lagscript.proofs.Walks.{after}
 use Rattle.lagscript.proofs.script.each_event.Given as goal
 

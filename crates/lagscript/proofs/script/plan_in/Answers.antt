@@ -1,11 +1,6 @@
-use Rattle.std.proofs.Common.{◌≡◌, ◌≢◌, true, None, Some, Ok, inr, length, map, option_and_then, rules, subst, sym, ap, ◌∙◌, arith}
-use Rattle.std.specs.List.{All}
-use Rattle.toml.specs.View.{table_view}
-use Rattle.lagscript.specs.EventValues.{event_values}
-use Rattle.lagscript.specs.Configs.{refusal_of_all}
-use Rattle.lagsystem.specs.First.{config_value}
-use Rattle.lagscript.specs.Keys.{keys_among}
-use Rattle.lagscript.specs.Scripts.{events_in, cables_in, script_fault_for, ends_of, limits_of, systems_in, top_keys}
+use Rattle.lagscript.proofs.Common.{All, None, Ok, Some, ap, arith, inr, length, map, option_and_then, rules, subst, sym, true, ◌∙◌, ◌≡◌, ◌≢◌}
+use Rattle.lagscript.proofs.Common.{table_view, config_value, refusal_of_all, event_values, keys_among, cables_in, ends_of, events_in, limits_of}
+use Rattle.lagscript.proofs.Common.{script_fault_for, systems_in, top_keys}
 use Rattle.lagscript.proofs.LimitLemmas.{limits_are}
 use Rattle.lagscript.proofs.ScriptLemmas.{not_refused, steps_all}
 use Rattle.lagscript.proofs.script.plan_in.Goals as goal

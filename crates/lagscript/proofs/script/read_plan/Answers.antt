@@ -1,4 +1,4 @@
-use Rattle.toml.specs.View.{table_view}
+use Rattle.lagscript.proofs.Common.{table_view}
 use Rattle.lagscript.proofs.ScriptLemmas.{reads_plan}
 use Rattle.lagscript.proofs.script.read_plan.Goals as goal
 

@@ -1,4 +1,4 @@
-use Rattle.lagscript.specs.Scripts.{plan_value}
+use Rattle.lagscript.proofs.Common.{plan_value}
 use Rattle.lagscript.proofs.ScriptLemmas.{has_script}
 use Rattle.lagscript.proofs.script.read_script.Goals as goal
 

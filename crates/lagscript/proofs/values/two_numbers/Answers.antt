@@ -1,4 +1,4 @@
-use Rattle.std.proofs.Common.{sym, arith}
+use Rattle.lagscript.proofs.Common.{arith, sym}
 use Rattle.lagscript.proofs.DocumentLemmas.{not_two}
 use Rattle.lagscript.proofs.values.two_numbers.Goals as goal
 

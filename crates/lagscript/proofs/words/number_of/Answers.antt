@@ -1,5 +1,4 @@
-use Rattle.std.proofs.Common.{◌∙◌, sym, lit<}
-use Rattle.std.proofs.lemmas.Bool.{eqb-false}
+use Rattle.lagscript.proofs.Common.{lit<, sym, ◌∙◌, eqb-false}
 use Rattle.lagscript.proofs.WordLemmas.{number_parsed}
 use Rattle.lagscript.proofs.words.number_of.Goals as goal
 

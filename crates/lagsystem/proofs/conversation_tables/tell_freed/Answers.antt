@@ -1,5 +1,4 @@
-use Rattle.std.proofs.Common.{◌∙◌, Bool, ap, arith, false}
-use Rattle.lagsystem.specs.ConversationTables.{has_freed, is_busy}
+use Rattle.lagsystem.proofs.Common.{Bool, ap, arith, false, ◌∙◌, has_freed, is_busy}
 use Rattle.lagsystem.proofs.TellingLemmas.{few_more, no_rows, row_told}
 use Rattle.lagsystem.proofs.conversation_tables.tell_freed.Goals as goal
 

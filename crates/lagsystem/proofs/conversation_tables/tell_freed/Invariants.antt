@@ -1,6 +1,4 @@
-use Rattle.std.proofs.Common.{◌≤◌, Bool, false}
-use Rattle.distributor.specs.Conversations.{assignment_of}
-use Rattle.lagsystem.specs.ConversationTables.{TellsRows, has_freed, is_busy}
+use Rattle.lagsystem.proofs.Common.{Bool, false, ◌≤◌, assignment_of, TellsRows, has_freed, is_busy}
 use Rattle.lagsystem.proofs.conversation_tables.tell_freed.Given as goal
 
 abbrev pub invariant-loop-conv : goal.invariant-loop-conv

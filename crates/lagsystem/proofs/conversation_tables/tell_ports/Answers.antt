@@ -1,5 +1,4 @@
-use Rattle.std.proofs.Common.{◌∙◌, ℕ, ap, arith, refl}
-use Rattle.lagsystem.specs.ConversationTables.{has_changed, port_on}
+use Rattle.lagsystem.proofs.Common.{ap, arith, refl, ℕ, ◌∙◌, has_changed, port_on}
 use Rattle.lagsystem.proofs.TellingLemmas.{few_more, no_rows, row_told}
 use Rattle.lagsystem.proofs.conversation_tables.tell_ports.Goals as goal
 

@@ -1,6 +1,4 @@
-use Rattle.std.proofs.Common.{◌≤◌, ℕ}
-use Rattle.distributor.specs.Conversations.{assignment_of}
-use Rattle.lagsystem.specs.ConversationTables.{TellsRows, has_changed, port_on}
+use Rattle.lagsystem.proofs.Common.{ℕ, ◌≤◌, assignment_of, TellsRows, has_changed, port_on}
 use Rattle.lagsystem.proofs.conversation_tables.tell_ports.Given as goal
 
 abbrev pub invariant-loop-conv : goal.invariant-loop-conv

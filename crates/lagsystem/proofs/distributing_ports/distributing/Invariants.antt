@@ -1,7 +1,4 @@
-use Rattle.std.proofs.Common.{◌≡◌, ◌≤◌, take, length, map}
-use Rattle.std.specs.Prelude.{filter}
-use Rattle.lagsystem.specs.declared.system_ports.SystemPort.{SystemPort}
-use Rattle.lagsystem.specs.Readers.{distributes_in}
+use Rattle.lagsystem.proofs.Common.{filter, length, map, take, ◌≡◌, ◌≤◌, SystemPort, distributes_in}
 use Rattle.lagsystem.proofs.distributing_ports.distributing.Given as goal
 
 abbrev pub invariant-loop-system_port : goal.invariant-loop-system_port

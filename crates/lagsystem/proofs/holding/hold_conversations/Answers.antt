@@ -1,7 +1,4 @@
-use Rattle.std.proofs.Common.{◌≡◌, ◌∙◌, sym, ap, subst, None, get_or}
-use Rattle.distributor.specs.Changes.{ChangesAssignments, after_leave}
-use Rattle.lagsystem.specs.declared.system_ports.SystemPort.{SystemPort}
-use Rattle.lagsystem.specs.Holding.{has_stopped}
+use Rattle.lagsystem.proofs.Common.{None, ap, get_or, subst, sym, ◌∙◌, ◌≡◌, ChangesAssignments, after_leave, SystemPort, has_stopped}
 use Rattle.lagsystem.proofs.HoldingLemmas.{left_more, left_same}
 use Rattle.lagsystem.proofs.holding.hold_conversations.Goals as goal
 use Rattle.lagsystem.proofs.holding.hold_conversations.Goals.{then-has_stopped, else-has_stopped}

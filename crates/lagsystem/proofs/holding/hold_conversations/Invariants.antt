@@ -1,6 +1,4 @@
-use Rattle.std.proofs.Common.{◌≡◌, take}
-use Rattle.distributor.specs.Changes.{ChangesAssignments}
-use Rattle.lagsystem.specs.Holding.{after_holding, stopped}
+use Rattle.lagsystem.proofs.Common.{take, ◌≡◌, ChangesAssignments, after_holding, stopped}
 use Rattle.lagsystem.proofs.holding.hold_conversations.Given as goal
 
 abbrev pub invariant-loop-place : goal.invariant-loop-place

@@ -1,7 +1,4 @@
-use Rattle.std.proofs.Common.{◌∙◌, sym, ap, subst}
-use Rattle.distributor.specs.Changes.{ChangesAssignments, after_leave}
-use Rattle.lagsystem.specs.declared.system_ports.SystemPort.{SystemPort}
-use Rattle.lagsystem.specs.Holding.{has_stopped}
+use Rattle.lagsystem.proofs.Common.{ap, subst, sym, ◌∙◌, ChangesAssignments, after_leave, SystemPort, has_stopped}
 use Rattle.lagsystem.proofs.HoldingLemmas.{one_left, one_stays}
 use Rattle.lagsystem.proofs.holding.hold_conversations_at.Goals as goal
 

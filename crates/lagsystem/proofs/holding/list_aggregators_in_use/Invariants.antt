@@ -1,5 +1,4 @@
-use Rattle.std.proofs.Common.{◌≡◌, take}
-use Rattle.lagsystem.specs.Holding.{aggregators_in_use}
+use Rattle.lagsystem.proofs.Common.{take, ◌≡◌, aggregators_in_use}
 use Rattle.lagsystem.proofs.holding.list_aggregators_in_use.Given as goal
 
 abbrev pub invariant-loop-system_port : goal.invariant-loop-system_port

@@ -1,11 +1,5 @@
-use Rattle.std.proofs.Common.{◌≡◌, ◌∙◌, ℕ, Bool, true, false, List, None, refl, sym, ap, if◌then◌else◌}
-use Rattle.distributor.specs.declared.assignment.Assignment.{Assignment}
-use Rattle.distributor.specs.declared.assignment.Assignment.TheVariants.{Free, On, Wanted, Flushing}
-use Rattle.distributor.specs.Calls.{is_among}
-use Rattle.distributor.specs.Conversations.{assignment_of}
-use Rattle.lagsystem.specs.Readers.{aggregator_numbered, distributing}
-use Rattle.lagsystem.specs.Settling.{HoldsConversations, held_unless_on}
-use Rattle.lagsystem.specs.State.{SystemState}
+use Rattle.lagsystem.proofs.Common.{Bool, List, None, ap, false, if◌then◌else◌, refl, sym, true, ℕ, ◌∙◌, ◌≡◌, Assignment, Flushing, Free, On, Wanted}
+use Rattle.lagsystem.proofs.Common.{is_among, assignment_of, aggregator_numbered, distributing, HoldsConversations, held_unless_on, SystemState}
 use Rattle.lagsystem.proofs.Keeps.{settling_joined, settling_parts}
 use Rattle.lagsystem.proofs.Quieting.{paced_runs, settling_none, settling_quiet, still_settles}
 use Rattle.lagsystem.proofs.Rising.{ports_rise}

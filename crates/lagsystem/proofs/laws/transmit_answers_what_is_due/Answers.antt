@@ -1,11 +1,5 @@
-use Rattle.std.proofs.Common.{◌≡◌, ◌∙◌, ℕ, Bool, true, false, List, Option, Some, None, ap, sym}
-use Rattle.std.specs.Prelude.{◌&&◌, ◌||◌, is_some, option_map}
-use Rattle.portmachines.specs.Transmit.{is_due}
-use Rattle.distributor.specs.Changes.{marker_due}
-use Rattle.lagsystem.specs.declared.system_ports.SystemPort.{SystemPort}
-use Rattle.lagsystem.specs.Hosts.{would_transmit}
-use Rattle.lagsystem.specs.Sending.{TransmitsAt, SendsMarkerOf, TransmitsIf}
-use Rattle.lagsystem.specs.State.{SystemState, system_port_at}
+use Rattle.lagsystem.proofs.Common.{Bool, List, None, Option, Some, ap, false, is_some, option_map, sym, true, ℕ, ◌&&◌, ◌||◌, ◌∙◌, ◌≡◌, is_due}
+use Rattle.lagsystem.proofs.Common.{marker_due, SystemPort, would_transmit, SendsMarkerOf, TransmitsAt, TransmitsIf, SystemState, system_port_at}
 use Rattle.lagsystem.proofs.laws.transmit_answers_what_is_due.Goals as goal
 
 marker_sent : (o : Option ℕ) (port : ℕ) (mac : List ℕ) (old new : SystemState) (answer : Option (List ℕ))

@@ -1,4 +1,4 @@
-use Rattle.std.proofs.Common.{inl, inr, refl}
+use Rattle.lagsystem.proofs.Common.{inl, inr, refl}
 use Rattle.lagsystem.proofs.OfferLemmas.{control_slow, is_frame, is_long, is_short, too_short}
 use Rattle.lagsystem.proofs.offers.check_offer.Goals as goal
 use Rattle.lagsystem.proofs.offers.check_offer.Goals.{then-octets-lt14-via-then-octets-lt14}

@@ -1,4 +1,4 @@
-use Rattle.std.proofs.Common.{◌∙◌, sym}
+use Rattle.lagsystem.proofs.Common.{sym, ◌∙◌}
 use Rattle.lagsystem.proofs.StateLemmas.{hears_control}
 use Rattle.lagsystem.proofs.parse.parse_frame.Goals as goal
 

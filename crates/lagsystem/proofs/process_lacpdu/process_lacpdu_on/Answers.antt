@@ -1,7 +1,4 @@
-use Rattle.std.proofs.Common.{subst}
-use Rattle.std.specs.Bool.{OnTrue}
-use Rattle.slowpdu.specs.declared.pdu.Info.{Info}
-use Rattle.lagsystem.specs.NothingToSettle.{IsSamePartner, HasRecordedActor, LooksUnchanged}
+use Rattle.lagsystem.proofs.Common.{subst, OnTrue, Info, HasRecordedActor, IsSamePartner, LooksUnchanged}
 use Rattle.lagsystem.proofs.Skipping.{alike_if, took_alike}
 use Rattle.lagsystem.proofs.process_lacpdu.process_lacpdu_on.Goals as goal
 

@@ -1,5 +1,4 @@
-use Rattle.std.proofs.Common.{◌≡◌, ◌∙◌, sym}
-use Rattle.lagsystem.specs.NothingToSettle.{LooksUnchanged}
+use Rattle.lagsystem.proofs.Common.{sym, ◌∙◌, ◌≡◌, LooksUnchanged}
 use Rattle.lagsystem.proofs.Skipping.{alike_if, ran_looks}
 use Rattle.lagsystem.proofs.process_lacpdu.run_mux_on.Goals as goal
 

@@ -1,8 +1,4 @@
-use Rattle.std.proofs.Common.{◌≡◌, ◌∙◌, ◌-◌, ap, arith, drop, length, sym, take}
-use Rattle.std.specs.List.{list_any}
-use Rattle.std.proofs.lemmas.Bool.{OnFalse_from}
-use Rattle.std.proofs.lemmas.List.{length-drop, take_all}
-use Rattle.lagtypes.specs.Choices.{is_standby}
+use Rattle.lagsystem.proofs.Common.{ap, arith, drop, length, length-drop, sym, take, take_all, ◌-◌, ◌∙◌, ◌≡◌, OnFalse_from, list_any, is_standby}
 use Rattle.lagsystem.proofs.FrontLemmas.{any_from, first_within}
 use Rattle.lagsystem.proofs.NextLemmas.{none_stands, selected_not_standby}
 use Rattle.lagsystem.proofs.promoting.may_promote.Goals as goal

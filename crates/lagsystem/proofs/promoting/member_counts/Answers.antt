@@ -1,7 +1,4 @@
-use Rattle.std.proofs.Common.{◌∙◌, ◌≡◌, ap, get_or, refl, sym}
-use Rattle.std.proofs.lemmas.List.{get_or-replicate}
-use Rattle.lagtypes.specs.declared.party.Choice.TheVariants.{Selected}
-use Rattle.lagsystem.specs.declared.system_ports.SystemPort.{SystemPort}
+use Rattle.lagsystem.proofs.Common.{ap, get_or, refl, sym, ◌∙◌, ◌≡◌, get_or-replicate, Selected, SystemPort}
 use Rattle.lagsystem.proofs.MemberCounts.{counted_below, counted_more, none_more, no_member}
 use Rattle.lagsystem.proofs.promoting.member_counts.Goals.{in-Selected, in_default}
 use Rattle.lagsystem.proofs.promoting.member_counts.Goals as goal

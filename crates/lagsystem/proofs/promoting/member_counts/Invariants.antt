@@ -1,5 +1,4 @@
-use Rattle.std.proofs.Common.{take}
-use Rattle.lagsystem.specs.Promoting.{CountsMembers}
+use Rattle.lagsystem.proofs.Common.{take, CountsMembers}
 use Rattle.lagsystem.proofs.promoting.member_counts.Given as goal
 
 abbrev pub invariant-loop-system_port : goal.invariant-loop-system_port

@@ -1,4 +1,4 @@
-use Rattle.std.proofs.Common.{suc}
+use Rattle.lagsystem.proofs.Common.{suc}
 use Rattle.lagsystem.proofs.promoting.promote_all.Goals as goal
 
 pub loop-agg-preserved : goal.loop-agg-preserved

@@ -1,7 +1,4 @@
-use Rattle.std.proofs.Common.{◌≡◌, ℕ}
-use Rattle.lagsystem.specs.Promoting.{count_standby}
-use Rattle.lagsystem.specs.Settling.{PromotesTimes}
-use Rattle.lagsystem.specs.Views.{views}
+use Rattle.lagsystem.proofs.Common.{ℕ, ◌≡◌, count_standby, PromotesTimes, views}
 use Rattle.lagsystem.proofs.promoting.promote_all.Given as goal
 
 abbrev pub invariant-loop-agg : goal.invariant-loop-agg

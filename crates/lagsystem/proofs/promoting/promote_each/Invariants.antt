@@ -1,6 +1,4 @@
-use Rattle.std.proofs.Common.{◌≡◌}
-use Rattle.lagsystem.specs.Settling.{PromotesFirst}
-use Rattle.lagsystem.specs.Views.{views}
+use Rattle.lagsystem.proofs.Common.{◌≡◌, PromotesFirst, views}
 use Rattle.lagsystem.proofs.promoting.promote_each.Given as goal
 
 abbrev pub invariant-loop-before : goal.invariant-loop-before

@@ -1,12 +1,5 @@
-use Rattle.std.proofs.Common.{◌≡◌, ◌∙◌, ◌+◌, Some, ap, get_or, refl, slice_set, sym, List}
-use Rattle.std.proofs.lemmas.Option.{slice_get-get_or}
-use Rattle.lagtypes.specs.declared.party.Choice.TheVariants.{Selected}
-use Rattle.portmachines.specs.Machines.{Machines}
-use Rattle.selection.specs.declared.view.PortView.{PortView}
-use Rattle.selection.specs.Limits.{next_standby_index}
-use Rattle.lagsystem.specs.Promoting.{count_standby}
-use Rattle.lagsystem.specs.Settling.{with_choice}
-use Rattle.lagsystem.specs.Views.{views}
+use Rattle.lagsystem.proofs.Common.{List, Some, ap, get_or, refl, slice_set, sym, ◌+◌, ◌∙◌, ◌≡◌, slice_get-get_or, Selected, Machines, PortView}
+use Rattle.lagsystem.proofs.Common.{next_standby_index, count_standby, with_choice, views}
 use Rattle.lagsystem.proofs.Choosing.{seen_taken}
 use Rattle.lagsystem.proofs.NextLemmas.{next_within, promoted_fewer}
 use Rattle.lagsystem.proofs.promoting.promote_next.Goals as goal

@@ -1,10 +1,5 @@
-use Rattle.std.proofs.Common.{◌≡◌, ◌∙◌, ◌+◌, ◌<◌, ◌≤◌, false, length, ap, arith, subst, sym}
-use Rattle.std.proofs.lemmas.Bool.{OnFalse_at, false≢true}
-use Rattle.std.proofs.lemmas.Option.{slice_get-get_or}
-use Rattle.lagtypes.specs.declared.identifiers.AggId.{AggId}
-use Rattle.selection.specs.Limits.{has_room}
-use Rattle.lagtypes.specs.Choices.{is_standby}
-use Rattle.lagsystem.specs.Views.{views}
+use Rattle.lagsystem.proofs.Common.{ap, arith, false, length, subst, sym, ◌+◌, ◌<◌, ◌∙◌, ◌≡◌, ◌≤◌, OnFalse_at, false≢true, slice_get-get_or, AggId}
+use Rattle.lagsystem.proofs.Common.{is_standby, has_room, views}
 use Rattle.lagsystem.proofs.FrontLemmas.{first_not_standby, first_within}
 use Rattle.lagsystem.proofs.NextLemmas.{no_room_more, none_next, same_standby}
 use Rattle.lagsystem.proofs.MemberCounts.{counted_full}

@@ -1,4 +1,4 @@
-use Rattle.std.proofs.Common.{◌≤◌, length}
+use Rattle.lagsystem.proofs.Common.{length, ◌≤◌}
 use Rattle.lagsystem.proofs.NextLemmas.{NoRoomUpTo}
 use Rattle.lagsystem.proofs.promoting.some_may_have_room.Given as goal
 

@@ -1,8 +1,4 @@
-use Rattle.std.proofs.Common.{◌≡◌, ◌∙◌, ◌-◌, ap, arith, drop, length, take}
-use Rattle.std.specs.List.{list_any}
-use Rattle.std.proofs.lemmas.List.{length-drop, take_all}
-use Rattle.selection.specs.Views.{is_eligible}
-use Rattle.lagsystem.specs.Views.{selection_view}
+use Rattle.lagsystem.proofs.Common.{ap, arith, drop, length, length-drop, take, take_all, ◌-◌, ◌∙◌, ◌≡◌, list_any, is_eligible, selection_view}
 use Rattle.lagsystem.proofs.Choosing.{selected_not_eligible}
 use Rattle.lagsystem.proofs.FrontLemmas.{any_from, first_within}
 use Rattle.lagsystem.proofs.settling.any_eligible_from.Goals as goal

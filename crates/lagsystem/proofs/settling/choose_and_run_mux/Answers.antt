@@ -1,4 +1,4 @@
-use Rattle.std.proofs.Common.{◌∙◌, length, sym}
+use Rattle.lagsystem.proofs.Common.{length, sym, ◌∙◌}
 use Rattle.lagsystem.proofs.Choosing.{none_chosen, none_left_eligible}
 use Rattle.lagsystem.proofs.Limiting.{nothing_promoted}
 use Rattle.lagsystem.proofs.NextLemmas.{none_left_standby}

@@ -1,6 +1,4 @@
-use Rattle.std.proofs.Common.{◌≡◌}
-use Rattle.lagsystem.specs.Settling.{after_choices}
-use Rattle.lagsystem.specs.Views.{views}
+use Rattle.lagsystem.proofs.Common.{◌≡◌, after_choices, views}
 use Rattle.lagsystem.proofs.settling.choose_each.Given as goal
 
 abbrev pub invariant-loop-place : goal.invariant-loop-place

@@ -1,11 +1,5 @@
-use Rattle.std.proofs.Common.{◌∙◌, ap, sym, get_or, Some, None, slice_set, List}
-use Rattle.std.proofs.lemmas.Option.{slice_get-get_or}
-use Rattle.portmachines.specs.Machines.{Machines}
-use Rattle.selection.specs.Choice.{chosen_aggregator}
-use Rattle.selection.specs.declared.view.PortView.{PortView}
-use Rattle.lagtypes.specs.declared.party.Choice.{Choice}
-use Rattle.lagsystem.specs.Settling.{choice_in, with_choice}
-use Rattle.lagsystem.specs.Views.{views}
+use Rattle.lagsystem.proofs.Common.{List, None, Some, ap, get_or, slice_set, sym, ◌∙◌, slice_get-get_or, Choice, Machines, PortView}
+use Rattle.lagsystem.proofs.Common.{chosen_aggregator, choice_in, with_choice, views}
 use Rattle.lagsystem.proofs.Choosing.{seen_taken}
 use Rattle.lagsystem.proofs.SettlingLemmas.{none_taken, one_taken}
 use Rattle.lagsystem.proofs.settling.choose_one.Goals as goal

@@ -1,5 +1,4 @@
-use Rattle.std.proofs.Common.{◌∙◌, sym, length}
-use Rattle.std.proofs.lemmas.Bool.{OnFalse_at}
+use Rattle.lagsystem.proofs.Common.{length, sym, ◌∙◌, OnFalse_at}
 use Rattle.lagsystem.proofs.Choosing.{none_chosen}
 use Rattle.lagsystem.proofs.Limiting.{nothing_promoted}
 use Rattle.lagsystem.proofs.settling.choose_some.Goals as goal

@@ -1,8 +1,4 @@
-use Rattle.std.proofs.Common.{arith}
-use Rattle.portmachines.specs.Rows.{RunsToRest}
-use Rattle.portmachines.specs.Mux.{mux_rows}
-use Rattle.lagsystem.specs.Settling.{ready_of}
-use Rattle.lagsystem.specs.Settling.{PortChangesBy}
+use Rattle.lagsystem.proofs.Common.{arith, mux_rows, RunsToRest, PortChangesBy, ready_of}
 use Rattle.lagsystem.proofs.Lists.{SoFar-more, SoFar-all}
 use Rattle.lagsystem.proofs.settling.run_each_mux.Goals as goal
 

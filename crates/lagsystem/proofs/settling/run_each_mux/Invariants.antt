@@ -1,7 +1,4 @@
-use Rattle.portmachines.specs.Rows.{RunsToRest}
-use Rattle.portmachines.specs.Mux.{mux_rows}
-use Rattle.lagsystem.specs.Settling.{ready_of}
-use Rattle.lagsystem.specs.Settling.{PortChangesBy}
+use Rattle.lagsystem.proofs.Common.{mux_rows, RunsToRest, PortChangesBy, ready_of}
 use Rattle.lagsystem.proofs.Lists.{SoFar}
 use Rattle.lagsystem.proofs.settling.run_each_mux.Given as goal
 

@@ -1,6 +1,4 @@
-use Rattle.std.proofs.Common.{arith}
-use Rattle.portmachines.specs.Periodic.{RunsPeriodic}
-use Rattle.lagsystem.specs.Settling.{PortChangesBy}
+use Rattle.lagsystem.proofs.Common.{arith, RunsPeriodic, PortChangesBy}
 use Rattle.lagsystem.proofs.Lists.{SoFar-more, SoFar-all}
 use Rattle.lagsystem.proofs.settling.run_each_periodic.Goals as goal
 

@@ -1,5 +1,4 @@
-use Rattle.portmachines.specs.Periodic.{RunsPeriodic}
-use Rattle.lagsystem.specs.Settling.{PortChangesBy}
+use Rattle.lagsystem.proofs.Common.{RunsPeriodic, PortChangesBy}
 use Rattle.lagsystem.proofs.Lists.{SoFar}
 use Rattle.lagsystem.proofs.settling.run_each_periodic.Given as goal
 

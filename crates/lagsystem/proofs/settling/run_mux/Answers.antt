@@ -1,4 +1,4 @@
-use Rattle.std.proofs.Common.{◌∙◌, sym}
+use Rattle.lagsystem.proofs.Common.{sym, ◌∙◌}
 use Rattle.lagsystem.proofs.SettlingLemmas.{runs_unready}
 use Rattle.lagsystem.proofs.settling.run_mux.Goals as goal
 

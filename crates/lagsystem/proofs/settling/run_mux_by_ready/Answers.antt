@@ -1,8 +1,4 @@
-use Rattle.std.proofs.Common.{◌∙◌, subst, List}
-use Rattle.portmachines.specs.Rows.{RunsToRest}
-use Rattle.portmachines.specs.Mux.{mux_rows}
-use Rattle.selection.specs.declared.view.PortView.{PortView}
-use Rattle.lagsystem.specs.Settling.{PortsChangeBy, ready_of}
+use Rattle.lagsystem.proofs.Common.{List, subst, ◌∙◌, mux_rows, RunsToRest, PortView, PortsChangeBy, ready_of}
 use Rattle.lagsystem.proofs.settling.run_mux_by_ready.Goals as goal
 
 pub returns : goal.returns

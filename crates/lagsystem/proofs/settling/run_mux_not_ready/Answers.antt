@@ -1,8 +1,4 @@
-use Rattle.std.proofs.Common.{arith}
-use Rattle.std.proofs.Common.{false}
-use Rattle.portmachines.specs.Rows.{RunsToRest}
-use Rattle.portmachines.specs.Mux.{mux_rows}
-use Rattle.lagsystem.specs.Settling.{PortChangesBy}
+use Rattle.lagsystem.proofs.Common.{arith, false, mux_rows, RunsToRest, PortChangesBy}
 use Rattle.lagsystem.proofs.Lists.{SoFar-more, SoFar-all}
 use Rattle.lagsystem.proofs.settling.run_mux_not_ready.Goals as goal
 

@@ -1,5 +1,4 @@
-use Rattle.std.proofs.Common.{◌≡◌, ◌+◌, drop}
-use Rattle.lagsystem.specs.First.{first_bad_port_number, configured_numbers}
+use Rattle.lagsystem.proofs.Common.{drop, ◌+◌, ◌≡◌, configured_numbers, first_bad_port_number}
 use Rattle.lagsystem.proofs.start.first_bad_port_number.Given as goal
 
 abbrev pub invariant-loop-port : goal.invariant-loop-port

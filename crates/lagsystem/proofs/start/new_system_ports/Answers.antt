@@ -1,7 +1,4 @@
-use Rattle.std.proofs.Common.{arith, take, length, get_or, ◌<◌, [], false}
-use Rattle.lagsystem.specs.declared.config.PortConfig.{PortConfig}
-use Rattle.std.proofs.lemmas.List.{take_more}
-use Rattle.lagsystem.specs.First.{HasJustStarted}
+use Rattle.lagsystem.proofs.Common.{[], arith, false, get_or, length, take, ◌<◌, take_more, PortConfig, HasJustStarted}
 use Rattle.lagsystem.proofs.Lists.{each-push}
 use Rattle.lagsystem.proofs.start.new_system_ports.Goals as goal
 

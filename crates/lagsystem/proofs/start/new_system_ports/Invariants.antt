@@ -1,6 +1,4 @@
-use Rattle.std.proofs.Common.{◌≡◌, take, vec_len}
-use Rattle.std.specs.List.{AllZip}
-use Rattle.lagsystem.specs.First.{HasJustStarted}
+use Rattle.lagsystem.proofs.Common.{take, vec_len, ◌≡◌, AllZip, HasJustStarted}
 use Rattle.lagsystem.proofs.start.new_system_ports.Given as goal
 
 abbrev pub invariant-loop-port : goal.invariant-loop-port

@@ -1,6 +1,4 @@
-use Rattle.std.proofs.Common.{◌∙◌, [], false, arith}
-use Rattle.lagsystem.specs.First.{HasJustStarted}
-use Rattle.lagsystem.specs.declared.config.PortConfig.{PortConfig}
+use Rattle.lagsystem.proofs.Common.{[], arith, false, ◌∙◌, PortConfig, HasJustStarted}
 use Rattle.lagsystem.proofs.Lists.{Begun-more, Begun-all, length_set}
 use Rattle.lagsystem.proofs.start.restart_each.Goals as goal
 

@@ -1,5 +1,4 @@
-use Rattle.std.proofs.Common.{◌≡◌, length}
-use Rattle.lagsystem.specs.First.{HasJustStarted}
+use Rattle.lagsystem.proofs.Common.{length, ◌≡◌, HasJustStarted}
 use Rattle.lagsystem.proofs.Lists.{Begun}
 use Rattle.lagsystem.proofs.start.restart_each.Given as goal
 

@@ -1,5 +1,4 @@
-use Rattle.std.proofs.Common.{◌∙◌, sym}
-use Rattle.lagsystem.specs.Views.{selection_view}
+use Rattle.lagsystem.proofs.Common.{sym, ◌∙◌, selection_view}
 use Rattle.lagsystem.proofs.Choosing.{chosen_not_eligible}
 use Rattle.lagsystem.proofs.system_ports.is_eligible.Goals as goal
 

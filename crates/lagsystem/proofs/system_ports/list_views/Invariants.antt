@@ -1,5 +1,4 @@
-use Rattle.std.proofs.Common.{◌≡◌, take}
-use Rattle.lagsystem.specs.Views.{views}
+use Rattle.lagsystem.proofs.Common.{take, ◌≡◌, views}
 use Rattle.lagsystem.proofs.system_ports.list_views.Given as goal
 
 abbrev pub invariant-loop-system_port : goal.invariant-loop-system_port

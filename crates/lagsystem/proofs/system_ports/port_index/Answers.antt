@@ -1,4 +1,4 @@
-use Rattle.std.proofs.Common.{sym}
+use Rattle.lagsystem.proofs.Common.{sym}
 use Rattle.lagsystem.proofs.PlaceLemmas.{place_at}
 use Rattle.lagsystem.proofs.system_ports.port_index.Goals as goal
 

@@ -1,5 +1,4 @@
-use Rattle.std.proofs.Common.{◌≡◌, take}
-use Rattle.lagsystem.specs.State.{port_numbers}
+use Rattle.lagsystem.proofs.Common.{take, ◌≡◌, port_numbers}
 use Rattle.lagsystem.proofs.system_readers.port_numbers.Given as goal
 
 abbrev pub invariant-loop-system_port : goal.invariant-loop-system_port

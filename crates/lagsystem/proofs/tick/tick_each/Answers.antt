@@ -1,8 +1,4 @@
-use Rattle.std.proofs.Common.{arith}
-use Rattle.portmachines.specs.Rows.{RunsToRest}
-use Rattle.portmachines.specs.Receive.{receive_rows}
-use Rattle.portmachines.specs.Transmit.{count_down}
-use Rattle.lagsystem.specs.Settling.{PortChangesBy}
+use Rattle.lagsystem.proofs.Common.{arith, receive_rows, RunsToRest, count_down, PortChangesBy}
 use Rattle.lagsystem.proofs.Lists.{SoFar-more, SoFar-all}
 use Rattle.lagsystem.proofs.tick.tick_each.Goals as goal
 

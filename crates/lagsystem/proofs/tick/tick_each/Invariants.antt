@@ -1,7 +1,4 @@
-use Rattle.portmachines.specs.Rows.{RunsToRest}
-use Rattle.portmachines.specs.Receive.{receive_rows}
-use Rattle.portmachines.specs.Transmit.{count_down}
-use Rattle.lagsystem.specs.Settling.{PortChangesBy}
+use Rattle.lagsystem.proofs.Common.{receive_rows, RunsToRest, count_down, PortChangesBy}
 use Rattle.lagsystem.proofs.Lists.{SoFar}
 use Rattle.lagsystem.proofs.tick.tick_each.Given as goal
 

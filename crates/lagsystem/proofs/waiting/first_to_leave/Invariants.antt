@@ -1,6 +1,4 @@
-use Rattle.std.proofs.Common.{◌≡◌, drop, map}
-use Rattle.distributor.specs.Waiting.{sooner}
-use Rattle.lagsystem.specs.Waiting.{soonest, ticks_in_window}
+use Rattle.lagsystem.proofs.Common.{drop, map, ◌≡◌, sooner, soonest, ticks_in_window}
 use Rattle.lagsystem.proofs.waiting.first_to_leave.Given as goal
 
 abbrev pub invariant-loop-age : goal.invariant-loop-age

@@ -1,6 +1,4 @@
-use Rattle.std.proofs.Common.{◌≡◌, drop}
-use Rattle.distributor.specs.Waiting.{sooner}
-use Rattle.lagsystem.specs.Waiting.{soonest}
+use Rattle.lagsystem.proofs.Common.{drop, ◌≡◌, sooner, soonest}
 use Rattle.lagsystem.proofs.waiting.soonest.Given as goal
 
 abbrev pub invariant-loop-wait : goal.invariant-loop-wait

@@ -1,5 +1,4 @@
-use Rattle.std.proofs.Common.{◌≡◌, drop}
-use Rattle.lagtool_capture.specs.Ends.{end_place, end_place_from}
+use Rattle.lagtool_capture.proofs.Common.{drop, ◌≡◌, end_place, end_place_from}
 use Rattle.lagtool_capture.proofs.ends.end_place.Given as goal
 
 abbrev pub invariant-loop-index : goal.invariant-loop-index

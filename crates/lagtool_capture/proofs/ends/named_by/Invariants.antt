@@ -1,5 +1,4 @@
-use Rattle.std.proofs.Common.{◌≡◌, drop}
-use Rattle.lagtool_capture.specs.Ends.{named_by}
+use Rattle.lagtool_capture.proofs.Common.{drop, ◌≡◌, named_by}
 use Rattle.lagtool_capture.proofs.ends.named_by.Given as goal
 
 abbrev pub invariant-loop-other : goal.invariant-loop-other

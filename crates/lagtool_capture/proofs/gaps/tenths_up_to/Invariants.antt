@@ -1,5 +1,4 @@
-use Rattle.std.proofs.Common.{◌≡◌, drop}
-use Rattle.lagtool_capture.specs.Gaps.{tenths_up_to}
+use Rattle.lagtool_capture.proofs.Common.{drop, ◌≡◌, tenths_up_to}
 use Rattle.lagtool_capture.proofs.gaps.tenths_up_to.Given as goal
 
 abbrev pub invariant-loop-tenths : goal.invariant-loop-tenths

@@ -1,4 +1,4 @@
-use Rattle.std.proofs.Common.{◌≡◌, false}
+use Rattle.lagtool_capture.proofs.Common.{false, ◌≡◌}
 use Rattle.lagtool_capture.proofs.job.explain.Given as goal
 
 abbrev pub invariant-loop-piece : goal.invariant-loop-piece

@@ -1,5 +1,4 @@
-use Rattle.std.proofs.Common.{◌≡◌, drop}
-use Rattle.lagtool_capture.specs.Names.{place_from, place_of}
+use Rattle.lagtool_capture.proofs.Common.{drop, ◌≡◌, place_from, place_of}
 use Rattle.lagtool_capture.proofs.names.place_of.Given as goal
 
 abbrev pub invariant-loop-index : goal.invariant-loop-index

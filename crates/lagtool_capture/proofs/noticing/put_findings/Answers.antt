@@ -1,8 +1,4 @@
-use Rattle.std.proofs.Common.{◌∙◌, ◌++◌, ap}
-use Rattle.std.specs.Prelude.{[], slice_get}
-use Rattle.std.specs.List.{cons_option}
-use Rattle.findings.specs.Knows.{ends_of}
-use Rattle.lagtool_capture.specs.Noticing.{finding_by}
+use Rattle.lagtool_capture.proofs.Common.{[], ap, slice_get, ◌++◌, ◌∙◌, cons_option, ends_of, finding_by}
 use Rattle.lagtool_capture.proofs.NoticingLemmas.{one_added}
 use Rattle.lagtool_capture.proofs.noticing.put_findings.Goals as goal
 

@@ -1,8 +1,5 @@
-use Rattle.std.proofs.Common.{◌≡◌, ◌++◌, List, take}
-use Rattle.std.specs.Prelude.{slice_get}
+use Rattle.lagtool_capture.proofs.Common.{List, slice_get, take, ◌++◌, ◌≡◌, ends_of, IsKnown, findings_by}
 use Rattle.findings.specs.declared.observed.Observed.{Observed}
-use Rattle.findings.specs.Knows.{ends_of}
-use Rattle.lagtool_capture.specs.Noticing.{IsKnown, findings_by}
 use Rattle.lagtool_capture.proofs.noticing.put_findings.Given as goal
 
 abbrev pub invariant-loop-rule : goal.invariant-loop-rule

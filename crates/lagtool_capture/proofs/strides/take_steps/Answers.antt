@@ -1,5 +1,4 @@
-use Rattle.std.proofs.Common.{◌-◌, arith, inl, length}
-use Rattle.std.specs.Prelude.{None}
+use Rattle.lagtool_capture.proofs.Common.{None, arith, inl, length, ◌-◌}
 use Rattle.lagtool_capture.proofs.StrideLemmas.{ends_behind, ends_there, reads_more, reads_none, rest_length, stops_by}
 use Rattle.lagtool_capture.proofs.strides.take_steps.Goals as goal
 

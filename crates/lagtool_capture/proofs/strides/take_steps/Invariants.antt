@@ -1,4 +1,4 @@
-use Rattle.std.proofs.Common.{◌≤◌, ◌-◌, length}
+use Rattle.lagtool_capture.proofs.Common.{length, ◌-◌, ◌≤◌}
 use Rattle.lagtool_capture.proofs.StrideLemmas.{Reads}
 use Rattle.lagtool_capture.proofs.strides.take_steps.Given as goal
 

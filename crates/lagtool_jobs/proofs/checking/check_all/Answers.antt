@@ -1,10 +1,7 @@
-use Rattle.std.proofs.Common.{◌∙◌, ◌≡◌, ◌≤◌, [], ap, append-nil, arith, length, sym, take}
-use Rattle.std.proofs.lemmas.List.{length-take-le}
-use Rattle.lagtool_jobs.specs.CheckEnds.{Stops}
-use Rattle.lagtool_jobs.specs.Scans.{unwritten}
-use Rattle.lagtool_jobs.specs.declared.fault.ToolFault.TheVariants.{NoMemory, Read, Write}
-use Rattle.lagtool_jobs.proofs.ReportLemmas.{all_said, ends, on_fault, pending, stops_reading, stops_short, stops_writing, told_reads}
-use Rattle.lagtool_jobs.proofs.ReportLemmas.{told_still, told_writes}
+use Rattle.lagtool_jobs.proofs.Common.{[], ap, append-nil, arith, length, sym, take, ◌∙◌, ◌≡◌, ◌≤◌, length-take-le, NoMemory, Read, Write, Stops}
+use Rattle.lagtool_jobs.proofs.Common.{unwritten}
+use Rattle.lagtool_jobs.proofs.ReportLemmas.{all_said, ends, on_fault, pending, stops_reading, stops_short, stops_writing, told_reads, told_still}
+use Rattle.lagtool_jobs.proofs.ReportLemmas.{told_writes}
 use Rattle.lagtool_jobs.proofs.checking.check_all.Goals as goal
 
 pub returns-in_err-n-clause-err : goal.returns-in_err-n-clause-err

@@ -1,4 +1,4 @@
-use Rattle.std.proofs.Common.{◌≡◌, ◌+◌, ◌≤◌, [], false}
+use Rattle.lagtool_jobs.proofs.Common.{[], false, ◌+◌, ◌≡◌, ◌≤◌}
 use Rattle.lagtool_jobs.proofs.ReportLemmas.{Told}
 use Rattle.lagtool_jobs.proofs.checking.check_all.Given as goal
 

@@ -1,7 +1,4 @@
-use Rattle.std.proofs.Common.{◌≡◌, ◌≤◌, length, map, take, vec_capacity, vec_len}
-use Rattle.cables.specs.AnyCable.{any_items, any_limit}
-use Rattle.lagworld.specs.Making.{first_link}
-use Rattle.lagtool_jobs.specs.ReplayReport.{empty_link}
+use Rattle.lagtool_jobs.proofs.Common.{length, map, take, vec_capacity, vec_len, ◌≡◌, ◌≤◌, any_items, any_limit, empty_link, first_link}
 use Rattle.lagtool_jobs.proofs.directions.all_directions.Given as goal
 
 abbrev pub invariant-loop-limit : goal.invariant-loop-limit

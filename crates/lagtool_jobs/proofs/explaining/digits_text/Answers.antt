@@ -1,5 +1,4 @@
-use Rattle.std.proofs.Common.{◌≡◌, ◌∙◌, ◌+◌, ap, arith, string_bytes}
-use Rattle.lagtool_jobs.specs.Explained.{digits_first}
+use Rattle.lagtool_jobs.proofs.Common.{ap, arith, string_bytes, ◌+◌, ◌∙◌, ◌≡◌, digits_first}
 use Rattle.lagtool_jobs.proofs.ExplainedLemmas.{says_character}
 use Rattle.lagtool_jobs.proofs.explaining.digits_text.Goals as goal
 

@@ -1,6 +1,4 @@
-use Rattle.std.proofs.Common.{length, string_bytes, sym, take}
-use Rattle.std.proofs.Math.Seq.{take-length}
-use Rattle.lagtool_jobs.specs.Explained.{is_input}
+use Rattle.lagtool_jobs.proofs.Common.{length, string_bytes, sym, take, take-length, is_input}
 use Rattle.lagtool_jobs.proofs.ExplainedLemmas.{names_file}
 use Rattle.lagtool_jobs.proofs.explaining.unread_text.Goals as goal
 

@@ -1,4 +1,4 @@
-use Rattle.std.proofs.Common.{◌≡◌, ◌+◌, arith, length}
+use Rattle.lagtool_jobs.proofs.Common.{arith, length, ◌+◌, ◌≡◌}
 use Rattle.lagtool_jobs.proofs.ExplainedLemmas.{tells_octet}
 use Rattle.lagtool_jobs.proofs.explaining.utf8_text.Goals as goal
 

@@ -1,5 +1,4 @@
-use Rattle.std.proofs.Common.{◌≡◌, ◌+◌, length, take}
-use Rattle.lagtool_jobs.specs.Offered.{AreOfferFlags}
+use Rattle.lagtool_jobs.proofs.Common.{length, take, ◌+◌, ◌≡◌, AreOfferFlags}
 use Rattle.lagtool_jobs.proofs.flows.offer_flags.Given as goal
 
 abbrev pub invariant-loop-event : goal.invariant-loop-event

@@ -1,7 +1,4 @@
-use Rattle.std.proofs.Common.{◌+◌, arith, refl}
-use Rattle.lagworld.specs.Events.{side_of}
-use Rattle.lagworld.specs.Readers.{flow_of_system}
-use Rattle.lagtool_jobs.specs.ReplayReport.{flow_line}
+use Rattle.lagtool_jobs.proofs.Common.{arith, refl, ◌+◌, flow_line, side_of, flow_of_system}
 use Rattle.lagtool_jobs.proofs.ReplayLemmas.{appended_both, range_more}
 use Rattle.lagtool_jobs.proofs.flows.push_aggregator_flows.Goals as goal
 

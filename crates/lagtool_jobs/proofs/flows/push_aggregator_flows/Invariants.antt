@@ -1,9 +1,4 @@
-use Rattle.std.proofs.Common.{◌≡◌, ◌++◌}
-use Rattle.std.specs.Prelude.{flat_map, string_bytes}
-use Rattle.std.specs.List.{range_with_len}
-use Rattle.lagworld.specs.Events.{side_of}
-use Rattle.lagworld.specs.Readers.{flow_of_system}
-use Rattle.lagtool_jobs.specs.ReplayReport.{flow_line}
+use Rattle.lagtool_jobs.proofs.Common.{string_bytes, ◌++◌, ◌≡◌, range_with_len, flat_map, flow_line, side_of, flow_of_system}
 use Rattle.lagtool_jobs.proofs.flows.push_aggregator_flows.Given as goal
 
 abbrev pub invariant-loop-conv : goal.invariant-loop-conv

@@ -1,6 +1,4 @@
-use Rattle.std.proofs.Common.{◌≡◌, ◌++◌, ◌∷◌, take}
-use Rattle.std.specs.Fmt.{decimal}
-use Rattle.std.specs.Prelude.{flat_map, string_bytes}
+use Rattle.lagtool_jobs.proofs.Common.{decimal, string_bytes, take, ◌++◌, ◌∷◌, ◌≡◌, flat_map}
 use Rattle.lagtool_jobs.proofs.flows.push_collected.Given as goal
 
 abbrev pub invariant-loop-serial : goal.invariant-loop-serial

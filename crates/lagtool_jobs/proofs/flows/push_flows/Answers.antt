@@ -1,6 +1,4 @@
-use Rattle.std.proofs.Common.{◌<◌, ◌+◌, ◌∙◌, ap, sym, arith, refl, length}
-use Rattle.std.specs.Prelude.{string_bytes}
-use Rattle.lagtool_jobs.specs.ReplayReport.{aggregator_flows_text}
+use Rattle.lagtool_jobs.proofs.Common.{ap, arith, length, refl, string_bytes, sym, ◌+◌, ◌<◌, ◌∙◌, aggregator_flows_text}
 use Rattle.lagtool_jobs.proofs.OfferedLemmas.{row_skipped, unset}
 use Rattle.lagtool_jobs.proofs.ReplayLemmas.{appended_both, range_more}
 use Rattle.lagtool_jobs.proofs.flows.push_flows.Goals as goal

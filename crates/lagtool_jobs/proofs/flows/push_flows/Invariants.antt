@@ -1,7 +1,4 @@
-use Rattle.std.proofs.Common.{◌≡◌, ◌++◌}
-use Rattle.std.specs.Prelude.{flat_map, string_bytes}
-use Rattle.std.specs.List.{range_with_len}
-use Rattle.lagtool_jobs.specs.ReplayReport.{aggregator_flows_text}
+use Rattle.lagtool_jobs.proofs.Common.{string_bytes, ◌++◌, ◌≡◌, range_with_len, flat_map, aggregator_flows_text}
 use Rattle.lagtool_jobs.proofs.flows.push_flows.Given as goal
 
 abbrev pub invariant-loop-place : goal.invariant-loop-place

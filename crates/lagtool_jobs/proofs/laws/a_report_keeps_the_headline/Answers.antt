@@ -1,5 +1,5 @@
+use Rattle.lagtool_jobs.proofs.Common.{side_of}
 use Rattle.lagworld.proofs.Agreeing.{never_differs}
-use Rattle.lagworld.specs.Events.{side_of}
 use Rattle.lagtool_jobs.proofs.HeadlineLemmas.{flow_in_order}
 use Rattle.lagtool_jobs.proofs.laws.a_report_keeps_the_headline.Goals as goal
 

@@ -1,4 +1,4 @@
-use Rattle.std.proofs.Common.{◌≡◌, length}
+use Rattle.lagtool_jobs.proofs.Common.{length, ◌≡◌}
 use Rattle.lagtool_jobs.proofs.passing.passed.Given as goal
 
 abbrev pub invariant-loop-vector : goal.invariant-loop-vector

@@ -1,6 +1,4 @@
-use Rattle.std.proofs.Common.{◌≡◌, ◌++◌, take}
-use Rattle.std.specs.Prelude.{string_bytes}
-use Rattle.lagtool_jobs.specs.Vectors.{vector_lines_from}
+use Rattle.lagtool_jobs.proofs.Common.{string_bytes, take, ◌++◌, ◌≡◌, vector_lines_from}
 use Rattle.lagtool_jobs.proofs.passing.push_vector_lines.Given as goal
 
 abbrev pub invariant-loop-index : goal.invariant-loop-index

@@ -1,4 +1,4 @@
-use Rattle.std.proofs.Common.{◌≡◌, length, refl}
+use Rattle.lagtool_jobs.proofs.Common.{length, refl, ◌≡◌}
 use Rattle.lagtool_jobs.proofs.StartLemmas.{second_fits}
 use Rattle.lagtool_jobs.proofs.replaying.both_counts.Goals as goal
 

@@ -1,6 +1,4 @@
-use Rattle.std.proofs.Common.{◌≡◌, ◌+◌, ◌++◌, Some, ap, sym, ◌∙◌, rules}
-use Rattle.std.specs.Prelude.{string_bytes}
-use Rattle.lagtool_jobs.specs.ReplayReport.{agreement_line}
+use Rattle.lagtool_jobs.proofs.Common.{Some, ap, rules, string_bytes, sym, ◌++◌, ◌+◌, ◌∙◌, ◌≡◌, agreement_line}
 use Rattle.lagtool_jobs.proofs.ReplayLemmas.{cable_more, cables_all, cables_end}
 use Rattle.lagtool_jobs.proofs.replaying.push_agreements.Goals as goal
 

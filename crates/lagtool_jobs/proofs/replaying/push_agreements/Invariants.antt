@@ -1,8 +1,4 @@
-use Rattle.std.proofs.Common.{◌≡◌, ◌++◌}
-use Rattle.std.specs.Prelude.{flat_map, string_bytes}
-use Rattle.std.specs.List.{range_with_len}
-use Rattle.lagworld.specs.Agreement.{agreement_at}
-use Rattle.lagtool_jobs.specs.ReplayReport.{agreement_line}
+use Rattle.lagtool_jobs.proofs.Common.{string_bytes, ◌++◌, ◌≡◌, range_with_len, flat_map, agreement_line, agreement_at}
 use Rattle.lagtool_jobs.proofs.replaying.push_agreements.Given as goal
 
 abbrev pub invariant-loop-place : goal.invariant-loop-place

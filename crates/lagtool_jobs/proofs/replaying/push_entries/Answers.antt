@@ -1,4 +1,4 @@
-use Rattle.std.proofs.Common.{arith}
+use Rattle.lagtool_jobs.proofs.Common.{arith}
 use Rattle.lagtool_jobs.proofs.ReplayLemmas.{entries_grow}
 use Rattle.lagtool_jobs.proofs.replaying.push_entries.Goals as goal
 

@@ -1,6 +1,4 @@
-use Rattle.std.proofs.Common.{◌≡◌, ◌++◌, take}
-use Rattle.std.specs.Prelude.{string_bytes}
-use Rattle.lagtool_jobs.specs.ReplayReport.{entries_text}
+use Rattle.lagtool_jobs.proofs.Common.{string_bytes, take, ◌++◌, ◌≡◌, entries_text}
 use Rattle.lagtool_jobs.proofs.replaying.push_entries.Given as goal
 
 abbrev pub invariant-loop-index : goal.invariant-loop-index

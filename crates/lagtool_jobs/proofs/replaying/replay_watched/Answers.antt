@@ -1,8 +1,4 @@
-use Rattle.std.proofs.Common.{◌≤◌, List, length, subst, sym}
-use Rattle.lagscript.specs.declared.event.Event.{Event}
-use Rattle.lagworld.specs.Events.{Algorithms, most_events}
-use Rattle.lagworld.specs.Sound.{both_algorithms}
-use Rattle.lagtool_jobs.specs.Naming.{AllNameExisting}
+use Rattle.lagtool_jobs.proofs.Common.{List, length, subst, sym, ◌≤◌, AllNameExisting, Event, Algorithms, most_events, both_algorithms}
 use Rattle.lagtool_jobs.proofs.NamingLemmas.{plan_few, plan_names}
 use Rattle.lagtool_jobs.proofs.StartLemmas.{replayed_is, write_failed}
 use Rattle.lagtool_jobs.proofs.replaying.replay_watched.Goals as goal

@@ -1,13 +1,6 @@
-use Rattle.std.proofs.Common.{List, length, map, ap, sym, ◌∙◌, subst}
-use Rattle.std.proofs.lemmas.List.{length-map}
-use Rattle.distributor.specs.Calls.{PicksIndexes}
-use Rattle.lagworld.specs.Events.{Algorithms, WorldRuns}
-use Rattle.lagworld.specs.Sound.{both_algorithms}
-use Rattle.lagworld.specs.declared.reply.Reply.{Reply}
+use Rattle.lagtool_jobs.proofs.Common.{List, ap, length, map, subst, sym, ◌∙◌, length-map, AllNameExisting, empty_link, replay_report_with_counts}
+use Rattle.lagtool_jobs.proofs.Common.{PicksIndexes, Reply, Algorithms, WorldRuns, both_algorithms}
 use Rattle.lagworld.proofs.Starts.{start_sound}
-use Rattle.lagtool_jobs.specs.Naming.{AllNameExisting}
-use Rattle.lagtool_jobs.specs.ReplayReport.{empty_link}
-use Rattle.lagtool_jobs.specs.ReplaySteps.{replay_report_with_counts}
 use Rattle.lagtool_jobs.proofs.OfferedLemmas.{sent_where_offered}
 use Rattle.lagtool_jobs.proofs.PlayingLemmas.{cables_counted, first_bare, lines_there}
 use Rattle.lagtool_jobs.proofs.ReplayLemmas.{as_many}

@@ -1,7 +1,5 @@
+use Rattle.lagtool_jobs.proofs.Common.{any_items, world_refusal, are_empty_lines}
 use Rattle.std.proofs.lemmas.Result.{IfErr-weaker}
-use Rattle.cables.specs.AnyCable.{any_items}
-use Rattle.lagscript.specs.Configs.{world_refusal}
-use Rattle.lagworld.specs.Making.{are_empty_lines}
 use Rattle.lagtool_jobs.proofs.PlayingLemmas.{nothing_to_refuse}
 use Rattle.lagtool_jobs.proofs.running.make_world.Goals as goal
 

@@ -1,10 +1,5 @@
-use Rattle.std.proofs.Common.{◌≡◌, ◌++◌, ◌∙◌, List, [], ap, append_assoc, append-nil, refl, rules, subst, sym}
-use Rattle.std.proofs.lemmas.List.{nil_from_length}
-use Rattle.std.specs.Slice.Iter.{chunks_rest}
-use Rattle.distributor.specs.Calls.{PicksIndexes}
-use Rattle.lagscript.specs.declared.event.Event.{Event}
-use Rattle.lagworld.specs.Events.{Algorithms, WorldRuns}
-use Rattle.lagworld.specs.Sound.{RunStops, both_algorithms}
+use Rattle.lagtool_jobs.proofs.Common.{List, [], ap, append-nil, append_assoc, refl, rules, subst, sym, ◌++◌, ◌∙◌, ◌≡◌, nil_from_length, chunks_rest}
+use Rattle.lagtool_jobs.proofs.Common.{PicksIndexes, Event, Algorithms, WorldRuns, RunStops, both_algorithms}
 use Rattle.lagtool_jobs.proofs.PlayingLemmas.{piece_stops_for_memory, runs_joined}
 use Rattle.lagtool_jobs.proofs.running.run_events.Goals as goal
 

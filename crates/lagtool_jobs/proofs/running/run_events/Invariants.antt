@@ -1,9 +1,4 @@
-use Rattle.std.proofs.Common.{◌≡◌, ◌++◌, List}
-use Rattle.std.specs.Slice.Iter.{chunks_rest}
-use Rattle.lagscript.specs.declared.event.Event.{Event}
-use Rattle.lagworld.specs.Events.{WorldRuns}
-use Rattle.lagworld.specs.ModelWorld.{world_setup}
-use Rattle.lagworld.specs.Sound.{IsSound, both_algorithms}
+use Rattle.lagtool_jobs.proofs.Common.{List, ◌++◌, ◌≡◌, chunks_rest, Event, WorldRuns, world_setup, IsSound, both_algorithms}
 use Rattle.lagtool_jobs.proofs.running.run_events.Given as goal
 
 abbrev pub invariant-loop-piece : goal.invariant-loop-piece

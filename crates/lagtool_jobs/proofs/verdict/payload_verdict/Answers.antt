@@ -1,4 +1,4 @@
-use Rattle.std.proofs.Common.{sym, subst}
+use Rattle.lagtool_jobs.proofs.Common.{subst, sym}
 use Rattle.slowpdu.specs.Pdus.{ReadsPdu}
 use Rattle.lagtool_jobs.proofs.VerdictLemmas.{lacpdu_verdict}
 use Rattle.lagtool_jobs.proofs.verdict.payload_verdict.Goals as goal

@@ -1,5 +1,4 @@
-use Rattle.std.proofs.Common.{get_or, ◌≡◌, ◌+◌, ◌++◌, [], ◌∷◌, Bool, sym, ap, ◌∙◌, take, refl}
-use Rattle.std.specs.Prelude.{if◌then◌else◌}
+use Rattle.std.proofs.Common.{get_or, ◌≡◌, ◌+◌, ◌++◌, [], ◌∷◌, Bool, sym, ap, ◌∙◌, take, refl, if◌then◌else◌}
 use Rattle.std.specs.List.{join_with_byte}
 use Rattle.std.proofs.Output.{has_written_append, has_written_of_eq}
 use Rattle.lagtypes.proofs.WordLemmas.{word_set, word_unset, join_more, words_of, is_empty, is_empty-append}

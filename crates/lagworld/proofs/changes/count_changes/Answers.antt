@@ -1,8 +1,4 @@
-use Rattle.std.proofs.Common.{ap, ◌∙◌, arith}
-use Rattle.std.proofs.lemmas.List.Edits.{map_over_more}
-use Rattle.std.specs.Prelude.{set}
-use Rattle.lagworld.specs.HalfCalls.{change_counted, with_party_recorded}
-use Rattle.lagworld.specs.Events.{most_events}
+use Rattle.lagworld.proofs.Common.{ap, arith, set, ◌∙◌, map_over_more, most_events, change_counted, with_party_recorded}
 use Rattle.lagworld.proofs.InPlace.{below_at}
 use Rattle.lagworld.proofs.changes.count_changes.Goals as goal
 

@@ -1,5 +1,4 @@
-use Rattle.std.proofs.Common.{◌≡◌, ◌++◌, map, take, drop}
-use Rattle.lagworld.specs.HalfCalls.{change_counted}
+use Rattle.lagworld.proofs.Common.{drop, map, take, ◌++◌, ◌≡◌, change_counted}
 use Rattle.lagworld.proofs.changes.count_changes.Given as goal
 
 abbrev pub invariant-loop-index : goal.invariant-loop-index

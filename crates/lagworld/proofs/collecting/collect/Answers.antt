@@ -1,7 +1,4 @@
-use Rattle.std.proofs.Common.{◌≡◌, ◌<◌, ◌+◌, ℕ, length, arith, subst}
-use Rattle.std.specs.Prelude.{slice_get}
-use Rattle.lagworld.specs.Arriving.{aggregator_flow_values}
-use Rattle.lagworld.specs.State.{change_flow_in, with_collected}
+use Rattle.lagworld.proofs.Common.{arith, length, slice_get, subst, ℕ, ◌+◌, ◌<◌, ◌≡◌, aggregator_flow_values, change_flow_in, with_collected}
 use Rattle.lagworld.proofs.FlowLemmas.{row_set}
 use Rattle.lagworld.proofs.collecting.collect.Goals as goal
 

@@ -1,5 +1,4 @@
-use Rattle.std.proofs.Common.{◌<◌, length, arith}
-use Rattle.lagworld.specs.State.{with_collected}
+use Rattle.lagworld.proofs.Common.{arith, length, ◌<◌, with_collected}
 use Rattle.lagworld.proofs.CollectingLemmas.{put_collected, more_serials}
 use Rattle.lagworld.proofs.FlowLemmas.{flow_set}
 use Rattle.lagworld.proofs.collecting.collect_in.Goals as goal

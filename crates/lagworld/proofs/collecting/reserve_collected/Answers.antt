@@ -1,5 +1,4 @@
-use Rattle.std.proofs.Common.{◌≡◌, ◌<◌, ◌+◌, length, arith}
-use Rattle.lagworld.specs.Arriving.{aggregator_flow_values}
+use Rattle.lagworld.proofs.Common.{arith, length, ◌+◌, ◌<◌, ◌≡◌, aggregator_flow_values}
 use Rattle.lagworld.proofs.CollectingLemmas.{same_seen, room_at}
 use Rattle.lagworld.proofs.collecting.reserve_collected.Goals as goal
 

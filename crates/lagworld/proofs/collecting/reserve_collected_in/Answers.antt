@@ -1,6 +1,5 @@
-use Rattle.std.proofs.Common.{◌<◌, length, arith}
+use Rattle.lagworld.proofs.Common.{arith, length, ◌<◌, flow_value}
 use Rattle.lagworld.proofs.CollectingLemmas.{same_seen, put_collected, same_serials, room_there}
-use Rattle.lagworld.specs.Inner.{flow_value}
 use Rattle.lagworld.proofs.collecting.reserve_collected_in.Goals as goal
 
 pub returns-clause-same : goal.returns-clause-same

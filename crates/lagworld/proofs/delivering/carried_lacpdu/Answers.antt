@@ -1,5 +1,4 @@
-use Rattle.std.proofs.Common.{arith, subst, sym}
-use Rattle.slowpdu.specs.Lacpdus.{Reads}
+use Rattle.lagworld.proofs.Common.{arith, subst, sym, Reads}
 use Rattle.lagworld.proofs.delivering.carried_lacpdu.Goals as goal
 
 pub returns-in-Control : goal.returns-in-Control

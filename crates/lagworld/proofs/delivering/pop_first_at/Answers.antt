@@ -1,9 +1,4 @@
-use Rattle.std.proofs.Common.{◌≡◌}
-use Rattle.std.specs.Prelude.{option_map, slice_get}
-use Rattle.lagworld.specs.Inner.{link_state}
-use Rattle.lagworld.specs.Messages.{item_value}
-use Rattle.lagworld.specs.Sides.{model_side}
-use Rattle.lagworld.specs.State.{LinkState, towards, without_first}
+use Rattle.lagworld.proofs.Common.{option_map, slice_get, ◌≡◌, link_state, item_value, model_side, LinkState, towards, without_first}
 use Rattle.lagworld.proofs.ArrivingLemmas.{taken_at, still_reserved}
 use Rattle.lagworld.proofs.delivering.pop_first_at.Goals as goal
 

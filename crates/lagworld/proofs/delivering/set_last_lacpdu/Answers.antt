@@ -1,5 +1,4 @@
-use Rattle.std.proofs.Common.{ap, ◌∙◌}
-use Rattle.lagworld.specs.Arriving.{history_index}
+use Rattle.lagworld.proofs.Common.{ap, ◌∙◌, history_index}
 use Rattle.lagworld.proofs.ArrivingLemmas.{heard_found, heard_nowhere}
 use Rattle.lagworld.proofs.delivering.set_last_lacpdu.Goals as goal
 

@@ -1,8 +1,5 @@
-use Rattle.std.proofs.Common.{◌≡◌, ◌-◌, ℕ, List, ap, drop, length, length-drop, subst, sym, take, ◌∙◌}
+use Rattle.lagworld.proofs.Common.{List, ap, drop, length, length-drop, subst, sym, take, ℕ, ◌-◌, ◌∙◌, ◌≡◌, ReadsPdu, pdu_read, payload_in}
 use Rattle.std.proofs.Math.Seq.{take-length}
-use Rattle.slowpdu.specs.Pdus.{ReadsPdu}
-use Rattle.slowpdu.proofs.PduInLemmas.{pdu_read}
-use Rattle.lagworld.specs.Messages.{payload_in}
 use Rattle.lagworld.proofs.emitting.pdu_of.Goals as goal
 
 rest_is : (b : List ℕ) → take (length b - 14) (drop 14 b) ≡ drop 14 b

@@ -1,5 +1,4 @@
-use Rattle.std.proofs.Common.{◌≡◌, drop}
-use Rattle.lagworld.specs.State.{history_at}
+use Rattle.lagworld.proofs.Common.{drop, ◌≡◌, history_at}
 use Rattle.lagworld.proofs.histories.history_of.Given as goal
 
 abbrev pub invariant-loop-history : goal.invariant-loop-history

@@ -1,5 +1,4 @@
-use Rattle.std.proofs.Common.{ℕ}
-use Rattle.lagworld.specs.Sound.{both_algorithms}
+use Rattle.lagworld.proofs.Common.{ℕ, both_algorithms}
 use Rattle.lagworld.proofs.OneReply.{both_functions, one_history, one_reply}
 use Rattle.lagworld.proofs.laws.each_event_has_one_reply.Goals as goal
 

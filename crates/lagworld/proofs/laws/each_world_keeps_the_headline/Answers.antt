@@ -1,4 +1,4 @@
-use Rattle.lagworld.specs.Sound.{both_algorithms}
+use Rattle.lagworld.proofs.Common.{both_algorithms}
 use Rattle.lagworld.proofs.Headline.{holds_all_the_way, limits_hold}
 use Rattle.lagworld.proofs.laws.each_world_keeps_the_headline.Goals as goal
 

@@ -1,8 +1,5 @@
-use Rattle.std.proofs.Common.{◌≡◌, true, refl}
-use Rattle.std.proofs.lemmas.Bool.{false≢true}
-use Rattle.lagscript.specs.declared.event.Event.{Event}
+use Rattle.lagworld.proofs.Common.{refl, true, ◌≡◌, false≢true, Event, may_take_memory}
 use Rattle.lagscript.specs.declared.event.Event.TheVariants as event
-use Rattle.lagworld.specs.Events.{may_take_memory}
 use Rattle.lagworld.specs.Limits.{HandlesFrames, emit, deliver, repeat, offer}
 use Rattle.lagworld.proofs.laws.events_have_limits.Goals as goal
 

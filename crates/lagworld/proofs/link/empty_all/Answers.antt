@@ -1,6 +1,4 @@
-use Rattle.std.proofs.Common.{arith}
-use Rattle.lagworld.specs.State.{emptied}
-use Rattle.lagworld.specs.Inner.{link_state}
+use Rattle.lagworld.proofs.Common.{arith, link_state, emptied}
 use Rattle.lagworld.proofs.InPlace.{view_over_more}
 use Rattle.lagworld.proofs.link.empty_all.Goals as goal
 

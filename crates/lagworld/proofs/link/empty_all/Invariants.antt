@@ -1,6 +1,4 @@
-use Rattle.std.proofs.Common.{◌≡◌, ◌++◌, map, take, drop}
-use Rattle.lagworld.specs.Inner.{link_states}
-use Rattle.lagworld.specs.State.{emptied}
+use Rattle.lagworld.proofs.Common.{drop, map, take, ◌++◌, ◌≡◌, link_states, emptied}
 use Rattle.lagworld.proofs.link.empty_all.Given as goal
 
 abbrev pub invariant-loop-index : goal.invariant-loop-index

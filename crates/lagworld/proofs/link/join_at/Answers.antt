@@ -1,5 +1,4 @@
-use Rattle.lagworld.specs.Inner.{link_state}
-use Rattle.lagworld.specs.State.{joined}
+use Rattle.lagworld.proofs.Common.{link_state, joined}
 use Rattle.lagworld.proofs.LineLemmas.{written_at}
 use Rattle.lagworld.proofs.link.join_at.Goals as goal
 

@@ -1,7 +1,4 @@
-use Rattle.std.specs.Prelude.{is_some, slice_get}
-use Rattle.lagworld.specs.Inner.{link_state}
-use Rattle.lagworld.specs.Sides.{model_side}
-use Rattle.lagworld.specs.State.{towards, without_first}
+use Rattle.lagworld.proofs.Common.{is_some, slice_get, link_state, model_side, towards, without_first}
 use Rattle.lagworld.proofs.Putting.{sent_at}
 use Rattle.lagworld.proofs.losing.lose_at.Goals as goal
 

@@ -1,6 +1,4 @@
-use Rattle.std.proofs.Common.{ap, map, ◌∙◌}
-use Rattle.std.specs.Prelude.{is_some}
-use Rattle.lagworld.specs.Messages.{item_value}
+use Rattle.lagworld.proofs.Common.{ap, is_some, map, ◌∙◌, item_value}
 use Rattle.lagworld.proofs.LoseLemmas.{first_some, rest_mapped}
 use Rattle.lagworld.proofs.losing.lose_first.Goals as goal
 

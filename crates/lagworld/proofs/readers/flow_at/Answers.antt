@@ -1,7 +1,4 @@
-use Rattle.std.proofs.Common.{◌≡◌, ◌<◌, ◌≤◌, Global, None, Some, Vec, arith, length, map, subst, suc}
-use Rattle.lagworld.specs.declared.histories.Flow.{Flow}
-use Rattle.lagworld.specs.Inner.{flow_value}
-use Rattle.lagworld.specs.State.{flow_at}
+use Rattle.lagworld.proofs.Common.{Global, None, Some, Vec, arith, length, map, subst, suc, ◌<◌, ◌≡◌, ◌≤◌, Flow, flow_value, flow_at}
 use Rattle.lagworld.proofs.Finding.{flow_there, flow_past}
 use Rattle.lagworld.proofs.readers.flow_at.Goals as goal
 

@@ -1,9 +1,4 @@
-use Rattle.std.proofs.Common.{◌==◌, sym, ◌∙◌, subst}
-use Rattle.lagworld.specs.Inner.{link_state, link_states}
-use Rattle.lagworld.specs.Messages.{item_value}
-use Rattle.lagworld.specs.Places.{IsReservedAt}
-use Rattle.lagworld.specs.Sides.{model_side}
-use Rattle.lagworld.specs.State.{port_at}
+use Rattle.lagworld.proofs.Common.{subst, sym, ◌==◌, ◌∙◌, link_state, link_states, item_value, IsReservedAt, model_side, port_at}
 use Rattle.lagworld.proofs.Putting.{place_seen, put_there, put_nowhere}
 use Rattle.lagworld.proofs.sending.put_on_port.Goals as goal
 

@@ -1,6 +1,4 @@
-use Rattle.std.proofs.Common.{IsTrue, Some, ◌∙◌, arith}
-use Rattle.lagworld.specs.Places.{IsReservedAt, is_reserved}
-use Rattle.lagworld.specs.Sides.{model_side}
+use Rattle.lagworld.proofs.Common.{IsTrue, Some, arith, ◌∙◌, IsReservedAt, is_reserved, model_side}
 use Rattle.lagworld.proofs.Putting.{each_of, one_more_below}
 use Rattle.lagworld.proofs.sending.reserve_all.Goals as goal
 

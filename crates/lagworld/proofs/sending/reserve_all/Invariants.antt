@@ -1,7 +1,4 @@
-use Rattle.std.proofs.Common.{◌≡◌, ◌<◌, ◌-◌, ℕ, Some, length}
-use Rattle.lagworld.specs.Inner.{link_states}
-use Rattle.lagworld.specs.Places.{IsReservedAt}
-use Rattle.lagworld.specs.Sides.{model_side}
+use Rattle.lagworld.proofs.Common.{Some, length, ℕ, ◌-◌, ◌<◌, ◌≡◌, link_states, IsReservedAt, model_side}
 use Rattle.lagworld.proofs.sending.reserve_all.Given as goal
 
 abbrev pub invariant-loop-index : goal.invariant-loop-index

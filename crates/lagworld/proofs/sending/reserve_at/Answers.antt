@@ -1,7 +1,4 @@
-use Rattle.std.proofs.Common.{IsTrue}
-use Rattle.lagworld.specs.Inner.{link_state}
-use Rattle.lagworld.specs.Places.{is_reserved}
-use Rattle.lagworld.specs.Sides.{model_side}
+use Rattle.lagworld.proofs.Common.{IsTrue, link_state, is_reserved, model_side}
 use Rattle.lagworld.proofs.Putting.{same_at, written_there, before_written, ok_weaker}
 use Rattle.lagworld.proofs.sending.reserve_at.Goals as goal
 

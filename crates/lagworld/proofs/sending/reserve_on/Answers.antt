@@ -1,8 +1,4 @@
-use Rattle.std.proofs.Common.{◌==◌, ap, sym, ◌∙◌, subst}
-use Rattle.lagworld.specs.Inner.{link_state}
-use Rattle.lagworld.specs.Places.{IsReservedAt}
-use Rattle.lagworld.specs.Sides.{model_side}
-use Rattle.lagworld.specs.State.{link_index, port_at}
+use Rattle.lagworld.proofs.Common.{ap, subst, sym, ◌==◌, ◌∙◌, link_state, IsReservedAt, model_side, link_index, port_at}
 use Rattle.lagworld.proofs.Putting.{place_seen}
 use Rattle.lagworld.proofs.sending.reserve_on.Goals as goal
 

@@ -1,7 +1,4 @@
-use Rattle.lagworld.specs.Inner.{link_state}
-use Rattle.lagworld.specs.Messages.{item_value}
-use Rattle.lagworld.specs.Sides.{model_side}
-use Rattle.lagworld.specs.State.{sent_on, accepts}
+use Rattle.lagworld.proofs.Common.{link_state, item_value, model_side, accepts, sent_on}
 use Rattle.lagworld.proofs.Putting.{sent_at}
 use Rattle.lagworld.proofs.sending.send_at.Goals as goal
 

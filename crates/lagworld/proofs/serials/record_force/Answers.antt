@@ -1,6 +1,4 @@
-use Rattle.std.proofs.Common.{◌≡◌, ◌<◌, ◌⊎◌, length, set, subst, inl, inr, arith}
-use Rattle.lagworld.specs.State.{change_flow, with_forced}
-use Rattle.lagworld.specs.Places.{flow_values}
+use Rattle.lagworld.proofs.Common.{arith, inl, inr, length, set, subst, ◌<◌, ◌≡◌, ◌⊎◌, flow_values, change_flow, with_forced}
 use Rattle.lagworld.proofs.FlowLemmas.{row_set, no_row_set}
 use Rattle.lagworld.proofs.serials.record_force.Goals as goal
 

@@ -1,5 +1,4 @@
-use Rattle.std.proofs.Common.{arith}
-use Rattle.lagworld.specs.State.{with_forced}
+use Rattle.lagworld.proofs.Common.{arith, with_forced}
 use Rattle.lagworld.proofs.FlowLemmas.{flow_set}
 use Rattle.lagworld.proofs.serials.record_forced_in.Goals as goal
 

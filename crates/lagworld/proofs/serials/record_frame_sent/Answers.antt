@@ -1,6 +1,5 @@
-use Rattle.std.proofs.Common.{◌≡◌, ◌<◌, ◌⊎◌, length, set, subst, inl, inr, ap, sym, ◌∙◌, arith}
-use Rattle.lagworld.specs.State.{change_flow, sent_in, flow_at, with_sent}
-use Rattle.lagworld.specs.Places.{HasRoomIn, flow_values}
+use Rattle.lagworld.proofs.Common.{ap, arith, inl, inr, length, set, subst, sym, ◌<◌, ◌∙◌, ◌≡◌, ◌⊎◌, HasRoomIn, flow_values, change_flow, flow_at}
+use Rattle.lagworld.proofs.Common.{sent_in, with_sent}
 use Rattle.lagworld.proofs.FlowLemmas.{row_set, row_read, no_row_set, no_row_read, room_there}
 use Rattle.lagworld.proofs.serials.record_frame_sent.Goals as goal
 

@@ -1,5 +1,4 @@
-use Rattle.std.proofs.Common.{◌∙◌, arith}
-use Rattle.lagworld.specs.State.{with_sent}
+use Rattle.lagworld.proofs.Common.{arith, ◌∙◌, with_sent}
 use Rattle.lagworld.proofs.FlowLemmas.{flow_set, flow_read}
 use Rattle.lagworld.proofs.serials.record_sent_in.Goals as goal
 

@@ -1,7 +1,4 @@
-use Rattle.std.proofs.Common.{◌<◌}
-use Rattle.std.specs.Prelude.{vec_capacity, vec_len}
-use Rattle.lagworld.specs.declared.histories.Flow.{Flow}
-use Rattle.lagworld.specs.Inner.{flow_value}
+use Rattle.lagworld.proofs.Common.{vec_capacity, vec_len, ◌<◌, Flow, flow_value}
 use Rattle.lagworld.proofs.Putting.{same_at, written_there, ok_weaker}
 use Rattle.lagworld.proofs.serials.reserve_sent_in.Goals as goal
 

@@ -1,5 +1,4 @@
-use Rattle.std.proofs.Common.{◌≡◌, ◌<◌, ◌⊎◌, length, set, subst, inl, inr, arith, OnOk}
-use Rattle.lagworld.specs.Places.{HasRoom}
+use Rattle.lagworld.proofs.Common.{OnOk, arith, inl, inr, length, set, subst, ◌<◌, ◌≡◌, ◌⊎◌, HasRoom}
 use Rattle.lagworld.proofs.FlowLemmas.{aggregator_flow_values, room_made, no_room}
 use Rattle.lagworld.proofs.Putting.{same_at, ok_weaker}
 use Rattle.lagworld.proofs.serials.reserve_serial.Goals as goal

@@ -1,6 +1,4 @@
-use Rattle.std.proofs.Common.{◌≡◌, drop}
-use Rattle.std.specs.List.{list_all}
-use Rattle.lagworld.specs.Making.{has_empty_directions}
+use Rattle.lagworld.proofs.Common.{drop, ◌≡◌, list_all, has_empty_directions}
 use Rattle.lagworld.proofs.start.are_empty_lines.Given as goal
 
 abbrev pub invariant-loop-directions : goal.invariant-loop-directions

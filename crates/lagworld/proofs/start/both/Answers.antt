@@ -1,4 +1,4 @@
-use Rattle.std.proofs.Common.{sym, ◌∙◌}
+use Rattle.lagworld.proofs.Common.{sym, ◌∙◌}
 use Rattle.lagworld.proofs.StartLemmas.{two_of}
 use Rattle.lagworld.proofs.start.both.Goals as goal
 

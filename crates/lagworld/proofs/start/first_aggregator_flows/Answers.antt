@@ -1,6 +1,4 @@
-use Rattle.std.proofs.Common.{arith}
-use Rattle.lagworld.specs.Inner.{flow_value}
-use Rattle.lagworld.specs.Making.{empty_flow}
+use Rattle.lagworld.proofs.Common.{arith, flow_value, empty_flow}
 use Rattle.lagworld.proofs.StartLemmas.{filled}
 use Rattle.lagworld.proofs.start.first_aggregator_flows.Goals as goal
 

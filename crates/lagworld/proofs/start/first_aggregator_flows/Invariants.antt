@@ -1,6 +1,4 @@
-use Rattle.std.proofs.Common.{◌≡◌, ◌≤◌, ◌-◌, map, replicate, vec_capacity, vec_len}
-use Rattle.lagworld.specs.Inner.{flow_value}
-use Rattle.lagworld.specs.Making.{empty_flow}
+use Rattle.lagworld.proofs.Common.{map, replicate, vec_capacity, vec_len, ◌-◌, ◌≡◌, ◌≤◌, flow_value, empty_flow}
 use Rattle.lagworld.proofs.start.first_aggregator_flows.Given as goal
 
 abbrev pub invariant-loop-made : goal.invariant-loop-made

@@ -1,7 +1,4 @@
-use Rattle.std.proofs.Common.{Global, Vec, arith, map}
-use Rattle.lagworld.specs.declared.histories.Flow.{Flow}
-use Rattle.lagworld.specs.Inner.{flow_value}
-use Rattle.lagworld.specs.Making.{first_aggregator_flows}
+use Rattle.lagworld.proofs.Common.{Global, Vec, arith, map, Flow, flow_value, first_aggregator_flows}
 use Rattle.lagworld.proofs.StartLemmas.{filled}
 use Rattle.lagworld.proofs.start.first_flows.Goals as goal
 

@@ -1,6 +1,4 @@
-use Rattle.std.proofs.Common.{◌≡◌, ◌≤◌, ◌-◌, map, replicate, vec_capacity, vec_len}
-use Rattle.lagworld.specs.Inner.{flow_value}
-use Rattle.lagworld.specs.Making.{first_aggregator_flows}
+use Rattle.lagworld.proofs.Common.{map, replicate, vec_capacity, vec_len, ◌-◌, ◌≡◌, ◌≤◌, flow_value, first_aggregator_flows}
 use Rattle.lagworld.proofs.start.first_flows.Given as goal
 
 abbrev pub invariant-loop-made : goal.invariant-loop-made

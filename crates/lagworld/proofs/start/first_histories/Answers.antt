@@ -1,5 +1,4 @@
-use Rattle.std.proofs.Common.{arith}
-use Rattle.lagworld.specs.Making.{first_history}
+use Rattle.lagworld.proofs.Common.{arith, first_history}
 use Rattle.lagworld.proofs.StartLemmas.{mapped_more}
 use Rattle.lagworld.proofs.start.first_histories.Goals as goal
 

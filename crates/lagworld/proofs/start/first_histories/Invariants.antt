@@ -1,5 +1,4 @@
-use Rattle.std.proofs.Common.{◌≡◌, ◌≤◌, length, map, take, vec_capacity, vec_len}
-use Rattle.lagworld.specs.Making.{first_history}
+use Rattle.lagworld.proofs.Common.{length, map, take, vec_capacity, vec_len, ◌≡◌, ◌≤◌, first_history}
 use Rattle.lagworld.proofs.start.first_histories.Given as goal
 
 abbrev pub invariant-loop-port : goal.invariant-loop-port

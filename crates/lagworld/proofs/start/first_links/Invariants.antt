@@ -1,7 +1,5 @@
-use Rattle.std.proofs.Common.{◌≡◌, ◌≤◌, ◌+◌, ◌++◌, drop, length, vec_capacity, vec_len}
+use Rattle.lagworld.proofs.Common.{drop, length, vec_capacity, vec_len, ◌++◌, ◌+◌, ◌≡◌, ◌≤◌, link_states, first_links}
 use Rattle.std.specs.Vec.Iter.{into_iter_items, into_iter_len}
-use Rattle.lagworld.specs.Inner.{link_states}
-use Rattle.lagworld.specs.Making.{first_links}
 use Rattle.lagworld.proofs.start.first_links.Given as goal
 
 abbrev pub invariant-loop-directions : goal.invariant-loop-directions

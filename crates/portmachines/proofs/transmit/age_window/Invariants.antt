@@ -1,5 +1,4 @@
-use Rattle.std.proofs.Common.{◌≡◌, ◌≤◌, take, length}
-use Rattle.portmachines.specs.Transmit.{aged}
+use Rattle.portmachines.proofs.Common.{length, take, ◌≡◌, ◌≤◌, aged}
 use Rattle.portmachines.proofs.transmit.age_window.Given as goal
 
 abbrev pub invariant-loop-age : goal.invariant-loop-age

@@ -1,6 +1,4 @@
-use Rattle.std.proofs.Common.{◌≡◌, ◌≤◌, ◌+◌, drop}
-use Rattle.selection.specs.Choice.{has_no_occupant, occupants_share_group, lowest, lowest_from, or_else}
-use Rattle.selection.specs.Standing.{Tells}
+use Rattle.selection.proofs.Common.{drop, ◌+◌, ◌≡◌, ◌≤◌, has_no_occupant, lowest, lowest_from, occupants_share_group, or_else, Tells}
 use Rattle.selection.proofs.aggregators.choose_if_eligible.Given as goal
 
 abbrev pub invariant-loop-key : goal.invariant-loop-key

@@ -1,5 +1,4 @@
-use Rattle.std.proofs.Common.{arith, refl, sym}
-use Rattle.std.proofs.lemmas.List.{length-take-le, take_all}
+use Rattle.selection.proofs.Common.{arith, refl, sym, take_all, length-take-le}
 use Rattle.selection.specs.Choice.{first_65535}
 use Rattle.selection.proofs.aggregators.first_65535.Goals as goal
 

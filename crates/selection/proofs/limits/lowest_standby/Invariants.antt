@@ -1,5 +1,4 @@
-use Rattle.std.proofs.Common.{◌≡◌, None, drop}
-use Rattle.selection.specs.Limits.{lowest_standby_from}
+use Rattle.selection.proofs.Common.{None, drop, ◌≡◌, lowest_standby_from}
 use Rattle.selection.proofs.limits.lowest_standby.Given as goal
 
 -- the lowest is the best so far, or among those that are left

@@ -1,5 +1,4 @@
-use Rattle.std.proofs.Common.{◌≡◌, drop}
-use Rattle.selection.specs.Views.{find_view}
+use Rattle.selection.proofs.Common.{drop, ◌≡◌, find_view}
 use Rattle.selection.proofs.view.find_view.Given as goal
 
 -- the view is among those that are left

@@ -1,4 +1,4 @@
-use Rattle.std.proofs.Common.{rules}
+use Rattle.selection.proofs.Common.{rules}
 use Rattle.std.proofs.lemmas.Fn.{always_returns_same}
 use Rattle.selection.proofs.Rising.{below, rising-answer}
 use Rattle.selection.proofs.view.is_rising.Goals as goal

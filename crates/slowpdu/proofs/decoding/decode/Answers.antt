@@ -1,5 +1,4 @@
-use Rattle.std.proofs.Common.{Err, length, rules, slice_index}
-use Rattle.slowpdu.specs.declared.fault.WireFault.TheVariants.{Short, OtherSubtype}
+use Rattle.slowpdu.proofs.Common.{Err, length, rules, slice_index, OtherSubtype, Short}
 use Rattle.slowpdu.proofs.PduLemmas.{decoded_only, first_decide}
 use Rattle.slowpdu.proofs.decoding.decode.Goals as goal
 

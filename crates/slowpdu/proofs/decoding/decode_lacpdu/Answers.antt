@@ -1,4 +1,4 @@
-use Rattle.std.proofs.Common.{arith}
+use Rattle.slowpdu.proofs.Common.{arith}
 use Rattle.slowpdu.proofs.LacpduLemmas.{all_read}
 use Rattle.slowpdu.proofs.decoding.decode_lacpdu.Goals as goal
 

@@ -1,7 +1,4 @@
-use Rattle.std.proofs.Common.{◌≡◌, ap, ◌∙◌, List, ℕ, ◌++◌, ◌+◌, [], ◌∷◌, arith, length-append}
-use Rattle.byteorder.specs.Endian.{big_bytes}
-use Rattle.lagtypes.specs.Octet.{octet}
-use Rattle.slowpdu.specs.Writing.{replaced}
+use Rattle.slowpdu.proofs.Common.{List, [], ap, arith, length-append, ℕ, ◌++◌, ◌+◌, ◌∙◌, ◌∷◌, ◌≡◌, big_bytes, octet, replaced}
 use Rattle.slowpdu.proofs.WritingLemmas.{then_put}
 use Rattle.slowpdu.proofs.encoding.put_info.Goals as goal
 

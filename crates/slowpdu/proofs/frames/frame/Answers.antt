@@ -1,4 +1,4 @@
-use Rattle.std.proofs.Common.{List, ℕ, [], ◌∷◌, ◌++◌, replicate, arith, length-append}
+use Rattle.slowpdu.proofs.Common.{List, [], arith, length-append, replicate, ℕ, ◌++◌, ◌∷◌}
 use Rattle.slowpdu.proofs.WritingLemmas.{all_put, then_put}
 use Rattle.slowpdu.proofs.frames.frame.Goals as goal
 

@@ -1,4 +1,4 @@
-use Rattle.std.proofs.Common.{ap, sym, ◌∙◌}
+use Rattle.slowpdu.proofs.Common.{ap, sym, ◌∙◌}
 use Rattle.slowpdu.specs.declared.pdu.Pdu.TheVariants as pdu
 use Rattle.slowpdu.proofs.PduLemmas.{ok, written_pdu}
 use Rattle.slowpdu.proofs.laws.encode_then_decode.Goals as goal

@@ -1,4 +1,4 @@
-use Rattle.std.proofs.Common.{◌++◌}
+use Rattle.slowpdu.proofs.Common.{◌++◌}
 use Rattle.slowpdu.proofs.PduLemmas.{one_pdu, written_before}
 use Rattle.slowpdu.proofs.laws.what_is_written_is_read.Goals as goal
 

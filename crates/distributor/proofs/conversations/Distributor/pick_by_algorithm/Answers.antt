@@ -1,5 +1,4 @@
-use Rattle.std.proofs.Common.{◌<◌, ◌≡◌, length, arith, eqb, sym, ◌∙◌, false}
-use Rattle.std.proofs.lemmas.Bool.{eqb-false}
+use Rattle.distributor.proofs.Common.{arith, eqb, false, length, sym, ◌<◌, ◌∙◌, ◌≡◌, eqb-false}
 use Rattle.distributor.proofs.PickLemmas.{picked, picked_among}
 use Rattle.distributor.proofs.conversations.Distributor.pick_by_algorithm.Goals as goal
 use Rattle.distributor.proofs.conversations.Distributor.pick_by_algorithm.Given as given

@@ -1,13 +1,7 @@
-use Rattle.std.proofs.Common.{◌≡◌, ◌<◌, ◌+◌, ℕ, true, false, List, None, get_or, nat_lt, sym, refl, ap, ◌∙◌, arith, subst}
-use Rattle.std.proofs.lemmas.List.{get_or_read}
-use Rattle.std.proofs.lemmas.Nat.{mod_below}
-use Rattle.distributor.specs.declared.assignment.Assignment.{Assignment}
-use Rattle.distributor.specs.declared.assignment.Assignment.TheVariants.{Free}
-use Rattle.distributor.specs.declared.slots.ConversationTest.{ConversationTest}
-use Rattle.distributor.specs.Chains.{chain_of, slot_state, tested_port, passes}
+use Rattle.distributor.proofs.Common.{List, None, ap, arith, false, get_or, nat_lt, refl, subst, sym, true, ℕ, ◌+◌, ◌<◌, ◌∙◌, ◌≡◌, get_or_read}
+use Rattle.distributor.proofs.Common.{mod_below, Assignment, Free, ConversationTest, chain_of, passes, slot_state, tested_port}
 use Rattle.distributor.proofs.FlagLemmas.{some_counted}
-use Rattle.distributor.proofs.WalkLemmas.{Counting, steps, counting_begins, counting_ends, counting_on}
-use Rattle.distributor.proofs.WalkLemmas.{counting_smaller, passes_stands, walk_below}
+use Rattle.distributor.proofs.WalkLemmas.{Counting, steps, counting_begins, counting_ends, counting_on, counting_smaller, passes_stands, walk_below}
 use Rattle.distributor.proofs.slots.Slots.any_in_chain.Goals as goal
 
 pub loop-at-init : goal.loop-at-init

@@ -1,14 +1,9 @@
-use Rattle.std.proofs.Common.{◌≡◌, ◌<◌, ◌+◌, ◌||◌, ℕ, Bool, true, false, List, None, get_or, sym, refl, ap, ◌∙◌, arith, subst}
-use Rattle.std.proofs.lemmas.List.{get_or_read}
-use Rattle.std.proofs.lemmas.Bool.{or_left}
-use Rattle.distributor.specs.declared.assignment.Assignment.{Assignment}
-use Rattle.distributor.specs.declared.assignment.Assignment.TheVariants.{Free}
-use Rattle.distributor.specs.declared.change.Change.{Change}
-use Rattle.distributor.specs.Changes.{after_change}
-use Rattle.distributor.specs.Chains.{assignment_port, is_flagged, is_flushing, is_wanted, slot_state, IsChained}
+use Rattle.distributor.proofs.Common.{Bool, List, None, ap, arith, false, get_or, refl, subst, sym, true, ℕ, ◌+◌, ◌<◌, ◌||◌, ◌∙◌, ◌≡◌, or_left}
+use Rattle.distributor.proofs.Common.{get_or_read, Assignment, Free, Change, IsChained, assignment_port, is_flagged, is_flushing, is_wanted}
+use Rattle.distributor.proofs.Common.{slot_state, after_change}
 use Rattle.distributor.proofs.FlagLemmas.{change_flagged, flagged_more, flagged_noted}
-use Rattle.distributor.proofs.WalkLemmas.{Walking, steps, walk_begins, walk_ends, walk_below, walk_after, walk_before, step_stays}
-use Rattle.distributor.proofs.WalkLemmas.{step_leaves, stays_smaller, leaves_smaller, port_kept, walk_all, walk_found}
+use Rattle.distributor.proofs.WalkLemmas.{Walking, steps, walk_begins, walk_ends, walk_below, walk_after, walk_before, step_stays, step_leaves}
+use Rattle.distributor.proofs.WalkLemmas.{stays_smaller, leaves_smaller, port_kept, walk_all, walk_found}
 use Rattle.distributor.proofs.slots.Slots.change_chain.Goals as goal
 
 -- the first place of a chain, as it is read

@@ -1,6 +1,4 @@
-use Rattle.std.proofs.Common.{◌≡◌, ◌+◌}
-use Rattle.distributor.specs.Changes.{after_change}
-use Rattle.distributor.specs.Chains.{is_flagged}
+use Rattle.distributor.proofs.Common.{◌+◌, ◌≡◌, is_flagged, after_change}
 use Rattle.distributor.proofs.WalkLemmas.{Walking, steps}
 use Rattle.distributor.proofs.slots.Slots.change_chain.Given as goal
 

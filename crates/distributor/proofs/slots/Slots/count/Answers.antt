@@ -1,5 +1,4 @@
-use Rattle.std.proofs.lemmas.Bool.{OnFalse_at}
-use Rattle.distributor.specs.Chains.{passes}
+use Rattle.distributor.proofs.Common.{OnFalse_at, passes}
 use Rattle.distributor.proofs.FlagLemmas.{none_counted}
 use Rattle.distributor.proofs.slots.Slots.count.Goals as goal
 

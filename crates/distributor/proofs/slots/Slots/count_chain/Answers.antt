@@ -1,13 +1,8 @@
-use Rattle.std.proofs.Common.{◌≡◌, ◌<◌, ◌≤◌, ◌+◌, ℕ, Bool, true, false, List, None, get_or, sym, refl, ap, ◌∙◌, arith, subst}
-use Rattle.std.proofs.lemmas.List.{get_or_read}
+use Rattle.distributor.proofs.Common.{Bool, List, None, ap, arith, false, get_or, refl, subst, sym, true, ℕ, ◌+◌, ◌<◌, ◌∙◌, ◌≡◌, ◌≤◌, get_or_read}
+use Rattle.distributor.proofs.Common.{mod_below, Assignment, Free, ConversationTest, chain_of, passes, slot_state, tested_port}
 use mir.Val.{bool_byte}
-use Rattle.std.proofs.lemmas.Nat.{mod_below}
-use Rattle.distributor.specs.declared.assignment.Assignment.{Assignment}
-use Rattle.distributor.specs.declared.assignment.Assignment.TheVariants.{Free}
-use Rattle.distributor.specs.declared.slots.ConversationTest.{ConversationTest}
-use Rattle.distributor.specs.Chains.{chain_of, slot_state, tested_port, passes}
-use Rattle.distributor.proofs.WalkLemmas.{Counting, steps, bit, counting_begins, counting_ends, counting_few, counting_on}
-use Rattle.distributor.proofs.WalkLemmas.{counting_smaller, passes_stands, walk_below}
+use Rattle.distributor.proofs.WalkLemmas.{Counting, steps, bit, counting_begins, counting_ends, counting_few, counting_on, counting_smaller}
+use Rattle.distributor.proofs.WalkLemmas.{passes_stands, walk_below}
 use Rattle.distributor.proofs.slots.Slots.count_chain.Goals as goal
 
 bool_bit : (b : Bool) → bool_byte b ≡ bit b

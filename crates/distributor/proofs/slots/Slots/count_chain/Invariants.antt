@@ -1,5 +1,4 @@
-use Rattle.std.proofs.Common.{◌≡◌, ◌+◌}
-use Rattle.distributor.specs.Chains.{chain_of, tested_port, passes}
+use Rattle.distributor.proofs.Common.{◌+◌, ◌≡◌, chain_of, passes, tested_port}
 use Rattle.distributor.proofs.WalkLemmas.{Counting, steps}
 use Rattle.distributor.proofs.slots.Slots.count_chain.Given as goal
 

@@ -1,5 +1,4 @@
-use Rattle.std.proofs.Common.{◌≡◌, false, ℕ, sym, ap, ◌∙◌, arith, eqb}
-use Rattle.distributor.specs.Chains.{is_in_chain, slot_state}
+use Rattle.distributor.proofs.Common.{ap, arith, eqb, false, sym, ℕ, ◌∙◌, ◌≡◌, is_in_chain, slot_state}
 use Rattle.distributor.proofs.ChainLemmas.{stands_some, stands_none, first_on, on_below, put_in}
 use Rattle.distributor.proofs.slots.Slots.fill.Goals as goal
 

@@ -1,8 +1,4 @@
-use Rattle.std.proofs.Common.{ap, nat_lt, sym, ◌≡◌, ◌∙◌}
-use Rattle.std.proofs.lemmas.Bool.{OnFalse_at}
-use Rattle.distributor.specs.Chains.{slot_state}
-use Rattle.distributor.specs.Changes.{wants_marker}
-use Rattle.distributor.specs.Conversations.{sum_below}
+use Rattle.distributor.proofs.Common.{ap, nat_lt, sym, ◌∙◌, ◌≡◌, OnFalse_at, slot_state, wants_marker, sum_below}
 use Rattle.distributor.proofs.FlagLemmas.{marked_passed, none_above, none_counted}
 use Rattle.distributor.proofs.WalkLemmas.{bit}
 use Rattle.distributor.proofs.slots.Slots.find_wanted.Goals as goal

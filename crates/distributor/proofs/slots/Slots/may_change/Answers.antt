@@ -1,9 +1,5 @@
-use Rattle.std.proofs.Common.{◌≡◌, ◌<◌, false, length, map, sym, ◌∙◌, arith, subst}
-use Rattle.std.proofs.lemmas.Bool.{OnFalse_from}
-use Rattle.std.proofs.lemmas.List.{get_or_read}
-use Rattle.distributor.specs.declared.change.Change.{Change}
-use Rattle.distributor.specs.Changes.{after_change}
-use Rattle.distributor.specs.Chains.{changed_in_chain}
+use Rattle.distributor.proofs.Common.{arith, false, length, map, subst, sym, ◌<◌, ◌∙◌, ◌≡◌, OnFalse_from, get_or_read, Change, changed_in_chain}
+use Rattle.distributor.proofs.Common.{after_change}
 use Rattle.distributor.proofs.FlagLemmas.{release_passed}
 use Rattle.distributor.proofs.slots.Slots.may_change.Goals as goal
 

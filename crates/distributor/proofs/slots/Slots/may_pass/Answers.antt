@@ -1,8 +1,5 @@
-use Rattle.std.proofs.Common.{ℕ, ◌≡◌, ◌<◌, false, length, get_or, sym, ap, ◌∙◌, arith, subst}
-use Rattle.std.proofs.lemmas.Bool.{OnFalse_from}
-use Rattle.std.proofs.lemmas.List.{get_or_read}
-use Rattle.distributor.specs.declared.slots.ConversationTest.{ConversationTest}
-use Rattle.distributor.specs.Chains.{chain_of, passes, slot_state}
+use Rattle.distributor.proofs.Common.{ap, arith, false, get_or, length, subst, sym, ℕ, ◌<◌, ◌∙◌, ◌≡◌, OnFalse_from, get_or_read, ConversationTest}
+use Rattle.distributor.proofs.Common.{chain_of, passes, slot_state}
 use Rattle.distributor.proofs.FlagLemmas.{none_awaits, none_held, none_wanted}
 use Rattle.distributor.proofs.slots.Slots.may_pass.Goals as goal
 

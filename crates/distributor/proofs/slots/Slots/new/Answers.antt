@@ -1,7 +1,4 @@
-use Rattle.std.proofs.Common.{◌≡◌, length, replicate, ap, ◌∙◌, None, false}
-use Rattle.std.proofs.lemmas.List.{get_or-replicate, length-replicate}
-use Rattle.distributor.specs.declared.assignment.Assignment.TheVariants.{Free}
-use Rattle.distributor.specs.Chains.{slot_state}
+use Rattle.distributor.proofs.Common.{None, ap, false, length, replicate, ◌∙◌, ◌≡◌, get_or-replicate, length-replicate, Free, slot_state}
 use Rattle.distributor.proofs.FlagLemmas.{none_flagged}
 use Rattle.distributor.proofs.WalkLemmas.{all_free, free_past}
 use Rattle.distributor.proofs.slots.Slots.new.Goals as goal

@@ -1,5 +1,4 @@
-use Rattle.std.proofs.Common.{ap, ◌∙◌, set}
-use Rattle.std.proofs.lemmas.List.{set-set}
+use Rattle.distributor.proofs.Common.{ap, set, ◌∙◌, set-set}
 use Rattle.distributor.proofs.slots.Slots.set.Goals as goal
 
 pub returns-clause-states : goal.returns-clause-states

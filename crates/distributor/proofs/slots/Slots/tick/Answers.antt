@@ -1,5 +1,4 @@
-use Rattle.std.proofs.Common.{◌≡◌, ◌<◌, ◌≤◌, ◌+◌, false, get_or, length, refl, sym, ◌∙◌, arith, subst}
-use Rattle.std.proofs.lemmas.List.{get_or_read}
+use Rattle.distributor.proofs.Common.{arith, false, get_or, length, refl, subst, sym, ◌+◌, ◌<◌, ◌∙◌, ◌≡◌, ◌≤◌, get_or_read}
 use Rattle.distributor.proofs.TickLemmas.{Ticking, tick_begins, tick_ends, tick_passed, tick_walked}
 use Rattle.distributor.proofs.slots.Slots.tick.Goals as goal
 use Rattle.distributor.proofs.slots.Slots.tick.Goals.{then-index, else-index}

@@ -1,4 +1,4 @@
-use Rattle.std.proofs.Common.{◌≡◌, ◌≤◌}
+use Rattle.distributor.proofs.Common.{◌≡◌, ◌≤◌}
 use Rattle.distributor.specs.Slots.{AreFlagged, AreChained}
 use Rattle.distributor.proofs.TickLemmas.{Ticking}
 use Rattle.distributor.proofs.slots.Slots.tick.Given as goal

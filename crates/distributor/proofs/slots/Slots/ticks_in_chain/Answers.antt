@@ -1,9 +1,5 @@
-use Rattle.std.proofs.Common.{◌≡◌, ◌<◌, ◌+◌, ℕ, List, None, Option, get_or, sym, refl, ap, ◌∙◌, arith, subst}
-use Rattle.std.proofs.lemmas.List.{get_or_read}
-use Rattle.distributor.specs.declared.assignment.Assignment.{Assignment}
-use Rattle.distributor.specs.declared.assignment.Assignment.TheVariants.{Free}
-use Rattle.distributor.specs.Chains.{slot_state}
-use Rattle.distributor.specs.Waiting.{ticks_until_wanted}
+use Rattle.distributor.proofs.Common.{List, None, Option, ap, arith, get_or, refl, subst, sym, ℕ, ◌+◌, ◌<◌, ◌∙◌, ◌≡◌, get_or_read, Assignment, Free}
+use Rattle.distributor.proofs.Common.{slot_state, ticks_until_wanted}
 use Rattle.distributor.proofs.WaitLemmas.{Seeking, seeking_begins, seeking_below, seeking_ends, seeking_on, seeking_smaller}
 use Rattle.distributor.proofs.WalkLemmas.{steps}
 use Rattle.distributor.proofs.slots.Slots.ticks_in_chain.Goals as goal

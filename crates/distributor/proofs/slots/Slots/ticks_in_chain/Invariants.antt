@@ -1,4 +1,4 @@
-use Rattle.std.proofs.Common.{◌≡◌, ◌+◌}
+use Rattle.distributor.proofs.Common.{◌+◌, ◌≡◌}
 use Rattle.distributor.proofs.WaitLemmas.{Seeking}
 use Rattle.distributor.proofs.WalkLemmas.{steps}
 use Rattle.distributor.proofs.slots.Slots.ticks_in_chain.Given as goal

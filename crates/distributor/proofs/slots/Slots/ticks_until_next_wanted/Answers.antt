@@ -1,5 +1,4 @@
-use Rattle.std.proofs.Common.{◌≡◌, ◌<◌, ◌≤◌, ◌+◌, false, get_or, length, sym, ◌∙◌, arith, subst}
-use Rattle.std.proofs.lemmas.List.{get_or_read}
+use Rattle.distributor.proofs.Common.{arith, false, get_or, length, subst, sym, ◌+◌, ◌<◌, ◌∙◌, ◌≡◌, ◌≤◌, get_or_read}
 use Rattle.distributor.proofs.WaitLemmas.{SeekingChains, chains_begin, chains_end, chains_passed, chains_walked}
 use Rattle.distributor.proofs.slots.Slots.ticks_until_next_wanted.Goals as goal
 use Rattle.distributor.proofs.slots.Slots.ticks_until_next_wanted.Goals.{then-index, else-index}

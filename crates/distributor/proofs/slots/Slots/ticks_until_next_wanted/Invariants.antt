@@ -1,4 +1,4 @@
-use Rattle.std.proofs.Common.{◌≤◌}
+use Rattle.distributor.proofs.Common.{◌≤◌}
 use Rattle.distributor.proofs.WaitLemmas.{SeekingChains}
 use Rattle.distributor.proofs.slots.Slots.ticks_until_next_wanted.Given as goal
 

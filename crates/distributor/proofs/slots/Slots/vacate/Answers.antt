@@ -1,10 +1,5 @@
-use Rattle.std.proofs.Common.{◌≡◌, ◌<◌, Some, None, ℕ, List, sym, refl, ap, ◌∙◌, arith, get_or}
-use Rattle.std.proofs.lemmas.Bool.{eq-eqb}
-use Rattle.std.proofs.lemmas.List.{get_or_read}
-use Rattle.std.proofs.lemmas.Nat.{mod_below}
-use Rattle.distributor.specs.declared.assignment.Assignment.{Assignment}
-use Rattle.distributor.specs.declared.assignment.Assignment.TheVariants.{Free}
-use Rattle.distributor.specs.Chains.{assignment_port, chain_of, occurs, slot_state, IsChained}
+use Rattle.distributor.proofs.Common.{List, None, Some, ap, arith, eq-eqb, get_or, refl, sym, ℕ, ◌<◌, ◌∙◌, ◌≡◌, get_or_read, mod_below, Assignment}
+use Rattle.distributor.proofs.Common.{Free, IsChained, assignment_port, chain_of, occurs, slot_state}
 use Rattle.distributor.proofs.ChainLemmas.{counted, stands_some, split_at, before_on, after_on, on_below, taken_out}
 use Rattle.distributor.proofs.slots.Slots.vacate.Goals as goal
 

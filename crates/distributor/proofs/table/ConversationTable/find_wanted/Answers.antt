@@ -1,7 +1,4 @@
-use Rattle.std.proofs.Common.{ap, ◌∙◌, nat_lt}
-use Rattle.distributor.specs.Conversations.{Table, count_conversations, sum_below}
-use Rattle.distributor.specs.Changes.{wants_marker}
-use Rattle.distributor.specs.Chains.{slot_state}
+use Rattle.distributor.proofs.Common.{ap, nat_lt, ◌∙◌, slot_state, wants_marker, Table, count_conversations, sum_below}
 use Rattle.distributor.proofs.WalkLemmas.{bit}
 use Rattle.distributor.proofs.TableLemmas.{counted_places}
 use Rattle.distributor.proofs.table.ConversationTable.find_wanted.Goals as goal

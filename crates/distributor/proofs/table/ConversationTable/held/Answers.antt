@@ -1,7 +1,4 @@
-use Rattle.std.proofs.Common.{ap, ◌∙◌}
-use Rattle.distributor.specs.Conversations.{Table, count_conversations, sum_below}
-use Rattle.distributor.specs.Chains.{is_held_on}
-use Rattle.distributor.specs.Chains.{slot_state}
+use Rattle.distributor.proofs.Common.{ap, ◌∙◌, is_held_on, slot_state, Table, count_conversations, sum_below}
 use Rattle.distributor.proofs.WalkLemmas.{bit}
 use Rattle.distributor.proofs.TableLemmas.{counted_places}
 use Rattle.distributor.proofs.table.ConversationTable.held.Goals as goal

@@ -1,6 +1,4 @@
-use Rattle.std.proofs.Common.{◌<◌, ap, arith, length, refl, set, subst, sym, ◌∙◌}
-use Rattle.distributor.specs.Conversations.{Table, IsConversation, slot_index}
-use Rattle.distributor.specs.Changes.{SetsAssignment}
+use Rattle.distributor.proofs.Common.{ap, arith, length, refl, set, subst, sym, ◌<◌, ◌∙◌, SetsAssignment, IsConversation, Table, slot_index}
 use Rattle.distributor.proofs.TableLemmas.{place_inside, set_at, stated}
 use Rattle.distributor.proofs.table.ConversationTable.set.Goals as goal
 

@@ -1,7 +1,4 @@
-use Rattle.std.proofs.Common.{ap, ◌∙◌}
-use Rattle.distributor.specs.Conversations.{Table}
-use Rattle.distributor.specs.Chains.{slot_state}
-use Rattle.distributor.specs.Waiting.{soonest_below, ticks_until_next_wanted, ticks_until_wanted}
+use Rattle.distributor.proofs.Common.{ap, ◌∙◌, slot_state, Table, soonest_below, ticks_until_next_wanted, ticks_until_wanted}
 use Rattle.distributor.proofs.WaitLemmas.{soonest_places}
 use Rattle.distributor.proofs.table.ConversationTable.ticks_until_next_wanted.Goals as goal
 

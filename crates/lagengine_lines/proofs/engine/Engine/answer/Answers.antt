@@ -1,7 +1,4 @@
-use Rattle.std.proofs.Common.{subst, sym}
-use Rattle.distributor.specs.Calls.{PicksIndexes}
-use Rattle.lagengine_lines.specs.Engines.{AnswersLine, EngineValue, engine_value}
-use Rattle.lagengine_lines.specs.AnswerValues.{answer_value}
+use Rattle.lagengine_lines.proofs.Common.{subst, sym, PicksIndexes, answer_value, AnswersLine, EngineValue, engine_value}
 use Rattle.lagengine_lines.proofs.engine.Engine.answer.Goals as goal
 
 pub answer-requires-clause-usable : goal.answer-requires-clause-usable

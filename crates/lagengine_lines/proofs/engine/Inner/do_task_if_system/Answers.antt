@@ -1,7 +1,4 @@
-use Rattle.std.proofs.Common.{◌≡◌, Some, rules, subst, sym}
-use Rattle.distributor.specs.Calls.{PicksIndexes}
-use Rattle.lagengine_lines.specs.Engines.{kept_of}
-use Rattle.lagengine_lines.specs.Requests.{task_value}
+use Rattle.lagengine_lines.proofs.Common.{Some, rules, subst, sym, ◌≡◌, PicksIndexes, kept_of, task_value}
 use Rattle.lagengine_lines.proofs.EngineLemmas.{acts_where, algorithm_of}
 use Rattle.lagengine_lines.proofs.engine.Inner.do_task_if_system.Goals as goal
 

@@ -1,6 +1,5 @@
-use Rattle.std.proofs.Common.{refl, rules}
+use Rattle.lagengine_lines.proofs.Common.{refl, rules, HasConfig}
 use Rattle.lagsystem.specs.First.{config_value}
-use Rattle.lagengine_lines.specs.Engines.{HasConfig}
 use Rattle.lagengine_lines.proofs.engine.Inner.make_system.Goals as goal
 
 pub returns-in-Ok-clause-starts : goal.returns-in-Ok-clause-starts

@@ -1,7 +1,5 @@
-use Rattle.std.proofs.Common.{ℕ, subst}
+use Rattle.lagengine_lines.proofs.Common.{subst, ℕ, answer_value, AnswersLine}
 use Rattle.std.proofs.lemmas.Result.{on_ok_weaker}
-use Rattle.lagengine_lines.specs.Engines.{AnswersLine}
-use Rattle.lagengine_lines.specs.AnswerValues.{answer_value}
 use Rattle.lagengine_lines.proofs.session.Session.answer_line.Goals as goal
 
 pub returns-clause-ok : goal.returns-clause-ok

@@ -1,7 +1,4 @@
-use Rattle.std.proofs.Common.{ℕ, ◌∙◌, refl, subst}
-use Rattle.lagengine_lines.specs.Sessions.{FailsToAnswer}
-use Rattle.lagstreams.specs.Sinks.{AppendsPart, WritesAndFlushes}
-use Rattle.lagengine_lines.specs.declared.stopped.Stopped.TheVariants.{Write, NoMemory}
+use Rattle.lagengine_lines.proofs.Common.{refl, subst, ℕ, ◌∙◌, AppendsPart, WritesAndFlushes, NoMemory, Write, FailsToAnswer}
 use Rattle.lagengine_lines.proofs.SessionLemmas.{on_stop}
 use Rattle.lagengine_lines.proofs.session.Session.end_line.Goals as goal
 

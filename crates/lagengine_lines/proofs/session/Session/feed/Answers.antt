@@ -1,8 +1,5 @@
-use Rattle.std.proofs.Common.{ℕ, ◌+◌, ◌∙◌, ◌≡◌, ◌∷◌, ◌++◌, [], ap, drop, get_or, subst, sym, take, take-append-drop}
-use Rattle.std.proofs.lemmas.List.{drop_more, take_more}
-use Rattle.distributor.specs.Calls.{PicksIndexes}
-use Rattle.lagstreams.specs.Lines.{lines_of, continue_line}
-use Rattle.lagengine_lines.specs.Sessions.{Feeds, StopsAnswering, session_of}
+use Rattle.lagengine_lines.proofs.Common.{[], ap, drop, get_or, subst, sym, take, take-append-drop, ℕ, ◌++◌, ◌+◌, ◌∙◌, ◌∷◌, ◌≡◌, drop_more, take_more}
+use Rattle.lagengine_lines.proofs.Common.{continue_line, lines_of, PicksIndexes, Feeds, StopsAnswering, session_of}
 use Rattle.lagengine_lines.proofs.SessionLemmas.{feeds_both, halts_after, on_stop}
 use Rattle.lagengine_lines.proofs.session.Session.feed.Goals as goal
 

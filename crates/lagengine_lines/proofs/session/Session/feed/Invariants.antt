@@ -1,6 +1,5 @@
 -- The loop's invariant: the part of the piece that is gone was read.
-use Rattle.std.proofs.Common.{◌≡◌, take}
-use Rattle.lagengine_lines.specs.Sessions.{Feeds, session_of}
+use Rattle.lagengine_lines.proofs.Common.{take, ◌≡◌, Feeds, session_of}
 use Rattle.lagengine_lines.proofs.session.Session.feed.Given as goal
 
 abbrev pub invariant-loop-octet : goal.invariant-loop-octet

@@ -1,8 +1,5 @@
-use Rattle.std.proofs.Common.{ℕ, ◌<◌, ◌≡◌, ◌∙◌, [], arith, length, sym}
-use Rattle.std.proofs.lemmas.Bool.{eqb-true}
-use Rattle.lagstreams.specs.Lines.{line_if_any}
-use Rattle.lagengine_lines.specs.Sessions.{StopsAnswering, session_of}
-use Rattle.lagstreams.proofs.LineLemmas.{closed, not_zero}
+use Rattle.lagengine_lines.proofs.Common.{[], arith, eqb-true, length, sym, ℕ, ◌<◌, ◌∙◌, ◌≡◌, line_if_any, closed, not_zero, StopsAnswering}
+use Rattle.lagengine_lines.proofs.Common.{session_of}
 use Rattle.lagengine_lines.proofs.SessionLemmas.{finishes_line, finishes_none, halts_line, on_stop}
 use Rattle.lagengine_lines.proofs.session.Session.finish.Goals as goal
 

@@ -1,9 +1,5 @@
-use Rattle.std.proofs.Common.{ℕ, List, ◌<◌, ◌∷◌, [], arith, length, refl}
-use Rattle.lagstreams.specs.Lines.{lines_of, continue_line}
-use Rattle.lagstreams.specs.Lines.{longest_line}
-use Rattle.lagengine_lines.specs.Sessions.{StopsAnswering, SessionState, session_of}
-use Rattle.lagengine_lines.specs.declared.stopped.Stopped.TheVariants.{NoMemory}
-use Rattle.lagstreams.proofs.LineLemmas.{is_newline, newline_joined, not_newline}
+use Rattle.lagengine_lines.proofs.Common.{List, [], arith, length, refl, ℕ, ◌<◌, ◌∷◌, continue_line, lines_of, longest_line, is_newline}
+use Rattle.lagengine_lines.proofs.Common.{newline_joined, not_newline, NoMemory, SessionState, StopsAnswering, session_of}
 use Rattle.lagengine_lines.proofs.SessionLemmas.{feeds_kept, feeds_long, feeds_newline, halts_line, halts_none, on_stop}
 use Rattle.lagengine_lines.proofs.session.Session.read_octet.Goals as goal
 

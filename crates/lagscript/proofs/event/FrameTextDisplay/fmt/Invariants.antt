@@ -1,4 +1,4 @@
-use Rattle.std.proofs.Common.{take}
+use Rattle.lagscript.proofs.Common.{take}
 use Rattle.std.specs.Fmt.{HasWritten, IsPlainFormatter}
 use Rattle.lagscript.specs.EntryTexts.{frame_text}
 use Rattle.lagscript.proofs.event.FrameTextDisplay.fmt.Given as goal

@@ -1,4 +1,4 @@
-use Rattle.std.proofs.Common.{arith, rules, false}
+use Rattle.lagscript.proofs.Common.{arith, false, rules}
 use Rattle.std.proofs.lemmas.Fmt.{hex_byte}
 use Rattle.std.proofs.Output.{has_written_of_eq}
 use Rattle.lagscript.proofs.event.OctetTextDisplay.fmt.Goals as goal

@@ -1,11 +1,5 @@
-use Rattle.std.proofs.Common.{[], ◌∙◌, ◌≡◌, List, ap, subst, sym, ℕ}
-use Rattle.std.specs.Bool.{OnFalse}
-use Rattle.std.specs.List.Sorted.{IsStrictlyIncreasing}
-use Rattle.lagsystem.specs.declared.system_ports.SystemPort.{SystemPort}
-use Rattle.lagsystem.specs.Inner.{inner_state}
-use Rattle.lagsystem.specs.Offers.{has_aggregator}
-use Rattle.lagsystem.specs.Readers.{distributing}
-use Rattle.lagsystem.specs.State.{SystemValue}
+use Rattle.lagsystem.proofs.Common.{List, [], ap, subst, sym, ℕ, ◌∙◌, ◌≡◌, OnFalse, IsStrictlyIncreasing, SystemPort, inner_state, has_aggregator}
+use Rattle.lagsystem.proofs.Common.{distributing, SystemValue}
 use Rattle.lagsystem.proofs.Distributing.{distributing_rise, none_distribute}
 use Rattle.lagsystem.proofs.calls.System.distributing.Goals as goal
 

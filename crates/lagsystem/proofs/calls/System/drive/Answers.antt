@@ -1,7 +1,4 @@
-use Rattle.std.proofs.Common.{◌∙◌, ℕ, arith, map, subst, sym}
-use Rattle.distributor.specs.Calls.{PicksIndexes}
-use Rattle.lagsystem.specs.Drives.{call_of}
-use Rattle.lagsystem.specs.Sound.{CallPromise}
+use Rattle.lagsystem.proofs.Common.{arith, map, subst, sym, ℕ, ◌∙◌, PicksIndexes, call_of, CallPromise}
 use Rattle.lagsystem.proofs.DriveLemmas.{drives_all, drives_on, driven_runs}
 use Rattle.lagsystem.proofs.Windows.{window_law}
 use Rattle.lagsystem.proofs.calls.System.drive.Goals as goal

@@ -1,5 +1,4 @@
-use Rattle.std.proofs.Common.{◌≡◌, ◌≤◌, length, map, take, vec_capacity, vec_len}
-use Rattle.lagsystem.specs.Drives.{Drives, call_of}
+use Rattle.lagsystem.proofs.Common.{length, map, take, vec_capacity, vec_len, ◌≡◌, ◌≤◌, Drives, call_of}
 use Rattle.lagsystem.proofs.calls.System.drive.Given as goal
 
 abbrev pub invariant-loop-call : goal.invariant-loop-call

@@ -1,6 +1,4 @@
-use Rattle.std.proofs.Common.{arith, ◌≡◌, ◌∙◌, ◌+◌, ℕ, ap, cond, false, subst, sym}
-use Rattle.lagsystem.specs.Forcing.{ForcesIfHeld, ForcesIn}
-use Rattle.lagsystem.specs.State.{SystemValue}
+use Rattle.lagsystem.proofs.Common.{ap, arith, cond, false, subst, sym, ℕ, ◌+◌, ◌∙◌, ◌≡◌, ForcesIfHeld, ForcesIn, SystemValue}
 use Rattle.lagsystem.proofs.ForcingLemmas.{one_conversation_more}
 use Rattle.lagsystem.proofs.calls.System.force_held_in.Goals.{then-force_if_held, else-force_if_held}
 use Rattle.lagsystem.proofs.calls.System.force_held_in.Goals as goal

@@ -1,5 +1,4 @@
-use Rattle.std.proofs.Common.{◌≡◌, ◌≤◌}
-use Rattle.lagsystem.specs.Forcing.{ForcesIn}
+use Rattle.lagsystem.proofs.Common.{◌≡◌, ◌≤◌, ForcesIn}
 use Rattle.lagsystem.proofs.calls.System.force_held_in.Given as goal
 
 abbrev pub invariant-loop-conv : goal.invariant-loop-conv

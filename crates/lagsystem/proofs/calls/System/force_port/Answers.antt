@@ -1,9 +1,5 @@
-use Rattle.std.proofs.Common.{arith, ◌≡◌, ◌∙◌, ◌+◌, ℕ, ap, is_some, length, Ok, refl, subst, sym, true}
-use Rattle.lagsystem.specs.Forcing.{ForcesFirst, ForcesIn, ForcesPort, count_held_on}
-use Rattle.lagsystem.specs.Inner.{inner_state}
-use Rattle.lagsystem.specs.Readers.{aggregator_numbered}
-use Rattle.lagsystem.specs.Sound.{IsSound}
-use Rattle.lagsystem.specs.State.{SystemValue, port_index}
+use Rattle.lagsystem.proofs.Common.{Ok, ap, arith, is_some, length, refl, subst, sym, true, ℕ, ◌+◌, ◌∙◌, ◌≡◌, ForcesFirst, ForcesIn, ForcesPort}
+use Rattle.lagsystem.proofs.Common.{count_held_on, inner_state, aggregator_numbered, IsSound, SystemValue, port_index}
 use Rattle.lagsystem.proofs.Forced.{counts_held, frees_held, none_is_held}
 use Rattle.lagsystem.proofs.ForcingLemmas.{one_aggregator_more}
 use Rattle.lagsystem.proofs.HeldLemmas.{forces_none}

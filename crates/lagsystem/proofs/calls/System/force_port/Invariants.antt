@@ -1,5 +1,4 @@
-use Rattle.std.proofs.Common.{◌≡◌, ◌≤◌, ◌*◌}
-use Rattle.lagsystem.specs.Forcing.{ForcesFirst}
+use Rattle.lagsystem.proofs.Common.{◌*◌, ◌≡◌, ◌≤◌, ForcesFirst}
 use Rattle.lagsystem.proofs.calls.System.force_port.Given as goal
 
 abbrev pub invariant-loop-before : goal.invariant-loop-before

@@ -1,8 +1,5 @@
-use Rattle.std.proofs.Common.{◌∙◌, ◌≡◌, Bool, Option, Some, ap, subst, sym}
-use Rattle.std.specs.Prelude.{option_map}
-use Rattle.lagsystem.specs.Hosts.{would_transmit_at, would_transmit}
-use Rattle.lagsystem.specs.Inner.{inner_state}
-use Rattle.lagsystem.specs.State.{SystemValue}
+use Rattle.lagsystem.proofs.Common.{Bool, Option, Some, ap, option_map, subst, sym, ◌∙◌, ◌≡◌, would_transmit, would_transmit_at, inner_state}
+use Rattle.lagsystem.proofs.Common.{SystemValue}
 use Rattle.lagsystem.proofs.calls.System.is_due.Goals as goal
 
 abbrev answer : Bool → Option Bool

@@ -1,10 +1,4 @@
-use Rattle.std.proofs.Common.{[], subst}
-use Rattle.lagmodel.specs.View.{ModelCall}
-use Rattle.lagsystem.specs.Inner.{inner_state}
-use Rattle.lagsystem.specs.Leaving.{system_leave_result}
-use Rattle.lagsystem.specs.Offers.{GivesOrRefuses}
-use Rattle.lagsystem.specs.Promises.{TablePromise}
-use Rattle.lagsystem.specs.State.{SystemValue}
+use Rattle.lagsystem.proofs.Common.{[], subst, ModelCall, inner_state, system_leave_result, GivesOrRefuses, TablePromise, SystemValue}
 use Rattle.lagsystem.proofs.LeavingLemmas.{leaves_promise, leaves_sound}
 use Rattle.lagsystem.proofs.calls.System.leave_conversation.Goals as goal
 

@@ -1,4 +1,4 @@
-use Rattle.lagsystem.specs.Inner.{inner_state}
+use Rattle.lagsystem.proofs.Common.{inner_state}
 use Rattle.lagsystem.proofs.FirstView.{first_shows}
 use Rattle.lagsystem.proofs.Keeps.{is_accepted}
 use Rattle.lagsystem.proofs.Sound.{agrees}

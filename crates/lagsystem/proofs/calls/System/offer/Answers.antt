@@ -1,10 +1,4 @@
-use Rattle.std.proofs.Common.{subst, sym}
-use Rattle.distributor.specs.Calls.{PicksIndexes}
-use Rattle.lagsystem.specs.declared.drive.Reply.{Reply}
-use Rattle.lagsystem.specs.Calls.{Call}
-use Rattle.lagsystem.specs.Inner.{inner_state}
-use Rattle.lagsystem.specs.Sound.{CallPromise}
-use Rattle.lagsystem.specs.State.{SystemValue}
+use Rattle.lagsystem.proofs.Common.{subst, sym, PicksIndexes, Reply, Call, inner_state, CallPromise, SystemValue}
 use Rattle.lagsystem.proofs.Sound.{Step-sound, answers}
 use Rattle.lagsystem.proofs.calls.System.offer.Goals as goal
 

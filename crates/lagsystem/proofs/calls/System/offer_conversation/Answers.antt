@@ -1,13 +1,5 @@
-use Rattle.std.proofs.Common.{ℕ, List, ◌≡◌, subst, sym}
-use Rattle.distributor.specs.Calls.{PicksIndexes}
-use Rattle.lagsystem.specs.declared.drive.Reply.{Reply}
-use Rattle.lagsystem.specs.Assigning.{OffersConversation}
-use Rattle.lagsystem.specs.Calls.{Call}
-use Rattle.lagsystem.specs.Inner.{inner_state}
-use Rattle.lagsystem.specs.Offers.{MayBeOffered}
-use Rattle.lagsystem.specs.Readers.{number_of_conversation}
-use Rattle.lagsystem.specs.Sound.{CallPromise}
-use Rattle.lagsystem.specs.State.{SystemValue}
+use Rattle.lagsystem.proofs.Common.{List, subst, sym, ℕ, ◌≡◌, PicksIndexes, Reply, OffersConversation, Call, inner_state, MayBeOffered}
+use Rattle.lagsystem.proofs.Common.{number_of_conversation, CallPromise, SystemValue}
 use Rattle.lagsystem.proofs.AssigningLemmas.{offers_promise, offers_sound}
 use Rattle.lagsystem.proofs.calls.System.offer_conversation.Goals as goal
 

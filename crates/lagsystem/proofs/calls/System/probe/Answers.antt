@@ -1,7 +1,4 @@
-use Rattle.std.proofs.Common.{subst}
-use Rattle.lagsystem.specs.Inner.{inner_state}
-use Rattle.lagsystem.specs.Probing.{Probes, ProbesLawfully}
-use Rattle.lagsystem.specs.State.{SystemValue}
+use Rattle.lagsystem.proofs.Common.{subst, inner_state, Probes, ProbesLawfully, SystemValue}
 use Rattle.lagsystem.proofs.ProbingLemmas.{probes_lawfully, probes_sound}
 use Rattle.lagsystem.proofs.calls.System.probe.Goals as goal
 

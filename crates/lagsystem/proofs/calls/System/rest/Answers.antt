@@ -1,12 +1,4 @@
-use Rattle.std.proofs.Common.{Ok, subst}
-use Rattle.std.specs.Prelude.{IfOk}
-use Rattle.lagsystem.specs.declared.drive.Reply.{Reply}
-use Rattle.lagsystem.specs.Calls.{Call}
-use Rattle.lagsystem.specs.Inner.{inner_state}
-use Rattle.lagsystem.specs.Leaving.{system_rest_result}
-use Rattle.lagsystem.specs.Offers.{GivesOrRefuses}
-use Rattle.lagsystem.specs.Sound.{CallPromise}
-use Rattle.lagsystem.specs.State.{SystemValue}
+use Rattle.lagsystem.proofs.Common.{IfOk, Ok, subst, Reply, Call, inner_state, system_rest_result, GivesOrRefuses, CallPromise, SystemValue}
 use Rattle.lagsystem.proofs.LeavingLemmas.{rests_if_ok, rests_sound}
 use Rattle.lagsystem.proofs.calls.System.rest.Goals as goal
 

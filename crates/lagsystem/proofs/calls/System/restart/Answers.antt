@@ -1,11 +1,4 @@
-use Rattle.std.proofs.Common.{◌≡◌, subst}
-use Rattle.lagmodel.specs.View.{first_view}
-use Rattle.lagsystem.specs.declared.drive.Reply.{Reply}
-use Rattle.lagsystem.specs.Calls.{Call}
-use Rattle.lagsystem.specs.Inner.{inner_state}
-use Rattle.lagsystem.specs.ModelView.{model_setup, model_view}
-use Rattle.lagsystem.specs.Sound.{CallPromise}
-use Rattle.lagsystem.specs.State.{SystemValue}
+use Rattle.lagsystem.proofs.Common.{subst, ◌≡◌, first_view, Reply, Call, inner_state, model_setup, model_view, CallPromise, SystemValue}
 use Rattle.lagsystem.proofs.FirstView.{restarted_shows}
 use Rattle.lagsystem.proofs.Sound.{Step-sound, answers}
 use Rattle.lagsystem.proofs.calls.System.restart.Goals as goal

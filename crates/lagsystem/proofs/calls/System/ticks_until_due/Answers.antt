@@ -1,6 +1,4 @@
-use Rattle.std.proofs.Common.{◌∙◌, ap}
-use Rattle.lagsystem.specs.Waiting.{ticks_until_due}
-use Rattle.lagsystem.specs.State.{SystemValue}
+use Rattle.lagsystem.proofs.Common.{ap, ◌∙◌, SystemValue, ticks_until_due}
 use Rattle.lagsystem.proofs.calls.System.ticks_until_due.Goals as goal
 
 pub returns : goal.returns

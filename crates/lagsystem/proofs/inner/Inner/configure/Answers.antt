@@ -1,12 +1,5 @@
-use Rattle.std.proofs.Common.{◌≡◌, ◌∙◌, Some, arith, slice_get, subst, sym}
-use Rattle.std.specs.Vec.{with_items}
-use Rattle.std.proofs.lemmas.Bool.{OnTrue_at}
-use Rattle.std.proofs.lemmas.List.{with_items_is}
-use Rattle.std.proofs.lemmas.Option.{slice_get-get_or}
-use Rattle.lagsystem.specs.declared.system_ports.SystemPort.{SystemPort}
-use Rattle.lagsystem.specs.Calls.{ChangesParty, PortAtChangesBy}
-use Rattle.lagsystem.specs.Inner.{inner_state}
-use Rattle.lagsystem.specs.State.{port_index, with_system_ports}
+use Rattle.lagsystem.proofs.Common.{Some, arith, slice_get, subst, sym, ◌∙◌, ◌≡◌, OnTrue_at, with_items_is, slice_get-get_or, with_items, SystemPort}
+use Rattle.lagsystem.proofs.Common.{ChangesParty, PortAtChangesBy, inner_state, port_index, with_system_ports}
 use Rattle.lagsystem.proofs.PlaceLemmas.{goes_by_number, were_before}
 use Rattle.lagsystem.proofs.Settled.{place_carried}
 use Rattle.lagsystem.proofs.StateLemmas.{on_port_made}

@@ -1,10 +1,5 @@
-use Rattle.std.proofs.Common.{◌≡◌, ◌≤◌, ◌∙◌, ap, arith, length, subst, sym, None, List}
-use Rattle.std.specs.List.{AllZip}
-use Rattle.lagtypes.specs.declared.identifiers.Key.{Key}
-use Rattle.distributor.specs.Conversations.{first_table}
-use Rattle.lagsystem.specs.declared.config.PortConfig.{PortConfig}
-use Rattle.lagsystem.specs.First.{HasJustStarted, config_refusal}
-use Rattle.lagsystem.specs.Inner.{inner_state}
+use Rattle.lagsystem.proofs.Common.{List, None, ap, arith, length, subst, sym, ◌∙◌, ◌≡◌, ◌≤◌, AllZip, Key, first_table, PortConfig, HasJustStarted}
+use Rattle.lagsystem.proofs.Common.{config_refusal, inner_state}
 use Rattle.lagsystem.proofs.Keeps.{accepted_keys_few, configured_made, first_made, ports_made, started_by}
 use Rattle.lagsystem.proofs.Rising.{accepted_count}
 use Rattle.lagsystem.proofs.Sound.{first_sound}

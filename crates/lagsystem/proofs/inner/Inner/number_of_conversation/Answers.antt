@@ -1,8 +1,4 @@
-use Rattle.std.proofs.Common.{◌≡◌, ◌∙◌, ◌-◌, ap₂, arith, true}
-use Rattle.std.specs.Prelude.{bit_and, bit_xor}
-use Rattle.distributor.specs.Conversations.{is_conversation_count}
-use Rattle.lagsystem.specs.Inner.{inner_state}
-use Rattle.lagsystem.specs.Readers.{two_octets}
+use Rattle.lagsystem.proofs.Common.{ap₂, arith, true, ◌-◌, ◌∙◌, ◌≡◌, bit_and, bit_xor, is_conversation_count, inner_state, two_octets}
 use Rattle.lagsystem.proofs.OfferLemmas.{low_bits}
 use Rattle.lagsystem.proofs.Rising.{accepted_count}
 use Rattle.lagsystem.proofs.inner.Inner.number_of_conversation.Goals as goal

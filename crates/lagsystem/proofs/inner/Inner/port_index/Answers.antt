@@ -1,8 +1,4 @@
-use Rattle.std.proofs.Common.{List, subst, sym}
-use Rattle.std.specs.List.Sorted.{IsStrictlyIncreasing}
-use Rattle.lagsystem.specs.declared.system_ports.SystemPort.{SystemPort}
-use Rattle.lagsystem.specs.Inner.{inner_state}
-use Rattle.lagsystem.specs.State.{port_numbers}
+use Rattle.lagsystem.proofs.Common.{List, subst, sym, IsStrictlyIncreasing, SystemPort, inner_state, port_numbers}
 use Rattle.lagsystem.proofs.Distributing.{numbers_rise}
 use Rattle.lagsystem.proofs.inner.Inner.port_index.Goals as goal
 

@@ -1,7 +1,4 @@
-use Rattle.std.proofs.Common.{◌≡◌, ◌∙◌, Some, slice_get, subst, sym, true}
-use Rattle.std.proofs.lemmas.Option.{slice_get-get_or}
-use Rattle.lagsystem.specs.declared.system_ports.SystemPort.{SystemPort}
-use Rattle.lagsystem.specs.Inner.{inner_state}
+use Rattle.lagsystem.proofs.Common.{Some, slice_get, subst, sym, true, ◌∙◌, ◌≡◌, slice_get-get_or, SystemPort, inner_state}
 use Rattle.lagsystem.proofs.ProbingLemmas.{probes_marker}
 use Rattle.lagsystem.proofs.inner.Inner.probe.Goals as goal
 

@@ -1,15 +1,6 @@
-use Rattle.std.proofs.Common.{◌≡◌, ◌≤◌, ◌∙◌, Some, true, ap, arith, length, refl, slice_get, slice_set, subst, sym, List}
-use Rattle.std.specs.Vec.{with_items}
-use Rattle.std.proofs.lemmas.List.{with_items_is}
-use Rattle.std.proofs.lemmas.Option.{slice_get-get_or}
-use Rattle.distributor.specs.Changes.{ChangesAssignments}
-use Rattle.portmachines.specs.Periodic.{RunsPeriodic}
-use Rattle.lagsystem.specs.declared.system_ports.SystemPort.{SystemPort}
-use Rattle.lagsystem.specs.Calls.{PortAtChangesBy}
-use Rattle.lagsystem.specs.Holding.{after_holding, aggregators_in_use, stopped}
-use Rattle.lagsystem.specs.Inner.{inner_state}
-use Rattle.lagsystem.specs.NothingToSettle.{ProcessesLacpduAt}
-use Rattle.lagsystem.specs.State.{with_system_ports}
+use Rattle.lagsystem.proofs.Common.{List, Some, ap, arith, length, refl, slice_get, slice_set, subst, sym, true, ◌∙◌, ◌≡◌, ◌≤◌, with_items_is}
+use Rattle.lagsystem.proofs.Common.{slice_get-get_or, with_items, RunsPeriodic, ChangesAssignments, SystemPort, PortAtChangesBy, after_holding}
+use Rattle.lagsystem.proofs.Common.{aggregators_in_use, stopped, inner_state, ProcessesLacpduAt, with_system_ports}
 use Rattle.lagsystem.proofs.Keeps.{few_ports}
 use Rattle.lagsystem.proofs.PlaceLemmas.{were_before}
 use Rattle.lagsystem.proofs.Settled.{place_carried}

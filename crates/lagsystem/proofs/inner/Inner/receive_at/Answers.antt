@@ -1,10 +1,5 @@
-use Rattle.std.proofs.Common.{◌≡◌, ◌∙◌, Some, ap, refl, subst, sym, slice_get}
-use Rattle.std.proofs.lemmas.Option.{same_Some, slice_get-get_or}
-use Rattle.lagsystem.specs.declared.received.FrameEffect.TheVariants.{ProcessLacpdu, Response, Answered}
-use Rattle.lagsystem.specs.declared.received.Received.TheVariants.{Released}
-use Rattle.lagsystem.specs.declared.system_ports.SystemPort.{SystemPort}
-use Rattle.lagsystem.specs.Calls.{ParsesFrame, Releases, is_own_response}
-use Rattle.lagsystem.specs.Inner.{inner_state}
+use Rattle.lagsystem.proofs.Common.{Some, ap, refl, slice_get, subst, sym, ◌∙◌, ◌≡◌, same_Some, slice_get-get_or, Answered, ProcessLacpdu, Response}
+use Rattle.lagsystem.proofs.Common.{Released, SystemPort, ParsesFrame, Releases, is_own_response, inner_state}
 use Rattle.lagsystem.proofs.inner.Inner.receive_at.Goals as goal
 
 pub returns-in-ProcessLacpdu-clause-received : goal.returns-in-ProcessLacpdu-clause-received

@@ -1,9 +1,5 @@
-use Rattle.std.proofs.Common.{◌∙◌, Some, ap, arith, refl, subst}
-use Rattle.std.specs.Vec.{with_items}
-use Rattle.std.proofs.lemmas.List.{with_items_is}
-use Rattle.lagsystem.specs.Calls.{PortAtChangesBy, SetsPortEnabled}
-use Rattle.lagsystem.specs.Inner.{inner_state}
-use Rattle.lagsystem.specs.Holding.{aggregators_in_use}
+use Rattle.lagsystem.proofs.Common.{Some, ap, arith, refl, subst, ◌∙◌, with_items_is, with_items, PortAtChangesBy, SetsPortEnabled}
+use Rattle.lagsystem.proofs.Common.{aggregators_in_use, inner_state}
 use Rattle.lagsystem.proofs.PlaceLemmas.{goes_by_number}
 use Rattle.lagsystem.proofs.Settled.{link_carried, link_made, moved_on}
 use Rattle.lagsystem.proofs.inner.Inner.set_link.Goals as goal

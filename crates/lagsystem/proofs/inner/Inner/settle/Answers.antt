@@ -1,8 +1,4 @@
-use Rattle.std.proofs.Common.{◌∙◌, List, ap, length, subst, sym}
-use Rattle.distributor.specs.Changes.{ChangesAssignments}
-use Rattle.lagsystem.specs.declared.system_ports.SystemPort.{SystemPort}
-use Rattle.lagsystem.specs.Inner.{inner_state}
-use Rattle.lagsystem.specs.Holding.{after_holding, stopped}
+use Rattle.lagsystem.proofs.Common.{List, ap, length, subst, sym, ◌∙◌, ChangesAssignments, SystemPort, after_holding, stopped, inner_state}
 use Rattle.lagsystem.proofs.Stopped.{leaves_made, were_many}
 use Rattle.lagsystem.proofs.Keeps.{ports_keep, ports_table, settling_joined}
 use Rattle.lagsystem.proofs.TableLemmas.{table_taken}

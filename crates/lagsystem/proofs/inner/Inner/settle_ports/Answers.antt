@@ -1,7 +1,4 @@
-use Rattle.std.proofs.Common.{arith, refl, sym}
-use Rattle.std.specs.Vec.{with_items}
-use Rattle.std.proofs.lemmas.List.{with_items_is}
-use Rattle.lagsystem.specs.Inner.{inner_state}
+use Rattle.lagsystem.proofs.Common.{arith, refl, sym, with_items_is, with_items, inner_state}
 use Rattle.lagsystem.proofs.StateLemmas.{settled_made}
 use Rattle.lagsystem.proofs.inner.Inner.settle_ports.Goals as goal
 

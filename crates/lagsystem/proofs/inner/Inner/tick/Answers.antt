@@ -1,8 +1,4 @@
-use Rattle.std.proofs.Common.{◌∙◌, ap, arith, refl}
-use Rattle.std.specs.Vec.{with_items}
-use Rattle.std.proofs.lemmas.List.{with_items_is}
-use Rattle.lagsystem.specs.Inner.{inner_state}
-use Rattle.lagsystem.specs.Holding.{aggregators_in_use}
+use Rattle.lagsystem.proofs.Common.{ap, arith, refl, ◌∙◌, with_items_is, with_items, aggregators_in_use, inner_state}
 use Rattle.lagsystem.proofs.Settled.{moved_on, tick_carried, tick_made}
 use Rattle.lagsystem.proofs.inner.Inner.tick.Goals as goal
 

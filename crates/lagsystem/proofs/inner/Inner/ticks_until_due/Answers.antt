@@ -1,8 +1,5 @@
-use Rattle.std.proofs.Common.{◌≡◌, ◌∙◌, ◌<◌, List, length, get_or, ap, arith}
-use Rattle.distributor.specs.Waiting.{sooner}
-use Rattle.lagsystem.specs.declared.system_ports.SystemPort.{SystemPort}
-use Rattle.lagsystem.specs.Inner.{inner_state}
-use Rattle.lagsystem.specs.Waiting.{ticks_until_due, ticks_until_due_on}
+use Rattle.lagsystem.proofs.Common.{List, ap, arith, get_or, length, ◌<◌, ◌∙◌, ◌≡◌, sooner, SystemPort, inner_state, ticks_until_due}
+use Rattle.lagsystem.proofs.Common.{ticks_until_due_on}
 use Rattle.lagsystem.proofs.WaitingLemmas.{soonest_on}
 use Rattle.lagsystem.proofs.inner.Inner.ticks_until_due.Goals as goal
 

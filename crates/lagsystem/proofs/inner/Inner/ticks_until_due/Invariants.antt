@@ -1,7 +1,4 @@
-use Rattle.std.proofs.Common.{◌≡◌, drop, map}
-use Rattle.distributor.specs.Waiting.{sooner}
-use Rattle.lagsystem.specs.Inner.{inner_state}
-use Rattle.lagsystem.specs.Waiting.{soonest, ticks_until_due, ticks_until_due_on}
+use Rattle.lagsystem.proofs.Common.{drop, map, ◌≡◌, sooner, inner_state, soonest, ticks_until_due, ticks_until_due_on}
 use Rattle.lagsystem.proofs.inner.Inner.ticks_until_due.Given as goal
 
 abbrev pub invariant-loop-system_port : goal.invariant-loop-system_port

@@ -1,11 +1,5 @@
-use Rattle.std.proofs.Common.{◌≡◌, ◌∙◌, true, Some, arith, slice_get, subst, sym}
-use Rattle.std.specs.Vec.{with_items}
-use Rattle.std.proofs.lemmas.List.{with_items_is}
-use Rattle.std.proofs.lemmas.Option.{slice_get-get_or}
-use Rattle.lagsystem.specs.declared.system_ports.SystemPort.{SystemPort}
-use Rattle.lagsystem.specs.Inner.{inner_state}
-use Rattle.lagsystem.specs.Sending.{PortSendsLacpduIfDue}
-use Rattle.lagsystem.specs.State.{port_index}
+use Rattle.lagsystem.proofs.Common.{Some, arith, slice_get, subst, sym, true, ◌∙◌, ◌≡◌, with_items_is, slice_get-get_or, with_items, SystemPort}
+use Rattle.lagsystem.proofs.Common.{inner_state, PortSendsLacpduIfDue, port_index}
 use Rattle.lagsystem.proofs.SendingLemmas.{sends_lacpdu, sends_marker}
 use Rattle.lagsystem.proofs.inner.Inner.transmit.Goals as goal
 

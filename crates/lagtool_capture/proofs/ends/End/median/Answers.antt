@@ -1,6 +1,4 @@
-use Rattle.std.proofs.Common.{subst, sym}
-use Rattle.lagtool_capture.specs.Ends.{gaps_between}
-use Rattle.lagtool_capture.specs.Gaps.{IsMedianOf}
+use Rattle.lagtool_capture.proofs.Common.{subst, sym, gaps_between, IsMedianOf}
 use Rattle.lagtool_capture.proofs.EndLemmas.{end_median}
 use Rattle.lagtool_capture.proofs.ends.End.median.Goals as goal
 

@@ -1,6 +1,4 @@
-use Rattle.std.proofs.Common.{◌∙◌, ap}
-use Rattle.lagtool_capture.specs.Ends.{end_place}
-use Rattle.lagtool_capture.specs.Explaining.{ExplainerState, sender_of}
+use Rattle.lagtool_capture.proofs.Common.{ap, ◌∙◌, end_place, ExplainerState, sender_of}
 use Rattle.lagtool_capture.proofs.ExplainingLemmas.{placed}
 use Rattle.lagtool_capture.proofs.explainer.Explainer.put_lacpdu.Goals as goal
 

@@ -1,5 +1,4 @@
-use Rattle.std.proofs.Common.{take}
-use Rattle.std.specs.Fmt.{HasWritten, IsPlainFormatter}
+use Rattle.lagtool_capture.proofs.Common.{take, HasWritten, IsPlainFormatter}
 use Rattle.lagtool_capture.specs.FindingTexts.{findings_text}
 use Rattle.lagtool_capture.proofs.finding_texts.FindingsTextDisplay.fmt.Given as goal
 

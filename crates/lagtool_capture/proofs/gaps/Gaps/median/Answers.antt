@@ -1,5 +1,4 @@
-use Rattle.std.proofs.Common.{sym, subst}
-use Rattle.lagtool_capture.specs.Gaps.{IsMedianOf}
+use Rattle.lagtool_capture.proofs.Common.{subst, sym, IsMedianOf}
 use Rattle.lagtool_capture.proofs.GapLemmas.{median_is}
 use Rattle.lagtool_capture.proofs.gaps.Gaps.median.Goals as goal
 

@@ -1,6 +1,4 @@
-use Rattle.std.proofs.Common.{take}
-use Rattle.std.specs.Fmt.{HasWritten, IsPlainFormatter}
-use Rattle.lagtool_capture.specs.Json.{ends_records}
+use Rattle.lagtool_capture.proofs.Common.{take, HasWritten, IsPlainFormatter, ends_records}
 use Rattle.lagtool_capture.proofs.json_ends.EndsRecordsDisplay.fmt.Given as goal
 
 abbrev pub invariant-loop-end : goal.invariant-loop-end

@@ -1,6 +1,4 @@
-use Rattle.std.proofs.Common.{take}
-use Rattle.std.specs.Fmt.{HasWritten, IsPlainFormatter}
-use Rattle.lagtool_capture.specs.Json.{findings_records}
+use Rattle.lagtool_capture.proofs.Common.{take, HasWritten, IsPlainFormatter, findings_records}
 use Rattle.lagtool_capture.proofs.json_ends.FindingsRecordsDisplay.fmt.Given as goal
 
 abbrev pub invariant-loop-finding : goal.invariant-loop-finding

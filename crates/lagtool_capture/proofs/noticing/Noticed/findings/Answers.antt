@@ -1,7 +1,5 @@
-use Rattle.std.proofs.Common.{arith}
-use Rattle.std.proofs.lemmas.List.{length-map}
+use Rattle.lagtool_capture.proofs.Common.{arith, length-map, ends_of}
 use Rattle.findings.specs.declared.watch.Watch.{Watch}
-use Rattle.findings.specs.Knows.{ends_of}
 use Rattle.lagtool_capture.proofs.NoticingLemmas.{end_added}
 use Rattle.lagtool_capture.proofs.noticing.Noticed.findings.Goals as goal
 

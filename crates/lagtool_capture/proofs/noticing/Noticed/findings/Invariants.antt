@@ -1,6 +1,4 @@
-use Rattle.std.proofs.Common.{◌≡◌, take}
-use Rattle.findings.specs.Knows.{ends_of}
-use Rattle.lagtool_capture.specs.Noticing.{Follows, Log, findings_in}
+use Rattle.lagtool_capture.proofs.Common.{take, ◌≡◌, ends_of, Follows, Log, findings_in}
 use Rattle.lagtool_capture.proofs.noticing.Noticed.findings.Given as goal
 
 abbrev pub invariant-loop-index : goal.invariant-loop-index

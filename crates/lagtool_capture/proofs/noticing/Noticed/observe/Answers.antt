@@ -1,9 +1,5 @@
-use Rattle.std.proofs.Common.{◌∙◌, ap, subst, sym}
-use Rattle.std.specs.Prelude.{unwrap_or}
-use Rattle.std.specs.List.{cons_option}
-use Rattle.lagtool_capture.specs.Counting.{one_more}
+use Rattle.lagtool_capture.proofs.Common.{ap, subst, sym, ◌∙◌, cons_option, unwrap_or, one_more, IsKnown}
 use Rattle.lagtool_capture.specs.Frames.{frame_in}
-use Rattle.lagtool_capture.specs.Noticing.{IsKnown}
 use Rattle.lagtool_capture.proofs.noticing.Noticed.observe.Goals as goal
 
 pub returns-in-Some : goal.returns-in-Some

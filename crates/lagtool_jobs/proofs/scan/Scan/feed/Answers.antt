@@ -1,4 +1,4 @@
-use Rattle.std.proofs.Common.{◌++◌, ◌∷◌, [], arith, take}
+use Rattle.lagtool_jobs.proofs.Common.{[], arith, take, ◌++◌, ◌∷◌}
 use Rattle.lagtool_jobs.proofs.ReportLemmas.{ends_line, line_done, reads_both, reads_rest, rest_length}
 use Rattle.lagtool_jobs.proofs.scan.Scan.feed.Goals as goal
 

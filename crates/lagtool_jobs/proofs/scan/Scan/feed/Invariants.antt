@@ -1,6 +1,5 @@
 -- The loop's invariant: the part of the piece that is gone from `rest` was read.
-use Rattle.std.proofs.Common.{ℕ, List, ◌≡◌, ◌+◌, ◌++◌, ◌≤◌, length}
-use Rattle.lagtool_jobs.specs.Scans.{ReadsOctets}
+use Rattle.lagtool_jobs.proofs.Common.{List, length, ℕ, ◌++◌, ◌+◌, ◌≡◌, ◌≤◌, ReadsOctets}
 use Rattle.lagtool_jobs.proofs.scan.Scan.feed.Given as goal
 
 abbrev pub invariant-loop-n : goal.invariant-loop-n

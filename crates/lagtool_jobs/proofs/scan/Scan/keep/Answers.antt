@@ -1,5 +1,4 @@
-use Rattle.std.proofs.Common.{◌++◌, ◌∙◌, ap, arith, cond, refl, string_bytes, subst, take}
-use Rattle.lagtool_jobs.specs.Scans.{ReadsOctets, ScanState}
+use Rattle.lagtool_jobs.proofs.Common.{ap, arith, cond, refl, string_bytes, subst, take, ◌++◌, ◌∙◌, ReadsOctets, ScanState}
 use Rattle.lagtool_jobs.proofs.ReportLemmas.{keeps, on_ok}
 use Rattle.lagtool_jobs.proofs.scan.Scan.keep.Goals as goal
 

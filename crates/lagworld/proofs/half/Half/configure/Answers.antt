@@ -1,7 +1,4 @@
-use Rattle.std.proofs.Common.{ap, refl, Ok, Err}
-use Rattle.lagworld.specs.State.{HalfState}
-use Rattle.lagworld.specs.HalfCalls.{with_state}
-use Rattle.lagworld.specs.Inner.{half_state}
+use Rattle.lagworld.proofs.Common.{Err, Ok, ap, refl, with_state, half_state, HalfState}
 use Rattle.lagworld.proofs.half.Half.configure.Goals as goal
 
 pub returns-in-Ok-clause-configures : goal.returns-in-Ok-clause-configures

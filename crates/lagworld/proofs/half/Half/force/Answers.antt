@@ -1,6 +1,4 @@
-use Rattle.std.proofs.Common.{List, ap}
-use Rattle.lagworld.specs.Inner.{half_state}
-use Rattle.lagworld.specs.State.{HalfState, FlowValue}
+use Rattle.lagworld.proofs.Common.{List, ap, half_state, FlowValue, HalfState}
 use Rattle.lagworld.proofs.OfferLemmas.{freed, not_freed}
 use Rattle.lagworld.proofs.half.Half.force.Goals as goal
 

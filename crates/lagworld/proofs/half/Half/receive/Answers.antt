@@ -1,5 +1,4 @@
-use Rattle.lagworld.specs.Inner.{half_state}
-use Rattle.lagworld.specs.Messages.{item_value}
+use Rattle.lagworld.proofs.Common.{half_state, item_value}
 use Rattle.lagworld.proofs.ArrivingLemmas.{comes_from}
 use Rattle.lagworld.proofs.half.Half.receive.Goals as goal
 

@@ -1,4 +1,4 @@
-use Rattle.lagworld.specs.Inner.{half_state}
+use Rattle.lagworld.proofs.Common.{half_state}
 use Rattle.lagworld.proofs.ArrivingLemmas.{first_comes, none_comes}
 use Rattle.lagworld.proofs.half.Half.receive_first.Goals as goal
 

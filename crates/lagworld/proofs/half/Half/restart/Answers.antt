@@ -1,7 +1,4 @@
-use Rattle.std.proofs.Common.{ap, refl}
-use Rattle.lagworld.specs.State.{HalfState}
-use Rattle.lagworld.specs.HalfCalls.{with_state}
-use Rattle.lagworld.specs.Inner.{half_state}
+use Rattle.lagworld.proofs.Common.{ap, refl, with_state, half_state, HalfState}
 use Rattle.lagworld.proofs.half.Half.restart.Goals as goal
 
 pub returns-clause-restarts : goal.returns-clause-restarts

@@ -1,8 +1,5 @@
-use Rattle.std.proofs.Common.{◌∙◌, subst, refl, arith}
+use Rattle.lagworld.proofs.Common.{arith, refl, subst, ◌∙◌, Tick, CallPromise, half_state}
 use Rattle.lagsystem.specs.declared.drive.Reply.TheVariants as answer
-use Rattle.lagsystem.specs.Calls.{Tick}
-use Rattle.lagsystem.specs.Sound.{CallPromise}
-use Rattle.lagworld.specs.Inner.{half_state}
 use Rattle.lagworld.proofs.Soundness.{one_tick}
 use Rattle.lagworld.proofs.half.Half.tick.Goals as goal
 

@@ -1,6 +1,4 @@
-use Rattle.std.proofs.Common.{◌≡◌, ◌≤◌, ◌-◌}
-use Rattle.lagworld.specs.HalfCalls.{HalfTicks}
-use Rattle.lagworld.specs.Inner.{half_state}
+use Rattle.lagworld.proofs.Common.{◌-◌, ◌≡◌, ◌≤◌, HalfTicks, half_state}
 use Rattle.lagworld.proofs.half.Half.tick.Given as goal
 
 abbrev pub invariant-loop-done : goal.invariant-loop-done

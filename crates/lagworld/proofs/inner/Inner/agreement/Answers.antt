@@ -1,7 +1,4 @@
-use Rattle.std.proofs.Common.{Some, ap, sym, ◌∙◌}
-use Rattle.lagworld.specs.State.{element_numbered}
-use Rattle.lagworld.specs.Agreement.{agreement_of}
-use Rattle.lagworld.specs.WorldCalls.{world_state}
+use Rattle.lagworld.proofs.Common.{Some, ap, sym, ◌∙◌, agreement_of, element_numbered, world_state}
 use Rattle.lagworld.proofs.Agreeing.{agreement_there, no_agreement}
 use Rattle.lagworld.proofs.inner.Inner.agreement.Goals as goal
 

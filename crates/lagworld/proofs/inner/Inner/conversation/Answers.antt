@@ -1,4 +1,4 @@
-use Rattle.lagmodel.specs.World.{One, Two}
+use Rattle.lagworld.proofs.Common.{One, Two}
 use Rattle.lagworld.proofs.inner.Inner.conversation.Goals as goal
 
 pub conversation-requires : goal.conversation-requires

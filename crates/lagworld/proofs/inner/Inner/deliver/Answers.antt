@@ -1,15 +1,5 @@
-use Rattle.std.proofs.Common.{◌≡◌, Some, IsSomeAnd, ap, subst}
-use Rattle.std.specs.Global.{Vec}
-use Rattle.std.specs.Prelude.{option_map, slice_get}
-use Rattle.lagworld.specs.declared.link.Link.{Link as Cabled}
-use Rattle.lagworld.specs.State.{LinkState, port_at, towards}
-use Rattle.lagworld.specs.Events.{Algorithms}
-use Rattle.lagworld.specs.Arriving.{WorldDelivers, WorldReceivesFirst}
-use Rattle.lagworld.specs.WorldCalls.{world_state}
-use Rattle.lagworld.specs.Inner.{link_states}
-use Rattle.lagworld.specs.Messages.{item_value}
-use Rattle.lagworld.specs.Sides.{model_side}
-use Rattle.lagworld.specs.Sound.{both_algorithms}
+use Rattle.lagworld.proofs.Common.{IsSomeAnd, Some, Vec, ap, option_map, slice_get, subst, ◌≡◌, Cabled, WorldDelivers, WorldReceivesFirst, Algorithms}
+use Rattle.lagworld.proofs.Common.{link_states, item_value, model_side, both_algorithms, LinkState, port_at, towards, world_state}
 use Rattle.lagworld.proofs.ArrivingLemmas.{deliver_does}
 use Rattle.lagworld.proofs.inner.Inner.deliver.Goals as goal
 

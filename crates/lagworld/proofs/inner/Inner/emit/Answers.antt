@@ -1,10 +1,4 @@
-use Rattle.std.proofs.Common.{ap, subst}
-use Rattle.lagworld.specs.Events.{WorldEmits}
-use Rattle.lagworld.specs.WorldCalls.{world_state}
-use Rattle.lagworld.specs.Inner.{link_states}
-use Rattle.lagworld.specs.Sides.{model_side}
-use Rattle.lagworld.specs.Sound.{both_algorithms}
-use Rattle.lagworld.specs.State.{with_links}
+use Rattle.lagworld.proofs.Common.{ap, subst, WorldEmits, link_states, model_side, both_algorithms, with_links, world_state}
 use Rattle.lagworld.proofs.EmitLemmas.{stays}
 use Rattle.lagworld.proofs.inner.Inner.emit.Goals as goal
 

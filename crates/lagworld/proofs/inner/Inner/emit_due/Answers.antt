@@ -1,9 +1,5 @@
-use Rattle.std.proofs.Common.{refl, subst, Ok, Err, Some, None}
+use Rattle.lagworld.proofs.Common.{Err, None, Ok, Some, refl, subst, WorldAsksTransmit, model_side, both_algorithms, world_state}
 use Rattle.lagworld.specs.declared.reply.Reply.TheVariants as reply
-use Rattle.lagworld.specs.Asking.{WorldAsksTransmit}
-use Rattle.lagworld.specs.WorldCalls.{world_state}
-use Rattle.lagworld.specs.Sides.{model_side}
-use Rattle.lagworld.specs.Sound.{both_algorithms}
 use Rattle.lagworld.proofs.EmitLemmas.{emits_of, frame_of}
 use Rattle.lagworld.proofs.inner.Inner.emit_due.Goals as goal
 

@@ -1,6 +1,4 @@
-use Rattle.std.proofs.Common.{◌∙◌, sym}
-use Rattle.lagworld.specs.State.{element_numbered}
-use Rattle.lagworld.specs.WorldCalls.{world_state}
+use Rattle.lagworld.proofs.Common.{sym, ◌∙◌, element_numbered, world_state}
 use Rattle.lagworld.proofs.Finding.{ends_there, no_ends}
 use Rattle.lagworld.proofs.inner.Inner.ends.Goals as goal
 

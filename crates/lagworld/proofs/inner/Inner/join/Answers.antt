@@ -1,6 +1,4 @@
-use Rattle.std.proofs.Common.{refl, ap}
-use Rattle.lagworld.specs.State.{with_links}
-use Rattle.lagworld.specs.WorldCalls.{world_state}
+use Rattle.lagworld.proofs.Common.{ap, refl, with_links, world_state}
 use Rattle.lagworld.proofs.LineLemmas.{on_place}
 use Rattle.lagworld.proofs.inner.Inner.join.Goals as goal
 

@@ -1,10 +1,4 @@
-use Rattle.std.proofs.Common.{subst}
-use Rattle.lagworld.specs.Asking.{WorldLoses}
-use Rattle.lagworld.specs.Events.{LosesFrom}
-use Rattle.lagworld.specs.WorldCalls.{world_state}
-use Rattle.lagworld.specs.Inner.{link_states}
-use Rattle.lagworld.specs.Sides.{model_side}
-use Rattle.lagworld.specs.State.{towards, with_links}
+use Rattle.lagworld.proofs.Common.{subst, WorldLoses, LosesFrom, link_states, model_side, towards, with_links, world_state}
 use Rattle.lagworld.proofs.LineLemmas.{on_place}
 use Rattle.lagworld.proofs.LoseLemmas.{lost_there}
 use Rattle.lagworld.proofs.inner.Inner.lose.Goals as goal

@@ -1,5 +1,4 @@
-use Rattle.std.proofs.Common.{ap, sym, refl, ◌∙◌}
-use Rattle.lagworld.specs.Making.{are_empty_lines, first_links}
+use Rattle.lagworld.proofs.Common.{ap, refl, sym, ◌∙◌, are_empty_lines, first_links}
 use Rattle.lagworld.proofs.Making.{first_accepted, made_start, same_test, second_accepted}
 use Rattle.lagworld.proofs.inner.Inner.new.Goals as goal
 

@@ -1,11 +1,5 @@
-use Rattle.std.proofs.Common.{ap, subst, sym, ◌∙◌}
-use Rattle.lagworld.specs.Events.{WorldOffers}
-use Rattle.distributor.specs.Calls.{PicksIndexes}
-use Rattle.lagworld.specs.WorldCalls.{world_state}
-use Rattle.lagworld.specs.Inner.{link_states}
-use Rattle.lagworld.specs.Sides.{model_side}
-use Rattle.lagworld.specs.Sound.{IsSound, both_algorithms}
-use Rattle.lagworld.specs.State.{with_links}
+use Rattle.lagworld.proofs.Common.{ap, subst, sym, ◌∙◌, PicksIndexes, WorldOffers, link_states, model_side, IsSound, both_algorithms, with_links}
+use Rattle.lagworld.proofs.Common.{world_state}
 use Rattle.lagworld.proofs.EmitLemmas.{stays, stays_so}
 use Rattle.lagworld.proofs.inner.Inner.offer.Goals as goal
 

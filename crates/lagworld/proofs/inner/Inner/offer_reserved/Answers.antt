@@ -1,10 +1,5 @@
-use Rattle.std.proofs.Common.{◌∙◌, refl, subst, Ok, Err}
+use Rattle.lagworld.proofs.Common.{Err, Ok, refl, subst, ◌∙◌, WorldAsksOffer, model_side, both_algorithms, half, world_state}
 use Rattle.lagworld.specs.declared.reply.Reply.TheVariants as reply
-use Rattle.lagworld.specs.Asking.{WorldAsksOffer}
-use Rattle.lagworld.specs.WorldCalls.{world_state}
-use Rattle.lagworld.specs.Sides.{model_side}
-use Rattle.lagworld.specs.Sound.{both_algorithms}
-use Rattle.lagworld.specs.State.{half}
 use Rattle.lagworld.proofs.OfferLemmas.{offers_of, long_enough, same_number, taken_there}
 use Rattle.lagworld.proofs.inner.Inner.offer_reserved.Goals as goal
 

@@ -1,5 +1,4 @@
-use Rattle.lagworld.specs.WorldCalls.{world_state}
-use Rattle.lagworld.specs.Sound.{both_algorithms}
+use Rattle.lagworld.proofs.Common.{both_algorithms, world_state}
 use Rattle.lagworld.proofs.Acts.{emit_does, offer_does}
 use Rattle.lagworld.proofs.inner.Inner.play.Goals as goal
 

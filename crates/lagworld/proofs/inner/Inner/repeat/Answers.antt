@@ -1,11 +1,5 @@
-use Rattle.std.proofs.Common.{Some, IsSomeAnd, subst, sym, ◌∙◌}
-use Rattle.std.specs.Prelude.{slice_get}
-use Rattle.lagworld.specs.State.{port_at, towards}
-use Rattle.lagworld.specs.Events.{Algorithms}
-use Rattle.lagworld.specs.Arriving.{WorldRepeats, WorldReceivesFirst}
-use Rattle.lagworld.specs.WorldCalls.{world_state}
-use Rattle.lagworld.specs.Sides.{model_side}
-use Rattle.lagworld.specs.Sound.{both_algorithms}
+use Rattle.lagworld.proofs.Common.{IsSomeAnd, Some, slice_get, subst, sym, ◌∙◌, WorldReceivesFirst, WorldRepeats, Algorithms, model_side}
+use Rattle.lagworld.proofs.Common.{both_algorithms, port_at, towards, world_state}
 use Rattle.lagworld.proofs.ArrivingLemmas.{repeat_does}
 use Rattle.lagworld.proofs.inner.Inner.repeat.Goals as goal
 

@@ -1,5 +1,4 @@
-use Rattle.lagmodel.specs.World.{One, Two}
-use Rattle.lagworld.specs.WorldCalls.{world_state}
+use Rattle.lagworld.proofs.Common.{One, Two, world_state}
 use Rattle.lagworld.proofs.InPlace.{few_changes}
 use Rattle.lagworld.proofs.inner.Inner.restart.Goals as goal
 

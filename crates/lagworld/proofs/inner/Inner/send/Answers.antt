@@ -1,6 +1,4 @@
-use Rattle.lagworld.specs.WorldCalls.{world_state}
-use Rattle.lagworld.specs.Inner.{link_states}
-use Rattle.lagworld.specs.Sides.{model_side}
+use Rattle.lagworld.proofs.Common.{link_states, model_side, world_state}
 use Rattle.lagworld.proofs.EmitLemmas.{frame_sent, sent_reads}
 use Rattle.lagworld.proofs.inner.Inner.send.Goals as goal
 

@@ -1,9 +1,5 @@
-use Rattle.std.proofs.Common.{◌≡◌, ap, sym, ◌∙◌, subst}
-use Rattle.lagworld.specs.WorldCalls.{world_state}
-use Rattle.lagworld.specs.Inner.{link_states}
-use Rattle.lagworld.specs.Places.{AreReserved}
-use Rattle.lagworld.specs.Sides.{model_side}
-use Rattle.lagworld.specs.State.{WorldState, with_links, link_index, put_on_port, is_accepted}
+use Rattle.lagworld.proofs.Common.{ap, subst, sym, ◌∙◌, ◌≡◌, link_states, AreReserved, model_side, WorldState, is_accepted, link_index, put_on_port}
+use Rattle.lagworld.proofs.Common.{with_links, world_state}
 use Rattle.lagworld.proofs.OfferLemmas.{any_reserved, frame_offered}
 use Rattle.lagworld.proofs.inner.Inner.send_offered.Goals as goal
 

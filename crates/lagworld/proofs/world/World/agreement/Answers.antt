@@ -1,5 +1,4 @@
-use Rattle.std.proofs.Common.{◌∙◌, sym}
-use Rattle.lagworld.specs.WorldCalls.{world_state}
+use Rattle.lagworld.proofs.Common.{sym, ◌∙◌, world_state}
 use Rattle.lagworld.proofs.Agreeing.{never_differs}
 use Rattle.lagworld.proofs.world.World.agreement.Goals as goal
 

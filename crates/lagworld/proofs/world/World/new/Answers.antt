@@ -1,4 +1,4 @@
-use Rattle.lagworld.specs.WorldCalls.{world_state}
+use Rattle.lagworld.proofs.Common.{world_state}
 use Rattle.lagworld.proofs.Starts.{start_sound}
 use Rattle.lagworld.proofs.world.World.new.Goals as goal
 

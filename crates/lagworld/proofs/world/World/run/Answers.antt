@@ -1,11 +1,6 @@
-use Rattle.std.proofs.Common.{◌≡◌, ◌∙◌, None, arith, inr, map, take, subst, sym, true}
-use Rattle.distributor.specs.Calls.{PicksIndexes}
-use Rattle.lagmodel.specs.World.{Run, Happens}
-use Rattle.lagscript.specs.declared.event.Event.{Event}
-use Rattle.lagworld.specs.State.{WorldState}
-use Rattle.lagworld.specs.Events.{Algorithms, WorldRuns, WorldSteps, cause, cause_or_no_memory, may_take_memory, model_event}
-use Rattle.lagworld.specs.Sound.{RefusesNext, both_algorithms, next_of}
-use Rattle.lagworld.specs.ModelWorld.{world_setup, model_world}
+use Rattle.lagworld.proofs.Common.{None, arith, inr, map, subst, sym, take, true, ◌∙◌, ◌≡◌, Happens, Run, PicksIndexes, Event, Algorithms, WorldRuns}
+use Rattle.lagworld.proofs.Common.{WorldSteps, cause, cause_or_no_memory, may_take_memory, model_event, model_world, world_setup, RefusesNext}
+use Rattle.lagworld.proofs.Common.{both_algorithms, next_of, WorldState}
 use Rattle.lagworld.proofs.Running.{one_partner_of, agree_of, in_order_of, carries_of, runs_on, world_on, stopped_by}
 use Rattle.lagworld.proofs.world.World.run.Goals as goal
 

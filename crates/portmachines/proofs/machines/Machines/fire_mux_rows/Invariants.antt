@@ -1,7 +1,4 @@
-use Rattle.std.proofs.Common.{◌+◌, ◌≤◌}
-use Rattle.portmachines.specs.Rows.{FiresTimes}
-use Rattle.portmachines.specs.Mux.{mux_rows}
-use Rattle.portmachines.specs.RowsToFire.{mux_rows_to_fire}
+use Rattle.portmachines.proofs.Common.{◌+◌, ◌≤◌, mux_rows, FiresTimes, mux_rows_to_fire}
 use Rattle.portmachines.proofs.machines.Machines.fire_mux_rows.Given as goal
 
 abbrev pub invariant-loop-fired : goal.invariant-loop-fired

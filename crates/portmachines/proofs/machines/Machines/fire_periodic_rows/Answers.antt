@@ -1,5 +1,4 @@
-use Rattle.std.proofs.Common.{arith}
-use Rattle.portmachines.specs.Periodic.{periodic_rows}
+use Rattle.portmachines.proofs.Common.{arith, periodic_rows}
 use Rattle.portmachines.proofs.Runs.{Reaches-more}
 use Rattle.portmachines.proofs.machines.Machines.fire_periodic_rows.Goals as goal
 

@@ -1,7 +1,4 @@
-use Rattle.std.proofs.Common.{◌+◌, ◌≤◌}
-use Rattle.portmachines.specs.Rows.{FiresTimes}
-use Rattle.portmachines.specs.Periodic.{periodic_rows}
-use Rattle.portmachines.specs.RowsToFire.{periodic_rows_to_fire}
+use Rattle.portmachines.proofs.Common.{◌+◌, ◌≤◌, periodic_rows, FiresTimes, periodic_rows_to_fire}
 use Rattle.portmachines.proofs.machines.Machines.fire_periodic_rows.Given as goal
 
 abbrev pub invariant-loop-fired : goal.invariant-loop-fired

@@ -1,5 +1,4 @@
-use Rattle.std.proofs.Common.{arith}
-use Rattle.portmachines.specs.Receive.{receive_rows}
+use Rattle.portmachines.proofs.Common.{arith, receive_rows}
 use Rattle.portmachines.proofs.Runs.{Reaches-more}
 use Rattle.portmachines.proofs.machines.Machines.fire_receive_rows.Goals as goal
 

@@ -1,7 +1,4 @@
-use Rattle.std.proofs.Common.{◌+◌, ◌≤◌}
-use Rattle.portmachines.specs.Rows.{FiresTimes}
-use Rattle.portmachines.specs.Receive.{receive_rows}
-use Rattle.portmachines.specs.RowsToFire.{receive_rows_to_fire}
+use Rattle.portmachines.proofs.Common.{◌+◌, ◌≤◌, receive_rows, FiresTimes, receive_rows_to_fire}
 use Rattle.portmachines.proofs.machines.Machines.fire_receive_rows.Given as goal
 
 abbrev pub invariant-loop-fired : goal.invariant-loop-fired

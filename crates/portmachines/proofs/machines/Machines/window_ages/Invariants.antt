@@ -1,4 +1,4 @@
-use Rattle.std.proofs.Common.{◌≡◌, ◌≤◌, take, length}
+use Rattle.portmachines.proofs.Common.{length, take, ◌≡◌, ◌≤◌}
 use Rattle.portmachines.proofs.machines.Machines.window_ages.Given as goal
 
 abbrev pub invariant-loop-age : goal.invariant-loop-age

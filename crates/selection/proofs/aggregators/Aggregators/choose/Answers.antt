@@ -1,5 +1,4 @@
-use Rattle.std.proofs.Common.{◌≡◌, rules, sym, ◌∙◌}
-use Rattle.selection.specs.Choice.{chosen_if_eligible}
+use Rattle.selection.proofs.Common.{rules, sym, ◌∙◌, ◌≡◌, chosen_if_eligible}
 use Rattle.selection.proofs.Joining.{answer-joins}
 use Rattle.selection.proofs.aggregators.Aggregators.choose.Goals as goal
 

@@ -1,6 +1,5 @@
-use Rattle.std.proofs.lemmas.List.{take_all}
+use Rattle.selection.proofs.Common.{take_all, has_chosen}
 use Rattle.selection.proofs.Rising.{rising-filter}
-use Rattle.selection.specs.Views.{has_chosen}
 use Rattle.selection.proofs.aggregators.Aggregators.members.Goals as goal
 
 pub returns-after-loop-view-clause-ascending : goal.returns-after-loop-view-clause-ascending

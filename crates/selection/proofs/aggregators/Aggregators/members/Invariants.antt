@@ -1,6 +1,4 @@
-use Rattle.std.proofs.Common.{◌≡◌, ◌≤◌, take, length}
-use Rattle.selection.specs.Views.{numbers}
-use Rattle.selection.specs.Choice.{ports_that_chose}
+use Rattle.selection.proofs.Common.{length, take, ◌≡◌, ◌≤◌, ports_that_chose, numbers}
 use Rattle.selection.proofs.aggregators.Aggregators.members.Given as goal
 
 abbrev pub invariant-loop-view : goal.invariant-loop-view

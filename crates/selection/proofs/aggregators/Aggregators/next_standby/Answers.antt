@@ -1,5 +1,4 @@
-use Rattle.std.proofs.Common.{ap, sym, ◌∙◌}
-use Rattle.selection.specs.declared.view.PortView.{PortView}
+use Rattle.selection.proofs.Common.{ap, sym, ◌∙◌, PortView}
 use Rattle.selection.proofs.LimitLemmas.{row_is_next}
 use Rattle.selection.proofs.aggregators.Aggregators.next_standby.Goals as goal
 

@@ -1,4 +1,4 @@
-use Rattle.std.proofs.Common.{sym, ◌∙◌}
+use Rattle.selection.proofs.Common.{sym, ◌∙◌}
 use Rattle.selection.proofs.LimitLemmas.{row_is_next}
 use Rattle.selection.proofs.aggregators.Aggregators.next_standby_index.Goals as goal
 

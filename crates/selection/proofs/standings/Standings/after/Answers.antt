@@ -1,7 +1,4 @@
-use Rattle.std.proofs.Common.{refl, sym}
-use Rattle.std.proofs.lemmas.List.{get_or-replicate}
-use Rattle.selection.specs.declared.standings.Standing.TheVariants.{Empty}
-use Rattle.selection.specs.Standing.{aggregator_after}
+use Rattle.selection.proofs.Common.{refl, sym, get_or-replicate, Empty, aggregator_after}
 use Rattle.selection.proofs.StandingLemmas.{standing-more}
 use Rattle.selection.proofs.standings.Standings.after.Goals as goal
 

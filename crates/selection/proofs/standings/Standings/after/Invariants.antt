@@ -1,6 +1,4 @@
-use Rattle.std.proofs.Common.{◌≡◌, take}
-use Rattle.lagtypes.specs.Group.{group_of}
-use Rattle.selection.specs.Standing.{Tells}
+use Rattle.selection.proofs.Common.{take, ◌≡◌, group_of, Tells}
 use Rattle.selection.proofs.standings.Standings.after.Given as goal
 
 abbrev pub invariant-loop-view : goal.invariant-loop-view

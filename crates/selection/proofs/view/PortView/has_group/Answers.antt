@@ -1,4 +1,4 @@
-use Rattle.std.proofs.Common.{◌∙◌, sym}
+use Rattle.selection.proofs.Common.{sym, ◌∙◌}
 use Rattle.selection.proofs.Equal.{group-without_partner}
 use Rattle.selection.proofs.view.PortView.has_group.Goals as goal
 

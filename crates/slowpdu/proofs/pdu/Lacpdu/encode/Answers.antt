@@ -1,4 +1,4 @@
-use Rattle.std.proofs.Common.{arith}
+use Rattle.slowpdu.proofs.Common.{arith}
 use Rattle.slowpdu.proofs.EncodeLemmas.{written, all_put}
 use Rattle.slowpdu.proofs.pdu.Lacpdu.encode.Goals as goal
 

@@ -1,8 +1,7 @@
 -- `into_parts` moves two fields, and what they own goes with them: the handle holds a system.
+use Rattle.lagffi.proofs.Common.{List, [], ◌++◌, ◌∷◌, refl, subst, sym, IsTrue, None, Option, Some, is_some, B, D, box_typed, word, box_in, box_out}
+use mathlib.Core.Path.{◌≡◌}
 use mathlib.Core.Bool.{false≢true}
-use mathlib.Core.Path.{◌≡◌, refl, sym, subst}
-use Rattle.std.specs.Prelude.{Option, None, Some, IsTrue, is_some}
-use mathlib.Core.List.{List, [], ◌∷◌, ◌++◌}
 use seplogic.Ra.Ura.{Ura}
 use mir.Val.{Val}
 use base.Logic.{SProp, ent, id⊢}
@@ -24,8 +23,6 @@ use denote.Steps.{heard, nothing}
 use denote.Triple.Spec.{triple_of}
 use denote.Triple.Table.{entered}
 use denote.Triple.Walked.{says, Stays, stay_dropped, walk_of, ends_at, Goes-dropped, walk_Meets}
-use Rattle.std_alloc.proofs.BoxSteps.Form.{D, B, word, box_typed}
-use Rattle.std_alloc.proofs.BoxSteps.Steps.{box_out, box_in}
 use Rattle.lagffi.proofs.AsBox.{E, FromHeld as From}
 use Rattle.lagffi.specs.contracts.handle.held.Held as Held
 use Rattle.lagffi.specs.contracts.handle.held.Held.into_parts as F

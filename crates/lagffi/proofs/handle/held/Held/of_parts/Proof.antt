@@ -1,7 +1,5 @@
 -- `of_parts` moves two fields, and what they own goes with them.
-use mathlib.Core.Path.{refl, sym, subst}
-use Rattle.std.specs.Prelude.{Some}
-use mathlib.Core.List.{List, [], ◌∷◌, ◌++◌}
+use Rattle.lagffi.proofs.Common.{List, [], ◌++◌, ◌∷◌, refl, subst, sym, Some, B, D, box_typed, word, box_in, box_out}
 use seplogic.Ra.Ura.{Ura}
 use mir.Val.{Val}
 use base.Logic.{SProp, ent, emp, id⊢}
@@ -23,8 +21,6 @@ use denote.Steps.{nothing}
 use denote.Triple.Spec.{triple_of}
 use denote.Triple.Table.{entered}
 use denote.Triple.Walked.{says, Stays, stay_dropped, walk_of, ends_at, Goes-dropped, walk_Meets}
-use Rattle.std_alloc.proofs.BoxSteps.Form.{D, B, word, box_typed}
-use Rattle.std_alloc.proofs.BoxSteps.Steps.{box_out, box_in}
 use Rattle.lagffi.proofs.AsBox.{E, FromParts as From}
 use Rattle.lagffi.specs.contracts.handle.held.Held.of_parts as F
 use Rattle.lagffi.specs.contracts.handle.held.Held.of_parts.Key.{name as #self}
