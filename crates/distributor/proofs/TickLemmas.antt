@@ -1,9 +1,9 @@
 -- A tick, which is applied to one chain after the other.
-use Rattle.distributor.proofs.Common.{Bool, List, None, ap, arith, cond, eq-eqb, eqb, eqb-true, false, get_or, inl, inr, length, ltb, map, refl, sym}
-use Rattle.distributor.proofs.Common.{true, ℕ, ◌&&◌, ◌+◌, ◌<◌, ◌∙◌, ◌≡◌, ◌≤◌, cases_Bool, cond-false, cond-true, false≢true, le-ltb, lt-ltb}
-use Rattle.distributor.proofs.Common.{ltb-false, ltb-true, ne_eqb, ext_get_or, get_or-map, length-map, mod_below, Assignment, Flushing, Free, On}
-use Rattle.distributor.proofs.Common.{Wanted, IsFlagged, assignment_port, chain_of, changed_in_chain, is_flagged, is_flushing, is_in_chain}
-use Rattle.distributor.proofs.Common.{slot_state, after_tick}
+use Rattle.distributor.proofs.Common.{Bool, List, None, ap, arith, cond, eq-eqb, eqb, eqb-true, false, get_or, inl, inr, length, ltb, map, refl}
+use Rattle.distributor.proofs.Common.{subst, suc, sym, true, zero, ℕ, ◌&&◌, ◌+◌, ◌<◌, ◌∙◌, ◌≡◌, ◌≤◌, cases_Bool, cond-false, cond-true, false≢true}
+use Rattle.distributor.proofs.Common.{le-ltb, lt-ltb, ltb-false, ltb-true, ne_eqb, ext_get_or, get_or-map, length-map, mod_below, Assignment}
+use Rattle.distributor.proofs.Common.{Flushing, Free, On, Wanted, IsFlagged, assignment_port, chain_of, changed_in_chain, is_flagged, is_flushing}
+use Rattle.distributor.proofs.Common.{is_in_chain, slot_state, after_tick}
 use Rattle.distributor.proofs.WalkLemmas.{cond_same, stands_alike, tick_port}
 use Rattle.distributor.proofs.TableLemmas.{map_at}
 
@@ -131,3 +131,13 @@ pub tick_ends : (olds states : List Assignment) → Ticking 64 olds states → s
 tick_ends olds states h = ext_get_or (Free None) states (map after_tick olds) (h.long ∙ sym (length-map olds after_tick))
     (λ k lt. (let low : k < length olds = omega (arith, lt, h.long) in
     h.each k ∙ ticked_last (slot_state olds k) ∙ sym (get_or-map after_tick olds k (Free None) (Free None) low)))
+
+-- where no chain has the flag 'Flushing', a tick changes nothing
+pub none_ticked : (states : List Assignment) (wanted flushing : List Bool) → IsFlagged states wanted flushing
+    → ((c : ℕ) → get_or flushing c false ≡ false) → states ≡ map after_tick states
+none_ticked states wanted flushing f none = tick_ends states states (passed 64)
+  where
+    passed : (c : ℕ) → Ticking c states states
+    passed zero = tick_begins states
+    passed (suc c) = let more : c + 1 ≡ suc c = omega arith in
+        subst (λ n. Ticking n states states) more (tick_passed c states states wanted flushing (passed c) f (none c))

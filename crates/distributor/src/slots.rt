@@ -286,8 +286,34 @@ impl Slots {
         self.change_chain(chain, Change::Tick);
     }
 
+    /// Whether some chain has a flag for Flushing. Each flag is read, so that the compiler can read many at once.
+    fn any_may_flush(&self) -> bool
+        requires flagged { AreFlagged self.now }
+        ensures { OnFalse result ((c : ℕ) → get_or self.now.may_flush.items c false ≡ false) }
+    {
+        let mut any = false;
+        for chain in 0..CHAINS {
+            any |= self.may_flush[chain as usize];
+        }
+        any
+    }
+
     /// One tick for each conversation. Only chains with a flag for Flushing are read.
     pub(crate) fn tick(&mut self)
+        requires chained { AreChained self.old }
+        requires flagged { AreFlagged self.old }
+        ensures chained { AreChained self.new }
+        ensures flagged { AreFlagged self.new }
+        ensures states { self.new.states.items ≡ map after_tick self.old.states.items }
+        ensures count { self.new.count ≡ self.old.count }
+    {
+        if self.any_may_flush() {
+            self.tick_chains();
+        }
+    }
+
+    /// The same, chain by chain.
+    fn tick_chains(&mut self)
         requires chained { AreChained self.old }
         requires flagged { AreFlagged self.old }
         ensures chained { AreChained self.new }

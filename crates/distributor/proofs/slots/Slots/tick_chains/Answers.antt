@@ -1,0 +1,50 @@
+use Rattle.distributor.proofs.Common.{arith, false, get_or, length, refl, subst, sym, ◌+◌, ◌<◌, ◌∙◌, ◌≡◌, ◌≤◌, get_or_read}
+use Rattle.distributor.proofs.TickLemmas.{Ticking, tick_begins, tick_ends, tick_passed, tick_walked}
+use Rattle.distributor.proofs.slots.Slots.tick_chains.Goals as goal
+use Rattle.distributor.proofs.slots.Slots.tick_chains.Goals.{then-index, else-index}
+
+pub loop-chain-init : goal.loop-chain-init
+loop-chain-init c = record {
+  chained = c.requires.chained;
+  flagged = c.requires.flagged;
+  ticking = tick_begins c.args.self.now.states.items;
+  count = refl;
+  few = omega arith;
+}
+
+pub loop-chain-preserved : goal.loop-chain-preserved
+loop-chain-preserved c =
+    let i = c.loop-chain.invariant in
+    let few : c.loop-chain.chain + 1 ≤ 64 = omega (arith, c.loop-chain-test.true) in
+    elim c.if-index.branch [
+      | then-index w ↦
+          rw w.self-is record {
+            chained = w.tick_chain.ensures.chained;
+            flagged = w.tick_chain.ensures.flagged;
+            ticking = tick_walked c.loop-chain.chain c.args.self.now.states.items c.loop-chain.self.states.items _ i.ticking
+                w.tick_chain.ensures.states;
+            count = w.tick_chain.ensures.count ∙ i.count;
+            few = few;
+          }
+      | else-index w ↦
+          (let inside : c.loop-chain.chain < length c.loop-chain.self.may_flush.items =
+          omega (arith, c.loop-chain-test.true, i.flagged.flushing_len) in
+          let none : get_or c.loop-chain.self.may_flush.items c.loop-chain.chain false ≡ false =
+          sym (get_or_read c.loop-chain.self.may_flush.items c.loop-chain.chain c.index.result.now inside c.index.ensures false)
+          ∙ w.if-index.false in
+          rw w.self-is record {
+            chained = i.chained;
+            flagged = i.flagged;
+            ticking = tick_passed c.loop-chain.chain c.args.self.now.states.items c.loop-chain.self.states.items
+                c.loop-chain.self.may_want.items c.loop-chain.self.may_flush.items i.ticking i.flagged none;
+            count = i.count;
+            few = few;
+          })
+    ]
+
+pub returns-clause-states : goal.returns-clause-states
+returns-clause-states c =
+    let i = c.loop-chain.invariant in
+    let done : c.loop-chain.chain ≡ 64 = omega (arith, c.loop-chain-test.false, i.few) in
+    tick_ends c.args.self.now.states.items c.loop-chain.self.states.items
+    (subst (λ n. Ticking n c.args.self.now.states.items c.loop-chain.self.states.items) done i.ticking)
