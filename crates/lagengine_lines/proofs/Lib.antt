@@ -1,5 +1,4 @@
 mod Common
-pub mod WordLemmas
 pub mod TextLemmas
 pub mod LookLemmas
 pub mod LineLemmas

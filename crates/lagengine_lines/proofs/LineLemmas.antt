@@ -1,5 +1,6 @@
 -- The reading of a line, by its text.
-use Rattle.lagengine_lines.proofs.Common.{Bool, Err, List, false, refl, true, ℕ, ◌≡◌, IsUtf8, is_utf8, NotText, request_of_octets, request_of_text}
+use Rattle.lagengine_lines.proofs.Common.{Bool, Err, List, false, refl, true, ℕ, ◌≡◌, NotText, request_of_octets, request_of_text}
+use Rattle.std.specs.Str.{IsUtf8, is_utf8}
 use Rattle.std.proofs.lemmas.Str.{IsUtf8-from_is_utf8, is_utf8-from_IsUtf8}
 
 pub reads_text : (line text : List ℕ) → text ≡ line → IsUtf8 line → request_of_text text ≡ request_of_octets line

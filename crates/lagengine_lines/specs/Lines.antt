@@ -3,7 +3,7 @@ use Rattle.std.specs.Prelude.{ℕ, List, [], ◌∷◌, length, nat_lt, if◌the
 use Rattle.std.specs.Str.{is_utf8}
 use Rattle.lagstreams.specs.Lines.{longest_line, without_return}
 use Rattle.lagengine_lines.specs.Requests.{RequestValue, request_named}
-use Rattle.lagengine_lines.specs.Words.{parts}
+use Rattle.lagtypes.specs.Words.{words_of}
 use Rattle.lagengine_lines.specs.declared.fault.RequestFault.{RequestFault}
 use Rattle.lagengine_lines.specs.declared.fault.RequestFault.TheVariants.{TooLong, NotText, Word}
 
@@ -14,7 +14,7 @@ request_of_words (name ∷ ws) = request_named name ws
 
 -- the request of a line that is UTF-8: its words are cut at every single space
 abbrev pub request_of_text : List ℕ → Result RequestValue RequestFault
-request_of_text text = request_of_words (parts 32 text)
+request_of_text text = request_of_words (words_of text)
 
 -- the request of a line that is not too long, without a carriage return at its end; or the first fault
 abbrev pub request_of_octets : List ℕ → Result RequestValue RequestFault

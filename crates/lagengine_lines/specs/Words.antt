@@ -2,11 +2,10 @@
 -- A fault of a word has its place.
 use Rattle.std.specs.Prelude.{ℕ, ◌+◌, ◌==◌, ◌&&◌, Bool, true, false, List, [], ◌∷◌, codes, length, nat_lt, if◌then◌else◌, Option, Some, None}
 use Rattle.std.specs.Prelude.{nat_le, Result, Ok, Err}
-use Rattle.std.specs.List.{slice_split}
 use Rattle.std.specs.Result.{result_ok}
-use Rattle.std.specs.Str.{all_ascii_digits, bytes_eq}
-use Rattle.std.specs.Str.Parse.{digits_value}
+use Rattle.std.specs.Str.{bytes_eq}
 use Rattle.hex.specs.Hex.{decode_of, decode_sized}
+use Rattle.lagtypes.specs.Words.{number_below, parts}
 use Rattle.lagtypes.specs.declared.identifiers.Key.{Key}
 use Rattle.lagsystem.specs.declared.config.PortConfig.{PortConfig}
 use Rattle.lagengine_lines.specs.declared.fault.RequestFault.{RequestFault}
@@ -32,18 +31,6 @@ each f (x ∷ rest) = f x >>= λ y. each f rest >>= λ ys. Ok (y ∷ ys)
 abbrev pub each_at_place : {A X E : Type 0} → (ℕ → X → Result A E) → ℕ → List X → Result (List A) E
 each_at_place f place [] = Ok []
 each_at_place f place (x ∷ rest) = f place x >>= λ y. each_at_place f (place + 1) rest >>= λ ys. Ok (y ∷ ys)
-
--- the parts of a text between octets that are this one
-abbrev pub parts : ℕ → List ℕ → List (List ℕ)
-parts cut text = slice_split (λ b. b == cut) text
-
--- one or more decimal digits
-abbrev pub is_numeral : List ℕ → Bool
-is_numeral w = nat_lt 0 (length w) && all_ascii_digits w
-
--- the value of a word of decimal digits, if it is below a limit; leading zeros are allowed
-abbrev pub number_below : ℕ → List ℕ → Option ℕ
-number_below limit w = if is_numeral w && nat_lt (digits_value 10 w) limit then Some (digits_value 10 w) else None
 
 -- a number from 0 to 65535
 abbrev pub number_word : ℕ → List ℕ → Result ℕ RequestFault

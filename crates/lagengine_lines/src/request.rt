@@ -10,9 +10,10 @@ ghost use Rattle.lagengine_lines.specs.Words.{hex_word, number_word, numbers_wor
 use crate::call_words::call_named;
 use crate::config::system;
 use crate::fault::{RequestError, RequestFault};
-use crate::words::{number, numbers, octets, words_of};
+use crate::words::{number, numbers, octets};
 use lagstreams::{LONGEST_LINE, without_return};
 use lagsystem::{AggId, Call, Config};
+use lagtypes::words_of;
 use std::alloc::Global;
 
 /// A question about one port.

@@ -1,18 +1,13 @@
 ghost use Rattle.std.specs.Prelude.{◌≡◌, IfOk, map};
 ghost use Rattle.lagengine_lines.specs.Requests.{ReadsAs};
-ghost use Rattle.lagengine_lines.specs.Words.{flag_word, hex_word, aggregation_word, link_word, long_number_word, mac_word, number_below};
-ghost use Rattle.lagengine_lines.specs.Words.{each, number_word, numbers_word, parts, ticks_word};
+ghost use Rattle.lagengine_lines.specs.Words.{flag_word, hex_word, aggregation_word, link_word, long_number_word, mac_word};
+ghost use Rattle.lagengine_lines.specs.Words.{each, number_word, numbers_word, ticks_word};
+ghost use Rattle.lagtypes.specs.Words.{parts};
 
 use crate::fault::{RequestError, RequestFault};
 use hex::{FromHex, FromHexError};
+use lagtypes::{long_number_of, number_of};
 use std::alloc::{AllocError, Global};
-
-/// The words of a line, cut at every single space.
-pub(crate) fn words_of<'a>(alloc: Global, text: &'a str) -> Result<Vec<&'a str>, AllocError>
-    ensures { IfOk result (λ words. map (λ w. w.now) words.items ≡ parts 32 text.now) }
-{
-    text.split(' ').collect(alloc)
-}
 
 /// The fields of a word, between colons.
 pub(crate) fn fields_of<'a>(alloc: Global, word: &'a str) -> Result<Vec<&'a str>, AllocError>
@@ -26,27 +21,6 @@ pub(crate) fn items_of<'a>(alloc: Global, word: &'a str) -> Result<Vec<&'a str>,
     ensures { IfOk result (λ words. map (λ w. w.now) words.items ≡ parts 44 word.now) }
 {
     word.split(',').collect(alloc)
-}
-
-/// The value of a word of decimal digits, 0 to 65535.
-fn number_of(word: &str) -> Option<u16>
-    ensures { result ≡ number_below 65536 word.now }
-{
-    // `parse` would accept a plus sign too.
-    if word.starts_with('+') {
-        return None;
-    }
-    word.parse().ok()
-}
-
-/// The value of a word of decimal digits, 0 to 4294967295.
-fn long_number_of(word: &str) -> Option<u32>
-    ensures { result ≡ number_below 4294967296 word.now }
-{
-    if word.starts_with('+') {
-        return None;
-    }
-    word.parse().ok()
 }
 
 /// Reads the word at this place as a number from 0 to 65535, in decimal digits.

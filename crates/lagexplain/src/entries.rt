@@ -5,8 +5,9 @@ ghost use Rattle.lagexplain.specs.Entries.{entry_at};
 
 use crate::arrays::count_at;
 use crate::names::{is_among, list, nearest, quote};
-use crate::words::{first_wrong, words_of};
+use crate::words::first_wrong;
 use lagscript::{EntryFault, Form, NAMES, WordKind, form_of};
+use lagtypes::words_of;
 use std::alloc::{AllocError, Global};
 use toml::{Table, Value};
 

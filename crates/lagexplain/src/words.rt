@@ -1,28 +1,10 @@
 ghost use Rattle.std.specs.Prelude.{◌≡◌, IfOk, map, slice_get};
-ghost use Rattle.lagscript.specs.Words.{number_below, words_of};
 ghost use Rattle.lagexplain.specs.Entries.{first_wrong, is_wrong, is_wrong_at};
 
 use hex::FromHexError;
 use lagscript::WordKind;
+use lagtypes::number_of;
 use std::alloc::{AllocError, Global};
-
-/// The words of a text, cut at every single space.
-pub(crate) fn words_of<'a>(alloc: Global, text: &'a str) -> Result<Vec<&'a str>, AllocError>
-    ensures { IfOk result (λ words. map (λ w. w.now) words.items ≡ words_of text.now) }
-{
-    text.split(' ').collect(alloc)
-}
-
-/// The value of a word of decimal digits, 0 to 65535.
-fn number_of(word: &str) -> Option<u16>
-    ensures { result ≡ number_below 65536 word.now }
-{
-    // `parse` would accept a plus sign too.
-    if word.starts_with('+') {
-        return None;
-    }
-    word.parse().ok()
-}
 
 /// Whether the word is none of its kind, in a script with this many cables.
 fn is_wrong(alloc: Global, cables: usize, kind: WordKind, word: &str) -> Result<bool, AllocError>

@@ -1,9 +1,7 @@
 -- The names that proofs of this crate import, passed on from one place. Declares nothing; tools/proof-imports writes it.
 pub use Rattle.std.proofs.Common.{All, Bool, Bor, Err, Global, List, None, Ok, Option, Result, Some, String, [], add-one, ap, ap₂, arith, bytes_eq}
-pub use Rattle.std.proofs.Common.{codes, cond, drop, false, get_or, if◌then◌else◌, inl, inr, length, lit<, map, nat_le, nat_lt, option_and_then}
-pub use Rattle.std.proofs.Common.{option_map, refl, rules, string_bytes, subst, suc, sym, take, true, zero, ℕ, ◌&&◌, ◌++◌, ◌+◌, ◌<◌, ◌^◌, ◌||◌, ◌∙◌}
-pub use Rattle.std.proofs.Common.{◌∷◌, ◌≡◌, ◌≢◌, ◌≤◌, ◌⊎◌}
-pub use Rattle.std.proofs.lemmas.Bool.{eqb-false, lt-ltb, ltb-true}
+pub use Rattle.std.proofs.Common.{codes, cond, drop, false, if◌then◌else◌, inl, inr, length, map, nat_le, option_and_then, option_map, refl, rules}
+pub use Rattle.std.proofs.Common.{string_bytes, subst, suc, sym, take, true, zero, ℕ, ◌&&◌, ◌++◌, ◌+◌, ◌<◌, ◌^◌, ◌||◌, ◌∙◌, ◌∷◌, ◌≡◌, ◌≢◌, ◌≤◌, ◌⊎◌}
 pub use Rattle.toml.specs.Data.{Data, Members, as_str, as_table, get_member}
 pub use Rattle.toml.specs.View.{items_view, members_view, table_view, view}
 pub use Rattle.lagsystem.specs.First.{ConfigValue, config_value, or_first, refusal}

@@ -4,6 +4,5 @@ pub mod DocumentFaults
 pub mod DocumentLemmas
 pub mod LimitLemmas
 pub mod EntryLemmas
-pub mod WordLemmas
 pub mod Walks
 pub mod ScriptLemmas

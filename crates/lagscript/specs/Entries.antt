@@ -4,7 +4,8 @@ use Rattle.std.specs.Prelude.{Option, Some, None, option_map, take, Result, Ok, 
 use Rattle.std.specs.Str.{bytes_eq}
 use Rattle.lagscript.specs.EventValues.{EntryForm, EventValue, WordValue, system, cable, number, aggregation, octets, event_value, forms}
 use Rattle.lagscript.specs.Readings.{◌>>=◌, each_at_place, or_fault, if_or_fault}
-use Rattle.lagscript.specs.Words.{number_below, octets_of, words_of}
+use Rattle.lagscript.specs.Words.{octets_of}
+use Rattle.lagtypes.specs.Words.{number_below, words_of}
 use Rattle.lagscript.specs.declared.event.Event.{Event}
 use Rattle.lagscript.specs.declared.fault.EntryFault.{EntryFault}
 use Rattle.lagscript.specs.declared.fault.EntryFault.TheVariants as entry

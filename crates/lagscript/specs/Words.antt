@@ -1,22 +1,8 @@
--- The words of a text, and the numbers, addresses and octets that they stand for (profile).
-use Rattle.std.specs.Prelude.{ℕ, ◌==◌, ◌&&◌, Bool, List, [], ◌∷◌, length, map, nat_lt, slice_index, if◌then◌else◌, Option, Some, None}
-use Rattle.std.specs.List.{list_all, slice_split}
-use Rattle.std.specs.Str.{all_ascii_digits}
+-- The addresses and octets that the words of a script stand for (profile).
+use Rattle.std.specs.Prelude.{ℕ, ◌==◌, ◌&&◌, Bool, List, [], ◌∷◌, length, map, slice_index, if◌then◌else◌, Option, None}
+use Rattle.std.specs.List.{list_all}
 use Rattle.std.specs.Result.{result_ok}
-use Rattle.std.specs.Str.Parse.{digits_value}
 use Rattle.hex.specs.Hex.{decode_of, decode_sized}
-
--- the words of a text, cut at every single space
-abbrev pub words_of : List ℕ → List (List ℕ)
-words_of text = slice_split (λ b. b == 32) text
-
--- one or more decimal digits
-abbrev pub is_numeral : List ℕ → Bool
-is_numeral w = nat_lt 0 (length w) && all_ascii_digits w
-
--- the value of a word of decimal digits, if it is below a limit; leading zeros are allowed
-abbrev pub number_below : ℕ → List ℕ → Option ℕ
-number_below limit w = if is_numeral w && nat_lt (digits_value 10 w) limit then Some (digits_value 10 w) else None
 
 -- the places of the dashes in a MAC address, and those of its digits
 abbrev pub dash_places : List ℕ

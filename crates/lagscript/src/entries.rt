@@ -9,9 +9,9 @@ ghost use Rattle.lagscript.specs.declared.forms.WordKind.TheVariants.{Number};
 use crate::event::Event;
 use crate::fault::EntryFault;
 use crate::forms::{Form, WordKind};
-use crate::words::{NoOctets, number_of, octets_of, words_of};
+use crate::words::{NoOctets, octets_of};
 use lagsystem::PortChange;
-use lagtypes::{AggId, Key};
+use lagtypes::{AggId, Key, number_of, words_of};
 use std::alloc::{AllocError, Global};
 
 /// Why an entry cannot be read as an event.

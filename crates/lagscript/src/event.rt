@@ -1,10 +1,9 @@
 ghost use Rattle.std.specs.Prelude.{◌≡◌, Some};
-ghost use Rattle.lagtypes.specs.Texts.{hex_text};
 ghost use Rattle.lagscript.specs.EntryTexts.{change_text, entry_text, frame_text};
 ghost use Rattle.lagscript.specs.EventValues.{cable_named, event_value, system_named};
 
 use lagsystem::PortChange;
-use lagtypes::AggId;
+use lagtypes::{AggId, OctetText};
 use std::fmt;
 
 /// An event of two systems and their cables. The values have the order of the words in a script. A system is 1 or 2,
@@ -81,19 +80,6 @@ impl Event {
             Event::Move(system, _, _, _) => Some(*system),
             Event::Force(system, _, _) => Some(*system),
         }
-    }
-}
-
-/// An octet as two lower-case hexadecimal digits (profile).
-#[derive(Clone, Copy)]
-pub struct OctetText(pub u8);
-
-impl fmt::Display for OctetText {
-    ghost output = { λ o. Some (hex_text o.0) };
-
-    fn fmt<W: fmt::Write>(&self, f: &mut fmt::Formatter<W>) -> fmt::Result {
-        let octet = self.0;
-        write!(f, "{octet:02x}")
     }
 }
 

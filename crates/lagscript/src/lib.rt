@@ -17,7 +17,7 @@ mod words;
 
 pub use config::{BadWorld, WorldConfig};
 pub use entries::{NAMES, form_of};
-pub use event::{Event, OctetText};
+pub use event::Event;
 pub use fault::{EntryFault, PortKey, ScriptFault, SystemKey};
 pub use forms::{Form, WordKind};
 pub use laws::scripts_have_a_limit_of_entries;

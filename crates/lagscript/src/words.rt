@@ -1,27 +1,9 @@
-ghost use Rattle.std.specs.Prelude.{◌≡◌, Some, None, IfOk, Err, map};
+ghost use Rattle.std.specs.Prelude.{◌≡◌, Some, None, IfOk, Err};
 ghost use Rattle.lagscript.specs.declared.words.NoOctets.TheVariants.{NotHex};
-ghost use Rattle.lagscript.specs.Words.{is_dashed, mac_of, number_below, octets_of, words_of};
+ghost use Rattle.lagscript.specs.Words.{is_dashed, mac_of, octets_of};
 
 use hex::{FromHex, FromHexError};
-use std::alloc::{AllocError, Global};
-
-/// The words of a text, cut at every single space.
-pub(crate) fn words_of<'a>(alloc: Global, text: &'a str) -> Result<Vec<&'a str>, AllocError>
-    ensures { IfOk result (λ words. map (λ w. w.now) words.items ≡ words_of text.now) }
-{
-    text.split(' ').collect(alloc)
-}
-
-/// The value of a word of decimal digits, 0 to 65535.
-pub(crate) fn number_of(word: &str) -> Option<u16>
-    ensures { result ≡ number_below 65536 word.now }
-{
-    // `parse` would accept a plus sign too.
-    if word.starts_with('+') {
-        return None;
-    }
-    word.parse().ok()
-}
+use std::alloc::Global;
 
 /// Whether the text has 17 octets, with dashes where a MAC address has them.
 fn is_dashed(text: &[u8]) -> bool

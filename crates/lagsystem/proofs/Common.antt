@@ -32,6 +32,7 @@ pub use Rattle.lagtypes.specs.Same.{same_party, same_system}
 pub use Rattle.lagtypes.specs.States.{bits_of, with_synchronization, with_timeout}
 pub use Rattle.lagtypes.proofs.SameLemmas.{exact_party, exact_system, itself}
 pub use Rattle.lagtypes.proofs.StateLemmas.{encode_then_decode}
+pub use Rattle.lagtypes.proofs.WritingLemmas.{SoFar, SoFar-all, SoFar-more}
 pub use Rattle.slowpdu.specs.declared.pdu.Info.{Info}
 pub use Rattle.slowpdu.specs.declared.pdu.Lacpdu.{Lacpdu}
 pub use Rattle.slowpdu.specs.declared.pdu.Marker.{Marker}

@@ -10,7 +10,7 @@ use Rattle.lagtool_jobs.proofs.Common.{up_to_most, has_system, most_events}
 use Rattle.lagscript.specs.Entries.{event_at, event_in, event_of_form, event_of_form_if_any, event_of_words, events_from, at_entry, form_named}
 use Rattle.lagscript.specs.Entries.{aggregation_word, cable_word, hex_word, number_word, system_word, ticks_word, word_value, words_said}
 use Rattle.lagscript.specs.Keys.{keys_among, list_in, value_at, value_or}
-use Rattle.lagscript.specs.Words.{words_of}
+use Rattle.lagtypes.specs.Words.{words_of}
 use Rattle.lagscript.specs.declared.fault.EntryFault.{EntryFault}
 use Rattle.lagscript.specs.declared.fault.ScriptFault.TheVariants as script
 use Rattle.lagscript.specs.declared.forms.WordKind.{WordKind}

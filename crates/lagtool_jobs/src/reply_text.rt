@@ -2,8 +2,8 @@ ghost use Rattle.std.specs.Prelude.{Some};
 ghost use Rattle.lagtool_jobs.specs.ReplyTexts.{agreement_text, sent_or_lost_text, refused_text, reply_text};
 
 use bitflags::Flags;
-use lagscript::OctetText;
 use lagsystem::SystemFault;
+use lagtypes::OctetText;
 use lagworld::{Agreement, Reply};
 use std::fmt;
 

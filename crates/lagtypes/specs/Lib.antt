@@ -5,3 +5,4 @@ pub mod Choices
 pub mod Group
 pub mod Same
 pub mod Texts
+pub mod Words

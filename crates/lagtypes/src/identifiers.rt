@@ -50,11 +50,11 @@ impl PortId {
     }
 }
 
-/// An octet as two lower-case hexadecimal digits.
+/// An octet as two lower-case hexadecimal digits (profile).
 #[derive(Clone, Copy)]
-pub(crate) struct HexOctet(pub u8);
+pub struct OctetText(pub u8);
 
-impl fmt::Display for HexOctet {
+impl fmt::Display for OctetText {
     ghost output = { λ o. Some (hex_text o.0) };
 
     fn fmt<W: fmt::Write>(&self, f: &mut fmt::Formatter<W>) -> fmt::Result {
@@ -75,12 +75,12 @@ impl fmt::Display for MacText<'_> {
         write!(
             f,
             "{}-{}-{}-{}-{}-{}",
-            HexOctet(a),
-            HexOctet(b),
-            HexOctet(c),
-            HexOctet(d),
-            HexOctet(e),
-            HexOctet(last)
+            OctetText(a),
+            OctetText(b),
+            OctetText(c),
+            OctetText(d),
+            OctetText(e),
+            OctetText(last)
         )
     }
 }

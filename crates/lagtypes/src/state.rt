@@ -4,7 +4,7 @@ ghost use Rattle.std.specs.Int.RustNames.{bit_or};
 ghost use Rattle.lagtypes.specs.States.{bits_of, state_from_bits, with_synchronization, with_timeout};
 ghost use Rattle.lagtypes.specs.Texts.{joined_words, set_words, state_text};
 
-use crate::identifiers::HexOctet;
+use crate::identifiers::OctetText;
 use bitflags::{Flag, Flags, bitflag_items};
 use std::fmt;
 
@@ -237,7 +237,7 @@ impl fmt::Display for State {
     /// Two lower-case hexadecimal digits, a space, and the names of the bits that are 1, lowest bit first, with commas
     /// between, or `none`.
     fn fmt<W: fmt::Write>(&self, f: &mut fmt::Formatter<W>) -> fmt::Result {
-        write!(f, "{} ", HexOctet(self.0))?;
+        write!(f, "{} ", OctetText(self.0))?;
         write_words(f, *self, &WORDS)
     }
 }

@@ -1,6 +1,9 @@
 use crate::comparing::{holds, same, same_in_row};
 use bitflags::Flags;
-use lagtypes::{AggId, Choice, Group, Key, Party, PortId, State, StateBits, SystemId};
+use lagtypes::{
+    AggId, Choice, Group, Key, OctetText, Party, PortId, State, StateBits, SystemId,
+    long_number_of, number_of, words_of,
+};
 use std::alloc::{AllocError, Global};
 use std::cmp::Ordering;
 use std::process::Abort;
@@ -254,5 +257,45 @@ fn numbers_print_as_decimal(rt: HostRuntime) -> Result<(), AllocError> {
     same(&rt, "an aggregator", &aggregator.as_str(), &"1");
     let first = Choice::Selected(AggId(1));
     holds(&rt, "not SELECTED at first", Choice::default() != first);
+    Ok(())
+}
+
+#[test]
+fn words_are_cut_at_single_spaces(rt: HostRuntime) -> Result<(), AllocError> {
+    let words = words_of(rt.alloc(), "tick  1\t2 ")?;
+    same(&rt, "count", &words.len(), &4);
+    for (place, wanted) in ["tick", "", "1\t2", ""].iter().enumerate() {
+        same_in_row(&rt, place, &words.get(place), &Some(wanted));
+    }
+    Ok(())
+}
+
+#[test]
+fn numbers_are_decimal_digits(rt: HostRuntime) {
+    let rows = [
+        ("0", Some(0)),
+        ("007", Some(7)),
+        ("65535", Some(65535)),
+        ("65536", None),
+        ("+1", None),
+        ("-1", None),
+        ("", None),
+        ("1x", None),
+        (" 1", None),
+    ];
+    for (row, (word, wanted)) in rows.iter().enumerate() {
+        same_in_row(&rt, row, &number_of(*word), wanted);
+    }
+    let greatest = long_number_of("4294967295");
+    same(&rt, "greatest", &greatest, &Some(4294967295));
+    let past = long_number_of("4294967296");
+    same(&rt, "past the greatest", &past, &None);
+    same(&rt, "plus sign", &long_number_of("+1"), &None);
+}
+
+#[test]
+fn octets_print_as_two_digits(rt: HostRuntime) -> Result<(), AllocError> {
+    let octet = format!(in rt.alloc(); "{}", OctetText(0x0b))?;
+    same(&rt, "an octet", &octet.as_str(), &"0b");
     Ok(())
 }

@@ -1,6 +1,6 @@
 use Rattle.std.proofs.Common.{arith}
 use Rattle.findings.specs.Knows.{Takes}
-use Rattle.findings.proofs.Lists.{SoFar-more, SoFar-all}
+use Rattle.lagtypes.proofs.WritingLemmas.{SoFar-more, SoFar-all}
 use Rattle.findings.proofs.observing.see_each.Goals as goal
 
 pub loop-watch-preserved : goal.loop-watch-preserved

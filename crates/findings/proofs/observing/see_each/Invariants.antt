@@ -1,5 +1,5 @@
 use Rattle.findings.specs.Knows.{Takes}
-use Rattle.findings.proofs.Lists.{SoFar}
+use Rattle.lagtypes.proofs.WritingLemmas.{SoFar}
 use Rattle.findings.proofs.observing.see_each.Given as goal
 
 abbrev pub invariant-loop-watch : goal.invariant-loop-watch

@@ -1,5 +1,4 @@
-use Rattle.lagsystem.proofs.Common.{arith, mux_rows, RunsToRest, PortChangesBy, ready_of}
-use Rattle.lagsystem.proofs.Lists.{SoFar-more, SoFar-all}
+use Rattle.lagsystem.proofs.Common.{arith, SoFar-all, SoFar-more, mux_rows, RunsToRest, PortChangesBy, ready_of}
 use Rattle.lagsystem.proofs.settling.run_each_mux.Goals as goal
 
 pub loop-system_port-preserved : goal.loop-system_port-preserved

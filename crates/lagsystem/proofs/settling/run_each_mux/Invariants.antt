@@ -1,5 +1,4 @@
-use Rattle.lagsystem.proofs.Common.{mux_rows, RunsToRest, PortChangesBy, ready_of}
-use Rattle.lagsystem.proofs.Lists.{SoFar}
+use Rattle.lagsystem.proofs.Common.{SoFar, mux_rows, RunsToRest, PortChangesBy, ready_of}
 use Rattle.lagsystem.proofs.settling.run_each_mux.Given as goal
 
 abbrev pub invariant-loop-system_port : goal.invariant-loop-system_port

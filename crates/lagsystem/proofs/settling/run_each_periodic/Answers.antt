@@ -1,5 +1,4 @@
-use Rattle.lagsystem.proofs.Common.{arith, RunsPeriodic, PortChangesBy}
-use Rattle.lagsystem.proofs.Lists.{SoFar-more, SoFar-all}
+use Rattle.lagsystem.proofs.Common.{arith, SoFar-all, SoFar-more, RunsPeriodic, PortChangesBy}
 use Rattle.lagsystem.proofs.settling.run_each_periodic.Goals as goal
 
 pub loop-system_port-preserved : goal.loop-system_port-preserved

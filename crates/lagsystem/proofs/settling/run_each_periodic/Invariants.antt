@@ -1,5 +1,4 @@
-use Rattle.lagsystem.proofs.Common.{RunsPeriodic, PortChangesBy}
-use Rattle.lagsystem.proofs.Lists.{SoFar}
+use Rattle.lagsystem.proofs.Common.{SoFar, RunsPeriodic, PortChangesBy}
 use Rattle.lagsystem.proofs.settling.run_each_periodic.Given as goal
 
 abbrev pub invariant-loop-system_port : goal.invariant-loop-system_port

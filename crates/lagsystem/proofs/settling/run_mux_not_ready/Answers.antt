@@ -1,5 +1,4 @@
-use Rattle.lagsystem.proofs.Common.{arith, false, mux_rows, RunsToRest, PortChangesBy}
-use Rattle.lagsystem.proofs.Lists.{SoFar-more, SoFar-all}
+use Rattle.lagsystem.proofs.Common.{arith, false, SoFar-all, SoFar-more, mux_rows, RunsToRest, PortChangesBy}
 use Rattle.lagsystem.proofs.settling.run_mux_not_ready.Goals as goal
 
 pub loop-system_port-preserved : goal.loop-system_port-preserved

@@ -1,5 +1,4 @@
-use Rattle.lagsystem.proofs.Common.{false, mux_rows, RunsToRest, PortChangesBy}
-use Rattle.lagsystem.proofs.Lists.{SoFar}
+use Rattle.lagsystem.proofs.Common.{false, SoFar, mux_rows, RunsToRest, PortChangesBy}
 use Rattle.lagsystem.proofs.settling.run_mux_not_ready.Given as goal
 
 abbrev pub invariant-loop-system_port : goal.invariant-loop-system_port

@@ -1,5 +1,5 @@
-use Rattle.lagsystem.proofs.Common.{[], arith, false, ◌∙◌, PortConfig, HasJustStarted}
-use Rattle.lagsystem.proofs.Lists.{Begun-more, Begun-all, length_set}
+use Rattle.lagsystem.proofs.Common.{[], arith, false, ◌∙◌, length-set, PortConfig, HasJustStarted}
+use Rattle.lagsystem.proofs.Lists.{Begun-more, Begun-all}
 use Rattle.lagsystem.proofs.start.restart_each.Goals as goal
 
 pub loop-place-preserved : goal.loop-place-preserved
@@ -17,7 +17,7 @@ loop-place-preserved c =
     let l = c.loop-place in record {
       begun = Begun-more (HasJustStarted c.args.system) l.place c.args.ports.now l.system_ports d c.restart.new.self
           (omega arith) l.invariant.same l.invariant.begun c.restart.ensures;
-      same = length_set l.system_ports l.place c.restart.new.self ∙ l.invariant.same;
+      same = length-set l.system_ports l.place c.restart.new.self ∙ l.invariant.same;
     }
 
 pub returns : goal.returns

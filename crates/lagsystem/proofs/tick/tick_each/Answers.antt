@@ -1,5 +1,4 @@
-use Rattle.lagsystem.proofs.Common.{arith, receive_rows, RunsToRest, count_down, PortChangesBy}
-use Rattle.lagsystem.proofs.Lists.{SoFar-more, SoFar-all}
+use Rattle.lagsystem.proofs.Common.{arith, SoFar-all, SoFar-more, receive_rows, RunsToRest, count_down, PortChangesBy}
 use Rattle.lagsystem.proofs.tick.tick_each.Goals as goal
 
 pub loop-system_port-preserved : goal.loop-system_port-preserved

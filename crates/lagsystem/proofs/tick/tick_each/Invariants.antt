@@ -1,5 +1,4 @@
-use Rattle.lagsystem.proofs.Common.{receive_rows, RunsToRest, count_down, PortChangesBy}
-use Rattle.lagsystem.proofs.Lists.{SoFar}
+use Rattle.lagsystem.proofs.Common.{SoFar, receive_rows, RunsToRest, count_down, PortChangesBy}
 use Rattle.lagsystem.proofs.tick.tick_each.Given as goal
 
 abbrev pub invariant-loop-system_port : goal.invariant-loop-system_port

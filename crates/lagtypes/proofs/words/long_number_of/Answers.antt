@@ -1,6 +1,7 @@
-use Rattle.lagengine_lines.proofs.Common.{lit<, sym, ◌∙◌, eqb-false}
-use Rattle.lagengine_lines.proofs.WordLemmas.{long_parsed}
-use Rattle.lagengine_lines.proofs.words.long_number_of.Goals as goal
+use Rattle.std.proofs.Common.{lit<, sym, ◌∙◌}
+use Rattle.std.proofs.lemmas.Bool.{eqb-false}
+use Rattle.lagtypes.proofs.NumberLemmas.{long_parsed}
+use Rattle.lagtypes.proofs.words.long_number_of.Goals as goal
 
 pub returns : goal.returns
 returns c =

@@ -1,11 +1,11 @@
--- The value that `parse` reads from a word without a plus sign is the word's number.
-use Rattle.lagscript.proofs.Common.{Bool, Err, List, None, Ok, Result, Some, cond, false, get_or, length, nat_lt, refl, true, ℕ, ◌&&◌, ◌<◌, ◌≡◌, ◌≢◌}
-use Rattle.lagscript.proofs.Common.{lt-ltb, ltb-true}
+-- The value that `parse` reads from a word without a plus sign is the number of the word.
+use Rattle.std.proofs.Common.{Bool, Err, List, None, Ok, Result, Some, cond, false, get_or, length, nat_lt, refl, true, ℕ, ◌&&◌, ◌<◌, ◌≡◌, ◌≢◌}
+use Rattle.std.proofs.lemmas.Bool.{lt-ltb, ltb-true}
 use Rattle.std.specs.Str.{all_ascii_digits}
 use Rattle.std.specs.Result.{OkIff, result_ok}
 use Rattle.std.specs.Str.Parse.{ParsesUnsigned, digits_value}
 use Rattle.std.proofs.lemmas.Str.Parse.{IsNumeralModel, numerals_by_value, parse_plain, tells_all_ascii_digits}
-use Rattle.lagscript.specs.Words.{number_below}
+use Rattle.lagtypes.specs.Words.{number_below}
 
 numerals : IsNumeralModel (λ ds. all_ascii_digits ds ≡ true) (digits_value 10)
 numerals = numerals_by_value _ tells_all_ascii_digits
@@ -25,3 +25,7 @@ found (Err e) digits n k v h = go (nat_lt 0 n) digits (nat_lt v k) (λ d some fi
 pub number_parsed : {E : Type 0} (w : List ℕ) (r : Result ℕ E) → ParsesUnsigned 16 10 w r → get_or w 0 0 ≢ 43
     → result_ok r ≡ number_below 65536 w
 number_parsed w r h plain = found r (all_ascii_digits w) (length w) 65536 (digits_value 10 w) (parse_plain numerals 16 w r h plain)
+
+pub long_parsed : {E : Type 0} (w : List ℕ) (r : Result ℕ E) → ParsesUnsigned 32 10 w r → get_or w 0 0 ≢ 43
+    → result_ok r ≡ number_below 4294967296 w
+long_parsed w r h plain = found r (all_ascii_digits w) (length w) 4294967296 (digits_value 10 w) (parse_plain numerals 32 w r h plain)

@@ -1,9 +1,0 @@
-use Rattle.lagscript.proofs.Common.{lit<, sym, ◌∙◌, eqb-false}
-use Rattle.lagscript.proofs.WordLemmas.{number_parsed}
-use Rattle.lagscript.proofs.words.number_of.Goals as goal
-
-pub returns : goal.returns
-returns c =
-    let first = c.starts_with.ensures.byte (lit< tt) (lit< tt) (λ w o h. h) in
-    c.ok.ensures.value
-    ∙ number_parsed c.args.word.now c.parse.result c.parse.ensures.value.0 (eqb-false _ _ (sym first ∙ c.if-starts_with.false))
