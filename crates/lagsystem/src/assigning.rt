@@ -17,6 +17,7 @@ use lagtypes::AggId;
 
 impl<F: Fn(u16, usize) -> usize + Drop> Inner<F> {
     /// The port for a frame of a conversation that there is; the conversation is On it then.
+    #[inline(always)]
     pub(crate) fn take_port(&mut self, agg: AggId, conv: u16) -> Result<u16, SystemFault>
         requires usable { PicksIndexes (F.pre self.old.distributor.algorithm) (F.post self.old.distributor.algorithm) }
         requires sound { IsSound (inner_state self.old) }
@@ -29,6 +30,19 @@ impl<F: Fn(u16, usize) -> usize + Drop> Inner<F> {
         if let Assignment::On(port) = self.distributor.state(agg, conv) {
             return Ok(port);
         }
+        self.assign_port(agg, conv)
+    }
+
+    /// The same, by a look at the ports that distribute. It stands alone, so that a caller need not make room for them.
+    #[inline(never)]
+    fn assign_port(&mut self, agg: AggId, conv: u16) -> Result<u16, SystemFault>
+        requires usable { PicksIndexes (F.pre self.old.distributor.algorithm) (F.post self.old.distributor.algorithm) }
+        requires sound { IsSound (inner_state self.old) }
+        requires there { has_aggregator (inner_state self.old) agg ≡ true }
+        requires within { conv < conversation_count (inner_state self.old) }
+        ensures takes { TakesPort (F.post self.old.distributor.algorithm) agg conv (inner_state self.old) result (inner_state self.new) }
+        ensures algorithm { self.new.distributor.algorithm ≡ self.old.distributor.algorithm }
+    {
         let ports = distributing(&self.system_ports, agg);
         let port = self.distributor.assign(agg, conv, ports.as_slice())?;
         Ok(port)

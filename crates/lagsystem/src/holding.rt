@@ -70,7 +70,7 @@ pub(crate) fn hold_conversations<F: Fn(u16, usize) -> usize + Drop>(
     }
 }
 
-/// Step 6 of settling, where the port at this index alone went on: it distributed in the aggregator `was` before the call.
+/// Step 6 of settling, where only the port at this index may have changed: it distributed in the aggregator `was` before the call.
 pub(crate) fn hold_conversations_at<F: Fn(u16, usize) -> usize + Drop>(
     distributor: &mut Distributor<F>,
     system_ports: &[SystemPort],

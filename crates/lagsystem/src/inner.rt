@@ -4,7 +4,7 @@ ghost use Rattle.lagsystem.specs.Calls.{Call, OnlyPortChangesBy, ReceivesAt, Rel
 ghost use Rattle.lagsystem.specs.First.{fault_or_no_memory, config_refusal};
 ghost use Rattle.lagsystem.specs.Hosts.{conversation_at, would_transmit};
 ghost use Rattle.lagsystem.specs.Inner.{inner_state};
-ghost use Rattle.lagsystem.specs.Holding.{WereInUse, aggregators_in_use};
+ghost use Rattle.lagsystem.specs.Holding.{WereInUse};
 ghost use Rattle.lagsystem.specs.Offers.{has_aggregator};
 ghost use Rattle.lagsystem.specs.Readers.{number_of_conversation, conversation_count};
 ghost use Rattle.lagsystem.specs.Sending.{SendsMarker, own_marker};

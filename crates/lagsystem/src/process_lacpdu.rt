@@ -33,6 +33,7 @@ fn is_same_partner(now: &Info, was: &Info) -> bool
     now.party().matches(&was.party())
 }
 
+/// Whether a port is at the stage at which it was. If this returns true, it is; false says nothing.
 fn is_same_stage(now: Stage, was: Stage) -> bool
     ensures { OnTrue result (now ≡ was) }
 {
@@ -63,7 +64,8 @@ fn run_mux_on(system_port: &mut SystemPort) -> bool
     is_same_stage(now, was)
 }
 
-/// Processes an LACPDU on a port, and runs its mux machine with Ready false.
+/// Processes an LACPDU on a port, and runs its mux machine with Ready false. If this returns true, the Selection Logic sees the
+/// port as before; false says nothing.
 fn process_lacpdu_and_run_mux(system_port: &mut SystemPort, pdu: &Lacpdu) -> bool
     ensures { ProcessesLacpduAndRunsMux pdu.now system_port.old result system_port.new }
 {
