@@ -12,6 +12,11 @@ abbrev pub first_of : List ℕ → ℕ → ℕ
 first_of [] b = b
 first_of (x ∷ xs) b = x
 
+-- what holds of each of two, where it is chosen, holds of the one that is chosen
+pub chosen : {X : Type 0} (P : X → Type 0) (b : Bool) (x y : X) → (b ≡ true → P x) → (b ≡ false → P y) → P (cond b x y)
+chosen P true x y h k = h refl
+chosen P false x y h k = k refl
+
 -- 1 if the numbers are one
 abbrev pub one : ℕ → ℕ → ℕ
 one k x = cond (eqb k x) 1 0
