@@ -1,11 +1,13 @@
 -- Every event preserves the facts of two systems, and so does every run.
-use Rattle.lagmodel.proofs.Common.{Bool, List, None, Option, Some, [], ap, false, inl, inr, refl, subst, suc, sym, true, ℕ, ◌++◌, ◌∙◌, ◌∷◌, ◌≡◌, ◌≢◌}
-use Rattle.lagmodel.proofs.Common.{◌⊎◌, false≢true, true≢false, Party, Move, Configure, ControlMessage, Force, IsSystemSetup, ModelCall}
-use Rattle.lagmodel.proofs.Common.{Move_conversation, Offer, Receive, Set_link, SystemSetup, Tick, Transmit, View, first_view, is_restart, AllMoves}
-use Rattle.lagmodel.proofs.Common.{CallHappens, Control, CountsChanges, Data, DeliversFirst, Event, Happens, IsWorldSetup, LosesFirst, Message, One}
-use Rattle.lagmodel.proofs.Common.{RepeatsFirst, Run, SensesCable, Side, TakenLacpdu, Two, World, WorldSetup, at_cable, at_side, at_two, end_at}
-use Rattle.lagmodel.proofs.Common.{first_world, handed_up, party_at, peer, with_messages, world_after_all}
-use Rattle.lagmodel.specs.View.{Restart}
+use Rattle.std.proofs.Common.{Bool, List, None, Option, Some, [], ap, false, inl, inr, refl, subst, suc, sym, true, ℕ, ◌++◌, ◌∙◌, ◌∷◌, ◌≡◌, ◌≢◌, ◌⊎◌}
+use Rattle.std.proofs.lemmas.Bool.{false≢true, true≢false}
+use Rattle.lagtypes.specs.declared.party.Party.{Party}
+use Rattle.lagmodel.specs.Move.{Move}
+use Rattle.lagmodel.specs.View.{Configure, ControlMessage, Force, IsSystemSetup, ModelCall, Move_conversation, Offer, Receive, Set_link, SystemSetup}
+use Rattle.lagmodel.specs.View.{Tick, Transmit, View, first_view, is_restart, Restart}
+use Rattle.lagmodel.specs.World.{AllMoves, CallHappens, Control, CountsChanges, Data, DeliversFirst, Event, Happens, IsWorldSetup, LosesFirst}
+use Rattle.lagmodel.specs.World.{Message, One, RepeatsFirst, Run, SensesCable, Side, TakenLacpdu, Two, World, WorldSetup, at_cable, at_side, at_two}
+use Rattle.lagmodel.specs.World.{end_at, first_world, handed_up, party_at, peer, with_messages, world_after_all}
 use Rattle.lagmodel.proofs.Lines.{IsFrom, Every}
 use Rattle.lagmodel.proofs.Ports.{members_first}
 use Rattle.lagmodel.proofs.Lanes.{Lanes, two_cases}
@@ -126,27 +128,15 @@ started x Two call stamp w i h = record { within = h; parties = λ r p. refl; ow
 
 -- a call that brings no control PDU, takes no link down and forces nothing
 abbrev pub quiet : ModelCall → Bool
-quiet (Receive p None) = true
 quiet (Receive p (Some pdu)) = false
 quiet (Set_link p up) = false
 quiet (Force g k) = false
 quiet Restart = false
-quiet Tick = true
-quiet Configure = true
-quiet Transmit = true
-quiet Offer = true
-quiet Move_conversation = true
+quiet call = true
 
 quiet-running : (call : ModelCall) → quiet call ≡ true → is_restart call ≡ false
-quiet-running (Receive p pdu) h = refl
-quiet-running (Set_link p up) h = refl
-quiet-running (Force g k) h = refl
 quiet-running Restart h = absurd (false≢true h)
-quiet-running Tick h = refl
-quiet-running Configure h = refl
-quiet-running Transmit h = refl
-quiet-running Offer h = refl
-quiet-running Move_conversation h = refl
+quiet-running call h = refl
 
 quiet_not : (call other : ModelCall) → quiet call ≡ true → quiet other ≡ false → call ≡ other → ⊥
 quiet_not call other h n e = true≢false (sym h ∙ ap quiet e ∙ n)
