@@ -11,8 +11,8 @@ use Rattle.lagmodel.specs.View.{first_view, is_restart, replies_frame}
 use Rattle.lagmodel.specs.World.{Control, Data, Message, Side, TakenLacpdu, at_cable, on_cable_after, party_at, put_on_cable, taken_after}
 use Rattle.lagmodel.proofs.Base.{cond_true, cond_false, value_of, mapped_some}
 use Rattle.lagmodel.proofs.Ports.{changed_port}
-use Rattle.lagmodel.proofs.Lines.{Every, every_push, every_weaker, put_cases}
-use Rattle.lagmodel.proofs.LaneMoves.{Within, cable_cases}
+use Rattle.lagmodel.proofs.Lines.{Every, every_push, every_weaker, put_each}
+use Rattle.lagmodel.proofs.LaneMoves.{at_cable_each, Within}
 
 -- An LACPDU's stamp is at most its sender's count; if it is the count, the LACPDU names this party.
 abbrev pub FreshPdu : ℕ → Option Party → LacpMessage → ℕ → Type 0
@@ -92,20 +92,53 @@ pub heard_first : (u : SystemSetup) (taken : ℕ → Option TakenLacpdu) → All
 heard_first u taken p a h = let m = mapped_some first_port (u.party p) a h in λ d. absurd
     (true≢false (ap (λ (a : PortFacts). a.defaulted) m.2 ∙ d))
 
--- a message goes out that names its sender
-pub stamps_put : (ends theirs : ℕ → Option ℕ) (party : ℕ → Option Party) (count : ℕ → ℕ) (out : ℕ → List Message) (taken : ℕ
-    → Option TakenLacpdu) (whole : ℕ → Bool) (kept : Bool) (q : ℕ) (m : Message)
-    → Fresh (count q) (party q) m → Stamps ends theirs party count out taken
-    → Stamps ends theirs party count (put_on_cable ends whole kept q m out) taken
-stamps_put ends theirs party count out taken whole kept q m fresh i = record {
-  flight = λ c p e. elim (put_cases ends whole kept q m out c) [
-    | inl x ↦ subst (Every (Fresh (count p) (party p))) (sym x.0)
-        (every_push (Fresh (count p) (party p)) (out c) m (i.flight c p e)
-        (subst (λ p. Fresh (count p) (party p) m) (same_Some q p (sym x.2 ∙ e)) fresh))
-    | inr x ↦ subst (Every (Fresh (count p) (party p))) (sym x) (i.flight c p e)
-  ];
-  last = i.last;
-}
+module _ {ends theirs : ℕ → Option ℕ} {party : ℕ → Option Party} {count : ℕ → ℕ} {out : ℕ → List Message} {taken : ℕ
+    → Option TakenLacpdu} (i : Stamps ends theirs party count out taken) where
+  -- a message goes out that names its sender
+  stamps_put : (whole : ℕ → Bool) (kept : Bool) (q : ℕ) (m : Message) → Fresh (count q) (party q) m
+      → Stamps ends theirs party count (put_on_cable ends whole kept q m out) taken
+  stamps_put whole kept q m fresh = record {
+    flight = put_each (λ c l. (p : ℕ) → ends c ≡ Some p → Every (Fresh (count p) (party p)) l) ends whole kept q m out
+        (λ c w there p e. every_push (Fresh (count p) (party p)) (out c) m (i.flight c p e)
+        (subst (λ p. Fresh (count p) (party p) m) (same_Some q p (sym there ∙ e)) fresh)) i.flight;
+    last = i.last;
+  }
+
+  -- a port of the peer takes an LACPDU that stands first on its cable
+  stamps_taken : (p : ℕ) (pdu : LacpMessage) (stamp : ℕ)
+      → ((c : ℕ) → theirs c ≡ Some p → (ms : List Message) × (out c ≡ Control (Lacp pdu) stamp ∷ ms))
+      → Stamps ends theirs party count out (taken_after stamp (Some (Took p pdu)) taken)
+  stamps_taken p pdu stamp came = record {
+    flight = i.flight;
+    last = λ c r q m e f h. elim (cases_Bool (eqb q p)) [
+      | inl a ↦ (let same : q ≡ p = eqb-true q p a in
+          let this : record { pdu = pdu; stamp = stamp } ≡ m = same_Some (record { pdu = pdu; stamp = stamp }) m
+          (sym (cond_true (eqb q p) _ (taken q) a) ∙ h) in
+          let first = came c (f ∙ ap (λ (n : ℕ). Some n) same) in
+          let fresh = subst (Every (Fresh (count r) (party r))) first.1 (i.flight c r e) in
+          subst (λ (m : TakenLacpdu). FreshPdu (count r) (party r) m.pdu m.stamp) this fresh.0)
+      | inr a ↦ i.last c r q m e f (sym (cond_false (eqb q p) (Some (record { pdu = pdu; stamp = stamp })) (taken q) a) ∙ h)
+    ];
+  }
+
+  -- the first message that the system sent is taken away
+  pub stamps_out_taken : (c : ℕ) (m : Message) (ms : List Message) → out c ≡ m ∷ ms
+      → Stamps ends theirs party count (at_cable out c ms) taken
+  stamps_out_taken c m ms e = record {
+    flight = at_cable_each (λ d l. (p : ℕ) → ends d ≡ Some p → Every (Fresh (count p) (party p)) l) out c ms
+        (λ p h. (subst (Every (Fresh (count p) (party p))) e (i.flight c p h)).1) (λ d n. i.flight d);
+    last = i.last;
+  }
+
+  pub stamps_cut : (c : ℕ) → Stamps ends theirs party count (at_cable out c []) taken
+  stamps_cut c = record {
+    flight = at_cable_each (λ d l. (p : ℕ) → ends d ≡ Some p → Every (Fresh (count p) (party p)) l) out c [] (λ p h. tt)
+        (λ d n. i.flight d);
+    last = i.last;
+  }
+
+  pub stamps_emptied : Stamps ends theirs party count (λ c. []) taken
+  stamps_emptied = record { flight = λ d p h. tt; last = i.last }
 
 stamps_port : (s : Side) (ends theirs : ℕ → Option ℕ) (party : ℕ → Option Party) (count : ℕ → ℕ) (out : ℕ → List Message) (taken : ℕ
     → Option TakenLacpdu) (whole : ℕ → Bool) (sent : ℕ → ℕ → List ℕ) (kept : Bool)
@@ -116,11 +149,10 @@ stamps_port : (s : Side) (ends theirs : ℕ → Option ℕ) (party : ℕ → Opt
     → Stamps ends theirs party count (on_cable_after s ends whole count sent kept (act_of_port p m o) out) taken
 stamps_port s ends theirs party count out taken whole sent kept u call v p m None h x r i = i
 stamps_port s ends theirs party count out taken whole sent kept u call v p (Announce synchronized) (Some a) h x r i =
-    stamps_put ends theirs party count out taken whole kept p
-    (Control (Lacp (record { actor = a.party; partner = a.partner; synchronized = synchronized })) (count p))
-    (omega arith, λ e. sym (r x.0 p) ∙ ap (option_map (λ (a : PortFacts). a.party)) h) i
+    stamps_put i whole kept p (Control (Lacp (record { actor = a.party; partner = a.partner; synchronized = synchronized })) (count p))
+    (omega arith, λ e. sym (r x.0 p) ∙ ap (option_map (λ (a : PortFacts). a.party)) h)
 stamps_port s ends theirs party count out taken whole sent kept u call v p (Respond mac q n) (Some a) h x r i =
-    stamps_put ends theirs party count out taken whole kept p (Control (Response mac q n) 0) tt i
+    stamps_put i whole kept p (Control (Response mac q n) 0) tt
 stamps_port s ends theirs party count out taken whole sent kept u call v p m (Some a) h x r i = i
 
 stamps_flow : (s : Side) (ends theirs : ℕ → Option ℕ) (party : ℕ → Option Party) (count : ℕ → ℕ) (out : ℕ → List Message) (taken : ℕ
@@ -128,10 +160,10 @@ stamps_flow : (s : Side) (ends theirs : ℕ → Option ℕ) (party : ℕ → Opt
     (mac : List ℕ) (f : DistributorFacts) (m : DistributorMove)
     → Stamps ends theirs party count out taken
     → Stamps ends theirs party count (on_cable_after s ends whole count sent kept (distributor_act mac m f) out) taken
-stamps_flow s ends theirs party count out taken whole sent kept mac f (Send g k p) i = stamps_put ends theirs party count out taken whole
-    kept p (Data s g k (length (sent g k))) tt i
-stamps_flow s ends theirs party count out taken whole sent kept mac f (Mark p) i = stamps_put ends theirs party count out taken whole kept p
-    (Control (Marker mac p f.next) 0) tt i
+stamps_flow s ends theirs party count out taken whole sent kept mac f (Send g k p) i = stamps_put i whole kept p
+    (Data s g k (length (sent g k))) tt
+stamps_flow s ends theirs party count out taken whole sent kept mac f (Mark p) i = stamps_put i whole kept p
+    (Control (Marker mac p f.next) 0) tt
 stamps_flow s ends theirs party count out taken whole sent kept mac f (Become g k m) i = i
 
 -- a move of this system, which has had these parties since the event began, unless its call sends nothing
@@ -147,24 +179,6 @@ stamps_own s ends theirs party count out taken whole sent kept u call v (Flow m)
     whole sent kept u.system.mac v.flows m i
 stamps_own s ends theirs party count out taken whole sent kept u call v Restart x r i = i
 
--- a port of the peer takes an LACPDU that stands first on its cable
-stamps_taken : (ends theirs : ℕ → Option ℕ) (party : ℕ → Option Party) (count : ℕ → ℕ) (out : ℕ → List Message) (taken : ℕ
-    → Option TakenLacpdu) (p : ℕ) (pdu : LacpMessage) (stamp : ℕ)
-    → ((c : ℕ) → theirs c ≡ Some p → (ms : List Message) × (out c ≡ Control (Lacp pdu) stamp ∷ ms))
-    → Stamps ends theirs party count out taken → Stamps ends theirs party count out (taken_after stamp (Some (Took p pdu)) taken)
-stamps_taken ends theirs party count out taken p pdu stamp came i = record {
-  flight = i.flight;
-  last = λ c r q m e f h. elim (cases_Bool (eqb q p)) [
-    | inl a ↦ (let same : q ≡ p = eqb-true q p a in
-        let this : record { pdu = pdu; stamp = stamp } ≡ m = same_Some (record { pdu = pdu; stamp = stamp }) m
-        (sym (cond_true (eqb q p) _ (taken q) a) ∙ h) in
-        let first = came c (f ∙ ap (λ (n : ℕ). Some n) same) in
-        let fresh = subst (Every (Fresh (count r) (party r))) first.1 (i.flight c r e) in
-        subst (λ (m : TakenLacpdu). FreshPdu (count r) (party r) m.pdu m.stamp) this fresh.0)
-    | inr a ↦ i.last c r q m e f (sym (cond_false (eqb q p) (Some (record { pdu = pdu; stamp = stamp })) (taken q) a) ∙ h)
-  ];
-}
-
 -- a move of the peer
 pub stamps_peer : (ends theirs : ℕ → Option ℕ) (party : ℕ → Option Party) (count : ℕ → ℕ) (out : ℕ → List Message) (taken : ℕ
     → Option TakenLacpdu) (whole : ℕ → Bool) (theirs_forced : ℕ → ℕ → Bool) (u : SystemSetup) (call : ModelCall)
@@ -176,7 +190,7 @@ stamps_peer ends theirs party count out taken whole theirs_forced u call stamp v
     go : (m : PortMove) (o : Option PortFacts) → IsSomeAnd o (PortAllowed u call v.port p m)
         → Stamps ends theirs party count out (taken_after stamp (act_of_port p m o) taken)
     go m None x = i
-    go (Take pdu synchronized) (Some a) x = stamps_taken ends theirs party count out taken p pdu stamp (w.came p (Lacp pdu) x.0) i
+    go (Take pdu synchronized) (Some a) x = stamps_taken i p pdu stamp (w.came p (Lacp pdu) x.0)
     go m (Some a) x = i
 stamps_peer ends theirs party count out taken whole theirs_forced u call stamp v (Flow m) x w i = go m
   where
@@ -210,35 +224,6 @@ party_moved u call v Restart x r n q = absurd (true≢false (sym x ∙ r))
 pub parties_kept : (u : SystemSetup) (call : ModelCall) (v : View) (m : Move) → MoveAllowed u call v m → is_restart call ≡ false
     → replies_frame call ≡ true → (q : ℕ) → party_at (view_after u m v) q ≡ party_at v q
 parties_kept u call v m x r f = party_moved u call v m x r (λ e. false≢true (ap replies_frame (sym e) ∙ f))
-
--- the first message that the system sent is taken away
-pub stamps_out_taken : (ends theirs : ℕ → Option ℕ) (party : ℕ → Option Party) (count : ℕ → ℕ) (out : ℕ → List Message) (taken : ℕ
-    → Option TakenLacpdu) (c : ℕ) (m : Message) (ms : List Message)
-    → out c ≡ m ∷ ms → Stamps ends theirs party count out taken → Stamps ends theirs party count (at_cable out c ms) taken
-stamps_out_taken ends theirs party count out taken c m ms e i = record {
-  flight = λ d p h. elim (cable_cases out c ms d) [
-    | inl x ↦ subst (Every (Fresh (count p) (party p))) (sym x.1)
-        ((subst (Every (Fresh (count p) (party p))) e (i.flight c p (subst (λ d. ends d ≡ Some p) x.0 h))).1)
-    | inr x ↦ subst (Every (Fresh (count p) (party p))) (sym x.1) (i.flight d p h)
-  ];
-  last = i.last;
-}
-
-pub stamps_cut : (ends theirs : ℕ → Option ℕ) (party : ℕ → Option Party) (count : ℕ → ℕ) (out : ℕ → List Message) (taken : ℕ
-    → Option TakenLacpdu) (c : ℕ)
-    → Stamps ends theirs party count out taken → Stamps ends theirs party count (at_cable out c []) taken
-stamps_cut ends theirs party count out taken c i = record {
-  flight = λ d p h. elim (cable_cases out c [] d) [
-    | inl x ↦ subst (Every (Fresh (count p) (party p))) (sym x.1) tt
-    | inr x ↦ subst (Every (Fresh (count p) (party p))) (sym x.1) (i.flight d p h)
-  ];
-  last = i.last;
-}
-
-pub stamps_emptied : (ends theirs : ℕ → Option ℕ) (party : ℕ → Option Party) (count : ℕ → ℕ) (out : ℕ → List Message)
-    (taken : ℕ → Option TakenLacpdu)
-    → Stamps ends theirs party count out taken → Stamps ends theirs party count (λ c. []) taken
-stamps_emptied ends theirs party count out taken i = record { flight = λ d p h. tt; last = i.last }
 
 -- the end of an event, at which the counts rise if the parties differ
 fresh_counted : (old new : ℕ) (was is : Option Party) → ((is ≡ was) × (new ≡ old)) ⊎ ((is ≢ was) × (new ≡ suc old))
