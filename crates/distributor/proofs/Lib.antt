@@ -1,8 +1,8 @@
 mod Common
 pub mod ChainLemmas
+pub mod FoldLemmas
 pub mod WalkLemmas
 pub mod FlagLemmas
-pub mod FoldLemmas
 pub mod TableLemmas
 pub mod TickLemmas
 pub mod PickLemmas

@@ -1,8 +1,7 @@
 -- The soonest of many numbers of ticks, and a walk along a chain in search of it.
 use Rattle.distributor.proofs.Common.{Bool, List, None, Option, Some, ap, arith, cond, eq-eqb, false, get_or, min, refl, subst, suc, sym, true, zero}
 use Rattle.distributor.proofs.Common.{ℕ, ⊎_elim, ◌+◌, ◌<◌, ◌∙◌, ◌≡◌, cases_eq, false≢true, le-leb, leb-true, mod_below, IfSome, Assignment, Flushing}
-use Rattle.distributor.proofs.Common.{Free, On, Wanted, IsChained, IsFlagged, chain_of, is_flagged, is_in_chain, occurs, slot_state, is_by, sooner}
-use Rattle.distributor.proofs.Common.{ticks_until_wanted}
+use Rattle.distributor.proofs.Common.{IsChained, IsFlagged, chain_of, is_flagged, is_in_chain, occurs, slot_state, is_by, sooner, ticks_until_wanted}
 use Rattle.distributor.specs.Waiting.{soonest_below}
 use Rattle.distributor.proofs.FoldLemmas.{IsFold, fold_same}
 use Rattle.distributor.proofs.WalkLemmas.{Standing, less_rest, stand_first, stand_next, walk_below, walk_over}
@@ -188,10 +187,8 @@ chains_walked chain count states found here found' h e taken soonest = subst (Se
 
 -- where the flag 'Flushing' is clear, nothing is Flushing
 none_waits : (w f : Bool) → f ≡ false → (s : Assignment) → is_flagged w f s ≡ true → ticks_until_wanted s ≡ None
-none_waits w f none (Free preferred) h = refl
-none_waits w f none (On port) h = refl
-none_waits w f none (Wanted port preferred) h = refl
 none_waits w f none (Flushing port id preferred age) h = absurd (false≢true (sym none ∙ h))
+none_waits w f none s h = refl
 
 pub chains_passed : (chain count : ℕ) (states : List Assignment) (wanted flushing : List Bool) (found : Option ℕ)
     → SeekingChains chain count states found → IsFlagged states wanted flushing → get_or flushing chain false ≡ false
@@ -209,11 +206,9 @@ chains_passed chain count states wanted flushing found h f none = record {
 
 some_chain : (found : Option ℕ) (s : Assignment)
     → ((c : ℕ) → c < 64 → is_in_chain c s ≡ true → is_by found (ticks_until_wanted s) ≡ true) → is_by found (ticks_until_wanted s) ≡ true
-some_chain found (Free preferred) h = by_none found
-some_chain found (On port) h = by_none found
-some_chain found (Wanted port preferred) h = by_none found
 some_chain found (Flushing port id preferred age) h = h (chain_of port) (mod_below port 64 (omega arith))
     (eq-eqb (chain_of port) (chain_of port) refl)
+some_chain found s h = by_none found
 
 pub chains_end : (count : ℕ) (states : List Assignment) (found : Option ℕ) → SeekingChains 64 count states found
     → found ≡ soonest_below (λ k. ticks_until_wanted (slot_state states k)) count
