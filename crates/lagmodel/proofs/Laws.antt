@@ -58,7 +58,7 @@ agree_holds x w i c p q a b ep eq h k =
     (named x w i One c p q a b m.0 ep eq h.is k.is h.defaulted m.1 m.2 ((i Two).stamps.last c q p m.0 eq ep m.1))
 
 pub in_order_holds : (x : WorldSetup) (w : World) → Lawful x w → InOrder w
-in_order_holds x w i s g k u = handed_front s g k _ _ _ _ (w.sent s g k) (w.collected s g k) ((i s).lanes.orderly g k 0 u)
+in_order_holds x w i s g k u = handed_front ((i s).lanes.orderly g k 0 u)
 
 pub last_lacpdu_in_sync : (x : WorldSetup) (w : World) → Lawful x w → LastLacpduSaysInSync w
 last_lacpdu_in_sync x w i s p a h d f =
