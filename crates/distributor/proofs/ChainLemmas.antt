@@ -1,8 +1,8 @@
 -- Rings of slots: one taken out, one put in, and what stays as it is.
-use Rattle.distributor.proofs.Common.{Bool, List, None, Some, [], ap, append-nil, arith, cond, eq-eqb, eqb, eqb-true, false, get_or, inl, inr, length}
-use Rattle.distributor.proofs.Common.{refl, set, subst, sym, true, ℕ, ⊎_elim, ◌++◌, ◌+◌, ◌<◌, ◌∙◌, ◌∷◌, ◌≡◌, ◌≤◌, cases_Bool, cases_eq, cond-false}
-use Rattle.distributor.proofs.Common.{cond-true, false≢true, ne_eqb, get_or-set_other, get_or-set_same, get_or_past, length-set, Assignment, Flushing}
-use Rattle.distributor.proofs.Common.{Free, On, Wanted, IsChained, Path, assignment_port, chain_of, is_in_chain, occurs, slot_state}
+use Rattle.distributor.proofs.Common.{Bool, List, None, Some, [], ap, append-nil, arith, cond, eq-eqb, eqb, eqb-true, false, get_or, length, refl}
+use Rattle.distributor.proofs.Common.{set, subst, sym, true, ℕ, ⊎_elim, ◌++◌, ◌+◌, ◌<◌, ◌∙◌, ◌∷◌, ◌≡◌, ◌≤◌, cases_eq, cond-false, cond-true}
+use Rattle.distributor.proofs.Common.{false≢true, ne_eqb, get_or-set_other, get_or-set_same, get_or_past, length-set, Assignment, Flushing, Free, On}
+use Rattle.distributor.proofs.Common.{Wanted, IsChained, Path, assignment_port, chain_of, is_in_chain, occurs, slot_state}
 
 abbrev pub last_of : ℕ → List ℕ → ℕ
 last_of a [] = a
@@ -11,6 +11,11 @@ last_of a (x ∷ xs) = last_of x xs
 abbrev pub first_of : List ℕ → ℕ → ℕ
 first_of [] b = b
 first_of (x ∷ xs) b = x
+
+-- what holds of each of two, where it is chosen, holds of the one that is chosen
+pub chosen : {X : Type 0} (P : X → Type 0) (b : Bool) (x y : X) → (b ≡ true → P x) → (b ≡ false → P y) → P (cond b x y)
+chosen P true x y h k = h refl
+chosen P false x y h k = k refl
 
 -- 1 if the numbers are one
 abbrev pub one : ℕ → ℕ → ℕ
@@ -177,6 +182,16 @@ split_at i (x ∷ xs) l = ⊎_elim
     (λ (n : i ≡ x → ⊥). (let r = split_at i xs (omega (arith, l, one_other i x n)) in (x ∷ r.0, r.1, ap (λ ws. x ∷ ws) r.2)))
     (cases_eq i x)
 
+-- each slot is once in the chain of its state, also after one has got another state
+pub homes_set : (states : List Assignment) (i : ℕ) (s : Assignment) (d : ℕ) (xs : List ℕ) → i < length states
+    → occurs i xs ≡ counted (is_in_chain d s) → ((k : ℕ) → (k ≡ i → ⊥) → occurs k xs ≡ counted (is_in_chain d (slot_state states k)))
+    → (k : ℕ) → occurs k xs ≡ counted (is_in_chain d (slot_state (set states i s) k))
+homes_set states i s d xs inside here others k = ⊎_elim
+    (λ (e : k ≡ i). ap (λ x. occurs x xs) e ∙ here ∙ sym (ap (λ x. counted (is_in_chain d (slot_state (set states i s) x))) e
+    ∙ ap (λ t. counted (is_in_chain d t)) (get_or-set_same states i s (Free None) inside)))
+    (λ (n : k ≡ i → ⊥). others k n ∙ sym (ap (λ t. counted (is_in_chain d t)) (get_or-set_other states i k s (Free None) n)))
+    (cases_eq k i)
+
 cond_few : (b : Bool) → cond b 1 0 ≤ 1
 cond_few true = omega arith
 cond_few false = omega arith
@@ -201,9 +216,7 @@ stands_some c port (Flushing p id preferred age) h = let e : p ≡ port = cc in 
 
 pub stands_none : (c : ℕ) (s : Assignment) → assignment_port s ≡ None → is_in_chain c s ≡ false
 stands_none c (Free preferred) h = refl
-stands_none c (On p) h = absurd (cc)
-stands_none c (Wanted p preferred) h = absurd (cc)
-stands_none c (Flushing p id preferred age) h = absurd (cc)
+stands_none c s h = absurd cc
 
 module _ (count : ℕ) (states : List Assignment) (next prev : List ℕ) (h : IsChained count states next prev) where
   pub member_stands : (c k : ℕ) → 0 < occurs k (h.chains c) → is_in_chain c (slot_state states k) ≡ true
@@ -278,18 +291,13 @@ module _ (count : ℕ) (states : List Assignment) (next prev : List ℕ) (h : Is
 
     pub out_joined : (d : ℕ) → d < 64 → Path (set next (get_or prev i 0) (get_or next i 0)) (set prev (get_or next i 0) (get_or prev i 0))
         (count + d) (put_chain h.chains c (ys ++ zs) d) (count + d)
-    out_joined d l = elim (cases_Bool (eqb c d)) [
-      | inl e ↦ (let m : c ≡ d = eqb-true c d e in
-          subst (λ xs. Path N P (count + d) xs (count + d)) (sym (cond-true (eqb c d) (ys ++ zs) (h.chains d) e))
-          (subst (λ x. Path N P (count + x) (ys ++ zs) (count + x)) m
-          (path_out next prev (count + c) ys i zs ring few (omega (arith, on_below c p lt before_on, h.next_len))
-          (omega (arith, on_below c q lt after_on, h.prev_len)))))
-      | inr f ↦ (subst (λ xs. Path N P (count + d) xs (count + d)) (sym (cond-false (eqb c d) (ys ++ zs) (h.chains d) f))
-          (path_kept next prev N P (count + d) (h.chains d) (count + d)
-          (λ k m. get_or-set_other next p k q 0 (off c d p k f before_on m))
-          (λ k m. get_or-set_other prev q k p 0 (off c d q k f after_on m))
-          (h.joined d l)))
-    ]
+    out_joined d l = chosen (λ xs. Path N P (count + d) xs (count + d)) (eqb c d) _ _
+        (λ e. subst (λ x. Path N P (count + x) (ys ++ zs) (count + x)) (eqb-true c d e)
+        (path_out next prev (count + c) ys i zs ring few (omega (arith, on_below c p lt before_on, h.next_len))
+        (omega (arith, on_below c q lt after_on, h.prev_len))))
+        (λ f. path_kept next prev N P (count + d) (h.chains d) (count + d)
+        (λ k m. get_or-set_other next p k q 0 (off c d p k f before_on m))
+        (λ k m. get_or-set_other prev q k p 0 (off c d q k f after_on m)) (h.joined d l))
       where
         p : ℕ
         p = get_or prev i 0
@@ -305,43 +313,22 @@ module _ (count : ℕ) (states : List Assignment) (next prev : List ℕ) (h : Is
 
     pub out_homes : (s : Assignment) → ((d : ℕ) → is_in_chain d s ≡ false) → (d k : ℕ)
         → occurs k (put_chain h.chains c (ys ++ zs) d) ≡ cond (is_in_chain d (slot_state (set states i s) k)) 1 0
-    out_homes s free d k = ⊎_elim
-        (λ (e : k ≡ i). subst (λ x. occurs x (put_chain h.chains c (ys ++ zs) d) ≡ counted (is_in_chain d (slot_state (set states i s) x)))
-        (sym e)
-        (gone ∙ sym (ap (λ t. counted (is_in_chain d t))
-        (get_or-set_same states i s (Free None) (omega (arith, member_below c i member, h.states_len))) ∙ ap counted (free d))))
-        (λ (n : k ≡ i → ⊥). same n ∙ h.homes d k ∙ sym (ap (λ t. counted (is_in_chain d t)) (get_or-set_other states i k s (Free None) n)))
-        (cases_eq k i)
+    out_homes s free d = homes_set states i s d (put_chain h.chains c (ys ++ zs) d) (omega (arith, member_below c i member, h.states_len))
+        (gone ∙ sym (ap counted (free d))) (λ k n. same k n ∙ h.homes d k)
       where
         gone : occurs i (put_chain h.chains c (ys ++ zs) d) ≡ 0
-        gone = elim (cases_Bool (eqb c d)) [
-          | inl e ↦ (let none : occurs i (ys ++ zs) ≡ 0 = omega (
-            arith,
-            few i,
-            one_same i,
-            occurs_append i ys (i ∷ zs),
-            occurs_append i ys zs,
-          ) in
-              ap (occurs i) (cond-true (eqb c d) (ys ++ zs) (h.chains d) e) ∙ none)
-          | inr f ↦ (let no : 0 < occurs i (h.chains d)
-              → ⊥ = λ l. false≢true (sym f
-              ∙ eq-eqb c d (stands_once c d (slot_state states i) (member_stands c i member) (member_stands d i l))) in
-              let none : occurs i (h.chains d) ≡ 0 = omega (arith, no) in
-              ap (occurs i) (cond-false (eqb c d) (ys ++ zs) (h.chains d) f) ∙ none)
-        ]
+        gone = chosen (λ xs. occurs i xs ≡ 0) (eqb c d) _ _
+            (λ e. omega (arith, few i, one_same i, occurs_append i ys (i ∷ zs), occurs_append i ys zs))
+            (λ f. let no : 0 < occurs i (h.chains d) → ⊥ = λ l. false≢true (sym f
+            ∙ eq-eqb c d (stands_once c d (slot_state states i) (member_stands c i member) (member_stands d i l))) in
+            omega (arith, no))
 
-        same : (k ≡ i → ⊥) → occurs k (put_chain h.chains c (ys ++ zs) d) ≡ occurs k (h.chains d)
-        same n = elim (cases_Bool (eqb c d)) [
-          | inl e ↦ (let less : occurs k (ys ++ zs) ≡ occurs k (ys ++ i ∷ zs) = omega (
-            arith,
-            one_other k i n,
-            occurs_append k ys (i ∷ zs),
-            occurs_append k ys zs,
-          ) in
-              ap (occurs k) (cond-true (eqb c d) (ys ++ zs) (h.chains d) e) ∙ less ∙ ap (occurs k) (sym split)
-              ∙ ap (λ x. occurs k (h.chains x)) (eqb-true c d e))
-          | inr f ↦ ap (occurs k) (cond-false (eqb c d) (ys ++ zs) (h.chains d) f)
-        ]
+        same : (k : ℕ) → (k ≡ i → ⊥) → occurs k (put_chain h.chains c (ys ++ zs) d) ≡ occurs k (h.chains d)
+        same k n = chosen (λ xs. occurs k xs ≡ occurs k (h.chains d)) (eqb c d) _ _
+            (λ e. let less : occurs k (ys ++ zs) ≡ occurs k (ys ++ i ∷ zs) =
+            omega (arith, one_other k i n, occurs_append k ys (i ∷ zs), occurs_append k ys zs) in
+            less ∙ ap (occurs k) (sym split) ∙ ap (λ x. occurs k (h.chains x)) (eqb-true c d e))
+            (λ f. refl)
 
     -- the slot is taken out of its chain, and becomes free
     abbrev pub taken_out : (s : Assignment) → ((d : ℕ) → is_in_chain d s ≡ false)
@@ -379,20 +366,15 @@ module _ (count : ℕ) (states : List Assignment) (next prev : List ℕ) (h : Is
     pub in_joined : (d : ℕ) → d < 64
         → Path (set (set next i (get_or next (count + c) 0)) (count + c) i) (set (set prev i (count + c)) (get_or next (count + c) 0) i)
         (count + d) (put_chain h.chains c (i ∷ h.chains c) d) (count + d)
-    in_joined d l = elim (cases_Bool (eqb c d)) [
-      | inl e ↦ (let m : c ≡ d = eqb-true c d e in
-          subst (λ xs. Path N P (count + d) xs (count + d)) (sym (cond-true (eqb c d) (i ∷ h.chains c) (h.chains d) e))
-          (subst (λ x. Path N P (count + x) (i ∷ h.chains c) (count + x)) m
-          (path_in next prev (count + c) i (h.chains c) (h.joined c lt) (few_on c) (nowhere c) (omega (arith, inside, h.next_len))
-          (omega (arith, lt, h.next_len)) (omega (arith, inside, h.prev_len)) (omega (arith, on_below c f lt first_on, h.prev_len)))))
-      | inr g ↦ (subst (λ xs. Path N P (count + d) xs (count + d)) (sym (cond-false (eqb c d) (i ∷ h.chains c) (h.chains d) g))
-          (path_kept next prev N P (count + d) (h.chains d) (count + d)
-          (λ k m. get_or-set_other (set next i f) (count + c) k i 0 (off c d (count + c) k g end_on m)
-          ∙ get_or-set_other next i k f 0 (missed d k m))
-          (λ k m. get_or-set_other (set prev i (count + c)) f k i 0 (off c d f k g first_on m)
-          ∙ get_or-set_other prev i k (count + c) 0 (missed d k m))
-          (h.joined d l)))
-    ]
+    in_joined d l = chosen (λ xs. Path N P (count + d) xs (count + d)) (eqb c d) _ _
+        (λ e. subst (λ x. Path N P (count + x) (i ∷ h.chains c) (count + x)) (eqb-true c d e)
+        (path_in next prev (count + c) i (h.chains c) (h.joined c lt) (few_on c) (nowhere c) (omega (arith, inside, h.next_len))
+        (omega (arith, lt, h.next_len)) (omega (arith, inside, h.prev_len)) (omega (arith, on_below c f lt first_on, h.prev_len))))
+        (λ g. path_kept next prev N P (count + d) (h.chains d) (count + d)
+        (λ k m. get_or-set_other (set next i f) (count + c) k i 0 (off c d (count + c) k g end_on m)
+        ∙ get_or-set_other next i k f 0 (missed d k m))
+        (λ k m. get_or-set_other (set prev i (count + c)) f k i 0 (off c d f k g first_on m)
+        ∙ get_or-set_other prev i k (count + c) 0 (missed d k m)) (h.joined d l))
       where
         f : ℕ
         f = get_or next (count + c) 0
@@ -404,28 +386,19 @@ module _ (count : ℕ) (states : List Assignment) (next prev : List ℕ) (h : Is
         P = set (set prev i (count + c)) f i
 
     pub in_homes : (d k : ℕ) → occurs k (put_chain h.chains c (i ∷ h.chains c) d) ≡ cond (is_in_chain d (slot_state (set states i s) k)) 1 0
-    in_homes d k = ⊎_elim
-        (λ (e : k ≡ i). subst (λ x. occurs x (put_chain h.chains c (i ∷ h.chains c) d) ≡ counted
-        (is_in_chain d (slot_state (set states i s) x))) (sym e)
-        (here ∙ sym (ap (λ t. counted (is_in_chain d t)) (get_or-set_same states i s (Free None) (omega (arith, inside, h.states_len)))
-        ∙ ap counted (stands d))))
-        (λ (n : k ≡ i → ⊥). same n ∙ h.homes d k ∙ sym (ap (λ t. counted (is_in_chain d t)) (get_or-set_other states i k s (Free None) n)))
-        (cases_eq k i)
+    in_homes d = homes_set states i s d (put_chain h.chains c (i ∷ h.chains c) d) (omega (arith, inside, h.states_len))
+        (here ∙ sym (ap counted (stands d))) (λ k n. same k n ∙ h.homes d k)
       where
         here : occurs i (put_chain h.chains c (i ∷ h.chains c) d) ≡ counted (eqb c d)
-        here = elim (cases_Bool (eqb c d)) [
-          | inl e ↦ (let once : occurs i (i ∷ h.chains c) ≡ 1 = omega (arith, one_same i, nowhere c) in
-              ap (occurs i) (cond-true (eqb c d) (i ∷ h.chains c) (h.chains d) e) ∙ once ∙ sym (ap counted e))
-          | inr f ↦ (let none : occurs i (h.chains d) ≡ 0 = omega (arith, nowhere d) in
-              ap (occurs i) (cond-false (eqb c d) (i ∷ h.chains c) (h.chains d) f) ∙ none ∙ sym (ap counted f))
-        ]
+        here = chosen (λ xs. occurs i xs ≡ counted (eqb c d)) (eqb c d) _ _
+            (λ e. let once : occurs i (i ∷ h.chains c) ≡ 1 = omega (arith, one_same i, nowhere c) in once ∙ sym (ap counted e))
+            (λ f. let none : occurs i (h.chains d) ≡ 0 = omega (arith, nowhere d) in none ∙ sym (ap counted f))
 
-        same : (k ≡ i → ⊥) → occurs k (put_chain h.chains c (i ∷ h.chains c) d) ≡ occurs k (h.chains d)
-        same n = elim (cases_Bool (eqb c d)) [
-          | inl e ↦ (let less : occurs k (i ∷ h.chains c) ≡ occurs k (h.chains c) = omega (arith, one_other k i n) in
-              ap (occurs k) (cond-true (eqb c d) (i ∷ h.chains c) (h.chains d) e) ∙ less ∙ ap (λ x. occurs k (h.chains x)) (eqb-true c d e))
-          | inr f ↦ ap (occurs k) (cond-false (eqb c d) (i ∷ h.chains c) (h.chains d) f)
-        ]
+        same : (k : ℕ) → (k ≡ i → ⊥) → occurs k (put_chain h.chains c (i ∷ h.chains c) d) ≡ occurs k (h.chains d)
+        same k n = chosen (λ xs. occurs k xs ≡ occurs k (h.chains d)) (eqb c d) _ _
+            (λ e. let less : occurs k (i ∷ h.chains c) ≡ occurs k (h.chains c) = omega (arith, one_other k i n) in
+            less ∙ ap (λ x. occurs k (h.chains x)) (eqb-true c d e))
+            (λ f. refl)
 
     abbrev pub put_in : IsChained count (set states i s) (set (set next i (get_or next (count + c) 0)) (count + c) i)
         (set (set prev i (count + c)) (get_or next (count + c) 0) i)
@@ -450,11 +423,6 @@ module _ (count : ℕ) (states : List Assignment) (next prev : List ℕ) (h : Is
     prev_len = h.prev_len;
     chains = h.chains;
     joined = h.joined;
-    homes = λ d k. (h.homes d k ∙ ⊎_elim
-        (λ (e : k ≡ i). subst (λ x. counted (is_in_chain d (slot_state states x)) ≡ counted (is_in_chain d (slot_state (set states i s) x)))
-        (sym e)
-        (ap counted (sym (alike d))
-        ∙ sym (ap (λ t. counted (is_in_chain d t)) (get_or-set_same states i s (Free None) (omega (arith, inside, h.states_len))))))
-        (λ (n : k ≡ i → ⊥). sym (ap (λ t. counted (is_in_chain d t)) (get_or-set_other states i k s (Free None) n)))
-        (cases_eq k i));
+    homes = λ d. homes_set states i s d (h.chains d) (omega (arith, inside, h.states_len)) (h.homes d i ∙ ap counted (sym (alike d)))
+        (λ k n. h.homes d k);
   }

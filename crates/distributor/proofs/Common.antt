@@ -21,4 +21,4 @@ pub use Rattle.distributor.specs.Chains.{is_in_chain, is_wanted, names_port, occ
 pub use Rattle.distributor.specs.Changes.{ChangesAssignments, Marks, SetsAssignment, after_change, after_down, after_leave, after_mark, after_release}
 pub use Rattle.distributor.specs.Changes.{after_tick, awaits_response, wants_marker}
 pub use Rattle.distributor.specs.Conversations.{IsConversation, Table, assignment_of, count_conversations, first_table, slot_index, sum_below}
-pub use Rattle.distributor.specs.Waiting.{is_by, sooner, soonest_below, ticks_until_next_wanted, ticks_until_wanted}
+pub use Rattle.distributor.specs.Waiting.{is_by, sooner, ticks_until_wanted}

@@ -1,13 +1,13 @@
 -- The flags of the chains in which a conversation is Wanted or Flushing.
 use Rattle.distributor.proofs.Common.{Bool, List, None, ap, arith, cond, eqb, false, get_or, inl, inr, length, map, nat_lt, refl, set, suc, sym, true}
 use Rattle.distributor.proofs.Common.{zero, ℕ, ⊎_elim, ◌<◌, ◌||◌, ◌∙◌, ◌≡◌, cases_Bool, cases_eq, cond-false, cond-true, false≢true, or_right}
-use Rattle.distributor.proofs.Common.{ext_get_or, get_or-map, get_or-set_other, get_or-set_same, length-map, length-set, Assignment, Flushing, Free}
-use Rattle.distributor.proofs.Common.{On, Wanted, Change, Mark, Release, AwaitsResponse, HeldOn, WantsMarker, IsFlagged, assignment_port, chain_of}
-use Rattle.distributor.proofs.Common.{changed_in_chain, is_flagged, is_flushing, is_in_chain, is_wanted, passes, slot_state, after_change}
-use Rattle.distributor.proofs.Common.{wants_marker}
+use Rattle.distributor.proofs.Common.{ext_get_or, get_or-map, get_or-set_other, get_or-set_same, get_or_read, length-map, length-set, Assignment}
+use Rattle.distributor.proofs.Common.{Flushing, Free, Wanted, Change, Mark, Release, ConversationTest, AwaitsResponse, HeldOn, WantsMarker, IsFlagged}
+use Rattle.distributor.proofs.Common.{assignment_port, chain_of, changed_in_chain, is_flagged, is_flushing, is_in_chain, is_wanted, passes}
+use Rattle.distributor.proofs.Common.{slot_state, tested_port, after_change, wants_marker}
 use Rattle.std.proofs.lemmas.Bool.Decides.{nat_tests}
 use Rattle.distributor.specs.Conversations.{sum_below}
-use Rattle.distributor.proofs.ChainLemmas.{stands_none, stands_once}
+use Rattle.distributor.proofs.ChainLemmas.{chosen, stands_none, stands_once}
 use Rattle.distributor.proofs.WalkLemmas.{after_port, bit, cond_same, none_sum, passes_stands, same_sum, stands_alike}
 
 -- if every conversation is free, all flags will do
@@ -22,17 +22,15 @@ none_flagged states wanted flushing long long' free = record {
 -- flags that are set allow what they allowed
 pub flagged_more : (w w' f f' : Bool) → (w ≡ true → w' ≡ true) → (f ≡ true → f' ≡ true) → (s : Assignment)
     → is_flagged w f s ≡ true → is_flagged w' f' s ≡ true
-flagged_more w w' f f' h k (Free preferred) e = refl
-flagged_more w w' f f' h k (On port) e = refl
 flagged_more w w' f f' h k (Wanted port preferred) e = h e
 flagged_more w w' f f' h k (Flushing port id preferred age) e = k e
+flagged_more w w' f f' h k s e = refl
 
 -- flags that note a state allow it
 pub flagged_noted : (w f : Bool) (s : Assignment) → is_flagged (w || is_wanted s) (f || is_flushing s) s ≡ true
-flagged_noted w f (Free preferred) = refl
-flagged_noted w f (On port) = refl
 flagged_noted w f (Wanted port preferred) = or_right w true refl
 flagged_noted w f (Flushing port id preferred age) = or_right f true refl
+flagged_noted w f s = refl
 
 -- what a change of one chain leaves in another is as it was
 elsewhere : (change : Change) (c d : ℕ) (s : Assignment) → (d ≡ c → ⊥) → is_in_chain d (changed_in_chain c (after_change change) s) ≡ true
@@ -78,43 +76,35 @@ change_flagged change chain olds states wanted flushing w f lt h changed finds =
       (cases_eq d chain);
 }
 
--- where the flag 'Wanted' of the port's chain is clear, no conversation is Wanted on the port
-pub none_wanted : (port : ℕ) (w f : Bool) → w ≡ false → (s : Assignment) → (is_in_chain (chain_of port) s ≡ true → is_flagged w f s ≡ true)
-    → passes (WantsMarker port) s ≡ false
-none_wanted port w f none (Free preferred) h = refl
-none_wanted port w f none (On p) h = refl
-none_wanted port w f none (Wanted p preferred) h = elim (cases_Bool (eqb (chain_of p) (chain_of port))) [
-  | inl e ↦ absurd (false≢true (sym none ∙ h e))
-  | inr g ↦ passes_stands (WantsMarker port) (Wanted p preferred) g
-]
-none_wanted port w f none (Flushing p id preferred age) h = refl
+-- what the flags of its chain rule out passes nowhere
+pub none_passes : {states : List Assignment} {wanted flushing : List Bool} (f : IsFlagged states wanted flushing) (test : ConversationTest)
+    → ((s : Assignment) → is_flagged (get_or wanted (chain_of (tested_port test)) false) (get_or flushing (chain_of (tested_port test)) false) s
+    ≡ true → passes test s ≡ false) → (k : ℕ) → passes test (slot_state states k) ≡ false
+none_passes {states} f test h k = ⊎_elim (λ e. h (slot_state states k) (f.flagged (chain_of (tested_port test)) k e))
+    (λ g. passes_stands test (slot_state states k) g) (cases_Bool (is_in_chain (chain_of (tested_port test)) (slot_state states k)))
 
--- where the flag 'Flushing' of the port's chain is clear, no conversation waits for a response on the port
-pub none_awaits : (port n : ℕ) (w f : Bool) → f ≡ false → (s : Assignment) → (is_in_chain (chain_of port) s ≡ true
-    → is_flagged w f s ≡ true)
+-- where the flag 'Wanted' is clear, no conversation is Wanted
+pub none_wanted : (port : ℕ) (w f : Bool) → w ≡ false → (s : Assignment) → is_flagged w f s ≡ true → passes (WantsMarker port) s ≡ false
+none_wanted port w f none (Wanted p preferred) h = absurd (false≢true (sym none ∙ h))
+none_wanted port w f none s h = refl
+
+-- where the flag 'Flushing' is clear, no conversation waits for a response
+pub none_awaits : (port n : ℕ) (w f : Bool) → f ≡ false → (s : Assignment) → is_flagged w f s ≡ true
     → passes (AwaitsResponse port n) s ≡ false
-none_awaits port n w f none (Free preferred) h = refl
-none_awaits port n w f none (On p) h = refl
-none_awaits port n w f none (Wanted p preferred) h = refl
-none_awaits port n w f none (Flushing p id preferred age) h = elim (cases_Bool (eqb (chain_of p) (chain_of port))) [
-  | inl e ↦ absurd (false≢true (sym none ∙ h e))
-  | inr g ↦ passes_stands (AwaitsResponse port n) (Flushing p id preferred age) g
-]
+none_awaits port n w f none (Flushing p id preferred age) h = absurd (false≢true (sym none ∙ h))
+none_awaits port n w f none s h = refl
 
--- if neither flag of a port's chain is set, no conversation is held on the port
-pub none_held : (port : ℕ) (w f : Bool) → w ≡ false → f ≡ false → (s : Assignment) → (is_in_chain (chain_of port) s ≡ true
-    → is_flagged w f s ≡ true)
-    → passes (HeldOn port) s ≡ false
-none_held port w f clear none (Free preferred) h = refl
-none_held port w f clear none (On p) h = refl
-none_held port w f clear none (Wanted p preferred) h = elim (cases_Bool (eqb (chain_of p) (chain_of port))) [
-  | inl e ↦ absurd (false≢true (sym clear ∙ h e))
-  | inr g ↦ passes_stands (HeldOn port) (Wanted p preferred) g
-]
-none_held port w f clear none (Flushing p id preferred age) h = elim (cases_Bool (eqb (chain_of p) (chain_of port))) [
-  | inl e ↦ absurd (false≢true (sym none ∙ h e))
-  | inr g ↦ passes_stands (HeldOn port) (Flushing p id preferred age) g
-]
+-- if neither flag is set, no conversation is held
+pub none_held : (port : ℕ) (w f : Bool) → w ≡ false → f ≡ false → (s : Assignment) → is_flagged w f s ≡ true → passes (HeldOn port) s ≡ false
+none_held port w f clear none (Wanted p preferred) h = absurd (false≢true (sym clear ∙ h))
+none_held port w f clear none (Flushing p id preferred age) h = absurd (false≢true (sym none ∙ h))
+none_held port w f clear none s h = refl
+
+-- a flag that was read clear is clear
+pub flag_clear : (flags : List Bool) (chain d : ℕ) (flag : Bool) → chain < 64 → length flags ≡ 64 → flag ≡ get_or flags chain flag
+    → chain ≡ d → flag ≡ false → get_or flags d false ≡ false
+flag_clear flags chain d flag lt long read same e = ap (λ x. get_or flags x false) (sym same)
+    ∙ sym (get_or_read flags chain flag (omega (arith, lt, long)) read false) ∙ e
 
 -- what passes nowhere is counted 0 times
 pub none_counted : (p : Assignment → Bool) (states : List Assignment) (count : ℕ) → ((k : ℕ) → p (slot_state states k) ≡ false)
@@ -125,14 +115,9 @@ none_counted p states count none = sym (same_sum (λ k. bit (p (slot_state state
 -- where the flag 'Flushing' of a chain is clear, a response changes nothing in it
 released_none : (chain port n : ℕ) (w f : Bool) → f ≡ false → (s : Assignment) → (is_in_chain chain s ≡ true → is_flagged w f s ≡ true)
     → s ≡ changed_in_chain chain (after_change (Release port n)) s
-released_none chain port n w f none (Free preferred) h = refl
-released_none chain port n w f none (On p) h = sym (cond_same (eqb (chain_of p) chain) (On p))
-released_none chain port n w f none (Wanted p preferred) h = sym (cond_same (eqb (chain_of p) chain) (Wanted p preferred))
-released_none chain port n w f none (Flushing p id preferred age) h = elim (cases_Bool (eqb (chain_of p) chain)) [
-  | inl e ↦ absurd (false≢true (sym none ∙ h e))
-  | inr g ↦ sym (cond-false (eqb (chain_of p) chain) (after_change (Release port n) (Flushing p id preferred age))
-      (Flushing p id preferred age) g)
-]
+released_none chain port n w f none (Flushing p id preferred age) h =
+    chosen (λ s. Flushing p id preferred age ≡ s) (eqb (chain_of p) chain) _ _ (λ e. absurd (false≢true (sym none ∙ h e))) (λ g. refl)
+released_none chain port n w f none s h = sym (cond_same (is_in_chain chain s) s)
 
 pub release_passed : (chain port n : ℕ) (states : List Assignment) (wanted flushing : List Bool) → IsFlagged states wanted flushing
     → get_or flushing chain false ≡ false → states ≡ map (changed_in_chain chain (after_change (Release port n))) states
@@ -147,12 +132,10 @@ release_passed chain port n states wanted flushing h none =
 
 -- where no conversation is Wanted on the port, a marker that is sent there changes nothing
 marked_none : (chain port n : ℕ) (s : Assignment) → wants_marker port s ≡ false → s ≡ changed_in_chain chain (after_change (Mark port n)) s
-marked_none chain port n (Free preferred) h = refl
-marked_none chain port n (On p) h = sym (cond_same (eqb (chain_of p) chain) (On p))
 marked_none chain port n (Wanted p preferred) h = sym
     (ap (λ s. cond (eqb (chain_of p) chain) s (Wanted p preferred)) (cond-false (eqb p port) (Flushing port n preferred 0) (Wanted p preferred) h)
     ∙ cond_same (eqb (chain_of p) chain) (Wanted p preferred))
-marked_none chain port n (Flushing p id preferred age) h = sym (cond_same (eqb (chain_of p) chain) (Flushing p id preferred age))
+marked_none chain port n s h = sym (cond_same (is_in_chain chain s) s)
 
 none_below : (f : ℕ → ℕ) (n k : ℕ) → k < n → sum_below f n ≡ 0 → f k ≡ 0
 unfolding sum_below

@@ -1,5 +1,6 @@
 mod Common
 pub mod ChainLemmas
+pub mod FoldLemmas
 pub mod WalkLemmas
 pub mod FlagLemmas
 pub mod TableLemmas

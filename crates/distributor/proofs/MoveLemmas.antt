@@ -11,6 +11,7 @@ use Rattle.lagmodel.specs.View.{Conversation, ModelCall, ControlMessage, SystemS
 use Rattle.lagmodel.specs.Move.{Act, ConversationMove, ConversationMoveAllowed, conversation_after, DistributorMove, DistributorMoves, flushed}
 use Rattle.lagmodel.specs.Bridge.{IsAmong, BecomeByMoves}
 use Rattle.lagmodel.proofs.Uses.{flows_become}
+use Rattle.distributor.proofs.ChainLemmas.{chosen}
 use Rattle.distributor.proofs.TableLemmas.{first_free}
 use Rattle.distributor.specs.Moves.{model_conversation, model_distributor, OnlyListedDistribute, NoneDistributes}
 
@@ -52,8 +53,7 @@ may_send : (agg conv port : ℕ) (ports : List ℕ) (s : Assignment) → MaySend
     → ((model_conversation s ≡ Conversation.Free) × OnlyListedDistribute agg ports agg port) ⊎ (model_conversation s ≡ Conversation.On port)
 may_send agg conv port ports (state.Free preferred) h = inl (refl, (refl, h))
 may_send agg conv port ports (state.On p) h = inr (ap (λ q. Conversation.On q) (sym h))
-may_send agg conv port ports (state.Wanted p preferred) h = absurd h
-may_send agg conv port ports (state.Flushing p n preferred age) h = absurd h
+may_send agg conv port ports s h = absurd h
 
 pub send_moves : (mac : List ℕ) (call : ModelCall) (t u : Table) (agg conv port : ℕ) (ports : List ℕ) → replies_frame call ≡ true
     → MaySend ports (assignment_of t agg conv) port → SetsAssignment t u agg conv (state.On port)
@@ -82,9 +82,6 @@ one_moves mac call t u agg conv s m a e h = (
 -- what a move makes of a conversation
 pub is_moved : (next : Option ℕ) (ports : List ℕ) (to : ℕ) (old new : Assignment) → move_result next ports to old ≡ Ok new → (p : ℕ)
     × (model_conversation old ≡ Conversation.On p) × (model_conversation new ≡ Conversation.Wanted p)
-is_moved next ports to (state.Free preferred) new h = absurd cc
-is_moved next ports to (state.Wanted p preferred) new h = absurd cc
-is_moved next ports to (state.Flushing p n preferred age) new h = absurd cc
 is_moved next ports to (state.On p) new h = (p, refl, checked (is_among ports to) (eqb p to) (is_none next) h)
   where
     checked : (x y z : Bool)
@@ -94,6 +91,7 @@ is_moved next ports to (state.On p) new h = (p, refl, checked (is_among ports to
     checked true true z e = absurd cc
     checked true false true e = absurd cc
     checked true false false e = let same : state.Wanted p (Some to) ≡ new = cc in ap model_conversation (sym same)
+is_moved next ports to s new h = absurd cc
 
 pub move_moves : (mac : List ℕ) (call : ModelCall) (t u : Table) (agg conv to : ℕ) (next : Option ℕ) (ports : List ℕ) (s : Assignment)
     → move_result next ports to (assignment_of t agg conv) ≡ Ok s → SetsAssignment t u agg conv s
@@ -105,15 +103,13 @@ move_moves mac call t u agg conv to next ports s e h =
 -- what leaving a port makes of a conversation
 pub is_left : (next : Option ℕ) (old new : Assignment) → leave_result next old ≡ Ok new → (p : ℕ)
     × (model_conversation old ≡ Conversation.On p) × (model_conversation new ≡ Conversation.Wanted p)
-is_left next (state.Free preferred) new h = absurd cc
-is_left next (state.Wanted p preferred) new h = absurd cc
-is_left next (state.Flushing p n preferred age) new h = absurd cc
 is_left next (state.On p) new h = (p, refl, checked (is_none next) h)
   where
     checked : (z : Bool) → cond z (Err DistFault.MarkersSpent) (Ok (state.Wanted p None)) ≡ Ok new
         → model_conversation new ≡ Conversation.Wanted p
     checked true e = absurd cc
     checked false e = let same : state.Wanted p None ≡ new = cc in ap model_conversation (sym same)
+is_left next s new h = absurd cc
 
 pub leave_one_moves : (mac : List ℕ) (call : ModelCall) (t u : Table) (agg conv : ℕ) (next : Option ℕ) (s : Assignment)
     → leave_result next (assignment_of t agg conv) ≡ Ok s → SetsAssignment t u agg conv s
@@ -124,10 +120,8 @@ leave_one_moves mac call t u agg conv next s e h =
 
 -- what rests is forced
 pub is_rested : (old new : Assignment) → rest_result old ≡ Ok new → force_result old ≡ Ok new
-is_rested (state.Free preferred) new h = absurd cc
 is_rested (state.On p) new h = h
-is_rested (state.Wanted p preferred) new h = absurd cc
-is_rested (state.Flushing p n preferred age) new h = absurd cc
+is_rested s new h = absurd cc
 
 -- what force makes of a conversation
 pub is_forced : (old new : Assignment) → force_result old ≡ Ok new → model_conversation new ≡ Conversation.Free
@@ -211,17 +205,9 @@ all_moves : (mac : List ℕ) (call : ModelCall) (t u : Table) (change : Assignme
 all_moves mac call t u change free makes h = each_moves mac call t u (λ g k. change) (λ g k. free) makes h.next h.states
 
 makes_leave : (mac : List ℕ) (call : ModelCall) (port g k : ℕ) (s : Assignment) → Makes mac call g k s (after_leave port s)
-makes_leave mac call port g k (state.Free preferred) = inl refl
-makes_leave mac call port g k (state.On p) = elim (cases_Bool (eqb p port)) [
-  | inl t ↦ inr (
-    ConversationMove.Want port,
-    ap (λ q. Conversation.On q) (eqb-true p port t),
-    ap model_conversation (cond-true (eqb p port) (state.Wanted port None) (state.On p) t),
-  )
-  | inr f ↦ inl (ap model_conversation (cond-false (eqb p port) (state.Wanted port None) (state.On p) f))
-]
-makes_leave mac call port g k (state.Wanted p preferred) = inl refl
-makes_leave mac call port g k (state.Flushing p n preferred age) = inl refl
+makes_leave mac call port g k (state.On p) = chosen (Makes mac call g k (state.On p)) (eqb p port) _ _
+    (λ t. inr (ConversationMove.Want port, ap (λ q. Conversation.On q) (eqb-true p port t), refl)) (λ f. inl refl)
+makes_leave mac call port g k s = inl refl
 
 pub leave_moves : (mac : List ℕ) (call : ModelCall) (t u : Table) (port : ℕ) → ChangesAssignments t u (after_leave port)
     → DistributorMoves mac call NoneDistributes (model_distributor t) [] (model_distributor u)
@@ -230,14 +216,8 @@ leave_moves mac call t u port h = all_moves mac call t u (after_leave port) refl
 -- a conversation that has to do with the port is free if its port goes down
 freed : (mac : List ℕ) (port g k p : ℕ) (preferred : Option ℕ) (s : Assignment) → conversation_port (model_conversation s) ≡ Some p
     → Makes mac (ModelCall.Set_link port false) g k s (cond (eqb p port) (state.Free preferred) s)
-freed mac port g k p preferred s h = elim (cases_Bool (eqb p port)) [
-  | inl t ↦ inr (
-    ConversationMove.Down port,
-    (refl, h ∙ ap (λ q. Some q) (eqb-true p port t)),
-    ap model_conversation (cond-true (eqb p port) (state.Free preferred) s t),
-  )
-  | inr f ↦ inl (ap model_conversation (cond-false (eqb p port) (state.Free preferred) s f))
-]
+freed mac port g k p preferred s h = chosen (Makes mac (ModelCall.Set_link port false) g k s) (eqb p port) _ _
+    (λ t. inr (ConversationMove.Down port, (refl, h ∙ ap (λ q. Some q) (eqb-true p port t)), refl)) (λ f. inl refl)
 
 makes_down : (mac : List ℕ) (port g k : ℕ) (s : Assignment) → Makes mac (ModelCall.Set_link port false) g k s (after_down port s)
 makes_down mac port g k (state.Free preferred) = inl refl
@@ -251,17 +231,15 @@ down_moves mac t u port h = all_moves mac (ModelCall.Set_link port false) t u (a
 
 makes_release : (mac : List ℕ) (port id g k : ℕ) (s : Assignment)
     → Makes mac (ModelCall.Receive port (Some (ControlMessage.Response mac port id))) g k s (after_release port id s)
-makes_release mac port id g k (state.Free preferred) = inl refl
-makes_release mac port id g k (state.On p) = inl refl
-makes_release mac port id g k (state.Wanted p preferred) = inl refl
-makes_release mac port id g k (state.Flushing p n preferred age) = elim (cases_Bool (eqb p port && eqb n id)) [
-  | inl t ↦ (let b = and_parts (eqb p port) (eqb n id) t in inr (
-    ConversationMove.Answered port id,
-    (refl, ap (λ q. Conversation.Flushing q n) (eqb-true p port b.0) ∙ ap (λ i. Conversation.Flushing port i) (eqb-true n id b.1)),
-    ap model_conversation (cond-true (eqb p port && eqb n id) (state.Free preferred) (state.Flushing p n preferred age) t),
-  ))
-  | inr f ↦ inl (ap model_conversation (cond-false (eqb p port && eqb n id) (state.Free preferred) (state.Flushing p n preferred age) f))
-]
+makes_release mac port id g k (state.Flushing p n preferred age) = chosen
+    (Makes mac (ModelCall.Receive port (Some (ControlMessage.Response mac port id))) g k (state.Flushing p n preferred age))
+    (eqb p port && eqb n id) _ _
+    (λ t. let b = and_parts (eqb p port) (eqb n id) t in inr (
+      ConversationMove.Answered port id,
+      (refl, ap (λ q. Conversation.Flushing q n) (eqb-true p port b.0) ∙ ap (λ i. Conversation.Flushing port i) (eqb-true n id b.1)),
+      refl,
+    )) (λ f. inl refl)
+makes_release mac port id g k s = inl refl
 
 pub release_moves : (mac : List ℕ) (t u : Table) (port id : ℕ) → ChangesAssignments t u (after_release port id)
     → DistributorMoves mac (ModelCall.Receive port (Some (ControlMessage.Response mac port id))) NoneDistributes (model_distributor t)
@@ -270,17 +248,10 @@ release_moves mac t u port id h = all_moves mac (ModelCall.Receive port (Some (C
     (after_release port id) refl (makes_release mac port id) h
 
 makes_tick : (mac : List ℕ) (call : ModelCall) (g k : ℕ) (s : Assignment) → Makes mac call g k s (after_tick s)
-makes_tick mac call g k (state.Free preferred) = inl refl
-makes_tick mac call g k (state.On p) = inl refl
-makes_tick mac call g k (state.Wanted p preferred) = inl refl
-makes_tick mac call g k (state.Flushing p n preferred age) = elim (cases_Bool (ltb (age + 1) 30)) [
-  | inl t ↦ inl (ap model_conversation (cond-true (ltb (age + 1) 30) (state.Flushing p n preferred (age + 1)) (state.Wanted p preferred) t))
-  | inr f ↦ inr (
-    ConversationMove.Retry p n,
-    refl,
-    ap model_conversation (cond-false (ltb (age + 1) 30) (state.Flushing p n preferred (age + 1)) (state.Wanted p preferred) f),
-  )
-]
+makes_tick mac call g k (state.Flushing p n preferred age) =
+    chosen (Makes mac call g k (state.Flushing p n preferred age)) (ltb (age + 1) 30) _ _ (λ t. inl refl)
+    (λ f. inr (ConversationMove.Retry p n, refl, refl))
+makes_tick mac call g k s = inl refl
 
 pub tick_moves : (mac : List ℕ) (call : ModelCall) (t u : Table) → ChangesAssignments t u after_tick
     → DistributorMoves mac call NoneDistributes (model_distributor t) [] (model_distributor u)
@@ -288,8 +259,6 @@ tick_moves mac call t u h = all_moves mac call t u after_tick refl (makes_tick m
 
 -- A marker is sent.
 is_flushed : (port id n : ℕ) (s : Assignment) → id ≡ n → model_conversation (after_mark port id s) ≡ flushed port n (model_conversation s)
-is_flushed port id n (state.Free preferred) e = refl
-is_flushed port id n (state.On p) e = refl
 is_flushed port id n (state.Wanted p preferred) e = elim (cases_Bool (eqb p port)) [
   | inl t ↦ (ap model_conversation (cond-true (eqb p port) (state.Flushing port id preferred 0) (state.Wanted p preferred) t)
       ∙ ap (λ q. Conversation.Flushing q id) (sym (eqb-true p port t)) ∙ ap (λ i. Conversation.Flushing p i) e
@@ -297,7 +266,7 @@ is_flushed port id n (state.Wanted p preferred) e = elim (cases_Bool (eqb p port
   | inr f ↦ (ap model_conversation (cond-false (eqb p port) (state.Flushing port id preferred 0) (state.Wanted p preferred) f)
       ∙ sym (cond-false (eqb p port) (Conversation.Flushing p n) (Conversation.Wanted p) f))
 ]
-is_flushed port id n (state.Flushing p m preferred age) e = refl
+is_flushed port id n s e = refl
 
 pub mark_moves : (mac : List ℕ) (call : ModelCall) (t u : Table) (port id : ℕ) → replies_frame call ≡ true → id < 2 ^ 32 → Marks t u port id
     → DistributorMoves mac call NoneDistributes (model_distributor t) (Act.Sends port (ControlMessage.Marker mac port id)

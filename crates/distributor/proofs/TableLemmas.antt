@@ -1,11 +1,11 @@
 -- The states of the conversations, by their indices in the list.
 use Rattle.distributor.proofs.Common.{Bool, List, None, ap, arith, cond, eq-eqb, eqb, eqb-true, get_or, inl, inr, length, ltb, map, replicate, set}
-use Rattle.distributor.proofs.Common.{suc, sym, zero, ℕ, ◌&&◌, ◌*◌, ◌+◌, ◌-◌, ◌<◌, ◌∙◌, ◌≡◌, ◌≤◌, and_from, and_parts, cases_Bool, cond-false}
-use Rattle.distributor.proofs.Common.{cond-true, false≢true, lt-ltb, ltb-false, ltb-true, get_or-map, get_or-replicate, get_or-set_other}
-use Rattle.distributor.proofs.Common.{get_or-set_same, get_or_past, length-map, length-replicate, mul-add-lt, same_from_place, Assignment, Free}
-use Rattle.distributor.proofs.Common.{slot_state, Table, assignment_of, count_conversations, first_table, slot_index}
-use Rattle.distributor.specs.Conversations.{sum_below}
-use Rattle.distributor.proofs.WalkLemmas.{same_sum, bit}
+use Rattle.distributor.proofs.Common.{sym, ℕ, ◌&&◌, ◌*◌, ◌+◌, ◌-◌, ◌<◌, ◌∙◌, ◌≡◌, ◌≤◌, and_from, and_parts, cases_Bool, cond-false, cond-true}
+use Rattle.distributor.proofs.Common.{false≢true, lt-ltb, ltb-false, ltb-true, get_or-map, get_or-replicate, get_or-set_other, get_or-set_same}
+use Rattle.distributor.proofs.Common.{get_or_past, length-map, length-replicate, mul-add-lt, same_from_place, Assignment, Free, slot_state, Table}
+use Rattle.distributor.proofs.Common.{assignment_of, count_conversations, first_table, slot_index, sum_below}
+use Rattle.distributor.proofs.FoldLemmas.{IsFold, fold_rows, fold_same, sum_fold}
+use Rattle.distributor.proofs.WalkLemmas.{bit}
 
 -- the state at a place, if the numbers are in range and each aggregator has w conversations
 abbrev pub stated : ℕ → List Assignment → ℕ → ℕ → Assignment
@@ -65,37 +65,23 @@ first_free aggs w first agg conv = elim (cases_Bool (ltb 0 agg && ltb conv w)) [
   | inr f ↦ cond-false (ltb 0 agg && ltb conv w) _ _ f
 ]
 
-sum_more : (g : ℕ → ℕ) (m n : ℕ) → sum_below g (m + n) ≡ sum_below g m + sum_below (λ k. g (m + k)) n
-unfolding sum_below
-sum_more g m zero =
-    let e : m + 0 ≡ m = omega arith in
-    ap (sum_below g) e ∙ omega arith
-sum_more g m (suc n) =
-    let e : m + suc n ≡ suc (m + n) = omega arith in
-    ap (sum_below g) e ∙ omega (arith, sum_more g m n)
+-- a state at a place is that of a conversation
+place_state : (t : Table) (a c : ℕ) → c < t.conversations → slot_state t.states (a * t.conversations + c) ≡ assignment_of t (a + 1) c
+place_state t a c m =
+    let pos : 0 < a + 1 = omega arith in
+    let here : a * t.conversations + c ≡ slot_index t.conversations (a + 1) c = ap (λ n. n * t.conversations + c) (omega arith) in
+    ap (slot_state t.states) here ∙ sym (stated_in t.conversations t.states (a + 1) c pos m)
 
--- rows of w places each
-pub sum_rows : (g : ℕ → ℕ) (w rows : ℕ) → sum_below (λ a. sum_below (λ c. g (a * w + c)) w) rows ≡ sum_below g (rows * w)
-unfolding sum_below
-sum_rows g w zero =
-    let e : 0 ≡ 0 * w = grind arith in
-    ap (sum_below g) e
-sum_rows g w (suc rows) =
-    let e : suc rows * w ≡ rows * w + w = suc_times rows w in
-    ap (λ m. m + sum_below (λ c. g (rows * w + c)) w) (sum_rows g w rows) ∙ sym (ap (sum_below g) e ∙ sum_more g (rows * w) w)
-  where
-    suc_times : (m n : ℕ) → suc m * n ≡ m * n + n
-    suc_times m n = grind arith
+-- the values over aggregators and numbers are, put together, those over the places
+pub fold_places : {X : Type 0} {join : X → X → X} {unit : X} {fold : (ℕ → X) → ℕ → X} (h : IsFold join unit fold) (g : Assignment → X)
+    (t : Table) {count : ℕ} {u : Table} → count ≡ t.aggs * t.conversations → t ≡ u → fold (λ k. g (slot_state t.states k)) count
+    ≡ fold (λ a. fold (λ c. g (assignment_of u (a + 1) c)) u.conversations) u.aggs
+fold_places {fold} h g t e v =
+    ap (fold (λ k. g (slot_state t.states k))) e ∙ sym (fold_rows h (λ k. g (slot_state t.states k)) t.conversations t.aggs)
+    ∙ fold_same h _ _ t.aggs (λ a l. fold_same h _ _ t.conversations (λ c m. ap g (place_state t a c m)))
+    ∙ ap (λ u. fold (λ a. fold (λ c. g (assignment_of u (a + 1) c)) u.conversations) u.aggs) v
 
 -- the count over aggregators and numbers is that over the places
-pub counted_places : (passes : Assignment → Bool) (t : Table)
-    → sum_below (λ k. bit (passes (slot_state t.states k))) (t.aggs * t.conversations) ≡ count_conversations passes t
-counted_places passes t =
-    sym (sum_rows (λ k. bit (passes (slot_state t.states k))) t.conversations t.aggs)
-    ∙ same_sum _ _ t.aggs (λ a l. same_sum _ _ t.conversations (λ c m. ap (λ s. bit (passes s)) (at a c m)))
-  where
-    at : (a c : ℕ) → c < t.conversations → slot_state t.states (a * t.conversations + c) ≡ assignment_of t (a + 1) c
-    at a c m =
-        let pos : 0 < a + 1 = omega arith in
-        let here : a * t.conversations + c ≡ slot_index t.conversations (a + 1) c = ap (λ n. n * t.conversations + c) (omega arith) in
-        ap (slot_state t.states) here ∙ sym (stated_in t.conversations t.states (a + 1) c pos m)
+pub counted_places : (passes : Assignment → Bool) (t : Table) {count : ℕ} {u : Table} → count ≡ t.aggs * t.conversations → t ≡ u
+    → sum_below (λ k. bit (passes (slot_state t.states k))) count ≡ count_conversations passes u
+counted_places passes = fold_places sum_fold (λ s. bit (passes s))

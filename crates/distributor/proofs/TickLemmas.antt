@@ -9,11 +9,9 @@ use Rattle.distributor.proofs.TableLemmas.{map_at}
 
 -- a state, if the tick has passed for the chains below this one
 abbrev pub ticked : ℕ → Assignment → Assignment
-ticked chain (Free preferred) = Free preferred
-ticked chain (On port) = On port
-ticked chain (Wanted port preferred) = Wanted port preferred
 ticked chain (Flushing port id preferred age) = cond (ltb (chain_of port) chain) (after_tick (Flushing port id preferred age))
     (Flushing port id preferred age)
+ticked chain s = s
 
 -- whether the conversation is in the chain and waits for a Marker Response
 abbrev pub is_flushing_in_chain : ℕ → Assignment → Bool
@@ -25,17 +23,13 @@ pub record Ticking (chain : ℕ) (olds states : List Assignment) : Type 0 where
   pub each : (k : ℕ) → slot_state states k ≡ ticked chain (slot_state olds k)
 
 ticked_first : (s : Assignment) → s ≡ ticked 0 s
-ticked_first (Free preferred) = refl
-ticked_first (On port) = refl
-ticked_first (Wanted port preferred) = refl
 ticked_first (Flushing port id preferred age) = sym (cond-false (ltb (chain_of port) 0) _ _ (le-ltb (chain_of port) 0 (omega arith)))
+ticked_first s = refl
 
 ticked_last : (s : Assignment) → ticked 64 s ≡ after_tick s
-ticked_last (Free preferred) = refl
-ticked_last (On port) = refl
-ticked_last (Wanted port preferred) = refl
 ticked_last (Flushing port id preferred age) = cond-true (ltb (chain_of port) 64) _ _
     (lt-ltb (chain_of port) 64 (mod_below port 64 (omega arith)))
+ticked_last s = refl
 
 -- below the next chain is below this one or in it
 next_below : (n c : ℕ) → ltb n c ≡ false → eqb n c ≡ ltb n (c + 1)

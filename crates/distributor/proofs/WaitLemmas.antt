@@ -1,14 +1,10 @@
 -- The soonest of many numbers of ticks, and a walk along a chain in search of it.
-use Rattle.distributor.proofs.Common.{Bool, List, None, Option, Some, [], ap, append_assoc, arith, cond, eq-eqb, false, get_or, length, ltb, min}
-use Rattle.distributor.proofs.Common.{refl, subst, suc, sym, true, zero, ℕ, ⊎_elim, ◌*◌, ◌++◌, ◌+◌, ◌<◌, ◌∙◌, ◌∷◌, ◌≡◌, cases_eq, false≢true, le-leb}
-use Rattle.distributor.proofs.Common.{leb-true, mod_below, IfSome, Assignment, Flushing, Free, On, Wanted, IsChained, IsFlagged, chain_of, is_flagged}
-use Rattle.distributor.proofs.Common.{is_in_chain, occurs, slot_state, Table, assignment_of, slot_index, is_by, sooner, ticks_until_next_wanted}
-use Rattle.distributor.proofs.Common.{ticks_until_wanted}
+use Rattle.distributor.proofs.Common.{Bool, List, None, Option, Some, ap, arith, cond, eq-eqb, false, get_or, min, refl, subst, suc, sym, true, zero}
+use Rattle.distributor.proofs.Common.{ℕ, ⊎_elim, ◌+◌, ◌<◌, ◌∙◌, ◌≡◌, cases_eq, false≢true, le-leb, leb-true, mod_below, IfSome, Assignment, Flushing}
+use Rattle.distributor.proofs.Common.{IsChained, IsFlagged, chain_of, is_flagged, is_in_chain, occurs, slot_state, is_by, sooner, ticks_until_wanted}
 use Rattle.distributor.specs.Waiting.{soonest_below}
-use Rattle.distributor.proofs.ChainLemmas.{one_other}
-use Rattle.distributor.proofs.TableLemmas.{stated_in}
-use Rattle.distributor.proofs.WalkLemmas.{Walking, after_first, cond_same, split_first, steps, walk_begins, walk_below, walk_next, walk_over}
-use Rattle.distributor.proofs.WalkLemmas.{walk_shorter, walk_split, walk_steps}
+use Rattle.distributor.proofs.FoldLemmas.{IsFold, fold_same}
+use Rattle.distributor.proofs.WalkLemmas.{Standing, less_rest, stand_first, stand_next, walk_below, walk_over}
 
 -- ---- the order of numbers of ticks
 
@@ -21,13 +17,10 @@ min_assoc n m k = omega arith
 
 pub sooner_assoc : (a b c : Option ℕ) → sooner (sooner a b) c ≡ sooner a (sooner b c)
 sooner_assoc None None None = refl
-sooner_assoc None None (Some k) = refl
 sooner_assoc None (Some m) None = refl
-sooner_assoc None (Some m) (Some k) = refl
 sooner_assoc (Some n) None None = refl
-sooner_assoc (Some n) None (Some k) = refl
-sooner_assoc (Some n) (Some m) None = refl
 sooner_assoc (Some n) (Some m) (Some k) = ap Some (min_assoc n m k)
+sooner_assoc a b c = refl
 
 pub by_left : (a b x : Option ℕ) → is_by a x ≡ true → is_by (sooner a b) x ≡ true
 by_left None None x h = h
@@ -83,11 +76,12 @@ by_each_other (Some n) (Some m) h k =
 
 -- ---- the soonest of a function
 
-pub same_soonest : (f h : ℕ → Option ℕ) (n : ℕ) → ((k : ℕ) → k < n → f k ≡ h k) → soonest_below f n ≡ soonest_below h n
+pub soonest_fold : IsFold sooner None soonest_below
 unfolding soonest_below
-same_soonest f h zero e = refl
-same_soonest f h (suc n) e = ap (λ x. sooner x (f n)) (same_soonest f h n (λ k lt. e k (omega arith)))
-    ∙ ap (λ x. sooner (soonest_below h n) x) (e n (omega arith))
+soonest_fold = record { none = λ f. refl; more = λ f n. refl; assoc = sooner_assoc; right = sooner_none }
+
+pub same_soonest : (f h : ℕ → Option ℕ) (n : ℕ) → ((k : ℕ) → k < n → f k ≡ h k) → soonest_below f n ≡ soonest_below h n
+same_soonest = fold_same soonest_fold
 
 pub soonest_member : (f : ℕ → Option ℕ) (n k : ℕ) → k < n → is_by (soonest_below f n) (f k) ≡ true
 unfolding soonest_below
@@ -109,46 +103,6 @@ pub soonest_is : (f : ℕ → Option ℕ) (n : ℕ) (x : Option ℕ) → IfSome 
 soonest_is f n None taken h = by_each_other None (soonest_below f n) (soonest_all f n None h) (by_none (soonest_below f n))
 soonest_is f n (Some m) taken h = by_each_other (Some m) (soonest_below f n) (soonest_all f n (Some m) h)
     (subst (λ y. is_by (soonest_below f n) y ≡ true) taken.2 (soonest_member f n taken.0 taken.1))
-
--- ---- rows of places
-
-soonest_more : (g : ℕ → Option ℕ) (m n : ℕ)
-    → soonest_below g (m + n) ≡ sooner (soonest_below g m) (soonest_below (λ k. g (m + k)) n)
-unfolding soonest_below
-soonest_more g m zero =
-    let e : m + 0 ≡ m = omega arith in
-    ap (soonest_below g) e ∙ sym (sooner_none (soonest_below g m))
-soonest_more g m (suc n) =
-    let e : m + suc n ≡ suc (m + n) = omega arith in
-    ap (soonest_below g) e ∙ ap (λ x. sooner x (g (m + n))) (soonest_more g m n)
-    ∙ sooner_assoc (soonest_below g m) (soonest_below (λ k. g (m + k)) n) (g (m + n))
-
-soonest_rows : (g : ℕ → Option ℕ) (w rows : ℕ)
-    → soonest_below (λ a. soonest_below (λ c. g (a * w + c)) w) rows ≡ soonest_below g (rows * w)
-unfolding soonest_below
-soonest_rows g w zero =
-    let e : 0 ≡ 0 * w = grind arith in
-    ap (soonest_below g) e
-soonest_rows g w (suc rows) =
-    let e : suc rows * w ≡ rows * w + w = suc_times rows w in
-    ap (λ x. sooner x (soonest_below (λ c. g (rows * w + c)) w)) (soonest_rows g w rows)
-    ∙ sym (ap (soonest_below g) e ∙ soonest_more g (rows * w) w)
-  where
-    suc_times : (m n : ℕ) → suc m * n ≡ m * n + n
-    suc_times m n = grind arith
-
--- the soonest over aggregators and numbers is that over the places
-pub soonest_places : (t : Table)
-    → soonest_below (λ k. ticks_until_wanted (slot_state t.states k)) (t.aggs * t.conversations) ≡ ticks_until_next_wanted t
-soonest_places t =
-    sym (soonest_rows (λ k. ticks_until_wanted (slot_state t.states k)) t.conversations t.aggs)
-    ∙ same_soonest _ _ t.aggs (λ a l. same_soonest _ _ t.conversations (λ c m. ap ticks_until_wanted (at a c m)))
-  where
-    at : (a c : ℕ) → c < t.conversations → slot_state t.states (a * t.conversations + c) ≡ assignment_of t (a + 1) c
-    at a c m =
-        let pos : 0 < a + 1 = omega arith in
-        let here : a * t.conversations + c ≡ slot_index t.conversations (a + 1) c = ap (λ n. n * t.conversations + c) (omega arith) in
-        ap (slot_state t.states) here ∙ sym (stated_in t.conversations t.states (a + 1) c pos m)
 
 -- ---- a walk
 
@@ -173,76 +127,38 @@ taken_sooner count states (Some n) (Some m) h k = ⊎_elim
     (cases_eq (min n m) n)
 
 -- a walk along a chain has found the soonest of what it has seen
-pub record Seeking (chain count : ℕ) (states : List Assignment) (next prev : List ℕ) (at : ℕ) (found : Option ℕ) : Type 0 where
-  pub walk : Walking chain (λ s. s) count states states next prev at (λ s. true)
+pub record Seeking (chain count : ℕ) (states : List Assignment) (next prev : List ℕ) (end at : ℕ) (found : Option ℕ) : Type 0 where
+  pub standing : Standing chain count states next prev end at
   pub taken : IsTaken count states found
-  pub soonest : (k : ℕ) → occurs k walk.rest ≡ 0 → is_in_chain chain (slot_state states k) ≡ true
+  pub soonest : (k : ℕ) → occurs k standing.rest ≡ 0 → is_in_chain chain (slot_state states k) ≡ true
       → is_by found (ticks_until_wanted (slot_state states k)) ≡ true
 
-pub seeking_begins : (chain count : ℕ) (states : List Assignment) (next prev : List ℕ) (h : IsChained count states next prev)
-    → chain < 64 → Seeking chain count states next prev (get_or next (count + chain) 0) None
-seeking_begins chain count states next prev h lt = record {
-  walk = walk_begins chain (λ s. s) count states next prev h lt (λ s. true);
+pub seeking_begins : {count : ℕ} {states : List Assignment} {next prev : List ℕ} (h : IsChained count states next prev)
+    (chain end at : ℕ) → chain < 64 → end ≡ count + chain → at ≡ get_or next end at → Seeking chain count states next prev end at None
+seeking_begins h chain end at lt e read = record {
+  standing = stand_first h chain end at lt e read;
   taken = tt;
-  soonest = λ k none e. (let one : occurs k (h.chains chain) ≡ 1 = h.homes chain k ∙ ap (λ b. cond b 1 0) e in
-      absurd (omega (arith, none, one)));
+  soonest = λ k none e. absurd (omega (arith, none, h.homes chain k ∙ ap (λ b. cond b 1 0) e));
 }
 
-module _ (chain count : ℕ) (states : List Assignment) (next prev : List ℕ) (at : ℕ) (found : Option ℕ)
-    (h : Seeking chain count states next prev at found) where
-  pub seeking_ends : at ≡ count + chain → (k : ℕ) → is_in_chain chain (slot_state states k) ≡ true
+module _ {chain count : ℕ} {states : List Assignment} {next prev : List ℕ} {end at : ℕ} {found : Option ℕ}
+    (h : Seeking chain count states next prev end at found) where
+  pub seeking_ends : at ≡ end → (k : ℕ) → is_in_chain chain (slot_state states k) ≡ true
       → is_by found (ticks_until_wanted (slot_state states k)) ≡ true
-  seeking_ends e k = h.soonest k
-      (ap (occurs k) (walk_over chain (λ s. s) count states states next prev at (λ s. true) h.walk e))
+  seeking_ends e k = h.soonest k (ap (occurs k) (walk_over h.standing e))
 
-  module _ (n : at ≡ count + chain → ⊥) where
-    pub seeking_below : at < count
-    seeking_below = walk_below chain (λ s. s) count states states next prev at (λ s. true) h.walk n
-
-    abbrev on_walk : Walking chain (λ s. s) count states states next prev (get_or next at 0) (λ s. true)
-    on_walk = record {
-      chained = h.walk.chained;
-      lt = h.walk.lt;
-      olds_len = h.walk.olds_len;
-      front = h.walk.front ++ at ∷ [];
-      rest = after_first h.walk.rest;
-      split = walk_split chain (λ s. s) count states states next prev at (λ s. true) h.walk n
-          ∙ sym (append_assoc h.walk.front (at ∷ []) (after_first h.walk.rest));
-      here = walk_next chain (λ s. s) count states states next prev at (λ s. true) h.walk n;
-      changed = λ k. sym (ap (cond (ltb 0 (occurs k (after_first h.walk.rest))) (slot_state states k))
-          (cond_same (is_in_chain chain (slot_state states k)) (slot_state states k))
-          ∙ cond_same (ltb 0 (occurs k (after_first h.walk.rest))) (slot_state states k));
-      noted = λ k none e. refl;
-    }
-
-    less : (k : ℕ) → (k ≡ at → ⊥) → occurs k h.walk.rest ≡ occurs k (after_first h.walk.rest)
-    less k m = omega (arith, ap (occurs k) (split_first h.walk.rest at (count + chain) h.walk.here n), one_other k at m)
-
-    pub seeking_on : (here found' : Option ℕ) (place : ℕ) → here ≡ ticks_until_wanted (slot_state states at)
-        → found' ≡ sooner found here → place ≡ get_or next at 0 → Seeking chain count states next prev place found'
-    seeking_on here found' place is e goes = subst (λ x. Seeking chain count states next prev place x) (sym e)
-        (subst (λ a. Seeking chain count states next prev a (sooner found here)) (sym goes) (record {
-          walk = on_walk;
-          taken = taken_sooner count states found here h.taken (taken_here count states here at seeking_below is);
-          soonest = λ k none stands. ⊎_elim
-              (λ (m : k ≡ at). by_right found here (ticks_until_wanted (slot_state states k))
-              (subst (λ x. is_by here x ≡ true) (is ∙ ap (λ j. ticks_until_wanted (slot_state states j)) (sym m)) (by_itself here)))
-              (λ (m : k ≡ at → ⊥). by_left found here (ticks_until_wanted (slot_state states k)) (h.soonest k (less k m ∙ none) stands))
-              (cases_eq k at);
-        }))
-
-    pub seeking_smaller : (place : ℕ) → place ≡ get_or next at 0
-        → steps next (count + chain) count place < steps next (count + chain) count at
-    seeking_smaller place goes =
-        let shorter : steps next (count + chain) count (get_or next at 0) ≡ length (after_first h.walk.rest) =
-        walk_steps chain (λ s. s) count states states next prev (get_or next at 0) (λ s. true) on_walk in
-        omega (
-          arith,
-          ap (steps next (count + chain) count) goes,
-          shorter,
-          walk_shorter chain (λ s. s) count states states next prev at (λ s. true) h.walk n,
-          walk_steps chain (λ s. s) count states states next prev at (λ s. true) h.walk,
-        )
+  pub seeking_on : (n : at ≡ end → ⊥) (here found' : Option ℕ) (place : ℕ) → here ≡ ticks_until_wanted (slot_state states at)
+      → found' ≡ sooner found here → place ≡ get_or next at place → Seeking chain count states next prev end place found'
+  seeking_on n here found' place is e read = subst (λ x. Seeking chain count states next prev end place x) (sym e) (record {
+    standing = stand_next h.standing n place read;
+    taken = taken_sooner count states found here h.taken (taken_here count states here at (walk_below h.standing n) is);
+    soonest = λ k none stands. ⊎_elim
+        (λ (m : k ≡ at). by_right found here (ticks_until_wanted (slot_state states k))
+        (subst (λ x. is_by here x ≡ true) (is ∙ ap (λ j. ticks_until_wanted (slot_state states j)) (sym m)) (by_itself here)))
+        (λ (m : k ≡ at → ⊥). by_left found here (ticks_until_wanted (slot_state states k))
+        (h.soonest k (less_rest h.standing n k m ∙ none) stands))
+        (cases_eq k at);
+  })
 
 -- ---- chain by chain
 
@@ -271,10 +187,8 @@ chains_walked chain count states found here found' h e taken soonest = subst (Se
 
 -- where the flag 'Flushing' is clear, nothing is Flushing
 none_waits : (w f : Bool) → f ≡ false → (s : Assignment) → is_flagged w f s ≡ true → ticks_until_wanted s ≡ None
-none_waits w f none (Free preferred) h = refl
-none_waits w f none (On port) h = refl
-none_waits w f none (Wanted port preferred) h = refl
 none_waits w f none (Flushing port id preferred age) h = absurd (false≢true (sym none ∙ h))
+none_waits w f none s h = refl
 
 pub chains_passed : (chain count : ℕ) (states : List Assignment) (wanted flushing : List Bool) (found : Option ℕ)
     → SeekingChains chain count states found → IsFlagged states wanted flushing → get_or flushing chain false ≡ false
@@ -292,11 +206,9 @@ chains_passed chain count states wanted flushing found h f none = record {
 
 some_chain : (found : Option ℕ) (s : Assignment)
     → ((c : ℕ) → c < 64 → is_in_chain c s ≡ true → is_by found (ticks_until_wanted s) ≡ true) → is_by found (ticks_until_wanted s) ≡ true
-some_chain found (Free preferred) h = by_none found
-some_chain found (On port) h = by_none found
-some_chain found (Wanted port preferred) h = by_none found
 some_chain found (Flushing port id preferred age) h = h (chain_of port) (mod_below port 64 (omega arith))
     (eq-eqb (chain_of port) (chain_of port) refl)
+some_chain found s h = by_none found
 
 pub chains_end : (count : ℕ) (states : List Assignment) (found : Option ℕ) → SeekingChains 64 count states found
     → found ≡ soonest_below (λ k. ticks_until_wanted (slot_state states k)) count

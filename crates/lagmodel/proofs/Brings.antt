@@ -1,9 +1,12 @@
 -- Moves that a receive allows if nothing came are allowed whatever came: only receiving, answering and being released
 -- depend on it. So a receive of nothing may be regarded as a receive of what came.
-use Rattle.lagmodel.proofs.Common.{Bool, IsSomeAnd, List, None, Option, Some, [], ap, false, true, ℕ, ◌∷◌, true≢false, none-some, Act, AllAllowed}
-use Rattle.lagmodel.proofs.Common.{ConversationMove, ConversationMoveAllowed, Distributes, DistributorMove, DistributorMoveAllowed, Flow, LawfulMoves}
-use Rattle.lagmodel.proofs.Common.{Move, MoveAllowed, Port, PortAllowed, PortMove, Restart, view_after, ControlMessage, Conversation}
-use Rattle.lagmodel.proofs.Common.{DistributorFacts, Lacp, Marker, ModelCall, PortFacts, Receive, Response, SystemSetup, View}
+use Rattle.std.proofs.Common.{Bool, IsSomeAnd, List, None, Option, Some, [], ap, false, true, ℕ, ◌∷◌}
+use Rattle.std.proofs.lemmas.Bool.{true≢false}
+use Rattle.std.proofs.lemmas.Option.{none-some}
+use Rattle.lagmodel.specs.Move.{Act, AllAllowed, ConversationMove, ConversationMoveAllowed, Distributes, DistributorMove, DistributorMoveAllowed}
+use Rattle.lagmodel.specs.Move.{Flow, LawfulMoves, Move, MoveAllowed, Port, PortAllowed, PortMove, Restart, view_after}
+use Rattle.lagmodel.specs.View.{ControlMessage, Conversation, DistributorFacts, Lacp, Marker, ModelCall, PortFacts, Receive, Response, SystemSetup}
+use Rattle.lagmodel.specs.View.{View}
 
 abbrev is_receive : ModelCall → Bool
 is_receive (Receive p pdu) = true
@@ -16,30 +19,22 @@ brought _ = None
 port_allowed : (u : SystemSetup) (n : ℕ) (came : Option ControlMessage) (ports : ℕ → Option PortFacts) (p : ℕ)
     (m : PortMove) (a : PortFacts)
     → PortAllowed u (Receive n None) ports p m a → PortAllowed u (Receive n came) ports p m a
-port_allowed u n came ports p PortMove.Stop a h = tt
-port_allowed u n came ports p PortMove.Leave a h = tt
-port_allowed u n came ports p PortMove.Desynchronize a h = tt
 port_allowed u n came ports p (PortMove.Reconfigure party) a h = absurd (true≢false (ap is_receive h.0))
-port_allowed u n came ports p PortMove.Default a h = h
 port_allowed u n came ports p (PortMove.Take told synchronized) a h = absurd (none-some (Lacp told) (ap brought h.0))
-port_allowed u n came ports p (PortMove.Join g) a h = h
-port_allowed u n came ports p PortMove.Distribute a h = h
-port_allowed u n came ports p (PortMove.Announce synchronized) a h = h
 port_allowed u n came ports p (PortMove.Respond mac port identifier) a h = absurd (none-some (Marker mac port identifier) (ap brought h))
+port_allowed u n came ports p m a h = h
 
 change_allowed : (mac : List ℕ) (n : ℕ) (came : Option ControlMessage) (g k : ℕ) (m : ConversationMove) (c : Conversation)
     → ConversationMoveAllowed mac (Receive n None) g k m c → ConversationMoveAllowed mac (Receive n came) g k m c
-change_allowed mac n came g k (ConversationMove.Want p) c h = h
-change_allowed mac n came g k (ConversationMove.Retry p i) c h = h
 change_allowed mac n came g k (ConversationMove.Answered p i) c h = absurd (none-some (Response mac p i) (ap brought h.0))
 change_allowed mac n came g k (ConversationMove.Down p) c h = absurd (true≢false (ap is_receive h.0))
 change_allowed mac n came g k ConversationMove.Forced c h = absurd (true≢false (ap is_receive h))
+change_allowed mac n came g k m c h = h
 
 flow_allowed : (mac : List ℕ) (n : ℕ) (came : Option ControlMessage) (D : ℕ → ℕ → Type 0) (f : DistributorFacts) (m : DistributorMove)
     → DistributorMoveAllowed mac (Receive n None) D f m → DistributorMoveAllowed mac (Receive n came) D f m
-flow_allowed mac n came D f (DistributorMove.Send g k p) h = h
-flow_allowed mac n came D f (DistributorMove.Mark p) h = h
 flow_allowed mac n came D f (DistributorMove.Become g k m) h = change_allowed mac n came g k m (f.state g k) h
+flow_allowed mac n came D f m h = h
 
 there : (u : SystemSetup) (n : ℕ) (came : Option ControlMessage) (ports : ℕ → Option PortFacts) (p : ℕ)
     (m : PortMove) (o : Option PortFacts)

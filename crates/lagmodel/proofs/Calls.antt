@@ -1,11 +1,12 @@
 -- What calls of one system preserve, whatever it receives: that the members of an aggregator have its key and one group
 -- (members_call, and members_driven of a list of calls), and, but in a configure and a restart, the own parameters of
 -- its ports (parties_same).
-use Rattle.lagmodel.proofs.Common.{List, Option, Some, [], ap, eqb, eqb-true, false, inl, inr, option_map, refl, subst, sym, ℕ, ◌∙◌, ◌∷◌, ◌≡◌}
-use Rattle.lagmodel.proofs.Common.{cases_Bool, true≢false, Party, LawfulRun, Members, Act, AllAllowed, Flow, LawfulMoves, Move, MoveAllowed, Port}
-use Rattle.lagmodel.proofs.Common.{PortAllowed, PortMove, Restart, port_after, view_after, view_after_all, IsSystemSetup, ModelCall, PortFacts}
-use Rattle.lagmodel.proofs.Common.{SystemSetup, View, first_view, is_restart, party_at}
-use Rattle.lagmodel.proofs.Base.{value_of, cond_true, cond_false}
+use Rattle.lagmodel.proofs.Stamps.{party_moved}
+use Rattle.std.proofs.Common.{List, [], ap, false, refl, subst, sym, ℕ, ◌∙◌, ◌∷◌, ◌≡◌}
+use Rattle.lagmodel.specs.Law.{LawfulRun, Members}
+use Rattle.lagmodel.specs.Move.{Act, AllAllowed, Flow, LawfulMoves, Move, Port, Restart, view_after, view_after_all}
+use Rattle.lagmodel.specs.View.{IsSystemSetup, ModelCall, SystemSetup, View, first_view, is_restart}
+use Rattle.lagmodel.specs.World.{party_at}
 use Rattle.lagmodel.proofs.Ports.{members_kept, members_first}
 
 pub members_moves : (u : SystemSetup) (call : ModelCall) (moves : List Move) (v : View) → IsSystemSetup u → AllAllowed u call v moves
@@ -30,33 +31,6 @@ pub parties_same : (u : SystemSetup) (call : ModelCall) (old new : View) (seen :
     → is_restart call ≡ false → LawfulMoves u call old seen new → (q : ℕ) → party_at new q ≡ party_at old q
 parties_same u call old new seen n r x q = ap (λ (v : View). party_at v q) x.3 ∙ all x.0 old x.1
   where
-    one : (m : PortMove) (a : PortFacts) (ports : ℕ → Option PortFacts) (p : ℕ) → PortAllowed u call ports p m a
-        → (port_after m a).party ≡ a.party
-    one PortMove.Stop a ports p y = refl
-    one PortMove.Leave a ports p y = refl
-    one PortMove.Desynchronize a ports p y = refl
-    one (PortMove.Reconfigure party) a ports p y = absurd (n y.0)
-    one PortMove.Default a ports p y = refl
-    one (PortMove.Take pdu synchronized) a ports p y = refl
-    one (PortMove.Join g) a ports p y = refl
-    one PortMove.Distribute a ports p y = refl
-    one (PortMove.Announce synchronized) a ports p y = refl
-    one (PortMove.Respond mac port identifier) a ports p y = refl
-
-    step : (m : Move) (v : View) → MoveAllowed u call v m → party_at (view_after u m v) q ≡ party_at v q
-    step (Port p m) v y =
-        let s = value_of (v.port p) (PortAllowed u call v.port p m) y in
-        elim (cases_Bool (eqb q p)) [
-          | inl e ↦ (let there : v.port q ≡ Some s.0 = subst (λ r. v.port r ≡ Some s.0) (sym (eqb-true q p e)) s.1 in
-              ap (option_map (λ (a : PortFacts). a.party)) (cond_true (eqb q p) (option_map (port_after m) (v.port q)) (v.port q) e
-              ∙ ap (option_map (port_after m)) there)
-              ∙ ap (λ (y : Party). Some y) (one m s.0 v.port p s.2)
-              ∙ sym (ap (option_map (λ (a : PortFacts). a.party)) there))
-          | inr e ↦ ap (option_map (λ (a : PortFacts). a.party)) (cond_false (eqb q p) (option_map (port_after m) (v.port q)) (v.port q) e)
-        ]
-    step (Flow m) v y = refl
-    step Restart v y = absurd (true≢false (sym y ∙ r))
-
     all : (ms : List Move) (v : View) → AllAllowed u call v ms → party_at (view_after_all u ms v) q ≡ party_at v q
     all [] v y = refl
-    all (m ∷ ms) v y = all ms (view_after u m v) y.1 ∙ step m v y.0
+    all (m ∷ ms) v y = all ms (view_after u m v) y.1 ∙ party_moved u call v m y.0 r n q

@@ -1,73 +1,107 @@
 -- Every event preserves the facts of two systems, and so does every run.
-use Rattle.lagmodel.proofs.Common.{Bool, List, None, Option, Some, [], ap, false, inl, inr, refl, subst, suc, sym, true, ℕ, ◌++◌, ◌∙◌, ◌∷◌, ◌≡◌, ◌≢◌}
-use Rattle.lagmodel.proofs.Common.{◌⊎◌, false≢true, true≢false, Party, Move, Configure, ControlMessage, Force, IsSystemSetup, ModelCall}
-use Rattle.lagmodel.proofs.Common.{Move_conversation, Offer, Receive, Set_link, SystemSetup, Tick, Transmit, View, first_view, is_restart, AllMoves}
-use Rattle.lagmodel.proofs.Common.{CallHappens, Control, CountsChanges, Data, DeliversFirst, Event, Happens, IsWorldSetup, LosesFirst, Message, One}
-use Rattle.lagmodel.proofs.Common.{RepeatsFirst, Run, SensesCable, Side, TakenLacpdu, Two, World, WorldSetup, at_cable, at_side, at_two, end_at}
-use Rattle.lagmodel.proofs.Common.{first_world, handed_up, party_at, peer, with_messages, world_after_all}
-use Rattle.lagmodel.specs.View.{Restart}
+use Rattle.std.proofs.Common.{Bool, List, None, Option, Some, [], ap, false, inl, inr, refl, subst, suc, sym, true, ℕ, ◌++◌, ◌∙◌, ◌∷◌, ◌≡◌, ◌≢◌, ◌⊎◌}
+use Rattle.std.proofs.lemmas.Bool.{false≢true, true≢false}
+use Rattle.lagtypes.specs.declared.party.Party.{Party}
+use Rattle.lagmodel.specs.Move.{Move}
+use Rattle.lagmodel.specs.View.{Configure, ControlMessage, Force, IsSystemSetup, ModelCall, Move_conversation, Offer, Receive, Set_link, SystemSetup}
+use Rattle.lagmodel.specs.View.{Tick, Transmit, View, first_view, is_restart, Restart}
+use Rattle.lagmodel.specs.World.{AllMoves, CallHappens, Control, CountsChanges, Data, DeliversFirst, Event, Happens, IsWorldSetup, LosesFirst}
+use Rattle.lagmodel.specs.World.{Message, One, RepeatsFirst, Run, SensesCable, Side, TakenLacpdu, Two, World, WorldSetup, at_cable, at_side, at_two}
+use Rattle.lagmodel.specs.World.{end_at, first_world, handed_up, party_at, peer, with_messages, world_after_all}
 use Rattle.lagmodel.proofs.Lines.{IsFrom, Every}
 use Rattle.lagmodel.proofs.Ports.{members_first}
 use Rattle.lagmodel.proofs.Lanes.{Lanes, two_cases}
 use Rattle.lagmodel.proofs.LaneMoves.{Within, lanes_out_taken, lanes_back_taken, lanes_handed, lanes_forced, lanes_cut, lanes_joined, lanes_emptied}
 use Rattle.lagmodel.proofs.LaneMoves.{lanes_restarted, lanes_first}
 use Rattle.lagmodel.proofs.Stamps.{heard_first, stamps_out_taken, stamps_cut, stamps_emptied, stamps_counted, stamps_first, Stamps}
-use Rattle.lagmodel.proofs.Worlds.{Half, Lawful, Calling, calling_all}
+use Rattle.lagmodel.proofs.Worlds.{Half, HalfFacing, Lawful, Calling, calling_all}
 
 -- what is left on the cables: all, or all but the first message of one
 abbrev pub Popped : (ℕ → List Message) → (ℕ → List Message) → Type 0
 Popped towards base = (towards ≡ base) ⊎ ((c : ℕ) × (m : Message) × (ms : List Message) × (towards c ≡ m ∷ ms)
     × (base ≡ at_cable towards c ms))
 
-half_back : (u : SystemSetup) (me : Side) (ends theirs : ℕ → Option ℕ) (v : View) (party : ℕ → Option Party) (count : ℕ
-    → ℕ) (out back base : ℕ → List Message) (whole : ℕ → Bool)
-    (sent collected : ℕ → ℕ → List ℕ) (forced : ℕ → ℕ → Bool) (taken their_taken : ℕ → Option TakenLacpdu) → Popped back base
-    → Half u me ends theirs v party count out back whole sent collected forced taken their_taken
-    → Half u me ends theirs v party count out base whole sent collected forced taken their_taken
-half_back u me ends theirs v party count out back base whole sent collected forced taken their_taken p i = record {
-  members = i.members;
-  stamps = i.stamps;
-  heard = i.heard;
-  lanes = elim p [
-    | inl e ↦ subst (λ l. Lanes me ends v.flows out l whole sent collected forced) e i.lanes
-    | inr x ↦ subst (λ l. Lanes me ends v.flows out l whole sent collected forced) (sym x.4)
-        (lanes_back_taken me ends whole sent collected forced v.flows out back x.0 x.1 x.2 x.3 i.lanes)
-  ];
-}
+module _ {u : SystemSetup} {me : Side} {ends theirs : ℕ → Option ℕ} {v : View} {party : ℕ → Option Party} {count : ℕ → ℕ}
+    {out back : ℕ → List Message} {whole : ℕ → Bool} {sent collected : ℕ → ℕ → List ℕ} {forced : ℕ → ℕ → Bool}
+    {taken their_taken : ℕ → Option TakenLacpdu}
+    (i : Half u me ends theirs v party count out back whole sent collected forced taken their_taken) where
+  half_back : (base : ℕ → List Message) → Popped back base
+      → Half u me ends theirs v party count out base whole sent collected forced taken their_taken
+  half_back base p = record {
+    members = i.members;
+    stamps = i.stamps;
+    heard = i.heard;
+    lanes = elim p [
+      | inl e ↦ subst (λ l. Lanes me ends v.flows out l whole sent collected forced) e i.lanes
+      | inr x ↦ subst (λ l. Lanes me ends v.flows out l whole sent collected forced) (sym x.4) (lanes_back_taken i.lanes x.0 x.1 x.2 x.3)
+    ];
+  }
 
-half_out : (u : SystemSetup) (me : Side) (ends theirs : ℕ → Option ℕ) (v : View) (party : ℕ → Option Party) (count : ℕ
-    → ℕ) (out back base : ℕ → List Message) (whole : ℕ → Bool)
-    (sent collected : ℕ → ℕ → List ℕ) (forced : ℕ → ℕ → Bool) (taken their_taken : ℕ → Option TakenLacpdu) → Popped out base
-    → Half u me ends theirs v party count out back whole sent collected forced taken their_taken
-    → Half u me ends theirs v party count base back whole sent collected forced taken their_taken
-half_out u me ends theirs v party count out back base whole sent collected forced taken their_taken p i = record {
-  members = i.members;
-  heard = i.heard;
-  stamps = elim p [
-    | inl e ↦ subst (λ l. Stamps ends theirs party count l their_taken) e i.stamps
-    | inr x ↦ subst (λ l. Stamps ends theirs party count l their_taken) (sym x.4)
-        (stamps_out_taken ends theirs party count out their_taken x.0 x.1 x.2 x.3 i.stamps)
-  ];
-  lanes = elim p [
-    | inl e ↦ subst (λ l. Lanes me ends v.flows l back whole sent collected forced) e i.lanes
-    | inr x ↦ subst (λ l. Lanes me ends v.flows l back whole sent collected forced) (sym x.4)
-        (lanes_out_taken me ends whole sent collected forced v.flows out back x.0 x.1 x.2 x.3 i.lanes)
-  ];
-}
+  half_out : (base : ℕ → List Message) → Popped out base
+      → Half u me ends theirs v party count base back whole sent collected forced taken their_taken
+  half_out base p = record {
+    members = i.members;
+    heard = i.heard;
+    stamps = elim p [
+      | inl e ↦ subst (λ l. Stamps ends theirs party count l their_taken) e i.stamps
+      | inr x ↦ subst (λ l. Stamps ends theirs party count l their_taken) (sym x.4) (stamps_out_taken i.stamps x.0 x.1 x.2 x.3)
+    ];
+    lanes = elim p [
+      | inl e ↦ subst (λ l. Lanes me ends v.flows l back whole sent collected forced) e i.lanes
+      | inr x ↦ subst (λ l. Lanes me ends v.flows l back whole sent collected forced) (sym x.4) (lanes_out_taken i.lanes x.0 x.1 x.2 x.3)
+    ];
+  }
 
--- the change counts at the end of an event
-half_counted : (u : SystemSetup) (me : Side) (ends theirs : ℕ → Option ℕ) (v : View) (was : ℕ → Option Party) (old new : ℕ
-    → ℕ) (out back : ℕ → List Message) (whole : ℕ → Bool)
-    (sent collected : ℕ → ℕ → List ℕ) (forced : ℕ → ℕ → Bool) (taken their_taken : ℕ → Option TakenLacpdu)
-    → ((p : ℕ) → ((party_at v p ≡ was p) × (new p ≡ old p)) ⊎ ((party_at v p ≢ was p) × (new p ≡ suc (old p))))
-    → Half u me ends theirs v was old out back whole sent collected forced taken their_taken
-    → Half u me ends theirs v (party_at v) new out back whole sent collected forced taken their_taken
-half_counted u me ends theirs v was old new out back whole sent collected forced taken their_taken h i = record {
-  members = i.members;
-  lanes = i.lanes;
-  heard = i.heard;
-  stamps = stamps_counted ends theirs was (party_at v) old new out their_taken h i.stamps;
-}
+  -- the change counts at the end of an event
+  half_counted : (new : ℕ → ℕ)
+      → ((p : ℕ) → ((party_at v p ≡ party p) × (new p ≡ count p)) ⊎ ((party_at v p ≢ party p) × (new p ≡ suc (count p))))
+      → Half u me ends theirs v (party_at v) new out back whole sent collected forced taken their_taken
+  half_counted new h = record {
+    members = i.members;
+    lanes = i.lanes;
+    heard = i.heard;
+    stamps = stamps_counted ends theirs party (party_at v) count new out their_taken h i.stamps;
+  }
+
+  -- the first message is taken away, and handed up
+  half_handed : (c g k n : ℕ) (ms : List Message) → ((c d p : ℕ) → ends c ≡ Some p → ends d ≡ Some p → c ≡ d)
+      → out c ≡ Data me g k n ∷ ms
+      → Half u me ends theirs v party count (at_cable out c ms) back whole sent (at_two collected g k (collected g k ++ n ∷ []))
+      forced taken their_taken
+  half_handed c g k n ms one e = record {
+    members = i.members;
+    heard = i.heard;
+    stamps = stamps_out_taken i.stamps c (Data me g k n) ms e;
+    lanes = lanes_handed i.lanes c g k n ms one e;
+  }
+
+  -- a restart, and the change counts after it
+  half_restarted : IsSystemSetup u
+      → Half u me ends theirs (first_view u) party count (λ c. []) (λ c. []) whole sent collected forced taken their_taken
+  half_restarted f = record {
+    members = members_first u f;
+    lanes = lanes_restarted i.lanes u.first_marker;
+    stamps = stamps_emptied i.stamps;
+    heard = heard_first u taken;
+  }
+
+  half_emptied : Half u me ends theirs v party count (λ c. []) (λ c. []) whole sent collected forced taken their_taken
+  half_emptied = record { members = i.members; heard = i.heard; lanes = lanes_emptied i.lanes; stamps = stamps_emptied i.stamps }
+
+  half_forced : (g k : ℕ)
+      → Half u me ends theirs v party count out back whole sent collected (at_two forced g k true) taken their_taken
+  half_forced g k = record { members = i.members; stamps = i.stamps; heard = i.heard; lanes = lanes_forced i.lanes g k }
+
+-- the halves of a system and of its peer
+both : (x : WorldSetup) (s : Side) (w : World) → HalfFacing x w s (peer s) → HalfFacing x w (peer s) s → Lawful x w
+both x One w own other One = own
+both x One w own other Two = other
+both x Two w own other One = other
+both x Two w own other Two = own
+
+across : (x : WorldSetup) (s : Side) (w : World) → Lawful x w → HalfFacing x w (peer s) s
+across x One w i = i Two
+across x Two w i = i One
 
 -- the end of a call
 ended : (x : WorldSetup) (s : Side) (call : ModelCall) (stamp : ℕ) (party : Side → ℕ → Option Party) (old new : Side → ℕ
@@ -75,34 +109,17 @@ ended : (x : WorldSetup) (s : Side) (call : ModelCall) (stamp : ℕ) (party : Si
     → Popped towards base → ((t : Side) (p : ℕ) → ((party_at (w.view t) p ≡ party t p) × (new t p ≡ old t p))
     ⊎ ((party_at (w.view t) p ≢ party t p) × (new t p ≡ suc (old t p))))
     → Calling x s call stamp party old towards base w → Lawful x (record w { count = new })
-ended x One call stamp party old new towards base w p h i One =
-    half_counted _ One _ _ (w.view One) (party One) (w.count One) (new One) _ _ _ _ _ _ _ _
-    (subst (λ (n : Side → ℕ → ℕ). (p : ℕ) → ((party_at (w.view One) p ≡ party One p) × (new One p ≡ n One p))
-    ⊎ ((party_at (w.view One) p ≢ party One p) × (new One p ≡ suc (n One p)))) (sym i.counts) (h One))
-    (subst (λ l. Half (x.setup One) One (end_at x.cables One) (end_at x.cables Two) (w.view One) (party One) (w.count One)
-    (w.on_cable Two) l w.whole (w.sent One) (w.collected One) (w.forced One) (w.taken One) (w.taken Two)) (sym i.rest)
-    (half_back _ One _ _ _ _ _ _ towards base _ _ _ _ _ _ p i.own))
-ended x One call stamp party old new towards base w p h i Two =
-    half_counted _ Two _ _ (w.view Two) (party Two) (w.count Two) (new Two) _ _ _ _ _ _ _ _
-    (subst (λ (n : Side → ℕ → ℕ). (p : ℕ) → ((party_at (w.view Two) p ≡ party Two p) × (new Two p ≡ n Two p))
-    ⊎ ((party_at (w.view Two) p ≢ party Two p) × (new Two p ≡ suc (n Two p)))) (sym i.counts) (h Two))
-    (subst (λ l. Half (x.setup Two) Two (end_at x.cables Two) (end_at x.cables One) (w.view Two) (party Two) (w.count Two) l
-    (w.on_cable Two) w.whole (w.sent Two) (w.collected Two) (w.forced Two) (w.taken Two) (w.taken One)) (sym i.rest)
-    (half_out _ Two _ _ _ _ _ towards _ base _ _ _ _ _ _ p i.other))
-ended x Two call stamp party old new towards base w p h i Two =
-    half_counted _ Two _ _ (w.view Two) (party Two) (w.count Two) (new Two) _ _ _ _ _ _ _ _
-    (subst (λ (n : Side → ℕ → ℕ). (p : ℕ) → ((party_at (w.view Two) p ≡ party Two p) × (new Two p ≡ n Two p))
-    ⊎ ((party_at (w.view Two) p ≢ party Two p) × (new Two p ≡ suc (n Two p)))) (sym i.counts) (h Two))
-    (subst (λ l. Half (x.setup Two) Two (end_at x.cables Two) (end_at x.cables One) (w.view Two) (party Two) (w.count Two)
-    (w.on_cable One) l w.whole (w.sent Two) (w.collected Two) (w.forced Two) (w.taken Two) (w.taken One)) (sym i.rest)
-    (half_back _ Two _ _ _ _ _ _ towards base _ _ _ _ _ _ p i.own))
-ended x Two call stamp party old new towards base w p h i One =
-    half_counted _ One _ _ (w.view One) (party One) (w.count One) (new One) _ _ _ _ _ _ _ _
-    (subst (λ (n : Side → ℕ → ℕ). (p : ℕ) → ((party_at (w.view One) p ≡ party One p) × (new One p ≡ n One p))
-    ⊎ ((party_at (w.view One) p ≢ party One p) × (new One p ≡ suc (n One p)))) (sym i.counts) (h One))
-    (subst (λ l. Half (x.setup One) One (end_at x.cables One) (end_at x.cables Two) (w.view One) (party One) (w.count One) l
-    (w.on_cable One) w.whole (w.sent One) (w.collected One) (w.forced One) (w.taken One) (w.taken Two)) (sym i.rest)
-    (half_out _ One _ _ _ _ _ towards _ base _ _ _ _ _ _ p i.other))
+ended x s call stamp party old new towards base w p h i =
+    both x s (record w { count = new }) (half_counted (half_back i.own (w.on_cable s) there) (new s) (rises s))
+    (half_counted (half_out i.other (w.on_cable s) there) (new (peer s)) (rises (peer s)))
+  where
+    there : Popped towards (w.on_cable s)
+    there = subst (Popped towards) (sym i.rest) p
+
+    rises : (t : Side) (p : ℕ) → ((party_at (w.view t) p ≡ party t p) × (new t p ≡ w.count t p))
+        ⊎ ((party_at (w.view t) p ≢ party t p) × (new t p ≡ suc (w.count t p)))
+    rises t = subst (λ (n : Side → ℕ → ℕ). (p : ℕ) → ((party_at (w.view t) p ≡ party t p) × (new t p ≡ n t p))
+        ⊎ ((party_at (w.view t) p ≢ party t p) × (new t p ≡ suc (n t p)))) (sym i.counts) (h t)
 
 -- a whole call
 call_kept : (x : WorldSetup) (s : Side) (call : ModelCall) (stamp : ℕ) (party : Side → ℕ → Option Party) (old : Side → ℕ
@@ -121,32 +138,19 @@ call_kept x s call stamp party old towards base mid new p i moves a count h e =
 started : (x : WorldSetup) (s : Side) (call : ModelCall) (stamp : ℕ) (w : World) → Lawful x w
     → Within call stamp (end_at x.cables s) (w.on_cable s) w.whole (w.forced s)
     → Calling x s call stamp (λ t. party_at (w.view t)) w.count (w.on_cable s) (w.on_cable s) w
-started x One call stamp w i h = record { within = h; parties = λ r p. refl; own = i One; other = i Two; counts = refl; rest = refl }
-started x Two call stamp w i h = record { within = h; parties = λ r p. refl; own = i Two; other = i One; counts = refl; rest = refl }
+started x s call stamp w i h = record { within = h; parties = λ r p. refl; own = i s; other = across x s w i; counts = refl; rest = refl }
 
 -- a call that brings no control PDU, takes no link down and forces nothing
 abbrev pub quiet : ModelCall → Bool
-quiet (Receive p None) = true
 quiet (Receive p (Some pdu)) = false
 quiet (Set_link p up) = false
 quiet (Force g k) = false
 quiet Restart = false
-quiet Tick = true
-quiet Configure = true
-quiet Transmit = true
-quiet Offer = true
-quiet Move_conversation = true
+quiet call = true
 
 quiet-running : (call : ModelCall) → quiet call ≡ true → is_restart call ≡ false
-quiet-running (Receive p pdu) h = refl
-quiet-running (Set_link p up) h = refl
-quiet-running (Force g k) h = refl
 quiet-running Restart h = absurd (false≢true h)
-quiet-running Tick h = refl
-quiet-running Configure h = refl
-quiet-running Transmit h = refl
-quiet-running Offer h = refl
-quiet-running Move_conversation h = refl
+quiet-running call h = refl
 
 quiet_not : (call other : ModelCall) → quiet call ≡ true → quiet other ≡ false → call ≡ other → ⊥
 quiet_not call other h n e = true≢false (sym h ∙ ap quiet e ∙ n)
@@ -195,41 +199,21 @@ within_receive p pdu stamp ends back whole forced c ms one there first = record 
 -- the first message of a list is taken away
 lawful_popped : (x : WorldSetup) (w : World) (c : ℕ) (to : Side) (m : Message) (ms : List Message) → w.on_cable to c ≡ m ∷ ms → Lawful x w
     → Lawful x (with_messages w c to ms)
-lawful_popped x w c One m ms e i One = half_back _ One _ _ _ _ _ _ (w.on_cable One) (at_cable (w.on_cable One) c ms) _ _ _ _ _ _
-    (inr (c, m, ms, e, refl)) (i One)
-lawful_popped x w c One m ms e i Two = half_out _ Two _ _ _ _ _ (w.on_cable One) _ (at_cable (w.on_cable One) c ms) _ _ _ _ _ _
-    (inr (c, m, ms, e, refl)) (i Two)
-lawful_popped x w c Two m ms e i Two = half_back _ Two _ _ _ _ _ _ (w.on_cable Two) (at_cable (w.on_cable Two) c ms) _ _ _ _ _ _
-    (inr (c, m, ms, e, refl)) (i Two)
-lawful_popped x w c Two m ms e i One = half_out _ One _ _ _ _ _ (w.on_cable Two) _ (at_cable (w.on_cable Two) c ms) _ _ _ _ _ _
-    (inr (c, m, ms, e, refl)) (i One)
+lawful_popped x w c One m ms e i =
+    let p = inr (c, m, ms, e, refl) in
+    both x One (with_messages w c One ms) (half_back (i One) _ p) (half_out (i Two) _ p)
+lawful_popped x w c Two m ms e i =
+    let p = inr (c, m, ms, e, refl) in
+    both x Two (with_messages w c Two ms) (half_back (i Two) _ p) (half_out (i One) _ p)
 
 -- and handed up
-half_handed : (u : SystemSetup) (me : Side) (ends theirs : ℕ → Option ℕ) (v : View) (party : ℕ → Option Party) (count : ℕ → ℕ) (out back : ℕ
-    → List Message) (whole : ℕ → Bool)
-    (sent collected : ℕ → ℕ → List ℕ) (forced : ℕ → ℕ → Bool) (taken their_taken : ℕ → Option TakenLacpdu) (c g k n : ℕ) (ms : List Message)
-    → ((c d p : ℕ) → ends c ≡ Some p → ends d ≡ Some p → c ≡ d) → out c ≡ Data me g k n ∷ ms
-    → Half u me ends theirs v party count out back whole sent collected forced taken their_taken
-    → Half u me ends theirs v party count (at_cable out c ms) back whole sent (at_two collected g k (collected g k ++ n ∷ []))
-    forced taken their_taken
-half_handed u me ends theirs v party count out back whole sent collected forced taken their_taken c g k n ms one e i = record {
-  members = i.members;
-  heard = i.heard;
-  stamps = stamps_out_taken ends theirs party count out their_taken c (Data me g k n) ms e i.stamps;
-  lanes = lanes_handed me ends whole sent collected forced v.flows out back c g k n ms one e i.lanes;
-}
-
 lawful_handed : (x : WorldSetup) (w : World) (c : ℕ) (to : Side) (g k n : ℕ) (ms : List Message) → IsWorldSetup x
     → w.on_cable to c ≡ Data (peer to) g k n ∷ ms → Lawful x w
     → Lawful x (handed_up true (Data (peer to) g k n) (with_messages w c to ms))
-lawful_handed x w c One g k n ms f e i One = half_back _ One _ _ _ _ _ _ (w.on_cable One) (at_cable (w.on_cable One) c ms) _ _ _ _ _ _
-    (inr (c, Data Two g k n, ms, e, refl)) (i One)
-lawful_handed x w c One g k n ms f e i Two = half_handed _ Two _ _ _ _ _ (w.on_cable One) _ _ _ (w.collected Two) _ _ _ c g k n ms
-    (f.cables Two) e (i Two)
-lawful_handed x w c Two g k n ms f e i Two = half_back _ Two _ _ _ _ _ _ (w.on_cable Two) (at_cable (w.on_cable Two) c ms) _ _ _ _ _ _
-    (inr (c, Data One g k n, ms, e, refl)) (i Two)
-lawful_handed x w c Two g k n ms f e i One = half_handed _ One _ _ _ _ _ (w.on_cable Two) _ _ _ (w.collected One) _ _ _ c g k n ms
-    (f.cables One) e (i One)
+lawful_handed x w c One g k n ms f e i = both x One (handed_up true (Data Two g k n) (with_messages w c One ms))
+    (half_back (i One) _ (inr (c, Data Two g k n, ms, e, refl))) (half_handed (i Two) c g k n ms (f.cables Two) e)
+lawful_handed x w c Two g k n ms f e i = both x Two (handed_up true (Data One g k n) (with_messages w c Two ms))
+    (half_back (i Two) _ (inr (c, Data One g k n, ms, e, refl))) (half_handed (i One) c g k n ms (f.cables One) e)
 
 lawful_up : (x : WorldSetup) (w : World) (c : ℕ) (to origin : Side) (g k n : ℕ) (ms : List Message) → IsWorldSetup x → origin ≡ peer to
     → w.on_cable to c ≡ Data origin g k n ∷ ms → Lawful x w
@@ -252,8 +236,7 @@ started_popped : (x : WorldSetup) (w : World) (c : ℕ) (to : Side) (p : ℕ) (p
     (with_messages w c to ms)
 started_popped x w c One p pdu stamp ms f h e i = record {
   within = within_receive p pdu stamp _ _ _ _ c ms (f.cables One) h e;
-  parties =
-      λ r p. refl;
+  parties = λ r p. refl;
   own = i One;
   other = i Two;
   counts = refl;
@@ -261,8 +244,7 @@ started_popped x w c One p pdu stamp ms f h e i = record {
 }
 started_popped x w c Two p pdu stamp ms f h e i = record {
   within = within_receive p pdu stamp _ _ _ _ c ms (f.cables Two) h e;
-  parties =
-      λ r p. refl;
+  parties = λ r p. refl;
   own = i Two;
   other = i One;
   counts = refl;
@@ -336,21 +318,9 @@ senses_kept x c s (Some p) up old new f i h e z =
 -- a conversation is forced
 lawful_forced : (x : WorldSetup) (s : Side) (g k : ℕ) (w : World) → Lawful x w
     → Lawful x (record w { forced = at_side w.forced s (at_two (w.forced s) g k true) })
-lawful_forced x One g k w i One = let h = i One in record {
-  members = h.members;
-  stamps = h.stamps;
-  heard = h.heard;
-  lanes =
-      lanes_forced One _ _ _ _ _ _ _ _ g k h.lanes;
-}
+lawful_forced x One g k w i One = half_forced (i One) g k
 lawful_forced x One g k w i Two = i Two
-lawful_forced x Two g k w i Two = let h = i Two in record {
-  members = h.members;
-  stamps = h.stamps;
-  heard = h.heard;
-  lanes =
-      lanes_forced Two _ _ _ _ _ _ _ _ g k h.lanes;
-}
+lawful_forced x Two g k w i Two = half_forced (i Two) g k
 lawful_forced x Two g k w i One = i One
 
 counts_as_forced : (s : Side) (forced : Side → ℕ → ℕ → Bool) (g k : ℕ) → (at_side forced s (at_two (forced s) g k true)) s g k ≡ true
@@ -382,8 +352,8 @@ lawful_cut : (x : WorldSetup) (w : World) (c : ℕ) → Lawful x w
 lawful_cut x w c i s = let h = i s in record {
   members = h.members;
   heard = h.heard;
-  stamps = stamps_cut _ _ _ _ (w.on_cable (peer s)) _ c h.stamps;
-  lanes = lanes_cut s _ _ (w.on_cable (peer s)) (w.on_cable s) w.whole _ _ _ c h.lanes;
+  stamps = stamps_cut h.stamps c;
+  lanes = lanes_cut h.lanes c;
 }
 
 lawful_joined : (x : WorldSetup) (w : World) (c : ℕ) → Lawful x w → Lawful x (record w { whole = at_cable w.whole c true })
@@ -391,45 +361,16 @@ lawful_joined x w c i s = let h = i s in record {
   members = h.members;
   heard = h.heard;
   stamps = h.stamps;
-  lanes = lanes_joined s _ _ _ _ w.whole _ _ _ c h.lanes;
-}
-
--- a restart, and the change counts after it
-restarted_half : (u : SystemSetup) (me : Side) (ends theirs : ℕ → Option ℕ) (v : View) (party : ℕ → Option Party) (count : ℕ
-    → ℕ) (out back : ℕ → List Message) (whole : ℕ → Bool)
-    (sent collected : ℕ → ℕ → List ℕ) (forced : ℕ → ℕ → Bool) (taken their_taken : ℕ → Option TakenLacpdu) → IsSystemSetup u
-    → Half u me ends theirs v party count out back whole sent collected forced taken their_taken
-    → Half u me ends theirs (first_view u) party count (λ c. []) (λ c. []) whole sent collected forced taken their_taken
-restarted_half u me ends theirs v party count out back whole sent collected forced taken their_taken f i = record {
-  members = members_first u f;
-  lanes = lanes_restarted me ends v.flows out back whole sent collected forced u.first_marker i.lanes;
-  stamps = stamps_emptied ends theirs party count out their_taken i.stamps;
-  heard = heard_first u taken;
-}
-
-emptied_half : (u : SystemSetup) (me : Side) (ends theirs : ℕ → Option ℕ) (v : View) (party : ℕ → Option Party) (count : ℕ
-    → ℕ) (out back : ℕ → List Message) (whole : ℕ → Bool)
-    (sent collected : ℕ → ℕ → List ℕ) (forced : ℕ → ℕ → Bool) (taken their_taken : ℕ → Option TakenLacpdu)
-    → Half u me ends theirs v party count out back whole sent collected forced taken their_taken
-    → Half u me ends theirs v party count (λ c. []) (λ c. []) whole sent collected forced taken their_taken
-emptied_half u me ends theirs v party count out back whole sent collected forced taken their_taken i = record {
-  members = i.members;
-  heard = i.heard;
-  lanes = lanes_emptied me ends v.flows out back whole sent collected forced i.lanes;
-  stamps = stamps_emptied ends theirs party count out their_taken i.stamps;
+  lanes = lanes_joined h.lanes c;
 }
 
 lawful_restarted : (x : WorldSetup) (s : Side) (w : World) (count : Side → ℕ → ℕ) → IsWorldSetup x
     → CountsChanges w (record w { view = at_side w.view s (first_view (x.setup s)); on_cable = λ t c. [] }) count → Lawful x w
     → Lawful x (record w { view = at_side w.view s (first_view (x.setup s)); on_cable = λ t c. []; count = count })
-lawful_restarted x One w count f h i One = half_counted _ One _ _ (first_view (x.setup One)) (party_at (w.view One)) (w.count One)
-    (count One) _ _ _ _ _ _ _ _ (h One) (restarted_half _ One _ _ (w.view One) _ _ _ _ _ _ _ _ _ _ (f.setup One) (i One))
-lawful_restarted x One w count f h i Two = half_counted _ Two _ _ (w.view Two) (party_at (w.view Two)) (w.count Two) (count Two) _ _ _ _ _ _
-    _ _ (h Two) (emptied_half _ Two _ _ (w.view Two) _ _ _ _ _ _ _ _ _ _ (i Two))
-lawful_restarted x Two w count f h i Two = half_counted _ Two _ _ (first_view (x.setup Two)) (party_at (w.view Two)) (w.count Two)
-    (count Two) _ _ _ _ _ _ _ _ (h Two) (restarted_half _ Two _ _ (w.view Two) _ _ _ _ _ _ _ _ _ _ (f.setup Two) (i Two))
-lawful_restarted x Two w count f h i One = half_counted _ One _ _ (w.view One) (party_at (w.view One)) (w.count One) (count One) _ _ _ _ _ _
-    _ _ (h One) (emptied_half _ One _ _ (w.view One) _ _ _ _ _ _ _ _ _ _ (i One))
+lawful_restarted x One w count f h i One = half_counted (half_restarted (i One) (f.setup One)) (count One) (h One)
+lawful_restarted x One w count f h i Two = half_counted (half_emptied (i Two)) (count Two) (h Two)
+lawful_restarted x Two w count f h i Two = half_counted (half_restarted (i Two) (f.setup Two)) (count Two) (h Two)
+lawful_restarted x Two w count f h i One = half_counted (half_emptied (i One)) (count One) (h One)
 
 -- every event
 pub happens_kept : (x : WorldSetup) (e : Event) (old new : World) → IsWorldSetup x → Lawful x old → Happens x e old new → Lawful x new

@@ -1,15 +1,18 @@
 -- The Actor of an LACPDU is its sender, and the partner that a port recorded is the sender of an LACPDU.
-use Rattle.lagmodel.proofs.Common.{Bool, IsSomeAnd, List, None, Option, Some, [], ap, arith, eqb, eqb-true, false, inl, inr, length, option_map, refl}
-use Rattle.lagmodel.proofs.Common.{subst, suc, sym, true, ℕ, ◌∙◌, ◌∷◌, ◌≡◌, ◌≢◌, ◌≤◌, ◌⊎◌, cases_Bool, eqb-false, false≢true, true≢false, none-some}
-use Rattle.lagmodel.proofs.Common.{same_Some, Party, Announce, Become, Default, Desynchronize, Distribute, DistributorMove, Flow, Join, Leave, Mark}
-use Rattle.lagmodel.proofs.Common.{Move, MoveAllowed, Port, PortAllowed, PortMove, Reconfigure, Respond, Restart, Send, Stop, Take, Took, act}
-use Rattle.lagmodel.proofs.Common.{act_of_port, distributor_act, port_act, port_after, view_after, DistributorFacts, Lacp, LacpMessage, Marker}
-use Rattle.lagmodel.proofs.Common.{ModelCall, PortFacts, Response, SystemSetup, View, at_port, first_port, first_view, is_restart, replies_frame}
-use Rattle.lagmodel.proofs.Common.{Control, Data, Message, Side, TakenLacpdu, at_cable, on_cable_after, party_at, put_on_cable, taken_after}
+use Rattle.std.proofs.Common.{Bool, IsSomeAnd, List, None, Option, Some, [], ap, arith, eqb, eqb-true, false, inl, inr, length, option_map, refl}
+use Rattle.std.proofs.Common.{subst, suc, sym, true, ℕ, ◌∙◌, ◌∷◌, ◌≡◌, ◌≢◌, ◌≤◌, ◌⊎◌}
+use Rattle.std.proofs.lemmas.Bool.{cases_Bool, eqb-false, false≢true, true≢false}
+use Rattle.std.proofs.lemmas.Option.{none-some, same_Some}
+use Rattle.lagtypes.specs.declared.party.Party.{Party}
+use Rattle.lagmodel.specs.Move.{Announce, Become, Default, Desynchronize, DistributorMove, Flow, Mark, Move, MoveAllowed, Port, PortAllowed, PortMove}
+use Rattle.lagmodel.specs.Move.{Reconfigure, Respond, Restart, Send, Take, Took, act, act_of_port, distributor_act, port_act, port_after, view_after}
+use Rattle.lagmodel.specs.View.{DistributorFacts, Lacp, LacpMessage, Marker, ModelCall, PortFacts, Response, SystemSetup, View, at_port, first_port}
+use Rattle.lagmodel.specs.View.{first_view, is_restart, replies_frame}
+use Rattle.lagmodel.specs.World.{Control, Data, Message, Side, TakenLacpdu, at_cable, on_cable_after, party_at, put_on_cable, taken_after}
 use Rattle.lagmodel.proofs.Base.{cond_true, cond_false, value_of, mapped_some}
 use Rattle.lagmodel.proofs.Ports.{changed_port}
-use Rattle.lagmodel.proofs.Lines.{Every, every_push, every_weaker, put_cases}
-use Rattle.lagmodel.proofs.LaneMoves.{Within, cable_cases}
+use Rattle.lagmodel.proofs.Lines.{Every, every_push, every_weaker, put_each}
+use Rattle.lagmodel.proofs.LaneMoves.{at_cable_each, Within}
 
 -- An LACPDU's stamp is at most its sender's count; if it is the count, the LACPDU names this party.
 abbrev pub FreshPdu : ℕ → Option Party → LacpMessage → ℕ → Type 0
@@ -51,8 +54,6 @@ heard_port : (u : SystemSetup) (call : ModelCall) (ports : ℕ → Option PortFa
     (m : PortMove) (a : PortFacts) → ports p ≡ Some a
     → PortAllowed u call ports p m a → AllHeard ports taken
     → AllHeard (at_port ports p (port_after m)) (taken_after stamp (port_act p m a) taken)
-heard_port u call ports p stamp taken Stop a h x i = heard_changed ports taken taken p (port_after Stop) a h (i p a h) (λ q e. refl) i
-heard_port u call ports p stamp taken Leave a h x i = heard_changed ports taken taken p (port_after Leave) a h (i p a h) (λ q e. refl) i
 heard_port u call ports p stamp taken Desynchronize a h x i =
     heard_changed ports taken taken p (port_after Desynchronize) a h (λ d. let r = i p a h d in (r.0, r.1, r.2, λ e. absurd (false≢true e)))
     (λ q e. refl) i
@@ -69,20 +70,12 @@ heard_port u call ports p stamp taken (Take pdu synchronized) a h x i =
 
     other : (q : ℕ) → (q ≡ p → ⊥) → taken_after stamp (Some (Took p pdu)) taken q ≡ taken q
     other q ne = elim (cases_Bool (eqb q p)) [ inl e ↦ absurd (ne (eqb-true q p e)) | inr e ↦ cond_false (eqb q p) _ _ e ]
-heard_port u call ports p stamp taken (Join g) a h x i = heard_changed ports taken taken p (port_after (Join g)) a h
-    (i p a h) (λ q e. refl) i
-heard_port u call ports p stamp taken Distribute a h x i = heard_changed ports taken taken p (port_after Distribute) a h
-    (i p a h) (λ q e. refl) i
-heard_port u call ports p stamp taken (Announce synchronized) a h x i = heard_changed ports taken taken p
-    (port_after (Announce synchronized)) a h (i p a h) (λ q e. refl) i
-heard_port u call ports p stamp taken (Respond mac q n) a h x i = heard_changed ports taken taken p (port_after (Respond mac q n)) a h
-    (i p a h) (λ q e. refl) i
+heard_port u call ports p stamp taken m a h x i = heard_changed ports taken taken p (port_after m) a h (i p a h) (λ q e. refl) i
 
 heard_flow : (ports : ℕ → Option PortFacts) (mac : List ℕ) (stamp : ℕ) (taken : ℕ → Option TakenLacpdu) (f : DistributorFacts)
     (m : DistributorMove) → AllHeard ports taken → AllHeard ports (taken_after stamp (distributor_act mac m f) taken)
 heard_flow ports mac stamp taken f (Send g k p) i = i
-heard_flow ports mac stamp taken f (Mark p) i = i
-heard_flow ports mac stamp taken f (Become g k m) i = i
+heard_flow ports mac stamp taken f m i = i
 
 -- a move of this system
 pub heard_own : (u : SystemSetup) (call : ModelCall) (stamp : ℕ) (v : View) (m : Move) (taken : ℕ → Option TakenLacpdu)
@@ -99,20 +92,53 @@ pub heard_first : (u : SystemSetup) (taken : ℕ → Option TakenLacpdu) → All
 heard_first u taken p a h = let m = mapped_some first_port (u.party p) a h in λ d. absurd
     (true≢false (ap (λ (a : PortFacts). a.defaulted) m.2 ∙ d))
 
--- a message goes out that names its sender
-pub stamps_put : (ends theirs : ℕ → Option ℕ) (party : ℕ → Option Party) (count : ℕ → ℕ) (out : ℕ → List Message) (taken : ℕ
-    → Option TakenLacpdu) (whole : ℕ → Bool) (kept : Bool) (q : ℕ) (m : Message)
-    → Fresh (count q) (party q) m → Stamps ends theirs party count out taken
-    → Stamps ends theirs party count (put_on_cable ends whole kept q m out) taken
-stamps_put ends theirs party count out taken whole kept q m fresh i = record {
-  flight = λ c p e. elim (put_cases ends whole kept q m out c) [
-    | inl x ↦ subst (Every (Fresh (count p) (party p))) (sym x.0)
-        (every_push (Fresh (count p) (party p)) (out c) m (i.flight c p e)
-        (subst (λ p. Fresh (count p) (party p) m) (same_Some q p (sym x.2 ∙ e)) fresh))
-    | inr x ↦ subst (Every (Fresh (count p) (party p))) (sym x) (i.flight c p e)
-  ];
-  last = i.last;
-}
+module _ {ends theirs : ℕ → Option ℕ} {party : ℕ → Option Party} {count : ℕ → ℕ} {out : ℕ → List Message} {taken : ℕ
+    → Option TakenLacpdu} (i : Stamps ends theirs party count out taken) where
+  -- a message goes out that names its sender
+  stamps_put : (whole : ℕ → Bool) (kept : Bool) (q : ℕ) (m : Message) → Fresh (count q) (party q) m
+      → Stamps ends theirs party count (put_on_cable ends whole kept q m out) taken
+  stamps_put whole kept q m fresh = record {
+    flight = put_each (λ c l. (p : ℕ) → ends c ≡ Some p → Every (Fresh (count p) (party p)) l) ends whole kept q m out
+        (λ c w there p e. every_push (Fresh (count p) (party p)) (out c) m (i.flight c p e)
+        (subst (λ p. Fresh (count p) (party p) m) (same_Some q p (sym there ∙ e)) fresh)) i.flight;
+    last = i.last;
+  }
+
+  -- a port of the peer takes an LACPDU that stands first on its cable
+  stamps_taken : (p : ℕ) (pdu : LacpMessage) (stamp : ℕ)
+      → ((c : ℕ) → theirs c ≡ Some p → (ms : List Message) × (out c ≡ Control (Lacp pdu) stamp ∷ ms))
+      → Stamps ends theirs party count out (taken_after stamp (Some (Took p pdu)) taken)
+  stamps_taken p pdu stamp came = record {
+    flight = i.flight;
+    last = λ c r q m e f h. elim (cases_Bool (eqb q p)) [
+      | inl a ↦ (let same : q ≡ p = eqb-true q p a in
+          let this : record { pdu = pdu; stamp = stamp } ≡ m = same_Some (record { pdu = pdu; stamp = stamp }) m
+          (sym (cond_true (eqb q p) _ (taken q) a) ∙ h) in
+          let first = came c (f ∙ ap (λ (n : ℕ). Some n) same) in
+          let fresh = subst (Every (Fresh (count r) (party r))) first.1 (i.flight c r e) in
+          subst (λ (m : TakenLacpdu). FreshPdu (count r) (party r) m.pdu m.stamp) this fresh.0)
+      | inr a ↦ i.last c r q m e f (sym (cond_false (eqb q p) (Some (record { pdu = pdu; stamp = stamp })) (taken q) a) ∙ h)
+    ];
+  }
+
+  -- the first message that the system sent is taken away
+  pub stamps_out_taken : (c : ℕ) (m : Message) (ms : List Message) → out c ≡ m ∷ ms
+      → Stamps ends theirs party count (at_cable out c ms) taken
+  stamps_out_taken c m ms e = record {
+    flight = at_cable_each (λ d l. (p : ℕ) → ends d ≡ Some p → Every (Fresh (count p) (party p)) l) out c ms
+        (λ p h. (subst (Every (Fresh (count p) (party p))) e (i.flight c p h)).1) (λ d n. i.flight d);
+    last = i.last;
+  }
+
+  pub stamps_cut : (c : ℕ) → Stamps ends theirs party count (at_cable out c []) taken
+  stamps_cut c = record {
+    flight = at_cable_each (λ d l. (p : ℕ) → ends d ≡ Some p → Every (Fresh (count p) (party p)) l) out c [] (λ p h. tt)
+        (λ d n. i.flight d);
+    last = i.last;
+  }
+
+  pub stamps_emptied : Stamps ends theirs party count (λ c. []) taken
+  stamps_emptied = record { flight = λ d p h. tt; last = i.last }
 
 stamps_port : (s : Side) (ends theirs : ℕ → Option ℕ) (party : ℕ → Option Party) (count : ℕ → ℕ) (out : ℕ → List Message) (taken : ℕ
     → Option TakenLacpdu) (whole : ℕ → Bool) (sent : ℕ → ℕ → List ℕ) (kept : Bool)
@@ -123,29 +149,21 @@ stamps_port : (s : Side) (ends theirs : ℕ → Option ℕ) (party : ℕ → Opt
     → Stamps ends theirs party count (on_cable_after s ends whole count sent kept (act_of_port p m o) out) taken
 stamps_port s ends theirs party count out taken whole sent kept u call v p m None h x r i = i
 stamps_port s ends theirs party count out taken whole sent kept u call v p (Announce synchronized) (Some a) h x r i =
-    stamps_put ends theirs party count out taken whole kept p
-    (Control (Lacp (record { actor = a.party; partner = a.partner; synchronized = synchronized })) (count p))
-    (omega arith, λ e. sym (r x.0 p) ∙ ap (option_map (λ (a : PortFacts). a.party)) h) i
+    stamps_put i whole kept p (Control (Lacp (record { actor = a.party; partner = a.partner; synchronized = synchronized })) (count p))
+    (omega arith, λ e. sym (r x.0 p) ∙ ap (option_map (λ (a : PortFacts). a.party)) h)
 stamps_port s ends theirs party count out taken whole sent kept u call v p (Respond mac q n) (Some a) h x r i =
-    stamps_put ends theirs party count out taken whole kept p (Control (Response mac q n) 0) tt i
-stamps_port s ends theirs party count out taken whole sent kept u call v p Stop (Some a) h x r i = i
-stamps_port s ends theirs party count out taken whole sent kept u call v p Leave (Some a) h x r i = i
-stamps_port s ends theirs party count out taken whole sent kept u call v p Desynchronize (Some a) h x r i = i
-stamps_port s ends theirs party count out taken whole sent kept u call v p (Reconfigure new) (Some a) h x r i = i
-stamps_port s ends theirs party count out taken whole sent kept u call v p Default (Some a) h x r i = i
-stamps_port s ends theirs party count out taken whole sent kept u call v p (Take pdu synchronized) (Some a) h x r i = i
-stamps_port s ends theirs party count out taken whole sent kept u call v p (Join g) (Some a) h x r i = i
-stamps_port s ends theirs party count out taken whole sent kept u call v p Distribute (Some a) h x r i = i
+    stamps_put i whole kept p (Control (Response mac q n) 0) tt
+stamps_port s ends theirs party count out taken whole sent kept u call v p m (Some a) h x r i = i
 
 stamps_flow : (s : Side) (ends theirs : ℕ → Option ℕ) (party : ℕ → Option Party) (count : ℕ → ℕ) (out : ℕ → List Message) (taken : ℕ
     → Option TakenLacpdu) (whole : ℕ → Bool) (sent : ℕ → ℕ → List ℕ) (kept : Bool)
     (mac : List ℕ) (f : DistributorFacts) (m : DistributorMove)
     → Stamps ends theirs party count out taken
     → Stamps ends theirs party count (on_cable_after s ends whole count sent kept (distributor_act mac m f) out) taken
-stamps_flow s ends theirs party count out taken whole sent kept mac f (Send g k p) i = stamps_put ends theirs party count out taken whole
-    kept p (Data s g k (length (sent g k))) tt i
-stamps_flow s ends theirs party count out taken whole sent kept mac f (Mark p) i = stamps_put ends theirs party count out taken whole kept p
-    (Control (Marker mac p f.next) 0) tt i
+stamps_flow s ends theirs party count out taken whole sent kept mac f (Send g k p) i = stamps_put i whole kept p
+    (Data s g k (length (sent g k))) tt
+stamps_flow s ends theirs party count out taken whole sent kept mac f (Mark p) i = stamps_put i whole kept p
+    (Control (Marker mac p f.next) 0) tt
 stamps_flow s ends theirs party count out taken whole sent kept mac f (Become g k m) i = i
 
 -- a move of this system, which has had these parties since the event began, unless its call sends nothing
@@ -161,24 +179,6 @@ stamps_own s ends theirs party count out taken whole sent kept u call v (Flow m)
     whole sent kept u.system.mac v.flows m i
 stamps_own s ends theirs party count out taken whole sent kept u call v Restart x r i = i
 
--- a port of the peer takes an LACPDU that stands first on its cable
-stamps_taken : (ends theirs : ℕ → Option ℕ) (party : ℕ → Option Party) (count : ℕ → ℕ) (out : ℕ → List Message) (taken : ℕ
-    → Option TakenLacpdu) (p : ℕ) (pdu : LacpMessage) (stamp : ℕ)
-    → ((c : ℕ) → theirs c ≡ Some p → (ms : List Message) × (out c ≡ Control (Lacp pdu) stamp ∷ ms))
-    → Stamps ends theirs party count out taken → Stamps ends theirs party count out (taken_after stamp (Some (Took p pdu)) taken)
-stamps_taken ends theirs party count out taken p pdu stamp came i = record {
-  flight = i.flight;
-  last = λ c r q m e f h. elim (cases_Bool (eqb q p)) [
-    | inl a ↦ (let same : q ≡ p = eqb-true q p a in
-        let this : record { pdu = pdu; stamp = stamp } ≡ m = same_Some (record { pdu = pdu; stamp = stamp }) m
-        (sym (cond_true (eqb q p) _ (taken q) a) ∙ h) in
-        let first = came c (f ∙ ap (λ (n : ℕ). Some n) same) in
-        let fresh = subst (Every (Fresh (count r) (party r))) first.1 (i.flight c r e) in
-        subst (λ (m : TakenLacpdu). FreshPdu (count r) (party r) m.pdu m.stamp) this fresh.0)
-    | inr a ↦ i.last c r q m e f (sym (cond_false (eqb q p) (Some (record { pdu = pdu; stamp = stamp })) (taken q) a) ∙ h)
-  ];
-}
-
 -- a move of the peer
 pub stamps_peer : (ends theirs : ℕ → Option ℕ) (party : ℕ → Option Party) (count : ℕ → ℕ) (out : ℕ → List Message) (taken : ℕ
     → Option TakenLacpdu) (whole : ℕ → Bool) (theirs_forced : ℕ → ℕ → Bool) (u : SystemSetup) (call : ModelCall)
@@ -190,82 +190,40 @@ stamps_peer ends theirs party count out taken whole theirs_forced u call stamp v
     go : (m : PortMove) (o : Option PortFacts) → IsSomeAnd o (PortAllowed u call v.port p m)
         → Stamps ends theirs party count out (taken_after stamp (act_of_port p m o) taken)
     go m None x = i
-    go (Take pdu synchronized) (Some a) x = stamps_taken ends theirs party count out taken p pdu stamp (w.came p (Lacp pdu) x.0) i
-    go (Announce synchronized) (Some a) x = i
-    go (Respond mac q n) (Some a) x = i
-    go Stop (Some a) x = i
-    go Leave (Some a) x = i
-    go Desynchronize (Some a) x = i
-    go (Reconfigure new) (Some a) x = i
-    go Default (Some a) x = i
-    go (Join g) (Some a) x = i
-    go Distribute (Some a) x = i
+    go (Take pdu synchronized) (Some a) x = stamps_taken i p pdu stamp (w.came p (Lacp pdu) x.0)
+    go m (Some a) x = i
 stamps_peer ends theirs party count out taken whole theirs_forced u call stamp v (Flow m) x w i = go m
   where
     go : (m : DistributorMove) → Stamps ends theirs party count out (taken_after stamp (distributor_act u.system.mac m v.flows) taken)
     go (Send g k p) = i
-    go (Mark p) = i
-    go (Become g k m) = i
+    go m = i
 stamps_peer ends theirs party count out taken whole theirs_forced u call stamp v Restart x w i = i
 
--- only a configure changes a party
+-- only a configure and a restart change a party
 party_kept : (u : SystemSetup) (call : ModelCall) (ports : ℕ → Option PortFacts) (p : ℕ) (m : PortMove) (a : PortFacts)
-    → PortAllowed u call ports p m a → replies_frame call ≡ true → (port_after m a).party ≡ a.party
-party_kept u call ports p Stop a x r = refl
-party_kept u call ports p Leave a x r = refl
-party_kept u call ports p Desynchronize a x r = refl
-party_kept u call ports p (Reconfigure party) a x r = absurd (false≢true (subst (λ c. replies_frame c ≡ true) x.0 r))
-party_kept u call ports p Default a x r = refl
-party_kept u call ports p (Take pdu synchronized) a x r = refl
-party_kept u call ports p (Join g) a x r = refl
-party_kept u call ports p Distribute a x r = refl
-party_kept u call ports p (Announce synchronized) a x r = refl
-party_kept u call ports p (Respond mac q n) a x r = refl
+    → PortAllowed u call ports p m a → (call ≡ ModelCall.Configure → ⊥) → (port_after m a).party ≡ a.party
+party_kept u call ports p (Reconfigure party) a x n = absurd (n x.0)
+party_kept u call ports p m a x n = refl
 
-pub parties_kept : (u : SystemSetup) (call : ModelCall) (v : View) (m : Move) → MoveAllowed u call v m → is_restart call ≡ false
-    → replies_frame call ≡ true → (q : ℕ) → party_at (view_after u m v) q ≡ party_at v q
-parties_kept u call v (Port p m) x r f q =
+pub party_moved : (u : SystemSetup) (call : ModelCall) (v : View) (m : Move) → MoveAllowed u call v m → is_restart call ≡ false
+    → (call ≡ ModelCall.Configure → ⊥) → (q : ℕ) → party_at (view_after u m v) q ≡ party_at v q
+party_moved u call v (Port p m) x r n q =
     let s = value_of (v.port p) (PortAllowed u call v.port p m) x in
     elim (cases_Bool (eqb q p)) [
-      | inl e ↦ (let same : q ≡ p = eqb-true q p e in
-          let there : v.port q ≡ Some s.0 = subst (λ r. v.port r ≡ Some s.0) (sym same) s.1 in
+      | inl e ↦ (let there : v.port q ≡ Some s.0 = subst (λ r. v.port r ≡ Some s.0) (sym (eqb-true q p e)) s.1 in
           ap (option_map (λ (a : PortFacts). a.party)) (cond_true (eqb q p) (option_map (port_after m) (v.port q)) (v.port q) e
           ∙ ap (option_map (port_after m)) there)
-          ∙ ap (λ (y : Party). Some y) (party_kept u call v.port p m s.0 s.2 f)
+          ∙ ap (λ (y : Party). Some y) (party_kept u call v.port p m s.0 s.2 n)
           ∙ sym (ap (option_map (λ (a : PortFacts). a.party)) there))
       | inr e ↦ ap (option_map (λ (a : PortFacts). a.party)) (cond_false (eqb q p) (option_map (port_after m) (v.port q)) (v.port q) e)
     ]
-parties_kept u call v (Flow m) x r f q = refl
-parties_kept u call v Restart x r f q = absurd (true≢false (sym x ∙ r))
+party_moved u call v (Flow m) x r n q = refl
+party_moved u call v Restart x r n q = absurd (true≢false (sym x ∙ r))
 
--- the first message that the system sent is taken away
-pub stamps_out_taken : (ends theirs : ℕ → Option ℕ) (party : ℕ → Option Party) (count : ℕ → ℕ) (out : ℕ → List Message) (taken : ℕ
-    → Option TakenLacpdu) (c : ℕ) (m : Message) (ms : List Message)
-    → out c ≡ m ∷ ms → Stamps ends theirs party count out taken → Stamps ends theirs party count (at_cable out c ms) taken
-stamps_out_taken ends theirs party count out taken c m ms e i = record {
-  flight = λ d p h. elim (cable_cases out c ms d) [
-    | inl x ↦ subst (Every (Fresh (count p) (party p))) (sym x.1)
-        ((subst (Every (Fresh (count p) (party p))) e (i.flight c p (subst (λ d. ends d ≡ Some p) x.0 h))).1)
-    | inr x ↦ subst (Every (Fresh (count p) (party p))) (sym x.1) (i.flight d p h)
-  ];
-  last = i.last;
-}
-
-pub stamps_cut : (ends theirs : ℕ → Option ℕ) (party : ℕ → Option Party) (count : ℕ → ℕ) (out : ℕ → List Message) (taken : ℕ
-    → Option TakenLacpdu) (c : ℕ)
-    → Stamps ends theirs party count out taken → Stamps ends theirs party count (at_cable out c []) taken
-stamps_cut ends theirs party count out taken c i = record {
-  flight = λ d p h. elim (cable_cases out c [] d) [
-    | inl x ↦ subst (Every (Fresh (count p) (party p))) (sym x.1) tt
-    | inr x ↦ subst (Every (Fresh (count p) (party p))) (sym x.1) (i.flight d p h)
-  ];
-  last = i.last;
-}
-
-pub stamps_emptied : (ends theirs : ℕ → Option ℕ) (party : ℕ → Option Party) (count : ℕ → ℕ) (out : ℕ → List Message)
-    (taken : ℕ → Option TakenLacpdu)
-    → Stamps ends theirs party count out taken → Stamps ends theirs party count (λ c. []) taken
-stamps_emptied ends theirs party count out taken i = record { flight = λ d p h. tt; last = i.last }
+-- a call whose reply may hold a frame is no configure
+pub parties_kept : (u : SystemSetup) (call : ModelCall) (v : View) (m : Move) → MoveAllowed u call v m → is_restart call ≡ false
+    → replies_frame call ≡ true → (q : ℕ) → party_at (view_after u m v) q ≡ party_at v q
+parties_kept u call v m x r f = party_moved u call v m x r (λ e. false≢true (ap replies_frame (sym e) ∙ f))
 
 -- the end of an event, at which the counts rise if the parties differ
 fresh_counted : (old new : ℕ) (was is : Option Party) → ((is ≡ was) × (new ≡ old)) ⊎ ((is ≢ was) × (new ≡ suc old))
@@ -278,9 +236,7 @@ fresh_counted old new was is h pdu stamp f = elim h [
 every_counted : (old new : ℕ) (was is : Option Party) → ((is ≡ was) × (new ≡ old)) ⊎ ((is ≢ was) × (new ≡ suc old)) → (m : Message)
     → Fresh old was m → Fresh new is m
 every_counted old new was is h (Control (Lacp pdu) stamp) f = fresh_counted old new was is h pdu stamp f
-every_counted old new was is h (Control (Marker mac p n) stamp) f = tt
-every_counted old new was is h (Control (Response mac p n) stamp) f = tt
-every_counted old new was is h (Data origin g k serial) f = tt
+every_counted old new was is h m f = tt
 
 pub stamps_counted : (ends theirs : ℕ → Option ℕ) (was is : ℕ → Option Party) (old new : ℕ → ℕ) (out : ℕ → List Message)
     (taken : ℕ → Option TakenLacpdu)

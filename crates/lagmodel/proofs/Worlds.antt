@@ -1,8 +1,12 @@
 -- What every event of two systems preserves.
-use Rattle.lagmodel.proofs.Common.{Bool, List, Option, [], false, sym, true, ℕ, ◌∙◌, ◌∷◌, ◌≡◌, true≢false, Party, Members, Flow, Move, MoveAllowed}
-use Rattle.lagmodel.proofs.Common.{Port, Restart, act, view_after, ModelCall, SystemSetup, View, is_restart, replies_frame, AllMoves, Message, One}
-use Rattle.lagmodel.proofs.Common.{Side, TakenLacpdu, Two, World, WorldSetup, end_at, on_cable_after, party_at, peer, sent_after, taken_after}
-use Rattle.lagmodel.proofs.Common.{world_after, world_after_all}
+use Rattle.std.proofs.Common.{Bool, List, Option, [], false, sym, true, ℕ, ◌∙◌, ◌∷◌, ◌≡◌}
+use Rattle.std.proofs.lemmas.Bool.{true≢false}
+use Rattle.lagtypes.specs.declared.party.Party.{Party}
+use Rattle.lagmodel.specs.Law.{Members}
+use Rattle.lagmodel.specs.Move.{Flow, Move, MoveAllowed, Port, Restart, act, view_after}
+use Rattle.lagmodel.specs.View.{ModelCall, SystemSetup, View, is_restart, replies_frame}
+use Rattle.lagmodel.specs.World.{AllMoves, Message, One, Side, TakenLacpdu, Two, World, WorldSetup, end_at, on_cable_after, party_at, peer}
+use Rattle.lagmodel.specs.World.{sent_after, taken_after, world_after, world_after_all}
 use Rattle.lagmodel.proofs.Ports.{members_kept}
 use Rattle.lagmodel.proofs.Lanes.{Lanes}
 use Rattle.lagmodel.proofs.LaneMoves.{Within, lanes_own, lanes_peer}
@@ -17,14 +21,14 @@ pub record Half (u : SystemSetup) (me : Side) (ends theirs : ℕ → Option ℕ)
   pub stamps : Stamps ends theirs party count out their_taken
   pub heard : AllHeard v.port taken
 
--- of system s in a world
-abbrev pub HalfOf : WorldSetup → World → Side → Type 0
-HalfOf x w s = Half (x.setup s) s (end_at x.cables s) (end_at x.cables (peer s)) (w.view s) (party_at (w.view s)) (w.count s)
-    (w.on_cable (peer s)) (w.on_cable s) w.whole (w.sent s) (w.collected s) (w.forced s) (w.taken s) (w.taken (peer s))
+-- of system s in a world, with its peer t
+abbrev pub HalfFacing : WorldSetup → World → Side → Side → Type 0
+HalfFacing x w s t = Half (x.setup s) s (end_at x.cables s) (end_at x.cables t) (w.view s) (party_at (w.view s)) (w.count s)
+    (w.on_cable t) (w.on_cable s) w.whole (w.sent s) (w.collected s) (w.forced s) (w.taken s) (w.taken t)
 
 -- of both systems
 abbrev pub Lawful : WorldSetup → World → Type 0
-Lawful x w = (s : Side) → HalfOf x w s
+Lawful x w = (s : Side) → HalfFacing x w s (peer s)
 
 -- While system s runs a call. party: the parties as the event began. towards: what was on the cables to it then
 pub record Calling (x : WorldSetup) (s : Side) (call : ModelCall) (stamp : ℕ) (party : Side → ℕ → Option Party) (count : Side → ℕ
@@ -45,38 +49,33 @@ members_own u call v (Port p m) x r i = members_kept u call v.port p m x i
 members_own u call v (Flow m) x r i = i
 members_own u call v Restart x r i = absurd (true≢false (sym x ∙ r))
 
-own_moved : (u : SystemSetup) (me : Side) (ends theirs : ℕ → Option ℕ) (v : View) (party : ℕ → Option Party) (count : ℕ → ℕ) (out back : ℕ
-    → List Message) (whole : ℕ → Bool)
-    (sent collected : ℕ → ℕ → List ℕ) (forced : ℕ → ℕ → Bool) (taken their_taken : ℕ → Option TakenLacpdu) (call : ModelCall) (stamp : ℕ)
-    (kept : Bool) (m : Move)
-    → MoveAllowed u call v m → Within call stamp ends back whole forced → (replies_frame call ≡ true → (p : ℕ) → party_at v p ≡ party p)
-    → Half u me ends theirs v party count out back whole sent collected forced taken their_taken
-    → Half u me ends theirs (view_after u m v) party count (on_cable_after me ends whole count sent kept (act u m v) out) back whole
-    (sent_after (act u m v) sent) collected forced (taken_after stamp (act u m v) taken) their_taken
-own_moved u me ends theirs v party count out back whole sent collected forced taken their_taken call stamp kept m x w r i = record {
-  members = members_own u call v m x w.running i.members;
-  lanes = lanes_own me ends whole collected forced back u call stamp count kept v m out sent x w i.lanes;
-  stamps = stamps_own me ends theirs party count out their_taken whole sent kept u call v m x r i.stamps;
-  heard = heard_own u call stamp v m taken x w.running i.heard;
-}
+module _ {u : SystemSetup} {me : Side} {ends theirs : ℕ → Option ℕ} {v : View} {party : ℕ → Option Party} {count : ℕ → ℕ}
+    {out back : ℕ → List Message} {whole : ℕ → Bool} {sent collected : ℕ → ℕ → List ℕ} {forced : ℕ → ℕ → Bool}
+    {taken their_taken : ℕ → Option TakenLacpdu}
+    (i : Half u me ends theirs v party count out back whole sent collected forced taken their_taken) where
+  own_moved : (call : ModelCall) (stamp : ℕ) (kept : Bool) (m : Move)
+      → MoveAllowed u call v m → Within call stamp ends back whole forced → (replies_frame call ≡ true → (p : ℕ) → party_at v p ≡ party p)
+      → Half u me ends theirs (view_after u m v) party count (on_cable_after me ends whole count sent kept (act u m v) out) back whole
+      (sent_after (act u m v) sent) collected forced (taken_after stamp (act u m v) taken) their_taken
+  own_moved call stamp kept m x w r = record {
+    members = members_own u call v m x w.running i.members;
+    lanes = lanes_own me ends whole collected forced back u call stamp count kept v m out sent x w i.lanes;
+    stamps = stamps_own me ends theirs party count out their_taken whole sent kept u call v m x r i.stamps;
+    heard = heard_own u call stamp v m taken x w.running i.heard;
+  }
 
-other_moved : (u : SystemSetup) (me : Side) (ends theirs : ℕ → Option ℕ) (v : View) (party : ℕ → Option Party) (count : ℕ → ℕ) (out back : ℕ
-    → List Message) (whole : ℕ → Bool)
-    (sent collected : ℕ → ℕ → List ℕ) (forced : ℕ → ℕ → Bool) (taken their_taken : ℕ → Option TakenLacpdu)
-    (s : Side) (su : SystemSetup) (sv : View) (s_count : ℕ → ℕ) (s_sent : ℕ → ℕ → List ℕ) (s_forced : ℕ → ℕ → Bool) (call : ModelCall)
-    (stamp : ℕ) (kept : Bool) (m : Move)
-    → MoveAllowed su call sv m → Within call stamp theirs out whole s_forced
-    → Half u me ends theirs v party count out back whole sent collected forced taken their_taken
-    → Half u me ends theirs v party count out (on_cable_after s theirs whole s_count s_sent kept (act su m sv) back) whole sent collected
-    forced taken (taken_after stamp (act su m sv) their_taken)
-other_moved u me ends theirs v party count out back whole sent collected forced taken their_taken s su sv s_count s_sent s_forced call
-    stamp kept m x w i = record {
-      members = i.members;
-      lanes = lanes_peer me ends whole sent collected forced s_forced v.flows out back s theirs su call stamp s_count
-          s_sent kept sv m x w i.lanes;
-      stamps = stamps_peer ends theirs party count out their_taken whole s_forced su call stamp sv m x w i.stamps;
-      heard = i.heard;
-    }
+  other_moved : (s : Side) (su : SystemSetup) (sv : View) (s_count : ℕ → ℕ) (s_sent : ℕ → ℕ → List ℕ) (s_forced : ℕ → ℕ → Bool)
+      (call : ModelCall) (stamp : ℕ) (kept : Bool) (m : Move)
+      → MoveAllowed su call sv m → Within call stamp theirs out whole s_forced
+      → Half u me ends theirs v party count out (on_cable_after s theirs whole s_count s_sent kept (act su m sv) back) whole sent collected
+      forced taken (taken_after stamp (act su m sv) their_taken)
+  other_moved s su sv s_count s_sent s_forced call stamp kept m x w = record {
+    members = i.members;
+    lanes = lanes_peer me ends whole sent collected forced s_forced v.flows out back s theirs su call stamp s_count s_sent kept sv m x w
+        i.lanes;
+    stamps = stamps_peer ends theirs party count out their_taken whole s_forced su call stamp sv m x w i.stamps;
+    heard = i.heard;
+  }
 
 -- one move
 calling_moved : (x : WorldSetup) (s : Side) (call : ModelCall) (stamp : ℕ) (party : Side → ℕ → Option Party) (count : Side → ℕ
@@ -86,18 +85,16 @@ calling_moved : (x : WorldSetup) (s : Side) (call : ModelCall) (stamp : ℕ) (pa
 calling_moved x One call stamp party count towards base m w a i = record {
   within = i.within;
   parties = λ r p. parties_kept (x.setup One) call (w.view One) m.0 a i.within.running r p ∙ i.parties r p;
-  own = own_moved _ One _ _ (w.view One) _ _ _ _ _ _ _ _ _ _ call stamp m.1 m.0 a i.within i.parties i.own;
-  other = other_moved _ Two _ _ (w.view Two) _ _ _ _ _ _ _ _ _ _ One (x.setup One) (w.view One) (w.count One) (w.sent One)
-      (w.forced One) call stamp m.1 m.0 a i.within i.other;
+  own = own_moved i.own call stamp m.1 m.0 a i.within i.parties;
+  other = other_moved i.other One (x.setup One) (w.view One) (w.count One) (w.sent One) (w.forced One) call stamp m.1 m.0 a i.within;
   counts = i.counts;
   rest = i.rest;
 }
 calling_moved x Two call stamp party count towards base m w a i = record {
   within = i.within;
   parties = λ r p. parties_kept (x.setup Two) call (w.view Two) m.0 a i.within.running r p ∙ i.parties r p;
-  own = own_moved _ Two _ _ (w.view Two) _ _ _ _ _ _ _ _ _ _ call stamp m.1 m.0 a i.within i.parties i.own;
-  other = other_moved _ One _ _ (w.view One) _ _ _ _ _ _ _ _ _ _ Two (x.setup Two) (w.view Two) (w.count Two) (w.sent Two)
-      (w.forced Two) call stamp m.1 m.0 a i.within i.other;
+  own = own_moved i.own call stamp m.1 m.0 a i.within i.parties;
+  other = other_moved i.other Two (x.setup Two) (w.view Two) (w.count Two) (w.sent Two) (w.forced Two) call stamp m.1 m.0 a i.within;
   counts = i.counts;
   rest = i.rest;
 }

@@ -1,79 +1,38 @@
-use Rattle.distributor.proofs.Common.{List, None, ap, arith, false, get_or, nat_lt, refl, subst, sym, true, ℕ, ◌+◌, ◌<◌, ◌∙◌, ◌≡◌, get_or_read}
-use Rattle.distributor.proofs.Common.{mod_below, Assignment, Free, ConversationTest, chain_of, passes, slot_state, tested_port}
+use Rattle.distributor.proofs.Common.{ap, arith, false, nat_lt, refl, sym, ◌+◌, ◌∙◌, mod_below, passes, tested_port}
 use Rattle.distributor.proofs.FlagLemmas.{some_counted}
-use Rattle.distributor.proofs.WalkLemmas.{Counting, steps, counting_begins, counting_ends, counting_on, counting_smaller, passes_stands, walk_below}
+use Rattle.distributor.proofs.WalkLemmas.{counting_begins, counting_ends, counting_on, passes_stands, read_state, stand_next, steps_fewer, walk_below}
 use Rattle.distributor.proofs.slots.Slots.any_in_chain.Goals as goal
 
 pub loop-at-init : goal.loop-at-init
-loop-at-init c =
-    let h = c.requires.chained in
-    let d = chain_of (tested_port c.args.test) in
-    let lt : d < 64 = mod_below (tested_port c.args.test) 64 (omega arith) in
-    let first : c.index-at.result.now ≡ get_or c.args.self.now.next.items (c.args.self.now.count + d) 0 =
-    get_or_read c.args.self.now.next.items _ _ (omega (arith, h.next_len, lt, c.chain.ensures.chain)) c.index-at.ensures 0
-    ∙ ap (λ x. get_or c.args.self.now.next.items (c.args.self.now.count + x) 0) c.chain.ensures.chain in
-    record {
-      counting = subst (λ a. Counting d (passes c.args.test) c.args.self.now.count c.args.self.now.states.items c.args.self.now.next.items
-          c.args.self.now.prev.items a 0) (sym first)
-          (counting_begins d (passes c.args.test) _ _ _ _ h lt (passes_stands c.args.test));
-      end = ap (λ x. c.args.self.now.count + x) c.chain.ensures.chain;
-    }
-
--- what is read at a place of the walk
-module _ (test : ConversationTest) (count : ℕ) (states : List Assignment) (next prev : List ℕ) (at m : ℕ)
-    (h : Counting (chain_of (tested_port test)) (passes test) count states next prev at m)
-    (n : at ≡ count + chain_of (tested_port test) → ⊥) where
-  below : at < count
-  below = walk_below (chain_of (tested_port test)) (λ s. s) count states states next prev at (λ s. true) h.walk n
-
-  read_state : (s : Assignment) → s ≡ get_or states at s → s ≡ slot_state states at
-  read_state s r = get_or_read states at s (omega (arith, below, h.walk.chained.states_len)) r (Free None)
-
-  read_next : (place : ℕ) → place ≡ get_or next at place → place ≡ get_or next at 0
-  read_next place r = get_or_read next at place (omega (arith, below, h.walk.chained.next_len)) r 0
+loop-at-init c = counting_begins c.requires.chained _ _ _ (mod_below (tested_port c.args.test) 64 (omega arith))
+    (ap (λ x. c.args.self.now.count + x) c.chain.ensures.chain) c.index-at.ensures (passes c.args.test) (passes_stands c.args.test)
 
 pub index-requires : goal.index-requires
 index-requires c =
-    let i = c.loop-at.invariant in
-    let n : c.loop-at.at ≡ c.args.self.now.count + chain_of (tested_port c.args.test) → ⊥ = λ e. c.loop-at-test.true (e ∙ sym i.end) in
-    omega (arith, below c.args.test _ _ _ _ _ _ i.counting n, i.counting.walk.chained.states_len, c.args.self.now.states.ok.0)
+    let w = c.loop-at.invariant.standing in
+    omega (arith, walk_below w c.loop-at-test.true, w.chained.states_len, c.args.self.now.states.ok.0)
 
 pub index-at-requires-in-loop-at : goal.index-at-requires-in-loop-at
 index-at-requires-in-loop-at c =
-    let i = c.loop-at.invariant in
-    let n : c.loop-at.at ≡ c.args.self.now.count + chain_of (tested_port c.args.test) → ⊥ = λ e. c.loop-at-test.true (e ∙ sym i.end) in
-    omega (arith, below c.args.test _ _ _ _ _ _ i.counting n, i.counting.walk.chained.next_len, c.args.self.now.next.ok.0)
+    let w = c.loop-at.invariant.standing in
+    omega (arith, walk_below w c.loop-at-test.true, w.chained.next_len, c.args.self.now.next.ok.0)
 
 pub loop-at-preserved : goal.loop-at-preserved
 loop-at-preserved c =
     let i = c.loop-at.invariant in
-    let n : c.loop-at.at ≡ c.args.self.now.count + chain_of (tested_port c.args.test) → ⊥ = λ e. c.loop-at-test.true (e ∙ sym i.end) in
-    let none : passes c.args.test (slot_state c.args.self.now.states.items c.loop-at.at) ≡ false =
-    sym (c.passes.ensures ∙ ap (passes c.args.test) (read_state c.args.test _ _ _ _ _ _ i.counting n _ c.index.ensures)) ∙ c.if-passes.false in
-    record {
-      counting = counting_on (chain_of (tested_port c.args.test)) (passes c.args.test) _ _ _ _ _ _ i.counting n false _ _ none refl
-          (read_next c.args.test _ _ _ _ _ _ i.counting n _ c.index-at-in-loop-at.ensures);
-      end = i.end;
-    }
+    let here = ap (passes c.args.test) (read_state i.standing c.loop-at-test.true _ c.index.ensures) in
+    counting_on i c.loop-at-test.true false _ _ (sym (c.passes.ensures ∙ here) ∙ c.if-passes.false) refl c.index-at-in-loop-at.ensures
 
 pub loop-at-smaller : goal.loop-at-smaller
 loop-at-smaller c =
-    let i = c.loop-at.invariant in
-    let n : c.loop-at.at ≡ c.args.self.now.count + chain_of (tested_port c.args.test) → ⊥ = λ e. c.loop-at-test.true (e ∙ sym i.end) in
-    let small = counting_smaller (chain_of (tested_port c.args.test)) (passes c.args.test) _ _ _ _ _ _ i.counting n _
-    (read_next c.args.test _ _ _ _ _ _ i.counting n _ c.index-at-in-loop-at.ensures) in
-    subst (λ e. steps c.args.self.now.next.items e c.args.self.now.count c.index-at-in-loop-at.result.now < steps c.args.self.now.next.items
-    e c.args.self.now.count c.loop-at.at) (sym i.end) small
+    let w = c.loop-at.invariant.standing in
+    steps_fewer w c.loop-at-test.true (stand_next w c.loop-at-test.true _ c.index-at-in-loop-at.ensures) refl
 
 pub returns-then-passes : goal.returns-then-passes
 returns-then-passes c =
-    let i = c.loop-at.invariant in
-    let n : c.loop-at.at ≡ c.args.self.now.count + chain_of (tested_port c.args.test) → ⊥ = λ e. c.loop-at-test.true (e ∙ sym i.end) in
-    some_counted (passes c.args.test) c.args.self.now.states.items c.args.self.now.count c.loop-at.at
-    (below c.args.test _ _ _ _ _ _ i.counting n)
-    (sym (c.passes.ensures ∙ ap (passes c.args.test) (read_state c.args.test _ _ _ _ _ _ i.counting n _ c.index.ensures)) ∙ c.if-passes.true)
+    let w = c.loop-at.invariant.standing in
+    some_counted (passes c.args.test) c.args.self.now.states.items c.args.self.now.count c.loop-at.at (walk_below w c.loop-at-test.true)
+    (sym (c.passes.ensures ∙ ap (passes c.args.test) (read_state w c.loop-at-test.true _ c.index.ensures)) ∙ c.if-passes.true)
 
 pub returns : goal.returns
-returns c =
-    let i = c.loop-at.invariant in
-    ap (nat_lt 0) (counting_ends _ _ _ _ _ _ _ _ i.counting (c.loop-at-test.false ∙ i.end))
+returns c = ap (nat_lt 0) (counting_ends c.loop-at.invariant c.loop-at-test.false)

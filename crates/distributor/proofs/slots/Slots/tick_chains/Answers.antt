@@ -1,4 +1,5 @@
-use Rattle.distributor.proofs.Common.{arith, false, get_or, length, refl, subst, sym, ◌+◌, ◌<◌, ◌∙◌, ◌≡◌, ◌≤◌, get_or_read}
+use Rattle.distributor.proofs.Common.{arith, refl, subst, ◌+◌, ◌∙◌, ◌≡◌, ◌≤◌}
+use Rattle.distributor.proofs.FlagLemmas.{flag_clear}
 use Rattle.distributor.proofs.TickLemmas.{Ticking, tick_begins, tick_ends, tick_passed, tick_walked}
 use Rattle.distributor.proofs.slots.Slots.tick_chains.Goals as goal
 use Rattle.distributor.proofs.slots.Slots.tick_chains.Goals.{then-index, else-index}
@@ -27,11 +28,7 @@ loop-chain-preserved c =
             few = few;
           }
       | else-index w ↦
-          (let inside : c.loop-chain.chain < length c.loop-chain.self.may_flush.items =
-          omega (arith, c.loop-chain-test.true, i.flagged.flushing_len) in
-          let none : get_or c.loop-chain.self.may_flush.items c.loop-chain.chain false ≡ false =
-          sym (get_or_read c.loop-chain.self.may_flush.items c.loop-chain.chain c.index.result.now inside c.index.ensures false)
-          ∙ w.if-index.false in
+          (let none = flag_clear _ _ _ _ c.loop-chain-test.true i.flagged.flushing_len c.index.ensures refl w.if-index.false in
           rw w.self-is record {
             chained = i.chained;
             flagged = i.flagged;

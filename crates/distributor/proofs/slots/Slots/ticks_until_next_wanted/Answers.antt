@@ -1,4 +1,5 @@
-use Rattle.distributor.proofs.Common.{arith, false, get_or, length, subst, sym, ◌+◌, ◌<◌, ◌∙◌, ◌≡◌, ◌≤◌, get_or_read}
+use Rattle.distributor.proofs.Common.{arith, refl, subst, ◌+◌, ◌≡◌, ◌≤◌}
+use Rattle.distributor.proofs.FlagLemmas.{flag_clear}
 use Rattle.distributor.proofs.WaitLemmas.{SeekingChains, chains_begin, chains_end, chains_passed, chains_walked}
 use Rattle.distributor.proofs.slots.Slots.ticks_until_next_wanted.Goals as goal
 use Rattle.distributor.proofs.slots.Slots.ticks_until_next_wanted.Goals.{then-index, else-index}
@@ -21,11 +22,7 @@ loop-chain-preserved c =
             few = few;
           }
       | else-index w ↦
-          (let inside : c.loop-chain.chain < length c.args.self.now.may_flush.items =
-          omega (arith, c.loop-chain-test.true, c.requires.flagged.flushing_len) in
-          let none : get_or c.args.self.now.may_flush.items c.loop-chain.chain false ≡ false =
-          sym (get_or_read c.args.self.now.may_flush.items c.loop-chain.chain c.index.result.now inside c.index.ensures false)
-          ∙ w.if-index.false in
+          (let none = flag_clear _ _ _ _ c.loop-chain-test.true c.requires.flagged.flushing_len c.index.ensures refl w.if-index.false in
           rw w.soonest-is record {
             seeking = chains_passed c.loop-chain.chain c.args.self.now.count c.args.self.now.states.items
                 c.args.self.now.may_want.items c.args.self.now.may_flush.items c.loop-chain.soonest i.seeking c.requires.flagged none;
