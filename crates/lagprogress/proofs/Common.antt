@@ -1,8 +1,8 @@
 -- The names that proofs of this crate import, passed on from one place. Declares nothing; tools/proof-imports writes it.
-pub use Rattle.std.proofs.Common.{Bool, Err, IfErr, IfOk, IsSome, IsTrue, List, None, Ok, Option, Result, Some, Vec, [], ap, append_assoc, arith}
-pub use Rattle.std.proofs.Common.{bytes_eq, cond, drop, eqb, eqb-true, false, filter, find, if◌then◌else◌, inl, inr, is_some, length, ltb, map}
-pub use Rattle.std.proofs.Common.{nat_le, nat_lt, not, option_map, position, refl, slice_get, slice_set, subst, suc, sym, take, take-append-drop}
-pub use Rattle.std.proofs.Common.{take_all, true, zero, ℕ, ◌&&◌, ◌++◌, ◌+◌, ◌-◌, ◌<◌, ◌==◌, ◌^◌, ◌||◌, ◌∙◌, ◌∷◌, ◌≡◌, ◌≢◌, ◌≤◌, ◌⊎◌}
+pub use Rattle.std.proofs.Common.{Bool, Err, IfErr, IfOk, IsSome, IsTrue, List, None, Ok, Option, Result, Some, [], ap, append_assoc, arith, bytes_eq}
+pub use Rattle.std.proofs.Common.{cond, drop, eqb, eqb-true, false, filter, find, if◌then◌else◌, inl, inr, is_some, length, ltb, map, nat_le, nat_lt}
+pub use Rattle.std.proofs.Common.{not, option_map, position, refl, slice_get, slice_set, subst, suc, sym, take, take-append-drop, take_all, true}
+pub use Rattle.std.proofs.Common.{zero, ℕ, ◌&&◌, ◌++◌, ◌+◌, ◌-◌, ◌<◌, ◌==◌, ◌^◌, ◌||◌, ◌∙◌, ◌∷◌, ◌≡◌, ◌≢◌, ◌≤◌, ◌⊎◌}
 pub use Rattle.std.proofs.lemmas.Bool.{and_parts, cases_Bool, false≢true, ltb-true, true≢false}
 pub use Rattle.std.proofs.lemmas.Bool.Decides.{nat_tests}
 pub use Rattle.std.proofs.lemmas.List.Quantifiers.{position-Some}

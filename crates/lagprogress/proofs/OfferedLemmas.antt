@@ -1,11 +1,12 @@
 -- A frame that a bundle is offered after its links came up arrives within one round.
-use Rattle.lagprogress.proofs.Common.{List, Some, Vec, [], ap, arith, inl, inr, map, refl, slice_get, subst, suc, sym, true, zero, ℕ, ◌++◌, ◌+◌, ◌∙◌}
-use Rattle.lagprogress.proofs.Common.{◌∷◌, ◌≡◌, ◌≤◌, ◌⊎◌, AggId, Lacpdu, One, Side, peer, Machines, lacpdu_rows, receive_rows, count_down, Answer}
+use Rattle.lagprogress.proofs.Common.{List, Some, [], ap, arith, inl, inr, map, refl, slice_get, subst, suc, sym, true, zero, ℕ, ◌++◌, ◌+◌, ◌∙◌, ◌∷◌}
+use Rattle.lagprogress.proofs.Common.{◌≡◌, ◌≤◌, ◌⊎◌, AggId, Lacpdu, One, Side, peer, Machines, lacpdu_rows, receive_rows, count_down, Answer}
 use Rattle.lagprogress.proofs.Common.{SystemPort, Call, Data_frame, IsFrame, TableRun, SystemState, all-get, Event, Reply, Algorithms, WorldRuns}
 use Rattle.lagprogress.proofs.Common.{WorldSteps, side_of, link_ends, ItemValue, LinkState, WorldState, accepts_at, half, is_accepted, link_at}
 use Rattle.lagprogress.proofs.Common.{port_at, put_on_port, put_ends, Arrives, DisabledAreUnsynchronized, EachActiveFrameArrives, EachFrameArrives}
 use Rattle.lagprogress.proofs.Common.{EachReachedHasUnsynchronized, GetsPort, TakesFrame, BothAreActive, IsBundle, OneIsActive, IsHealthyAt, IsRound}
 use Rattle.lagprogress.proofs.Common.{NothingInFlight, Rounds}
+use Rattle.std.specs.Global.{Vec}
 use Rattle.lagscript.specs.declared.event.Event.TheVariants as event
 use Rattle.lagworld.specs.declared.reply.Reply.TheVariants as reply
 use Rattle.lagprogress.proofs.ArrivingLemmas.{is_data, offer_gets_port}

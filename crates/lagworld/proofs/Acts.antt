@@ -1,6 +1,6 @@
 -- What an event did to the system or cable that it names.
-use Rattle.lagworld.proofs.Common.{Bool, Err, IfOk, IsSomeAnd, None, Ok, Result, Some, Vec, false, if◌then◌else◌, is_some, nat_le, refl, subst, sym}
-use Rattle.lagworld.proofs.Common.{true, ℕ, ◌==◌, ◌≡◌, true≢false, AggId, One, Side, Two, Event, WorldFault, Reply, Algorithms, DoesEvent, WorldEmits}
+use Rattle.lagworld.proofs.Common.{Bool, Err, IfOk, IsSomeAnd, None, Ok, Result, Some, false, if◌then◌else◌, is_some, nat_le, refl, subst, sym, true}
+use Rattle.lagworld.proofs.Common.{ℕ, ◌==◌, ◌≡◌, true≢false, Vec, AggId, One, Side, Two, Event, WorldFault, Reply, Algorithms, DoesEvent, WorldEmits}
 use Rattle.lagworld.proofs.Common.{WorldOffers, cause, first_event_cause, has_cable, has_system, most_events, side_of, side_numbered, WorldState}
 use Rattle.lagscript.specs.declared.event.Event.TheVariants as event
 

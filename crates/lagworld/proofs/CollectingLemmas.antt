@@ -1,6 +1,6 @@
 -- Serial numbers that are collected, and the places that are reserved for them.
-use Rattle.lagworld.proofs.Common.{Bool, Err, List, Ok, OnOk, Option, Result, Some, Vec, [], ap, arith, get_or, length, map, refl, set, slice_get}
-use Rattle.lagworld.proofs.Common.{subst, suc, sym, vec_capacity, vec_len, ℕ, ◌++◌, ◌+◌, ◌<◌, ◌∙◌, ◌∷◌, ◌≡◌, ◌≤◌, slice_get_read, Flow, CanCollect}
+use Rattle.lagworld.proofs.Common.{Bool, Err, List, Ok, OnOk, Option, Result, Some, [], ap, arith, get_or, length, map, refl, set, slice_get, subst}
+use Rattle.lagworld.proofs.Common.{suc, sym, vec_capacity, vec_len, ℕ, ◌++◌, ◌+◌, ◌<◌, ◌∙◌, ◌∷◌, ◌≡◌, ◌≤◌, slice_get_read, Vec, Flow, CanCollect}
 use Rattle.lagworld.proofs.Common.{CanCollectAt, CanCollectIn, flow_value, FlowValue, with_collected}
 use Rattle.lagworld.proofs.Cables.{mapped_set, set_here}
 

@@ -1,15 +1,16 @@
 -- The names that proofs of this crate import, passed on from one place. Declares nothing; tools/proof-imports writes it.
-pub use Rattle.std.proofs.Common.{Bool, Err, Global, IfErr, IfOk, IsSome, IsSomeAnd, IsTrue, List, None, Ok, OnOk, Option, Result, Some, Vec, []}
-pub use Rattle.std.proofs.Common.{add-one, ap, arith, cond, drop, eq-eqb, eqb, eqb-true, false, get_or, if◌then◌else◌, inl, inr, is_some, length}
-pub use Rattle.std.proofs.Common.{length-drop, map, nat_le, nat_lt, not, option_and_then, option_map, position, refl, replicate, set, slice_get}
-pub use Rattle.std.proofs.Common.{slice_set, subst, suc, sym, take, true, vec_capacity, vec_len, zero, ℕ, ◌%◌, ◌&&◌, ◌++◌, ◌+◌, ◌-◌, ◌<◌, ◌==◌, ◌||◌}
-pub use Rattle.std.proofs.Common.{◌∙◌, ◌∷◌, ◌≡◌, ◌≢◌, ◌≤◌, ◌⊎◌}
+pub use Rattle.std.proofs.Common.{Bool, Err, Global, IfErr, IfOk, IsSome, IsSomeAnd, IsTrue, List, None, Ok, OnOk, Option, Result, Some, [], add-one}
+pub use Rattle.std.proofs.Common.{ap, arith, cond, drop, eq-eqb, eqb, eqb-true, false, get_or, if◌then◌else◌, inl, inr, is_some, length, length-drop}
+pub use Rattle.std.proofs.Common.{map, nat_le, nat_lt, not, option_and_then, option_map, position, refl, replicate, set, slice_get, slice_set, subst}
+pub use Rattle.std.proofs.Common.{suc, sym, take, true, vec_capacity, vec_len, zero, ℕ, ◌%◌, ◌&&◌, ◌++◌, ◌+◌, ◌-◌, ◌<◌, ◌==◌, ◌||◌, ◌∙◌, ◌∷◌, ◌≡◌}
+pub use Rattle.std.proofs.Common.{◌≢◌, ◌≤◌, ◌⊎◌}
 pub use Rattle.std.proofs.lemmas.Bool.{and_parts, cases_Bool, false≢true, not-false, not-true, or_parts, true≢false}
 pub use Rattle.std.proofs.lemmas.Bool.Decides.{nat_tests}
-pub use Rattle.std.proofs.lemmas.List.{get_or-map, length-map, length-set, map-append, map-set, replicate_more, set-get_or, set_past, take_more}
+pub use Rattle.std.proofs.lemmas.List.{length-map, length-set, map-append, map-set, replicate_more, set-get_or, set_past, take_more}
 pub use Rattle.std.proofs.lemmas.List.Edits.{map_over_more}
 pub use Rattle.std.proofs.lemmas.Option.{cond_some, get_or_from_slice_get, none-some, same_Some, slice_get-get_or, slice_get-map, slice_get_past}
 pub use Rattle.std.proofs.lemmas.Option.{slice_get_read, slice_get_within}
+pub use Rattle.std.specs.Global.{Vec}
 pub use Rattle.std.specs.List.{list_all, position_or_len}
 pub use Rattle.std.specs.Prelude.{IfSome, bit_xor, option_to_list, unwrap_or}
 pub use Rattle.lagtypes.specs.declared.identifiers.AggId.{AggId}

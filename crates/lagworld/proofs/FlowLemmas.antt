@@ -1,6 +1,6 @@
 -- The record of a conversation changes, in code and as contracts see it.
-use Rattle.lagworld.proofs.Common.{List, None, Some, Vec, [], ap, arith, get_or, inl, inr, length, map, option_map, refl, set, slice_get, subst, suc}
-use Rattle.lagworld.proofs.Common.{sym, zero, ℕ, ◌+◌, ◌<◌, ◌∙◌, ◌∷◌, ◌≡◌, ◌≤◌, ◌⊎◌, map-set, slice_get-map, slice_get_past, slice_get_read, Flow}
+use Rattle.lagworld.proofs.Common.{List, None, Some, [], ap, arith, get_or, inl, inr, length, map, option_map, refl, set, slice_get, subst, suc, sym}
+use Rattle.lagworld.proofs.Common.{zero, ℕ, ◌+◌, ◌<◌, ◌∙◌, ◌∷◌, ◌≡◌, ◌≤◌, ◌⊎◌, map-set, slice_get-map, slice_get_past, slice_get_read, Vec, Flow}
 use Rattle.lagworld.proofs.Common.{flow_value, HasRoom, HasRoomAt, HasRoomIn, flow_values, FlowValue, change_flow, change_flow_in, change_flow_of}
 use Rattle.lagworld.proofs.Common.{element_numbered, flow_at, flow_in_aggregator, sent_in}
 

@@ -1,4 +1,4 @@
-use Rattle.lagworld.proofs.Common.{IsSomeAnd, Some, Vec, ap, option_map, slice_get, subst, ◌≡◌, Cabled, WorldDelivers, WorldReceivesFirst, Algorithms}
+use Rattle.lagworld.proofs.Common.{IsSomeAnd, Some, ap, option_map, slice_get, subst, ◌≡◌, Vec, Cabled, WorldDelivers, WorldReceivesFirst, Algorithms}
 use Rattle.lagworld.proofs.Common.{link_states, item_value, model_side, both_algorithms, LinkState, port_at, towards, world_state}
 use Rattle.lagworld.proofs.ArrivingLemmas.{deliver_does}
 use Rattle.lagworld.proofs.inner.Inner.deliver.Goals as goal
