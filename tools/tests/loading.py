@@ -20,6 +20,8 @@ def program(name: str) -> ModuleType:
     tree.body.pop()
     made = ModuleType(name.replace("-", "_"))
     made.__file__ = path
+    # A dataclass looks its module up.
+    sys.modules[made.__name__] = made
     exec(compile(tree, path, "exec"), made.__dict__)
     return made
 
