@@ -1,12 +1,9 @@
 -- Moves that a receive allows if nothing came are allowed whatever came: only receiving, answering and being released
 -- depend on it. So a receive of nothing may be regarded as a receive of what came.
-use Rattle.std.proofs.Common.{Bool, IsSomeAnd, List, None, Option, Some, [], ap, false, true, ℕ, ◌∷◌}
-use Rattle.std.proofs.lemmas.Bool.{true≢false}
-use Rattle.std.proofs.lemmas.Option.{none-some}
-use Rattle.lagmodel.specs.Move.{Act, AllAllowed, ConversationMove, ConversationMoveAllowed, Distributes, DistributorMove, DistributorMoveAllowed}
-use Rattle.lagmodel.specs.Move.{Flow, LawfulMoves, Move, MoveAllowed, Port, PortAllowed, PortMove, Restart, view_after}
-use Rattle.lagmodel.specs.View.{ControlMessage, Conversation, DistributorFacts, Lacp, Marker, ModelCall, PortFacts, Receive, Response, SystemSetup}
-use Rattle.lagmodel.specs.View.{View}
+use Rattle.lagmodel.proofs.Common.{Bool, IsSomeAnd, List, None, Option, Some, [], ap, false, true, ℕ, ◌∷◌, true≢false, none-some, Act, AllAllowed}
+use Rattle.lagmodel.proofs.Common.{ConversationMove, ConversationMoveAllowed, Distributes, DistributorMove, DistributorMoveAllowed, Flow, LawfulMoves}
+use Rattle.lagmodel.proofs.Common.{Move, MoveAllowed, Port, PortAllowed, PortMove, Restart, view_after, ControlMessage, Conversation}
+use Rattle.lagmodel.proofs.Common.{DistributorFacts, Lacp, Marker, ModelCall, PortFacts, Receive, Response, SystemSetup, View}
 
 abbrev is_receive : ModelCall → Bool
 is_receive (Receive p pdu) = true

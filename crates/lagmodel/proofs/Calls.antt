@@ -1,12 +1,10 @@
 -- What calls of one system preserve, whatever it receives: that the members of an aggregator have its key and one group
 -- (members_call, and members_driven of a list of calls), and, but in a configure and a restart, the own parameters of
 -- its ports (parties_same).
+use Rattle.lagmodel.proofs.Common.{List, [], ap, false, refl, subst, sym, ℕ, ◌∙◌, ◌∷◌, ◌≡◌, LawfulRun, Members, Act, AllAllowed, Flow, LawfulMoves}
+use Rattle.lagmodel.proofs.Common.{Move, Port, Restart, view_after, view_after_all, IsSystemSetup, ModelCall, SystemSetup, View, first_view}
+use Rattle.lagmodel.proofs.Common.{is_restart, party_at}
 use Rattle.lagmodel.proofs.Stamps.{party_moved}
-use Rattle.std.proofs.Common.{List, [], ap, false, refl, subst, sym, ℕ, ◌∙◌, ◌∷◌, ◌≡◌}
-use Rattle.lagmodel.specs.Law.{LawfulRun, Members}
-use Rattle.lagmodel.specs.Move.{Act, AllAllowed, Flow, LawfulMoves, Move, Port, Restart, view_after, view_after_all}
-use Rattle.lagmodel.specs.View.{IsSystemSetup, ModelCall, SystemSetup, View, first_view, is_restart}
-use Rattle.lagmodel.specs.World.{party_at}
 use Rattle.lagmodel.proofs.Ports.{members_kept, members_first}
 
 pub members_moves : (u : SystemSetup) (call : ModelCall) (moves : List Move) (v : View) → IsSystemSetup u → AllAllowed u call v moves

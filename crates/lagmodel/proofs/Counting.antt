@@ -1,13 +1,9 @@
 -- The serial numbers of each conversation are 0, 1, 2 and so on.
-use Rattle.std.proofs.Common.{Bool, List, None, Option, Some, [], arith, false, get_or, inl, inr, length, length-append, subst, sym, true, ℕ, ◌++◌}
-use Rattle.std.proofs.Common.{◌<◌, ◌∙◌, ◌∷◌, ◌≡◌}
-use Rattle.std.proofs.lemmas.Bool.{cases_lt}
-use Rattle.lagmodel.specs.Law.{CountsFromZero}
-use Rattle.lagmodel.specs.Move.{Act, Move, Sends, Sends_frame, Took, act}
-use Rattle.lagmodel.specs.View.{ModelCall, Receive}
-use Rattle.lagmodel.specs.World.{CallHappens, Control, Data, DeliversFirst, Event, Happens, LosesFirst, Message, One, RepeatsFirst, Run, SensesCable}
-use Rattle.lagmodel.specs.World.{Side, Two, World, WorldSetup, end_at, first_world, handed_up, sent_after, with_messages, world_after}
-use Rattle.lagmodel.specs.World.{world_after_all}
+use Rattle.lagmodel.proofs.Common.{Bool, List, None, Option, Some, [], arith, false, get_or, inl, inr, length, length-append, subst, sym, true, ℕ}
+use Rattle.lagmodel.proofs.Common.{◌++◌, ◌<◌, ◌∙◌, ◌∷◌, ◌≡◌, cases_lt, CountsFromZero, Act, Move, Sends, Sends_frame, Took, act, ModelCall, Receive}
+use Rattle.lagmodel.proofs.Common.{CallHappens, Control, Data, DeliversFirst, Event, Happens, LosesFirst, Message, One, RepeatsFirst, Run}
+use Rattle.lagmodel.proofs.Common.{SensesCable, Side, Two, World, WorldSetup, end_at, first_world, handed_up, sent_after, with_messages, world_after}
+use Rattle.lagmodel.proofs.Common.{world_after_all}
 use Rattle.std.proofs.lemmas.List.{get_or_append_left, get_or_push}
 use Rattle.lagmodel.proofs.Lanes.{two_cases}
 

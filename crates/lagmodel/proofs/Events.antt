@@ -1,13 +1,11 @@
 -- Every event preserves the facts of two systems, and so does every run.
-use Rattle.std.proofs.Common.{Bool, List, None, Option, Some, [], ap, false, inl, inr, refl, subst, suc, sym, true, ℕ, ◌++◌, ◌∙◌, ◌∷◌, ◌≡◌, ◌≢◌, ◌⊎◌}
-use Rattle.std.proofs.lemmas.Bool.{false≢true, true≢false}
-use Rattle.lagtypes.specs.declared.party.Party.{Party}
-use Rattle.lagmodel.specs.Move.{Move}
-use Rattle.lagmodel.specs.View.{Configure, ControlMessage, Force, IsSystemSetup, ModelCall, Move_conversation, Offer, Receive, Set_link, SystemSetup}
-use Rattle.lagmodel.specs.View.{Tick, Transmit, View, first_view, is_restart, Restart}
-use Rattle.lagmodel.specs.World.{AllMoves, CallHappens, Control, CountsChanges, Data, DeliversFirst, Event, Happens, IsWorldSetup, LosesFirst}
-use Rattle.lagmodel.specs.World.{Message, One, RepeatsFirst, Run, SensesCable, Side, TakenLacpdu, Two, World, WorldSetup, at_cable, at_side, at_two}
-use Rattle.lagmodel.specs.World.{end_at, first_world, handed_up, party_at, peer, with_messages, world_after_all}
+use Rattle.lagmodel.proofs.Common.{Bool, List, None, Option, Some, [], ap, false, inl, inr, refl, subst, suc, sym, true, ℕ, ◌++◌, ◌∙◌, ◌∷◌, ◌≡◌, ◌≢◌}
+use Rattle.lagmodel.proofs.Common.{◌⊎◌, false≢true, true≢false, Party, Move, Configure, ControlMessage, Force, IsSystemSetup, ModelCall}
+use Rattle.lagmodel.proofs.Common.{Move_conversation, Offer, Receive, Set_link, SystemSetup, Tick, Transmit, View, first_view, is_restart, AllMoves}
+use Rattle.lagmodel.proofs.Common.{CallHappens, Control, CountsChanges, Data, DeliversFirst, Event, Happens, IsWorldSetup, LosesFirst, Message, One}
+use Rattle.lagmodel.proofs.Common.{RepeatsFirst, Run, SensesCable, Side, TakenLacpdu, Two, World, WorldSetup, at_cable, at_side, at_two, end_at}
+use Rattle.lagmodel.proofs.Common.{first_world, handed_up, party_at, peer, with_messages, world_after_all}
+use Rattle.lagmodel.specs.View.{Restart}
 use Rattle.lagmodel.proofs.Lines.{IsFrom, Every}
 use Rattle.lagmodel.proofs.Ports.{members_first}
 use Rattle.lagmodel.proofs.Lanes.{Lanes, two_cases}

@@ -1,13 +1,9 @@
 -- What follows in a world in which the facts hold.
-use Rattle.std.proofs.Common.{Bool, List, Some, [], ap, eq-eqb, false, inl, inr, not, option_map, refl, subst, sym, true, ℕ, ◌&&◌, ◌∙◌, ◌∷◌, ◌≡◌}
-use Rattle.std.proofs.lemmas.Bool.{cases_Bool, true≢false}
-use Rattle.std.proofs.lemmas.Option.{same_Some}
-use Rattle.lagtypes.specs.declared.party.Party.{Party}
-use Rattle.lagtypes.specs.Group.{SamePair, end_of, individual, pair_of}
-use Rattle.lagmodel.specs.Law.{BelowNext, CollectedThenInFlight, EndsAgree, FlushedByMarker, InOrder, LastLacpduSaysInSync, OnItsCable, OnePartner}
-use Rattle.lagmodel.specs.Law.{UpToDateLacpdusNameSender, serials}
-use Rattle.lagmodel.specs.View.{Lacp, Marker, PortFacts, Response, View, conversation_port}
-use Rattle.lagmodel.specs.World.{Control, Data, IsWorldSetup, Message, One, Side, TakenLacpdu, Two, World, WorldSetup, end_at, party_at, peer}
+use Rattle.lagmodel.proofs.Common.{Bool, List, Some, [], ap, eq-eqb, false, inl, inr, not, option_map, refl, subst, sym, true, ℕ, ◌&&◌, ◌∙◌, ◌∷◌, ◌≡◌}
+use Rattle.lagmodel.proofs.Common.{cases_Bool, true≢false, same_Some, Party, SamePair, end_of, individual, pair_of, BelowNext, CollectedThenInFlight}
+use Rattle.lagmodel.proofs.Common.{EndsAgree, FlushedByMarker, InOrder, LastLacpduSaysInSync, OnItsCable, OnePartner, UpToDateLacpdusNameSender}
+use Rattle.lagmodel.proofs.Common.{serials, Lacp, Marker, PortFacts, Response, View, conversation_port, Control, Data, IsWorldSetup, Message, One}
+use Rattle.lagmodel.proofs.Common.{Side, TakenLacpdu, Two, World, WorldSetup, end_at, party_at, peer}
 use Rattle.lagmodel.proofs.Base.{same_value, cond_false}
 use Rattle.lagmodel.proofs.Ports.{one_partner}
 use Rattle.lagmodel.proofs.Lines.{IsFrom, Every, every_contains, MarkerBelow, ResponseBelow, answers, NoneBehind, behind_split, is_of, is_of-true}

@@ -1,14 +1,9 @@
 -- The ports of one system: the members of an aggregator have its key and one group.
-use Rattle.std.proofs.Common.{Bool, IsSome, IsSomeAnd, None, Option, Some, ap, cond, eqb, eqb-true, false, inl, inr, is_some, option_map, refl, subst}
-use Rattle.std.proofs.Common.{sym, true, ℕ, ◌∙◌, ◌≡◌, ◌⊎◌}
-use Rattle.std.proofs.lemmas.Bool.{and_parts, cases_eq, eqb-false, false≢true}
-use Rattle.std.proofs.lemmas.Option.{none-some, same_Some}
-use Rattle.lagtypes.specs.declared.party.Party.{Party}
-use Rattle.lagtypes.specs.Group.{Pair, SamePair, individual, pair_of}
-use Rattle.lagmodel.specs.Law.{Members, OnePartner}
-use Rattle.lagmodel.specs.Move.{Announce, Default, Desynchronize, Distribute, Join, Leave, PortAllowed, PortMove, Reconfigure, Respond, Stop, Take}
-use Rattle.lagmodel.specs.Move.{pair_at, port_after}
-use Rattle.lagmodel.specs.View.{IsSystemSetup, ModelCall, PortFacts, SystemSetup, View, at_port, first_port, first_view}
+use Rattle.lagmodel.proofs.Common.{Bool, IsSome, IsSomeAnd, None, Option, Some, ap, cond, eqb, eqb-true, false, inl, inr, is_some, option_map, refl}
+use Rattle.lagmodel.proofs.Common.{subst, sym, true, ℕ, ◌∙◌, ◌≡◌, ◌⊎◌, and_parts, cases_eq, eqb-false, false≢true, none-some, same_Some, Party, Pair}
+use Rattle.lagmodel.proofs.Common.{SamePair, individual, pair_of, Members, OnePartner, Announce, Default, Desynchronize, Distribute, Join, Leave}
+use Rattle.lagmodel.proofs.Common.{PortAllowed, PortMove, Reconfigure, Respond, Stop, Take, pair_at, port_after, IsSystemSetup, ModelCall, PortFacts}
+use Rattle.lagmodel.proofs.Common.{SystemSetup, View, at_port, first_port, first_view}
 use Rattle.lagtypes.specs.declared.identifiers.PortId.{PortId}
 use Rattle.lagtypes.specs.declared.group.End.{End}
 use Rattle.lagmodel.proofs.Base.{no_value, none-is_some, same_value, value_of, mapped_some, chosen}

@@ -1,15 +1,11 @@
 -- Runs of worlds, for a crate of two systems. A call of one of them as an event: calls_from, no_call. Cables:
 -- end_there, put_on, put_nowhere. One side: itself, self. Worlds: same_world, same_view, runs_joined. What holds after
 -- a run: `lawful` of Events, and the lemma of each fact in Laws.
-use Rattle.std.proofs.Common.{Bool, List, None, Option, Some, [], ap, cond, eq-eqb, false, inl, inr, map, refl, slice_get, subst, suc, sym, true}
-use Rattle.std.proofs.Common.{zero, ℕ, ◌&&◌, ◌++◌, ◌∙◌, ◌∷◌, ◌≡◌, ◌⊎◌}
-use Rattle.std.proofs.lemmas.Option.{none-some}
-use Rattle.std.specs.Prelude.{option_to_list}
-use Rattle.lagmodel.specs.Bridge.{world_after_call}
-use Rattle.lagmodel.specs.Move.{Act, AllAllowed, LawfulMoves, Move, act, acts, view_after, view_after_all}
-use Rattle.lagmodel.specs.View.{ModelCall, View}
-use Rattle.lagmodel.specs.World.{AllMoves, CallHappens, CountsChanges, Ends, Event, Message, One, Run, Side, Two, World, WorldSetup, at_cable}
-use Rattle.lagmodel.specs.World.{at_side, end_at, is_port, peer, port_on, put_on_cable, world_after, world_after_all}
+use Rattle.lagmodel.proofs.Common.{Bool, List, None, Option, Some, [], ap, cond, eq-eqb, false, inl, inr, map, refl, slice_get, subst, suc, sym, true}
+use Rattle.lagmodel.proofs.Common.{zero, ℕ, ◌&&◌, ◌++◌, ◌∙◌, ◌∷◌, ◌≡◌, ◌⊎◌, none-some, option_to_list, world_after_call, Act, AllAllowed, LawfulMoves}
+use Rattle.lagmodel.proofs.Common.{Move, act, acts, view_after, view_after_all, ModelCall, View, AllMoves, CallHappens, CountsChanges, Ends, Event}
+use Rattle.lagmodel.proofs.Common.{Message, One, Run, Side, Two, World, WorldSetup, at_cable, at_side, end_at, is_port, peer, port_on, put_on_cable}
+use Rattle.lagmodel.proofs.Common.{world_after, world_after_all}
 use Rattle.lagmodel.proofs.Base.{mapped_some, cond_true}
 use Rattle.lagmodel.proofs.Lines.{put_cases}
 use Rattle.lagmodel.proofs.LaneMoves.{cable_cases}

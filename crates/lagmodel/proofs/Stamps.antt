@@ -1,14 +1,11 @@
 -- The Actor of an LACPDU is its sender, and the partner that a port recorded is the sender of an LACPDU.
-use Rattle.std.proofs.Common.{Bool, IsSomeAnd, List, None, Option, Some, [], ap, arith, eqb, eqb-true, false, inl, inr, length, option_map, refl}
-use Rattle.std.proofs.Common.{subst, suc, sym, true, ℕ, ◌∙◌, ◌∷◌, ◌≡◌, ◌≢◌, ◌≤◌, ◌⊎◌}
-use Rattle.std.proofs.lemmas.Bool.{cases_Bool, eqb-false, false≢true, true≢false}
-use Rattle.std.proofs.lemmas.Option.{none-some, same_Some}
-use Rattle.lagtypes.specs.declared.party.Party.{Party}
-use Rattle.lagmodel.specs.Move.{Announce, Become, Default, Desynchronize, DistributorMove, Flow, Mark, Move, MoveAllowed, Port, PortAllowed, PortMove}
-use Rattle.lagmodel.specs.Move.{Reconfigure, Respond, Restart, Send, Take, Took, act, act_of_port, distributor_act, port_act, port_after, view_after}
-use Rattle.lagmodel.specs.View.{DistributorFacts, Lacp, LacpMessage, Marker, ModelCall, PortFacts, Response, SystemSetup, View, at_port, first_port}
-use Rattle.lagmodel.specs.View.{first_view, is_restart, replies_frame}
-use Rattle.lagmodel.specs.World.{Control, Data, Message, Side, TakenLacpdu, at_cable, on_cable_after, party_at, put_on_cable, taken_after}
+use Rattle.lagmodel.proofs.Common.{Bool, IsSomeAnd, List, None, Option, Some, [], ap, arith, eqb, eqb-true, false, inl, inr, length, option_map, refl}
+use Rattle.lagmodel.proofs.Common.{subst, suc, sym, true, ℕ, ◌∙◌, ◌∷◌, ◌≡◌, ◌≢◌, ◌≤◌, ◌⊎◌, cases_Bool, eqb-false, false≢true, true≢false, none-some}
+use Rattle.lagmodel.proofs.Common.{same_Some, Party, Announce, Become, Default, Desynchronize, DistributorMove, Flow, Mark, Move, MoveAllowed, Port}
+use Rattle.lagmodel.proofs.Common.{PortAllowed, PortMove, Reconfigure, Respond, Restart, Send, Take, Took, act, act_of_port, distributor_act}
+use Rattle.lagmodel.proofs.Common.{port_act, port_after, view_after, DistributorFacts, Lacp, LacpMessage, Marker, ModelCall, PortFacts, Response}
+use Rattle.lagmodel.proofs.Common.{SystemSetup, View, at_port, first_port, first_view, is_restart, replies_frame, Control, Data, Message, Side}
+use Rattle.lagmodel.proofs.Common.{TakenLacpdu, at_cable, on_cable_after, party_at, put_on_cable, taken_after}
 use Rattle.lagmodel.proofs.Base.{cond_true, cond_false, value_of, mapped_some}
 use Rattle.lagmodel.proofs.Ports.{changed_port}
 use Rattle.lagmodel.proofs.Lines.{Every, every_push, every_weaker, put_each}

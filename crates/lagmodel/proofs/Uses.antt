@@ -1,17 +1,14 @@
 -- What the code of one system cites, to show that it keeps to the lawful moves. Moves of the system: moves_joined,
 -- moves_port, moves_flows, moves_at (of a port in a list). Moves of its conversations: flows_become (many at once),
 -- flows_weaker. Ports that are a list: find_at, ports_set, numbered_set.
-use Rattle.std.proofs.Common.{IsSomeAnd, List, None, Option, Some, [], ap, append_assoc, cond, eq-eqb, eqb, eqb-true, false, inl, inr, map}
-use Rattle.std.proofs.Common.{option_map, refl, set, slice_get, subst, suc, sym, true, zero, ℕ, ◌++◌, ◌∙◌, ◌∷◌, ◌≡◌}
-use Rattle.std.proofs.lemmas.Bool.{cases_Bool}
-use Rattle.std.proofs.lemmas.Option.{none-some, same_Some}
-use Rattle.std.specs.Prelude.{option_to_list}
-use Rattle.lagmodel.specs.Bridge.{AreNumbered, BecomeByMoves, find_number, ports_of}
-use Rattle.lagmodel.specs.Move.{Act, AllAllowed, ConversationMoveAllowed, Distributes, DistributorMove, DistributorMoveAllowed, DistributorMoves}
-use Rattle.lagmodel.specs.Move.{DistributorMovesAllowed, Flow, LawfulMoves, Move, Port, PortAllowed, PortMove, act, act_of_port, acts}
-use Rattle.lagmodel.specs.Move.{conversation_after, distributor_act, distributor_acts, distributor_after, distributor_after_all, port_act, port_after}
-use Rattle.lagmodel.specs.Move.{view_after, view_after_all}
-use Rattle.lagmodel.specs.View.{Conversation, DistributorFacts, ModelCall, PortFacts, SystemSetup, View, at_conversation, at_port}
+use Rattle.lagmodel.proofs.Common.{IsSomeAnd, List, None, Option, Some, [], ap, append_assoc, cond, eq-eqb, eqb, eqb-true, false, inl, inr, map}
+use Rattle.lagmodel.proofs.Common.{option_map, refl, set, slice_get, subst, suc, sym, true, zero, ℕ, ◌++◌, ◌∙◌, ◌∷◌, ◌≡◌, cases_Bool, none-some}
+use Rattle.lagmodel.proofs.Common.{same_Some, option_to_list, AreNumbered, BecomeByMoves, find_number, ports_of, Act, AllAllowed}
+use Rattle.lagmodel.proofs.Common.{ConversationMoveAllowed, Distributes, DistributorMove, DistributorMoveAllowed, DistributorMoves}
+use Rattle.lagmodel.proofs.Common.{DistributorMovesAllowed, Flow, LawfulMoves, Move, Port, PortAllowed, PortMove, act, act_of_port, acts}
+use Rattle.lagmodel.proofs.Common.{conversation_after, distributor_act, distributor_acts, distributor_after, distributor_after_all, port_act}
+use Rattle.lagmodel.proofs.Common.{port_after, view_after, view_after_all, Conversation, DistributorFacts, ModelCall, PortFacts, SystemSetup, View}
+use Rattle.lagmodel.proofs.Common.{at_conversation, at_port}
 use Rattle.lagmodel.proofs.Base.{cond_true, cond_false}
 use Rattle.lagmodel.proofs.Lanes.{conversation_cases}
 

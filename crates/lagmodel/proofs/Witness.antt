@@ -1,15 +1,10 @@
 -- A run in which two systems agree and a frame arrives: the headline is not empty.
-use Rattle.std.proofs.Common.{Bool, List, None, Option, Some, [], ap, arith, cond, eqb, eqb-true, false, inl, inr, refl, suc, sym, true, zero, ℕ, ◌∙◌}
-use Rattle.std.proofs.Common.{◌∷◌, ◌≡◌, ◌≢◌}
-use Rattle.std.proofs.lemmas.Bool.{false≢true}
-use Rattle.std.proofs.lemmas.Option.{none-some, same_Some}
-use Rattle.lagtypes.specs.declared.party.Party.{Party}
-use Rattle.lagmodel.specs.Law.{SomethingArrives}
-use Rattle.lagmodel.specs.Move.{Announce, Distribute, Flow, Join, Move, Port, Send, Take, port_after}
-use Rattle.lagmodel.specs.View.{Lacp, LacpMessage, ModelCall, PortFacts, Receive, SystemSetup, at_port, first_port, first_view, is_restart}
-use Rattle.lagmodel.specs.View.{replies_frame, zero_party}
-use Rattle.lagmodel.specs.World.{AllMoves, CallHappens, Data, Event, Happens, IsCabling, IsWorldSetup, One, Side, Two, World, WorldSetup, first_world}
-use Rattle.lagmodel.specs.World.{handed_up, party_at, with_messages, world_after, world_after_all}
+use Rattle.lagmodel.proofs.Common.{Bool, List, None, Option, Some, [], ap, arith, cond, eqb, eqb-true, false, inl, inr, refl, suc, sym, true, zero, ℕ}
+use Rattle.lagmodel.proofs.Common.{◌∙◌, ◌∷◌, ◌≡◌, ◌≢◌, false≢true, none-some, same_Some, Party, SomethingArrives, Announce, Distribute, Flow, Join}
+use Rattle.lagmodel.proofs.Common.{Move, Port, Send, Take, port_after, Lacp, LacpMessage, ModelCall, PortFacts, Receive, SystemSetup, at_port}
+use Rattle.lagmodel.proofs.Common.{first_port, first_view, is_restart, replies_frame, zero_party, AllMoves, CallHappens, Data, Event, Happens}
+use Rattle.lagmodel.proofs.Common.{IsCabling, IsWorldSetup, One, Side, Two, World, WorldSetup, first_world, handed_up, party_at, with_messages}
+use Rattle.lagmodel.proofs.Common.{world_after, world_after_all}
 use Rattle.lagtypes.specs.declared.identifiers.SystemId.{SystemId}
 use Rattle.lagmodel.proofs.Base.{chosen, mapped_some}
 use Rattle.lagmodel.proofs.Ports.{changed_port}

@@ -1,12 +1,8 @@
 -- What every event of two systems preserves.
-use Rattle.std.proofs.Common.{Bool, List, Option, [], false, sym, true, ℕ, ◌∙◌, ◌∷◌, ◌≡◌}
-use Rattle.std.proofs.lemmas.Bool.{true≢false}
-use Rattle.lagtypes.specs.declared.party.Party.{Party}
-use Rattle.lagmodel.specs.Law.{Members}
-use Rattle.lagmodel.specs.Move.{Flow, Move, MoveAllowed, Port, Restart, act, view_after}
-use Rattle.lagmodel.specs.View.{ModelCall, SystemSetup, View, is_restart, replies_frame}
-use Rattle.lagmodel.specs.World.{AllMoves, Message, One, Side, TakenLacpdu, Two, World, WorldSetup, end_at, on_cable_after, party_at, peer}
-use Rattle.lagmodel.specs.World.{sent_after, taken_after, world_after, world_after_all}
+use Rattle.lagmodel.proofs.Common.{Bool, List, Option, [], false, sym, true, ℕ, ◌∙◌, ◌∷◌, ◌≡◌, true≢false, Party, Members, Flow, Move, MoveAllowed}
+use Rattle.lagmodel.proofs.Common.{Port, Restart, act, view_after, ModelCall, SystemSetup, View, is_restart, replies_frame, AllMoves, Message, One}
+use Rattle.lagmodel.proofs.Common.{Side, TakenLacpdu, Two, World, WorldSetup, end_at, on_cable_after, party_at, peer, sent_after, taken_after}
+use Rattle.lagmodel.proofs.Common.{world_after, world_after_all}
 use Rattle.lagmodel.proofs.Ports.{members_kept}
 use Rattle.lagmodel.proofs.Lanes.{Lanes}
 use Rattle.lagmodel.proofs.LaneMoves.{Within, lanes_own, lanes_peer}
