@@ -1,9 +1,8 @@
 -- What offer_conversation does is what `offer` does for each frame of the conversation.
-use Rattle.lagsystem.proofs.Common.{Bool, Err, List, Ok, Result, ap, arith, false, inl, inr, nat_lt, refl, subst, sym, true, ℕ, ◌%◌, ◌*◌, ◌+◌, ◌/◌}
-use Rattle.lagsystem.proofs.Common.{◌<◌, ◌∙◌, ◌≡◌, true≢false, nat_tests, AllByRecursion, bit_xor, AggId, On, assignment_of, is_conversation_count}
-use Rattle.lagsystem.proofs.Common.{SystemFault, OffersConversation, OffersIf, TakesPort, frame_of_conversation, Offer, MayBeOffered, MayBeOfferedTo}
-use Rattle.lagsystem.proofs.Common.{Offers, has_aggregator, conversation_count, distributing, number_of_conversation, CallPromise, IsSound}
-use Rattle.lagsystem.proofs.Common.{SystemState}
+use Rattle.lagsystem.proofs.Common.{Bool, Err, List, Ok, Result, ap, arith, false, nat_lt, refl, subst, sym, true, ℕ, ◌%◌, ◌*◌, ◌+◌, ◌/◌, ◌<◌, ◌∙◌}
+use Rattle.lagsystem.proofs.Common.{◌≡◌, nat_tests, AllByRecursion, bit_xor, AggId, On, assignment_of, is_conversation_count, SystemFault}
+use Rattle.lagsystem.proofs.Common.{OffersConversation, OffersIf, TakesPort, frame_of_conversation, Offer, MayBeOffered, MayBeOfferedTo, Offers}
+use Rattle.lagsystem.proofs.Common.{has_aggregator, conversation_count, distributing, number_of_conversation, CallPromise, IsSound, SystemState}
 use Rattle.lagsystem.specs.Offers.{longest_frame}
 use Rattle.std.proofs.Math.Nat.{mod-eq_of_lt}
 use Rattle.std.specs.Int.Bits.{xor_zero_r}
@@ -18,8 +17,7 @@ use Rattle.lagsystem.proofs.Sound.{answers}
 pub taken_offers : (gives : ℕ → ℕ → ℕ → Type 0) (agg : AggId) (octets : List ℕ) (old : SystemState) (answer : Result ℕ SystemFault)
     (new : SystemState) → MayBeOfferedTo old agg octets → TakesPort gives agg (number_of_conversation old octets) old answer new
     → Offers gives agg octets old answer new
-taken_offers gives agg octets old (Ok port) new may h = (may, h.0, h.1)
-taken_offers gives agg octets old (Err fault) new may h = (inr (inr (h.0.0, (may, h.0.1), h.0.2)), h.1)
+taken_offers gives agg octets old answer new may h = grind (arith, nat_tests)
 
 below_count : (s : SystemState) → is_conversation_count s.conversations ≡ true → (octets : List ℕ)
     → nat_lt (number_of_conversation s octets) (conversation_count s) ≡ true
@@ -28,10 +26,7 @@ below_count s h octets = grind (arith, nat_tests)
 offers_if : (gives : ℕ → ℕ → ℕ → Type 0) (agg : AggId) (octets : List ℕ) (old : SystemState) (answer : Result ℕ SystemFault)
     (new : SystemState) (there known : Bool) → has_aggregator old agg ≡ there → known ≡ true → MayBeOffered octets
     → OffersIf there known gives agg (number_of_conversation old octets) old answer new → Offers gives agg octets old answer new
-offers_if gives agg octets old answer new false known e k may h =
-    subst (λ r. Offers gives agg octets old r new) (sym h.0) (inl (e, refl), h.1)
-offers_if gives agg octets old answer new true false e k may h = absurd (true≢false (sym k))
-offers_if gives agg octets old answer new true true e k may h = taken_offers gives agg octets old answer new (e, may) h
+offers_if gives agg octets old answer new there known e k may h = grind (arith, nat_tests)
 
 -- and the conversation of a frame is one that there is
 pub offered_alike : (gives : ℕ → ℕ → ℕ → Type 0) (agg : AggId) (octets : List ℕ) (old : SystemState) (answer : Result ℕ SystemFault)

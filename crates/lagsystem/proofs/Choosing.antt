@@ -1,8 +1,8 @@
 -- Ports choose one after another, and the list of views stays equal to their views.
 use Rattle.lagsystem.proofs.Common.{Bool, List, None, Option, Some, [], ap, arith, false, get_or, length, not, refl, slice_get, slice_set, subst, suc}
-use Rattle.lagsystem.proofs.Common.{sym, true, zero, ℕ, ◌&&◌, ◌<◌, ◌||◌, ◌∙◌, ◌∷◌, ◌≡◌, or_parts, same_Some, list_any, Choice, Selected, Standby}
-use Rattle.lagsystem.proofs.Common.{Unselected, is_selected, is_unselected, same_system, PortView, AggregatorsValue, is_detached, is_eligible}
-use Rattle.lagsystem.proofs.Common.{SystemPort, after_choice_at, after_choices, with_choice, selection_view, views}
+use Rattle.lagsystem.proofs.Common.{zero, ℕ, ◌<◌, ◌||◌, ◌∙◌, ◌∷◌, ◌≡◌, or_parts, nat_tests, same_Some, list_any, Choice, is_selected, is_unselected}
+use Rattle.lagsystem.proofs.Common.{PortView, AggregatorsValue, is_eligible, SystemPort, after_choice_at, after_choices, with_choice, selection_view}
+use Rattle.lagsystem.proofs.Common.{views}
 use Rattle.lagsystem.proofs.SettlingLemmas.{none_taken}
 
 abbrev one_eligible : List SystemPort → Bool
@@ -45,27 +45,11 @@ none_chosen aggs (suc n) system_ports h = subst (λ l. system_ports ≡ after_ch
 
 -- a port that is not UNSELECTED is not eligible
 pub chosen_not_eligible : (v : PortView) → is_unselected v.choice ≡ false → false ≡ is_eligible v
-chosen_not_eligible v h = sym (last ((v.enabled && v.settled) && is_detached v.stage) (is_unselected v.choice)
-    (not (same_system v.partner.system v.party.system)) h)
-  where
-    last : (a b c : Bool) → b ≡ false → ((a && b) && c) ≡ false
-    last true b c e = ap (λ x. x && c) e
-    last false b c e = refl
+chosen_not_eligible v h = grind (arith, nat_tests)
 
 -- where each port is SELECTED, none is eligible
 pub selected_not_eligible : (v : PortView) → not (is_selected v.choice) ≡ false → is_eligible v ≡ false
-selected_not_eligible v h = chosen v.choice h
-  where
-    middle : (a b c : Bool) → b ≡ false → ((a && b) && c) ≡ false
-    middle true b c e = ap (λ x. x && c) e
-    middle false b c e = refl
-
-    chosen : (choice : Choice) → not (is_selected choice) ≡ false
-        → ((((v.enabled && v.settled) && is_detached v.stage) && is_unselected choice) && not (same_system v.partner.system v.party.system)) ≡ false
-    chosen Unselected e = absurd cc
-    chosen (Standby agg) e = absurd cc
-    chosen (Selected agg) e =
-        middle ((v.enabled && v.settled) && is_detached v.stage) false (not (same_system v.partner.system v.party.system)) refl
+selected_not_eligible v h = grind (arith, nat_tests)
 
 pub none_left_eligible : (l : List SystemPort) → list_any (λ s. not (is_selected s.port.choice)) l ≡ false → one_eligible l ≡ false
 none_left_eligible [] h = refl

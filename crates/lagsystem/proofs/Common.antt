@@ -1,12 +1,12 @@
 -- The names that proofs of this crate import, passed on from one place. Declares nothing; tools/proof-imports writes it.
 pub use Rattle.std.proofs.Common.{All, Bool, Bor, Err, IfOk, IsSome, IsSomeAnd, List, None, Ok, Option, Result, Some, [], add-one, ap, append-nil}
 pub use Rattle.std.proofs.Common.{append_assoc, ap₂, arith, bytes_eq, cond, drop, eq-eqb, eqb, eqb-true, false, filter, find, get_or, if◌then◌else◌}
-pub use Rattle.std.proofs.Common.{inl, inr, is_some, length, length-append, length-drop, ltb, map, min, nat_le, nat_lt, not, option_map, position}
-pub use Rattle.std.proofs.Common.{refl, replicate, set, slice_get, slice_index, slice_set, subst, suc, sym, take, take_all, true, vec_capacity}
-pub use Rattle.std.proofs.Common.{vec_len, zero, ℕ, ⊎_elim, ◌%◌, ◌&&◌, ◌*◌, ◌++◌, ◌+◌, ◌-◌, ◌/◌, ◌<◌, ◌==◌, ◌^◌, ◌||◌, ◌∙◌, ◌∷◌, ◌≡◌, ◌≢◌, ◌≤◌, ◌⊎◌}
+pub use Rattle.std.proofs.Common.{inl, inr, is_some, length, length-append, length-drop, ltb, map, nat_le, nat_lt, not, option_map, position, refl}
+pub use Rattle.std.proofs.Common.{replicate, set, slice_get, slice_index, slice_set, subst, suc, sym, take, take_all, true, vec_capacity, vec_len}
+pub use Rattle.std.proofs.Common.{zero, ℕ, ⊎_elim, ◌%◌, ◌&&◌, ◌*◌, ◌++◌, ◌+◌, ◌-◌, ◌/◌, ◌<◌, ◌==◌, ◌^◌, ◌||◌, ◌∙◌, ◌∷◌, ◌≡◌, ◌≢◌, ◌≤◌, ◌⊎◌}
 pub use Rattle.std.proofs.lemmas.Bool.{OnFalse_at, OnFalse_from, OnTrue_at, and_from, and_left, and_parts, and_right, cases_Bool, cases_eq, cases_lt}
-pub use Rattle.std.proofs.lemmas.Bool.{cond-false, cond-true, false≢true, le-leb, leb-true, lt-leb, lt-ltb, ltb-true, ne_eqb, not-false, not-true}
-pub use Rattle.std.proofs.lemmas.Bool.{not_from_true, or_from, or_parts, true≢false}
+pub use Rattle.std.proofs.lemmas.Bool.{cond-true, false≢true, le-leb, leb-true, lt-leb, lt-ltb, ltb-true, not-false, not-true, not_from_true, or_from}
+pub use Rattle.std.proofs.lemmas.Bool.{or_parts, true≢false}
 pub use Rattle.std.proofs.lemmas.Bool.Decides.{Decides-eqb, nat_tests}
 pub use Rattle.std.proofs.lemmas.List.{get_or-map, get_or-replicate, get_or-set_other, get_or-set_same, get_or_past, length-map, length-set}
 pub use Rattle.std.proofs.lemmas.List.{length-take-le, map-append, take_more, with_items_is}
@@ -82,8 +82,7 @@ pub use Rattle.selection.proofs.LimitLemmas.{NoneStandsBy, is_next, none_is_next
 pub use Rattle.distributor.specs.declared.assignment.Assignment.{Assignment}
 pub use Rattle.distributor.specs.declared.assignment.Assignment.TheVariants.{Flushing, Free, On, Wanted}
 pub use Rattle.distributor.specs.declared.fault.DistFault.{DistFault}
-pub use Rattle.distributor.specs.Calls.{Assigns, MaySend, PicksIndexes, PicksPort, force_result, is_among, leave_result, move_result, preferred_among}
-pub use Rattle.distributor.specs.Calls.{rest_result}
+pub use Rattle.distributor.specs.Calls.{Assigns, MaySend, PicksIndexes, PicksPort, force_result, is_among, leave_result, move_result, rest_result}
 pub use Rattle.distributor.specs.Chains.{is_held_on}
 pub use Rattle.distributor.specs.Changes.{ChangesAssignments, Marks, SetsAssignment, after_down, after_leave, after_mark, after_release, after_tick}
 pub use Rattle.distributor.specs.Changes.{awaits_response, marker_due, wants_marker}
@@ -93,9 +92,7 @@ pub use Rattle.distributor.specs.Moves.{NoneDistributes, OnlyListedDistribute, m
 pub use Rattle.distributor.specs.Waiting.{is_by, sooner, ticks_until_next_wanted, ticks_until_wanted}
 pub use Rattle.distributor.proofs.MoveLemmas.{Makes, tick_moves as conversations_tick, down_moves, each_moves, first_flows, force_moves, is_forced}
 pub use Rattle.distributor.proofs.MoveLemmas.{is_left, is_moved, leave_one_moves, mark_moves, move_moves, release_moves, send_moves}
-pub use Rattle.distributor.proofs.TableLemmas.{first_free}
-pub use Rattle.distributor.proofs.WaitLemmas.{by_both, by_first, by_left, by_right, by_second, same_soonest, sooner_assoc, soonest_all}
-pub use Rattle.distributor.proofs.WaitLemmas.{soonest_member}
+pub use Rattle.distributor.proofs.WaitLemmas.{by_first, by_left, by_right, by_second, same_soonest, sooner_assoc, soonest_member}
 pub use Rattle.distributor.proofs.WalkLemmas.{same_sum}
 pub use Rattle.lagsystem.specs.declared.config.PortChange.{PortChange}
 pub use Rattle.lagsystem.specs.declared.config.PortConfig.{PortConfig}
@@ -113,11 +110,11 @@ pub use Rattle.lagsystem.specs.Calls.{AlreadyConfigured, AnswersMarker, Call, Ca
 pub use Rattle.lagsystem.specs.Calls.{FreesIfDown, GivesEffect, IsControlFrame, IsFrame, Move_conversation, Offer, OnlyPortChangesBy, ParsesFrame}
 pub use Rattle.lagsystem.specs.Calls.{ParsesPayload, ParsesWhere, Performs, PortAtChangesBy, ProcessesLacpdu, Receive, ReceivedFrame, ReceivesAt}
 pub use Rattle.lagsystem.specs.Calls.{RefusesNoPort, Releases, Restart, Runt, Set_link, SetsLink, SetsPortEnabled, Step, TableRun, ThenSettles, Tick}
-pub use Rattle.lagsystem.specs.Calls.{Ticks, Transmit, changed_party, choice_with_link, differs, is_own_response, up_or_dropped}
+pub use Rattle.lagsystem.specs.Calls.{Ticks, Transmit, changed_party, choice_with_link, is_own_response, up_or_dropped}
 pub use Rattle.lagsystem.specs.ConversationTables.{TellsRows, has_changed, has_freed, is_busy, port_on}
 pub use Rattle.lagsystem.specs.Drives.{Drives, call_of}
 pub use Rattle.lagsystem.specs.First.{HasJustStarted, IsConfigured, IsFirst, config_refusal, configured_number, configured_numbers}
-pub use Rattle.lagsystem.specs.First.{first_bad_port_number, is_count, or_first, refusal, refusal_of_limits, setup_of}
+pub use Rattle.lagsystem.specs.First.{first_bad_port_number, is_count, refusal, refusal_of_limits, setup_of}
 pub use Rattle.lagsystem.specs.Forcing.{ForcesFirst, ForcesIfHeld, ForcesIn, ForcesPort, FreesHeld, NoneIsHeldOn, after_forcing, count_held_on}
 pub use Rattle.lagsystem.specs.Holding.{WereInUse, after_holding, aggregators_in_use, has_stopped, stopped}
 pub use Rattle.lagsystem.specs.Hosts.{would_transmit, would_transmit_at}

@@ -1,14 +1,13 @@
 -- Each call changes the conversations of a system by lawful moves of the model.
 use Rattle.lagsystem.proofs.Common.{Bool, Err, IsSomeAnd, List, None, Ok, Option, Result, Some, [], ap, arith, cond, eq-eqb, eqb, eqb-true, false}
 use Rattle.lagsystem.proofs.Common.{if◌then◌else◌, inl, inr, option_map, refl, slice_get, subst, suc, sym, true, zero, ℕ, ◌&&◌, ◌||◌, ◌∙◌, ◌∷◌, ◌≡◌}
-use Rattle.lagsystem.proofs.Common.{and_parts, cases_Bool, false≢true, Decides-eqb, none-some, same_Some, MatchOption, AggId, Choice, Selected}
-use Rattle.lagsystem.proofs.Common.{Standby, Unselected, find_number, Act, ConversationMove, Distributes, DistributorMoves, LawfulMoves, PortFacts}
-use Rattle.lagsystem.proofs.Common.{SystemSetup, Told, cond_false, cond_true, flows_weaker, moves_flows, MuxState, Attached, CollectingDistributing}
-use Rattle.lagsystem.proofs.Common.{Detached, Waiting, partner_synchronized, same_mux_state, selected, has_chosen, Assignment, Flushing, Free, On}
-use Rattle.lagsystem.proofs.Common.{Wanted, DistFault, Assigns, MaySend, PicksPort, is_among, Table, NoneDistributes, OnlyListedDistribute}
-use Rattle.lagsystem.proofs.Common.{model_distributor, Makes, each_moves, SystemPort, MuxesConsistent, model_port_of, model_view, model_view_at}
-use Rattle.lagsystem.proofs.Common.{mux_consistent_of, number_of_port, selected_number, aggregator_numbered, distributes_in, distributing}
-use Rattle.lagsystem.proofs.Common.{HoldsConversations, held_unless_on, SystemState, port_numbers}
+use Rattle.lagsystem.proofs.Common.{and_parts, cases_Bool, false≢true, nat_tests, none-some, same_Some, MatchOption, AggId, Choice, find_number, Act}
+use Rattle.lagsystem.proofs.Common.{ConversationMove, Distributes, DistributorMoves, LawfulMoves, PortFacts, SystemSetup, Told, cond_false, cond_true}
+use Rattle.lagsystem.proofs.Common.{flows_weaker, moves_flows, MuxState, CollectingDistributing, partner_synchronized, same_mux_state, selected}
+use Rattle.lagsystem.proofs.Common.{has_chosen, Assignment, Flushing, Free, On, Wanted, DistFault, Assigns, MaySend, PicksPort, is_among, Table}
+use Rattle.lagsystem.proofs.Common.{NoneDistributes, OnlyListedDistribute, model_distributor, Makes, each_moves, SystemPort, MuxesConsistent}
+use Rattle.lagsystem.proofs.Common.{model_port_of, model_view, model_view_at, mux_consistent_of, number_of_port, selected_number, aggregator_numbered}
+use Rattle.lagsystem.proofs.Common.{distributes_in, distributing, HoldsConversations, held_unless_on, SystemState, port_numbers}
 use Rattle.lagsystem.proofs.Stopped.{from_here, from_rest, none_on, on, on_more}
 use Rattle.lagsystem.proofs.Rising.{Rises}
 
@@ -44,26 +43,11 @@ leaving_moves u call old new h =
 -- at rest a port distributes exactly if its mux machine does
 pub rest_distributes : (m : MuxState) (x s : Bool) → mux_consistent_of m x s ≡ true
     → (s && (x && same_mux_state CollectingDistributing m)) ≡ same_mux_state CollectingDistributing m
-rest_distributes Detached true true h = refl
-rest_distributes Detached true false h = refl
-rest_distributes Detached false true h = refl
-rest_distributes Detached false false h = refl
-rest_distributes Waiting true true h = refl
-rest_distributes Waiting true false h = refl
-rest_distributes Waiting false true h = refl
-rest_distributes Waiting false false h = refl
-rest_distributes Attached true true h = refl
-rest_distributes Attached true false h = refl
-rest_distributes Attached false s h = absurd (false≢true h)
-rest_distributes CollectingDistributing true true h = refl
-rest_distributes CollectingDistributing true false h = absurd (false≢true h)
-rest_distributes CollectingDistributing false s h = absurd (false≢true h)
+rest_distributes m x s h = grind (arith, nat_tests)
 
 -- a port that distributes in an aggregator is seen to do so
 given_number : (agg : AggId) (c : Choice) → has_chosen agg c ≡ true → selected_number c ≡ Some agg.0
-given_number agg Unselected h = absurd (false≢true h)
-given_number agg (Standby a) h = absurd (false≢true h)
-given_number agg (Selected a) h = ap (λ n. Some n) ((Decides-eqb a.0 agg.0).0 h)
+given_number agg c h = grind (arith, nat_tests)
 
 seen_there : (agg : AggId) (s : SystemPort) → (mux_consistent_of s.port.mux (selected s.port) (partner_synchronized s.port) ≡ true)
     → distributes_in agg s ≡ true
@@ -117,13 +101,11 @@ among [] i q e = absurd (none-some q e)
 among (x ∷ xs) zero q e = here (eqb x q) (is_among xs q) (eq-eqb x q (same_Some x q e))
   where
     here : (a b : Bool) → a ≡ true → (a || b) ≡ true
-    here true b h = refl
-    here false b h = absurd (false≢true h)
+    here a b h = grind (arith, nat_tests)
 among (x ∷ xs) (suc i) q e = there (eqb x q) (is_among xs q) (among xs i q e)
   where
     there : (a b : Bool) → b ≡ true → (a || b) ≡ true
-    there true b h = refl
-    there false b h = h
+    there a b h = grind (arith, nat_tests)
 
 abbrev port_answer : ℕ → Result ℕ DistFault
 port_answer p = Ok p

@@ -1,6 +1,6 @@
 -- How the own effect of a call changes the model's view of a port.
-use Rattle.lagsystem.proofs.Common.{Bool, IsSome, List, None, Option, Some, [], ap, false, if◌then◌else◌, inl, inr, not, refl, subst, sym, true, ℕ}
-use Rattle.lagsystem.proofs.Common.{◌&&◌, ◌||◌, ◌∙◌, ◌∷◌, ◌≡◌, ◌⊎◌, false≢true, Choice, Unselected, Party, StateBits, same_party, bits_of}
+use Rattle.lagsystem.proofs.Common.{Bool, IsSome, List, None, Option, Some, [], ap, arith, false, if◌then◌else◌, inl, inr, not, refl, subst, sym}
+use Rattle.lagsystem.proofs.Common.{true, ℕ, ◌&&◌, ◌||◌, ◌∙◌, ◌∷◌, ◌≡◌, ◌⊎◌, nat_tests, Choice, Unselected, Party, StateBits, same_party, bits_of}
 use Rattle.lagsystem.proofs.Common.{with_synchronization, with_timeout, exact_party, encode_then_decode, Info, Lacpdu, party_of, Act, PortMove, Shows}
 use Rattle.lagsystem.proofs.Common.{Took, Lacp, ModelCall, PortFacts, SystemSetup, Told_lacpdu, replies_frame, zero_party, CollectingDistributing}
 use Rattle.lagsystem.proofs.Common.{Machines, is_synchronized, partner_synchronized, same_mux_state, default_partner, is_maintained, lacpdu_rows}
@@ -135,14 +135,10 @@ taking u call n party partner s d c false v t e h k =
     (PortMove.Leave ∷ PortMove.Take v t ∷ PortMove.Stop ∷ [], (λ ports. tt, (λ ports. (e, inr refl, k), (λ ports. tt, tt))), refl, refl)
 
 ends_true : (x y z : Bool) → (x && y && z) ≡ true → (x ≡ true) × (z ≡ true)
-ends_true true true z h = (refl, h)
-ends_true true false z h = absurd (false≢true h)
-ends_true false y z h = absurd (false≢true h)
+ends_true x y z h = grind (arith, nat_tests)
 
 either_way : (x y : Bool) → (x || not y) ≡ true → (x ≡ true) ⊎ (y ≡ false)
-either_way true y h = inl refl
-either_way false true h = absurd (false≢true h)
-either_way false false h = inr refl
+either_way x y h = grind (arith, nat_tests)
 
 says_so : (v : Lacpdu) (p : Machines) → recorded_synchronization v p ≡ true → ((bits_of v.actor.state).synchronization ≡ true)
     × ((party_of v.partner ≡ p.party) ⊎ ((party_of v.actor).aggregatable ≡ false))

@@ -1,16 +1,16 @@
 -- The first state of a system has the model's first view.
-use Rattle.lagsystem.proofs.Common.{Bool, List, None, Option, Some, [], ap, cond, eqb, eqb-true, false, if◌then◌else◌, inl, inr, length, not}
+use Rattle.lagsystem.proofs.Common.{Bool, List, None, Option, Some, [], ap, arith, cond, eqb, eqb-true, false, if◌then◌else◌, inl, inr, length, not}
 use Rattle.lagsystem.proofs.Common.{option_map, refl, slice_get, slice_set, subst, suc, sym, true, zero, ℕ, ◌&&◌, ◌∙◌, ◌∷◌, ◌≡◌, ◌⊎◌, and_left}
-use Rattle.lagsystem.proofs.Common.{and_parts, and_right, none-some, same_Some, AllByRecursion, AllZip, AggId, SystemId, Standby, Unselected, Party}
-use Rattle.lagsystem.proofs.Common.{is_selected, is_unselected, bits_of, with_synchronization, encode_then_decode, find_number, ports_of}
-use Rattle.lagsystem.proofs.Common.{IsSystemSetup, PortFacts, first_port, first_view, mapped_some, whichever, Attached, CollectingDistributing}
-use Rattle.lagsystem.proofs.Common.{Detached, Waiting, Start, Current, Expired, Initialize, PortDisabled, Machines, mux_rows, partner_synchronized}
-use Rattle.lagsystem.proofs.Common.{same_mux_state, RunsPeriodic, periodic_rows, receive_rows, same_receive_state, start_receive, AtRest, Fires}
-use Rattle.lagsystem.proofs.Common.{FiresTimes, Row, RunsToRest, Starts, before_start, Reaches-keeps, chosen_aggregator, AggregatorsValue}
-use Rattle.lagsystem.proofs.Common.{is_eligible, model_distributor, first_flows, PortConfig, SystemPort, HasJustStarted, IsFirst, configured_number}
-use Rattle.lagsystem.proofs.Common.{setup_of, configured_party, model_port, model_port_of, model_setup, model_view, number_of_port, ChoosesIn}
-use Rattle.lagsystem.proofs.Common.{PortChangesBy, PortsChangeBy, PromotesFirst, PromotesNext, after_choice_at, after_choices, choice_for, ready_of}
-use Rattle.lagsystem.proofs.Common.{with_choice, SystemState, aggregators_value, with_system_ports, with_table, seen_at, views}
+use Rattle.lagsystem.proofs.Common.{and_parts, and_right, nat_tests, none-some, same_Some, AllByRecursion, AllZip, AggId, SystemId, Standby}
+use Rattle.lagsystem.proofs.Common.{Unselected, Party, is_selected, is_unselected, bits_of, with_synchronization, encode_then_decode, find_number}
+use Rattle.lagsystem.proofs.Common.{ports_of, IsSystemSetup, PortFacts, first_port, first_view, mapped_some, whichever, Attached}
+use Rattle.lagsystem.proofs.Common.{CollectingDistributing, Detached, Waiting, Start, Current, Expired, Initialize, PortDisabled, Machines, mux_rows}
+use Rattle.lagsystem.proofs.Common.{partner_synchronized, same_mux_state, RunsPeriodic, periodic_rows, receive_rows, same_receive_state}
+use Rattle.lagsystem.proofs.Common.{start_receive, AtRest, Fires, FiresTimes, Row, RunsToRest, Starts, before_start, Reaches-keeps, chosen_aggregator}
+use Rattle.lagsystem.proofs.Common.{AggregatorsValue, is_eligible, model_distributor, first_flows, PortConfig, SystemPort, HasJustStarted, IsFirst}
+use Rattle.lagsystem.proofs.Common.{configured_number, setup_of, configured_party, model_port, model_port_of, model_setup, model_view, number_of_port}
+use Rattle.lagsystem.proofs.Common.{ChoosesIn, PortChangesBy, PortsChangeBy, PromotesFirst, PromotesNext, after_choice_at, after_choices, choice_for}
+use Rattle.lagsystem.proofs.Common.{ready_of, with_choice, SystemState, aggregators_value, with_system_ports, with_table, seen_at, views}
 use Rattle.lagsystem.proofs.Effects.{named, zero_named}
 use Rattle.lagsystem.proofs.Rest.{last_slots, zip_all}
 use Rattle.lagsystem.proofs.Rising.{all-get}
@@ -20,14 +20,12 @@ use Rattle.lagsystem.proofs.Occupying.{periodic_stays}
 use Rattle.lagsystem.proofs.PromotionLemmas.{promotions_keep}
 
 clash : (b : Bool) → b ≡ true → b ≡ false → ⊥
-clash true h k = cc
-clash false h k = cc
+clash b h k = grind (arith, nat_tests)
 
 -- lists that are alike in numbers and views show the same ports
 pushed : {X : Type 0} (v : X → PortFacts) (b : Bool) (x : X) (o : Option X)
     → option_map v (cond b (Some x) o) ≡ cond b (Some (v x)) (option_map v o)
-pushed v true x o = refl
-pushed v false x o = refl
+pushed v b x o = grind (arith, nat_tests)
 
 zip_ports : {X Y : Type 0} (n : X → ℕ) (m : Y → ℕ) (v : X → PortFacts) (w : Y → PortFacts) (xs : List X) (ys : List Y)
     → AllZip (λ x y. (m y ≡ n x) × (w y ≡ v x)) xs ys
@@ -231,8 +229,7 @@ zip_weaker R S w (x ∷ xs) [] h = absurd h
 zip_weaker R S w (x ∷ xs) (y ∷ ys) h = (w x y h.0, zip_weaker R S w xs ys h.1)
 
 composed : {X : Type 0} (f : Party → PortFacts) (g : X → Party) (o : Option X) → option_map (λ x. f (g x)) o ≡ option_map f (option_map g o)
-composed f g None = refl
-composed f g (Some x) = refl
+composed f g o = grind (arith, nat_tests)
 
 -- so the periodic rows alone change the ports
 pub first_periodic : (s : SystemState) (h : IsFirst s) → PortsChangeBy RunsPeriodic h.0 s.system_ports

@@ -1,9 +1,9 @@
 -- To force what is held on a port frees just that, and counts it.
 use Rattle.lagsystem.proofs.Common.{Bool, Err, None, Ok, Option, Result, ap, arith, cond, eqb, eqb-true, false, if◌then◌else◌, inl, inr, length}
 use Rattle.lagsystem.proofs.Common.{nat_lt, refl, subst, suc, sym, true, zero, ℕ, ◌&&◌, ◌+◌, ◌<◌, ◌==◌, ◌∙◌, ◌≡◌, ◌≤◌, ◌⊎◌, and_parts, cases_Bool}
-use Rattle.lagsystem.proofs.Common.{true≢false, nat_tests, AggId, itself, Assignment, Flushing, Free, On, Wanted, DistFault, force_result, is_held_on}
-use Rattle.lagsystem.proofs.Common.{Table, assignment_of, same_sum, SystemFault, NoAggregator, ForcesFirst, ForcesIfHeld, ForcesIn, ForcesPort}
-use Rattle.lagsystem.proofs.Common.{FreesHeld, NoneIsHeldOn, after_forcing, count_held_on, GivesAssignment, GivesOrRefuses, has_aggregator, in_system}
+use Rattle.lagsystem.proofs.Common.{nat_tests, AggId, itself, Assignment, Flushing, Free, Wanted, DistFault, force_result, is_held_on, Table}
+use Rattle.lagsystem.proofs.Common.{assignment_of, same_sum, SystemFault, NoAggregator, ForcesFirst, ForcesIfHeld, ForcesIn, ForcesPort, FreesHeld}
+use Rattle.lagsystem.proofs.Common.{NoneIsHeldOn, after_forcing, count_held_on, GivesAssignment, GivesOrRefuses, has_aggregator, in_system}
 use Rattle.lagsystem.proofs.Common.{system_force_result, aggregator_numbered, conversation_count, IsSound, SystemState, with_table}
 use Rattle.distributor.specs.Conversations.{sum_below}
 use Rattle.distributor.specs.declared.fault.DistFault.TheVariants as dist
@@ -58,48 +58,31 @@ state_of (Ok state) = state
 state_of (Err fault) = Free None
 
 freed : (port : ℕ) (a : Assignment) (state : Assignment) → is_held_on port a ≡ true → force_result a ≡ Ok state → state ≡ after_forcing port a
-freed port (Free preferred) state h e = absurd (true≢false (sym h))
-freed port (On given) state h e = absurd (true≢false (sym h))
-freed port (Wanted given preferred) state h e = sym (ap state_in e)
-    ∙ sym (ap (λ b. if b then Free preferred else Wanted given preferred) h)
-freed port (Flushing given id preferred age) state h e = sym (ap state_in e)
-    ∙ sym (ap (λ b. if b then Free preferred else Flushing given id preferred age) h)
+freed port a state h e = grind (arith, nat_tests)
 
 not_held : (port : ℕ) (a : Assignment) → is_held_on port a ≡ false → after_forcing port a ≡ a
-not_held port (Free preferred) h = refl
-not_held port (On given) h = refl
-not_held port (Wanted given preferred) h = ap (λ b. if b then Free preferred else Wanted given preferred) h
-not_held port (Flushing given id preferred age) h = ap (λ b. if b then Free preferred else Flushing given id preferred age) h
+not_held port a h = grind (arith, nat_tests)
 
 wanted_after : (port given : ℕ) (preferred : Option ℕ) (b : Bool) → (given == port) ≡ b
     → is_held_on port (if b then Free preferred else Wanted given preferred) ≡ false
-wanted_after port given preferred true e = refl
-wanted_after port given preferred false e = e
+wanted_after port given preferred b e = grind (arith, nat_tests)
 
 flushing_after : (port given id age : ℕ) (preferred : Option ℕ) (b : Bool) → (given == port) ≡ b
     → is_held_on port (if b then Free preferred else Flushing given id preferred age) ≡ false
-flushing_after port given id age preferred true e = refl
-flushing_after port given id age preferred false e = e
+flushing_after port given id age preferred b e = grind (arith, nat_tests)
 
 free_after : (port : ℕ) (a : Assignment) → is_held_on port (after_forcing port a) ≡ false
-free_after port (Free preferred) = refl
-free_after port (On given) = refl
-free_after port (Wanted given preferred) = wanted_after port given preferred (given == port) refl
-free_after port (Flushing given id preferred age) = flushing_after port given id age preferred (given == port) refl
+free_after port a = grind (arith, nat_tests)
 
 -- what the call `force` says where it does not refuse
 
 given_state : (r : Result Assignment SystemFault) (agg : AggId) (conv : ℕ) (old new : SystemState) → GivesOrRefuses agg conv r old (Ok tt) new
     → (state : Assignment) × (r ≡ Ok state) × GivesAssignment agg conv state old new
-given_state (Ok state) agg conv old new h = (state, refl, h.1)
-given_state (Err fault) agg conv old new h = absurd cc
+given_state r agg conv old new h = grind (arith, nat_tests)
 
 through : (b c : Bool) (r : Result Assignment DistFault) (state : Assignment)
     → (if b then in_system (if c then r else Err dist.NotAssigned) else Err NoAggregator) ≡ Ok state → r ≡ Ok state
-through true true (Ok x) state e = ap (λ (y : Assignment). Ok y) (ap state_of e)
-through true true (Err fault) state e = absurd cc
-through true false r state e = absurd cc
-through false c r state e = absurd cc
+through b c r state e = grind (arith, nat_tests)
 
 at_place : (g k a c : ℕ) → a ≡ g → c ≡ k → (eqb g a && eqb k c) ≡ true
 at_place g k a c e f = (λ i. eqb g (e i) && eqb k (f i)) ∙ (λ i. itself g i && itself k i)

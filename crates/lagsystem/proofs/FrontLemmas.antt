@@ -15,8 +15,7 @@ pub front_selected : (l : List SystemPort) (i k : ℕ) (d : SystemPort) → firs
 front_selected l i k d e lt = (position-Some (λ s. not (is_selected s.port.choice)) l i d e).2 k lt
 
 pub first_within : (l : List SystemPort) (i : ℕ) → first_unselected l ≡ Some i → i < length l
-first_within [] i e = absurd cc
-first_within (x ∷ xs) i e = (position-Some (λ s. not (is_selected s.port.choice)) (x ∷ xs) i x e).0
+first_within l i e = grind (arith, nat_tests)
 
 -- and so is not STANDBY
 pub first_not_standby : (l : List SystemPort) (i k : ℕ) (s : SystemPort) → first_unselected l ≡ Some i → k < i → slice_get l k ≡ Some s

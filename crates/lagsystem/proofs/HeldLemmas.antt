@@ -1,7 +1,7 @@
 -- Where no conversation is held on a port, to force what is held there changes nothing.
 use Rattle.lagsystem.proofs.Common.{Bool, Ok, ap, arith, cond, false, inl, inr, is_some, length, refl, subst, suc, true, zero, ℕ, ◌+◌, ◌<◌, ◌∙◌, ◌≡◌}
-use Rattle.lagsystem.proofs.Common.{AggId, is_held_on, assignment_of, ForcesFirst, ForcesIn, ForcesPort, count_held_on, aggregator_numbered, IsSound}
-use Rattle.lagsystem.proofs.Common.{SystemState, port_index}
+use Rattle.lagsystem.proofs.Common.{nat_tests, AggId, is_held_on, assignment_of, ForcesFirst, ForcesIn, ForcesPort, count_held_on}
+use Rattle.lagsystem.proofs.Common.{aggregator_numbered, IsSound, SystemState, port_index}
 use Rattle.distributor.specs.Conversations.{sum_below}
 use Rattle.lagsystem.proofs.TellingLemmas.{below_or_at}
 
@@ -15,8 +15,7 @@ each_zero f (suc n) e k l = elim (below_or_at k n (let next : suc n ≡ n + 1 = 
 ]
 
 not_counted : (b : Bool) → ◌≡◌ {A = ℕ} (cond b 1 0) 0 → b ≡ false
-not_counted false e = refl
-not_counted true e = absurd (omega (arith, e))
+not_counted b e = grind (arith, nat_tests)
 
 -- no conversation of this aggregator is held
 abbrev NoneIn : ℕ → SystemState → ℕ → ℕ → Type 0

@@ -1,9 +1,9 @@
 -- Conversations leave stopped ports, one port after another.
-use Rattle.lagsystem.proofs.Common.{Bool, List, None, Option, Some, [], add-one, ap, arith, eq-eqb, false, get_or, if◌then◌else◌, inl, inr, length}
-use Rattle.lagsystem.proofs.Common.{not, refl, slice_set, suc, sym, take, true, zero, ℕ, ◌&&◌, ◌+◌, ◌<◌, ◌==◌, ◌||◌, ◌∙◌, ◌∷◌, ◌≡◌, cases_eq, ne_eqb}
-use Rattle.lagsystem.proofs.Common.{AggId, Choice, Selected, Standby, Unselected, CollectingDistributing, same_mux_state, has_chosen, Assignment}
-use Rattle.lagsystem.proofs.Common.{Flushing, Free, On, Wanted, ChangesAssignments, after_leave, Table, assignment_of, SystemPort, after_holding}
-use Rattle.lagsystem.proofs.Common.{aggregators_in_use, has_stopped, stopped, collecting, selected_aggregator}
+use Rattle.lagsystem.proofs.Common.{Bool, List, None, Option, Some, [], add-one, ap, arith, false, get_or, if◌then◌else◌, length, not, refl}
+use Rattle.lagsystem.proofs.Common.{slice_set, suc, take, true, zero, ℕ, ◌&&◌, ◌+◌, ◌<◌, ◌==◌, ◌||◌, ◌∙◌, ◌∷◌, ◌≡◌, nat_tests, AggId, Choice}
+use Rattle.lagsystem.proofs.Common.{CollectingDistributing, same_mux_state, has_chosen, Assignment, On, Wanted, ChangesAssignments, after_leave}
+use Rattle.lagsystem.proofs.Common.{Table, assignment_of, SystemPort, after_holding, aggregators_in_use, has_stopped, stopped, collecting}
+use Rattle.lagsystem.proofs.Common.{selected_aggregator}
 use Rattle.std.proofs.Math.Bool.{and-true}
 
 -- the port s left, if it is the one with the number p
@@ -11,14 +11,10 @@ abbrev leaves : Option AggId → SystemPort → ℕ → Bool
 leaves was s p = (s.number == p) && has_stopped was s
 
 or_swap : (a b : Bool) → (a || b) ≡ (b || a)
-or_swap true true = refl
-or_swap true false = refl
-or_swap false true = refl
-or_swap false false = refl
+or_swap a b = grind (arith, nat_tests)
 
 or_later : (a b c : Bool) → (a || (b || c)) ≡ ((a || b) || c)
-or_later true b c = refl
-or_later false b c = refl
+or_later a b c = grind (arith, nat_tests)
 
 stopped_suc : (before : List (Option AggId)) (system_ports : List SystemPort) (i : ℕ) (d : Option AggId) (e : SystemPort) (p : ℕ)
     → i < length before → length before ≡ length system_ports
@@ -39,31 +35,19 @@ pub stopped_more : (before : List (Option AggId)) (system_ports : List SystemPor
 stopped_more before system_ports i d e p l same = rw add-one (stopped_suc before system_ports i d e p l same)
 
 leave_one : (b : Bool) (n p : ℕ) → after_leave n (if b then Wanted p None else On p) ≡ (if b || (n == p) then Wanted p None else On p)
-leave_one true n p = refl
-leave_one false n p = elim (cases_eq n p) [
-  | inl e ↦ rw (eq-eqb p n (sym e), eq-eqb n p e) (ap (λ q. Wanted q None) e)
-  | inr ne ↦ rw (ne_eqb p n (λ e. ne (sym e)), ne_eqb n p ne) refl
-]
+leave_one b n p = grind (arith, nat_tests)
 
 -- one more port is left
 leave_more : (f g : ℕ → Bool) (n : ℕ) → ((p : ℕ) → g p ≡ (f p || (n == p))) → (s : Assignment)
     → after_leave n (after_holding f s) ≡ after_holding g s
-leave_more f g n e (Free preferred) = refl
-leave_more f g n e (On p) = leave_one (f p) n p ∙ ap (λ b. if b then Wanted p None else On p) (sym (e p))
-leave_more f g n e (Wanted p preferred) = refl
-leave_more f g n e (Flushing p id preferred age) = refl
+leave_more f g n e s = grind (arith, nat_tests)
 
 -- the same ports are left
 leave_same : (f g : ℕ → Bool) → ((p : ℕ) → g p ≡ f p) → (s : Assignment) → after_holding f s ≡ after_holding g s
-leave_same f g e (Free preferred) = refl
-leave_same f g e (On p) = ap (λ b. if b then Wanted p None else On p) (sym (e p))
-leave_same f g e (Wanted p preferred) = refl
-leave_same f g e (Flushing p id preferred age) = refl
+leave_same f g e s = grind (arith, nat_tests)
 
 or_none : (a b : Bool) → (a || (b && false)) ≡ a
-or_none true b = refl
-or_none false true = refl
-or_none false false = refl
+or_none a b = grind (arith, nat_tests)
 
 -- the port at the place stopped, and is left
 pub left_more : (before : List (Option AggId)) (system_ports : List SystemPort) (i : ℕ) (d : Option AggId) (e : SystemPort)
@@ -116,31 +100,23 @@ still_in (Some agg) c d = not (has_chosen agg c && d)
 
 has_stopped_is : (was : Option AggId) (s : SystemPort)
     → has_stopped was s ≡ still_in was s.port.choice (same_mux_state CollectingDistributing s.port.mux)
-has_stopped_is None s = refl
-has_stopped_is (Some agg) s = refl
+has_stopped_is was s = grind (arith, nat_tests)
 
 stays_in : (c : Choice) (d : Bool) → still_in (if d then selected_aggregator c else None) c d ≡ false
-stays_in c false = refl
-stays_in Unselected true = refl
-stays_in (Standby agg) true = refl
-stays_in (Selected agg) true = ap (λ b. not (b && true)) (eq-eqb agg.0 agg.0 refl)
+stays_in c d = grind (arith, nat_tests)
 
 -- a port distributes where it does
 never_stopped : (s : SystemPort) → has_stopped (collecting s.port) s ≡ false
 never_stopped s = has_stopped_is (collecting s.port) s ∙ stays_in s.port.choice (same_mux_state CollectingDistributing s.port.mux)
 
 or_neither : (b c d : Bool) → c ≡ false → d ≡ false → ((b && c) || d) ≡ false
-or_neither true c d e k = ap (λ (x : Bool). x || d) e ∙ k
-or_neither false c d e k = k
+or_neither b c d e k = grind (arith, nat_tests)
 
 or_first : (b c d : Bool) → d ≡ false → ((b && c) || d) ≡ (b && c)
-or_first true true d e = refl
-or_first true false d e = e
-or_first false c d e = e
+or_first b c d e = grind (arith, nat_tests)
 
 or_second : (b c d : Bool) → c ≡ false → ((b && c) || d) ≡ d
-or_second true c d e = ap (λ (x : Bool). x || d) e
-or_second false c d e = refl
+or_second b c d e = grind (arith, nat_tests)
 
 none_stopped : (system_ports : List SystemPort) (p : ℕ) → stopped (aggregators_in_use system_ports) system_ports p ≡ false
 none_stopped [] p = refl
@@ -158,16 +134,10 @@ stopped_at (s ∷ ss) (suc i) was d p l =
     ∙ stopped_at ss i was d p (omega arith)
 
 leave_only : (f : ℕ → Bool) (n : ℕ) → ((p : ℕ) → f p ≡ (n == p)) → (a : Assignment) → after_leave n a ≡ after_holding f a
-leave_only f n e (Free preferred) = refl
-leave_only f n e (On p) = leave_one false n p ∙ ap (λ b. if b then Wanted p None else On p) (sym (e p))
-leave_only f n e (Wanted p preferred) = refl
-leave_only f n e (Flushing p id preferred age) = refl
+leave_only f n e a = grind (arith, nat_tests)
 
 leave_none : (f : ℕ → Bool) → ((p : ℕ) → f p ≡ false) → (a : Assignment) → a ≡ after_holding f a
-leave_none f e (Free preferred) = refl
-leave_none f e (On p) = ap (λ b. if b then Wanted p None else On p) (sym (e p))
-leave_none f e (Wanted p preferred) = refl
-leave_none f e (Flushing p id preferred age) = refl
+leave_none f e a = grind (arith, nat_tests)
 
 -- the port that alone went on stopped, and is left
 pub one_left : (system_ports : List SystemPort) (i : ℕ) (was : Option AggId) (d : SystemPort) (old new : Table) → i < length system_ports

@@ -2,13 +2,14 @@
 use Rattle.lagsystem.proofs.Common.{Bool, List, None, Option, Some, [], ap, arith, false, if◌then◌else◌, inl, inr, length, nat_le, refl, slice_get}
 use Rattle.lagsystem.proofs.Common.{slice_set, subst, suc, sym, true, zero, ℕ, ◌∙◌, ◌∷◌, ◌≡◌, ◌≤◌, ◌⊎◌, and_parts, nat_tests, length-map, AllZip, Key}
 use Rattle.lagsystem.proofs.Common.{SystemId, Choice, Selected, Machines, mux_rows, RunsPeriodic, receive_rows, RunsToRest, after_sending, count_down}
-use Rattle.lagsystem.proofs.Common.{AggregatorsValue, Free, Table, assignment_of, first_table, first_free, PortConfig, Reply, BadConfig, SystemPort}
-use Rattle.lagsystem.proofs.Common.{Call, ChangesParty, FreesIfDown, OnlyPortChangesBy, PortAtChangesBy, ProcessesLacpdu, SetsLink, SetsPortEnabled}
-use Rattle.lagsystem.proofs.Common.{Step, ThenSettles, Ticks, HasJustStarted, IsConfigured, IsFirst, config_refusal, configured_number}
-use Rattle.lagsystem.proofs.Common.{configured_numbers, is_count, refusal, aggregator_numbered, distributing, ChoosesIn, HoldsConversations}
-use Rattle.lagsystem.proofs.Common.{OnlyPortsChangeBy, PortsChangeBy, PromotesFirst, SettlesPorts, Settling, after_choices, choice_for}
-use Rattle.lagsystem.proofs.Common.{held_unless_on, ready_of, with_choice, HasPorts, SystemState, aggregators_value, port_index, port_numbers}
-use Rattle.lagsystem.proofs.Common.{with_system_ports, with_table, views}
+use Rattle.lagsystem.proofs.Common.{AggregatorsValue, Free, Table, assignment_of, first_table, PortConfig, Reply, BadConfig, SystemPort, Call}
+use Rattle.lagsystem.proofs.Common.{ChangesParty, FreesIfDown, OnlyPortChangesBy, PortAtChangesBy, ProcessesLacpdu, SetsLink, SetsPortEnabled, Step}
+use Rattle.lagsystem.proofs.Common.{ThenSettles, Ticks, HasJustStarted, IsConfigured, IsFirst, config_refusal, configured_number, configured_numbers}
+use Rattle.lagsystem.proofs.Common.{is_count, refusal, aggregator_numbered, distributing, ChoosesIn, HoldsConversations, OnlyPortsChangeBy}
+use Rattle.lagsystem.proofs.Common.{PortsChangeBy, PromotesFirst, SettlesPorts, Settling, after_choices, choice_for, held_unless_on, ready_of}
+use Rattle.lagsystem.proofs.Common.{with_choice, HasPorts, SystemState, aggregators_value, port_index, port_numbers, with_system_ports, with_table}
+use Rattle.lagsystem.proofs.Common.{views}
+use Rattle.distributor.proofs.TableLemmas.{first_free}
 use Rattle.lagsystem.proofs.Preserves.{Preserves, Step-preserves}
 use Rattle.lagsystem.proofs.PromotionLemmas.{KeptByChoices, choices_keep, choosing_keeps, promotions_keep}
 use Rattle.lagsystem.specs.declared.config.Config.{Config}
@@ -67,8 +68,7 @@ numbers_set (x ∷ xs) zero s t e n = let same : x ≡ s = cc in let here : x.nu
 numbers_set (x ∷ xs) (suc i) s t e n = ap (λ ns. x.number ∷ ns) (numbers_set xs i s t e n)
 
 pub given_number : (s : SystemPort) (o : Option Choice) → (with_choice s o).number ≡ s.number
-given_number s None = refl
-given_number s (Some choice) = refl
+given_number s o = grind (arith, nat_tests)
 
 selects_numbers : (numbers : List ℕ) → KeptByChoices (λ l. port_numbers l ≡ numbers)
 selects_numbers numbers l i s o e h = numbers_set l i s (with_choice s o) e (given_number s o) ∙ h
@@ -160,12 +160,10 @@ keeps_tick old new h = record {
 }
 
 frees_aggs : (up : Bool) (n : ℕ) (old new : Table) → FreesIfDown up n old new → new.aggs ≡ old.aggs
-frees_aggs true n old new h = ap (λ (t : Table). t.aggs) h
-frees_aggs false n old new h = h.aggs
+frees_aggs up n old new h = grind (arith, nat_tests)
 
 frees_conversations : (up : Bool) (n : ℕ) (old new : Table) → FreesIfDown up n old new → new.conversations ≡ old.conversations
-frees_conversations true n old new h = ap (λ (t : Table). t.conversations) h
-frees_conversations false n old new h = h.conversations
+frees_conversations up n old new h = grind (arith, nat_tests)
 
 pub keeps_link : (n : ℕ) (up : Bool) (old new : SystemState) → SetsLink n up old new → Keeps old new
 keeps_link n up old new h = record {
@@ -259,8 +257,7 @@ Step-conversations gives old call answer new h e = elim (Step-keeps gives old ca
 ]
 
 is_true : (b : Bool) (x : Option BadConfig) (y : BadConfig) → (if b then x else Some y) ≡ None → b ≡ true
-is_true true x y h = refl
-is_true false x y h = cc
+is_true b x y h = grind (arith, nat_tests)
 
 below : (n : ℕ) → is_count n ≡ true → n ≤ 64
 below n h = let k : nat_le n 64 ≡ true = (and_parts (nat_le 1 n) (nat_le n 64) h).1 in grind (arith, nat_tests)

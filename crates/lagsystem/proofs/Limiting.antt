@@ -17,8 +17,7 @@ count agg [] = zero
 count agg (s ∷ ss) = cond (has_chosen agg s.port.choice) (suc (count agg ss)) (count agg ss)
 
 one_counted : (b : Bool) (v : PortView) (rest : List PortView) (n : ℕ) → length rest ≡ n → length (cond b (v ∷ rest) rest) ≡ cond b (suc n) n
-one_counted true v rest n h = ap (λ m. suc m) h
-one_counted false v rest n h = h
+one_counted b v rest n h = grind (arith, nat_tests)
 
 counted : (agg : AggId) (l : List SystemPort) → length (ports_that_chose agg (views l)) ≡ count agg l
 counted agg [] = refl
@@ -30,12 +29,10 @@ abbrev pub Fewer : List SystemPort → List SystemPort → Type 0
 Fewer old new = (agg : AggId) → count agg new ≤ count agg old
 
 same_bit : (b : Bool) (m n : ℕ) → m ≤ n → cond b (suc m) m ≤ cond b (suc n) n
-same_bit true m n h = omega (arith, h)
-same_bit false m n h = h
+same_bit b m n h = grind (arith, nat_tests)
 
 no_bit : (b : Bool) (m n : ℕ) → m ≤ n → m ≤ cond b (suc n) n
-no_bit true m n h = omega (arith, h)
-no_bit false m n h = h
+no_bit b m n h = grind (arith, nat_tests)
 
 bit_less : (agg : AggId) (c d : Choice) (m n : ℕ) → (d ≡ Unselected) ⊎ (d ≡ c) → m ≤ n
     → cond (has_chosen agg d) (suc m) m ≤ cond (has_chosen agg c) (suc n) n
@@ -69,14 +66,10 @@ set_fewer (x ∷ xs) (suc i) s t e h agg = same_bit (has_chosen agg x.port.choic
 -- one port gets a value of Selected
 
 one_more : (b h : Bool) (n : ℕ) → cond b (suc n) n ≤ cond h (suc n) n + cond b 1 0
-one_more true true n = omega arith
-one_more true false n = omega arith
-one_more false true n = omega arith
-one_more false false n = omega arith
+one_more b h n = grind (arith, nat_tests)
 
 later_more : (h : Bool) (m n k : ℕ) → m ≤ n + k → cond h (suc m) m ≤ cond h (suc n) n + k
-later_more true m n k l = omega (arith, l)
-later_more false m n k l = l
+later_more h m n k l = grind (arith, nat_tests)
 
 set_more : (agg : AggId) (l : List SystemPort) (i : ℕ) (s : SystemPort) (c : Choice)
     → count agg (slice_set l i (with_choice s (Some c))) ≤ count agg l + cond (has_chosen agg c) 1 0
@@ -86,10 +79,7 @@ set_more agg (x ∷ xs) (suc i) s c = later_more (has_chosen agg x.port.choice) 
     (count agg xs) (cond (has_chosen agg c) 1 0) (set_more agg xs i s c)
 
 grows_here : (b h : Bool) (n : ℕ) → h ≡ false → cond h (suc n) n ≤ cond b (suc n) n
-grows_here true true n e = omega arith
-grows_here false true n e = absurd cc
-grows_here true false n e = omega arith
-grows_here false false n e = omega arith
+grows_here b h n e = grind (arith, nat_tests)
 
 set_grows : (agg : AggId) (l : List SystemPort) (i : ℕ) (s : SystemPort) (c : Choice) → slice_get l i ≡ Some s
     → has_chosen agg s.port.choice ≡ false → count agg l ≤ count agg (slice_set l i (with_choice s (Some c)))
@@ -107,8 +97,7 @@ within_fewer None old new h w = tt
 within_fewer (Some most) old new h w = λ agg. omega (arith, h agg, w agg, counted agg old, counted agg new)
 
 below_most : (k : Bool) (n most : ℕ) → (k && nat_lt n most) ≡ true → n < most
-below_most true n most h = grind (arith, nat_tests)
-below_most false n most h = absurd cc
+below_most k n most h = grind (arith, nat_tests)
 
 fits_one : (agg a : AggId) (l : List SystemPort) (i : ℕ) (s : SystemPort) (most : ℕ) (k b : Bool) → (agg.0 == a.0) ≡ b
     → (k && nat_lt (length (ports_that_chose agg (views l))) most) ≡ true → length (ports_that_chose a (views l)) ≤ most
@@ -179,9 +168,7 @@ NoneNext aggs agg l = (has_room aggs (views l) agg ≡ false) ⊎ NoneStandsBy a
 
 below_less : (max_links : Option ℕ) (k : Bool) (m n : ℕ) → m ≤ n → (k && is_below max_links m) ≡ false
     → (k && is_below max_links n) ≡ false
-below_less max_links false m n l h = refl
-below_less None true m n l h = h
-below_less (Some most) true m n l h = grind (arith, nat_tests)
+below_less max_links k m n l h = grind (arith, nat_tests)
 
 room_less : (aggs : AggregatorsValue) (agg : AggId) (l m : List SystemPort) → count agg l ≤ count agg m
     → has_room aggs (views l) agg ≡ false → has_room aggs (views m) agg ≡ false

@@ -1,7 +1,7 @@
 -- What promoting the STANDBY port that comes next does.
 use Rattle.lagsystem.proofs.Common.{Bool, List, None, Option, Some, [], ap, arith, cond, false, filter, length, not, refl, slice_get, slice_set}
 use Rattle.lagsystem.proofs.Common.{subst, suc, sym, true, zero, ℕ, ⊎_elim, ◌&&◌, ◌+◌, ◌<◌, ◌||◌, ◌∙◌, ◌∷◌, ◌≡◌, ◌≤◌, cases_eq, false≢true, or_parts}
-use Rattle.lagsystem.proofs.Common.{none-some, same_Some, list_any, AggId, Choice, Selected, Standby, Unselected, is_selected, is_standby, itself}
+use Rattle.lagsystem.proofs.Common.{nat_tests, none-some, same_Some, list_any, AggId, Choice, Selected, Standby, is_selected, is_standby, itself}
 use Rattle.lagsystem.proofs.Common.{PortView, is_aggregator, ports_that_chose, AggregatorsValue, has_room, is_below, next_standby_index, has_chosen}
 use Rattle.lagsystem.proofs.Common.{stands_by, is_next, SystemPort, count_standby, aggregator_numbered, PromotesAll, PromotesFirst, PromotesNext}
 use Rattle.lagsystem.proofs.Common.{with_choice, selection_view, views}
@@ -18,12 +18,10 @@ pub next_within : (aggs : AggregatorsValue) (l : List SystemPort) (agg : AggId) 
 next_within aggs l agg i e = let n = is_next aggs (views l) agg i e in within_views l i n.port n.there
 
 one_less : (b : Bool) (n : ℕ) → b ≡ true → n + 1 ≡ cond b (suc n) n
-one_less true n h = omega arith
-one_less false n h = absurd cc
+one_less b n h = grind (arith, nat_tests)
 
 later_less : (h : Bool) (m n : ℕ) → m + 1 ≡ n → cond h (suc m) m + 1 ≡ cond h (suc n) n
-later_less true m n e = omega (arith, e)
-later_less false m n e = e
+later_less h m n e = grind (arith, nat_tests)
 
 fewer_standby : (agg : AggId) (l : List SystemPort) (i : ℕ) (s : SystemPort) → slice_get l i ≡ Some s
     → stands_by agg s.port.choice ≡ true → count_standby agg (slice_set l i (with_choice s (Some (Selected agg)))) + 1 ≡ count_standby agg l
@@ -43,10 +41,7 @@ promoted_fewer aggs agg l m h =
 -- so in one aggregator more
 pub promoted_more : (aggs : AggregatorsValue) (n : ℕ) (start l m : List SystemPort) → PromotesFirst aggs n start l
     → PromotesAll aggs (aggregator_numbered (n + 1)) l m → PromotesFirst aggs (n + 1) start m
-promoted_more aggs n start l m h k = more (n + 1) (omega arith) k
-  where
-    more : (j : ℕ) → j ≡ suc n → PromotesAll aggs (aggregator_numbered j) l m → PromotesFirst aggs j start m
-    more j e p = subst (λ i. PromotesFirst aggs i start m) (sym e) (l, h, subst (λ i. PromotesAll aggs (aggregator_numbered i) l m) e p)
+promoted_more aggs n start l m h k = grind (arith, nat_tests)
 
 -- a view is that of a port
 seen_port : (l : List SystemPort) (i : ℕ) (v : PortView) → slice_get (views l) i ≡ Some v
@@ -63,8 +58,7 @@ members_counted agg (s ∷ ss) = more (has_chosen agg s.port.choice) _ _ (member
   where
     more : (b : Bool) (xs : List SystemPort) (ys : List PortView) → length xs ≡ length ys
         → length (cond b (s ∷ xs) xs) ≡ length (cond b (selection_view s ∷ ys) ys)
-    more true xs ys h = ap (λ n. suc n) h
-    more false xs ys h = h
+    more b xs ys h = grind (arith, nat_tests)
 
 -- each of the first ports that is STANDBY has an aggregator without room
 abbrev pub NoRoomUpTo : AggregatorsValue → ℕ → List SystemPort → Type 0
@@ -100,8 +94,7 @@ full_no_room aggs l agg full = and_right (is_aggregator aggs.keys agg) _
     (ap (is_below aggs.max_links) (sym (members_counted agg l)) ∙ full)
   where
     and_right : (b c : Bool) → c ≡ false → (b && c) ≡ false
-    and_right true c h = h
-    and_right false c h = refl
+    and_right b c h = grind (arith, nat_tests)
 
 -- the aggregator of a STANDBY port
 pub same_standby : (a b : AggId) → Standby a ≡ Standby b → a ≡ b
@@ -122,9 +115,7 @@ none_stands aggs l h = none_next aggs l (length l) (omega arith)
 
 -- a port that is SELECTED is not STANDBY
 pub selected_not_standby : (c : Choice) → not (is_selected c) ≡ false → is_standby c ≡ false
-selected_not_standby Unselected e = refl
-selected_not_standby (Selected agg) e = refl
-selected_not_standby (Standby agg) e = absurd cc
+selected_not_standby c e = grind (arith, nat_tests)
 
 -- where each port is SELECTED, none comes next
 pub none_left_standby : (aggs : AggregatorsValue) (l : List SystemPort) → list_any (λ s. not (is_selected s.port.choice)) l ≡ false

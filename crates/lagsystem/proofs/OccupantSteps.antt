@@ -1,7 +1,7 @@
 -- Every call keeps that the occupants of an aggregator agree, and that it has no more members than the limit.
-use Rattle.lagsystem.proofs.Common.{Bool, List, None, Option, Some, ap, false, length, option_map, refl, slice_get, slice_set, subst, sym, true, ℕ}
-use Rattle.lagsystem.proofs.Common.{◌∙◌, ◌≡◌, AggId, Key, Machines, mux_rows, RunsPeriodic, receive_rows, RunsToRest, after_sending, count_down}
-use Rattle.lagsystem.proofs.Common.{AggregatorsValue, has_room, Reply, SystemPort, Call, ChangesParty, OnlyPortChangesBy, PortAtChangesBy}
+use Rattle.lagsystem.proofs.Common.{Bool, List, None, Option, Some, ap, arith, false, length, option_map, refl, slice_get, slice_set, subst, sym, ℕ}
+use Rattle.lagsystem.proofs.Common.{◌∙◌, ◌≡◌, nat_tests, AggId, Key, Machines, mux_rows, RunsPeriodic, receive_rows, RunsToRest, after_sending}
+use Rattle.lagsystem.proofs.Common.{count_down, AggregatorsValue, has_room, Reply, SystemPort, Call, ChangesParty, OnlyPortChangesBy, PortAtChangesBy}
 use Rattle.lagsystem.proofs.Common.{ProcessesLacpdu, SetsLink, SetsPortEnabled, Step, ThenSettles, Ticks, IsFirst, OccupantsAgree, WithinLimit}
 use Rattle.lagsystem.proofs.Common.{occupied, ChoosesIn, PortsChangeBy, Settling, aggregator_for, choice_for, choice_if, choice_in, ready_of}
 use Rattle.lagsystem.proofs.Common.{with_choice, HasPorts, SystemState, aggregators_value, port_index, port_numbers, views}
@@ -48,8 +48,7 @@ place_on R k o aggs old new h p = placed_on aggs old new (place_stays R k o old 
 -- step 2 of settling
 
 occupied_if : (room : Bool) (agg : AggId) → occupied (choice_if room agg) ≡ Some agg.0
-occupied_if true agg = refl
-occupied_if false agg = refl
+occupied_if room agg = grind (arith, nat_tests)
 
 choice_agrees : (aggs : AggregatorsValue) (l : List SystemPort) (i : ℕ) (s : SystemPort) (o : Option AggId) → Rises 0 (port_numbers l)
     → slice_get l i ≡ Some s → aggregator_for aggs.keys l s ≡ o → OccupantsAgree aggs.keys l

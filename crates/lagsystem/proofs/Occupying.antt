@@ -1,13 +1,13 @@
 -- The occupants of an aggregator keep its key and one group: no call changes what an occupant is seen as, but that it leaves.
 use Rattle.lagsystem.proofs.Common.{All, Bool, List, None, Option, Some, [], ap, arith, false, if◌then◌else◌, inl, inr, refl, slice_get, slice_set}
-use Rattle.lagsystem.proofs.Common.{subst, suc, sym, true, zero, ℕ, ◌-◌, ◌<◌, ◌∙◌, ◌∷◌, ◌≡◌, ◌≢◌, ◌⊎◌, none-some, same_Some, AllByRecursion, AggId}
-use Rattle.lagsystem.proofs.Common.{Key, Choice, Selected, Standby, Unselected, Party, StateBits, SamePair, individual, pair_of, same_party, bits_of}
-use Rattle.lagsystem.proofs.Common.{with_synchronization, with_timeout, exact_party, encode_then_decode, Info, Lacpdu, party_of, group_sym}
-use Rattle.lagsystem.proofs.Common.{individual_along, Machines, mux_rows, RunsPeriodic, periodic_rows, default_partner, lacpdu_rows, receive_rows}
-use Rattle.lagsystem.proofs.Common.{recorded_synchronization, start_receive, Row, RunsToRest, Starts, after_sending, count_down, EachRelates}
-use Rattle.lagsystem.proofs.Common.{Fires-relates, Rests-relates, Seen, IsOccupant, MayJoin, ends, PortChange, SystemPort, ChangesParty}
-use Rattle.lagsystem.proofs.Common.{PortAtChangesBy, ProcessesLacpdu, SetsPortEnabled, changed_party, choice_with_link, key_of, OccupantsAgree}
-use Rattle.lagsystem.proofs.Common.{occupied, PortsChangeBy, with_choice, selection_view, views}
+use Rattle.lagsystem.proofs.Common.{subst, suc, sym, true, zero, ℕ, ◌-◌, ◌<◌, ◌∙◌, ◌∷◌, ◌≡◌, ◌≢◌, ◌⊎◌, nat_tests, none-some, same_Some}
+use Rattle.lagsystem.proofs.Common.{AllByRecursion, AggId, Key, Choice, Selected, Standby, Unselected, Party, StateBits, SamePair, individual}
+use Rattle.lagsystem.proofs.Common.{pair_of, same_party, bits_of, with_synchronization, with_timeout, exact_party, encode_then_decode, Info, Lacpdu}
+use Rattle.lagsystem.proofs.Common.{party_of, group_sym, individual_along, Machines, mux_rows, RunsPeriodic, periodic_rows, default_partner}
+use Rattle.lagsystem.proofs.Common.{lacpdu_rows, receive_rows, recorded_synchronization, start_receive, Row, RunsToRest, Starts, after_sending}
+use Rattle.lagsystem.proofs.Common.{count_down, EachRelates, Fires-relates, Rests-relates, Seen, IsOccupant, MayJoin, ends, PortChange, SystemPort}
+use Rattle.lagsystem.proofs.Common.{ChangesParty, PortAtChangesBy, ProcessesLacpdu, SetsPortEnabled, changed_party, choice_with_link, key_of}
+use Rattle.lagsystem.proofs.Common.{OccupantsAgree, occupied, PortsChangeBy, with_choice, selection_view, views}
 use Rattle.lagsystem.proofs.Effects.{named}
 
 -- a port that becomes UNSELECTED, or keeps Selected and both parties
@@ -46,8 +46,7 @@ expired_set info =
 -- Selected stays only where the partner's party does
 unless_same : (b : Bool) (c : Choice) (own was now : Party) → (b ≡ true → now ≡ was)
     → ((if b then c else Unselected) ≡ Unselected) ⊎ (((if b then c else Unselected) ≡ c) × (own ≡ own) × (now ≡ was))
-unless_same true c own was now h = inr (refl, refl, h refl)
-unless_same false c own was now h = inl refl
+unless_same b c own was now h = grind (arith, nat_tests)
 
 receive_rows_stay : RowsStay receive_rows
 receive_rows_stay = (
@@ -103,9 +102,7 @@ tick_stays p q h = both_stay p (count_down p) q (stays p) (receive_stays (count_
 
 link_set : (max_links : Option ℕ) (up : Bool) (p : Machines)
     → LeavesOrStays p (record p { enabled = up; choice = choice_with_link max_links up p.choice })
-link_set None up p = stays p
-link_set (Some most) true p = stays p
-link_set (Some most) false p = inl refl
+link_set max_links up p = grind (arith, nat_tests)
 
 pub link_stays : (max_links : Option ℕ) (up : Bool) (p q : Machines) → SetsPortEnabled max_links up p q → LeavesOrStays p q
 link_stays max_links up p q h =
@@ -237,8 +234,7 @@ promotion_agrees keys l i s agg e stands a =
 -- a choice
 
 pub key_there : (keys : List Key) (n : ℕ) (k : Key) → 0 < n → slice_get keys (n - 1) ≡ Some k → key_of keys n ≡ Some k
-key_there keys zero k l e = absurd (omega arith)
-key_there keys (suc n) k l e = let same : suc n - 1 ≡ n = omega arith in subst (λ m. slice_get keys m ≡ Some k) same e
+key_there keys n k l e = grind (arith, nat_tests)
 
 pub each_seen : (P : Seen → Type 0) (system_ports : List SystemPort) → All P (views system_ports)
     → AllByRecursion (λ s. P (selection_view s)) system_ports
@@ -252,9 +248,7 @@ seen_at P (s ∷ ss) zero t h e = subst (λ (x : SystemPort). P (selection_view 
 seen_at P (s ∷ ss) (suc j) t h e = seen_at P ss j t h.1 e
 
 occupant_there : (agg : AggId) (c : Choice) → occupied c ≡ Some agg.0 → (c ≡ Selected agg) ⊎ (c ≡ Standby agg)
-occupant_there agg Unselected e = absurd (none-some agg.0 e)
-occupant_there agg (Selected a) e = let same = same_Some a.0 agg.0 e in inl (λ i. Selected (record { 0 = same i }))
-occupant_there agg (Standby a) e = let same = same_Some a.0 agg.0 e in inr (λ i. Standby (record { 0 = same i }))
+occupant_there agg c e = grind (arith, nat_tests)
 
 -- another occupant of the aggregator that a port may join has the port's group
 shares : (keys : List Key) (l : List SystemPort) (s t : SystemPort) (agg : AggId) (j : ℕ)

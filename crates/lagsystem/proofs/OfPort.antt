@@ -1,9 +1,9 @@
 -- Moves of one port, whatever the other ports are, and moves of each port of a list.
-use Rattle.lagsystem.proofs.Common.{Bool, List, None, Option, Some, [], ap, append_assoc, cond, eq-eqb, eqb, eqb-true, false, inl, inr, length}
-use Rattle.lagsystem.proofs.Common.{option_map, refl, slice_get, slice_set, subst, sym, true, ℕ, ◌++◌, ◌∙◌, ◌∷◌, ◌≡◌, cases_Bool, AllZip}
-use Rattle.lagsystem.proofs.Common.{option_to_list, AreNumbered, Act, LawfulMoves, PortAllowed, PortMove, port_act, port_after, DistributorFacts}
-use Rattle.lagsystem.proofs.Common.{ModelCall, PortFacts, SystemSetup, View, at_port, cond_false, cond_true, find_at, moves_joined, moves_port}
-use Rattle.lagsystem.proofs.Common.{numbered_set, ports_set, SystemPort, model_port_of, model_view_at, number_of_port}
+use Rattle.lagsystem.proofs.Common.{Bool, List, Option, Some, [], ap, append_assoc, arith, cond, eq-eqb, eqb, eqb-true, inl, inr, length, option_map}
+use Rattle.lagsystem.proofs.Common.{refl, slice_get, slice_set, subst, sym, ℕ, ◌++◌, ◌∙◌, ◌∷◌, ◌≡◌, cases_Bool, nat_tests, AllZip, option_to_list}
+use Rattle.lagsystem.proofs.Common.{AreNumbered, Act, LawfulMoves, PortAllowed, PortMove, port_act, port_after, DistributorFacts, ModelCall}
+use Rattle.lagsystem.proofs.Common.{PortFacts, SystemSetup, View, at_port, cond_false, cond_true, find_at, moves_joined, moves_port, numbered_set}
+use Rattle.lagsystem.proofs.Common.{ports_set, SystemPort, model_port_of, model_view_at, number_of_port}
 
 abbrev pub AllPortAllowed : SystemSetup → ModelCall → ℕ → List PortMove → PortFacts → Type 0
 AllPortAllowed u call p [] a = Unit {0}
@@ -70,9 +70,7 @@ written ports p a f h = cond_true (eqb p p) (option_map f (ports p)) (ports p) (
 twice : (b : Bool) (o : Option PortFacts) (f : PortFacts → PortFacts) (c : PortFacts)
     → cond b (option_map (λ (z : PortFacts). c) (cond b (option_map f o) o)) (cond b (option_map f o) o) ≡ cond b
     (option_map (λ (z : PortFacts). c) o) o
-twice true None f c = refl
-twice true (Some x) f c = refl
-twice false o f c = refl
+twice b o f c = grind (arith, nat_tests)
 
 places : (u : SystemSetup) (call : ModelCall) (p : ℕ) (ms : List PortMove) (v : View) (a : PortFacts) → v.port p ≡ Some a
     → AllPortAllowed u call p ms a

@@ -1,13 +1,13 @@
 -- A walk over the calls of a system: what holds after each kind of change holds after every call.
-use Rattle.lagsystem.proofs.Common.{Bool, Err, List, None, Ok, Option, Result, Some, [], ap, drop, false, if◌then◌else◌, refl, slice_get, slice_set}
-use Rattle.lagsystem.proofs.Common.{subst, sym, true, ℕ, ◌&&◌, ◌++◌, ◌==◌, ◌∙◌, ◌∷◌, ◌≡◌, AggId, Lacpdu, frame_octets, HoldsNumber, IsAddress}
-use Rattle.lagsystem.proofs.Common.{read_field, framed_payload, after_sending, is_due, Assignment, ChangesAssignments, Marks, after_release}
-use Rattle.lagsystem.proofs.Common.{marker_due, PortChange, Reply, SystemFault, FrameEffect, Answered, ProcessLacpdu, Response, Received, TookLacpdu}
-use Rattle.lagsystem.proofs.Common.{SystemPort, Call, ChangesParty, Configure, Force, Move_conversation, Offer, OnlyPortChangesBy, Performs}
-use Rattle.lagsystem.proofs.Common.{ProcessesLacpdu, Receive, Releases, Restart, Set_link, SetsLink, Step, ThenSettles, Tick, Ticks, Transmit}
-use Rattle.lagsystem.proofs.Common.{is_own_response, IsFirst, GivesAssignment, GivesOrRefuses, Offers, system_force_result, system_move_result}
-use Rattle.lagsystem.proofs.Common.{IsLacpduOf, SendsMarkerOf, TransmitsAt, TransmitsIf, SystemState, port_index, with_system_ports, with_table}
-use Rattle.lagsystem.proofs.Common.{sends_after, subtype, tick_after}
+use Rattle.lagsystem.proofs.Common.{Bool, Err, List, None, Ok, Option, Result, Some, [], ap, arith, drop, false, if◌then◌else◌, refl, slice_get}
+use Rattle.lagsystem.proofs.Common.{slice_set, subst, sym, true, ℕ, ◌&&◌, ◌++◌, ◌==◌, ◌∙◌, ◌∷◌, ◌≡◌, nat_tests, AggId, Lacpdu, frame_octets}
+use Rattle.lagsystem.proofs.Common.{HoldsNumber, IsAddress, read_field, framed_payload, after_sending, is_due, Assignment, ChangesAssignments, Marks}
+use Rattle.lagsystem.proofs.Common.{after_release, marker_due, PortChange, Reply, SystemFault, FrameEffect, Answered, ProcessLacpdu, Response}
+use Rattle.lagsystem.proofs.Common.{Received, TookLacpdu, SystemPort, Call, ChangesParty, Configure, Force, Move_conversation, Offer}
+use Rattle.lagsystem.proofs.Common.{OnlyPortChangesBy, Performs, ProcessesLacpdu, Receive, Releases, Restart, Set_link, SetsLink, Step, ThenSettles}
+use Rattle.lagsystem.proofs.Common.{Tick, Ticks, Transmit, is_own_response, IsFirst, GivesAssignment, GivesOrRefuses, Offers, system_force_result}
+use Rattle.lagsystem.proofs.Common.{system_move_result, IsLacpduOf, SendsMarkerOf, TransmitsAt, TransmitsIf, SystemState, port_index}
+use Rattle.lagsystem.proofs.Common.{with_system_ports, with_table, sends_after, subtype, tick_after}
 use Rattle.slowpdu.proofs.LayoutLemmas.{octet_stands}
 use Rattle.lagsystem.specs.declared.drive.Reply.TheVariants as reply
 
@@ -39,8 +39,7 @@ marker_silent n id port mac old answer new h m now before = (
 )
   where
     other : (b : Bool) → (if b && false then before ++ now ∷ [] else before) ≡ before
-    other true = refl
-    other false = refl
+    other b = grind (arith, nat_tests)
 
 module _ (gives : ℕ → ℕ → ℕ → Type 0) (old : SystemState) (P : Call → Reply → SystemState → Type 0) where
   -- P, which speaks of a call, its reply and the state after it, holds after each change of a port, from the state old
@@ -112,14 +111,12 @@ module _ (gives : ℕ → ℕ → ℕ → Type 0) (old : SystemState) (P : Call 
     moves : (agg : AggId) (conv port : ℕ) (what : Result Assignment SystemFault) (answer : Result Unit SystemFault)
         (new : SystemState) → system_move_result old agg conv port ≡ what → GivesOrRefuses agg conv what old answer new
         → P (Move_conversation agg conv port) (reply.MoveConversation answer) new
-    moves agg conv port (Ok s) answer new e h = k.move agg conv port s answer new e h.1
-    moves agg conv port (Err fault) answer new e h = k.same (Move_conversation agg conv port) (reply.MoveConversation answer) new (λ m now before. (refl, refl)) h.1
+    moves agg conv port what answer new e h = grind (arith, nat_tests)
 
     forces : (agg : AggId) (conv : ℕ) (what : Result Assignment SystemFault) (answer : Result Unit SystemFault)
         (new : SystemState) → system_force_result old agg conv ≡ what → GivesOrRefuses agg conv what old answer new
         → P (Force agg conv) (reply.Force answer) new
-    forces agg conv (Ok s) answer new e h = k.force agg conv s answer new e h.1
-    forces agg conv (Err fault) answer new e h = k.same (Force agg conv) (reply.Force answer) new (λ m now before. (refl, refl)) h.1
+    forces agg conv what answer new e h = grind (arith, nat_tests)
 
     -- so it holds after every call
     pub Step-preserves : (call : Call) (answer : Reply) (new : SystemState) → Step gives old call answer new → P call answer new

@@ -1,7 +1,7 @@
 -- Step 2 of settling keeps what each value of Selected keeps that a port gets.
-use Rattle.lagsystem.proofs.Common.{List, None, Option, Some, length, refl, slice_get, slice_set, subst, suc, sym, zero, ℕ, ◌≡◌, AggId, Choice}
-use Rattle.lagsystem.proofs.Common.{Selected, AggregatorsValue, SystemPort, aggregator_numbered, ChoosesIn, PromotesAll, PromotesFirst, PromotesNext}
-use Rattle.lagsystem.proofs.Common.{PromotesTimes, after_choice_at, after_choices, choice_for, with_choice}
+use Rattle.lagsystem.proofs.Common.{List, Option, Some, arith, length, refl, slice_get, slice_set, subst, suc, sym, zero, ℕ, ◌≡◌, nat_tests, AggId}
+use Rattle.lagsystem.proofs.Common.{Choice, Selected, AggregatorsValue, SystemPort, aggregator_numbered, ChoosesIn, PromotesAll, PromotesFirst}
+use Rattle.lagsystem.proofs.Common.{PromotesNext, PromotesTimes, after_choice_at, after_choices, choice_for, with_choice}
 
 -- what each promotion keeps, all promotions keep
 times_keep : (aggs : AggregatorsValue) (agg : AggId) (P : List SystemPort → Type 0)
@@ -26,8 +26,7 @@ promotions_keep aggs P k (suc n) old new h p =
 choice_keeps : (aggs : AggregatorsValue) (P : List SystemPort → Type 0)
     → ((l : List SystemPort) (i : ℕ) (s : SystemPort) → slice_get l i ≡ Some s → P l → P (slice_set l i (with_choice s (choice_for aggs l s))))
     → (l : List SystemPort) (i : ℕ) (o : Option SystemPort) → slice_get l i ≡ o → P l → P (after_choice_at aggs l i o)
-choice_keeps aggs P k l i None e p = p
-choice_keeps aggs P k l i (Some s) e p = k l i s e p
+choice_keeps aggs P k l i o e p = grind (arith, nat_tests)
 
 pub choices_keep : (aggs : AggregatorsValue) (P : List SystemPort → Type 0)
     → ((l : List SystemPort) (i : ℕ) (s : SystemPort) → slice_get l i ≡ Some s → P l → P (slice_set l i (with_choice s (choice_for aggs l s))))

@@ -1,28 +1,23 @@
 -- The ticks until something happens are one fewer after a tick in which nothing is soon.
-use Rattle.lagsystem.proofs.Common.{Bool, List, None, Option, Some, [], ap, arith, false, if◌then◌else◌, inl, inr, is_some, map, min, nat_lt, refl}
-use Rattle.lagsystem.proofs.Common.{subst, suc, sym, true, zero, ℕ, ◌&&◌, ◌+◌, ◌-◌, ◌<◌, ◌∙◌, ◌∷◌, ◌≡◌, ◌≤◌, leb-true, lt-ltb, AllByRecursion}
-use Rattle.lagsystem.proofs.Common.{Machines, aged, Assignment, Flushing, Free, On, Wanted, marker_due, Table, assignment_of, is_by, sooner}
-use Rattle.lagsystem.proofs.Common.{ticks_until_next_wanted, ticks_until_wanted, by_first, by_second, same_soonest, SystemPort, would_transmit}
-use Rattle.lagsystem.proofs.Common.{counted, fewer, waited, SystemState, soonest, ticks_in_window, ticks_until_due_on, ticks_until_expired}
-use Rattle.lagsystem.proofs.Common.{ticks_until_frame, ticks_until_room}
+use Rattle.lagsystem.proofs.Common.{Bool, List, None, Option, Some, [], ap, arith, false, if◌then◌else◌, inl, inr, is_some, map, nat_lt, refl, subst}
+use Rattle.lagsystem.proofs.Common.{suc, sym, true, zero, ℕ, ◌&&◌, ◌+◌, ◌-◌, ◌<◌, ◌∙◌, ◌∷◌, ◌≡◌, ◌≤◌, leb-true, lt-ltb, nat_tests, AllByRecursion}
+use Rattle.lagsystem.proofs.Common.{Machines, aged, Assignment, marker_due, Table, assignment_of, is_by, sooner, ticks_until_next_wanted}
+use Rattle.lagsystem.proofs.Common.{ticks_until_wanted, by_first, by_second, same_soonest, SystemPort, would_transmit, counted, fewer, waited}
+use Rattle.lagsystem.proofs.Common.{SystemState, soonest, ticks_in_window, ticks_until_due_on, ticks_until_expired, ticks_until_frame}
+use Rattle.lagsystem.proofs.Common.{ticks_until_room}
 use Rattle.distributor.specs.Waiting.{soonest_below}
 use Rattle.lagsystem.proofs.QuietTicks.{Lasts, PortLasts, TableTicked, aged_on, frame_not, lasting, still_not_due, table_lasts, waits_on}
 
 -- numbers of ticks
 
 pub fewer_sooner : (m : ℕ) (a b : Option ℕ) → sooner (fewer m a) (fewer m b) ≡ fewer m (sooner a b)
-fewer_sooner m None None = refl
-fewer_sooner m None (Some y) = refl
-fewer_sooner m (Some x) None = refl
-fewer_sooner m (Some x) (Some y) = let e : min (x - m) (y - m) ≡ min x y - m = omega arith in ap Some e
+fewer_sooner m a b = grind (arith, nat_tests)
 
 pub fewer_twice : (m n : ℕ) (a : Option ℕ) → fewer m (fewer n a) ≡ fewer (n + m) a
-fewer_twice m n None = refl
-fewer_twice m n (Some x) = let e : (x - n) - m ≡ x - (n + m) = omega arith in ap Some e
+fewer_twice m n a = grind (arith, nat_tests)
 
 pub none_fewer : (a : Option ℕ) → a ≡ fewer 0 a
-none_fewer None = refl
-none_fewer (Some x) = let e : x ≡ x - 0 = omega arith in ap Some e
+none_fewer a = grind (arith, nat_tests)
 
 fewer_soonest : (m : ℕ) (xs : List (Option ℕ)) → soonest (map (fewer m) xs) ≡ fewer m (soonest xs)
 fewer_soonest m [] = refl
@@ -104,10 +99,7 @@ each_left j s t (x ∷ xs) m h =
 -- conversations
 
 wait_left : (a : Assignment) → ticks_until_wanted (waited 1 a) ≡ fewer 1 (ticks_until_wanted a)
-wait_left (Free preferred) = refl
-wait_left (On port) = refl
-wait_left (Wanted port preferred) = refl
-wait_left (Flushing port id preferred age) = let e : 30 - (age + 1) ≡ (30 - age) - 1 = omega arith in ap Some e
+wait_left a = grind (arith, nat_tests)
 
 below_left : (f : ℕ → Option ℕ) (n : ℕ) → soonest_below (λ k. fewer 1 (f k)) n ≡ fewer 1 (soonest_below f n)
 unfolding soonest_below

@@ -1,10 +1,10 @@
 -- Right after a settling, another one has nothing to do; and if there is nothing to do, a settling changes nothing.
-use Rattle.lagsystem.proofs.Common.{Bool, List, None, Option, Some, [], ap, cond, false, inl, inr, length, not, option_map, refl, slice_get}
-use Rattle.lagsystem.proofs.Common.{slice_set, subst, suc, sym, true, zero, ℕ, ◌&&◌, ◌||◌, ◌∙◌, ◌∷◌, ◌≡◌, false≢true, AllByRecursion, AllZip}
-use Rattle.lagsystem.proofs.Common.{list_all, AggId, Key, Choice, Selected, Standby, Unselected, is_selected, is_unselected, Waiting, NoPeriodic}
-use Rattle.lagsystem.proofs.Common.{Machines, mux_rows, same_mux_state, RunsPeriodic, clear_ntt, periodic_rows, same_periodic_state, AtRest, Fires}
-use Rattle.lagsystem.proofs.Common.{FiresTimes, Row, RunsToRest, Reaches-keeps, PortView, chosen_if_eligible, has_group_of, has_occupant, occupants}
-use Rattle.lagsystem.proofs.Common.{AggregatorsValue, has_room, is_eligible, occupies, SystemPort, MuxIsSettled, MuxesAreSettled, PeriodicIsSettled}
+use Rattle.lagsystem.proofs.Common.{Bool, List, None, Option, Some, [], ap, arith, cond, false, inl, inr, length, not, option_map, refl, slice_get}
+use Rattle.lagsystem.proofs.Common.{slice_set, subst, suc, sym, true, zero, ℕ, ◌&&◌, ◌||◌, ◌∙◌, ◌∷◌, ◌≡◌, false≢true, nat_tests, AllByRecursion}
+use Rattle.lagsystem.proofs.Common.{AllZip, list_all, AggId, Key, Choice, Selected, is_selected, is_unselected, Waiting, NoPeriodic, Machines}
+use Rattle.lagsystem.proofs.Common.{mux_rows, same_mux_state, RunsPeriodic, clear_ntt, periodic_rows, same_periodic_state, AtRest, Fires, FiresTimes}
+use Rattle.lagsystem.proofs.Common.{Row, RunsToRest, Reaches-keeps, PortView, chosen_if_eligible, has_group_of, has_occupant, occupants}
+use Rattle.lagsystem.proofs.Common.{AggregatorsValue, is_eligible, occupies, SystemPort, MuxIsSettled, MuxesAreSettled, PeriodicIsSettled}
 use Rattle.lagsystem.proofs.Common.{PeriodicsAreSettled, NoneIsNext, PortChangesBy, PortsChangeBy, PromotesFirst, SettlesPorts, Settling}
 use Rattle.lagsystem.proofs.Common.{after_choice_at, after_choices, aggregator_for, choice_for, choice_if, choice_in, ready_of, with_choice}
 use Rattle.lagsystem.proofs.Common.{SystemState, aggregators_value, port_numbers, with_system_ports, selection_view, views}
@@ -21,8 +21,7 @@ use Rattle.lagsystem.proofs.Unready.{mux_choice, none_ready}
 -- rows at rest
 
 clash : (b : Bool) → b ≡ true → b ≡ false → ⊥
-clash true h k = cc
-clash false h k = cc
+clash b h k = grind (arith, nat_tests)
 
 none_fires : (rows : List Row) (p q : Machines) → AtRest rows p → Fires rows p q → ⊥
 none_fires [] p q rest f = f
@@ -34,14 +33,10 @@ stays rows (suc n) p q rest run =
     absurd (none_fires rows p q rest (subst (λ (x : Machines). Fires rows x q) (stays rows n p run.0 rest run.1) run.2))
 
 unready_row : (m s b : Bool) → (m && (s && b)) ≡ false → (m && (s && false)) ≡ false
-unready_row true true b h = refl
-unready_row true false b h = refl
-unready_row false s b h = refl
+unready_row m s b h = grind (arith, nat_tests)
 
 unselected_row : (m s b : Bool) → s ≡ false → (m && (s && b)) ≡ false
-unselected_row true true b h = absurd cc
-unselected_row true false b h = refl
-unselected_row false s b h = refl
+unselected_row m s b h = grind (arith, nat_tests)
 
 -- at rest with Ready is at rest without
 rest_unready : (b : Bool) (p : Machines) → AtRest (mux_rows b) p → AtRest (mux_rows false) p
@@ -57,13 +52,11 @@ abbrev RestsAlone : SystemPort → Type 0
 RestsAlone x = is_unselected x.port.choice ≡ true → AtRest (mux_rows false) x.port
 
 taken_rests : (s : SystemPort) (agg : AggId) (room : Bool) → RestsAlone (with_choice s (Some (choice_if room agg)))
-taken_rests s agg true e = absurd (false≢true e)
-taken_rests s agg false e = absurd (false≢true e)
+taken_rests s agg room e = grind (arith, nat_tests)
 
 given_rests : (aggs : AggregatorsValue) (seen : List PortView) (s : SystemPort) (o : Option AggId) → RestsAlone s
     → RestsAlone (with_choice s (option_map (choice_in aggs seen) o))
-given_rests aggs seen s None h = h
-given_rests aggs seen s (Some agg) h = taken_rests s agg (has_room aggs seen agg)
+given_rests aggs seen s o h = grind (arith, nat_tests)
 
 chosen_rests : (aggs : AggregatorsValue) (n : ℕ) (l : List SystemPort) → AllByRecursion RestsAlone l
     → AllByRecursion RestsAlone (after_choices aggs n l)
@@ -101,8 +94,7 @@ same_occupants keys seen agg (x ∷ xs) (y ∷ ys) h =
 
 next_all : (test : PortView → Bool) (b : Bool) (w v : PortView) (rest more : List PortView) → test v ≡ test w
     → list_all test more ≡ list_all test rest → list_all test (cond b (v ∷ more) more) ≡ list_all test (cond b (w ∷ rest) rest)
-next_all test true w v rest more e h = ap (λ x. x && list_all test more) e ∙ ap (λ x. test w && x) h
-next_all test false w v rest more e h = h
+next_all test b w v rest more e h = grind (arith, nat_tests)
 
 same_groups : (keys : List Key) (seen : List PortView) (agg : AggId) (v : PortView) (xs ys : List SystemPort)
     → PortsChangeBy (Steps keys seen) xs ys
@@ -120,14 +112,10 @@ same_groups keys seen agg v (x ∷ xs) (y ∷ ys) h =
 
 -- a port that takes none takes none after the mux step
 not_unselected : (b d u : Bool) → u ≡ false → ((b && u) && d) ≡ false
-not_unselected b d true h = absurd cc
-not_unselected true d false h = refl
-not_unselected false d false h = refl
+not_unselected b d u h = grind (arith, nat_tests)
 
 not_selected : (c : Choice) → is_unselected c ≡ true → is_selected c ≡ false
-not_selected Unselected h = refl
-not_selected (Selected agg) h = absurd cc
-not_selected (Standby agg) h = refl
+not_selected c h = grind (arith, nat_tests)
 
 none_moved : (keys : List Key) (xs ys : List SystemPort) (x y : SystemPort) → PortsChangeBy (Steps keys (views xs)) xs ys
     → PortChangesBy (Steps keys (views xs)) x y → RestsAlone x → TakesNone keys (views xs) (selection_view x)
@@ -205,8 +193,7 @@ periodic_rest : (p q : Machines) → RunsPeriodic p q → AtRest (mux_rows false
 periodic_rest p q h r = subst (λ (m : Machines). AtRest (mux_rows false) m) (sym (periodic_looks p p q h)) r
 
 and_twice : (b c : Bool) → (b && (b && c)) ≡ (b && c)
-and_twice true c = refl
-and_twice false c = refl
+and_twice b c = grind (arith, nat_tests)
 
 periodic_paced : (y z : SystemPort) → PortChangesBy RunsPeriodic y z → PeriodicIsSettled z
 periodic_paced y z h =

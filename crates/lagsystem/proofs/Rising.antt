@@ -1,11 +1,10 @@
 -- Ports in ascending order of their numbers.
 use Rattle.lagsystem.proofs.Common.{Bool, List, None, Option, Some, [], ap, arith, cond, eqb, eqb-true, false, find, if◌then◌else◌, inl, inr, nat_lt}
-use Rattle.lagsystem.proofs.Common.{option_map, refl, slice_get, slice_set, subst, suc, sym, true, zero, ℕ, ◌+◌, ◌<◌, ◌==◌, ◌∙◌, ◌∷◌, ◌≡◌}
-use Rattle.lagsystem.proofs.Common.{Decides-eqb, nat_tests, position-Some, get_or_from_slice_get, none-some, same_Some, AllByRecursion, Key}
-use Rattle.lagsystem.proofs.Common.{AreNumbered, find_number, cond_false, whichever, PortView, is_conversation_count, PortConfig, BadConfig}
-use Rattle.lagsystem.proofs.Common.{SystemPort, configured_numbers, first_bad_port_number, or_first, refusal, refusal_of_limits, number_of_port}
-use Rattle.lagsystem.proofs.Common.{HasPorts, SystemState, port_index, port_numbers, selection_view, views}
-use Rattle.lagsystem.specs.declared.fault.BadConfig.TheVariants.{PortNumber, Conversations}
+use Rattle.lagsystem.proofs.Common.{refl, slice_get, slice_set, subst, suc, sym, true, zero, ℕ, ◌+◌, ◌<◌, ◌==◌, ◌∙◌, ◌∷◌, ◌≡◌, Decides-eqb, nat_tests}
+use Rattle.lagsystem.proofs.Common.{position-Some, get_or_from_slice_get, none-some, same_Some, AllByRecursion, Key, AreNumbered, find_number}
+use Rattle.lagsystem.proofs.Common.{cond_false, whichever, PortView, is_conversation_count, PortConfig, BadConfig, SystemPort, configured_numbers}
+use Rattle.lagsystem.proofs.Common.{first_bad_port_number, refusal, refusal_of_limits, number_of_port, HasPorts, SystemState, port_index}
+use Rattle.lagsystem.proofs.Common.{port_numbers, selection_view, views}
 
 -- each number is above the one before it
 abbrev pub Rises : ℕ → List ℕ → Type 0
@@ -15,36 +14,24 @@ Rises low (n ∷ ns) = (low < n) × Rises n ns
 rises_on : (place low n : ℕ) (ns : List ℕ) (b : Bool) → nat_lt low n ≡ b
     → (if b then first_bad_port_number (place + 1) n ns else Some place) ≡ None → (low < n)
     × (first_bad_port_number (place + 1) n ns ≡ None)
-rises_on place low n ns true t e = (grind (arith, nat_tests), e)
-rises_on place low n ns false t e = cc
+rises_on place low n ns b t e = grind (arith, nat_tests)
 
 rises : (place low : ℕ) (ns : List ℕ) → first_bad_port_number place low ns ≡ None → Rises low ns
 rises place low [] e = tt
 rises place low (n ∷ ns) e = let both = rises_on place low n ns (nat_lt low n) refl e in (both.0, rises (place + 1) n ns both.1)
 
 pub if_then : (b : Bool) (x : Option BadConfig) (y : BadConfig) → (if b then x else Some y) ≡ None → x ≡ None
-if_then true x y h = h
-if_then false x y h = cc
+if_then b x y h = grind (arith, nat_tests)
 
 -- no port number, limit or count of a configuration that is accepted is a reason to refuse it
 accepted_numbers : (keys : List Key) (ports : List PortConfig) (most : Option ℕ) (conversations : ℕ)
     → refusal keys ports most conversations ≡ None
     → (first_bad_port_number 1 0 (configured_numbers ports) ≡ None) × (refusal_of_limits most conversations ≡ None)
-accepted_numbers keys ports most conversations h = parts (first_bad_port_number 1 0 (configured_numbers ports))
-    (refusal_of_limits most conversations) (if_then _ _ _ (if_then _ _ _ h))
-  where
-    parts : (o : Option ℕ) (b : Option BadConfig) → or_first (option_map PortNumber o) b ≡ None → (o ≡ None) × (b ≡ None)
-    parts None b e = (refl, e)
-    parts (Some place) b e = cc
+accepted_numbers keys ports most conversations h = grind (arith, nat_tests)
 
 pub accepted_count : (keys : List Key) (ports : List PortConfig) (most : Option ℕ) (conversations : ℕ)
     → refusal keys ports most conversations ≡ None → is_conversation_count conversations ≡ true
-accepted_count keys ports most conversations h =
-    is_so (is_conversation_count conversations) (if_then _ _ _ (accepted_numbers keys ports most conversations h).1)
-  where
-    is_so : (b : Bool) → (if b then None else Some Conversations) ≡ None → b ≡ true
-    is_so true e = refl
-    is_so false e = cc
+accepted_count keys ports most conversations h = grind (arith, nat_tests)
 
 pub accepted_rises : (keys : List Key) (ports : List PortConfig) (most : Option ℕ) (conversations : ℕ)
     → refusal keys ports most conversations ≡ None → Rises 0 (configured_numbers ports)
@@ -78,12 +65,10 @@ rises-get low (t ∷ ts) zero s r e = let same : t ≡ s = cc in subst (λ x. lo
 rises-get low (t ∷ ts) (suc i) s r e = omega (arith, rises-get t.number ts i s r.1 e, r.0)
 
 found : (b : Bool) (v w : PortView) (rest : Option PortView) → b ≡ true → v ≡ w → cond b (Some v) rest ≡ Some w
-found true v w rest h e = ap Some e
-found false v w rest h e = cc
+found b v w rest h e = grind (arith, nat_tests)
 
 passed : (b : Bool) (v : PortView) (rest : Option PortView) → b ≡ false → cond b (Some v) rest ≡ rest
-passed true v rest h = cc
-passed false v rest h = refl
+passed b v rest h = grind (arith, nat_tests)
 
 eqb-false : (m n : ℕ) → m < n → (m == n) ≡ false
 eqb-false m n h = grind (arith, nat_tests)

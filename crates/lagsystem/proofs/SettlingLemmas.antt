@@ -1,11 +1,11 @@
 -- What settling does, from what its loops do.
-use Rattle.lagsystem.proofs.Common.{Bool, List, None, Option, Some, [], ap, cond, false, filter, if◌then◌else◌, not, option_map, refl, slice_get}
-use Rattle.lagsystem.proofs.Common.{slice_set, subst, suc, sym, true, zero, ℕ, ◌&&◌, ◌||◌, ◌∙◌, ◌∷◌, ◌≡◌, or_parts, same_Some, list_all, list_any}
-use Rattle.lagsystem.proofs.Common.{AggId, Key, Choice, Selected, Standby, Unselected, is_selected, mux_rows, RunsPeriodic, RunsToRest, PortView}
-use Rattle.lagsystem.proofs.Common.{chosen_aggregator, is_aggregator, ports_that_chose, AggregatorsValue, members, has_chosen, has_waited}
-use Rattle.lagsystem.proofs.Common.{is_detached_or_waiting, is_eligible, SystemPort, ChoosesIn, PortChangesBy, PortsChangeBy, SettlesPorts}
-use Rattle.lagsystem.proofs.Common.{after_choice_at, aggregator_for, choice_for, choice_in, is_restless, ready_of, with_choice, SystemState}
-use Rattle.lagsystem.proofs.Common.{aggregators_value, with_system_ports, selection_view, views}
+use Rattle.lagsystem.proofs.Common.{Bool, List, None, Option, Some, [], ap, arith, cond, false, filter, if◌then◌else◌, not, option_map, refl}
+use Rattle.lagsystem.proofs.Common.{slice_get, slice_set, subst, suc, sym, true, zero, ℕ, ◌&&◌, ◌||◌, ◌∙◌, ◌∷◌, ◌≡◌, or_parts, nat_tests, same_Some}
+use Rattle.lagsystem.proofs.Common.{list_all, list_any, AggId, Key, Choice, Selected, Standby, Unselected, is_selected, mux_rows, RunsPeriodic}
+use Rattle.lagsystem.proofs.Common.{RunsToRest, PortView, chosen_aggregator, is_aggregator, ports_that_chose, AggregatorsValue, members, has_chosen}
+use Rattle.lagsystem.proofs.Common.{has_waited, is_detached_or_waiting, is_eligible, SystemPort, ChoosesIn, PortChangesBy, PortsChangeBy}
+use Rattle.lagsystem.proofs.Common.{SettlesPorts, after_choice_at, aggregator_for, choice_for, choice_in, is_restless, ready_of, with_choice}
+use Rattle.lagsystem.proofs.Common.{SystemState, aggregators_value, with_system_ports, selection_view, views}
 use Rattle.lagsystem.proofs.Lists.{AllZip-weaker}
 
 abbrev one_expired : List PortView → Bool
@@ -22,13 +22,7 @@ member_has_waited s = is_selected s.port.choice && has_waited (selection_view s)
 
 none_filtered : (agg : AggId) (c : Choice) (v : PortView) (rest : List PortView) → (is_selected c && has_waited v.stage) ≡ false
     → one_expired rest ≡ false → one_expired (cond (has_chosen agg c) (v ∷ rest) rest) ≡ false
-none_filtered agg Unselected v rest h k = k
-none_filtered agg (Standby given) v rest h k = k
-none_filtered agg (Selected given) v rest h k = one (has_chosen agg (Selected given))
-  where
-    one : (b : Bool) → one_expired (cond b (v ∷ rest) rest) ≡ false
-    one true = ap (λ x. x || one_expired rest) h ∙ k
-    one false = k
+none_filtered agg c v rest h k = grind (arith, nat_tests)
 
 none_given : (agg : AggId) (system_ports : List SystemPort) → list_any (λ s. member_has_waited s) system_ports ≡ false
     → one_expired (ports_that_chose agg (views system_ports)) ≡ false
@@ -38,15 +32,13 @@ none_given agg (s ∷ ss) h =
     none_filtered agg s.port.choice (selection_view s) (ports_that_chose agg (views ss)) both.0 (none_given agg ss both.1)
 
 none_known : (b : Bool) (xs : List PortView) → one_expired xs ≡ false → one_expired (if b then xs else []) ≡ false
-none_known true xs h = h
-none_known false xs h = refl
+none_known b xs h = grind (arith, nat_tests)
 
 first_has_not : (b : Bool) (v : PortView) (rest : List PortView) → has_waited v.stage ≡ false → have_waited rest ≡ false
     → ((b || list_any (λ w. is_detached_or_waiting w.stage) rest)
     && list_all (λ w. has_waited w.stage)
     (cond b (v ∷ filter (λ w. is_detached_or_waiting w.stage) rest) (filter (λ w. is_detached_or_waiting w.stage) rest))) ≡ false
-first_has_not true v rest h k = ap (λ x. x && list_all (λ w. has_waited w.stage) (filter (λ w. is_detached_or_waiting w.stage) rest)) h
-first_has_not false v rest h k = k
+first_has_not b v rest h k = grind (arith, nat_tests)
 
 none_has_waited : (seen : List PortView) → one_expired seen ≡ false → have_waited seen ≡ false
 none_has_waited [] h = refl

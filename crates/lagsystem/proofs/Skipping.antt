@@ -1,12 +1,12 @@
 -- An LACPDU after which the port looks the same to the Selection Logic: a settling goes on with this port alone.
-use Rattle.lagsystem.proofs.Common.{Bool, List, None, Option, Some, [], ap, false, if◌then◌else◌, inl, inr, refl, slice_get, slice_set, subst, suc}
-use Rattle.lagsystem.proofs.Common.{sym, true, zero, ℕ, ◌||◌, ◌∙◌, ◌∷◌, ◌≡◌, same_Some, OnTrue, AllByRecursion, AggId, Key, Unselected, Lacpdu}
-use Rattle.lagsystem.proofs.Common.{Current, Defaulted, Machines, mux_rows, RunsPeriodic, same_receive_state, AtRest, RunsToRest, one_mux}
-use Rattle.lagsystem.proofs.Common.{Reaches-keeps, PortView, chosen_aggregator, is_eligible, ChangesAssignments, Table, SystemPort, OnlyPortChangesBy}
-use Rattle.lagsystem.proofs.Common.{PortAtChangesBy, ProcessesLacpdu, ThenSettles, after_holding, aggregators_in_use, stopped, HasRecordedActor}
-use Rattle.lagsystem.proofs.Common.{IsSamePartner, LooksUnchanged, MuxIsSettled, MuxesAreSettled, PeriodicsAreSettled, ProcessesLacpduAt, NoneIsNext}
-use Rattle.lagsystem.proofs.Common.{collecting, PortChangesBy, PortsChangeBy, SettlesPorts, Settling, ready_of, IsSound, SystemState}
-use Rattle.lagsystem.proofs.Common.{aggregators_value, with_system_ports, selection_view, stage_of, views}
+use Rattle.lagsystem.proofs.Common.{Bool, List, None, Option, Some, [], ap, arith, false, if◌then◌else◌, refl, slice_get, slice_set, subst, suc, sym}
+use Rattle.lagsystem.proofs.Common.{true, zero, ℕ, ◌||◌, ◌∙◌, ◌∷◌, ◌≡◌, nat_tests, same_Some, OnTrue, AllByRecursion, AggId, Key, Lacpdu, Machines}
+use Rattle.lagsystem.proofs.Common.{mux_rows, RunsPeriodic, AtRest, RunsToRest, one_mux, Reaches-keeps, PortView, chosen_aggregator, is_eligible}
+use Rattle.lagsystem.proofs.Common.{ChangesAssignments, Table, SystemPort, OnlyPortChangesBy, PortAtChangesBy, ProcessesLacpdu, ThenSettles}
+use Rattle.lagsystem.proofs.Common.{after_holding, aggregators_in_use, stopped, HasRecordedActor, IsSamePartner, LooksUnchanged, MuxIsSettled}
+use Rattle.lagsystem.proofs.Common.{MuxesAreSettled, PeriodicsAreSettled, ProcessesLacpduAt, NoneIsNext, collecting, PortChangesBy, PortsChangeBy}
+use Rattle.lagsystem.proofs.Common.{SettlesPorts, Settling, ready_of, IsSound, SystemState, aggregators_value, with_system_ports, selection_view}
+use Rattle.lagsystem.proofs.Common.{stage_of, views}
 use Rattle.selection.specs.declared.view.Stage.TheVariants as stage
 use Rattle.lagsystem.proofs.Keeps.{ports_keep, ports_table, settling_joined}
 use Rattle.lagsystem.proofs.PlaceLemmas.{in_use_before}
@@ -85,11 +85,7 @@ get_set (x ∷ xs) (suc i) s t u e h = get_set xs i s t u e h
 
 pub on_place_taken : (v : Lacpdu) (i : ℕ) (old : List SystemPort) (alike : Bool) (new : List SystemPort)
     → ProcessesLacpduAt v i old alike new → PortAtChangesBy (ProcessesAndRuns v) (Some i) old new
-on_place_taken v i old alike new h =
-    (h.before, h.after.port, h.there, (h.changes.mid.port, h.changes.processes.1, h.changes.runs.1), h.others ∙ ap (slice_set old i) whole)
-  where
-    whole : h.after ≡ record h.before { port = h.after.port }
-    whole = h.changes.runs.0 ∙ ap (λ (x : SystemPort). record x { port = h.after.port }) h.changes.processes.0
+on_place_taken v i old alike new h = grind (arith, nat_tests)
 
 -- the state right after the LACPDU
 abbrev pub processed : (v : Lacpdu) (old : SystemState) (i : ℕ) (alike : Bool) (new : List SystemPort)
@@ -198,43 +194,14 @@ took_alone v old i one two were t s f h k e c =
 
 -- what a known LACPDU leaves
 now_settled : (c d : Bool) → c ≡ true → true ≡ (c || d)
-now_settled true d h = refl
-now_settled false d h = absurd cc
+now_settled c d h = grind (arith, nat_tests)
 
 pub took_alike : (v : Lacpdu) (s : SystemPort) (q : Machines) → ProcessesLacpdu v s.port q → HasRecordedActor v s
     → IsSamePartner s.port.partner q.partner → LooksUnchanged s (record s { port = q })
-took_alike v s q h k same = seen
-  where
-    p : Machines
-    p = s.port
-
-    seen : selection_view (record s { port = q }) ≡ selection_view s
-    seen = elim h [
-      | inl f ↦ elim f [
-        | inl g ↦
-            let chosen_aggregator : q.choice ≡ p.choice = ap (λ (m : Machines). m.choice) g.1
-            ∙ ap (λ b. if b then p.choice else Unselected) k.1 in
-            let settled : (same_receive_state Current q.receive || same_receive_state Defaulted q.receive)
-            ≡ (same_receive_state Current p.receive || same_receive_state Defaulted p.receive) =
-            ap (λ (m : Machines). same_receive_state Current m.receive || same_receive_state Defaulted m.receive) g.1
-            ∙ now_settled (same_receive_state Current p.receive) (same_receive_state Defaulted p.receive) k.0 in
-            λ i. record {
-              number = s.number;
-              party = (g.1 i).party;
-              partner = same i;
-              enabled = (g.1 i).enabled;
-              settled = settled i;
-              stage = stage_of (g.1 i).mux (g.1 i).wait_while;
-              choice = chosen_aggregator i;
-            }
-        | inr g ↦ absurd g
-      ]
-      | inr r ↦ ap (λ (m : Machines). selection_view (record s { port = m })) r.1
-    ]
+took_alike v s q h k same = grind (arith, nat_tests)
 
 pub alike_if : (b : Bool) (P Q : Type 0) → OnTrue b P → (P → Q) → OnTrue b Q
-alike_if true P Q h f = f h
-alike_if false P Q h f = tt
+alike_if b P Q h f = grind (arith, nat_tests)
 
 -- running the mux machine changes no more than its stage
 pub ran_alike : (s : SystemPort) (q : Machines) → RunsToRest (mux_rows false) s.port q

@@ -1,34 +1,20 @@
 -- What is told is the first of what happens.
-use Rattle.lagsystem.proofs.Common.{Bool, List, None, Option, Some, [], ap, arith, false, if◌then◌else◌, inl, inr, map, min, nat_le, nat_lt, refl}
-use Rattle.lagsystem.proofs.Common.{slice_get, subst, suc, sym, true, zero, ℕ, ◌&&◌, ◌+◌, ◌-◌, ◌<◌, ◌∙◌, ◌∷◌, ◌≡◌, ◌≤◌, ◌⊎◌, and_parts, cases_Bool}
-use Rattle.lagsystem.proofs.Common.{false≢true, le-leb, leb-true, lt-ltb, nat_tests, none-some, same_Some, Machines, Assignment, Flushing, Free, On}
-use Rattle.lagsystem.proofs.Common.{Wanted, Table, assignment_of, is_by, sooner, ticks_until_next_wanted, ticks_until_wanted, by_left, by_right}
-use Rattle.lagsystem.proofs.Common.{soonest_member, SystemPort, would_transmit, SystemState, soonest, ticks_in_window, ticks_until_due}
-use Rattle.lagsystem.proofs.Common.{ticks_until_due_on, ticks_until_expired, ticks_until_frame, ticks_until_room}
+use Rattle.lagsystem.proofs.Common.{Bool, List, None, Option, Some, [], ap, arith, false, if◌then◌else◌, inl, inr, map, nat_lt, refl, slice_get}
+use Rattle.lagsystem.proofs.Common.{subst, suc, sym, true, zero, ℕ, ◌&&◌, ◌+◌, ◌-◌, ◌<◌, ◌∙◌, ◌∷◌, ◌≡◌, ◌⊎◌, and_parts, false≢true, le-leb, leb-true}
+use Rattle.lagsystem.proofs.Common.{lt-ltb, nat_tests, none-some, same_Some, Machines, Assignment, Flushing, Table, assignment_of, is_by, sooner}
+use Rattle.lagsystem.proofs.Common.{ticks_until_next_wanted, ticks_until_wanted, by_left, by_right, soonest_member, SystemPort, would_transmit}
+use Rattle.lagsystem.proofs.Common.{SystemState, soonest, ticks_in_window, ticks_until_due, ticks_until_due_on, ticks_until_expired}
+use Rattle.lagsystem.proofs.Common.{ticks_until_frame, ticks_until_room}
 use Rattle.distributor.specs.Waiting.{soonest_below}
 use Rattle.lagsystem.specs.Soonest.{ConversationHas, FrameHas, HappensIn, IsFirstToHappen, TimerHas, WindowHas}
 
 by_trans : (a b c : Option ℕ) → is_by a b ≡ true → is_by b c ≡ true → is_by a c ≡ true
-by_trans None None None h k = refl
-by_trans None None (Some z) h k = k
-by_trans None (Some y) c h k = absurd (false≢true h)
-by_trans (Some x) None None h k = refl
-by_trans (Some x) None (Some z) h k = absurd (false≢true k)
-by_trans (Some x) (Some y) None h k = refl
-by_trans (Some x) (Some y) (Some z) h k = le-leb x z (omega (arith, leb-true x y h, leb-true y z k))
+by_trans a b c h k = grind (arith, nat_tests)
 
 -- one of them
 
 one_of_two : (a b : Option ℕ) (n : ℕ) → sooner a b ≡ Some n → (a ≡ Some n) ⊎ (b ≡ Some n)
-one_of_two None None n h = absurd (none-some n h)
-one_of_two None (Some y) n h = inr h
-one_of_two (Some x) None n h = inl h
-one_of_two (Some x) (Some y) n h =
-    let least : min x y ≡ n = same_Some (min x y) n h in
-    elim (cases_Bool (nat_le x y)) [
-      | inl e ↦ (let l : x ≤ y = leb-true x y e in let is : x ≡ n = omega (arith, least, l) in inl (ap Some is))
-      | inr g ↦ (let l : y ≤ x = grind (arith, nat_tests) in let is : y ≡ n = omega (arith, least, l) in inr (ap Some is))
-    ]
+one_of_two a b n h = grind (arith, nat_tests)
 
 one_of_list : {X : Type 0} (f : X → Option ℕ) (xs : List X) (n : ℕ) → soonest (map f xs) ≡ Some n
     → (i : ℕ) × (x : X) × (slice_get xs i ≡ Some x) × (f x ≡ Some n)
@@ -47,21 +33,14 @@ one_below f (suc n) m h = elim (one_of_two (soonest_below f n) (f n) m h) [
 ]
 
 timer_is : (t n : ℕ) (b : Bool) → nat_lt 0 t ≡ b → (if b then Some t else None) ≡ Some n → (0 < n) × (t ≡ n)
-timer_is t n true e h =
-    let is : t ≡ n = same_Some t n h in
-    let some : 0 < t = grind (arith, nat_tests) in (
-      omega (arith, is, some),
-      is,
-    )
-timer_is t n false e h = absurd (none-some n h)
+timer_is t n b e h = grind (arith, nat_tests)
 
 timer : (t n : ℕ) → ticks_until_expired t ≡ Some n → (0 < n) × (t ≡ n)
 timer t n h = timer_is t n (nat_lt 0 t) refl h
 
 frame : (s : SystemState) (x : SystemPort) (n : ℕ) (b : Bool) → would_transmit s x ≡ b → (if b then Some zero else None) ≡ Some n
     → FrameHas n s x
-frame s x n true e h = let is : zero ≡ n = same_Some zero n h in (e, sym is)
-frame s x n false e h = absurd (none-some n h)
+frame s x n b e h = grind (arith, nat_tests)
 
 room : (p : Machines) (n : ℕ) (b : Bool) → (p.enabled && p.ntt) ≡ b → (if b then soonest (map ticks_in_window p.ages) else None) ≡ Some n
     → WindowHas n p
@@ -103,20 +82,7 @@ on_port s x n h =
 
 conversation : (t : Table) (g k n : ℕ) (a : Assignment) → assignment_of t (g + 1) k ≡ a → g < t.aggs → k < t.conversations
     → ticks_until_wanted a ≡ Some n → ConversationHas n t
-conversation t g k n (Free preferred) e l m h = absurd (none-some n h)
-conversation t g k n (On port) e l m h = absurd (none-some n h)
-conversation t g k n (Wanted port preferred) e l m h = absurd (none-some n h)
-conversation t g k n (Flushing port id preferred age) e l m h = (
-  g + 1,
-  k,
-  port,
-  id,
-  age,
-  preferred,
-  (omega arith, omega (arith, l), m),
-  e,
-  sym (same_Some (30 - age) n h),
-)
+conversation t g k n a e l m h = grind (arith, nat_tests)
 
 in_table : (t : Table) (n : ℕ) → ticks_until_next_wanted t ≡ Some n → ConversationHas n t
 in_table t n h =

@@ -1,9 +1,9 @@
 -- What each status of a port says of the port and its system: by the cases of its definition.
-use Rattle.lagsystem.proofs.Common.{Bool, Some, false, if◌then◌else◌, nat_lt, not, refl, slice_get, subst, sym, true, ℕ, ◌&&◌, ◌≡◌, and_parts}
-use Rattle.lagsystem.proofs.Common.{true≢false, AggId, Choice, Selected, Standby, Unselected, same_system, exact_system, MuxState, Attached}
-use Rattle.lagsystem.proofs.Common.{CollectingDistributing, Detached, Waiting, ReceiveState, Current, Defaulted, Expired, Initialize, PortDisabled}
-use Rattle.lagsystem.proofs.Common.{is_synchronized, partner_synchronized, same_mux_state, selected, receive_rows, SystemPort, can_receive_in}
-use Rattle.lagsystem.proofs.Common.{mux_consistent, none_enabled, IsSound, SystemState, IsDistributing, Says, meaning}
+use Rattle.lagsystem.proofs.Common.{Bool, Some, arith, false, if◌then◌else◌, nat_lt, not, refl, slice_get, subst, sym, true, ℕ, ◌&&◌, ◌≡◌, true≢false}
+use Rattle.lagsystem.proofs.Common.{nat_tests, AggId, Choice, Selected, Standby, Unselected, same_system, exact_system, MuxState, Attached}
+use Rattle.lagsystem.proofs.Common.{CollectingDistributing, ReceiveState, Current, Defaulted, Expired, Initialize, PortDisabled, is_synchronized}
+use Rattle.lagsystem.proofs.Common.{partner_synchronized, same_mux_state, selected, receive_rows, SystemPort, can_receive_in, mux_consistent}
+use Rattle.lagsystem.proofs.Common.{none_enabled, IsSound, SystemState, IsDistributing, Says, meaning}
 use Rattle.lagsystem.specs.declared.port_status.PortStatus.{PortStatus}
 use Rattle.lagsystem.specs.declared.port_status.PortStatus.TheVariants as status
 use Rattle.lagsystem.specs.PortStatus.{status_by_choice, status_by_receive}
@@ -47,8 +47,7 @@ by_receive s i x h at idle up Initialize e a = absurd (true≢false (sym a))
 by_receive s i x h at idle up PortDisabled e a = absurd (true≢false (sym a))
 
 where_up : (e a : Bool) → e ≡ true → (if e then a else true) ≡ true → a ≡ true
-where_up true a e h = h
-where_up false a e h = absurd (true≢false (sym e))
+where_up e a k h = grind (arith, nat_tests)
 
 by_link : (s : SystemState) (i : ℕ) (x : SystemPort) → IsSound s → slice_get s.system_ports i ≡ Some x
     → same_mux_state CollectingDistributing x.port.mux ≡ false → (up : Bool) → x.port.enabled ≡ up
@@ -61,10 +60,7 @@ by_link s i x h at idle true e =
 distributing_mux : (m : MuxState) (chosen synchronized : Bool) → same_mux_state CollectingDistributing m ≡ true
     → ((if is_synchronized m then chosen else true) && (if same_mux_state CollectingDistributing m then synchronized else true)) ≡ true
     → (m ≡ CollectingDistributing) × (chosen ≡ true) × (synchronized ≡ true)
-distributing_mux CollectingDistributing a b e h = let both = and_parts a b h in (refl, both.0, both.1)
-distributing_mux Detached a b e h = absurd (true≢false (sym e))
-distributing_mux Waiting a b e h = absurd (true≢false (sym e))
-distributing_mux Attached a b e h = absurd (true≢false (sym e))
+distributing_mux m a b e h = grind (arith, nat_tests)
 
 is_distributing : (s : SystemState) (i : ℕ) (x : SystemPort) → IsSound s → slice_get s.system_ports i ≡ Some x
     → same_mux_state CollectingDistributing x.port.mux ≡ true → IsDistributing s x

@@ -1,25 +1,25 @@
 -- Each call of a system is a list of lawful moves.
-use Rattle.lagsystem.proofs.Common.{Bool, Err, IsSome, List, None, Ok, Option, Result, Some, [], ap, append-nil, bytes_eq, cond, false, if◌then◌else◌}
-use Rattle.lagsystem.proofs.Common.{inl, inr, is_some, ltb, nat_lt, not, refl, slice_get, slice_set, subst, sym, true, ℕ, ◌&&◌, ◌<◌, ◌==◌, ◌^◌, ◌||◌}
-use Rattle.lagsystem.proofs.Common.{◌∙◌, ◌∷◌, ◌≡◌, and_from, and_parts, false≢true, ltb-true, Decides-eqb, none-some, same_Some, AggId, Choice}
-use Rattle.lagsystem.proofs.Common.{Selected, Standby, Unselected, is_selected, is_standby, Lacpdu, Marker, answer_of, Act, LawfulMoves, Move}
-use Rattle.lagsystem.proofs.Common.{PortMove, Sends_frame, Shows, Took, DistributorFacts, Lacp, Message, SystemSetup, Told, Told_receive}
-use Rattle.lagsystem.proofs.Common.{moves_joined, CollectingDistributing, Machines, is_synchronized, mux_rows, partner_synchronized, same_mux_state}
-use Rattle.lagsystem.proofs.Common.{RunsPeriodic, receive_rows, RunsToRest, after_sending, count_down, is_due, pdu_of, Assignment, DistFault}
-use Rattle.lagsystem.proofs.Common.{force_result, move_result, ChangesAssignments, Marks, after_release, marker_due, wants_marker, Table}
-use Rattle.lagsystem.proofs.Common.{assignment_of, count_conversations, next_identifier, model_distributor, conversations_tick, down_moves}
-use Rattle.lagsystem.proofs.Common.{force_moves, mark_moves, move_moves, release_moves, send_moves, Reply, SystemFault, NoAggregator, NoPort}
-use Rattle.lagsystem.proofs.Common.{FrameEffect, Answered, ProcessLacpdu, Response, Received, Disabled, Dropped, Ignored, Released, Up, SystemPort}
-use Rattle.lagsystem.proofs.Common.{AnswersMarker, Call, Carries, ChangesParty, Configure, Data_frame, Faulty, Force, FreesIfDown, GivesEffect}
-use Rattle.lagsystem.proofs.Common.{IsFrame, Move_conversation, Offer, OnlyPortChangesBy, ParsesWhere, Performs, PortAtChangesBy, ProcessesLacpdu}
-use Rattle.lagsystem.proofs.Common.{Receive, ReceivedFrame, Releases, Restart, Runt, Set_link, SetsLink, SetsPortEnabled, Step, ThenSettles, Tick}
-use Rattle.lagsystem.proofs.Common.{Ticks, Transmit, is_own_response, up_or_dropped, CallSeenAs, EffectsSeenAs, JoinedByLawfulMoves, PortsConsistent}
-use Rattle.lagsystem.proofs.Common.{can_receive, can_receive_in, control_message, lacp_message, marker_message, model_port, model_setup, model_view}
-use Rattle.lagsystem.proofs.Common.{model_view_at, mux_consistent, none_enabled, number_of_port, selected_number, OccupantsAgree, GivesOrRefuses}
-use Rattle.lagsystem.proofs.Common.{Offers, assignment_of_frame, has_aggregator, in_system, or_not_assigned, system_force_result, system_move_result}
-use Rattle.lagsystem.proofs.Common.{collecting, conversation_count, distributing, number_of_conversation, SendsLacpdu, SendsMarkerOf, TransmitsAt}
-use Rattle.lagsystem.proofs.Common.{TransmitsIf, own_marker, PortChangesBy, PortsChangeBy, SettlesPorts, Settling, ready_of, SystemState}
-use Rattle.lagsystem.proofs.Common.{aggregators_value, port_index, port_numbers, system_port_at, with_system_ports, with_table, views}
+use Rattle.lagsystem.proofs.Common.{Bool, Err, IsSome, List, None, Ok, Option, Result, Some, [], ap, append-nil, arith, bytes_eq, cond, false}
+use Rattle.lagsystem.proofs.Common.{if◌then◌else◌, inl, inr, is_some, ltb, nat_lt, not, refl, slice_get, slice_set, subst, sym, true, ℕ, ◌&&◌, ◌<◌}
+use Rattle.lagsystem.proofs.Common.{◌==◌, ◌^◌, ◌||◌, ◌∙◌, ◌∷◌, ◌≡◌, and_from, and_parts, Decides-eqb, nat_tests, none-some, same_Some, AggId, Choice}
+use Rattle.lagsystem.proofs.Common.{is_selected, is_standby, Lacpdu, Marker, answer_of, Act, LawfulMoves, Move, PortMove, Sends_frame, Shows, Took}
+use Rattle.lagsystem.proofs.Common.{DistributorFacts, Lacp, Message, SystemSetup, Told, Told_receive, moves_joined, CollectingDistributing, Machines}
+use Rattle.lagsystem.proofs.Common.{is_synchronized, mux_rows, partner_synchronized, same_mux_state, RunsPeriodic, receive_rows, RunsToRest}
+use Rattle.lagsystem.proofs.Common.{after_sending, count_down, is_due, pdu_of, Assignment, DistFault, force_result, move_result, ChangesAssignments}
+use Rattle.lagsystem.proofs.Common.{Marks, after_release, marker_due, wants_marker, Table, assignment_of, count_conversations, next_identifier}
+use Rattle.lagsystem.proofs.Common.{model_distributor, conversations_tick, down_moves, force_moves, mark_moves, move_moves, release_moves, send_moves}
+use Rattle.lagsystem.proofs.Common.{Reply, SystemFault, NoAggregator, NoPort, FrameEffect, Answered, ProcessLacpdu, Response, Received, Disabled}
+use Rattle.lagsystem.proofs.Common.{Dropped, Ignored, Released, Up, SystemPort, AnswersMarker, Call, Carries, ChangesParty, Configure, Data_frame}
+use Rattle.lagsystem.proofs.Common.{Faulty, Force, FreesIfDown, GivesEffect, IsFrame, Move_conversation, Offer, OnlyPortChangesBy, ParsesWhere}
+use Rattle.lagsystem.proofs.Common.{Performs, PortAtChangesBy, ProcessesLacpdu, Receive, ReceivedFrame, Releases, Restart, Runt, Set_link, SetsLink}
+use Rattle.lagsystem.proofs.Common.{SetsPortEnabled, Step, ThenSettles, Tick, Ticks, Transmit, is_own_response, up_or_dropped, CallSeenAs}
+use Rattle.lagsystem.proofs.Common.{EffectsSeenAs, JoinedByLawfulMoves, PortsConsistent, can_receive, can_receive_in, control_message, lacp_message}
+use Rattle.lagsystem.proofs.Common.{marker_message, model_port, model_setup, model_view, model_view_at, mux_consistent, none_enabled, number_of_port}
+use Rattle.lagsystem.proofs.Common.{selected_number, OccupantsAgree, GivesOrRefuses, Offers, assignment_of_frame, has_aggregator, in_system}
+use Rattle.lagsystem.proofs.Common.{or_not_assigned, system_force_result, system_move_result, collecting, conversation_count, distributing}
+use Rattle.lagsystem.proofs.Common.{number_of_conversation, SendsLacpdu, SendsMarkerOf, TransmitsAt, TransmitsIf, own_marker, PortChangesBy}
+use Rattle.lagsystem.proofs.Common.{PortsChangeBy, SettlesPorts, Settling, ready_of, SystemState, aggregators_value, port_index, port_numbers}
+use Rattle.lagsystem.proofs.Common.{system_port_at, with_system_ports, with_table, views}
 use Rattle.std.proofs.lemmas.Slice.Eq.{bytes_eq-Decides}
 use Rattle.slowpdu.specs.declared.pdu.MarkerKind.{MarkerKind}
 use Rattle.slowpdu.specs.declared.pdu.MarkerKind.TheVariants as kind
@@ -58,14 +58,10 @@ fitting u s t k fits = subst (λ (x : SystemState). Fits u x.keys) (sym k.frame)
 
 -- at rest a STANDBY port does not distribute
 carries_not : (b c s : Bool) → (b && (not c || not s)) ≡ false → c ≡ false → b ≡ false
-carries_not true true s h e = absurd cc
-carries_not true false s h e = absurd cc
-carries_not false c s h e = refl
+carries_not b c s h e = grind (arith, nat_tests)
 
 standby_not : (c : Choice) → is_standby c ≡ true → is_selected c ≡ false
-standby_not Unselected h = refl
-standby_not (Selected agg) h = absurd (false≢true h)
-standby_not (Standby agg) h = refl
+standby_not c h = grind (arith, nat_tests)
 
 rest_idle : (x y : SystemPort) → PortChangesBy (RunsToRest (mux_rows false)) x y → StandbyIsIdle y
 rest_idle x y m e = carries_not (same_mux_state CollectingDistributing y.port.mux) (is_selected y.port.choice)
@@ -180,12 +176,10 @@ place_moves u call f R n old new seen r k (Some i) e h =
 
 -- an LACPDU is taken if the link is enabled
 where_awake : (b x : Bool) → b ≡ true → (if b then x else true) ≡ true → x ≡ true
-where_awake true x e h = h
-where_awake false x e h = absurd (false≢true e)
+where_awake b x e h = grind (arith, nat_tests)
 
 clash : (b : Bool) → b ≡ true → b ≡ false → ⊥
-clash true h k = cc
-clash false h k = cc
+clash b h k = grind (arith, nat_tests)
 
 takes_moves : (u : SystemSetup) (n : ℕ) (v : Lacpdu) (p q : Machines) → p.enabled ≡ true → can_receive p ≡ true → ProcessesLacpdu v p q
     → QuietMoves u (Told_receive n (Some (Lacp (lacp_message v)))) n p (Took n (lacp_message v) ∷ []) q
@@ -198,14 +192,10 @@ takes_moves u n v p q e a h = elim h [
 
 -- a port that says synchronized is a member
 where_member : (b x rest : Bool) → ((if b then x else true) && rest) ≡ true → b ≡ true → x ≡ true
-where_member true true rest h e = refl
-where_member true false rest h e = absurd (false≢true h)
-where_member false x rest h e = absurd (false≢true e)
+where_member b x rest h e = grind (arith, nat_tests)
 
 is_member : (c : Choice) → is_selected c ≡ true → IsSome (selected_number c)
-is_member (Selected agg) h = refl
-is_member Unselected h = absurd (false≢true h)
-is_member (Standby agg) h = absurd (false≢true h)
+is_member c h = grind (arith, nat_tests)
 
 -- what a port heard
 not_both : (v : Lacpdu) (r : Received) → ProcessLacpdu v ≡ Answered r → ⊥
@@ -231,21 +221,11 @@ response_or d effect = d
 
 taken_by : (system_port : SystemPort) (octets : List ℕ) (v : Lacpdu) (frame : ReceivedFrame) → IsFrame octets frame
     → GivesEffect system_port frame (ProcessLacpdu v) → IsFrame octets (Carries (pdu.Lacpdu v))
-taken_by system_port octets v Runt h m = absurd (not_both v Dropped m)
-taken_by system_port octets v Data_frame h m = absurd (not_both v (up_or_dropped (collecting system_port.port)) m)
-taken_by system_port octets v (Faulty fault) h m = absurd (not_both v (Ignored fault) m)
-taken_by system_port octets v (Carries (pdu.Lacpdu w)) h m = subst (λ x. IsFrame octets (Carries (pdu.Lacpdu x)))
-    (sym (ap (taken_or v) m)) h
-taken_by system_port octets v (Carries (pdu.Marker m)) h k = absurd (no_marker (answer_of m.kind m) k)
-  where
-    no_marker : (o : Option Marker) → AnswersMarker system_port.mac m o (ProcessLacpdu v) → ⊥
-    no_marker None e = not_taken v m e
-    no_marker (Some answer) e = not_both v _ e.3
+taken_by system_port octets v frame h m = grind (arith, nat_tests)
 
 heard_taken : (system_port : SystemPort) (octets : List ℕ) (v : Lacpdu) (b : Bool) → ParsesWhere b system_port octets (ProcessLacpdu v)
     → (b ≡ true) × IsFrame octets (Carries (pdu.Lacpdu v))
-heard_taken system_port octets v false h = absurd (not_both v Disabled h)
-heard_taken system_port octets v true h = (refl, taken_by system_port octets v h.0 h.1 h.2)
+heard_taken system_port octets v b h = grind (arith, nat_tests)
 
 -- a response came
 not_marked : (m : Marker) (r : Received) → Response m ≡ Answered r → ⊥
@@ -253,23 +233,15 @@ not_marked m r e = not_answered r m (sym e)
 
 is_response : (k : MarkerKind) (m w : Marker) (mac : List ℕ) → m.kind ≡ k → AnswersMarker mac m (answer_of k m) (Response w) → (w ≡ m)
     × (m.kind ≡ kind.Response)
-is_response kind.Response m w mac e h = (ap (response_or w) h, e)
-is_response kind.Information m w mac e h = absurd (not_marked w _ h.3)
+is_response k m w mac e h = grind (arith, nat_tests)
 
 response_by : (system_port : SystemPort) (octets : List ℕ) (w : Marker) (frame : ReceivedFrame) → IsFrame octets frame
     → GivesEffect system_port frame (Response w) → IsFrame octets (Carries (pdu.Marker w)) × (w.kind ≡ kind.Response)
-response_by system_port octets w Runt h m = absurd (not_marked w Dropped m)
-response_by system_port octets w Data_frame h m = absurd (not_marked w (up_or_dropped (collecting system_port.port)) m)
-response_by system_port octets w (Faulty fault) h m = absurd (not_marked w (Ignored fault) m)
-response_by system_port octets w (Carries (pdu.Lacpdu v)) h m = absurd (not_taken v w (sym m))
-response_by system_port octets w (Carries (pdu.Marker m)) h a =
-    let x = is_response m.kind m w system_port.mac refl a in
-    (subst (λ y. IsFrame octets (Carries (pdu.Marker y))) (sym x.0) h, ap (λ (y : Marker). y.kind) x.0 ∙ x.1)
+response_by system_port octets w frame h m = grind (arith, nat_tests)
 
 heard_response : (system_port : SystemPort) (octets : List ℕ) (w : Marker) (b : Bool) → ParsesWhere b system_port octets (Response w)
     → IsFrame octets (Carries (pdu.Marker w)) × (w.kind ≡ kind.Response)
-heard_response system_port octets w false h = absurd (not_marked w Disabled h)
-heard_response system_port octets w true h = response_by system_port octets w h.0 h.1 h.2
+heard_response system_port octets w b h = grind (arith, nat_tests)
 
 -- an answer, without effect
 abbrev Tellable : SystemState → SystemSetup → DistributorFacts → ℕ → List ℕ → List SystemPort → Received → Type 0
@@ -436,12 +408,7 @@ sends_lacpdu old n i system_port answer new r rested e g h =
     (Told.Transmit, seen, refl, (pdu.Lacpdu v, (system_port.mac, h.1.0, h.1.1, h.1.2, h.1.3), refl), whole)
 
 pub below : (o : Option ℕ) (b : Bool) (n id : ℕ) → cond b (cond (ltb n (2 ^ 32)) (Some n) None) None ≡ Some id → id < 2 ^ 32
-below o false n id e = absurd (none-some id e)
-below o true n id e = fits (ltb n (2 ^ 32)) refl e
-  where
-    fits : (b : Bool) → ltb n (2 ^ 32) ≡ b → cond b (Some n) None ≡ Some id → id < 2 ^ 32
-    fits true t x = subst (λ m. m < 2 ^ 32) (same_Some n id x) (ltb-true n (2 ^ 32) t)
-    fits false t x = absurd (none-some id x)
+below o b n id e = grind (arith, nat_tests)
 
 -- a marker goes out
 pub marker_goes : (id : ℕ) (old : SystemState) (n port : ℕ) (mac : List ℕ) (answer : Option (List ℕ)) (new : SystemState)
@@ -510,14 +477,11 @@ offers gives agg octets old (Err fault) new r rested h = nothing old (Offer agg 
 
 pub if_ok : (b : Bool) (x : Result Assignment SystemFault) (fault : SystemFault) (s : Assignment)
     → (if b then x else Err fault) ≡ Ok s → x ≡ Ok s
-if_ok true x fault s e = e
-if_ok false x fault s e = absurd cc
+if_ok b x fault s e = grind (arith, nat_tests)
 
 pub known_ok : (b : Bool) (x : Result Assignment DistFault) (fault : DistFault) (s : Assignment)
     → in_system (if b then x else Err fault) ≡ Ok s → x ≡ Ok s
-known_ok true (Ok a) fault s e = let same : a ≡ s = cc in ap Ok same
-known_ok true (Err f) fault s e = absurd cc
-known_ok false x fault s e = absurd cc
+known_ok b x fault s e = grind (arith, nat_tests)
 
 -- what a conversation that is moved, or freed by force, becomes
 pub moved_to : (agg : AggId) (conv port : ℕ) (old : SystemState) (s : Assignment) → system_move_result old agg conv port ≡ Ok s

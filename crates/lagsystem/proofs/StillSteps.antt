@@ -1,6 +1,6 @@
 -- Every call ends in a state in which one more settling has nothing to do.
-use Rattle.lagsystem.proofs.Common.{Bool, List, Some, ap, false, not, refl, slice_get, slice_set, subst, sym, true, ℕ, ◌&&◌, ◌≡◌, NoPeriodic}
-use Rattle.lagsystem.proofs.Common.{Machines, same_periodic_state, after_sending, AggregatorsValue, Reply, SystemPort, Call, ChangesParty}
+use Rattle.lagsystem.proofs.Common.{Bool, List, Some, ap, arith, false, not, refl, slice_get, slice_set, subst, sym, ℕ, ◌&&◌, ◌≡◌, nat_tests}
+use Rattle.lagsystem.proofs.Common.{NoPeriodic, Machines, same_periodic_state, after_sending, AggregatorsValue, Reply, SystemPort, Call, ChangesParty}
 use Rattle.lagsystem.proofs.Common.{OnlyPortChangesBy, ProcessesLacpdu, SetsLink, Step, ThenSettles, Ticks, IsFirst, MuxIsSettled, MuxesAreSettled}
 use Rattle.lagsystem.proofs.Common.{PeriodicIsSettled, PeriodicsAreSettled, NoneIsNext, HasPorts, SystemState, aggregators_value, port_index}
 use Rattle.lagsystem.proofs.Common.{port_numbers, with_system_ports, views}
@@ -30,8 +30,7 @@ settled_quiet own old new r k h =
 
 -- sending
 and_none : (b : Bool) → false ≡ (b && false)
-and_none true = refl
-and_none false = refl
+and_none b = grind (arith, nat_tests)
 
 sent_paced : (s : SystemPort) → PeriodicIsSettled s → PeriodicIsSettled (record s { port = after_sending s.port })
 sent_paced s h = record {

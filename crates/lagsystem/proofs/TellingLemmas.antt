@@ -1,6 +1,6 @@
 -- Rows that are told one after another.
-use Rattle.lagsystem.proofs.Common.{Bool, List, ap, arith, cond, false, get_or, inl, inr, length, nat_lt, refl, set, subst, suc, sym, true, ℕ, ◌+◌}
-use Rattle.lagsystem.proofs.Common.{◌<◌, ◌∙◌, ◌≡◌, ◌≢◌, ◌≤◌, ◌⊎◌, cases_Bool, nat_tests, get_or-set_other, get_or-set_same, length-set, TellsRows}
+use Rattle.lagsystem.proofs.Common.{Bool, List, ap, arith, cond, false, get_or, inl, inr, length, nat_lt, refl, set, subst, suc, sym, ℕ, ◌+◌, ◌<◌}
+use Rattle.lagsystem.proofs.Common.{◌∙◌, ◌≡◌, ◌≢◌, ◌≤◌, ◌⊎◌, cases_Bool, nat_tests, get_or-set_other, get_or-set_same, length-set, TellsRows}
 use mir.Val.{bool_byte}
 use Rattle.distributor.specs.Conversations.{sum_below}
 
@@ -63,12 +63,10 @@ module _ (A : Type 0) (default : A) (value : ℕ → A) (mark : A → A → Bool
       beyond k past s = omega (arith, past, s)
 
 bool_bit : (b : Bool) → bool_byte b ≡ cond b 1 0
-bool_bit true = refl
-bool_bit false = refl
+bool_bit b = grind (arith, nat_tests)
 
 bit_few : (b : Bool) → bool_byte b ≤ 1
-bit_few true = omega arith
-bit_few false = omega arith
+bit_few b = grind (arith, nat_tests)
 
 -- a count that a row made at most one more
 pub few_more : (n count more : ℕ) (b : Bool) → more ≡ bool_byte b → count ≤ n → count + more ≤ n + 1

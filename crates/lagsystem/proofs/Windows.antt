@@ -73,8 +73,7 @@ good_end now before (Some p) g = subst KeepsWindow (append-nil before) (g [] [] 
 at_first : (P Q : Machines → Type 0) (N : Type 0) (b : Bool) (x y : SystemPort) (o u : Option SystemPort) → (P x.port → Q y.port)
     → (At P N (port_in o) → At Q N (port_in u))
     → At P N (port_in (cond b (Some x) o)) → At Q N (port_in (cond b (Some y) u))
-at_first P Q N true x y o u here rest g = here g
-at_first P Q N false x y o u here rest g = rest g
+at_first P Q N b x y o u here rest g = grind (arith, nat_tests)
 
 -- the same, if y has the number of x
 at_number : (P Q : Machines → Type 0) (N : Type 0) (n : ℕ) (x y : SystemPort) (o u : Option SystemPort) → y.number ≡ x.number
@@ -116,8 +115,7 @@ record IsKept (P : Machines → Type 0) : Type 0 where
   party : (change : PortChange) (p q : Machines) → ChangesParty change p q → P p → P q
 
 in_given : (P : Machines → Type 0) → IsKept P → (s : SystemPort) (o : Option Choice) → P s.port → P (with_choice s o).port
-in_given P kept s None g = g
-in_given P kept s (Some choice) g = kept.select choice s.port g
+in_given P kept s o g = grind (arith, nat_tests)
 
 in_select : (P : Machines → Type 0) (N : Type 0) (n : ℕ) → IsKept P → KeptByChoices (In P N n)
 in_select P N n kept l i s o e g = in_set P N n l i s (with_choice s o) e (given_number s o) (in_given P kept s o) g
@@ -239,11 +237,7 @@ abbrev after_transmit : ℕ → ℕ → ℕ → List ℕ → Option (List ℕ) �
 after_transmit m n now before answer = sends_after n now (Transmit m) (reply.Transmit (Ok answer)) before
 
 first_kind : (m n now : ℕ) (before : List ℕ) → after_frame m n before now 1 ≡ (if m == n then before ++ now ∷ [] else before)
-first_kind m n now before = with_true (m == n)
-  where
-    with_true : (b : Bool) → (if b && true then before ++ now ∷ [] else before) ≡ (if b then before ++ now ∷ [] else before)
-    with_true true = refl
-    with_true false = refl
+first_kind m n now before = grind (arith, nat_tests)
 
 -- a start
 
@@ -278,27 +272,23 @@ empty_new n system (c ∷ cs) (s ∷ ss) h =
     (λ _. empty_new n system cs ss h.1) (at_unit (port_in (cond (s.number == n) (Some s) o)))
   where
     at_unit : (o : Option Machines) → At (λ _. Unit) Unit o
-    at_unit None = tt
-    at_unit (Some p) = tt
+    at_unit o = grind (arith, nat_tests)
 
 empty_first : (n : ℕ) (s : SystemState) → IsFirst s → In IsEmpty Unit n s.system_ports
 empty_first n s h = in_settling IsEmpty Unit n empty_kept (with_system_ports s h.0) s h.2 (empty_new n s.system s.ports h.0 h.1)
 
 since_empty : (o : Option Machines) → At IsEmpty Unit o → AgesSince 0 o
-since_empty None h = tt
-since_empty (Some p) h = subst (λ ages. AllByRecursion (λ a. a ≤ 0) ages) (sym h) tt
+since_empty o h = grind (arith, nat_tests)
 
 three_empty : (o : Option Machines) → At IsEmpty Unit o → AtMostThreeAges o
-three_empty None h = tt
-three_empty (Some p) h = subst (λ ages. length ages ≤ 3) (sym h) (omega arith)
+three_empty o h = grind (arith, nat_tests)
 
 good_few : (now : ℕ) (o : Option Machines) → AgesSince now o → AtMostThreeAges o → GoodAt now (remembered_sends now o) o
 good_few now None h k = none_sent
 good_few now (Some p) h k = good_ages now p h k
 
 none_kept : (o : Option Machines) → At IsEmpty Unit o → remembered_sends 0 o ≡ []
-none_kept None h = refl
-none_kept (Some p) h = ap (sent_before 0) h
+none_kept o h = grind (arith, nat_tests)
 
 good_first : (n : ℕ) (s : SystemState) → IsFirst s → GoodIn n 0 [] s.system_ports
 good_first n s h =
@@ -369,8 +359,7 @@ abbrev IsFew : Machines → Type 0
 IsFew p = length p.ages ≤ 3
 
 aged_first : (b : Bool) (a n : ℕ) (more : List ℕ) → length more ≤ n → length (cond b (a ∷ more) more) ≤ n + 1
-aged_first true a n more h = omega (arith, h)
-aged_first false a n more h = omega (arith, h)
+aged_first b a n more h = grind (arith, nat_tests)
 
 aged_few : (ages : List ℕ) → length (aged ages) ≤ length ages
 aged_few [] = omega arith
@@ -389,8 +378,7 @@ abbrev FewIn : ℕ → List SystemPort → Type 0
 FewIn n system_ports = In IsFew Unit n system_ports
 
 at_few : (o : Option Machines) → At IsEmpty Unit o → At IsFew Unit o
-at_few None h = tt
-at_few (Some p) h = subst (λ ages. length ages ≤ 3) (sym h) (omega arith)
+at_few o h = grind (arith, nat_tests)
 
 few_kept : IsKept IsFew
 few_kept = ages_kept (λ ages. length ages ≤ 3)
@@ -415,12 +403,10 @@ few_step n gives old call answer new h g =
     }) call answer new h
 
 three_from : (o : Option Machines) → At IsFew Unit o → AtMostThreeAges o
-three_from None h = tt
-three_from (Some p) h = h
+three_from o h = grind (arith, nat_tests)
 
 few_from : (o : Option Machines) → AtMostThreeAges o → At IsFew Unit o
-few_from None h = tt
-few_from (Some p) h = h
+few_from o h = grind (arith, nat_tests)
 
 pub first_three : (s : SystemState) → IsFirst s → EachAtMostThreeAges s
 first_three s h n = three_empty (machines_of n s) (empty_of n s h)
