@@ -12,9 +12,10 @@ use Rattle.lagsystem.proofs.Common.{configured_number, setup_of, configured_part
 use Rattle.lagsystem.proofs.Common.{ChoosesIn, PortChangesBy, PortsChangeBy, PromotesFirst, PromotesNext, after_choice_at, after_choices, choice_for}
 use Rattle.lagsystem.proofs.Common.{ready_of, with_choice, SystemState, aggregators_value, with_system_ports, with_table, seen_at, views}
 use Rattle.lagsystem.proofs.Effects.{named, zero_named}
-use Rattle.lagsystem.proofs.Rest.{last_slots, zip_all}
+use Rattle.lagsystem.proofs.Rest.{zip_all}
+use Rattle.lagsystem.proofs.Keeps.{settling_in}
 use Rattle.lagsystem.proofs.Rising.{all-get}
-use Rattle.lagsystem.proofs.SettlingLemmas.{none_for, set_same}
+use Rattle.lagsystem.proofs.SettlingLemmas.{RunsReady, SettlesIn, none_for, set_same}
 use Rattle.lagsystem.proofs.Limiting.{next_stands}
 use Rattle.lagsystem.proofs.Occupying.{periodic_stays}
 use Rattle.lagsystem.proofs.PromotionLemmas.{promotions_keep}
@@ -235,28 +236,19 @@ composed f g o = grind (arith, nat_tests)
 pub first_periodic : (s : SystemState) (h : IsFirst s) → PortsChangeBy RunsPeriodic h.0 s.system_ports
 first_periodic s h =
     let start = h.0 in
-    let run = h.2 in
-    let one = run.0 in
-    let two = run.2.0 in
-    let three = run.2.2.0 in
-    let four = run.2.2.2.0 in
-    let five = run.2.2.2.2.0 in
+    let aggs = aggregators_value s in
+    let run : SettlesIn aggs start s.system_ports = settling_in (with_system_ports s start) s h.2 in
     let idle : AllZip (Idles s.system) s.ports start = zip_weaker (HasJustStarted s.system) (Idles s.system)
     (λ c x m. (m.0, starts_idle (setup_of s.system c) x.port m.2)) s.ports start h.1 in
     let down : AllByRecursion (λ x. x.port.enabled ≡ false) start = zip_all (Idles s.system) (λ x. x.port.enabled ≡ false)
     (λ c x m. m.1.down) s.ports start idle in
-    let s1 : one.system_ports ≡ start = idle_slots s.system (λ p q. RunsToRest (mux_rows false) p q)
-    (λ party p q a m. idle_mux false party p q a m) s.ports start one.system_ports idle run.1.0 in
     let nobody : AllUnselected start = zip_all (Idles s.system) (λ x. x.port.choice ≡ Unselected) (λ c x m. m.1.nobody) s.ports start idle in
-    let s2 : two.system_ports ≡ start = choosing_idle (aggregators_value one) start two.system_ports nobody down
-    (subst (λ l. ChoosesIn (aggregators_value one) l two.system_ports) s1 run.2.1.0) in
-    let s3 : three.system_ports ≡ start = ap (λ (x : SystemState). x.system_ports) run.2.2.1 ∙ s2 in
-    let ready : Machines → Machines → Type 0 = λ p q. RunsToRest (mux_rows (ready_of three.keys (views three.system_ports) p.choice)) p q in
-    let s4 : four.system_ports ≡ start =
-    idle_slots s.system ready (λ party p q a m. idle_mux (ready_of three.keys (views three.system_ports) p.choice) party p q a m) s.ports
-    start four.system_ports idle (subst (λ l. PortsChangeBy ready l four.system_ports) s3 run.2.2.2.1.0) in
-    subst (λ l. PortsChangeBy RunsPeriodic start l) (sym (last_slots (with_system_ports s start) s run))
-    (subst (λ l. PortsChangeBy RunsPeriodic l five.system_ports) s4 run.2.2.2.2.1.0)
+    let one : run.one ≡ start = idle_slots s.system (RunsToRest (mux_rows false)) (idle_mux false) s.ports start run.one idle run.stops in
+    let two : run.two ≡ start = choosing_idle aggs start run.two nobody down (subst (λ l. ChoosesIn aggs l run.two) one run.chooses) in
+    let ready = RunsReady s.keys (views run.two) in
+    let four : run.four ≡ start = idle_slots s.system ready (λ party p q. idle_mux (ready_of s.keys (views run.two) p.choice) party p q)
+    s.ports start run.four idle (subst (λ l. PortsChangeBy ready l run.four) two run.runs) in
+    subst (λ l. PortsChangeBy RunsPeriodic l s.system_ports) four run.paces
 
 pub first_shows : (s : SystemState) → IsFirst s → model_view s ≡ first_view (model_setup s)
 first_shows s h =

@@ -6,9 +6,9 @@ use Rattle.lagsystem.proofs.Common.{AggregatorsValue, Free, Table, assignment_of
 use Rattle.lagsystem.proofs.Common.{ChangesParty, FreesIfDown, OnlyPortChangesBy, PortAtChangesBy, ProcessesLacpdu, SetsLink, SetsPortEnabled, Step}
 use Rattle.lagsystem.proofs.Common.{ThenSettles, Ticks, HasJustStarted, IsConfigured, IsFirst, config_refusal, configured_number, configured_numbers}
 use Rattle.lagsystem.proofs.Common.{is_count, refusal, aggregator_numbered, distributing, ChoosesIn, HoldsConversations, OnlyPortsChangeBy}
-use Rattle.lagsystem.proofs.Common.{PortsChangeBy, PromotesFirst, SettlesPorts, Settling, after_choices, choice_for, held_unless_on, ready_of}
-use Rattle.lagsystem.proofs.Common.{with_choice, HasPorts, SystemState, aggregators_value, port_index, port_numbers, with_system_ports, with_table}
-use Rattle.lagsystem.proofs.Common.{views}
+use Rattle.lagsystem.proofs.Common.{PortsChangeBy, PromotesFirst, SettlesPorts, Settling, after_choices, choice_for, held_unless_on, with_choice}
+use Rattle.lagsystem.proofs.Common.{HasPorts, SystemState, aggregators_value, port_index, port_numbers, with_system_ports, with_table, views}
+use Rattle.lagsystem.proofs.SettlingLemmas.{RunsReady, SettlesIn, ports_frame, settles_in}
 use Rattle.distributor.proofs.TableLemmas.{first_free}
 use Rattle.lagsystem.proofs.Preserves.{Preserves, Step-preserves}
 use Rattle.lagsystem.proofs.PromotionLemmas.{KeptByChoices, choices_keep, choosing_keeps, promotions_keep}
@@ -90,27 +90,18 @@ pub choosing_numbers : (aggs : AggregatorsValue) (old new : List SystemPort) →
 choosing_numbers aggs old new h = choosing_keeps (λ l. port_numbers l ≡ port_numbers old) (selects_numbers (port_numbers old)) aggs old new h refl
 
 -- the steps that look at ports alone
+settles_numbers : (aggs : AggregatorsValue) (old new : List SystemPort) → SettlesIn aggs old new → port_numbers new ≡ port_numbers old
+settles_numbers aggs old new s =
+    zip_numbers RunsPeriodic s.four new s.paces ∙ zip_numbers (RunsReady aggs.keys (views s.two)) s.two s.four s.runs
+    ∙ choosing_numbers aggs s.one s.two s.chooses ∙ zip_numbers (RunsToRest (mux_rows false)) old s.one s.stops
+
 pub ports_keep : (old new : SystemState) → SettlesPorts old new → Keeps old new
-ports_keep old new h =
-    let one = h.0 in
-    let two = h.2.0 in
-    let three = h.2.2.0 in
-    let four = h.2.2.2.0 in
-    let five = h.2.2.2.2.0 in
-    let chose : Keeps one two =
-    keeps_slots one two h.2.1.1 (choosing_numbers (aggregators_value one) one.system_ports two.system_ports h.2.1.0) in
-    keeps_joined old one new (keeps_each (RunsToRest (mux_rows false)) old one h.1)
-    (keeps_joined one two new chose
-    (keeps_joined two three new (keeps_stays two three h.2.2.1)
-    (keeps_joined three four new
-    (keeps_each (λ p q. RunsToRest (mux_rows (ready_of three.keys (views three.system_ports) p.choice)) p q) three four h.2.2.2.1)
-    (keeps_joined four five new (keeps_each RunsPeriodic four five h.2.2.2.2.1) (keeps_stays five new h.2.2.2.2.2)))))
+ports_keep old new h = keeps_slots old new (ports_frame old new h)
+    (settles_numbers (aggregators_value old) old.system_ports new.system_ports (settles_in old new h))
 
 -- they leave the conversations
 pub ports_table : (old new : SystemState) → SettlesPorts old new → new.table ≡ old.table
-ports_table old new h =
-    let table : SystemState → Table = λ s. s.table in
-    ap table h.2.2.2.2.2 ∙ ap table h.2.2.2.2.1.1 ∙ ap table h.2.2.2.1.1 ∙ ap table h.2.2.1 ∙ ap table h.2.1.1 ∙ ap table h.1.1
+ports_table old new h = ap (λ (s : SystemState). s.table) (ports_frame old new h)
 
 -- one settling is those steps, and then the one of the conversations
 pub settling_parts : (old new : SystemState) → Settling old new → (five : SystemState) × SettlesPorts old five × HoldsConversations five new
@@ -120,6 +111,12 @@ settling_parts old new h =
       (h.0, h.1, (h.2.0, h.2.1, (h.2.2.0, h.2.2.1, (h.2.2.2.0, h.2.2.2.1, (five, h.2.2.2.2.1, refl))))),
       subst (HoldsConversations five) (sym h.2.2.2.2.2.2) h.2.2.2.2.2.1,
     )
+
+-- the ports before and after it
+pub settling_in : (old new : SystemState) → Settling old new → SettlesIn (aggregators_value old) old.system_ports new.system_ports
+settling_in old new h =
+    let p = settling_parts old new h in
+    subst (SettlesIn (aggregators_value old) old.system_ports) (sym (ap (λ (s : SystemState). s.system_ports) p.2.frame)) (settles_in old p.0 p.1)
 
 pub settling_joined : (old mid new : SystemState) → SettlesPorts old mid → HoldsConversations mid new → Settling old new
 settling_joined old mid new h l =

@@ -5,8 +5,8 @@ use Rattle.lagsystem.proofs.Common.{RunsToRest, one_mux, one_periodic, Aggregato
 use Rattle.lagsystem.proofs.Common.{SystemPort, PortAtChangesBy, SameConversations, aggregator_numbered, distributing, ChoosesIn, PortsChangeBy}
 use Rattle.lagsystem.proofs.Common.{PromotesAll, PromotesFirst, PromotesNext, PromotesTimes, Settling, after_choices, held_unless_on, ready_of}
 use Rattle.lagsystem.proofs.Common.{with_choice, SystemState, aggregators_value, views}
-use Rattle.lagsystem.proofs.Keeps.{ports_table, settling_parts}
-use Rattle.lagsystem.proofs.Rest.{last_slots}
+use Rattle.lagsystem.proofs.Keeps.{ports_table, settling_in, settling_parts}
+use Rattle.lagsystem.proofs.SettlingLemmas.{RunsReady, SettlesIn}
 use Rattle.lagsystem.proofs.Rising.{all-get}
 
 -- where P holds, the relation leads to one port
@@ -90,44 +90,16 @@ choosing_one aggs l a b h k =
     let mid : h.0 ≡ k.0 = first_one aggs (length aggs.keys) l h.0 k.0 h.1 k.1 in
     h.2 ∙ ap (λ x. after_choices aggs (length x) x) mid ∙ sym k.2
 
--- the steps of settling that look at ports, as a relation between lists of ports
-abbrev RunsMuxIn : AggregatorsValue → List SystemPort → List SystemPort → List SystemPort → Type 0
-RunsMuxIn aggs seen old new = PortsChangeBy (λ p q. RunsToRest (mux_rows (ready_of aggs.keys (views seen) p.choice)) p q) old new
-
-abbrev SettlesIn : AggregatorsValue → List SystemPort → List SystemPort → Type 0
-SettlesIn aggs old new =
-    (one two four : List SystemPort) × PortsChangeBy (RunsToRest (mux_rows false)) old one × ChoosesIn aggs one two
-    × RunsMuxIn aggs two two four × PortsChangeBy RunsPeriodic four new
-
-settles_in : (old new : SystemState) → Settling old new → SettlesIn (aggregators_value old) old.system_ports new.system_ports
-settles_in old new h =
-    let one = h.0 in
-    let two = h.2.0 in
-    let three = h.2.2.0 in
-    let four = h.2.2.2.0 in
-    let first : aggregators_value one ≡ aggregators_value old = ap aggregators_value h.1.1 in
-    let third : aggregators_value three ≡ aggregators_value old = ap aggregators_value h.2.2.1 ∙ ap aggregators_value h.2.1.1 ∙ first in
-    let same : three.system_ports ≡ two.system_ports = ap (λ (s : SystemState). s.system_ports) h.2.2.1 in
-    let runs : RunsMuxIn (aggregators_value three) three.system_ports three.system_ports four.system_ports = h.2.2.2.1.0 in (
-      one.system_ports,
-      two.system_ports,
-      four.system_ports,
-      h.1.0,
-      subst (λ a. ChoosesIn a one.system_ports two.system_ports) first h.2.1.0,
-      subst (λ l. RunsMuxIn (aggregators_value old) l l four.system_ports) same
-          (subst (λ a. RunsMuxIn a three.system_ports three.system_ports four.system_ports) third runs),
-      subst (PortsChangeBy RunsPeriodic four.system_ports) (sym (last_slots old new h)) h.2.2.2.2.1.0,
-    )
-
 settled_one : (aggs : AggregatorsValue) (l a b : List SystemPort) → SettlesIn aggs l a → SettlesIn aggs l b → a ≡ b
 settled_one aggs l a b h k =
-    let one : h.0 ≡ k.0 = one_of_each Any (RunsToRest (mux_rows false)) (λ p q r t. one_mux false p q r) l h.0 k.0 (any_port l) h.3 k.3 in
-    let two : h.1 ≡ k.1 = choosing_one aggs h.0 h.1 k.1 h.4 (subst (λ x. ChoosesIn aggs x k.1) (sym one) k.4) in
-    let four : h.2 ≡ k.2 = one_of_each Any (λ p q. RunsToRest (mux_rows (ready_of aggs.keys (views h.1) p.choice)) p q)
-    (λ p q r t. one_mux (ready_of aggs.keys (views h.1) p.choice) p q r) h.1 h.2 k.2 (any_port h.1) h.5
-    (subst (λ x. RunsMuxIn aggs x x k.2) (sym two) k.5) in
-    one_of_each Any RunsPeriodic (λ p q r t. one_periodic p q r) h.2 a b (any_port h.2) h.6
-    (subst (λ x. PortsChangeBy RunsPeriodic x b) (sym four) k.6)
+    let one : h.one ≡ k.one =
+    one_of_each Any (RunsToRest (mux_rows false)) (λ p q r t. one_mux false p q r) l h.one k.one (any_port l) h.stops k.stops in
+    let two : h.two ≡ k.two = choosing_one aggs h.one h.two k.two h.chooses (subst (λ x. ChoosesIn aggs x k.two) (sym one) k.chooses) in
+    let four : h.four ≡ k.four = one_of_each Any (RunsReady aggs.keys (views h.two))
+    (λ p q r t. one_mux (ready_of aggs.keys (views h.two) p.choice) p q r) h.two h.four k.four (any_port h.two) h.runs
+    (subst (λ x. PortsChangeBy (RunsReady aggs.keys (views x)) x k.four) (sym two) k.runs) in
+    one_of_each Any RunsPeriodic (λ p q r t. one_periodic p q r) h.four a b (any_port h.four) h.paces
+    (subst (λ x. PortsChangeBy RunsPeriodic x b) (sym four) k.paces)
 
 -- each conversation changes by the function, and the next marker has an identifier so much higher
 pub record Changed (f : ℕ → ℕ → Assignment → Assignment) (n : ℕ) (old new : Table) : Type 0 where
@@ -177,9 +149,9 @@ pub settlings_one : (s t new last : SystemState) → SameAfter s t → aggregato
 settlings_one s t new last same aggs h k =
     let theirs : SettlesIn (aggregators_value s) s.system_ports last.system_ports =
     subst (λ l. SettlesIn (aggregators_value s) l last.system_ports) same.0
-    (subst (λ a. SettlesIn a t.system_ports last.system_ports) aggs (settles_in t last k)) in
+    (subst (λ a. SettlesIn a t.system_ports last.system_ports) aggs (settling_in t last k)) in
     let ports : new.system_ports ≡ last.system_ports = settled_one (aggregators_value s) s.system_ports new.system_ports
-    last.system_ports (settles_in s new h) theirs in (
+    last.system_ports (settling_in s new h) theirs in (
       sym ports,
       changed_one _ 0 s.table t.table new.table last.table same.1 (holds s new h)
           (subst (λ l. Changed (λ g k x. held_unless_on (distributing (aggregator_numbered g) l) x) 0 t.table last.table) (sym ports)

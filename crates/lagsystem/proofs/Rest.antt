@@ -6,10 +6,10 @@ use Rattle.lagsystem.proofs.Common.{PortDisabled, Machines, mux_rows, partner_sy
 use Rattle.lagsystem.proofs.Common.{same_receive_state, start_receive, AtRest, Row, RunsToRest, Starts, before_start, after_sending, count_down}
 use Rattle.lagsystem.proofs.Common.{Reaches-keeps, Assignment, Reply, SystemFault, Received, SystemPort, Call, ChangesParty, OnlyPortChangesBy}
 use Rattle.lagsystem.proofs.Common.{PortAtChangesBy, ProcessesLacpdu, Releases, SetsLink, SetsPortEnabled, Step, ThenSettles, Ticks, changed_party}
-use Rattle.lagsystem.proofs.Common.{choice_with_link, HasJustStarted, IsFirst, setup_of, MuxesConsistent, PortsConsistent, ReceivesAtRest}
-use Rattle.lagsystem.proofs.Common.{can_receive, can_receive_in, mux_consistent, mux_consistent_of, none_enabled, GivesOrRefuses, Offers}
-use Rattle.lagsystem.proofs.Common.{SendsMarkerOf, Settling, ready_of, with_choice, SystemState, aggregators_value, port_index, with_system_ports}
-use Rattle.lagsystem.proofs.Common.{views}
+use Rattle.lagsystem.proofs.Common.{choice_with_link, HasJustStarted, IsFirst, setup_of, PortsConsistent, ReceivesAtRest, can_receive, can_receive_in}
+use Rattle.lagsystem.proofs.Common.{mux_consistent, mux_consistent_of, none_enabled, GivesOrRefuses, Offers, SendsMarkerOf, Settling, ready_of}
+use Rattle.lagsystem.proofs.Common.{with_choice, SystemState, aggregators_value, port_index, with_system_ports, views}
+use Rattle.lagsystem.proofs.Keeps.{settling_in}
 use Rattle.lagsystem.proofs.PromotionLemmas.{KeptByChoices, choosing_keeps}
 use Rattle.lagsystem.proofs.Preserves.{Step-preserves_ports}
 use Rattle.lagsystem.proofs.Rising.{all-set, all-get}
@@ -104,27 +104,15 @@ last_slots old new h = ap (λ (x : SystemState). x.system_ports) h.2.2.2.2.2.2 �
 -- settling brings every mux machine to rest, and leaves the receive machines
 pub settling_rested : (old new : SystemState) → Settling old new → ReceivesAtRest old.system_ports → PortsConsistent new.system_ports
 settling_rested old new h a =
-    let one = h.0 in
-    let two = h.2.0 in
-    let three = h.2.2.0 in
-    let four = h.2.2.2.0 in
-    let five = h.2.2.2.2.0 in
-    let a1 : ReceivesAtRest one.system_ports = zip_kept _ IsAwake (λ x y m k. mux_awake false x.port y.port m.1
-    ∙ k) old.system_ports one.system_ports h.1.0 a in
-    let a2 : ReceivesAtRest two.system_ports =
-    choosing_keeps ReceivesAtRest selects_awake (aggregators_value one) one.system_ports two.system_ports h.2.1.0 a1 in
-    let a3 : ReceivesAtRest three.system_ports = subst (λ (s : SystemState). ReceivesAtRest s.system_ports) (sym h.2.2.1) a2 in
-    let a4 : ReceivesAtRest four.system_ports = zip_kept _ IsAwake
-    (λ x y m k. mux_awake (ready_of three.keys (views three.system_ports) x.port.choice) x.port y.port m.1 ∙ k) three.system_ports
-    four.system_ports h.2.2.2.1.0 a3 in
-    let s4 : MuxesConsistent four.system_ports = zip_all _ IsSteady
-    (λ x y m. mux_steady (ready_of three.keys (views three.system_ports) x.port.choice) x.port y.port m.1) three.system_ports
-    four.system_ports h.2.2.2.1.0 in
-    let r5 : PortsConsistent five.system_ports = (
-      zip_kept _ IsAwake (λ x y m k. periodic_awake x.port y.port m.1 ∙ k) four.system_ports five.system_ports h.2.2.2.2.1.0 a4,
-      zip_kept _ IsSteady (λ x y m k. periodic_steady x.port y.port m.1 ∙ k) four.system_ports five.system_ports h.2.2.2.2.1.0 s4,
-    ) in
-    subst PortsConsistent (sym (last_slots old new h)) r5
+    let s = settling_in old new h in
+    let keys = old.keys in
+    let awake = zip_kept _ IsAwake (λ x y m k. mux_awake (ready_of keys (views s.two) x.port.choice) x.port y.port m.1 ∙ k) s.two s.four s.runs
+    (choosing_keeps ReceivesAtRest selects_awake (aggregators_value old) s.one s.two s.chooses
+    (zip_kept _ IsAwake (λ x y m k. mux_awake false x.port y.port m.1 ∙ k) old.system_ports s.one s.stops a)) in
+    let steady = zip_all _ IsSteady (λ x y m. mux_steady (ready_of keys (views s.two) x.port.choice) x.port y.port m.1) s.two s.four s.runs in (
+      zip_kept _ IsAwake (λ x y m k. periodic_awake x.port y.port m.1 ∙ k) s.four new.system_ports s.paces awake,
+      zip_kept _ IsSteady (λ x y m k. periodic_steady x.port y.port m.1 ∙ k) s.four new.system_ports s.paces steady,
+    )
 
 -- the own effects
 place_kept : (P : SystemPort → Type 0) (R : Machines → Machines → Type 0) (o : Option ℕ) (old new : List SystemPort)

@@ -1,9 +1,9 @@
 -- What settling does, from what its loops do.
 use Rattle.lagsystem.proofs.Common.{Bool, List, None, Option, Some, [], ap, arith, cond, false, filter, if◌then◌else◌, not, option_map, refl}
 use Rattle.lagsystem.proofs.Common.{slice_get, slice_set, subst, suc, sym, true, zero, ℕ, ◌&&◌, ◌||◌, ◌∙◌, ◌∷◌, ◌≡◌, or_parts, nat_tests, same_Some}
-use Rattle.lagsystem.proofs.Common.{list_all, list_any, AggId, Key, Choice, Selected, Standby, Unselected, is_selected, mux_rows, RunsPeriodic}
-use Rattle.lagsystem.proofs.Common.{RunsToRest, PortView, chosen_aggregator, is_aggregator, ports_that_chose, AggregatorsValue, members, has_chosen}
-use Rattle.lagsystem.proofs.Common.{has_waited, is_detached_or_waiting, is_eligible, SystemPort, ChoosesIn, PortChangesBy, PortsChangeBy}
+use Rattle.lagsystem.proofs.Common.{list_all, list_any, AggId, Key, Choice, Selected, Standby, Unselected, is_selected, Machines, mux_rows}
+use Rattle.lagsystem.proofs.Common.{RunsPeriodic, RunsToRest, PortView, chosen_aggregator, is_aggregator, ports_that_chose, AggregatorsValue, members}
+use Rattle.lagsystem.proofs.Common.{has_chosen, has_waited, is_detached_or_waiting, is_eligible, SystemPort, ChoosesIn, PortChangesBy, PortsChangeBy}
 use Rattle.lagsystem.proofs.Common.{SettlesPorts, after_choice_at, aggregator_for, choice_for, choice_in, is_restless, ready_of, with_choice}
 use Rattle.lagsystem.proofs.Common.{SystemState, aggregators_value, with_system_ports, selection_view, views}
 use Rattle.lagsystem.proofs.Lists.{AllZip-weaker}
@@ -109,6 +109,44 @@ settling_made base aggs system_ports one two four five ek es h1 h2 h4 h5 =
         (with_system_ports base two, refl, (with_system_ports base four, (k4, refl), (with_system_ports base five, (h5, refl), refl))),
       ),
     )
+
+-- with Ready as it is worked out for these ports
+abbrev pub RunsReady : List Key → List PortView → Machines → Machines → Type 0
+RunsReady keys seen p q = RunsToRest (mux_rows (ready_of keys seen p.choice)) p q
+
+-- the steps that change ports, as relations between lists of ports
+pub record SettlesIn (aggs : AggregatorsValue) (old new : List SystemPort) : Type 0 where
+  pub one : List SystemPort
+  pub two : List SystemPort
+  pub four : List SystemPort
+  pub stops : PortsChangeBy (RunsToRest (mux_rows false)) old one
+  pub chooses : ChoosesIn aggs one two
+  pub runs : PortsChangeBy (RunsReady aggs.keys (views two)) two four
+  pub paces : PortsChangeBy RunsPeriodic four new
+
+pub settles_in : (old new : SystemState) → SettlesPorts old new → SettlesIn (aggregators_value old) old.system_ports new.system_ports
+settles_in old new h =
+    let two = h.2.0 in
+    let four = h.2.2.2.0 in
+    let keys : aggregators_value two ≡ aggregators_value old = ap aggregators_value h.2.1.1 ∙ ap aggregators_value h.1.1 in
+    let runs : PortsChangeBy (RunsReady two.keys (views two.system_ports)) two.system_ports four.system_ports =
+    subst (λ (s : SystemState). PortsChangeBy (RunsReady s.keys (views s.system_ports)) s.system_ports four.system_ports) h.2.2.1 h.2.2.2.1.0 in
+    record {
+      one = h.0.system_ports;
+      two = two.system_ports;
+      four = four.system_ports;
+      stops = h.1.0;
+      chooses = subst (λ a. ChoosesIn a h.0.system_ports two.system_ports) (ap aggregators_value h.1.1) h.2.1.0;
+      runs = subst (λ (a : AggregatorsValue). PortsChangeBy (RunsReady a.keys (views two.system_ports)) two.system_ports four.system_ports)
+          keys runs;
+      paces = subst (PortsChangeBy RunsPeriodic four.system_ports) (sym (ap (λ (s : SystemState). s.system_ports) h.2.2.2.2.2)) h.2.2.2.2.1.0;
+    }
+
+-- and they change nothing else
+pub ports_frame : (old new : SystemState) → SettlesPorts old new → new ≡ with_system_ports old new.system_ports
+ports_frame old new h =
+    let set : SystemState → SystemState = λ s. with_system_ports s new.system_ports in
+    ap set h.2.2.2.2.2 ∙ ap set h.2.2.2.2.1.1 ∙ ap set h.2.2.2.1.1 ∙ ap set h.2.2.1 ∙ ap set h.2.1.1 ∙ ap set h.1.1
 
 pub set_same : (system_ports : List SystemPort) (i : ℕ) (s : SystemPort) → slice_get system_ports i ≡ Some s
     → slice_set system_ports i s ≡ system_ports

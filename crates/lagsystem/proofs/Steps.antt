@@ -27,12 +27,12 @@ use Rattle.slowpdu.specs.declared.pdu.Pdu.TheVariants as pdu
 use Rattle.distributor.specs.declared.fault.DistFault.TheVariants.{NotAssigned}
 use Rattle.lagsystem.specs.declared.drive.Reply.TheVariants as reply
 use Rattle.lagsystem.proofs.Conversing.{assigned_may, carrying_moves, leaving_moves, table_moves}
-use Rattle.lagsystem.proofs.Keeps.{Keeps, keeps_each, keeps_link, keeps_place, keeps_tick, ports_keep, ports_table, settling_parts}
+use Rattle.lagsystem.proofs.Keeps.{Keeps, choosing_numbers, keeps_link, keeps_place, keeps_tick, ports_table, settling_parts, zip_numbers}
 use Rattle.lagsystem.proofs.FirstView.{restarted_shows}
 use Rattle.lagsystem.proofs.Lists.{AllZip-weaker}
 use Rattle.lagsystem.proofs.Rest.{can_receive_at_rest, zip_all}
 use Rattle.lagsystem.proofs.Rising.{Rises, all-get, are_numbered, found_place}
-use Rattle.lagsystem.proofs.SettlingLemmas.{set_same}
+use Rattle.lagsystem.proofs.SettlingLemmas.{RunsReady, set_same, settles_in}
 use Rattle.lagsystem.proofs.OfPort.{PortMoves, SlotMoves, slot_moves, all_slots_move}
 use Rattle.lagsystem.proofs.Rows.{QuietMoves, loudly, settles_moves, mux_moves, runs_periodic_moves}
 use Rattle.lagsystem.proofs.Effects.{tick_moves, links_moves, taking_moves, configures_moves, sending}
@@ -72,45 +72,28 @@ ports_moves : (u : SystemSetup) (call : Told) (f : DistributorFacts) (old new : 
     → Rises 0 (port_numbers old.system_ports) → OccupantsAgree old.keys old.system_ports → SettlesPorts old new
     → LawfulMoves u call (model_view_at f old.system_ports) [] (model_view_at f new.system_ports)
 ports_moves u call f old new fits r agree h =
-    let one = h.0 in
-    let two = h.2.0 in
-    let three = h.2.2.0 in
-    let four = h.2.2.2.0 in
-    let five = h.2.2.2.2.0 in
+    let s = settles_in old new h in
+    let aggs = aggregators_value old in
+    let keys = old.keys in
+    let view = model_view_at f in
     let free : Machines → Machines → Type 0 = λ p q. RunsToRest (mux_rows false) p q in
-    let ready : Machines → Machines → Type 0 = λ p q. RunsToRest (mux_rows (ready_of three.keys (views three.system_ports) p.choice)) p q in
-    let k1 : Keeps old one = keeps_each free old one h.1 in
-    let r1 = rising old one k1 r in
-    let m1 = each_moves u call f free (λ n p q x. settles_moves u call n (mux_rows false) (mux_moves u call n false) p q x) old.system_ports
-    one.system_ports r h.1.0 in
-    let a1 : OccupantsAgree one.keys one.system_ports =
-    subst (λ (s : SystemState). OccupantsAgree s.keys one.system_ports) (sym h.1.1)
-    (stay_agrees old.keys old.system_ports one.system_ports (zip_stay free (mux_stays false) old.system_ports one.system_ports h.1.0) agree) in
-    let idle = zip_all (PortChangesBy free) StandbyIsIdle rest_idle old.system_ports one.system_ports h.1.0 in
-    let m2 = choosing_moves u call f (aggregators_value one) one.system_ports two.system_ports (fitting u old one k1 fits) r1 a1 idle
-    h.2.1.0 in
-    let there : three ≡ two = h.2.2.1 in
-    let m3 : LawfulMoves u call (model_view_at f one.system_ports) [] (model_view_at f three.system_ports) =
-    subst (λ (s : SystemState). LawfulMoves u call (model_view_at f one.system_ports) [] (model_view_at f s.system_ports))
-    (sym there) m2 in
-    let last : new ≡ five = h.2.2.2.2.2 in
-    let n5 : port_numbers five.system_ports ≡ port_numbers old.system_ports = ap (λ (s : SystemState). port_numbers s.system_ports)
-    (sym last) ∙ (ports_keep old new h).same in
-    let k5 : Keeps four five = keeps_each RunsPeriodic four five h.2.2.2.2.1 in
-    let k4 : Keeps three four = keeps_each ready three four h.2.2.2.1 in
-    let r4 : Rises 0 (port_numbers four.system_ports) = subst (λ ns. Rises 0 ns) (sym (sym k5.same ∙ n5)) r in
-    let r3 : Rises 0 (port_numbers three.system_ports) = subst (λ ns. Rises 0 ns) (sym (sym k4.same ∙ sym k5.same ∙ n5)) r in
-    let m4 = each_moves u call f ready (λ n p q x. let b = ready_of three.keys (views three.system_ports) p.choice in settles_moves u call n
-    (mux_rows b) (mux_moves u call n b) p q x) three.system_ports four.system_ports r3 h.2.2.2.1.0 in
-    let m5 = each_moves u call f RunsPeriodic (λ n p q x. runs_periodic_moves u call n p q x) four.system_ports
-    five.system_ports r4 h.2.2.2.2.1.0 in
-    let all = moves_joined u call (model_view_at f old.system_ports) (model_view_at f one.system_ports)
-    (model_view_at f five.system_ports) [] [] m1
-    (moves_joined u call (model_view_at f one.system_ports) (model_view_at f three.system_ports)
-    (model_view_at f five.system_ports) [] [] m3
-    (moves_joined u call (model_view_at f three.system_ports) (model_view_at f four.system_ports)
-    (model_view_at f five.system_ports) [] [] m4 m5)) in
-    subst (λ (s : SystemState). LawfulMoves u call (model_view_at f old.system_ports) [] (model_view_at f s.system_ports)) (sym last) all
+    let run : (ready : Bool) (n : ℕ) (p q : Machines) → RunsToRest (mux_rows ready) p q → QuietMoves u call n p [] q =
+    λ ready n. settles_moves u call n (mux_rows ready) (mux_moves u call n ready) in
+    let n1 = zip_numbers free old.system_ports s.one s.stops in
+    let n2 = choosing_numbers aggs s.one s.two s.chooses ∙ n1 in
+    let n4 = zip_numbers (RunsReady keys (views s.two)) s.two s.four s.runs ∙ n2 in
+    let rise : (l : List SystemPort) → port_numbers l ≡ port_numbers old.system_ports → Rises 0 (port_numbers l) =
+    λ l e. subst (λ ns. Rises 0 ns) (sym e) r in
+    let m1 = each_moves u call f free (run false) old.system_ports s.one r s.stops in
+    let a1 = stay_agrees keys old.system_ports s.one (zip_stay free (mux_stays false) old.system_ports s.one s.stops) agree in
+    let idle = zip_all (PortChangesBy free) StandbyIsIdle rest_idle old.system_ports s.one s.stops in
+    let m2 = choosing_moves u call f aggs s.one s.two fits (rise s.one n1) a1 idle s.chooses in
+    let m4 = each_moves u call f (RunsReady keys (views s.two)) (λ n p q x. run (ready_of keys (views s.two) p.choice) n p q x) s.two s.four
+    (rise s.two n2) s.runs in
+    let m5 = each_moves u call f RunsPeriodic (λ n p q x. runs_periodic_moves u call n p q x) s.four new.system_ports (rise s.four n4) s.paces in
+    moves_joined u call (view old.system_ports) (view s.one) (view new.system_ports) [] [] m1
+    (moves_joined u call (view s.one) (view s.two) (view new.system_ports) [] [] m2
+    (moves_joined u call (view s.two) (view s.four) (view new.system_ports) [] [] m4 m5))
 
 -- settling
 pub settling_moves : (u : SystemSetup) (call : Told) (old new : SystemState) → Fits u old.keys → Rises 0 (port_numbers old.system_ports)

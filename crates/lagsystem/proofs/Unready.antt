@@ -5,6 +5,7 @@ use Rattle.lagsystem.proofs.Common.{Unselected, is_selected, is_unselected, MuxS
 use Rattle.lagsystem.proofs.Common.{is_synchronized, mux_rows, same_mux_state, Fires, FiresTimes, Row, RunsToRest, Reaches-keeps, PortView}
 use Rattle.lagsystem.proofs.Common.{is_aggregator, ports_that_chose, is_ready, has_chosen, has_waited, is_detached_or_waiting, SystemPort}
 use Rattle.lagsystem.proofs.Common.{PortsChangeBy, ready_of, selection_view, stage_of, views}
+use Rattle.lagsystem.proofs.SettlingLemmas.{RunsReady}
 
 -- what rows keep if they are enabled
 abbrev KeptBy : (Machines → Bool) → List Row → Type 0
@@ -163,12 +164,9 @@ all_next b w v rest more h f g = grind (arith, nat_tests)
 
 -- the mux step
 
-abbrev Steps : List Key → List PortView → Machines → Machines → Type 0
-Steps keys seen p q = RunsToRest (mux_rows (ready_of keys seen p.choice)) p q
-
 -- with Ready
 none_wait : (keys : List Key) (seen : List PortView) (agg : AggId) → is_ready keys seen agg ≡ true → (xs ys : List SystemPort)
-    → PortsChangeBy (Steps keys seen) xs ys → list_any W (ports_that_chose agg (views ys)) ≡ false
+    → PortsChangeBy (RunsReady keys seen) xs ys → list_any W (ports_that_chose agg (views ys)) ≡ false
 none_wait keys seen agg r [] [] h = refl
 none_wait keys seen agg r [] (y ∷ ys) h = absurd h
 none_wait keys seen agg r (x ∷ xs) [] h = absurd h
@@ -184,11 +182,11 @@ none_wait keys seen agg r (x ∷ xs) (y ∷ ys) h =
 
 -- without
 unready_step : (keys : List Key) (seen : List PortView) (agg : AggId) (x y : SystemPort) → is_ready keys seen agg ≡ false
-    → Steps keys seen x.port y.port → has_chosen agg x.port.choice ≡ true → RunsToRest (mux_rows false) x.port y.port
+    → RunsReady keys seen x.port y.port → has_chosen agg x.port.choice ≡ true → RunsToRest (mux_rows false) x.port y.port
 unready_step keys seen agg x y r h g = subst (λ b. RunsToRest (mux_rows b) x.port y.port) (ready_given keys seen agg x.port.choice g ∙ r) h
 
 any_stays : (keys : List Key) (seen : List PortView) (agg : AggId) → is_ready keys seen agg ≡ false → (xs ys : List SystemPort)
-    → PortsChangeBy (Steps keys seen) xs ys
+    → PortsChangeBy (RunsReady keys seen) xs ys
     → list_any W (ports_that_chose agg (views xs)) ≡ false → list_any W (ports_that_chose agg (views ys)) ≡ false
 any_stays keys seen agg r [] [] h k = refl
 any_stays keys seen agg r [] (y ∷ ys) h k = absurd h
@@ -211,7 +209,7 @@ open_is : (x o : Bool) → (x && o) ≡ true → o ≡ true
 open_is x o h = grind (arith, nat_tests)
 
 all_stay : (keys : List Key) (seen : List PortView) (agg : AggId) → is_ready keys seen agg ≡ false → (xs ys : List SystemPort)
-    → PortsChangeBy (Steps keys seen) xs ys
+    → PortsChangeBy (RunsReady keys seen) xs ys
     → all_waited (ports_that_chose agg (views xs)) ≡ false → all_waited (ports_that_chose agg (views ys)) ≡ false
 all_stay keys seen agg r [] [] h k = k
 all_stay keys seen agg r [] (y ∷ ys) h k = absurd h
@@ -239,7 +237,7 @@ none_of k g h = grind (arith, nat_tests)
 one_false : (a b c d : Bool) → (a && b) ≡ false → (a ≡ false → c ≡ false) → (b ≡ false → d ≡ false) → (c && d) ≡ false
 one_false a b c d h f g = grind (arith, nat_tests)
 
-unready_cases : (keys : List Key) (agg : AggId) (xs ys : List SystemPort) → PortsChangeBy (Steps keys (views xs)) xs ys → (r : Bool)
+unready_cases : (keys : List Key) (agg : AggId) (xs ys : List SystemPort) → PortsChangeBy (RunsReady keys (views xs)) xs ys → (r : Bool)
     → is_ready keys (views xs) agg ≡ r → (k : Bool) → is_aggregator keys agg ≡ k
     → is_ready keys (views ys) agg ≡ false
 unready_cases keys agg xs ys h true e k i =
@@ -256,7 +254,7 @@ unready_cases keys agg xs ys h false e true i =
     (all_waited (ports_that_chose agg (views ys))) was
     (any_stays keys (views xs) agg e xs ys h) (all_stay keys (views xs) agg e xs ys h))
 
-pub none_ready : (keys : List Key) (xs ys : List SystemPort) → PortsChangeBy (Steps keys (views xs)) xs ys → (c : Choice)
+pub none_ready : (keys : List Key) (xs ys : List SystemPort) → PortsChangeBy (RunsReady keys (views xs)) xs ys → (c : Choice)
     → ready_of keys (views ys) c ≡ false
 none_ready keys xs ys h Unselected = refl
 none_ready keys xs ys h (Standby agg) = refl

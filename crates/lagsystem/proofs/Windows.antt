@@ -18,8 +18,8 @@ use Rattle.portmachines.proofs.Windows.{ages_of, mux-same, periodic-ages, settle
 use Rattle.lagsystem.specs.declared.drive.Reply.TheVariants as reply
 use Rattle.lagsystem.proofs.Preserves.{Step-preserves_ports, lacpdu_subtype}
 use Rattle.lagsystem.proofs.PromotionLemmas.{KeptByChoices, choosing_keeps}
-use Rattle.lagsystem.proofs.Keeps.{given_number}
-use Rattle.lagsystem.proofs.Rest.{last_slots, same_slots}
+use Rattle.lagsystem.proofs.Keeps.{given_number, settling_in}
+use Rattle.lagsystem.proofs.SettlingLemmas.{RunsReady}
 
 -- one port
 
@@ -127,19 +127,12 @@ in_same P N n old new e g = subst (In P N n) (sym e) g
 in_settling : (P : Machines → Type 0) (N : Type 0) (n : ℕ) → IsKept P → (old new : SystemState) → Settling old new
     → In P N n old.system_ports → In P N n new.system_ports
 in_settling P N n kept old new h g =
-    let one = h.0 in
-    let two = h.2.0 in
-    let three = h.2.2.0 in
-    let four = h.2.2.2.0 in
-    let five = h.2.2.2.2.0 in
-    let ready = λ (p : Machines). ready_of three.keys (views three.system_ports) p.choice in
-    let g1 = in_each P P N (RunsToRest (mux_rows false)) n (kept.mux false) old.system_ports one.system_ports h.1.0 g in
-    let g2 = choosing_keeps (In P N n) (in_select P N n kept) (aggregators_value one) one.system_ports two.system_ports h.2.1.0 g1 in
-    let g3 = in_same P N n two three (same_slots two three h.2.2.1) g2 in
-    let g4 = in_each P P N (λ p q. RunsToRest (mux_rows (ready p)) p q) n (λ p q d. kept.mux (ready p) p q d) three.system_ports
-    four.system_ports h.2.2.2.1.0 g3 in
-    let g5 = in_each P P N RunsPeriodic n kept.periodic four.system_ports five.system_ports h.2.2.2.2.1.0 g4 in
-    in_same P N n five new (last_slots old new h) g5
+    let s = settling_in old new h in
+    let ready = λ (p : Machines). ready_of old.keys (views s.two) p.choice in
+    in_each P P N RunsPeriodic n kept.periodic s.four new.system_ports s.paces
+    (in_each P P N (RunsReady old.keys (views s.two)) n (λ p q d. kept.mux (ready p) p q d) s.two s.four s.runs
+    (choosing_keeps (In P N n) (in_select P N n kept) (aggregators_value old) s.one s.two s.chooses
+    (in_each P P N (RunsToRest (mux_rows false)) n (kept.mux false) old.system_ports s.one s.stops g)))
 
 good_kept : (now : ℕ) (before : List ℕ) → IsKept (λ p. Good now p before)
 good_kept now before = record {
