@@ -1,7 +1,7 @@
 -- What offer_conversation does is what `offer` does for each frame of the conversation.
 use Rattle.lagsystem.proofs.Common.{Bool, Err, List, Ok, Result, ap, arith, false, nat_lt, refl, subst, sym, true, ℕ, ◌%◌, ◌*◌, ◌+◌, ◌/◌, ◌<◌, ◌∙◌}
 use Rattle.lagsystem.proofs.Common.{◌≡◌, nat_tests, AllByRecursion, bit_xor, AggId, On, assignment_of, is_conversation_count, SystemFault}
-use Rattle.lagsystem.proofs.Common.{OffersConversation, OffersIf, TakesPort, frame_of_conversation, Offer, MayBeOffered, MayBeOfferedTo, Offers}
+use Rattle.lagsystem.proofs.Common.{OffersConversation, OffersIf, TakesPort, frame_of_conversation, Offer, MayBeOffered, Offers}
 use Rattle.lagsystem.proofs.Common.{has_aggregator, conversation_count, distributing, number_of_conversation, CallPromise, IsSound, SystemState}
 use Rattle.lagsystem.specs.Offers.{longest_frame}
 use Rattle.std.proofs.Math.Nat.{mod-eq_of_lt}
@@ -12,12 +12,6 @@ use Rattle.lagsystem.proofs.OnPorts.{may_carry, sets_carried}
 use Rattle.lagsystem.proofs.PromiseLemmas.{table_sound}
 use Rattle.lagsystem.proofs.Rising.{accepted_count}
 use Rattle.lagsystem.proofs.Sound.{answers}
-
--- a frame of the conversation is offered
-pub taken_offers : (gives : ℕ → ℕ → ℕ → Type 0) (agg : AggId) (octets : List ℕ) (old : SystemState) (answer : Result ℕ SystemFault)
-    (new : SystemState) → MayBeOfferedTo old agg octets → TakesPort gives agg (number_of_conversation old octets) old answer new
-    → Offers gives agg octets old answer new
-taken_offers gives agg octets old answer new may h = grind (arith, nat_tests)
 
 below_count : (s : SystemState) → is_conversation_count s.conversations ≡ true → (octets : List ℕ)
     → nat_lt (number_of_conversation s octets) (conversation_count s) ≡ true
@@ -32,9 +26,7 @@ offers_if gives agg octets old answer new there known e k may h = grind (arith, 
 pub offered_alike : (gives : ℕ → ℕ → ℕ → Type 0) (agg : AggId) (octets : List ℕ) (old : SystemState) (answer : Result ℕ SystemFault)
     (new : SystemState) → is_conversation_count old.conversations ≡ true → MayBeOffered octets
     → OffersConversation gives agg (number_of_conversation old octets) old answer new → Offers gives agg octets old answer new
-offered_alike gives agg octets old answer new c may h =
-    offers_if gives agg octets old answer new (has_aggregator old agg)
-    (nat_lt (number_of_conversation old octets) (conversation_count old)) refl (below_count old c octets) may h
+offered_alike gives agg octets old answer new c may h = grind (arith, nat_tests, offers_if, below_count)
 
 -- the invariant stays
 takes_sound : (gives : ℕ → ℕ → ℕ → Type 0) (agg : AggId) (conv : ℕ) (old : SystemState) (answer : Result ℕ SystemFault)
@@ -54,8 +46,7 @@ if_sound gives agg conv old answer new true true h s = takes_sound gives agg con
 
 pub offers_sound : (gives : ℕ → ℕ → ℕ → Type 0) (agg : AggId) (conv : ℕ) (old : SystemState) (answer : Result ℕ SystemFault)
     (new : SystemState) → OffersConversation gives agg conv old answer new → IsSound old → IsSound new
-offers_sound gives agg conv old answer new h s =
-    if_sound gives agg conv old answer new (has_aggregator old agg) (nat_lt conv (conversation_count old)) h s
+offers_sound gives agg conv old answer new h s = grind (arith, nat_tests, if_sound)
 
 pub offers_promise : (gives : ℕ → ℕ → ℕ → Type 0) (agg : AggId) (conv : ℕ) (old : SystemState) (answer : Result ℕ SystemFault)
     (new : SystemState) → OffersConversation gives agg conv old answer new → IsSound old → (octets : List ℕ) → MayBeOffered octets
@@ -85,5 +76,4 @@ framed s conv l = (
     small n m l = mod-eq_of_lt l
 
 pub frame_is_octets : (conv : ℕ) → conv < 65536 → AllByRecursion (λ octet. octet < 256) (frame_of_conversation conv)
-frame_is_octets conv l =
-    (omega arith, (omega arith, (omega arith, (omega arith, (omega (arith, l), (omega arith, (omega arith, (omega arith, (omega arith, (omega arith, (omega arith, (omega arith, (omega arith, (omega arith, tt))))))))))))))
+frame_is_octets conv l = grind (arith, nat_tests)

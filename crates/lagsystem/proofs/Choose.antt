@@ -2,7 +2,7 @@
 use Rattle.lagsystem.proofs.Common.{Bool, List, None, Option, Some, [], ap, arith, false, inl, inr, length, not, option_map, refl, slice_get}
 use Rattle.lagsystem.proofs.Common.{slice_set, subst, sym, true, ℕ, ◌&&◌, ◌∙◌, ◌∷◌, ◌≡◌, ◌≢◌, cases_eq, false≢true, nat_tests, none-some, same_Some}
 use Rattle.lagsystem.proofs.Common.{AllByRecursion, AggId, Key, Choice, Selected, Standby, Unselected, is_selected, is_standby, is_unselected}
-use Rattle.lagsystem.proofs.Common.{SamePair, individual, same_system, party_of, find_number, ports_of, LawfulMoves, PortAllowed, PortMove, pair_at}
+use Rattle.lagsystem.proofs.Common.{SamePair, individual, same_system, party_of, ports_of, LawfulMoves, PortAllowed, PortMove, pair_at}
 use Rattle.lagsystem.proofs.Common.{port_after, DistributorFacts, ModelCall, PortFacts, SystemSetup, mapped_some, moves_at, moves_joined, MuxState}
 use Rattle.lagsystem.proofs.Common.{CollectingDistributing, partner_synchronized, same_mux_state, chosen_aggregator, chosen_for_view, IsOccupant}
 use Rattle.lagsystem.proofs.Common.{MayJoin, ends, AggregatorsValue, has_room, is_detached, is_eligible, SystemPort, key_of, model_port}
@@ -30,9 +30,7 @@ all_weaker P Q w (s ∷ ss) h = (w s h.0, all_weaker P Q w ss h.1)
 
 all_shown : (P : PortFacts → Type 0) (system_ports : List SystemPort) → AllByRecursion (λ s. P (model_port_of s)) system_ports
     → (q : ℕ) (b : PortFacts) → ports_of number_of_port model_port_of system_ports q ≡ Some b → P b
-all_shown P system_ports all q b e =
-    let x = mapped_some model_port_of (find_number number_of_port system_ports q) b e in
-    subst P x.2 (all_found (λ s. P (model_port_of s)) system_ports all q x.0 x.1)
+all_shown P system_ports all q b e = grind (arith, nat_tests, mapped_some, all_found)
 
 given_there : (agg : AggId) (c : Choice) → selected_number c ≡ Some agg.0 → c ≡ Selected agg
 given_there agg c e = grind (arith, nat_tests)
@@ -192,12 +190,7 @@ StandbyIsIdle s = is_standby s.port.choice ≡ true → same_mux_state Collectin
 
 promoted : (s : SystemPort) (agg : AggId) → s.port.choice ≡ Standby agg → StandbyIsIdle s
     → model_port_of (with_choice s (Some (Selected agg))) ≡ port_after (PortMove.Join agg.0) (model_port_of s)
-promoted s agg e idle =
-    let mux = idle (ap is_standby e) in
-    let sync = partner_synchronized s.port in
-    let view : Bool → PortFacts = λ d. record (model_port_of s) { aggregator = Some agg.0; distributes = d } in
-    ap view (still sync true (same_mux_state CollectingDistributing s.port.mux) mux
-    ∙ sym (still sync (is_selected s.port.choice) (same_mux_state CollectingDistributing s.port.mux) mux))
+promoted s agg e idle = grind (arith, nat_tests)
 
 -- what every promotion keeps
 abbrev PromotedSoFar : SystemSetup → ModelCall → DistributorFacts → List Key → List SystemPort → List SystemPort → Type 0

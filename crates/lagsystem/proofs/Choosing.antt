@@ -1,6 +1,6 @@
 -- Ports choose one after another, and the list of views stays equal to their views.
-use Rattle.lagsystem.proofs.Common.{Bool, List, None, Option, Some, [], ap, arith, false, get_or, length, not, refl, slice_get, slice_set, subst, suc}
-use Rattle.lagsystem.proofs.Common.{zero, ℕ, ◌<◌, ◌||◌, ◌∙◌, ◌∷◌, ◌≡◌, or_parts, nat_tests, same_Some, list_any, Choice, is_selected, is_unselected}
+use Rattle.lagsystem.proofs.Common.{Bool, List, None, Option, Some, [], ap, arith, false, get_or, length, not, refl, slice_get, slice_set, suc}
+use Rattle.lagsystem.proofs.Common.{zero, ℕ, ◌<◌, ◌||◌, ◌∙◌, ◌∷◌, ◌≡◌, or_parts, nat_tests, list_any, Choice, is_selected, is_unselected}
 use Rattle.lagsystem.proofs.Common.{PortView, AggregatorsValue, is_eligible, SystemPort, after_choice_at, after_choices, with_choice, selection_view}
 use Rattle.lagsystem.proofs.Common.{views}
 use Rattle.lagsystem.proofs.SettlingLemmas.{none_taken}
@@ -20,14 +20,12 @@ pub seen_taken : (seen : List PortView) (system_ports : List SystemPort) (i : �
     → seen ≡ views system_ports → i < length system_ports
     → slice_set seen i (record (get_or seen i d) { choice = c }) ≡ views
     (slice_set system_ports i (with_choice (get_or system_ports i t) (Some c)))
-seen_taken seen system_ports i d t c e l = ap (λ vs. slice_set vs i (record (get_or vs i d) { choice = c })) e
-    ∙ seen_given system_ports i d t c l
+seen_taken seen system_ports i d t c e l = grind (arith, nat_tests, seen_given)
 
 not_here : (system_ports : List SystemPort) (i : ℕ) (s : SystemPort) → one_eligible system_ports ≡ false → slice_get system_ports i ≡ Some s
     → is_eligible (selection_view s) ≡ false
 not_here [] i s h e = cc
-not_here (x ∷ xs) zero s h e = let same : x ≡ s = same_Some x s e in subst (λ y. is_eligible (selection_view y) ≡ false) same
-    (or_parts (is_eligible (selection_view x)) (one_eligible xs) h).0
+not_here (x ∷ xs) zero s h e = grind (arith, nat_tests, or_parts)
 not_here (x ∷ xs) (suc i) s h e = not_here xs i s (or_parts (is_eligible (selection_view x)) (one_eligible xs) h).1 e
 
 stays_at : (aggs : AggregatorsValue) (system_ports : List SystemPort) (i : ℕ) (o : Option SystemPort) → one_eligible system_ports ≡ false
@@ -40,8 +38,7 @@ stays_at aggs system_ports i (Some s) h e = none_taken aggs system_ports i s e (
 pub none_chosen : (aggs : AggregatorsValue) (n : ℕ) (system_ports : List SystemPort) → one_eligible system_ports ≡ false
     → system_ports ≡ after_choices aggs n system_ports
 none_chosen aggs zero system_ports h = refl
-none_chosen aggs (suc n) system_ports h = subst (λ l. system_ports ≡ after_choice_at aggs l n (slice_get l n))
-    (none_chosen aggs n system_ports h) (stays_at aggs system_ports n (slice_get system_ports n) h refl)
+none_chosen aggs (suc n) system_ports h = grind (arith, nat_tests, stays_at, none_chosen aggs n system_ports h)
 
 -- a port that is not UNSELECTED is not eligible
 pub chosen_not_eligible : (v : PortView) → is_unselected v.choice ≡ false → false ≡ is_eligible v

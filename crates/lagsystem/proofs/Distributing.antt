@@ -1,6 +1,6 @@
 -- The ports that distribute in an aggregator, and the numbers of ports, in ascending order.
 use Rattle.lagsystem.proofs.Common.{Bool, IsSomeAnd, List, Option, Some, [], ap, arith, cond, eq-eqb, false, filter, length, nat_le, nat_lt, refl}
-use Rattle.lagsystem.proofs.Common.{slice_get, slice_index, subst, suc, sym, true, zero, ℕ, ◌&&◌, ◌+◌, ◌<◌, ◌||◌, ◌∙◌, ◌∷◌, ◌≡◌, false≢true}
+use Rattle.lagsystem.proofs.Common.{slice_get, slice_index, subst, suc, sym, true, zero, ℕ, ◌&&◌, ◌<◌, ◌||◌, ◌∙◌, ◌∷◌, ◌≡◌, false≢true}
 use Rattle.lagsystem.proofs.Common.{nat_tests, none-some, slice_get_past, OnFalse, IsStrictlyIncreasing, AggId, Key, PortFacts, is_among, SystemPort}
 use Rattle.lagsystem.proofs.Common.{key_of, model_view, has_aggregator, distributes_in, distributing, HasPorts, IsSound, SystemState, port_numbers}
 use Rattle.lagsystem.proofs.Conversing.{seen_distributing}
@@ -14,9 +14,7 @@ rises_next low (n ∷ m ∷ ns) zero r l = r.1.0
 rises_next low (n ∷ m ∷ ns) (suc k) r l = rises_next n (m ∷ ns) k r.1 (omega (arith, l))
 
 increasing : (low : ℕ) (ns : List ℕ) → Rises low ns → IsStrictlyIncreasing ns
-increasing low ns r k l =
-    let one : k + 1 ≡ suc k = omega arith in
-    subst (λ m. slice_index ns k < slice_index ns m) (sym one) (rises_next low ns k r (omega (arith, l)))
+increasing low ns r k l = grind (arith, nat_tests, rises_next)
 
 lower : (low mid : ℕ) (ns : List ℕ) → low < mid → Rises mid ns → Rises low ns
 lower low mid [] l r = tt
@@ -68,5 +66,4 @@ by_answer b P f = grind (arith, nat_tests)
 
 -- no port distributes in an aggregator that is not there
 pub none_distribute : (agg : AggId) (s : SystemState) → IsSound s → OnFalse (has_aggregator s agg) (distributing agg s.system_ports ≡ [])
-none_distribute agg s h = by_answer (has_aggregator s agg) (distributing agg s.system_ports ≡ [])
-    (λ unknown. none_there agg s (distributing agg s.system_ports) h unknown refl)
+none_distribute agg s h = grind (arith, nat_tests, by_answer, none_there)

@@ -3,7 +3,7 @@ use Rattle.lagsystem.proofs.Common.{Bool, IsSome, List, None, Option, Some, [], 
 use Rattle.lagsystem.proofs.Common.{true, ℕ, ◌&&◌, ◌||◌, ◌∙◌, ◌∷◌, ◌≡◌, ◌⊎◌, nat_tests, Choice, Unselected, Party, StateBits, same_party, bits_of}
 use Rattle.lagsystem.proofs.Common.{with_synchronization, with_timeout, exact_party, encode_then_decode, Info, Lacpdu, party_of, Act, PortMove, Shows}
 use Rattle.lagsystem.proofs.Common.{Took, Lacp, ModelCall, PortFacts, SystemSetup, Told_lacpdu, replies_frame, zero_party, CollectingDistributing}
-use Rattle.lagsystem.proofs.Common.{Machines, is_synchronized, partner_synchronized, same_mux_state, default_partner, is_maintained, lacpdu_rows}
+use Rattle.lagsystem.proofs.Common.{Machines, is_synchronized, partner_synchronized, same_mux_state, default_partner, lacpdu_rows}
 use Rattle.lagsystem.proofs.Common.{receive_rows, recorded_synchronization, start_receive, Fires, RunsToRest, after_sending, count_down, pdu_of}
 use Rattle.lagsystem.proofs.Common.{PortChange, ChangesParty, SetsPortEnabled, changed_party, choice_with_link, lacp_message, selected_number}
 use Rattle.lagmodel.specs.View.{Receive}
@@ -142,15 +142,7 @@ either_way x y h = grind (arith, nat_tests)
 
 says_so : (v : Lacpdu) (p : Machines) → recorded_synchronization v p ≡ true → ((bits_of v.actor.state).synchronization ≡ true)
     × ((party_of v.partner ≡ p.party) ⊎ ((party_of v.actor).aggregatable ≡ false))
-says_so v p h =
-    let both = ends_true (bits_of v.actor.state).synchronization (is_maintained v p) (same_party (party_of v.partner) p.party
-    || not (bits_of v.actor.state).aggregation) h in (
-      both.0,
-      elim (either_way (same_party (party_of v.partner) p.party) (bits_of v.actor.state).aggregation both.1) [
-        | inl same ↦ inl (exact_party (party_of v.partner) p.party same)
-        | inr alone ↦ inr alone
-      ],
-    )
+says_so v p h = grind (arith, nat_tests, ends_true, either_way, exact_party)
 
 pub taking_moves : (u : SystemSetup) (n : ℕ) (v : Lacpdu) (p q : Machines) → Fires (lacpdu_rows v) p q
     → QuietMoves u (Receive n (Some (Lacp (lacp_message v)))) n p (Took n (lacp_message v) ∷ []) q

@@ -1,16 +1,16 @@
 -- The first state of a system has the model's first view.
-use Rattle.lagsystem.proofs.Common.{Bool, List, None, Option, Some, [], ap, arith, cond, eqb, eqb-true, false, if◌then◌else◌, inl, inr, length, not}
-use Rattle.lagsystem.proofs.Common.{option_map, refl, slice_get, slice_set, subst, suc, sym, true, zero, ℕ, ◌&&◌, ◌∙◌, ◌∷◌, ◌≡◌, ◌⊎◌, and_left}
+use Rattle.lagsystem.proofs.Common.{Bool, List, None, Option, Some, [], ap, arith, cond, eqb, eqb-true, false, inl, inr, length}
+use Rattle.lagsystem.proofs.Common.{option_map, refl, slice_get, subst, suc, sym, true, zero, ℕ, ◌&&◌, ◌∙◌, ◌∷◌, ◌≡◌, ◌⊎◌, and_left}
 use Rattle.lagsystem.proofs.Common.{and_parts, and_right, nat_tests, none-some, same_Some, AllByRecursion, AllZip, AggId, SystemId, Standby}
-use Rattle.lagsystem.proofs.Common.{Unselected, Party, is_selected, is_unselected, bits_of, with_synchronization, encode_then_decode, find_number}
-use Rattle.lagsystem.proofs.Common.{ports_of, IsSystemSetup, PortFacts, first_port, first_view, mapped_some, whichever, Attached}
-use Rattle.lagsystem.proofs.Common.{CollectingDistributing, Detached, Waiting, Start, Current, Expired, Initialize, PortDisabled, Machines, mux_rows}
-use Rattle.lagsystem.proofs.Common.{partner_synchronized, same_mux_state, RunsPeriodic, periodic_rows, receive_rows, same_receive_state}
-use Rattle.lagsystem.proofs.Common.{start_receive, AtRest, Fires, FiresTimes, Row, RunsToRest, Starts, before_start, Reaches-keeps, chosen_aggregator}
+use Rattle.lagsystem.proofs.Common.{Unselected, Party, is_selected, bits_of, with_synchronization, encode_then_decode, find_number}
+use Rattle.lagsystem.proofs.Common.{ports_of, IsSystemSetup, PortFacts, first_port, first_view, mapped_some, whichever}
+use Rattle.lagsystem.proofs.Common.{Detached, Start, Current, Expired, Initialize, PortDisabled, Machines, mux_rows}
+use Rattle.lagsystem.proofs.Common.{partner_synchronized, RunsPeriodic, periodic_rows, receive_rows, same_receive_state}
+use Rattle.lagsystem.proofs.Common.{start_receive, AtRest, Fires, FiresTimes, Row, RunsToRest, Starts, before_start, Reaches-keeps}
 use Rattle.lagsystem.proofs.Common.{AggregatorsValue, is_eligible, model_distributor, first_flows, PortConfig, SystemPort, HasJustStarted, IsFirst}
 use Rattle.lagsystem.proofs.Common.{configured_number, setup_of, configured_party, model_port, model_port_of, model_setup, model_view, number_of_port}
-use Rattle.lagsystem.proofs.Common.{ChoosesIn, PortChangesBy, PortsChangeBy, PromotesFirst, PromotesNext, after_choice_at, after_choices, choice_for}
-use Rattle.lagsystem.proofs.Common.{ready_of, with_choice, SystemState, aggregators_value, with_system_ports, with_table, seen_at, views}
+use Rattle.lagsystem.proofs.Common.{ChoosesIn, PortChangesBy, PortsChangeBy, PromotesFirst, PromotesNext, after_choice_at, after_choices}
+use Rattle.lagsystem.proofs.Common.{ready_of, SystemState, aggregators_value, with_system_ports, with_table, seen_at, views}
 use Rattle.lagsystem.proofs.Effects.{named, zero_named}
 use Rattle.lagsystem.proofs.Rest.{zip_all}
 use Rattle.lagsystem.proofs.Keeps.{settling_in}
@@ -34,11 +34,7 @@ zip_ports : {X Y : Type 0} (n : X → ℕ) (m : Y → ℕ) (v : X → PortFacts)
 zip_ports n m v w [] [] h q = refl
 zip_ports n m v w [] (y ∷ ys) h q = absurd h
 zip_ports n m v w (x ∷ xs) [] h q = absurd h
-zip_ports n m v w (x ∷ xs) (y ∷ ys) h q =
-    let rest = zip_ports n m v w xs ys h.1 q in
-    pushed w (eqb q (m y)) y (find_number m ys q)
-    ∙ (λ i. cond (eqb q (h.0.0 i)) (Some (h.0.1 i)) (rest i))
-    ∙ sym (pushed v (eqb q (n x)) x (find_number n xs q))
+zip_ports n m v w (x ∷ xs) (y ∷ ys) h q = grind (arith, nat_tests, pushed, zip_ports n m v w xs ys h.1 q)
 
 -- the start rows, with the link down
 abbrev hushed : Machines → PortFacts
@@ -137,22 +133,7 @@ stays rows zero p q r run = run
 stays rows (suc n) p q r run = absurd (never rows run.0 q (subst (AtRest rows) (sym (stays rows n p run.0 r run.1)) r) run.2)
 
 idle_mux : (ready : Bool) (party : Party) (p q : Machines) → Idle party p → RunsToRest (mux_rows ready) p q → q ≡ p
-idle_mux ready party p q x h = stays (mux_rows ready) h.0 p q (
-  and_right (same_mux_state Detached p.mux) (not (is_unselected p.choice)) (ap (λ c. not (is_unselected c)) x.nobody),
-  (
-    and_left (same_mux_state Waiting p.mux) _ (ap (same_mux_state Waiting) x.detached),
-    (
-      and_left (same_mux_state Waiting p.mux) _ (ap (same_mux_state Waiting) x.detached),
-      (
-        and_left (same_mux_state Attached p.mux) _ (ap (same_mux_state Attached) x.detached),
-        (
-          and_left (same_mux_state Attached p.mux) _ (ap (same_mux_state Attached) x.detached),
-          (and_left (same_mux_state CollectingDistributing p.mux) _ (ap (same_mux_state CollectingDistributing) x.detached), tt),
-        ),
-      ),
-    ),
-  ),
-) h.1
+idle_mux ready party p q x h = grind (arith, nat_tests, stays, and_right, and_left)
 
 -- each slot idles as its configuration says
 abbrev Idles : SystemId → PortConfig → SystemPort → Type 0
@@ -178,18 +159,12 @@ not_eligible s e = ap (λ b. is_eligible (record (seen_at s) { enabled = b })) e
 choose_idle : (aggs : AggregatorsValue) (system_ports : List SystemPort) (i : ℕ) (o : Option SystemPort) → slice_get system_ports i ≡ o
     → AllByRecursion (λ s. s.port.enabled ≡ false) system_ports → after_choice_at aggs system_ports i o ≡ system_ports
 choose_idle aggs system_ports i None e down = refl
-choose_idle aggs system_ports i (Some s) e down =
-    let none : choice_for aggs system_ports s ≡ None = none_for aggs system_ports s
-    (ap (λ b. if b then chosen_aggregator aggs.keys (views system_ports) s.number else None)
-    (not_eligible s (all-get (λ s. s.port.enabled ≡ false) system_ports i s e down))) in
-    ap (λ o. slice_set system_ports i (with_choice s o)) none ∙ set_same system_ports i s e
+choose_idle aggs system_ports i (Some s) e down = grind (arith, nat_tests, none_for, not_eligible, all-get, set_same)
 
 chosen_idle : (aggs : AggregatorsValue) (n : ℕ) (system_ports : List SystemPort) → AllByRecursion (λ s. s.port.enabled ≡ false) system_ports
     → after_choices aggs n system_ports ≡ system_ports
 chosen_idle aggs zero system_ports down = refl
-chosen_idle aggs (suc n) system_ports down =
-    ap (λ (l : List SystemPort). after_choice_at aggs l n (slice_get l n)) (chosen_idle aggs n system_ports down)
-    ∙ choose_idle aggs system_ports n (slice_get system_ports n) refl down
+chosen_idle aggs (suc n) system_ports down = grind (arith, nat_tests, choose_idle, chosen_idle aggs n system_ports down)
 
 -- no port is promoted while all are UNSELECTED
 abbrev pub AllUnselected : List SystemPort → Type 0
@@ -211,9 +186,7 @@ promoted_idle aggs n start new a h =
 
 choosing_idle : (aggs : AggregatorsValue) (start new : List SystemPort) → AllUnselected start
     → AllByRecursion (λ s. s.port.enabled ≡ false) start → ChoosesIn aggs start new → new ≡ start
-choosing_idle aggs start new a down h =
-    let same = promoted_idle aggs (length aggs.keys) start h.0 a h.1 in
-    h.2 ∙ ap (λ (l : List SystemPort). after_choices aggs (length l) l) same ∙ chosen_idle aggs (length start) start down
+choosing_idle aggs start new a down h = grind (arith, nat_tests, promoted_idle, chosen_idle)
 
 periodic_shown : (p q : Machines) → RunsPeriodic p q → model_port q ≡ model_port p
 periodic_shown p q h = ap model_port h.2
@@ -297,9 +270,4 @@ number_found (x ∷ xs) q c e = elim (whichever (eqb q x.number) (Some x) (find_
 ]
 
 pub configured_setup : (s : SystemState) → IsSystemSetup (model_setup s)
-configured_setup s = record {
-  system = λ p a e. (let x = mapped_some (configured_party s.system) (find_number configured_number s.ports p) a e in ap
-      (λ (y : Party). y.system) (sym x.2));
-  number = λ p a e. (let x = mapped_some (configured_party s.system) (find_number configured_number s.ports p) a e in ap
-      (λ (y : Party). y.port.number) (sym x.2) ∙ number_found s.ports p x.0 x.1);
-}
+configured_setup s = grind (arith, nat_tests, mapped_some, number_found)

@@ -1,8 +1,8 @@
 -- Ports in front of the first that is not SELECTED.
-use Rattle.lagsystem.proofs.Common.{Bool, List, None, Option, Some, [], ap, arith, cond, drop, false, get_or, inl, inr, length, nat_lt, not, position}
-use Rattle.lagsystem.proofs.Common.{refl, slice_get, subst, suc, sym, zero, ℕ, ◌<◌, ◌||◌, ◌∙◌, ◌∷◌, ◌≡◌, ◌≤◌, cases_Bool, cond-true, nat_tests}
-use Rattle.lagsystem.proofs.Common.{list_any_none, position-Some, fails_before_first, none-some, same_Some, slice_get-get_or, list_any}
-use Rattle.lagsystem.proofs.Common.{position_or_len, is_selected, is_standby, SystemPort}
+use Rattle.lagsystem.proofs.Common.{Bool, List, None, Option, Some, [], ap, arith, drop, false, get_or, length, not, position}
+use Rattle.lagsystem.proofs.Common.{refl, slice_get, subst, suc, sym, zero, ℕ, ◌<◌, ◌||◌, ◌∙◌, ◌∷◌, ◌≡◌, cases_Bool, cond-true, nat_tests}
+use Rattle.lagsystem.proofs.Common.{list_any_none, position-Some, fails_before_first, same_Some, slice_get-get_or, list_any}
+use Rattle.lagsystem.proofs.Common.{is_selected, is_standby, SystemPort}
 use Rattle.lagsystem.proofs.NextLemmas.{selected_not_standby}
 
 -- the index of the first port that is not SELECTED
@@ -38,13 +38,4 @@ any_from p none (x ∷ xs) i e = onward (x ∷ xs) i (λ k lt. none _ (front_sel
 
 -- where there is none, each port is SELECTED
 pub none_unselected : (l : List SystemPort) → first_unselected l ≡ None → list_any (λ s. not (is_selected s.port.choice)) l ≡ false
-none_unselected l e =
-    let long : length l ≤ position_or_len (λ s. not (is_selected s.port.choice)) l = past _ _ e in
-    list_any_none (λ s. not (is_selected s.port.choice)) l
-    (λ k d lt. fails_before_first (λ s. not (is_selected s.port.choice)) l k d (omega (arith, lt, long)))
-  where
-    past : (m n : ℕ) → cond (nat_lt m n) (Some m) None ≡ None → n ≤ m
-    past m n h = elim (cases_Bool (nat_lt m n)) [
-      | inl t ↦ absurd (none-some m (sym h ∙ cond-true (nat_lt m n) (Some m) None t))
-      | inr f ↦ grind (arith, nat_tests)
-    ]
+none_unselected l e = grind (arith, nat_tests, list_any_none, fails_before_first, cases_Bool, cond-true)

@@ -1,7 +1,7 @@
 -- Conversations leave stopped ports, one port after another.
 use Rattle.lagsystem.proofs.Common.{Bool, List, None, Option, Some, [], add-one, ap, arith, false, get_or, if◌then◌else◌, length, not, refl}
 use Rattle.lagsystem.proofs.Common.{slice_set, suc, take, true, zero, ℕ, ◌&&◌, ◌+◌, ◌<◌, ◌==◌, ◌||◌, ◌∙◌, ◌∷◌, ◌≡◌, nat_tests, AggId, Choice}
-use Rattle.lagsystem.proofs.Common.{CollectingDistributing, same_mux_state, has_chosen, Assignment, On, Wanted, ChangesAssignments, after_leave}
+use Rattle.lagsystem.proofs.Common.{CollectingDistributing, same_mux_state, has_chosen, Assignment, ChangesAssignments, after_leave}
 use Rattle.lagsystem.proofs.Common.{Table, assignment_of, SystemPort, after_holding, aggregators_in_use, has_stopped, stopped, collecting}
 use Rattle.lagsystem.proofs.Common.{selected_aggregator}
 use Rattle.std.proofs.Math.Bool.{and-true}
@@ -23,9 +23,7 @@ stopped_suc : (before : List (Option AggId)) (system_ports : List SystemPort) (i
 stopped_suc [] system_ports i d e p l same = absurd (omega arith)
 stopped_suc (b ∷ bs) [] i d e p l same = absurd (omega (arith, same))
 stopped_suc (b ∷ bs) (s ∷ ss) zero d e p l same = or_swap (leaves b s p) false
-stopped_suc (b ∷ bs) (s ∷ ss) (suc i) d e p l same =
-    ap (λ x. leaves b s p || x) (stopped_suc bs ss i d e p (omega arith) (omega (arith, same)))
-    ∙ or_later (leaves b s p) (stopped (take i bs) (take i ss) p) (leaves (get_or bs i d) (get_or ss i e) p)
+stopped_suc (b ∷ bs) (s ∷ ss) (suc i) d e p l same = grind (arith, nat_tests, or_later, stopped_suc bs ss i d e p (omega arith) (omega (arith, same)))
 
 -- the ports of one more place
 pub stopped_more : (before : List (Option AggId)) (system_ports : List SystemPort) (i : ℕ) (d : Option AggId) (e : SystemPort) (p : ℕ)
@@ -33,9 +31,6 @@ pub stopped_more : (before : List (Option AggId)) (system_ports : List SystemPor
     → stopped (take (i + 1) before) (take (i + 1) system_ports) p ≡ (stopped (take i before) (take i system_ports) p
     || leaves (get_or before i d) (get_or system_ports i e) p)
 stopped_more before system_ports i d e p l same = rw add-one (stopped_suc before system_ports i d e p l same)
-
-leave_one : (b : Bool) (n p : ℕ) → after_leave n (if b then Wanted p None else On p) ≡ (if b || (n == p) then Wanted p None else On p)
-leave_one b n p = grind (arith, nat_tests)
 
 -- one more port is left
 leave_more : (f g : ℕ → Bool) (n : ℕ) → ((p : ℕ) → g p ≡ (f p || (n == p))) → (s : Assignment)
@@ -120,18 +115,14 @@ or_second b c d e = grind (arith, nat_tests)
 
 none_stopped : (system_ports : List SystemPort) (p : ℕ) → stopped (aggregators_in_use system_ports) system_ports p ≡ false
 none_stopped [] p = refl
-none_stopped (s ∷ ss) p =
-    or_neither (s.number == p) (has_stopped (collecting s.port) s) (stopped (aggregators_in_use ss) ss p) (never_stopped s) (none_stopped ss p)
+none_stopped (s ∷ ss) p = grind (arith, nat_tests, or_neither, never_stopped, none_stopped ss p)
 
 -- only the port at the place can have stopped
 stopped_at : (system_ports : List SystemPort) (i : ℕ) (was : Option AggId) (d : SystemPort) (p : ℕ) → i < length system_ports
     → stopped (slice_set (aggregators_in_use system_ports) i was) system_ports p ≡ leaves was (get_or system_ports i d) p
 stopped_at [] i was d p l = absurd (omega arith)
-stopped_at (s ∷ ss) zero was d p l =
-    or_first (s.number == p) (has_stopped was s) (stopped (aggregators_in_use ss) ss p) (none_stopped ss p)
-stopped_at (s ∷ ss) (suc i) was d p l =
-    or_second (s.number == p) (has_stopped (collecting s.port) s) (stopped (slice_set (aggregators_in_use ss) i was) ss p) (never_stopped s)
-    ∙ stopped_at ss i was d p (omega arith)
+stopped_at (s ∷ ss) zero was d p l = grind (arith, nat_tests, or_first, none_stopped)
+stopped_at (s ∷ ss) (suc i) was d p l = grind (arith, nat_tests, or_second, never_stopped, stopped_at ss i was d p (omega arith))
 
 leave_only : (f : ℕ → Bool) (n : ℕ) → ((p : ℕ) → f p ≡ (n == p)) → (a : Assignment) → after_leave n a ≡ after_holding f a
 leave_only f n e a = grind (arith, nat_tests)

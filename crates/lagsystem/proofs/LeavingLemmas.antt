@@ -1,10 +1,9 @@
 -- A conversation leaves its port, or rests.
-use Rattle.lagsystem.proofs.Common.{Bool, Err, IfOk, Ok, Result, [], ap, arith, if◌then◌else◌, nat_lt, refl, subst, sym, ℕ, ◌∙◌, ◌≡◌, nat_tests}
-use Rattle.lagsystem.proofs.Common.{AggId, LawfulMoves, Conversation, ModelCall, Assignment, DistFault, force_result, leave_result, rest_result}
-use Rattle.lagsystem.proofs.Common.{assignment_of, next_identifier, is_left, leave_one_moves, SystemFault, NoAggregator, Force, system_leave_result}
-use Rattle.lagsystem.proofs.Common.{system_rest_result, model_setup, model_view, GivesOrRefuses, has_aggregator, in_system, or_not_assigned}
-use Rattle.lagsystem.proofs.Common.{system_force_result, TablePromise, conversation_count, CallPromise, IsSound, SystemState, with_table}
-use Rattle.distributor.specs.declared.fault.DistFault.TheVariants as dist
+use Rattle.lagsystem.proofs.Common.{Err, IfOk, Ok, Result, [], ap, arith, refl, subst, sym, ℕ, ◌∙◌, ◌≡◌, nat_tests}
+use Rattle.lagsystem.proofs.Common.{AggId, LawfulMoves, Conversation, ModelCall, Assignment, leave_result}
+use Rattle.lagsystem.proofs.Common.{assignment_of, next_identifier, is_left, leave_one_moves, SystemFault, Force, system_leave_result}
+use Rattle.lagsystem.proofs.Common.{system_rest_result, model_setup, model_view, GivesOrRefuses}
+use Rattle.lagsystem.proofs.Common.{system_force_result, TablePromise, CallPromise, IsSound, SystemState, with_table}
 use Rattle.lagsystem.specs.declared.drive.Reply.TheVariants as reply
 use Rattle.lagsystem.proofs.Conversing.{table_moves}
 use Rattle.lagsystem.proofs.OnPorts.{not_on, sets_carried}
@@ -20,10 +19,7 @@ done = Ok tt
 
 left_to : (agg : AggId) (conv : ℕ) (old : SystemState) (s : Assignment) → system_leave_result old agg conv ≡ Ok s
     → leave_result (next_identifier old.table) (assignment_of old.table agg.0 conv) ≡ Ok s
-left_to agg conv old s e =
-    let answer : Result Assignment DistFault = leave_result (next_identifier old.table) (assignment_of old.table agg.0 conv) in
-    known_ok (nat_lt conv (conversation_count old)) answer dist.NotAssigned s
-    (if_ok (has_aggregator old agg) (in_system (or_not_assigned old conv answer)) NoAggregator s e)
+left_to agg conv old s e = grind (arith, nat_tests, known_ok, if_ok)
 
 left_sound : (agg : AggId) (conv : ℕ) (what : Result Assignment SystemFault) (old : SystemState) (answer : Result Unit SystemFault)
     (new : SystemState) → system_leave_result old agg conv ≡ what → GivesOrRefuses agg conv what old answer new → IsSound old → IsSound new
@@ -62,12 +58,6 @@ leaves_promise agg conv old answer new h s =
     table_promise ModelCall.Move_conversation [] old new (left_others agg conv (system_leave_result old agg conv) old answer new h)
     (left_moves agg conv (system_leave_result old agg conv) old answer new refl h)
     (leaves_sound agg conv old answer new h s)
-
--- a conversation that rests is forced
-rest_is_force : (b k : Bool) (a s : Assignment)
-    → (if b then in_system (if k then rest_result a else Err dist.NotAssigned) else Err NoAggregator) ≡ Ok s
-    → (if b then in_system (if k then force_result a else Err dist.NotAssigned) else Err NoAggregator) ≡ Ok s
-rest_is_force b k a s e = grind (arith, nat_tests)
 
 forced_alike : (agg : AggId) (conv : ℕ) (what : Result Assignment SystemFault) (old : SystemState) (answer : Result Unit SystemFault)
     (new : SystemState) → system_rest_result old agg conv ≡ what → answer ≡ Ok tt → GivesOrRefuses agg conv what old answer new

@@ -2,8 +2,8 @@
 use Rattle.lagsystem.proofs.Common.{Bool, List, None, Option, Some, [], ap, arith, cond, eqb-true, false, inl, inr, length, nat_le, nat_lt}
 use Rattle.lagsystem.proofs.Common.{option_map, refl, slice_get, slice_set, subst, suc, sym, true, zero, ℕ, ◌&&◌, ◌+◌, ◌<◌, ◌==◌, ◌∙◌, ◌∷◌, ◌≡◌, ◌≤◌}
 use Rattle.lagsystem.proofs.Common.{◌⊎◌, and_parts, cases_Bool, nat_tests, none-some, same_Some, AllByRecursion, AggId, Choice, Selected, Standby}
-use Rattle.lagsystem.proofs.Common.{Unselected, Machines, PortView, chosen_aggregator, is_aggregator, ports_that_chose, AggregatorsValue, has_room}
-use Rattle.lagsystem.proofs.Common.{is_below, has_chosen, is_eligible, stands_by, NoneStandsBy, is_next, none_is_next, nothing_is_next, SystemPort}
+use Rattle.lagsystem.proofs.Common.{Unselected, Machines, PortView, is_aggregator, ports_that_chose, AggregatorsValue, has_room}
+use Rattle.lagsystem.proofs.Common.{is_below, has_chosen, stands_by, NoneStandsBy, is_next, none_is_next, nothing_is_next, SystemPort}
 use Rattle.lagsystem.proofs.Common.{NoneIsNext, WithinLimit, aggregator_numbered, ChoosesIn, PortsChangeBy, PromotesFirst, PromotesNext}
 use Rattle.lagsystem.proofs.Common.{aggregator_for, choice_if, choice_in, with_choice, selection_view, views}
 use Rattle.lagsystem.proofs.NoneLeft.{eligible_then, unselected}
@@ -21,8 +21,7 @@ one_counted b v rest n h = grind (arith, nat_tests)
 
 counted : (agg : AggId) (l : List SystemPort) → length (ports_that_chose agg (views l)) ≡ count agg l
 counted agg [] = refl
-counted agg (s ∷ ss) = one_counted (has_chosen agg s.port.choice) (selection_view s) (ports_that_chose agg (views ss)) (count agg ss)
-    (counted agg ss)
+counted agg (s ∷ ss) = grind (arith, nat_tests, one_counted, counted agg ss)
 
 -- no aggregator has more members than before
 abbrev pub Fewer : List SystemPort → List SystemPort → Type 0
@@ -36,10 +35,7 @@ no_bit b m n h = grind (arith, nat_tests)
 
 bit_less : (agg : AggId) (c d : Choice) (m n : ℕ) → (d ≡ Unselected) ⊎ (d ≡ c) → m ≤ n
     → cond (has_chosen agg d) (suc m) m ≤ cond (has_chosen agg c) (suc n) n
-bit_less agg c d m n h l = elim h [
-  | inl e ↦ subst (λ x. cond (has_chosen agg x) (suc m) m ≤ cond (has_chosen agg c) (suc n) n) (sym e) (no_bit (has_chosen agg c) m n l)
-  | inr e ↦ subst (λ x. cond (has_chosen agg x) (suc m) m ≤ cond (has_chosen agg c) (suc n) n) (sym e) (same_bit (has_chosen agg c) m n l)
-]
+bit_less agg c d m n h l = grind (arith, nat_tests, no_bit, same_bit)
 
 left_or_same : (p q : Machines) → LeavesOrStays p q → (q.choice ≡ Unselected) ⊎ (q.choice ≡ p.choice)
 left_or_same p q h = elim h [ inl e ↦ inl e | inr e ↦ inr e.0 ]
@@ -49,19 +45,13 @@ pub zip_fewer : (R : Machines → Machines → Type 0) → ((p q : Machines) →
 zip_fewer R k [] [] h agg = omega arith
 zip_fewer R k [] (y ∷ ys) h agg = absurd h
 zip_fewer R k (x ∷ xs) [] h agg = absurd h
-zip_fewer R k (x ∷ xs) (y ∷ ys) h agg =
-    bit_less agg x.port.choice y.port.choice (count agg ys) (count agg xs) (left_or_same x.port y.port (k x.port y.port h.0.1))
-    (zip_fewer R k xs ys h.1 agg)
+zip_fewer R k (x ∷ xs) (y ∷ ys) h agg = grind (arith, nat_tests, bit_less, left_or_same, zip_fewer R k xs ys h.1 agg)
 
 pub set_fewer : (xs : List SystemPort) (i : ℕ) (s t : SystemPort) → slice_get xs i ≡ Some s → LeavesOrStays s.port t.port
     → Fewer xs (slice_set xs i t)
 set_fewer [] i s t e h agg = absurd (none-some s e)
-set_fewer (x ∷ xs) zero s t e h agg =
-    let same : s.port ≡ x.port = ap (λ (z : SystemPort). z.port) (sym (same_Some x s e)) in
-    bit_less agg x.port.choice t.port.choice (count agg xs) (count agg xs)
-    (left_or_same x.port t.port (subst (λ p. LeavesOrStays p t.port) same h)) (omega arith)
-set_fewer (x ∷ xs) (suc i) s t e h agg = same_bit (has_chosen agg x.port.choice) (count agg (slice_set xs i t)) (count agg xs)
-    (set_fewer xs i s t e h agg)
+set_fewer (x ∷ xs) zero s t e h agg = grind (arith, nat_tests, bit_less, left_or_same)
+set_fewer (x ∷ xs) (suc i) s t e h agg = grind (arith, nat_tests, same_bit, set_fewer xs i s t e h agg)
 
 -- one port gets a value of Selected
 
@@ -75,8 +65,7 @@ set_more : (agg : AggId) (l : List SystemPort) (i : ℕ) (s : SystemPort) (c : C
     → count agg (slice_set l i (with_choice s (Some c))) ≤ count agg l + cond (has_chosen agg c) 1 0
 set_more agg [] i s c = omega arith
 set_more agg (x ∷ xs) zero s c = one_more (has_chosen agg c) (has_chosen agg x.port.choice) (count agg xs)
-set_more agg (x ∷ xs) (suc i) s c = later_more (has_chosen agg x.port.choice) (count agg (slice_set xs i (with_choice s (Some c))))
-    (count agg xs) (cond (has_chosen agg c) 1 0) (set_more agg xs i s c)
+set_more agg (x ∷ xs) (suc i) s c = grind (arith, nat_tests, later_more, set_more agg xs i s c)
 
 grows_here : (b h : Bool) (n : ℕ) → h ≡ false → cond h (suc n) n ≤ cond b (suc n) n
 grows_here b h n e = grind (arith, nat_tests)
@@ -84,10 +73,8 @@ grows_here b h n e = grind (arith, nat_tests)
 set_grows : (agg : AggId) (l : List SystemPort) (i : ℕ) (s : SystemPort) (c : Choice) → slice_get l i ≡ Some s
     → has_chosen agg s.port.choice ≡ false → count agg l ≤ count agg (slice_set l i (with_choice s (Some c)))
 set_grows agg [] i s c e h = absurd (none-some s e)
-set_grows agg (x ∷ xs) zero s c e h = grows_here (has_chosen agg c) (has_chosen agg x.port.choice) (count agg xs)
-    (ap (λ (z : SystemPort). has_chosen agg z.port.choice) (same_Some x s e) ∙ h)
-set_grows agg (x ∷ xs) (suc i) s c e h = same_bit (has_chosen agg x.port.choice) (count agg xs)
-    (count agg (slice_set xs i (with_choice s (Some c)))) (set_grows agg xs i s c e h)
+set_grows agg (x ∷ xs) zero s c e h = grind (arith, nat_tests, grows_here)
+set_grows agg (x ∷ xs) (suc i) s c e h = grind (arith, nat_tests, same_bit, set_grows agg xs i s c e h)
 
 -- the limit
 
@@ -108,10 +95,7 @@ fits_one agg a l i s most k true e room w =
     let same : count agg l ≡ count a l = λ j. count (record { 0 = number j }) l in
     let more : count a m ≤ count a l + 1 = subst (λ b. count a m ≤ count a l + cond b 1 0) e (set_more a l i s (Selected agg)) in
     omega (arith, more, counted a m, counted agg l, same, below_most k (length (ports_that_chose agg (views l))) most room)
-fits_one agg a l i s most k false e room w =
-    let m : List SystemPort = slice_set l i (with_choice s (Some (Selected agg))) in
-    let more : count a m ≤ count a l + 0 = subst (λ b. count a m ≤ count a l + cond b 1 0) e (set_more a l i s (Selected agg)) in
-    omega (arith, more, counted a m, counted a l, w)
+fits_one agg a l i s most k false e room w = grind (arith, nat_tests, set_more, counted)
 
 selected_within : (max_links : Option ℕ) (l : List SystemPort) (i : ℕ) (s : SystemPort) (agg : AggId) (k : Bool)
     → (k && is_below max_links (length (ports_that_chose agg (views l)))) ≡ true → WithinLimit max_links (views l)
@@ -121,8 +105,7 @@ selected_within (Some most) l i s agg k room w = λ a. fits_one agg a l i s most
 
 standby_within : (max_links : Option ℕ) (l : List SystemPort) (i : ℕ) (s : SystemPort) (agg : AggId) → WithinLimit max_links (views l)
     → WithinLimit max_links (views (slice_set l i (with_choice s (Some (Standby agg)))))
-standby_within max_links l i s agg w =
-    within_fewer max_links l (slice_set l i (with_choice s (Some (Standby agg)))) (λ a. omega (arith, set_more a l i s (Standby agg))) w
+standby_within max_links l i s agg w = grind (arith, nat_tests, within_fewer, set_more)
 
 taken_within : (aggs : AggregatorsValue) (l : List SystemPort) (i : ℕ) (s : SystemPort) (agg : AggId) (room : Bool)
     → has_room aggs (views l) agg ≡ room → WithinLimit aggs.max_links (views l)
@@ -172,9 +155,7 @@ below_less max_links k m n l h = grind (arith, nat_tests)
 
 room_less : (aggs : AggregatorsValue) (agg : AggId) (l m : List SystemPort) → count agg l ≤ count agg m
     → has_room aggs (views l) agg ≡ false → has_room aggs (views m) agg ≡ false
-room_less aggs agg l m h r =
-    below_less aggs.max_links (is_aggregator aggs.keys agg) (length (ports_that_chose agg (views l))) (length (ports_that_chose agg (views m)))
-    (omega (arith, h, counted agg l, counted agg m)) r
+room_less aggs agg l m h r = grind (arith, nat_tests, below_less, counted)
 
 stands_set : (agg : AggId) (l : List SystemPort) (i : ℕ) (t : SystemPort) → stands_by agg t.port.choice ≡ false
     → NoneStandsBy agg (views l) → NoneStandsBy agg (views (slice_set l i t))
@@ -223,18 +204,11 @@ promotions_none aggs (suc n) old new h a low high =
     ]
 
 known_parts : (a n : ℕ) → (nat_le 1 a && nat_le a n) ≡ true → (0 < a) × (a ≤ n)
-known_parts a n h =
-    let low : nat_le 1 a ≡ true = (and_parts (nat_le 1 a) (nat_le a n) h).0 in
-    let high : nat_le a n ≡ true = (and_parts (nat_le 1 a) (nat_le a n) h).1 in
-    (grind (arith, nat_tests), grind (arith, nat_tests))
+known_parts a n h = grind (arith, nat_tests, and_parts)
 
 all_promoted : (aggs : AggregatorsValue) (old new : List SystemPort) → PromotesFirst aggs (length aggs.keys) old new → (a : AggId)
     → NoneNext aggs a new
-all_promoted aggs old new h a = elim (cases_Bool (is_aggregator aggs.keys a)) [
-  | inl t ↦ (let parts = known_parts a.0 (length aggs.keys) t in
-      promotions_none aggs (length aggs.keys) old new h a parts.0 parts.1)
-  | inr f ↦ inl (ap (λ b. b && is_below aggs.max_links (length (ports_that_chose a (views new)))) f)
-]
+all_promoted aggs old new h a = grind (arith, nat_tests, cases_Bool, known_parts, promotions_none)
 
 -- a choice keeps it in every aggregator
 taken_none : (aggs : AggregatorsValue) (l : List SystemPort) (i : ℕ) (s : SystemPort) (agg : AggId) (room : Bool)
@@ -261,9 +235,7 @@ choice_none : (aggs : AggregatorsValue) (l : List SystemPort) (i : ℕ) (s : Sys
     → aggregator_for aggs.keys l s ≡ o → slice_get l i ≡ Some s → (a : AggId) → NoneNext aggs a l
     → NoneNext aggs a (slice_set l i (with_choice s (option_map (choice_in aggs (views l)) o)))
 choice_none aggs l i s None k e a q = subst (NoneNext aggs a) (sym (set_itself l i s e)) q
-choice_none aggs l i s (Some agg) k e a q =
-    let can = eligible_then (is_eligible (selection_view s)) (chosen_aggregator aggs.keys (views l) s.number) agg k in
-    taken_none aggs l i s agg (has_room aggs (views l) agg) refl e (unselected s.port.choice _ _ can) a q
+choice_none aggs l i s (Some agg) k e a q = grind (arith, nat_tests, eligible_then, taken_none, unselected)
 
 pub choosing_none : (aggs : AggregatorsValue) (old new : List SystemPort) → ChoosesIn aggs old new → (a : AggId) → NoneNext aggs a new
 choosing_none aggs old new h a =
@@ -283,9 +255,7 @@ zip_none aggs R k xs ys h a q = elim q [
     same_count [] [] h = omega arith
     same_count [] (y ∷ ys) h = absurd h
     same_count (x ∷ xs) [] h = absurd h
-    same_count (x ∷ xs) (y ∷ ys) h =
-        subst (λ c. cond (has_chosen a x.port.choice) (suc (count a xs)) (count a xs) ≤ cond (has_chosen a c) (suc (count a ys)) (count a ys))
-        (sym (k x.port y.port h.0.1)) (same_bit (has_chosen a x.port.choice) (count a xs) (count a ys) (same_count xs ys h.1))
+    same_count (x ∷ xs) (y ∷ ys) h = grind (arith, nat_tests, same_bit, same_count xs ys h.1)
 
     same_stands : (xs ys : List SystemPort) → PortsChangeBy R xs ys → NoneStandsBy a (views xs) → NoneStandsBy a (views ys)
     same_stands [] [] h n = tt
@@ -303,5 +273,4 @@ settled_none aggs R S k m one two four five h r s a =
 -- where none comes next, step 2 promotes none
 pub nothing_promoted : (aggs : AggregatorsValue) (n : ℕ) (l : List SystemPort) → NoneIsNext aggs (views l) → PromotesFirst aggs n l l
 nothing_promoted aggs zero l h = refl
-nothing_promoted aggs (suc n) l h =
-    (l, nothing_promoted aggs n l h, (zero, refl, h (aggregator_numbered (suc n))))
+nothing_promoted aggs (suc n) l h = grind (arith, nat_tests, nothing_promoted aggs n l h)

@@ -1,5 +1,5 @@
 -- The walk that counts the members of each aggregator, and what its counts say.
-use Rattle.lagsystem.proofs.Common.{Bool, List, Option, [], ap, arith, cond, false, filter, get_or, inl, inr, length, suc, sym, take, ℕ, ◌+◌, ◌<◌}
+use Rattle.lagsystem.proofs.Common.{Bool, List, Option, [], ap, arith, cond, false, filter, get_or, inl, inr, length, sym, take, ℕ, ◌+◌, ◌<◌}
 use Rattle.lagsystem.proofs.Common.{◌∙◌, ◌∷◌, ◌≡◌, ◌≤◌, cases_lt, nat_tests, get_or_past, length-take-le, AggId, Choice, Selected, AggregatorsValue}
 use Rattle.lagsystem.proofs.Common.{has_room, is_below, has_chosen, SystemPort, CountsMembers, views}
 use Rattle.std.proofs.lemmas.List.Filters.{length-filter_more}
@@ -26,10 +26,7 @@ none_more n b h = grind (arith, nat_tests)
 
 few_filtered : (p : SystemPort → Bool) (l : List SystemPort) → length (filter p l) ≤ length l
 few_filtered p [] = omega arith
-few_filtered p (x ∷ xs) = one (p x) (few_filtered p xs)
-  where
-    one : (b : Bool) → length (filter p xs) ≤ length xs → length (cond b (x ∷ filter p xs) (filter p xs)) ≤ suc (length xs)
-    one b h = grind (arith, nat_tests)
+few_filtered p (x ∷ xs) = grind (arith, nat_tests, few_filtered p xs)
 
 -- no more than there are ports
 counted_few : (l : List SystemPort) (counts : List ℕ) → CountsMembers l counts → (g : ℕ) → get_or counts g 0 ≤ length l
@@ -48,5 +45,4 @@ counted_below l i counts lt few h g =
 pub counted_full : (aggs : AggregatorsValue) (l : List SystemPort) (agg : AggId) (counts : List ℕ) (max_links : Option ℕ)
     → CountsMembers l counts → max_links ≡ aggs.max_links → agg.0 < 65 → is_below max_links (get_or counts agg.0 0) ≡ false
     → has_room aggs (views l) agg ≡ false
-counted_full aggs l agg counts max_links h same low full =
-    full_no_room aggs l agg (ap (is_below aggs.max_links) (sym (h.each agg low)) ∙ ap (λ o. is_below o (get_or counts agg.0 0)) (sym same) ∙ full)
+counted_full aggs l agg counts max_links h same low full = grind (arith, nat_tests, full_no_room)

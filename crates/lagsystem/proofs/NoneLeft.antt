@@ -41,17 +41,12 @@ length_choose aggs system_ports i (Some s) = length_set system_ports i (with_cho
 length_chosen : (aggs : AggregatorsValue) (n : ℕ) (system_ports : List SystemPort)
     → length (after_choices aggs n system_ports) ≡ length system_ports
 length_chosen aggs zero system_ports = refl
-length_chosen aggs (suc n) system_ports = length_choose aggs (after_choices aggs n system_ports) n
-    (slice_get (after_choices aggs n system_ports) n) ∙ length_chosen aggs n system_ports
+length_chosen aggs (suc n) system_ports = grind (arith, nat_tests, length_choose, length_chosen aggs n system_ports)
 
 below_or_at : (j n : ℕ) → j < suc n → (j < n) ⊎ (j ≡ n)
 below_or_at j zero l = inr (omega (arith, l))
 below_or_at zero (suc n) l = inl (omega arith)
-below_or_at (suc j) (suc n) l = elim (below_or_at j n (omega (arith, l))) [
-  | inl h ↦ inl (omega (arith, h))
-  | inr h ↦
-      inr (omega (arith, h))
-]
+below_or_at (suc j) (suc n) l = grind (arith, nat_tests, below_or_at j n (omega (arith, l)))
 
 -- what is taken
 
@@ -134,13 +129,8 @@ one_taken aggs system_ports n s (Some a) w e r k j t l g =
 one_chosen : (aggs : AggregatorsValue) (system_ports : List SystemPort) (n : ℕ) (o : Option SystemPort) → slice_get system_ports n ≡ o
     → Rises 0 (port_numbers system_ports) → Found_none aggs.keys n system_ports
     → Found_none aggs.keys (suc n) (after_choice_at aggs system_ports n o)
-one_chosen aggs system_ports n None e r k j t l g =
-    elim (below_or_at j n l) [ inl h ↦ k j t h g | inr h ↦ absurd (nothing (sym e ∙ ap (slice_get system_ports) (sym h) ∙ g)) ]
-  where
-    nothing : None ≡ Some t → ⊥
-    nothing e = cc
-one_chosen aggs system_ports n (Some s) e r k j t l g = one_taken aggs system_ports n s
-    (aggregator_for aggs.keys system_ports s) refl e r k j t l g
+one_chosen aggs system_ports n None e r k j t l g = grind (arith, nat_tests, below_or_at)
+one_chosen aggs system_ports n (Some s) e r k j t l g = grind (arith, nat_tests, one_taken)
 
 all_chosen : (aggs : AggregatorsValue) (n : ℕ) (system_ports : List SystemPort) → Rises 0 (port_numbers system_ports)
     → Found_none aggs.keys n (after_choices aggs n system_ports)
@@ -167,10 +157,7 @@ when_again b x h = grind (arith, nat_tests)
 pub taken_none : (keys : List Key) (system_ports : List SystemPort) → Rises 0 (port_numbers system_ports)
     → AllByRecursion (λ t. TakesNone keys (views system_ports) (selection_view t)) system_ports
     → (j : ℕ) (t : SystemPort) → slice_get system_ports j ≡ Some t → aggregator_for keys system_ports t ≡ None
-taken_none keys system_ports r all j t e =
-    takes_is keys system_ports j t r e
-    ∙ when_again (is_eligible (selection_view t)) (chosen_if_eligible keys (views system_ports) (selection_view t))
-    (all-get (λ t. TakesNone keys (views system_ports) (selection_view t)) system_ports j t e all)
+taken_none keys system_ports r all j t e = grind (arith, nat_tests, takes_is, when_again, all-get)
 
 -- each port, when all have chosen
 pub none_takes : (aggs : AggregatorsValue) (system_ports : List SystemPort) → Rises 0 (port_numbers system_ports)

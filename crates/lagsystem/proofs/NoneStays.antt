@@ -1,6 +1,6 @@
 -- A port that found no aggregator finds none after another port chose one, nor after mux machines ran.
 use Rattle.lagsystem.proofs.Common.{Bool, List, None, Option, Some, [], ap, arith, cond, false, find, not, option_map, refl, slice_get, slice_set}
-use Rattle.lagsystem.proofs.Common.{suc, true, zero, ℕ, ◌&&◌, ◌==◌, ◌||◌, ◌∙◌, ◌∷◌, ◌≡◌, not-false, not_from_true, nat_tests, same_Some}
+use Rattle.lagsystem.proofs.Common.{suc, true, zero, ℕ, ◌&&◌, ◌==◌, ◌||◌, ◌∙◌, ◌∷◌, ◌≡◌, not-false, not_from_true, nat_tests}
 use Rattle.lagsystem.proofs.Common.{enumerate_from, list_all, AggId, Key, Choice, Unselected, individual, PortView, aggregator_of_entry}
 use Rattle.lagsystem.proofs.Common.{chosen_if_eligible, has_group_of, has_no_occupant, has_occupant, lowest, occupants, occupants_share_group}
 use Rattle.lagsystem.proofs.Common.{or_else, occupies, SystemPort, with_choice, selection_view, views}
@@ -75,9 +75,7 @@ occupant_stays : (agg : AggId) (a : Choice) (system_ports : List SystemPort) (i 
     → s.port.choice ≡ Unselected
     → has_occupant (views system_ports) agg ≡ true → has_occupant (views (slice_set system_ports i (with_choice s (Some a)))) agg ≡ true
 occupant_stays agg a [] i s e u h = absurd cc
-occupant_stays agg a (x ∷ xs) zero s e u h =
-    or_other (occupies agg x.port.choice) (has_occupant (views xs) agg) (occupies agg a)
-    (not_given agg s x (same_Some x s e) u) h
+occupant_stays agg a (x ∷ xs) zero s e u h = grind (arith, nat_tests, or_other, not_given)
 occupant_stays agg a (x ∷ xs) (suc i) s e u h =
     or_still (occupies agg x.port.choice) (has_occupant (views xs) agg) (has_occupant (views (slice_set xs i (with_choice s (Some a)))) agg) h
     (occupant_stays agg a xs i s e u)
@@ -100,10 +98,7 @@ others_stay : (agg : AggId) (a : Choice) (v : PortView) (system_ports : List Sys
     → list_all (has_group_of v) (occupants agg (views system_ports)) ≡ false
     → list_all (has_group_of v) (occupants agg (views (slice_set system_ports i (with_choice s (Some a))))) ≡ false
 others_stay agg a v [] i s e u h = absurd cc
-others_stay agg a v (x ∷ xs) zero s e u h =
-    all_later (has_group_of v) (occupies agg a) (selection_view (with_choice s (Some a))) (occupants agg (views xs))
-    (all_skipped (has_group_of v) (occupies agg x.port.choice) (selection_view x) (occupants agg (views xs))
-    (not_given agg s x (same_Some x s e) u) h)
+others_stay agg a v (x ∷ xs) zero s e u h = grind (arith, nat_tests, all_later, all_skipped, not_given)
 others_stay agg a v (x ∷ xs) (suc i) s e u h =
     all_still (has_group_of v) (occupies agg x.port.choice) (selection_view x) (occupants agg (views xs))
     (occupants agg (views (slice_set xs i (with_choice s (Some a))))) h
@@ -135,9 +130,4 @@ pub none_alike : (keys : List Key) (seen later : List PortView) (v : PortView)
     → ((agg : AggId) → has_occupant later agg ≡ has_occupant seen agg)
     → ((agg : AggId) → list_all (has_group_of v) (occupants agg later) ≡ list_all (has_group_of v) (occupants agg seen))
     → chosen_if_eligible keys seen v ≡ None → chosen_if_eligible keys later v ≡ None
-none_alike keys seen later v f g h =
-    none_stays keys seen later v
-    (λ agg k. ap not (f agg) ∙ k)
-    (λ agg k j. ap (λ b. (not (individual v.party v.partner) && b) && list_all (has_group_of v) (occupants agg later)) (f agg)
-    ∙ ap (λ b. (not (individual v.party v.partner) && has_occupant seen agg) && b) (g agg) ∙ j)
-    h
+none_alike keys seen later v f g h = grind (arith, nat_tests, none_stays)

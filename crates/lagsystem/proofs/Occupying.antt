@@ -19,10 +19,7 @@ pub stays : (p : Machines) → LeavesOrStays p p
 stays p = inr (refl, refl, refl)
 
 pub both_stay : (p q r : Machines) → LeavesOrStays p q → LeavesOrStays q r → LeavesOrStays p r
-both_stay p q r h k = elim k [
-  | inl e ↦ inl e
-  | inr e ↦ elim h [ inl f ↦ inl (e.0 ∙ f) | inr f ↦ inr (e.0 ∙ f.0, e.1 ∙ f.1, e.2 ∙ f.2) ]
-]
+both_stay p q r h k = grind (arith, nat_tests)
 
 -- rows
 
@@ -78,19 +75,13 @@ lacpdu_rows_stay v = (
 )
 
 mux_rows_stay : (ready : Bool) → RowsStay (mux_rows ready)
-mux_rows_stay ready = (
-  λ p up. stays p,
-  (λ p up. stays p, (λ p up. stays p, (λ p up. stays p, (λ p up. stays p, (λ p up. stays p, tt))))),
-)
+mux_rows_stay ready = grind (arith, nat_tests, stays)
 
 pub mux_stays : (ready : Bool) (p q : Machines) → RunsToRest (mux_rows ready) p q → LeavesOrStays p q
 mux_stays ready p q h = runs_stay (mux_rows ready) (mux_rows_stay ready) p q h
 
 periodic_rows_stay : RowsStay periodic_rows
-periodic_rows_stay = (
-  λ p up. stays p,
-  (λ p up. stays p, (λ p up. stays p, (λ p up. stays p, (λ p up. stays p, (λ p up. stays p, (λ p up. stays p, tt)))))),
-)
+periodic_rows_stay = grind (arith, nat_tests, stays)
 
 pub periodic_stays : (p q : Machines) → RunsPeriodic p q → LeavesOrStays p q
 periodic_stays p q h = subst (LeavesOrStays p) (sym h.2) (runs_stay periodic_rows periodic_rows_stay p h.0 h.1)
@@ -138,12 +129,7 @@ pub zip_stay : (R : Machines → Machines → Type 0) → ((p q : Machines) → 
 zip_stay R k [] [] h j t g = absurd (none-some t g)
 zip_stay R k [] (y ∷ ys) h j t g = absurd h
 zip_stay R k (x ∷ xs) [] h j t g = absurd h
-zip_stay R k (x ∷ xs) (y ∷ ys) h zero t g = (
-  x,
-  refl,
-  subst (λ (z : SystemPort). LeavesOrStays x.port z.port) (same_Some y t g)
-      (k x.port y.port h.0.1),
-)
+zip_stay R k (x ∷ xs) (y ∷ ys) h zero t g = grind (arith, nat_tests)
 zip_stay R k (x ∷ xs) (y ∷ ys) h (suc j) t g = zip_stay R k xs ys h.1 j t g
 
 -- what stands at a place of a list in which one was set
@@ -153,23 +139,16 @@ set_cases [] i j x t g = absurd (none-some t g)
 set_cases (y ∷ ys) zero zero x t g = inl (refl, sym (same_Some x t g))
 set_cases (y ∷ ys) zero (suc j) x t g = inr (λ e. absurd (omega (arith, e)), g)
 set_cases (y ∷ ys) (suc i) zero x t g = inr (λ e. absurd (omega (arith, e)), g)
-set_cases (y ∷ ys) (suc i) (suc j) x t g = elim (set_cases ys i j x t g) [
-  | inl h ↦ inl (ap (λ n. suc n) h.0, h.1)
-  | inr h ↦ inr (λ e. h.0 (omega (arith, e)), h.1)
-]
+set_cases (y ∷ ys) (suc i) (suc j) x t g = grind (arith, nat_tests, set_cases ys i j x t g)
 
 pub set_stays : (xs : List SystemPort) (i : ℕ) (s t : SystemPort) → slice_get xs i ≡ Some s → LeavesOrStays s.port t.port
     → EachStays xs (slice_set xs i t)
-set_stays xs i s t e h j u g = elim (set_cases xs i j t u g) [
-  | inl c ↦ (s, ap (slice_get xs) c.0 ∙ e, subst (λ (z : SystemPort). LeavesOrStays s.port z.port) (sym c.1) h)
-  | inr c ↦ (u, c.1, stays u.port)
-]
+set_stays xs i s t e h j u g = grind (arith, nat_tests, set_cases, stays)
 
 pub place_stays : (R : Machines → Machines → Type 0) → ((p q : Machines) → R p q → LeavesOrStays p q) → (o : Option ℕ)
     (old new : List SystemPort) → PortAtChangesBy R o old new → EachStays old new
 place_stays R k None old new h = absurd h
-place_stays R k (Some i) old new h =
-    subst (EachStays old) (sym h.4) (set_stays old i h.0 (record h.0 { port = h.1 }) h.2 (k h.0.port h.1 h.3))
+place_stays R k (Some i) old new h = grind (arith, nat_tests, set_stays)
 
 -- the occupants
 
@@ -185,40 +164,20 @@ EachOccupies old new = (j : ℕ) (t : SystemPort) → slice_get new j ≡ Some t
 -- so it is with an occupant
 occupies_on : (p q : Machines) (g : ℕ) → OccupiesAsBefore p q → occupied q.choice ≡ Some g
     → (occupied p.choice ≡ Some g) × (q.party ≡ p.party) × (party_of q.partner ≡ party_of p.partner)
-occupies_on p q g h o = elim h [
-  | inl none ↦ absurd (none-some g (sym none ∙ o))
-  | inr s ↦ (sym s.0 ∙ o, s.1, s.2)
-]
+occupies_on p q g h o = grind (arith, nat_tests)
 
 moved_pair : (a b c d a' b' c' d' : Party) → a' ≡ a → b' ≡ b → c' ≡ c → d' ≡ d
     → SamePair (pair_of a b) (pair_of c d) × (individual a b ≡ false) → SamePair (pair_of a' b') (pair_of c' d') × (individual a' b' ≡ false)
 moved_pair a b c d a' b' c' d' e1 e2 e3 e4 x = rw (e1, e2, e3, e4) x
 
 occupants_kept : (keys : List Key) (old new : List SystemPort) → EachOccupies old new → OccupantsAgree keys old → OccupantsAgree keys new
-occupants_kept keys old new h a = record {
-  key = λ i g t e o.
-      let x = h i t e in
-      let k = occupies_on x.0.port t.port g x.2 o in a.key i g x.0 x.1 k.0 ∙ ap (λ (z : Party). Some z.key) (sym k.1);
-  apart = λ i g t e o z.
-      let x = h i t e in
-      let k = occupies_on x.0.port t.port g x.2 o in
-      a.apart i g x.0 x.1 k.0 (ap (λ (w : Party). w.system) (sym k.2) ∙ z ∙ ap (λ (w : Party). w.system) k.1);
-  group = λ g i j t u ne e f o r.
-      let x = h i t e in
-      let y = h j u f in
-      let k = occupies_on x.0.port t.port g x.2 o in
-      let l = occupies_on y.0.port u.port g y.2 r in
-      moved_pair x.0.port.party (party_of x.0.port.partner) y.0.port.party (party_of y.0.port.partner) t.port.party
-      (party_of t.port.partner) u.port.party (party_of u.port.partner) k.1 k.2 l.1 l.2
-      (a.group g i j x.0 y.0 ne x.1 y.1 k.0 l.0);
-}
+occupants_kept keys old new h a = grind (arith, nat_tests, occupies_on, moved_pair)
 
 stays_occupies : (p q : Machines) → LeavesOrStays p q → OccupiesAsBefore p q
 stays_occupies p q h = elim h [ inl e ↦ inl (ap occupied e) | inr s ↦ inr (ap occupied s.0, s.1, s.2) ]
 
 pub stay_agrees : (keys : List Key) (old new : List SystemPort) → EachStays old new → OccupantsAgree keys old → OccupantsAgree keys new
-stay_agrees keys old new h a =
-    occupants_kept keys old new (λ j t g. let x = h j t g in (x.0, x.1, stays_occupies x.0.port t.port x.2)) a
+stay_agrees keys old new h a = grind (arith, nat_tests, occupants_kept, stays_occupies)
 
 -- a promotion
 pub promotion_agrees : (keys : List Key) (l : List SystemPort) (i : ℕ) (s : SystemPort) (agg : AggId) → slice_get l i ≡ Some s

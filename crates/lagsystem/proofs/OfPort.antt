@@ -1,5 +1,5 @@
 -- Moves of one port, whatever the other ports are, and moves of each port of a list.
-use Rattle.lagsystem.proofs.Common.{Bool, List, Option, Some, [], ap, append_assoc, arith, cond, eq-eqb, eqb, eqb-true, inl, inr, length, option_map}
+use Rattle.lagsystem.proofs.Common.{Bool, List, Option, Some, [], ap, append_assoc, arith, cond, eq-eqb, eqb, eqb-true, length, option_map}
 use Rattle.lagsystem.proofs.Common.{refl, slice_get, slice_set, subst, sym, ℕ, ◌++◌, ◌∙◌, ◌∷◌, ◌≡◌, cases_Bool, nat_tests, AllZip, option_to_list}
 use Rattle.lagsystem.proofs.Common.{AreNumbered, Act, LawfulMoves, PortAllowed, PortMove, port_act, port_after, DistributorFacts, ModelCall}
 use Rattle.lagsystem.proofs.Common.{PortFacts, SystemSetup, View, at_port, cond_false, cond_true, find_at, moves_joined, moves_port, numbered_set}
@@ -35,33 +35,18 @@ after_joined (m ∷ xs) ys a = after_joined xs ys (port_after m a)
 acts_joined : (p : ℕ) (xs ys : List PortMove) (a : PortFacts) → port_acts p (xs ++ ys) a ≡ port_acts p xs a
     ++ port_acts p ys (after_moves xs a)
 acts_joined p [] ys a = refl
-acts_joined p (m ∷ xs) ys a =
-    ap (λ (l : List Act). option_to_list (port_act p m a) ++ l) (acts_joined p xs ys (port_after m a))
-    ∙ sym (append_assoc (option_to_list (port_act p m a)) (port_acts p xs (port_after m a))
-    (port_acts p ys (after_moves xs (port_after m a))))
+acts_joined p (m ∷ xs) ys a = grind (arith, nat_tests, append_assoc, acts_joined p xs ys (port_after m a))
 
 pub port_joined : (u : SystemSetup) (call : ModelCall) (p : ℕ) (a b c : PortFacts) (seen more : List Act) → PortMoves u call p a seen b
     → PortMoves u call p b more c → PortMoves u call p a (seen ++ more) c
-port_joined u call p a b c seen more x y = (
-  x.0 ++ y.0,
-  all_joined u call p x.0 y.0 a x.1 (subst (λ v. AllPortAllowed u call p y.0 v) x.3 y.1),
-  acts_joined p x.0 y.0 a
-      ∙ ap (λ (l : List Act). l ++ port_acts p y.0 (after_moves x.0 a)) x.2
-      ∙ ap (λ (l : List Act). seen ++ l) (ap (port_acts p y.0) (sym x.3) ∙ y.2),
-  y.3 ∙ ap (after_moves y.0) x.3 ∙ sym (after_joined x.0 y.0 a),
-)
+port_joined u call p a b c seen more x y = grind (arith, nat_tests, all_joined, acts_joined, after_joined)
 
 pub port_stays : (u : SystemSetup) (call : ModelCall) (p : ℕ) (a b : PortFacts) → b ≡ a → PortMoves u call p a [] b
 port_stays u call p a b e = ([], tt, refl, e)
 
 -- at a place of the ports
 stays_there : (ports : ℕ → Option PortFacts) (p : ℕ) (a : PortFacts) → ports p ≡ Some a → (q : ℕ) → at_port ports p (λ z. a) q ≡ ports q
-stays_there ports p a h q = elim (cases_Bool (eqb q p)) [
-  | inl t ↦ (let there : ports q ≡ Some a = subst (λ r. ports r ≡ Some a) (sym (eqb-true q p t)) h in
-      cond_true (eqb q p) (option_map (λ (z : PortFacts). a) (ports q)) (ports q) t
-      ∙ ap (option_map (λ (z : PortFacts). a)) there ∙ sym there)
-  | inr f ↦ cond_false (eqb q p) (option_map (λ (z : PortFacts). a) (ports q)) (ports q) f
-]
+stays_there ports p a h q = grind (arith, nat_tests, cases_Bool, eqb-true, cond_true, cond_false)
 
 written : (ports : ℕ → Option PortFacts) (p : ℕ) (a : PortFacts) (f : PortFacts → PortFacts) → ports p ≡ Some a
     → at_port ports p f p ≡ Some (f a)

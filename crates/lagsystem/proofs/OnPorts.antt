@@ -1,6 +1,6 @@
 -- After every call a conversation is On a port only if the port distributes in its aggregator.
 use Rattle.lagsystem.proofs.Common.{Bool, List, Option, Some, [], ap, arith, cond, filter, inl, inr, map, refl, slice_get, slice_set, subst, suc, sym}
-use Rattle.lagsystem.proofs.Common.{true, zero, ℕ, ◌∙◌, ◌∷◌, ◌≡◌, ◌⊎◌, nat_tests, same_Some, AggId, Conversation, after_sending, Assignment, On}
+use Rattle.lagsystem.proofs.Common.{true, zero, ℕ, ◌∙◌, ◌∷◌, ◌≡◌, ◌⊎◌, nat_tests, AggId, Conversation, after_sending, Assignment, On}
 use Rattle.lagsystem.proofs.Common.{MaySend, is_among, SetsAssignment, after_mark, after_release, assignment_of, next_identifier, model_conversation}
 use Rattle.lagsystem.proofs.Common.{is_forced, is_moved, Reply, SystemPort, Call, Step, IsFirst, assignment_of_frame, aggregator_numbered}
 use Rattle.lagsystem.proofs.Common.{conversation_number, distributes_in, distributing, SendsMarkerOf, HoldsConversations, Settling, held_unless_on}
@@ -24,9 +24,7 @@ left_is : (ports : List ℕ) (a : Assignment) (p : ℕ) → held_unless_on ports
 left_is ports a p e = grind (arith, nat_tests)
 
 leaves_carried : (old new : SystemState) → HoldsConversations old new → OnlyOnDistributing new
-leaves_carried old new h g k p e =
-    subst (λ (s : SystemState). is_among (distributing (aggregator_numbered g) s.system_ports) p ≡ true) (sym h.frame)
-    (left_is (distributing (aggregator_numbered g) old.system_ports) (assignment_of old.table g k) p (sym (h.states g k) ∙ e))
+leaves_carried old new h g k p e = grind (arith, nat_tests, left_is)
 
 -- the ports stay, and a conversation is where it was or on a port that distributes in its aggregator
 abbrev pub Carried : SystemState → ℕ → Assignment → ℕ → Type 0
@@ -60,15 +58,8 @@ more agg x xs = through (distributes_in agg x) x (filter (distributes_in agg) xs
 sent_distributing : (agg : AggId) (system_ports : List SystemPort) (i : ℕ) (s : SystemPort) → slice_get system_ports i ≡ Some s
     → distributing agg (slice_set system_ports i (record s { port = after_sending s.port })) ≡ distributing agg system_ports
 sent_distributing agg [] i s e = refl
-sent_distributing agg (x ∷ xs) zero s e =
-    let same : x ≡ s = same_Some x s e in
-    more agg (record s { port = after_sending s.port }) xs
-    ∙ sym (ap (λ (y : SystemPort). cond (distributes_in agg y) (y.number ∷ distributing agg xs) (distributing agg xs)) same)
-    ∙ sym (more agg x xs)
-sent_distributing agg (x ∷ xs) (suc i) s e =
-    let ys = slice_set xs i (record s { port = after_sending s.port }) in
-    more agg x ys ∙ filtered (distributes_in agg x) x x (distributing agg ys) (distributing agg xs) refl (sent_distributing agg xs i s e)
-    ∙ sym (more agg x xs)
+sent_distributing agg (x ∷ xs) zero s e = grind (arith, nat_tests, more)
+sent_distributing agg (x ∷ xs) (suc i) s e = grind (arith, nat_tests, more, filtered, sent_distributing agg xs i s e)
 
 pub marker_carried : (o : Option ℕ) (port : ℕ) (mac : List ℕ) (old : SystemState) (answer : Option (List ℕ)) (new : SystemState)
     → SendsMarkerOf o port mac old answer new → OnlyOnDistributing old → OnlyOnDistributing new

@@ -1,18 +1,18 @@
 -- A call of a system has one answer and one state after it.
-use Rattle.lagsystem.proofs.Common.{Bool, Err, List, None, Ok, Option, Result, Some, [], ap, arith, cond, eqb, false, if◌then◌else◌, inl, inr}
-use Rattle.lagsystem.proofs.Common.{is_some, ltb, refl, slice_set, subst, sym, true, ℕ, ◌&&◌, ◌+◌, ◌^◌, ◌∙◌, ◌∷◌, ◌≡◌, ◌⊎◌, true≢false, nat_tests}
-use Rattle.lagsystem.proofs.Common.{none-some, same_Some, IsFalse, MatchOption, AggId, Lacpdu, Marker, frame_octets, one_written, PortCall, Machines}
-use Rattle.lagsystem.proofs.Common.{receive_rows, RunsToRest, after_sending, count_down, is_due, one_effect, Assignment, DistFault, Assigns}
-use Rattle.lagsystem.proofs.Common.{PicksPort, force_result, move_result, ChangesAssignments, Marks, SetsAssignment, after_mark, after_release}
-use Rattle.lagsystem.proofs.Common.{after_tick, awaits_response, marker_due, wants_marker, Table, count_conversations, next_identifier, sum_below}
+use Rattle.lagsystem.proofs.Common.{Bool, Err, List, None, Ok, Option, Result, Some, [], ap, arith, cond, false, if◌then◌else◌, inl, inr}
+use Rattle.lagsystem.proofs.Common.{is_some, ltb, refl, slice_set, subst, sym, true, ℕ, ◌+◌, ◌^◌, ◌∙◌, ◌∷◌, ◌≡◌, ◌⊎◌, true≢false, nat_tests}
+use Rattle.lagsystem.proofs.Common.{none-some, same_Some, IsFalse, AggId, Lacpdu, Marker, frame_octets, one_written, PortCall, Machines}
+use Rattle.lagsystem.proofs.Common.{receive_rows, RunsToRest, after_sending, count_down, one_effect, Assignment, DistFault, Assigns}
+use Rattle.lagsystem.proofs.Common.{force_result, move_result, ChangesAssignments, Marks, after_mark}
+use Rattle.lagsystem.proofs.Common.{after_tick, marker_due, wants_marker, Table, count_conversations, next_identifier, sum_below}
 use Rattle.lagsystem.proofs.Common.{PortChange, Reply, SystemFault, NoAggregator, NoPort, FrameEffect, Answered, ProcessLacpdu, Response, Received}
-use Rattle.lagsystem.proofs.Common.{Released, SystemPort, AlreadyConfigured, Call, ChangesParty, Configure, Force, FreesIfDown, Move_conversation}
-use Rattle.lagsystem.proofs.Common.{Offer, OnlyPortChangesBy, ParsesFrame, Performs, PortAtChangesBy, ProcessesLacpdu, Receive, ReceivesAt}
+use Rattle.lagsystem.proofs.Common.{SystemPort, AlreadyConfigured, Call, ChangesParty, Configure, Force, FreesIfDown, Move_conversation}
+use Rattle.lagsystem.proofs.Common.{Offer, OnlyPortChangesBy, Performs, PortAtChangesBy, ProcessesLacpdu, Receive, ReceivesAt}
 use Rattle.lagsystem.proofs.Common.{RefusesNoPort, Releases, Restart, Set_link, SetsLink, SetsPortEnabled, Step, ThenSettles, Tick, Ticks, Transmit}
-use Rattle.lagsystem.proofs.Common.{changed_party, choice_with_link, is_own_response, IsFirst, ReceivesAtRest, none_enabled, AssignsPort}
-use Rattle.lagsystem.proofs.Common.{GivesAssignment, GivesOrRefuses, MayBeOfferedTo, Offers, RefusesFrame, RefusesOffer, has_aggregator, in_system}
+use Rattle.lagsystem.proofs.Common.{changed_party, choice_with_link, IsFirst, ReceivesAtRest, none_enabled, AssignsPort}
+use Rattle.lagsystem.proofs.Common.{GivesOrRefuses, MayBeOfferedTo, Offers, RefusesFrame, RefusesOffer, has_aggregator, in_system}
 use Rattle.lagsystem.proofs.Common.{or_not_assigned, system_force_result, system_move_result, IsFunction, OneAnswer, OneRun, SameConversations}
-use Rattle.lagsystem.proofs.Common.{SameState, distributing, number_of_conversation, PortTransmits, SendsMarkerOf, TransmitsAt, TransmitsIf}
+use Rattle.lagsystem.proofs.Common.{SameState, distributing, SendsMarkerOf, TransmitsAt, TransmitsIf}
 use Rattle.lagsystem.proofs.Common.{own_marker, SystemState, aggregators_value, port_index, system_port_at, with_system_ports, with_table}
 use Rattle.slowpdu.specs.declared.pdu.Pdu.TheVariants as pdu
 use Rattle.lagsystem.specs.declared.drive.Reply.TheVariants as reply
@@ -54,23 +54,7 @@ zero_more : (n : ℕ) → n ≡ n + 0
 zero_more n = omega arith
 
 each_changed : (f : Assignment → Assignment) (t a : Table) → ChangesAssignments t a f → Changed (λ g c. f) 0 t a
-each_changed f t a h = record {
-  aggs = h.aggs;
-  conversations = h.conversations;
-  first = h.first;
-  next = h.next ∙ zero_more t.next;
-  states = h.states;
-}
-
-one_set : (agg conv : ℕ) (state : Assignment) (t a : Table) → SetsAssignment t a agg conv state
-    → Changed (λ g c x. cond (eqb agg g && eqb conv c) state x) 0 t a
-one_set agg conv state t a h = record {
-  aggs = h.aggs;
-  conversations = h.conversations;
-  first = h.first;
-  next = h.next ∙ zero_more t.next;
-  states = h.states;
-}
+each_changed f t a h = grind (arith, nat_tests, zero_more)
 
 marked : (port id : ℕ) (t a : Table) → Marks t a port id → Changed (λ g c. after_mark port id) 1 t a
 marked port id t a h = record { aggs = h.aggs; conversations = h.conversations; first = h.first; next = h.next; states = h.states }
@@ -91,18 +75,12 @@ table_same s t e = ap (λ (x : SystemState). x.table) e
 
 stays : (old : SystemState) (u : Table) (new last : SystemState) → SameConversations old.table u → new ≡ old → last ≡ with_table old u
     → SameAfter new last
-stays old u new last same h k = (
-  ports_same (with_table old u) last k ∙ sym (ports_same old new h),
-  stayed_one old.table u new.table last.table same (table_same old new h) (table_same (with_table old u) last k),
-)
+stays old u new last same h k = grind (arith, nat_tests, ports_same, stayed_one, table_same)
 
 -- the ports stay, and the table changes
 tabled : (old : SystemState) (u : Table) (new last : SystemState) → new ≡ with_table old new.table
     → last ≡ with_table (with_table old u) last.table → SameConversations new.table last.table → SameAfter new last
-tabled old u new last h k same = (
-  ports_same (with_table (with_table old u) last.table) last k ∙ sym (ports_same (with_table old new.table) new h),
-  same,
-)
+tabled old u new last h k same = grind (arith, nat_tests, ports_same)
 
 no_port : (old : SystemState) (u : Table) (o : Option ℕ) (e d : SystemFault) (new last : SystemState) → SameConversations old.table u
     → RefusesNoPort o e old new → RefusesNoPort o d (with_table old u) last → (d ≡ e) × SameAfter new last
@@ -147,10 +125,7 @@ place_one R one o old u new last rest same h k =
 releases_one : (b : Bool) (port : ℕ) (m : Marker) (old : SystemState) (u : Table) (x y : Received) (new last : SystemState)
     → SameConversations old.table u → Releases b port m old x new → Releases b port m (with_table old u) y last → (y ≡ x) × SameAfter new last
 releases_one false port m old u x y new last same h k = (k.0 ∙ sym h.0, stays old u new last same h.1 k.1)
-releases_one true port m old u x y new last same h k = (
-  k.0 ∙ ap Released (count_one (awaits_response port m.id) old.table u same) ∙ sym h.0,
-  tabled old u new last h.2 k.2 (changes_one (after_release port m.id) old.table u new.table last.table same h.1 k.1),
-)
+releases_one true port m old u x y new last same h k = grind (arith, nat_tests, count_one, tabled, changes_one)
 
 performs_one : (effect : FrameEffect) (port : ℕ) (o : Option ℕ) (old : SystemState) (u : Table) (x y : Received) (new last : SystemState)
     → ReceivesAtRest old.system_ports → SameConversations old.table u → Performs effect port o old x new
@@ -159,20 +134,13 @@ performs_one (ProcessLacpdu v) port o old u x y new last rest same h k = (
   k.0 ∙ sym h.0,
   place_one (ProcessesLacpdu v) (takes_one v) o old u new last rest same h.1 k.1,
 )
-performs_one (Response m) port o old u x y new last rest same h k =
-    releases_one (is_own_response old port m) port m old u x y new last same h k
+performs_one (Response m) port o old u x y new last rest same h k = grind (arith, nat_tests, releases_one)
 performs_one (Answered a) port o old u x y new last rest same h k = (k.0 ∙ sym h.0, stays old u new last same h.1 k.1)
 
 receives_one : (o : Option ℕ) (octets : List ℕ) (old : SystemState) (u : Table) (x y : Received) (new last : SystemState)
     → ReceivesAtRest old.system_ports → SameConversations old.table u → ReceivesAt o octets old x new
     → ReceivesAt o octets (with_table old u) y last → (y ≡ x) × SameAfter new last
-receives_one o octets old u x y new last rest same h k =
-    let s : h.0 ≡ k.0 = same_Some h.0 k.0 (sym h.2 ∙ k.2) in
-    let parses : ParsesFrame h.0 octets k.1 = subst (λ p. ParsesFrame p octets k.1) (sym s) k.3 in
-    let e : h.1 ≡ k.1 = effect_one h.0.port.enabled h.0 octets h.1 k.1 h.3 parses in
-    performs_one h.1 h.0.number o old u x y new last rest same h.4
-    (subst (λ f. Performs f h.0.number o (with_table old u) y last) (sym e)
-    (subst (λ (p : SystemPort). Performs k.1 p.number o (with_table old u) y last) (sym s) k.4))
+receives_one o octets old u x y new last rest same h k = grind (arith, nat_tests, effect_one, performs_one)
 
 -- what is sent
 sends_one : (o p : Option ℕ) (port : ℕ) (mac : List ℕ) (old : SystemState) (u : Table) (x y : Option (List ℕ)) (new last : SystemState)
@@ -207,20 +175,9 @@ transmits_if true false i system_port old u x y new last same h k =
 transmits_one : (o : Option ℕ) (old : SystemState) (u : Table) (x y : Option (List ℕ)) (new last : SystemState)
     → SameConversations old.table u → TransmitsAt o old x new → TransmitsAt o (with_table old u) y last → (y ≡ x) × SameAfter new last
 transmits_one None old u x y new last same h k = absurd h
-transmits_one (Some i) old u x y new last same h k =
-    let s : h.0 ≡ k.0 = same_Some h.0 k.0 (sym h.1 ∙ k.1) in
-    transmits_if h.0.port.enabled (is_due h.0.port) i h.0 old u x y new last same h.2
-    (subst (λ p. PortTransmits i p (with_table old u) y last) (sym s) k.2)
+transmits_one (Some i) old u x y new last same h k = grind (arith, nat_tests, transmits_if)
 
 -- what the distributor answers
-picks_one : (gives : ℕ → ℕ → ℕ → Type 0) → IsFunction gives → (conv : ℕ) (ports : List ℕ) (x y : Result ℕ DistFault)
-    → PicksPort gives conv ports x → PicksPort gives conv ports y → y ≡ x
-picks_one gives one conv ports x y h k = grind (arith, nat_tests)
-
-frees_or_picks : (gives : ℕ → ℕ → ℕ → Type 0) → IsFunction gives → (o : Option ℕ) (conv : ℕ) (ports : List ℕ) (x y : Result ℕ DistFault)
-    → MatchOption o (PicksPort gives conv ports x) (λ p. x ≡ Ok p) → MatchOption o (PicksPort gives conv ports y) (λ p. y ≡ Ok p) → y ≡ x
-frees_or_picks gives one o conv ports x y h k = grind (arith, nat_tests)
-
 assigns_one : (gives : ℕ → ℕ → ℕ → Type 0) → IsFunction gives → (conv : ℕ) (ports : List ℕ) (s : Assignment) (x y : Result ℕ DistFault)
     → Assigns gives conv ports s x → Assigns gives conv ports s y → y ≡ x
 assigns_one gives one conv ports s x y h k = grind (arith, nat_tests)
@@ -266,23 +223,11 @@ reason_one gives one s agg octets x y (inr (inl a)) (inr (inl b)) = b.3 ∙ ap E
 reason_one gives one s agg octets x y (inr (inl a)) (inr (inr b)) = absurd (not_both octets a.0 b.1.1 a.2)
 reason_one gives one s agg octets x y (inr (inr a)) (inl b) = differ (has_aggregator s agg) a.1.0 b.0
 reason_one gives one s agg octets x y (inr (inr a)) (inr (inl b)) = absurd (not_both octets b.0 a.1.1 b.2)
-reason_one gives one s agg octets x y (inr (inr a)) (inr (inr b)) = b.3
-    ∙ ap as_fault (assigns_one gives one (number_of_conversation s octets) (distributing agg s.system_ports) _ a.0 b.0 a.2 b.2)
-    ∙ sym a.3
+reason_one gives one s agg octets x y (inr (inr a)) (inr (inr b)) = grind (arith, nat_tests, assigns_one)
 
 alike : (gives : ℕ → ℕ → ℕ → Type 0) (old : SystemState) (u : Table) (agg : AggId) (octets : List ℕ) (x : Result ℕ SystemFault)
     → SameConversations old.table u → Reason gives (with_table old u) agg octets x → Reason gives old agg octets x
 alike gives old u agg octets x same h = grind (arith, nat_tests)
-
-sets_one : (agg : AggId) (conv : ℕ) (s r : Assignment) (old : SystemState) (u : Table) (new last : SystemState) → r ≡ s
-    → SameConversations old.table u → GivesAssignment agg conv s old new → GivesAssignment agg conv r (with_table old u) last
-    → SameAfter new last
-sets_one agg conv s r old u new last e same h k =
-    let theirs : GivesAssignment agg conv s (with_table old u) last =
-    subst (λ a. GivesAssignment agg conv a (with_table old u) last) e k in
-    tabled old u new last h.1 theirs.1
-    (changed_one (λ g c x. cond (eqb agg.0 g && eqb conv c) s x) 0 old.table u new.table last.table same
-    (one_set agg.0 conv s old.table new.table h.0) (one_set agg.0 conv s u last.table theirs.0))
 
 offers_one : (gives : ℕ → ℕ → ℕ → Type 0) → IsFunction gives → (agg : AggId) (octets : List ℕ) (old : SystemState) (u : Table)
     (x y : Result ℕ SystemFault) (new last : SystemState) → SameConversations old.table u → Offers gives agg octets old x new
@@ -434,13 +379,7 @@ steps_one gives one old u rest same call a b new last h k = each call a b h k
 -- the states after it
 same_after : (gives : ℕ → ℕ → ℕ → Type 0) (old : SystemState) (u : Table) (call : Call) (a b : Reply) (new last : SystemState)
     → Step gives old call a new → Step gives (with_table old u) call b last → SameAfter new last → SameState new last
-same_after gives old u call a b new last h k same =
-    let mine = Step-frame gives old call a new h in
-    let theirs = Step-frame gives (with_table old u) call b last k in record {
-      others = theirs ∙ (λ i. with_table (with_system_ports old (same.0 i)) last.table)
-          ∙ ap (λ (s : SystemState). with_table s last.table) (sym mine);
-      table = same.1;
-    }
+same_after gives old u call a b new last h k same = grind (arith, nat_tests, Step-frame)
 
 pub one_answer : (gives : ℕ → ℕ → ℕ → Type 0) → IsFunction gives → OneAnswer gives
 one_answer gives one old twin call a b new last agrees same h k =

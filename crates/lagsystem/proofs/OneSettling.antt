@@ -1,10 +1,11 @@
 -- Settling is deterministic: the ports after it, and the state of each conversation.
-use Rattle.lagsystem.proofs.Common.{List, None, Option, Some, [], ap, arith, false, length, refl, slice_get, slice_set, subst, suc, sym, zero, ℕ, ◌+◌}
-use Rattle.lagsystem.proofs.Common.{◌∙◌, ◌∷◌, ◌≡◌, none-some, same_Some, AllByRecursion, AggId, Selected, Machines, mux_rows, RunsPeriodic}
+use Rattle.lagsystem.proofs.Common.{nat_tests}
+use Rattle.lagsystem.proofs.Common.{List, None, Option, Some, [], ap, arith, false, refl, subst, suc, sym, zero, ℕ, ◌+◌}
+use Rattle.lagsystem.proofs.Common.{◌∙◌, ◌∷◌, ◌≡◌, none-some, AllByRecursion, AggId, Machines, mux_rows, RunsPeriodic}
 use Rattle.lagsystem.proofs.Common.{RunsToRest, one_mux, one_periodic, AggregatorsValue, next_standby_index, Assignment, Table, assignment_of}
 use Rattle.lagsystem.proofs.Common.{SystemPort, PortAtChangesBy, SameConversations, aggregator_numbered, distributing, ChoosesIn, PortsChangeBy}
-use Rattle.lagsystem.proofs.Common.{PromotesAll, PromotesFirst, PromotesNext, PromotesTimes, Settling, after_choices, held_unless_on, ready_of}
-use Rattle.lagsystem.proofs.Common.{with_choice, SystemState, aggregators_value, views}
+use Rattle.lagsystem.proofs.Common.{PromotesAll, PromotesFirst, PromotesNext, PromotesTimes, Settling, held_unless_on, ready_of}
+use Rattle.lagsystem.proofs.Common.{SystemState, aggregators_value, views}
 use Rattle.lagsystem.proofs.Keeps.{ports_table, settling_in, settling_parts}
 use Rattle.lagsystem.proofs.SettlingLemmas.{RunsReady, SettlesIn}
 use Rattle.lagsystem.proofs.Rising.{all-get}
@@ -27,27 +28,16 @@ one_of_each P R one [] [] (z ∷ zs) all h k = absurd k
 one_of_each P R one [] (y ∷ ys) b all h k = absurd h
 one_of_each P R one (x ∷ xs) [] b all h k = absurd h
 one_of_each P R one (x ∷ xs) (y ∷ ys) [] all h k = absurd k
-one_of_each P R one (x ∷ xs) (y ∷ ys) (z ∷ zs) all h k =
-    let port : y.port ≡ z.port = one x.port y.port z.port all.0 h.0.1 k.0.1 in
-    let here : y ≡ z = h.0.0 ∙ ap (λ (p : Machines). record x { port = p }) port ∙ sym k.0.0 in
-    let rest = one_of_each P R one xs ys zs all.1 h.1 k.1 in
-    λ i. here i ∷ rest i
+one_of_each P R one (x ∷ xs) (y ∷ ys) (z ∷ zs) all h k = grind (arith, nat_tests, one_of_each P R one xs ys zs all.1 h.1 k.1)
 
 pub one_at : (P : Machines → Type 0) (R : Machines → Machines → Type 0) → LeadsToOne P R → (o : Option ℕ) (l a b : List SystemPort)
     → AllByRecursion (λ x. P x.port) l → PortAtChangesBy R o l a → PortAtChangesBy R o l b → a ≡ b
 one_at P R one None l a b all h k = absurd h
-one_at P R one (Some i) l a b all h k =
-    let s : h.0 ≡ k.0 = same_Some h.0 k.0 (sym h.2 ∙ k.2) in
-    let port : h.1 ≡ k.1 = one h.0.port h.1 k.1 (all-get (λ x. P x.port) l i h.0 h.2 all) h.3
-    (subst (λ (x : SystemPort). R x.port k.1) (sym s) k.3) in
-    h.4 ∙ (λ j. slice_set l i (record (s j) { port = port j })) ∙ sym k.4
+one_at P R one (Some i) l a b all h k = grind (arith, nat_tests, all-get)
 
 -- promotions
 next_one : (aggs : AggregatorsValue) (agg : AggId) (l a b : List SystemPort) → PromotesNext aggs agg l a → PromotesNext aggs agg l b → a ≡ b
-next_one aggs agg l a b h k =
-    let i : h.0 ≡ k.0 = same_Some h.0 k.0 (sym h.2 ∙ k.2) in
-    let s : h.1 ≡ k.1 = same_Some h.1 k.1 (sym h.3 ∙ ap (slice_get l) i ∙ k.3) in
-    h.4 ∙ (λ j. slice_set l (i j) (with_choice (s j) (Some (Selected agg)))) ∙ sym k.4
+next_one aggs agg l a b h k = grind (arith, nat_tests)
 
 abbrev Goes : AggregatorsValue → AggId → ℕ → List SystemPort → List SystemPort → Type 0
 Goes aggs agg zero old new = new ≡ old
@@ -86,9 +76,7 @@ first_one aggs (suc n) l a b h k =
     all_one aggs agg h.0 a b h.2 (subst (λ x. PromotesAll aggs agg x b) (sym mid) k.2)
 
 choosing_one : (aggs : AggregatorsValue) (l a b : List SystemPort) → ChoosesIn aggs l a → ChoosesIn aggs l b → a ≡ b
-choosing_one aggs l a b h k =
-    let mid : h.0 ≡ k.0 = first_one aggs (length aggs.keys) l h.0 k.0 h.1 k.1 in
-    h.2 ∙ ap (λ x. after_choices aggs (length x) x) mid ∙ sym k.2
+choosing_one aggs l a b h k = grind (arith, nat_tests, first_one)
 
 settled_one : (aggs : AggregatorsValue) (l a b : List SystemPort) → SettlesIn aggs l a → SettlesIn aggs l b → a ≡ b
 settled_one aggs l a b h k =
@@ -111,13 +99,7 @@ pub record Changed (f : ℕ → ℕ → Assignment → Assignment) (n : ℕ) (ol
 
 pub changed_one : (f : ℕ → ℕ → Assignment → Assignment) (n : ℕ) (t u a b : Table) → SameConversations t u → Changed f n t a → Changed f n u b
     → SameConversations a b
-changed_one f n t u a b same h k = record {
-  aggs = k.aggs ∙ same.aggs ∙ sym h.aggs;
-  conversations = k.conversations ∙ same.conversations ∙ sym h.conversations;
-  first = k.first ∙ same.first ∙ sym h.first;
-  next = k.next ∙ ap (λ m. m + n) same.next ∙ sym h.next;
-  states = λ x y. k.states x y ∙ ap (f x y) (same.states x y) ∙ sym (h.states x y);
-}
+changed_one f n t u a b same h k = grind (arith, nat_tests)
 
 pub stayed_one : (t u a b : Table) → SameConversations t u → a ≡ t → b ≡ u → SameConversations a b
 stayed_one t u a b same h k = subst (λ x. SameConversations x b) (sym h) (subst (λ x. SameConversations t x) (sym k) same)
@@ -131,18 +113,7 @@ no_more n = omega arith
 
 holds : (old new : SystemState) → Settling old new
     → Changed (λ g k x. held_unless_on (distributing (aggregator_numbered g) new.system_ports) x) 0 old.table new.table
-holds old new h =
-    let parts = settling_parts old new h in
-    let five = parts.0 in
-    let table : five.table ≡ old.table = ports_table old five parts.1 in
-    let ports : five.system_ports ≡ new.system_ports = ap (λ (s : SystemState). s.system_ports) (sym parts.2.frame) in record {
-      aggs = parts.2.aggs ∙ ap (λ (t : Table). t.aggs) table;
-      conversations = parts.2.conversations ∙ ap (λ (t : Table). t.conversations) table;
-      first = parts.2.first ∙ ap (λ (t : Table). t.first) table;
-      next = parts.2.next ∙ ap (λ (t : Table). t.next) table ∙ no_more old.table.next;
-      states = λ g k. parts.2.states g k
-          ∙ (λ i. held_unless_on (distributing (aggregator_numbered g) (ports i)) (assignment_of (table i) g k));
-    }
+holds old new h = grind (arith, nat_tests, settling_parts, ports_table, no_more)
 
 pub settlings_one : (s t new last : SystemState) → SameAfter s t → aggregators_value t ≡ aggregators_value s → Settling s new
     → Settling t last → SameAfter new last

@@ -1,6 +1,6 @@
 -- A walk over the calls of a system: what holds after each kind of change holds after every call.
-use Rattle.lagsystem.proofs.Common.{Bool, Err, List, None, Ok, Option, Result, Some, [], ap, arith, drop, false, if◌then◌else◌, refl, slice_get}
-use Rattle.lagsystem.proofs.Common.{slice_set, subst, sym, true, ℕ, ◌&&◌, ◌++◌, ◌==◌, ◌∙◌, ◌∷◌, ◌≡◌, nat_tests, AggId, Lacpdu, frame_octets}
+use Rattle.lagsystem.proofs.Common.{Bool, Err, List, None, Ok, Option, Result, Some, [], ap, arith, false, if◌then◌else◌, refl, slice_get}
+use Rattle.lagsystem.proofs.Common.{slice_set, true, ℕ, ◌&&◌, ◌++◌, ◌==◌, ◌∙◌, ◌∷◌, ◌≡◌, nat_tests, AggId, Lacpdu, frame_octets}
 use Rattle.lagsystem.proofs.Common.{HoldsNumber, IsAddress, read_field, framed_payload, after_sending, is_due, Assignment, ChangesAssignments, Marks}
 use Rattle.lagsystem.proofs.Common.{after_release, marker_due, PortChange, Reply, SystemFault, FrameEffect, Answered, ProcessLacpdu, Response}
 use Rattle.lagsystem.proofs.Common.{Received, TookLacpdu, SystemPort, Call, ChangesParty, Configure, Force, Move_conversation, Offer}
@@ -18,10 +18,7 @@ IsSilent call answer = (n now : ℕ) (before : List ℕ) → (tick_after call no
 -- the octet behind the header of a control frame
 subtype_of : (mac payload : List ℕ) (k : ℕ) → IsAddress mac → HoldsNumber payload (read_field 0 1 k)
     → subtype (frame_octets mac payload) ≡ k
-subtype_of mac payload k a h =
-    let behind : HoldsNumber (drop 14 (frame_octets mac payload)) (read_field 0 1 k) = subst (λ b. HoldsNumber b (read_field 0 1 k))
-    (sym (framed_payload mac payload a.0)) h in
-    sym (octet_stands (frame_octets mac payload) 14) ∙ behind
+subtype_of mac payload k a h = grind (arith, nat_tests, framed_payload, octet_stands)
 
 pub lacpdu_subtype : (max_delay : ℕ) (x : SystemPort) (octets : List ℕ) → IsLacpduOf max_delay x octets → subtype octets ≡ 1
 lacpdu_subtype max_delay x octets h = ap subtype h.3 ∙ subtype_of x.mac h.0 1 h.1 h.2.table.fields_hold.0
@@ -98,8 +95,7 @@ module _ (gives : ℕ → ℕ → ℕ → Type 0) (old : SystemState) (P : Call 
     transmits_if : (n i : ℕ) (x : SystemPort) (up due : Bool) (answer : Option (List ℕ)) (new : SystemState)
         → port_index n old.system_ports ≡ Some i → slice_get old.system_ports i ≡ Some x → is_due x.port ≡ due
         → TransmitsIf up due i x old answer new → P (Transmit n) (reply.Transmit (Ok answer)) new
-    transmits_if n i x false due answer new at e d h =
-        k.same (Transmit n) (reply.Transmit (Ok answer)) new (none_silent n answer h.0) h.1
+    transmits_if n i x false due answer new at e d h = grind (arith, nat_tests, none_silent)
     transmits_if n i x true false answer new at e d h = marks n (marker_due old.table x.number) x.number x.mac answer new h
     transmits_if n i x true true answer new at e d h = k.ports.send n i x answer h.0 new at e d h.1 h.2 h.3
 
@@ -124,22 +120,17 @@ module _ (gives : ℕ → ℕ → ℕ → Type 0) (old : SystemState) (P : Call 
     Step-preserves (Set_link n up) (reply.SetLink (Ok done)) new h = k.ports.link n up done new h
     Step-preserves (Set_link n up) (reply.SetLink (Err fault)) new h = k.same (Set_link n up) (reply.SetLink (Err fault)) new (λ m now before. (refl, refl)) h.same
     Step-preserves (Receive n octets) (reply.Receive (Ok answer)) new h = receives n octets h.1 h.0.number answer new h.4
-    Step-preserves (Receive n octets) (reply.Receive (Err fault)) new h =
-        k.same (Receive n octets) (reply.Receive (Err fault)) new (λ m now before. (refl, refl)) h.same
+    Step-preserves (Receive n octets) (reply.Receive (Err fault)) new h = grind (arith, nat_tests)
     Step-preserves (Configure n change) (reply.Configure (Ok true)) new h = k.ports.change n change new h
-    Step-preserves (Configure n change) (reply.Configure (Ok false)) new h =
-        k.same (Configure n change) (reply.Configure (Ok false)) new (λ m now before. (refl, refl)) h.1
-    Step-preserves (Configure n change) (reply.Configure (Err fault)) new h =
-        k.same (Configure n change) (reply.Configure (Err fault)) new (λ m now before. (refl, refl)) h.same
+    Step-preserves (Configure n change) (reply.Configure (Ok false)) new h = grind (arith, nat_tests)
+    Step-preserves (Configure n change) (reply.Configure (Err fault)) new h = grind (arith, nat_tests)
     Step-preserves Restart reply.Restart new h = k.ports.restart new h.0 h.1
     Step-preserves (Transmit n) (reply.Transmit (Ok answer)) new h = transmits n (port_index n old.system_ports) answer new refl h
     Step-preserves (Transmit n) (reply.Transmit (Err fault)) new h = k.same (Transmit n) (reply.Transmit (Err fault)) new (λ m now before. (refl, refl)) h.same
     Step-preserves (Offer agg octets) (reply.Offer (Ok port)) new h = k.offer agg octets port new h
     Step-preserves (Offer agg octets) (reply.Offer (Err fault)) new h = k.same (Offer agg octets) (reply.Offer (Err fault)) new (λ m now before. (refl, refl)) h.1
-    Step-preserves (Move_conversation agg conv port) (reply.MoveConversation answer) new h =
-        moves agg conv port (system_move_result old agg conv port) answer new refl h
-    Step-preserves (Force agg conv) (reply.Force answer) new h =
-        forces agg conv (system_force_result old agg conv) answer new refl h
+    Step-preserves (Move_conversation agg conv port) (reply.MoveConversation answer) new h = grind (arith, nat_tests)
+    Step-preserves (Force agg conv) (reply.Force answer) new h = grind (arith, nat_tests)
     Step-preserves call answer new h = absurd h
 
   -- the same if nothing that is done to conversations matters to P

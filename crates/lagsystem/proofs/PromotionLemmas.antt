@@ -1,5 +1,5 @@
 -- Step 2 of settling keeps what each value of Selected keeps that a port gets.
-use Rattle.lagsystem.proofs.Common.{List, Option, Some, arith, length, refl, slice_get, slice_set, subst, suc, sym, zero, ℕ, ◌≡◌, nat_tests, AggId}
+use Rattle.lagsystem.proofs.Common.{List, Option, Some, arith, length, slice_get, slice_set, subst, suc, sym, zero, ℕ, ◌≡◌, nat_tests, AggId}
 use Rattle.lagsystem.proofs.Common.{Choice, Selected, AggregatorsValue, SystemPort, aggregator_numbered, ChoosesIn, PromotesAll, PromotesFirst}
 use Rattle.lagsystem.proofs.Common.{PromotesNext, PromotesTimes, after_choice_at, after_choices, choice_for, with_choice}
 
@@ -32,8 +32,7 @@ pub choices_keep : (aggs : AggregatorsValue) (P : List SystemPort → Type 0)
     → ((l : List SystemPort) (i : ℕ) (s : SystemPort) → slice_get l i ≡ Some s → P l → P (slice_set l i (with_choice s (choice_for aggs l s))))
     → (n : ℕ) (l : List SystemPort) → P l → P (after_choices aggs n l)
 choices_keep aggs P k zero l p = p
-choices_keep aggs P k (suc n) l p =
-    let mid = after_choices aggs n l in choice_keeps aggs P k mid n (slice_get mid n) refl (choices_keep aggs P k n l p)
+choices_keep aggs P k (suc n) l p = grind (arith, nat_tests, choice_keeps, choices_keep aggs P k n l p)
 
 -- what each value of Selected keeps that a port gets, or none, the whole step keeps
 abbrev pub KeptByChoices : (List SystemPort → Type 0) → Type 0

@@ -1,8 +1,8 @@
 -- The ticks until something happens are one fewer after a tick in which nothing is soon.
-use Rattle.lagsystem.proofs.Common.{Bool, List, None, Option, Some, [], ap, arith, false, if◌then◌else◌, inl, inr, is_some, map, nat_lt, refl, subst}
-use Rattle.lagsystem.proofs.Common.{suc, sym, true, zero, ℕ, ◌&&◌, ◌+◌, ◌-◌, ◌<◌, ◌∙◌, ◌∷◌, ◌≡◌, ◌≤◌, leb-true, lt-ltb, nat_tests, AllByRecursion}
-use Rattle.lagsystem.proofs.Common.{Machines, aged, Assignment, marker_due, Table, assignment_of, is_by, sooner, ticks_until_next_wanted}
-use Rattle.lagsystem.proofs.Common.{ticks_until_wanted, by_first, by_second, same_soonest, SystemPort, would_transmit, counted, fewer, waited}
+use Rattle.lagsystem.proofs.Common.{Bool, List, None, Option, Some, [], ap, arith, false, if◌then◌else◌, is_some, map, refl}
+use Rattle.lagsystem.proofs.Common.{suc, true, zero, ℕ, ◌&&◌, ◌+◌, ◌-◌, ◌<◌, ◌∙◌, ◌∷◌, ◌≡◌, ◌≤◌, leb-true, lt-ltb, nat_tests, AllByRecursion}
+use Rattle.lagsystem.proofs.Common.{Machines, aged, Assignment, marker_due, Table, assignment_of, sooner, ticks_until_next_wanted}
+use Rattle.lagsystem.proofs.Common.{ticks_until_wanted, by_first, by_second, same_soonest, SystemPort, counted, fewer, waited}
 use Rattle.lagsystem.proofs.Common.{SystemState, soonest, ticks_in_window, ticks_until_due_on, ticks_until_expired, ticks_until_frame}
 use Rattle.lagsystem.proofs.Common.{ticks_until_room}
 use Rattle.distributor.specs.Waiting.{soonest_below}
@@ -29,10 +29,7 @@ running : (t : ℕ) → 0 < t → ticks_until_expired t ≡ Some t
 running t l = ap (λ b. if b then Some t else None) (lt-ltb 0 t l)
 
 timer_left : (j t : ℕ) → Lasts j (ticks_until_expired t) → ticks_until_expired (t - 1) ≡ fewer 1 (ticks_until_expired t)
-timer_left j t h = elim (lasting j t (nat_lt 0 t) refl h) [
-  | inl z ↦ (let e : t - 1 ≡ 0 = omega (arith, z) in ap ticks_until_expired e ∙ sym (ap (λ n. fewer 1 (ticks_until_expired n)) z))
-  | inr l ↦ running (t - 1) (omega (arith, l)) ∙ sym (ap (fewer 1) (running t (omega (arith, l))))
-]
+timer_left j t h = grind (arith, nat_tests, lasting, running)
 
 -- the transmit window
 
@@ -64,10 +61,7 @@ no_frame b e = ap now_if e
 frame_left : (j : ℕ) (s t : SystemState) (x : SystemPort) → PortLasts j s x
     → is_some (marker_due t.table x.number) ≡ is_some (marker_due s.table x.number)
     → ticks_until_frame t (counted x) ≡ fewer 1 (ticks_until_frame s x)
-frame_left j s t x h m =
-    let two : j + 2 ≡ (j + 1) + 1 = omega arith in
-    let was = frame_not (j + 1) (would_transmit s x) (subst (λ n. is_by (Some n) (ticks_until_frame s x) ≡ true) two h.frame) in
-    no_frame (would_transmit t (counted x)) (still_not_due j s t x h m) ∙ sym (ap (fewer 1) (no_frame (would_transmit s x) was))
+frame_left j s t x h m = grind (arith, nat_tests, frame_not, no_frame, still_not_due)
 
 port_left : (j : ℕ) (s t : SystemState) (x : SystemPort) → PortLasts j s x
     → is_some (marker_due t.table x.number) ≡ is_some (marker_due s.table x.number)

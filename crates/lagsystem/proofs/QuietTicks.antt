@@ -1,12 +1,12 @@
 -- A tick in which nothing is soon.
-use Rattle.lagsystem.proofs.Common.{Bool, List, None, Option, Some, [], ap, arith, cond, false, filter, if◌then◌else◌, inl, inr, is_some, length, ltb}
-use Rattle.lagsystem.proofs.Common.{map, nat_lt, not, refl, subst, suc, sym, true, zero, ℕ, ◌&&◌, ◌+◌, ◌-◌, ◌<◌, ◌==◌, ◌^◌, ◌||◌, ◌∙◌, ◌∷◌, ◌≡◌, ◌≤◌}
-use Rattle.lagsystem.proofs.Common.{◌⊎◌, cases_Bool, false≢true, leb-true, lt-ltb, ltb-true, nat_tests, IsFalse, AllByRecursion, AggId, MuxState}
-use Rattle.lagsystem.proofs.Common.{Fast, NoPeriodic, PeriodicTx, Slow, Current, Expired, PortTick, Machines, set_ntt, is_silent, partner_short}
-use Rattle.lagsystem.proofs.Common.{periodic_row, same_periodic_state, start_periodic, receive_rows, same_receive_state, AtRest, Row, RunsToRest}
-use Rattle.lagsystem.proofs.Common.{in_order, aged, count_down, one_effect, Assignment, On, is_among, after_tick, marker_due, wants_marker, Table}
+use Rattle.lagsystem.proofs.Common.{Bool, List, None, Option, Some, [], ap, arith, cond, false, if◌then◌else◌, inl, inr, is_some, length, ltb}
+use Rattle.lagsystem.proofs.Common.{map, nat_lt, not, refl, subst, suc, true, zero, ℕ, ◌&&◌, ◌+◌, ◌-◌, ◌<◌, ◌==◌, ◌^◌, ◌||◌, ◌∙◌, ◌∷◌, ◌≡◌, ◌≤◌}
+use Rattle.lagsystem.proofs.Common.{◌⊎◌, cases_Bool, false≢true, leb-true, lt-ltb, ltb-true, nat_tests, AllByRecursion, AggId, MuxState}
+use Rattle.lagsystem.proofs.Common.{PortTick, Machines}
+use Rattle.lagsystem.proofs.Common.{receive_rows, AtRest, Row, RunsToRest}
+use Rattle.lagsystem.proofs.Common.{aged, count_down, one_effect, Assignment, On, is_among, after_tick, marker_due, wants_marker, Table}
 use Rattle.lagsystem.proofs.Common.{assignment_of, count_conversations, sum_below, is_by, ticks_until_next_wanted, ticks_until_wanted, by_first}
-use Rattle.lagsystem.proofs.Common.{by_second, same_sum, SystemPort, would_transmit, none_enabled, PeriodicIsSettled, counted, waited, distributes_in}
+use Rattle.lagsystem.proofs.Common.{by_second, same_sum, SystemPort, would_transmit, none_enabled, PeriodicIsSettled, counted, waited}
 use Rattle.lagsystem.proofs.Common.{distributing, PortsChangeBy, held_unless_on, SystemState, selection_view, stage_of, views, soonest}
 use Rattle.lagsystem.proofs.Common.{ticks_in_window, ticks_until_due_on, ticks_until_expired, ticks_until_frame, ticks_until_room}
 use Rattle.distributor.specs.Waiting.{soonest_below}
@@ -28,10 +28,7 @@ pub lasting : (j t : ℕ) (b : Bool) → nat_lt 0 t ≡ b → Lasts j (if b then
 lasting j t b e h = grind (arith, nat_tests)
 
 timer_alike : (j t : ℕ) → Lasts j (ticks_until_expired t) → (t - 1 == 0) ≡ (t == 0)
-timer_alike j t h = elim (lasting j t (nat_lt 0 t) refl h) [
-  | inl z ↦ (let e : t - 1 ≡ t = omega (arith, z) in ap (λ n. n == 0) e)
-  | inr l ↦ (let a : (t - 1 == 0) ≡ false = grind (arith, nat_tests) in let b : (t == 0) ≡ false = grind (arith, nat_tests) in a ∙ sym b)
-]
+timer_alike j t h = grind (arith, nat_tests, lasting)
 
 -- ---- the transmit window
 
@@ -61,48 +58,18 @@ not_second b c h = grind (arith, nat_tests)
 
 pub at_rest : (rows : List Row) (p : Machines) → none_enabled rows p ≡ true → AtRest rows p
 at_rest [] p h = tt
-at_rest (row ∷ rows) p h = (
-  not_first (row.enabled p) (none_enabled rows p) h,
-  at_rest rows p (not_second (row.enabled p) (none_enabled rows p) h),
-)
+at_rest (row ∷ rows) p h = grind (arith, nat_tests, not_first, not_second, at_rest rows p (not_second (row.enabled p) (none_enabled rows p) h))
 
 rests_on : (p : Machines) → (p.current_while - 1 == 0) ≡ (p.current_while == 0) → AtRest receive_rows p → AtRest receive_rows (count_down p)
-rests_on p e h = (
-  h.0,
-  (
-    h.1.0,
-    (
-      h.1.1.0,
-      (
-        subst (λ b. IsFalse (same_receive_state Expired p.receive && b)) (sym e) h.1.1.1.0,
-        (subst (λ b. IsFalse (same_receive_state Current p.receive && b)) (sym e) h.1.1.1.1.0, tt),
-      ),
-    ),
-  ),
-)
+rests_on p e h = grind (arith, nat_tests)
 
 only_counts : (p q : Machines) → AtRest receive_rows p → AtRest receive_rows (count_down p) → RunsToRest receive_rows (count_down p) q
     → q ≡ count_down p
 only_counts p q old rest h = one_effect PortTick p q (count_down p) old h (0, refl, rest)
 
--- the periodic rows, by whether periodic_timer has expired
-abbrev rows_by : Bool → List Row
-rows_by expired =
-    periodic_row (λ s. not (same_periodic_state NoPeriodic s)) is_silent NoPeriodic (λ p. p)
-    ∷ periodic_row (same_periodic_state NoPeriodic) (λ p. not (is_silent p)) Fast (start_periodic 10)
-    ∷ periodic_row (same_periodic_state Fast) (λ p. expired) PeriodicTx set_ntt
-    ∷ periodic_row (same_periodic_state Fast) (λ p. not (partner_short p)) Slow (start_periodic 300)
-    ∷ periodic_row (same_periodic_state Slow) (λ p. expired || partner_short p) PeriodicTx set_ntt
-    ∷ periodic_row (same_periodic_state PeriodicTx) partner_short Fast (start_periodic 10)
-    ∷ periodic_row (same_periodic_state PeriodicTx) (λ p. not (partner_short p)) Slow (start_periodic 300)
-    ∷ []
-
 paced_on : (x : SystemPort) → (x.port.periodic_timer - 1 == 0) ≡ (x.port.periodic_timer == 0) → PeriodicIsSettled x
     → PeriodicIsSettled (counted x)
-paced_on x e h = record {
-  rows = subst (λ b. AtRest (in_order (λ p. false) (rows_by b)) x.port) (sym e) h.rows;
-  cleared = ap count_down h.cleared;
-}
+paced_on x e h = grind (arith, nat_tests)
 
 stage_on : (m : MuxState) (w : ℕ) → (w - 1 == 0) ≡ (w == 0) → stage_of m (w - 1) ≡ stage_of m w
 stage_on m w e = grind (arith, nat_tests)
@@ -149,12 +116,7 @@ not_due up ntt few later was now e m h = grind (arith, nat_tests)
 -- with the port's window as it was, and markers wanted as before, no frame gets due
 pub still_not_due : (j : ℕ) (s t : SystemState) (x : SystemPort) → PortLasts j s x
     → is_some (marker_due t.table x.number) ≡ is_some (marker_due s.table x.number) → would_transmit t (counted x) ≡ false
-still_not_due j s t x h m =
-    let two : j + 2 ≡ (j + 1) + 1 = omega arith in
-    let was = frame_not (j + 1) (would_transmit s x) (subst (λ n. is_by (Some n) (ticks_until_frame s x) ≡ true) two h.frame) in
-    not_due x.port.enabled x.port.ntt (nat_lt (length x.port.ages) 3) (nat_lt (length (aged x.port.ages)) 3)
-    (is_some (marker_due s.table x.number)) (is_some (marker_due t.table x.number))
-    (λ e. ap (λ n. nat_lt n 3) (room_alike j x.port (x.port.enabled && x.port.ntt) h.room e)) m was
+still_not_due j s t x h m = grind (arith, nat_tests, frame_not, not_due, room_alike)
 
 -- ---- all ports
 
@@ -182,10 +144,7 @@ counted_ports j s (x ∷ xs) (y ∷ ys) l r h =
 
 pub counted_views : (j : ℕ) (s : SystemState) (xs : List SystemPort) → AllByRecursion (PortLasts j s) xs → views (map counted xs) ≡ views xs
 counted_views j s [] h = refl
-counted_views j s (x ∷ xs) h =
-    let here : selection_view (counted x) ≡ selection_view x = view_on x (timer_alike j x.port.wait_while h.0.wait_while) in
-    let more = counted_views j s xs h.1 in
-    λ i. here i ∷ more i
+counted_views j s (x ∷ xs) h = grind (arith, nat_tests, view_on, timer_alike, counted_views j s xs h.1)
 
 pub counted_view : (j : ℕ) (s : SystemState) (x : SystemPort) → PortLasts j s x → selection_view (counted x) ≡ selection_view x
 counted_view j s x h = view_on x (timer_alike j x.port.wait_while h.wait_while)
@@ -193,8 +152,7 @@ counted_view j s x h = view_on x (timer_alike j x.port.wait_while h.wait_while)
 pub counted_paced : (j : ℕ) (s : SystemState) (xs : List SystemPort) → AllByRecursion (PortLasts j s) xs
     → AllByRecursion PeriodicIsSettled xs → AllByRecursion PeriodicIsSettled (map counted xs)
 counted_paced j s [] l h = tt
-counted_paced j s (x ∷ xs) l h =
-    (paced_on x (timer_alike j x.port.periodic_timer l.0.periodic_timer) h.0, counted_paced j s xs l.1 h.1)
+counted_paced j s (x ∷ xs) l h = grind (arith, nat_tests, paced_on, timer_alike, counted_paced j s xs l.1 h.1)
 
 -- the ports that distribute
 through : (b : Bool) (x : SystemPort) (xs : List SystemPort) → map (λ (s : SystemPort). s.number) (cond b (x ∷ xs) xs) ≡ cond b (x.number
@@ -203,10 +161,7 @@ through b x xs = grind (arith, nat_tests)
 
 pub counted_distributing : (agg : AggId) (xs : List SystemPort) → distributing agg (map counted xs) ≡ distributing agg xs
 counted_distributing agg [] = refl
-counted_distributing agg (x ∷ xs) =
-    through (distributes_in agg x) (counted x) (filter (distributes_in agg) (map counted xs))
-    ∙ ap (λ l. cond (distributes_in agg x) (x.number ∷ l) l) (counted_distributing agg xs)
-    ∙ sym (through (distributes_in agg x) x (filter (distributes_in agg) xs))
+counted_distributing agg (x ∷ xs) = grind (arith, nat_tests, through, counted_distributing agg xs)
 
 -- ---- conversations
 

@@ -1,12 +1,12 @@
 -- Right after a settling, another one has nothing to do; and if there is nothing to do, a settling changes nothing.
-use Rattle.lagsystem.proofs.Common.{Bool, List, None, Option, Some, [], ap, arith, cond, false, inl, inr, length, not, option_map, refl, slice_get}
+use Rattle.lagsystem.proofs.Common.{Bool, List, None, Option, Some, [], ap, arith, cond, false, inl, inr, length, option_map, refl, slice_get}
 use Rattle.lagsystem.proofs.Common.{slice_set, subst, suc, sym, true, zero, ℕ, ◌&&◌, ◌||◌, ◌∙◌, ◌∷◌, ◌≡◌, false≢true, nat_tests, AllByRecursion}
-use Rattle.lagsystem.proofs.Common.{AllZip, list_all, AggId, Key, Choice, Selected, is_selected, is_unselected, Waiting, NoPeriodic, Machines}
-use Rattle.lagsystem.proofs.Common.{mux_rows, same_mux_state, RunsPeriodic, clear_ntt, periodic_rows, same_periodic_state, AtRest, Fires, FiresTimes}
+use Rattle.lagsystem.proofs.Common.{AllZip, list_all, AggId, Key, Choice, Selected, is_selected, is_unselected, Waiting, Machines}
+use Rattle.lagsystem.proofs.Common.{mux_rows, same_mux_state, RunsPeriodic, periodic_rows, AtRest, Fires, FiresTimes}
 use Rattle.lagsystem.proofs.Common.{Row, RunsToRest, Reaches-keeps, PortView, chosen_if_eligible, has_group_of, has_occupant, occupants}
 use Rattle.lagsystem.proofs.Common.{AggregatorsValue, is_eligible, occupies, SystemPort, MuxIsSettled, MuxesAreSettled, PeriodicIsSettled}
 use Rattle.lagsystem.proofs.Common.{PeriodicsAreSettled, NoneIsNext, PortChangesBy, PortsChangeBy, PromotesFirst, SettlesPorts, Settling}
-use Rattle.lagsystem.proofs.Common.{after_choice_at, after_choices, aggregator_for, choice_for, choice_if, choice_in, ready_of, with_choice}
+use Rattle.lagsystem.proofs.Common.{after_choice_at, after_choices, aggregator_for, choice_for, choice_in, ready_of, with_choice}
 use Rattle.lagsystem.proofs.Common.{SystemState, aggregators_value, port_numbers, with_system_ports, selection_view, views}
 use Rattle.lagsystem.proofs.Keeps.{chosen_numbers, promoted_numbers, settling_in, settling_keeps, zip_numbers}
 use Rattle.lagsystem.proofs.Limiting.{nothing_promoted, settled_none}
@@ -29,8 +29,7 @@ none_fires (row ∷ rows) p q rest f = elim f [ inl h ↦ clash (row.enabled p) 
 
 stays : (rows : List Row) (n : ℕ) (p q : Machines) → AtRest rows p → FiresTimes rows n p q → q ≡ p
 stays rows zero p q rest run = run
-stays rows (suc n) p q rest run =
-    absurd (none_fires rows p q rest (subst (λ (x : Machines). Fires rows x q) (stays rows n p run.0 rest run.1) run.2))
+stays rows (suc n) p q rest run = grind (arith, nat_tests, none_fires, stays rows n p run.0 rest run.1)
 
 unready_row : (m s b : Bool) → (m && (s && b)) ≡ false → (m && (s && false)) ≡ false
 unready_row m s b h = grind (arith, nat_tests)
@@ -50,9 +49,6 @@ rest_unselected b p s h = (h.0, (h.1.0, (unselected_row (same_mux_state Waiting 
 
 abbrev RestsAlone : SystemPort → Type 0
 RestsAlone x = is_unselected x.port.choice ≡ true → AtRest (mux_rows false) x.port
-
-taken_rests : (s : SystemPort) (agg : AggId) (room : Bool) → RestsAlone (with_choice s (Some (choice_if room agg)))
-taken_rests s agg room e = grind (arith, nat_tests)
 
 given_rests : (aggs : AggregatorsValue) (seen : List PortView) (s : SystemPort) (o : Option AggId) → RestsAlone s
     → RestsAlone (with_choice s (option_map (choice_in aggs seen) o))
@@ -193,14 +189,7 @@ and_twice : (b c : Bool) → (b && (b && c)) ≡ (b && c)
 and_twice b c = grind (arith, nat_tests)
 
 periodic_paced : (y z : SystemPort) → PortChangesBy RunsPeriodic y z → PeriodicIsSettled z
-periodic_paced y z h =
-    let mid : Machines = h.1.0 in
-    let twice : clear_ntt (clear_ntt mid) ≡ clear_ntt mid =
-    λ i. record mid { ntt = and_twice (not (same_periodic_state NoPeriodic mid.periodic)) mid.ntt i } in
-    record {
-      rows = subst (λ (p : Machines). AtRest periodic_rows p) (sym h.1.2) h.1.1.2;
-      cleared = h.1.2 ∙ sym twice ∙ ap clear_ntt (sym h.1.2);
-    }
+periodic_paced y z h = grind (arith, nat_tests, and_twice)
 
 -- after a settling
 settled_still : (aggs : AggregatorsValue) (old new : List SystemPort) → Rises 0 (port_numbers old) → SettlesIn aggs old new
@@ -250,8 +239,7 @@ still_mux keys system_ports (x ∷ xs) h = ((refl, (0, refl, h.0.mux)), still_mu
 still_ready : (keys : List Key) (system_ports xs : List SystemPort) → AllByRecursion (MuxIsSettled keys system_ports) xs
     → PortsChangeBy (RunsReady keys (views system_ports)) xs xs
 still_ready keys system_ports [] h = tt
-still_ready keys system_ports (x ∷ xs) h =
-    ((refl, (0, refl, subst (λ b. AtRest (mux_rows b) x.port) (sym h.0.unready) h.0.mux)), still_ready keys system_ports xs h.1)
+still_ready keys system_ports (x ∷ xs) h = grind (arith, nat_tests, still_ready keys system_ports xs h.1)
 
 still_choose : (aggs : AggregatorsValue) (system_ports : List SystemPort) (i : ℕ) (o : Option SystemPort) → slice_get system_ports i ≡ o
     → MuxesAreSettled aggs.keys system_ports → after_choice_at aggs system_ports i o ≡ system_ports
@@ -264,9 +252,7 @@ still_choose aggs system_ports i (Some s) e h =
 still_chosen : (aggs : AggregatorsValue) (n : ℕ) (system_ports : List SystemPort) → MuxesAreSettled aggs.keys system_ports
     → after_choices aggs n system_ports ≡ system_ports
 still_chosen aggs zero system_ports h = refl
-still_chosen aggs (suc n) system_ports h =
-    ap (λ l. after_choice_at aggs l n (slice_get l n)) (still_chosen aggs n system_ports h)
-    ∙ still_choose aggs system_ports n (slice_get system_ports n) refl h
+still_chosen aggs (suc n) system_ports h = grind (arith, nat_tests, still_choose, still_chosen aggs n system_ports h)
 
 -- settling leaves all but the periodic machines
 -- a settling in which only step 1 and step 5 change ports
@@ -281,8 +267,7 @@ settles_from s ran news first h none m =
 pub still_settles : (s : SystemState) (news : List SystemPort) → MuxesAreSettled s.keys s.system_ports
     → NoneIsNext (aggregators_value s) (views s.system_ports) → PortsChangeBy RunsPeriodic s.system_ports news
     → SettlesPorts s (with_system_ports s news)
-still_settles s news h none m =
-    settles_from s s.system_ports news (still_mux s.keys s.system_ports s.system_ports h) h none m
+still_settles s news h none m = grind (arith, nat_tests, settles_from, still_mux)
 
 pub paced_runs : (xs : List SystemPort) → PeriodicsAreSettled xs → PortsChangeBy RunsPeriodic xs xs
 paced_runs [] h = tt

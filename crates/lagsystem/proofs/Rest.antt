@@ -1,11 +1,11 @@
 -- What holds of each port after every call: its machines are at rest.
 use Rattle.lagsystem.proofs.Common.{Bool, List, None, Option, Result, Some, [], ap, arith, false, if◌then◌else◌, not, refl, slice_get, slice_set}
 use Rattle.lagsystem.proofs.Common.{subst, sym, true, ℕ, ◌&&◌, ◌||◌, ◌∙◌, ◌∷◌, ◌≡◌, and_parts, not-true, nat_tests, AllByRecursion, AllZip, AggId}
-use Rattle.lagsystem.proofs.Common.{Choice, is_selected, Lacpdu, Marker, MuxState, Attached, CollectingDistributing, ReceiveState, Initialize}
+use Rattle.lagsystem.proofs.Common.{Choice, is_selected, Lacpdu, MuxState, Attached, CollectingDistributing, ReceiveState, Initialize}
 use Rattle.lagsystem.proofs.Common.{PortDisabled, Machines, mux_rows, partner_synchronized, same_mux_state, RunsPeriodic, periodic_rows, receive_rows}
 use Rattle.lagsystem.proofs.Common.{same_receive_state, start_receive, AtRest, Row, RunsToRest, Starts, before_start, after_sending, count_down}
-use Rattle.lagsystem.proofs.Common.{Reaches-keeps, Assignment, Reply, SystemFault, Received, SystemPort, Call, ChangesParty, OnlyPortChangesBy}
-use Rattle.lagsystem.proofs.Common.{PortAtChangesBy, ProcessesLacpdu, Releases, SetsLink, SetsPortEnabled, Step, ThenSettles, Ticks, changed_party}
+use Rattle.lagsystem.proofs.Common.{Reaches-keeps, Assignment, Reply, SystemFault, SystemPort, Call, ChangesParty, OnlyPortChangesBy}
+use Rattle.lagsystem.proofs.Common.{PortAtChangesBy, ProcessesLacpdu, SetsLink, SetsPortEnabled, Step, ThenSettles, Ticks, changed_party}
 use Rattle.lagsystem.proofs.Common.{choice_with_link, HasJustStarted, IsFirst, setup_of, PortsConsistent, ReceivesAtRest, can_receive, can_receive_in}
 use Rattle.lagsystem.proofs.Common.{mux_consistent, mux_consistent_of, none_enabled, GivesOrRefuses, Offers, SendsMarkerOf, Settling, ready_of}
 use Rattle.lagsystem.proofs.Common.{with_choice, SystemState, aggregators_value, port_index, with_system_ports, views}
@@ -17,10 +17,7 @@ use Rattle.lagsystem.proofs.Rising.{all-set, all-get}
 -- a machine is at rest exactly if no row is enabled
 pub no_row : (rows : List Row) (p : Machines) → AtRest rows p → none_enabled rows p ≡ true
 no_row [] p h = refl
-no_row (row ∷ rows) p h = is_none (row.enabled p) (none_enabled rows p) h.0 (no_row rows p h.1)
-  where
-    is_none : (b c : Bool) → b ≡ false → c ≡ true → (not b && c) ≡ true
-    is_none b c h k = grind (arith, nat_tests)
+no_row (row ∷ rows) p h = grind (arith, nat_tests, no_row rows p h.1)
 
 pub rests : (rows : List Row) (p : Machines) → none_enabled rows p ≡ true → AtRest rows p
 rests [] p h = tt
@@ -119,8 +116,7 @@ place_kept : (P : SystemPort → Type 0) (R : Machines → Machines → Type 0) 
     → ((s : SystemPort) (q : Machines) → R s.port q → P s → P (record s { port = q })) → PortAtChangesBy R o old new
     → AllByRecursion P old → AllByRecursion P new
 place_kept P R None old new k h a = absurd h
-place_kept P R (Some i) old new k h a =
-    subst (AllByRecursion P) (sym h.4) (all-set P old i (record h.0 { port = h.1 }) a (k h.0 h.1 h.3 (all-get P old i h.0 h.2 a)))
+place_kept P R (Some i) old new k h a = grind (arith, nat_tests, all-set, all-get)
 
 settled_rested : (own : SystemState → SystemState → Type 0) (s t : SystemState)
     → ((mid : SystemState) → own s mid → ReceivesAtRest mid.system_ports) → ThenSettles own s t → PortsConsistent t.system_ports
@@ -137,10 +133,6 @@ starts_awake p q h = ap (none_enabled receive_rows) h.2 ∙ receive_awake (start
 pub marker_slots : (o : Option ℕ) (port : ℕ) (mac : List ℕ) (old : SystemState) (answer : Option (List ℕ)) (new : SystemState)
     → SendsMarkerOf o port mac old answer new → new.system_ports ≡ old.system_ports
 marker_slots o port mac old answer new h = grind (arith, nat_tests)
-
-pub releases_slots : (b : Bool) (port : ℕ) (m : Marker) (old : SystemState) (answer : Received) (new : SystemState)
-    → Releases b port m old answer new → new.system_ports ≡ old.system_ports
-releases_slots b port m old answer new h = grind (arith, nat_tests)
 
 pub offers_slots : (gives : ℕ → ℕ → ℕ → Type 0) (agg : AggId) (octets : List ℕ) (old : SystemState) (answer : Result ℕ SystemFault)
     (new : SystemState) → Offers gives agg octets old answer new → new.system_ports ≡ old.system_ports

@@ -1,6 +1,6 @@
 -- Ports in ascending order of their numbers.
-use Rattle.lagsystem.proofs.Common.{Bool, List, None, Option, Some, [], ap, arith, cond, eqb, eqb-true, false, find, if◌then◌else◌, inl, inr, nat_lt}
-use Rattle.lagsystem.proofs.Common.{refl, slice_get, slice_set, subst, suc, sym, true, zero, ℕ, ◌+◌, ◌<◌, ◌==◌, ◌∙◌, ◌∷◌, ◌≡◌, Decides-eqb, nat_tests}
+use Rattle.lagsystem.proofs.Common.{Bool, List, None, Option, Some, [], arith, cond, eqb, eqb-true, false, find, if◌then◌else◌, inl, inr, nat_lt}
+use Rattle.lagsystem.proofs.Common.{refl, slice_get, slice_set, subst, suc, sym, true, zero, ℕ, ◌+◌, ◌<◌, ◌==◌, ◌∷◌, ◌≡◌, Decides-eqb, nat_tests}
 use Rattle.lagsystem.proofs.Common.{position-Some, get_or_from_slice_get, none-some, same_Some, AllByRecursion, Key, AreNumbered, find_number}
 use Rattle.lagsystem.proofs.Common.{cond_false, whichever, PortView, is_conversation_count, PortConfig, BadConfig, SystemPort, configured_numbers}
 use Rattle.lagsystem.proofs.Common.{first_bad_port_number, refusal, refusal_of_limits, number_of_port, HasPorts, SystemState, port_index}
@@ -35,8 +35,7 @@ accepted_count keys ports most conversations h = grind (arith, nat_tests)
 
 pub accepted_rises : (keys : List Key) (ports : List PortConfig) (most : Option ℕ) (conversations : ℕ)
     → refusal keys ports most conversations ≡ None → Rises 0 (configured_numbers ports)
-accepted_rises keys ports most conversations h =
-    rises 1 0 (configured_numbers ports) (accepted_numbers keys ports most conversations h).0
+accepted_rises keys ports most conversations h = grind (arith, nat_tests, rises, accepted_numbers)
 
 pub ports_rise : (s : SystemState) → HasPorts s → Rises 0 (port_numbers s.system_ports)
 ports_rise s h = subst (λ ns. Rises 0 ns) (sym h.same) (accepted_rises s.keys s.ports s.max_links s.conversations h.accepted)
@@ -45,12 +44,7 @@ ports_rise s h = subst (λ ns. Rises 0 ns) (sym h.same) (accepted_rises s.keys s
 not_found : (low n : ℕ) (system_ports : List SystemPort) → Rises low (port_numbers system_ports) → n < low + 1
     → find_number number_of_port system_ports n ≡ None
 not_found low n [] r l = refl
-not_found low n (s ∷ ss) r l =
-    cond_false (eqb n s.number) (Some s) (find_number number_of_port ss n) (below n s.number (omega (arith, l, r.0)))
-    ∙ not_found s.number n ss r.1 (omega (arith, l, r.0))
-  where
-    below : (m k : ℕ) → m < k → eqb m k ≡ false
-    below m k h = grind (arith, nat_tests)
+not_found low n (s ∷ ss) r l = grind (arith, nat_tests, cond_false, not_found s.number n ss r.1 (omega (arith, l, r.0)))
 
 pub are_numbered : (low : ℕ) (system_ports : List SystemPort) → Rises low (port_numbers system_ports)
     → AreNumbered number_of_port system_ports
@@ -76,13 +70,8 @@ eqb-false m n h = grind (arith, nat_tests)
 pub find_here : (low : ℕ) (system_ports : List SystemPort) (i : ℕ) (s : SystemPort) → Rises low (port_numbers system_ports)
     → slice_get system_ports i ≡ Some s → find (λ v. v.number == s.number) (views system_ports) ≡ Some (selection_view s)
 find_here low [] i s r e = cc
-find_here low (t ∷ ts) zero s r e =
-    let same : t ≡ s = cc in
-    found (t.number == s.number) (selection_view t) (selection_view s) _
-    (subst (λ x. (t.number == x.number) ≡ true) same ((Decides-eqb t.number t.number).1 refl)) (ap selection_view same)
-find_here low (t ∷ ts) (suc i) s r e =
-    passed (t.number == s.number) (selection_view t) _ (eqb-false t.number s.number (rises-get t.number ts i s r.1 e))
-    ∙ find_here t.number ts i s r.1 e
+find_here low (t ∷ ts) zero s r e = grind (arith, nat_tests, found, Decides-eqb)
+find_here low (t ∷ ts) (suc i) s r e = grind (arith, nat_tests, passed, eqb-false, rises-get, find_here t.number ts i s r.1 e)
 
 -- what holds of each port
 pub all-set : (P : SystemPort → Type 0) (system_ports : List SystemPort) (i : ℕ) (t : SystemPort) → AllByRecursion P system_ports → P t

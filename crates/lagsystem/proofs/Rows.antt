@@ -46,28 +46,10 @@ settles_moves u call n = Rests-relates (λ p q. QuietMoves u call n p [] q) (rec
 
 -- rows that leave what the view has, but for distribution
 pub mux_moves : (u : SystemSetup) (call : ModelCall) (n : ℕ) (ready : Bool) → EachMoves u call n (mux_rows ready)
-mux_moves u call n ready = (
-  λ p h. ([], tt, refl, refl),
-  (
-    λ p h. ([], tt, refl, refl),
-    (
-      λ p h. ([], tt, refl, refl),
-      (λ p h. ([], tt, refl, refl), (λ p h. ([], tt, refl, refl), (λ p h. ([], tt, refl, refl), tt))),
-    ),
-  ),
-)
+mux_moves u call n ready = grind (arith, nat_tests)
 
 pub periodic_moves : (u : SystemSetup) (call : ModelCall) (n : ℕ) → EachMoves u call n periodic_rows
-periodic_moves u call n = (
-  λ p h. ([], tt, refl, refl),
-  (
-    λ p h. ([], tt, refl, refl),
-    (
-      λ p h. ([], tt, refl, refl),
-      (λ p h. ([], tt, refl, refl), (λ p h. ([], tt, refl, refl), (λ p h. ([], tt, refl, refl), (λ p h. ([], tt, refl, refl), tt)))),
-    ),
-  ),
-)
+periodic_moves u call n = grind (arith, nat_tests)
 
 pub runs_periodic_moves : (u : SystemSetup) (call : ModelCall) (n : ℕ) (p q : Machines) → RunsPeriodic p q → QuietMoves u call n p [] q
 runs_periodic_moves u call n p q h =

@@ -18,5 +18,4 @@ sent_control octets payload h =
 
 -- behind its header stands its PDU
 pub sent_payload : (octets : List ℕ) (payload : Pdu) → IsSent octets payload → WritesPdu (drop 14 octets) payload
-sent_payload octets payload h =
-    subst (λ l. WritesPdu (drop 14 l) payload) (sym h.4) (subst (λ l. WritesPdu l payload) (sym (framed_payload h.0 h.1 h.2.0)) h.3)
+sent_payload octets payload h = grind (arith, nat_tests, framed_payload)

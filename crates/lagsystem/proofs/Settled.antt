@@ -1,6 +1,6 @@
 -- The calls that settle: their own effect, from what its parts do, and the ports that distributed before it.
-use Rattle.lagsystem.proofs.Common.{Bool, List, Option, ap, arith, subst, sym, ℕ, ◌∙◌, ◌≡◌, nat_tests, AggId, Machines, receive_rows, RunsToRest}
-use Rattle.lagsystem.proofs.Common.{count_down, Assignment, On, ChangesAssignments, after_down, after_tick, Table, assignment_of, SystemPort}
+use Rattle.lagsystem.proofs.Common.{Bool, List, Option, arith, ℕ, ◌≡◌, nat_tests, AggId, Machines, receive_rows, RunsToRest}
+use Rattle.lagsystem.proofs.Common.{count_down, Assignment, On, ChangesAssignments, after_tick, Table, assignment_of, SystemPort}
 use Rattle.lagsystem.proofs.Common.{FreesIfDown, OnlyPortChangesBy, PortAtChangesBy, SetsLink, SetsPortEnabled, Ticks, WereInUse, aggregators_in_use}
 use Rattle.lagsystem.proofs.Common.{PortsChangeBy, IsSound, SystemState, port_index, with_system_ports, with_table}
 use Rattle.lagsystem.proofs.Keeps.{Keeps, keeps_link, keeps_place, keeps_tick}
@@ -28,22 +28,13 @@ pub tick_made : (old : SystemState) (olds ws news : List SystemPort) (t : Table)
     → PortsChangeBy (λ p q. RunsToRest receive_rows (count_down p) q) olds ws
     → ChangesAssignments old.table t after_tick
     → Ticks old (moved_on old news t)
-tick_made old olds ws news t e w f k h c =
-    let own : Machines → Machines → Type 0 = λ p q. RunsToRest receive_rows (count_down p) q in (
-      subst (λ l. PortsChangeBy own l news) e (subst (λ l. PortsChangeBy own olds l) (sym w) h),
-      c,
-      is_moved_on old news t (c.first ∙ sym f) (c.conversations ∙ sym k),
-    )
+tick_made old olds ws news t e w f k h c = grind (arith, nat_tests, is_moved_on)
 
 pub tick_carried : (old mid : SystemState) (were : List (Option AggId)) → IsSound old → Ticks old mid
     → were ≡ aggregators_in_use old.system_ports → WereInUse were mid
-tick_carried old mid were s h e = were_carried old mid were s (keeps_tick old mid h) e
-    (λ g k p x. ticked_on (assignment_of old.table g k) p (sym (h.1.states g k) ∙ x))
+tick_carried old mid were s h e = grind (arith, nat_tests, were_carried, keeps_tick, ticked_on)
 
 -- nor does a link that goes down
-down_on : (port : ℕ) (a : Assignment) (p : ℕ) → after_down port a ≡ On p → a ≡ On p
-down_on port a p e = grind (arith, nat_tests)
-
 frees_on : (up : Bool) (port : ℕ) (t new : Table) → FreesIfDown up port t new → (g k p : ℕ) → assignment_of new g k ≡ On p
     → assignment_of t g k ≡ On p
 frees_on up port t new h g k p e = grind (arith, nat_tests)
@@ -58,12 +49,7 @@ pub link_made : (n : ℕ) (up : Bool) (old : SystemState) (olds ws news : List S
     → old.first_marker ≡ old.table.first → old.conversations ≡ old.table.conversations
     → PortAtChangesBy (SetsPortEnabled old.max_links up) (port_index n olds) olds ws → FreesIfDown up n old.table t
     → SetsLink n up old (moved_on old news t)
-link_made n up old olds ws news t e w f k h c = (
-  subst (λ l. PortAtChangesBy (SetsPortEnabled old.max_links up) (port_index n l) l news) e
-      (subst (λ l. PortAtChangesBy (SetsPortEnabled old.max_links up) (port_index n olds) olds l) (sym w) h),
-  c,
-  is_moved_on old news t (frees_first up n old.table t c ∙ sym f) (frees_count up n old.table t c ∙ sym k),
-)
+link_made n up old olds ws news t e w f k h c = grind (arith, nat_tests, is_moved_on, frees_first, frees_count)
 
 pub link_carried : (n : ℕ) (up : Bool) (old mid : SystemState) (were : List (Option AggId)) → IsSound old → SetsLink n up old mid
     → were ≡ aggregators_in_use old.system_ports → WereInUse were mid
@@ -72,5 +58,4 @@ link_carried n up old mid were s h e = were_carried old mid were s (keeps_link n
 -- one port goes on, and the conversations stay
 pub place_carried : (R : Machines → Machines → Type 0) (o : Option ℕ) (old mid : SystemState) (were : List (Option AggId)) → IsSound old
     → OnlyPortChangesBy o R old mid → were ≡ aggregators_in_use old.system_ports → WereInUse were mid
-place_carried R o old mid were s h e = were_carried old mid were s (keeps_place R o old mid h) e
-    (λ g k p x. sym (ap (λ (y : SystemState). assignment_of y.table g k) h.1) ∙ x)
+place_carried R o old mid were s h e = grind (arith, nat_tests, were_carried, keeps_place)

@@ -1,8 +1,8 @@
 -- What settling does, from what its loops do.
 use Rattle.lagsystem.proofs.Common.{Bool, List, None, Option, Some, [], ap, arith, cond, false, filter, if◌then◌else◌, not, option_map, refl}
-use Rattle.lagsystem.proofs.Common.{slice_get, slice_set, subst, suc, sym, true, zero, ℕ, ◌&&◌, ◌||◌, ◌∙◌, ◌∷◌, ◌≡◌, or_parts, nat_tests, same_Some}
+use Rattle.lagsystem.proofs.Common.{slice_get, slice_set, subst, suc, sym, true, zero, ℕ, ◌&&◌, ◌||◌, ◌∙◌, ◌∷◌, ◌≡◌, or_parts, nat_tests}
 use Rattle.lagsystem.proofs.Common.{list_all, list_any, AggId, Key, Choice, Selected, Standby, Unselected, is_selected, Machines, mux_rows}
-use Rattle.lagsystem.proofs.Common.{RunsPeriodic, RunsToRest, PortView, chosen_aggregator, is_aggregator, ports_that_chose, AggregatorsValue, members}
+use Rattle.lagsystem.proofs.Common.{RunsPeriodic, RunsToRest, PortView, chosen_aggregator, ports_that_chose, AggregatorsValue}
 use Rattle.lagsystem.proofs.Common.{has_chosen, has_waited, is_detached_or_waiting, is_eligible, SystemPort, ChoosesIn, PortChangesBy, PortsChangeBy}
 use Rattle.lagsystem.proofs.Common.{SettlesPorts, after_choice_at, aggregator_for, choice_for, choice_in, is_restless, ready_of, with_choice}
 use Rattle.lagsystem.proofs.Common.{SystemState, aggregators_value, with_system_ports, selection_view, views}
@@ -51,9 +51,7 @@ pub no_ready : (keys : List Key) (system_ports : List SystemPort) → list_any (
     → (c : Choice) → ready_of keys (views system_ports) c ≡ false
 no_ready keys system_ports h Unselected = refl
 no_ready keys system_ports h (Standby agg) = refl
-no_ready keys system_ports h (Selected agg) =
-    none_has_waited (members keys (views system_ports) agg) (none_known (is_aggregator keys agg) (ports_that_chose agg (views system_ports))
-    (none_given agg system_ports h))
+no_ready keys system_ports h (Selected agg) = grind (arith, nat_tests, none_has_waited, none_known, none_given)
 
 pub runs_unready : (keys : List Key) (olds news : List SystemPort) → list_any (λ s. member_has_waited s) olds ≡ false
     → PortsChangeBy (RunsToRest (mux_rows false)) olds news
@@ -144,9 +142,7 @@ settles_in old new h =
 
 -- and they change nothing else
 pub ports_frame : (old new : SystemState) → SettlesPorts old new → new ≡ with_system_ports old new.system_ports
-ports_frame old new h =
-    let set : SystemState → SystemState = λ s. with_system_ports s new.system_ports in
-    ap set h.2.2.2.2.2 ∙ ap set h.2.2.2.2.1.1 ∙ ap set h.2.2.2.1.1 ∙ ap set h.2.2.1 ∙ ap set h.2.1.1 ∙ ap set h.1.1
+ports_frame old new h = grind (arith, nat_tests)
 
 pub set_same : (system_ports : List SystemPort) (i : ℕ) (s : SystemPort) → slice_get system_ports i ≡ Some s
     → slice_set system_ports i s ≡ system_ports
@@ -161,22 +157,11 @@ none_for aggs system_ports s h = ap (option_map (choice_in aggs (views system_po
 
 pub none_taken : (aggs : AggregatorsValue) (system_ports : List SystemPort) (i : ℕ) (s : SystemPort) → slice_get system_ports i ≡ Some s
     → is_eligible (selection_view s) ≡ false → system_ports ≡ after_choice_at aggs system_ports i (slice_get system_ports i)
-none_taken aggs system_ports i s e h =
-    let none : choice_for aggs system_ports s ≡ None = none_for aggs system_ports s
-    (ap (λ b. if b then chosen_aggregator aggs.keys (views system_ports) s.number else None) h) in
-    subst (λ o. system_ports ≡ after_choice_at aggs system_ports i o) (sym e)
-    (sym (ap (λ o. slice_set system_ports i (with_choice s o)) none ∙ set_same system_ports i s e))
+none_taken aggs system_ports i s e h = grind (arith, nat_tests, none_for, set_same)
 
 pub one_taken : (aggs : AggregatorsValue) (system_ports : List SystemPort) (i : ℕ) (s t : SystemPort) (o : Option AggId)
     → slice_get system_ports i ≡ Some s → slice_get system_ports i ≡ Some t → is_eligible (selection_view s) ≡ true
     → o ≡ chosen_aggregator aggs.keys (views system_ports) t.number
     → slice_set system_ports i (with_choice t (option_map (choice_in aggs (views system_ports)) o)) ≡ after_choice_at aggs system_ports i
     (slice_get system_ports i)
-one_taken aggs system_ports i s t o e f h k =
-    let seen = views system_ports in
-    let same : s ≡ t = same_Some s t (sym e ∙ f) in
-    let ok : is_eligible (selection_view t) ≡ true = subst (λ x. is_eligible (selection_view x) ≡ true) same h in
-    let what : aggregator_for aggs.keys system_ports t ≡ o =
-    ap (λ b. if b then chosen_aggregator aggs.keys seen t.number else None) ok ∙ sym k in
-    subst (λ p. slice_set system_ports i (with_choice t (option_map (choice_in aggs seen) o)) ≡ after_choice_at aggs system_ports i p) (sym f)
-    (sym (ap (λ p. slice_set system_ports i (with_choice t (option_map (choice_in aggs seen) p))) what))
+one_taken aggs system_ports i s t o e f h k = grind (arith, nat_tests)

@@ -1,11 +1,11 @@
 -- An LACPDU after which the port looks the same to the Selection Logic: a settling goes on with this port alone.
-use Rattle.lagsystem.proofs.Common.{Bool, List, None, Option, Some, [], ap, arith, false, if◌then◌else◌, refl, slice_get, slice_set, subst, suc, sym}
-use Rattle.lagsystem.proofs.Common.{true, zero, ℕ, ◌||◌, ◌∙◌, ◌∷◌, ◌≡◌, nat_tests, same_Some, OnTrue, AllByRecursion, AggId, Key, Lacpdu, Machines}
-use Rattle.lagsystem.proofs.Common.{mux_rows, RunsPeriodic, AtRest, RunsToRest, one_mux, Reaches-keeps, PortView, chosen_aggregator, is_eligible}
+use Rattle.lagsystem.proofs.Common.{Bool, List, Option, Some, [], ap, arith, false, refl, slice_get, slice_set, subst, suc, sym}
+use Rattle.lagsystem.proofs.Common.{true, zero, ℕ, ◌∙◌, ◌∷◌, ◌≡◌, nat_tests, same_Some, OnTrue, AllByRecursion, AggId, Key, Lacpdu, Machines}
+use Rattle.lagsystem.proofs.Common.{mux_rows, RunsPeriodic, AtRest, RunsToRest, one_mux, Reaches-keeps, PortView}
 use Rattle.lagsystem.proofs.Common.{ChangesAssignments, Table, SystemPort, OnlyPortChangesBy, PortAtChangesBy, ProcessesLacpdu, ThenSettles}
 use Rattle.lagsystem.proofs.Common.{after_holding, aggregators_in_use, stopped, HasRecordedActor, IsSamePartner, LooksUnchanged, MuxIsSettled}
 use Rattle.lagsystem.proofs.Common.{MuxesAreSettled, PeriodicsAreSettled, ProcessesLacpduAt, NoneIsNext, collecting, PortChangesBy, PortsChangeBy}
-use Rattle.lagsystem.proofs.Common.{SettlesPorts, Settling, ready_of, IsSound, SystemState, aggregators_value, with_system_ports, selection_view}
+use Rattle.lagsystem.proofs.Common.{SettlesPorts, Settling, IsSound, SystemState, aggregators_value, with_system_ports, selection_view}
 use Rattle.lagsystem.proofs.Common.{stage_of, views}
 use Rattle.selection.specs.declared.view.Stage.TheVariants as stage
 use Rattle.lagsystem.proofs.Keeps.{ports_keep, ports_table, settling_joined}
@@ -26,17 +26,9 @@ alike_views [] i s t e h = refl
 alike_views (x ∷ xs) zero s t e h = let same : s ≡ x = sym (same_Some x s e) in λ i. (h ∙ ap selection_view same) i ∷ views xs
 alike_views (x ∷ xs) (suc i) s t e h = ap (λ vs. selection_view x ∷ vs) (alike_views xs i s t e h)
 
--- what a port takes, by what is seen
-abbrev takes_seen : List Key → List PortView → PortView → Option AggId
-takes_seen keys seen v = if is_eligible v then chosen_aggregator keys seen v.number else None
-
 still_among : (keys : List Key) (system_ports news : List SystemPort) (s : SystemPort) → views news ≡ views system_ports
     → MuxIsSettled keys system_ports s → MuxIsSettled keys news s
-still_among keys system_ports news s e h = record {
-  mux = h.mux;
-  apart = ap (λ l. takes_seen keys l (selection_view s)) e ∙ h.apart;
-  unready = ap (λ l. ready_of keys l s.port.choice) e ∙ h.unready;
-}
+still_among keys system_ports news s e h = grind (arith, nat_tests)
 
 pub all_among : (keys : List Key) (system_ports news xs : List SystemPort) → views news ≡ views system_ports
     → AllByRecursion (MuxIsSettled keys system_ports) xs → AllByRecursion (MuxIsSettled keys news) xs
@@ -45,11 +37,7 @@ all_among keys system_ports news (x ∷ xs) e h = (still_among keys system_ports
 
 pub alike_still : (keys : List Key) (system_ports : List SystemPort) (s t : SystemPort) → selection_view t ≡ selection_view s
     → AtRest (mux_rows false) t.port → MuxIsSettled keys system_ports s → MuxIsSettled keys system_ports t
-alike_still keys system_ports s t e r h = record {
-  mux = r;
-  apart = ap (takes_seen keys (views system_ports)) e ∙ h.apart;
-  unready = ap (λ (v : PortView). ready_of keys (views system_ports) v.choice) e ∙ h.unready;
-}
+alike_still keys system_ports s t e r h = grind (arith, nat_tests)
 
 -- the ports are settled again once the mux machine of one that looks the same is at rest
 ran_still : (keys : List Key) (system_ports : List SystemPort) (i : ℕ) (s u : SystemPort) → slice_get system_ports i ≡ Some s
@@ -96,8 +84,7 @@ processed v old i alike new h = with_system_ports old (slice_set old.system_port
 pub own_made : (v : Lacpdu) (old : SystemState) (i : ℕ) (alike : Bool) (new : List SystemPort)
     (h : ProcessesLacpduAt v i old.system_ports alike new)
     → OnlyPortChangesBy (Some i) (ProcessesLacpdu v) old (processed v old i alike new h)
-own_made v old i alike new h =
-    ((h.before, h.changes.mid.port, h.there, h.changes.processes.1, ap (slice_set old.system_ports i) h.changes.processes.0), refl)
+own_made v old i alike new h = grind (arith, nat_tests)
 
 -- a settling that finds the mux machine of the port run already
 first_joined : (system_ports : List SystemPort) (i : ℕ) (t u : SystemPort) (xs : List SystemPort)
@@ -193,9 +180,6 @@ took_alone v old i one two were t s f h k e c =
     )
 
 -- what a known LACPDU leaves
-now_settled : (c d : Bool) → c ≡ true → true ≡ (c || d)
-now_settled c d h = grind (arith, nat_tests)
-
 pub took_alike : (v : Lacpdu) (s : SystemPort) (q : Machines) → ProcessesLacpdu v s.port q → HasRecordedActor v s
     → IsSamePartner s.port.partner q.partner → LooksUnchanged s (record s { port = q })
 took_alike v s q h k same = grind (arith, nat_tests)
@@ -217,5 +201,4 @@ ran_alike s q h e = λ i. record (rest i) { stage = e i }
 
 pub ran_looks : (s t : SystemPort) → PortChangesBy (RunsToRest (mux_rows false)) s t
     → (selection_view t).stage ≡ (selection_view s).stage → LooksUnchanged s t
-ran_looks s t h e =
-    subst (λ x. LooksUnchanged s x) (sym h.0) (ran_alike s t.port h.1 e)
+ran_looks s t h e = grind (arith, nat_tests, ran_alike)

@@ -50,9 +50,7 @@ no_entry o h = grind (arith, nat_tests)
 none_passes : (keys : List Key) (key : Key) (test : AggId → Bool) → lowest keys key test ≡ None → (g : ℕ) → key_of keys g ≡ Some key
     → test (aggregator_numbered g) ≡ false
 none_passes keys key test h zero e = absurd (none-some key e)
-none_passes keys key test h (suc g) e =
-    let next : 1 + g ≡ suc g = omega arith in
-    subst (λ n. test (aggregator_numbered n) ≡ false) next (none_from 1 keys key test (no_entry _ h) g e)
+none_passes keys key test h (suc g) e = grind (arith, nat_tests, none_from, no_entry)
 
 first_none : (a b : Option AggId) → or_else a b ≡ None → (a ≡ None) × (b ≡ None)
 first_none a b h = grind (arith, nat_tests)
@@ -230,13 +228,8 @@ any_here : (agg : AggId) (ports : List SystemPort) (i : ℕ) (x : SystemPort) �
     → has_chosen agg x.port.choice ≡ true → is_detached_or_waiting (stage_of x.port.mux x.port.wait_while) ≡ true
     → list_any still (ports_that_chose agg (views ports)) ≡ true
 any_here agg [] i x at m w = absurd (none-some x at)
-any_here agg (y ∷ ys) zero x at m w =
-    let same = sym (same_Some y x at) in
-    any_of (has_chosen agg y.port.choice) (still (selection_view y)) (selection_view y) (ports_that_chose agg (views ys)) refl
-    (inl (ap (λ (z : SystemPort). has_chosen agg z.port.choice) (sym same) ∙ m, ap (λ (z : SystemPort). still (selection_view z)) (sym same) ∙ w))
-any_here agg (y ∷ ys) (suc i) x at m w =
-    any_of (has_chosen agg y.port.choice) (still (selection_view y)) (selection_view y) (ports_that_chose agg (views ys)) refl
-    (inr (any_here agg ys i x at m w))
+any_here agg (y ∷ ys) zero x at m w = grind (arith, nat_tests, any_of)
+any_here agg (y ∷ ys) (suc i) x at m w = grind (arith, nat_tests, any_of, any_here agg ys i x at m w)
 
 given_is : (agg : AggId) (c : Choice) → has_chosen agg c ≡ true → c ≡ Selected agg
 given_is agg c h = grind (arith, nat_tests)

@@ -1,22 +1,22 @@
 -- Each call of a system is a list of lawful moves.
-use Rattle.lagsystem.proofs.Common.{Bool, Err, IsSome, List, None, Ok, Option, Result, Some, [], ap, append-nil, arith, bytes_eq, cond, false}
-use Rattle.lagsystem.proofs.Common.{if◌then◌else◌, inl, inr, is_some, ltb, nat_lt, not, refl, slice_get, slice_set, subst, sym, true, ℕ, ◌&&◌, ◌<◌}
-use Rattle.lagsystem.proofs.Common.{◌==◌, ◌^◌, ◌||◌, ◌∙◌, ◌∷◌, ◌≡◌, and_from, and_parts, Decides-eqb, nat_tests, none-some, same_Some, AggId, Choice}
+use Rattle.lagsystem.proofs.Common.{Bool, Err, IsSome, List, None, Ok, Option, Result, Some, [], ap, append-nil, arith, cond, false}
+use Rattle.lagsystem.proofs.Common.{if◌then◌else◌, ltb, not, refl, slice_get, slice_set, subst, sym, true, ℕ, ◌&&◌, ◌<◌}
+use Rattle.lagsystem.proofs.Common.{◌^◌, ◌||◌, ◌∙◌, ◌∷◌, ◌≡◌, and_from, and_parts, Decides-eqb, nat_tests, none-some, same_Some, AggId, Choice}
 use Rattle.lagsystem.proofs.Common.{is_selected, is_standby, Lacpdu, Marker, answer_of, Act, LawfulMoves, Move, PortMove, Sends_frame, Shows, Took}
 use Rattle.lagsystem.proofs.Common.{DistributorFacts, Lacp, Message, SystemSetup, Told, Told_receive, moves_joined, CollectingDistributing, Machines}
 use Rattle.lagsystem.proofs.Common.{is_synchronized, mux_rows, partner_synchronized, same_mux_state, RunsPeriodic, receive_rows, RunsToRest}
-use Rattle.lagsystem.proofs.Common.{after_sending, count_down, is_due, pdu_of, Assignment, DistFault, force_result, move_result, ChangesAssignments}
+use Rattle.lagsystem.proofs.Common.{after_sending, count_down, pdu_of, Assignment, DistFault, force_result, move_result, ChangesAssignments}
 use Rattle.lagsystem.proofs.Common.{Marks, after_release, marker_due, wants_marker, Table, assignment_of, count_conversations, next_identifier}
 use Rattle.lagsystem.proofs.Common.{model_distributor, conversations_tick, down_moves, force_moves, mark_moves, move_moves, release_moves, send_moves}
-use Rattle.lagsystem.proofs.Common.{Reply, SystemFault, NoAggregator, NoPort, FrameEffect, Answered, ProcessLacpdu, Response, Received, Disabled}
+use Rattle.lagsystem.proofs.Common.{Reply, SystemFault, FrameEffect, Answered, ProcessLacpdu, Response, Received, Disabled}
 use Rattle.lagsystem.proofs.Common.{Dropped, Ignored, Released, Up, SystemPort, AnswersMarker, Call, Carries, ChangesParty, Configure, Data_frame}
 use Rattle.lagsystem.proofs.Common.{Faulty, Force, FreesIfDown, GivesEffect, IsFrame, Move_conversation, Offer, OnlyPortChangesBy, ParsesWhere}
 use Rattle.lagsystem.proofs.Common.{Performs, PortAtChangesBy, ProcessesLacpdu, Receive, ReceivedFrame, Releases, Restart, Runt, Set_link, SetsLink}
 use Rattle.lagsystem.proofs.Common.{SetsPortEnabled, Step, ThenSettles, Tick, Ticks, Transmit, is_own_response, up_or_dropped, CallSeenAs}
-use Rattle.lagsystem.proofs.Common.{EffectsSeenAs, JoinedByLawfulMoves, PortsConsistent, can_receive, can_receive_in, control_message, lacp_message}
+use Rattle.lagsystem.proofs.Common.{EffectsSeenAs, JoinedByLawfulMoves, PortsConsistent, can_receive, control_message, lacp_message}
 use Rattle.lagsystem.proofs.Common.{marker_message, model_port, model_setup, model_view, model_view_at, mux_consistent, none_enabled, number_of_port}
-use Rattle.lagsystem.proofs.Common.{selected_number, OccupantsAgree, GivesOrRefuses, Offers, assignment_of_frame, has_aggregator, in_system}
-use Rattle.lagsystem.proofs.Common.{or_not_assigned, system_force_result, system_move_result, collecting, conversation_count, distributing}
+use Rattle.lagsystem.proofs.Common.{selected_number, OccupantsAgree, GivesOrRefuses, Offers, assignment_of_frame, in_system}
+use Rattle.lagsystem.proofs.Common.{system_force_result, system_move_result, collecting, distributing}
 use Rattle.lagsystem.proofs.Common.{number_of_conversation, SendsLacpdu, SendsMarkerOf, TransmitsAt, TransmitsIf, own_marker, PortChangesBy}
 use Rattle.lagsystem.proofs.Common.{PortsChangeBy, SettlesPorts, Settling, ready_of, SystemState, aggregators_value, port_index, port_numbers}
 use Rattle.lagsystem.proofs.Common.{system_port_at, with_system_ports, with_table, views}
@@ -24,7 +24,6 @@ use Rattle.std.proofs.lemmas.Slice.Eq.{bytes_eq-Decides}
 use Rattle.slowpdu.specs.declared.pdu.MarkerKind.{MarkerKind}
 use Rattle.slowpdu.specs.declared.pdu.MarkerKind.TheVariants as kind
 use Rattle.slowpdu.specs.declared.pdu.Pdu.TheVariants as pdu
-use Rattle.distributor.specs.declared.fault.DistFault.TheVariants.{NotAssigned}
 use Rattle.lagsystem.specs.declared.drive.Reply.TheVariants as reply
 use Rattle.lagsystem.proofs.Conversing.{assigned_may, carrying_moves, leaving_moves, table_moves}
 use Rattle.lagsystem.proofs.Keeps.{Keeps, choosing_numbers, keeps_link, keeps_place, keeps_tick, ports_table, settling_parts, zip_numbers}
@@ -64,8 +63,7 @@ standby_not : (c : Choice) → is_standby c ≡ true → is_selected c ≡ false
 standby_not c h = grind (arith, nat_tests)
 
 rest_idle : (x y : SystemPort) → PortChangesBy (RunsToRest (mux_rows false)) x y → StandbyIsIdle y
-rest_idle x y m e = carries_not (same_mux_state CollectingDistributing y.port.mux) (is_selected y.port.choice)
-    (partner_synchronized y.port) m.1.2.1.1.1.1.1.0 (standby_not y.port.choice e)
+rest_idle x y m e = grind (arith, nat_tests, carries_not, standby_not)
 
 -- the steps of settling that look at ports alone
 ports_moves : (u : SystemSetup) (call : Told) (f : DistributorFacts) (old new : SystemState) → Fits u old.keys
@@ -122,19 +120,14 @@ settled_moves u call own seen s t fits r agree keeps stay moves h =
 slots_moved : (u : SystemSetup) (call : Told) (seen : List Act) (old mid : SystemState) → mid ≡ with_system_ports old mid.system_ports
     → LawfulMoves u call (model_view old) seen (model_view_at (model_distributor old.table) mid.system_ports)
     → LawfulMoves u call (model_view old) seen (model_view mid)
-slots_moved u call seen old mid e h =
-    subst (λ (t : Table). LawfulMoves u call (model_view old) seen (model_view_at (model_distributor t) mid.system_ports))
-    (sym (ap (λ (s : SystemState). s.table) e)) h
+slots_moved u call seen old mid e h = grind (arith, nat_tests)
 
 -- conversations alone
 pub table_moved : (u : SystemSetup) (call : Told) (seen : List Act) (old new : SystemState) → new ≡ with_table old new.table
     → LawfulMoves u call (model_view old) seen (model_view_at (model_distributor new.table) old.system_ports)
     → LawfulMoves u call (model_view old) seen (model_view new)
-table_moved u call seen old new e h =
-    subst (λ (l : List SystemPort). LawfulMoves u call (model_view old) seen (model_view_at (model_distributor new.table) l))
-    (sym (ap (λ (s : SystemState). s.system_ports) e)) h
+table_moved u call seen old new e h = grind (arith, nat_tests)
 
--- the port at the place of a number has that number
 -- the port with a number moves
 one_moves : (u : SystemSetup) (call : Told) (f : DistributorFacts) (n i : ℕ) (system_ports : List SystemPort) (s : SystemPort)
     (q : Machines) (seen : List Act) → Rises 0 (port_numbers system_ports) → port_index n system_ports ≡ Some i
@@ -166,12 +159,7 @@ clash b h k = grind (arith, nat_tests)
 
 takes_moves : (u : SystemSetup) (n : ℕ) (v : Lacpdu) (p q : Machines) → p.enabled ≡ true → can_receive p ≡ true → ProcessesLacpdu v p q
     → QuietMoves u (Told_receive n (Some (Lacp (lacp_message v)))) n p (Took n (lacp_message v) ∷ []) q
-takes_moves u n v p q e a h = elim h [
-  | inl f ↦ taking_moves u n v p q f
-  | inr r ↦ absurd
-      (clash (can_receive_in p.receive && p.enabled)
-      (and_from (can_receive_in p.receive) p.enabled (where_awake p.enabled (can_receive_in p.receive) e a) e) r.0.0)
-]
+takes_moves u n v p q e a h = grind (arith, nat_tests, taking_moves, clash, and_from, where_awake)
 
 -- a port that says synchronized is a member
 where_member : (b x rest : Bool) → ((if b then x else true) && rest) ≡ true → b ≡ true → x ≡ true
@@ -184,44 +172,18 @@ is_member c h = grind (arith, nat_tests)
 not_both : (v : Lacpdu) (r : Received) → ProcessLacpdu v ≡ Answered r → ⊥
 not_both v r e = cc
 
-not_taken : (v : Lacpdu) (m : Marker) → ProcessLacpdu v ≡ Response m → ⊥
-not_taken v m e = cc
-
 not_answered : (r : Received) (m : Marker) → Answered r ≡ Response m → ⊥
 not_answered r m e = cc
-
-abbrev taken_or : Lacpdu → FrameEffect → Lacpdu
-taken_or d (ProcessLacpdu v) = v
-taken_or d effect = d
 
 abbrev answer_or : Received → FrameEffect → Received
 answer_or d (Answered r) = r
 answer_or d effect = d
-
-abbrev response_or : Marker → FrameEffect → Marker
-response_or d (Response m) = m
-response_or d effect = d
-
-taken_by : (system_port : SystemPort) (octets : List ℕ) (v : Lacpdu) (frame : ReceivedFrame) → IsFrame octets frame
-    → GivesEffect system_port frame (ProcessLacpdu v) → IsFrame octets (Carries (pdu.Lacpdu v))
-taken_by system_port octets v frame h m = grind (arith, nat_tests)
 
 heard_taken : (system_port : SystemPort) (octets : List ℕ) (v : Lacpdu) (b : Bool) → ParsesWhere b system_port octets (ProcessLacpdu v)
     → (b ≡ true) × IsFrame octets (Carries (pdu.Lacpdu v))
 heard_taken system_port octets v b h = grind (arith, nat_tests)
 
 -- a response came
-not_marked : (m : Marker) (r : Received) → Response m ≡ Answered r → ⊥
-not_marked m r e = not_answered r m (sym e)
-
-is_response : (k : MarkerKind) (m w : Marker) (mac : List ℕ) → m.kind ≡ k → AnswersMarker mac m (answer_of k m) (Response w) → (w ≡ m)
-    × (m.kind ≡ kind.Response)
-is_response k m w mac e h = grind (arith, nat_tests)
-
-response_by : (system_port : SystemPort) (octets : List ℕ) (w : Marker) (frame : ReceivedFrame) → IsFrame octets frame
-    → GivesEffect system_port frame (Response w) → IsFrame octets (Carries (pdu.Marker w)) × (w.kind ≡ kind.Response)
-response_by system_port octets w frame h m = grind (arith, nat_tests)
-
 heard_response : (system_port : SystemPort) (octets : List ℕ) (w : Marker) (b : Bool) → ParsesWhere b system_port octets (Response w)
     → IsFrame octets (Carries (pdu.Marker w)) × (w.kind ≡ kind.Response)
 heard_response system_port octets w b h = grind (arith, nat_tests)
@@ -300,10 +262,7 @@ nothing old call answer new told t s e = (told, [], t, s, ([], tt, refl, ap mode
 
 -- a response for this system frees what waits for it
 names_us : (s : SystemState) (n : ℕ) (m : Marker) → is_own_response s n m ≡ true → (m.port ≡ n) × (m.system ≡ s.system.mac)
-names_us s n m h = (
-  (Decides-eqb m.port n).0 ((and_parts (m.port == n) (bytes_eq m.system s.system.mac) h).0),
-  (bytes_eq-Decides m.system s.system.mac).0 ((and_parts (m.port == n) (bytes_eq m.system s.system.mac) h).1),
-)
+names_us s n m h = grind (arith, nat_tests, Decides-eqb, and_parts, bytes_eq-Decides)
 
 releases : (b : Bool) (n port : ℕ) (octets : List ℕ) (m : Marker) (old : SystemState) (answer : Received) (new : SystemState) → port ≡ n
     → is_own_response old port m ≡ b → IsFrame octets (Carries (pdu.Marker m)) → m.kind ≡ kind.Response
@@ -412,9 +371,7 @@ marker_goes id old n port mac answer new fits p h =
 sends_marker : (o : Option ℕ) (old : SystemState) (n port : ℕ) (mac : List ℕ) (answer : Option (List ℕ)) (new : SystemState)
     → marker_due old.table port ≡ o → port ≡ n
     → SendsMarkerOf o port mac old answer new → JoinedByLawfulMoves old (Transmit n) (reply.Transmit (Ok answer)) new
-sends_marker None old n port mac answer new d p h =
-    subst (λ a. JoinedByLawfulMoves old (Transmit n) (reply.Transmit (Ok a)) new) (sym h.0)
-    (nothing old (Transmit n) (reply.Transmit (Ok None)) new Told.Transmit refl refl h.1)
+sends_marker None old n port mac answer new d p h = grind (arith, nat_tests, nothing)
 sends_marker (Some id) old n port mac answer new d p h =
     marker_goes id old n port mac answer new (below None (ltb 0 (count_conversations (wants_marker port) old.table)) old.table.next id d) p h
 
@@ -422,9 +379,7 @@ sends_where : (up due : Bool) (old : SystemState) (n i : ℕ) (system_port : Sys
     → Rises 0 (port_numbers old.system_ports) → PortsConsistent old.system_ports → port_index n old.system_ports ≡ Some i
     → slice_get old.system_ports i ≡ Some system_port
     → TransmitsIf up due i system_port old answer new → JoinedByLawfulMoves old (Transmit n) (reply.Transmit (Ok answer)) new
-sends_where false due old n i system_port answer new r rested e g h =
-    subst (λ a. JoinedByLawfulMoves old (Transmit n) (reply.Transmit (Ok a)) new) (sym h.0)
-    (nothing old (Transmit n) (reply.Transmit (Ok None)) new Told.Transmit refl refl h.1)
+sends_where false due old n i system_port answer new r rested e g h = grind (arith, nat_tests, nothing)
 sends_where true true old n i system_port answer new r rested e g h = sends_lacpdu old n i system_port answer new r rested e g h
 sends_where true false old n i system_port answer new r rested e g h =
     sends_marker (marker_due old.table system_port.number) old n system_port.number system_port.mac answer new refl
@@ -434,8 +389,7 @@ sends_place : (old : SystemState) (n : ℕ) (o : Option ℕ) (answer : Option (L
     → Rises 0 (port_numbers old.system_ports) → PortsConsistent old.system_ports → port_index n old.system_ports ≡ o
     → TransmitsAt o old answer new → JoinedByLawfulMoves old (Transmit n) (reply.Transmit (Ok answer)) new
 sends_place old n None answer new r rested e h = absurd h
-sends_place old n (Some i) answer new r rested e h = sends_where h.0.port.enabled (is_due h.0.port) old n i h.0
-    answer new r rested e h.1 h.2
+sends_place old n (Some i) answer new r rested e h = grind (arith, nat_tests, sends_where)
 
 -- what becomes of a conversation
 offers : (gives : ℕ → ℕ → ℕ → Type 0) (agg : AggId) (octets : List ℕ) (old : SystemState) (answer : Result ℕ SystemFault)
@@ -455,8 +409,7 @@ offers gives agg octets old (Ok port) new r rested h =
       table_moved u Told.Offer seen old new h.2.1
           (carrying_moves u Told.Offer agg old.system_ports old.table new.table seen r rested.1 moves),
     )
-offers gives agg octets old (Err fault) new r rested h = nothing old (Offer agg octets) (reply.Offer (Err fault)) new
-    Told.Offer refl refl h.1
+offers gives agg octets old (Err fault) new r rested h = grind (arith, nat_tests, nothing)
 
 pub if_ok : (b : Bool) (x : Result Assignment SystemFault) (fault : SystemFault) (s : Assignment)
     → (if b then x else Err fault) ≡ Ok s → x ≡ Ok s
@@ -469,20 +422,11 @@ known_ok b x fault s e = grind (arith, nat_tests)
 -- what a conversation that is moved, or freed by force, becomes
 pub moved_to : (agg : AggId) (conv port : ℕ) (old : SystemState) (s : Assignment) → system_move_result old agg conv port ≡ Ok s
     → move_result (next_identifier old.table) (distributing agg old.system_ports) port (assignment_of old.table agg.0 conv) ≡ Ok s
-moved_to agg conv port old s e =
-    let answer : Result Assignment DistFault = move_result (next_identifier old.table) (distributing agg old.system_ports) port
-    (assignment_of old.table agg.0 conv) in
-    let inner : Result Assignment SystemFault = in_system (or_not_assigned old conv answer) in
-    known_ok (nat_lt conv (conversation_count old)) answer NotAssigned s
-    (if_ok (is_some (port_index port old.system_ports)) inner NoPort s
-    (if_ok (has_aggregator old agg) (if is_some (port_index port old.system_ports) then inner else Err NoPort) NoAggregator s e))
+moved_to agg conv port old s e = grind (arith, nat_tests, known_ok, if_ok)
 
 pub forced_to : (agg : AggId) (conv : ℕ) (old : SystemState) (s : Assignment) → system_force_result old agg conv ≡ Ok s
     → force_result (assignment_of old.table agg.0 conv) ≡ Ok s
-forced_to agg conv old s e =
-    let answer : Result Assignment DistFault = force_result (assignment_of old.table agg.0 conv) in
-    known_ok (nat_lt conv (conversation_count old)) answer NotAssigned s
-    (if_ok (has_aggregator old agg) (in_system (or_not_assigned old conv answer)) NoAggregator s e)
+forced_to agg conv old s e = grind (arith, nat_tests, known_ok, if_ok)
 
 moves_conversation : (agg : AggId) (conv port : ℕ) (what : Result Assignment SystemFault) (old : SystemState)
     (answer : Result Unit SystemFault) (new : SystemState) → system_move_result old agg conv port ≡ what
@@ -495,9 +439,7 @@ moves_conversation agg conv port (Ok s) old answer new e h =
     (distributing agg old.system_ports) s (moved_to agg conv port old s e) h.1.0 in
     subst (λ a. JoinedByLawfulMoves old (Move_conversation agg conv port) (reply.MoveConversation a) new) (sym h.0)
     (call, [], refl, refl, table_moved u call [] old new h.1.1 (table_moves u call old.system_ports old.table new.table [] moves))
-moves_conversation agg conv port (Err fault) old answer new e h =
-    subst (λ a. JoinedByLawfulMoves old (Move_conversation agg conv port) (reply.MoveConversation a) new) (sym h.0)
-    (nothing old (Move_conversation agg conv port) (reply.MoveConversation (Err fault)) new Told.Move_conversation refl refl h.1)
+moves_conversation agg conv port (Err fault) old answer new e h = grind (arith, nat_tests, nothing)
 
 forces : (agg : AggId) (conv : ℕ) (what : Result Assignment SystemFault) (old : SystemState) (answer : Result Unit SystemFault)
     (new : SystemState) → system_force_result old agg conv ≡ what
@@ -508,9 +450,7 @@ forces agg conv (Ok s) old answer new e h =
     let moves = force_moves old.system.mac old.table new.table agg.0 conv s (forced_to agg conv old s e) h.1.0 in
     subst (λ a. JoinedByLawfulMoves old (Force agg conv) (reply.Force a) new) (sym h.0)
     (call, [], refl, refl, table_moved u call [] old new h.1.1 (table_moves u call old.system_ports old.table new.table [] moves))
-forces agg conv (Err fault) old answer new e h =
-    subst (λ a. JoinedByLawfulMoves old (Force agg conv) (reply.Force a) new) (sym h.0)
-    (nothing old (Force agg conv) (reply.Force (Err fault)) new (Told.Force agg.0 conv) refl refl h.1)
+forces agg conv (Err fault) old answer new e h = grind (arith, nat_tests, nothing)
 
 -- the own effects of a tick and of a link
 ticks : (u : SystemSetup) (old mid : SystemState) → Rises 0 (port_numbers old.system_ports) → Ticks old mid

@@ -1,15 +1,13 @@
 -- Offers make no frame due, data changes nothing, and a row names what an offer answers.
-use Rattle.lagsystem.proofs.Common.{Bool, Err, List, None, Ok, Result, Some, ap, arith, cond, false, is_some, ltb, nat_lt, option_map, true, ℕ, ◌&&◌}
-use Rattle.lagsystem.proofs.Common.{◌+◌, ◌<◌, ◌^◌, ◌||◌, ◌∙◌, ◌≡◌, nat_tests, AggId, is_due, Assignment, On, DistFault, Assigns, MaySend}
+use Rattle.lagsystem.proofs.Common.{Bool, Err, List, Ok, Result, ap, arith, cond, false, is_some, nat_lt, option_map, true, ℕ, ◌&&◌}
+use Rattle.lagsystem.proofs.Common.{◌+◌, ◌<◌, ◌||◌, ◌∙◌, ◌≡◌, nat_tests, AggId, is_due, Assignment, On, DistFault, Assigns, MaySend}
 use Rattle.lagsystem.proofs.Common.{SetsAssignment, marker_due, wants_marker, Table, assignment_of, count_conversations, sum_below, SystemFault}
-use Rattle.lagsystem.proofs.Common.{FrameEffect, Answered, Received, SystemPort, OffersIf, TakesPort, ParsesWhere, port_on, would_transmit_at}
-use Rattle.lagsystem.proofs.Common.{GivesAssignment, MayBeOffered, RefusesOffer, assignment_of_frame, has_aggregator, conversation_count}
-use Rattle.lagsystem.proofs.Common.{distributing, number_of_conversation, SystemState, port_index, system_port_at, with_table}
-use Rattle.collector.specs.Collecting.{IsDataFrame}
+use Rattle.lagsystem.proofs.Common.{SystemPort, OffersIf, TakesPort, port_on, would_transmit_at}
+use Rattle.lagsystem.proofs.Common.{GivesAssignment}
+use Rattle.lagsystem.proofs.Common.{distributing, SystemState, port_index, system_port_at, with_table}
 use Rattle.lagsystem.specs.declared.drive.Reply.TheVariants as reply
 use Rattle.lagsystem.specs.StillDue.{DataChangesNothing, DueAsBefore, OfferConversationMakesNoneDue, OfferMakesNoneDue, RowIsAnswer, RowIsOffer}
 use Rattle.lagsystem.proofs.Conversing.{assigned_may}
-use Rattle.lagsystem.proofs.OfferLemmas.{refused_by}
 
 -- the same marker is due on each port where the same conversations want one
 
@@ -20,9 +18,7 @@ counted_alike passes t u aggs many e = λ i. sum_below (λ a. sum_below (λ c. c
 
 due_alike : (t u : Table) (p : ℕ) → u.aggs ≡ t.aggs → u.conversations ≡ t.conversations → u.next ≡ t.next
     → ((a c : ℕ) → wants_marker p (assignment_of u a c) ≡ wants_marker p (assignment_of t a c)) → marker_due u p ≡ marker_due t p
-due_alike t u p aggs many next e =
-    let count = counted_alike (wants_marker p) t u aggs many e in
-    λ i. cond (ltb 0 (count i)) (cond (ltb (next i) (2 ^ 32)) (Some (next i)) None) None
+due_alike t u p aggs many next e = grind (arith, nat_tests, counted_alike)
 
 transmits_alike : (old new : SystemState) → new ≡ with_table old new.table → ((p : ℕ) → marker_due new.table p ≡ marker_due old.table p)
     → DueAsBefore old new
@@ -35,9 +31,6 @@ nothing_alike : (old new : SystemState) → new ≡ old → DueAsBefore old new
 nothing_alike old new e n = ap (would_transmit_at n) e
 
 -- a conversation that takes a port wanted no marker, and wants none
-
-no_wish : (ports : List ℕ) (a : Assignment) (port p : ℕ) → MaySend ports a port → wants_marker p a ≡ false
-no_wish ports a port p h = grind (arith, nat_tests)
 
 wished_alike : (t u : Table) (ports : List ℕ) (agg conv port p : ℕ) → SetsAssignment t u agg conv (On port)
     → MaySend ports (assignment_of t agg conv) port → (a c : ℕ)
@@ -54,8 +47,7 @@ given_alike gives agg conv port old new a h =
     (wished_alike old.table new.table ports agg.0 conv port p h.0 may))
 
 pub offer_makes_none_due : (gives : ℕ → ℕ → ℕ → Type 0) → OfferMakesNoneDue gives
-offer_makes_none_due gives old new agg octets (reply.Offer (Ok port)) h =
-    given_alike gives agg (number_of_conversation old octets) port old new h.1 h.2
+offer_makes_none_due gives old new agg octets (reply.Offer (Ok port)) h = grind (arith, nat_tests, given_alike)
 offer_makes_none_due gives old new agg octets (reply.Offer (Err fault)) h = nothing_alike old new h.1
 offer_makes_none_due gives old new agg octets answer h = absurd h
 
@@ -71,14 +63,9 @@ if_alike true false gives agg conv old answer new h = nothing_alike old new h.1
 if_alike true true gives agg conv old answer new h = takes_alike gives agg conv old answer new h
 
 pub offer_conversation_makes_none_due : (gives : ℕ → ℕ → ℕ → Type 0) → OfferConversationMakesNoneDue gives
-offer_conversation_makes_none_due gives old new agg conv answer h =
-    if_alike (has_aggregator old agg) (nat_lt conv (conversation_count old)) gives agg conv old answer new h
+offer_conversation_makes_none_due gives old new agg conv answer h = grind (arith, nat_tests, if_alike)
 
 -- a data frame
-
-data_answered : (up : Bool) (system_port : SystemPort) (octets : List ℕ) (effect : FrameEffect) → IsDataFrame octets
-    → ParsesWhere up system_port octets effect → (a : Received) × (effect ≡ Answered a)
-data_answered up system_port octets effect d h = grind (arith, nat_tests)
 
 pub data_changes_nothing : (gives : ℕ → ℕ → ℕ → Type 0) → DataChangesNothing gives
 data_changes_nothing gives old new port octets answer d h = grind (arith, nat_tests)
@@ -94,14 +81,6 @@ answered port = Ok port
 abbrev refusal_of : DistFault → Result ℕ DistFault
 refusal_of cause = Err cause
 
-assigned_on : (gives : ℕ → ℕ → ℕ → Type 0) (conv port q : ℕ) (ports : List ℕ) (a : Assignment) → a ≡ On port
-    → Assigns gives conv ports a (Ok q) → q ≡ port
-assigned_on gives conv port q ports a e h = grind (arith, nat_tests)
-
-refused_on : (gives : ℕ → ℕ → ℕ → Type 0) (conv port : ℕ) (ports : List ℕ) (a : Assignment) (cause : DistFault) → a ≡ On port
-    → Assigns gives conv ports a (Err cause) → ⊥
-refused_on gives conv port ports a cause e h = grind (arith, nat_tests)
-
 taken_on : (gives : ℕ → ℕ → ℕ → Type 0) (agg : AggId) (conv port : ℕ) (old : SystemState) (answer : Result ℕ SystemFault)
     (new : SystemState) → assignment_of old.table agg.0 conv ≡ On port → TakesPort gives agg conv old answer new → answer ≡ Ok port
 taken_on gives agg conv port old answer new e h = grind (arith, nat_tests)
@@ -115,17 +94,7 @@ below : (n m : ℕ) → n < m → nat_lt n m ≡ true
 below n m l = grind (arith, nat_tests)
 
 pub row_is_answer : (gives : ℕ → ℕ → ℕ → Type 0) → RowIsAnswer gives
-row_is_answer gives s new agg conv port answer there known e some h =
-    taken_on gives agg conv port s answer new (row_is_on (assignment_of s.table agg.0 conv) port e some)
-    (taken_if (has_aggregator s agg) (nat_lt conv (conversation_count s)) gives agg conv s answer new there
-    (below conv (conversation_count s) known) h)
-
--- a frame of a conversation that is on a port is not refused
-refused_frame : (gives : ℕ → ℕ → ℕ → Type 0) (s : SystemState) (agg : AggId) (octets : List ℕ) (port : ℕ) (f : SystemFault)
-    → has_aggregator s agg ≡ true → MayBeOffered octets → assignment_of_frame s agg octets ≡ On port → RefusesOffer gives s agg octets f → ⊥
-refused_frame gives s agg octets port f there may e h =
-    let by = refused_by gives s agg octets f (there, may) h in
-    refused_on gives (number_of_conversation s octets) port (distributing agg s.system_ports) (assignment_of_frame s agg octets) by.0 e by.1.1
+row_is_answer gives s new agg conv port answer there known e some h = grind (arith, nat_tests, taken_on, row_is_on, taken_if, below)
 
 pub row_is_offer : (gives : ℕ → ℕ → ℕ → Type 0) → RowIsOffer gives
 row_is_offer gives s new agg octets port k there may e some h = grind (arith, nat_tests)

@@ -1,6 +1,6 @@
 -- The conversations that leave stopped ports are those on ports that distributed before the call and no longer do.
 use Rattle.lagsystem.proofs.Common.{Bool, List, None, Option, Some, [], ap, arith, cond, eqb, eqb-true, false, filter, if◌then◌else◌, inl, inr}
-use Rattle.lagsystem.proofs.Common.{length, map, not, refl, subst, sym, true, ℕ, ◌&&◌, ◌+◌, ◌<◌, ◌==◌, ◌||◌, ◌∙◌, ◌∷◌, ◌≡◌, and_right, cases_Bool}
+use Rattle.lagsystem.proofs.Common.{length, map, not, refl, subst, sym, true, ℕ, ◌&&◌, ◌+◌, ◌<◌, ◌||◌, ◌∙◌, ◌∷◌, ◌≡◌, and_right, cases_Bool}
 use Rattle.lagsystem.proofs.Common.{false≢true, or_from, nat_tests, AggId, Choice, CollectingDistributing, same_mux_state, has_chosen, Assignment, On}
 use Rattle.lagsystem.proofs.Common.{is_among, ChangesAssignments, assignment_of, SystemPort, WereInUse, after_holding, aggregators_in_use}
 use Rattle.lagsystem.proofs.Common.{has_stopped, stopped, aggregator_numbered, collecting, distributes_in, distributing, selected_aggregator}
@@ -28,19 +28,14 @@ pub none_on : (agg : AggId) (low : ℕ) (system_ports : List SystemPort) (p : �
     → on agg system_ports p ≡ false
 none_on agg low [] p r l = refl
 none_on agg low (s ∷ system_ports) p r l =
-    on_more agg s system_ports p
-    ∙ or_from (distributes_in agg s && eqb s.number p) (on agg system_ports p)
-    (and_right (distributes_in agg s) (eqb s.number p) (other p s.number (omega (arith, l, r.0))))
-    (none_on agg s.number system_ports p r.1 (omega (arith, l, r.0)))
+    grind (arith, nat_tests, on_more, or_from, and_right, other, none_on agg s.number system_ports p r.1 (omega (arith, l, r.0)))
 
 none_stopped : (low : ℕ) (before : List (Option AggId)) (system_ports : List SystemPort) (p : ℕ) → Rises low (port_numbers system_ports)
     → p < low + 1 → stopped before system_ports p ≡ false
 none_stopped low [] system_ports p r l = refl
 none_stopped low (was ∷ before) [] p r l = refl
 none_stopped low (was ∷ before) (s ∷ system_ports) p r l =
-    or_from ((s.number == p) && has_stopped was s) (stopped before system_ports p)
-    (ap (λ (b : Bool). b && has_stopped was s) (other p s.number (omega (arith, l, r.0))))
-    (none_stopped s.number before system_ports p r.1 (omega (arith, l, r.0)))
+    grind (arith, nat_tests, or_from, other, none_stopped s.number before system_ports p r.1 (omega (arith, l, r.0)))
 
 -- the port was carrying in the aggregator if it distributed in it
 given_agg : (agg : AggId) (c : Choice) (b : Bool) → (has_chosen agg c && b) ≡ true → (if b then selected_aggregator c else None) ≡ Some agg
@@ -130,5 +125,4 @@ numbers_many (s ∷ system_ports) = omega (arith, numbers_many system_ports)
 
 pub were_many : (were : List (Option AggId)) (start mid : SystemState) → WereInUse were start
     → port_numbers mid.system_ports ≡ port_numbers start.system_ports → length were ≡ length mid.system_ports
-were_many were start mid w n = ap length w.before ∙ carriers_many w.old.system_ports ∙ ap length (sym (n ∙ w.same))
-    ∙ numbers_many mid.system_ports
+were_many were start mid w n = grind (arith, nat_tests, carriers_many, numbers_many)

@@ -42,22 +42,7 @@ still_selected : (x y : Bool) → (x && y) ≡ true → (x && true) ≡ true
 still_selected x y h = grind (arith, nat_tests)
 
 joined_kept : KeptBy joined (mux_rows false)
-joined_kept = (
-  λ p h e. absurd (joined_detached p.mux (is_selected p.choice) _ h e),
-  (
-    λ p h e. absurd (joined_waiting p.mux (is_selected p.choice) _ h e),
-    (
-      λ p h e. absurd (joined_waiting p.mux (is_selected p.choice) _ h e),
-      (
-        λ p h e. absurd (both_ways (is_selected p.choice) (is_synchronized p.mux) (same_mux_state Attached p.mux) h e),
-        (
-          λ p h e. still_selected (is_selected p.choice) (is_synchronized p.mux) h,
-          (λ p h e. still_selected (is_selected p.choice) (is_synchronized p.mux) h, tt),
-        ),
-      ),
-    ),
-  ),
-)
+joined_kept = grind (arith, nat_tests, joined_detached, joined_waiting, both_ways, still_selected)
 
 -- a member that waits and has not waited long enough stays one without Ready
 abbrev open_of : MuxState → ℕ → Bool
@@ -77,22 +62,7 @@ not_so : (a b : Bool) → (a && (b && false)) ≡ true → ⊥
 not_so a b h = grind (arith, nat_tests)
 
 open_kept : KeptBy is_open (mux_rows false)
-open_kept = (
-  λ p h e. still_selected (is_selected p.choice) (open_of p.mux p.wait_while) h,
-  (
-    λ p h e. absurd (selected_not p.choice (open_of p.mux p.wait_while) (same_mux_state Waiting p.mux) h e),
-    (
-      λ p h e. absurd (not_so (same_mux_state Waiting p.mux) (is_selected p.choice) e),
-      (
-        λ p h e. absurd (open_attached p.mux p.wait_while (is_selected p.choice) _ h e),
-        (
-          λ p h e. absurd (open_attached p.mux p.wait_while (is_selected p.choice) _ h e),
-          (λ p h e. absurd (open_distributing p.mux p.wait_while (is_selected p.choice) _ h e), tt),
-        ),
-      ),
-    ),
-  ),
-)
+open_kept = grind (arith, nat_tests, still_selected, selected_not, not_so, open_attached, open_distributing)
 
 -- a member of a Ready aggregator does not stay DETACHED or WAITING
 joined_at_rest : (m : MuxState) (w : ℕ) (c : Choice) → is_selected c ≡ true → (same_mux_state Detached m && not (is_unselected c)) ≡ false
@@ -140,22 +110,6 @@ E v = has_waited v.stage
 
 abbrev all_waited : List PortView → Bool
 all_waited seen = list_all E (filter W seen)
-
-all_after : (b : Bool) (v : PortView) (rest : List PortView) → list_all E rest ≡ false → list_all E (cond b (v ∷ rest) rest) ≡ false
-all_after b v rest h = grind (arith, nat_tests)
-
-open_parts : (b c : Bool) → (b && not c) ≡ true → (b ≡ true) × (c ≡ false)
-open_parts b c h = grind (arith, nat_tests)
-
-first_open : (b : Bool) (v : PortView) (rest : List PortView) → b ≡ true → E v ≡ false → list_all E (cond b (v ∷ rest) rest) ≡ false
-first_open b v rest t h = grind (arith, nat_tests)
-
--- the first waits and has not waited long enough, or it is a later one
-one_open : (x y : Bool) (w : PortView) (rest more : List PortView) (v : PortView) → x ≡ W w → y ≡ E w
-    → list_all E (cond (W w) (w ∷ rest) rest) ≡ false
-    → ((W w && not (E w)) ≡ true → (W v && not (E v)) ≡ true) → (list_all E rest ≡ false → list_all E more ≡ false)
-    → list_all E (cond (W v) (v ∷ more) more) ≡ false
-one_open x y w rest more v a b h f g = grind (arith, nat_tests)
 
 all_next : (b : Bool) (w v : PortView) (rest more : List PortView) → all_waited (cond b (w ∷ rest) rest) ≡ false
     → (b ≡ true → (W w && not (E w)) ≡ true → (W v && not (E v)) ≡ true)
@@ -240,19 +194,9 @@ one_false a b c d h f g = grind (arith, nat_tests)
 unready_cases : (keys : List Key) (agg : AggId) (xs ys : List SystemPort) → PortsChangeBy (RunsReady keys (views xs)) xs ys → (r : Bool)
     → is_ready keys (views xs) agg ≡ r → (k : Bool) → is_aggregator keys agg ≡ k
     → is_ready keys (views ys) agg ≡ false
-unready_cases keys agg xs ys h true e k i =
-    none_of (is_aggregator keys agg) (ports_that_chose agg (views ys))
-    (and_left _ (all_waited (ports_that_chose agg (views ys))) (none_wait keys (views xs) agg e xs ys h))
-unready_cases keys agg xs ys h false e false i = ap (λ b. list_any W (if b then ports_that_chose agg (views ys) else [])
-    && all_waited (if b then ports_that_chose agg (views ys) else [])) i
-unready_cases keys agg xs ys h false e true i =
-    let g = ports_that_chose agg (views xs) in
-    let was : (list_any W g && all_waited g) ≡ false =
-    sym (ap (λ b. list_any W (if b then g else []) && all_waited (if b then g else [])) i) ∙ e in
-    none_of (is_aggregator keys agg) (ports_that_chose agg (views ys))
-    (one_false (list_any W g) (all_waited g) (list_any W (ports_that_chose agg (views ys)))
-    (all_waited (ports_that_chose agg (views ys))) was
-    (any_stays keys (views xs) agg e xs ys h) (all_stay keys (views xs) agg e xs ys h))
+unready_cases keys agg xs ys h true e k i = grind (arith, nat_tests, none_of, and_left, none_wait)
+unready_cases keys agg xs ys h false e false i = grind (arith, nat_tests)
+unready_cases keys agg xs ys h false e true i = grind (arith, nat_tests, none_of, one_false, any_stays, all_stay)
 
 pub none_ready : (keys : List Key) (xs ys : List SystemPort) → PortsChangeBy (RunsReady keys (views xs)) xs ys → (c : Choice)
     → ready_of keys (views ys) c ≡ false

@@ -2,7 +2,7 @@
 use Rattle.lagsystem.proofs.Common.{Bool, List, None, Ok, Option, Some, [], ap, append-nil, append_assoc, arith, cond, eqb-true, false, find, get_or}
 use Rattle.lagsystem.proofs.Common.{if◌then◌else◌, length, length-append, nat_lt, option_map, refl, slice_get, slice_set, subst, suc, sym, true, zero}
 use Rattle.lagsystem.proofs.Common.{ℕ, ◌&&◌, ◌++◌, ◌+◌, ◌<◌, ◌==◌, ◌∙◌, ◌∷◌, ◌≡◌, ◌≤◌, and_parts, nat_tests, position-Some, get_or_from_slice_get}
-use Rattle.lagsystem.proofs.Common.{same_Some, slice_get_past, AllByRecursion, AllZip, position_or_len, SystemId, Choice, Lacpdu, read_field, Setup}
+use Rattle.lagsystem.proofs.Common.{slice_get_past, AllByRecursion, AllZip, position_or_len, SystemId, Choice, Lacpdu, read_field, Setup}
 use Rattle.lagsystem.proofs.Common.{Machines, mux_rows, RunsPeriodic, receive_rows, RunsToRest, Starts, before_start, after_sending, aged, count_down}
 use Rattle.lagsystem.proofs.Common.{is_due, Reaches-keeps, PortChange, PortConfig, Reply, SystemPort, Call, ChangesParty, OnlyPortChangesBy}
 use Rattle.lagsystem.proofs.Common.{PortAtChangesBy, ProcessesLacpdu, SetsLink, SetsPortEnabled, Step, TableRun, ThenSettles, Transmit, changed_party}
@@ -79,8 +79,7 @@ at_first P Q N b x y o u here rest g = grind (arith, nat_tests)
 at_number : (P Q : Machines → Type 0) (N : Type 0) (n : ℕ) (x y : SystemPort) (o u : Option SystemPort) → y.number ≡ x.number
     → (P x.port → Q y.port) → (At P N (port_in o) → At Q N (port_in u))
     → At P N (port_in (cond (x.number == n) (Some x) o)) → At Q N (port_in (cond (y.number == n) (Some y) u))
-at_number P Q N n x y o u e here rest g =
-    subst (λ k. At Q N (port_in (cond (k == n) (Some y) u))) (sym e) (at_first P Q N (x.number == n) x y o u here rest g)
+at_number P Q N n x y o u e here rest g = grind (arith, nat_tests, at_first)
 
 in_each : (P Q : Machines → Type 0) (N : Type 0) (R : Machines → Machines → Type 0) (n : ℕ) → ((p q : Machines) → R p q → P p → Q q)
     → (xs ys : List SystemPort) → PortsChangeBy R xs ys → In P N n xs → In Q N n ys
@@ -94,11 +93,7 @@ in_each P Q N R n move (x ∷ xs) (y ∷ ys) h g =
 in_set : (P : Machines → Type 0) (N : Type 0) (n : ℕ) (xs : List SystemPort) (i : ℕ) (s t : SystemPort) → slice_get xs i ≡ Some s
     → t.number ≡ s.number → (P s.port → P t.port) → In P N n xs → In P N n (slice_set xs i t)
 in_set P N n [] i s t e k move g = g
-in_set P N n (x ∷ xs) zero s t e k move g =
-    let o = find (is_numbered n) xs in
-    let same : x ≡ s = same_Some x s e in
-    at_number P P N n x t o o (k ∙ sym (ap (λ (y : SystemPort). y.number) same))
-    (subst (λ (y : SystemPort). P y.port → P t.port) (sym same) move) (λ h. h) g
+in_set P N n (x ∷ xs) zero s t e k move g = grind (arith, nat_tests, at_number)
 in_set P N n (x ∷ xs) (suc i) s t e k move g =
     at_number P P N n x x (find (is_numbered n) xs) (find (is_numbered n) (slice_set xs i t)) refl (λ h. h)
     (in_set P N n xs i s t e k move) g
@@ -191,9 +186,7 @@ found_set p (x ∷ xs) (suc i) s t e h k =
 found_other : (p : SystemPort → Bool) (xs : List SystemPort) (i : ℕ) (s t : SystemPort) → slice_get xs i ≡ Some s → p s ≡ false
     → p t ≡ false → find p (slice_set xs i t) ≡ find p xs
 found_other p [] i s t e h k = refl
-found_other p (x ∷ xs) zero s t e h k =
-    let here : p x ≡ false = ap p (same_Some x s e) ∙ h in
-    ap (λ b. cond b (Some t) (find p xs)) k ∙ sym (ap (λ b. cond b (Some x) (find p xs)) here)
+found_other p (x ∷ xs) zero s t e h k = grind (arith, nat_tests)
 found_other p (x ∷ xs) (suc i) s t e h k = ap (λ o. cond (p x) (Some x) o) (found_other p xs i s t e h k)
 
 good_sent : (m n now : ℕ) (before : List ℕ) (b : Bool) (xs : List SystemPort) (i : ℕ) (s t : SystemPort) → (m == n) ≡ b
@@ -331,11 +324,7 @@ good_run gives n now before old new (c ∷ cs) (r ∷ rs) h g = (
 )
 
 pub window_law : (gives : ℕ → ℕ → ℕ → Type 0) → SystemWindowLaw gives
-window_law gives old new calls replies three run n now since =
-    let o = machines_of n old in
-    let g = good_few now o since (three n) in
-    good_run gives n now (remembered_sends now o) old new calls replies run
-    (subst (λ x. GoodAt now (remembered_sends now o) (port_in x)) (found n old.system_ports) g)
+window_law gives old new calls replies three run n now since = grind (arith, nat_tests, good_few, good_run, found)
 
 pub window_from_start : (gives : ℕ → ℕ → ℕ → Type 0) → WindowFromStart gives
 window_from_start gives n old new calls replies first run = good_run gives n 0 [] old new calls replies run (good_first n old first)
@@ -362,10 +351,7 @@ tick_few : (p q : Machines) → RunsToRest receive_rows (count_down p) q → IsF
 tick_few p q d h = subst (λ ages. length ages ≤ 3) (sym (settles-same (count_down p) q d)) (omega (arith, aged_few p.ages, h))
 
 sent_few : (p : Machines) → is_due p ≡ true → IsFew (after_sending p)
-sent_few p due =
-    let below : nat_lt (length p.ages) 3 ≡ true = (and_parts p.ntt (nat_lt (length p.ages) 3) due).1 in
-    let few : length p.ages < 3 = grind (arith, nat_tests) in
-    omega (arith, few, length-append p.ages (0 ∷ []))
+sent_few p due = grind (arith, nat_tests, and_parts, length-append)
 
 abbrev FewIn : ℕ → List SystemPort → Type 0
 FewIn n system_ports = In IsFew Unit n system_ports
