@@ -1,8 +1,8 @@
 -- What offer_conversation does is what `offer` does for each frame of the conversation.
 use Rattle.lagsystem.proofs.Common.{Bool, Err, List, Ok, Result, ap, arith, false, nat_lt, refl, subst, sym, true, ℕ, ◌%◌, ◌*◌, ◌+◌, ◌/◌, ◌<◌, ◌∙◌}
 use Rattle.lagsystem.proofs.Common.{◌≡◌, nat_tests, AllByRecursion, bit_xor, AggId, On, assignment_of, is_conversation_count, SystemFault}
-use Rattle.lagsystem.proofs.Common.{OffersConversation, OffersIf, TakesPort, frame_of_conversation, Offer, MayBeOffered, Offers}
-use Rattle.lagsystem.proofs.Common.{has_aggregator, conversation_count, distributing, number_of_conversation, CallPromise, IsSound, SystemState}
+use Rattle.lagsystem.proofs.Common.{OffersConversation, OffersIf, TakesPort, frame_of_conversation, Offer, MayBeOffered, Offers, has_aggregator}
+use Rattle.lagsystem.proofs.Common.{conversation_count, distributing, number_of_conversation, CallPromise, IsSound, SystemState}
 use Rattle.lagsystem.specs.Offers.{longest_frame}
 use Rattle.std.proofs.Math.Nat.{mod-eq_of_lt}
 use Rattle.std.specs.Int.Bits.{xor_zero_r}
@@ -13,20 +13,11 @@ use Rattle.lagsystem.proofs.PromiseLemmas.{table_sound}
 use Rattle.lagsystem.proofs.Rising.{accepted_count}
 use Rattle.lagsystem.proofs.Sound.{answers}
 
-below_count : (s : SystemState) → is_conversation_count s.conversations ≡ true → (octets : List ℕ)
-    → nat_lt (number_of_conversation s octets) (conversation_count s) ≡ true
-below_count s h octets = grind (arith, nat_tests)
-
-offers_if : (gives : ℕ → ℕ → ℕ → Type 0) (agg : AggId) (octets : List ℕ) (old : SystemState) (answer : Result ℕ SystemFault)
-    (new : SystemState) (there known : Bool) → has_aggregator old agg ≡ there → known ≡ true → MayBeOffered octets
-    → OffersIf there known gives agg (number_of_conversation old octets) old answer new → Offers gives agg octets old answer new
-offers_if gives agg octets old answer new there known e k may h = grind (arith, nat_tests)
-
 -- and the conversation of a frame is one that there is
 pub offered_alike : (gives : ℕ → ℕ → ℕ → Type 0) (agg : AggId) (octets : List ℕ) (old : SystemState) (answer : Result ℕ SystemFault)
     (new : SystemState) → is_conversation_count old.conversations ≡ true → MayBeOffered octets
     → OffersConversation gives agg (number_of_conversation old octets) old answer new → Offers gives agg octets old answer new
-offered_alike gives agg octets old answer new c may h = grind (arith, nat_tests, offers_if, below_count)
+offered_alike gives agg octets old answer new c may h = grind (arith, nat_tests)
 
 -- the invariant stays
 takes_sound : (gives : ℕ → ℕ → ℕ → Type 0) (agg : AggId) (conv : ℕ) (old : SystemState) (answer : Result ℕ SystemFault)

@@ -2,8 +2,8 @@
 use Rattle.lagsystem.proofs.Common.{Bool, List, None, Option, Some, [], ap, arith, false, inl, inr, length, not, option_map, refl, slice_get}
 use Rattle.lagsystem.proofs.Common.{slice_set, subst, sym, true, ℕ, ◌&&◌, ◌∙◌, ◌∷◌, ◌≡◌, ◌≢◌, cases_eq, false≢true, nat_tests, none-some, same_Some}
 use Rattle.lagsystem.proofs.Common.{AllByRecursion, AggId, Key, Choice, Selected, Standby, Unselected, is_selected, is_standby, is_unselected}
-use Rattle.lagsystem.proofs.Common.{SamePair, individual, same_system, party_of, ports_of, LawfulMoves, PortAllowed, PortMove, pair_at}
-use Rattle.lagsystem.proofs.Common.{port_after, DistributorFacts, ModelCall, PortFacts, SystemSetup, mapped_some, moves_at, moves_joined, MuxState}
+use Rattle.lagsystem.proofs.Common.{SamePair, individual, same_system, party_of, ports_of, LawfulMoves, PortAllowed, PortMove, pair_at, port_after}
+use Rattle.lagsystem.proofs.Common.{DistributorFacts, ModelCall, PortFacts, SystemSetup, mapped_some, moves_at, moves_joined, MuxState}
 use Rattle.lagsystem.proofs.Common.{CollectingDistributing, partner_synchronized, same_mux_state, chosen_aggregator, chosen_for_view, IsOccupant}
 use Rattle.lagsystem.proofs.Common.{MayJoin, ends, AggregatorsValue, has_room, is_detached, is_eligible, SystemPort, key_of, model_port}
 use Rattle.lagsystem.proofs.Common.{model_port_of, model_view_at, number_of_port, selected_number, OccupantsAgree, occupied, ChoosesIn, PromotesNext}

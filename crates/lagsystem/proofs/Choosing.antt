@@ -1,8 +1,7 @@
 -- Ports choose one after another, and the list of views stays equal to their views.
-use Rattle.lagsystem.proofs.Common.{Bool, List, None, Option, Some, [], ap, arith, false, get_or, length, not, refl, slice_get, slice_set, suc}
-use Rattle.lagsystem.proofs.Common.{zero, ℕ, ◌<◌, ◌||◌, ◌∙◌, ◌∷◌, ◌≡◌, or_parts, nat_tests, list_any, Choice, is_selected, is_unselected}
-use Rattle.lagsystem.proofs.Common.{PortView, AggregatorsValue, is_eligible, SystemPort, after_choice_at, after_choices, with_choice, selection_view}
-use Rattle.lagsystem.proofs.Common.{views}
+use Rattle.lagsystem.proofs.Common.{Bool, List, None, Option, Some, [], ap, arith, false, get_or, length, not, refl, slice_get, slice_set, suc, zero}
+use Rattle.lagsystem.proofs.Common.{ℕ, ◌<◌, ◌||◌, ◌∙◌, ◌∷◌, ◌≡◌, or_parts, nat_tests, list_any, Choice, is_selected, is_unselected, PortView}
+use Rattle.lagsystem.proofs.Common.{AggregatorsValue, is_eligible, SystemPort, after_choice_at, after_choices, with_choice, selection_view, views}
 use Rattle.lagsystem.proofs.SettlingLemmas.{none_taken}
 
 abbrev one_eligible : List SystemPort → Bool
@@ -25,7 +24,7 @@ seen_taken seen system_ports i d t c e l = grind (arith, nat_tests, seen_given)
 not_here : (system_ports : List SystemPort) (i : ℕ) (s : SystemPort) → one_eligible system_ports ≡ false → slice_get system_ports i ≡ Some s
     → is_eligible (selection_view s) ≡ false
 not_here [] i s h e = cc
-not_here (x ∷ xs) zero s h e = grind (arith, nat_tests, or_parts)
+not_here (x ∷ xs) zero s h e = grind (arith, nat_tests)
 not_here (x ∷ xs) (suc i) s h e = not_here xs i s (or_parts (is_eligible (selection_view x)) (one_eligible xs) h).1 e
 
 stays_at : (aggs : AggregatorsValue) (system_ports : List SystemPort) (i : ℕ) (o : Option SystemPort) → one_eligible system_ports ≡ false

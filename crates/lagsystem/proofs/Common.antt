@@ -1,9 +1,9 @@
 -- The names that proofs of this crate import, passed on from one place. Declares nothing; tools/proof-imports writes it.
 pub use Rattle.std.proofs.Common.{All, Bool, Bor, Err, IfOk, IsSome, IsSomeAnd, List, None, Ok, Option, Result, Some, [], add-one, ap, append-nil}
-pub use Rattle.std.proofs.Common.{append_assoc, ap₂, arith, bytes_eq, cond, drop, eq-eqb, eqb, eqb-true, false, filter, find, get_or, if◌then◌else◌}
-pub use Rattle.std.proofs.Common.{inl, inr, is_some, length, length-append, length-drop, ltb, map, nat_le, nat_lt, not, option_map, position, refl}
-pub use Rattle.std.proofs.Common.{replicate, set, slice_get, slice_index, slice_set, subst, suc, sym, take, take_all, true, vec_capacity, vec_len}
-pub use Rattle.std.proofs.Common.{zero, ℕ, ⊎_elim, ◌%◌, ◌&&◌, ◌*◌, ◌++◌, ◌+◌, ◌-◌, ◌/◌, ◌<◌, ◌==◌, ◌^◌, ◌||◌, ◌∙◌, ◌∷◌, ◌≡◌, ◌≢◌, ◌≤◌, ◌⊎◌}
+pub use Rattle.std.proofs.Common.{append_assoc, ap₂, arith, cond, drop, eq-eqb, eqb, eqb-true, false, filter, find, get_or, if◌then◌else◌, inl, inr}
+pub use Rattle.std.proofs.Common.{is_some, length, length-append, length-drop, ltb, map, nat_le, nat_lt, not, option_map, position, refl, replicate}
+pub use Rattle.std.proofs.Common.{set, slice_get, slice_index, slice_set, subst, suc, sym, take, take_all, true, vec_capacity, vec_len, zero, ℕ, ◌%◌}
+pub use Rattle.std.proofs.Common.{◌&&◌, ◌*◌, ◌++◌, ◌+◌, ◌-◌, ◌/◌, ◌<◌, ◌==◌, ◌^◌, ◌||◌, ◌∙◌, ◌∷◌, ◌≡◌, ◌≢◌, ◌≤◌, ◌⊎◌}
 pub use Rattle.std.proofs.lemmas.Bool.{OnFalse_at, OnFalse_from, OnTrue_at, and_from, and_left, and_parts, and_right, cases_Bool, cases_eq, cases_lt}
 pub use Rattle.std.proofs.lemmas.Bool.{cond-true, false≢true, le-leb, leb-true, lt-leb, lt-ltb, ltb-true, not-false, not-true, not_from_true, or_from}
 pub use Rattle.std.proofs.lemmas.Bool.{or_parts, true≢false}
@@ -17,7 +17,7 @@ pub use Rattle.std.proofs.lemmas.Option.{cond_some, get_or_from_slice_get, none-
 pub use Rattle.std.specs.Bool.{IsFalse, OnFalse, OnTrue}
 pub use Rattle.std.specs.List.{AllByRecursion, AllZip, enumerate_from, list_all, list_any, position_or_len}
 pub use Rattle.std.specs.List.Sorted.{IsStrictlyIncreasing}
-pub use Rattle.std.specs.Prelude.{MatchOption, bit_and, bit_xor, option_to_list}
+pub use Rattle.std.specs.Prelude.{bit_and, bit_xor, option_to_list}
 pub use Rattle.std.specs.Vec.{with_items}
 pub use Rattle.lagtypes.specs.declared.identifiers.AggId.{AggId}
 pub use Rattle.lagtypes.specs.declared.identifiers.Key.{Key}
@@ -55,18 +55,15 @@ pub use Rattle.lagmodel.proofs.Ports.{group_sym, individual_along, members_first
 pub use Rattle.lagmodel.proofs.Uses.{find_at, flows_weaker, moves_at, moves_flows, moves_joined, moves_port, numbered_set, ports_set}
 pub use Rattle.portmachines.specs.declared.mux.MuxState.{MuxState}
 pub use Rattle.portmachines.specs.declared.mux.MuxState.TheVariants.{Attached, CollectingDistributing, Detached, Waiting}
-pub use Rattle.portmachines.specs.declared.periodic.PeriodicState.TheVariants.{Fast, NoPeriodic, PeriodicTx, Slow}
 pub use Rattle.portmachines.specs.declared.port.Setup.{Setup, Setup as Start}
 pub use Rattle.portmachines.specs.declared.receive.ReceiveState.{ReceiveState}
 pub use Rattle.portmachines.specs.declared.receive.ReceiveState.TheVariants.{Current, Defaulted, Expired, Initialize, PortDisabled}
 pub use Rattle.portmachines.specs.Calls.{PortCall, Tick as PortTick}
 pub use Rattle.portmachines.specs.Machines.{Machines}
-pub use Rattle.portmachines.specs.Mux.{is_synchronized, mux_rows, partner_synchronized, same_mux_state, selected, set_ntt}
-pub use Rattle.portmachines.specs.Periodic.{RunsPeriodic, clear_ntt, is_silent, partner_short, periodic_row, periodic_rows, same_periodic_state}
-pub use Rattle.portmachines.specs.Periodic.{start_periodic}
-pub use Rattle.portmachines.specs.Receive.{default_partner, is_maintained, lacpdu_rows, receive_rows, recorded_synchronization, same_receive_state}
-pub use Rattle.portmachines.specs.Receive.{start_receive}
-pub use Rattle.portmachines.specs.Rows.{AtRest, Fires, FiresTimes, Row, RunsToRest, in_order}
+pub use Rattle.portmachines.specs.Mux.{is_synchronized, mux_rows, partner_synchronized, same_mux_state, selected}
+pub use Rattle.portmachines.specs.Periodic.{RunsPeriodic, periodic_rows}
+pub use Rattle.portmachines.specs.Receive.{default_partner, lacpdu_rows, receive_rows, recorded_synchronization, same_receive_state, start_receive}
+pub use Rattle.portmachines.specs.Rows.{AtRest, Fires, FiresTimes, Row, RunsToRest}
 pub use Rattle.portmachines.specs.Start.{Starts, before_start}
 pub use Rattle.portmachines.specs.Transmit.{after_sending, aged, count_down, is_due, pdu_of}
 pub use Rattle.portmachines.proofs.Choices.{one_effect, one_mux, one_periodic}
@@ -76,16 +73,16 @@ pub use Rattle.selection.specs.Choice.{aggregator_of_entry, chosen_aggregator, c
 pub use Rattle.selection.specs.Choice.{has_occupant, is_aggregator, lowest, occupants, occupants_share_group, or_else, ports_that_chose}
 pub use Rattle.selection.specs.Joining.{IsOccupant, MayJoin, ends}
 pub use Rattle.selection.specs.Limits.{AggregatorsValue, has_room, is_below, next_standby_index}
-pub use Rattle.selection.specs.Ready.{is_ready, members}
+pub use Rattle.selection.specs.Ready.{is_ready}
 pub use Rattle.selection.specs.Views.{has_chosen, has_waited, is_detached, is_detached_or_waiting, is_eligible, occupies, stands_by}
 pub use Rattle.selection.proofs.LimitLemmas.{NoneStandsBy, is_next, none_is_next, nothing_is_next}
 pub use Rattle.distributor.specs.declared.assignment.Assignment.{Assignment}
 pub use Rattle.distributor.specs.declared.assignment.Assignment.TheVariants.{Flushing, Free, On, Wanted}
 pub use Rattle.distributor.specs.declared.fault.DistFault.{DistFault}
-pub use Rattle.distributor.specs.Calls.{Assigns, MaySend, PicksIndexes, PicksPort, force_result, is_among, leave_result, move_result, rest_result}
+pub use Rattle.distributor.specs.Calls.{Assigns, MaySend, PicksIndexes, PicksPort, force_result, is_among, leave_result, move_result}
 pub use Rattle.distributor.specs.Chains.{is_held_on}
-pub use Rattle.distributor.specs.Changes.{ChangesAssignments, Marks, SetsAssignment, after_down, after_leave, after_mark, after_release, after_tick}
-pub use Rattle.distributor.specs.Changes.{awaits_response, marker_due, wants_marker}
+pub use Rattle.distributor.specs.Changes.{ChangesAssignments, Marks, SetsAssignment, after_leave, after_mark, after_release, after_tick, marker_due}
+pub use Rattle.distributor.specs.Changes.{wants_marker}
 pub use Rattle.distributor.specs.Conversations.{IsConversation, Table, assignment_of, count_conversations, first_table, is_conversation_count}
 pub use Rattle.distributor.specs.Conversations.{next_identifier, sum_below}
 pub use Rattle.distributor.specs.Moves.{NoneDistributes, OnlyListedDistribute, model_conversation, model_distributor}
@@ -131,17 +128,16 @@ pub use Rattle.lagsystem.specs.Offers.{AssignsPort, GivesAssignment, GivesOrRefu
 pub use Rattle.lagsystem.specs.Offers.{RefusesOffer, assignment_of_frame, has_aggregator, in_system, is_frame_length, or_not_assigned}
 pub use Rattle.lagsystem.specs.Offers.{system_force_result, system_move_result}
 pub use Rattle.lagsystem.specs.OneAnswer.{IsFunction, OneAnswer, OneForcing, OneRun, SameConversations, SameState}
-pub use Rattle.lagsystem.specs.Probing.{Probes, ProbesAt, ProbesIf, ProbesLawfully}
 pub use Rattle.lagsystem.specs.Promises.{TablePromise}
 pub use Rattle.lagsystem.specs.Promoting.{CountsMembers, count_standby}
 pub use Rattle.lagsystem.specs.Quiet.{IsBeyond, NothingIsDue, OnlyCounted, counted, counted_times, fewer, waited}
 pub use Rattle.lagsystem.specs.Readers.{aggregator_numbered, collecting, conversation_count, number_of_conversation as conversation_number}
 pub use Rattle.lagsystem.specs.Readers.{distributes_in, distributing, number_of_conversation, selected_aggregator, two_octets}
-pub use Rattle.lagsystem.specs.Sending.{IsLacpduOf, PortSendsLacpduIfDue, PortTransmits, SendsLacpdu, SendsLacpduIfDue, SendsMarker, SendsMarkerOf}
-pub use Rattle.lagsystem.specs.Sending.{TransmitsAt, TransmitsIf, own_marker}
-pub use Rattle.lagsystem.specs.Settling.{ChoosesIn, HoldsConversations, OnlyPortsChangeBy, PortChangesBy, PortsChangeBy, PromotesAll, PromotesFirst}
-pub use Rattle.lagsystem.specs.Settling.{PromotesNext, PromotesTimes, SettlesPorts, Settling, after_choice_at, after_choices, aggregator_for}
-pub use Rattle.lagsystem.specs.Settling.{choice_for, choice_if, choice_in, held_unless_on, is_restless, ready_of, with_choice}
+pub use Rattle.lagsystem.specs.Sending.{IsLacpduOf, PortSendsLacpduIfDue, SendsLacpdu, SendsLacpduIfDue, SendsMarker, SendsMarkerOf, TransmitsAt}
+pub use Rattle.lagsystem.specs.Sending.{TransmitsIf, own_marker}
+pub use Rattle.lagsystem.specs.Settling.{ChoosesIn, HoldsConversations, PortChangesBy, PortsChangeBy, PromotesAll, PromotesFirst, PromotesNext}
+pub use Rattle.lagsystem.specs.Settling.{PromotesTimes, SettlesPorts, Settling, after_choice_at, after_choices, aggregator_for, choice_for, choice_if}
+pub use Rattle.lagsystem.specs.Settling.{choice_in, held_unless_on, is_restless, ready_of, with_choice}
 pub use Rattle.lagsystem.specs.Sound.{CallPromise, DistributeAsMuxDoes, HasPorts, IsSound, OnlyOnDistributing, PortsAgree}
 pub use Rattle.lagsystem.specs.State.{SystemState, SystemValue, aggregators_value, machines_of, port_index, port_numbers, system_port_at}
 pub use Rattle.lagsystem.specs.State.{with_system_ports, with_table}

@@ -1,12 +1,12 @@
 -- Each call changes the conversations of a system by lawful moves of the model.
 use Rattle.lagsystem.proofs.Common.{Bool, Err, IsSomeAnd, List, None, Ok, Option, Result, Some, [], ap, arith, eq-eqb, eqb, eqb-true, false}
 use Rattle.lagsystem.proofs.Common.{if◌then◌else◌, inl, inr, option_map, refl, slice_get, subst, suc, sym, true, zero, ℕ, ◌&&◌, ◌∙◌, ◌∷◌, ◌≡◌}
-use Rattle.lagsystem.proofs.Common.{and_parts, cases_Bool, false≢true, nat_tests, none-some, AggId, Choice, find_number, Act}
-use Rattle.lagsystem.proofs.Common.{ConversationMove, Distributes, DistributorMoves, LawfulMoves, PortFacts, SystemSetup, Told, cond_false, cond_true}
-use Rattle.lagsystem.proofs.Common.{flows_weaker, moves_flows, MuxState, CollectingDistributing, partner_synchronized, same_mux_state, selected}
-use Rattle.lagsystem.proofs.Common.{has_chosen, Assignment, Flushing, Free, On, Wanted, DistFault, Assigns, MaySend, PicksPort, is_among, Table}
-use Rattle.lagsystem.proofs.Common.{NoneDistributes, OnlyListedDistribute, model_distributor, Makes, each_moves, SystemPort, MuxesConsistent}
-use Rattle.lagsystem.proofs.Common.{model_port_of, model_view, model_view_at, mux_consistent_of, number_of_port, selected_number, aggregator_numbered}
+use Rattle.lagsystem.proofs.Common.{and_parts, cases_Bool, false≢true, nat_tests, none-some, AggId, Choice, find_number, Act, ConversationMove}
+use Rattle.lagsystem.proofs.Common.{Distributes, DistributorMoves, LawfulMoves, PortFacts, SystemSetup, Told, cond_false, cond_true, flows_weaker}
+use Rattle.lagsystem.proofs.Common.{moves_flows, MuxState, CollectingDistributing, partner_synchronized, same_mux_state, selected, has_chosen}
+use Rattle.lagsystem.proofs.Common.{Assignment, Flushing, Free, On, Wanted, DistFault, Assigns, MaySend, PicksPort, is_among, Table, NoneDistributes}
+use Rattle.lagsystem.proofs.Common.{OnlyListedDistribute, model_distributor, Makes, each_moves, SystemPort, MuxesConsistent, model_port_of}
+use Rattle.lagsystem.proofs.Common.{model_view, model_view_at, mux_consistent_of, number_of_port, selected_number, aggregator_numbered}
 use Rattle.lagsystem.proofs.Common.{distributes_in, distributing, HoldsConversations, held_unless_on, SystemState, port_numbers}
 use Rattle.lagsystem.proofs.Stopped.{from_here, from_rest, none_on, on, on_more}
 use Rattle.lagsystem.proofs.Rising.{Rises}
@@ -52,7 +52,7 @@ given_number agg c h = grind (arith, nat_tests)
 seen_there : (agg : AggId) (s : SystemPort) → (mux_consistent_of s.port.mux (selected s.port) (partner_synchronized s.port) ≡ true)
     → distributes_in agg s ≡ true
     → ((model_port_of s).aggregator ≡ Some agg.0) × ((model_port_of s).distributes ≡ true)
-seen_there agg s h d = grind (arith, nat_tests, given_number, and_parts, rest_distributes)
+seen_there agg s h d = grind (arith, nat_tests)
 
 flipped : (m n : ℕ) → eqb m n ≡ true → eqb n m ≡ true
 flipped m n h = eq-eqb n m (sym (eqb-true m n h))
@@ -94,7 +94,7 @@ carrying_moves u call agg system_ports t new seen r a h =
 -- the port that the distributor answers may carry the frame
 among : (xs : List ℕ) (i q : ℕ) → slice_get xs i ≡ Some q → is_among xs q ≡ true
 among [] i q e = absurd (none-some q e)
-among (x ∷ xs) zero q e = grind (arith, nat_tests, eq-eqb)
+among (x ∷ xs) zero q e = grind (arith, nat_tests)
 among (x ∷ xs) (suc i) q e = grind (arith, nat_tests, among xs i q e)
 
 abbrev port_answer : ℕ → Result ℕ DistFault

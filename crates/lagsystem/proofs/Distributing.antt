@@ -1,8 +1,8 @@
 -- The ports that distribute in an aggregator, and the numbers of ports, in ascending order.
 use Rattle.lagsystem.proofs.Common.{Bool, IsSomeAnd, List, Option, Some, [], ap, arith, cond, eq-eqb, false, filter, length, nat_le, nat_lt, refl}
-use Rattle.lagsystem.proofs.Common.{slice_get, slice_index, subst, suc, sym, true, zero, ℕ, ◌&&◌, ◌<◌, ◌||◌, ◌∙◌, ◌∷◌, ◌≡◌, false≢true}
-use Rattle.lagsystem.proofs.Common.{nat_tests, none-some, slice_get_past, OnFalse, IsStrictlyIncreasing, AggId, Key, PortFacts, is_among, SystemPort}
-use Rattle.lagsystem.proofs.Common.{key_of, model_view, has_aggregator, distributes_in, distributing, HasPorts, IsSound, SystemState, port_numbers}
+use Rattle.lagsystem.proofs.Common.{slice_get, slice_index, subst, suc, sym, true, zero, ℕ, ◌&&◌, ◌<◌, ◌||◌, ◌∙◌, ◌∷◌, ◌≡◌, false≢true, nat_tests}
+use Rattle.lagsystem.proofs.Common.{none-some, slice_get_past, OnFalse, IsStrictlyIncreasing, AggId, Key, PortFacts, is_among, SystemPort, key_of}
+use Rattle.lagsystem.proofs.Common.{model_view, has_aggregator, distributes_in, distributing, HasPorts, IsSound, SystemState, port_numbers}
 use Rattle.lagsystem.proofs.Conversing.{seen_distributing}
 use Rattle.lagsystem.proofs.Rising.{Rises, ports_rise}
 

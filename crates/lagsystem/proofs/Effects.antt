@@ -3,9 +3,9 @@ use Rattle.lagsystem.proofs.Common.{Bool, IsSome, List, None, Option, Some, [], 
 use Rattle.lagsystem.proofs.Common.{true, ℕ, ◌&&◌, ◌||◌, ◌∙◌, ◌∷◌, ◌≡◌, ◌⊎◌, nat_tests, Choice, Unselected, Party, StateBits, same_party, bits_of}
 use Rattle.lagsystem.proofs.Common.{with_synchronization, with_timeout, exact_party, encode_then_decode, Info, Lacpdu, party_of, Act, PortMove, Shows}
 use Rattle.lagsystem.proofs.Common.{Took, Lacp, ModelCall, PortFacts, SystemSetup, Told_lacpdu, replies_frame, zero_party, CollectingDistributing}
-use Rattle.lagsystem.proofs.Common.{Machines, is_synchronized, partner_synchronized, same_mux_state, default_partner, lacpdu_rows}
-use Rattle.lagsystem.proofs.Common.{receive_rows, recorded_synchronization, start_receive, Fires, RunsToRest, after_sending, count_down, pdu_of}
-use Rattle.lagsystem.proofs.Common.{PortChange, ChangesParty, SetsPortEnabled, changed_party, choice_with_link, lacp_message, selected_number}
+use Rattle.lagsystem.proofs.Common.{Machines, is_synchronized, partner_synchronized, same_mux_state, default_partner, lacpdu_rows, receive_rows}
+use Rattle.lagsystem.proofs.Common.{recorded_synchronization, start_receive, Fires, RunsToRest, after_sending, count_down, pdu_of, PortChange}
+use Rattle.lagsystem.proofs.Common.{ChangesParty, SetsPortEnabled, changed_party, choice_with_link, lacp_message, selected_number}
 use Rattle.lagmodel.specs.View.{Receive}
 use Rattle.lagsystem.proofs.OfPort.{PortMoves, port_joined}
 use Rattle.lagsystem.proofs.Rows.{quiet, QuietMoves, EachMoves, settles_moves}

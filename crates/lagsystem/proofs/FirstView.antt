@@ -1,16 +1,15 @@
 -- The first state of a system has the model's first view.
-use Rattle.lagsystem.proofs.Common.{Bool, List, None, Option, Some, [], ap, arith, cond, eqb, eqb-true, false, inl, inr, length}
-use Rattle.lagsystem.proofs.Common.{option_map, refl, slice_get, subst, suc, sym, true, zero, ℕ, ◌&&◌, ◌∙◌, ◌∷◌, ◌≡◌, ◌⊎◌, and_left}
-use Rattle.lagsystem.proofs.Common.{and_parts, and_right, nat_tests, none-some, same_Some, AllByRecursion, AllZip, AggId, SystemId, Standby}
-use Rattle.lagsystem.proofs.Common.{Unselected, Party, is_selected, bits_of, with_synchronization, encode_then_decode, find_number}
-use Rattle.lagsystem.proofs.Common.{ports_of, IsSystemSetup, PortFacts, first_port, first_view, mapped_some, whichever}
-use Rattle.lagsystem.proofs.Common.{Detached, Start, Current, Expired, Initialize, PortDisabled, Machines, mux_rows}
-use Rattle.lagsystem.proofs.Common.{partner_synchronized, RunsPeriodic, periodic_rows, receive_rows, same_receive_state}
-use Rattle.lagsystem.proofs.Common.{start_receive, AtRest, Fires, FiresTimes, Row, RunsToRest, Starts, before_start, Reaches-keeps}
-use Rattle.lagsystem.proofs.Common.{AggregatorsValue, is_eligible, model_distributor, first_flows, PortConfig, SystemPort, HasJustStarted, IsFirst}
-use Rattle.lagsystem.proofs.Common.{configured_number, setup_of, configured_party, model_port, model_port_of, model_setup, model_view, number_of_port}
-use Rattle.lagsystem.proofs.Common.{ChoosesIn, PortChangesBy, PortsChangeBy, PromotesFirst, PromotesNext, after_choice_at, after_choices}
-use Rattle.lagsystem.proofs.Common.{ready_of, SystemState, aggregators_value, with_system_ports, with_table, seen_at, views}
+use Rattle.lagsystem.proofs.Common.{Bool, List, None, Option, Some, [], ap, arith, cond, eqb, eqb-true, false, inl, inr, length, option_map, refl}
+use Rattle.lagsystem.proofs.Common.{slice_get, subst, suc, sym, true, zero, ℕ, ◌&&◌, ◌∙◌, ◌∷◌, ◌≡◌, ◌⊎◌, and_left, and_parts, and_right, nat_tests}
+use Rattle.lagsystem.proofs.Common.{none-some, same_Some, AllByRecursion, AllZip, AggId, SystemId, Standby, Unselected, Party, is_selected, bits_of}
+use Rattle.lagsystem.proofs.Common.{with_synchronization, encode_then_decode, find_number, ports_of, IsSystemSetup, PortFacts, first_port, first_view}
+use Rattle.lagsystem.proofs.Common.{mapped_some, whichever, Detached, Start, Current, Expired, Initialize, PortDisabled, Machines, mux_rows}
+use Rattle.lagsystem.proofs.Common.{partner_synchronized, RunsPeriodic, periodic_rows, receive_rows, same_receive_state, start_receive, AtRest, Fires}
+use Rattle.lagsystem.proofs.Common.{FiresTimes, Row, RunsToRest, Starts, before_start, Reaches-keeps, AggregatorsValue, is_eligible}
+use Rattle.lagsystem.proofs.Common.{model_distributor, first_flows, PortConfig, SystemPort, HasJustStarted, IsFirst, configured_number, setup_of}
+use Rattle.lagsystem.proofs.Common.{configured_party, model_port, model_port_of, model_setup, model_view, number_of_port, ChoosesIn, PortChangesBy}
+use Rattle.lagsystem.proofs.Common.{PortsChangeBy, PromotesFirst, PromotesNext, after_choice_at, after_choices, ready_of, SystemState}
+use Rattle.lagsystem.proofs.Common.{aggregators_value, with_system_ports, with_table, seen_at, views}
 use Rattle.lagsystem.proofs.Effects.{named, zero_named}
 use Rattle.lagsystem.proofs.Rest.{zip_all}
 use Rattle.lagsystem.proofs.Keeps.{settling_in}
@@ -34,7 +33,7 @@ zip_ports : {X Y : Type 0} (n : X → ℕ) (m : Y → ℕ) (v : X → PortFacts)
 zip_ports n m v w [] [] h q = refl
 zip_ports n m v w [] (y ∷ ys) h q = absurd h
 zip_ports n m v w (x ∷ xs) [] h q = absurd h
-zip_ports n m v w (x ∷ xs) (y ∷ ys) h q = grind (arith, nat_tests, pushed, zip_ports n m v w xs ys h.1 q)
+zip_ports n m v w (x ∷ xs) (y ∷ ys) h q = grind (arith, nat_tests, zip_ports n m v w xs ys h.1 q)
 
 -- the start rows, with the link down
 abbrev hushed : Machines → PortFacts

@@ -1,10 +1,9 @@
 -- To force what is held on a port frees just that, and counts it.
-use Rattle.lagsystem.proofs.Common.{Bool, Err, Ok, Result, ap, arith, cond, eqb, eqb-true, false, if◌then◌else◌, inl, inr, length}
-use Rattle.lagsystem.proofs.Common.{nat_lt, suc, true, zero, ℕ, ◌&&◌, ◌+◌, ◌<◌, ◌∙◌, ◌≡◌, ◌≤◌, ◌⊎◌, and_parts, cases_Bool}
-use Rattle.lagsystem.proofs.Common.{nat_tests, AggId, itself, Assignment, DistFault, force_result, is_held_on, Table}
-use Rattle.lagsystem.proofs.Common.{assignment_of, same_sum, SystemFault, NoAggregator, ForcesFirst, ForcesIfHeld, ForcesIn, ForcesPort, FreesHeld}
-use Rattle.lagsystem.proofs.Common.{NoneIsHeldOn, after_forcing, count_held_on, GivesAssignment, GivesOrRefuses, in_system}
-use Rattle.lagsystem.proofs.Common.{IsSound, SystemState, with_table}
+use Rattle.lagsystem.proofs.Common.{Bool, Err, Ok, Result, ap, arith, cond, eqb, eqb-true, false, if◌then◌else◌, inl, inr, length, nat_lt, suc, true}
+use Rattle.lagsystem.proofs.Common.{zero, ℕ, ◌&&◌, ◌+◌, ◌<◌, ◌∙◌, ◌≡◌, ◌≤◌, ◌⊎◌, and_parts, cases_Bool, nat_tests, AggId, itself, Assignment}
+use Rattle.lagsystem.proofs.Common.{DistFault, force_result, is_held_on, Table, assignment_of, same_sum, SystemFault, NoAggregator, ForcesFirst}
+use Rattle.lagsystem.proofs.Common.{ForcesIfHeld, ForcesIn, ForcesPort, FreesHeld, NoneIsHeldOn, after_forcing, count_held_on, GivesAssignment}
+use Rattle.lagsystem.proofs.Common.{GivesOrRefuses, in_system, IsSound, SystemState, with_table}
 use Rattle.distributor.specs.Conversations.{sum_below}
 use Rattle.distributor.specs.declared.fault.DistFault.TheVariants as dist
 
@@ -33,9 +32,6 @@ both_forced port One More Named old mid new h k apart split left right = grind (
 freed : (port : ℕ) (a : Assignment) (state : Assignment) → is_held_on port a ≡ true → force_result a ≡ Ok state → state ≡ after_forcing port a
 freed port a state h e = grind (arith, nat_tests)
 
-not_held : (port : ℕ) (a : Assignment) → is_held_on port a ≡ false → after_forcing port a ≡ a
-not_held port a h = grind (arith, nat_tests)
-
 free_after : (port : ℕ) (a : Assignment) → is_held_on port (after_forcing port a) ≡ false
 free_after port a = grind (arith, nat_tests)
 
@@ -53,7 +49,7 @@ at_place : (g k a c : ℕ) → a ≡ g → c ≡ k → (eqb g a && eqb k c) ≡ 
 at_place g k a c e f = (λ i. eqb g (e i) && eqb k (f i)) ∙ (λ i. itself g i && itself k i)
 
 not_at : (g k a c : ℕ) → ((a ≡ g) × (c ≡ k) → ⊥) → (eqb g a && eqb k c) ≡ false
-not_at g k a c never = grind (arith, nat_tests, cases_Bool, and_parts, eqb-true)
+not_at g k a c never = grind (arith, nat_tests)
 
 -- one conversation, those of an aggregator, and those of all
 
@@ -64,7 +60,7 @@ one_forced : (gives : ℕ → ℕ → ℕ → Type 0) (port : ℕ) (agg : AggId)
     → ForcesIfHeld gives port agg conv old b new
     → Forced port (IsOne agg.0 conv) old new × (b ≡ is_held_on port (assignment_of old.table agg.0 conv))
 one_forced gives port agg conv old true new h = grind (arith, nat_tests, given_state, freed, through, at_place, not_at)
-one_forced gives port agg conv old false new h = grind (arith, nat_tests, not_held)
+one_forced gives port agg conv old false new h = grind (arith, nat_tests)
 
 -- how many of the first conversations of an aggregator are held on the port
 abbrev held_in : ℕ → Table → ℕ → ℕ → ℕ
@@ -106,7 +102,7 @@ first_forced : (gives : ℕ → ℕ → ℕ → Type 0) (port g : ℕ) (old : Sy
     → Forced port (IsAmongFirst old.conversations g) old new
     × (n ≡ sum_below (λ a. held_in port old.table (a + 1) old.conversations) g)
 unfolding sum_below
-first_forced gives port zero old n new h = grind (arith, nat_tests, none_forced)
+first_forced gives port zero old n new h = grind (arith, nat_tests)
 first_forced gives port (suc g) old n new h =
     grind (arith, nat_tests, in_forced, same_sum, next_number, both_forced, up_to, first_forced gives port g old h.1 h.0 h.3)
 

@@ -1,6 +1,5 @@
 -- What is forced on a port, one conversation and one aggregator after another.
-use Rattle.lagsystem.proofs.Common.{nat_tests}
-use Rattle.lagsystem.proofs.Common.{Bool, arith, cond, ℕ, ◌+◌, ◌≡◌, AggId, ForcesFirst, ForcesIfHeld, ForcesIn, aggregator_numbered}
+use Rattle.lagsystem.proofs.Common.{Bool, arith, cond, ℕ, ◌+◌, ◌≡◌, nat_tests, AggId, ForcesFirst, ForcesIfHeld, ForcesIn, aggregator_numbered}
 use Rattle.lagsystem.proofs.Common.{SystemState}
 
 -- one conversation more

@@ -1,8 +1,7 @@
 -- Ports in front of the first that is not SELECTED.
-use Rattle.lagsystem.proofs.Common.{Bool, List, None, Option, Some, [], ap, arith, drop, false, get_or, length, not, position}
-use Rattle.lagsystem.proofs.Common.{refl, slice_get, subst, suc, sym, zero, ℕ, ◌<◌, ◌||◌, ◌∙◌, ◌∷◌, ◌≡◌, cases_Bool, cond-true, nat_tests}
-use Rattle.lagsystem.proofs.Common.{list_any_none, position-Some, fails_before_first, same_Some, slice_get-get_or, list_any}
-use Rattle.lagsystem.proofs.Common.{is_selected, is_standby, SystemPort}
+use Rattle.lagsystem.proofs.Common.{Bool, List, None, Option, Some, [], ap, arith, drop, false, get_or, length, not, position, refl, slice_get, subst}
+use Rattle.lagsystem.proofs.Common.{suc, sym, zero, ℕ, ◌<◌, ◌||◌, ◌∙◌, ◌∷◌, ◌≡◌, cases_Bool, cond-true, nat_tests, list_any_none, position-Some}
+use Rattle.lagsystem.proofs.Common.{fails_before_first, same_Some, slice_get-get_or, list_any, is_selected, is_standby, SystemPort}
 use Rattle.lagsystem.proofs.NextLemmas.{selected_not_standby}
 
 -- the index of the first port that is not SELECTED

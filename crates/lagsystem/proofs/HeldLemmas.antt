@@ -1,7 +1,7 @@
 -- Where no conversation is held on a port, to force what is held there changes nothing.
 use Rattle.lagsystem.proofs.Common.{Bool, Ok, ap, arith, cond, false, inl, inr, is_some, length, refl, suc, true, zero, ℕ, ◌+◌, ◌<◌, ◌∙◌, ◌≡◌}
-use Rattle.lagsystem.proofs.Common.{nat_tests, AggId, is_held_on, assignment_of, ForcesFirst, ForcesIn, ForcesPort, count_held_on}
-use Rattle.lagsystem.proofs.Common.{IsSound, SystemState, port_index}
+use Rattle.lagsystem.proofs.Common.{nat_tests, AggId, is_held_on, assignment_of, ForcesFirst, ForcesIn, ForcesPort, count_held_on, IsSound}
+use Rattle.lagsystem.proofs.Common.{SystemState, port_index}
 use Rattle.distributor.specs.Conversations.{sum_below}
 use Rattle.lagsystem.proofs.TellingLemmas.{below_or_at}
 

@@ -1,8 +1,8 @@
 -- Conversations leave stopped ports, one port after another.
 use Rattle.lagsystem.proofs.Common.{Bool, List, None, Option, Some, [], add-one, ap, arith, false, get_or, if◌then◌else◌, length, not, refl}
 use Rattle.lagsystem.proofs.Common.{slice_set, suc, take, true, zero, ℕ, ◌&&◌, ◌+◌, ◌<◌, ◌==◌, ◌||◌, ◌∙◌, ◌∷◌, ◌≡◌, nat_tests, AggId, Choice}
-use Rattle.lagsystem.proofs.Common.{CollectingDistributing, same_mux_state, has_chosen, Assignment, ChangesAssignments, after_leave}
-use Rattle.lagsystem.proofs.Common.{Table, assignment_of, SystemPort, after_holding, aggregators_in_use, has_stopped, stopped, collecting}
+use Rattle.lagsystem.proofs.Common.{CollectingDistributing, same_mux_state, has_chosen, Assignment, ChangesAssignments, after_leave, Table}
+use Rattle.lagsystem.proofs.Common.{assignment_of, SystemPort, after_holding, aggregators_in_use, has_stopped, stopped, collecting}
 use Rattle.lagsystem.proofs.Common.{selected_aggregator}
 use Rattle.std.proofs.Math.Bool.{and-true}
 
@@ -13,9 +13,6 @@ leaves was s p = (s.number == p) && has_stopped was s
 or_swap : (a b : Bool) → (a || b) ≡ (b || a)
 or_swap a b = grind (arith, nat_tests)
 
-or_later : (a b c : Bool) → (a || (b || c)) ≡ ((a || b) || c)
-or_later a b c = grind (arith, nat_tests)
-
 stopped_suc : (before : List (Option AggId)) (system_ports : List SystemPort) (i : ℕ) (d : Option AggId) (e : SystemPort) (p : ℕ)
     → i < length before → length before ≡ length system_ports
     → stopped (take (suc i) before) (take (suc i) system_ports) p ≡ (stopped (take i before) (take i system_ports) p
@@ -23,7 +20,7 @@ stopped_suc : (before : List (Option AggId)) (system_ports : List SystemPort) (i
 stopped_suc [] system_ports i d e p l same = absurd (omega arith)
 stopped_suc (b ∷ bs) [] i d e p l same = absurd (omega (arith, same))
 stopped_suc (b ∷ bs) (s ∷ ss) zero d e p l same = or_swap (leaves b s p) false
-stopped_suc (b ∷ bs) (s ∷ ss) (suc i) d e p l same = grind (arith, nat_tests, or_later, stopped_suc bs ss i d e p (omega arith) (omega (arith, same)))
+stopped_suc (b ∷ bs) (s ∷ ss) (suc i) d e p l same = grind (arith, nat_tests, stopped_suc bs ss i d e p (omega arith) (omega (arith, same)))
 
 -- the ports of one more place
 pub stopped_more : (before : List (Option AggId)) (system_ports : List SystemPort) (i : ℕ) (d : Option AggId) (e : SystemPort) (p : ℕ)
@@ -88,25 +85,6 @@ left_same before system_ports i d e old new l same h stays =
 
 -- one port went on
 
--- whether a port with this value of Selected, whose mux machine distributes or not, no longer distributes where it did
-abbrev still_in : Option AggId → Choice → Bool → Bool
-still_in None c d = false
-still_in (Some agg) c d = not (has_chosen agg c && d)
-
-has_stopped_is : (was : Option AggId) (s : SystemPort)
-    → has_stopped was s ≡ still_in was s.port.choice (same_mux_state CollectingDistributing s.port.mux)
-has_stopped_is was s = grind (arith, nat_tests)
-
-stays_in : (c : Choice) (d : Bool) → still_in (if d then selected_aggregator c else None) c d ≡ false
-stays_in c d = grind (arith, nat_tests)
-
--- a port distributes where it does
-never_stopped : (s : SystemPort) → has_stopped (collecting s.port) s ≡ false
-never_stopped s = has_stopped_is (collecting s.port) s ∙ stays_in s.port.choice (same_mux_state CollectingDistributing s.port.mux)
-
-or_neither : (b c d : Bool) → c ≡ false → d ≡ false → ((b && c) || d) ≡ false
-or_neither b c d e k = grind (arith, nat_tests)
-
 or_first : (b c d : Bool) → d ≡ false → ((b && c) || d) ≡ (b && c)
 or_first b c d e = grind (arith, nat_tests)
 
@@ -115,14 +93,14 @@ or_second b c d e = grind (arith, nat_tests)
 
 none_stopped : (system_ports : List SystemPort) (p : ℕ) → stopped (aggregators_in_use system_ports) system_ports p ≡ false
 none_stopped [] p = refl
-none_stopped (s ∷ ss) p = grind (arith, nat_tests, or_neither, never_stopped, none_stopped ss p)
+none_stopped (s ∷ ss) p = grind (arith, nat_tests, none_stopped ss p)
 
 -- only the port at the place can have stopped
 stopped_at : (system_ports : List SystemPort) (i : ℕ) (was : Option AggId) (d : SystemPort) (p : ℕ) → i < length system_ports
     → stopped (slice_set (aggregators_in_use system_ports) i was) system_ports p ≡ leaves was (get_or system_ports i d) p
 stopped_at [] i was d p l = absurd (omega arith)
 stopped_at (s ∷ ss) zero was d p l = grind (arith, nat_tests, or_first, none_stopped)
-stopped_at (s ∷ ss) (suc i) was d p l = grind (arith, nat_tests, or_second, never_stopped, stopped_at ss i was d p (omega arith))
+stopped_at (s ∷ ss) (suc i) was d p l = grind (arith, nat_tests, stopped_at ss i was d p (omega arith))
 
 leave_only : (f : ℕ → Bool) (n : ℕ) → ((p : ℕ) → f p ≡ (n == p)) → (a : Assignment) → after_leave n a ≡ after_holding f a
 leave_only f n e a = grind (arith, nat_tests)

@@ -1,13 +1,13 @@
 -- Every call preserves the configuration of a system, and the numbers of its ports.
 use Rattle.lagsystem.proofs.Common.{Bool, List, None, Option, Some, [], ap, arith, false, if◌then◌else◌, inl, inr, length, nat_le, refl, slice_get}
 use Rattle.lagsystem.proofs.Common.{slice_set, subst, suc, sym, true, zero, ℕ, ◌∙◌, ◌∷◌, ◌≡◌, ◌≤◌, ◌⊎◌, and_parts, nat_tests, length-map, AllZip, Key}
-use Rattle.lagsystem.proofs.Common.{SystemId, Choice, Selected, Machines, mux_rows, RunsPeriodic, RunsToRest, after_sending}
-use Rattle.lagsystem.proofs.Common.{AggregatorsValue, Free, Table, assignment_of, first_table, PortConfig, Reply, BadConfig, SystemPort, Call}
-use Rattle.lagsystem.proofs.Common.{ChangesParty, FreesIfDown, OnlyPortChangesBy, PortAtChangesBy, ProcessesLacpdu, SetsLink, Step}
-use Rattle.lagsystem.proofs.Common.{ThenSettles, Ticks, HasJustStarted, IsConfigured, IsFirst, config_refusal, configured_numbers}
-use Rattle.lagsystem.proofs.Common.{is_count, refusal, aggregator_numbered, distributing, ChoosesIn, HoldsConversations}
-use Rattle.lagsystem.proofs.Common.{PortsChangeBy, PromotesFirst, SettlesPorts, Settling, after_choices, choice_for, held_unless_on, with_choice}
-use Rattle.lagsystem.proofs.Common.{HasPorts, SystemState, aggregators_value, port_index, port_numbers, with_system_ports, with_table, views}
+use Rattle.lagsystem.proofs.Common.{SystemId, Choice, Selected, Machines, mux_rows, RunsPeriodic, RunsToRest, after_sending, AggregatorsValue, Free}
+use Rattle.lagsystem.proofs.Common.{Table, assignment_of, first_table, PortConfig, Reply, BadConfig, SystemPort, Call, ChangesParty, FreesIfDown}
+use Rattle.lagsystem.proofs.Common.{OnlyPortChangesBy, PortAtChangesBy, ProcessesLacpdu, SetsLink, Step, ThenSettles, Ticks, HasJustStarted}
+use Rattle.lagsystem.proofs.Common.{IsConfigured, IsFirst, config_refusal, configured_numbers, is_count, refusal, aggregator_numbered, distributing}
+use Rattle.lagsystem.proofs.Common.{ChoosesIn, HoldsConversations, PortsChangeBy, PromotesFirst, SettlesPorts, Settling, after_choices, choice_for}
+use Rattle.lagsystem.proofs.Common.{held_unless_on, with_choice, HasPorts, SystemState, aggregators_value, port_index, port_numbers}
+use Rattle.lagsystem.proofs.Common.{with_system_ports, with_table, views}
 use Rattle.lagsystem.proofs.SettlingLemmas.{RunsReady, SettlesIn, ports_frame, settles_in}
 use Rattle.distributor.proofs.TableLemmas.{first_free}
 use Rattle.lagsystem.proofs.Preserves.{Preserves, Step-preserves}
@@ -34,7 +34,7 @@ pub keeps_table : (old new : SystemState) → new ≡ with_table old new.table �
 keeps_table old new e a k = grind (arith, nat_tests)
 
 pub keeps_stays : (old new : SystemState) → new ≡ old → Keeps old new
-keeps_stays old new e = grind (arith, nat_tests, keeps_slots)
+keeps_stays old new e = grind (arith, nat_tests)
 
 pub zip_numbers : (R : Machines → Machines → Type 0) (xs ys : List SystemPort) → PortsChangeBy R xs ys → port_numbers ys ≡ port_numbers xs
 zip_numbers R [] [] h = refl
@@ -192,12 +192,12 @@ Step-ports gives old call answer new h s = elim (Step-keeps gives old call answe
 -- there are as many conversations as aggregators
 pub Step-aggregators : (gives : ℕ → ℕ → ℕ → Type 0) (old : SystemState) (call : Call) (answer : Reply) (new : SystemState)
     → Step gives old call answer new → old.table.aggs ≡ length old.keys → new.table.aggs ≡ length new.keys
-Step-aggregators gives old call answer new h e = grind (arith, nat_tests, Step-keeps)
+Step-aggregators gives old call answer new h e = grind (arith, nat_tests)
 
 -- each aggregator has as many conversations as are configured
 pub Step-conversations : (gives : ℕ → ℕ → ℕ → Type 0) (old : SystemState) (call : Call) (answer : Reply) (new : SystemState)
     → Step gives old call answer new → old.table.conversations ≡ old.conversations → new.table.conversations ≡ new.conversations
-Step-conversations gives old call answer new h e = grind (arith, nat_tests, Step-keeps)
+Step-conversations gives old call answer new h e = grind (arith, nat_tests)
 
 is_true : (b : Bool) (x : Option BadConfig) (y : BadConfig) → (if b then x else Some y) ≡ None → b ≡ true
 is_true b x y h = grind (arith, nat_tests)
@@ -270,7 +270,7 @@ first_made config keys most start new h k =
 
 pub configured_made : (config : Config) (keys : List Key) (most : Option ℕ) (start : List SystemPort) (new : SystemState) → keys ≡ config.aggregators.items
     → most ≡ config.max_links → SettlesPorts (started config keys most start) new → IsConfigured config new
-configured_made config keys most start new e limit k = grind (arith, nat_tests, ports_keep)
+configured_made config keys most start new e limit k = grind (arith, nat_tests)
 
 pub ports_made : (config : Config) (keys : List Key) (most : Option ℕ) (start : List SystemPort) (new : SystemState) → keys ≡ config.aggregators.items
     → most ≡ config.max_links → config_refusal config ≡ None → AllZip (HasJustStarted config.system) config.ports.items start

@@ -1,9 +1,8 @@
 -- A conversation leaves its port, or rests.
-use Rattle.lagsystem.proofs.Common.{Err, IfOk, Ok, Result, [], ap, arith, refl, subst, sym, ℕ, ◌∙◌, ◌≡◌, nat_tests}
-use Rattle.lagsystem.proofs.Common.{AggId, LawfulMoves, Conversation, ModelCall, Assignment, leave_result}
-use Rattle.lagsystem.proofs.Common.{assignment_of, next_identifier, is_left, leave_one_moves, SystemFault, Force, system_leave_result}
-use Rattle.lagsystem.proofs.Common.{system_rest_result, model_setup, model_view, GivesOrRefuses}
-use Rattle.lagsystem.proofs.Common.{system_force_result, TablePromise, CallPromise, IsSound, SystemState, with_table}
+use Rattle.lagsystem.proofs.Common.{Err, IfOk, Ok, Result, [], ap, arith, refl, subst, sym, ℕ, ◌∙◌, ◌≡◌, nat_tests, AggId, LawfulMoves, Conversation}
+use Rattle.lagsystem.proofs.Common.{ModelCall, Assignment, leave_result, assignment_of, next_identifier, is_left, leave_one_moves, SystemFault, Force}
+use Rattle.lagsystem.proofs.Common.{system_leave_result, system_rest_result, model_setup, model_view, GivesOrRefuses, system_force_result}
+use Rattle.lagsystem.proofs.Common.{TablePromise, CallPromise, IsSound, SystemState, with_table}
 use Rattle.lagsystem.specs.declared.drive.Reply.TheVariants as reply
 use Rattle.lagsystem.proofs.Conversing.{table_moves}
 use Rattle.lagsystem.proofs.OnPorts.{not_on, sets_carried}
@@ -19,7 +18,7 @@ done = Ok tt
 
 left_to : (agg : AggId) (conv : ℕ) (old : SystemState) (s : Assignment) → system_leave_result old agg conv ≡ Ok s
     → leave_result (next_identifier old.table) (assignment_of old.table agg.0 conv) ≡ Ok s
-left_to agg conv old s e = grind (arith, nat_tests, known_ok, if_ok)
+left_to agg conv old s e = grind (arith, nat_tests)
 
 left_sound : (agg : AggId) (conv : ℕ) (what : Result Assignment SystemFault) (old : SystemState) (answer : Result Unit SystemFault)
     (new : SystemState) → system_leave_result old agg conv ≡ what → GivesOrRefuses agg conv what old answer new → IsSound old → IsSound new

@@ -2,10 +2,10 @@
 use Rattle.lagsystem.proofs.Common.{Bool, List, None, Option, Some, [], ap, arith, cond, eqb-true, false, inl, inr, length, nat_le, nat_lt}
 use Rattle.lagsystem.proofs.Common.{option_map, refl, slice_get, slice_set, subst, suc, sym, true, zero, ℕ, ◌&&◌, ◌+◌, ◌<◌, ◌==◌, ◌∙◌, ◌∷◌, ◌≡◌, ◌≤◌}
 use Rattle.lagsystem.proofs.Common.{◌⊎◌, and_parts, cases_Bool, nat_tests, none-some, same_Some, AllByRecursion, AggId, Choice, Selected, Standby}
-use Rattle.lagsystem.proofs.Common.{Unselected, Machines, PortView, is_aggregator, ports_that_chose, AggregatorsValue, has_room}
-use Rattle.lagsystem.proofs.Common.{is_below, has_chosen, stands_by, NoneStandsBy, is_next, none_is_next, nothing_is_next, SystemPort}
-use Rattle.lagsystem.proofs.Common.{NoneIsNext, WithinLimit, aggregator_numbered, ChoosesIn, PortsChangeBy, PromotesFirst, PromotesNext}
-use Rattle.lagsystem.proofs.Common.{aggregator_for, choice_if, choice_in, with_choice, selection_view, views}
+use Rattle.lagsystem.proofs.Common.{Unselected, Machines, PortView, is_aggregator, ports_that_chose, AggregatorsValue, has_room, is_below, has_chosen}
+use Rattle.lagsystem.proofs.Common.{stands_by, NoneStandsBy, is_next, none_is_next, nothing_is_next, SystemPort, NoneIsNext, WithinLimit}
+use Rattle.lagsystem.proofs.Common.{aggregator_numbered, ChoosesIn, PortsChangeBy, PromotesFirst, PromotesNext, aggregator_for, choice_if, choice_in}
+use Rattle.lagsystem.proofs.Common.{with_choice, selection_view, views}
 use Rattle.lagsystem.proofs.NoneLeft.{eligible_then, unselected}
 use Rattle.lagsystem.proofs.Occupying.{LeavesOrStays}
 use Rattle.lagsystem.proofs.PromotionLemmas.{all_keep, choices_keep, promotions_keep}
@@ -21,7 +21,7 @@ one_counted b v rest n h = grind (arith, nat_tests)
 
 counted : (agg : AggId) (l : List SystemPort) → length (ports_that_chose agg (views l)) ≡ count agg l
 counted agg [] = refl
-counted agg (s ∷ ss) = grind (arith, nat_tests, one_counted, counted agg ss)
+counted agg (s ∷ ss) = grind (arith, nat_tests, counted agg ss)
 
 -- no aggregator has more members than before
 abbrev pub Fewer : List SystemPort → List SystemPort → Type 0
@@ -35,23 +35,20 @@ no_bit b m n h = grind (arith, nat_tests)
 
 bit_less : (agg : AggId) (c d : Choice) (m n : ℕ) → (d ≡ Unselected) ⊎ (d ≡ c) → m ≤ n
     → cond (has_chosen agg d) (suc m) m ≤ cond (has_chosen agg c) (suc n) n
-bit_less agg c d m n h l = grind (arith, nat_tests, no_bit, same_bit)
-
-left_or_same : (p q : Machines) → LeavesOrStays p q → (q.choice ≡ Unselected) ⊎ (q.choice ≡ p.choice)
-left_or_same p q h = elim h [ inl e ↦ inl e | inr e ↦ inr e.0 ]
+bit_less agg c d m n h l = grind (arith, nat_tests)
 
 pub zip_fewer : (R : Machines → Machines → Type 0) → ((p q : Machines) → R p q → LeavesOrStays p q) → (xs ys : List SystemPort)
     → PortsChangeBy R xs ys → Fewer xs ys
 zip_fewer R k [] [] h agg = omega arith
 zip_fewer R k [] (y ∷ ys) h agg = absurd h
 zip_fewer R k (x ∷ xs) [] h agg = absurd h
-zip_fewer R k (x ∷ xs) (y ∷ ys) h agg = grind (arith, nat_tests, bit_less, left_or_same, zip_fewer R k xs ys h.1 agg)
+zip_fewer R k (x ∷ xs) (y ∷ ys) h agg = grind (arith, nat_tests, zip_fewer R k xs ys h.1 agg)
 
 pub set_fewer : (xs : List SystemPort) (i : ℕ) (s t : SystemPort) → slice_get xs i ≡ Some s → LeavesOrStays s.port t.port
     → Fewer xs (slice_set xs i t)
 set_fewer [] i s t e h agg = absurd (none-some s e)
-set_fewer (x ∷ xs) zero s t e h agg = grind (arith, nat_tests, bit_less, left_or_same)
-set_fewer (x ∷ xs) (suc i) s t e h agg = grind (arith, nat_tests, same_bit, set_fewer xs i s t e h agg)
+set_fewer (x ∷ xs) zero s t e h agg = grind (arith, nat_tests)
+set_fewer (x ∷ xs) (suc i) s t e h agg = grind (arith, nat_tests, set_fewer xs i s t e h agg)
 
 -- one port gets a value of Selected
 
@@ -65,16 +62,13 @@ set_more : (agg : AggId) (l : List SystemPort) (i : ℕ) (s : SystemPort) (c : C
     → count agg (slice_set l i (with_choice s (Some c))) ≤ count agg l + cond (has_chosen agg c) 1 0
 set_more agg [] i s c = omega arith
 set_more agg (x ∷ xs) zero s c = one_more (has_chosen agg c) (has_chosen agg x.port.choice) (count agg xs)
-set_more agg (x ∷ xs) (suc i) s c = grind (arith, nat_tests, later_more, set_more agg xs i s c)
-
-grows_here : (b h : Bool) (n : ℕ) → h ≡ false → cond h (suc n) n ≤ cond b (suc n) n
-grows_here b h n e = grind (arith, nat_tests)
+set_more agg (x ∷ xs) (suc i) s c = grind (arith, nat_tests, set_more agg xs i s c)
 
 set_grows : (agg : AggId) (l : List SystemPort) (i : ℕ) (s : SystemPort) (c : Choice) → slice_get l i ≡ Some s
     → has_chosen agg s.port.choice ≡ false → count agg l ≤ count agg (slice_set l i (with_choice s (Some c)))
 set_grows agg [] i s c e h = absurd (none-some s e)
-set_grows agg (x ∷ xs) zero s c e h = grind (arith, nat_tests, grows_here)
-set_grows agg (x ∷ xs) (suc i) s c e h = grind (arith, nat_tests, same_bit, set_grows agg xs i s c e h)
+set_grows agg (x ∷ xs) zero s c e h = grind (arith, nat_tests)
+set_grows agg (x ∷ xs) (suc i) s c e h = grind (arith, nat_tests, set_grows agg xs i s c e h)
 
 -- the limit
 
@@ -204,7 +198,7 @@ promotions_none aggs (suc n) old new h a low high =
     ]
 
 known_parts : (a n : ℕ) → (nat_le 1 a && nat_le a n) ≡ true → (0 < a) × (a ≤ n)
-known_parts a n h = grind (arith, nat_tests, and_parts)
+known_parts a n h = grind (arith, nat_tests)
 
 all_promoted : (aggs : AggregatorsValue) (old new : List SystemPort) → PromotesFirst aggs (length aggs.keys) old new → (a : AggId)
     → NoneNext aggs a new
@@ -255,7 +249,7 @@ zip_none aggs R k xs ys h a q = elim q [
     same_count [] [] h = omega arith
     same_count [] (y ∷ ys) h = absurd h
     same_count (x ∷ xs) [] h = absurd h
-    same_count (x ∷ xs) (y ∷ ys) h = grind (arith, nat_tests, same_bit, same_count xs ys h.1)
+    same_count (x ∷ xs) (y ∷ ys) h = grind (arith, nat_tests, same_count xs ys h.1)
 
     same_stands : (xs ys : List SystemPort) → PortsChangeBy R xs ys → NoneStandsBy a (views xs) → NoneStandsBy a (views ys)
     same_stands [] [] h n = tt

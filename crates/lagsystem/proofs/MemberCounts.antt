@@ -1,6 +1,6 @@
 -- The walk that counts the members of each aggregator, and what its counts say.
-use Rattle.lagsystem.proofs.Common.{Bool, List, Option, [], ap, arith, cond, false, filter, get_or, inl, inr, length, sym, take, ℕ, ◌+◌, ◌<◌}
-use Rattle.lagsystem.proofs.Common.{◌∙◌, ◌∷◌, ◌≡◌, ◌≤◌, cases_lt, nat_tests, get_or_past, length-take-le, AggId, Choice, Selected, AggregatorsValue}
+use Rattle.lagsystem.proofs.Common.{Bool, List, Option, [], ap, arith, cond, false, filter, get_or, inl, inr, length, sym, take, ℕ, ◌+◌, ◌<◌, ◌∙◌}
+use Rattle.lagsystem.proofs.Common.{◌∷◌, ◌≡◌, ◌≤◌, cases_lt, nat_tests, get_or_past, length-take-le, AggId, Choice, Selected, AggregatorsValue}
 use Rattle.lagsystem.proofs.Common.{has_room, is_below, has_chosen, SystemPort, CountsMembers, views}
 use Rattle.std.proofs.lemmas.List.Filters.{length-filter_more}
 use Rattle.lagsystem.proofs.NextLemmas.{full_no_room}

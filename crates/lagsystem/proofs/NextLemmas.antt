@@ -1,10 +1,10 @@
 -- What promoting the STANDBY port that comes next does.
 use Rattle.lagsystem.proofs.Common.{Bool, List, None, Option, Some, [], ap, arith, cond, false, filter, length, not, refl, slice_get, slice_set}
-use Rattle.lagsystem.proofs.Common.{subst, suc, sym, true, zero, ℕ, ◌+◌, ◌<◌, ◌||◌, ◌∙◌, ◌∷◌, ◌≡◌, ◌≤◌, cases_eq, false≢true, or_parts}
-use Rattle.lagsystem.proofs.Common.{nat_tests, none-some, same_Some, list_any, AggId, Choice, Selected, Standby, is_selected, is_standby, itself}
-use Rattle.lagsystem.proofs.Common.{PortView, ports_that_chose, AggregatorsValue, has_room, is_below, next_standby_index, has_chosen}
-use Rattle.lagsystem.proofs.Common.{stands_by, is_next, SystemPort, count_standby, aggregator_numbered, PromotesAll, PromotesFirst, PromotesNext}
-use Rattle.lagsystem.proofs.Common.{with_choice, selection_view, views}
+use Rattle.lagsystem.proofs.Common.{subst, suc, sym, true, zero, ℕ, ◌+◌, ◌<◌, ◌||◌, ◌∙◌, ◌∷◌, ◌≡◌, ◌≤◌, cases_eq, false≢true, or_parts, nat_tests}
+use Rattle.lagsystem.proofs.Common.{none-some, same_Some, list_any, AggId, Choice, Selected, Standby, is_selected, is_standby, itself, PortView}
+use Rattle.lagsystem.proofs.Common.{ports_that_chose, AggregatorsValue, has_room, is_below, next_standby_index, has_chosen, stands_by, is_next}
+use Rattle.lagsystem.proofs.Common.{SystemPort, count_standby, aggregator_numbered, PromotesAll, PromotesFirst, PromotesNext, with_choice}
+use Rattle.lagsystem.proofs.Common.{selection_view, views}
 use Rattle.lagsystem.proofs.Limiting.{next_stands}
 
 within_views : (l : List SystemPort) (i : ℕ) (v : PortView) → slice_get (views l) i ≡ Some v → i < length l
@@ -20,14 +20,11 @@ next_within aggs l agg i e = let n = is_next aggs (views l) agg i e in within_vi
 one_less : (b : Bool) (n : ℕ) → b ≡ true → n + 1 ≡ cond b (suc n) n
 one_less b n h = grind (arith, nat_tests)
 
-later_less : (h : Bool) (m n : ℕ) → m + 1 ≡ n → cond h (suc m) m + 1 ≡ cond h (suc n) n
-later_less h m n e = grind (arith, nat_tests)
-
 fewer_standby : (agg : AggId) (l : List SystemPort) (i : ℕ) (s : SystemPort) → slice_get l i ≡ Some s
     → stands_by agg s.port.choice ≡ true → count_standby agg (slice_set l i (with_choice s (Some (Selected agg)))) + 1 ≡ count_standby agg l
 fewer_standby agg [] i s e h = absurd (none-some s e)
-fewer_standby agg (x ∷ xs) zero s e h = grind (arith, nat_tests, one_less)
-fewer_standby agg (x ∷ xs) (suc i) s e h = grind (arith, nat_tests, later_less, fewer_standby agg xs i s e h)
+fewer_standby agg (x ∷ xs) zero s e h = grind (arith, nat_tests)
+fewer_standby agg (x ∷ xs) (suc i) s e h = grind (arith, nat_tests, fewer_standby agg xs i s e h)
 
 -- one STANDBY port of the aggregator fewer
 pub promoted_fewer : (aggs : AggregatorsValue) (agg : AggId) (l m : List SystemPort) → PromotesNext aggs agg l m
@@ -75,7 +72,7 @@ none_next aggs l n long h agg = by_index (next_standby_index aggs (views l) agg)
 -- so for one port more
 pub no_room_more : (aggs : AggregatorsValue) (l : List SystemPort) (n : ℕ) (t : SystemPort) → slice_get l n ≡ Some t → NoRoomUpTo aggs n l
     → ((agg : AggId) → t.port.choice ≡ Standby agg → has_room aggs (views l) agg ≡ false) → NoRoomUpTo aggs (n + 1) l
-no_room_more aggs l n t there h here k s agg lt e stands = grind (arith, nat_tests, cases_eq)
+no_room_more aggs l n t there h here k s agg lt e stands = grind (arith, nat_tests)
 
 -- as many members as the limit leave no room
 pub full_no_room : (aggs : AggregatorsValue) (l : List SystemPort) (agg : AggId)
@@ -95,7 +92,7 @@ none_stands aggs l h = none_next aggs l (length l) (omega arith)
     each : (l : List SystemPort) (k : ℕ) (s : SystemPort) → list_any (λ s. is_standby s.port.choice) l ≡ false → slice_get l k ≡ Some s
         → is_standby s.port.choice ≡ false
     each [] k s e there = absurd (none-some s there)
-    each (x ∷ xs) zero s e there = grind (arith, nat_tests, or_parts)
+    each (x ∷ xs) zero s e there = grind (arith, nat_tests)
     each (x ∷ xs) (suc k) s e there = each xs k s (or_parts _ _ e).1 there
 
 -- a port that is SELECTED is not STANDBY

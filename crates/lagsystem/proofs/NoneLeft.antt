@@ -129,7 +129,7 @@ one_taken aggs system_ports n s (Some a) w e r k j t l g =
 one_chosen : (aggs : AggregatorsValue) (system_ports : List SystemPort) (n : ℕ) (o : Option SystemPort) → slice_get system_ports n ≡ o
     → Rises 0 (port_numbers system_ports) → Found_none aggs.keys n system_ports
     → Found_none aggs.keys (suc n) (after_choice_at aggs system_ports n o)
-one_chosen aggs system_ports n None e r k j t l g = grind (arith, nat_tests, below_or_at)
+one_chosen aggs system_ports n None e r k j t l g = grind (arith, nat_tests)
 one_chosen aggs system_ports n (Some s) e r k j t l g = grind (arith, nat_tests, one_taken)
 
 all_chosen : (aggs : AggregatorsValue) (n : ℕ) (system_ports : List SystemPort) → Rises 0 (port_numbers system_ports)

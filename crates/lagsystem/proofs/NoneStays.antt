@@ -1,9 +1,9 @@
 -- A port that found no aggregator finds none after another port chose one, nor after mux machines ran.
 use Rattle.lagsystem.proofs.Common.{Bool, List, None, Option, Some, [], ap, arith, cond, false, find, not, option_map, refl, slice_get, slice_set}
-use Rattle.lagsystem.proofs.Common.{suc, true, zero, ℕ, ◌&&◌, ◌==◌, ◌||◌, ◌∙◌, ◌∷◌, ◌≡◌, not-false, not_from_true, nat_tests}
-use Rattle.lagsystem.proofs.Common.{enumerate_from, list_all, AggId, Key, Choice, Unselected, individual, PortView, aggregator_of_entry}
-use Rattle.lagsystem.proofs.Common.{chosen_if_eligible, has_group_of, has_no_occupant, has_occupant, lowest, occupants, occupants_share_group}
-use Rattle.lagsystem.proofs.Common.{or_else, occupies, SystemPort, with_choice, selection_view, views}
+use Rattle.lagsystem.proofs.Common.{suc, true, zero, ℕ, ◌&&◌, ◌==◌, ◌||◌, ◌∙◌, ◌∷◌, ◌≡◌, not-false, not_from_true, nat_tests, enumerate_from}
+use Rattle.lagsystem.proofs.Common.{list_all, AggId, Key, Choice, Unselected, individual, PortView, aggregator_of_entry, chosen_if_eligible}
+use Rattle.lagsystem.proofs.Common.{has_group_of, has_no_occupant, has_occupant, lowest, occupants, occupants_share_group, or_else, occupies}
+use Rattle.lagsystem.proofs.Common.{SystemPort, with_choice, selection_view, views}
 
 none_or : (x y : Option AggId) → or_else x y ≡ None → (x ≡ None) × (y ≡ None)
 none_or x y e = grind (arith, nat_tests)
@@ -62,9 +62,6 @@ none_stays keys seen later v f g e =
 
 -- one more occupant
 
-or_other : (b c d : Bool) → b ≡ false → (b || c) ≡ true → (d || c) ≡ true
-or_other b c d n h = grind (arith, nat_tests)
-
 or_still : (b c d : Bool) → (b || c) ≡ true → (c ≡ true → d ≡ true) → (b || d) ≡ true
 or_still b c d h f = grind (arith, nat_tests)
 
@@ -75,7 +72,7 @@ occupant_stays : (agg : AggId) (a : Choice) (system_ports : List SystemPort) (i 
     → s.port.choice ≡ Unselected
     → has_occupant (views system_ports) agg ≡ true → has_occupant (views (slice_set system_ports i (with_choice s (Some a)))) agg ≡ true
 occupant_stays agg a [] i s e u h = absurd cc
-occupant_stays agg a (x ∷ xs) zero s e u h = grind (arith, nat_tests, or_other, not_given)
+occupant_stays agg a (x ∷ xs) zero s e u h = grind (arith, nat_tests)
 occupant_stays agg a (x ∷ xs) (suc i) s e u h =
     or_still (occupies agg x.port.choice) (has_occupant (views xs) agg) (has_occupant (views (slice_set xs i (with_choice s (Some a)))) agg) h
     (occupant_stays agg a xs i s e u)
@@ -130,4 +127,4 @@ pub none_alike : (keys : List Key) (seen later : List PortView) (v : PortView)
     → ((agg : AggId) → has_occupant later agg ≡ has_occupant seen agg)
     → ((agg : AggId) → list_all (has_group_of v) (occupants agg later) ≡ list_all (has_group_of v) (occupants agg seen))
     → chosen_if_eligible keys seen v ≡ None → chosen_if_eligible keys later v ≡ None
-none_alike keys seen later v f g h = grind (arith, nat_tests, none_stays)
+none_alike keys seen later v f g h = grind (arith, nat_tests)

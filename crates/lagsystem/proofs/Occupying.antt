@@ -75,13 +75,13 @@ lacpdu_rows_stay v = (
 )
 
 mux_rows_stay : (ready : Bool) → RowsStay (mux_rows ready)
-mux_rows_stay ready = grind (arith, nat_tests, stays)
+mux_rows_stay ready = grind (arith, nat_tests)
 
 pub mux_stays : (ready : Bool) (p q : Machines) → RunsToRest (mux_rows ready) p q → LeavesOrStays p q
 mux_stays ready p q h = runs_stay (mux_rows ready) (mux_rows_stay ready) p q h
 
 periodic_rows_stay : RowsStay periodic_rows
-periodic_rows_stay = grind (arith, nat_tests, stays)
+periodic_rows_stay = grind (arith, nat_tests)
 
 pub periodic_stays : (p q : Machines) → RunsPeriodic p q → LeavesOrStays p q
 periodic_stays p q h = subst (LeavesOrStays p) (sym h.2) (runs_stay periodic_rows periodic_rows_stay p h.0 h.1)
@@ -161,23 +161,11 @@ abbrev EachOccupies : List SystemPort → List SystemPort → Type 0
 EachOccupies old new = (j : ℕ) (t : SystemPort) → slice_get new j ≡ Some t
     → (s : SystemPort) × (slice_get old j ≡ Some s) × OccupiesAsBefore s.port t.port
 
--- so it is with an occupant
-occupies_on : (p q : Machines) (g : ℕ) → OccupiesAsBefore p q → occupied q.choice ≡ Some g
-    → (occupied p.choice ≡ Some g) × (q.party ≡ p.party) × (party_of q.partner ≡ party_of p.partner)
-occupies_on p q g h o = grind (arith, nat_tests)
-
-moved_pair : (a b c d a' b' c' d' : Party) → a' ≡ a → b' ≡ b → c' ≡ c → d' ≡ d
-    → SamePair (pair_of a b) (pair_of c d) × (individual a b ≡ false) → SamePair (pair_of a' b') (pair_of c' d') × (individual a' b' ≡ false)
-moved_pair a b c d a' b' c' d' e1 e2 e3 e4 x = rw (e1, e2, e3, e4) x
-
 occupants_kept : (keys : List Key) (old new : List SystemPort) → EachOccupies old new → OccupantsAgree keys old → OccupantsAgree keys new
-occupants_kept keys old new h a = grind (arith, nat_tests, occupies_on, moved_pair)
-
-stays_occupies : (p q : Machines) → LeavesOrStays p q → OccupiesAsBefore p q
-stays_occupies p q h = elim h [ inl e ↦ inl (ap occupied e) | inr s ↦ inr (ap occupied s.0, s.1, s.2) ]
+occupants_kept keys old new h a = grind (arith, nat_tests)
 
 pub stay_agrees : (keys : List Key) (old new : List SystemPort) → EachStays old new → OccupantsAgree keys old → OccupantsAgree keys new
-stay_agrees keys old new h a = grind (arith, nat_tests, occupants_kept, stays_occupies)
+stay_agrees keys old new h a = grind (arith, nat_tests)
 
 -- a promotion
 pub promotion_agrees : (keys : List Key) (l : List SystemPort) (i : ℕ) (s : SystemPort) (agg : AggId) → slice_get l i ≡ Some s

@@ -1,6 +1,6 @@
 -- Moves of one port, whatever the other ports are, and moves of each port of a list.
-use Rattle.lagsystem.proofs.Common.{Bool, List, Option, Some, [], ap, append_assoc, arith, cond, eq-eqb, eqb, eqb-true, length, option_map}
-use Rattle.lagsystem.proofs.Common.{refl, slice_get, slice_set, subst, sym, ℕ, ◌++◌, ◌∙◌, ◌∷◌, ◌≡◌, cases_Bool, nat_tests, AllZip, option_to_list}
+use Rattle.lagsystem.proofs.Common.{Bool, List, Option, Some, [], ap, append_assoc, arith, cond, eq-eqb, eqb, eqb-true, length, option_map, refl}
+use Rattle.lagsystem.proofs.Common.{slice_get, slice_set, subst, sym, ℕ, ◌++◌, ◌∙◌, ◌∷◌, ◌≡◌, cases_Bool, nat_tests, AllZip, option_to_list}
 use Rattle.lagsystem.proofs.Common.{AreNumbered, Act, LawfulMoves, PortAllowed, PortMove, port_act, port_after, DistributorFacts, ModelCall}
 use Rattle.lagsystem.proofs.Common.{PortFacts, SystemSetup, View, at_port, cond_false, cond_true, find_at, moves_joined, moves_port, numbered_set}
 use Rattle.lagsystem.proofs.Common.{ports_set, SystemPort, model_port_of, model_view_at, number_of_port}
@@ -35,7 +35,7 @@ after_joined (m ∷ xs) ys a = after_joined xs ys (port_after m a)
 acts_joined : (p : ℕ) (xs ys : List PortMove) (a : PortFacts) → port_acts p (xs ++ ys) a ≡ port_acts p xs a
     ++ port_acts p ys (after_moves xs a)
 acts_joined p [] ys a = refl
-acts_joined p (m ∷ xs) ys a = grind (arith, nat_tests, append_assoc, acts_joined p xs ys (port_after m a))
+acts_joined p (m ∷ xs) ys a = grind (arith, nat_tests, acts_joined p xs ys (port_after m a))
 
 pub port_joined : (u : SystemSetup) (call : ModelCall) (p : ℕ) (a b c : PortFacts) (seen more : List Act) → PortMoves u call p a seen b
     → PortMoves u call p b more c → PortMoves u call p a (seen ++ more) c
@@ -46,7 +46,7 @@ port_stays u call p a b e = ([], tt, refl, e)
 
 -- at a place of the ports
 stays_there : (ports : ℕ → Option PortFacts) (p : ℕ) (a : PortFacts) → ports p ≡ Some a → (q : ℕ) → at_port ports p (λ z. a) q ≡ ports q
-stays_there ports p a h q = grind (arith, nat_tests, cases_Bool, eqb-true, cond_true, cond_false)
+stays_there ports p a h q = grind (arith, nat_tests)
 
 written : (ports : ℕ → Option PortFacts) (p : ℕ) (a : PortFacts) (f : PortFacts → PortFacts) → ports p ≡ Some a
     → at_port ports p f p ≡ Some (f a)

@@ -1,7 +1,7 @@
 -- After every call a conversation is On a port only if the port distributes in its aggregator.
 use Rattle.lagsystem.proofs.Common.{Bool, List, Option, Some, [], ap, arith, cond, filter, inl, inr, map, refl, slice_get, slice_set, subst, suc, sym}
-use Rattle.lagsystem.proofs.Common.{true, zero, ℕ, ◌∙◌, ◌∷◌, ◌≡◌, ◌⊎◌, nat_tests, AggId, Conversation, after_sending, Assignment, On}
-use Rattle.lagsystem.proofs.Common.{MaySend, is_among, SetsAssignment, after_mark, after_release, assignment_of, next_identifier, model_conversation}
+use Rattle.lagsystem.proofs.Common.{true, zero, ℕ, ◌∙◌, ◌∷◌, ◌≡◌, ◌⊎◌, nat_tests, AggId, Conversation, after_sending, Assignment, On, MaySend}
+use Rattle.lagsystem.proofs.Common.{is_among, SetsAssignment, after_mark, after_release, assignment_of, next_identifier, model_conversation}
 use Rattle.lagsystem.proofs.Common.{is_forced, is_moved, Reply, SystemPort, Call, Step, IsFirst, assignment_of_frame, aggregator_numbered}
 use Rattle.lagsystem.proofs.Common.{conversation_number, distributes_in, distributing, SendsMarkerOf, HoldsConversations, Settling, held_unless_on}
 use Rattle.lagsystem.proofs.Common.{OnlyOnDistributing, SystemState, with_table}
@@ -20,11 +20,8 @@ pub first_carried : (s : SystemState) → IsFirst s → OnlyOnDistributing s
 first_carried s h g k p e = grind (arith, nat_tests)
 
 -- step 6 leaves those that are on ports that distribute
-left_is : (ports : List ℕ) (a : Assignment) (p : ℕ) → held_unless_on ports a ≡ On p → is_among ports p ≡ true
-left_is ports a p e = grind (arith, nat_tests)
-
 leaves_carried : (old new : SystemState) → HoldsConversations old new → OnlyOnDistributing new
-leaves_carried old new h g k p e = grind (arith, nat_tests, left_is)
+leaves_carried old new h g k p e = grind (arith, nat_tests)
 
 -- the ports stay, and a conversation is where it was or on a port that distributes in its aggregator
 abbrev pub Carried : SystemState → ℕ → Assignment → ℕ → Type 0
@@ -58,8 +55,8 @@ more agg x xs = through (distributes_in agg x) x (filter (distributes_in agg) xs
 sent_distributing : (agg : AggId) (system_ports : List SystemPort) (i : ℕ) (s : SystemPort) → slice_get system_ports i ≡ Some s
     → distributing agg (slice_set system_ports i (record s { port = after_sending s.port })) ≡ distributing agg system_ports
 sent_distributing agg [] i s e = refl
-sent_distributing agg (x ∷ xs) zero s e = grind (arith, nat_tests, more)
-sent_distributing agg (x ∷ xs) (suc i) s e = grind (arith, nat_tests, more, filtered, sent_distributing agg xs i s e)
+sent_distributing agg (x ∷ xs) zero s e = grind (arith, nat_tests)
+sent_distributing agg (x ∷ xs) (suc i) s e = grind (arith, nat_tests, sent_distributing agg xs i s e)
 
 pub marker_carried : (o : Option ℕ) (port : ℕ) (mac : List ℕ) (old : SystemState) (answer : Option (List ℕ)) (new : SystemState)
     → SendsMarkerOf o port mac old answer new → OnlyOnDistributing old → OnlyOnDistributing new

@@ -1,19 +1,18 @@
 -- A call of a system has one answer and one state after it.
-use Rattle.lagsystem.proofs.Common.{Bool, Err, List, None, Ok, Option, Result, Some, [], ap, arith, cond, false, if◌then◌else◌, inl, inr}
-use Rattle.lagsystem.proofs.Common.{is_some, ltb, refl, slice_set, subst, sym, true, ℕ, ◌+◌, ◌^◌, ◌∙◌, ◌∷◌, ◌≡◌, ◌⊎◌, true≢false, nat_tests}
-use Rattle.lagsystem.proofs.Common.{none-some, same_Some, IsFalse, AggId, Lacpdu, Marker, frame_octets, one_written, PortCall, Machines}
-use Rattle.lagsystem.proofs.Common.{receive_rows, RunsToRest, after_sending, count_down, one_effect, Assignment, DistFault, Assigns}
-use Rattle.lagsystem.proofs.Common.{force_result, move_result, ChangesAssignments, Marks, after_mark}
-use Rattle.lagsystem.proofs.Common.{after_tick, marker_due, wants_marker, Table, count_conversations, next_identifier, sum_below}
-use Rattle.lagsystem.proofs.Common.{PortChange, Reply, SystemFault, NoAggregator, NoPort, FrameEffect, Answered, ProcessLacpdu, Response, Received}
-use Rattle.lagsystem.proofs.Common.{SystemPort, AlreadyConfigured, Call, ChangesParty, Configure, Force, FreesIfDown, Move_conversation}
-use Rattle.lagsystem.proofs.Common.{Offer, OnlyPortChangesBy, Performs, PortAtChangesBy, ProcessesLacpdu, Receive, ReceivesAt}
-use Rattle.lagsystem.proofs.Common.{RefusesNoPort, Releases, Restart, Set_link, SetsLink, SetsPortEnabled, Step, ThenSettles, Tick, Ticks, Transmit}
-use Rattle.lagsystem.proofs.Common.{changed_party, choice_with_link, IsFirst, ReceivesAtRest, none_enabled, AssignsPort}
-use Rattle.lagsystem.proofs.Common.{GivesOrRefuses, MayBeOfferedTo, Offers, RefusesFrame, RefusesOffer, has_aggregator, in_system}
-use Rattle.lagsystem.proofs.Common.{or_not_assigned, system_force_result, system_move_result, IsFunction, OneAnswer, OneRun, SameConversations}
-use Rattle.lagsystem.proofs.Common.{SameState, distributing, SendsMarkerOf, TransmitsAt, TransmitsIf}
-use Rattle.lagsystem.proofs.Common.{own_marker, SystemState, aggregators_value, port_index, system_port_at, with_system_ports, with_table}
+use Rattle.lagsystem.proofs.Common.{Bool, Err, List, None, Ok, Option, Result, Some, [], ap, arith, cond, false, if◌then◌else◌, inl, inr, is_some}
+use Rattle.lagsystem.proofs.Common.{ltb, refl, slice_set, subst, sym, true, ℕ, ◌+◌, ◌^◌, ◌∙◌, ◌∷◌, ◌≡◌, ◌⊎◌, true≢false, nat_tests, none-some}
+use Rattle.lagsystem.proofs.Common.{same_Some, IsFalse, AggId, Lacpdu, Marker, frame_octets, one_written, PortCall, Machines, receive_rows}
+use Rattle.lagsystem.proofs.Common.{RunsToRest, after_sending, count_down, one_effect, Assignment, DistFault, Assigns, force_result, move_result}
+use Rattle.lagsystem.proofs.Common.{ChangesAssignments, Marks, after_mark, after_tick, marker_due, wants_marker, Table, count_conversations}
+use Rattle.lagsystem.proofs.Common.{next_identifier, sum_below, PortChange, Reply, SystemFault, NoAggregator, NoPort, FrameEffect, Answered}
+use Rattle.lagsystem.proofs.Common.{ProcessLacpdu, Response, Received, SystemPort, AlreadyConfigured, Call, ChangesParty, Configure, Force}
+use Rattle.lagsystem.proofs.Common.{FreesIfDown, Move_conversation, Offer, OnlyPortChangesBy, Performs, PortAtChangesBy, ProcessesLacpdu, Receive}
+use Rattle.lagsystem.proofs.Common.{ReceivesAt, RefusesNoPort, Releases, Restart, Set_link, SetsLink, SetsPortEnabled, Step, ThenSettles, Tick, Ticks}
+use Rattle.lagsystem.proofs.Common.{Transmit, changed_party, choice_with_link, IsFirst, ReceivesAtRest, none_enabled, AssignsPort, GivesOrRefuses}
+use Rattle.lagsystem.proofs.Common.{MayBeOfferedTo, Offers, RefusesFrame, RefusesOffer, has_aggregator, in_system, or_not_assigned}
+use Rattle.lagsystem.proofs.Common.{system_force_result, system_move_result, IsFunction, OneAnswer, OneRun, SameConversations, SameState}
+use Rattle.lagsystem.proofs.Common.{distributing, SendsMarkerOf, TransmitsAt, TransmitsIf, own_marker, SystemState, aggregators_value, port_index}
+use Rattle.lagsystem.proofs.Common.{system_port_at, with_system_ports, with_table}
 use Rattle.slowpdu.specs.declared.pdu.Pdu.TheVariants as pdu
 use Rattle.lagsystem.specs.declared.drive.Reply.TheVariants as reply
 use Rattle.lagsystem.specs.Faults.{system_fault}
@@ -50,11 +49,8 @@ due_one : (t u : Table) (port : ℕ) → SameConversations t u → marker_due u 
 due_one t u port same i =
     cond (ltb 0 (count_one (wants_marker port) t u same i)) (cond (ltb (same.next i) (2 ^ 32)) (Some (same.next i)) None) None
 
-zero_more : (n : ℕ) → n ≡ n + 0
-zero_more n = omega arith
-
 each_changed : (f : Assignment → Assignment) (t a : Table) → ChangesAssignments t a f → Changed (λ g c. f) 0 t a
-each_changed f t a h = grind (arith, nat_tests, zero_more)
+each_changed f t a h = grind (arith, nat_tests)
 
 marked : (port id : ℕ) (t a : Table) → Marks t a port id → Changed (λ g c. after_mark port id) 1 t a
 marked port id t a h = record { aggs = h.aggs; conversations = h.conversations; first = h.first; next = h.next; states = h.states }
@@ -75,12 +71,12 @@ table_same s t e = ap (λ (x : SystemState). x.table) e
 
 stays : (old : SystemState) (u : Table) (new last : SystemState) → SameConversations old.table u → new ≡ old → last ≡ with_table old u
     → SameAfter new last
-stays old u new last same h k = grind (arith, nat_tests, ports_same, stayed_one, table_same)
+stays old u new last same h k = grind (arith, nat_tests)
 
 -- the ports stay, and the table changes
 tabled : (old : SystemState) (u : Table) (new last : SystemState) → new ≡ with_table old new.table
     → last ≡ with_table (with_table old u) last.table → SameConversations new.table last.table → SameAfter new last
-tabled old u new last h k same = grind (arith, nat_tests, ports_same)
+tabled old u new last h k same = grind (arith, nat_tests)
 
 no_port : (old : SystemState) (u : Table) (o : Option ℕ) (e d : SystemFault) (new last : SystemState) → SameConversations old.table u
     → RefusesNoPort o e old new → RefusesNoPort o d (with_table old u) last → (d ≡ e) × SameAfter new last

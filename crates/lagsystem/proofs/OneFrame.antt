@@ -1,6 +1,5 @@
 -- What a received frame asks for is one thing, and so is the frame that is sent.
-use Rattle.lagsystem.proofs.Common.{nat_tests}
-use Rattle.lagsystem.proofs.Common.{Bool, List, None, Option, Some, ap, arith, drop, false, length, refl, sym, true, ℕ, ◌<◌, ◌∙◌, ◌≡◌, ◌≤◌}
+use Rattle.lagsystem.proofs.Common.{Bool, List, None, Option, Some, ap, arith, drop, false, length, refl, sym, true, ℕ, ◌<◌, ◌∙◌, ◌≡◌, ◌≤◌, nat_tests}
 use Rattle.lagsystem.proofs.Common.{none-some, same_Some, Marker, Pdu, fault_of, frame_octets, response_to, ReadsPdu, no_fault, one_pdu, one_written}
 use Rattle.lagsystem.proofs.Common.{pdu_of, FrameEffect, Answered, Respond, SystemPort, AnswersMarker, Carries, Data_frame, Faulty, GivesEffect}
 use Rattle.lagsystem.proofs.Common.{IsFrame, ParsesWhere, ReceivedFrame, Runt, IsLacpduOf}

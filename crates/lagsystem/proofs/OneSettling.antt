@@ -1,11 +1,9 @@
 -- Settling is deterministic: the ports after it, and the state of each conversation.
-use Rattle.lagsystem.proofs.Common.{nat_tests}
-use Rattle.lagsystem.proofs.Common.{List, None, Option, Some, [], ap, arith, false, refl, subst, suc, sym, zero, ℕ, ◌+◌}
-use Rattle.lagsystem.proofs.Common.{◌∙◌, ◌∷◌, ◌≡◌, none-some, AllByRecursion, AggId, Machines, mux_rows, RunsPeriodic}
-use Rattle.lagsystem.proofs.Common.{RunsToRest, one_mux, one_periodic, AggregatorsValue, next_standby_index, Assignment, Table, assignment_of}
-use Rattle.lagsystem.proofs.Common.{SystemPort, PortAtChangesBy, SameConversations, aggregator_numbered, distributing, ChoosesIn, PortsChangeBy}
-use Rattle.lagsystem.proofs.Common.{PromotesAll, PromotesFirst, PromotesNext, PromotesTimes, Settling, held_unless_on, ready_of}
-use Rattle.lagsystem.proofs.Common.{SystemState, aggregators_value, views}
+use Rattle.lagsystem.proofs.Common.{List, None, Option, Some, [], ap, arith, false, refl, subst, suc, sym, zero, ℕ, ◌+◌, ◌∙◌, ◌∷◌, ◌≡◌, nat_tests}
+use Rattle.lagsystem.proofs.Common.{none-some, AllByRecursion, AggId, Machines, mux_rows, RunsPeriodic, RunsToRest, one_mux, one_periodic}
+use Rattle.lagsystem.proofs.Common.{AggregatorsValue, next_standby_index, Assignment, Table, assignment_of, SystemPort, PortAtChangesBy}
+use Rattle.lagsystem.proofs.Common.{SameConversations, aggregator_numbered, distributing, ChoosesIn, PortsChangeBy, PromotesAll, PromotesFirst}
+use Rattle.lagsystem.proofs.Common.{PromotesNext, PromotesTimes, Settling, held_unless_on, ready_of, SystemState, aggregators_value, views}
 use Rattle.lagsystem.proofs.Keeps.{ports_table, settling_in, settling_parts}
 use Rattle.lagsystem.proofs.SettlingLemmas.{RunsReady, SettlesIn}
 use Rattle.lagsystem.proofs.Rising.{all-get}
@@ -113,7 +111,7 @@ no_more n = omega arith
 
 holds : (old new : SystemState) → Settling old new
     → Changed (λ g k x. held_unless_on (distributing (aggregator_numbered g) new.system_ports) x) 0 old.table new.table
-holds old new h = grind (arith, nat_tests, settling_parts, ports_table, no_more)
+holds old new h = grind (arith, nat_tests)
 
 pub settlings_one : (s t new last : SystemState) → SameAfter s t → aggregators_value t ≡ aggregators_value s → Settling s new
     → Settling t last → SameAfter new last

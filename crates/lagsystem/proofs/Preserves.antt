@@ -1,13 +1,13 @@
 -- A walk over the calls of a system: what holds after each kind of change holds after every call.
-use Rattle.lagsystem.proofs.Common.{Bool, Err, List, None, Ok, Option, Result, Some, [], ap, arith, false, if◌then◌else◌, refl, slice_get}
-use Rattle.lagsystem.proofs.Common.{slice_set, true, ℕ, ◌&&◌, ◌++◌, ◌==◌, ◌∙◌, ◌∷◌, ◌≡◌, nat_tests, AggId, Lacpdu, frame_octets}
-use Rattle.lagsystem.proofs.Common.{HoldsNumber, IsAddress, read_field, framed_payload, after_sending, is_due, Assignment, ChangesAssignments, Marks}
-use Rattle.lagsystem.proofs.Common.{after_release, marker_due, PortChange, Reply, SystemFault, FrameEffect, Answered, ProcessLacpdu, Response}
-use Rattle.lagsystem.proofs.Common.{Received, TookLacpdu, SystemPort, Call, ChangesParty, Configure, Force, Move_conversation, Offer}
-use Rattle.lagsystem.proofs.Common.{OnlyPortChangesBy, Performs, ProcessesLacpdu, Receive, Releases, Restart, Set_link, SetsLink, Step, ThenSettles}
-use Rattle.lagsystem.proofs.Common.{Tick, Ticks, Transmit, is_own_response, IsFirst, GivesAssignment, GivesOrRefuses, Offers, system_force_result}
-use Rattle.lagsystem.proofs.Common.{system_move_result, IsLacpduOf, SendsMarkerOf, TransmitsAt, TransmitsIf, SystemState, port_index}
-use Rattle.lagsystem.proofs.Common.{with_system_ports, with_table, sends_after, subtype, tick_after}
+use Rattle.lagsystem.proofs.Common.{Bool, Err, List, None, Ok, Option, Result, Some, [], ap, arith, false, if◌then◌else◌, refl, slice_get, slice_set}
+use Rattle.lagsystem.proofs.Common.{true, ℕ, ◌&&◌, ◌++◌, ◌==◌, ◌∙◌, ◌∷◌, ◌≡◌, nat_tests, AggId, Lacpdu, frame_octets, HoldsNumber, IsAddress}
+use Rattle.lagsystem.proofs.Common.{read_field, framed_payload, after_sending, is_due, Assignment, ChangesAssignments, Marks, after_release}
+use Rattle.lagsystem.proofs.Common.{marker_due, PortChange, Reply, SystemFault, FrameEffect, Answered, ProcessLacpdu, Response, Received, TookLacpdu}
+use Rattle.lagsystem.proofs.Common.{SystemPort, Call, ChangesParty, Configure, Force, Move_conversation, Offer, OnlyPortChangesBy, Performs}
+use Rattle.lagsystem.proofs.Common.{ProcessesLacpdu, Receive, Releases, Restart, Set_link, SetsLink, Step, ThenSettles, Tick, Ticks, Transmit}
+use Rattle.lagsystem.proofs.Common.{is_own_response, IsFirst, GivesAssignment, GivesOrRefuses, Offers, system_force_result, system_move_result}
+use Rattle.lagsystem.proofs.Common.{IsLacpduOf, SendsMarkerOf, TransmitsAt, TransmitsIf, SystemState, port_index, with_system_ports, with_table}
+use Rattle.lagsystem.proofs.Common.{sends_after, subtype, tick_after}
 use Rattle.slowpdu.proofs.LayoutLemmas.{octet_stands}
 use Rattle.lagsystem.specs.declared.drive.Reply.TheVariants as reply
 
@@ -95,7 +95,7 @@ module _ (gives : ℕ → ℕ → ℕ → Type 0) (old : SystemState) (P : Call 
     transmits_if : (n i : ℕ) (x : SystemPort) (up due : Bool) (answer : Option (List ℕ)) (new : SystemState)
         → port_index n old.system_ports ≡ Some i → slice_get old.system_ports i ≡ Some x → is_due x.port ≡ due
         → TransmitsIf up due i x old answer new → P (Transmit n) (reply.Transmit (Ok answer)) new
-    transmits_if n i x false due answer new at e d h = grind (arith, nat_tests, none_silent)
+    transmits_if n i x false due answer new at e d h = grind (arith, nat_tests)
     transmits_if n i x true false answer new at e d h = marks n (marker_due old.table x.number) x.number x.mac answer new h
     transmits_if n i x true true answer new at e d h = k.ports.send n i x answer h.0 new at e d h.1 h.2 h.3
 

@@ -1,9 +1,8 @@
 -- A marker that asks whether the peer answers markers is a lawful move.
-use Rattle.lagsystem.proofs.Common.{arith, nat_tests}
-use Rattle.lagsystem.proofs.Common.{Bool, Err, List, None, Ok, Option, Result, Some, false, refl, slice_get, subst, true, ℕ, ◌≡◌}
+use Rattle.lagsystem.proofs.Common.{Bool, Err, List, None, Ok, Option, Result, Some, arith, false, refl, slice_get, subst, true, ℕ, ◌≡◌, nat_tests}
 use Rattle.lagsystem.proofs.Common.{LawfulMoves, ModelCall, next_identifier, SystemFault, SystemPort, Transmit, JoinedByLawfulMoves, model_setup}
-use Rattle.lagsystem.proofs.Common.{model_view, Probes, ProbesAt, ProbesIf, ProbesLawfully, SendsMarkerOf, IsSound, SystemState, port_index}
-use Rattle.lagsystem.proofs.Common.{with_table}
+use Rattle.lagsystem.proofs.Common.{model_view, SendsMarkerOf, IsSound, SystemState, port_index, with_table}
+use Rattle.lagsystem.specs.Probing.{Probes, ProbesAt, ProbesIf, ProbesLawfully}
 use Rattle.lagsystem.specs.declared.drive.Reply.TheVariants as reply
 use Rattle.lagsystem.proofs.OnPorts.{marker_carried}
 use Rattle.lagsystem.proofs.PromiseLemmas.{table_promise, table_sound}
@@ -25,7 +24,7 @@ record Probed (n : ℕ) (old : SystemState) (answer : Result (Option (List ℕ))
 
 silent : (n : ℕ) (old : SystemState) (answer : Option (List ℕ)) (new : SystemState) → answer ≡ None → new ≡ old → IsSound old
     → Probed n old (Ok answer) new
-silent n old answer new a e s = grind (arith, nat_tests, nothing)
+silent n old answer new a e s = grind (arith, nat_tests)
 
 marker_probed : (o : Option ℕ) (n port : ℕ) (mac : List ℕ) (old : SystemState) (answer : Option (List ℕ)) (new : SystemState)
     → next_identifier old.table ≡ o → port ≡ n → SendsMarkerOf o port mac old answer new → IsSound old → Probed n old (Ok answer) new
@@ -52,7 +51,7 @@ place_probed (Some i) n old answer new e h s = where_probed h.0.port.enabled n i
 probed : (n : ℕ) (old : SystemState) (answer : Result (Option (List ℕ)) SystemFault) (new : SystemState) → Probes n old answer new
     → IsSound old → Probed n old answer new
 probed n old (Ok answer) new h s = place_probed (port_index n old.system_ports) n old answer new refl h s
-probed n old (Err fault) new h s = grind (arith, nat_tests, nothing)
+probed n old (Err fault) new h s = grind (arith, nat_tests)
 
 pub probes_sound : (n : ℕ) (old : SystemState) (answer : Result (Option (List ℕ)) SystemFault) (new : SystemState)
     → Probes n old answer new → IsSound old → IsSound new

@@ -1,7 +1,6 @@
 -- Calls that change the conversations alone keep the invariant of a system.
-use Rattle.lagsystem.proofs.Common.{arith, nat_tests}
-use Rattle.lagsystem.proofs.Common.{List, subst, sym, ◌∙◌, ◌≡◌, Act, LawfulMoves, ModelCall, model_setup, model_view, TablePromise, IsSound}
-use Rattle.lagsystem.proofs.Common.{OnlyOnDistributing, SystemState, with_table}
+use Rattle.lagsystem.proofs.Common.{List, arith, subst, sym, ◌∙◌, ◌≡◌, nat_tests, Act, LawfulMoves, ModelCall, model_setup, model_view, TablePromise}
+use Rattle.lagsystem.proofs.Common.{IsSound, OnlyOnDistributing, SystemState, with_table}
 use Rattle.lagsystem.proofs.Sound.{agrees}
 
 pub table_sound : (old new : SystemState) → new ≡ with_table old new.table → new.table.aggs ≡ old.table.aggs

@@ -1,10 +1,9 @@
 -- The ticks until something happens are one fewer after a tick in which nothing is soon.
-use Rattle.lagsystem.proofs.Common.{Bool, List, None, Option, Some, [], ap, arith, false, if◌then◌else◌, is_some, map, refl}
-use Rattle.lagsystem.proofs.Common.{suc, true, zero, ℕ, ◌&&◌, ◌+◌, ◌-◌, ◌<◌, ◌∙◌, ◌∷◌, ◌≡◌, ◌≤◌, leb-true, lt-ltb, nat_tests, AllByRecursion}
-use Rattle.lagsystem.proofs.Common.{Machines, aged, Assignment, marker_due, Table, assignment_of, sooner, ticks_until_next_wanted}
-use Rattle.lagsystem.proofs.Common.{ticks_until_wanted, by_first, by_second, same_soonest, SystemPort, counted, fewer, waited}
-use Rattle.lagsystem.proofs.Common.{SystemState, soonest, ticks_in_window, ticks_until_due_on, ticks_until_expired, ticks_until_frame}
-use Rattle.lagsystem.proofs.Common.{ticks_until_room}
+use Rattle.lagsystem.proofs.Common.{Bool, List, None, Option, Some, [], ap, arith, false, if◌then◌else◌, is_some, map, refl, suc, true, zero, ℕ, ◌&&◌}
+use Rattle.lagsystem.proofs.Common.{◌+◌, ◌-◌, ◌<◌, ◌∙◌, ◌∷◌, ◌≡◌, ◌≤◌, leb-true, lt-ltb, nat_tests, AllByRecursion, Machines, aged, Assignment}
+use Rattle.lagsystem.proofs.Common.{marker_due, Table, assignment_of, sooner, ticks_until_next_wanted, ticks_until_wanted, by_first, by_second}
+use Rattle.lagsystem.proofs.Common.{same_soonest, SystemPort, counted, fewer, waited, SystemState, soonest, ticks_in_window, ticks_until_due_on}
+use Rattle.lagsystem.proofs.Common.{ticks_until_expired, ticks_until_frame, ticks_until_room}
 use Rattle.distributor.specs.Waiting.{soonest_below}
 use Rattle.lagsystem.proofs.QuietTicks.{Lasts, PortLasts, TableTicked, aged_on, frame_not, lasting, still_not_due, table_lasts, waits_on}
 
@@ -29,7 +28,7 @@ running : (t : ℕ) → 0 < t → ticks_until_expired t ≡ Some t
 running t l = ap (λ b. if b then Some t else None) (lt-ltb 0 t l)
 
 timer_left : (j t : ℕ) → Lasts j (ticks_until_expired t) → ticks_until_expired (t - 1) ≡ fewer 1 (ticks_until_expired t)
-timer_left j t h = grind (arith, nat_tests, lasting, running)
+timer_left j t h = grind (arith, nat_tests)
 
 -- the transmit window
 

@@ -29,7 +29,7 @@ record OneTick (j : ℕ) (old new : SystemState) : Type 0 where
 still_counted : (j : ℕ) (s : SystemState) (keys : List Key) (system_ports xs : List SystemPort) → AllByRecursion (PortLasts j s) xs
     → AllByRecursion (MuxIsSettled keys system_ports) xs → AllByRecursion (MuxIsSettled keys system_ports) (map counted xs)
 still_counted j s keys system_ports [] l h = tt
-still_counted j s keys system_ports (x ∷ xs) l h = grind (arith, nat_tests, alike_still, counted_view, still_counted j s keys system_ports xs l.1 h.1)
+still_counted j s keys system_ports (x ∷ xs) l h = grind (arith, nat_tests, still_counted j s keys system_ports xs l.1 h.1)
 
 -- what lasts so long remains after a tick
 lasts_fewer : (j : ℕ) (x : Option ℕ) → Lasts j x → Remains j (fewer 1 x)

@@ -1,14 +1,13 @@
 -- A tick in which nothing is soon.
-use Rattle.lagsystem.proofs.Common.{Bool, List, None, Option, Some, [], ap, arith, cond, false, if◌then◌else◌, inl, inr, is_some, length, ltb}
-use Rattle.lagsystem.proofs.Common.{map, nat_lt, not, refl, subst, suc, true, zero, ℕ, ◌&&◌, ◌+◌, ◌-◌, ◌<◌, ◌==◌, ◌^◌, ◌||◌, ◌∙◌, ◌∷◌, ◌≡◌, ◌≤◌}
-use Rattle.lagsystem.proofs.Common.{◌⊎◌, cases_Bool, false≢true, leb-true, lt-ltb, ltb-true, nat_tests, AllByRecursion, AggId, MuxState}
-use Rattle.lagsystem.proofs.Common.{PortTick, Machines}
-use Rattle.lagsystem.proofs.Common.{receive_rows, AtRest, Row, RunsToRest}
-use Rattle.lagsystem.proofs.Common.{aged, count_down, one_effect, Assignment, On, is_among, after_tick, marker_due, wants_marker, Table}
-use Rattle.lagsystem.proofs.Common.{assignment_of, count_conversations, sum_below, is_by, ticks_until_next_wanted, ticks_until_wanted, by_first}
-use Rattle.lagsystem.proofs.Common.{by_second, same_sum, SystemPort, would_transmit, none_enabled, PeriodicIsSettled, counted, waited}
-use Rattle.lagsystem.proofs.Common.{distributing, PortsChangeBy, held_unless_on, SystemState, selection_view, stage_of, views, soonest}
-use Rattle.lagsystem.proofs.Common.{ticks_in_window, ticks_until_due_on, ticks_until_expired, ticks_until_frame, ticks_until_room}
+use Rattle.lagsystem.proofs.Common.{Bool, List, None, Option, Some, [], ap, arith, cond, false, if◌then◌else◌, inl, inr, is_some, length, ltb, map}
+use Rattle.lagsystem.proofs.Common.{nat_lt, not, refl, subst, suc, true, zero, ℕ, ◌&&◌, ◌+◌, ◌-◌, ◌<◌, ◌==◌, ◌^◌, ◌||◌, ◌∙◌, ◌∷◌, ◌≡◌, ◌≤◌, ◌⊎◌}
+use Rattle.lagsystem.proofs.Common.{cases_Bool, false≢true, leb-true, lt-ltb, ltb-true, nat_tests, AllByRecursion, AggId, MuxState, PortTick}
+use Rattle.lagsystem.proofs.Common.{Machines, receive_rows, AtRest, Row, RunsToRest, aged, count_down, one_effect, Assignment, On, is_among}
+use Rattle.lagsystem.proofs.Common.{after_tick, marker_due, wants_marker, Table, assignment_of, count_conversations, sum_below, is_by}
+use Rattle.lagsystem.proofs.Common.{ticks_until_next_wanted, ticks_until_wanted, by_first, by_second, same_sum, SystemPort, would_transmit}
+use Rattle.lagsystem.proofs.Common.{none_enabled, PeriodicIsSettled, counted, waited, distributing, PortsChangeBy, held_unless_on, SystemState}
+use Rattle.lagsystem.proofs.Common.{selection_view, stage_of, views, soonest, ticks_in_window, ticks_until_due_on, ticks_until_expired}
+use Rattle.lagsystem.proofs.Common.{ticks_until_frame, ticks_until_room}
 use Rattle.distributor.specs.Waiting.{soonest_below}
 use Rattle.selection.specs.declared.view.Stage.{Stage}
 
@@ -28,7 +27,7 @@ pub lasting : (j t : ℕ) (b : Bool) → nat_lt 0 t ≡ b → Lasts j (if b then
 lasting j t b e h = grind (arith, nat_tests)
 
 timer_alike : (j t : ℕ) → Lasts j (ticks_until_expired t) → (t - 1 == 0) ≡ (t == 0)
-timer_alike j t h = grind (arith, nat_tests, lasting)
+timer_alike j t h = grind (arith, nat_tests)
 
 -- ---- the transmit window
 
@@ -58,7 +57,7 @@ not_second b c h = grind (arith, nat_tests)
 
 pub at_rest : (rows : List Row) (p : Machines) → none_enabled rows p ≡ true → AtRest rows p
 at_rest [] p h = tt
-at_rest (row ∷ rows) p h = grind (arith, nat_tests, not_first, not_second, at_rest rows p (not_second (row.enabled p) (none_enabled rows p) h))
+at_rest (row ∷ rows) p h = grind (arith, nat_tests, at_rest rows p (not_second (row.enabled p) (none_enabled rows p) h))
 
 rests_on : (p : Machines) → (p.current_while - 1 == 0) ≡ (p.current_while == 0) → AtRest receive_rows p → AtRest receive_rows (count_down p)
 rests_on p e h = grind (arith, nat_tests)
@@ -66,10 +65,6 @@ rests_on p e h = grind (arith, nat_tests)
 only_counts : (p q : Machines) → AtRest receive_rows p → AtRest receive_rows (count_down p) → RunsToRest receive_rows (count_down p) q
     → q ≡ count_down p
 only_counts p q old rest h = one_effect PortTick p q (count_down p) old h (0, refl, rest)
-
-paced_on : (x : SystemPort) → (x.port.periodic_timer - 1 == 0) ≡ (x.port.periodic_timer == 0) → PeriodicIsSettled x
-    → PeriodicIsSettled (counted x)
-paced_on x e h = grind (arith, nat_tests)
 
 stage_on : (m : MuxState) (w : ℕ) → (w - 1 == 0) ≡ (w == 0) → stage_of m (w - 1) ≡ stage_of m w
 stage_on m w e = grind (arith, nat_tests)
@@ -144,7 +139,7 @@ counted_ports j s (x ∷ xs) (y ∷ ys) l r h =
 
 pub counted_views : (j : ℕ) (s : SystemState) (xs : List SystemPort) → AllByRecursion (PortLasts j s) xs → views (map counted xs) ≡ views xs
 counted_views j s [] h = refl
-counted_views j s (x ∷ xs) h = grind (arith, nat_tests, view_on, timer_alike, counted_views j s xs h.1)
+counted_views j s (x ∷ xs) h = grind (arith, nat_tests, counted_views j s xs h.1)
 
 pub counted_view : (j : ℕ) (s : SystemState) (x : SystemPort) → PortLasts j s x → selection_view (counted x) ≡ selection_view x
 counted_view j s x h = view_on x (timer_alike j x.port.wait_while h.wait_while)
@@ -152,7 +147,7 @@ counted_view j s x h = view_on x (timer_alike j x.port.wait_while h.wait_while)
 pub counted_paced : (j : ℕ) (s : SystemState) (xs : List SystemPort) → AllByRecursion (PortLasts j s) xs
     → AllByRecursion PeriodicIsSettled xs → AllByRecursion PeriodicIsSettled (map counted xs)
 counted_paced j s [] l h = tt
-counted_paced j s (x ∷ xs) l h = grind (arith, nat_tests, paced_on, timer_alike, counted_paced j s xs l.1 h.1)
+counted_paced j s (x ∷ xs) l h = grind (arith, nat_tests, counted_paced j s xs l.1 h.1)
 
 -- the ports that distribute
 through : (b : Bool) (x : SystemPort) (xs : List SystemPort) → map (λ (s : SystemPort). s.number) (cond b (x ∷ xs) xs) ≡ cond b (x.number
@@ -161,7 +156,7 @@ through b x xs = grind (arith, nat_tests)
 
 pub counted_distributing : (agg : AggId) (xs : List SystemPort) → distributing agg (map counted xs) ≡ distributing agg xs
 counted_distributing agg [] = refl
-counted_distributing agg (x ∷ xs) = grind (arith, nat_tests, through, counted_distributing agg xs)
+counted_distributing agg (x ∷ xs) = grind (arith, nat_tests, counted_distributing agg xs)
 
 -- ---- conversations
 

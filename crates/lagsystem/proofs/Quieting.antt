@@ -1,13 +1,12 @@
 -- Right after a settling, another one has nothing to do; and if there is nothing to do, a settling changes nothing.
 use Rattle.lagsystem.proofs.Common.{Bool, List, None, Option, Some, [], ap, arith, cond, false, inl, inr, length, option_map, refl, slice_get}
 use Rattle.lagsystem.proofs.Common.{slice_set, subst, suc, sym, true, zero, ℕ, ◌&&◌, ◌||◌, ◌∙◌, ◌∷◌, ◌≡◌, false≢true, nat_tests, AllByRecursion}
-use Rattle.lagsystem.proofs.Common.{AllZip, list_all, AggId, Key, Choice, Selected, is_selected, is_unselected, Waiting, Machines}
-use Rattle.lagsystem.proofs.Common.{mux_rows, same_mux_state, RunsPeriodic, periodic_rows, AtRest, Fires, FiresTimes}
-use Rattle.lagsystem.proofs.Common.{Row, RunsToRest, Reaches-keeps, PortView, chosen_if_eligible, has_group_of, has_occupant, occupants}
-use Rattle.lagsystem.proofs.Common.{AggregatorsValue, is_eligible, occupies, SystemPort, MuxIsSettled, MuxesAreSettled, PeriodicIsSettled}
-use Rattle.lagsystem.proofs.Common.{PeriodicsAreSettled, NoneIsNext, PortChangesBy, PortsChangeBy, PromotesFirst, SettlesPorts, Settling}
-use Rattle.lagsystem.proofs.Common.{after_choice_at, after_choices, aggregator_for, choice_for, choice_in, ready_of, with_choice}
-use Rattle.lagsystem.proofs.Common.{SystemState, aggregators_value, port_numbers, with_system_ports, selection_view, views}
+use Rattle.lagsystem.proofs.Common.{AllZip, list_all, AggId, Key, Choice, Selected, is_selected, is_unselected, Waiting, Machines, mux_rows}
+use Rattle.lagsystem.proofs.Common.{same_mux_state, RunsPeriodic, periodic_rows, AtRest, Fires, FiresTimes, Row, RunsToRest, Reaches-keeps, PortView}
+use Rattle.lagsystem.proofs.Common.{chosen_if_eligible, has_group_of, has_occupant, occupants, AggregatorsValue, is_eligible, occupies, SystemPort}
+use Rattle.lagsystem.proofs.Common.{MuxIsSettled, MuxesAreSettled, PeriodicIsSettled, PeriodicsAreSettled, NoneIsNext, PortChangesBy, PortsChangeBy}
+use Rattle.lagsystem.proofs.Common.{PromotesFirst, SettlesPorts, Settling, after_choice_at, after_choices, aggregator_for, choice_for, choice_in}
+use Rattle.lagsystem.proofs.Common.{ready_of, with_choice, SystemState, aggregators_value, port_numbers, with_system_ports, selection_view, views}
 use Rattle.lagsystem.proofs.Keeps.{chosen_numbers, promoted_numbers, settling_in, settling_keeps, zip_numbers}
 use Rattle.lagsystem.proofs.Limiting.{nothing_promoted, settled_none}
 use Rattle.lagsystem.proofs.PromotionLemmas.{choices_keep, promotions_keep}
@@ -185,11 +184,8 @@ periodic_looks d p q h =
 periodic_rest : (p q : Machines) → RunsPeriodic p q → AtRest (mux_rows false) p → AtRest (mux_rows false) q
 periodic_rest p q h r = subst (λ (m : Machines). AtRest (mux_rows false) m) (sym (periodic_looks p p q h)) r
 
-and_twice : (b c : Bool) → (b && (b && c)) ≡ (b && c)
-and_twice b c = grind (arith, nat_tests)
-
 periodic_paced : (y z : SystemPort) → PortChangesBy RunsPeriodic y z → PeriodicIsSettled z
-periodic_paced y z h = grind (arith, nat_tests, and_twice)
+periodic_paced y z h = grind (arith, nat_tests)
 
 -- after a settling
 settled_still : (aggs : AggregatorsValue) (old new : List SystemPort) → Rises 0 (port_numbers old) → SettlesIn aggs old new

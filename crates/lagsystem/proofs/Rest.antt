@@ -1,14 +1,14 @@
 -- What holds of each port after every call: its machines are at rest.
 use Rattle.lagsystem.proofs.Common.{Bool, List, None, Option, Result, Some, [], ap, arith, false, if◌then◌else◌, not, refl, slice_get, slice_set}
 use Rattle.lagsystem.proofs.Common.{subst, sym, true, ℕ, ◌&&◌, ◌||◌, ◌∙◌, ◌∷◌, ◌≡◌, and_parts, not-true, nat_tests, AllByRecursion, AllZip, AggId}
-use Rattle.lagsystem.proofs.Common.{Choice, is_selected, Lacpdu, MuxState, Attached, CollectingDistributing, ReceiveState, Initialize}
-use Rattle.lagsystem.proofs.Common.{PortDisabled, Machines, mux_rows, partner_synchronized, same_mux_state, RunsPeriodic, periodic_rows, receive_rows}
+use Rattle.lagsystem.proofs.Common.{Choice, is_selected, Lacpdu, MuxState, Attached, CollectingDistributing, ReceiveState, Initialize, PortDisabled}
+use Rattle.lagsystem.proofs.Common.{Machines, mux_rows, partner_synchronized, same_mux_state, RunsPeriodic, periodic_rows, receive_rows}
 use Rattle.lagsystem.proofs.Common.{same_receive_state, start_receive, AtRest, Row, RunsToRest, Starts, before_start, after_sending, count_down}
-use Rattle.lagsystem.proofs.Common.{Reaches-keeps, Assignment, Reply, SystemFault, SystemPort, Call, ChangesParty, OnlyPortChangesBy}
-use Rattle.lagsystem.proofs.Common.{PortAtChangesBy, ProcessesLacpdu, SetsLink, SetsPortEnabled, Step, ThenSettles, Ticks, changed_party}
-use Rattle.lagsystem.proofs.Common.{choice_with_link, HasJustStarted, IsFirst, setup_of, PortsConsistent, ReceivesAtRest, can_receive, can_receive_in}
-use Rattle.lagsystem.proofs.Common.{mux_consistent, mux_consistent_of, none_enabled, GivesOrRefuses, Offers, SendsMarkerOf, Settling, ready_of}
-use Rattle.lagsystem.proofs.Common.{with_choice, SystemState, aggregators_value, port_index, with_system_ports, views}
+use Rattle.lagsystem.proofs.Common.{Reaches-keeps, Assignment, Reply, SystemFault, SystemPort, Call, ChangesParty, OnlyPortChangesBy, PortAtChangesBy}
+use Rattle.lagsystem.proofs.Common.{ProcessesLacpdu, SetsLink, SetsPortEnabled, Step, ThenSettles, Ticks, changed_party, choice_with_link}
+use Rattle.lagsystem.proofs.Common.{HasJustStarted, IsFirst, setup_of, PortsConsistent, ReceivesAtRest, can_receive, can_receive_in, mux_consistent}
+use Rattle.lagsystem.proofs.Common.{mux_consistent_of, none_enabled, GivesOrRefuses, Offers, SendsMarkerOf, Settling, ready_of, with_choice}
+use Rattle.lagsystem.proofs.Common.{SystemState, aggregators_value, port_index, with_system_ports, views}
 use Rattle.lagsystem.proofs.Keeps.{settling_in}
 use Rattle.lagsystem.proofs.PromotionLemmas.{KeptByChoices, choosing_keeps}
 use Rattle.lagsystem.proofs.Preserves.{Step-preserves_ports}

@@ -44,7 +44,7 @@ ports_rise s h = subst (λ ns. Rises 0 ns) (sym h.same) (accepted_rises s.keys s
 not_found : (low n : ℕ) (system_ports : List SystemPort) → Rises low (port_numbers system_ports) → n < low + 1
     → find_number number_of_port system_ports n ≡ None
 not_found low n [] r l = refl
-not_found low n (s ∷ ss) r l = grind (arith, nat_tests, cond_false, not_found s.number n ss r.1 (omega (arith, l, r.0)))
+not_found low n (s ∷ ss) r l = grind (arith, nat_tests, not_found s.number n ss r.1 (omega (arith, l, r.0)))
 
 pub are_numbered : (low : ℕ) (system_ports : List SystemPort) → Rises low (port_numbers system_ports)
     → AreNumbered number_of_port system_ports
@@ -70,7 +70,7 @@ eqb-false m n h = grind (arith, nat_tests)
 pub find_here : (low : ℕ) (system_ports : List SystemPort) (i : ℕ) (s : SystemPort) → Rises low (port_numbers system_ports)
     → slice_get system_ports i ≡ Some s → find (λ v. v.number == s.number) (views system_ports) ≡ Some (selection_view s)
 find_here low [] i s r e = cc
-find_here low (t ∷ ts) zero s r e = grind (arith, nat_tests, found, Decides-eqb)
+find_here low (t ∷ ts) zero s r e = grind (arith, nat_tests)
 find_here low (t ∷ ts) (suc i) s r e = grind (arith, nat_tests, passed, eqb-false, rises-get, find_here t.number ts i s r.1 e)
 
 -- what holds of each port

@@ -1,9 +1,8 @@
 -- What a system sends on a port.
-use Rattle.lagsystem.proofs.Common.{arith, nat_tests}
-use Rattle.lagsystem.proofs.Common.{Bool, List, None, Option, Some, ap, false, get_or, if◌then◌else◌, length, slice_get, slice_set, subst, sym}
-use Rattle.lagsystem.proofs.Common.{true, ℕ, ◌<◌, ◌∙◌, ◌≡◌, cond-true, cond_some, same_Some, slice_get-get_or, Lacpdu, frame_octets, IsAddress}
-use Rattle.lagsystem.proofs.Common.{Machines, after_sending, is_due, pdu_of, SystemPort, PortSendsLacpduIfDue, SendsLacpdu, SendsLacpduIfDue}
-use Rattle.lagsystem.proofs.Common.{SendsMarker, TransmitsAt, TransmitsIf, SystemState, port_index, with_system_ports}
+use Rattle.lagsystem.proofs.Common.{Bool, List, None, Option, Some, ap, arith, false, get_or, if◌then◌else◌, length, slice_get, slice_set, subst, sym}
+use Rattle.lagsystem.proofs.Common.{true, ℕ, ◌<◌, ◌∙◌, ◌≡◌, cond-true, nat_tests, cond_some, same_Some, slice_get-get_or, Lacpdu, frame_octets}
+use Rattle.lagsystem.proofs.Common.{IsAddress, Machines, after_sending, is_due, pdu_of, SystemPort, PortSendsLacpduIfDue, SendsLacpdu}
+use Rattle.lagsystem.proofs.Common.{SendsLacpduIfDue, SendsMarker, TransmitsAt, TransmitsIf, SystemState, port_index, with_system_ports}
 use Rattle.slowpdu.specs.Lacpdus.{Writes}
 use Rattle.lagsystem.proofs.Rising.{found_place}
 use Rattle.lagsystem.proofs.SettlingLemmas.{set_same}
@@ -15,12 +14,7 @@ pub lacpdu_sent : (max_delay : ℕ) (system_port : SystemPort) (given : Option L
     → port ≡ (if is_due system_port.port then after_sending system_port.port else system_port.port)
     → given ≡ Some pdu → IsAddress system_port.mac → Writes payload pdu → octets ≡ frame_octets system_port.mac payload
     → SendsLacpduIfDue max_delay system_port (Some octets) port
-lacpdu_sent max_delay system_port given pdu payload octets port eg ep some address writes e = grind (arith, nat_tests, cond_some, cond-true)
-
-where_lacpdu : (up due : Bool) (i : ℕ) (system_port : SystemPort) (old : SystemState) (answer : Option (List ℕ)) (new : SystemState)
-    → up ≡ true → due ≡ true
-    → SendsLacpdu i system_port old answer new → TransmitsIf up due i system_port old answer new
-where_lacpdu up due i system_port old answer new eu ed h = rw (eu, ed) h
+lacpdu_sent max_delay system_port given pdu payload octets port eg ep some address writes e = grind (arith, nat_tests)
 
 where_marker : (up due : Bool) (i : ℕ) (system_port : SystemPort) (old : SystemState) (answer : Option (List ℕ)) (new : SystemState)
     → up ≡ true → due ≡ false
@@ -32,7 +26,7 @@ pub sends_lacpdu : (s : SystemState) (place : Option ℕ) (i : ℕ) (system_port
     (olds ws news : List SystemPort) → place ≡ Some i
     → slice_get s.system_ports i ≡ Some system_port → system_port.port.enabled ≡ true → olds ≡ s.system_ports → news ≡ ws
     → PortSendsLacpduIfDue s.max_delay i (Some octets) olds ws → TransmitsAt place s (Some octets) (with_system_ports s news)
-sends_lacpdu s place i system_port octets olds ws news ep at up eo ew h = grind (arith, nat_tests, where_lacpdu)
+sends_lacpdu s place i system_port octets olds ws news ep at up eo ew h = grind (arith, nat_tests)
 
 -- the port at the place with the link up has no LACPDU to send, and so a marker goes that is due
 pub sends_marker : (s : SystemState) (number i : ℕ) (system_port second : SystemPort) (olds ws news : List SystemPort)

@@ -1,8 +1,8 @@
 -- The calls that settle: their own effect, from what its parts do, and the ports that distributed before it.
-use Rattle.lagsystem.proofs.Common.{Bool, List, Option, arith, ℕ, ◌≡◌, nat_tests, AggId, Machines, receive_rows, RunsToRest}
-use Rattle.lagsystem.proofs.Common.{count_down, Assignment, On, ChangesAssignments, after_tick, Table, assignment_of, SystemPort}
-use Rattle.lagsystem.proofs.Common.{FreesIfDown, OnlyPortChangesBy, PortAtChangesBy, SetsLink, SetsPortEnabled, Ticks, WereInUse, aggregators_in_use}
-use Rattle.lagsystem.proofs.Common.{PortsChangeBy, IsSound, SystemState, port_index, with_system_ports, with_table}
+use Rattle.lagsystem.proofs.Common.{Bool, List, Option, arith, ℕ, ◌≡◌, nat_tests, AggId, Machines, receive_rows, RunsToRest, count_down, Assignment}
+use Rattle.lagsystem.proofs.Common.{On, ChangesAssignments, after_tick, Table, assignment_of, SystemPort, FreesIfDown, OnlyPortChangesBy}
+use Rattle.lagsystem.proofs.Common.{PortAtChangesBy, SetsLink, SetsPortEnabled, Ticks, WereInUse, aggregators_in_use, PortsChangeBy, IsSound}
+use Rattle.lagsystem.proofs.Common.{SystemState, port_index, with_system_ports, with_table}
 use Rattle.lagsystem.proofs.Keeps.{Keeps, keeps_link, keeps_place, keeps_tick}
 
 -- a state of these fields, with other ports and conversations
@@ -28,7 +28,7 @@ pub tick_made : (old : SystemState) (olds ws news : List SystemPort) (t : Table)
     → PortsChangeBy (λ p q. RunsToRest receive_rows (count_down p) q) olds ws
     → ChangesAssignments old.table t after_tick
     → Ticks old (moved_on old news t)
-tick_made old olds ws news t e w f k h c = grind (arith, nat_tests, is_moved_on)
+tick_made old olds ws news t e w f k h c = grind (arith, nat_tests)
 
 pub tick_carried : (old mid : SystemState) (were : List (Option AggId)) → IsSound old → Ticks old mid
     → were ≡ aggregators_in_use old.system_ports → WereInUse were mid
@@ -39,17 +39,11 @@ frees_on : (up : Bool) (port : ℕ) (t new : Table) → FreesIfDown up port t ne
     → assignment_of t g k ≡ On p
 frees_on up port t new h g k p e = grind (arith, nat_tests)
 
-frees_first : (up : Bool) (port : ℕ) (t new : Table) → FreesIfDown up port t new → new.first ≡ t.first
-frees_first up port t new h = grind (arith, nat_tests)
-
-frees_count : (up : Bool) (port : ℕ) (t new : Table) → FreesIfDown up port t new → new.conversations ≡ t.conversations
-frees_count up port t new h = grind (arith, nat_tests)
-
 pub link_made : (n : ℕ) (up : Bool) (old : SystemState) (olds ws news : List SystemPort) (t : Table) → olds ≡ old.system_ports → news ≡ ws
     → old.first_marker ≡ old.table.first → old.conversations ≡ old.table.conversations
     → PortAtChangesBy (SetsPortEnabled old.max_links up) (port_index n olds) olds ws → FreesIfDown up n old.table t
     → SetsLink n up old (moved_on old news t)
-link_made n up old olds ws news t e w f k h c = grind (arith, nat_tests, is_moved_on, frees_first, frees_count)
+link_made n up old olds ws news t e w f k h c = grind (arith, nat_tests)
 
 pub link_carried : (n : ℕ) (up : Bool) (old mid : SystemState) (were : List (Option AggId)) → IsSound old → SetsLink n up old mid
     → were ≡ aggregators_in_use old.system_ports → WereInUse were mid

@@ -1,11 +1,11 @@
 -- What settling does, from what its loops do.
 use Rattle.lagsystem.proofs.Common.{Bool, List, None, Option, Some, [], ap, arith, cond, false, filter, if◌then◌else◌, not, option_map, refl}
-use Rattle.lagsystem.proofs.Common.{slice_get, slice_set, subst, suc, sym, true, zero, ℕ, ◌&&◌, ◌||◌, ◌∙◌, ◌∷◌, ◌≡◌, or_parts, nat_tests}
-use Rattle.lagsystem.proofs.Common.{list_all, list_any, AggId, Key, Choice, Selected, Standby, Unselected, is_selected, Machines, mux_rows}
-use Rattle.lagsystem.proofs.Common.{RunsPeriodic, RunsToRest, PortView, chosen_aggregator, ports_that_chose, AggregatorsValue}
-use Rattle.lagsystem.proofs.Common.{has_chosen, has_waited, is_detached_or_waiting, is_eligible, SystemPort, ChoosesIn, PortChangesBy, PortsChangeBy}
-use Rattle.lagsystem.proofs.Common.{SettlesPorts, after_choice_at, aggregator_for, choice_for, choice_in, is_restless, ready_of, with_choice}
-use Rattle.lagsystem.proofs.Common.{SystemState, aggregators_value, with_system_ports, selection_view, views}
+use Rattle.lagsystem.proofs.Common.{slice_get, slice_set, subst, suc, sym, true, zero, ℕ, ◌&&◌, ◌||◌, ◌∙◌, ◌∷◌, ◌≡◌, or_parts, nat_tests, list_all}
+use Rattle.lagsystem.proofs.Common.{list_any, AggId, Key, Choice, Selected, Standby, Unselected, is_selected, Machines, mux_rows, RunsPeriodic}
+use Rattle.lagsystem.proofs.Common.{RunsToRest, PortView, chosen_aggregator, ports_that_chose, AggregatorsValue, has_chosen, has_waited}
+use Rattle.lagsystem.proofs.Common.{is_detached_or_waiting, is_eligible, SystemPort, ChoosesIn, PortChangesBy, PortsChangeBy, SettlesPorts}
+use Rattle.lagsystem.proofs.Common.{after_choice_at, aggregator_for, choice_for, choice_in, is_restless, ready_of, with_choice, SystemState}
+use Rattle.lagsystem.proofs.Common.{aggregators_value, with_system_ports, selection_view, views}
 use Rattle.lagsystem.proofs.Lists.{AllZip-weaker}
 
 abbrev one_expired : List PortView → Bool

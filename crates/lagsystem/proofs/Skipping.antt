@@ -1,12 +1,11 @@
 -- An LACPDU after which the port looks the same to the Selection Logic: a settling goes on with this port alone.
-use Rattle.lagsystem.proofs.Common.{Bool, List, Option, Some, [], ap, arith, false, refl, slice_get, slice_set, subst, suc, sym}
-use Rattle.lagsystem.proofs.Common.{true, zero, ℕ, ◌∙◌, ◌∷◌, ◌≡◌, nat_tests, same_Some, OnTrue, AllByRecursion, AggId, Key, Lacpdu, Machines}
-use Rattle.lagsystem.proofs.Common.{mux_rows, RunsPeriodic, AtRest, RunsToRest, one_mux, Reaches-keeps, PortView}
-use Rattle.lagsystem.proofs.Common.{ChangesAssignments, Table, SystemPort, OnlyPortChangesBy, PortAtChangesBy, ProcessesLacpdu, ThenSettles}
-use Rattle.lagsystem.proofs.Common.{after_holding, aggregators_in_use, stopped, HasRecordedActor, IsSamePartner, LooksUnchanged, MuxIsSettled}
-use Rattle.lagsystem.proofs.Common.{MuxesAreSettled, PeriodicsAreSettled, ProcessesLacpduAt, NoneIsNext, collecting, PortChangesBy, PortsChangeBy}
-use Rattle.lagsystem.proofs.Common.{SettlesPorts, Settling, IsSound, SystemState, aggregators_value, with_system_ports, selection_view}
-use Rattle.lagsystem.proofs.Common.{stage_of, views}
+use Rattle.lagsystem.proofs.Common.{Bool, List, Option, Some, [], ap, arith, false, refl, slice_get, slice_set, subst, suc, sym, true, zero, ℕ, ◌∙◌}
+use Rattle.lagsystem.proofs.Common.{◌∷◌, ◌≡◌, nat_tests, same_Some, OnTrue, AllByRecursion, AggId, Key, Lacpdu, Machines, mux_rows, RunsPeriodic}
+use Rattle.lagsystem.proofs.Common.{AtRest, RunsToRest, one_mux, Reaches-keeps, PortView, ChangesAssignments, Table, SystemPort, OnlyPortChangesBy}
+use Rattle.lagsystem.proofs.Common.{PortAtChangesBy, ProcessesLacpdu, ThenSettles, after_holding, aggregators_in_use, stopped, HasRecordedActor}
+use Rattle.lagsystem.proofs.Common.{IsSamePartner, LooksUnchanged, MuxIsSettled, MuxesAreSettled, PeriodicsAreSettled, ProcessesLacpduAt, NoneIsNext}
+use Rattle.lagsystem.proofs.Common.{collecting, PortChangesBy, PortsChangeBy, SettlesPorts, Settling, IsSound, SystemState, aggregators_value}
+use Rattle.lagsystem.proofs.Common.{with_system_ports, selection_view, stage_of, views}
 use Rattle.selection.specs.declared.view.Stage.TheVariants as stage
 use Rattle.lagsystem.proofs.Keeps.{ports_keep, ports_table, settling_joined}
 use Rattle.lagsystem.proofs.PlaceLemmas.{in_use_before}

@@ -1,7 +1,7 @@
 -- What is told is the first of what happens.
-use Rattle.lagsystem.proofs.Common.{Bool, List, None, Option, Some, [], ap, arith, false, if◌then◌else◌, inl, inr, map, nat_lt, refl, slice_get}
-use Rattle.lagsystem.proofs.Common.{suc, sym, true, zero, ℕ, ◌&&◌, ◌+◌, ◌-◌, ◌<◌, ◌∙◌, ◌∷◌, ◌≡◌, ◌⊎◌, and_parts, false≢true, le-leb, leb-true}
-use Rattle.lagsystem.proofs.Common.{lt-ltb, nat_tests, none-some, Machines, Assignment, Flushing, Table, assignment_of, is_by, sooner}
+use Rattle.lagsystem.proofs.Common.{Bool, List, None, Option, Some, [], ap, arith, false, if◌then◌else◌, inl, inr, map, nat_lt, refl, slice_get, suc}
+use Rattle.lagsystem.proofs.Common.{sym, true, zero, ℕ, ◌&&◌, ◌+◌, ◌-◌, ◌<◌, ◌∙◌, ◌∷◌, ◌≡◌, ◌⊎◌, and_parts, false≢true, le-leb, leb-true, lt-ltb}
+use Rattle.lagsystem.proofs.Common.{nat_tests, none-some, Machines, Assignment, Flushing, Table, assignment_of, is_by, sooner}
 use Rattle.lagsystem.proofs.Common.{ticks_until_next_wanted, ticks_until_wanted, by_left, by_right, soonest_member, SystemPort, would_transmit}
 use Rattle.lagsystem.proofs.Common.{SystemState, soonest, ticks_in_window, ticks_until_due, ticks_until_due_on, ticks_until_expired}
 use Rattle.lagsystem.proofs.Common.{ticks_until_frame, ticks_until_room}
@@ -92,7 +92,7 @@ happens s n h = elim (one_of_two (ticks_until_next_wanted s.table) (soonest (map
 by_list : {X : Type 0} (f : X → Option ℕ) (xs : List X) (i : ℕ) (x : X) (y : Option ℕ) → slice_get xs i ≡ Some x → is_by (f x) y ≡ true
     → is_by (soonest (map f xs)) y ≡ true
 by_list f [] i x y e h = absurd (none-some x e)
-by_list f (w ∷ ws) zero x y e h = grind (arith, nat_tests, by_left)
+by_list f (w ∷ ws) zero x y e h = grind (arith, nat_tests)
 by_list f (w ∷ ws) (suc i) x y e h = by_right (f w) (soonest (map f ws)) y (by_list f ws i x y e h)
 
 by_below : (f : ℕ → Option ℕ) (n k : ℕ) (y : Option ℕ) → k < n → is_by (f k) y ≡ true → is_by (soonest_below f n) y ≡ true
@@ -102,7 +102,7 @@ by_number : (n : ℕ) (x : Option ℕ) → x ≡ Some n → is_by x (Some n) ≡
 by_number n x e = ap (λ y. is_by y (Some n)) e ∙ le-leb n n (omega arith)
 
 by_timer : (t n : ℕ) → 0 < n → t ≡ n → is_by (ticks_until_expired t) (Some n) ≡ true
-by_timer t n l e = grind (arith, nat_tests, by_number, lt-ltb)
+by_timer t n l e = grind (arith, nat_tests)
 
 abbrev at_once : Bool → Option ℕ
 at_once b = if b then Some zero else None

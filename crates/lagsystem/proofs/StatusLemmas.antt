@@ -2,8 +2,7 @@
 use Rattle.lagsystem.proofs.Common.{Bool, Some, arith, false, if◌then◌else◌, nat_lt, not, refl, slice_get, sym, true, ℕ, ◌&&◌, ◌≡◌, true≢false}
 use Rattle.lagsystem.proofs.Common.{nat_tests, AggId, Choice, Selected, Standby, Unselected, same_system, exact_system, MuxState, Attached}
 use Rattle.lagsystem.proofs.Common.{CollectingDistributing, ReceiveState, Current, Defaulted, Expired, Initialize, PortDisabled, is_synchronized}
-use Rattle.lagsystem.proofs.Common.{same_mux_state, SystemPort, can_receive_in}
-use Rattle.lagsystem.proofs.Common.{IsSound, SystemState, IsDistributing, Says, meaning}
+use Rattle.lagsystem.proofs.Common.{same_mux_state, SystemPort, can_receive_in, IsSound, SystemState, IsDistributing, Says, meaning}
 use Rattle.lagsystem.specs.declared.port_status.PortStatus.{PortStatus}
 use Rattle.lagsystem.specs.declared.port_status.PortStatus.TheVariants as status
 use Rattle.lagsystem.specs.PortStatus.{status_by_choice, status_by_receive}

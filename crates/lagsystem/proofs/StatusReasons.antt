@@ -228,8 +228,8 @@ any_here : (agg : AggId) (ports : List SystemPort) (i : ℕ) (x : SystemPort) �
     → has_chosen agg x.port.choice ≡ true → is_detached_or_waiting (stage_of x.port.mux x.port.wait_while) ≡ true
     → list_any still (ports_that_chose agg (views ports)) ≡ true
 any_here agg [] i x at m w = absurd (none-some x at)
-any_here agg (y ∷ ys) zero x at m w = grind (arith, nat_tests, any_of)
-any_here agg (y ∷ ys) (suc i) x at m w = grind (arith, nat_tests, any_of, any_here agg ys i x at m w)
+any_here agg (y ∷ ys) zero x at m w = grind (arith, nat_tests)
+any_here agg (y ∷ ys) (suc i) x at m w = grind (arith, nat_tests, any_here agg ys i x at m w)
 
 given_is : (agg : AggId) (c : Choice) → has_chosen agg c ≡ true → c ≡ Selected agg
 given_is agg c h = grind (arith, nat_tests)

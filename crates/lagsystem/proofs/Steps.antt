@@ -1,22 +1,21 @@
 -- Each call of a system is a list of lawful moves.
-use Rattle.lagsystem.proofs.Common.{Bool, Err, IsSome, List, None, Ok, Option, Result, Some, [], ap, append-nil, arith, cond, false}
-use Rattle.lagsystem.proofs.Common.{if◌then◌else◌, ltb, not, refl, slice_get, slice_set, subst, sym, true, ℕ, ◌&&◌, ◌<◌}
-use Rattle.lagsystem.proofs.Common.{◌^◌, ◌||◌, ◌∙◌, ◌∷◌, ◌≡◌, and_from, and_parts, Decides-eqb, nat_tests, none-some, same_Some, AggId, Choice}
-use Rattle.lagsystem.proofs.Common.{is_selected, is_standby, Lacpdu, Marker, answer_of, Act, LawfulMoves, Move, PortMove, Sends_frame, Shows, Took}
-use Rattle.lagsystem.proofs.Common.{DistributorFacts, Lacp, Message, SystemSetup, Told, Told_receive, moves_joined, CollectingDistributing, Machines}
-use Rattle.lagsystem.proofs.Common.{is_synchronized, mux_rows, partner_synchronized, same_mux_state, RunsPeriodic, receive_rows, RunsToRest}
-use Rattle.lagsystem.proofs.Common.{after_sending, count_down, pdu_of, Assignment, DistFault, force_result, move_result, ChangesAssignments}
-use Rattle.lagsystem.proofs.Common.{Marks, after_release, marker_due, wants_marker, Table, assignment_of, count_conversations, next_identifier}
-use Rattle.lagsystem.proofs.Common.{model_distributor, conversations_tick, down_moves, force_moves, mark_moves, move_moves, release_moves, send_moves}
-use Rattle.lagsystem.proofs.Common.{Reply, SystemFault, FrameEffect, Answered, ProcessLacpdu, Response, Received, Disabled}
-use Rattle.lagsystem.proofs.Common.{Dropped, Ignored, Released, Up, SystemPort, AnswersMarker, Call, Carries, ChangesParty, Configure, Data_frame}
-use Rattle.lagsystem.proofs.Common.{Faulty, Force, FreesIfDown, GivesEffect, IsFrame, Move_conversation, Offer, OnlyPortChangesBy, ParsesWhere}
-use Rattle.lagsystem.proofs.Common.{Performs, PortAtChangesBy, ProcessesLacpdu, Receive, ReceivedFrame, Releases, Restart, Runt, Set_link, SetsLink}
-use Rattle.lagsystem.proofs.Common.{SetsPortEnabled, Step, ThenSettles, Tick, Ticks, Transmit, is_own_response, up_or_dropped, CallSeenAs}
-use Rattle.lagsystem.proofs.Common.{EffectsSeenAs, JoinedByLawfulMoves, PortsConsistent, can_receive, control_message, lacp_message}
-use Rattle.lagsystem.proofs.Common.{marker_message, model_port, model_setup, model_view, model_view_at, mux_consistent, none_enabled, number_of_port}
-use Rattle.lagsystem.proofs.Common.{selected_number, OccupantsAgree, GivesOrRefuses, Offers, assignment_of_frame, in_system}
-use Rattle.lagsystem.proofs.Common.{system_force_result, system_move_result, collecting, distributing}
+use Rattle.lagsystem.proofs.Common.{Bool, Err, IsSome, List, None, Ok, Option, Result, Some, [], ap, append-nil, arith, cond, false, if◌then◌else◌}
+use Rattle.lagsystem.proofs.Common.{ltb, not, refl, slice_get, slice_set, subst, sym, true, ℕ, ◌&&◌, ◌<◌, ◌^◌, ◌||◌, ◌∙◌, ◌∷◌, ◌≡◌, and_from}
+use Rattle.lagsystem.proofs.Common.{and_parts, Decides-eqb, nat_tests, none-some, same_Some, AggId, Choice, is_selected, is_standby, Lacpdu, Marker}
+use Rattle.lagsystem.proofs.Common.{answer_of, Act, LawfulMoves, Move, PortMove, Sends_frame, Shows, Took, DistributorFacts, Lacp, Message}
+use Rattle.lagsystem.proofs.Common.{SystemSetup, Told, Told_receive, moves_joined, CollectingDistributing, Machines, is_synchronized, mux_rows}
+use Rattle.lagsystem.proofs.Common.{partner_synchronized, same_mux_state, RunsPeriodic, receive_rows, RunsToRest, after_sending, count_down, pdu_of}
+use Rattle.lagsystem.proofs.Common.{Assignment, DistFault, force_result, move_result, ChangesAssignments, Marks, after_release, marker_due}
+use Rattle.lagsystem.proofs.Common.{wants_marker, Table, assignment_of, count_conversations, next_identifier, model_distributor, conversations_tick}
+use Rattle.lagsystem.proofs.Common.{down_moves, force_moves, mark_moves, move_moves, release_moves, send_moves, Reply, SystemFault, FrameEffect}
+use Rattle.lagsystem.proofs.Common.{Answered, ProcessLacpdu, Response, Received, Disabled, Dropped, Ignored, Released, Up, SystemPort, AnswersMarker}
+use Rattle.lagsystem.proofs.Common.{Call, Carries, ChangesParty, Configure, Data_frame, Faulty, Force, FreesIfDown, GivesEffect, IsFrame}
+use Rattle.lagsystem.proofs.Common.{Move_conversation, Offer, OnlyPortChangesBy, ParsesWhere, Performs, PortAtChangesBy, ProcessesLacpdu, Receive}
+use Rattle.lagsystem.proofs.Common.{ReceivedFrame, Releases, Restart, Runt, Set_link, SetsLink, SetsPortEnabled, Step, ThenSettles, Tick, Ticks}
+use Rattle.lagsystem.proofs.Common.{Transmit, is_own_response, up_or_dropped, CallSeenAs, EffectsSeenAs, JoinedByLawfulMoves, PortsConsistent}
+use Rattle.lagsystem.proofs.Common.{can_receive, control_message, lacp_message, marker_message, model_port, model_setup, model_view, model_view_at}
+use Rattle.lagsystem.proofs.Common.{mux_consistent, none_enabled, number_of_port, selected_number, OccupantsAgree, GivesOrRefuses, Offers}
+use Rattle.lagsystem.proofs.Common.{assignment_of_frame, in_system, system_force_result, system_move_result, collecting, distributing}
 use Rattle.lagsystem.proofs.Common.{number_of_conversation, SendsLacpdu, SendsMarkerOf, TransmitsAt, TransmitsIf, own_marker, PortChangesBy}
 use Rattle.lagsystem.proofs.Common.{PortsChangeBy, SettlesPorts, Settling, ready_of, SystemState, aggregators_value, port_index, port_numbers}
 use Rattle.lagsystem.proofs.Common.{system_port_at, with_system_ports, with_table, views}
@@ -56,14 +55,8 @@ fitting : (u : SystemSetup) (s t : SystemState) → Keeps s t → Fits u s.keys 
 fitting u s t k fits = subst (λ (x : SystemState). Fits u x.keys) (sym k.frame) fits
 
 -- at rest a STANDBY port does not distribute
-carries_not : (b c s : Bool) → (b && (not c || not s)) ≡ false → c ≡ false → b ≡ false
-carries_not b c s h e = grind (arith, nat_tests)
-
-standby_not : (c : Choice) → is_standby c ≡ true → is_selected c ≡ false
-standby_not c h = grind (arith, nat_tests)
-
 rest_idle : (x y : SystemPort) → PortChangesBy (RunsToRest (mux_rows false)) x y → StandbyIsIdle y
-rest_idle x y m e = grind (arith, nat_tests, carries_not, standby_not)
+rest_idle x y m e = grind (arith, nat_tests)
 
 -- the steps of settling that look at ports alone
 ports_moves : (u : SystemSetup) (call : Told) (f : DistributorFacts) (old new : SystemState) → Fits u old.keys
@@ -371,7 +364,7 @@ marker_goes id old n port mac answer new fits p h =
 sends_marker : (o : Option ℕ) (old : SystemState) (n port : ℕ) (mac : List ℕ) (answer : Option (List ℕ)) (new : SystemState)
     → marker_due old.table port ≡ o → port ≡ n
     → SendsMarkerOf o port mac old answer new → JoinedByLawfulMoves old (Transmit n) (reply.Transmit (Ok answer)) new
-sends_marker None old n port mac answer new d p h = grind (arith, nat_tests, nothing)
+sends_marker None old n port mac answer new d p h = grind (arith, nat_tests)
 sends_marker (Some id) old n port mac answer new d p h =
     marker_goes id old n port mac answer new (below None (ltb 0 (count_conversations (wants_marker port) old.table)) old.table.next id d) p h
 
@@ -379,7 +372,7 @@ sends_where : (up due : Bool) (old : SystemState) (n i : ℕ) (system_port : Sys
     → Rises 0 (port_numbers old.system_ports) → PortsConsistent old.system_ports → port_index n old.system_ports ≡ Some i
     → slice_get old.system_ports i ≡ Some system_port
     → TransmitsIf up due i system_port old answer new → JoinedByLawfulMoves old (Transmit n) (reply.Transmit (Ok answer)) new
-sends_where false due old n i system_port answer new r rested e g h = grind (arith, nat_tests, nothing)
+sends_where false due old n i system_port answer new r rested e g h = grind (arith, nat_tests)
 sends_where true true old n i system_port answer new r rested e g h = sends_lacpdu old n i system_port answer new r rested e g h
 sends_where true false old n i system_port answer new r rested e g h =
     sends_marker (marker_due old.table system_port.number) old n system_port.number system_port.mac answer new refl

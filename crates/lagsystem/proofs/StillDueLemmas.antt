@@ -1,24 +1,17 @@
 -- Offers make no frame due, data changes nothing, and a row names what an offer answers.
-use Rattle.lagsystem.proofs.Common.{Bool, Err, List, Ok, Result, ap, arith, cond, false, is_some, nat_lt, option_map, true, ℕ, ◌&&◌}
-use Rattle.lagsystem.proofs.Common.{◌+◌, ◌<◌, ◌||◌, ◌∙◌, ◌≡◌, nat_tests, AggId, is_due, Assignment, On, DistFault, Assigns, MaySend}
-use Rattle.lagsystem.proofs.Common.{SetsAssignment, marker_due, wants_marker, Table, assignment_of, count_conversations, sum_below, SystemFault}
-use Rattle.lagsystem.proofs.Common.{SystemPort, OffersIf, TakesPort, port_on, would_transmit_at}
-use Rattle.lagsystem.proofs.Common.{GivesAssignment}
-use Rattle.lagsystem.proofs.Common.{distributing, SystemState, port_index, system_port_at, with_table}
+use Rattle.lagsystem.proofs.Common.{Bool, Err, List, Ok, Result, ap, arith, cond, false, is_some, nat_lt, option_map, true, ℕ, ◌&&◌, ◌+◌, ◌<◌, ◌||◌}
+use Rattle.lagsystem.proofs.Common.{◌∙◌, ◌≡◌, nat_tests, AggId, is_due, Assignment, On, DistFault, Assigns, MaySend, SetsAssignment, marker_due}
+use Rattle.lagsystem.proofs.Common.{wants_marker, Table, assignment_of, count_conversations, sum_below, SystemFault, SystemPort, OffersIf, TakesPort}
+use Rattle.lagsystem.proofs.Common.{port_on, would_transmit_at, GivesAssignment, distributing, SystemState, port_index, system_port_at, with_table}
 use Rattle.lagsystem.specs.declared.drive.Reply.TheVariants as reply
 use Rattle.lagsystem.specs.StillDue.{DataChangesNothing, DueAsBefore, OfferConversationMakesNoneDue, OfferMakesNoneDue, RowIsAnswer, RowIsOffer}
 use Rattle.lagsystem.proofs.Conversing.{assigned_may}
 
 -- the same marker is due on each port where the same conversations want one
 
-counted_alike : (passes : Assignment → Bool) (t u : Table) → u.aggs ≡ t.aggs → u.conversations ≡ t.conversations
-    → ((a c : ℕ) → passes (assignment_of u a c) ≡ passes (assignment_of t a c))
-    → count_conversations passes u ≡ count_conversations passes t
-counted_alike passes t u aggs many e = λ i. sum_below (λ a. sum_below (λ c. cond (e (a + 1) c i) 1 0) (many i)) (aggs i)
-
 due_alike : (t u : Table) (p : ℕ) → u.aggs ≡ t.aggs → u.conversations ≡ t.conversations → u.next ≡ t.next
     → ((a c : ℕ) → wants_marker p (assignment_of u a c) ≡ wants_marker p (assignment_of t a c)) → marker_due u p ≡ marker_due t p
-due_alike t u p aggs many next e = grind (arith, nat_tests, counted_alike)
+due_alike t u p aggs many next e = grind (arith, nat_tests)
 
 transmits_alike : (old new : SystemState) → new ≡ with_table old new.table → ((p : ℕ) → marker_due new.table p ≡ marker_due old.table p)
     → DueAsBefore old new

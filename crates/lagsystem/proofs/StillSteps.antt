@@ -1,9 +1,8 @@
 -- Every call ends in a state in which one more settling has nothing to do.
-use Rattle.lagsystem.proofs.Common.{Bool, List, Some, ap, arith, false, refl, slice_get, slice_set, subst, sym, ℕ, ◌&&◌, ◌≡◌, nat_tests}
-use Rattle.lagsystem.proofs.Common.{Machines, after_sending, Reply, SystemPort, Call, ChangesParty}
-use Rattle.lagsystem.proofs.Common.{OnlyPortChangesBy, ProcessesLacpdu, SetsLink, Step, ThenSettles, Ticks, IsFirst, MuxIsSettled, MuxesAreSettled}
-use Rattle.lagsystem.proofs.Common.{PeriodicIsSettled, PeriodicsAreSettled, NoneIsNext, HasPorts, SystemState, aggregators_value, port_index}
-use Rattle.lagsystem.proofs.Common.{port_numbers, with_system_ports, views}
+use Rattle.lagsystem.proofs.Common.{Bool, List, Some, ap, arith, false, refl, slice_get, slice_set, subst, sym, ℕ, ◌&&◌, ◌≡◌, nat_tests, Machines}
+use Rattle.lagsystem.proofs.Common.{after_sending, Reply, SystemPort, Call, ChangesParty, OnlyPortChangesBy, ProcessesLacpdu, SetsLink, Step}
+use Rattle.lagsystem.proofs.Common.{ThenSettles, Ticks, IsFirst, MuxIsSettled, MuxesAreSettled, PeriodicIsSettled, PeriodicsAreSettled, NoneIsNext}
+use Rattle.lagsystem.proofs.Common.{HasPorts, SystemState, aggregators_value, port_index, port_numbers, with_system_ports, views}
 use Rattle.lagsystem.proofs.Keeps.{Keeps, Step-frame, Step-ports, keeps_link, keeps_place, keeps_tick, settling_keeps}
 use Rattle.lagsystem.proofs.Quieting.{settling_none, settling_quiet}
 use Rattle.lagsystem.proofs.Preserves.{Step-preserves_ports}

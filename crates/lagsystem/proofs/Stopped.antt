@@ -28,14 +28,14 @@ pub none_on : (agg : AggId) (low : ℕ) (system_ports : List SystemPort) (p : �
     → on agg system_ports p ≡ false
 none_on agg low [] p r l = refl
 none_on agg low (s ∷ system_ports) p r l =
-    grind (arith, nat_tests, on_more, or_from, and_right, other, none_on agg s.number system_ports p r.1 (omega (arith, l, r.0)))
+    grind (arith, nat_tests, none_on agg s.number system_ports p r.1 (omega (arith, l, r.0)))
 
 none_stopped : (low : ℕ) (before : List (Option AggId)) (system_ports : List SystemPort) (p : ℕ) → Rises low (port_numbers system_ports)
     → p < low + 1 → stopped before system_ports p ≡ false
 none_stopped low [] system_ports p r l = refl
 none_stopped low (was ∷ before) [] p r l = refl
 none_stopped low (was ∷ before) (s ∷ system_ports) p r l =
-    grind (arith, nat_tests, or_from, other, none_stopped s.number before system_ports p r.1 (omega (arith, l, r.0)))
+    grind (arith, nat_tests, none_stopped s.number before system_ports p r.1 (omega (arith, l, r.0)))
 
 -- the port was carrying in the aggregator if it distributed in it
 given_agg : (agg : AggId) (c : Choice) (b : Bool) → (has_chosen agg c && b) ≡ true → (if b then selected_aggregator c else None) ≡ Some agg

@@ -1,6 +1,6 @@
 -- Rows that are told one after another.
-use Rattle.lagsystem.proofs.Common.{Bool, List, ap, arith, cond, get_or, inl, inr, length, nat_lt, set, subst, sym, ℕ, ◌+◌, ◌<◌}
-use Rattle.lagsystem.proofs.Common.{◌∙◌, ◌≡◌, ◌≤◌, ◌⊎◌, cases_Bool, nat_tests, get_or-set_other, get_or-set_same, length-set, TellsRows}
+use Rattle.lagsystem.proofs.Common.{Bool, List, ap, arith, cond, get_or, inl, inr, length, nat_lt, set, subst, sym, ℕ, ◌+◌, ◌<◌, ◌∙◌, ◌≡◌, ◌≤◌, ◌⊎◌}
+use Rattle.lagsystem.proofs.Common.{cases_Bool, nat_tests, get_or-set_other, get_or-set_same, length-set, TellsRows}
 use mir.Val.{bool_byte}
 use Rattle.distributor.specs.Conversations.{sum_below}
 

@@ -26,23 +26,8 @@ reaches_kept holds rows k (suc n) p q h run = fires_kept holds rows k run.0 q (r
 abbrev joined : Machines → Bool
 joined p = is_selected p.choice && is_synchronized p.mux
 
-joined_detached : (m : MuxState) (x g : Bool) → (x && is_synchronized m) ≡ true → (same_mux_state Detached m && g) ≡ true → ⊥
-joined_detached m x g h k = grind (arith, nat_tests)
-
-joined_waiting : (m : MuxState) (x g : Bool) → (x && is_synchronized m) ≡ true → (same_mux_state Waiting m && g) ≡ true → ⊥
-joined_waiting m x g h k = grind (arith, nat_tests)
-
-selected_not : (c : Choice) (a b : Bool) → (is_selected c && a) ≡ true → (b && is_unselected c) ≡ true → ⊥
-selected_not c a b h k = grind (arith, nat_tests)
-
-both_ways : (x a b : Bool) → (x && a) ≡ true → (b && not x) ≡ true → ⊥
-both_ways x a b h k = grind (arith, nat_tests)
-
-still_selected : (x y : Bool) → (x && y) ≡ true → (x && true) ≡ true
-still_selected x y h = grind (arith, nat_tests)
-
 joined_kept : KeptBy joined (mux_rows false)
-joined_kept = grind (arith, nat_tests, joined_detached, joined_waiting, both_ways, still_selected)
+joined_kept = grind (arith, nat_tests)
 
 -- a member that waits and has not waited long enough stays one without Ready
 abbrev open_of : MuxState → ℕ → Bool
@@ -51,18 +36,8 @@ open_of m w = is_detached_or_waiting (stage_of m w) && not (has_waited (stage_of
 abbrev is_open : Machines → Bool
 is_open p = is_selected p.choice && open_of p.mux p.wait_while
 
-open_attached : (m : MuxState) (w : ℕ) (x g : Bool) → (x && open_of m w) ≡ true → (same_mux_state Attached m && g) ≡ true → ⊥
-open_attached m w x g h k = grind (arith, nat_tests)
-
-open_distributing : (m : MuxState) (w : ℕ) (x g : Bool) → (x && open_of m w) ≡ true
-    → (same_mux_state CollectingDistributing m && g) ≡ true → ⊥
-open_distributing m w x g h k = grind (arith, nat_tests)
-
-not_so : (a b : Bool) → (a && (b && false)) ≡ true → ⊥
-not_so a b h = grind (arith, nat_tests)
-
 open_kept : KeptBy is_open (mux_rows false)
-open_kept = grind (arith, nat_tests, still_selected, selected_not, not_so, open_attached, open_distributing)
+open_kept = grind (arith, nat_tests)
 
 -- a member of a Ready aggregator does not stay DETACHED or WAITING
 joined_at_rest : (m : MuxState) (w : ℕ) (c : Choice) → is_selected c ≡ true → (same_mux_state Detached m && not (is_unselected c)) ≡ false

@@ -2,10 +2,10 @@
 use Rattle.lagsystem.proofs.Common.{Bool, List, None, Ok, Option, Some, [], ap, append-nil, append_assoc, arith, cond, eqb-true, false, find, get_or}
 use Rattle.lagsystem.proofs.Common.{if◌then◌else◌, length, length-append, nat_lt, option_map, refl, slice_get, slice_set, subst, suc, sym, true, zero}
 use Rattle.lagsystem.proofs.Common.{ℕ, ◌&&◌, ◌++◌, ◌+◌, ◌<◌, ◌==◌, ◌∙◌, ◌∷◌, ◌≡◌, ◌≤◌, and_parts, nat_tests, position-Some, get_or_from_slice_get}
-use Rattle.lagsystem.proofs.Common.{slice_get_past, AllByRecursion, AllZip, position_or_len, SystemId, Choice, Lacpdu, read_field, Setup}
-use Rattle.lagsystem.proofs.Common.{Machines, mux_rows, RunsPeriodic, receive_rows, RunsToRest, Starts, before_start, after_sending, aged, count_down}
-use Rattle.lagsystem.proofs.Common.{is_due, Reaches-keeps, PortChange, PortConfig, Reply, SystemPort, Call, ChangesParty, OnlyPortChangesBy}
-use Rattle.lagsystem.proofs.Common.{PortAtChangesBy, ProcessesLacpdu, SetsLink, SetsPortEnabled, Step, TableRun, ThenSettles, Transmit, changed_party}
+use Rattle.lagsystem.proofs.Common.{slice_get_past, AllByRecursion, AllZip, position_or_len, SystemId, Choice, Lacpdu, read_field, Setup, Machines}
+use Rattle.lagsystem.proofs.Common.{mux_rows, RunsPeriodic, receive_rows, RunsToRest, Starts, before_start, after_sending, aged, count_down, is_due}
+use Rattle.lagsystem.proofs.Common.{Reaches-keeps, PortChange, PortConfig, Reply, SystemPort, Call, ChangesParty, OnlyPortChangesBy, PortAtChangesBy}
+use Rattle.lagsystem.proofs.Common.{ProcessesLacpdu, SetsLink, SetsPortEnabled, Step, TableRun, ThenSettles, Transmit, changed_party}
 use Rattle.lagsystem.proofs.Common.{choice_with_link, HasJustStarted, IsFirst, setup_of, PortsChangeBy, Settling, ready_of, with_choice, SystemState}
 use Rattle.lagsystem.proofs.Common.{aggregators_value, machines_of, port_index, system_port_at, with_system_ports, views, AgesSince, AtMostThreeAges}
 use Rattle.lagsystem.proofs.Common.{EachAtMostThreeAges, StartsWithoutAges, StaysWindowed, SystemWindowLaw, WindowFromStart, remembered_sends}
@@ -79,7 +79,7 @@ at_first P Q N b x y o u here rest g = grind (arith, nat_tests)
 at_number : (P Q : Machines → Type 0) (N : Type 0) (n : ℕ) (x y : SystemPort) (o u : Option SystemPort) → y.number ≡ x.number
     → (P x.port → Q y.port) → (At P N (port_in o) → At Q N (port_in u))
     → At P N (port_in (cond (x.number == n) (Some x) o)) → At Q N (port_in (cond (y.number == n) (Some y) u))
-at_number P Q N n x y o u e here rest g = grind (arith, nat_tests, at_first)
+at_number P Q N n x y o u e here rest g = grind (arith, nat_tests)
 
 in_each : (P Q : Machines → Type 0) (N : Type 0) (R : Machines → Machines → Type 0) (n : ℕ) → ((p q : Machines) → R p q → P p → Q q)
     → (xs ys : List SystemPort) → PortsChangeBy R xs ys → In P N n xs → In Q N n ys
@@ -93,7 +93,7 @@ in_each P Q N R n move (x ∷ xs) (y ∷ ys) h g =
 in_set : (P : Machines → Type 0) (N : Type 0) (n : ℕ) (xs : List SystemPort) (i : ℕ) (s t : SystemPort) → slice_get xs i ≡ Some s
     → t.number ≡ s.number → (P s.port → P t.port) → In P N n xs → In P N n (slice_set xs i t)
 in_set P N n [] i s t e k move g = g
-in_set P N n (x ∷ xs) zero s t e k move g = grind (arith, nat_tests, at_number)
+in_set P N n (x ∷ xs) zero s t e k move g = grind (arith, nat_tests)
 in_set P N n (x ∷ xs) (suc i) s t e k move g =
     at_number P P N n x x (find (is_numbered n) xs) (find (is_numbered n) (slice_set xs i t)) refl (λ h. h)
     (in_set P N n xs i s t e k move) g

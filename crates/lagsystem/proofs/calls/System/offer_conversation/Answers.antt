@@ -1,5 +1,4 @@
-use Rattle.lagsystem.proofs.Common.{subst, sym, PicksIndexes, inner_state}
-use Rattle.lagsystem.proofs.Common.{SystemValue}
+use Rattle.lagsystem.proofs.Common.{subst, sym, PicksIndexes, inner_state, SystemValue}
 use Rattle.lagsystem.proofs.AssigningLemmas.{offers_promise, offers_sound}
 use Rattle.lagsystem.proofs.calls.System.offer_conversation.Goals as goal
 
