@@ -1,8 +1,8 @@
 -- What offer_conversation does is what `offer` does for each frame of the conversation.
-use Rattle.lagsystem.proofs.Common.{Bool, Err, List, Ok, Result, ap, arith, false, nat_lt, refl, subst, sym, true, ℕ, ◌%◌, ◌*◌, ◌+◌, ◌/◌, ◌<◌, ◌∙◌}
-use Rattle.lagsystem.proofs.Common.{◌≡◌, nat_tests, AllByRecursion, bit_xor, AggId, On, assignment_of, is_conversation_count, SystemFault}
-use Rattle.lagsystem.proofs.Common.{OffersConversation, OffersIf, TakesPort, frame_of_conversation, Offer, MayBeOffered, Offers, has_aggregator}
-use Rattle.lagsystem.proofs.Common.{conversation_count, distributing, number_of_conversation, CallPromise, IsSound, SystemState}
+use Rattle.lagsystem.proofs.Common.{Bool, Err, List, Ok, Result, ap, arith, false, refl, subst, sym, true, ℕ, ◌%◌, ◌*◌, ◌+◌, ◌/◌, ◌<◌, ◌∙◌, ◌≡◌}
+use Rattle.lagsystem.proofs.Common.{nat_tests, AllByRecursion, bit_xor, AggId, On, assignment_of, is_conversation_count, SystemFault}
+use Rattle.lagsystem.proofs.Common.{OffersConversation, OffersIf, TakesPort, frame_of_conversation, Offer, MayBeOffered, Offers, conversation_count}
+use Rattle.lagsystem.proofs.Common.{distributing, number_of_conversation, CallPromise, IsSound, SystemState}
 use Rattle.lagsystem.specs.Offers.{longest_frame}
 use Rattle.std.proofs.Math.Nat.{mod-eq_of_lt}
 use Rattle.std.specs.Int.Bits.{xor_zero_r}

@@ -5,7 +5,7 @@ pub use Rattle.std.proofs.Common.{is_some, length, length-append, length-drop, l
 pub use Rattle.std.proofs.Common.{set, slice_get, slice_index, slice_set, subst, suc, sym, take, take_all, true, vec_capacity, vec_len, zero, ℕ, ◌%◌}
 pub use Rattle.std.proofs.Common.{◌&&◌, ◌*◌, ◌++◌, ◌+◌, ◌-◌, ◌/◌, ◌<◌, ◌==◌, ◌^◌, ◌||◌, ◌∙◌, ◌∷◌, ◌≡◌, ◌≢◌, ◌≤◌, ◌⊎◌}
 pub use Rattle.std.proofs.lemmas.Bool.{OnFalse_at, OnFalse_from, OnTrue_at, and_from, and_left, and_parts, and_right, cases_Bool, cases_eq, cases_lt}
-pub use Rattle.std.proofs.lemmas.Bool.{cond-true, false≢true, le-leb, leb-true, lt-leb, lt-ltb, ltb-true, not-false, not-true, not_from_true, or_from}
+pub use Rattle.std.proofs.lemmas.Bool.{cond-true, false≢true, le-leb, leb-true, lt-leb, lt-ltb, ltb-true, not-false, not-true, not_from_true}
 pub use Rattle.std.proofs.lemmas.Bool.{or_parts, true≢false}
 pub use Rattle.std.proofs.lemmas.Bool.Decides.{Decides-eqb, nat_tests}
 pub use Rattle.std.proofs.lemmas.List.{get_or-map, get_or-replicate, get_or-set_other, get_or-set_same, get_or_past, length-map, length-set}
@@ -13,7 +13,7 @@ pub use Rattle.std.proofs.lemmas.List.{length-take-le, map-append, take_more, wi
 pub use Rattle.std.proofs.lemmas.List.Folds.{list_any_none}
 pub use Rattle.std.proofs.lemmas.List.Quantifiers.{position-Some}
 pub use Rattle.std.proofs.lemmas.List.Sums.{fails_before_first, position_or_len_is}
-pub use Rattle.std.proofs.lemmas.Option.{cond_some, get_or_from_slice_get, none-some, same_Some, slice_get-get_or, slice_get_past}
+pub use Rattle.std.proofs.lemmas.Option.{get_or_from_slice_get, none-some, same_Some, slice_get-get_or, slice_get_past}
 pub use Rattle.std.specs.Bool.{IsFalse, OnFalse, OnTrue}
 pub use Rattle.std.specs.List.{AllByRecursion, AllZip, enumerate_from, list_all, list_any, position_or_len}
 pub use Rattle.std.specs.List.Sorted.{IsStrictlyIncreasing}
@@ -27,7 +27,7 @@ pub use Rattle.lagtypes.specs.declared.party.Choice.TheVariants.{Selected, Stand
 pub use Rattle.lagtypes.specs.declared.party.Party.{Party}
 pub use Rattle.lagtypes.specs.declared.state.StateBits.{StateBits}
 pub use Rattle.lagtypes.specs.Choices.{is_selected, is_standby, is_unselected}
-pub use Rattle.lagtypes.specs.Group.{SamePair, individual, pair_of}
+pub use Rattle.lagtypes.specs.Group.{SamePair, individual}
 pub use Rattle.lagtypes.specs.Same.{same_party, same_system}
 pub use Rattle.lagtypes.specs.States.{bits_of, with_synchronization, with_timeout}
 pub use Rattle.lagtypes.proofs.SameLemmas.{exact_party, exact_system, itself}

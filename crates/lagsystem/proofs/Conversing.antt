@@ -1,10 +1,10 @@
 -- Each call changes the conversations of a system by lawful moves of the model.
 use Rattle.lagsystem.proofs.Common.{Bool, Err, IsSomeAnd, List, None, Ok, Option, Result, Some, [], ap, arith, eq-eqb, eqb, eqb-true, false}
 use Rattle.lagsystem.proofs.Common.{if◌then◌else◌, inl, inr, option_map, refl, slice_get, subst, suc, sym, true, zero, ℕ, ◌&&◌, ◌∙◌, ◌∷◌, ◌≡◌}
-use Rattle.lagsystem.proofs.Common.{and_parts, cases_Bool, false≢true, nat_tests, none-some, AggId, Choice, find_number, Act, ConversationMove}
-use Rattle.lagsystem.proofs.Common.{Distributes, DistributorMoves, LawfulMoves, PortFacts, SystemSetup, Told, cond_false, cond_true, flows_weaker}
-use Rattle.lagsystem.proofs.Common.{moves_flows, MuxState, CollectingDistributing, partner_synchronized, same_mux_state, selected, has_chosen}
-use Rattle.lagsystem.proofs.Common.{Assignment, Flushing, Free, On, Wanted, DistFault, Assigns, MaySend, PicksPort, is_among, Table, NoneDistributes}
+use Rattle.lagsystem.proofs.Common.{cases_Bool, false≢true, nat_tests, none-some, AggId, Choice, find_number, Act, ConversationMove, Distributes}
+use Rattle.lagsystem.proofs.Common.{DistributorMoves, LawfulMoves, PortFacts, SystemSetup, Told, cond_false, cond_true, flows_weaker, moves_flows}
+use Rattle.lagsystem.proofs.Common.{MuxState, CollectingDistributing, partner_synchronized, same_mux_state, selected, has_chosen, Assignment}
+use Rattle.lagsystem.proofs.Common.{Flushing, Free, On, Wanted, DistFault, Assigns, MaySend, PicksPort, is_among, Table, NoneDistributes}
 use Rattle.lagsystem.proofs.Common.{OnlyListedDistribute, model_distributor, Makes, each_moves, SystemPort, MuxesConsistent, model_port_of}
 use Rattle.lagsystem.proofs.Common.{model_view, model_view_at, mux_consistent_of, number_of_port, selected_number, aggregator_numbered}
 use Rattle.lagsystem.proofs.Common.{distributes_in, distributing, HoldsConversations, held_unless_on, SystemState, port_numbers}

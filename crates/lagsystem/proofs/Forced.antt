@@ -1,9 +1,9 @@
 -- To force what is held on a port frees just that, and counts it.
-use Rattle.lagsystem.proofs.Common.{Bool, Err, Ok, Result, ap, arith, cond, eqb, eqb-true, false, if◌then◌else◌, inl, inr, length, nat_lt, suc, true}
-use Rattle.lagsystem.proofs.Common.{zero, ℕ, ◌&&◌, ◌+◌, ◌<◌, ◌∙◌, ◌≡◌, ◌≤◌, ◌⊎◌, and_parts, cases_Bool, nat_tests, AggId, itself, Assignment}
-use Rattle.lagsystem.proofs.Common.{DistFault, force_result, is_held_on, Table, assignment_of, same_sum, SystemFault, NoAggregator, ForcesFirst}
-use Rattle.lagsystem.proofs.Common.{ForcesIfHeld, ForcesIn, ForcesPort, FreesHeld, NoneIsHeldOn, after_forcing, count_held_on, GivesAssignment}
-use Rattle.lagsystem.proofs.Common.{GivesOrRefuses, in_system, IsSound, SystemState, with_table}
+use Rattle.lagsystem.proofs.Common.{Bool, Err, Ok, Result, ap, arith, cond, eqb, false, if◌then◌else◌, inl, inr, length, nat_lt, suc, true, zero, ℕ}
+use Rattle.lagsystem.proofs.Common.{◌&&◌, ◌+◌, ◌<◌, ◌∙◌, ◌≡◌, ◌≤◌, ◌⊎◌, cases_Bool, nat_tests, AggId, itself, Assignment, DistFault, force_result}
+use Rattle.lagsystem.proofs.Common.{is_held_on, Table, assignment_of, same_sum, SystemFault, NoAggregator, ForcesFirst, ForcesIfHeld, ForcesIn}
+use Rattle.lagsystem.proofs.Common.{ForcesPort, FreesHeld, NoneIsHeldOn, after_forcing, count_held_on, GivesAssignment, GivesOrRefuses, in_system}
+use Rattle.lagsystem.proofs.Common.{IsSound, SystemState, with_table}
 use Rattle.distributor.specs.Conversations.{sum_below}
 use Rattle.distributor.specs.declared.fault.DistFault.TheVariants as dist
 

@@ -1,9 +1,7 @@
 -- Conversations leave stopped ports, one port after another.
-use Rattle.lagsystem.proofs.Common.{Bool, List, None, Option, Some, [], add-one, ap, arith, false, get_or, if◌then◌else◌, length, not, refl}
-use Rattle.lagsystem.proofs.Common.{slice_set, suc, take, true, zero, ℕ, ◌&&◌, ◌+◌, ◌<◌, ◌==◌, ◌||◌, ◌∙◌, ◌∷◌, ◌≡◌, nat_tests, AggId, Choice}
-use Rattle.lagsystem.proofs.Common.{CollectingDistributing, same_mux_state, has_chosen, Assignment, ChangesAssignments, after_leave, Table}
-use Rattle.lagsystem.proofs.Common.{assignment_of, SystemPort, after_holding, aggregators_in_use, has_stopped, stopped, collecting}
-use Rattle.lagsystem.proofs.Common.{selected_aggregator}
+use Rattle.lagsystem.proofs.Common.{Bool, List, Option, [], add-one, ap, arith, false, get_or, length, refl, slice_set, suc, take, true, zero, ℕ}
+use Rattle.lagsystem.proofs.Common.{◌&&◌, ◌+◌, ◌<◌, ◌==◌, ◌||◌, ◌∙◌, ◌∷◌, ◌≡◌, nat_tests, AggId, Assignment, ChangesAssignments, after_leave, Table}
+use Rattle.lagsystem.proofs.Common.{assignment_of, SystemPort, after_holding, aggregators_in_use, has_stopped, stopped}
 use Rattle.std.proofs.Math.Bool.{and-true}
 
 -- the port s left, if it is the one with the number p

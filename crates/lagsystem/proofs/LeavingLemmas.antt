@@ -8,7 +8,7 @@ use Rattle.lagsystem.proofs.Conversing.{table_moves}
 use Rattle.lagsystem.proofs.OnPorts.{not_on, sets_carried}
 use Rattle.lagsystem.proofs.PromiseLemmas.{table_promise, table_sound}
 use Rattle.lagsystem.proofs.Sound.{Step-sound, answers}
-use Rattle.lagsystem.proofs.Steps.{if_ok, known_ok, table_moved}
+use Rattle.lagsystem.proofs.Steps.{table_moved}
 
 abbrev TableStays : SystemState → SystemState → Type 0
 TableStays old new = new ≡ with_table old new.table

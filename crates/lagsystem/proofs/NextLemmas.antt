@@ -1,7 +1,7 @@
 -- What promoting the STANDBY port that comes next does.
 use Rattle.lagsystem.proofs.Common.{Bool, List, None, Option, Some, [], ap, arith, cond, false, filter, length, not, refl, slice_get, slice_set}
-use Rattle.lagsystem.proofs.Common.{subst, suc, sym, true, zero, ℕ, ◌+◌, ◌<◌, ◌||◌, ◌∙◌, ◌∷◌, ◌≡◌, ◌≤◌, cases_eq, false≢true, or_parts, nat_tests}
-use Rattle.lagsystem.proofs.Common.{none-some, same_Some, list_any, AggId, Choice, Selected, Standby, is_selected, is_standby, itself, PortView}
+use Rattle.lagsystem.proofs.Common.{subst, suc, sym, true, zero, ℕ, ◌+◌, ◌<◌, ◌||◌, ◌∙◌, ◌∷◌, ◌≡◌, ◌≤◌, false≢true, or_parts, nat_tests, none-some}
+use Rattle.lagsystem.proofs.Common.{same_Some, list_any, AggId, Choice, Selected, Standby, is_selected, is_standby, itself, PortView}
 use Rattle.lagsystem.proofs.Common.{ports_that_chose, AggregatorsValue, has_room, is_below, next_standby_index, has_chosen, stands_by, is_next}
 use Rattle.lagsystem.proofs.Common.{SystemPort, count_standby, aggregator_numbered, PromotesAll, PromotesFirst, PromotesNext, with_choice}
 use Rattle.lagsystem.proofs.Common.{selection_view, views}

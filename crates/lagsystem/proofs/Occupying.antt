@@ -2,12 +2,12 @@
 use Rattle.lagsystem.proofs.Common.{All, Bool, List, None, Option, Some, [], ap, arith, false, if◌then◌else◌, inl, inr, refl, slice_get, slice_set}
 use Rattle.lagsystem.proofs.Common.{subst, suc, sym, true, zero, ℕ, ◌-◌, ◌<◌, ◌∙◌, ◌∷◌, ◌≡◌, ◌≢◌, ◌⊎◌, nat_tests, none-some, same_Some}
 use Rattle.lagsystem.proofs.Common.{AllByRecursion, AggId, Key, Choice, Selected, Standby, Unselected, Party, StateBits, SamePair, individual}
-use Rattle.lagsystem.proofs.Common.{pair_of, same_party, bits_of, with_synchronization, with_timeout, exact_party, encode_then_decode, Info, Lacpdu}
-use Rattle.lagsystem.proofs.Common.{party_of, group_sym, individual_along, Machines, mux_rows, RunsPeriodic, periodic_rows, default_partner}
-use Rattle.lagsystem.proofs.Common.{lacpdu_rows, receive_rows, recorded_synchronization, start_receive, Row, RunsToRest, Starts, after_sending}
-use Rattle.lagsystem.proofs.Common.{count_down, EachRelates, Fires-relates, Rests-relates, Seen, IsOccupant, MayJoin, ends, PortChange, SystemPort}
-use Rattle.lagsystem.proofs.Common.{ChangesParty, PortAtChangesBy, ProcessesLacpdu, SetsPortEnabled, changed_party, choice_with_link, key_of}
-use Rattle.lagsystem.proofs.Common.{OccupantsAgree, occupied, PortsChangeBy, with_choice, selection_view, views}
+use Rattle.lagsystem.proofs.Common.{same_party, bits_of, with_synchronization, with_timeout, exact_party, encode_then_decode, Info, Lacpdu, party_of}
+use Rattle.lagsystem.proofs.Common.{group_sym, individual_along, Machines, mux_rows, RunsPeriodic, periodic_rows, default_partner, lacpdu_rows}
+use Rattle.lagsystem.proofs.Common.{receive_rows, recorded_synchronization, start_receive, Row, RunsToRest, Starts, after_sending, count_down}
+use Rattle.lagsystem.proofs.Common.{EachRelates, Fires-relates, Rests-relates, Seen, IsOccupant, MayJoin, ends, PortChange, SystemPort, ChangesParty}
+use Rattle.lagsystem.proofs.Common.{PortAtChangesBy, ProcessesLacpdu, SetsPortEnabled, changed_party, choice_with_link, key_of, OccupantsAgree}
+use Rattle.lagsystem.proofs.Common.{occupied, PortsChangeBy, with_choice, selection_view, views}
 use Rattle.lagsystem.proofs.Effects.{named}
 
 -- a port that becomes UNSELECTED, or keeps Selected and both parties

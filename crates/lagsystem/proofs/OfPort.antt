@@ -1,9 +1,9 @@
 -- Moves of one port, whatever the other ports are, and moves of each port of a list.
-use Rattle.lagsystem.proofs.Common.{Bool, List, Option, Some, [], ap, append_assoc, arith, cond, eq-eqb, eqb, eqb-true, length, option_map, refl}
-use Rattle.lagsystem.proofs.Common.{slice_get, slice_set, subst, sym, ℕ, ◌++◌, ◌∙◌, ◌∷◌, ◌≡◌, cases_Bool, nat_tests, AllZip, option_to_list}
-use Rattle.lagsystem.proofs.Common.{AreNumbered, Act, LawfulMoves, PortAllowed, PortMove, port_act, port_after, DistributorFacts, ModelCall}
-use Rattle.lagsystem.proofs.Common.{PortFacts, SystemSetup, View, at_port, cond_false, cond_true, find_at, moves_joined, moves_port, numbered_set}
-use Rattle.lagsystem.proofs.Common.{ports_set, SystemPort, model_port_of, model_view_at, number_of_port}
+use Rattle.lagsystem.proofs.Common.{Bool, List, Option, Some, [], ap, append_assoc, arith, cond, eq-eqb, eqb, length, option_map, refl, slice_get}
+use Rattle.lagsystem.proofs.Common.{slice_set, subst, sym, ℕ, ◌++◌, ◌∙◌, ◌∷◌, ◌≡◌, nat_tests, AllZip, option_to_list, AreNumbered, Act, LawfulMoves}
+use Rattle.lagsystem.proofs.Common.{PortAllowed, PortMove, port_act, port_after, DistributorFacts, ModelCall, PortFacts, SystemSetup, View, at_port}
+use Rattle.lagsystem.proofs.Common.{cond_true, find_at, moves_joined, moves_port, numbered_set, ports_set, SystemPort, model_port_of, model_view_at}
+use Rattle.lagsystem.proofs.Common.{number_of_port}
 
 abbrev pub AllPortAllowed : SystemSetup → ModelCall → ℕ → List PortMove → PortFacts → Type 0
 AllPortAllowed u call p [] a = Unit {0}

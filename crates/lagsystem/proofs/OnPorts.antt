@@ -3,7 +3,7 @@ use Rattle.lagsystem.proofs.Common.{Bool, List, Option, Some, [], ap, arith, con
 use Rattle.lagsystem.proofs.Common.{true, zero, ℕ, ◌∙◌, ◌∷◌, ◌≡◌, ◌⊎◌, nat_tests, AggId, Conversation, after_sending, Assignment, On, MaySend}
 use Rattle.lagsystem.proofs.Common.{is_among, SetsAssignment, after_mark, after_release, assignment_of, next_identifier, model_conversation}
 use Rattle.lagsystem.proofs.Common.{is_forced, is_moved, Reply, SystemPort, Call, Step, IsFirst, assignment_of_frame, aggregator_numbered}
-use Rattle.lagsystem.proofs.Common.{conversation_number, distributes_in, distributing, SendsMarkerOf, HoldsConversations, Settling, held_unless_on}
+use Rattle.lagsystem.proofs.Common.{conversation_number, distributes_in, distributing, SendsMarkerOf, HoldsConversations, Settling}
 use Rattle.lagsystem.proofs.Common.{OnlyOnDistributing, SystemState, with_table}
 use Rattle.lagsystem.proofs.Conversing.{assigned_may}
 use Rattle.lagsystem.proofs.Keeps.{settling_parts}

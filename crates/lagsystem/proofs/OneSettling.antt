@@ -4,7 +4,7 @@ use Rattle.lagsystem.proofs.Common.{none-some, AllByRecursion, AggId, Machines, 
 use Rattle.lagsystem.proofs.Common.{AggregatorsValue, next_standby_index, Assignment, Table, assignment_of, SystemPort, PortAtChangesBy}
 use Rattle.lagsystem.proofs.Common.{SameConversations, aggregator_numbered, distributing, ChoosesIn, PortsChangeBy, PromotesAll, PromotesFirst}
 use Rattle.lagsystem.proofs.Common.{PromotesNext, PromotesTimes, Settling, held_unless_on, ready_of, SystemState, aggregators_value, views}
-use Rattle.lagsystem.proofs.Keeps.{ports_table, settling_in, settling_parts}
+use Rattle.lagsystem.proofs.Keeps.{settling_in}
 use Rattle.lagsystem.proofs.SettlingLemmas.{RunsReady, SettlesIn}
 use Rattle.lagsystem.proofs.Rising.{all-get}
 

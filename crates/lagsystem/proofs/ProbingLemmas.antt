@@ -7,7 +7,7 @@ use Rattle.lagsystem.specs.declared.drive.Reply.TheVariants as reply
 use Rattle.lagsystem.proofs.OnPorts.{marker_carried}
 use Rattle.lagsystem.proofs.PromiseLemmas.{table_promise, table_sound}
 use Rattle.lagsystem.proofs.Rising.{found_place}
-use Rattle.lagsystem.proofs.Steps.{below, marker_goes, nothing}
+use Rattle.lagsystem.proofs.Steps.{below, marker_goes}
 
 -- the marker of the port at the place with the link up is a probe
 pub probes_marker : (s : SystemState) (number i : ℕ) (system_port second : SystemPort) (answer : Option (List ℕ)) (new : SystemState)

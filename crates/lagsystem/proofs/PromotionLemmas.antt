@@ -1,7 +1,7 @@
 -- Step 2 of settling keeps what each value of Selected keeps that a port gets.
 use Rattle.lagsystem.proofs.Common.{List, Option, Some, arith, length, slice_get, slice_set, subst, suc, sym, zero, ℕ, ◌≡◌, nat_tests, AggId, Choice}
 use Rattle.lagsystem.proofs.Common.{Selected, AggregatorsValue, SystemPort, aggregator_numbered, ChoosesIn, PromotesAll, PromotesFirst, PromotesNext}
-use Rattle.lagsystem.proofs.Common.{PromotesTimes, after_choice_at, after_choices, choice_for, with_choice}
+use Rattle.lagsystem.proofs.Common.{PromotesTimes, after_choices, choice_for, with_choice}
 
 -- what each promotion keeps, all promotions keep
 times_keep : (aggs : AggregatorsValue) (agg : AggId) (P : List SystemPort → Type 0)

@@ -5,7 +5,7 @@ use Rattle.lagsystem.proofs.Common.{marker_due, Table, assignment_of, sooner, ti
 use Rattle.lagsystem.proofs.Common.{same_soonest, SystemPort, counted, fewer, waited, SystemState, soonest, ticks_in_window, ticks_until_due_on}
 use Rattle.lagsystem.proofs.Common.{ticks_until_expired, ticks_until_frame, ticks_until_room}
 use Rattle.distributor.specs.Waiting.{soonest_below}
-use Rattle.lagsystem.proofs.QuietTicks.{Lasts, PortLasts, TableTicked, aged_on, frame_not, lasting, still_not_due, table_lasts, waits_on}
+use Rattle.lagsystem.proofs.QuietTicks.{Lasts, PortLasts, TableTicked, aged_on, frame_not, still_not_due, table_lasts, waits_on}
 
 -- numbers of ticks
 

@@ -13,9 +13,9 @@ use Rattle.lagsystem.proofs.OneSettling.{SameAfter, settlings_one}
 use Rattle.lagsystem.proofs.QuietLeft.{each_left, fewer_sooner, fewer_twice, none_fewer, table_left}
 use Rattle.lagsystem.proofs.Quieting.{paced_runs, still_settles}
 use Rattle.lagsystem.proofs.QuietTicks.{Lasts, PortLasts, Remains, TableTicked, carried_on, counted_distributing, counted_paced, counted_ports}
-use Rattle.lagsystem.proofs.QuietTicks.{counted_view, counted_views, each_lasts, frame_not, on_before, same_marker, table_lasts, waits_on}
+use Rattle.lagsystem.proofs.QuietTicks.{counted_views, each_lasts, frame_not, on_before, same_marker, table_lasts, waits_on}
 use Rattle.lagsystem.proofs.Rising.{all-get}
-use Rattle.lagsystem.proofs.Skipping.{alike_still, all_among}
+use Rattle.lagsystem.proofs.Skipping.{all_among}
 use Rattle.lagsystem.proofs.Sound.{Step-sound}
 
 -- what a tick does in which nothing is soon

@@ -1,10 +1,9 @@
 -- Ports in ascending order of their numbers.
 use Rattle.lagsystem.proofs.Common.{Bool, List, None, Option, Some, [], arith, cond, eqb, eqb-true, false, find, if◌then◌else◌, inl, inr, nat_lt}
-use Rattle.lagsystem.proofs.Common.{refl, slice_get, slice_set, subst, suc, sym, true, zero, ℕ, ◌+◌, ◌<◌, ◌==◌, ◌∷◌, ◌≡◌, Decides-eqb, nat_tests}
-use Rattle.lagsystem.proofs.Common.{position-Some, get_or_from_slice_get, none-some, same_Some, AllByRecursion, Key, AreNumbered, find_number}
-use Rattle.lagsystem.proofs.Common.{cond_false, whichever, PortView, is_conversation_count, PortConfig, BadConfig, SystemPort, configured_numbers}
-use Rattle.lagsystem.proofs.Common.{first_bad_port_number, refusal, refusal_of_limits, number_of_port, HasPorts, SystemState, port_index}
-use Rattle.lagsystem.proofs.Common.{port_numbers, selection_view, views}
+use Rattle.lagsystem.proofs.Common.{refl, slice_get, slice_set, subst, suc, sym, true, zero, ℕ, ◌+◌, ◌<◌, ◌==◌, ◌∷◌, ◌≡◌, nat_tests, position-Some}
+use Rattle.lagsystem.proofs.Common.{get_or_from_slice_get, none-some, same_Some, AllByRecursion, Key, AreNumbered, find_number, whichever, PortView}
+use Rattle.lagsystem.proofs.Common.{is_conversation_count, PortConfig, BadConfig, SystemPort, configured_numbers, first_bad_port_number, refusal}
+use Rattle.lagsystem.proofs.Common.{refusal_of_limits, number_of_port, HasPorts, SystemState, port_index, port_numbers, selection_view, views}
 
 -- each number is above the one before it
 abbrev pub Rises : ℕ → List ℕ → Type 0

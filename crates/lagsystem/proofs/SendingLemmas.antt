@@ -1,8 +1,8 @@
 -- What a system sends on a port.
 use Rattle.lagsystem.proofs.Common.{Bool, List, None, Option, Some, ap, arith, false, get_or, if◌then◌else◌, length, slice_get, slice_set, subst, sym}
-use Rattle.lagsystem.proofs.Common.{true, ℕ, ◌<◌, ◌∙◌, ◌≡◌, cond-true, nat_tests, cond_some, same_Some, slice_get-get_or, Lacpdu, frame_octets}
-use Rattle.lagsystem.proofs.Common.{IsAddress, Machines, after_sending, is_due, pdu_of, SystemPort, PortSendsLacpduIfDue, SendsLacpdu}
-use Rattle.lagsystem.proofs.Common.{SendsLacpduIfDue, SendsMarker, TransmitsAt, TransmitsIf, SystemState, port_index, with_system_ports}
+use Rattle.lagsystem.proofs.Common.{true, ℕ, ◌<◌, ◌∙◌, ◌≡◌, nat_tests, same_Some, slice_get-get_or, Lacpdu, frame_octets, IsAddress, Machines}
+use Rattle.lagsystem.proofs.Common.{after_sending, is_due, pdu_of, SystemPort, PortSendsLacpduIfDue, SendsLacpduIfDue, SendsMarker, TransmitsAt}
+use Rattle.lagsystem.proofs.Common.{TransmitsIf, SystemState, port_index, with_system_ports}
 use Rattle.slowpdu.specs.Lacpdus.{Writes}
 use Rattle.lagsystem.proofs.Rising.{found_place}
 use Rattle.lagsystem.proofs.SettlingLemmas.{set_same}

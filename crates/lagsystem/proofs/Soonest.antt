@@ -1,10 +1,9 @@
 -- What is told is the first of what happens.
 use Rattle.lagsystem.proofs.Common.{Bool, List, None, Option, Some, [], ap, arith, false, if◌then◌else◌, inl, inr, map, nat_lt, refl, slice_get, suc}
-use Rattle.lagsystem.proofs.Common.{sym, true, zero, ℕ, ◌&&◌, ◌+◌, ◌-◌, ◌<◌, ◌∙◌, ◌∷◌, ◌≡◌, ◌⊎◌, and_parts, false≢true, le-leb, leb-true, lt-ltb}
-use Rattle.lagsystem.proofs.Common.{nat_tests, none-some, Machines, Assignment, Flushing, Table, assignment_of, is_by, sooner}
-use Rattle.lagsystem.proofs.Common.{ticks_until_next_wanted, ticks_until_wanted, by_left, by_right, soonest_member, SystemPort, would_transmit}
-use Rattle.lagsystem.proofs.Common.{SystemState, soonest, ticks_in_window, ticks_until_due, ticks_until_due_on, ticks_until_expired}
-use Rattle.lagsystem.proofs.Common.{ticks_until_frame, ticks_until_room}
+use Rattle.lagsystem.proofs.Common.{sym, true, zero, ℕ, ◌&&◌, ◌+◌, ◌-◌, ◌<◌, ◌∙◌, ◌∷◌, ◌≡◌, ◌⊎◌, and_parts, false≢true, le-leb, leb-true, nat_tests}
+use Rattle.lagsystem.proofs.Common.{none-some, Machines, Assignment, Flushing, Table, assignment_of, is_by, sooner, ticks_until_next_wanted}
+use Rattle.lagsystem.proofs.Common.{ticks_until_wanted, by_left, by_right, soonest_member, SystemPort, would_transmit, SystemState, soonest}
+use Rattle.lagsystem.proofs.Common.{ticks_in_window, ticks_until_due, ticks_until_due_on, ticks_until_expired, ticks_until_frame, ticks_until_room}
 use Rattle.distributor.specs.Waiting.{soonest_below}
 use Rattle.lagsystem.specs.Soonest.{ConversationHas, FrameHas, HappensIn, IsFirstToHappen, TimerHas, WindowHas}
 

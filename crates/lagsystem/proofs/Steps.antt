@@ -1,24 +1,24 @@
 -- Each call of a system is a list of lawful moves.
 use Rattle.lagsystem.proofs.Common.{Bool, Err, IsSome, List, None, Ok, Option, Result, Some, [], ap, append-nil, arith, cond, false, if◌then◌else◌}
-use Rattle.lagsystem.proofs.Common.{ltb, not, refl, slice_get, slice_set, subst, sym, true, ℕ, ◌&&◌, ◌<◌, ◌^◌, ◌||◌, ◌∙◌, ◌∷◌, ◌≡◌, and_from}
-use Rattle.lagsystem.proofs.Common.{and_parts, Decides-eqb, nat_tests, none-some, same_Some, AggId, Choice, is_selected, is_standby, Lacpdu, Marker}
-use Rattle.lagsystem.proofs.Common.{answer_of, Act, LawfulMoves, Move, PortMove, Sends_frame, Shows, Took, DistributorFacts, Lacp, Message}
-use Rattle.lagsystem.proofs.Common.{SystemSetup, Told, Told_receive, moves_joined, CollectingDistributing, Machines, is_synchronized, mux_rows}
-use Rattle.lagsystem.proofs.Common.{partner_synchronized, same_mux_state, RunsPeriodic, receive_rows, RunsToRest, after_sending, count_down, pdu_of}
-use Rattle.lagsystem.proofs.Common.{Assignment, DistFault, force_result, move_result, ChangesAssignments, Marks, after_release, marker_due}
-use Rattle.lagsystem.proofs.Common.{wants_marker, Table, assignment_of, count_conversations, next_identifier, model_distributor, conversations_tick}
-use Rattle.lagsystem.proofs.Common.{down_moves, force_moves, mark_moves, move_moves, release_moves, send_moves, Reply, SystemFault, FrameEffect}
-use Rattle.lagsystem.proofs.Common.{Answered, ProcessLacpdu, Response, Received, Disabled, Dropped, Ignored, Released, Up, SystemPort, AnswersMarker}
-use Rattle.lagsystem.proofs.Common.{Call, Carries, ChangesParty, Configure, Data_frame, Faulty, Force, FreesIfDown, GivesEffect, IsFrame}
-use Rattle.lagsystem.proofs.Common.{Move_conversation, Offer, OnlyPortChangesBy, ParsesWhere, Performs, PortAtChangesBy, ProcessesLacpdu, Receive}
-use Rattle.lagsystem.proofs.Common.{ReceivedFrame, Releases, Restart, Runt, Set_link, SetsLink, SetsPortEnabled, Step, ThenSettles, Tick, Ticks}
-use Rattle.lagsystem.proofs.Common.{Transmit, is_own_response, up_or_dropped, CallSeenAs, EffectsSeenAs, JoinedByLawfulMoves, PortsConsistent}
-use Rattle.lagsystem.proofs.Common.{can_receive, control_message, lacp_message, marker_message, model_port, model_setup, model_view, model_view_at}
-use Rattle.lagsystem.proofs.Common.{mux_consistent, none_enabled, number_of_port, selected_number, OccupantsAgree, GivesOrRefuses, Offers}
-use Rattle.lagsystem.proofs.Common.{assignment_of_frame, in_system, system_force_result, system_move_result, collecting, distributing}
-use Rattle.lagsystem.proofs.Common.{number_of_conversation, SendsLacpdu, SendsMarkerOf, TransmitsAt, TransmitsIf, own_marker, PortChangesBy}
-use Rattle.lagsystem.proofs.Common.{PortsChangeBy, SettlesPorts, Settling, ready_of, SystemState, aggregators_value, port_index, port_numbers}
-use Rattle.lagsystem.proofs.Common.{system_port_at, with_system_ports, with_table, views}
+use Rattle.lagsystem.proofs.Common.{ltb, refl, slice_get, slice_set, subst, sym, true, ℕ, ◌&&◌, ◌<◌, ◌^◌, ◌∙◌, ◌∷◌, ◌≡◌, and_from, and_parts}
+use Rattle.lagsystem.proofs.Common.{Decides-eqb, nat_tests, none-some, same_Some, AggId, Choice, is_selected, Lacpdu, Marker, answer_of, Act}
+use Rattle.lagsystem.proofs.Common.{LawfulMoves, Move, PortMove, Sends_frame, Shows, Took, DistributorFacts, Lacp, Message, SystemSetup, Told}
+use Rattle.lagsystem.proofs.Common.{Told_receive, moves_joined, CollectingDistributing, Machines, is_synchronized, mux_rows, partner_synchronized}
+use Rattle.lagsystem.proofs.Common.{same_mux_state, RunsPeriodic, receive_rows, RunsToRest, after_sending, count_down, pdu_of, Assignment, DistFault}
+use Rattle.lagsystem.proofs.Common.{force_result, move_result, ChangesAssignments, Marks, after_release, marker_due, wants_marker, Table}
+use Rattle.lagsystem.proofs.Common.{assignment_of, count_conversations, next_identifier, model_distributor, conversations_tick, down_moves}
+use Rattle.lagsystem.proofs.Common.{force_moves, mark_moves, move_moves, release_moves, send_moves, Reply, SystemFault, FrameEffect, Answered}
+use Rattle.lagsystem.proofs.Common.{ProcessLacpdu, Response, Received, Disabled, Dropped, Ignored, Released, Up, SystemPort, AnswersMarker, Call}
+use Rattle.lagsystem.proofs.Common.{Carries, ChangesParty, Configure, Data_frame, Faulty, Force, FreesIfDown, GivesEffect, IsFrame, Move_conversation}
+use Rattle.lagsystem.proofs.Common.{Offer, OnlyPortChangesBy, ParsesWhere, Performs, PortAtChangesBy, ProcessesLacpdu, Receive, ReceivedFrame}
+use Rattle.lagsystem.proofs.Common.{Releases, Restart, Runt, Set_link, SetsLink, SetsPortEnabled, Step, ThenSettles, Tick, Ticks, Transmit}
+use Rattle.lagsystem.proofs.Common.{is_own_response, up_or_dropped, CallSeenAs, EffectsSeenAs, JoinedByLawfulMoves, PortsConsistent, can_receive}
+use Rattle.lagsystem.proofs.Common.{control_message, lacp_message, marker_message, model_port, model_setup, model_view, model_view_at, mux_consistent}
+use Rattle.lagsystem.proofs.Common.{none_enabled, number_of_port, selected_number, OccupantsAgree, GivesOrRefuses, Offers, assignment_of_frame}
+use Rattle.lagsystem.proofs.Common.{in_system, system_force_result, system_move_result, collecting, distributing, number_of_conversation, SendsLacpdu}
+use Rattle.lagsystem.proofs.Common.{SendsMarkerOf, TransmitsAt, TransmitsIf, own_marker, PortChangesBy, PortsChangeBy, SettlesPorts, Settling}
+use Rattle.lagsystem.proofs.Common.{ready_of, SystemState, aggregators_value, port_index, port_numbers, system_port_at, with_system_ports, with_table}
+use Rattle.lagsystem.proofs.Common.{views}
 use Rattle.std.proofs.lemmas.Slice.Eq.{bytes_eq-Decides}
 use Rattle.slowpdu.specs.declared.pdu.MarkerKind.{MarkerKind}
 use Rattle.slowpdu.specs.declared.pdu.MarkerKind.TheVariants as kind

@@ -1,8 +1,8 @@
 -- Offers make no frame due, data changes nothing, and a row names what an offer answers.
-use Rattle.lagsystem.proofs.Common.{Bool, Err, List, Ok, Result, ap, arith, cond, false, is_some, nat_lt, option_map, true, ℕ, ◌&&◌, ◌+◌, ◌<◌, ◌||◌}
-use Rattle.lagsystem.proofs.Common.{◌∙◌, ◌≡◌, nat_tests, AggId, is_due, Assignment, On, DistFault, Assigns, MaySend, SetsAssignment, marker_due}
-use Rattle.lagsystem.proofs.Common.{wants_marker, Table, assignment_of, count_conversations, sum_below, SystemFault, SystemPort, OffersIf, TakesPort}
-use Rattle.lagsystem.proofs.Common.{port_on, would_transmit_at, GivesAssignment, distributing, SystemState, port_index, system_port_at, with_table}
+use Rattle.lagsystem.proofs.Common.{Bool, Err, List, Ok, Result, ap, arith, false, is_some, nat_lt, option_map, true, ℕ, ◌&&◌, ◌<◌, ◌||◌, ◌∙◌, ◌≡◌}
+use Rattle.lagsystem.proofs.Common.{nat_tests, AggId, is_due, Assignment, On, DistFault, Assigns, MaySend, SetsAssignment, marker_due, wants_marker}
+use Rattle.lagsystem.proofs.Common.{Table, assignment_of, SystemFault, SystemPort, OffersIf, TakesPort, port_on, would_transmit_at, GivesAssignment}
+use Rattle.lagsystem.proofs.Common.{distributing, SystemState, port_index, system_port_at, with_table}
 use Rattle.lagsystem.specs.declared.drive.Reply.TheVariants as reply
 use Rattle.lagsystem.specs.StillDue.{DataChangesNothing, DueAsBefore, OfferConversationMakesNoneDue, OfferMakesNoneDue, RowIsAnswer, RowIsOffer}
 use Rattle.lagsystem.proofs.Conversing.{assigned_may}

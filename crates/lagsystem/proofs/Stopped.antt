@@ -1,10 +1,10 @@
 -- The conversations that leave stopped ports are those on ports that distributed before the call and no longer do.
 use Rattle.lagsystem.proofs.Common.{Bool, List, None, Option, Some, [], ap, arith, cond, eqb, eqb-true, false, filter, if◌then◌else◌, inl, inr}
-use Rattle.lagsystem.proofs.Common.{length, map, not, refl, subst, sym, true, ℕ, ◌&&◌, ◌+◌, ◌<◌, ◌||◌, ◌∙◌, ◌∷◌, ◌≡◌, and_right, cases_Bool}
-use Rattle.lagsystem.proofs.Common.{false≢true, or_from, nat_tests, AggId, Choice, CollectingDistributing, same_mux_state, has_chosen, Assignment, On}
-use Rattle.lagsystem.proofs.Common.{is_among, ChangesAssignments, assignment_of, SystemPort, WereInUse, after_holding, aggregators_in_use}
-use Rattle.lagsystem.proofs.Common.{has_stopped, stopped, aggregator_numbered, collecting, distributes_in, distributing, selected_aggregator}
-use Rattle.lagsystem.proofs.Common.{HoldsConversations, held_unless_on, SystemState, port_numbers, with_table}
+use Rattle.lagsystem.proofs.Common.{length, map, not, refl, subst, sym, true, ℕ, ◌&&◌, ◌+◌, ◌<◌, ◌||◌, ◌∙◌, ◌∷◌, ◌≡◌, cases_Bool, false≢true}
+use Rattle.lagsystem.proofs.Common.{nat_tests, AggId, Choice, CollectingDistributing, same_mux_state, has_chosen, Assignment, On, is_among}
+use Rattle.lagsystem.proofs.Common.{ChangesAssignments, assignment_of, SystemPort, WereInUse, after_holding, aggregators_in_use, has_stopped, stopped}
+use Rattle.lagsystem.proofs.Common.{aggregator_numbered, collecting, distributes_in, distributing, selected_aggregator, HoldsConversations}
+use Rattle.lagsystem.proofs.Common.{held_unless_on, SystemState, port_numbers, with_table}
 use Rattle.lagsystem.proofs.Rising.{Rises, ports_rise}
 
 -- whether the port distributes in the aggregator

@@ -1,10 +1,10 @@
 -- After mux machines ran with Ready as worked out before, no aggregator is Ready.
 use Rattle.lagsystem.proofs.Common.{Bool, List, [], ap, arith, cond, false, filter, if◌then◌else◌, inl, inr, not, refl, subst, suc, sym, true, zero}
 use Rattle.lagsystem.proofs.Common.{ℕ, ◌&&◌, ◌∙◌, ◌∷◌, ◌≡◌, and_from, and_left, nat_tests, list_all, list_any, AggId, Key, Choice, Selected, Standby}
-use Rattle.lagsystem.proofs.Common.{Unselected, is_selected, is_unselected, MuxState, Attached, CollectingDistributing, Detached, Waiting, Machines}
-use Rattle.lagsystem.proofs.Common.{is_synchronized, mux_rows, same_mux_state, Fires, FiresTimes, Row, RunsToRest, Reaches-keeps, PortView}
-use Rattle.lagsystem.proofs.Common.{is_aggregator, ports_that_chose, is_ready, has_chosen, has_waited, is_detached_or_waiting, SystemPort}
-use Rattle.lagsystem.proofs.Common.{PortsChangeBy, ready_of, selection_view, stage_of, views}
+use Rattle.lagsystem.proofs.Common.{Unselected, is_selected, is_unselected, MuxState, Detached, Waiting, Machines, is_synchronized, mux_rows}
+use Rattle.lagsystem.proofs.Common.{same_mux_state, Fires, FiresTimes, Row, RunsToRest, Reaches-keeps, PortView, is_aggregator, ports_that_chose}
+use Rattle.lagsystem.proofs.Common.{is_ready, has_chosen, has_waited, is_detached_or_waiting, SystemPort, PortsChangeBy, ready_of, selection_view}
+use Rattle.lagsystem.proofs.Common.{stage_of, views}
 use Rattle.lagsystem.proofs.SettlingLemmas.{RunsReady}
 
 -- what rows keep if they are enabled
