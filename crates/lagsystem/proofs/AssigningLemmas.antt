@@ -1,9 +1,8 @@
 -- What offer_conversation does is what `offer` does for each frame of the conversation.
-use Rattle.lagsystem.proofs.Common.{Bool, Err, List, Ok, Result, ap, arith, false, inl, inr, nat_lt, refl, subst, sym, true, ℕ, ◌%◌, ◌*◌, ◌+◌, ◌/◌}
-use Rattle.lagsystem.proofs.Common.{◌<◌, ◌∙◌, ◌≡◌, true≢false, nat_tests, AllByRecursion, bit_xor, AggId, On, assignment_of, is_conversation_count}
-use Rattle.lagsystem.proofs.Common.{SystemFault, OffersConversation, OffersIf, TakesPort, frame_of_conversation, Offer, MayBeOffered, MayBeOfferedTo}
-use Rattle.lagsystem.proofs.Common.{Offers, has_aggregator, conversation_count, distributing, number_of_conversation, CallPromise, IsSound}
-use Rattle.lagsystem.proofs.Common.{SystemState}
+use Rattle.lagsystem.proofs.Common.{Bool, Err, List, Ok, Result, ap, arith, false, refl, subst, sym, true, ℕ, ◌%◌, ◌*◌, ◌+◌, ◌/◌, ◌<◌, ◌∙◌, ◌≡◌}
+use Rattle.lagsystem.proofs.Common.{nat_tests, AllByRecursion, bit_xor, AggId, On, assignment_of, is_conversation_count, SystemFault}
+use Rattle.lagsystem.proofs.Common.{OffersConversation, OffersIf, TakesPort, frame_of_conversation, Offer, MayBeOffered, Offers, conversation_count}
+use Rattle.lagsystem.proofs.Common.{distributing, number_of_conversation, CallPromise, IsSound, SystemState}
 use Rattle.lagsystem.specs.Offers.{longest_frame}
 use Rattle.std.proofs.Math.Nat.{mod-eq_of_lt}
 use Rattle.std.specs.Int.Bits.{xor_zero_r}
@@ -14,32 +13,11 @@ use Rattle.lagsystem.proofs.PromiseLemmas.{table_sound}
 use Rattle.lagsystem.proofs.Rising.{accepted_count}
 use Rattle.lagsystem.proofs.Sound.{answers}
 
--- a frame of the conversation is offered
-pub taken_offers : (gives : ℕ → ℕ → ℕ → Type 0) (agg : AggId) (octets : List ℕ) (old : SystemState) (answer : Result ℕ SystemFault)
-    (new : SystemState) → MayBeOfferedTo old agg octets → TakesPort gives agg (number_of_conversation old octets) old answer new
-    → Offers gives agg octets old answer new
-taken_offers gives agg octets old (Ok port) new may h = (may, h.0, h.1)
-taken_offers gives agg octets old (Err fault) new may h = (inr (inr (h.0.0, (may, h.0.1), h.0.2)), h.1)
-
-below_count : (s : SystemState) → is_conversation_count s.conversations ≡ true → (octets : List ℕ)
-    → nat_lt (number_of_conversation s octets) (conversation_count s) ≡ true
-below_count s h octets = grind (arith, nat_tests)
-
-offers_if : (gives : ℕ → ℕ → ℕ → Type 0) (agg : AggId) (octets : List ℕ) (old : SystemState) (answer : Result ℕ SystemFault)
-    (new : SystemState) (there known : Bool) → has_aggregator old agg ≡ there → known ≡ true → MayBeOffered octets
-    → OffersIf there known gives agg (number_of_conversation old octets) old answer new → Offers gives agg octets old answer new
-offers_if gives agg octets old answer new false known e k may h =
-    subst (λ r. Offers gives agg octets old r new) (sym h.0) (inl (e, refl), h.1)
-offers_if gives agg octets old answer new true false e k may h = absurd (true≢false (sym k))
-offers_if gives agg octets old answer new true true e k may h = taken_offers gives agg octets old answer new (e, may) h
-
 -- and the conversation of a frame is one that there is
 pub offered_alike : (gives : ℕ → ℕ → ℕ → Type 0) (agg : AggId) (octets : List ℕ) (old : SystemState) (answer : Result ℕ SystemFault)
     (new : SystemState) → is_conversation_count old.conversations ≡ true → MayBeOffered octets
     → OffersConversation gives agg (number_of_conversation old octets) old answer new → Offers gives agg octets old answer new
-offered_alike gives agg octets old answer new c may h =
-    offers_if gives agg octets old answer new (has_aggregator old agg)
-    (nat_lt (number_of_conversation old octets) (conversation_count old)) refl (below_count old c octets) may h
+offered_alike gives agg octets old answer new c may h = grind (arith, nat_tests)
 
 -- the invariant stays
 takes_sound : (gives : ℕ → ℕ → ℕ → Type 0) (agg : AggId) (conv : ℕ) (old : SystemState) (answer : Result ℕ SystemFault)
@@ -59,8 +37,7 @@ if_sound gives agg conv old answer new true true h s = takes_sound gives agg con
 
 pub offers_sound : (gives : ℕ → ℕ → ℕ → Type 0) (agg : AggId) (conv : ℕ) (old : SystemState) (answer : Result ℕ SystemFault)
     (new : SystemState) → OffersConversation gives agg conv old answer new → IsSound old → IsSound new
-offers_sound gives agg conv old answer new h s =
-    if_sound gives agg conv old answer new (has_aggregator old agg) (nat_lt conv (conversation_count old)) h s
+offers_sound gives agg conv old answer new h s = grind (arith, nat_tests, if_sound)
 
 pub offers_promise : (gives : ℕ → ℕ → ℕ → Type 0) (agg : AggId) (conv : ℕ) (old : SystemState) (answer : Result ℕ SystemFault)
     (new : SystemState) → OffersConversation gives agg conv old answer new → IsSound old → (octets : List ℕ) → MayBeOffered octets
@@ -90,5 +67,4 @@ framed s conv l = (
     small n m l = mod-eq_of_lt l
 
 pub frame_is_octets : (conv : ℕ) → conv < 65536 → AllByRecursion (λ octet. octet < 256) (frame_of_conversation conv)
-frame_is_octets conv l =
-    (omega arith, (omega arith, (omega arith, (omega arith, (omega (arith, l), (omega arith, (omega arith, (omega arith, (omega arith, (omega arith, (omega arith, (omega arith, (omega arith, (omega arith, tt))))))))))))))
+frame_is_octets conv l = grind (arith, nat_tests)

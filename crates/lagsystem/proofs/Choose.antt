@@ -1,14 +1,14 @@
 -- Choosing an aggregator is the model's move of joining it.
-use Rattle.lagsystem.proofs.Common.{Bool, List, None, Option, Some, [], ap, false, inl, inr, length, not, option_map, refl, slice_get, slice_set}
-use Rattle.lagsystem.proofs.Common.{subst, sym, true, ℕ, ◌&&◌, ◌∙◌, ◌∷◌, ◌≡◌, ◌≢◌, cases_eq, false≢true, none-some, same_Some, AllByRecursion, AggId}
-use Rattle.lagsystem.proofs.Common.{Key, Choice, Selected, Standby, Unselected, is_selected, is_standby, is_unselected, SamePair, individual}
-use Rattle.lagsystem.proofs.Common.{same_system, party_of, find_number, ports_of, LawfulMoves, PortAllowed, PortMove, pair_at, port_after}
-use Rattle.lagsystem.proofs.Common.{DistributorFacts, ModelCall, PortFacts, SystemSetup, mapped_some, moves_at, moves_joined, MuxState, Attached}
-use Rattle.lagsystem.proofs.Common.{CollectingDistributing, Detached, Waiting, partner_synchronized, same_mux_state, chosen_aggregator}
-use Rattle.lagsystem.proofs.Common.{chosen_for_view, IsOccupant, MayJoin, ends, AggregatorsValue, has_room, is_detached, is_eligible, SystemPort}
-use Rattle.lagsystem.proofs.Common.{key_of, model_port, model_port_of, model_view_at, number_of_port, selected_number, OccupantsAgree, occupied}
-use Rattle.lagsystem.proofs.Common.{ChoosesIn, PromotesNext, after_choices, aggregator_for, choice_for, choice_if, choice_in, with_choice}
-use Rattle.lagsystem.proofs.Common.{port_numbers, selection_view, stage_of, views}
+use Rattle.lagsystem.proofs.Common.{Bool, List, None, Option, Some, [], ap, arith, false, inl, inr, length, not, option_map, refl, slice_get}
+use Rattle.lagsystem.proofs.Common.{slice_set, subst, sym, true, ℕ, ◌&&◌, ◌∙◌, ◌∷◌, ◌≡◌, ◌≢◌, cases_eq, false≢true, nat_tests, none-some, same_Some}
+use Rattle.lagsystem.proofs.Common.{AllByRecursion, AggId, Key, Choice, Selected, Standby, Unselected, is_selected, is_standby, is_unselected}
+use Rattle.lagsystem.proofs.Common.{SamePair, individual, same_system, party_of, ports_of, LawfulMoves, PortAllowed, PortMove, pair_at, port_after}
+use Rattle.lagsystem.proofs.Common.{DistributorFacts, ModelCall, PortFacts, SystemSetup, mapped_some, moves_at, moves_joined, MuxState}
+use Rattle.lagsystem.proofs.Common.{CollectingDistributing, partner_synchronized, same_mux_state, chosen_aggregator, chosen_for_view, IsOccupant}
+use Rattle.lagsystem.proofs.Common.{MayJoin, ends, AggregatorsValue, has_room, is_detached, is_eligible, SystemPort, key_of, model_port}
+use Rattle.lagsystem.proofs.Common.{model_port_of, model_view_at, number_of_port, selected_number, OccupantsAgree, occupied, ChoosesIn, PromotesNext}
+use Rattle.lagsystem.proofs.Common.{after_choices, aggregator_for, choice_for, choice_if, choice_in, with_choice, port_numbers, selection_view}
+use Rattle.lagsystem.proofs.Common.{stage_of, views}
 use Rattle.selection.proofs.Joining.{choice-joins, if-some}
 use Rattle.lagsystem.proofs.Keeps.{given_number, numbers_set}
 use Rattle.lagsystem.proofs.Limiting.{next_stands}
@@ -30,14 +30,10 @@ all_weaker P Q w (s ∷ ss) h = (w s h.0, all_weaker P Q w ss h.1)
 
 all_shown : (P : PortFacts → Type 0) (system_ports : List SystemPort) → AllByRecursion (λ s. P (model_port_of s)) system_ports
     → (q : ℕ) (b : PortFacts) → ports_of number_of_port model_port_of system_ports q ≡ Some b → P b
-all_shown P system_ports all q b e =
-    let x = mapped_some model_port_of (find_number number_of_port system_ports q) b e in
-    subst P x.2 (all_found (λ s. P (model_port_of s)) system_ports all q x.0 x.1)
+all_shown P system_ports all q b e = grind (arith, nat_tests, mapped_some, all_found)
 
 given_there : (agg : AggId) (c : Choice) → selected_number c ≡ Some agg.0 → c ≡ Selected agg
-given_there agg Unselected e = absurd (none-some agg.0 e)
-given_there agg (Standby a) e = absurd (none-some agg.0 e)
-given_there agg (Selected a) e = let same = same_Some a.0 agg.0 e in λ i. Selected (record { 0 = same i })
+given_there agg c e = grind (arith, nat_tests)
 
 join_allowed : (u : SystemSetup) (call : ModelCall) (keys : List Key) (system_ports : List SystemPort) (system_port : SystemPort)
     (agg : AggId) → Fits u keys → MayJoin keys (views system_ports) agg (selection_view system_port)
@@ -69,21 +65,13 @@ join_allowed u call keys system_ports system_port agg fits j = (
 
 -- what an eligible port is
 detached_part : (a b c d e : Bool) → ((((a && b) && c) && d) && e) ≡ true → c ≡ true
-detached_part true true true d e h = refl
-detached_part true true false d e h = absurd (false≢true h)
-detached_part true false c d e h = absurd (false≢true h)
-detached_part false b c d e h = absurd (false≢true h)
+detached_part a b c d e h = grind (arith, nat_tests)
 
 detached : (m : MuxState) (w : ℕ) → is_detached (stage_of m w) ≡ true → same_mux_state CollectingDistributing m ≡ false
-detached Detached w h = refl
-detached Waiting w h = refl
-detached Attached w h = refl
-detached CollectingDistributing w h = absurd (false≢true h)
+detached m w h = grind (arith, nat_tests)
 
 still : (s x m : Bool) → m ≡ false → (s && (x && m)) ≡ false
-still true true m h = h
-still true false m h = refl
-still false x m h = refl
+still s x m h = grind (arith, nat_tests)
 
 joined : (s : SystemPort) (agg : AggId) → is_eligible (selection_view s) ≡ true
     → model_port_of (with_choice s (Some (Selected agg))) ≡ port_after (PortMove.Join agg.0) (model_port_of s)
@@ -202,12 +190,7 @@ StandbyIsIdle s = is_standby s.port.choice ≡ true → same_mux_state Collectin
 
 promoted : (s : SystemPort) (agg : AggId) → s.port.choice ≡ Standby agg → StandbyIsIdle s
     → model_port_of (with_choice s (Some (Selected agg))) ≡ port_after (PortMove.Join agg.0) (model_port_of s)
-promoted s agg e idle =
-    let mux = idle (ap is_standby e) in
-    let sync = partner_synchronized s.port in
-    let view : Bool → PortFacts = λ d. record (model_port_of s) { aggregator = Some agg.0; distributes = d } in
-    ap view (still sync true (same_mux_state CollectingDistributing s.port.mux) mux
-    ∙ sym (still sync (is_selected s.port.choice) (same_mux_state CollectingDistributing s.port.mux) mux))
+promoted s agg e idle = grind (arith, nat_tests)
 
 -- what every promotion keeps
 abbrev PromotedSoFar : SystemSetup → ModelCall → DistributorFacts → List Key → List SystemPort → List SystemPort → Type 0

@@ -1,8 +1,7 @@
 -- Ports choose one after another, and the list of views stays equal to their views.
-use Rattle.lagsystem.proofs.Common.{Bool, List, None, Option, Some, [], ap, arith, false, get_or, length, not, refl, slice_get, slice_set, subst, suc}
-use Rattle.lagsystem.proofs.Common.{sym, true, zero, ℕ, ◌&&◌, ◌<◌, ◌||◌, ◌∙◌, ◌∷◌, ◌≡◌, or_parts, same_Some, list_any, Choice, Selected, Standby}
-use Rattle.lagsystem.proofs.Common.{Unselected, is_selected, is_unselected, same_system, PortView, AggregatorsValue, is_detached, is_eligible}
-use Rattle.lagsystem.proofs.Common.{SystemPort, after_choice_at, after_choices, with_choice, selection_view, views}
+use Rattle.lagsystem.proofs.Common.{Bool, List, None, Option, Some, [], ap, arith, false, get_or, length, not, refl, slice_get, slice_set, suc, zero}
+use Rattle.lagsystem.proofs.Common.{ℕ, ◌<◌, ◌||◌, ◌∙◌, ◌∷◌, ◌≡◌, or_parts, nat_tests, list_any, Choice, is_selected, is_unselected, PortView}
+use Rattle.lagsystem.proofs.Common.{AggregatorsValue, is_eligible, SystemPort, after_choice_at, after_choices, with_choice, selection_view, views}
 use Rattle.lagsystem.proofs.SettlingLemmas.{none_taken}
 
 abbrev one_eligible : List SystemPort → Bool
@@ -20,14 +19,12 @@ pub seen_taken : (seen : List PortView) (system_ports : List SystemPort) (i : �
     → seen ≡ views system_ports → i < length system_ports
     → slice_set seen i (record (get_or seen i d) { choice = c }) ≡ views
     (slice_set system_ports i (with_choice (get_or system_ports i t) (Some c)))
-seen_taken seen system_ports i d t c e l = ap (λ vs. slice_set vs i (record (get_or vs i d) { choice = c })) e
-    ∙ seen_given system_ports i d t c l
+seen_taken seen system_ports i d t c e l = grind (arith, nat_tests, seen_given)
 
 not_here : (system_ports : List SystemPort) (i : ℕ) (s : SystemPort) → one_eligible system_ports ≡ false → slice_get system_ports i ≡ Some s
     → is_eligible (selection_view s) ≡ false
 not_here [] i s h e = cc
-not_here (x ∷ xs) zero s h e = let same : x ≡ s = same_Some x s e in subst (λ y. is_eligible (selection_view y) ≡ false) same
-    (or_parts (is_eligible (selection_view x)) (one_eligible xs) h).0
+not_here (x ∷ xs) zero s h e = grind (arith, nat_tests)
 not_here (x ∷ xs) (suc i) s h e = not_here xs i s (or_parts (is_eligible (selection_view x)) (one_eligible xs) h).1 e
 
 stays_at : (aggs : AggregatorsValue) (system_ports : List SystemPort) (i : ℕ) (o : Option SystemPort) → one_eligible system_ports ≡ false
@@ -40,32 +37,15 @@ stays_at aggs system_ports i (Some s) h e = none_taken aggs system_ports i s e (
 pub none_chosen : (aggs : AggregatorsValue) (n : ℕ) (system_ports : List SystemPort) → one_eligible system_ports ≡ false
     → system_ports ≡ after_choices aggs n system_ports
 none_chosen aggs zero system_ports h = refl
-none_chosen aggs (suc n) system_ports h = subst (λ l. system_ports ≡ after_choice_at aggs l n (slice_get l n))
-    (none_chosen aggs n system_ports h) (stays_at aggs system_ports n (slice_get system_ports n) h refl)
+none_chosen aggs (suc n) system_ports h = grind (arith, nat_tests, stays_at, none_chosen aggs n system_ports h)
 
 -- a port that is not UNSELECTED is not eligible
 pub chosen_not_eligible : (v : PortView) → is_unselected v.choice ≡ false → false ≡ is_eligible v
-chosen_not_eligible v h = sym (last ((v.enabled && v.settled) && is_detached v.stage) (is_unselected v.choice)
-    (not (same_system v.partner.system v.party.system)) h)
-  where
-    last : (a b c : Bool) → b ≡ false → ((a && b) && c) ≡ false
-    last true b c e = ap (λ x. x && c) e
-    last false b c e = refl
+chosen_not_eligible v h = grind (arith, nat_tests)
 
 -- where each port is SELECTED, none is eligible
 pub selected_not_eligible : (v : PortView) → not (is_selected v.choice) ≡ false → is_eligible v ≡ false
-selected_not_eligible v h = chosen v.choice h
-  where
-    middle : (a b c : Bool) → b ≡ false → ((a && b) && c) ≡ false
-    middle true b c e = ap (λ x. x && c) e
-    middle false b c e = refl
-
-    chosen : (choice : Choice) → not (is_selected choice) ≡ false
-        → ((((v.enabled && v.settled) && is_detached v.stage) && is_unselected choice) && not (same_system v.partner.system v.party.system)) ≡ false
-    chosen Unselected e = absurd cc
-    chosen (Standby agg) e = absurd cc
-    chosen (Selected agg) e =
-        middle ((v.enabled && v.settled) && is_detached v.stage) false (not (same_system v.partner.system v.party.system)) refl
+selected_not_eligible v h = grind (arith, nat_tests)
 
 pub none_left_eligible : (l : List SystemPort) → list_any (λ s. not (is_selected s.port.choice)) l ≡ false → one_eligible l ≡ false
 none_left_eligible [] h = refl

@@ -1,23 +1,23 @@
 -- The names that proofs of this crate import, passed on from one place. Declares nothing; tools/proof-imports writes it.
 pub use Rattle.std.proofs.Common.{All, Bool, Bor, Err, IfOk, IsSome, IsSomeAnd, List, None, Ok, Option, Result, Some, [], add-one, ap, append-nil}
-pub use Rattle.std.proofs.Common.{append_assoc, ap₂, arith, bytes_eq, cond, drop, eq-eqb, eqb, eqb-true, false, filter, find, get_or, if◌then◌else◌}
-pub use Rattle.std.proofs.Common.{inl, inr, is_some, length, length-append, length-drop, ltb, map, min, nat_le, nat_lt, not, option_map, position}
-pub use Rattle.std.proofs.Common.{refl, replicate, set, slice_get, slice_index, slice_set, subst, suc, sym, take, take_all, true, vec_capacity}
-pub use Rattle.std.proofs.Common.{vec_len, zero, ℕ, ⊎_elim, ◌%◌, ◌&&◌, ◌*◌, ◌++◌, ◌+◌, ◌-◌, ◌/◌, ◌<◌, ◌==◌, ◌^◌, ◌||◌, ◌∙◌, ◌∷◌, ◌≡◌, ◌≢◌, ◌≤◌, ◌⊎◌}
+pub use Rattle.std.proofs.Common.{append_assoc, ap₂, arith, cond, drop, eq-eqb, eqb, eqb-true, false, filter, find, get_or, if◌then◌else◌, inl, inr}
+pub use Rattle.std.proofs.Common.{is_some, length, length-append, length-drop, ltb, map, nat_le, nat_lt, not, option_map, position, refl, replicate}
+pub use Rattle.std.proofs.Common.{set, slice_get, slice_index, slice_set, subst, suc, sym, take, take_all, true, vec_capacity, vec_len, zero, ℕ, ◌%◌}
+pub use Rattle.std.proofs.Common.{◌&&◌, ◌*◌, ◌++◌, ◌+◌, ◌-◌, ◌/◌, ◌<◌, ◌==◌, ◌^◌, ◌||◌, ◌∙◌, ◌∷◌, ◌≡◌, ◌≢◌, ◌≤◌, ◌⊎◌}
 pub use Rattle.std.proofs.lemmas.Bool.{OnFalse_at, OnFalse_from, OnTrue_at, and_from, and_left, and_parts, and_right, cases_Bool, cases_eq, cases_lt}
-pub use Rattle.std.proofs.lemmas.Bool.{cond-false, cond-true, false≢true, le-leb, leb-true, lt-leb, lt-ltb, ltb-true, ne_eqb, not-false, not-true}
-pub use Rattle.std.proofs.lemmas.Bool.{not_from_true, or_from, or_parts, true≢false}
+pub use Rattle.std.proofs.lemmas.Bool.{cond-true, false≢true, le-leb, leb-true, lt-leb, lt-ltb, ltb-true, not-false, not-true, not_from_true}
+pub use Rattle.std.proofs.lemmas.Bool.{or_parts, true≢false}
 pub use Rattle.std.proofs.lemmas.Bool.Decides.{Decides-eqb, nat_tests}
 pub use Rattle.std.proofs.lemmas.List.{get_or-map, get_or-replicate, get_or-set_other, get_or-set_same, get_or_past, length-map, length-set}
 pub use Rattle.std.proofs.lemmas.List.{length-take-le, map-append, take_more, with_items_is}
 pub use Rattle.std.proofs.lemmas.List.Folds.{list_any_none}
 pub use Rattle.std.proofs.lemmas.List.Quantifiers.{position-Some}
 pub use Rattle.std.proofs.lemmas.List.Sums.{fails_before_first, position_or_len_is}
-pub use Rattle.std.proofs.lemmas.Option.{cond_some, get_or_from_slice_get, none-some, same_Some, slice_get-get_or, slice_get_past}
+pub use Rattle.std.proofs.lemmas.Option.{get_or_from_slice_get, none-some, same_Some, slice_get-get_or, slice_get_past}
 pub use Rattle.std.specs.Bool.{IsFalse, OnFalse, OnTrue}
 pub use Rattle.std.specs.List.{AllByRecursion, AllZip, enumerate_from, list_all, list_any, position_or_len}
 pub use Rattle.std.specs.List.Sorted.{IsStrictlyIncreasing}
-pub use Rattle.std.specs.Prelude.{MatchOption, bit_and, bit_xor, option_to_list}
+pub use Rattle.std.specs.Prelude.{bit_and, bit_xor, option_to_list}
 pub use Rattle.std.specs.Vec.{with_items}
 pub use Rattle.lagtypes.specs.declared.identifiers.AggId.{AggId}
 pub use Rattle.lagtypes.specs.declared.identifiers.Key.{Key}
@@ -27,7 +27,7 @@ pub use Rattle.lagtypes.specs.declared.party.Choice.TheVariants.{Selected, Stand
 pub use Rattle.lagtypes.specs.declared.party.Party.{Party}
 pub use Rattle.lagtypes.specs.declared.state.StateBits.{StateBits}
 pub use Rattle.lagtypes.specs.Choices.{is_selected, is_standby, is_unselected}
-pub use Rattle.lagtypes.specs.Group.{SamePair, individual, pair_of}
+pub use Rattle.lagtypes.specs.Group.{SamePair, individual}
 pub use Rattle.lagtypes.specs.Same.{same_party, same_system}
 pub use Rattle.lagtypes.specs.States.{bits_of, with_synchronization, with_timeout}
 pub use Rattle.lagtypes.proofs.SameLemmas.{exact_party, exact_system, itself}
@@ -56,18 +56,15 @@ pub use Rattle.lagmodel.proofs.Ports.{group_sym, individual_along, members_first
 pub use Rattle.lagmodel.proofs.Uses.{find_at, flows_weaker, moves_at, moves_flows, moves_joined, moves_port, numbered_set, ports_set}
 pub use Rattle.portmachines.specs.declared.mux.MuxState.{MuxState}
 pub use Rattle.portmachines.specs.declared.mux.MuxState.TheVariants.{Attached, CollectingDistributing, Detached, Waiting}
-pub use Rattle.portmachines.specs.declared.periodic.PeriodicState.TheVariants.{Fast, NoPeriodic, PeriodicTx, Slow}
 pub use Rattle.portmachines.specs.declared.port.Setup.{Setup, Setup as Start}
 pub use Rattle.portmachines.specs.declared.receive.ReceiveState.{ReceiveState}
 pub use Rattle.portmachines.specs.declared.receive.ReceiveState.TheVariants.{Current, Defaulted, Expired, Initialize, PortDisabled}
 pub use Rattle.portmachines.specs.Calls.{PortCall, Tick as PortTick}
 pub use Rattle.portmachines.specs.Machines.{Machines}
-pub use Rattle.portmachines.specs.Mux.{is_synchronized, mux_rows, partner_synchronized, same_mux_state, selected, set_ntt}
-pub use Rattle.portmachines.specs.Periodic.{RunsPeriodic, clear_ntt, is_silent, partner_short, periodic_row, periodic_rows, same_periodic_state}
-pub use Rattle.portmachines.specs.Periodic.{start_periodic}
-pub use Rattle.portmachines.specs.Receive.{default_partner, is_maintained, lacpdu_rows, receive_rows, recorded_synchronization, same_receive_state}
-pub use Rattle.portmachines.specs.Receive.{start_receive}
-pub use Rattle.portmachines.specs.Rows.{AtRest, Fires, FiresTimes, Row, RunsToRest, in_order}
+pub use Rattle.portmachines.specs.Mux.{is_synchronized, mux_rows, partner_synchronized, same_mux_state, selected}
+pub use Rattle.portmachines.specs.Periodic.{RunsPeriodic, periodic_rows}
+pub use Rattle.portmachines.specs.Receive.{default_partner, lacpdu_rows, receive_rows, recorded_synchronization, same_receive_state, start_receive}
+pub use Rattle.portmachines.specs.Rows.{AtRest, Fires, FiresTimes, Row, RunsToRest}
 pub use Rattle.portmachines.specs.Start.{Starts, before_start}
 pub use Rattle.portmachines.specs.Transmit.{after_sending, aged, count_down, is_due, pdu_of}
 pub use Rattle.portmachines.proofs.Choices.{one_effect, one_mux, one_periodic}
@@ -77,26 +74,23 @@ pub use Rattle.selection.specs.Choice.{aggregator_of_entry, chosen_aggregator, c
 pub use Rattle.selection.specs.Choice.{has_occupant, is_aggregator, lowest, occupants, occupants_share_group, or_else, ports_that_chose}
 pub use Rattle.selection.specs.Joining.{IsOccupant, MayJoin, ends}
 pub use Rattle.selection.specs.Limits.{AggregatorsValue, has_room, is_below, next_standby_index}
-pub use Rattle.selection.specs.Ready.{is_ready, members}
+pub use Rattle.selection.specs.Ready.{is_ready}
 pub use Rattle.selection.specs.Views.{has_chosen, has_waited, is_detached, is_detached_or_waiting, is_eligible, occupies, stands_by}
 pub use Rattle.selection.proofs.LimitLemmas.{NoneStandsBy, is_next, none_is_next, nothing_is_next}
 pub use Rattle.distributor.specs.declared.assignment.Assignment.{Assignment}
 pub use Rattle.distributor.specs.declared.assignment.Assignment.TheVariants.{Flushing, Free, On, Wanted}
 pub use Rattle.distributor.specs.declared.fault.DistFault.{DistFault}
-pub use Rattle.distributor.specs.Calls.{Assigns, MaySend, PicksIndexes, PicksPort, force_result, is_among, leave_result, move_result, preferred_among}
-pub use Rattle.distributor.specs.Calls.{rest_result}
+pub use Rattle.distributor.specs.Calls.{Assigns, MaySend, PicksIndexes, PicksPort, force_result, is_among, leave_result, move_result}
 pub use Rattle.distributor.specs.Chains.{is_held_on}
-pub use Rattle.distributor.specs.Changes.{ChangesAssignments, Marks, SetsAssignment, after_down, after_leave, after_mark, after_release, after_tick}
-pub use Rattle.distributor.specs.Changes.{awaits_response, marker_due, wants_marker}
+pub use Rattle.distributor.specs.Changes.{ChangesAssignments, Marks, SetsAssignment, after_leave, after_mark, after_release, after_tick, marker_due}
+pub use Rattle.distributor.specs.Changes.{wants_marker}
 pub use Rattle.distributor.specs.Conversations.{IsConversation, Table, assignment_of, count_conversations, first_table, is_conversation_count}
 pub use Rattle.distributor.specs.Conversations.{next_identifier, sum_below}
 pub use Rattle.distributor.specs.Moves.{NoneDistributes, OnlyListedDistribute, model_conversation, model_distributor}
 pub use Rattle.distributor.specs.Waiting.{is_by, sooner, ticks_until_next_wanted, ticks_until_wanted}
 pub use Rattle.distributor.proofs.MoveLemmas.{Makes, tick_moves as conversations_tick, down_moves, each_moves, first_flows, force_moves, is_forced}
 pub use Rattle.distributor.proofs.MoveLemmas.{is_left, is_moved, leave_one_moves, mark_moves, move_moves, release_moves, send_moves}
-pub use Rattle.distributor.proofs.TableLemmas.{first_free}
-pub use Rattle.distributor.proofs.WaitLemmas.{by_both, by_first, by_left, by_right, by_second, same_soonest, sooner_assoc, soonest_all}
-pub use Rattle.distributor.proofs.WaitLemmas.{soonest_member}
+pub use Rattle.distributor.proofs.WaitLemmas.{by_first, by_left, by_right, by_second, same_soonest, sooner_assoc, soonest_member}
 pub use Rattle.distributor.proofs.WalkLemmas.{same_sum}
 pub use Rattle.lagsystem.specs.declared.config.PortChange.{PortChange}
 pub use Rattle.lagsystem.specs.declared.config.PortConfig.{PortConfig}
@@ -114,11 +108,11 @@ pub use Rattle.lagsystem.specs.Calls.{AlreadyConfigured, AnswersMarker, Call, Ca
 pub use Rattle.lagsystem.specs.Calls.{FreesIfDown, GivesEffect, IsControlFrame, IsFrame, Move_conversation, Offer, OnlyPortChangesBy, ParsesFrame}
 pub use Rattle.lagsystem.specs.Calls.{ParsesPayload, ParsesWhere, Performs, PortAtChangesBy, ProcessesLacpdu, Receive, ReceivedFrame, ReceivesAt}
 pub use Rattle.lagsystem.specs.Calls.{RefusesNoPort, Releases, Restart, Runt, Set_link, SetsLink, SetsPortEnabled, Step, TableRun, ThenSettles, Tick}
-pub use Rattle.lagsystem.specs.Calls.{Ticks, Transmit, changed_party, choice_with_link, differs, is_own_response, up_or_dropped}
+pub use Rattle.lagsystem.specs.Calls.{Ticks, Transmit, changed_party, choice_with_link, is_own_response, up_or_dropped}
 pub use Rattle.lagsystem.specs.ConversationTables.{TellsRows, has_changed, has_freed, is_busy, port_on}
 pub use Rattle.lagsystem.specs.Drives.{Drives, call_of}
 pub use Rattle.lagsystem.specs.First.{HasJustStarted, IsConfigured, IsFirst, config_refusal, configured_number, configured_numbers}
-pub use Rattle.lagsystem.specs.First.{first_bad_port_number, is_count, or_first, refusal, refusal_of_limits, setup_of}
+pub use Rattle.lagsystem.specs.First.{first_bad_port_number, is_count, refusal, refusal_of_limits, setup_of}
 pub use Rattle.lagsystem.specs.Forcing.{ForcesFirst, ForcesIfHeld, ForcesIn, ForcesPort, FreesHeld, NoneIsHeldOn, after_forcing, count_held_on}
 pub use Rattle.lagsystem.specs.Holding.{WereInUse, after_holding, aggregators_in_use, has_stopped, stopped}
 pub use Rattle.lagsystem.specs.Hosts.{would_transmit, would_transmit_at}
@@ -135,17 +129,16 @@ pub use Rattle.lagsystem.specs.Offers.{AssignsPort, GivesAssignment, GivesOrRefu
 pub use Rattle.lagsystem.specs.Offers.{RefusesOffer, assignment_of_frame, has_aggregator, in_system, is_frame_length, or_not_assigned}
 pub use Rattle.lagsystem.specs.Offers.{system_force_result, system_move_result}
 pub use Rattle.lagsystem.specs.OneAnswer.{IsFunction, OneAnswer, OneForcing, OneRun, SameConversations, SameState}
-pub use Rattle.lagsystem.specs.Probing.{Probes, ProbesAt, ProbesIf, ProbesLawfully}
 pub use Rattle.lagsystem.specs.Promises.{TablePromise}
 pub use Rattle.lagsystem.specs.Promoting.{CountsMembers, count_standby}
 pub use Rattle.lagsystem.specs.Quiet.{IsBeyond, NothingIsDue, OnlyCounted, counted, counted_times, fewer, waited}
 pub use Rattle.lagsystem.specs.Readers.{aggregator_numbered, collecting, conversation_count, number_of_conversation as conversation_number}
 pub use Rattle.lagsystem.specs.Readers.{distributes_in, distributing, number_of_conversation, selected_aggregator, two_octets}
-pub use Rattle.lagsystem.specs.Sending.{IsLacpduOf, PortSendsLacpduIfDue, PortTransmits, SendsLacpdu, SendsLacpduIfDue, SendsMarker, SendsMarkerOf}
-pub use Rattle.lagsystem.specs.Sending.{TransmitsAt, TransmitsIf, own_marker}
-pub use Rattle.lagsystem.specs.Settling.{ChoosesIn, HoldsConversations, OnlyPortsChangeBy, PortChangesBy, PortsChangeBy, PromotesAll, PromotesFirst}
-pub use Rattle.lagsystem.specs.Settling.{PromotesNext, PromotesTimes, SettlesPorts, Settling, after_choice_at, after_choices, aggregator_for}
-pub use Rattle.lagsystem.specs.Settling.{choice_for, choice_if, choice_in, held_unless_on, is_restless, ready_of, with_choice}
+pub use Rattle.lagsystem.specs.Sending.{IsLacpduOf, PortSendsLacpduIfDue, SendsLacpdu, SendsLacpduIfDue, SendsMarker, SendsMarkerOf, TransmitsAt}
+pub use Rattle.lagsystem.specs.Sending.{TransmitsIf, own_marker}
+pub use Rattle.lagsystem.specs.Settling.{ChoosesIn, HoldsConversations, PortChangesBy, PortsChangeBy, PromotesAll, PromotesFirst, PromotesNext}
+pub use Rattle.lagsystem.specs.Settling.{PromotesTimes, SettlesPorts, Settling, after_choice_at, after_choices, aggregator_for, choice_for, choice_if}
+pub use Rattle.lagsystem.specs.Settling.{choice_in, held_unless_on, is_restless, ready_of, with_choice}
 pub use Rattle.lagsystem.specs.Sound.{CallPromise, DistributeAsMuxDoes, HasPorts, IsSound, OnlyOnDistributing, PortsAgree}
 pub use Rattle.lagsystem.specs.State.{SystemState, SystemValue, aggregators_value, machines_of, port_index, port_numbers, system_port_at}
 pub use Rattle.lagsystem.specs.State.{with_system_ports, with_table}

@@ -1,14 +1,13 @@
 -- Each call changes the conversations of a system by lawful moves of the model.
-use Rattle.lagsystem.proofs.Common.{Bool, Err, IsSomeAnd, List, None, Ok, Option, Result, Some, [], ap, arith, cond, eq-eqb, eqb, eqb-true, false}
-use Rattle.lagsystem.proofs.Common.{if◌then◌else◌, inl, inr, option_map, refl, slice_get, subst, suc, sym, true, zero, ℕ, ◌&&◌, ◌||◌, ◌∙◌, ◌∷◌, ◌≡◌}
-use Rattle.lagsystem.proofs.Common.{and_parts, cases_Bool, false≢true, Decides-eqb, none-some, same_Some, MatchOption, AggId, Choice, Selected}
-use Rattle.lagsystem.proofs.Common.{Standby, Unselected, find_number, Act, ConversationMove, Distributes, DistributorMoves, LawfulMoves, PortFacts}
-use Rattle.lagsystem.proofs.Common.{SystemSetup, Told, cond_false, cond_true, flows_weaker, moves_flows, MuxState, Attached, CollectingDistributing}
-use Rattle.lagsystem.proofs.Common.{Detached, Waiting, partner_synchronized, same_mux_state, selected, has_chosen, Assignment, Flushing, Free, On}
-use Rattle.lagsystem.proofs.Common.{Wanted, DistFault, Assigns, MaySend, PicksPort, is_among, Table, NoneDistributes, OnlyListedDistribute}
-use Rattle.lagsystem.proofs.Common.{model_distributor, Makes, each_moves, SystemPort, MuxesConsistent, model_port_of, model_view, model_view_at}
-use Rattle.lagsystem.proofs.Common.{mux_consistent_of, number_of_port, selected_number, aggregator_numbered, distributes_in, distributing}
-use Rattle.lagsystem.proofs.Common.{HoldsConversations, held_unless_on, SystemState, port_numbers}
+use Rattle.lagsystem.proofs.Common.{Bool, Err, IsSomeAnd, List, None, Ok, Option, Result, Some, [], ap, arith, eq-eqb, eqb, eqb-true, false}
+use Rattle.lagsystem.proofs.Common.{if◌then◌else◌, inl, inr, option_map, refl, slice_get, subst, suc, sym, true, zero, ℕ, ◌&&◌, ◌∙◌, ◌∷◌, ◌≡◌}
+use Rattle.lagsystem.proofs.Common.{cases_Bool, false≢true, nat_tests, none-some, AggId, Choice, find_number, Act, ConversationMove, Distributes}
+use Rattle.lagsystem.proofs.Common.{DistributorMoves, LawfulMoves, PortFacts, SystemSetup, Told, cond_false, cond_true, flows_weaker, moves_flows}
+use Rattle.lagsystem.proofs.Common.{MuxState, CollectingDistributing, partner_synchronized, same_mux_state, selected, has_chosen, Assignment}
+use Rattle.lagsystem.proofs.Common.{Flushing, Free, On, Wanted, DistFault, Assigns, MaySend, PicksPort, is_among, Table, NoneDistributes}
+use Rattle.lagsystem.proofs.Common.{OnlyListedDistribute, model_distributor, Makes, each_moves, SystemPort, MuxesConsistent, model_port_of}
+use Rattle.lagsystem.proofs.Common.{model_view, model_view_at, mux_consistent_of, number_of_port, selected_number, aggregator_numbered}
+use Rattle.lagsystem.proofs.Common.{distributes_in, distributing, HoldsConversations, held_unless_on, SystemState, port_numbers}
 use Rattle.lagsystem.proofs.Stopped.{from_here, from_rest, none_on, on, on_more}
 use Rattle.lagsystem.proofs.Rising.{Rises}
 
@@ -44,35 +43,16 @@ leaving_moves u call old new h =
 -- at rest a port distributes exactly if its mux machine does
 pub rest_distributes : (m : MuxState) (x s : Bool) → mux_consistent_of m x s ≡ true
     → (s && (x && same_mux_state CollectingDistributing m)) ≡ same_mux_state CollectingDistributing m
-rest_distributes Detached true true h = refl
-rest_distributes Detached true false h = refl
-rest_distributes Detached false true h = refl
-rest_distributes Detached false false h = refl
-rest_distributes Waiting true true h = refl
-rest_distributes Waiting true false h = refl
-rest_distributes Waiting false true h = refl
-rest_distributes Waiting false false h = refl
-rest_distributes Attached true true h = refl
-rest_distributes Attached true false h = refl
-rest_distributes Attached false s h = absurd (false≢true h)
-rest_distributes CollectingDistributing true true h = refl
-rest_distributes CollectingDistributing true false h = absurd (false≢true h)
-rest_distributes CollectingDistributing false s h = absurd (false≢true h)
+rest_distributes m x s h = grind (arith, nat_tests)
 
 -- a port that distributes in an aggregator is seen to do so
 given_number : (agg : AggId) (c : Choice) → has_chosen agg c ≡ true → selected_number c ≡ Some agg.0
-given_number agg Unselected h = absurd (false≢true h)
-given_number agg (Standby a) h = absurd (false≢true h)
-given_number agg (Selected a) h = ap (λ n. Some n) ((Decides-eqb a.0 agg.0).0 h)
+given_number agg c h = grind (arith, nat_tests)
 
 seen_there : (agg : AggId) (s : SystemPort) → (mux_consistent_of s.port.mux (selected s.port) (partner_synchronized s.port) ≡ true)
     → distributes_in agg s ≡ true
     → ((model_port_of s).aggregator ≡ Some agg.0) × ((model_port_of s).distributes ≡ true)
-seen_there agg s h d = (
-  given_number agg s.port.choice ((and_parts (has_chosen agg s.port.choice) (same_mux_state CollectingDistributing s.port.mux) d).0),
-  rest_distributes s.port.mux (selected s.port) (partner_synchronized s.port) h
-      ∙ (and_parts (has_chosen agg s.port.choice) (same_mux_state CollectingDistributing s.port.mux) d).1,
-)
+seen_there agg s h d = grind (arith, nat_tests)
 
 flipped : (m n : ℕ) → eqb m n ≡ true → eqb n m ≡ true
 flipped m n h = eq-eqb n m (sym (eqb-true m n h))
@@ -114,16 +94,8 @@ carrying_moves u call agg system_ports t new seen r a h =
 -- the port that the distributor answers may carry the frame
 among : (xs : List ℕ) (i q : ℕ) → slice_get xs i ≡ Some q → is_among xs q ≡ true
 among [] i q e = absurd (none-some q e)
-among (x ∷ xs) zero q e = here (eqb x q) (is_among xs q) (eq-eqb x q (same_Some x q e))
-  where
-    here : (a b : Bool) → a ≡ true → (a || b) ≡ true
-    here true b h = refl
-    here false b h = absurd (false≢true h)
-among (x ∷ xs) (suc i) q e = there (eqb x q) (is_among xs q) (among xs i q e)
-  where
-    there : (a b : Bool) → b ≡ true → (a || b) ≡ true
-    there true b h = refl
-    there false b h = h
+among (x ∷ xs) zero q e = grind (arith, nat_tests)
+among (x ∷ xs) (suc i) q e = grind (arith, nat_tests, among xs i q e)
 
 abbrev port_answer : ℕ → Result ℕ DistFault
 port_answer p = Ok p
@@ -137,18 +109,12 @@ no_Ok p fault e = cc
 picked_may : (gives : ℕ → ℕ → ℕ → Type 0) (conv : ℕ) (ports : List ℕ) (port : ℕ) → PicksPort gives conv ports (Ok port)
     → is_among ports port ≡ true
 picked_may gives conv [] port h = absurd (no_Ok port DistFault.NoneDistributing h)
-picked_may gives conv (p ∷ ports) port h = subst (λ q. is_among (p ∷ ports) q ≡ true) (sym (same_Ok port h.1 h.4))
-    (among (p ∷ ports) h.0 h.1 h.3)
+picked_may gives conv (p ∷ ports) port h = grind (arith, nat_tests, same_Ok, among)
 
 pub assigned_may : (gives : ℕ → ℕ → ℕ → Type 0) (conv : ℕ) (ports : List ℕ) (s : Assignment) (port : ℕ)
     → Assigns gives conv ports s (Ok port) → MaySend ports s port
 assigned_may gives conv ports (Free None) port h = picked_may gives conv ports port h
-assigned_may gives conv ports (Free (Some p)) port h = preferred (is_among ports p) refl h
-  where
-    preferred : (b : Bool) → is_among ports p ≡ b → MatchOption (cond b (Some p) None) (PicksPort gives conv ports (Ok port))
-        (λ q. port_answer port ≡ Ok q) → is_among ports port ≡ true
-    preferred true e a = subst (λ q. is_among ports q ≡ true) (sym (same_Ok port p a)) e
-    preferred false e a = picked_may gives conv ports port a
+assigned_may gives conv ports (Free (Some p)) port h = grind (arith, nat_tests, same_Ok, picked_may)
 assigned_may gives conv ports (On p) port h = same_Ok port p h
 assigned_may gives conv ports (Wanted p preferred) port h = absurd (no_Ok port DistFault.Held h)
 assigned_may gives conv ports (Flushing p id preferred age) port h = absurd (no_Ok port DistFault.Held h)

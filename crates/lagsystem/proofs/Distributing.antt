@@ -1,8 +1,8 @@
 -- The ports that distribute in an aggregator, and the numbers of ports, in ascending order.
-use Rattle.lagsystem.proofs.Common.{Bool, IsSomeAnd, List, None, Option, Some, [], ap, arith, cond, eq-eqb, false, filter, length, nat_le, nat_lt}
-use Rattle.lagsystem.proofs.Common.{refl, slice_get, slice_index, subst, suc, sym, true, zero, ℕ, ◌&&◌, ◌+◌, ◌<◌, ◌||◌, ◌∙◌, ◌∷◌, ◌≡◌, false≢true}
-use Rattle.lagsystem.proofs.Common.{nat_tests, none-some, slice_get_past, OnFalse, IsStrictlyIncreasing, AggId, Key, PortFacts, is_among, SystemPort}
-use Rattle.lagsystem.proofs.Common.{key_of, model_view, has_aggregator, distributes_in, distributing, HasPorts, IsSound, SystemState, port_numbers}
+use Rattle.lagsystem.proofs.Common.{Bool, IsSomeAnd, List, Option, Some, [], ap, arith, cond, eq-eqb, false, filter, length, nat_le, nat_lt, refl}
+use Rattle.lagsystem.proofs.Common.{slice_get, slice_index, subst, suc, sym, true, zero, ℕ, ◌&&◌, ◌<◌, ◌||◌, ◌∙◌, ◌∷◌, ◌≡◌, false≢true, nat_tests}
+use Rattle.lagsystem.proofs.Common.{none-some, slice_get_past, OnFalse, IsStrictlyIncreasing, AggId, Key, PortFacts, is_among, SystemPort, key_of}
+use Rattle.lagsystem.proofs.Common.{model_view, has_aggregator, distributes_in, distributing, HasPorts, IsSound, SystemState, port_numbers}
 use Rattle.lagsystem.proofs.Conversing.{seen_distributing}
 use Rattle.lagsystem.proofs.Rising.{Rises, ports_rise}
 
@@ -14,9 +14,7 @@ rises_next low (n ∷ m ∷ ns) zero r l = r.1.0
 rises_next low (n ∷ m ∷ ns) (suc k) r l = rises_next n (m ∷ ns) k r.1 (omega (arith, l))
 
 increasing : (low : ℕ) (ns : List ℕ) → Rises low ns → IsStrictlyIncreasing ns
-increasing low ns r k l =
-    let one : k + 1 ≡ suc k = omega arith in
-    subst (λ m. slice_index ns k < slice_index ns m) (sym one) (rises_next low ns k r (omega (arith, l)))
+increasing low ns r k l = grind (arith, nat_tests, rises_next)
 
 lower : (low mid : ℕ) (ns : List ℕ) → low < mid → Rises mid ns → Rises low ns
 lower low mid [] l r = tt
@@ -44,8 +42,7 @@ first_of : (p : ℕ) (ps : List ℕ) → is_among (p ∷ ps) p ≡ true
 first_of p ps = ap (λ b. b || is_among ps p) (eq-eqb p p refl)
 
 there : (o : Option PortFacts) (P : PortFacts → Type 0) → IsSomeAnd o P → (a : PortFacts) × (o ≡ Some a) × P a
-there None P h = absurd h
-there (Some a) P h = (a, refl, h)
+there o P h = grind (arith, nat_tests)
 
 within : (keys : List Key) (n : ℕ) (k : Key) (b : Bool) → slice_get keys n ≡ Some k
     → (nat_lt 0 (suc n) && nat_le (suc n) (length keys)) ≡ b → b ≡ true
@@ -65,10 +62,8 @@ none_there agg s (p ∷ ports) h unknown e =
     absurd (false≢true (sym unknown ∙ has_key s.keys agg.0 a.0.party.key (h.members.key p agg.0 a.0 a.1 a.2.0)))
 
 by_answer : (b : Bool) (P : Type 0) → (b ≡ false → P) → OnFalse b P
-by_answer true P f = tt
-by_answer false P f = f refl
+by_answer b P f = grind (arith, nat_tests)
 
 -- no port distributes in an aggregator that is not there
 pub none_distribute : (agg : AggId) (s : SystemState) → IsSound s → OnFalse (has_aggregator s agg) (distributing agg s.system_ports ≡ [])
-none_distribute agg s h = by_answer (has_aggregator s agg) (distributing agg s.system_ports ≡ [])
-    (λ unknown. none_there agg s (distributing agg s.system_ports) h unknown refl)
+none_distribute agg s h = grind (arith, nat_tests, by_answer, none_there)

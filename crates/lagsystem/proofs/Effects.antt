@@ -1,11 +1,11 @@
 -- How the own effect of a call changes the model's view of a port.
-use Rattle.lagsystem.proofs.Common.{Bool, IsSome, List, None, Option, Some, [], ap, false, if◌then◌else◌, inl, inr, not, refl, subst, sym, true, ℕ}
-use Rattle.lagsystem.proofs.Common.{◌&&◌, ◌||◌, ◌∙◌, ◌∷◌, ◌≡◌, ◌⊎◌, false≢true, Choice, Unselected, Party, StateBits, same_party, bits_of}
+use Rattle.lagsystem.proofs.Common.{Bool, IsSome, List, None, Option, Some, [], ap, arith, false, if◌then◌else◌, inl, inr, not, refl, subst, sym}
+use Rattle.lagsystem.proofs.Common.{true, ℕ, ◌&&◌, ◌||◌, ◌∙◌, ◌∷◌, ◌≡◌, ◌⊎◌, nat_tests, Choice, Unselected, Party, StateBits, same_party, bits_of}
 use Rattle.lagsystem.proofs.Common.{with_synchronization, with_timeout, exact_party, encode_then_decode, Info, Lacpdu, party_of, Act, PortMove, Shows}
 use Rattle.lagsystem.proofs.Common.{Took, Lacp, ModelCall, PortFacts, SystemSetup, Told_lacpdu, replies_frame, zero_party, CollectingDistributing}
-use Rattle.lagsystem.proofs.Common.{Machines, is_synchronized, partner_synchronized, same_mux_state, default_partner, is_maintained, lacpdu_rows}
-use Rattle.lagsystem.proofs.Common.{receive_rows, recorded_synchronization, start_receive, Fires, RunsToRest, after_sending, count_down, pdu_of}
-use Rattle.lagsystem.proofs.Common.{PortChange, ChangesParty, SetsPortEnabled, changed_party, choice_with_link, lacp_message, selected_number}
+use Rattle.lagsystem.proofs.Common.{Machines, is_synchronized, partner_synchronized, same_mux_state, default_partner, lacpdu_rows, receive_rows}
+use Rattle.lagsystem.proofs.Common.{recorded_synchronization, start_receive, Fires, RunsToRest, after_sending, count_down, pdu_of, PortChange}
+use Rattle.lagsystem.proofs.Common.{ChangesParty, SetsPortEnabled, changed_party, choice_with_link, lacp_message, selected_number}
 use Rattle.lagmodel.specs.View.{Receive}
 use Rattle.lagsystem.proofs.OfPort.{PortMoves, port_joined}
 use Rattle.lagsystem.proofs.Rows.{quiet, QuietMoves, EachMoves, settles_moves}
@@ -135,26 +135,14 @@ taking u call n party partner s d c false v t e h k =
     (PortMove.Leave ∷ PortMove.Take v t ∷ PortMove.Stop ∷ [], (λ ports. tt, (λ ports. (e, inr refl, k), (λ ports. tt, tt))), refl, refl)
 
 ends_true : (x y z : Bool) → (x && y && z) ≡ true → (x ≡ true) × (z ≡ true)
-ends_true true true z h = (refl, h)
-ends_true true false z h = absurd (false≢true h)
-ends_true false y z h = absurd (false≢true h)
+ends_true x y z h = grind (arith, nat_tests)
 
 either_way : (x y : Bool) → (x || not y) ≡ true → (x ≡ true) ⊎ (y ≡ false)
-either_way true y h = inl refl
-either_way false true h = absurd (false≢true h)
-either_way false false h = inr refl
+either_way x y h = grind (arith, nat_tests)
 
 says_so : (v : Lacpdu) (p : Machines) → recorded_synchronization v p ≡ true → ((bits_of v.actor.state).synchronization ≡ true)
     × ((party_of v.partner ≡ p.party) ⊎ ((party_of v.actor).aggregatable ≡ false))
-says_so v p h =
-    let both = ends_true (bits_of v.actor.state).synchronization (is_maintained v p) (same_party (party_of v.partner) p.party
-    || not (bits_of v.actor.state).aggregation) h in (
-      both.0,
-      elim (either_way (same_party (party_of v.partner) p.party) (bits_of v.actor.state).aggregation both.1) [
-        | inl same ↦ inl (exact_party (party_of v.partner) p.party same)
-        | inr alone ↦ inr alone
-      ],
-    )
+says_so v p h = grind (arith, nat_tests, ends_true, either_way, exact_party)
 
 pub taking_moves : (u : SystemSetup) (n : ℕ) (v : Lacpdu) (p q : Machines) → Fires (lacpdu_rows v) p q
     → QuietMoves u (Receive n (Some (Lacp (lacp_message v)))) n p (Took n (lacp_message v) ∷ []) q

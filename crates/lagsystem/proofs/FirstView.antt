@@ -1,33 +1,31 @@
 -- The first state of a system has the model's first view.
-use Rattle.lagsystem.proofs.Common.{Bool, List, None, Option, Some, [], ap, cond, eqb, eqb-true, false, if◌then◌else◌, inl, inr, length, not}
-use Rattle.lagsystem.proofs.Common.{option_map, refl, slice_get, slice_set, subst, suc, sym, true, zero, ℕ, ◌&&◌, ◌∙◌, ◌∷◌, ◌≡◌, ◌⊎◌, and_left}
-use Rattle.lagsystem.proofs.Common.{and_parts, and_right, none-some, same_Some, AllByRecursion, AllZip, AggId, SystemId, Standby, Unselected, Party}
-use Rattle.lagsystem.proofs.Common.{is_selected, is_unselected, bits_of, with_synchronization, encode_then_decode, find_number, ports_of}
-use Rattle.lagsystem.proofs.Common.{IsSystemSetup, PortFacts, first_port, first_view, mapped_some, whichever, Attached, CollectingDistributing}
-use Rattle.lagsystem.proofs.Common.{Detached, Waiting, Start, Current, Expired, Initialize, PortDisabled, Machines, mux_rows, partner_synchronized}
-use Rattle.lagsystem.proofs.Common.{same_mux_state, RunsPeriodic, periodic_rows, receive_rows, same_receive_state, start_receive, AtRest, Fires}
-use Rattle.lagsystem.proofs.Common.{FiresTimes, Row, RunsToRest, Starts, before_start, Reaches-keeps, chosen_aggregator, AggregatorsValue}
-use Rattle.lagsystem.proofs.Common.{is_eligible, model_distributor, first_flows, PortConfig, SystemPort, HasJustStarted, IsFirst, configured_number}
-use Rattle.lagsystem.proofs.Common.{setup_of, configured_party, model_port, model_port_of, model_setup, model_view, number_of_port, ChoosesIn}
-use Rattle.lagsystem.proofs.Common.{PortChangesBy, PortsChangeBy, PromotesFirst, PromotesNext, after_choice_at, after_choices, choice_for, ready_of}
-use Rattle.lagsystem.proofs.Common.{with_choice, SystemState, aggregators_value, with_system_ports, with_table, seen_at, views}
+use Rattle.lagsystem.proofs.Common.{Bool, List, None, Option, Some, [], ap, arith, cond, eqb, eqb-true, false, inl, inr, length, option_map, refl}
+use Rattle.lagsystem.proofs.Common.{slice_get, subst, suc, sym, true, zero, ℕ, ◌&&◌, ◌∙◌, ◌∷◌, ◌≡◌, ◌⊎◌, and_left, and_parts, and_right, nat_tests}
+use Rattle.lagsystem.proofs.Common.{none-some, same_Some, AllByRecursion, AllZip, AggId, SystemId, Standby, Unselected, Party, is_selected, bits_of}
+use Rattle.lagsystem.proofs.Common.{with_synchronization, encode_then_decode, find_number, ports_of, IsSystemSetup, PortFacts, first_port, first_view}
+use Rattle.lagsystem.proofs.Common.{mapped_some, whichever, Detached, Start, Current, Expired, Initialize, PortDisabled, Machines, mux_rows}
+use Rattle.lagsystem.proofs.Common.{partner_synchronized, RunsPeriodic, periodic_rows, receive_rows, same_receive_state, start_receive, AtRest, Fires}
+use Rattle.lagsystem.proofs.Common.{FiresTimes, Row, RunsToRest, Starts, before_start, Reaches-keeps, AggregatorsValue, is_eligible}
+use Rattle.lagsystem.proofs.Common.{model_distributor, first_flows, PortConfig, SystemPort, HasJustStarted, IsFirst, configured_number, setup_of}
+use Rattle.lagsystem.proofs.Common.{configured_party, model_port, model_port_of, model_setup, model_view, number_of_port, ChoosesIn, PortChangesBy}
+use Rattle.lagsystem.proofs.Common.{PortsChangeBy, PromotesFirst, PromotesNext, after_choice_at, after_choices, ready_of, SystemState}
+use Rattle.lagsystem.proofs.Common.{aggregators_value, with_system_ports, with_table, seen_at, views}
 use Rattle.lagsystem.proofs.Effects.{named, zero_named}
-use Rattle.lagsystem.proofs.Rest.{last_slots, zip_all}
+use Rattle.lagsystem.proofs.Rest.{zip_all}
+use Rattle.lagsystem.proofs.Keeps.{settling_in}
 use Rattle.lagsystem.proofs.Rising.{all-get}
-use Rattle.lagsystem.proofs.SettlingLemmas.{none_for, set_same}
+use Rattle.lagsystem.proofs.SettlingLemmas.{RunsReady, SettlesIn, none_for, set_same}
 use Rattle.lagsystem.proofs.Limiting.{next_stands}
 use Rattle.lagsystem.proofs.Occupying.{periodic_stays}
 use Rattle.lagsystem.proofs.PromotionLemmas.{promotions_keep}
 
 clash : (b : Bool) → b ≡ true → b ≡ false → ⊥
-clash true h k = cc
-clash false h k = cc
+clash b h k = grind (arith, nat_tests)
 
 -- lists that are alike in numbers and views show the same ports
 pushed : {X : Type 0} (v : X → PortFacts) (b : Bool) (x : X) (o : Option X)
     → option_map v (cond b (Some x) o) ≡ cond b (Some (v x)) (option_map v o)
-pushed v true x o = refl
-pushed v false x o = refl
+pushed v b x o = grind (arith, nat_tests)
 
 zip_ports : {X Y : Type 0} (n : X → ℕ) (m : Y → ℕ) (v : X → PortFacts) (w : Y → PortFacts) (xs : List X) (ys : List Y)
     → AllZip (λ x y. (m y ≡ n x) × (w y ≡ v x)) xs ys
@@ -35,11 +33,7 @@ zip_ports : {X Y : Type 0} (n : X → ℕ) (m : Y → ℕ) (v : X → PortFacts)
 zip_ports n m v w [] [] h q = refl
 zip_ports n m v w [] (y ∷ ys) h q = absurd h
 zip_ports n m v w (x ∷ xs) [] h q = absurd h
-zip_ports n m v w (x ∷ xs) (y ∷ ys) h q =
-    let rest = zip_ports n m v w xs ys h.1 q in
-    pushed w (eqb q (m y)) y (find_number m ys q)
-    ∙ (λ i. cond (eqb q (h.0.0 i)) (Some (h.0.1 i)) (rest i))
-    ∙ sym (pushed v (eqb q (n x)) x (find_number n xs q))
+zip_ports n m v w (x ∷ xs) (y ∷ ys) h q = grind (arith, nat_tests, zip_ports n m v w xs ys h.1 q)
 
 -- the start rows, with the link down
 abbrev hushed : Machines → PortFacts
@@ -138,22 +132,7 @@ stays rows zero p q r run = run
 stays rows (suc n) p q r run = absurd (never rows run.0 q (subst (AtRest rows) (sym (stays rows n p run.0 r run.1)) r) run.2)
 
 idle_mux : (ready : Bool) (party : Party) (p q : Machines) → Idle party p → RunsToRest (mux_rows ready) p q → q ≡ p
-idle_mux ready party p q x h = stays (mux_rows ready) h.0 p q (
-  and_right (same_mux_state Detached p.mux) (not (is_unselected p.choice)) (ap (λ c. not (is_unselected c)) x.nobody),
-  (
-    and_left (same_mux_state Waiting p.mux) _ (ap (same_mux_state Waiting) x.detached),
-    (
-      and_left (same_mux_state Waiting p.mux) _ (ap (same_mux_state Waiting) x.detached),
-      (
-        and_left (same_mux_state Attached p.mux) _ (ap (same_mux_state Attached) x.detached),
-        (
-          and_left (same_mux_state Attached p.mux) _ (ap (same_mux_state Attached) x.detached),
-          (and_left (same_mux_state CollectingDistributing p.mux) _ (ap (same_mux_state CollectingDistributing) x.detached), tt),
-        ),
-      ),
-    ),
-  ),
-) h.1
+idle_mux ready party p q x h = grind (arith, nat_tests, stays, and_right, and_left)
 
 -- each slot idles as its configuration says
 abbrev Idles : SystemId → PortConfig → SystemPort → Type 0
@@ -179,18 +158,12 @@ not_eligible s e = ap (λ b. is_eligible (record (seen_at s) { enabled = b })) e
 choose_idle : (aggs : AggregatorsValue) (system_ports : List SystemPort) (i : ℕ) (o : Option SystemPort) → slice_get system_ports i ≡ o
     → AllByRecursion (λ s. s.port.enabled ≡ false) system_ports → after_choice_at aggs system_ports i o ≡ system_ports
 choose_idle aggs system_ports i None e down = refl
-choose_idle aggs system_ports i (Some s) e down =
-    let none : choice_for aggs system_ports s ≡ None = none_for aggs system_ports s
-    (ap (λ b. if b then chosen_aggregator aggs.keys (views system_ports) s.number else None)
-    (not_eligible s (all-get (λ s. s.port.enabled ≡ false) system_ports i s e down))) in
-    ap (λ o. slice_set system_ports i (with_choice s o)) none ∙ set_same system_ports i s e
+choose_idle aggs system_ports i (Some s) e down = grind (arith, nat_tests, none_for, not_eligible, all-get, set_same)
 
 chosen_idle : (aggs : AggregatorsValue) (n : ℕ) (system_ports : List SystemPort) → AllByRecursion (λ s. s.port.enabled ≡ false) system_ports
     → after_choices aggs n system_ports ≡ system_ports
 chosen_idle aggs zero system_ports down = refl
-chosen_idle aggs (suc n) system_ports down =
-    ap (λ (l : List SystemPort). after_choice_at aggs l n (slice_get l n)) (chosen_idle aggs n system_ports down)
-    ∙ choose_idle aggs system_ports n (slice_get system_ports n) refl down
+chosen_idle aggs (suc n) system_ports down = grind (arith, nat_tests, choose_idle, chosen_idle aggs n system_ports down)
 
 -- no port is promoted while all are UNSELECTED
 abbrev pub AllUnselected : List SystemPort → Type 0
@@ -212,9 +185,7 @@ promoted_idle aggs n start new a h =
 
 choosing_idle : (aggs : AggregatorsValue) (start new : List SystemPort) → AllUnselected start
     → AllByRecursion (λ s. s.port.enabled ≡ false) start → ChoosesIn aggs start new → new ≡ start
-choosing_idle aggs start new a down h =
-    let same = promoted_idle aggs (length aggs.keys) start h.0 a h.1 in
-    h.2 ∙ ap (λ (l : List SystemPort). after_choices aggs (length l) l) same ∙ chosen_idle aggs (length start) start down
+choosing_idle aggs start new a down h = grind (arith, nat_tests, promoted_idle, chosen_idle)
 
 periodic_shown : (p q : Machines) → RunsPeriodic p q → model_port q ≡ model_port p
 periodic_shown p q h = ap model_port h.2
@@ -231,35 +202,25 @@ zip_weaker R S w (x ∷ xs) [] h = absurd h
 zip_weaker R S w (x ∷ xs) (y ∷ ys) h = (w x y h.0, zip_weaker R S w xs ys h.1)
 
 composed : {X : Type 0} (f : Party → PortFacts) (g : X → Party) (o : Option X) → option_map (λ x. f (g x)) o ≡ option_map f (option_map g o)
-composed f g None = refl
-composed f g (Some x) = refl
+composed f g o = grind (arith, nat_tests)
 
 -- so the periodic rows alone change the ports
 pub first_periodic : (s : SystemState) (h : IsFirst s) → PortsChangeBy RunsPeriodic h.0 s.system_ports
 first_periodic s h =
     let start = h.0 in
-    let run = h.2 in
-    let one = run.0 in
-    let two = run.2.0 in
-    let three = run.2.2.0 in
-    let four = run.2.2.2.0 in
-    let five = run.2.2.2.2.0 in
+    let aggs = aggregators_value s in
+    let run : SettlesIn aggs start s.system_ports = settling_in (with_system_ports s start) s h.2 in
     let idle : AllZip (Idles s.system) s.ports start = zip_weaker (HasJustStarted s.system) (Idles s.system)
     (λ c x m. (m.0, starts_idle (setup_of s.system c) x.port m.2)) s.ports start h.1 in
     let down : AllByRecursion (λ x. x.port.enabled ≡ false) start = zip_all (Idles s.system) (λ x. x.port.enabled ≡ false)
     (λ c x m. m.1.down) s.ports start idle in
-    let s1 : one.system_ports ≡ start = idle_slots s.system (λ p q. RunsToRest (mux_rows false) p q)
-    (λ party p q a m. idle_mux false party p q a m) s.ports start one.system_ports idle run.1.0 in
     let nobody : AllUnselected start = zip_all (Idles s.system) (λ x. x.port.choice ≡ Unselected) (λ c x m. m.1.nobody) s.ports start idle in
-    let s2 : two.system_ports ≡ start = choosing_idle (aggregators_value one) start two.system_ports nobody down
-    (subst (λ l. ChoosesIn (aggregators_value one) l two.system_ports) s1 run.2.1.0) in
-    let s3 : three.system_ports ≡ start = ap (λ (x : SystemState). x.system_ports) run.2.2.1 ∙ s2 in
-    let ready : Machines → Machines → Type 0 = λ p q. RunsToRest (mux_rows (ready_of three.keys (views three.system_ports) p.choice)) p q in
-    let s4 : four.system_ports ≡ start =
-    idle_slots s.system ready (λ party p q a m. idle_mux (ready_of three.keys (views three.system_ports) p.choice) party p q a m) s.ports
-    start four.system_ports idle (subst (λ l. PortsChangeBy ready l four.system_ports) s3 run.2.2.2.1.0) in
-    subst (λ l. PortsChangeBy RunsPeriodic start l) (sym (last_slots (with_system_ports s start) s run))
-    (subst (λ l. PortsChangeBy RunsPeriodic l five.system_ports) s4 run.2.2.2.2.1.0)
+    let one : run.one ≡ start = idle_slots s.system (RunsToRest (mux_rows false)) (idle_mux false) s.ports start run.one idle run.stops in
+    let two : run.two ≡ start = choosing_idle aggs start run.two nobody down (subst (λ l. ChoosesIn aggs l run.two) one run.chooses) in
+    let ready = RunsReady s.keys (views run.two) in
+    let four : run.four ≡ start = idle_slots s.system ready (λ party p q. idle_mux (ready_of s.keys (views run.two) p.choice) party p q)
+    s.ports start run.four idle (subst (λ l. PortsChangeBy ready l run.four) two run.runs) in
+    subst (λ l. PortsChangeBy RunsPeriodic l s.system_ports) four run.paces
 
 pub first_shows : (s : SystemState) → IsFirst s → model_view s ≡ first_view (model_setup s)
 first_shows s h =
@@ -308,9 +269,4 @@ number_found (x ∷ xs) q c e = elim (whichever (eqb q x.number) (Some x) (find_
 ]
 
 pub configured_setup : (s : SystemState) → IsSystemSetup (model_setup s)
-configured_setup s = record {
-  system = λ p a e. (let x = mapped_some (configured_party s.system) (find_number configured_number s.ports p) a e in ap
-      (λ (y : Party). y.system) (sym x.2));
-  number = λ p a e. (let x = mapped_some (configured_party s.system) (find_number configured_number s.ports p) a e in ap
-      (λ (y : Party). y.port.number) (sym x.2) ∙ number_found s.ports p x.0 x.1);
-}
+configured_setup s = grind (arith, nat_tests, mapped_some, number_found)

@@ -1,10 +1,9 @@
 -- To force what is held on a port frees just that, and counts it.
-use Rattle.lagsystem.proofs.Common.{Bool, Err, None, Ok, Option, Result, ap, arith, cond, eqb, eqb-true, false, if◌then◌else◌, inl, inr, length}
-use Rattle.lagsystem.proofs.Common.{nat_lt, refl, subst, suc, sym, true, zero, ℕ, ◌&&◌, ◌+◌, ◌<◌, ◌==◌, ◌∙◌, ◌≡◌, ◌≤◌, ◌⊎◌, and_parts, cases_Bool}
-use Rattle.lagsystem.proofs.Common.{true≢false, nat_tests, AggId, itself, Assignment, Flushing, Free, On, Wanted, DistFault, force_result, is_held_on}
-use Rattle.lagsystem.proofs.Common.{Table, assignment_of, same_sum, SystemFault, NoAggregator, ForcesFirst, ForcesIfHeld, ForcesIn, ForcesPort}
-use Rattle.lagsystem.proofs.Common.{FreesHeld, NoneIsHeldOn, after_forcing, count_held_on, GivesAssignment, GivesOrRefuses, has_aggregator, in_system}
-use Rattle.lagsystem.proofs.Common.{system_force_result, aggregator_numbered, conversation_count, IsSound, SystemState, with_table}
+use Rattle.lagsystem.proofs.Common.{Bool, Err, Ok, Result, ap, arith, cond, eqb, false, if◌then◌else◌, inl, inr, length, nat_lt, suc, true, zero, ℕ}
+use Rattle.lagsystem.proofs.Common.{◌&&◌, ◌+◌, ◌<◌, ◌∙◌, ◌≡◌, ◌≤◌, ◌⊎◌, cases_Bool, nat_tests, AggId, itself, Assignment, DistFault, force_result}
+use Rattle.lagsystem.proofs.Common.{is_held_on, Table, assignment_of, same_sum, SystemFault, NoAggregator, ForcesFirst, ForcesIfHeld, ForcesIn}
+use Rattle.lagsystem.proofs.Common.{ForcesPort, FreesHeld, NoneIsHeldOn, after_forcing, count_held_on, GivesAssignment, GivesOrRefuses, in_system}
+use Rattle.lagsystem.proofs.Common.{IsSound, SystemState, with_table}
 use Rattle.distributor.specs.Conversations.{sum_below}
 use Rattle.distributor.specs.declared.fault.DistFault.TheVariants as dist
 
@@ -20,95 +19,37 @@ record Forced (port : ℕ) (Named : ℕ → ℕ → Type 0) (old new : SystemSta
 
 -- none is forced
 none_forced : (port : ℕ) (Named : ℕ → ℕ → Type 0) (old new : SystemState) → ((a c : ℕ) → Named a c → ⊥) → new ≡ old → Forced port Named old new
-none_forced port Named old new never e = subst (Forced port Named old) (sym e) (record {
-  others = refl;
-  aggs = refl;
-  conversations = refl;
-  first = refl;
-  next = refl;
-  named = λ a c d. absurd (never a c d);
-  rest = λ a c d. refl;
-})
+none_forced port Named old new never e = grind (arith, nat_tests)
 
 -- those of the one test and those of the other are forced, one after another
 both_forced : (port : ℕ) (One More Named : ℕ → ℕ → Type 0) (old mid new : SystemState) → Forced port One old mid → Forced port More mid new
     → ((a c : ℕ) → One a c → More a c → ⊥) → ((a c : ℕ) → Named a c → One a c ⊎ More a c)
     → ((a c : ℕ) → One a c → Named a c) → ((a c : ℕ) → More a c → Named a c) → Forced port Named old new
-both_forced port One More Named old mid new h k apart split left right = record {
-  others = k.others ∙ ap (λ (s : SystemState). with_table s new.table) h.others;
-  aggs = k.aggs ∙ h.aggs;
-  conversations = k.conversations ∙ h.conversations;
-  first = k.first ∙ h.first;
-  next = k.next ∙ h.next;
-  named = λ a c d. elim (split a c d) [
-    | inl o ↦ k.rest a c (λ m. apart a c o m) ∙ h.named a c o
-    | inr m ↦ k.named a c m ∙ ap (after_forcing port) (h.rest a c (λ o. apart a c o m))
-  ];
-  rest = λ a c d. k.rest a c (λ m. d (right a c m)) ∙ h.rest a c (λ o. d (left a c o));
-}
+both_forced port One More Named old mid new h k apart split left right = grind (arith, nat_tests)
 
 -- what `force` does to a conversation that is held
 
-abbrev state_in : Result Assignment DistFault → Assignment
-state_in (Ok state) = state
-state_in (Err fault) = Free None
-
-abbrev state_of : Result Assignment SystemFault → Assignment
-state_of (Ok state) = state
-state_of (Err fault) = Free None
-
 freed : (port : ℕ) (a : Assignment) (state : Assignment) → is_held_on port a ≡ true → force_result a ≡ Ok state → state ≡ after_forcing port a
-freed port (Free preferred) state h e = absurd (true≢false (sym h))
-freed port (On given) state h e = absurd (true≢false (sym h))
-freed port (Wanted given preferred) state h e = sym (ap state_in e)
-    ∙ sym (ap (λ b. if b then Free preferred else Wanted given preferred) h)
-freed port (Flushing given id preferred age) state h e = sym (ap state_in e)
-    ∙ sym (ap (λ b. if b then Free preferred else Flushing given id preferred age) h)
-
-not_held : (port : ℕ) (a : Assignment) → is_held_on port a ≡ false → after_forcing port a ≡ a
-not_held port (Free preferred) h = refl
-not_held port (On given) h = refl
-not_held port (Wanted given preferred) h = ap (λ b. if b then Free preferred else Wanted given preferred) h
-not_held port (Flushing given id preferred age) h = ap (λ b. if b then Free preferred else Flushing given id preferred age) h
-
-wanted_after : (port given : ℕ) (preferred : Option ℕ) (b : Bool) → (given == port) ≡ b
-    → is_held_on port (if b then Free preferred else Wanted given preferred) ≡ false
-wanted_after port given preferred true e = refl
-wanted_after port given preferred false e = e
-
-flushing_after : (port given id age : ℕ) (preferred : Option ℕ) (b : Bool) → (given == port) ≡ b
-    → is_held_on port (if b then Free preferred else Flushing given id preferred age) ≡ false
-flushing_after port given id age preferred true e = refl
-flushing_after port given id age preferred false e = e
+freed port a state h e = grind (arith, nat_tests)
 
 free_after : (port : ℕ) (a : Assignment) → is_held_on port (after_forcing port a) ≡ false
-free_after port (Free preferred) = refl
-free_after port (On given) = refl
-free_after port (Wanted given preferred) = wanted_after port given preferred (given == port) refl
-free_after port (Flushing given id preferred age) = flushing_after port given id age preferred (given == port) refl
+free_after port a = grind (arith, nat_tests)
 
 -- what the call `force` says where it does not refuse
 
 given_state : (r : Result Assignment SystemFault) (agg : AggId) (conv : ℕ) (old new : SystemState) → GivesOrRefuses agg conv r old (Ok tt) new
     → (state : Assignment) × (r ≡ Ok state) × GivesAssignment agg conv state old new
-given_state (Ok state) agg conv old new h = (state, refl, h.1)
-given_state (Err fault) agg conv old new h = absurd cc
+given_state r agg conv old new h = grind (arith, nat_tests)
 
 through : (b c : Bool) (r : Result Assignment DistFault) (state : Assignment)
     → (if b then in_system (if c then r else Err dist.NotAssigned) else Err NoAggregator) ≡ Ok state → r ≡ Ok state
-through true true (Ok x) state e = ap (λ (y : Assignment). Ok y) (ap state_of e)
-through true true (Err fault) state e = absurd cc
-through true false r state e = absurd cc
-through false c r state e = absurd cc
+through b c r state e = grind (arith, nat_tests)
 
 at_place : (g k a c : ℕ) → a ≡ g → c ≡ k → (eqb g a && eqb k c) ≡ true
 at_place g k a c e f = (λ i. eqb g (e i) && eqb k (f i)) ∙ (λ i. itself g i && itself k i)
 
 not_at : (g k a c : ℕ) → ((a ≡ g) × (c ≡ k) → ⊥) → (eqb g a && eqb k c) ≡ false
-not_at g k a c never = elim (cases_Bool (eqb g a && eqb k c)) [
-  | inl t ↦ (let both = and_parts (eqb g a) (eqb k c) t in absurd (never (sym (eqb-true g a both.0), sym (eqb-true k c both.1))))
-  | inr f ↦ f
-]
+not_at g k a c never = grind (arith, nat_tests)
 
 -- one conversation, those of an aggregator, and those of all
 
@@ -118,37 +59,8 @@ IsOne g k a c = (a ≡ g) × (c ≡ k)
 one_forced : (gives : ℕ → ℕ → ℕ → Type 0) (port : ℕ) (agg : AggId) (conv : ℕ) (old : SystemState) (b : Bool) (new : SystemState)
     → ForcesIfHeld gives port agg conv old b new
     → Forced port (IsOne agg.0 conv) old new × (b ≡ is_held_on port (assignment_of old.table agg.0 conv))
-one_forced gives port agg conv old true new h =
-    let was = assignment_of old.table agg.0 conv in
-    let g = given_state (system_force_result old agg conv) agg conv old new h.1.step in
-    let is = freed port was g.0 h.0
-    (through (has_aggregator old agg) (nat_lt conv (conversation_count old)) (force_result was) g.0 g.1) in
-    let sets = g.2.0 in (
-      record {
-        others = g.2.1;
-        aggs = sets.aggs;
-        conversations = sets.conversations;
-        first = sets.first;
-        next = sets.next;
-        named = λ a c d. sets.states a c ∙ ap (λ x. cond x g.0 (assignment_of old.table a c)) (at_place agg.0 conv a c d.0 d.1) ∙ is
-            ∙ (λ i. after_forcing port (assignment_of old.table (sym d.0 i) (sym d.1 i)));
-        rest = λ a c no. sets.states a c ∙ ap (λ x. cond x g.0 (assignment_of old.table a c)) (not_at agg.0 conv a c no);
-      },
-      sym h.0,
-    )
-one_forced gives port agg conv old false new h = (
-  subst (Forced port (IsOne agg.0 conv) old) (sym h.1) (record {
-    others = refl;
-    aggs = refl;
-    conversations = refl;
-    first = refl;
-    next = refl;
-    named = λ a c d. sym (not_held port (assignment_of old.table a c)
-        ((λ i. is_held_on port (assignment_of old.table (d.0 i) (d.1 i))) ∙ h.0));
-    rest = λ a c d. refl;
-  }),
-  sym h.0,
-)
+one_forced gives port agg conv old true new h = grind (arith, nat_tests, given_state, freed, through, at_place, not_at)
+one_forced gives port agg conv old false new h = grind (arith, nat_tests)
 
 -- how many of the first conversations of an aggregator are held on the port
 abbrev held_in : ℕ → Table → ℕ → ℕ → ℕ
@@ -190,24 +102,9 @@ first_forced : (gives : ℕ → ℕ → ℕ → Type 0) (port g : ℕ) (old : Sy
     → Forced port (IsAmongFirst old.conversations g) old new
     × (n ≡ sum_below (λ a. held_in port old.table (a + 1) old.conversations) g)
 unfolding sum_below
-first_forced gives port zero old n new h =
-    (none_forced port (IsAmongFirst old.conversations 0) old new (λ a c d. omega (arith, d.0, d.1)) h.0, h.1)
+first_forced gives port zero old n new h = grind (arith, nat_tests)
 first_forced gives port (suc g) old n new h =
-    let many = old.conversations in
-    let before = first_forced gives port g old h.1 h.0 h.3 in
-    let kept : h.0.conversations ≡ many = ap (λ (s : SystemState). s.conversations) before.0.others in
-    let one = in_forced gives port (aggregator_numbered (suc g)) many h.0 h.2 new
-    (subst (λ k. ForcesIn gives port (aggregator_numbered (suc g)) k h.0 h.2 new) kept h.4) in
-    let same : h.2 ≡ held_in port old.table (g + 1) many = one.1
-    ∙ same_sum _ _ many (λ c l. ap (λ x. cond (is_held_on port x) 1 0)
-    (before.0.rest (suc g) c (λ d. omega (arith, d.1)) ∙ ap (λ a. assignment_of old.table a c) (next_number g))) in (
-      both_forced port (IsAmongFirst many g) (IsBelow (suc g) many) (IsAmongFirst many (suc g)) old h.0 new before.0 one.0
-          (λ a c d e. omega (arith, d.1, e.0))
-          (λ a c d. elim (up_to a g d.1) [ inl l ↦ inl (d.0, l, d.2) | inr e ↦ inr (e, d.2) ])
-          (λ a c d. (d.0, omega (arith, d.1), d.2))
-          (λ a c d. (omega (arith, d.0), omega (arith, d.0), d.1)),
-      h.5 ∙ (λ i. before.1 i + same i),
-    )
+    grind (arith, nat_tests, in_forced, same_sum, next_number, both_forced, up_to, first_forced gives port g old h.1 h.0 h.3)
 
 all_forced : (gives : ℕ → ℕ → ℕ → Type 0) (port : ℕ) (old : SystemState) (n : ℕ) (new : SystemState) → ForcesPort gives port old (Ok n) new
     → Forced port (IsAmongFirst old.conversations (length old.keys)) old new
@@ -216,26 +113,12 @@ all_forced gives port old n new h = first_forced gives port (length old.keys) ol
 
 pub frees_held : (gives : ℕ → ℕ → ℕ → Type 0) (port : ℕ) (old : SystemState) (n : ℕ) (new : SystemState) → IsSound old
     → ForcesPort gives port old (Ok n) new → FreesHeld port old new
-frees_held gives port old n new s h =
-    let f = (all_forced gives port old n new h).0 in
-    record {
-      others = f.others;
-      aggs = f.aggs;
-      conversations = f.conversations;
-      first = f.first;
-      next = f.next;
-      forced = λ a c d. f.named a c (d.0, omega (arith, d.1, s.aggregators), omega (arith, d.2, s.conversations));
-      outside = λ a c no. f.rest a c (λ d. no (d.0, omega (arith, d.1, s.aggregators), omega (arith, d.2, s.conversations)));
-    }
+frees_held gives port old n new s h = grind (arith, nat_tests, all_forced)
 
 pub none_is_held : (gives : ℕ → ℕ → ℕ → Type 0) (port : ℕ) (old : SystemState) (n : ℕ) (new : SystemState) → IsSound old
     → ForcesPort gives port old (Ok n) new → NoneIsHeldOn port new
-none_is_held gives port old n new s h a c d =
-    let f = frees_held gives port old n new s h in
-    ap (is_held_on port) (f.forced a c (d.0, omega (arith, d.1, f.aggs), omega (arith, d.2, f.conversations)))
-    ∙ free_after port (assignment_of old.table a c)
+none_is_held gives port old n new s h a c d = grind (arith, nat_tests, frees_held, free_after)
 
 pub counts_held : (gives : ℕ → ℕ → ℕ → Type 0) (port : ℕ) (old : SystemState) (n : ℕ) (new : SystemState) → IsSound old
     → ForcesPort gives port old (Ok n) new → n ≡ count_held_on port old
-counts_held gives port old n new s h = (all_forced gives port old n new h).1
-    ∙ (λ i. sum_below (λ a. held_in port old.table (a + 1) (sym s.conversations i)) (sym s.aggregators i))
+counts_held gives port old n new s h = grind (arith, nat_tests, all_forced)

@@ -1,8 +1,7 @@
 -- Ports in front of the first that is not SELECTED.
-use Rattle.lagsystem.proofs.Common.{Bool, List, None, Option, Some, [], ap, arith, cond, drop, false, get_or, inl, inr, length, nat_lt, not, position}
-use Rattle.lagsystem.proofs.Common.{refl, slice_get, subst, suc, sym, zero, ℕ, ◌<◌, ◌||◌, ◌∙◌, ◌∷◌, ◌≡◌, ◌≤◌, cases_Bool, cond-true, nat_tests}
-use Rattle.lagsystem.proofs.Common.{list_any_none, position-Some, fails_before_first, none-some, same_Some, slice_get-get_or, list_any}
-use Rattle.lagsystem.proofs.Common.{position_or_len, is_selected, is_standby, SystemPort}
+use Rattle.lagsystem.proofs.Common.{Bool, List, None, Option, Some, [], ap, arith, drop, false, get_or, length, not, position, refl, slice_get, subst}
+use Rattle.lagsystem.proofs.Common.{suc, sym, zero, ℕ, ◌<◌, ◌||◌, ◌∙◌, ◌∷◌, ◌≡◌, cases_Bool, cond-true, nat_tests, list_any_none, position-Some}
+use Rattle.lagsystem.proofs.Common.{fails_before_first, same_Some, slice_get-get_or, list_any, is_selected, is_standby, SystemPort}
 use Rattle.lagsystem.proofs.NextLemmas.{selected_not_standby}
 
 -- the index of the first port that is not SELECTED
@@ -15,8 +14,7 @@ pub front_selected : (l : List SystemPort) (i k : ℕ) (d : SystemPort) → firs
 front_selected l i k d e lt = (position-Some (λ s. not (is_selected s.port.choice)) l i d e).2 k lt
 
 pub first_within : (l : List SystemPort) (i : ℕ) → first_unselected l ≡ Some i → i < length l
-first_within [] i e = absurd cc
-first_within (x ∷ xs) i e = (position-Some (λ s. not (is_selected s.port.choice)) (x ∷ xs) i x e).0
+first_within l i e = grind (arith, nat_tests)
 
 -- and so is not STANDBY
 pub first_not_standby : (l : List SystemPort) (i k : ℕ) (s : SystemPort) → first_unselected l ≡ Some i → k < i → slice_get l k ≡ Some s
@@ -39,13 +37,4 @@ any_from p none (x ∷ xs) i e = onward (x ∷ xs) i (λ k lt. none _ (front_sel
 
 -- where there is none, each port is SELECTED
 pub none_unselected : (l : List SystemPort) → first_unselected l ≡ None → list_any (λ s. not (is_selected s.port.choice)) l ≡ false
-none_unselected l e =
-    let long : length l ≤ position_or_len (λ s. not (is_selected s.port.choice)) l = past _ _ e in
-    list_any_none (λ s. not (is_selected s.port.choice)) l
-    (λ k d lt. fails_before_first (λ s. not (is_selected s.port.choice)) l k d (omega (arith, lt, long)))
-  where
-    past : (m n : ℕ) → cond (nat_lt m n) (Some m) None ≡ None → n ≤ m
-    past m n h = elim (cases_Bool (nat_lt m n)) [
-      | inl t ↦ absurd (none-some m (sym h ∙ cond-true (nat_lt m n) (Some m) None t))
-      | inr f ↦ grind (arith, nat_tests)
-    ]
+none_unselected l e = grind (arith, nat_tests, list_any_none, fails_before_first, cases_Bool, cond-true)

@@ -1,6 +1,6 @@
 -- Where no conversation is held on a port, to force what is held there changes nothing.
-use Rattle.lagsystem.proofs.Common.{Bool, Ok, ap, arith, cond, false, inl, inr, is_some, length, refl, subst, suc, true, zero, ℕ, ◌+◌, ◌<◌, ◌∙◌, ◌≡◌}
-use Rattle.lagsystem.proofs.Common.{AggId, is_held_on, assignment_of, ForcesFirst, ForcesIn, ForcesPort, count_held_on, aggregator_numbered, IsSound}
+use Rattle.lagsystem.proofs.Common.{Bool, Ok, ap, arith, cond, false, inl, inr, is_some, length, refl, suc, true, zero, ℕ, ◌+◌, ◌<◌, ◌∙◌, ◌≡◌}
+use Rattle.lagsystem.proofs.Common.{nat_tests, AggId, is_held_on, assignment_of, ForcesFirst, ForcesIn, ForcesPort, count_held_on, IsSound}
 use Rattle.lagsystem.proofs.Common.{SystemState, port_index}
 use Rattle.distributor.specs.Conversations.{sum_below}
 use Rattle.lagsystem.proofs.TellingLemmas.{below_or_at}
@@ -15,8 +15,7 @@ each_zero f (suc n) e k l = elim (below_or_at k n (let next : suc n ≡ n + 1 = 
 ]
 
 not_counted : (b : Bool) → ◌≡◌ {A = ℕ} (cond b 1 0) 0 → b ≡ false
-not_counted false e = refl
-not_counted true e = absurd (omega (arith, e))
+not_counted b e = grind (arith, nat_tests)
 
 -- no conversation of this aggregator is held
 abbrev NoneIn : ℕ → SystemState → ℕ → ℕ → Type 0
@@ -25,24 +24,12 @@ NoneIn port s g count = (c : ℕ) → c < count → is_held_on port (assignment_
 none_in : (gives : ℕ → ℕ → ℕ → Type 0) (port : ℕ) (agg : AggId) (s : SystemState) (k : ℕ) → NoneIn port s agg.0 k
     → ForcesIn gives port agg k s 0 s
 none_in gives port agg s zero h = (refl, refl)
-none_in gives port agg s (suc k) h =
-    (s, 0, false, none_in gives port agg s k (λ c l. h c (omega (arith, l))), (h k (omega arith), refl), refl)
+none_in gives port agg s (suc k) h = grind (arith, nat_tests, none_in gives port agg s k (λ c l. h c (omega (arith, l))))
 
 none_first : (gives : ℕ → ℕ → ℕ → Type 0) (port : ℕ) (s : SystemState) (g : ℕ)
     → ((a : ℕ) → a < g → NoneIn port s (a + 1) s.conversations) → ForcesFirst gives port g s 0 s
 none_first gives port s zero h = (refl, refl)
-none_first gives port s (suc g) h = (
-  s,
-  0,
-  0,
-  none_first gives port s g (λ a l. h a (omega (arith, l))),
-  none_in gives port (aggregator_numbered (suc g)) s s.conversations
-      (subst (λ a. NoneIn port s a s.conversations) (next g) (h g (omega arith))),
-  refl,
-)
-  where
-    next : (n : ℕ) → n + 1 ≡ suc n
-    next n = omega arith
+none_first gives port s (suc g) h = grind (arith, nat_tests, none_in, none_first gives port s g (λ a l. h a (omega (arith, l))))
 
 pub forces_none : (gives : ℕ → ℕ → ℕ → Type 0) (port : ℕ) (s : SystemState) → IsSound s → count_held_on port s ≡ 0
     → is_some (port_index port s.system_ports) ≡ true → ForcesPort gives port s (Ok 0) s

@@ -1,9 +1,7 @@
 -- Conversations leave stopped ports, one port after another.
-use Rattle.lagsystem.proofs.Common.{Bool, List, None, Option, Some, [], add-one, ap, arith, eq-eqb, false, get_or, if◌then◌else◌, inl, inr, length}
-use Rattle.lagsystem.proofs.Common.{not, refl, slice_set, suc, sym, take, true, zero, ℕ, ◌&&◌, ◌+◌, ◌<◌, ◌==◌, ◌||◌, ◌∙◌, ◌∷◌, ◌≡◌, cases_eq, ne_eqb}
-use Rattle.lagsystem.proofs.Common.{AggId, Choice, Selected, Standby, Unselected, CollectingDistributing, same_mux_state, has_chosen, Assignment}
-use Rattle.lagsystem.proofs.Common.{Flushing, Free, On, Wanted, ChangesAssignments, after_leave, Table, assignment_of, SystemPort, after_holding}
-use Rattle.lagsystem.proofs.Common.{aggregators_in_use, has_stopped, stopped, collecting, selected_aggregator}
+use Rattle.lagsystem.proofs.Common.{Bool, List, Option, [], add-one, ap, arith, false, get_or, length, refl, slice_set, suc, take, true, zero, ℕ}
+use Rattle.lagsystem.proofs.Common.{◌&&◌, ◌+◌, ◌<◌, ◌==◌, ◌||◌, ◌∙◌, ◌∷◌, ◌≡◌, nat_tests, AggId, Assignment, ChangesAssignments, after_leave, Table}
+use Rattle.lagsystem.proofs.Common.{assignment_of, SystemPort, after_holding, aggregators_in_use, has_stopped, stopped}
 use Rattle.std.proofs.Math.Bool.{and-true}
 
 -- the port s left, if it is the one with the number p
@@ -11,14 +9,7 @@ abbrev leaves : Option AggId → SystemPort → ℕ → Bool
 leaves was s p = (s.number == p) && has_stopped was s
 
 or_swap : (a b : Bool) → (a || b) ≡ (b || a)
-or_swap true true = refl
-or_swap true false = refl
-or_swap false true = refl
-or_swap false false = refl
-
-or_later : (a b c : Bool) → (a || (b || c)) ≡ ((a || b) || c)
-or_later true b c = refl
-or_later false b c = refl
+or_swap a b = grind (arith, nat_tests)
 
 stopped_suc : (before : List (Option AggId)) (system_ports : List SystemPort) (i : ℕ) (d : Option AggId) (e : SystemPort) (p : ℕ)
     → i < length before → length before ≡ length system_ports
@@ -27,9 +18,7 @@ stopped_suc : (before : List (Option AggId)) (system_ports : List SystemPort) (i
 stopped_suc [] system_ports i d e p l same = absurd (omega arith)
 stopped_suc (b ∷ bs) [] i d e p l same = absurd (omega (arith, same))
 stopped_suc (b ∷ bs) (s ∷ ss) zero d e p l same = or_swap (leaves b s p) false
-stopped_suc (b ∷ bs) (s ∷ ss) (suc i) d e p l same =
-    ap (λ x. leaves b s p || x) (stopped_suc bs ss i d e p (omega arith) (omega (arith, same)))
-    ∙ or_later (leaves b s p) (stopped (take i bs) (take i ss) p) (leaves (get_or bs i d) (get_or ss i e) p)
+stopped_suc (b ∷ bs) (s ∷ ss) (suc i) d e p l same = grind (arith, nat_tests, stopped_suc bs ss i d e p (omega arith) (omega (arith, same)))
 
 -- the ports of one more place
 pub stopped_more : (before : List (Option AggId)) (system_ports : List SystemPort) (i : ℕ) (d : Option AggId) (e : SystemPort) (p : ℕ)
@@ -38,32 +27,17 @@ pub stopped_more : (before : List (Option AggId)) (system_ports : List SystemPor
     || leaves (get_or before i d) (get_or system_ports i e) p)
 stopped_more before system_ports i d e p l same = rw add-one (stopped_suc before system_ports i d e p l same)
 
-leave_one : (b : Bool) (n p : ℕ) → after_leave n (if b then Wanted p None else On p) ≡ (if b || (n == p) then Wanted p None else On p)
-leave_one true n p = refl
-leave_one false n p = elim (cases_eq n p) [
-  | inl e ↦ rw (eq-eqb p n (sym e), eq-eqb n p e) (ap (λ q. Wanted q None) e)
-  | inr ne ↦ rw (ne_eqb p n (λ e. ne (sym e)), ne_eqb n p ne) refl
-]
-
 -- one more port is left
 leave_more : (f g : ℕ → Bool) (n : ℕ) → ((p : ℕ) → g p ≡ (f p || (n == p))) → (s : Assignment)
     → after_leave n (after_holding f s) ≡ after_holding g s
-leave_more f g n e (Free preferred) = refl
-leave_more f g n e (On p) = leave_one (f p) n p ∙ ap (λ b. if b then Wanted p None else On p) (sym (e p))
-leave_more f g n e (Wanted p preferred) = refl
-leave_more f g n e (Flushing p id preferred age) = refl
+leave_more f g n e s = grind (arith, nat_tests)
 
 -- the same ports are left
 leave_same : (f g : ℕ → Bool) → ((p : ℕ) → g p ≡ f p) → (s : Assignment) → after_holding f s ≡ after_holding g s
-leave_same f g e (Free preferred) = refl
-leave_same f g e (On p) = ap (λ b. if b then Wanted p None else On p) (sym (e p))
-leave_same f g e (Wanted p preferred) = refl
-leave_same f g e (Flushing p id preferred age) = refl
+leave_same f g e s = grind (arith, nat_tests)
 
 or_none : (a b : Bool) → (a || (b && false)) ≡ a
-or_none true b = refl
-or_none false true = refl
-or_none false false = refl
+or_none a b = grind (arith, nat_tests)
 
 -- the port at the place stopped, and is left
 pub left_more : (before : List (Option AggId)) (system_ports : List SystemPort) (i : ℕ) (d : Option AggId) (e : SystemPort)
@@ -109,65 +83,28 @@ left_same before system_ports i d e old new l same h stays =
 
 -- one port went on
 
--- whether a port with this value of Selected, whose mux machine distributes or not, no longer distributes where it did
-abbrev still_in : Option AggId → Choice → Bool → Bool
-still_in None c d = false
-still_in (Some agg) c d = not (has_chosen agg c && d)
-
-has_stopped_is : (was : Option AggId) (s : SystemPort)
-    → has_stopped was s ≡ still_in was s.port.choice (same_mux_state CollectingDistributing s.port.mux)
-has_stopped_is None s = refl
-has_stopped_is (Some agg) s = refl
-
-stays_in : (c : Choice) (d : Bool) → still_in (if d then selected_aggregator c else None) c d ≡ false
-stays_in c false = refl
-stays_in Unselected true = refl
-stays_in (Standby agg) true = refl
-stays_in (Selected agg) true = ap (λ b. not (b && true)) (eq-eqb agg.0 agg.0 refl)
-
--- a port distributes where it does
-never_stopped : (s : SystemPort) → has_stopped (collecting s.port) s ≡ false
-never_stopped s = has_stopped_is (collecting s.port) s ∙ stays_in s.port.choice (same_mux_state CollectingDistributing s.port.mux)
-
-or_neither : (b c d : Bool) → c ≡ false → d ≡ false → ((b && c) || d) ≡ false
-or_neither true c d e k = ap (λ (x : Bool). x || d) e ∙ k
-or_neither false c d e k = k
-
 or_first : (b c d : Bool) → d ≡ false → ((b && c) || d) ≡ (b && c)
-or_first true true d e = refl
-or_first true false d e = e
-or_first false c d e = e
+or_first b c d e = grind (arith, nat_tests)
 
 or_second : (b c d : Bool) → c ≡ false → ((b && c) || d) ≡ d
-or_second true c d e = ap (λ (x : Bool). x || d) e
-or_second false c d e = refl
+or_second b c d e = grind (arith, nat_tests)
 
 none_stopped : (system_ports : List SystemPort) (p : ℕ) → stopped (aggregators_in_use system_ports) system_ports p ≡ false
 none_stopped [] p = refl
-none_stopped (s ∷ ss) p =
-    or_neither (s.number == p) (has_stopped (collecting s.port) s) (stopped (aggregators_in_use ss) ss p) (never_stopped s) (none_stopped ss p)
+none_stopped (s ∷ ss) p = grind (arith, nat_tests, none_stopped ss p)
 
 -- only the port at the place can have stopped
 stopped_at : (system_ports : List SystemPort) (i : ℕ) (was : Option AggId) (d : SystemPort) (p : ℕ) → i < length system_ports
     → stopped (slice_set (aggregators_in_use system_ports) i was) system_ports p ≡ leaves was (get_or system_ports i d) p
 stopped_at [] i was d p l = absurd (omega arith)
-stopped_at (s ∷ ss) zero was d p l =
-    or_first (s.number == p) (has_stopped was s) (stopped (aggregators_in_use ss) ss p) (none_stopped ss p)
-stopped_at (s ∷ ss) (suc i) was d p l =
-    or_second (s.number == p) (has_stopped (collecting s.port) s) (stopped (slice_set (aggregators_in_use ss) i was) ss p) (never_stopped s)
-    ∙ stopped_at ss i was d p (omega arith)
+stopped_at (s ∷ ss) zero was d p l = grind (arith, nat_tests, or_first, none_stopped)
+stopped_at (s ∷ ss) (suc i) was d p l = grind (arith, nat_tests, stopped_at ss i was d p (omega arith))
 
 leave_only : (f : ℕ → Bool) (n : ℕ) → ((p : ℕ) → f p ≡ (n == p)) → (a : Assignment) → after_leave n a ≡ after_holding f a
-leave_only f n e (Free preferred) = refl
-leave_only f n e (On p) = leave_one false n p ∙ ap (λ b. if b then Wanted p None else On p) (sym (e p))
-leave_only f n e (Wanted p preferred) = refl
-leave_only f n e (Flushing p id preferred age) = refl
+leave_only f n e a = grind (arith, nat_tests)
 
 leave_none : (f : ℕ → Bool) → ((p : ℕ) → f p ≡ false) → (a : Assignment) → a ≡ after_holding f a
-leave_none f e (Free preferred) = refl
-leave_none f e (On p) = ap (λ b. if b then Wanted p None else On p) (sym (e p))
-leave_none f e (Wanted p preferred) = refl
-leave_none f e (Flushing p id preferred age) = refl
+leave_none f e a = grind (arith, nat_tests)
 
 -- the port that alone went on stopped, and is left
 pub one_left : (system_ports : List SystemPort) (i : ℕ) (was : Option AggId) (d : SystemPort) (old new : Table) → i < length system_ports

@@ -1,14 +1,15 @@
 -- Every call preserves the configuration of a system, and the numbers of its ports.
 use Rattle.lagsystem.proofs.Common.{Bool, List, None, Option, Some, [], ap, arith, false, if◌then◌else◌, inl, inr, length, nat_le, refl, slice_get}
 use Rattle.lagsystem.proofs.Common.{slice_set, subst, suc, sym, true, zero, ℕ, ◌∙◌, ◌∷◌, ◌≡◌, ◌≤◌, ◌⊎◌, and_parts, nat_tests, length-map, AllZip, Key}
-use Rattle.lagsystem.proofs.Common.{SystemId, Choice, Selected, Machines, mux_rows, RunsPeriodic, receive_rows, RunsToRest, after_sending, count_down}
-use Rattle.lagsystem.proofs.Common.{AggregatorsValue, Free, Table, assignment_of, first_table, first_free, PortConfig, Reply, BadConfig, SystemPort}
-use Rattle.lagsystem.proofs.Common.{Call, ChangesParty, FreesIfDown, OnlyPortChangesBy, PortAtChangesBy, ProcessesLacpdu, SetsLink, SetsPortEnabled}
-use Rattle.lagsystem.proofs.Common.{Step, ThenSettles, Ticks, HasJustStarted, IsConfigured, IsFirst, config_refusal, configured_number}
-use Rattle.lagsystem.proofs.Common.{configured_numbers, is_count, refusal, aggregator_numbered, distributing, ChoosesIn, HoldsConversations}
-use Rattle.lagsystem.proofs.Common.{OnlyPortsChangeBy, PortsChangeBy, PromotesFirst, SettlesPorts, Settling, after_choices, choice_for}
-use Rattle.lagsystem.proofs.Common.{held_unless_on, ready_of, with_choice, HasPorts, SystemState, aggregators_value, port_index, port_numbers}
+use Rattle.lagsystem.proofs.Common.{SystemId, Choice, Selected, Machines, mux_rows, RunsPeriodic, RunsToRest, after_sending, AggregatorsValue, Free}
+use Rattle.lagsystem.proofs.Common.{Table, assignment_of, first_table, PortConfig, Reply, BadConfig, SystemPort, Call, ChangesParty, FreesIfDown}
+use Rattle.lagsystem.proofs.Common.{OnlyPortChangesBy, PortAtChangesBy, ProcessesLacpdu, SetsLink, Step, ThenSettles, Ticks, HasJustStarted}
+use Rattle.lagsystem.proofs.Common.{IsConfigured, IsFirst, config_refusal, configured_numbers, is_count, refusal, aggregator_numbered, distributing}
+use Rattle.lagsystem.proofs.Common.{ChoosesIn, HoldsConversations, PortsChangeBy, PromotesFirst, SettlesPorts, Settling, after_choices, choice_for}
+use Rattle.lagsystem.proofs.Common.{held_unless_on, with_choice, HasPorts, SystemState, aggregators_value, port_index, port_numbers}
 use Rattle.lagsystem.proofs.Common.{with_system_ports, with_table, views}
+use Rattle.lagsystem.proofs.SettlingLemmas.{RunsReady, SettlesIn, ports_frame, settles_in}
+use Rattle.distributor.proofs.TableLemmas.{first_free}
 use Rattle.lagsystem.proofs.Preserves.{Preserves, Step-preserves}
 use Rattle.lagsystem.proofs.PromotionLemmas.{KeptByChoices, choices_keep, choosing_keeps, promotions_keep}
 use Rattle.lagsystem.specs.declared.config.Config.{Config}
@@ -21,44 +22,25 @@ pub record Keeps (old new : SystemState) : Type 0 where
   pub conversations : new.table.conversations ≡ old.table.conversations
 
 pub keeps_joined : (a b c : SystemState) → Keeps a b → Keeps b c → Keeps a c
-keeps_joined a b c h k = record {
-  frame = k.frame ∙ ap (λ (s : SystemState). with_table (with_system_ports s c.system_ports) c.table) h.frame;
-  same = k.same ∙ h.same;
-  aggs = k.aggs ∙ h.aggs;
-  conversations = k.conversations ∙ h.conversations;
-}
+keeps_joined a b c h k = grind (arith, nat_tests)
 
 -- ports alone, or conversations alone
 pub keeps_slots : (old new : SystemState) → new ≡ with_system_ports old new.system_ports
     → port_numbers new.system_ports ≡ port_numbers old.system_ports → Keeps old new
-keeps_slots old new e n = record {
-  frame = e ∙ (λ i. record old { system_ports = new.system_ports; table = sym (ap (λ (s : SystemState). s.table) e) i });
-  same = n;
-  aggs = ap (λ (s : SystemState). s.table.aggs) e;
-  conversations = ap (λ (s : SystemState). s.table.conversations) e;
-}
+keeps_slots old new e n = grind (arith, nat_tests)
 
 pub keeps_table : (old new : SystemState) → new ≡ with_table old new.table → new.table.aggs ≡ old.table.aggs
     → new.table.conversations ≡ old.table.conversations → Keeps old new
-keeps_table old new e a k = record {
-  frame = e ∙ (λ i. record old { system_ports = sym (ap (λ (s : SystemState). s.system_ports) e) i; table = new.table });
-  same = ap (λ (s : SystemState). port_numbers s.system_ports) e;
-  aggs = a;
-  conversations = k;
-}
+keeps_table old new e a k = grind (arith, nat_tests)
 
 pub keeps_stays : (old new : SystemState) → new ≡ old → Keeps old new
-keeps_stays old new e = keeps_slots old new (e ∙ ap (with_system_ports old) (sym (ap (λ (s : SystemState). s.system_ports) e)))
-    (ap (λ (s : SystemState). port_numbers s.system_ports) e)
+keeps_stays old new e = grind (arith, nat_tests)
 
 pub zip_numbers : (R : Machines → Machines → Type 0) (xs ys : List SystemPort) → PortsChangeBy R xs ys → port_numbers ys ≡ port_numbers xs
 zip_numbers R [] [] h = refl
 zip_numbers R [] (y ∷ ys) h = absurd h
 zip_numbers R (x ∷ xs) [] h = absurd h
 zip_numbers R (x ∷ xs) (y ∷ ys) h = λ i. (h.0.0 i).number ∷ zip_numbers R xs ys h.1 i
-
-pub keeps_each : (R : Machines → Machines → Type 0) (old new : SystemState) → OnlyPortsChangeBy R old new → Keeps old new
-keeps_each R old new h = keeps_slots old new h.1 (zip_numbers R old.system_ports new.system_ports h.0)
 
 pub numbers_set : (system_ports : List SystemPort) (i : ℕ) (s t : SystemPort) → slice_get system_ports i ≡ Some s → t.number ≡ s.number
     → port_numbers (slice_set system_ports i t) ≡ port_numbers system_ports
@@ -67,8 +49,7 @@ numbers_set (x ∷ xs) zero s t e n = let same : x ≡ s = cc in let here : x.nu
 numbers_set (x ∷ xs) (suc i) s t e n = ap (λ ns. x.number ∷ ns) (numbers_set xs i s t e n)
 
 pub given_number : (s : SystemPort) (o : Option Choice) → (with_choice s o).number ≡ s.number
-given_number s None = refl
-given_number s (Some choice) = refl
+given_number s o = grind (arith, nat_tests)
 
 selects_numbers : (numbers : List ℕ) → KeptByChoices (λ l. port_numbers l ≡ numbers)
 selects_numbers numbers l i s o e h = numbers_set l i s (with_choice s o) e (given_number s o) ∙ h
@@ -90,48 +71,31 @@ pub choosing_numbers : (aggs : AggregatorsValue) (old new : List SystemPort) →
 choosing_numbers aggs old new h = choosing_keeps (λ l. port_numbers l ≡ port_numbers old) (selects_numbers (port_numbers old)) aggs old new h refl
 
 -- the steps that look at ports alone
+settles_numbers : (aggs : AggregatorsValue) (old new : List SystemPort) → SettlesIn aggs old new → port_numbers new ≡ port_numbers old
+settles_numbers aggs old new s =
+    zip_numbers RunsPeriodic s.four new s.paces ∙ zip_numbers (RunsReady aggs.keys (views s.two)) s.two s.four s.runs
+    ∙ choosing_numbers aggs s.one s.two s.chooses ∙ zip_numbers (RunsToRest (mux_rows false)) old s.one s.stops
+
 pub ports_keep : (old new : SystemState) → SettlesPorts old new → Keeps old new
-ports_keep old new h =
-    let one = h.0 in
-    let two = h.2.0 in
-    let three = h.2.2.0 in
-    let four = h.2.2.2.0 in
-    let five = h.2.2.2.2.0 in
-    let chose : Keeps one two =
-    keeps_slots one two h.2.1.1 (choosing_numbers (aggregators_value one) one.system_ports two.system_ports h.2.1.0) in
-    keeps_joined old one new (keeps_each (RunsToRest (mux_rows false)) old one h.1)
-    (keeps_joined one two new chose
-    (keeps_joined two three new (keeps_stays two three h.2.2.1)
-    (keeps_joined three four new
-    (keeps_each (λ p q. RunsToRest (mux_rows (ready_of three.keys (views three.system_ports) p.choice)) p q) three four h.2.2.2.1)
-    (keeps_joined four five new (keeps_each RunsPeriodic four five h.2.2.2.2.1) (keeps_stays five new h.2.2.2.2.2)))))
+ports_keep old new h = keeps_slots old new (ports_frame old new h)
+    (settles_numbers (aggregators_value old) old.system_ports new.system_ports (settles_in old new h))
 
 -- they leave the conversations
 pub ports_table : (old new : SystemState) → SettlesPorts old new → new.table ≡ old.table
-ports_table old new h =
-    let table : SystemState → Table = λ s. s.table in
-    ap table h.2.2.2.2.2 ∙ ap table h.2.2.2.2.1.1 ∙ ap table h.2.2.2.1.1 ∙ ap table h.2.2.1 ∙ ap table h.2.1.1 ∙ ap table h.1.1
+ports_table old new h = ap (λ (s : SystemState). s.table) (ports_frame old new h)
 
 -- one settling is those steps, and then the one of the conversations
 pub settling_parts : (old new : SystemState) → Settling old new → (five : SystemState) × SettlesPorts old five × HoldsConversations five new
-settling_parts old new h =
-    let five = h.2.2.2.2.0 in (
-      five,
-      (h.0, h.1, (h.2.0, h.2.1, (h.2.2.0, h.2.2.1, (h.2.2.2.0, h.2.2.2.1, (five, h.2.2.2.2.1, refl))))),
-      subst (HoldsConversations five) (sym h.2.2.2.2.2.2) h.2.2.2.2.2.1,
-    )
+settling_parts old new h = grind (arith, nat_tests)
+
+-- the ports before and after it
+pub settling_in : (old new : SystemState) → Settling old new → SettlesIn (aggregators_value old) old.system_ports new.system_ports
+settling_in old new h =
+    let p = settling_parts old new h in
+    subst (SettlesIn (aggregators_value old) old.system_ports) (sym (ap (λ (s : SystemState). s.system_ports) p.2.frame)) (settles_in old p.0 p.1)
 
 pub settling_joined : (old mid new : SystemState) → SettlesPorts old mid → HoldsConversations mid new → Settling old new
-settling_joined old mid new h l =
-    let five = h.2.2.2.2.0 in (
-      h.0,
-      h.1,
-      (
-        h.2.0,
-        h.2.1,
-        (h.2.2.0, h.2.2.1, (h.2.2.2.0, h.2.2.2.1, (five, h.2.2.2.2.1, (new, subst (λ s. HoldsConversations s new) h.2.2.2.2.2 l, refl)))),
-      ),
-    )
+settling_joined old mid new h l = grind (arith, nat_tests)
 
 pub settling_keeps : (old new : SystemState) → Settling old new → Keeps old new
 settling_keeps old new h =
@@ -151,30 +115,16 @@ pub keeps_settled : (own : SystemState → SystemState → Type 0) (old new : Sy
 keeps_settled own old new k h = keeps_joined old h.0 new (k h.0 h.1) (settling_keeps h.0 new h.2)
 
 pub keeps_tick : (old new : SystemState) → Ticks old new → Keeps old new
-keeps_tick old new h = record {
-  frame = h.2;
-  same = zip_numbers (λ p q. RunsToRest receive_rows (count_down p) q) old.system_ports
-      new.system_ports h.0;
-  aggs = h.1.aggs;
-  conversations = h.1.conversations;
-}
+keeps_tick old new h = grind (arith, nat_tests, zip_numbers)
 
 frees_aggs : (up : Bool) (n : ℕ) (old new : Table) → FreesIfDown up n old new → new.aggs ≡ old.aggs
-frees_aggs true n old new h = ap (λ (t : Table). t.aggs) h
-frees_aggs false n old new h = h.aggs
+frees_aggs up n old new h = grind (arith, nat_tests)
 
 frees_conversations : (up : Bool) (n : ℕ) (old new : Table) → FreesIfDown up n old new → new.conversations ≡ old.conversations
-frees_conversations true n old new h = ap (λ (t : Table). t.conversations) h
-frees_conversations false n old new h = h.conversations
+frees_conversations up n old new h = grind (arith, nat_tests)
 
 pub keeps_link : (n : ℕ) (up : Bool) (old new : SystemState) → SetsLink n up old new → Keeps old new
-keeps_link n up old new h = record {
-  frame = h.2;
-  same = place_numbers (SetsPortEnabled old.max_links up) (port_index n old.system_ports) old.system_ports
-      new.system_ports h.0;
-  aggs = frees_aggs up n old.table new.table h.1;
-  conversations = frees_conversations up n old.table new.table h.1;
-}
+keeps_link n up old new h = grind (arith, nat_tests, place_numbers, frees_aggs, frees_conversations)
 
 new_numbers : (system : SystemId) (ports : List PortConfig) (system_ports : List SystemPort)
     → AllZip (HasJustStarted system) ports system_ports → port_numbers system_ports ≡ configured_numbers ports
@@ -188,10 +138,7 @@ pub first_numbers : (s : SystemState) → IsFirst s → port_numbers s.system_po
 first_numbers s h = (settling_keeps (with_system_ports s h.0) s h.2).same ∙ new_numbers s.system s.ports h.0 h.1
 
 pub ports_kept : (old new : SystemState) → Keeps old new → HasPorts old → HasPorts new
-ports_kept old new k s = record {
-  accepted = ap (λ (x : SystemState). refusal x.keys x.ports x.max_links x.conversations) k.frame ∙ s.accepted;
-  same = k.same ∙ s.same ∙ sym (ap (λ (x : SystemState). configured_numbers x.ports) k.frame);
-}
+ports_kept old new k s = grind (arith, nat_tests)
 
 pub ports_first : (s : SystemState) → refusal s.keys s.ports s.max_links s.conversations ≡ None → IsFirst s → HasPorts s
 ports_first s a h = record { accepted = a; same = first_numbers s h }
@@ -245,22 +192,15 @@ Step-ports gives old call answer new h s = elim (Step-keeps gives old call answe
 -- there are as many conversations as aggregators
 pub Step-aggregators : (gives : ℕ → ℕ → ℕ → Type 0) (old : SystemState) (call : Call) (answer : Reply) (new : SystemState)
     → Step gives old call answer new → old.table.aggs ≡ length old.keys → new.table.aggs ≡ length new.keys
-Step-aggregators gives old call answer new h e = elim (Step-keeps gives old call answer new h) [
-  | inl k ↦ k.aggs ∙ e ∙ sym (ap (λ (s : SystemState). length s.keys) k.frame)
-  | inr r ↦ ap (λ (t : Table). t.aggs) r.1.3
-]
+Step-aggregators gives old call answer new h e = grind (arith, nat_tests)
 
 -- each aggregator has as many conversations as are configured
 pub Step-conversations : (gives : ℕ → ℕ → ℕ → Type 0) (old : SystemState) (call : Call) (answer : Reply) (new : SystemState)
     → Step gives old call answer new → old.table.conversations ≡ old.conversations → new.table.conversations ≡ new.conversations
-Step-conversations gives old call answer new h e = elim (Step-keeps gives old call answer new h) [
-  | inl k ↦ k.conversations ∙ e ∙ sym (ap (λ (s : SystemState). s.conversations) k.frame)
-  | inr r ↦ ap (λ (t : Table). t.conversations) r.1.3
-]
+Step-conversations gives old call answer new h e = grind (arith, nat_tests)
 
 is_true : (b : Bool) (x : Option BadConfig) (y : BadConfig) → (if b then x else Some y) ≡ None → b ≡ true
-is_true true x y h = refl
-is_true false x y h = cc
+is_true b x y h = grind (arith, nat_tests)
 
 below : (n : ℕ) → is_count n ≡ true → n ≤ 64
 below n h = let k : nat_le n 64 ≡ true = (and_parts (nat_le 1 n) (nat_le n 64) h).1 in grind (arith, nat_tests)
@@ -270,18 +210,12 @@ pub accepted_keys_few : (keys : List Key) (ports : List PortConfig) (most : Opti
 accepted_keys_few keys ports most conversations h = below (length keys) (is_true (is_count (length keys)) _ _ (if_then (is_count (length ports)) _ _ h))
 
 pub few_ports : (s : SystemState) → HasPorts s → length s.system_ports ≤ 64
-few_ports s h =
-    let few = below (length s.ports) (is_true (is_count (length s.ports)) _ _ h.accepted) in
-    let same : length (port_numbers s.system_ports) ≡ length (configured_numbers s.ports) = ap length h.same in
-    omega (arith, few, same, length-map s.system_ports (λ x. x.number), length-map s.ports configured_number)
+few_ports s h = grind (arith, nat_tests, below, is_true, length-map)
 
 -- a configuration that a system has is accepted if the system's is
 pub is_accepted : (config : Config) (s : SystemState) → IsConfigured config s
     → refusal s.keys s.ports s.max_links s.conversations ≡ None → config_refusal config ≡ None
-is_accepted config s h none = ap (λ keys. refusal keys config.ports.items config.max_links config.conversations) (sym h.keys)
-    ∙ ap (λ ports. refusal s.keys ports config.max_links config.conversations) (sym h.ports)
-    ∙ ap (λ most. refusal s.keys s.ports most config.conversations) (sym h.max_links)
-    ∙ ap (refusal s.keys s.ports s.max_links) (sym h.conversations) ∙ none
+is_accepted config s h none = grind (arith, nat_tests)
 
 -- what a new system is
 abbrev pub started : Config → List Key → Option ℕ → List SystemPort → SystemState
@@ -336,16 +270,7 @@ first_made config keys most start new h k =
 
 pub configured_made : (config : Config) (keys : List Key) (most : Option ℕ) (start : List SystemPort) (new : SystemState) → keys ≡ config.aggregators.items
     → most ≡ config.max_links → SettlesPorts (started config keys most start) new → IsConfigured config new
-configured_made config keys most start new e limit k =
-    let f = (ports_keep (started config keys most start) new k).frame in record {
-      system = ap (λ (s : SystemState). s.system) f;
-      max_delay = ap (λ (s : SystemState). s.max_delay) f;
-      first_marker = ap (λ (s : SystemState). s.first_marker) f;
-      conversations = ap (λ (s : SystemState). s.conversations) f;
-      keys = ap (λ (s : SystemState). s.keys) f ∙ e;
-      max_links = ap (λ (s : SystemState). s.max_links) f ∙ limit;
-      ports = ap (λ (s : SystemState). s.ports) f;
-    }
+configured_made config keys most start new e limit k = grind (arith, nat_tests)
 
 pub ports_made : (config : Config) (keys : List Key) (most : Option ℕ) (start : List SystemPort) (new : SystemState) → keys ≡ config.aggregators.items
     → most ≡ config.max_links → config_refusal config ≡ None → AllZip (HasJustStarted config.system) config.ports.items start
@@ -372,17 +297,4 @@ pub started_by : (config : Config) (keys : List Key) (most : Option ℕ) (start 
       system_ports = start;
       table = t;
     }) new → SettlesPorts (started config keys most start) new
-started_by config keys most start t new e h =
-    subst (λ (t : Table). SettlesPorts
-    (record {
-      system = config.system;
-      max_delay = config.max_delay;
-      first_marker = t.first;
-      conversations = t.conversations;
-      keys = keys;
-      max_links = most;
-      ports =
-          config.ports.items;
-      system_ports = start;
-      table = t;
-    }) new) e h
+started_by config keys most start t new e h = grind (arith, nat_tests)

@@ -1,17 +1,14 @@
 -- A conversation leaves its port, or rests.
-use Rattle.lagsystem.proofs.Common.{Bool, Err, IfOk, Ok, Result, [], ap, false, if◌then◌else◌, nat_lt, refl, subst, sym, true, ℕ, ◌∙◌, ◌≡◌, AggId}
-use Rattle.lagsystem.proofs.Common.{LawfulMoves, Conversation, ModelCall, Assignment, Flushing, Free, On, Wanted, DistFault, force_result}
-use Rattle.lagsystem.proofs.Common.{leave_result, rest_result, assignment_of, next_identifier, is_left, leave_one_moves, SystemFault, NoAggregator}
-use Rattle.lagsystem.proofs.Common.{Force, system_leave_result, system_rest_result, model_setup, model_view, GivesOrRefuses, has_aggregator}
-use Rattle.lagsystem.proofs.Common.{in_system, or_not_assigned, system_force_result, TablePromise, conversation_count, CallPromise, IsSound}
-use Rattle.lagsystem.proofs.Common.{SystemState, with_table}
-use Rattle.distributor.specs.declared.fault.DistFault.TheVariants as dist
+use Rattle.lagsystem.proofs.Common.{Err, IfOk, Ok, Result, [], ap, arith, refl, subst, sym, ℕ, ◌∙◌, ◌≡◌, nat_tests, AggId, LawfulMoves, Conversation}
+use Rattle.lagsystem.proofs.Common.{ModelCall, Assignment, leave_result, assignment_of, next_identifier, is_left, leave_one_moves, SystemFault, Force}
+use Rattle.lagsystem.proofs.Common.{system_leave_result, system_rest_result, model_setup, model_view, GivesOrRefuses, system_force_result}
+use Rattle.lagsystem.proofs.Common.{TablePromise, CallPromise, IsSound, SystemState, with_table}
 use Rattle.lagsystem.specs.declared.drive.Reply.TheVariants as reply
 use Rattle.lagsystem.proofs.Conversing.{table_moves}
 use Rattle.lagsystem.proofs.OnPorts.{not_on, sets_carried}
 use Rattle.lagsystem.proofs.PromiseLemmas.{table_promise, table_sound}
 use Rattle.lagsystem.proofs.Sound.{Step-sound, answers}
-use Rattle.lagsystem.proofs.Steps.{if_ok, known_ok, table_moved}
+use Rattle.lagsystem.proofs.Steps.{table_moved}
 
 abbrev TableStays : SystemState → SystemState → Type 0
 TableStays old new = new ≡ with_table old new.table
@@ -21,10 +18,7 @@ done = Ok tt
 
 left_to : (agg : AggId) (conv : ℕ) (old : SystemState) (s : Assignment) → system_leave_result old agg conv ≡ Ok s
     → leave_result (next_identifier old.table) (assignment_of old.table agg.0 conv) ≡ Ok s
-left_to agg conv old s e =
-    let answer : Result Assignment DistFault = leave_result (next_identifier old.table) (assignment_of old.table agg.0 conv) in
-    known_ok (nat_lt conv (conversation_count old)) answer dist.NotAssigned s
-    (if_ok (has_aggregator old agg) (in_system (or_not_assigned old conv answer)) NoAggregator s e)
+left_to agg conv old s e = grind (arith, nat_tests)
 
 left_sound : (agg : AggId) (conv : ℕ) (what : Result Assignment SystemFault) (old : SystemState) (answer : Result Unit SystemFault)
     (new : SystemState) → system_leave_result old agg conv ≡ what → GivesOrRefuses agg conv what old answer new → IsSound old → IsSound new
@@ -50,8 +44,7 @@ left_moves agg conv (Err fault) old answer new e h = ([], tt, refl, ap model_vie
 
 left_others : (agg : AggId) (conv : ℕ) (what : Result Assignment SystemFault) (old : SystemState) (answer : Result Unit SystemFault)
     (new : SystemState) → GivesOrRefuses agg conv what old answer new → TableStays old new
-left_others agg conv (Ok s) old answer new h = h.1.1
-left_others agg conv (Err fault) old answer new h = subst (TableStays old) (sym h.1) refl
+left_others agg conv what old answer new h = grind (arith, nat_tests)
 
 pub leaves_sound : (agg : AggId) (conv : ℕ) (old : SystemState) (answer : Result Unit SystemFault) (new : SystemState)
     → GivesOrRefuses agg conv (system_leave_result old agg conv) old answer new → IsSound old → IsSound new
@@ -65,27 +58,10 @@ leaves_promise agg conv old answer new h s =
     (left_moves agg conv (system_leave_result old agg conv) old answer new refl h)
     (leaves_sound agg conv old answer new h s)
 
--- a conversation that rests is forced
-rest_is_force : (b k : Bool) (a s : Assignment)
-    → (if b then in_system (if k then rest_result a else Err dist.NotAssigned) else Err NoAggregator) ≡ Ok s
-    → (if b then in_system (if k then force_result a else Err dist.NotAssigned) else Err NoAggregator) ≡ Ok s
-rest_is_force true true (On p) s e = e
-rest_is_force true true (Free preferred) s e = absurd cc
-rest_is_force true true (Wanted p preferred) s e = absurd cc
-rest_is_force true true (Flushing p id preferred age) s e = absurd cc
-rest_is_force true false a s e = absurd cc
-rest_is_force false k a s e = absurd cc
-
 forced_alike : (agg : AggId) (conv : ℕ) (what : Result Assignment SystemFault) (old : SystemState) (answer : Result Unit SystemFault)
     (new : SystemState) → system_rest_result old agg conv ≡ what → answer ≡ Ok tt → GivesOrRefuses agg conv what old answer new
     → GivesOrRefuses agg conv (system_force_result old agg conv) old answer new
-forced_alike agg conv (Ok s) old answer new e a h =
-    subst (λ w. GivesOrRefuses agg conv w old answer new)
-    (sym (rest_is_force (has_aggregator old agg) (nat_lt conv (conversation_count old)) (assignment_of old.table agg.0 conv) s e)) h
-forced_alike agg conv (Err fault) old answer new e a h = absurd (both fault (sym a ∙ h.0))
-  where
-    both : (f : SystemFault) → done ≡ Err f → ⊥
-    both f x = cc
+forced_alike agg conv what old answer new e a h = grind (arith, nat_tests)
 
 rested_sound : (gives : ℕ → ℕ → ℕ → Type 0) (agg : AggId) (conv : ℕ) (what : Result Assignment SystemFault) (old : SystemState)
     (answer : Result Unit SystemFault) (new : SystemState) → system_rest_result old agg conv ≡ what

@@ -1,11 +1,11 @@
 -- How many members an aggregator has, and that no STANDBY port comes next after step 2 of settling.
 use Rattle.lagsystem.proofs.Common.{Bool, List, None, Option, Some, [], ap, arith, cond, eqb-true, false, inl, inr, length, nat_le, nat_lt}
 use Rattle.lagsystem.proofs.Common.{option_map, refl, slice_get, slice_set, subst, suc, sym, true, zero, ℕ, ◌&&◌, ◌+◌, ◌<◌, ◌==◌, ◌∙◌, ◌∷◌, ◌≡◌, ◌≤◌}
-use Rattle.lagsystem.proofs.Common.{◌⊎◌, and_parts, cases_Bool, nat_tests, none-some, same_Some, AllByRecursion, AggId, Choice, Selected, Standby}
-use Rattle.lagsystem.proofs.Common.{Unselected, Machines, PortView, chosen_aggregator, is_aggregator, ports_that_chose, AggregatorsValue, has_room}
-use Rattle.lagsystem.proofs.Common.{is_below, has_chosen, is_eligible, stands_by, NoneStandsBy, is_next, none_is_next, nothing_is_next, SystemPort}
-use Rattle.lagsystem.proofs.Common.{NoneIsNext, WithinLimit, aggregator_numbered, ChoosesIn, PortsChangeBy, PromotesFirst, PromotesNext}
-use Rattle.lagsystem.proofs.Common.{aggregator_for, choice_if, choice_in, with_choice, selection_view, views}
+use Rattle.lagsystem.proofs.Common.{◌⊎◌, cases_Bool, nat_tests, none-some, same_Some, AllByRecursion, AggId, Choice, Selected, Standby, Unselected}
+use Rattle.lagsystem.proofs.Common.{Machines, PortView, is_aggregator, ports_that_chose, AggregatorsValue, has_room, is_below, has_chosen, stands_by}
+use Rattle.lagsystem.proofs.Common.{NoneStandsBy, is_next, none_is_next, nothing_is_next, SystemPort, NoneIsNext, WithinLimit, aggregator_numbered}
+use Rattle.lagsystem.proofs.Common.{ChoosesIn, PortsChangeBy, PromotesFirst, PromotesNext, aggregator_for, choice_if, choice_in, with_choice}
+use Rattle.lagsystem.proofs.Common.{selection_view, views}
 use Rattle.lagsystem.proofs.NoneLeft.{eligible_then, unselected}
 use Rattle.lagsystem.proofs.Occupying.{LeavesOrStays}
 use Rattle.lagsystem.proofs.PromotionLemmas.{all_keep, choices_keep, promotions_keep}
@@ -17,87 +17,58 @@ count agg [] = zero
 count agg (s ∷ ss) = cond (has_chosen agg s.port.choice) (suc (count agg ss)) (count agg ss)
 
 one_counted : (b : Bool) (v : PortView) (rest : List PortView) (n : ℕ) → length rest ≡ n → length (cond b (v ∷ rest) rest) ≡ cond b (suc n) n
-one_counted true v rest n h = ap (λ m. suc m) h
-one_counted false v rest n h = h
+one_counted b v rest n h = grind (arith, nat_tests)
 
 counted : (agg : AggId) (l : List SystemPort) → length (ports_that_chose agg (views l)) ≡ count agg l
 counted agg [] = refl
-counted agg (s ∷ ss) = one_counted (has_chosen agg s.port.choice) (selection_view s) (ports_that_chose agg (views ss)) (count agg ss)
-    (counted agg ss)
+counted agg (s ∷ ss) = grind (arith, nat_tests, counted agg ss)
 
 -- no aggregator has more members than before
 abbrev pub Fewer : List SystemPort → List SystemPort → Type 0
 Fewer old new = (agg : AggId) → count agg new ≤ count agg old
 
 same_bit : (b : Bool) (m n : ℕ) → m ≤ n → cond b (suc m) m ≤ cond b (suc n) n
-same_bit true m n h = omega (arith, h)
-same_bit false m n h = h
+same_bit b m n h = grind (arith, nat_tests)
 
 no_bit : (b : Bool) (m n : ℕ) → m ≤ n → m ≤ cond b (suc n) n
-no_bit true m n h = omega (arith, h)
-no_bit false m n h = h
+no_bit b m n h = grind (arith, nat_tests)
 
 bit_less : (agg : AggId) (c d : Choice) (m n : ℕ) → (d ≡ Unselected) ⊎ (d ≡ c) → m ≤ n
     → cond (has_chosen agg d) (suc m) m ≤ cond (has_chosen agg c) (suc n) n
-bit_less agg c d m n h l = elim h [
-  | inl e ↦ subst (λ x. cond (has_chosen agg x) (suc m) m ≤ cond (has_chosen agg c) (suc n) n) (sym e) (no_bit (has_chosen agg c) m n l)
-  | inr e ↦ subst (λ x. cond (has_chosen agg x) (suc m) m ≤ cond (has_chosen agg c) (suc n) n) (sym e) (same_bit (has_chosen agg c) m n l)
-]
-
-left_or_same : (p q : Machines) → LeavesOrStays p q → (q.choice ≡ Unselected) ⊎ (q.choice ≡ p.choice)
-left_or_same p q h = elim h [ inl e ↦ inl e | inr e ↦ inr e.0 ]
+bit_less agg c d m n h l = grind (arith, nat_tests)
 
 pub zip_fewer : (R : Machines → Machines → Type 0) → ((p q : Machines) → R p q → LeavesOrStays p q) → (xs ys : List SystemPort)
     → PortsChangeBy R xs ys → Fewer xs ys
 zip_fewer R k [] [] h agg = omega arith
 zip_fewer R k [] (y ∷ ys) h agg = absurd h
 zip_fewer R k (x ∷ xs) [] h agg = absurd h
-zip_fewer R k (x ∷ xs) (y ∷ ys) h agg =
-    bit_less agg x.port.choice y.port.choice (count agg ys) (count agg xs) (left_or_same x.port y.port (k x.port y.port h.0.1))
-    (zip_fewer R k xs ys h.1 agg)
+zip_fewer R k (x ∷ xs) (y ∷ ys) h agg = grind (arith, nat_tests, zip_fewer R k xs ys h.1 agg)
 
 pub set_fewer : (xs : List SystemPort) (i : ℕ) (s t : SystemPort) → slice_get xs i ≡ Some s → LeavesOrStays s.port t.port
     → Fewer xs (slice_set xs i t)
 set_fewer [] i s t e h agg = absurd (none-some s e)
-set_fewer (x ∷ xs) zero s t e h agg =
-    let same : s.port ≡ x.port = ap (λ (z : SystemPort). z.port) (sym (same_Some x s e)) in
-    bit_less agg x.port.choice t.port.choice (count agg xs) (count agg xs)
-    (left_or_same x.port t.port (subst (λ p. LeavesOrStays p t.port) same h)) (omega arith)
-set_fewer (x ∷ xs) (suc i) s t e h agg = same_bit (has_chosen agg x.port.choice) (count agg (slice_set xs i t)) (count agg xs)
-    (set_fewer xs i s t e h agg)
+set_fewer (x ∷ xs) zero s t e h agg = grind (arith, nat_tests)
+set_fewer (x ∷ xs) (suc i) s t e h agg = grind (arith, nat_tests, set_fewer xs i s t e h agg)
 
 -- one port gets a value of Selected
 
 one_more : (b h : Bool) (n : ℕ) → cond b (suc n) n ≤ cond h (suc n) n + cond b 1 0
-one_more true true n = omega arith
-one_more true false n = omega arith
-one_more false true n = omega arith
-one_more false false n = omega arith
+one_more b h n = grind (arith, nat_tests)
 
 later_more : (h : Bool) (m n k : ℕ) → m ≤ n + k → cond h (suc m) m ≤ cond h (suc n) n + k
-later_more true m n k l = omega (arith, l)
-later_more false m n k l = l
+later_more h m n k l = grind (arith, nat_tests)
 
 set_more : (agg : AggId) (l : List SystemPort) (i : ℕ) (s : SystemPort) (c : Choice)
     → count agg (slice_set l i (with_choice s (Some c))) ≤ count agg l + cond (has_chosen agg c) 1 0
 set_more agg [] i s c = omega arith
 set_more agg (x ∷ xs) zero s c = one_more (has_chosen agg c) (has_chosen agg x.port.choice) (count agg xs)
-set_more agg (x ∷ xs) (suc i) s c = later_more (has_chosen agg x.port.choice) (count agg (slice_set xs i (with_choice s (Some c))))
-    (count agg xs) (cond (has_chosen agg c) 1 0) (set_more agg xs i s c)
-
-grows_here : (b h : Bool) (n : ℕ) → h ≡ false → cond h (suc n) n ≤ cond b (suc n) n
-grows_here true true n e = omega arith
-grows_here false true n e = absurd cc
-grows_here true false n e = omega arith
-grows_here false false n e = omega arith
+set_more agg (x ∷ xs) (suc i) s c = grind (arith, nat_tests, set_more agg xs i s c)
 
 set_grows : (agg : AggId) (l : List SystemPort) (i : ℕ) (s : SystemPort) (c : Choice) → slice_get l i ≡ Some s
     → has_chosen agg s.port.choice ≡ false → count agg l ≤ count agg (slice_set l i (with_choice s (Some c)))
 set_grows agg [] i s c e h = absurd (none-some s e)
-set_grows agg (x ∷ xs) zero s c e h = grows_here (has_chosen agg c) (has_chosen agg x.port.choice) (count agg xs)
-    (ap (λ (z : SystemPort). has_chosen agg z.port.choice) (same_Some x s e) ∙ h)
-set_grows agg (x ∷ xs) (suc i) s c e h = same_bit (has_chosen agg x.port.choice) (count agg xs)
-    (count agg (slice_set xs i (with_choice s (Some c)))) (set_grows agg xs i s c e h)
+set_grows agg (x ∷ xs) zero s c e h = grind (arith, nat_tests)
+set_grows agg (x ∷ xs) (suc i) s c e h = grind (arith, nat_tests, set_grows agg xs i s c e h)
 
 -- the limit
 
@@ -107,8 +78,7 @@ within_fewer None old new h w = tt
 within_fewer (Some most) old new h w = λ agg. omega (arith, h agg, w agg, counted agg old, counted agg new)
 
 below_most : (k : Bool) (n most : ℕ) → (k && nat_lt n most) ≡ true → n < most
-below_most true n most h = grind (arith, nat_tests)
-below_most false n most h = absurd cc
+below_most k n most h = grind (arith, nat_tests)
 
 fits_one : (agg a : AggId) (l : List SystemPort) (i : ℕ) (s : SystemPort) (most : ℕ) (k b : Bool) → (agg.0 == a.0) ≡ b
     → (k && nat_lt (length (ports_that_chose agg (views l))) most) ≡ true → length (ports_that_chose a (views l)) ≤ most
@@ -119,10 +89,7 @@ fits_one agg a l i s most k true e room w =
     let same : count agg l ≡ count a l = λ j. count (record { 0 = number j }) l in
     let more : count a m ≤ count a l + 1 = subst (λ b. count a m ≤ count a l + cond b 1 0) e (set_more a l i s (Selected agg)) in
     omega (arith, more, counted a m, counted agg l, same, below_most k (length (ports_that_chose agg (views l))) most room)
-fits_one agg a l i s most k false e room w =
-    let m : List SystemPort = slice_set l i (with_choice s (Some (Selected agg))) in
-    let more : count a m ≤ count a l + 0 = subst (λ b. count a m ≤ count a l + cond b 1 0) e (set_more a l i s (Selected agg)) in
-    omega (arith, more, counted a m, counted a l, w)
+fits_one agg a l i s most k false e room w = grind (arith, nat_tests, set_more, counted)
 
 selected_within : (max_links : Option ℕ) (l : List SystemPort) (i : ℕ) (s : SystemPort) (agg : AggId) (k : Bool)
     → (k && is_below max_links (length (ports_that_chose agg (views l)))) ≡ true → WithinLimit max_links (views l)
@@ -132,8 +99,7 @@ selected_within (Some most) l i s agg k room w = λ a. fits_one agg a l i s most
 
 standby_within : (max_links : Option ℕ) (l : List SystemPort) (i : ℕ) (s : SystemPort) (agg : AggId) → WithinLimit max_links (views l)
     → WithinLimit max_links (views (slice_set l i (with_choice s (Some (Standby agg)))))
-standby_within max_links l i s agg w =
-    within_fewer max_links l (slice_set l i (with_choice s (Some (Standby agg)))) (λ a. omega (arith, set_more a l i s (Standby agg))) w
+standby_within max_links l i s agg w = grind (arith, nat_tests, within_fewer, set_more)
 
 taken_within : (aggs : AggregatorsValue) (l : List SystemPort) (i : ℕ) (s : SystemPort) (agg : AggId) (room : Bool)
     → has_room aggs (views l) agg ≡ room → WithinLimit aggs.max_links (views l)
@@ -179,15 +145,11 @@ NoneNext aggs agg l = (has_room aggs (views l) agg ≡ false) ⊎ NoneStandsBy a
 
 below_less : (max_links : Option ℕ) (k : Bool) (m n : ℕ) → m ≤ n → (k && is_below max_links m) ≡ false
     → (k && is_below max_links n) ≡ false
-below_less max_links false m n l h = refl
-below_less None true m n l h = h
-below_less (Some most) true m n l h = grind (arith, nat_tests)
+below_less max_links k m n l h = grind (arith, nat_tests)
 
 room_less : (aggs : AggregatorsValue) (agg : AggId) (l m : List SystemPort) → count agg l ≤ count agg m
     → has_room aggs (views l) agg ≡ false → has_room aggs (views m) agg ≡ false
-room_less aggs agg l m h r =
-    below_less aggs.max_links (is_aggregator aggs.keys agg) (length (ports_that_chose agg (views l))) (length (ports_that_chose agg (views m)))
-    (omega (arith, h, counted agg l, counted agg m)) r
+room_less aggs agg l m h r = grind (arith, nat_tests, below_less, counted)
 
 stands_set : (agg : AggId) (l : List SystemPort) (i : ℕ) (t : SystemPort) → stands_by agg t.port.choice ≡ false
     → NoneStandsBy agg (views l) → NoneStandsBy agg (views (slice_set l i t))
@@ -236,18 +198,11 @@ promotions_none aggs (suc n) old new h a low high =
     ]
 
 known_parts : (a n : ℕ) → (nat_le 1 a && nat_le a n) ≡ true → (0 < a) × (a ≤ n)
-known_parts a n h =
-    let low : nat_le 1 a ≡ true = (and_parts (nat_le 1 a) (nat_le a n) h).0 in
-    let high : nat_le a n ≡ true = (and_parts (nat_le 1 a) (nat_le a n) h).1 in
-    (grind (arith, nat_tests), grind (arith, nat_tests))
+known_parts a n h = grind (arith, nat_tests)
 
 all_promoted : (aggs : AggregatorsValue) (old new : List SystemPort) → PromotesFirst aggs (length aggs.keys) old new → (a : AggId)
     → NoneNext aggs a new
-all_promoted aggs old new h a = elim (cases_Bool (is_aggregator aggs.keys a)) [
-  | inl t ↦ (let parts = known_parts a.0 (length aggs.keys) t in
-      promotions_none aggs (length aggs.keys) old new h a parts.0 parts.1)
-  | inr f ↦ inl (ap (λ b. b && is_below aggs.max_links (length (ports_that_chose a (views new)))) f)
-]
+all_promoted aggs old new h a = grind (arith, nat_tests, cases_Bool, known_parts, promotions_none)
 
 -- a choice keeps it in every aggregator
 taken_none : (aggs : AggregatorsValue) (l : List SystemPort) (i : ℕ) (s : SystemPort) (agg : AggId) (room : Bool)
@@ -274,9 +229,7 @@ choice_none : (aggs : AggregatorsValue) (l : List SystemPort) (i : ℕ) (s : Sys
     → aggregator_for aggs.keys l s ≡ o → slice_get l i ≡ Some s → (a : AggId) → NoneNext aggs a l
     → NoneNext aggs a (slice_set l i (with_choice s (option_map (choice_in aggs (views l)) o)))
 choice_none aggs l i s None k e a q = subst (NoneNext aggs a) (sym (set_itself l i s e)) q
-choice_none aggs l i s (Some agg) k e a q =
-    let can = eligible_then (is_eligible (selection_view s)) (chosen_aggregator aggs.keys (views l) s.number) agg k in
-    taken_none aggs l i s agg (has_room aggs (views l) agg) refl e (unselected s.port.choice _ _ can) a q
+choice_none aggs l i s (Some agg) k e a q = grind (arith, nat_tests, eligible_then, taken_none, unselected)
 
 pub choosing_none : (aggs : AggregatorsValue) (old new : List SystemPort) → ChoosesIn aggs old new → (a : AggId) → NoneNext aggs a new
 choosing_none aggs old new h a =
@@ -296,9 +249,7 @@ zip_none aggs R k xs ys h a q = elim q [
     same_count [] [] h = omega arith
     same_count [] (y ∷ ys) h = absurd h
     same_count (x ∷ xs) [] h = absurd h
-    same_count (x ∷ xs) (y ∷ ys) h =
-        subst (λ c. cond (has_chosen a x.port.choice) (suc (count a xs)) (count a xs) ≤ cond (has_chosen a c) (suc (count a ys)) (count a ys))
-        (sym (k x.port y.port h.0.1)) (same_bit (has_chosen a x.port.choice) (count a xs) (count a ys) (same_count xs ys h.1))
+    same_count (x ∷ xs) (y ∷ ys) h = grind (arith, nat_tests, same_count xs ys h.1)
 
     same_stands : (xs ys : List SystemPort) → PortsChangeBy R xs ys → NoneStandsBy a (views xs) → NoneStandsBy a (views ys)
     same_stands [] [] h n = tt
@@ -316,5 +267,4 @@ settled_none aggs R S k m one two four five h r s a =
 -- where none comes next, step 2 promotes none
 pub nothing_promoted : (aggs : AggregatorsValue) (n : ℕ) (l : List SystemPort) → NoneIsNext aggs (views l) → PromotesFirst aggs n l l
 nothing_promoted aggs zero l h = refl
-nothing_promoted aggs (suc n) l h =
-    (l, nothing_promoted aggs n l h, (zero, refl, h (aggregator_numbered (suc n))))
+nothing_promoted aggs (suc n) l h = grind (arith, nat_tests, nothing_promoted aggs n l h)

@@ -1,7 +1,7 @@
 -- The walk that counts the members of each aggregator, and what its counts say.
-use Rattle.lagsystem.proofs.Common.{Bool, List, Option, [], ap, arith, cond, false, filter, get_or, inl, inr, length, refl, suc, sym, take, true, ℕ}
-use Rattle.lagsystem.proofs.Common.{◌+◌, ◌<◌, ◌∙◌, ◌∷◌, ◌≡◌, ◌≤◌, cases_lt, get_or_past, length-take-le, AggId, Choice, Selected, Standby, Unselected}
-use Rattle.lagsystem.proofs.Common.{AggregatorsValue, has_room, is_below, has_chosen, SystemPort, CountsMembers, views}
+use Rattle.lagsystem.proofs.Common.{Bool, List, Option, [], ap, arith, cond, false, filter, get_or, inl, inr, length, sym, take, ℕ, ◌+◌, ◌<◌, ◌∙◌}
+use Rattle.lagsystem.proofs.Common.{◌∷◌, ◌≡◌, ◌≤◌, cases_lt, nat_tests, get_or_past, length-take-le, AggId, Choice, Selected, AggregatorsValue}
+use Rattle.lagsystem.proofs.Common.{has_room, is_below, has_chosen, SystemPort, CountsMembers, views}
 use Rattle.std.proofs.lemmas.List.Filters.{length-filter_more}
 use Rattle.lagsystem.proofs.NextLemmas.{full_no_room}
 
@@ -19,21 +19,14 @@ counted_more l i d choice counts new lt h many is more = record {
 
 -- a port that is not SELECTED is no member
 pub no_member : (agg : AggId) (c : Choice) → ((given : AggId) → c ≡ Selected given → ⊥) → has_chosen agg c ≡ false
-no_member agg Unselected h = refl
-no_member agg (Selected given) h = absurd (h given refl)
-no_member agg (Standby given) h = refl
+no_member agg c h = grind (arith, nat_tests)
 
 pub none_more : (n : ℕ) (b : Bool) → b ≡ false → n ≡ n + cond b 1 0
-none_more n true h = absurd cc
-none_more n false h = omega arith
+none_more n b h = grind (arith, nat_tests)
 
 few_filtered : (p : SystemPort → Bool) (l : List SystemPort) → length (filter p l) ≤ length l
 few_filtered p [] = omega arith
-few_filtered p (x ∷ xs) = one (p x) (few_filtered p xs)
-  where
-    one : (b : Bool) → length (filter p xs) ≤ length xs → length (cond b (x ∷ filter p xs) (filter p xs)) ≤ suc (length xs)
-    one true h = omega (arith, h)
-    one false h = omega (arith, h)
+few_filtered p (x ∷ xs) = grind (arith, nat_tests, few_filtered p xs)
 
 -- no more than there are ports
 counted_few : (l : List SystemPort) (counts : List ℕ) → CountsMembers l counts → (g : ℕ) → get_or counts g 0 ≤ length l
@@ -52,5 +45,4 @@ counted_below l i counts lt few h g =
 pub counted_full : (aggs : AggregatorsValue) (l : List SystemPort) (agg : AggId) (counts : List ℕ) (max_links : Option ℕ)
     → CountsMembers l counts → max_links ≡ aggs.max_links → agg.0 < 65 → is_below max_links (get_or counts agg.0 0) ≡ false
     → has_room aggs (views l) agg ≡ false
-counted_full aggs l agg counts max_links h same low full =
-    full_no_room aggs l agg (ap (is_below aggs.max_links) (sym (h.each agg low)) ∙ ap (λ o. is_below o (get_or counts agg.0 0)) (sym same) ∙ full)
+counted_full aggs l agg counts max_links h same low full = grind (arith, nat_tests, full_no_room)

@@ -1,10 +1,10 @@
 -- What promoting the STANDBY port that comes next does.
 use Rattle.lagsystem.proofs.Common.{Bool, List, None, Option, Some, [], ap, arith, cond, false, filter, length, not, refl, slice_get, slice_set}
-use Rattle.lagsystem.proofs.Common.{subst, suc, sym, true, zero, ℕ, ⊎_elim, ◌&&◌, ◌+◌, ◌<◌, ◌||◌, ◌∙◌, ◌∷◌, ◌≡◌, ◌≤◌, cases_eq, false≢true, or_parts}
-use Rattle.lagsystem.proofs.Common.{none-some, same_Some, list_any, AggId, Choice, Selected, Standby, Unselected, is_selected, is_standby, itself}
-use Rattle.lagsystem.proofs.Common.{PortView, is_aggregator, ports_that_chose, AggregatorsValue, has_room, is_below, next_standby_index, has_chosen}
-use Rattle.lagsystem.proofs.Common.{stands_by, is_next, SystemPort, count_standby, aggregator_numbered, PromotesAll, PromotesFirst, PromotesNext}
-use Rattle.lagsystem.proofs.Common.{with_choice, selection_view, views}
+use Rattle.lagsystem.proofs.Common.{subst, suc, sym, true, zero, ℕ, ◌+◌, ◌<◌, ◌||◌, ◌∙◌, ◌∷◌, ◌≡◌, ◌≤◌, false≢true, or_parts, nat_tests, none-some}
+use Rattle.lagsystem.proofs.Common.{same_Some, list_any, AggId, Choice, Selected, Standby, is_selected, is_standby, itself, PortView}
+use Rattle.lagsystem.proofs.Common.{ports_that_chose, AggregatorsValue, has_room, is_below, next_standby_index, has_chosen, stands_by, is_next}
+use Rattle.lagsystem.proofs.Common.{SystemPort, count_standby, aggregator_numbered, PromotesAll, PromotesFirst, PromotesNext, with_choice}
+use Rattle.lagsystem.proofs.Common.{selection_view, views}
 use Rattle.lagsystem.proofs.Limiting.{next_stands}
 
 within_views : (l : List SystemPort) (i : ℕ) (v : PortView) → slice_get (views l) i ≡ Some v → i < length l
@@ -18,20 +18,13 @@ pub next_within : (aggs : AggregatorsValue) (l : List SystemPort) (agg : AggId) 
 next_within aggs l agg i e = let n = is_next aggs (views l) agg i e in within_views l i n.port n.there
 
 one_less : (b : Bool) (n : ℕ) → b ≡ true → n + 1 ≡ cond b (suc n) n
-one_less true n h = omega arith
-one_less false n h = absurd cc
-
-later_less : (h : Bool) (m n : ℕ) → m + 1 ≡ n → cond h (suc m) m + 1 ≡ cond h (suc n) n
-later_less true m n e = omega (arith, e)
-later_less false m n e = e
+one_less b n h = grind (arith, nat_tests)
 
 fewer_standby : (agg : AggId) (l : List SystemPort) (i : ℕ) (s : SystemPort) → slice_get l i ≡ Some s
     → stands_by agg s.port.choice ≡ true → count_standby agg (slice_set l i (with_choice s (Some (Selected agg)))) + 1 ≡ count_standby agg l
 fewer_standby agg [] i s e h = absurd (none-some s e)
-fewer_standby agg (x ∷ xs) zero s e h = one_less (stands_by agg x.port.choice) (count_standby agg xs)
-    (ap (λ (z : SystemPort). stands_by agg z.port.choice) (same_Some x s e) ∙ h)
-fewer_standby agg (x ∷ xs) (suc i) s e h = later_less (stands_by agg x.port.choice)
-    (count_standby agg (slice_set xs i (with_choice s (Some (Selected agg))))) (count_standby agg xs) (fewer_standby agg xs i s e h)
+fewer_standby agg (x ∷ xs) zero s e h = grind (arith, nat_tests)
+fewer_standby agg (x ∷ xs) (suc i) s e h = grind (arith, nat_tests, fewer_standby agg xs i s e h)
 
 -- one STANDBY port of the aggregator fewer
 pub promoted_fewer : (aggs : AggregatorsValue) (agg : AggId) (l m : List SystemPort) → PromotesNext aggs agg l m
@@ -43,10 +36,7 @@ promoted_fewer aggs agg l m h =
 -- so in one aggregator more
 pub promoted_more : (aggs : AggregatorsValue) (n : ℕ) (start l m : List SystemPort) → PromotesFirst aggs n start l
     → PromotesAll aggs (aggregator_numbered (n + 1)) l m → PromotesFirst aggs (n + 1) start m
-promoted_more aggs n start l m h k = more (n + 1) (omega arith) k
-  where
-    more : (j : ℕ) → j ≡ suc n → PromotesAll aggs (aggregator_numbered j) l m → PromotesFirst aggs j start m
-    more j e p = subst (λ i. PromotesFirst aggs i start m) (sym e) (l, h, subst (λ i. PromotesAll aggs (aggregator_numbered i) l m) e p)
+promoted_more aggs n start l m h k = grind (arith, nat_tests)
 
 -- a view is that of a port
 seen_port : (l : List SystemPort) (i : ℕ) (v : PortView) → slice_get (views l) i ≡ Some v
@@ -59,12 +49,7 @@ seen_port (x ∷ xs) (suc i) v e = seen_port xs i v e
 pub members_counted : (agg : AggId) (l : List SystemPort)
     → length (filter (λ s. has_chosen agg s.port.choice) l) ≡ length (ports_that_chose agg (views l))
 members_counted agg [] = refl
-members_counted agg (s ∷ ss) = more (has_chosen agg s.port.choice) _ _ (members_counted agg ss)
-  where
-    more : (b : Bool) (xs : List SystemPort) (ys : List PortView) → length xs ≡ length ys
-        → length (cond b (s ∷ xs) xs) ≡ length (cond b (selection_view s ∷ ys) ys)
-    more true xs ys h = ap (λ n. suc n) h
-    more false xs ys h = h
+members_counted agg (s ∷ ss) = grind (arith, nat_tests, members_counted agg ss)
 
 -- each of the first ports that is STANDBY has an aggregator without room
 abbrev pub NoRoomUpTo : AggregatorsValue → ℕ → List SystemPort → Type 0
@@ -87,21 +72,12 @@ none_next aggs l n long h agg = by_index (next_standby_index aggs (views l) agg)
 -- so for one port more
 pub no_room_more : (aggs : AggregatorsValue) (l : List SystemPort) (n : ℕ) (t : SystemPort) → slice_get l n ≡ Some t → NoRoomUpTo aggs n l
     → ((agg : AggId) → t.port.choice ≡ Standby agg → has_room aggs (views l) agg ≡ false) → NoRoomUpTo aggs (n + 1) l
-no_room_more aggs l n t there h here k s agg lt e stands = ⊎_elim
-    (λ (m : k ≡ n). (let same : t ≡ s = same_Some t s (sym there ∙ ap (slice_get l) (sym m) ∙ e) in
-    here agg (ap (λ (x : SystemPort). x.port.choice) same ∙ stands)))
-    (λ (o : k ≡ n → ⊥). (let low : k < n = omega (arith, lt, o) in h k s agg low e stands))
-    (cases_eq k n)
+no_room_more aggs l n t there h here k s agg lt e stands = grind (arith, nat_tests)
 
 -- as many members as the limit leave no room
 pub full_no_room : (aggs : AggregatorsValue) (l : List SystemPort) (agg : AggId)
     → is_below aggs.max_links (length (filter (λ s. has_chosen agg s.port.choice) l)) ≡ false → has_room aggs (views l) agg ≡ false
-full_no_room aggs l agg full = and_right (is_aggregator aggs.keys agg) _
-    (ap (is_below aggs.max_links) (sym (members_counted agg l)) ∙ full)
-  where
-    and_right : (b c : Bool) → c ≡ false → (b && c) ≡ false
-    and_right true c h = h
-    and_right false c h = refl
+full_no_room aggs l agg full = grind (arith, nat_tests, members_counted)
 
 -- the aggregator of a STANDBY port
 pub same_standby : (a b : AggId) → Standby a ≡ Standby b → a ≡ b
@@ -116,15 +92,12 @@ none_stands aggs l h = none_next aggs l (length l) (omega arith)
     each : (l : List SystemPort) (k : ℕ) (s : SystemPort) → list_any (λ s. is_standby s.port.choice) l ≡ false → slice_get l k ≡ Some s
         → is_standby s.port.choice ≡ false
     each [] k s e there = absurd (none-some s there)
-    each (x ∷ xs) zero s e there =
-        subst (λ (y : SystemPort). is_standby y.port.choice ≡ false) (same_Some x s there) (or_parts _ _ e).0
+    each (x ∷ xs) zero s e there = grind (arith, nat_tests)
     each (x ∷ xs) (suc k) s e there = each xs k s (or_parts _ _ e).1 there
 
 -- a port that is SELECTED is not STANDBY
 pub selected_not_standby : (c : Choice) → not (is_selected c) ≡ false → is_standby c ≡ false
-selected_not_standby Unselected e = refl
-selected_not_standby (Selected agg) e = refl
-selected_not_standby (Standby agg) e = absurd cc
+selected_not_standby c e = grind (arith, nat_tests)
 
 -- where each port is SELECTED, none comes next
 pub none_left_standby : (aggs : AggregatorsValue) (l : List SystemPort) → list_any (λ s. not (is_selected s.port.choice)) l ≡ false

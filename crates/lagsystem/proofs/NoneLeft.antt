@@ -1,7 +1,7 @@
 -- When all ports have chosen, none that is still eligible finds an aggregator.
 use Rattle.lagsystem.proofs.Common.{Bool, List, None, Option, Some, [], ap, arith, false, if◌then◌else◌, inl, inr, length, option_map, refl}
-use Rattle.lagsystem.proofs.Common.{slice_get, slice_set, subst, suc, sym, true, zero, ℕ, ◌&&◌, ◌<◌, ◌∙◌, ◌∷◌, ◌≡◌, ◌⊎◌, same_Some, AllByRecursion}
-use Rattle.lagsystem.proofs.Common.{AggId, Key, Choice, Selected, Standby, Unselected, is_unselected, PortView, chosen_aggregator, chosen_for_view}
+use Rattle.lagsystem.proofs.Common.{slice_get, slice_set, subst, suc, sym, true, zero, ℕ, ◌&&◌, ◌<◌, ◌∙◌, ◌∷◌, ◌≡◌, ◌⊎◌, nat_tests, same_Some}
+use Rattle.lagsystem.proofs.Common.{AllByRecursion, AggId, Key, Choice, Unselected, is_unselected, PortView, chosen_aggregator, chosen_for_view}
 use Rattle.lagsystem.proofs.Common.{chosen_if_eligible, AggregatorsValue, has_room, is_eligible, SystemPort, after_choice_at, after_choices}
 use Rattle.lagsystem.proofs.Common.{aggregator_for, choice_for, choice_if, choice_in, with_choice, port_numbers, selection_view, views}
 use Rattle.lagsystem.proofs.Keeps.{chosen_numbers, numbers_set}
@@ -41,27 +41,20 @@ length_choose aggs system_ports i (Some s) = length_set system_ports i (with_cho
 length_chosen : (aggs : AggregatorsValue) (n : ℕ) (system_ports : List SystemPort)
     → length (after_choices aggs n system_ports) ≡ length system_ports
 length_chosen aggs zero system_ports = refl
-length_chosen aggs (suc n) system_ports = length_choose aggs (after_choices aggs n system_ports) n
-    (slice_get (after_choices aggs n system_ports) n) ∙ length_chosen aggs n system_ports
+length_chosen aggs (suc n) system_ports = grind (arith, nat_tests, length_choose, length_chosen aggs n system_ports)
 
 below_or_at : (j n : ℕ) → j < suc n → (j < n) ⊎ (j ≡ n)
 below_or_at j zero l = inr (omega (arith, l))
 below_or_at zero (suc n) l = inl (omega arith)
-below_or_at (suc j) (suc n) l = elim (below_or_at j n (omega (arith, l))) [
-  | inl h ↦ inl (omega (arith, h))
-  | inr h ↦
-      inr (omega (arith, h))
-]
+below_or_at (suc j) (suc n) l = grind (arith, nat_tests, below_or_at j n (omega (arith, l)))
 
 -- what is taken
 
 pub when_still : (b : Bool) (x y : Option AggId) → (if b then x else None) ≡ None → (x ≡ None → y ≡ None) → (if b then y else None) ≡ None
-when_still true x y h f = f h
-when_still false x y h f = refl
+when_still b x y h f = grind (arith, nat_tests)
 
 pub not_when : (b : Bool) (x : Option AggId) → b ≡ false → (if b then x else None) ≡ None
-not_when true x h = absurd cc
-not_when false x h = refl
+not_when b x h = grind (arith, nat_tests)
 
 -- what the port at a place takes, by its own view
 pub takes_is : (keys : List Key) (system_ports : List SystemPort) (j : ℕ) (t : SystemPort) → Rises 0 (port_numbers system_ports)
@@ -88,21 +81,13 @@ none_then keys system_ports i j s t a r e u g l h =
     (λ k. when_still b x y k (none_after keys system_ports i s a (selection_view t) e u))
 
 pub eligible_then : (b : Bool) (x : Option AggId) (a : AggId) → (if b then x else None) ≡ Some a → b ≡ true
-eligible_then true x a e = refl
-eligible_then false x a e = absurd cc
+eligible_then b x a e = grind (arith, nat_tests)
 
 pub unselected : (c : Choice) (b d : Bool) → ((b && is_unselected c) && d) ≡ true → c ≡ Unselected
-unselected Unselected b d h = refl
-unselected (Selected agg) true d h = absurd cc
-unselected (Selected agg) false d h = absurd cc
-unselected (Standby agg) true d h = absurd cc
-unselected (Standby agg) false d h = absurd cc
+unselected c b d h = grind (arith, nat_tests)
 
 not_unselected : (room : Bool) (agg : AggId) (b d : Bool) → ((b && is_unselected (choice_if room agg)) && d) ≡ false
-not_unselected true agg true d = refl
-not_unselected true agg false d = refl
-not_unselected false agg true d = refl
-not_unselected false agg false d = refl
+not_unselected room agg b d = grind (arith, nat_tests)
 
 -- each of the first n finds none
 abbrev Found_none : List Key → ℕ → List SystemPort → Type 0
@@ -144,13 +129,8 @@ one_taken aggs system_ports n s (Some a) w e r k j t l g =
 one_chosen : (aggs : AggregatorsValue) (system_ports : List SystemPort) (n : ℕ) (o : Option SystemPort) → slice_get system_ports n ≡ o
     → Rises 0 (port_numbers system_ports) → Found_none aggs.keys n system_ports
     → Found_none aggs.keys (suc n) (after_choice_at aggs system_ports n o)
-one_chosen aggs system_ports n None e r k j t l g =
-    elim (below_or_at j n l) [ inl h ↦ k j t h g | inr h ↦ absurd (nothing (sym e ∙ ap (slice_get system_ports) (sym h) ∙ g)) ]
-  where
-    nothing : None ≡ Some t → ⊥
-    nothing e = cc
-one_chosen aggs system_ports n (Some s) e r k j t l g = one_taken aggs system_ports n s
-    (aggregator_for aggs.keys system_ports s) refl e r k j t l g
+one_chosen aggs system_ports n None e r k j t l g = grind (arith, nat_tests)
+one_chosen aggs system_ports n (Some s) e r k j t l g = grind (arith, nat_tests, one_taken)
 
 all_chosen : (aggs : AggregatorsValue) (n : ℕ) (system_ports : List SystemPort) → Rises 0 (port_numbers system_ports)
     → Found_none aggs.keys n (after_choices aggs n system_ports)
@@ -169,20 +149,15 @@ abbrev pub TakesNone : List Key → List PortView → PortView → Type 0
 TakesNone keys seen v = (if is_eligible v then chosen_if_eligible keys seen v else None) ≡ None
 
 when_twice : (b : Bool) (x : Option AggId) → (if b then (if b then x else None) else None) ≡ None → (if b then x else None) ≡ None
-when_twice true x h = h
-when_twice false x h = refl
+when_twice b x h = grind (arith, nat_tests)
 
 when_again : (b : Bool) (x : Option AggId) → (if b then x else None) ≡ None → (if b then (if b then x else None) else None) ≡ None
-when_again true x h = h
-when_again false x h = refl
+when_again b x h = grind (arith, nat_tests)
 
 pub taken_none : (keys : List Key) (system_ports : List SystemPort) → Rises 0 (port_numbers system_ports)
     → AllByRecursion (λ t. TakesNone keys (views system_ports) (selection_view t)) system_ports
     → (j : ℕ) (t : SystemPort) → slice_get system_ports j ≡ Some t → aggregator_for keys system_ports t ≡ None
-taken_none keys system_ports r all j t e =
-    takes_is keys system_ports j t r e
-    ∙ when_again (is_eligible (selection_view t)) (chosen_if_eligible keys (views system_ports) (selection_view t))
-    (all-get (λ t. TakesNone keys (views system_ports) (selection_view t)) system_ports j t e all)
+taken_none keys system_ports r all j t e = grind (arith, nat_tests, takes_is, when_again, all-get)
 
 -- each port, when all have chosen
 pub none_takes : (aggs : AggregatorsValue) (system_ports : List SystemPort) → Rises 0 (port_numbers system_ports)

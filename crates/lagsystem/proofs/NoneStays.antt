@@ -1,34 +1,27 @@
 -- A port that found no aggregator finds none after another port chose one, nor after mux machines ran.
-use Rattle.lagsystem.proofs.Common.{Bool, List, None, Option, Some, [], ap, cond, false, find, not, option_map, refl, slice_get, slice_set, suc, true}
-use Rattle.lagsystem.proofs.Common.{zero, ℕ, ◌&&◌, ◌==◌, ◌||◌, ◌∙◌, ◌∷◌, ◌≡◌, and_right, not-false, not_from_true, same_Some, enumerate_from}
+use Rattle.lagsystem.proofs.Common.{Bool, List, None, Option, Some, [], ap, arith, cond, false, find, not, option_map, refl, slice_get, slice_set}
+use Rattle.lagsystem.proofs.Common.{suc, true, zero, ℕ, ◌&&◌, ◌==◌, ◌||◌, ◌∙◌, ◌∷◌, ◌≡◌, not-false, not_from_true, nat_tests, enumerate_from}
 use Rattle.lagsystem.proofs.Common.{list_all, AggId, Key, Choice, Unselected, individual, PortView, aggregator_of_entry, chosen_if_eligible}
 use Rattle.lagsystem.proofs.Common.{has_group_of, has_no_occupant, has_occupant, lowest, occupants, occupants_share_group, or_else, occupies}
 use Rattle.lagsystem.proofs.Common.{SystemPort, with_choice, selection_view, views}
 
 none_or : (x y : Option AggId) → or_else x y ≡ None → (x ≡ None) × (y ≡ None)
-none_or None None e = (refl, refl)
-none_or None (Some agg) e = absurd cc
-none_or (Some agg) y e = absurd cc
+none_or x y e = grind (arith, nat_tests)
 
 none_mapped : (o : Option (ℕ × Key)) → option_map aggregator_of_entry o ≡ None → o ≡ None
-none_mapped None e = refl
-none_mapped (Some row) e = absurd cc
+none_mapped o e = grind (arith, nat_tests)
 
 first_fails : (b : Bool) (row : ℕ × Key) (rest : Option (ℕ × Key)) → cond b (Some row) rest ≡ None → (b ≡ false) × (rest ≡ None)
-first_fails true row rest e = absurd cc
-first_fails false row rest e = (refl, e)
+first_fails b row rest e = grind (arith, nat_tests)
 
 fails_here : (b : Bool) (row : ℕ × Key) (rest : Option (ℕ × Key)) → b ≡ false → rest ≡ None → cond b (Some row) rest ≡ None
-fails_here true row rest h e = absurd cc
-fails_here false row rest h e = e
+fails_here b row rest h e = grind (arith, nat_tests)
 
 both_false : (k t u : Bool) → (k && t) ≡ false → (t ≡ false → u ≡ false) → (k && u) ≡ false
-both_false true t u h f = f h
-both_false false t u h f = refl
+both_false k t u h f = grind (arith, nat_tests)
 
 two_false : (k s t u : Bool) → (k && s) ≡ false → (k && t) ≡ false → (s ≡ false → t ≡ false → u ≡ false) → (k && u) ≡ false
-two_false true s t u h g f = f h g
-two_false false s t u h g f = refl
+two_false k s t u h g f = grind (arith, nat_tests)
 
 -- the first aggregator with this key that passes the test
 abbrev passing : Key → (AggId → Bool) → List (ℕ × Key) → Option (ℕ × Key)
@@ -69,14 +62,8 @@ none_stays keys seen later v f g e =
 
 -- one more occupant
 
-or_other : (b c d : Bool) → b ≡ false → (b || c) ≡ true → (d || c) ≡ true
-or_other true c d n h = absurd cc
-or_other false c true n h = refl
-or_other false c false n h = h
-
 or_still : (b c d : Bool) → (b || c) ≡ true → (c ≡ true → d ≡ true) → (b || d) ≡ true
-or_still true c d h f = refl
-or_still false c d h f = f h
+or_still b c d h f = grind (arith, nat_tests)
 
 pub not_given : (agg : AggId) (s x : SystemPort) → x ≡ s → s.port.choice ≡ Unselected → occupies agg x.port.choice ≡ false
 not_given agg s x same u = ap (λ (y : SystemPort). occupies agg y.port.choice) same ∙ ap (occupies agg) u
@@ -85,38 +72,30 @@ occupant_stays : (agg : AggId) (a : Choice) (system_ports : List SystemPort) (i 
     → s.port.choice ≡ Unselected
     → has_occupant (views system_ports) agg ≡ true → has_occupant (views (slice_set system_ports i (with_choice s (Some a)))) agg ≡ true
 occupant_stays agg a [] i s e u h = absurd cc
-occupant_stays agg a (x ∷ xs) zero s e u h =
-    or_other (occupies agg x.port.choice) (has_occupant (views xs) agg) (occupies agg a)
-    (not_given agg s x (same_Some x s e) u) h
+occupant_stays agg a (x ∷ xs) zero s e u h = grind (arith, nat_tests)
 occupant_stays agg a (x ∷ xs) (suc i) s e u h =
     or_still (occupies agg x.port.choice) (has_occupant (views xs) agg) (has_occupant (views (slice_set xs i (with_choice s (Some a)))) agg) h
     (occupant_stays agg a xs i s e u)
 
 all_later : (test : PortView → Bool) (b : Bool) (w : PortView) (rest : List PortView) → list_all test rest ≡ false
     → list_all test (cond b (w ∷ rest) rest) ≡ false
-all_later test true w rest h = and_right (test w) (list_all test rest) h
-all_later test false w rest h = h
+all_later test b w rest h = grind (arith, nat_tests)
 
 all_skipped : (test : PortView → Bool) (b : Bool) (w : PortView) (rest : List PortView) → b ≡ false
     → list_all test (cond b (w ∷ rest) rest) ≡ false → list_all test rest ≡ false
-all_skipped test true w rest n h = absurd cc
-all_skipped test false w rest n h = h
+all_skipped test b w rest n h = grind (arith, nat_tests)
 
 all_still : (test : PortView → Bool) (b : Bool) (w : PortView) (rest more : List PortView) → list_all test (cond b (w ∷ rest) rest) ≡ false
     → (list_all test rest ≡ false → list_all test more ≡ false)
     → list_all test (cond b (w ∷ more) more) ≡ false
-all_still test true w rest more h f = both_false (test w) (list_all test rest) (list_all test more) h f
-all_still test false w rest more h f = f h
+all_still test b w rest more h f = grind (arith, nat_tests)
 
 others_stay : (agg : AggId) (a : Choice) (v : PortView) (system_ports : List SystemPort) (i : ℕ) (s : SystemPort) → slice_get system_ports i ≡ Some s
     → s.port.choice ≡ Unselected
     → list_all (has_group_of v) (occupants agg (views system_ports)) ≡ false
     → list_all (has_group_of v) (occupants agg (views (slice_set system_ports i (with_choice s (Some a))))) ≡ false
 others_stay agg a v [] i s e u h = absurd cc
-others_stay agg a v (x ∷ xs) zero s e u h =
-    all_later (has_group_of v) (occupies agg a) (selection_view (with_choice s (Some a))) (occupants agg (views xs))
-    (all_skipped (has_group_of v) (occupies agg x.port.choice) (selection_view x) (occupants agg (views xs))
-    (not_given agg s x (same_Some x s e) u) h)
+others_stay agg a v (x ∷ xs) zero s e u h = grind (arith, nat_tests, all_later, all_skipped, not_given)
 others_stay agg a v (x ∷ xs) (suc i) s e u h =
     all_still (has_group_of v) (occupies agg x.port.choice) (selection_view x) (occupants agg (views xs))
     (occupants agg (views (slice_set xs i (with_choice s (Some a))))) h
@@ -124,10 +103,7 @@ others_stay agg a v (x ∷ xs) (suc i) s e u h =
 
 join_stays : (n m a later all : Bool) → m ≡ true → later ≡ true → ((n && m) && a) ≡ false → (a ≡ false → all ≡ false)
     → ((n && later) && all) ≡ false
-join_stays true true a true all p q h f = f h
-join_stays true true a false all p q h f = absurd cc
-join_stays true false a later all p q h f = absurd cc
-join_stays false m a later all p q h f = refl
+join_stays n m a later all p q h f = grind (arith, nat_tests)
 
 -- a port that found none finds none after another port took an aggregator
 pub none_after : (keys : List Key) (system_ports : List SystemPort) (i : ℕ) (s : SystemPort) (a : Choice) (v : PortView)
@@ -151,9 +127,4 @@ pub none_alike : (keys : List Key) (seen later : List PortView) (v : PortView)
     → ((agg : AggId) → has_occupant later agg ≡ has_occupant seen agg)
     → ((agg : AggId) → list_all (has_group_of v) (occupants agg later) ≡ list_all (has_group_of v) (occupants agg seen))
     → chosen_if_eligible keys seen v ≡ None → chosen_if_eligible keys later v ≡ None
-none_alike keys seen later v f g h =
-    none_stays keys seen later v
-    (λ agg k. ap not (f agg) ∙ k)
-    (λ agg k j. ap (λ b. (not (individual v.party v.partner) && b) && list_all (has_group_of v) (occupants agg later)) (f agg)
-    ∙ ap (λ b. (not (individual v.party v.partner) && has_occupant seen agg) && b) (g agg) ∙ j)
-    h
+none_alike keys seen later v f g h = grind (arith, nat_tests)

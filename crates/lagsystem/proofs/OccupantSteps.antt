@@ -1,22 +1,21 @@
 -- Every call keeps that the occupants of an aggregator agree, and that it has no more members than the limit.
-use Rattle.lagsystem.proofs.Common.{Bool, List, None, Option, Some, ap, false, length, option_map, refl, slice_get, slice_set, subst, sym, true, ℕ}
-use Rattle.lagsystem.proofs.Common.{◌∙◌, ◌≡◌, AggId, Key, Machines, mux_rows, RunsPeriodic, receive_rows, RunsToRest, after_sending, count_down}
+use Rattle.lagsystem.proofs.Common.{Bool, List, None, Option, Some, ap, arith, false, length, option_map, refl, slice_get, slice_set, subst, sym, ℕ}
+use Rattle.lagsystem.proofs.Common.{◌≡◌, nat_tests, AggId, Key, Machines, mux_rows, RunsPeriodic, receive_rows, RunsToRest, after_sending, count_down}
 use Rattle.lagsystem.proofs.Common.{AggregatorsValue, has_room, Reply, SystemPort, Call, ChangesParty, OnlyPortChangesBy, PortAtChangesBy}
 use Rattle.lagsystem.proofs.Common.{ProcessesLacpdu, SetsLink, SetsPortEnabled, Step, ThenSettles, Ticks, IsFirst, OccupantsAgree, WithinLimit}
 use Rattle.lagsystem.proofs.Common.{occupied, ChoosesIn, PortsChangeBy, Settling, aggregator_for, choice_for, choice_if, choice_in, ready_of}
 use Rattle.lagsystem.proofs.Common.{with_choice, HasPorts, SystemState, aggregators_value, port_index, port_numbers, views}
+use Rattle.lagsystem.proofs.Keeps.{settling_in, zip_numbers, Keeps, Step-frame, given_number, keeps_link, keeps_place, keeps_tick, numbers_set}
+use Rattle.lagsystem.proofs.Keeps.{promoted_numbers, settling_keeps}
+use Rattle.lagsystem.proofs.SettlingLemmas.{RunsReady, set_same}
 use Rattle.lagsystem.proofs.Choose.{taken_joins}
 use Rattle.lagsystem.proofs.FirstView.{first_unselected}
-use Rattle.lagsystem.proofs.Keeps.{Keeps, Step-frame, given_number, keeps_each, keeps_link, keeps_place, keeps_tick, numbers_set, promoted_numbers}
-use Rattle.lagsystem.proofs.Keeps.{settling_keeps}
 use Rattle.lagsystem.proofs.Limiting.{Fewer, choosing_within, next_stands, none_within, set_fewer, within_fewer, zip_fewer}
 use Rattle.lagsystem.proofs.Occupying.{EachStays, LeavesOrStays, configure_stays, joining_agrees, link_stays, mux_stays, none_agrees, periodic_stays}
 use Rattle.lagsystem.proofs.Occupying.{place_stays, promotion_agrees, sending_stays, set_stays, stay_agrees, taking_stays, tick_stays, zip_stay}
 use Rattle.lagsystem.proofs.Preserves.{Step-preserves_ports}
 use Rattle.lagsystem.proofs.PromotionLemmas.{choices_keep, promotions_keep}
-use Rattle.lagsystem.proofs.Rest.{last_slots}
 use Rattle.lagsystem.proofs.Rising.{Rises, ports_rise}
-use Rattle.lagsystem.proofs.SettlingLemmas.{set_same}
 
 abbrev pub ArePlaced : AggregatorsValue → List SystemPort → Type 0
 ArePlaced aggs l = OccupantsAgree aggs.keys l × WithinLimit aggs.max_links (views l)
@@ -38,8 +37,7 @@ zip_on R k aggs old new h p = placed_on aggs old new (zip_stay R k old new h, zi
 place_fewer : (R : Machines → Machines → Type 0) → ((p q : Machines) → R p q → LeavesOrStays p q) → (o : Option ℕ)
     (old new : List SystemPort) → PortAtChangesBy R o old new → Fewer old new
 place_fewer R k None old new h = absurd h
-place_fewer R k (Some i) old new h =
-    subst (Fewer old) (sym h.4) (set_fewer old i h.0 (record h.0 { port = h.1 }) h.2 (k h.0.port h.1 h.3))
+place_fewer R k (Some i) old new h = grind (arith, nat_tests, set_fewer)
 
 place_on : (R : Machines → Machines → Type 0) → ((p q : Machines) → R p q → LeavesOrStays p q) → (o : Option ℕ) → (aggs : AggregatorsValue)
     → (old new : List SystemPort) → PortAtChangesBy R o old new → ArePlaced aggs old → ArePlaced aggs new
@@ -48,8 +46,7 @@ place_on R k o aggs old new h p = placed_on aggs old new (place_stays R k o old 
 -- step 2 of settling
 
 occupied_if : (room : Bool) (agg : AggId) → occupied (choice_if room agg) ≡ Some agg.0
-occupied_if true agg = refl
-occupied_if false agg = refl
+occupied_if room agg = grind (arith, nat_tests)
 
 choice_agrees : (aggs : AggregatorsValue) (l : List SystemPort) (i : ℕ) (s : SystemPort) (o : Option AggId) → Rises 0 (port_numbers l)
     → slice_get l i ≡ Some s → aggregator_for aggs.keys l s ≡ o → OccupantsAgree aggs.keys l
@@ -80,26 +77,14 @@ choosing_on aggs old new r h p = (choosing_agrees aggs old new r h p.0, choosing
 
 settling_placed : (old new : SystemState) → Rises 0 (port_numbers old.system_ports) → Settling old new → IsPlaced old → IsPlaced new
 settling_placed old new r h p =
-    let one = h.0 in
-    let two = h.2.0 in
-    let four = h.2.2.2.0 in
-    let five = h.2.2.2.2.0 in
-    let free : Machines → Machines → Type 0 = λ p q. RunsToRest (mux_rows false) p q in
-    let ready : Machines → Machines → Type 0 = λ p q. RunsToRest (mux_rows (ready_of two.keys (views two.system_ports) p.choice)) p q in
-    let same : aggregators_value one ≡ aggregators_value old = ap aggregators_value h.1.1 in
-    let aggs = aggregators_value one in
-    let p1 : ArePlaced aggs one.system_ports = subst (λ a. ArePlaced a one.system_ports) (sym same)
-    (zip_on free (mux_stays false) (aggregators_value old) old.system_ports one.system_ports h.1.0 p) in
-    let r1 = subst (λ ns. Rises 0 ns) (sym (keeps_each free old one h.1).same) r in
-    let p2 = choosing_on aggs one.system_ports two.system_ports r1 h.2.1.0 p1 in
-    let m4 = subst (λ (s : SystemState). PortsChangeBy
-    (λ p q. RunsToRest (mux_rows (ready_of s.keys (views s.system_ports) p.choice)) p q) s.system_ports four.system_ports) h.2.2.1
-    h.2.2.2.1.0 in
-    let p4 = zip_on ready (λ p q x. mux_stays (ready_of two.keys (views two.system_ports) p.choice) p q x) aggs two.system_ports
-    four.system_ports m4 p2 in
-    let p5 = zip_on RunsPeriodic periodic_stays aggs four.system_ports five.system_ports h.2.2.2.2.1.0 p4 in
-    let whole : aggregators_value new ≡ aggs = ap aggregators_value (settling_keeps old new h).frame ∙ sym same in
-    subst (λ a. ArePlaced a new.system_ports) (sym whole) (subst (ArePlaced aggs) (sym (last_slots old new h)) p5)
+    let s = settling_in old new h in
+    let aggs = aggregators_value old in
+    let rise = subst (λ ns. Rises 0 ns) (sym (zip_numbers (RunsToRest (mux_rows false)) old.system_ports s.one s.stops)) r in
+    subst (λ a. ArePlaced a new.system_ports) (sym (ap aggregators_value (settling_keeps old new h).frame))
+    (zip_on RunsPeriodic periodic_stays aggs s.four new.system_ports s.paces
+    (zip_on (RunsReady old.keys (views s.two)) (λ p q x. mux_stays (ready_of old.keys (views s.two) p.choice) p q x) aggs s.two s.four s.runs
+    (choosing_on aggs s.one s.two rise s.chooses
+    (zip_on (RunsToRest (mux_rows false)) (mux_stays false) aggs old.system_ports s.one s.stops p))))
 
 -- the calls
 

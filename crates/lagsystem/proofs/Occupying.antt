@@ -1,11 +1,11 @@
 -- The occupants of an aggregator keep its key and one group: no call changes what an occupant is seen as, but that it leaves.
 use Rattle.lagsystem.proofs.Common.{All, Bool, List, None, Option, Some, [], ap, arith, false, if◌then◌else◌, inl, inr, refl, slice_get, slice_set}
-use Rattle.lagsystem.proofs.Common.{subst, suc, sym, true, zero, ℕ, ◌-◌, ◌<◌, ◌∙◌, ◌∷◌, ◌≡◌, ◌≢◌, ◌⊎◌, none-some, same_Some, AllByRecursion, AggId}
-use Rattle.lagsystem.proofs.Common.{Key, Choice, Selected, Standby, Unselected, Party, StateBits, SamePair, individual, pair_of, same_party, bits_of}
-use Rattle.lagsystem.proofs.Common.{with_synchronization, with_timeout, exact_party, encode_then_decode, Info, Lacpdu, party_of, group_sym}
-use Rattle.lagsystem.proofs.Common.{individual_along, Machines, mux_rows, RunsPeriodic, periodic_rows, default_partner, lacpdu_rows, receive_rows}
-use Rattle.lagsystem.proofs.Common.{recorded_synchronization, start_receive, Row, RunsToRest, Starts, after_sending, count_down, EachRelates}
-use Rattle.lagsystem.proofs.Common.{Fires-relates, Rests-relates, Seen, IsOccupant, MayJoin, ends, PortChange, SystemPort, ChangesParty}
+use Rattle.lagsystem.proofs.Common.{subst, suc, sym, true, zero, ℕ, ◌-◌, ◌<◌, ◌∙◌, ◌∷◌, ◌≡◌, ◌≢◌, ◌⊎◌, nat_tests, none-some, same_Some}
+use Rattle.lagsystem.proofs.Common.{AllByRecursion, AggId, Key, Choice, Selected, Standby, Unselected, Party, StateBits, SamePair, individual}
+use Rattle.lagsystem.proofs.Common.{same_party, bits_of, with_synchronization, with_timeout, exact_party, encode_then_decode, Info, Lacpdu, party_of}
+use Rattle.lagsystem.proofs.Common.{group_sym, individual_along, Machines, mux_rows, RunsPeriodic, periodic_rows, default_partner, lacpdu_rows}
+use Rattle.lagsystem.proofs.Common.{receive_rows, recorded_synchronization, start_receive, Row, RunsToRest, Starts, after_sending, count_down}
+use Rattle.lagsystem.proofs.Common.{EachRelates, Fires-relates, Rests-relates, Seen, IsOccupant, MayJoin, ends, PortChange, SystemPort, ChangesParty}
 use Rattle.lagsystem.proofs.Common.{PortAtChangesBy, ProcessesLacpdu, SetsPortEnabled, changed_party, choice_with_link, key_of, OccupantsAgree}
 use Rattle.lagsystem.proofs.Common.{occupied, PortsChangeBy, with_choice, selection_view, views}
 use Rattle.lagsystem.proofs.Effects.{named}
@@ -19,10 +19,7 @@ pub stays : (p : Machines) → LeavesOrStays p p
 stays p = inr (refl, refl, refl)
 
 pub both_stay : (p q r : Machines) → LeavesOrStays p q → LeavesOrStays q r → LeavesOrStays p r
-both_stay p q r h k = elim k [
-  | inl e ↦ inl e
-  | inr e ↦ elim h [ inl f ↦ inl (e.0 ∙ f) | inr f ↦ inr (e.0 ∙ f.0, e.1 ∙ f.1, e.2 ∙ f.2) ]
-]
+both_stay p q r h k = grind (arith, nat_tests)
 
 -- rows
 
@@ -46,8 +43,7 @@ expired_set info =
 -- Selected stays only where the partner's party does
 unless_same : (b : Bool) (c : Choice) (own was now : Party) → (b ≡ true → now ≡ was)
     → ((if b then c else Unselected) ≡ Unselected) ⊎ (((if b then c else Unselected) ≡ c) × (own ≡ own) × (now ≡ was))
-unless_same true c own was now h = inr (refl, refl, h refl)
-unless_same false c own was now h = inl refl
+unless_same b c own was now h = grind (arith, nat_tests)
 
 receive_rows_stay : RowsStay receive_rows
 receive_rows_stay = (
@@ -79,19 +75,13 @@ lacpdu_rows_stay v = (
 )
 
 mux_rows_stay : (ready : Bool) → RowsStay (mux_rows ready)
-mux_rows_stay ready = (
-  λ p up. stays p,
-  (λ p up. stays p, (λ p up. stays p, (λ p up. stays p, (λ p up. stays p, (λ p up. stays p, tt))))),
-)
+mux_rows_stay ready = grind (arith, nat_tests)
 
 pub mux_stays : (ready : Bool) (p q : Machines) → RunsToRest (mux_rows ready) p q → LeavesOrStays p q
 mux_stays ready p q h = runs_stay (mux_rows ready) (mux_rows_stay ready) p q h
 
 periodic_rows_stay : RowsStay periodic_rows
-periodic_rows_stay = (
-  λ p up. stays p,
-  (λ p up. stays p, (λ p up. stays p, (λ p up. stays p, (λ p up. stays p, (λ p up. stays p, (λ p up. stays p, tt)))))),
-)
+periodic_rows_stay = grind (arith, nat_tests)
 
 pub periodic_stays : (p q : Machines) → RunsPeriodic p q → LeavesOrStays p q
 periodic_stays p q h = subst (LeavesOrStays p) (sym h.2) (runs_stay periodic_rows periodic_rows_stay p h.0 h.1)
@@ -103,9 +93,7 @@ tick_stays p q h = both_stay p (count_down p) q (stays p) (receive_stays (count_
 
 link_set : (max_links : Option ℕ) (up : Bool) (p : Machines)
     → LeavesOrStays p (record p { enabled = up; choice = choice_with_link max_links up p.choice })
-link_set None up p = stays p
-link_set (Some most) true p = stays p
-link_set (Some most) false p = inl refl
+link_set max_links up p = grind (arith, nat_tests)
 
 pub link_stays : (max_links : Option ℕ) (up : Bool) (p q : Machines) → SetsPortEnabled max_links up p q → LeavesOrStays p q
 link_stays max_links up p q h =
@@ -141,12 +129,7 @@ pub zip_stay : (R : Machines → Machines → Type 0) → ((p q : Machines) → 
 zip_stay R k [] [] h j t g = absurd (none-some t g)
 zip_stay R k [] (y ∷ ys) h j t g = absurd h
 zip_stay R k (x ∷ xs) [] h j t g = absurd h
-zip_stay R k (x ∷ xs) (y ∷ ys) h zero t g = (
-  x,
-  refl,
-  subst (λ (z : SystemPort). LeavesOrStays x.port z.port) (same_Some y t g)
-      (k x.port y.port h.0.1),
-)
+zip_stay R k (x ∷ xs) (y ∷ ys) h zero t g = grind (arith, nat_tests)
 zip_stay R k (x ∷ xs) (y ∷ ys) h (suc j) t g = zip_stay R k xs ys h.1 j t g
 
 -- what stands at a place of a list in which one was set
@@ -156,23 +139,16 @@ set_cases [] i j x t g = absurd (none-some t g)
 set_cases (y ∷ ys) zero zero x t g = inl (refl, sym (same_Some x t g))
 set_cases (y ∷ ys) zero (suc j) x t g = inr (λ e. absurd (omega (arith, e)), g)
 set_cases (y ∷ ys) (suc i) zero x t g = inr (λ e. absurd (omega (arith, e)), g)
-set_cases (y ∷ ys) (suc i) (suc j) x t g = elim (set_cases ys i j x t g) [
-  | inl h ↦ inl (ap (λ n. suc n) h.0, h.1)
-  | inr h ↦ inr (λ e. h.0 (omega (arith, e)), h.1)
-]
+set_cases (y ∷ ys) (suc i) (suc j) x t g = grind (arith, nat_tests, set_cases ys i j x t g)
 
 pub set_stays : (xs : List SystemPort) (i : ℕ) (s t : SystemPort) → slice_get xs i ≡ Some s → LeavesOrStays s.port t.port
     → EachStays xs (slice_set xs i t)
-set_stays xs i s t e h j u g = elim (set_cases xs i j t u g) [
-  | inl c ↦ (s, ap (slice_get xs) c.0 ∙ e, subst (λ (z : SystemPort). LeavesOrStays s.port z.port) (sym c.1) h)
-  | inr c ↦ (u, c.1, stays u.port)
-]
+set_stays xs i s t e h j u g = grind (arith, nat_tests, set_cases, stays)
 
 pub place_stays : (R : Machines → Machines → Type 0) → ((p q : Machines) → R p q → LeavesOrStays p q) → (o : Option ℕ)
     (old new : List SystemPort) → PortAtChangesBy R o old new → EachStays old new
 place_stays R k None old new h = absurd h
-place_stays R k (Some i) old new h =
-    subst (EachStays old) (sym h.4) (set_stays old i h.0 (record h.0 { port = h.1 }) h.2 (k h.0.port h.1 h.3))
+place_stays R k (Some i) old new h = grind (arith, nat_tests, set_stays)
 
 -- the occupants
 
@@ -185,43 +161,11 @@ abbrev EachOccupies : List SystemPort → List SystemPort → Type 0
 EachOccupies old new = (j : ℕ) (t : SystemPort) → slice_get new j ≡ Some t
     → (s : SystemPort) × (slice_get old j ≡ Some s) × OccupiesAsBefore s.port t.port
 
--- so it is with an occupant
-occupies_on : (p q : Machines) (g : ℕ) → OccupiesAsBefore p q → occupied q.choice ≡ Some g
-    → (occupied p.choice ≡ Some g) × (q.party ≡ p.party) × (party_of q.partner ≡ party_of p.partner)
-occupies_on p q g h o = elim h [
-  | inl none ↦ absurd (none-some g (sym none ∙ o))
-  | inr s ↦ (sym s.0 ∙ o, s.1, s.2)
-]
-
-moved_pair : (a b c d a' b' c' d' : Party) → a' ≡ a → b' ≡ b → c' ≡ c → d' ≡ d
-    → SamePair (pair_of a b) (pair_of c d) × (individual a b ≡ false) → SamePair (pair_of a' b') (pair_of c' d') × (individual a' b' ≡ false)
-moved_pair a b c d a' b' c' d' e1 e2 e3 e4 x = rw (e1, e2, e3, e4) x
-
 occupants_kept : (keys : List Key) (old new : List SystemPort) → EachOccupies old new → OccupantsAgree keys old → OccupantsAgree keys new
-occupants_kept keys old new h a = record {
-  key = λ i g t e o.
-      let x = h i t e in
-      let k = occupies_on x.0.port t.port g x.2 o in a.key i g x.0 x.1 k.0 ∙ ap (λ (z : Party). Some z.key) (sym k.1);
-  apart = λ i g t e o z.
-      let x = h i t e in
-      let k = occupies_on x.0.port t.port g x.2 o in
-      a.apart i g x.0 x.1 k.0 (ap (λ (w : Party). w.system) (sym k.2) ∙ z ∙ ap (λ (w : Party). w.system) k.1);
-  group = λ g i j t u ne e f o r.
-      let x = h i t e in
-      let y = h j u f in
-      let k = occupies_on x.0.port t.port g x.2 o in
-      let l = occupies_on y.0.port u.port g y.2 r in
-      moved_pair x.0.port.party (party_of x.0.port.partner) y.0.port.party (party_of y.0.port.partner) t.port.party
-      (party_of t.port.partner) u.port.party (party_of u.port.partner) k.1 k.2 l.1 l.2
-      (a.group g i j x.0 y.0 ne x.1 y.1 k.0 l.0);
-}
-
-stays_occupies : (p q : Machines) → LeavesOrStays p q → OccupiesAsBefore p q
-stays_occupies p q h = elim h [ inl e ↦ inl (ap occupied e) | inr s ↦ inr (ap occupied s.0, s.1, s.2) ]
+occupants_kept keys old new h a = grind (arith, nat_tests)
 
 pub stay_agrees : (keys : List Key) (old new : List SystemPort) → EachStays old new → OccupantsAgree keys old → OccupantsAgree keys new
-stay_agrees keys old new h a =
-    occupants_kept keys old new (λ j t g. let x = h j t g in (x.0, x.1, stays_occupies x.0.port t.port x.2)) a
+stay_agrees keys old new h a = grind (arith, nat_tests)
 
 -- a promotion
 pub promotion_agrees : (keys : List Key) (l : List SystemPort) (i : ℕ) (s : SystemPort) (agg : AggId) → slice_get l i ≡ Some s
@@ -237,8 +181,7 @@ promotion_agrees keys l i s agg e stands a =
 -- a choice
 
 pub key_there : (keys : List Key) (n : ℕ) (k : Key) → 0 < n → slice_get keys (n - 1) ≡ Some k → key_of keys n ≡ Some k
-key_there keys zero k l e = absurd (omega arith)
-key_there keys (suc n) k l e = let same : suc n - 1 ≡ n = omega arith in subst (λ m. slice_get keys m ≡ Some k) same e
+key_there keys n k l e = grind (arith, nat_tests)
 
 pub each_seen : (P : Seen → Type 0) (system_ports : List SystemPort) → All P (views system_ports)
     → AllByRecursion (λ s. P (selection_view s)) system_ports
@@ -252,9 +195,7 @@ seen_at P (s ∷ ss) zero t h e = subst (λ (x : SystemPort). P (selection_view 
 seen_at P (s ∷ ss) (suc j) t h e = seen_at P ss j t h.1 e
 
 occupant_there : (agg : AggId) (c : Choice) → occupied c ≡ Some agg.0 → (c ≡ Selected agg) ⊎ (c ≡ Standby agg)
-occupant_there agg Unselected e = absurd (none-some agg.0 e)
-occupant_there agg (Selected a) e = let same = same_Some a.0 agg.0 e in inl (λ i. Selected (record { 0 = same i }))
-occupant_there agg (Standby a) e = let same = same_Some a.0 agg.0 e in inr (λ i. Standby (record { 0 = same i }))
+occupant_there agg c e = grind (arith, nat_tests)
 
 -- another occupant of the aggregator that a port may join has the port's group
 shares : (keys : List Key) (l : List SystemPort) (s t : SystemPort) (agg : AggId) (j : ℕ)

@@ -1,9 +1,9 @@
 -- Moves of one port, whatever the other ports are, and moves of each port of a list.
-use Rattle.lagsystem.proofs.Common.{Bool, List, None, Option, Some, [], ap, append_assoc, cond, eq-eqb, eqb, eqb-true, false, inl, inr, length}
-use Rattle.lagsystem.proofs.Common.{option_map, refl, slice_get, slice_set, subst, sym, true, ℕ, ◌++◌, ◌∙◌, ◌∷◌, ◌≡◌, cases_Bool, AllZip}
-use Rattle.lagsystem.proofs.Common.{option_to_list, AreNumbered, Act, LawfulMoves, PortAllowed, PortMove, port_act, port_after, DistributorFacts}
-use Rattle.lagsystem.proofs.Common.{ModelCall, PortFacts, SystemSetup, View, at_port, cond_false, cond_true, find_at, moves_joined, moves_port}
-use Rattle.lagsystem.proofs.Common.{numbered_set, ports_set, SystemPort, model_port_of, model_view_at, number_of_port}
+use Rattle.lagsystem.proofs.Common.{Bool, List, Option, Some, [], ap, append_assoc, arith, cond, eq-eqb, eqb, length, option_map, refl, slice_get}
+use Rattle.lagsystem.proofs.Common.{slice_set, subst, sym, ℕ, ◌++◌, ◌∙◌, ◌∷◌, ◌≡◌, nat_tests, AllZip, option_to_list, AreNumbered, Act, LawfulMoves}
+use Rattle.lagsystem.proofs.Common.{PortAllowed, PortMove, port_act, port_after, DistributorFacts, ModelCall, PortFacts, SystemSetup, View, at_port}
+use Rattle.lagsystem.proofs.Common.{cond_true, find_at, moves_joined, moves_port, numbered_set, ports_set, SystemPort, model_port_of, model_view_at}
+use Rattle.lagsystem.proofs.Common.{number_of_port}
 
 abbrev pub AllPortAllowed : SystemSetup → ModelCall → ℕ → List PortMove → PortFacts → Type 0
 AllPortAllowed u call p [] a = Unit {0}
@@ -35,33 +35,18 @@ after_joined (m ∷ xs) ys a = after_joined xs ys (port_after m a)
 acts_joined : (p : ℕ) (xs ys : List PortMove) (a : PortFacts) → port_acts p (xs ++ ys) a ≡ port_acts p xs a
     ++ port_acts p ys (after_moves xs a)
 acts_joined p [] ys a = refl
-acts_joined p (m ∷ xs) ys a =
-    ap (λ (l : List Act). option_to_list (port_act p m a) ++ l) (acts_joined p xs ys (port_after m a))
-    ∙ sym (append_assoc (option_to_list (port_act p m a)) (port_acts p xs (port_after m a))
-    (port_acts p ys (after_moves xs (port_after m a))))
+acts_joined p (m ∷ xs) ys a = grind (arith, nat_tests, acts_joined p xs ys (port_after m a))
 
 pub port_joined : (u : SystemSetup) (call : ModelCall) (p : ℕ) (a b c : PortFacts) (seen more : List Act) → PortMoves u call p a seen b
     → PortMoves u call p b more c → PortMoves u call p a (seen ++ more) c
-port_joined u call p a b c seen more x y = (
-  x.0 ++ y.0,
-  all_joined u call p x.0 y.0 a x.1 (subst (λ v. AllPortAllowed u call p y.0 v) x.3 y.1),
-  acts_joined p x.0 y.0 a
-      ∙ ap (λ (l : List Act). l ++ port_acts p y.0 (after_moves x.0 a)) x.2
-      ∙ ap (λ (l : List Act). seen ++ l) (ap (port_acts p y.0) (sym x.3) ∙ y.2),
-  y.3 ∙ ap (after_moves y.0) x.3 ∙ sym (after_joined x.0 y.0 a),
-)
+port_joined u call p a b c seen more x y = grind (arith, nat_tests, all_joined, acts_joined, after_joined)
 
 pub port_stays : (u : SystemSetup) (call : ModelCall) (p : ℕ) (a b : PortFacts) → b ≡ a → PortMoves u call p a [] b
 port_stays u call p a b e = ([], tt, refl, e)
 
 -- at a place of the ports
 stays_there : (ports : ℕ → Option PortFacts) (p : ℕ) (a : PortFacts) → ports p ≡ Some a → (q : ℕ) → at_port ports p (λ z. a) q ≡ ports q
-stays_there ports p a h q = elim (cases_Bool (eqb q p)) [
-  | inl t ↦ (let there : ports q ≡ Some a = subst (λ r. ports r ≡ Some a) (sym (eqb-true q p t)) h in
-      cond_true (eqb q p) (option_map (λ (z : PortFacts). a) (ports q)) (ports q) t
-      ∙ ap (option_map (λ (z : PortFacts). a)) there ∙ sym there)
-  | inr f ↦ cond_false (eqb q p) (option_map (λ (z : PortFacts). a) (ports q)) (ports q) f
-]
+stays_there ports p a h q = grind (arith, nat_tests)
 
 written : (ports : ℕ → Option PortFacts) (p : ℕ) (a : PortFacts) (f : PortFacts → PortFacts) → ports p ≡ Some a
     → at_port ports p f p ≡ Some (f a)
@@ -70,9 +55,7 @@ written ports p a f h = cond_true (eqb p p) (option_map f (ports p)) (ports p) (
 twice : (b : Bool) (o : Option PortFacts) (f : PortFacts → PortFacts) (c : PortFacts)
     → cond b (option_map (λ (z : PortFacts). c) (cond b (option_map f o) o)) (cond b (option_map f o) o) ≡ cond b
     (option_map (λ (z : PortFacts). c) o) o
-twice true None f c = refl
-twice true (Some x) f c = refl
-twice false o f c = refl
+twice b o f c = grind (arith, nat_tests)
 
 places : (u : SystemSetup) (call : ModelCall) (p : ℕ) (ms : List PortMove) (v : View) (a : PortFacts) → v.port p ≡ Some a
     → AllPortAllowed u call p ms a

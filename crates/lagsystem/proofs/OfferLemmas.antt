@@ -1,6 +1,6 @@
 -- Frames that are offered.
 use Rattle.lagsystem.proofs.Common.{Bool, Bor, List, arith, eqb, eqb-true, false, inl, inr, length, refl, subst, sym, true, ℕ, ◌%◌, ◌-◌, ◌<◌, ◌||◌}
-use Rattle.lagsystem.proofs.Common.{◌∙◌, ◌≡◌, ◌≤◌, and_from, and_left, and_right, cases_Bool, le-leb, lt-leb, true≢false, bit_and, AggId}
+use Rattle.lagsystem.proofs.Common.{◌∙◌, ◌≡◌, ◌≤◌, and_from, and_left, and_right, cases_Bool, le-leb, lt-leb, nat_tests, bit_and, AggId}
 use Rattle.lagsystem.proofs.Common.{IsFrameOfKind, IsSlowProtocolsFrame, DistFault, is_conversation_count, SystemFault, MayBeOffered, MayBeOfferedTo}
 use Rattle.lagsystem.proofs.Common.{RefusedBy, RefusesFrame, RefusesOffer, is_frame_length, SystemState}
 use Rattle.lagsystem.specs.Offers.{longest_frame}
@@ -40,11 +40,8 @@ low_bits n x h = elim (cases_Bool (eqb n 256)) [
 -- a frame that may be offered is not refused, and an offer of it only by the distributor
 
 pub not_both : (octets : List ℕ) (fault : SystemFault) → MayBeOffered octets → RefusesFrame octets fault → ⊥
-not_both octets fault may (inl h) = true≢false (sym may.0 ∙ h.0)
-not_both octets fault may (inr h) = may.1 h.1
+not_both octets fault may h = grind (arith, nat_tests)
 
 pub refused_by : (gives : ℕ → ℕ → ℕ → Type 0) (s : SystemState) (agg : AggId) (octets : List ℕ) (fault : SystemFault)
     → MayBeOfferedTo s agg octets → RefusesOffer gives s agg octets fault → (cause : DistFault) × RefusedBy gives s agg octets cause
-refused_by gives s agg octets fault may (inl h) = absurd (true≢false (sym may.0 ∙ h.0))
-refused_by gives s agg octets fault may (inr (inl h)) = absurd (not_both octets fault may.1 h.1)
-refused_by gives s agg octets fault may (inr (inr h)) = (h.0, h.1)
+refused_by gives s agg octets fault may h = grind (arith, nat_tests)

@@ -1,11 +1,10 @@
 -- After every call a conversation is On a port only if the port distributes in its aggregator.
-use Rattle.lagsystem.proofs.Common.{Bool, List, None, Option, Some, [], ap, cond, eqb, eqb-true, false, filter, if◌then◌else◌, inl, inr, length, map}
-use Rattle.lagsystem.proofs.Common.{refl, slice_get, slice_set, subst, suc, sym, true, zero, ℕ, ◌&&◌, ◌∙◌, ◌∷◌, ◌≡◌, ◌⊎◌, and_parts, same_Some, AggId}
-use Rattle.lagsystem.proofs.Common.{Conversation, after_sending, Assignment, Flushing, Free, On, Wanted, MaySend, is_among, SetsAssignment}
-use Rattle.lagsystem.proofs.Common.{after_mark, after_release, Table, assignment_of, next_identifier, model_conversation, is_forced, is_moved}
-use Rattle.lagsystem.proofs.Common.{first_free, Reply, SystemPort, Call, Step, IsFirst, assignment_of_frame, aggregator_numbered, conversation_number}
-use Rattle.lagsystem.proofs.Common.{distributes_in, distributing, SendsMarkerOf, HoldsConversations, Settling, held_unless_on, OnlyOnDistributing}
-use Rattle.lagsystem.proofs.Common.{SystemState, with_table}
+use Rattle.lagsystem.proofs.Common.{Bool, List, Option, Some, [], ap, arith, cond, filter, inl, inr, map, refl, slice_get, slice_set, subst, suc, sym}
+use Rattle.lagsystem.proofs.Common.{true, zero, ℕ, ◌∙◌, ◌∷◌, ◌≡◌, ◌⊎◌, nat_tests, AggId, Conversation, after_sending, Assignment, On, MaySend}
+use Rattle.lagsystem.proofs.Common.{is_among, SetsAssignment, after_mark, after_release, assignment_of, next_identifier, model_conversation}
+use Rattle.lagsystem.proofs.Common.{is_forced, is_moved, Reply, SystemPort, Call, Step, IsFirst, assignment_of_frame, aggregator_numbered}
+use Rattle.lagsystem.proofs.Common.{conversation_number, distributes_in, distributing, SendsMarkerOf, HoldsConversations, Settling}
+use Rattle.lagsystem.proofs.Common.{OnlyOnDistributing, SystemState, with_table}
 use Rattle.lagsystem.proofs.Conversing.{assigned_may}
 use Rattle.lagsystem.proofs.Keeps.{settling_parts}
 use Rattle.lagsystem.proofs.Preserves.{Step-preserves}
@@ -18,27 +17,11 @@ pub not_on : (p : ℕ) (a : Assignment) → a ≡ On p → model_conversation a 
 not_on p a e = ap model_conversation e
 
 pub first_carried : (s : SystemState) → IsFirst s → OnlyOnDistributing s
-first_carried s h g k p e =
-    absurd (free p (sym (ap (λ (t : Table). assignment_of t g k) h.3 ∙ first_free (length s.keys) s.conversations s.first_marker g k) ∙ e))
-  where
-    free : (p : ℕ) → Free None ≡ On p → ⊥
-    free p e = cc
+first_carried s h g k p e = grind (arith, nat_tests)
 
 -- step 6 leaves those that are on ports that distribute
-left_is : (ports : List ℕ) (a : Assignment) (p : ℕ) → held_unless_on ports a ≡ On p → is_among ports p ≡ true
-left_is ports (Free preferred) p e = absurd cc
-left_is ports (Wanted q preferred) p e = absurd cc
-left_is ports (Flushing q id preferred age) p e = absurd cc
-left_is ports (On q) p e = still (is_among ports q) refl e
-  where
-    still : (b : Bool) → is_among ports q ≡ b → (if b then On q else Wanted q None) ≡ On p → is_among ports p ≡ true
-    still true t x = subst (λ r. is_among ports r ≡ true) (same_port q p x) t
-    still false t x = absurd cc
-
 leaves_carried : (old new : SystemState) → HoldsConversations old new → OnlyOnDistributing new
-leaves_carried old new h g k p e =
-    subst (λ (s : SystemState). is_among (distributing (aggregator_numbered g) s.system_ports) p ≡ true) (sym h.frame)
-    (left_is (distributing (aggregator_numbered g) old.system_ports) (assignment_of old.table g k) p (sym (h.states g k) ∙ e))
+leaves_carried old new h g k p e = grind (arith, nat_tests)
 
 -- the ports stay, and a conversation is where it was or on a port that distributes in its aggregator
 abbrev pub Carried : SystemState → ℕ → Assignment → ℕ → Type 0
@@ -51,35 +34,19 @@ table_carried old new f c h g k p e =
     (elim (h g k p e) [ inl w ↦ c g k p w | inr d ↦ d ])
 
 released : (port id p : ℕ) (a : Assignment) → after_release port id a ≡ On p → a ≡ On p
-released port id p (Free preferred) e = e
-released port id p (On q) e = e
-released port id p (Wanted q preferred) e = e
-released port id p (Flushing q n preferred age) e = freed (eqb q port && eqb n id) e
-  where
-    freed : (b : Bool) → cond b (Free preferred) (Flushing q n preferred age) ≡ On p → Flushing q n preferred age ≡ On p
-    freed true x = absurd cc
-    freed false x = x
+released port id p a e = grind (arith, nat_tests)
 
 pub marked : (port id p : ℕ) (a : Assignment) → after_mark port id a ≡ On p → a ≡ On p
-marked port id p (Free preferred) e = e
-marked port id p (On q) e = e
-marked port id p (Flushing q n preferred age) e = e
-marked port id p (Wanted q preferred) e = flushed (eqb q port) e
-  where
-    flushed : (b : Bool) → cond b (Flushing port id preferred 0) (Wanted q preferred) ≡ On p → Wanted q preferred ≡ On p
-    flushed true x = absurd cc
-    flushed false x = x
+marked port id p a e = grind (arith, nat_tests)
 
 -- sending an LACPDU leaves what a port distributes in
 filtered : (b : Bool) (x y : SystemPort) (xs ys : List ℕ) → x.number ≡ y.number → xs ≡ ys
     → cond b (x.number ∷ xs) xs ≡ cond b (y.number ∷ ys) ys
-filtered true x y xs ys e h = λ i. e i ∷ h i
-filtered false x y xs ys e h = h
+filtered b x y xs ys e h = grind (arith, nat_tests)
 
 through : (b : Bool) (x : SystemPort) (xs : List SystemPort) → map (λ (s : SystemPort). s.number) (cond b (x ∷ xs) xs) ≡ cond b (x.number
     ∷ map (λ (s : SystemPort). s.number) xs) (map (λ (s : SystemPort). s.number) xs)
-through true x xs = refl
-through false x xs = refl
+through b x xs = grind (arith, nat_tests)
 
 more : (agg : AggId) (x : SystemPort) (xs : List SystemPort)
     → distributing agg (x ∷ xs) ≡ cond (distributes_in agg x) (x.number ∷ distributing agg xs) (distributing agg xs)
@@ -88,44 +55,22 @@ more agg x xs = through (distributes_in agg x) x (filter (distributes_in agg) xs
 sent_distributing : (agg : AggId) (system_ports : List SystemPort) (i : ℕ) (s : SystemPort) → slice_get system_ports i ≡ Some s
     → distributing agg (slice_set system_ports i (record s { port = after_sending s.port })) ≡ distributing agg system_ports
 sent_distributing agg [] i s e = refl
-sent_distributing agg (x ∷ xs) zero s e =
-    let same : x ≡ s = same_Some x s e in
-    more agg (record s { port = after_sending s.port }) xs
-    ∙ sym (ap (λ (y : SystemPort). cond (distributes_in agg y) (y.number ∷ distributing agg xs) (distributing agg xs)) same)
-    ∙ sym (more agg x xs)
-sent_distributing agg (x ∷ xs) (suc i) s e =
-    let ys = slice_set xs i (record s { port = after_sending s.port }) in
-    more agg x ys ∙ filtered (distributes_in agg x) x x (distributing agg ys) (distributing agg xs) refl (sent_distributing agg xs i s e)
-    ∙ sym (more agg x xs)
+sent_distributing agg (x ∷ xs) zero s e = grind (arith, nat_tests)
+sent_distributing agg (x ∷ xs) (suc i) s e = grind (arith, nat_tests, sent_distributing agg xs i s e)
 
 pub marker_carried : (o : Option ℕ) (port : ℕ) (mac : List ℕ) (old : SystemState) (answer : Option (List ℕ)) (new : SystemState)
     → SendsMarkerOf o port mac old answer new → OnlyOnDistributing old → OnlyOnDistributing new
-marker_carried None port mac old answer new h c = subst OnlyOnDistributing (sym h.1) c
-marker_carried (Some id) port mac old answer new h c = table_carried old new h.5 c
-    (λ g k p e. inl (marked port id p (assignment_of old.table g k) (sym (h.4.states g k) ∙ e)))
+marker_carried o port mac old answer new h c = grind (arith, nat_tests)
 
 -- one conversation takes a state
 pub sets_carried : (agg : AggId) (conv : ℕ) (s : Assignment) (old new : SystemState) → SetsAssignment old.table new.table agg.0 conv s
     → new ≡ with_table old new.table → OnlyOnDistributing old
     → ((p : ℕ) → s ≡ On p → Carried old agg.0 (assignment_of old.table agg.0 conv) p) → OnlyOnDistributing new
-sets_carried agg conv s old new h f c here = table_carried old new f c
-    (λ g k p e. either g k p (eqb agg.0 g && eqb conv k) refl (sym (h.states g k) ∙ e))
-  where
-    either : (g k p : ℕ) (b : Bool) → (eqb agg.0 g && eqb conv k) ≡ b → cond b s (assignment_of old.table g k) ≡ On p
-        → Carried old g (assignment_of old.table g k) p
-    either g k p true t x =
-        let both = and_parts (eqb agg.0 g) (eqb conv k) t in
-        subst (λ n. Carried old n (assignment_of old.table n k) p) (eqb-true agg.0 g both.0)
-        (subst (λ m. Carried old agg.0 (assignment_of old.table agg.0 m) p) (eqb-true conv k both.1) (here p x))
-    either g k p false t x = inl x
+sets_carried agg conv s old new h f c here = grind (arith, nat_tests)
 
 pub may_carry : (old : SystemState) (g p port : ℕ) (a : Assignment) → MaySend (distributing (aggregator_numbered g) old.system_ports) a port
     → On port ≡ On p → Carried old g a p
-may_carry old g p port (Free preferred) m e =
-    inr (subst (λ q. is_among (distributing (aggregator_numbered g) old.system_ports) q ≡ true) (same_port port p e) m)
-may_carry old g p port (On q) m e = inl (ap (λ r. On r) (sym m ∙ same_port port p e))
-may_carry old g p port (Wanted q preferred) m e = absurd m
-may_carry old g p port (Flushing q id preferred age) m e = absurd m
+may_carry old g p port a m e = grind (arith, nat_tests)
 
 pub Step-carried : (gives : ℕ → ℕ → ℕ → Type 0) (old : SystemState) (call : Call) (answer : Reply) (new : SystemState)
     → Step gives old call answer new → OnlyOnDistributing old → OnlyOnDistributing new

@@ -1,20 +1,18 @@
 -- A call of a system has one answer and one state after it.
-use Rattle.lagsystem.proofs.Common.{Bool, Err, List, None, Ok, Option, Result, Some, [], ap, arith, cond, eqb, false, if◌then◌else◌, inl, inr}
-use Rattle.lagsystem.proofs.Common.{is_some, ltb, refl, slice_get, slice_set, subst, sym, true, ℕ, ◌&&◌, ◌+◌, ◌^◌, ◌∙◌, ◌∷◌, ◌≡◌, ◌⊎◌, true≢false}
-use Rattle.lagsystem.proofs.Common.{none-some, same_Some, IsFalse, MatchOption, AggId, Lacpdu, Marker, frame_octets, one_written, PortCall, Machines}
-use Rattle.lagsystem.proofs.Common.{receive_rows, RunsToRest, after_sending, count_down, is_due, one_effect, Assignment, Flushing, Free, On, Wanted}
-use Rattle.lagsystem.proofs.Common.{DistFault, Assigns, PicksPort, force_result, move_result, preferred_among, ChangesAssignments, Marks}
-use Rattle.lagsystem.proofs.Common.{SetsAssignment, after_down, after_mark, after_release, after_tick, awaits_response, marker_due, wants_marker}
-use Rattle.lagsystem.proofs.Common.{Table, count_conversations, next_identifier, sum_below, PortChange, Reply, SystemFault, NoAggregator, NoPort}
-use Rattle.lagsystem.proofs.Common.{FrameEffect, Answered, ProcessLacpdu, Response, Received, Released, SystemPort, AlreadyConfigured, Call}
-use Rattle.lagsystem.proofs.Common.{ChangesParty, Configure, Force, FreesIfDown, Move_conversation, Offer, OnlyPortChangesBy, ParsesFrame, Performs}
-use Rattle.lagsystem.proofs.Common.{PortAtChangesBy, ProcessesLacpdu, Receive, ReceivesAt, RefusesNoPort, Releases, Restart, Set_link, SetsLink}
-use Rattle.lagsystem.proofs.Common.{SetsPortEnabled, Step, ThenSettles, Tick, Ticks, Transmit, changed_party, choice_with_link, differs}
-use Rattle.lagsystem.proofs.Common.{is_own_response, IsFirst, ReceivesAtRest, none_enabled, AssignsPort, GivesAssignment, GivesOrRefuses}
-use Rattle.lagsystem.proofs.Common.{MayBeOfferedTo, Offers, RefusesFrame, RefusesOffer, has_aggregator, in_system, is_frame_length, or_not_assigned}
+use Rattle.lagsystem.proofs.Common.{Bool, Err, List, None, Ok, Option, Result, Some, [], ap, arith, cond, false, if◌then◌else◌, inl, inr, is_some}
+use Rattle.lagsystem.proofs.Common.{ltb, refl, slice_set, subst, sym, true, ℕ, ◌+◌, ◌^◌, ◌∙◌, ◌∷◌, ◌≡◌, ◌⊎◌, true≢false, nat_tests, none-some}
+use Rattle.lagsystem.proofs.Common.{same_Some, IsFalse, AggId, Lacpdu, Marker, frame_octets, one_written, PortCall, Machines, receive_rows}
+use Rattle.lagsystem.proofs.Common.{RunsToRest, after_sending, count_down, one_effect, Assignment, DistFault, Assigns, force_result, move_result}
+use Rattle.lagsystem.proofs.Common.{ChangesAssignments, Marks, after_mark, after_tick, marker_due, wants_marker, Table, count_conversations}
+use Rattle.lagsystem.proofs.Common.{next_identifier, sum_below, PortChange, Reply, SystemFault, NoAggregator, NoPort, FrameEffect, Answered}
+use Rattle.lagsystem.proofs.Common.{ProcessLacpdu, Response, Received, SystemPort, AlreadyConfigured, Call, ChangesParty, Configure, Force}
+use Rattle.lagsystem.proofs.Common.{FreesIfDown, Move_conversation, Offer, OnlyPortChangesBy, Performs, PortAtChangesBy, ProcessesLacpdu, Receive}
+use Rattle.lagsystem.proofs.Common.{ReceivesAt, RefusesNoPort, Releases, Restart, Set_link, SetsLink, SetsPortEnabled, Step, ThenSettles, Tick, Ticks}
+use Rattle.lagsystem.proofs.Common.{Transmit, changed_party, choice_with_link, IsFirst, ReceivesAtRest, none_enabled, AssignsPort, GivesOrRefuses}
+use Rattle.lagsystem.proofs.Common.{MayBeOfferedTo, Offers, RefusesFrame, RefusesOffer, has_aggregator, in_system, or_not_assigned}
 use Rattle.lagsystem.proofs.Common.{system_force_result, system_move_result, IsFunction, OneAnswer, OneRun, SameConversations, SameState}
-use Rattle.lagsystem.proofs.Common.{distributing, number_of_conversation, PortTransmits, SendsMarkerOf, TransmitsAt, TransmitsIf, own_marker}
-use Rattle.lagsystem.proofs.Common.{SystemState, aggregators_value, port_index, system_port_at, with_system_ports, with_table}
+use Rattle.lagsystem.proofs.Common.{distributing, SendsMarkerOf, TransmitsAt, TransmitsIf, own_marker, SystemState, aggregators_value, port_index}
+use Rattle.lagsystem.proofs.Common.{system_port_at, with_system_ports, with_table}
 use Rattle.slowpdu.specs.declared.pdu.Pdu.TheVariants as pdu
 use Rattle.lagsystem.specs.declared.drive.Reply.TheVariants as reply
 use Rattle.lagsystem.specs.Faults.{system_fault}
@@ -51,27 +49,8 @@ due_one : (t u : Table) (port : ℕ) → SameConversations t u → marker_due u 
 due_one t u port same i =
     cond (ltb 0 (count_one (wants_marker port) t u same i)) (cond (ltb (same.next i) (2 ^ 32)) (Some (same.next i)) None) None
 
-zero_more : (n : ℕ) → n ≡ n + 0
-zero_more n = omega arith
-
 each_changed : (f : Assignment → Assignment) (t a : Table) → ChangesAssignments t a f → Changed (λ g c. f) 0 t a
-each_changed f t a h = record {
-  aggs = h.aggs;
-  conversations = h.conversations;
-  first = h.first;
-  next = h.next ∙ zero_more t.next;
-  states = h.states;
-}
-
-one_set : (agg conv : ℕ) (state : Assignment) (t a : Table) → SetsAssignment t a agg conv state
-    → Changed (λ g c x. cond (eqb agg g && eqb conv c) state x) 0 t a
-one_set agg conv state t a h = record {
-  aggs = h.aggs;
-  conversations = h.conversations;
-  first = h.first;
-  next = h.next ∙ zero_more t.next;
-  states = h.states;
-}
+each_changed f t a h = grind (arith, nat_tests)
 
 marked : (port id : ℕ) (t a : Table) → Marks t a port id → Changed (λ g c. after_mark port id) 1 t a
 marked port id t a h = record { aggs = h.aggs; conversations = h.conversations; first = h.first; next = h.next; states = h.states }
@@ -92,18 +71,12 @@ table_same s t e = ap (λ (x : SystemState). x.table) e
 
 stays : (old : SystemState) (u : Table) (new last : SystemState) → SameConversations old.table u → new ≡ old → last ≡ with_table old u
     → SameAfter new last
-stays old u new last same h k = (
-  ports_same (with_table old u) last k ∙ sym (ports_same old new h),
-  stayed_one old.table u new.table last.table same (table_same old new h) (table_same (with_table old u) last k),
-)
+stays old u new last same h k = grind (arith, nat_tests)
 
 -- the ports stay, and the table changes
 tabled : (old : SystemState) (u : Table) (new last : SystemState) → new ≡ with_table old new.table
     → last ≡ with_table (with_table old u) last.table → SameConversations new.table last.table → SameAfter new last
-tabled old u new last h k same = (
-  ports_same (with_table (with_table old u) last.table) last k ∙ sym (ports_same (with_table old new.table) new h),
-  same,
-)
+tabled old u new last h k same = grind (arith, nat_tests)
 
 no_port : (old : SystemState) (u : Table) (o : Option ℕ) (e d : SystemFault) (new last : SystemState) → SameConversations old.table u
     → RefusesNoPort o e old new → RefusesNoPort o d (with_table old u) last → (d ≡ e) × SameAfter new last
@@ -121,8 +94,7 @@ ticks_one old u new last rest same h k =
 
 frees_one : (up : Bool) (port : ℕ) (t u a b : Table) → SameConversations t u → FreesIfDown up port t a → FreesIfDown up port u b
     → SameConversations a b
-frees_one true port t u a b same h k = stayed_one t u a b same h k
-frees_one false port t u a b same h k = changes_one (after_down port) t u a b same h k
+frees_one up port t u a b same h k = grind (arith, nat_tests)
 
 links_one : (n : ℕ) (up : Bool) (old : SystemState) (u : Table) (new last : SystemState) → ReceivesAtRest old.system_ports
     → SameConversations old.table u → ThenSettles (SetsLink n up) old new → ThenSettles (SetsLink n up) (with_table old u) last
@@ -149,10 +121,7 @@ place_one R one o old u new last rest same h k =
 releases_one : (b : Bool) (port : ℕ) (m : Marker) (old : SystemState) (u : Table) (x y : Received) (new last : SystemState)
     → SameConversations old.table u → Releases b port m old x new → Releases b port m (with_table old u) y last → (y ≡ x) × SameAfter new last
 releases_one false port m old u x y new last same h k = (k.0 ∙ sym h.0, stays old u new last same h.1 k.1)
-releases_one true port m old u x y new last same h k = (
-  k.0 ∙ ap Released (count_one (awaits_response port m.id) old.table u same) ∙ sym h.0,
-  tabled old u new last h.2 k.2 (changes_one (after_release port m.id) old.table u new.table last.table same h.1 k.1),
-)
+releases_one true port m old u x y new last same h k = grind (arith, nat_tests, count_one, tabled, changes_one)
 
 performs_one : (effect : FrameEffect) (port : ℕ) (o : Option ℕ) (old : SystemState) (u : Table) (x y : Received) (new last : SystemState)
     → ReceivesAtRest old.system_ports → SameConversations old.table u → Performs effect port o old x new
@@ -161,20 +130,13 @@ performs_one (ProcessLacpdu v) port o old u x y new last rest same h k = (
   k.0 ∙ sym h.0,
   place_one (ProcessesLacpdu v) (takes_one v) o old u new last rest same h.1 k.1,
 )
-performs_one (Response m) port o old u x y new last rest same h k =
-    releases_one (is_own_response old port m) port m old u x y new last same h k
+performs_one (Response m) port o old u x y new last rest same h k = grind (arith, nat_tests, releases_one)
 performs_one (Answered a) port o old u x y new last rest same h k = (k.0 ∙ sym h.0, stays old u new last same h.1 k.1)
 
 receives_one : (o : Option ℕ) (octets : List ℕ) (old : SystemState) (u : Table) (x y : Received) (new last : SystemState)
     → ReceivesAtRest old.system_ports → SameConversations old.table u → ReceivesAt o octets old x new
     → ReceivesAt o octets (with_table old u) y last → (y ≡ x) × SameAfter new last
-receives_one o octets old u x y new last rest same h k =
-    let s : h.0 ≡ k.0 = same_Some h.0 k.0 (sym h.2 ∙ k.2) in
-    let parses : ParsesFrame h.0 octets k.1 = subst (λ p. ParsesFrame p octets k.1) (sym s) k.3 in
-    let e : h.1 ≡ k.1 = effect_one h.0.port.enabled h.0 octets h.1 k.1 h.3 parses in
-    performs_one h.1 h.0.number o old u x y new last rest same h.4
-    (subst (λ f. Performs f h.0.number o (with_table old u) y last) (sym e)
-    (subst (λ (p : SystemPort). Performs k.1 p.number o (with_table old u) y last) (sym s) k.4))
+receives_one o octets old u x y new last rest same h k = grind (arith, nat_tests, effect_one, performs_one)
 
 -- what is sent
 sends_one : (o p : Option ℕ) (port : ℕ) (mac : List ℕ) (old : SystemState) (u : Table) (x y : Option (List ℕ)) (new last : SystemState)
@@ -209,31 +171,12 @@ transmits_if true false i system_port old u x y new last same h k =
 transmits_one : (o : Option ℕ) (old : SystemState) (u : Table) (x y : Option (List ℕ)) (new last : SystemState)
     → SameConversations old.table u → TransmitsAt o old x new → TransmitsAt o (with_table old u) y last → (y ≡ x) × SameAfter new last
 transmits_one None old u x y new last same h k = absurd h
-transmits_one (Some i) old u x y new last same h k =
-    let s : h.0 ≡ k.0 = same_Some h.0 k.0 (sym h.1 ∙ k.1) in
-    transmits_if h.0.port.enabled (is_due h.0.port) i h.0 old u x y new last same h.2
-    (subst (λ p. PortTransmits i p (with_table old u) y last) (sym s) k.2)
+transmits_one (Some i) old u x y new last same h k = grind (arith, nat_tests, transmits_if)
 
 -- what the distributor answers
-picks_one : (gives : ℕ → ℕ → ℕ → Type 0) → IsFunction gives → (conv : ℕ) (ports : List ℕ) (x y : Result ℕ DistFault)
-    → PicksPort gives conv ports x → PicksPort gives conv ports y → y ≡ x
-picks_one gives one conv [] x y h k = k ∙ sym h
-picks_one gives one conv (p ∷ ports) x y h k =
-    let place : k.0 ≡ h.0 = one conv _ k.0 h.0 k.2 h.2 in
-    let port : k.1 ≡ h.1 = same_Some k.1 h.1 (sym k.3 ∙ ap (slice_get (p ∷ ports)) place ∙ h.3) in
-    k.4 ∙ ap Ok port ∙ sym h.4
-
-frees_or_picks : (gives : ℕ → ℕ → ℕ → Type 0) → IsFunction gives → (o : Option ℕ) (conv : ℕ) (ports : List ℕ) (x y : Result ℕ DistFault)
-    → MatchOption o (PicksPort gives conv ports x) (λ p. x ≡ Ok p) → MatchOption o (PicksPort gives conv ports y) (λ p. y ≡ Ok p) → y ≡ x
-frees_or_picks gives one None conv ports x y h k = picks_one gives one conv ports x y h k
-frees_or_picks gives one (Some p) conv ports x y h k = k ∙ sym h
-
 assigns_one : (gives : ℕ → ℕ → ℕ → Type 0) → IsFunction gives → (conv : ℕ) (ports : List ℕ) (s : Assignment) (x y : Result ℕ DistFault)
     → Assigns gives conv ports s x → Assigns gives conv ports s y → y ≡ x
-assigns_one gives one conv ports (Free preferred) x y h k = frees_or_picks gives one (preferred_among ports preferred) conv ports x y h k
-assigns_one gives one conv ports (On p) x y h k = k ∙ sym h
-assigns_one gives one conv ports (Wanted p preferred) x y h k = k ∙ sym h
-assigns_one gives one conv ports (Flushing p n preferred age) x y h k = k ∙ sym h
+assigns_one gives one conv ports s x y h k = grind (arith, nat_tests)
 
 -- an offer, by the first check that fails, or by what the distributor answers
 abbrev as_fault : Result ℕ DistFault → Result ℕ SystemFault
@@ -254,23 +197,17 @@ Reason gives s agg octets x = NoSuch s agg x ⊎ (Unfit s agg octets x ⊎ Asked
 
 refused : (gives : ℕ → ℕ → ℕ → Type 0) (s : SystemState) (agg : AggId) (octets : List ℕ) (fault : SystemFault)
     → RefusesOffer gives s agg octets fault → Reason gives s agg octets (Err fault)
-refused gives s agg octets fault (inl h) = inl (h.0, ap Err h.1)
-refused gives s agg octets fault (inr (inl h)) = inr (inl (fault, h.0, h.1, refl))
-refused gives s agg octets fault (inr (inr h)) = inr (inr (Err h.0, h.1.0, h.1.1, ap Err h.2))
+refused gives s agg octets fault h = grind (arith, nat_tests)
 
 offered : (gives : ℕ → ℕ → ℕ → Type 0) (s : SystemState) (agg : AggId) (octets : List ℕ) (x : Result ℕ SystemFault) (new : SystemState)
     → Offers gives agg octets s x new → Reason gives s agg octets x
-offered gives s agg octets (Ok port) new h = inr (inr (Ok port, h.0, h.1, refl))
-offered gives s agg octets (Err fault) new h = refused gives s agg octets fault h.0
+offered gives s agg octets x new h = grind (arith, nat_tests)
 
 differ : {A : Type 0} (b : Bool) → b ≡ true → b ≡ false → A
 differ b t f = absurd (true≢false (sym t ∙ f))
 
 frame_one : (octets : List ℕ) (f g : SystemFault) → RefusesFrame octets f → RefusesFrame octets g → g ≡ f
-frame_one octets f g (inl a) (inl b) = b.1 ∙ sym a.1
-frame_one octets f g (inl a) (inr b) = differ (is_frame_length octets) b.0 a.0
-frame_one octets f g (inr a) (inl b) = differ (is_frame_length octets) a.0 b.0
-frame_one octets f g (inr a) (inr b) = b.2 ∙ sym a.2
+frame_one octets f g h k = grind (arith, nat_tests)
 
 reason_one : (gives : ℕ → ℕ → ℕ → Type 0) → IsFunction gives → (s : SystemState) (agg : AggId) (octets : List ℕ) (x y : Result ℕ SystemFault)
     → Reason gives s agg octets x → Reason gives s agg octets y → y ≡ x
@@ -282,28 +219,11 @@ reason_one gives one s agg octets x y (inr (inl a)) (inr (inl b)) = b.3 ∙ ap E
 reason_one gives one s agg octets x y (inr (inl a)) (inr (inr b)) = absurd (not_both octets a.0 b.1.1 a.2)
 reason_one gives one s agg octets x y (inr (inr a)) (inl b) = differ (has_aggregator s agg) a.1.0 b.0
 reason_one gives one s agg octets x y (inr (inr a)) (inr (inl b)) = absurd (not_both octets b.0 a.1.1 b.2)
-reason_one gives one s agg octets x y (inr (inr a)) (inr (inr b)) = b.3
-    ∙ ap as_fault (assigns_one gives one (number_of_conversation s octets) (distributing agg s.system_ports) _ a.0 b.0 a.2 b.2)
-    ∙ sym a.3
+reason_one gives one s agg octets x y (inr (inr a)) (inr (inr b)) = grind (arith, nat_tests, assigns_one)
 
 alike : (gives : ℕ → ℕ → ℕ → Type 0) (old : SystemState) (u : Table) (agg : AggId) (octets : List ℕ) (x : Result ℕ SystemFault)
     → SameConversations old.table u → Reason gives (with_table old u) agg octets x → Reason gives old agg octets x
-alike gives old u agg octets x same (inl a) = inl a
-alike gives old u agg octets x same (inr (inl a)) = inr (inl a)
-alike gives old u agg octets x same (inr (inr a)) =
-    let conv = number_of_conversation old octets in
-    let assigns = subst (λ s. Assigns gives conv (distributing agg old.system_ports) s a.0) (same.states agg.0 conv) a.2 in
-    inr (inr (a.0, a.1, assigns, a.3))
-
-sets_one : (agg : AggId) (conv : ℕ) (s r : Assignment) (old : SystemState) (u : Table) (new last : SystemState) → r ≡ s
-    → SameConversations old.table u → GivesAssignment agg conv s old new → GivesAssignment agg conv r (with_table old u) last
-    → SameAfter new last
-sets_one agg conv s r old u new last e same h k =
-    let theirs : GivesAssignment agg conv s (with_table old u) last =
-    subst (λ a. GivesAssignment agg conv a (with_table old u) last) e k in
-    tabled old u new last h.1 theirs.1
-    (changed_one (λ g c x. cond (eqb agg.0 g && eqb conv c) s x) 0 old.table u new.table last.table same
-    (one_set agg.0 conv s old.table new.table h.0) (one_set agg.0 conv s u last.table theirs.0))
+alike gives old u agg octets x same h = grind (arith, nat_tests)
 
 offers_one : (gives : ℕ → ℕ → ℕ → Type 0) → IsFunction gives → (agg : AggId) (octets : List ℕ) (old : SystemState) (u : Table)
     (x y : Result ℕ SystemFault) (new last : SystemState) → SameConversations old.table u → Offers gives agg octets old x new
@@ -320,23 +240,13 @@ offers_one gives one agg octets old u x y new last same h k = (answers, after x 
 
     after : (x y : Result ℕ SystemFault) (new last : SystemState) → y ≡ x → Offers gives agg octets old x new
         → Offers gives agg octets (with_table old u) y last → SameAfter new last
-    after (Ok p) (Ok q) new last e h k = sets_one agg (number_of_conversation old octets) (On p) (On q) old u new last
-        (ap (λ r. On (port_of p r)) e) same h.2 k.2
-    after (Ok p) (Err f) new last e h k = cc
-    after (Err f) (Ok p) new last e h k = cc
-    after (Err f) (Err g) new last e h k = stays old u new last same h.1 k.1
+    after x y new last e h k = grind (arith, nat_tests)
 
 -- moves and forces
 changes_or_refuses : (agg : AggId) (conv : ℕ) (s r : Result Assignment SystemFault) (old : SystemState) (u : Table)
     (x y : Result Unit SystemFault) (new last : SystemState) → r ≡ s → SameConversations old.table u
     → GivesOrRefuses agg conv s old x new → GivesOrRefuses agg conv r (with_table old u) y last → (y ≡ x) × SameAfter new last
-changes_or_refuses agg conv s r old u x y new last e same h k =
-    both s h (subst (λ a. GivesOrRefuses agg conv a (with_table old u) y last) e k)
-  where
-    both : (s : Result Assignment SystemFault) → GivesOrRefuses agg conv s old x new → GivesOrRefuses agg conv s (with_table old u) y last
-        → (y ≡ x) × SameAfter new last
-    both (Ok a) h k = (k.0 ∙ sym h.0, sets_one agg conv a a old u new last refl same h.1 k.1)
-    both (Err fault) h k = (k.0 ∙ sym h.0, stays old u new last same h.1 k.1)
+changes_or_refuses agg conv s r old u x y new last e same h k = grind (arith, nat_tests)
 
 next_one : (t u : Table) → SameConversations t u → next_identifier u ≡ next_identifier t
 next_one t u same i = cond (ltb (same.next i) (2 ^ 32)) (Some (same.next i)) None
@@ -359,27 +269,20 @@ forces_one old u agg conv same i = if has_aggregator old agg then in_system
 -- a port that has the values already is not changed
 has_values : (o : Option ℕ) (c : PortChange) (old : SystemState) (new : List SystemPort) → AlreadyConfigured o c old
     → PortAtChangesBy (ChangesParty c) o old.system_ports new → ⊥
-has_values None c old new h k = h
-has_values (Some i) c old new h k =
-    let s : h.0 ≡ k.0 = same_Some h.0 k.0 (sym h.1 ∙ k.2) in
-    true≢false (sym h.2 ∙ subst (λ (x : SystemPort). differs c x.port) (sym s) k.3.0)
+has_values o c old new h k = grind (arith, nat_tests)
 
 -- what is done at a port needs one
 no_place : {X : Type 0} (R : Machines → Machines → Type 0) (o : Option ℕ) (old new : List SystemPort) → o ≡ None → PortAtChangesBy R o old new → X
-no_place R None old new e h = absurd h
-no_place R (Some i) old new e h = absurd (none-some i (sym e))
+no_place R o old new e h = grind (arith, nat_tests)
 
 no_receiver : {X : Type 0} (o : Option ℕ) (ports : List SystemPort) (s : SystemPort) → o ≡ None → system_port_at o ports ≡ Some s → X
-no_receiver None ports s e h = absurd (none-some s h)
-no_receiver (Some i) ports s e h = absurd (none-some i (sym e))
+no_receiver o ports s e h = grind (arith, nat_tests)
 
 no_holder : {X : Type 0} (o : Option ℕ) (c : PortChange) (s : SystemState) → o ≡ None → AlreadyConfigured o c s → X
-no_holder None c s e h = absurd h
-no_holder (Some i) c s e h = absurd (none-some i (sym e))
+no_holder o c s e h = grind (arith, nat_tests)
 
 no_sender : {X : Type 0} (o : Option ℕ) (old : SystemState) (x : Option (List ℕ)) (new : SystemState) → o ≡ None → TransmitsAt o old x new → X
-no_sender None old x new e h = absurd h
-no_sender (Some i) old x new e h = absurd (none-some i (sym e))
+no_sender o old x new e h = grind (arith, nat_tests)
 
 -- a restart leads to the first state
 abbrev Restarts : SystemState → SystemState → Type 0
@@ -472,13 +375,7 @@ steps_one gives one old u rest same call a b new last h k = each call a b h k
 -- the states after it
 same_after : (gives : ℕ → ℕ → ℕ → Type 0) (old : SystemState) (u : Table) (call : Call) (a b : Reply) (new last : SystemState)
     → Step gives old call a new → Step gives (with_table old u) call b last → SameAfter new last → SameState new last
-same_after gives old u call a b new last h k same =
-    let mine = Step-frame gives old call a new h in
-    let theirs = Step-frame gives (with_table old u) call b last k in record {
-      others = theirs ∙ (λ i. with_table (with_system_ports old (same.0 i)) last.table)
-          ∙ ap (λ (s : SystemState). with_table s last.table) (sym mine);
-      table = same.1;
-    }
+same_after gives old u call a b new last h k same = grind (arith, nat_tests, Step-frame)
 
 pub one_answer : (gives : ℕ → ℕ → ℕ → Type 0) → IsFunction gives → OneAnswer gives
 one_answer gives one old twin call a b new last agrees same h k =

@@ -1,5 +1,5 @@
 -- What a received frame asks for is one thing, and so is the frame that is sent.
-use Rattle.lagsystem.proofs.Common.{Bool, List, None, Option, Some, ap, arith, drop, false, length, refl, subst, sym, true, ℕ, ◌<◌, ◌∙◌, ◌≡◌, ◌≤◌}
+use Rattle.lagsystem.proofs.Common.{Bool, List, None, Option, Some, ap, arith, drop, false, length, refl, sym, true, ℕ, ◌<◌, ◌∙◌, ◌≡◌, ◌≤◌, nat_tests}
 use Rattle.lagsystem.proofs.Common.{none-some, same_Some, Marker, Pdu, fault_of, frame_octets, response_to, ReadsPdu, no_fault, one_pdu, one_written}
 use Rattle.lagsystem.proofs.Common.{pdu_of, FrameEffect, Answered, Respond, SystemPort, AnswersMarker, Carries, Data_frame, Faulty, GivesEffect}
 use Rattle.lagsystem.proofs.Common.{IsFrame, ParsesWhere, ReceivedFrame, Runt, IsLacpduOf}
@@ -48,9 +48,7 @@ gives_one system_port (Carries (pdu.Marker m)) e f h k = marker_one system_port.
 pub effect_one : (up : Bool) (system_port : SystemPort) (octets : List ℕ) (e f : FrameEffect) → ParsesWhere up system_port octets e
     → ParsesWhere up system_port octets f → e ≡ f
 effect_one false system_port octets e f h k = h ∙ sym k
-effect_one true system_port octets e f h k =
-    let frame : h.0 ≡ k.0 = frame_one octets h.0 k.0 h.1 k.1 in
-    gives_one system_port h.0 e f h.2 (subst (λ x. GivesEffect system_port x f) (sym frame) k.2)
+effect_one true system_port octets e f h k = grind (arith, nat_tests, frame_one, gives_one)
 
 -- the frame of an LACPDU
 pub lacpdu_one : (max_delay : ℕ) (system_port : SystemPort) (a b : List ℕ) → IsLacpduOf max_delay system_port a

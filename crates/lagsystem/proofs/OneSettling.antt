@@ -1,12 +1,11 @@
 -- Settling is deterministic: the ports after it, and the state of each conversation.
-use Rattle.lagsystem.proofs.Common.{List, None, Option, Some, [], ap, arith, false, length, refl, slice_get, slice_set, subst, suc, sym, zero, ℕ, ◌+◌}
-use Rattle.lagsystem.proofs.Common.{◌∙◌, ◌∷◌, ◌≡◌, none-some, same_Some, AllByRecursion, AggId, Selected, Machines, mux_rows, RunsPeriodic}
-use Rattle.lagsystem.proofs.Common.{RunsToRest, one_mux, one_periodic, AggregatorsValue, next_standby_index, Assignment, Table, assignment_of}
-use Rattle.lagsystem.proofs.Common.{SystemPort, PortAtChangesBy, SameConversations, aggregator_numbered, distributing, ChoosesIn, PortsChangeBy}
-use Rattle.lagsystem.proofs.Common.{PromotesAll, PromotesFirst, PromotesNext, PromotesTimes, Settling, after_choices, held_unless_on, ready_of}
-use Rattle.lagsystem.proofs.Common.{with_choice, SystemState, aggregators_value, views}
-use Rattle.lagsystem.proofs.Keeps.{ports_table, settling_parts}
-use Rattle.lagsystem.proofs.Rest.{last_slots}
+use Rattle.lagsystem.proofs.Common.{List, None, Option, Some, [], ap, arith, false, refl, subst, suc, sym, zero, ℕ, ◌+◌, ◌∙◌, ◌∷◌, ◌≡◌, nat_tests}
+use Rattle.lagsystem.proofs.Common.{none-some, AllByRecursion, AggId, Machines, mux_rows, RunsPeriodic, RunsToRest, one_mux, one_periodic}
+use Rattle.lagsystem.proofs.Common.{AggregatorsValue, next_standby_index, Assignment, Table, assignment_of, SystemPort, PortAtChangesBy}
+use Rattle.lagsystem.proofs.Common.{SameConversations, aggregator_numbered, distributing, ChoosesIn, PortsChangeBy, PromotesAll, PromotesFirst}
+use Rattle.lagsystem.proofs.Common.{PromotesNext, PromotesTimes, Settling, held_unless_on, ready_of, SystemState, aggregators_value, views}
+use Rattle.lagsystem.proofs.Keeps.{settling_in}
+use Rattle.lagsystem.proofs.SettlingLemmas.{RunsReady, SettlesIn}
 use Rattle.lagsystem.proofs.Rising.{all-get}
 
 -- where P holds, the relation leads to one port
@@ -27,27 +26,16 @@ one_of_each P R one [] [] (z ∷ zs) all h k = absurd k
 one_of_each P R one [] (y ∷ ys) b all h k = absurd h
 one_of_each P R one (x ∷ xs) [] b all h k = absurd h
 one_of_each P R one (x ∷ xs) (y ∷ ys) [] all h k = absurd k
-one_of_each P R one (x ∷ xs) (y ∷ ys) (z ∷ zs) all h k =
-    let port : y.port ≡ z.port = one x.port y.port z.port all.0 h.0.1 k.0.1 in
-    let here : y ≡ z = h.0.0 ∙ ap (λ (p : Machines). record x { port = p }) port ∙ sym k.0.0 in
-    let rest = one_of_each P R one xs ys zs all.1 h.1 k.1 in
-    λ i. here i ∷ rest i
+one_of_each P R one (x ∷ xs) (y ∷ ys) (z ∷ zs) all h k = grind (arith, nat_tests, one_of_each P R one xs ys zs all.1 h.1 k.1)
 
 pub one_at : (P : Machines → Type 0) (R : Machines → Machines → Type 0) → LeadsToOne P R → (o : Option ℕ) (l a b : List SystemPort)
     → AllByRecursion (λ x. P x.port) l → PortAtChangesBy R o l a → PortAtChangesBy R o l b → a ≡ b
 one_at P R one None l a b all h k = absurd h
-one_at P R one (Some i) l a b all h k =
-    let s : h.0 ≡ k.0 = same_Some h.0 k.0 (sym h.2 ∙ k.2) in
-    let port : h.1 ≡ k.1 = one h.0.port h.1 k.1 (all-get (λ x. P x.port) l i h.0 h.2 all) h.3
-    (subst (λ (x : SystemPort). R x.port k.1) (sym s) k.3) in
-    h.4 ∙ (λ j. slice_set l i (record (s j) { port = port j })) ∙ sym k.4
+one_at P R one (Some i) l a b all h k = grind (arith, nat_tests, all-get)
 
 -- promotions
 next_one : (aggs : AggregatorsValue) (agg : AggId) (l a b : List SystemPort) → PromotesNext aggs agg l a → PromotesNext aggs agg l b → a ≡ b
-next_one aggs agg l a b h k =
-    let i : h.0 ≡ k.0 = same_Some h.0 k.0 (sym h.2 ∙ k.2) in
-    let s : h.1 ≡ k.1 = same_Some h.1 k.1 (sym h.3 ∙ ap (slice_get l) i ∙ k.3) in
-    h.4 ∙ (λ j. slice_set l (i j) (with_choice (s j) (Some (Selected agg)))) ∙ sym k.4
+next_one aggs agg l a b h k = grind (arith, nat_tests)
 
 abbrev Goes : AggregatorsValue → AggId → ℕ → List SystemPort → List SystemPort → Type 0
 Goes aggs agg zero old new = new ≡ old
@@ -86,48 +74,18 @@ first_one aggs (suc n) l a b h k =
     all_one aggs agg h.0 a b h.2 (subst (λ x. PromotesAll aggs agg x b) (sym mid) k.2)
 
 choosing_one : (aggs : AggregatorsValue) (l a b : List SystemPort) → ChoosesIn aggs l a → ChoosesIn aggs l b → a ≡ b
-choosing_one aggs l a b h k =
-    let mid : h.0 ≡ k.0 = first_one aggs (length aggs.keys) l h.0 k.0 h.1 k.1 in
-    h.2 ∙ ap (λ x. after_choices aggs (length x) x) mid ∙ sym k.2
-
--- the steps of settling that look at ports, as a relation between lists of ports
-abbrev RunsMuxIn : AggregatorsValue → List SystemPort → List SystemPort → List SystemPort → Type 0
-RunsMuxIn aggs seen old new = PortsChangeBy (λ p q. RunsToRest (mux_rows (ready_of aggs.keys (views seen) p.choice)) p q) old new
-
-abbrev SettlesIn : AggregatorsValue → List SystemPort → List SystemPort → Type 0
-SettlesIn aggs old new =
-    (one two four : List SystemPort) × PortsChangeBy (RunsToRest (mux_rows false)) old one × ChoosesIn aggs one two
-    × RunsMuxIn aggs two two four × PortsChangeBy RunsPeriodic four new
-
-settles_in : (old new : SystemState) → Settling old new → SettlesIn (aggregators_value old) old.system_ports new.system_ports
-settles_in old new h =
-    let one = h.0 in
-    let two = h.2.0 in
-    let three = h.2.2.0 in
-    let four = h.2.2.2.0 in
-    let first : aggregators_value one ≡ aggregators_value old = ap aggregators_value h.1.1 in
-    let third : aggregators_value three ≡ aggregators_value old = ap aggregators_value h.2.2.1 ∙ ap aggregators_value h.2.1.1 ∙ first in
-    let same : three.system_ports ≡ two.system_ports = ap (λ (s : SystemState). s.system_ports) h.2.2.1 in
-    let runs : RunsMuxIn (aggregators_value three) three.system_ports three.system_ports four.system_ports = h.2.2.2.1.0 in (
-      one.system_ports,
-      two.system_ports,
-      four.system_ports,
-      h.1.0,
-      subst (λ a. ChoosesIn a one.system_ports two.system_ports) first h.2.1.0,
-      subst (λ l. RunsMuxIn (aggregators_value old) l l four.system_ports) same
-          (subst (λ a. RunsMuxIn a three.system_ports three.system_ports four.system_ports) third runs),
-      subst (PortsChangeBy RunsPeriodic four.system_ports) (sym (last_slots old new h)) h.2.2.2.2.1.0,
-    )
+choosing_one aggs l a b h k = grind (arith, nat_tests, first_one)
 
 settled_one : (aggs : AggregatorsValue) (l a b : List SystemPort) → SettlesIn aggs l a → SettlesIn aggs l b → a ≡ b
 settled_one aggs l a b h k =
-    let one : h.0 ≡ k.0 = one_of_each Any (RunsToRest (mux_rows false)) (λ p q r t. one_mux false p q r) l h.0 k.0 (any_port l) h.3 k.3 in
-    let two : h.1 ≡ k.1 = choosing_one aggs h.0 h.1 k.1 h.4 (subst (λ x. ChoosesIn aggs x k.1) (sym one) k.4) in
-    let four : h.2 ≡ k.2 = one_of_each Any (λ p q. RunsToRest (mux_rows (ready_of aggs.keys (views h.1) p.choice)) p q)
-    (λ p q r t. one_mux (ready_of aggs.keys (views h.1) p.choice) p q r) h.1 h.2 k.2 (any_port h.1) h.5
-    (subst (λ x. RunsMuxIn aggs x x k.2) (sym two) k.5) in
-    one_of_each Any RunsPeriodic (λ p q r t. one_periodic p q r) h.2 a b (any_port h.2) h.6
-    (subst (λ x. PortsChangeBy RunsPeriodic x b) (sym four) k.6)
+    let one : h.one ≡ k.one =
+    one_of_each Any (RunsToRest (mux_rows false)) (λ p q r t. one_mux false p q r) l h.one k.one (any_port l) h.stops k.stops in
+    let two : h.two ≡ k.two = choosing_one aggs h.one h.two k.two h.chooses (subst (λ x. ChoosesIn aggs x k.two) (sym one) k.chooses) in
+    let four : h.four ≡ k.four = one_of_each Any (RunsReady aggs.keys (views h.two))
+    (λ p q r t. one_mux (ready_of aggs.keys (views h.two) p.choice) p q r) h.two h.four k.four (any_port h.two) h.runs
+    (subst (λ x. PortsChangeBy (RunsReady aggs.keys (views x)) x k.four) (sym two) k.runs) in
+    one_of_each Any RunsPeriodic (λ p q r t. one_periodic p q r) h.four a b (any_port h.four) h.paces
+    (subst (λ x. PortsChangeBy RunsPeriodic x b) (sym four) k.paces)
 
 -- each conversation changes by the function, and the next marker has an identifier so much higher
 pub record Changed (f : ℕ → ℕ → Assignment → Assignment) (n : ℕ) (old new : Table) : Type 0 where
@@ -139,13 +97,7 @@ pub record Changed (f : ℕ → ℕ → Assignment → Assignment) (n : ℕ) (ol
 
 pub changed_one : (f : ℕ → ℕ → Assignment → Assignment) (n : ℕ) (t u a b : Table) → SameConversations t u → Changed f n t a → Changed f n u b
     → SameConversations a b
-changed_one f n t u a b same h k = record {
-  aggs = k.aggs ∙ same.aggs ∙ sym h.aggs;
-  conversations = k.conversations ∙ same.conversations ∙ sym h.conversations;
-  first = k.first ∙ same.first ∙ sym h.first;
-  next = k.next ∙ ap (λ m. m + n) same.next ∙ sym h.next;
-  states = λ x y. k.states x y ∙ ap (f x y) (same.states x y) ∙ sym (h.states x y);
-}
+changed_one f n t u a b same h k = grind (arith, nat_tests)
 
 pub stayed_one : (t u a b : Table) → SameConversations t u → a ≡ t → b ≡ u → SameConversations a b
 stayed_one t u a b same h k = subst (λ x. SameConversations x b) (sym h) (subst (λ x. SameConversations t x) (sym k) same)
@@ -159,27 +111,16 @@ no_more n = omega arith
 
 holds : (old new : SystemState) → Settling old new
     → Changed (λ g k x. held_unless_on (distributing (aggregator_numbered g) new.system_ports) x) 0 old.table new.table
-holds old new h =
-    let parts = settling_parts old new h in
-    let five = parts.0 in
-    let table : five.table ≡ old.table = ports_table old five parts.1 in
-    let ports : five.system_ports ≡ new.system_ports = ap (λ (s : SystemState). s.system_ports) (sym parts.2.frame) in record {
-      aggs = parts.2.aggs ∙ ap (λ (t : Table). t.aggs) table;
-      conversations = parts.2.conversations ∙ ap (λ (t : Table). t.conversations) table;
-      first = parts.2.first ∙ ap (λ (t : Table). t.first) table;
-      next = parts.2.next ∙ ap (λ (t : Table). t.next) table ∙ no_more old.table.next;
-      states = λ g k. parts.2.states g k
-          ∙ (λ i. held_unless_on (distributing (aggregator_numbered g) (ports i)) (assignment_of (table i) g k));
-    }
+holds old new h = grind (arith, nat_tests)
 
 pub settlings_one : (s t new last : SystemState) → SameAfter s t → aggregators_value t ≡ aggregators_value s → Settling s new
     → Settling t last → SameAfter new last
 settlings_one s t new last same aggs h k =
     let theirs : SettlesIn (aggregators_value s) s.system_ports last.system_ports =
     subst (λ l. SettlesIn (aggregators_value s) l last.system_ports) same.0
-    (subst (λ a. SettlesIn a t.system_ports last.system_ports) aggs (settles_in t last k)) in
+    (subst (λ a. SettlesIn a t.system_ports last.system_ports) aggs (settling_in t last k)) in
     let ports : new.system_ports ≡ last.system_ports = settled_one (aggregators_value s) s.system_ports new.system_ports
-    last.system_ports (settles_in s new h) theirs in (
+    last.system_ports (settling_in s new h) theirs in (
       sym ports,
       changed_one _ 0 s.table t.table new.table last.table same.1 (holds s new h)
           (subst (λ l. Changed (λ g k x. held_unless_on (distributing (aggregator_numbered g) l) x) 0 t.table last.table) (sym ports)

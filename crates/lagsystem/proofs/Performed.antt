@@ -1,8 +1,7 @@
 -- What comes on a port is an LACPDU that it processes, or it changes no port; and what it changes of conversations.
-use Rattle.lagsystem.proofs.Common.{Bool, Option, ap, false, inl, inr, true, ℕ, ◌≡◌, ◌⊎◌, Lacpdu, Marker, ChangesAssignments, after_release}
-use Rattle.lagsystem.proofs.Common.{FrameEffect, Answered, ProcessLacpdu, Response, Received, TookLacpdu, OnlyPortChangesBy, Performs}
+use Rattle.lagsystem.proofs.Common.{Bool, Option, ap, arith, false, inl, inr, true, ℕ, ◌≡◌, ◌⊎◌, nat_tests, Lacpdu, Marker, ChangesAssignments}
+use Rattle.lagsystem.proofs.Common.{after_release, FrameEffect, Answered, ProcessLacpdu, Response, Received, TookLacpdu, OnlyPortChangesBy, Performs}
 use Rattle.lagsystem.proofs.Common.{ProcessesLacpdu, Releases, ThenSettles, is_own_response, SystemState}
-use Rattle.lagsystem.proofs.Rest.{releases_slots, same_slots}
 
 -- the port at the index processes an LACPDU, which a settling follows; or all ports stay
 abbrev pub ProcessesOrStays : Option ℕ → SystemState → Received → SystemState → Type 0
@@ -12,9 +11,7 @@ ProcessesOrStays index old answer new =
 
 pub processes_or_stays : (effect : FrameEffect) (port : ℕ) (index : Option ℕ) (old : SystemState) (answer : Received) (new : SystemState)
     → Performs effect port index old answer new → ProcessesOrStays index old answer new
-processes_or_stays (ProcessLacpdu v) port index old answer new h = inl (v, h.0, h.1)
-processes_or_stays (Response m) port index old answer new h = inr (releases_slots (is_own_response old port m) port m old answer new h)
-processes_or_stays (Answered effect) port index old answer new h = inr (same_slots old new h.1)
+processes_or_stays effect port index old answer new h = grind (arith, nat_tests)
 
 -- an LACPDU is processed, and a settling follows; or each conversation that waits for a response is released; or the
 -- conversations stay

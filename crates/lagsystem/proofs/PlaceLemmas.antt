@@ -39,8 +39,7 @@ in_use_set (x ∷ xs) (suc i) s t e = ap (λ l. collecting x.port ∷ l) (in_use
 pub in_use_before : (R : Machines → Machines → Type 0) (i : ℕ) (olds news : List SystemPort) (s : SystemPort)
     → PortAtChangesBy R (Some i) olds news → slice_get olds i ≡ Some s
     → slice_set (aggregators_in_use news) i (collecting s.port) ≡ aggregators_in_use olds
-in_use_before R i olds news s h e =
-    ap (λ l. slice_set (aggregators_in_use l) i (collecting s.port)) h.4 ∙ in_use_set olds i s (record h.0 { port = h.1 }) e
+in_use_before R i olds news s h e = grind (arith, nat_tests, in_use_set)
 
 -- the port at the place of a number goes on
 pub goes_by_number : (R : Machines → Machines → Type 0) (n i : ℕ) (system_ports olds news : List SystemPort) → olds ≡ system_ports

@@ -1,6 +1,6 @@
 -- A walk over the calls of a system: what holds after each kind of change holds after every call.
-use Rattle.lagsystem.proofs.Common.{Bool, Err, List, None, Ok, Option, Result, Some, [], ap, drop, false, if◌then◌else◌, refl, slice_get, slice_set}
-use Rattle.lagsystem.proofs.Common.{subst, sym, true, ℕ, ◌&&◌, ◌++◌, ◌==◌, ◌∙◌, ◌∷◌, ◌≡◌, AggId, Lacpdu, frame_octets, HoldsNumber, IsAddress}
+use Rattle.lagsystem.proofs.Common.{Bool, Err, List, None, Ok, Option, Result, Some, [], ap, arith, false, if◌then◌else◌, refl, slice_get, slice_set}
+use Rattle.lagsystem.proofs.Common.{true, ℕ, ◌&&◌, ◌++◌, ◌==◌, ◌∙◌, ◌∷◌, ◌≡◌, nat_tests, AggId, Lacpdu, frame_octets, HoldsNumber, IsAddress}
 use Rattle.lagsystem.proofs.Common.{read_field, framed_payload, after_sending, is_due, Assignment, ChangesAssignments, Marks, after_release}
 use Rattle.lagsystem.proofs.Common.{marker_due, PortChange, Reply, SystemFault, FrameEffect, Answered, ProcessLacpdu, Response, Received, TookLacpdu}
 use Rattle.lagsystem.proofs.Common.{SystemPort, Call, ChangesParty, Configure, Force, Move_conversation, Offer, OnlyPortChangesBy, Performs}
@@ -18,10 +18,7 @@ IsSilent call answer = (n now : ℕ) (before : List ℕ) → (tick_after call no
 -- the octet behind the header of a control frame
 subtype_of : (mac payload : List ℕ) (k : ℕ) → IsAddress mac → HoldsNumber payload (read_field 0 1 k)
     → subtype (frame_octets mac payload) ≡ k
-subtype_of mac payload k a h =
-    let behind : HoldsNumber (drop 14 (frame_octets mac payload)) (read_field 0 1 k) = subst (λ b. HoldsNumber b (read_field 0 1 k))
-    (sym (framed_payload mac payload a.0)) h in
-    sym (octet_stands (frame_octets mac payload) 14) ∙ behind
+subtype_of mac payload k a h = grind (arith, nat_tests, framed_payload, octet_stands)
 
 pub lacpdu_subtype : (max_delay : ℕ) (x : SystemPort) (octets : List ℕ) → IsLacpduOf max_delay x octets → subtype octets ≡ 1
 lacpdu_subtype max_delay x octets h = ap subtype h.3 ∙ subtype_of x.mac h.0 1 h.1 h.2.table.fields_hold.0
@@ -39,8 +36,7 @@ marker_silent n id port mac old answer new h m now before = (
 )
   where
     other : (b : Bool) → (if b && false then before ++ now ∷ [] else before) ≡ before
-    other true = refl
-    other false = refl
+    other b = grind (arith, nat_tests)
 
 module _ (gives : ℕ → ℕ → ℕ → Type 0) (old : SystemState) (P : Call → Reply → SystemState → Type 0) where
   -- P, which speaks of a call, its reply and the state after it, holds after each change of a port, from the state old
@@ -99,8 +95,7 @@ module _ (gives : ℕ → ℕ → ℕ → Type 0) (old : SystemState) (P : Call 
     transmits_if : (n i : ℕ) (x : SystemPort) (up due : Bool) (answer : Option (List ℕ)) (new : SystemState)
         → port_index n old.system_ports ≡ Some i → slice_get old.system_ports i ≡ Some x → is_due x.port ≡ due
         → TransmitsIf up due i x old answer new → P (Transmit n) (reply.Transmit (Ok answer)) new
-    transmits_if n i x false due answer new at e d h =
-        k.same (Transmit n) (reply.Transmit (Ok answer)) new (none_silent n answer h.0) h.1
+    transmits_if n i x false due answer new at e d h = grind (arith, nat_tests)
     transmits_if n i x true false answer new at e d h = marks n (marker_due old.table x.number) x.number x.mac answer new h
     transmits_if n i x true true answer new at e d h = k.ports.send n i x answer h.0 new at e d h.1 h.2 h.3
 
@@ -112,14 +107,12 @@ module _ (gives : ℕ → ℕ → ℕ → Type 0) (old : SystemState) (P : Call 
     moves : (agg : AggId) (conv port : ℕ) (what : Result Assignment SystemFault) (answer : Result Unit SystemFault)
         (new : SystemState) → system_move_result old agg conv port ≡ what → GivesOrRefuses agg conv what old answer new
         → P (Move_conversation agg conv port) (reply.MoveConversation answer) new
-    moves agg conv port (Ok s) answer new e h = k.move agg conv port s answer new e h.1
-    moves agg conv port (Err fault) answer new e h = k.same (Move_conversation agg conv port) (reply.MoveConversation answer) new (λ m now before. (refl, refl)) h.1
+    moves agg conv port what answer new e h = grind (arith, nat_tests)
 
     forces : (agg : AggId) (conv : ℕ) (what : Result Assignment SystemFault) (answer : Result Unit SystemFault)
         (new : SystemState) → system_force_result old agg conv ≡ what → GivesOrRefuses agg conv what old answer new
         → P (Force agg conv) (reply.Force answer) new
-    forces agg conv (Ok s) answer new e h = k.force agg conv s answer new e h.1
-    forces agg conv (Err fault) answer new e h = k.same (Force agg conv) (reply.Force answer) new (λ m now before. (refl, refl)) h.1
+    forces agg conv what answer new e h = grind (arith, nat_tests)
 
     -- so it holds after every call
     pub Step-preserves : (call : Call) (answer : Reply) (new : SystemState) → Step gives old call answer new → P call answer new
@@ -127,22 +120,17 @@ module _ (gives : ℕ → ℕ → ℕ → Type 0) (old : SystemState) (P : Call 
     Step-preserves (Set_link n up) (reply.SetLink (Ok done)) new h = k.ports.link n up done new h
     Step-preserves (Set_link n up) (reply.SetLink (Err fault)) new h = k.same (Set_link n up) (reply.SetLink (Err fault)) new (λ m now before. (refl, refl)) h.same
     Step-preserves (Receive n octets) (reply.Receive (Ok answer)) new h = receives n octets h.1 h.0.number answer new h.4
-    Step-preserves (Receive n octets) (reply.Receive (Err fault)) new h =
-        k.same (Receive n octets) (reply.Receive (Err fault)) new (λ m now before. (refl, refl)) h.same
+    Step-preserves (Receive n octets) (reply.Receive (Err fault)) new h = grind (arith, nat_tests)
     Step-preserves (Configure n change) (reply.Configure (Ok true)) new h = k.ports.change n change new h
-    Step-preserves (Configure n change) (reply.Configure (Ok false)) new h =
-        k.same (Configure n change) (reply.Configure (Ok false)) new (λ m now before. (refl, refl)) h.1
-    Step-preserves (Configure n change) (reply.Configure (Err fault)) new h =
-        k.same (Configure n change) (reply.Configure (Err fault)) new (λ m now before. (refl, refl)) h.same
+    Step-preserves (Configure n change) (reply.Configure (Ok false)) new h = grind (arith, nat_tests)
+    Step-preserves (Configure n change) (reply.Configure (Err fault)) new h = grind (arith, nat_tests)
     Step-preserves Restart reply.Restart new h = k.ports.restart new h.0 h.1
     Step-preserves (Transmit n) (reply.Transmit (Ok answer)) new h = transmits n (port_index n old.system_ports) answer new refl h
     Step-preserves (Transmit n) (reply.Transmit (Err fault)) new h = k.same (Transmit n) (reply.Transmit (Err fault)) new (λ m now before. (refl, refl)) h.same
     Step-preserves (Offer agg octets) (reply.Offer (Ok port)) new h = k.offer agg octets port new h
     Step-preserves (Offer agg octets) (reply.Offer (Err fault)) new h = k.same (Offer agg octets) (reply.Offer (Err fault)) new (λ m now before. (refl, refl)) h.1
-    Step-preserves (Move_conversation agg conv port) (reply.MoveConversation answer) new h =
-        moves agg conv port (system_move_result old agg conv port) answer new refl h
-    Step-preserves (Force agg conv) (reply.Force answer) new h =
-        forces agg conv (system_force_result old agg conv) answer new refl h
+    Step-preserves (Move_conversation agg conv port) (reply.MoveConversation answer) new h = grind (arith, nat_tests)
+    Step-preserves (Force agg conv) (reply.Force answer) new h = grind (arith, nat_tests)
     Step-preserves call answer new h = absurd h
 
   -- the same if nothing that is done to conversations matters to P

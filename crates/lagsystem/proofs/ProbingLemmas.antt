@@ -1,27 +1,20 @@
 -- A marker that asks whether the peer answers markers is a lawful move.
-use Rattle.lagsystem.proofs.Common.{Bool, Err, List, None, Ok, Option, Result, Some, false, refl, slice_get, subst, sym, true, ℕ, ◌∙◌, ◌≡◌, same_Some}
+use Rattle.lagsystem.proofs.Common.{Bool, Err, List, None, Ok, Option, Result, Some, arith, false, refl, slice_get, subst, true, ℕ, ◌≡◌, nat_tests}
 use Rattle.lagsystem.proofs.Common.{LawfulMoves, ModelCall, next_identifier, SystemFault, SystemPort, Transmit, JoinedByLawfulMoves, model_setup}
-use Rattle.lagsystem.proofs.Common.{model_view, Probes, ProbesAt, ProbesIf, ProbesLawfully, SendsMarkerOf, IsSound, SystemState, port_index}
-use Rattle.lagsystem.proofs.Common.{with_table}
+use Rattle.lagsystem.proofs.Common.{model_view, SendsMarkerOf, IsSound, SystemState, port_index, with_table}
+use Rattle.lagsystem.specs.Probing.{Probes, ProbesAt, ProbesIf, ProbesLawfully}
 use Rattle.lagsystem.specs.declared.drive.Reply.TheVariants as reply
 use Rattle.lagsystem.proofs.OnPorts.{marker_carried}
 use Rattle.lagsystem.proofs.PromiseLemmas.{table_promise, table_sound}
 use Rattle.lagsystem.proofs.Rising.{found_place}
-use Rattle.lagsystem.proofs.Steps.{below, marker_goes, nothing}
+use Rattle.lagsystem.proofs.Steps.{below, marker_goes}
 
 -- the marker of the port at the place with the link up is a probe
 pub probes_marker : (s : SystemState) (number i : ℕ) (system_port second : SystemPort) (answer : Option (List ℕ)) (new : SystemState)
     → port_index number s.system_ports ≡ Some i → slice_get s.system_ports i ≡ Some system_port → slice_get s.system_ports i ≡ Some second
     → system_port.port.enabled ≡ true → SendsMarkerOf (next_identifier s.table) number second.mac s answer new
     → ProbesAt (port_index number s.system_ports) s answer new
-probes_marker s number i system_port second answer new ep at too up h =
-    let same : second ≡ system_port = same_Some second system_port (sym too ∙ at) in
-    let numbered : number ≡ system_port.number = sym (found_place number s.system_ports i system_port ep at) in
-    let sends : ProbesIf true system_port s answer new =
-    subst (λ n. SendsMarkerOf (next_identifier s.table) n system_port.mac s answer new) numbered
-    (subst (λ (x : SystemPort). SendsMarkerOf (next_identifier s.table) number x.mac s answer new) same h) in
-    subst (λ o. ProbesAt o s answer new) (sym ep)
-    (system_port, at, subst (λ b. ProbesIf b system_port s answer new) (sym up) sends)
+probes_marker s number i system_port second answer new ep at too up h = grind (arith, nat_tests, found_place)
 
 -- what a probe of a sound system leaves
 record Probed (n : ℕ) (old : SystemState) (answer : Result (Option (List ℕ)) SystemFault) (new : SystemState) : Type 0 where
@@ -31,12 +24,7 @@ record Probed (n : ℕ) (old : SystemState) (answer : Result (Option (List ℕ))
 
 silent : (n : ℕ) (old : SystemState) (answer : Option (List ℕ)) (new : SystemState) → answer ≡ None → new ≡ old → IsSound old
     → Probed n old (Ok answer) new
-silent n old answer new a e s = record {
-  stays = subst (λ (x : SystemState). x ≡ with_table old x.table) (sym e) refl;
-  sound = subst IsSound (sym e) s;
-  joined = subst (λ a. JoinedByLawfulMoves old (Transmit n) (reply.Transmit (Ok a)) new) (sym a)
-      (nothing old (Transmit n) (reply.Transmit (Ok None)) new ModelCall.Transmit refl refl e);
-}
+silent n old answer new a e s = grind (arith, nat_tests)
 
 marker_probed : (o : Option ℕ) (n port : ℕ) (mac : List ℕ) (old : SystemState) (answer : Option (List ℕ)) (new : SystemState)
     → next_identifier old.table ≡ o → port ≡ n → SendsMarkerOf o port mac old answer new → IsSound old → Probed n old (Ok answer) new
@@ -63,11 +51,7 @@ place_probed (Some i) n old answer new e h s = where_probed h.0.port.enabled n i
 probed : (n : ℕ) (old : SystemState) (answer : Result (Option (List ℕ)) SystemFault) (new : SystemState) → Probes n old answer new
     → IsSound old → Probed n old answer new
 probed n old (Ok answer) new h s = place_probed (port_index n old.system_ports) n old answer new refl h s
-probed n old (Err fault) new h s = record {
-  stays = subst (λ (x : SystemState). x ≡ with_table old x.table) (sym h.same) refl;
-  sound = subst IsSound (sym h.same) s;
-  joined = nothing old (Transmit n) (reply.Transmit (Err fault)) new ModelCall.Transmit refl refl h.same;
-}
+probed n old (Err fault) new h s = grind (arith, nat_tests)
 
 pub probes_sound : (n : ℕ) (old : SystemState) (answer : Result (Option (List ℕ)) SystemFault) (new : SystemState)
     → Probes n old answer new → IsSound old → IsSound new

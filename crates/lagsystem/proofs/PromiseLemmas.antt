@@ -1,6 +1,6 @@
 -- Calls that change the conversations alone keep the invariant of a system.
-use Rattle.lagsystem.proofs.Common.{List, ap, subst, sym, ◌∙◌, ◌≡◌, Act, LawfulMoves, ModelCall, model_setup, model_view, TablePromise, IsSound}
-use Rattle.lagsystem.proofs.Common.{OnlyOnDistributing, SystemState, with_table}
+use Rattle.lagsystem.proofs.Common.{List, arith, subst, sym, ◌∙◌, ◌≡◌, nat_tests, Act, LawfulMoves, ModelCall, model_setup, model_view, TablePromise}
+use Rattle.lagsystem.proofs.Common.{IsSound, OnlyOnDistributing, SystemState, with_table}
 use Rattle.lagsystem.proofs.Sound.{agrees}
 
 pub table_sound : (old new : SystemState) → new ≡ with_table old new.table → new.table.aggs ≡ old.table.aggs
@@ -21,11 +21,4 @@ table_sound old new f a c on s = subst IsSound (sym f) (record {
 
 pub table_promise : (call : ModelCall) (acts : List Act) (old new : SystemState) → new ≡ with_table old new.table
     → LawfulMoves (model_setup old) call (model_view old) acts (model_view new) → IsSound new → TablePromise call acts old new
-table_promise call acts old new f m s = record {
-  others = f;
-  moves = m;
-  agrees = agrees new s;
-  configured = ap model_setup f;
-  conversations = ap (λ (x : SystemState). x.conversations) f;
-  max_links = ap (λ (x : SystemState). x.max_links) f;
-}
+table_promise call acts old new f m s = grind (arith, nat_tests, agrees)

@@ -1,7 +1,7 @@
 -- Step 2 of settling keeps what each value of Selected keeps that a port gets.
-use Rattle.lagsystem.proofs.Common.{List, None, Option, Some, length, refl, slice_get, slice_set, subst, suc, sym, zero, ℕ, ◌≡◌, AggId, Choice}
+use Rattle.lagsystem.proofs.Common.{List, Option, Some, arith, length, slice_get, slice_set, subst, suc, sym, zero, ℕ, ◌≡◌, nat_tests, AggId, Choice}
 use Rattle.lagsystem.proofs.Common.{Selected, AggregatorsValue, SystemPort, aggregator_numbered, ChoosesIn, PromotesAll, PromotesFirst, PromotesNext}
-use Rattle.lagsystem.proofs.Common.{PromotesTimes, after_choice_at, after_choices, choice_for, with_choice}
+use Rattle.lagsystem.proofs.Common.{PromotesTimes, after_choices, choice_for, with_choice}
 
 -- what each promotion keeps, all promotions keep
 times_keep : (aggs : AggregatorsValue) (agg : AggId) (P : List SystemPort → Type 0)
@@ -23,18 +23,11 @@ promotions_keep aggs P k (suc n) old new h p =
     let agg = aggregator_numbered (suc n) in all_keep aggs agg P (k agg) h.0 new h.2 (promotions_keep aggs P k n old h.0 h.1 p)
 
 -- what each choice keeps, all choices keep
-choice_keeps : (aggs : AggregatorsValue) (P : List SystemPort → Type 0)
-    → ((l : List SystemPort) (i : ℕ) (s : SystemPort) → slice_get l i ≡ Some s → P l → P (slice_set l i (with_choice s (choice_for aggs l s))))
-    → (l : List SystemPort) (i : ℕ) (o : Option SystemPort) → slice_get l i ≡ o → P l → P (after_choice_at aggs l i o)
-choice_keeps aggs P k l i None e p = p
-choice_keeps aggs P k l i (Some s) e p = k l i s e p
-
 pub choices_keep : (aggs : AggregatorsValue) (P : List SystemPort → Type 0)
     → ((l : List SystemPort) (i : ℕ) (s : SystemPort) → slice_get l i ≡ Some s → P l → P (slice_set l i (with_choice s (choice_for aggs l s))))
     → (n : ℕ) (l : List SystemPort) → P l → P (after_choices aggs n l)
 choices_keep aggs P k zero l p = p
-choices_keep aggs P k (suc n) l p =
-    let mid = after_choices aggs n l in choice_keeps aggs P k mid n (slice_get mid n) refl (choices_keep aggs P k n l p)
+choices_keep aggs P k (suc n) l p = grind (arith, nat_tests, choices_keep aggs P k n l p)
 
 -- what each value of Selected keeps that a port gets, or none, the whole step keeps
 abbrev pub KeptByChoices : (List SystemPort → Type 0) → Type 0

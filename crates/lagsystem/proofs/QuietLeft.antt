@@ -1,28 +1,22 @@
 -- The ticks until something happens are one fewer after a tick in which nothing is soon.
-use Rattle.lagsystem.proofs.Common.{Bool, List, None, Option, Some, [], ap, arith, false, if◌then◌else◌, inl, inr, is_some, map, min, nat_lt, refl}
-use Rattle.lagsystem.proofs.Common.{subst, suc, sym, true, zero, ℕ, ◌&&◌, ◌+◌, ◌-◌, ◌<◌, ◌∙◌, ◌∷◌, ◌≡◌, ◌≤◌, leb-true, lt-ltb, AllByRecursion}
-use Rattle.lagsystem.proofs.Common.{Machines, aged, Assignment, Flushing, Free, On, Wanted, marker_due, Table, assignment_of, is_by, sooner}
-use Rattle.lagsystem.proofs.Common.{ticks_until_next_wanted, ticks_until_wanted, by_first, by_second, same_soonest, SystemPort, would_transmit}
-use Rattle.lagsystem.proofs.Common.{counted, fewer, waited, SystemState, soonest, ticks_in_window, ticks_until_due_on, ticks_until_expired}
-use Rattle.lagsystem.proofs.Common.{ticks_until_frame, ticks_until_room}
+use Rattle.lagsystem.proofs.Common.{Bool, List, None, Option, Some, [], ap, arith, false, if◌then◌else◌, is_some, map, refl, suc, true, zero, ℕ, ◌&&◌}
+use Rattle.lagsystem.proofs.Common.{◌+◌, ◌-◌, ◌<◌, ◌∙◌, ◌∷◌, ◌≡◌, ◌≤◌, leb-true, lt-ltb, nat_tests, AllByRecursion, Machines, aged, Assignment}
+use Rattle.lagsystem.proofs.Common.{marker_due, Table, assignment_of, sooner, ticks_until_next_wanted, ticks_until_wanted, by_first, by_second}
+use Rattle.lagsystem.proofs.Common.{same_soonest, SystemPort, counted, fewer, waited, SystemState, soonest, ticks_in_window, ticks_until_due_on}
+use Rattle.lagsystem.proofs.Common.{ticks_until_expired, ticks_until_frame, ticks_until_room}
 use Rattle.distributor.specs.Waiting.{soonest_below}
-use Rattle.lagsystem.proofs.QuietTicks.{Lasts, PortLasts, TableTicked, aged_on, frame_not, lasting, still_not_due, table_lasts, waits_on}
+use Rattle.lagsystem.proofs.QuietTicks.{Lasts, PortLasts, TableTicked, aged_on, frame_not, still_not_due, table_lasts, waits_on}
 
 -- numbers of ticks
 
 pub fewer_sooner : (m : ℕ) (a b : Option ℕ) → sooner (fewer m a) (fewer m b) ≡ fewer m (sooner a b)
-fewer_sooner m None None = refl
-fewer_sooner m None (Some y) = refl
-fewer_sooner m (Some x) None = refl
-fewer_sooner m (Some x) (Some y) = let e : min (x - m) (y - m) ≡ min x y - m = omega arith in ap Some e
+fewer_sooner m a b = grind (arith, nat_tests)
 
 pub fewer_twice : (m n : ℕ) (a : Option ℕ) → fewer m (fewer n a) ≡ fewer (n + m) a
-fewer_twice m n None = refl
-fewer_twice m n (Some x) = let e : (x - n) - m ≡ x - (n + m) = omega arith in ap Some e
+fewer_twice m n a = grind (arith, nat_tests)
 
 pub none_fewer : (a : Option ℕ) → a ≡ fewer 0 a
-none_fewer None = refl
-none_fewer (Some x) = let e : x ≡ x - 0 = omega arith in ap Some e
+none_fewer a = grind (arith, nat_tests)
 
 fewer_soonest : (m : ℕ) (xs : List (Option ℕ)) → soonest (map (fewer m) xs) ≡ fewer m (soonest xs)
 fewer_soonest m [] = refl
@@ -34,10 +28,7 @@ running : (t : ℕ) → 0 < t → ticks_until_expired t ≡ Some t
 running t l = ap (λ b. if b then Some t else None) (lt-ltb 0 t l)
 
 timer_left : (j t : ℕ) → Lasts j (ticks_until_expired t) → ticks_until_expired (t - 1) ≡ fewer 1 (ticks_until_expired t)
-timer_left j t h = elim (lasting j t (nat_lt 0 t) refl h) [
-  | inl z ↦ (let e : t - 1 ≡ 0 = omega (arith, z) in ap ticks_until_expired e ∙ sym (ap (λ n. fewer 1 (ticks_until_expired n)) z))
-  | inr l ↦ running (t - 1) (omega (arith, l)) ∙ sym (ap (fewer 1) (running t (omega (arith, l))))
-]
+timer_left j t h = grind (arith, nat_tests)
 
 -- the transmit window
 
@@ -69,10 +60,7 @@ no_frame b e = ap now_if e
 frame_left : (j : ℕ) (s t : SystemState) (x : SystemPort) → PortLasts j s x
     → is_some (marker_due t.table x.number) ≡ is_some (marker_due s.table x.number)
     → ticks_until_frame t (counted x) ≡ fewer 1 (ticks_until_frame s x)
-frame_left j s t x h m =
-    let two : j + 2 ≡ (j + 1) + 1 = omega arith in
-    let was = frame_not (j + 1) (would_transmit s x) (subst (λ n. is_by (Some n) (ticks_until_frame s x) ≡ true) two h.frame) in
-    no_frame (would_transmit t (counted x)) (still_not_due j s t x h m) ∙ sym (ap (fewer 1) (no_frame (would_transmit s x) was))
+frame_left j s t x h m = grind (arith, nat_tests, frame_not, no_frame, still_not_due)
 
 port_left : (j : ℕ) (s t : SystemState) (x : SystemPort) → PortLasts j s x
     → is_some (marker_due t.table x.number) ≡ is_some (marker_due s.table x.number)
@@ -104,10 +92,7 @@ each_left j s t (x ∷ xs) m h =
 -- conversations
 
 wait_left : (a : Assignment) → ticks_until_wanted (waited 1 a) ≡ fewer 1 (ticks_until_wanted a)
-wait_left (Free preferred) = refl
-wait_left (On port) = refl
-wait_left (Wanted port preferred) = refl
-wait_left (Flushing port id preferred age) = let e : 30 - (age + 1) ≡ (30 - age) - 1 = omega arith in ap Some e
+wait_left a = grind (arith, nat_tests)
 
 below_left : (f : ℕ → Option ℕ) (n : ℕ) → soonest_below (λ k. fewer 1 (f k)) n ≡ fewer 1 (soonest_below f n)
 unfolding soonest_below

@@ -1,23 +1,21 @@
 -- A run of ticks in which nothing is soon.
 use Rattle.lagsystem.proofs.Common.{List, None, Option, Some, [], ap, arith, false, is_some, map, option_map, refl, replicate, slice_get, subst, suc}
 use Rattle.lagsystem.proofs.Common.{sym, true, zero, ℕ, ◌+◌, ◌-◌, ◌<◌, ◌∙◌, ◌∷◌, ◌≡◌, ◌≤◌, false≢true, nat_tests, none-some, same_Some}
-use Rattle.lagsystem.proofs.Common.{AllByRecursion, Key, AggregatorsValue, Assignment, Flushing, Free, On, Wanted, is_among, after_tick}
-use Rattle.lagsystem.proofs.Common.{IsConversation, assignment_of, is_by, sooner, ticks_until_next_wanted, by_both, by_first, by_second, SystemPort}
-use Rattle.lagsystem.proofs.Common.{Step, TableRun, Tick, Ticks, would_transmit, MuxIsSettled, MuxesAreSettled, PeriodicsAreSettled, NoneIsNext}
-use Rattle.lagsystem.proofs.Common.{IsBeyond, NothingIsDue, OnlyCounted, counted, counted_times, fewer, waited, aggregator_numbered, distributing}
-use Rattle.lagsystem.proofs.Common.{HoldsConversations, Settling, IsSound, SystemState, aggregators_value, port_index, system_port_at}
-use Rattle.lagsystem.proofs.Common.{with_system_ports, with_table, views, soonest, ticks_until_due, ticks_until_due_on, ticks_until_expired}
-use Rattle.lagsystem.proofs.Common.{ticks_until_frame, ticks_until_room}
+use Rattle.lagsystem.proofs.Common.{AllByRecursion, Key, AggregatorsValue, Assignment, On, is_among, after_tick, IsConversation, assignment_of, is_by}
+use Rattle.lagsystem.proofs.Common.{sooner, ticks_until_next_wanted, by_first, by_second, SystemPort, Step, TableRun, Tick, Ticks, would_transmit}
+use Rattle.lagsystem.proofs.Common.{MuxIsSettled, MuxesAreSettled, PeriodicsAreSettled, NoneIsNext, IsBeyond, NothingIsDue, OnlyCounted, counted}
+use Rattle.lagsystem.proofs.Common.{counted_times, fewer, waited, aggregator_numbered, distributing, HoldsConversations, Settling, IsSound}
+use Rattle.lagsystem.proofs.Common.{SystemState, aggregators_value, port_index, system_port_at, with_system_ports, with_table, views, soonest}
+use Rattle.lagsystem.proofs.Common.{ticks_until_due, ticks_until_due_on, ticks_until_expired, ticks_until_frame, ticks_until_room}
 use Rattle.lagsystem.specs.declared.drive.Reply.TheVariants as reply
 use Rattle.lagsystem.proofs.Keeps.{keeps_settled, keeps_tick, settling_joined}
 use Rattle.lagsystem.proofs.OneSettling.{SameAfter, settlings_one}
 use Rattle.lagsystem.proofs.QuietLeft.{each_left, fewer_sooner, fewer_twice, none_fewer, table_left}
 use Rattle.lagsystem.proofs.Quieting.{paced_runs, still_settles}
 use Rattle.lagsystem.proofs.QuietTicks.{Lasts, PortLasts, Remains, TableTicked, carried_on, counted_distributing, counted_paced, counted_ports}
-use Rattle.lagsystem.proofs.QuietTicks.{counted_view, counted_views, each_lasts, each_remains, frame_not, on_before, same_marker, table_lasts}
-use Rattle.lagsystem.proofs.QuietTicks.{table_remains, waits_on}
+use Rattle.lagsystem.proofs.QuietTicks.{counted_views, each_lasts, frame_not, on_before, same_marker, table_lasts, waits_on}
 use Rattle.lagsystem.proofs.Rising.{all-get}
-use Rattle.lagsystem.proofs.Skipping.{alike_still, all_among}
+use Rattle.lagsystem.proofs.Skipping.{all_among}
 use Rattle.lagsystem.proofs.Sound.{Step-sound}
 
 -- what a tick does in which nothing is soon
@@ -31,23 +29,20 @@ record OneTick (j : ℕ) (old new : SystemState) : Type 0 where
 still_counted : (j : ℕ) (s : SystemState) (keys : List Key) (system_ports xs : List SystemPort) → AllByRecursion (PortLasts j s) xs
     → AllByRecursion (MuxIsSettled keys system_ports) xs → AllByRecursion (MuxIsSettled keys system_ports) (map counted xs)
 still_counted j s keys system_ports [] l h = tt
-still_counted j s keys system_ports (x ∷ xs) l h =
-    (alike_still keys system_ports x (counted x) (counted_view j s x l.0) h.0.mux h.0, still_counted j s keys system_ports xs l.1 h.1)
+still_counted j s keys system_ports (x ∷ xs) l h = grind (arith, nat_tests, still_counted j s keys system_ports xs l.1 h.1)
+
+-- what lasts so long remains after a tick
+lasts_fewer : (j : ℕ) (x : Option ℕ) → Lasts j x → Remains j (fewer 1 x)
+lasts_fewer j x h = grind (arith, nat_tests)
 
 one_tick : (gives : ℕ → ℕ → ℕ → Type 0) (j : ℕ) (old new : SystemState) → IsSound old → Lasts j (ticks_until_due old)
     → Step gives old Tick reply.Tick new → OneTick j old new
 one_tick gives j old new s h step = record {
-  remains = by_both (Some (j + 1)) (ticks_until_next_wanted new.table) (soonest (map (ticks_until_due_on new) new.system_ports))
-      (table_remains j old.table new.table table waits)
-      (subst (λ l. Remains j (soonest (map (ticks_until_due_on new) l))) (sym ports)
-      (each_remains j old new old.system_ports (λ n. ap is_some (same_marker n j old.table new.table table waits)) each));
+  remains = subst (Remains j) (sym left) (lasts_fewer j (ticks_until_due old) h);
   frame = (keeps_settled Ticks old new (λ between own. keeps_tick old between own) step).frame;
   ports = ports;
   table = table;
-  left = (λ i. sooner (table_left j old.table new.table table waits i) (soonest (map (ticks_until_due_on new) (ports i))))
-      ∙ (ap (sooner (fewer 1 (ticks_until_next_wanted old.table)))
-      (each_left j old new old.system_ports (λ n. ap is_some (same_marker n j old.table new.table table waits)) each)
-      ∙ fewer_sooner 1 (ticks_until_next_wanted old.table) (soonest (map (ticks_until_due_on old) old.system_ports)));
+  left = left;
 }
   where
     mid : SystemState
@@ -120,6 +115,13 @@ one_tick gives j old new s h step = record {
       states = λ g k. after.1.states g k ∙ step.1.1.states g k;
     }
 
+    left : ticks_until_due new ≡ fewer 1 (ticks_until_due old)
+    left =
+        (λ i. sooner (table_left j old.table new.table table waits i) (soonest (map (ticks_until_due_on new) (ports i))))
+        ∙ (ap (sooner (fewer 1 (ticks_until_next_wanted old.table)))
+        (each_left j old new old.system_ports (λ n. ap is_some (same_marker n j old.table new.table table waits)) each)
+        ∙ fewer_sooner 1 (ticks_until_next_wanted old.table) (soonest (map (ticks_until_due_on old) old.system_ports)))
+
 -- nothing is due
 
 none_due : (k : ℕ) (s : SystemState) (xs : List SystemPort) → is_by (Some (k + 1)) (soonest (map (ticks_until_due_on s) xs)) ≡ true
@@ -156,21 +158,13 @@ nothing_due k s h n = at (port_index n s.system_ports)
     at (Some i) t = found i (slice_get s.system_ports i) refl t
 
 beyond : (m : ℕ) (x : Option ℕ) → IsBeyond m x → Remains m x
-beyond m None h = refl
-beyond m (Some n) h = let l : m + 1 ≤ n = omega (arith, h) in grind (arith, nat_tests)
+beyond m x h = grind (arith, nat_tests)
 
 waited_longer : (m : ℕ) (a : Assignment) → waited m (waited 1 a) ≡ waited (suc m) a
-waited_longer m (Free preferred) = refl
-waited_longer m (On port) = refl
-waited_longer m (Wanted port preferred) = refl
-waited_longer m (Flushing port id preferred age) =
-    let e : (age + 1) + m ≡ age + suc m = omega arith in ap (Flushing port id preferred) e
+waited_longer m a = grind (arith, nat_tests)
 
 not_waited : (a : Assignment) → a ≡ waited 0 a
-not_waited (Free preferred) = refl
-not_waited (On port) = refl
-not_waited (Wanted port preferred) = refl
-not_waited (Flushing port id preferred age) = let e : age ≡ age + 0 = omega arith in ap (Flushing port id preferred) e
+not_waited a = grind (arith, nat_tests)
 
 -- one such tick before m others
 joined : (m : ℕ) (old mid new : SystemState) → Lasts m (ticks_until_due old) → OneTick m old mid → OnlyCounted m mid new

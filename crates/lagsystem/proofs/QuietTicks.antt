@@ -1,23 +1,17 @@
 -- A tick in which nothing is soon.
-use Rattle.lagsystem.proofs.Common.{Bool, List, None, Option, Some, [], ap, arith, cond, false, filter, if◌then◌else◌, inl, inr, is_some, length, ltb}
-use Rattle.lagsystem.proofs.Common.{map, nat_lt, not, refl, subst, suc, sym, true, zero, ℕ, ◌&&◌, ◌+◌, ◌-◌, ◌<◌, ◌==◌, ◌^◌, ◌||◌, ◌∙◌, ◌∷◌, ◌≡◌, ◌≤◌}
-use Rattle.lagsystem.proofs.Common.{◌⊎◌, cases_Bool, cond-false, cond-true, false≢true, le-leb, leb-true, lt-ltb, ltb-true, nat_tests, IsFalse}
-use Rattle.lagsystem.proofs.Common.{AllByRecursion, AggId, MuxState, Attached, CollectingDistributing, Detached, Waiting, Fast, NoPeriodic}
-use Rattle.lagsystem.proofs.Common.{PeriodicTx, Slow, Current, Expired, PortTick, Machines, set_ntt, is_silent, partner_short, periodic_row}
-use Rattle.lagsystem.proofs.Common.{same_periodic_state, start_periodic, receive_rows, same_receive_state, AtRest, Row, RunsToRest, in_order, aged}
-use Rattle.lagsystem.proofs.Common.{count_down, one_effect, Assignment, Flushing, Free, On, Wanted, is_among, after_tick, marker_due, wants_marker}
-use Rattle.lagsystem.proofs.Common.{Table, assignment_of, count_conversations, sum_below, is_by, ticks_until_next_wanted, ticks_until_wanted, by_both}
-use Rattle.lagsystem.proofs.Common.{by_first, by_second, soonest_all, same_sum, SystemPort, would_transmit, none_enabled, PeriodicIsSettled, counted}
-use Rattle.lagsystem.proofs.Common.{waited, distributes_in, distributing, PortsChangeBy, held_unless_on, SystemState, selection_view, stage_of, views}
-use Rattle.lagsystem.proofs.Common.{soonest, ticks_in_window, ticks_until_due_on, ticks_until_expired, ticks_until_frame, ticks_until_room}
+use Rattle.lagsystem.proofs.Common.{Bool, List, None, Option, Some, [], ap, arith, cond, false, if◌then◌else◌, inl, inr, is_some, length, ltb, map}
+use Rattle.lagsystem.proofs.Common.{nat_lt, not, refl, subst, suc, true, zero, ℕ, ◌&&◌, ◌+◌, ◌-◌, ◌<◌, ◌==◌, ◌^◌, ◌||◌, ◌∙◌, ◌∷◌, ◌≡◌, ◌≤◌, ◌⊎◌}
+use Rattle.lagsystem.proofs.Common.{cases_Bool, false≢true, leb-true, lt-ltb, ltb-true, nat_tests, AllByRecursion, AggId, MuxState, PortTick}
+use Rattle.lagsystem.proofs.Common.{Machines, receive_rows, AtRest, Row, RunsToRest, aged, count_down, one_effect, Assignment, On, is_among}
+use Rattle.lagsystem.proofs.Common.{after_tick, marker_due, wants_marker, Table, assignment_of, count_conversations, sum_below, is_by}
+use Rattle.lagsystem.proofs.Common.{ticks_until_next_wanted, ticks_until_wanted, by_first, by_second, same_sum, SystemPort, would_transmit}
+use Rattle.lagsystem.proofs.Common.{none_enabled, PeriodicIsSettled, counted, waited, distributing, PortsChangeBy, held_unless_on, SystemState}
+use Rattle.lagsystem.proofs.Common.{selection_view, stage_of, views, soonest, ticks_in_window, ticks_until_due_on, ticks_until_expired}
+use Rattle.lagsystem.proofs.Common.{ticks_until_frame, ticks_until_room}
 use Rattle.distributor.specs.Waiting.{soonest_below}
 use Rattle.selection.specs.declared.view.Stage.{Stage}
 
 -- ---- numbers of ticks
-
-by_none : (x : Option ℕ) → is_by x None ≡ true
-by_none None = refl
-by_none (Some n) = refl
 
 -- more than j + 1 ticks, and more than j ticks
 abbrev pub Lasts : ℕ → Option ℕ → Type 0
@@ -30,116 +24,50 @@ Remains j x = is_by (Some (j + 1)) x ≡ true
 
 -- a timer has expired, or does not expire soon
 pub lasting : (j t : ℕ) (b : Bool) → nat_lt 0 t ≡ b → Lasts j (if b then Some t else None) → (t ≡ 0) ⊎ (j + 2 ≤ t)
-lasting j t true e h = inr (leb-true (j + 2) t h)
-lasting j t false e h = let z : t ≡ 0 = grind (arith, nat_tests) in inl z
+lasting j t b e h = grind (arith, nat_tests)
 
 timer_alike : (j t : ℕ) → Lasts j (ticks_until_expired t) → (t - 1 == 0) ≡ (t == 0)
-timer_alike j t h = elim (lasting j t (nat_lt 0 t) refl h) [
-  | inl z ↦ (let e : t - 1 ≡ t = omega (arith, z) in ap (λ n. n == 0) e)
-  | inr l ↦ (let a : (t - 1 == 0) ≡ false = grind (arith, nat_tests) in let b : (t == 0) ≡ false = grind (arith, nat_tests) in a ∙ sym b)
-]
-
-remaining : (j t : ℕ) (b : Bool) → nat_lt 0 t ≡ b → j + 1 ≤ t → Remains j (if b then Some t else None)
-remaining j t true e h = le-leb (j + 1) t h
-remaining j t false e h = refl
-
-timer_remains : (j t : ℕ) → Lasts j (ticks_until_expired t) → Remains j (ticks_until_expired (t - 1))
-timer_remains j t h = elim (lasting j t (nat_lt 0 t) refl h) [
-  | inl z ↦ (let e : t - 1 ≡ 0 = omega (arith, z) in subst (λ n. Remains j (ticks_until_expired n)) (sym e) refl)
-  | inr l ↦ remaining j (t - 1) (nat_lt 0 (t - 1)) refl (omega (arith, l))
-]
+timer_alike j t h = grind (arith, nat_tests)
 
 -- ---- the transmit window
 
 pub aged_on : (a : ℕ) (more : List ℕ) → a + 1 < 11 → aged (a ∷ more) ≡ (a + 1) ∷ aged more
 aged_on a more h = ap (λ b. cond b ((a + 1) ∷ aged more) (aged more)) (lt-ltb (a + 1) 11 h)
 
-window_on : (j : ℕ) (ages : List ℕ) → Lasts j (soonest (map ticks_in_window ages))
-    → (length (aged ages) ≡ length ages) × Remains j (soonest (map ticks_in_window (aged ages)))
-window_on j [] h = (refl, refl)
-window_on j (a ∷ more) h =
-    let rest = window_on j more (by_second (Some (j + 2)) (ticks_in_window a) (soonest (map ticks_in_window more)) h) in
-    let here : j + 2 ≤ 11 - a = leb-true (j + 2) (11 - a)
-    (by_first (Some (j + 2)) (ticks_in_window a) (soonest (map ticks_in_window more)) h) in
-    let young : a + 1 < 11 = omega (arith, here) in
-    let later : j + 1 ≤ 11 - (a + 1) = omega (arith, here) in
-    let e = aged_on a more young in (
-      ap length e ∙ (λ i. suc (rest.0 i)),
-      subst (λ l. Remains j (soonest (map ticks_in_window l))) (sym e)
-          (by_both (Some (j + 1)) (ticks_in_window (a + 1)) (soonest (map ticks_in_window (aged more)))
-          (le-leb (j + 1) (11 - (a + 1)) later) rest.1),
-    )
-
-room_on : (j : ℕ) (p : Machines) (b : Bool) → Lasts j (if b then soonest (map ticks_in_window p.ages) else None)
-    → Remains j (if b then soonest (map ticks_in_window (aged p.ages)) else None)
-room_on j p true h = (window_on j p.ages h).1
-room_on j p false h = refl
+aged_alike : (j : ℕ) (ages : List ℕ) → Lasts j (soonest (map ticks_in_window ages)) → length (aged ages) ≡ length ages
+aged_alike j [] h = refl
+aged_alike j (a ∷ more) h =
+    let rest = soonest (map ticks_in_window more) in
+    let here : j + 2 ≤ 11 - a = leb-true (j + 2) (11 - a) (by_first (Some (j + 2)) (ticks_in_window a) rest h) in
+    ap length (aged_on a more (omega (arith, here)))
+    ∙ ap (λ n. suc n) (aged_alike j more (by_second (Some (j + 2)) (ticks_in_window a) rest h))
 
 room_alike : (j : ℕ) (p : Machines) (b : Bool) → Lasts j (if b then soonest (map ticks_in_window p.ages) else None) → b ≡ true
     → length (aged p.ages) ≡ length p.ages
-room_alike j p true h e = (window_on j p.ages h).0
+room_alike j p true h e = aged_alike j p.ages h
 room_alike j p false h e = absurd (false≢true e)
 
 -- ---- one port
 
 not_first : (b c : Bool) → (not b && c) ≡ true → b ≡ false
-not_first true c h = absurd (false≢true h)
-not_first false c h = refl
+not_first b c h = grind (arith, nat_tests)
 
 not_second : (b c : Bool) → (not b && c) ≡ true → c ≡ true
-not_second true c h = absurd (false≢true h)
-not_second false c h = h
+not_second b c h = grind (arith, nat_tests)
 
 pub at_rest : (rows : List Row) (p : Machines) → none_enabled rows p ≡ true → AtRest rows p
 at_rest [] p h = tt
-at_rest (row ∷ rows) p h = (
-  not_first (row.enabled p) (none_enabled rows p) h,
-  at_rest rows p (not_second (row.enabled p) (none_enabled rows p) h),
-)
+at_rest (row ∷ rows) p h = grind (arith, nat_tests, at_rest rows p (not_second (row.enabled p) (none_enabled rows p) h))
 
 rests_on : (p : Machines) → (p.current_while - 1 == 0) ≡ (p.current_while == 0) → AtRest receive_rows p → AtRest receive_rows (count_down p)
-rests_on p e h = (
-  h.0,
-  (
-    h.1.0,
-    (
-      h.1.1.0,
-      (
-        subst (λ b. IsFalse (same_receive_state Expired p.receive && b)) (sym e) h.1.1.1.0,
-        (subst (λ b. IsFalse (same_receive_state Current p.receive && b)) (sym e) h.1.1.1.1.0, tt),
-      ),
-    ),
-  ),
-)
+rests_on p e h = grind (arith, nat_tests)
 
 only_counts : (p q : Machines) → AtRest receive_rows p → AtRest receive_rows (count_down p) → RunsToRest receive_rows (count_down p) q
     → q ≡ count_down p
 only_counts p q old rest h = one_effect PortTick p q (count_down p) old h (0, refl, rest)
 
--- the periodic rows, by whether periodic_timer has expired
-abbrev rows_by : Bool → List Row
-rows_by expired =
-    periodic_row (λ s. not (same_periodic_state NoPeriodic s)) is_silent NoPeriodic (λ p. p)
-    ∷ periodic_row (same_periodic_state NoPeriodic) (λ p. not (is_silent p)) Fast (start_periodic 10)
-    ∷ periodic_row (same_periodic_state Fast) (λ p. expired) PeriodicTx set_ntt
-    ∷ periodic_row (same_periodic_state Fast) (λ p. not (partner_short p)) Slow (start_periodic 300)
-    ∷ periodic_row (same_periodic_state Slow) (λ p. expired || partner_short p) PeriodicTx set_ntt
-    ∷ periodic_row (same_periodic_state PeriodicTx) partner_short Fast (start_periodic 10)
-    ∷ periodic_row (same_periodic_state PeriodicTx) (λ p. not (partner_short p)) Slow (start_periodic 300)
-    ∷ []
-
-paced_on : (x : SystemPort) → (x.port.periodic_timer - 1 == 0) ≡ (x.port.periodic_timer == 0) → PeriodicIsSettled x
-    → PeriodicIsSettled (counted x)
-paced_on x e h = record {
-  rows = subst (λ b. AtRest (in_order (λ p. false) (rows_by b)) x.port) (sym e) h.rows;
-  cleared = ap count_down h.cleared;
-}
-
 stage_on : (m : MuxState) (w : ℕ) → (w - 1 == 0) ≡ (w == 0) → stage_of m (w - 1) ≡ stage_of m w
-stage_on Detached w e = refl
-stage_on Waiting w e = ap Stage.Waiting e
-stage_on Attached w e = refl
-stage_on CollectingDistributing w e = refl
+stage_on m w e = grind (arith, nat_tests)
 
 view_on : (x : SystemPort) → (x.port.wait_while - 1 == 0) ≡ (x.port.wait_while == 0) → selection_view (counted x) ≡ selection_view x
 view_on x e = ap (λ (s : Stage). record (selection_view x) { stage = s }) (stage_on x.port.mux x.port.wait_while e)
@@ -174,43 +102,16 @@ port_lasts j s x h =
 
 -- nothing is due now
 pub frame_not : (k : ℕ) (b : Bool) → is_by (Some (k + 1)) (if b then Some 0 else None) ≡ true → b ≡ false
-frame_not k true h = absurd (omega (arith, leb-true (k + 1) 0 h))
-frame_not k false h = refl
+frame_not k b h = grind (arith, nat_tests)
 
 not_due : (up ntt few later was now : Bool) → ((up && ntt) ≡ true → later ≡ few) → now ≡ was → (up && ((ntt && few) || was)) ≡ false
     → (up && ((ntt && later) || now)) ≡ false
-not_due false ntt few later was now e m h = refl
-not_due true false few later was now e m h = m ∙ h
-not_due true true few later was now e m h = (λ i. e refl i || m i) ∙ h
+not_due up ntt few later was now e m h = grind (arith, nat_tests)
 
 -- with the port's window as it was, and markers wanted as before, no frame gets due
 pub still_not_due : (j : ℕ) (s t : SystemState) (x : SystemPort) → PortLasts j s x
     → is_some (marker_due t.table x.number) ≡ is_some (marker_due s.table x.number) → would_transmit t (counted x) ≡ false
-still_not_due j s t x h m =
-    let two : j + 2 ≡ (j + 1) + 1 = omega arith in
-    let was = frame_not (j + 1) (would_transmit s x) (subst (λ n. is_by (Some n) (ticks_until_frame s x) ≡ true) two h.frame) in
-    not_due x.port.enabled x.port.ntt (nat_lt (length x.port.ages) 3) (nat_lt (length (aged x.port.ages)) 3)
-    (is_some (marker_due s.table x.number)) (is_some (marker_due t.table x.number))
-    (λ e. ap (λ n. nat_lt n 3) (room_alike j x.port (x.port.enabled && x.port.ntt) h.room e)) m was
-
-frame_remains : (j : ℕ) (b : Bool) → b ≡ false → Remains j (if b then Some 0 else None)
-frame_remains j true e = absurd (false≢true (sym e))
-frame_remains j false e = refl
-
-pub port_remains : (j : ℕ) (s t : SystemState) (x : SystemPort) → PortLasts j s x
-    → is_some (marker_due t.table x.number) ≡ is_some (marker_due s.table x.number) → Remains j (ticks_until_due_on t (counted x))
-port_remains j s t x h m =
-    let c = Some (j + 1) in
-    let current = ticks_until_expired (x.port.current_while - 1) in
-    let periodic = ticks_until_expired (x.port.periodic_timer - 1) in
-    let wait = ticks_until_expired (x.port.wait_while - 1) in
-    let room = ticks_until_room (count_down x.port) in
-    by_both c (ticks_until_frame t (counted x)) (soonest (current ∷ periodic ∷ wait ∷ room ∷ []))
-    (frame_remains j (would_transmit t (counted x)) (still_not_due j s t x h m))
-    (by_both c current (soonest (periodic ∷ wait ∷ room ∷ [])) (timer_remains j x.port.current_while h.current_while)
-    (by_both c periodic (soonest (wait ∷ room ∷ [])) (timer_remains j x.port.periodic_timer h.periodic_timer)
-    (by_both c wait (soonest (room ∷ [])) (timer_remains j x.port.wait_while h.wait_while)
-    (by_both c room None (room_on j x.port (x.port.enabled && x.port.ntt) h.room) refl))))
+still_not_due j s t x h m = grind (arith, nat_tests, frame_not, not_due, room_alike)
 
 -- ---- all ports
 
@@ -221,14 +122,6 @@ each_lasts j s (x ∷ xs) h =
     let c = Some (j + 2) in
     let rest = soonest (map (ticks_until_due_on s) xs) in
     (port_lasts j s x (by_first c (ticks_until_due_on s x) rest h), each_lasts j s xs (by_second c (ticks_until_due_on s x) rest h))
-
-pub each_remains : (j : ℕ) (s t : SystemState) (xs : List SystemPort)
-    → ((n : ℕ) → is_some (marker_due t.table n) ≡ is_some (marker_due s.table n)) → AllByRecursion (PortLasts j s) xs
-    → Remains j (soonest (map (ticks_until_due_on t) (map counted xs)))
-each_remains j s t [] m h = refl
-each_remains j s t (x ∷ xs) m h =
-    by_both (Some (j + 1)) (ticks_until_due_on t (counted x)) (soonest (map (ticks_until_due_on t) (map counted xs)))
-    (port_remains j s t x h.0 (m x.number)) (each_remains j s t xs m h.1)
 
 pub counted_ports : (j : ℕ) (s : SystemState) (xs ys : List SystemPort) → AllByRecursion (PortLasts j s) xs
     → AllByRecursion (λ x. none_enabled receive_rows x.port ≡ true) xs
@@ -246,10 +139,7 @@ counted_ports j s (x ∷ xs) (y ∷ ys) l r h =
 
 pub counted_views : (j : ℕ) (s : SystemState) (xs : List SystemPort) → AllByRecursion (PortLasts j s) xs → views (map counted xs) ≡ views xs
 counted_views j s [] h = refl
-counted_views j s (x ∷ xs) h =
-    let here : selection_view (counted x) ≡ selection_view x = view_on x (timer_alike j x.port.wait_while h.0.wait_while) in
-    let more = counted_views j s xs h.1 in
-    λ i. here i ∷ more i
+counted_views j s (x ∷ xs) h = grind (arith, nat_tests, counted_views j s xs h.1)
 
 pub counted_view : (j : ℕ) (s : SystemState) (x : SystemPort) → PortLasts j s x → selection_view (counted x) ≡ selection_view x
 counted_view j s x h = view_on x (timer_alike j x.port.wait_while h.wait_while)
@@ -257,67 +147,33 @@ counted_view j s x h = view_on x (timer_alike j x.port.wait_while h.wait_while)
 pub counted_paced : (j : ℕ) (s : SystemState) (xs : List SystemPort) → AllByRecursion (PortLasts j s) xs
     → AllByRecursion PeriodicIsSettled xs → AllByRecursion PeriodicIsSettled (map counted xs)
 counted_paced j s [] l h = tt
-counted_paced j s (x ∷ xs) l h =
-    (paced_on x (timer_alike j x.port.periodic_timer l.0.periodic_timer) h.0, counted_paced j s xs l.1 h.1)
+counted_paced j s (x ∷ xs) l h = grind (arith, nat_tests, counted_paced j s xs l.1 h.1)
 
 -- the ports that distribute
 through : (b : Bool) (x : SystemPort) (xs : List SystemPort) → map (λ (s : SystemPort). s.number) (cond b (x ∷ xs) xs) ≡ cond b (x.number
     ∷ map (λ (s : SystemPort). s.number) xs) (map (λ (s : SystemPort). s.number) xs)
-through true x xs = refl
-through false x xs = refl
+through b x xs = grind (arith, nat_tests)
 
 pub counted_distributing : (agg : AggId) (xs : List SystemPort) → distributing agg (map counted xs) ≡ distributing agg xs
 counted_distributing agg [] = refl
-counted_distributing agg (x ∷ xs) =
-    through (distributes_in agg x) (counted x) (filter (distributes_in agg) (map counted xs))
-    ∙ ap (λ l. cond (distributes_in agg x) (x.number ∷ l) l) (counted_distributing agg xs)
-    ∙ sym (through (distributes_in agg x) x (filter (distributes_in agg) xs))
+counted_distributing agg (x ∷ xs) = grind (arith, nat_tests, counted_distributing agg xs)
 
 -- ---- conversations
 
 -- a conversation that is On a port after a tick was On it before
 pub on_before : (a : Assignment) (p : ℕ) → after_tick a ≡ On p → a ≡ On p
-on_before (Free preferred) p h = h
-on_before (On q) p h = h
-on_before (Wanted q preferred) p h = h
-on_before (Flushing q id preferred age) p h = elim (cases_Bool (ltb (age + 1) 30)) [
-  | inl e ↦ absurd (flushing_on (sym (cond-true (ltb (age + 1) 30) (Flushing q id preferred (age + 1)) (Wanted q preferred) e) ∙ h))
-  | inr g ↦ absurd (wanted_on (sym (cond-false (ltb (age + 1) 30) (Flushing q id preferred (age + 1)) (Wanted q preferred) g) ∙ h))
-]
-  where
-    flushing_on : Flushing q id preferred (age + 1) ≡ On p → ⊥
-    flushing_on k = cc
-
-    wanted_on : Wanted q preferred ≡ On p → ⊥
-    wanted_on k = cc
+on_before a p h = grind (arith, nat_tests)
 
 pub carried_on : (ports : List ℕ) (a : Assignment) → ((p : ℕ) → a ≡ On p → is_among ports p ≡ true) → a ≡ held_unless_on ports a
-carried_on ports (Free preferred) k = refl
-carried_on ports (On p) k = sym (ap (λ b. if b then On p else Wanted p None) (k p refl))
-carried_on ports (Wanted p preferred) k = refl
-carried_on ports (Flushing p id preferred age) k = refl
+carried_on ports a k = grind (arith, nat_tests)
 
 -- a conversation that waits on
 pub record WaitsOn (j : ℕ) (a : Assignment) : Type 0 where
-  pub remains : Remains j (ticks_until_wanted (after_tick a))
   pub wants : (port : ℕ) → wants_marker port (after_tick a) ≡ wants_marker port a
   pub longer : after_tick a ≡ waited 1 a
 
 pub waits_on : (j : ℕ) (a : Assignment) → Lasts j (ticks_until_wanted a) → WaitsOn j a
-waits_on j (Free preferred) h = record { remains = refl; wants = λ port. refl; longer = refl }
-waits_on j (On q) h = record { remains = refl; wants = λ port. refl; longer = refl }
-waits_on j (Wanted q preferred) h = record { remains = refl; wants = λ port. refl; longer = refl }
-waits_on j (Flushing q id preferred age) h =
-    let left : j + 2 ≤ 30 - age = leb-true (j + 2) (30 - age) h in
-    let young : age + 1 < 30 = omega (arith, left) in
-    let later : j + 1 ≤ 30 - (age + 1) = omega (arith, left) in
-    let e : after_tick (Flushing q id preferred age) ≡ Flushing q id preferred (age + 1) =
-    cond-true (ltb (age + 1) 30) (Flushing q id preferred (age + 1)) (Wanted q preferred) (lt-ltb (age + 1) 30 young) in
-    record {
-      remains = subst (λ x. Remains j (ticks_until_wanted x)) (sym e) (le-leb (j + 1) (30 - (age + 1)) later);
-      wants = λ port. ap (wants_marker port) e;
-      longer = e;
-    }
+waits_on j a h = grind (arith, nat_tests)
 
 below_lasts : (f : ℕ → Option ℕ) (n : ℕ) (x : Option ℕ) (k : ℕ) → is_by x (soonest_below f n) ≡ true → k < n → is_by x (f k) ≡ true
 unfolding soonest_below
@@ -341,14 +197,6 @@ pub record TableTicked (s t : Table) : Type 0 where
   pub first : t.first ≡ s.first
   pub next : t.next ≡ s.next
   pub states : (a c : ℕ) → assignment_of t a c ≡ after_tick (assignment_of s a c)
-
-pub table_remains : (j : ℕ) (s t : Table) → TableTicked s t → Lasts j (ticks_until_next_wanted s) → Remains j (ticks_until_next_wanted t)
-table_remains j s t k h =
-    soonest_all (λ a. soonest_below (λ c. ticks_until_wanted (assignment_of t (a + 1) c)) t.conversations) t.aggs (Some (j + 1)) (λ a l.
-    soonest_all (λ c. ticks_until_wanted (assignment_of t (a + 1) c)) t.conversations (Some (j + 1)) (λ c m.
-    (let w = waits_on j (assignment_of s (a + 1) c)
-    (table_lasts j s h a c (subst (λ n. a < n) k.aggs l) (subst (λ n. c < n) k.conversations m)) in
-    subst (λ x. Remains j (ticks_until_wanted x)) (sym (k.states (a + 1) c)) w.remains)))
 
 same_count : (port j : ℕ) (s t : Table) → TableTicked s t → Lasts j (ticks_until_next_wanted s)
     → count_conversations (wants_marker port) t ≡ count_conversations (wants_marker port) s

@@ -1,28 +1,26 @@
 -- Right after a settling, another one has nothing to do; and if there is nothing to do, a settling changes nothing.
-use Rattle.lagsystem.proofs.Common.{Bool, List, None, Option, Some, [], ap, cond, false, inl, inr, length, not, option_map, refl, slice_get}
-use Rattle.lagsystem.proofs.Common.{slice_set, subst, suc, sym, true, zero, ℕ, ◌&&◌, ◌||◌, ◌∙◌, ◌∷◌, ◌≡◌, false≢true, AllByRecursion, AllZip}
-use Rattle.lagsystem.proofs.Common.{list_all, AggId, Key, Choice, Selected, Standby, Unselected, is_selected, is_unselected, Waiting, NoPeriodic}
-use Rattle.lagsystem.proofs.Common.{Machines, mux_rows, same_mux_state, RunsPeriodic, clear_ntt, periodic_rows, same_periodic_state, AtRest, Fires}
-use Rattle.lagsystem.proofs.Common.{FiresTimes, Row, RunsToRest, Reaches-keeps, PortView, chosen_if_eligible, has_group_of, has_occupant, occupants}
-use Rattle.lagsystem.proofs.Common.{AggregatorsValue, has_room, is_eligible, occupies, SystemPort, MuxIsSettled, MuxesAreSettled, PeriodicIsSettled}
-use Rattle.lagsystem.proofs.Common.{PeriodicsAreSettled, NoneIsNext, PortChangesBy, PortsChangeBy, PromotesFirst, SettlesPorts, Settling}
-use Rattle.lagsystem.proofs.Common.{after_choice_at, after_choices, aggregator_for, choice_for, choice_if, choice_in, ready_of, with_choice}
-use Rattle.lagsystem.proofs.Common.{SystemState, aggregators_value, port_numbers, with_system_ports, selection_view, views}
-use Rattle.lagsystem.proofs.Keeps.{chosen_numbers, promoted_numbers, settling_keeps, settling_parts, zip_numbers}
+use Rattle.lagsystem.proofs.Common.{Bool, List, None, Option, Some, [], ap, arith, cond, false, inl, inr, length, option_map, refl, slice_get}
+use Rattle.lagsystem.proofs.Common.{slice_set, subst, suc, sym, true, zero, ℕ, ◌&&◌, ◌||◌, ◌∙◌, ◌∷◌, ◌≡◌, false≢true, nat_tests, AllByRecursion}
+use Rattle.lagsystem.proofs.Common.{AllZip, list_all, AggId, Key, Choice, Selected, is_selected, is_unselected, Waiting, Machines, mux_rows}
+use Rattle.lagsystem.proofs.Common.{same_mux_state, RunsPeriodic, periodic_rows, AtRest, Fires, FiresTimes, Row, RunsToRest, Reaches-keeps, PortView}
+use Rattle.lagsystem.proofs.Common.{chosen_if_eligible, has_group_of, has_occupant, occupants, AggregatorsValue, is_eligible, occupies, SystemPort}
+use Rattle.lagsystem.proofs.Common.{MuxIsSettled, MuxesAreSettled, PeriodicIsSettled, PeriodicsAreSettled, NoneIsNext, PortChangesBy, PortsChangeBy}
+use Rattle.lagsystem.proofs.Common.{PromotesFirst, SettlesPorts, Settling, after_choice_at, after_choices, aggregator_for, choice_for, choice_in}
+use Rattle.lagsystem.proofs.Common.{ready_of, with_choice, SystemState, aggregators_value, port_numbers, with_system_ports, selection_view, views}
+use Rattle.lagsystem.proofs.Keeps.{chosen_numbers, promoted_numbers, settling_in, settling_keeps, zip_numbers}
 use Rattle.lagsystem.proofs.Limiting.{nothing_promoted, settled_none}
 use Rattle.lagsystem.proofs.PromotionLemmas.{choices_keep, promotions_keep}
 use Rattle.lagsystem.proofs.NoneLeft.{TakesNone, each_place, none_takes, not_when, taken_none, when_still}
 use Rattle.lagsystem.proofs.NoneStays.{none_alike}
-use Rattle.lagsystem.proofs.Rest.{last_slots, zip_all}
+use Rattle.lagsystem.proofs.Rest.{zip_all}
 use Rattle.lagsystem.proofs.Rising.{Rises, all-get, all-set}
-use Rattle.lagsystem.proofs.SettlingLemmas.{none_for, set_same, settling_made}
+use Rattle.lagsystem.proofs.SettlingLemmas.{RunsReady, SettlesIn, none_for, set_same, settling_made}
 use Rattle.lagsystem.proofs.Unready.{mux_choice, none_ready}
 
 -- rows at rest
 
 clash : (b : Bool) → b ≡ true → b ≡ false → ⊥
-clash true h k = cc
-clash false h k = cc
+clash b h k = grind (arith, nat_tests)
 
 none_fires : (rows : List Row) (p q : Machines) → AtRest rows p → Fires rows p q → ⊥
 none_fires [] p q rest f = f
@@ -30,18 +28,13 @@ none_fires (row ∷ rows) p q rest f = elim f [ inl h ↦ clash (row.enabled p) 
 
 stays : (rows : List Row) (n : ℕ) (p q : Machines) → AtRest rows p → FiresTimes rows n p q → q ≡ p
 stays rows zero p q rest run = run
-stays rows (suc n) p q rest run =
-    absurd (none_fires rows p q rest (subst (λ (x : Machines). Fires rows x q) (stays rows n p run.0 rest run.1) run.2))
+stays rows (suc n) p q rest run = grind (arith, nat_tests, none_fires, stays rows n p run.0 rest run.1)
 
 unready_row : (m s b : Bool) → (m && (s && b)) ≡ false → (m && (s && false)) ≡ false
-unready_row true true b h = refl
-unready_row true false b h = refl
-unready_row false s b h = refl
+unready_row m s b h = grind (arith, nat_tests)
 
 unselected_row : (m s b : Bool) → s ≡ false → (m && (s && b)) ≡ false
-unselected_row true true b h = absurd cc
-unselected_row true false b h = refl
-unselected_row false s b h = refl
+unselected_row m s b h = grind (arith, nat_tests)
 
 -- at rest with Ready is at rest without
 rest_unready : (b : Bool) (p : Machines) → AtRest (mux_rows b) p → AtRest (mux_rows false) p
@@ -56,14 +49,9 @@ rest_unselected b p s h = (h.0, (h.1.0, (unselected_row (same_mux_state Waiting 
 abbrev RestsAlone : SystemPort → Type 0
 RestsAlone x = is_unselected x.port.choice ≡ true → AtRest (mux_rows false) x.port
 
-taken_rests : (s : SystemPort) (agg : AggId) (room : Bool) → RestsAlone (with_choice s (Some (choice_if room agg)))
-taken_rests s agg true e = absurd (false≢true e)
-taken_rests s agg false e = absurd (false≢true e)
-
 given_rests : (aggs : AggregatorsValue) (seen : List PortView) (s : SystemPort) (o : Option AggId) → RestsAlone s
     → RestsAlone (with_choice s (option_map (choice_in aggs seen) o))
-given_rests aggs seen s None h = h
-given_rests aggs seen s (Some agg) h = taken_rests s agg (has_room aggs seen agg)
+given_rests aggs seen s o h = grind (arith, nat_tests)
 
 chosen_rests : (aggs : AggregatorsValue) (n : ℕ) (l : List SystemPort) → AllByRecursion RestsAlone l
     → AllByRecursion RestsAlone (after_choices aggs n l)
@@ -81,15 +69,12 @@ promoted_rests aggs n old new h a =
 
 -- the mux step leaves occupants and groups
 
-abbrev Steps : List Key → List PortView → Machines → Machines → Type 0
-Steps keys seen p q = RunsToRest (mux_rows (ready_of keys seen p.choice)) p q
-
 mux_groups : (b : Bool) (v : PortView) (x y : SystemPort) → y ≡ record x { port = y.port } → RunsToRest (mux_rows b) x.port y.port
     → has_group_of v (selection_view y) ≡ has_group_of v (selection_view x)
 mux_groups b v x y e h = Reaches-keeps (λ (p : Machines). has_group_of v (selection_view (record x { port = p }))) (mux_rows b)
     ((λ p. refl), ((λ p. refl), ((λ p. refl), ((λ p. refl), ((λ p. refl), ((λ p. refl), tt)))))) h.0 x.port y.port h.1
 
-same_occupants : (keys : List Key) (seen : List PortView) (agg : AggId) (xs ys : List SystemPort) → PortsChangeBy (Steps keys seen) xs ys
+same_occupants : (keys : List Key) (seen : List PortView) (agg : AggId) (xs ys : List SystemPort) → PortsChangeBy (RunsReady keys seen) xs ys
     → has_occupant (views ys) agg ≡ has_occupant (views xs) agg
 same_occupants keys seen agg [] [] h = refl
 same_occupants keys seen agg [] (y ∷ ys) h = absurd h
@@ -101,11 +86,10 @@ same_occupants keys seen agg (x ∷ xs) (y ∷ ys) h =
 
 next_all : (test : PortView → Bool) (b : Bool) (w v : PortView) (rest more : List PortView) → test v ≡ test w
     → list_all test more ≡ list_all test rest → list_all test (cond b (v ∷ more) more) ≡ list_all test (cond b (w ∷ rest) rest)
-next_all test true w v rest more e h = ap (λ x. x && list_all test more) e ∙ ap (λ x. test w && x) h
-next_all test false w v rest more e h = h
+next_all test b w v rest more e h = grind (arith, nat_tests)
 
 same_groups : (keys : List Key) (seen : List PortView) (agg : AggId) (v : PortView) (xs ys : List SystemPort)
-    → PortsChangeBy (Steps keys seen) xs ys
+    → PortsChangeBy (RunsReady keys seen) xs ys
     → list_all (has_group_of v) (occupants agg (views ys)) ≡ list_all (has_group_of v) (occupants agg (views xs))
 same_groups keys seen agg v [] [] h = refl
 same_groups keys seen agg v [] (y ∷ ys) h = absurd h
@@ -120,17 +104,13 @@ same_groups keys seen agg v (x ∷ xs) (y ∷ ys) h =
 
 -- a port that takes none takes none after the mux step
 not_unselected : (b d u : Bool) → u ≡ false → ((b && u) && d) ≡ false
-not_unselected b d true h = absurd cc
-not_unselected true d false h = refl
-not_unselected false d false h = refl
+not_unselected b d u h = grind (arith, nat_tests)
 
 not_selected : (c : Choice) → is_unselected c ≡ true → is_selected c ≡ false
-not_selected Unselected h = refl
-not_selected (Selected agg) h = absurd cc
-not_selected (Standby agg) h = refl
+not_selected c h = grind (arith, nat_tests)
 
-none_moved : (keys : List Key) (xs ys : List SystemPort) (x y : SystemPort) → PortsChangeBy (Steps keys (views xs)) xs ys
-    → PortChangesBy (Steps keys (views xs)) x y → RestsAlone x → TakesNone keys (views xs) (selection_view x)
+none_moved : (keys : List Key) (xs ys : List SystemPort) (x y : SystemPort) → PortsChangeBy (RunsReady keys (views xs)) xs ys
+    → PortChangesBy (RunsReady keys (views xs)) x y → RestsAlone x → TakesNone keys (views xs) (selection_view x)
     → (s : Bool) → is_unselected x.port.choice ≡ s → TakesNone keys (views ys) (selection_view y)
 none_moved keys xs ys x y all h a none false s =
     let same = mux_choice (ready_of keys (views xs) x.port.choice) x.port y.port h.1 in
@@ -163,10 +143,10 @@ all_both P Q (x ∷ xs) h k = ((h.0, k.0), all_both P Q xs h.1 k.1)
 abbrev Moved : List Key → List SystemPort → SystemPort → Type 0
 Moved keys system_ports y = TakesNone keys (views system_ports) (selection_view y) × AtRest (mux_rows false) y.port
 
-moved : (keys : List Key) (xs ys : List SystemPort) → PortsChangeBy (Steps keys (views xs)) xs ys
+moved : (keys : List Key) (xs ys : List SystemPort) → PortsChangeBy (RunsReady keys (views xs)) xs ys
     → AllByRecursion (λ x. RestsAlone x × TakesNone keys (views xs) (selection_view x)) xs → AllByRecursion (Moved keys ys) ys
 moved keys xs ys h a =
-    zip_gives (PortChangesBy (Steps keys (views xs))) (λ x. RestsAlone x × TakesNone keys (views xs) (selection_view x)) (Moved keys ys)
+    zip_gives (PortChangesBy (RunsReady keys (views xs))) (λ x. RestsAlone x × TakesNone keys (views xs) (selection_view x)) (Moved keys ys)
     (λ x y m k. (
       none_moved keys xs ys x y h m k.0 k.1 (is_unselected x.port.choice) refl,
       rest_unready (ready_of keys (views xs) x.port.choice) y.port m.1.2,
@@ -204,80 +184,42 @@ periodic_looks d p q h =
 periodic_rest : (p q : Machines) → RunsPeriodic p q → AtRest (mux_rows false) p → AtRest (mux_rows false) q
 periodic_rest p q h r = subst (λ (m : Machines). AtRest (mux_rows false) m) (sym (periodic_looks p p q h)) r
 
-and_twice : (b c : Bool) → (b && (b && c)) ≡ (b && c)
-and_twice true c = refl
-and_twice false c = refl
-
 periodic_paced : (y z : SystemPort) → PortChangesBy RunsPeriodic y z → PeriodicIsSettled z
-periodic_paced y z h =
-    let mid : Machines = h.1.0 in
-    let twice : clear_ntt (clear_ntt mid) ≡ clear_ntt mid =
-    λ i. record mid { ntt = and_twice (not (same_periodic_state NoPeriodic mid.periodic)) mid.ntt i } in
-    record {
-      rows = subst (λ (p : Machines). AtRest periodic_rows p) (sym h.1.2) h.1.1.2;
-      cleared = h.1.2 ∙ sym twice ∙ ap clear_ntt (sym h.1.2);
-    }
+periodic_paced y z h = grind (arith, nat_tests)
 
 -- after a settling
-pub settling_still : (old new : SystemState) → Rises 0 (port_numbers old.system_ports) → SettlesPorts old new
-    → MuxesAreSettled new.keys new.system_ports × PeriodicsAreSettled new.system_ports
-settling_still old new r h =
-    let one = h.0 in
-    let two = h.2.0 in
-    let three = h.2.2.0 in
-    let four = h.2.2.2.0 in
-    let five = h.2.2.2.2.0 in
-    let keys : List Key = one.keys in
-    let aggs : AggregatorsValue = aggregators_value one in
-    let mid : List SystemPort = h.2.1.0.0 in
+settled_still : (aggs : AggregatorsValue) (old new : List SystemPort) → Rises 0 (port_numbers old) → SettlesIn aggs old new
+    → MuxesAreSettled aggs.keys new × PeriodicsAreSettled new
+settled_still aggs old new r s =
+    let keys : List Key = aggs.keys in
+    let mid : List SystemPort = s.chooses.0 in
     let last : List SystemPort = after_choices aggs (length mid) mid in
-    let is : two.system_ports ≡ last = h.2.1.0.2 in
-    let r1 : Rises 0 (port_numbers one.system_ports) = subst (λ ns. Rises 0 ns)
-    (sym (zip_numbers (RunsToRest (mux_rows false)) old.system_ports one.system_ports h.1.0)) r in
-    let a1 : AllByRecursion RestsAlone one.system_ports = zip_all (PortChangesBy (RunsToRest (mux_rows false))) RestsAlone
-    (λ x y m s. m.1.2) old.system_ports one.system_ports h.1.0 in
-    let a0 : AllByRecursion RestsAlone mid = promoted_rests aggs (length keys) one.system_ports mid h.2.1.0.1 a1 in
-    let r0 : Rises 0 (port_numbers mid) = subst (λ ns. Rises 0 ns)
-    (sym (promoted_numbers aggs (length keys) one.system_ports mid h.2.1.0.1)) r1 in
+    let n0 = promoted_numbers aggs (length keys) s.one mid s.chooses.1 ∙ zip_numbers (RunsToRest (mux_rows false)) old s.one s.stops in
+    let r0 : Rises 0 (port_numbers mid) = subst (λ ns. Rises 0 ns) (sym n0) r in
+    let a1 : AllByRecursion RestsAlone s.one =
+    zip_all (PortChangesBy (RunsToRest (mux_rows false))) RestsAlone (λ x y m s. m.1.2) old s.one s.stops in
+    let a0 : AllByRecursion RestsAlone mid = promoted_rests aggs (length keys) s.one mid s.chooses.1 a1 in
     let a2 : AllByRecursion (λ x. RestsAlone x × TakesNone keys (views last) (selection_view x)) last =
     all_both RestsAlone (λ x. TakesNone keys (views last) (selection_view x)) last
     (chosen_rests aggs (length mid) mid a0) (none_takes aggs mid r0) in
-    let there : three ≡ with_system_ports one last = h.2.2.1 ∙ h.2.1.1 ∙ ap (with_system_ports one) is in
-    let m4 : PortsChangeBy (Steps keys (views last)) last four.system_ports =
-    subst (λ (s : SystemState). PortsChangeBy (Steps s.keys (views s.system_ports)) s.system_ports four.system_ports) there h.2.2.2.1.0 in
-    let a4 : AllByRecursion (Moved keys four.system_ports) four.system_ports = moved keys last four.system_ports m4 a2 in
-    let m5 : PortsChangeBy RunsPeriodic four.system_ports five.system_ports = h.2.2.2.2.1.0 in
-    let seen : views five.system_ports ≡ views four.system_ports = periodic_views four.system_ports five.system_ports m5 in
-    let r5 : Rises 0 (port_numbers five.system_ports) =
-    subst (λ ns. Rises 0 ns) (sym (zip_numbers RunsPeriodic four.system_ports five.system_ports m5
-    ∙ zip_numbers (Steps keys (views last)) last four.system_ports m4 ∙ chosen_numbers aggs (length mid) mid))
-    r0 in
-    let a5 : AllByRecursion (λ z. TakesNone keys (views five.system_ports) (selection_view z)
-    × AtRest (mux_rows false) z.port) five.system_ports =
-    zip_gives (PortChangesBy RunsPeriodic) (Moved keys four.system_ports) (λ z. TakesNone keys (views five.system_ports) (selection_view z)
-    × AtRest (mux_rows false) z.port)
-    (λ y z m k. (
+    let m4 : PortsChangeBy (RunsReady keys (views last)) last s.four =
+    subst (λ l. PortsChangeBy (RunsReady keys (views l)) l s.four) s.chooses.2 s.runs in
+    let a4 : AllByRecursion (Moved keys s.four) s.four = moved keys last s.four m4 a2 in
+    let seen : views new ≡ views s.four = periodic_views s.four new s.paces in
+    let r5 : Rises 0 (port_numbers new) = subst (λ ns. Rises 0 ns) (sym (zip_numbers RunsPeriodic s.four new s.paces
+    ∙ zip_numbers (RunsReady keys (views last)) last s.four m4 ∙ chosen_numbers aggs (length mid) mid)) r0 in
+    let a5 : AllByRecursion (Moved keys new) new = zip_gives (PortChangesBy RunsPeriodic) (Moved keys s.four) (Moved keys new) (λ y z m k. (
       subst (λ l. TakesNone keys l (selection_view z)) (sym seen)
-          (subst (λ v. TakesNone keys (views four.system_ports) v) (sym (periodic_view y z m)) k.0),
+          (subst (λ v. TakesNone keys (views s.four) v) (sym (periodic_view y z m)) k.0),
       periodic_rest y.port z.port m.1 k.1,
-    ))
-    four.system_ports five.system_ports m5 a4 in
-    let still : MuxesAreSettled keys five.system_ports = each_place (MuxIsSettled keys five.system_ports) five.system_ports
-    (λ j z e.
-    let k = all-get (λ z. TakesNone keys (views five.system_ports) (selection_view z) × AtRest (mux_rows false) z.port)
-    five.system_ports j z e a5 in
-    record {
-      mux = k.1;
-      apart = taken_none keys five.system_ports r5 (both_first (λ z. TakesNone keys (views five.system_ports) (selection_view z))
-          (λ z. AtRest (mux_rows false) z.port) five.system_ports a5) j z e;
-      unready = ap (λ l. ready_of keys l z.port.choice) seen ∙ none_ready keys last four.system_ports m4 z.port.choice;
+    )) s.four new s.paces a4 in
+    let still : MuxesAreSettled keys new = each_place (MuxIsSettled keys new) new (λ j z e. record {
+      mux = (all-get (Moved keys new) new j z e a5).1;
+      apart = taken_none keys new r5 (both_first (λ z. TakesNone keys (views new) (selection_view z)) (λ z. AtRest (mux_rows false) z.port) new a5)
+          j z e;
+      unready = ap (λ l. ready_of keys l z.port.choice) seen ∙ none_ready keys last s.four m4 z.port.choice;
     }) in
-    let paced : PeriodicsAreSettled five.system_ports = zip_all (PortChangesBy RunsPeriodic) PeriodicIsSettled periodic_paced
-    four.system_ports five.system_ports m5 in
-    let same : five.keys ≡ keys = ap (λ (s : SystemState). s.keys) h.2.2.2.2.1.1 ∙ ap (λ (s : SystemState). s.keys) h.2.2.2.1.1
-    ∙ ap (λ (s : SystemState). s.keys) there in
-    subst (λ (s : SystemState). MuxesAreSettled s.keys s.system_ports × PeriodicsAreSettled s.system_ports) (sym h.2.2.2.2.2)
-    (subst (λ (k : List Key). MuxesAreSettled k five.system_ports) (sym same) still, paced)
+    (still, zip_all (PortChangesBy RunsPeriodic) PeriodicIsSettled periodic_paced s.four new s.paces)
   where
     both_first : (P Q : SystemPort → Type 0) (xs : List SystemPort) → AllByRecursion (λ x. P x × Q x) xs → AllByRecursion P xs
     both_first P Q [] h = tt
@@ -291,10 +233,9 @@ still_mux keys system_ports [] h = tt
 still_mux keys system_ports (x ∷ xs) h = ((refl, (0, refl, h.0.mux)), still_mux keys system_ports xs h.1)
 
 still_ready : (keys : List Key) (system_ports xs : List SystemPort) → AllByRecursion (MuxIsSettled keys system_ports) xs
-    → PortsChangeBy (Steps keys (views system_ports)) xs xs
+    → PortsChangeBy (RunsReady keys (views system_ports)) xs xs
 still_ready keys system_ports [] h = tt
-still_ready keys system_ports (x ∷ xs) h =
-    ((refl, (0, refl, subst (λ b. AtRest (mux_rows b) x.port) (sym h.0.unready) h.0.mux)), still_ready keys system_ports xs h.1)
+still_ready keys system_ports (x ∷ xs) h = grind (arith, nat_tests, still_ready keys system_ports xs h.1)
 
 still_choose : (aggs : AggregatorsValue) (system_ports : List SystemPort) (i : ℕ) (o : Option SystemPort) → slice_get system_ports i ≡ o
     → MuxesAreSettled aggs.keys system_ports → after_choice_at aggs system_ports i o ≡ system_ports
@@ -307,9 +248,7 @@ still_choose aggs system_ports i (Some s) e h =
 still_chosen : (aggs : AggregatorsValue) (n : ℕ) (system_ports : List SystemPort) → MuxesAreSettled aggs.keys system_ports
     → after_choices aggs n system_ports ≡ system_ports
 still_chosen aggs zero system_ports h = refl
-still_chosen aggs (suc n) system_ports h =
-    ap (λ l. after_choice_at aggs l n (slice_get l n)) (still_chosen aggs n system_ports h)
-    ∙ still_choose aggs system_ports n (slice_get system_ports n) refl h
+still_chosen aggs (suc n) system_ports h = grind (arith, nat_tests, still_choose, still_chosen aggs n system_ports h)
 
 -- settling leaves all but the periodic machines
 -- a settling in which only step 1 and step 5 change ports
@@ -324,20 +263,19 @@ settles_from s ran news first h none m =
 pub still_settles : (s : SystemState) (news : List SystemPort) → MuxesAreSettled s.keys s.system_ports
     → NoneIsNext (aggregators_value s) (views s.system_ports) → PortsChangeBy RunsPeriodic s.system_ports news
     → SettlesPorts s (with_system_ports s news)
-still_settles s news h none m =
-    settles_from s s.system_ports news (still_mux s.keys s.system_ports s.system_ports h) h none m
+still_settles s news h none m = grind (arith, nat_tests, settles_from, still_mux)
 
 pub paced_runs : (xs : List SystemPort) → PeriodicsAreSettled xs → PortsChangeBy RunsPeriodic xs xs
 paced_runs [] h = tt
 paced_runs (x ∷ xs) h = ((refl, (x.port, (0, refl, h.0.rows), h.0.cleared)), paced_runs xs h.1)
 
--- a settling with its last step
+-- after a settling with its last step
 pub settling_quiet : (old new : SystemState) → Rises 0 (port_numbers old.system_ports) → Settling old new
     → MuxesAreSettled new.keys new.system_ports × PeriodicsAreSettled new.system_ports
 settling_quiet old new r h =
-    let p = settling_parts old new h in
-    subst (λ (s : SystemState). MuxesAreSettled s.keys s.system_ports × PeriodicsAreSettled s.system_ports) (sym p.2.frame)
-    (settling_still old p.0 r p.1)
+    subst (λ (a : AggregatorsValue). MuxesAreSettled a.keys new.system_ports × PeriodicsAreSettled new.system_ports)
+    (sym (ap aggregators_value (settling_keeps old new h).frame))
+    (settled_still (aggregators_value old) old.system_ports new.system_ports r (settling_in old new h))
 
 -- after a settling no STANDBY port comes next
 
@@ -350,18 +288,8 @@ periodic_choice p q h = ap (λ (m : Machines). m.choice) h.2
 
 pub settling_none : (old new : SystemState) → Settling old new → NoneIsNext (aggregators_value new) (views new.system_ports)
 settling_none old new h =
-    let one = h.0 in
-    let two = h.2.0 in
-    let three = h.2.2.0 in
-    let four = h.2.2.2.0 in
-    let five = h.2.2.2.2.0 in
-    let ready : Machines → Machines → Type 0 = Steps two.keys (views two.system_ports) in
-    let m4 : PortsChangeBy ready two.system_ports four.system_ports =
-    subst (λ (s : SystemState). PortsChangeBy (Steps s.keys (views s.system_ports)) s.system_ports four.system_ports) h.2.2.1 h.2.2.2.1.0 in
-    let none = settled_none (aggregators_value one) ready RunsPeriodic
-    (λ p q x. mux_choice (ready_of two.keys (views two.system_ports) p.choice) p q x) periodic_choice
-    one.system_ports two.system_ports four.system_ports five.system_ports h.2.1.0 m4 h.2.2.2.2.1.0 in
-    let same : aggregators_value new ≡ aggregators_value one = ap aggregators_value (settling_keeps old new h).frame
-    ∙ sym (ap aggregators_value h.1.1) in
-    subst (λ a. NoneIsNext a (views new.system_ports)) (sym same)
-    (subst (λ l. NoneIsNext (aggregators_value one) (views l)) (sym (last_slots old new h)) none)
+    let s = settling_in old new h in
+    subst (λ a. NoneIsNext a (views new.system_ports)) (sym (ap aggregators_value (settling_keeps old new h).frame))
+    (settled_none (aggregators_value old) (RunsReady old.keys (views s.two)) RunsPeriodic
+    (λ p q x. mux_choice (ready_of old.keys (views s.two) p.choice) p q x) periodic_choice
+    s.one s.two s.four new.system_ports s.chooses s.runs s.paces)

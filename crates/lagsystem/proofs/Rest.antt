@@ -1,16 +1,15 @@
 -- What holds of each port after every call: its machines are at rest.
-use Rattle.lagsystem.proofs.Common.{Bool, Err, List, None, Ok, Option, Result, Some, [], ap, false, if◌then◌else◌, inl, inr, not, refl, slice_get}
-use Rattle.lagsystem.proofs.Common.{slice_set, subst, sym, true, ℕ, ◌&&◌, ◌==◌, ◌||◌, ◌∙◌, ◌∷◌, ◌≡◌, and_parts, not-true, true≢false, AllByRecursion}
-use Rattle.lagsystem.proofs.Common.{AllZip, AggId, Choice, Selected, Standby, Unselected, is_selected, Lacpdu, Marker, MuxState, Attached}
-use Rattle.lagsystem.proofs.Common.{CollectingDistributing, Detached, Waiting, ReceiveState, Current, Defaulted, Expired, Initialize, PortDisabled}
+use Rattle.lagsystem.proofs.Common.{Bool, List, None, Option, Result, Some, [], ap, arith, false, if◌then◌else◌, not, refl, slice_get, slice_set}
+use Rattle.lagsystem.proofs.Common.{subst, sym, true, ℕ, ◌&&◌, ◌||◌, ◌∙◌, ◌∷◌, ◌≡◌, and_parts, not-true, nat_tests, AllByRecursion, AllZip, AggId}
+use Rattle.lagsystem.proofs.Common.{Choice, is_selected, Lacpdu, MuxState, Attached, CollectingDistributing, ReceiveState, Initialize, PortDisabled}
 use Rattle.lagsystem.proofs.Common.{Machines, mux_rows, partner_synchronized, same_mux_state, RunsPeriodic, periodic_rows, receive_rows}
 use Rattle.lagsystem.proofs.Common.{same_receive_state, start_receive, AtRest, Row, RunsToRest, Starts, before_start, after_sending, count_down}
-use Rattle.lagsystem.proofs.Common.{Reaches-keeps, Assignment, Reply, SystemFault, Received, SystemPort, Call, ChangesParty, OnlyPortChangesBy}
-use Rattle.lagsystem.proofs.Common.{PortAtChangesBy, ProcessesLacpdu, Releases, SetsLink, SetsPortEnabled, Step, ThenSettles, Ticks, changed_party}
-use Rattle.lagsystem.proofs.Common.{choice_with_link, HasJustStarted, IsFirst, setup_of, MuxesConsistent, PortsConsistent, ReceivesAtRest}
-use Rattle.lagsystem.proofs.Common.{can_receive, can_receive_in, mux_consistent, mux_consistent_of, none_enabled, GivesOrRefuses, Offers}
-use Rattle.lagsystem.proofs.Common.{SendsMarkerOf, Settling, ready_of, with_choice, SystemState, aggregators_value, port_index, with_system_ports}
-use Rattle.lagsystem.proofs.Common.{views}
+use Rattle.lagsystem.proofs.Common.{Reaches-keeps, Assignment, Reply, SystemFault, SystemPort, Call, ChangesParty, OnlyPortChangesBy, PortAtChangesBy}
+use Rattle.lagsystem.proofs.Common.{ProcessesLacpdu, SetsLink, SetsPortEnabled, Step, ThenSettles, Ticks, changed_party, choice_with_link}
+use Rattle.lagsystem.proofs.Common.{HasJustStarted, IsFirst, setup_of, PortsConsistent, ReceivesAtRest, can_receive, can_receive_in, mux_consistent}
+use Rattle.lagsystem.proofs.Common.{mux_consistent_of, none_enabled, GivesOrRefuses, Offers, SendsMarkerOf, Settling, ready_of, with_choice}
+use Rattle.lagsystem.proofs.Common.{SystemState, aggregators_value, port_index, with_system_ports, views}
+use Rattle.lagsystem.proofs.Keeps.{settling_in}
 use Rattle.lagsystem.proofs.PromotionLemmas.{KeptByChoices, choosing_keeps}
 use Rattle.lagsystem.proofs.Preserves.{Step-preserves_ports}
 use Rattle.lagsystem.proofs.Rising.{all-set, all-get}
@@ -18,11 +17,7 @@ use Rattle.lagsystem.proofs.Rising.{all-set, all-get}
 -- a machine is at rest exactly if no row is enabled
 pub no_row : (rows : List Row) (p : Machines) → AtRest rows p → none_enabled rows p ≡ true
 no_row [] p h = refl
-no_row (row ∷ rows) p h = is_none (row.enabled p) (none_enabled rows p) h.0 (no_row rows p h.1)
-  where
-    is_none : (b c : Bool) → b ≡ false → c ≡ true → (not b && c) ≡ true
-    is_none true c h k = absurd (true≢false h)
-    is_none false c h k = k
+no_row (row ∷ rows) p h = grind (arith, nat_tests, no_row rows p h.1)
 
 pub rests : (rows : List Row) (p : Machines) → none_enabled rows p ≡ true → AtRest rows p
 rests [] p h = tt
@@ -52,15 +47,7 @@ periodic_steady p q h = ap mux_consistent h.2
 -- at rest
 rest_awake : (r : ReceiveState) (e : Bool) → (same_receive_state Initialize r && true) ≡ false
     → (same_receive_state PortDisabled r && e) ≡ false → (if e then can_receive_in r else true) ≡ true
-rest_awake Initialize e h k = absurd (true≢false h)
-rest_awake PortDisabled true h k = absurd (true≢false k)
-rest_awake PortDisabled false h k = refl
-rest_awake Expired true h k = refl
-rest_awake Expired false h k = refl
-rest_awake Defaulted true h k = refl
-rest_awake Defaulted false h k = refl
-rest_awake Current true h k = refl
-rest_awake Current false h k = refl
+rest_awake r e h k = grind (arith, nat_tests)
 
 -- a port at rest whose link is up is in a state in which it processes LACPDUs
 pub can_receive_at_rest : (p : Machines) → none_enabled receive_rows p ≡ true → can_receive p ≡ true
@@ -71,15 +58,7 @@ receive_awake p q h = no_row receive_rows q h.2
 
 rest_steady : (m : MuxState) (c : Choice) (s : Bool) → (same_mux_state Attached m && not (is_selected c)) ≡ false
     → (same_mux_state CollectingDistributing m && (not (is_selected c) || not s)) ≡ false → mux_consistent_of m (is_selected c) s ≡ true
-rest_steady Detached c s h k = refl
-rest_steady Waiting c s h k = refl
-rest_steady Attached (Selected agg) s h k = refl
-rest_steady Attached Unselected s h k = absurd (true≢false h)
-rest_steady Attached (Standby agg) s h k = absurd (true≢false h)
-rest_steady CollectingDistributing (Selected agg) true h k = refl
-rest_steady CollectingDistributing (Selected agg) false h k = absurd (true≢false k)
-rest_steady CollectingDistributing Unselected s h k = absurd (true≢false k)
-rest_steady CollectingDistributing (Standby agg) s h k = absurd (true≢false k)
+rest_steady m c s h k = grind (arith, nat_tests)
 
 mux_steady : (ready : Bool) (p q : Machines) → RunsToRest (mux_rows ready) p q → mux_consistent q ≡ true
 mux_steady ready p q h = rest_steady q.mux q.choice (partner_synchronized q) h.2.1.1.1.0 h.2.1.1.1.1.1.0
@@ -100,8 +79,7 @@ zip_kept R P k (x ∷ xs) [] h a = absurd h
 zip_kept R P k (x ∷ xs) (y ∷ ys) h a = (k x y h.0 a.0, zip_kept R P k xs ys h.1 a.1)
 
 given_awake : (s : SystemPort) (o : Option Choice) → none_enabled receive_rows (with_choice s o).port ≡ none_enabled receive_rows s.port
-given_awake s None = refl
-given_awake s (Some agg) = refl
+given_awake s o = grind (arith, nat_tests)
 
 abbrev IsAwake : SystemPort → Type 0
 IsAwake x = none_enabled receive_rows x.port ≡ true
@@ -123,35 +101,22 @@ last_slots old new h = ap (λ (x : SystemState). x.system_ports) h.2.2.2.2.2.2 �
 -- settling brings every mux machine to rest, and leaves the receive machines
 pub settling_rested : (old new : SystemState) → Settling old new → ReceivesAtRest old.system_ports → PortsConsistent new.system_ports
 settling_rested old new h a =
-    let one = h.0 in
-    let two = h.2.0 in
-    let three = h.2.2.0 in
-    let four = h.2.2.2.0 in
-    let five = h.2.2.2.2.0 in
-    let a1 : ReceivesAtRest one.system_ports = zip_kept _ IsAwake (λ x y m k. mux_awake false x.port y.port m.1
-    ∙ k) old.system_ports one.system_ports h.1.0 a in
-    let a2 : ReceivesAtRest two.system_ports =
-    choosing_keeps ReceivesAtRest selects_awake (aggregators_value one) one.system_ports two.system_ports h.2.1.0 a1 in
-    let a3 : ReceivesAtRest three.system_ports = subst (λ (s : SystemState). ReceivesAtRest s.system_ports) (sym h.2.2.1) a2 in
-    let a4 : ReceivesAtRest four.system_ports = zip_kept _ IsAwake
-    (λ x y m k. mux_awake (ready_of three.keys (views three.system_ports) x.port.choice) x.port y.port m.1 ∙ k) three.system_ports
-    four.system_ports h.2.2.2.1.0 a3 in
-    let s4 : MuxesConsistent four.system_ports = zip_all _ IsSteady
-    (λ x y m. mux_steady (ready_of three.keys (views three.system_ports) x.port.choice) x.port y.port m.1) three.system_ports
-    four.system_ports h.2.2.2.1.0 in
-    let r5 : PortsConsistent five.system_ports = (
-      zip_kept _ IsAwake (λ x y m k. periodic_awake x.port y.port m.1 ∙ k) four.system_ports five.system_ports h.2.2.2.2.1.0 a4,
-      zip_kept _ IsSteady (λ x y m k. periodic_steady x.port y.port m.1 ∙ k) four.system_ports five.system_ports h.2.2.2.2.1.0 s4,
-    ) in
-    subst PortsConsistent (sym (last_slots old new h)) r5
+    let s = settling_in old new h in
+    let keys = old.keys in
+    let awake = zip_kept _ IsAwake (λ x y m k. mux_awake (ready_of keys (views s.two) x.port.choice) x.port y.port m.1 ∙ k) s.two s.four s.runs
+    (choosing_keeps ReceivesAtRest selects_awake (aggregators_value old) s.one s.two s.chooses
+    (zip_kept _ IsAwake (λ x y m k. mux_awake false x.port y.port m.1 ∙ k) old.system_ports s.one s.stops a)) in
+    let steady = zip_all _ IsSteady (λ x y m. mux_steady (ready_of keys (views s.two) x.port.choice) x.port y.port m.1) s.two s.four s.runs in (
+      zip_kept _ IsAwake (λ x y m k. periodic_awake x.port y.port m.1 ∙ k) s.four new.system_ports s.paces awake,
+      zip_kept _ IsSteady (λ x y m k. periodic_steady x.port y.port m.1 ∙ k) s.four new.system_ports s.paces steady,
+    )
 
 -- the own effects
 place_kept : (P : SystemPort → Type 0) (R : Machines → Machines → Type 0) (o : Option ℕ) (old new : List SystemPort)
     → ((s : SystemPort) (q : Machines) → R s.port q → P s → P (record s { port = q })) → PortAtChangesBy R o old new
     → AllByRecursion P old → AllByRecursion P new
 place_kept P R None old new k h a = absurd h
-place_kept P R (Some i) old new k h a =
-    subst (AllByRecursion P) (sym h.4) (all-set P old i (record h.0 { port = h.1 }) a (k h.0 h.1 h.3 (all-get P old i h.0 h.2 a)))
+place_kept P R (Some i) old new k h a = grind (arith, nat_tests, all-set, all-get)
 
 settled_rested : (own : SystemState → SystemState → Type 0) (s t : SystemState)
     → ((mid : SystemState) → own s mid → ReceivesAtRest mid.system_ports) → ThenSettles own s t → PortsConsistent t.system_ports
@@ -159,18 +124,7 @@ settled_rested own s t k h = settling_rested h.0 t h.2 (k h.0 h.1)
 
 takes_awake : (v : Lacpdu) (p q : Machines) → ProcessesLacpdu v p q → none_enabled receive_rows p ≡ true
     → none_enabled receive_rows q ≡ true
-takes_awake v p q h a = elim h [
-  | inl f ↦ elim f [
-    | inl g ↦ ap (none_enabled receive_rows) g.1 ∙ counts (and_parts (can_receive_in p.receive) p.enabled g.0).1 p.short
-    | inr g ↦ absurd g
-  ]
-  | inr r ↦ ap (none_enabled receive_rows) r.1 ∙ a
-]
-  where
-    counts : {up : Bool} → up ≡ true → (short : Bool)
-        → (not (not up) && (not ((if short then 30 else 900) == 0) && true)) ≡ true
-    counts e true = ap (λ b. not (not b) && true) e
-    counts e false = ap (λ b. not (not b) && true) e
+takes_awake v p q h a = grind (arith, nat_tests)
 
 starts_awake : (p q : Machines) → Starts p q → none_enabled receive_rows q ≡ true
 starts_awake p q h = ap (none_enabled receive_rows) h.2 ∙ receive_awake (start_receive p) h.0 h.1
@@ -178,23 +132,15 @@ starts_awake p q h = ap (none_enabled receive_rows) h.2 ∙ receive_awake (start
 -- what has to do with conversations alone leaves the ports
 pub marker_slots : (o : Option ℕ) (port : ℕ) (mac : List ℕ) (old : SystemState) (answer : Option (List ℕ)) (new : SystemState)
     → SendsMarkerOf o port mac old answer new → new.system_ports ≡ old.system_ports
-marker_slots None port mac old answer new h = ap (λ (x : SystemState). x.system_ports) h.1
-marker_slots (Some id) port mac old answer new h = ap (λ (x : SystemState). x.system_ports) h.5
-
-pub releases_slots : (b : Bool) (port : ℕ) (m : Marker) (old : SystemState) (answer : Received) (new : SystemState)
-    → Releases b port m old answer new → new.system_ports ≡ old.system_ports
-releases_slots false port m old answer new h = ap (λ (x : SystemState). x.system_ports) h.1
-releases_slots true port m old answer new h = ap (λ (x : SystemState). x.system_ports) h.2
+marker_slots o port mac old answer new h = grind (arith, nat_tests)
 
 pub offers_slots : (gives : ℕ → ℕ → ℕ → Type 0) (agg : AggId) (octets : List ℕ) (old : SystemState) (answer : Result ℕ SystemFault)
     (new : SystemState) → Offers gives agg octets old answer new → new.system_ports ≡ old.system_ports
-offers_slots gives agg octets old (Ok port) new h = ap (λ (x : SystemState). x.system_ports) h.2.1
-offers_slots gives agg octets old (Err fault) new h = ap (λ (x : SystemState). x.system_ports) h.1
+offers_slots gives agg octets old answer new h = grind (arith, nat_tests)
 
 pub becomes_slots : (agg : AggId) (conv : ℕ) (state : Result Assignment SystemFault) (old : SystemState) (answer : Result Unit SystemFault)
     (new : SystemState) → GivesOrRefuses agg conv state old answer new → new.system_ports ≡ old.system_ports
-becomes_slots agg conv (Ok state) old answer new h = ap (λ (x : SystemState). x.system_ports) h.1.1
-becomes_slots agg conv (Err fault) old answer new h = ap (λ (x : SystemState). x.system_ports) h.1
+becomes_slots agg conv state old answer new h = grind (arith, nat_tests)
 
 -- the start
 pub first_rested : (s : SystemState) → IsFirst s → PortsConsistent s.system_ports

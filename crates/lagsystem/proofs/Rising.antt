@@ -1,11 +1,9 @@
 -- Ports in ascending order of their numbers.
-use Rattle.lagsystem.proofs.Common.{Bool, List, None, Option, Some, [], ap, arith, cond, eqb, eqb-true, false, find, if◌then◌else◌, inl, inr, nat_lt}
-use Rattle.lagsystem.proofs.Common.{option_map, refl, slice_get, slice_set, subst, suc, sym, true, zero, ℕ, ◌+◌, ◌<◌, ◌==◌, ◌∙◌, ◌∷◌, ◌≡◌}
-use Rattle.lagsystem.proofs.Common.{Decides-eqb, nat_tests, position-Some, get_or_from_slice_get, none-some, same_Some, AllByRecursion, Key}
-use Rattle.lagsystem.proofs.Common.{AreNumbered, find_number, cond_false, whichever, PortView, is_conversation_count, PortConfig, BadConfig}
-use Rattle.lagsystem.proofs.Common.{SystemPort, configured_numbers, first_bad_port_number, or_first, refusal, refusal_of_limits, number_of_port}
-use Rattle.lagsystem.proofs.Common.{HasPorts, SystemState, port_index, port_numbers, selection_view, views}
-use Rattle.lagsystem.specs.declared.fault.BadConfig.TheVariants.{PortNumber, Conversations}
+use Rattle.lagsystem.proofs.Common.{Bool, List, None, Option, Some, [], arith, cond, eqb, eqb-true, false, find, if◌then◌else◌, inl, inr, nat_lt}
+use Rattle.lagsystem.proofs.Common.{refl, slice_get, slice_set, subst, suc, sym, true, zero, ℕ, ◌+◌, ◌<◌, ◌==◌, ◌∷◌, ◌≡◌, nat_tests, position-Some}
+use Rattle.lagsystem.proofs.Common.{get_or_from_slice_get, none-some, same_Some, AllByRecursion, Key, AreNumbered, find_number, whichever, PortView}
+use Rattle.lagsystem.proofs.Common.{is_conversation_count, PortConfig, BadConfig, SystemPort, configured_numbers, first_bad_port_number, refusal}
+use Rattle.lagsystem.proofs.Common.{refusal_of_limits, number_of_port, HasPorts, SystemState, port_index, port_numbers, selection_view, views}
 
 -- each number is above the one before it
 abbrev pub Rises : ℕ → List ℕ → Type 0
@@ -15,41 +13,28 @@ Rises low (n ∷ ns) = (low < n) × Rises n ns
 rises_on : (place low n : ℕ) (ns : List ℕ) (b : Bool) → nat_lt low n ≡ b
     → (if b then first_bad_port_number (place + 1) n ns else Some place) ≡ None → (low < n)
     × (first_bad_port_number (place + 1) n ns ≡ None)
-rises_on place low n ns true t e = (grind (arith, nat_tests), e)
-rises_on place low n ns false t e = cc
+rises_on place low n ns b t e = grind (arith, nat_tests)
 
 rises : (place low : ℕ) (ns : List ℕ) → first_bad_port_number place low ns ≡ None → Rises low ns
 rises place low [] e = tt
 rises place low (n ∷ ns) e = let both = rises_on place low n ns (nat_lt low n) refl e in (both.0, rises (place + 1) n ns both.1)
 
 pub if_then : (b : Bool) (x : Option BadConfig) (y : BadConfig) → (if b then x else Some y) ≡ None → x ≡ None
-if_then true x y h = h
-if_then false x y h = cc
+if_then b x y h = grind (arith, nat_tests)
 
 -- no port number, limit or count of a configuration that is accepted is a reason to refuse it
 accepted_numbers : (keys : List Key) (ports : List PortConfig) (most : Option ℕ) (conversations : ℕ)
     → refusal keys ports most conversations ≡ None
     → (first_bad_port_number 1 0 (configured_numbers ports) ≡ None) × (refusal_of_limits most conversations ≡ None)
-accepted_numbers keys ports most conversations h = parts (first_bad_port_number 1 0 (configured_numbers ports))
-    (refusal_of_limits most conversations) (if_then _ _ _ (if_then _ _ _ h))
-  where
-    parts : (o : Option ℕ) (b : Option BadConfig) → or_first (option_map PortNumber o) b ≡ None → (o ≡ None) × (b ≡ None)
-    parts None b e = (refl, e)
-    parts (Some place) b e = cc
+accepted_numbers keys ports most conversations h = grind (arith, nat_tests)
 
 pub accepted_count : (keys : List Key) (ports : List PortConfig) (most : Option ℕ) (conversations : ℕ)
     → refusal keys ports most conversations ≡ None → is_conversation_count conversations ≡ true
-accepted_count keys ports most conversations h =
-    is_so (is_conversation_count conversations) (if_then _ _ _ (accepted_numbers keys ports most conversations h).1)
-  where
-    is_so : (b : Bool) → (if b then None else Some Conversations) ≡ None → b ≡ true
-    is_so true e = refl
-    is_so false e = cc
+accepted_count keys ports most conversations h = grind (arith, nat_tests)
 
 pub accepted_rises : (keys : List Key) (ports : List PortConfig) (most : Option ℕ) (conversations : ℕ)
     → refusal keys ports most conversations ≡ None → Rises 0 (configured_numbers ports)
-accepted_rises keys ports most conversations h =
-    rises 1 0 (configured_numbers ports) (accepted_numbers keys ports most conversations h).0
+accepted_rises keys ports most conversations h = grind (arith, nat_tests, rises, accepted_numbers)
 
 pub ports_rise : (s : SystemState) → HasPorts s → Rises 0 (port_numbers s.system_ports)
 ports_rise s h = subst (λ ns. Rises 0 ns) (sym h.same) (accepted_rises s.keys s.ports s.max_links s.conversations h.accepted)
@@ -58,12 +43,7 @@ ports_rise s h = subst (λ ns. Rises 0 ns) (sym h.same) (accepted_rises s.keys s
 not_found : (low n : ℕ) (system_ports : List SystemPort) → Rises low (port_numbers system_ports) → n < low + 1
     → find_number number_of_port system_ports n ≡ None
 not_found low n [] r l = refl
-not_found low n (s ∷ ss) r l =
-    cond_false (eqb n s.number) (Some s) (find_number number_of_port ss n) (below n s.number (omega (arith, l, r.0)))
-    ∙ not_found s.number n ss r.1 (omega (arith, l, r.0))
-  where
-    below : (m k : ℕ) → m < k → eqb m k ≡ false
-    below m k h = grind (arith, nat_tests)
+not_found low n (s ∷ ss) r l = grind (arith, nat_tests, not_found s.number n ss r.1 (omega (arith, l, r.0)))
 
 pub are_numbered : (low : ℕ) (system_ports : List SystemPort) → Rises low (port_numbers system_ports)
     → AreNumbered number_of_port system_ports
@@ -78,12 +58,10 @@ rises-get low (t ∷ ts) zero s r e = let same : t ≡ s = cc in subst (λ x. lo
 rises-get low (t ∷ ts) (suc i) s r e = omega (arith, rises-get t.number ts i s r.1 e, r.0)
 
 found : (b : Bool) (v w : PortView) (rest : Option PortView) → b ≡ true → v ≡ w → cond b (Some v) rest ≡ Some w
-found true v w rest h e = ap Some e
-found false v w rest h e = cc
+found b v w rest h e = grind (arith, nat_tests)
 
 passed : (b : Bool) (v : PortView) (rest : Option PortView) → b ≡ false → cond b (Some v) rest ≡ rest
-passed true v rest h = cc
-passed false v rest h = refl
+passed b v rest h = grind (arith, nat_tests)
 
 eqb-false : (m n : ℕ) → m < n → (m == n) ≡ false
 eqb-false m n h = grind (arith, nat_tests)
@@ -91,13 +69,8 @@ eqb-false m n h = grind (arith, nat_tests)
 pub find_here : (low : ℕ) (system_ports : List SystemPort) (i : ℕ) (s : SystemPort) → Rises low (port_numbers system_ports)
     → slice_get system_ports i ≡ Some s → find (λ v. v.number == s.number) (views system_ports) ≡ Some (selection_view s)
 find_here low [] i s r e = cc
-find_here low (t ∷ ts) zero s r e =
-    let same : t ≡ s = cc in
-    found (t.number == s.number) (selection_view t) (selection_view s) _
-    (subst (λ x. (t.number == x.number) ≡ true) same ((Decides-eqb t.number t.number).1 refl)) (ap selection_view same)
-find_here low (t ∷ ts) (suc i) s r e =
-    passed (t.number == s.number) (selection_view t) _ (eqb-false t.number s.number (rises-get t.number ts i s r.1 e))
-    ∙ find_here t.number ts i s r.1 e
+find_here low (t ∷ ts) zero s r e = grind (arith, nat_tests)
+find_here low (t ∷ ts) (suc i) s r e = grind (arith, nat_tests, passed, eqb-false, rises-get, find_here t.number ts i s r.1 e)
 
 -- what holds of each port
 pub all-set : (P : SystemPort → Type 0) (system_ports : List SystemPort) (i : ℕ) (t : SystemPort) → AllByRecursion P system_ports → P t

@@ -1,8 +1,8 @@
 -- How rows change the model's view of a port.
-use Rattle.lagsystem.proofs.Common.{Bool, IsSome, List, Option, [], ap, append-nil, false, refl, subst, sym, true, ℕ, ◌&&◌, ◌∷◌, ◌≡◌, false≢true}
-use Rattle.lagsystem.proofs.Common.{Choice, Selected, Standby, Unselected, Party, is_selected, Act, PortMove, ModelCall, PortFacts, SystemSetup}
-use Rattle.lagsystem.proofs.Common.{CollectingDistributing, Machines, mux_rows, partner_synchronized, same_mux_state, RunsPeriodic, periodic_rows}
-use Rattle.lagsystem.proofs.Common.{Row, RunsToRest, EachRelates, Rests-relates, model_port, selected_number}
+use Rattle.lagsystem.proofs.Common.{Bool, IsSome, List, Option, [], ap, append-nil, arith, false, refl, subst, sym, true, ℕ, ◌&&◌, ◌∷◌, ◌≡◌}
+use Rattle.lagsystem.proofs.Common.{nat_tests, Choice, Party, is_selected, Act, PortMove, ModelCall, PortFacts, SystemSetup, CollectingDistributing}
+use Rattle.lagsystem.proofs.Common.{Machines, mux_rows, partner_synchronized, same_mux_state, RunsPeriodic, periodic_rows, Row, RunsToRest}
+use Rattle.lagsystem.proofs.Common.{EachRelates, Rests-relates, model_port, selected_number}
 use Rattle.lagsystem.proofs.OfPort.{PortMoves, port_joined, port_stays}
 
 -- the view of a port that was stopped: rows are looked at between a stop and a new beginning
@@ -20,10 +20,7 @@ begins u call n party partner s d g true h = (PortMove.Distribute ∷ [], (λ po
 begins u call n party partner s d g false h = ([], tt, refl, refl)
 
 may_begin : (s : Bool) (c : Choice) (m : Bool) → (s && (is_selected c && m)) ≡ true → IsSome (selected_number c) × (s ≡ true)
-may_begin true (Selected agg) m h = (refl, refl)
-may_begin true Unselected m h = absurd (false≢true h)
-may_begin true (Standby agg) m h = absurd (false≢true h)
-may_begin false c m h = absurd (false≢true h)
+may_begin s c m h = grind (arith, nat_tests)
 
 -- a port stops, moves, and begins again
 pub loudly : (u : SystemSetup) (call : ModelCall) (n : ℕ) (p q : Machines) (seen : List Act) → QuietMoves u call n p seen q
@@ -49,28 +46,10 @@ settles_moves u call n = Rests-relates (λ p q. QuietMoves u call n p [] q) (rec
 
 -- rows that leave what the view has, but for distribution
 pub mux_moves : (u : SystemSetup) (call : ModelCall) (n : ℕ) (ready : Bool) → EachMoves u call n (mux_rows ready)
-mux_moves u call n ready = (
-  λ p h. ([], tt, refl, refl),
-  (
-    λ p h. ([], tt, refl, refl),
-    (
-      λ p h. ([], tt, refl, refl),
-      (λ p h. ([], tt, refl, refl), (λ p h. ([], tt, refl, refl), (λ p h. ([], tt, refl, refl), tt))),
-    ),
-  ),
-)
+mux_moves u call n ready = grind (arith, nat_tests)
 
 pub periodic_moves : (u : SystemSetup) (call : ModelCall) (n : ℕ) → EachMoves u call n periodic_rows
-periodic_moves u call n = (
-  λ p h. ([], tt, refl, refl),
-  (
-    λ p h. ([], tt, refl, refl),
-    (
-      λ p h. ([], tt, refl, refl),
-      (λ p h. ([], tt, refl, refl), (λ p h. ([], tt, refl, refl), (λ p h. ([], tt, refl, refl), (λ p h. ([], tt, refl, refl), tt)))),
-    ),
-  ),
-)
+periodic_moves u call n = grind (arith, nat_tests)
 
 pub runs_periodic_moves : (u : SystemSetup) (call : ModelCall) (n : ℕ) (p q : Machines) → RunsPeriodic p q → QuietMoves u call n p [] q
 runs_periodic_moves u call n p q h =

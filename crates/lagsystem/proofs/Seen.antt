@@ -1,18 +1,9 @@
 -- What readers return for a port is what the model sees of it.
-use Rattle.lagsystem.proofs.Common.{Bool, List, None, Option, Some, [], ap, arith, cond, eq-eqb, eqb, eqb-true, false, inl, inr, length, nat_lt, not}
-use Rattle.lagsystem.proofs.Common.{option_map, refl, slice_get, suc, sym, true, ℕ, ◌+◌, ◌==◌, ◌∙◌, ◌∷◌, ◌≡◌, cases_Bool, true≢false, nat_tests}
-use Rattle.lagsystem.proofs.Common.{slice_get_past, position_or_len, find_number, PortFacts, cond_false, cond_true, Machines, SystemPort, model_port}
-use Rattle.lagsystem.proofs.Common.{model_view, number_of_port, SystemState, machines_of, port_index, system_port_at}
+use Rattle.lagsystem.proofs.Common.{Bool, List, None, Option, Some, [], ap, arith, cond, eqb, false, length, nat_lt, not, option_map, refl, slice_get}
+use Rattle.lagsystem.proofs.Common.{sym, true, ℕ, ◌+◌, ◌==◌, ◌∙◌, ◌∷◌, ◌≡◌, nat_tests, slice_get_past, position_or_len, find_number, PortFacts}
+use Rattle.lagsystem.proofs.Common.{Machines, SystemPort, model_port, model_view, number_of_port, SystemState, machines_of, port_index}
+use Rattle.lagsystem.proofs.Common.{system_port_at}
 use Rattle.lagmodel.specs.World.{party_at}
-
-eqb_turned : (m n : ℕ) → eqb m n ≡ eqb n m
-eqb_turned m n = elim (cases_Bool (eqb m n)) [
-  | inl e ↦ e ∙ sym (eq-eqb n m (sym (eqb-true m n e)))
-  | inr e ↦ elim (cases_Bool (eqb n m)) [
-    | inl h ↦ absurd (true≢false (sym (eq-eqb m n (sym (eqb-true n m h))) ∙ e))
-    | inr h ↦ e ∙ sym h
-  ]
-]
 
 at_end : (i : ℕ) (xs : List SystemPort) (b : Bool) → nat_lt i (length xs) ≡ b → system_port_at (cond b (Some i) None) xs ≡ slice_get xs i
 at_end i xs true e = refl
@@ -22,35 +13,26 @@ at_end i xs false e = sym (slice_get_past xs i (grind (arith, nat_tests)))
 there_next : (n : ℕ) (x : SystemPort) (xs : List SystemPort) (rest : ℕ) (b : Bool)
     → slice_get xs rest ≡ find_number number_of_port xs n → (x.number == n) ≡ b
     → slice_get (x ∷ xs) (cond (not b) (1 + rest) 0) ≡ cond (eqb n x.number) (Some x) (find_number number_of_port xs n)
-there_next n x xs rest true ih e = sym (cond_true (eqb n x.number) (Some x) (find_number number_of_port xs n) (eqb_turned n x.number ∙ e))
-there_next n x xs rest false ih e =
-    let one : 1 + rest ≡ suc rest = omega arith in
-    ap (slice_get (x ∷ xs)) one ∙ ih
-    ∙ sym (cond_false (eqb n x.number) (Some x) (find_number number_of_port xs n) (eqb_turned n x.number ∙ e))
+there_next n x xs rest b ih e = grind (arith, nat_tests)
 
 first_there : (n : ℕ) (xs : List SystemPort) → slice_get xs (position_or_len (λ s. s.number == n) xs) ≡ find_number number_of_port xs n
 first_there n [] = refl
 first_there n (x ∷ xs) = there_next n x xs (position_or_len (λ s. s.number == n) xs) (x.number == n) (first_there n xs) refl
 
 first_place : (n : ℕ) (xs : List SystemPort) → system_port_at (port_index n xs) xs ≡ find_number number_of_port xs n
-first_place n xs = at_end (position_or_len (λ s. s.number == n) xs) xs (nat_lt (position_or_len (λ s. s.number == n) xs) (length xs)) refl
-    ∙ first_there n xs
+first_place n xs = grind (arith, nat_tests, at_end, first_there)
 
 mapped_twice : (o : Option SystemPort) → option_map (λ (s : SystemPort). model_port s.port) o ≡ option_map model_port
     (option_map (λ (s : SystemPort). s.port) o)
-mapped_twice None = refl
-mapped_twice (Some s) = refl
+mapped_twice o = grind (arith, nat_tests)
 
 -- the port that readers tell of is the port that the law sees
 pub port_seen : (s : SystemState) (p : ℕ) → (model_view s).port p ≡ option_map model_port (machines_of p s)
-port_seen s p =
-    ap (option_map (λ (s : SystemPort). model_port s.port)) (sym (first_place p s.system_ports))
-    ∙ mapped_twice (system_port_at (port_index p s.system_ports) s.system_ports)
+port_seen s p = grind (arith, nat_tests, first_place, mapped_twice)
 
 party_shown : (o : Option Machines) → option_map (λ (a : PortFacts). a.party) (option_map model_port o) ≡ option_map
     (λ (x : Machines). x.party) o
-party_shown None = refl
-party_shown (Some p) = refl
+party_shown o = grind (arith, nat_tests)
 
 -- so is its party
 pub party_seen : (s : SystemState) (p : ℕ) → party_at (model_view s) p ≡ option_map (λ (x : Machines). x.party) (machines_of p s)

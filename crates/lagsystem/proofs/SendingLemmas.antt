@@ -1,8 +1,8 @@
 -- What a system sends on a port.
-use Rattle.lagsystem.proofs.Common.{Bool, List, None, Option, Some, ap, false, get_or, if◌then◌else◌, length, refl, slice_get, slice_set, subst, sym}
-use Rattle.lagsystem.proofs.Common.{true, ℕ, ◌<◌, ◌∙◌, ◌≡◌, cond-true, cond_some, same_Some, slice_get-get_or, Lacpdu, frame_octets, IsAddress}
-use Rattle.lagsystem.proofs.Common.{Machines, after_sending, is_due, pdu_of, SystemPort, PortSendsLacpduIfDue, SendsLacpdu, SendsLacpduIfDue}
-use Rattle.lagsystem.proofs.Common.{SendsMarker, TransmitsAt, TransmitsIf, SystemState, port_index, with_system_ports}
+use Rattle.lagsystem.proofs.Common.{Bool, List, None, Option, Some, ap, arith, false, get_or, if◌then◌else◌, length, slice_get, slice_set, subst, sym}
+use Rattle.lagsystem.proofs.Common.{true, ℕ, ◌<◌, ◌∙◌, ◌≡◌, nat_tests, same_Some, slice_get-get_or, Lacpdu, frame_octets, IsAddress, Machines}
+use Rattle.lagsystem.proofs.Common.{after_sending, is_due, pdu_of, SystemPort, PortSendsLacpduIfDue, SendsLacpduIfDue, SendsMarker, TransmitsAt}
+use Rattle.lagsystem.proofs.Common.{TransmitsIf, SystemState, port_index, with_system_ports}
 use Rattle.slowpdu.specs.Lacpdus.{Writes}
 use Rattle.lagsystem.proofs.Rising.{found_place}
 use Rattle.lagsystem.proofs.SettlingLemmas.{set_same}
@@ -14,18 +14,7 @@ pub lacpdu_sent : (max_delay : ℕ) (system_port : SystemPort) (given : Option L
     → port ≡ (if is_due system_port.port then after_sending system_port.port else system_port.port)
     → given ≡ Some pdu → IsAddress system_port.mac → Writes payload pdu → octets ≡ frame_octets system_port.mac payload
     → SendsLacpduIfDue max_delay system_port (Some octets) port
-lacpdu_sent max_delay system_port given pdu payload octets port eg ep some address writes e =
-    let due = cond_some (is_due system_port.port) (pdu_of system_port.port max_delay) pdu (sym eg ∙ some) in (
-      due.0,
-      (payload, address, subst (Writes payload) (sym due.1) writes, e),
-      ep
-          ∙ cond-true (is_due system_port.port) (after_sending system_port.port) system_port.port due.0,
-    )
-
-where_lacpdu : (up due : Bool) (i : ℕ) (system_port : SystemPort) (old : SystemState) (answer : Option (List ℕ)) (new : SystemState)
-    → up ≡ true → due ≡ true
-    → SendsLacpdu i system_port old answer new → TransmitsIf up due i system_port old answer new
-where_lacpdu up due i system_port old answer new eu ed h = rw (eu, ed) h
+lacpdu_sent max_delay system_port given pdu payload octets port eg ep some address writes e = grind (arith, nat_tests)
 
 where_marker : (up due : Bool) (i : ℕ) (system_port : SystemPort) (old : SystemState) (answer : Option (List ℕ)) (new : SystemState)
     → up ≡ true → due ≡ false
@@ -37,20 +26,7 @@ pub sends_lacpdu : (s : SystemState) (place : Option ℕ) (i : ℕ) (system_port
     (olds ws news : List SystemPort) → place ≡ Some i
     → slice_get s.system_ports i ≡ Some system_port → system_port.port.enabled ≡ true → olds ≡ s.system_ports → news ≡ ws
     → PortSendsLacpduIfDue s.max_delay i (Some octets) olds ws → TransmitsAt place s (Some octets) (with_system_ports s news)
-sends_lacpdu s place i system_port octets olds ws news ep at up eo ew h =
-    let same : h.0 ≡ system_port = same_Some h.0 system_port (sym h.2 ∙ ap (λ (l : List SystemPort). slice_get l i) eo ∙ at) in
-    let sends : SendsLacpduIfDue s.max_delay system_port (Some octets) h.1 =
-    subst (λ (x : SystemPort). SendsLacpduIfDue s.max_delay x (Some octets) h.1) same h.3 in
-    let set : news ≡ slice_set s.system_ports i (record system_port { port = after_sending system_port.port }) =
-    ew ∙ h.4 ∙ ap (λ (l : List SystemPort). slice_set l i (record h.0 { port = h.1 })) eo
-    ∙ ap (λ (x : SystemPort). slice_set s.system_ports i (record x { port = h.1 })) same
-    ∙ ap (λ (p : Machines). slice_set s.system_ports i (record system_port { port = p })) sends.2 in
-    subst (λ o. TransmitsAt o s (Some octets) (with_system_ports s news)) (sym ep) (
-      system_port,
-      at,
-      where_lacpdu system_port.port.enabled (is_due system_port.port) i system_port s (Some octets) (with_system_ports s news) up sends.0
-          (octets, sends.1, refl, ap (with_system_ports s) set),
-    )
+sends_lacpdu s place i system_port octets olds ws news ep at up eo ew h = grind (arith, nat_tests)
 
 -- the port at the place with the link up has no LACPDU to send, and so a marker goes that is due
 pub sends_marker : (s : SystemState) (number i : ℕ) (system_port second : SystemPort) (olds ws news : List SystemPort)

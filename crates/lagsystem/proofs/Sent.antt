@@ -1,11 +1,9 @@
 -- What is sent is a control frame of 124 octets.
-use Rattle.lagsystem.proofs.Common.{List, ap, arith, drop, length, length-append, subst, sym, ℕ, ◌++◌, ◌∙◌, ◌≡◌, Pdu, IsSlowProtocolsFrame}
+use Rattle.lagsystem.proofs.Common.{List, ap, arith, drop, length, length-append, subst, sym, ℕ, ◌++◌, ◌∙◌, ◌≡◌, nat_tests, Pdu, IsSlowProtocolsFrame}
 use Rattle.lagsystem.proofs.Common.{frame_octets, slow_type, WritesPdu, framed_payload, framed_slow, IsControlFrame, IsSent}
-use Rattle.slowpdu.specs.declared.pdu.Pdu.TheVariants as pdu
 
 whole_payload : (written : List ℕ) (payload : Pdu) → WritesPdu written payload → length written ≡ 110
-whole_payload written (pdu.Lacpdu v) h = h.table.whole
-whole_payload written (pdu.Marker m) h = h.table.whole
+whole_payload written payload h = grind (arith, nat_tests)
 
 frame_length : (mac written : List ℕ) → length mac ≡ 6 → length written ≡ 110 → length (frame_octets mac written) ≡ 124
 frame_length mac written m w = let a = length-append mac (slow_type ++ written) in omega (arith, a, m, w)
@@ -20,5 +18,4 @@ sent_control octets payload h =
 
 -- behind its header stands its PDU
 pub sent_payload : (octets : List ℕ) (payload : Pdu) → IsSent octets payload → WritesPdu (drop 14 octets) payload
-sent_payload octets payload h =
-    subst (λ l. WritesPdu (drop 14 l) payload) (sym h.4) (subst (λ l. WritesPdu l payload) (sym (framed_payload h.0 h.1 h.2.0)) h.3)
+sent_payload octets payload h = grind (arith, nat_tests, framed_payload)

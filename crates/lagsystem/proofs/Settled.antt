@@ -1,9 +1,8 @@
 -- The calls that settle: their own effect, from what its parts do, and the ports that distributed before it.
-use Rattle.lagsystem.proofs.Common.{Bool, List, None, Option, ap, cond, eqb, false, ltb, subst, sym, true, ℕ, ◌+◌, ◌∙◌, ◌≡◌, AggId, Machines}
-use Rattle.lagsystem.proofs.Common.{receive_rows, RunsToRest, count_down, Assignment, Flushing, Free, On, Wanted, ChangesAssignments, after_down}
-use Rattle.lagsystem.proofs.Common.{after_tick, Table, assignment_of, SystemPort, FreesIfDown, OnlyPortChangesBy, PortAtChangesBy, SetsLink}
-use Rattle.lagsystem.proofs.Common.{SetsPortEnabled, Ticks, WereInUse, aggregators_in_use, PortsChangeBy, IsSound, SystemState, port_index}
-use Rattle.lagsystem.proofs.Common.{with_system_ports, with_table}
+use Rattle.lagsystem.proofs.Common.{Bool, List, Option, arith, ℕ, ◌≡◌, nat_tests, AggId, Machines, receive_rows, RunsToRest, count_down, Assignment}
+use Rattle.lagsystem.proofs.Common.{On, ChangesAssignments, after_tick, Table, assignment_of, SystemPort, FreesIfDown, OnlyPortChangesBy}
+use Rattle.lagsystem.proofs.Common.{PortAtChangesBy, SetsLink, SetsPortEnabled, Ticks, WereInUse, aggregators_in_use, PortsChangeBy, IsSound}
+use Rattle.lagsystem.proofs.Common.{SystemState, port_index, with_system_ports, with_table}
 use Rattle.lagsystem.proofs.Keeps.{Keeps, keeps_link, keeps_place, keeps_tick}
 
 -- a state of these fields, with other ports and conversations
@@ -22,74 +21,29 @@ were_carried old mid were s k e c = record { old = old; sound = s; before = e; s
 
 -- a tick brings no conversation onto a port
 ticked_on : (a : Assignment) (p : ℕ) → after_tick a ≡ On p → a ≡ On p
-ticked_on (Free preferred) p e = e
-ticked_on (On q) p e = e
-ticked_on (Wanted q preferred) p e = e
-ticked_on (Flushing q n preferred age) p e = waits (ltb (age + 1) 30) e
-  where
-    waits : (b : Bool) → cond b (Flushing q n preferred (age + 1)) (Wanted q preferred) ≡ On p → Flushing q n preferred age ≡ On p
-    waits true x = absurd cc
-    waits false x = absurd cc
+ticked_on a p e = grind (arith, nat_tests)
 
 pub tick_made : (old : SystemState) (olds ws news : List SystemPort) (t : Table) → olds ≡ old.system_ports → news ≡ ws
     → old.first_marker ≡ old.table.first → old.conversations ≡ old.table.conversations
     → PortsChangeBy (λ p q. RunsToRest receive_rows (count_down p) q) olds ws
     → ChangesAssignments old.table t after_tick
     → Ticks old (moved_on old news t)
-tick_made old olds ws news t e w f k h c =
-    let own : Machines → Machines → Type 0 = λ p q. RunsToRest receive_rows (count_down p) q in (
-      subst (λ l. PortsChangeBy own l news) e (subst (λ l. PortsChangeBy own olds l) (sym w) h),
-      c,
-      is_moved_on old news t (c.first ∙ sym f) (c.conversations ∙ sym k),
-    )
+tick_made old olds ws news t e w f k h c = grind (arith, nat_tests)
 
 pub tick_carried : (old mid : SystemState) (were : List (Option AggId)) → IsSound old → Ticks old mid
     → were ≡ aggregators_in_use old.system_ports → WereInUse were mid
-tick_carried old mid were s h e = were_carried old mid were s (keeps_tick old mid h) e
-    (λ g k p x. ticked_on (assignment_of old.table g k) p (sym (h.1.states g k) ∙ x))
+tick_carried old mid were s h e = grind (arith, nat_tests, were_carried, keeps_tick, ticked_on)
 
 -- nor does a link that goes down
-down_on : (port : ℕ) (a : Assignment) (p : ℕ) → after_down port a ≡ On p → a ≡ On p
-down_on port (Free preferred) p e = e
-down_on port (On q) p e = free (eqb q port) e
-  where
-    free : (b : Bool) → cond b (Free None) (On q) ≡ On p → On q ≡ On p
-    free true x = absurd cc
-    free false x = x
-down_on port (Wanted q preferred) p e = free (eqb q port) e
-  where
-    free : (b : Bool) → cond b (Free preferred) (Wanted q preferred) ≡ On p → Wanted q preferred ≡ On p
-    free true x = absurd cc
-    free false x = x
-down_on port (Flushing q n preferred age) p e = free (eqb q port) e
-  where
-    free : (b : Bool) → cond b (Free preferred) (Flushing q n preferred age) ≡ On p → Flushing q n preferred age ≡ On p
-    free true x = absurd cc
-    free false x = x
-
 frees_on : (up : Bool) (port : ℕ) (t new : Table) → FreesIfDown up port t new → (g k p : ℕ) → assignment_of new g k ≡ On p
     → assignment_of t g k ≡ On p
-frees_on true port t new h g k p e = sym (ap (λ (x : Table). assignment_of x g k) h) ∙ e
-frees_on false port t new h g k p e = down_on port (assignment_of t g k) p (sym (h.states g k) ∙ e)
-
-frees_first : (up : Bool) (port : ℕ) (t new : Table) → FreesIfDown up port t new → new.first ≡ t.first
-frees_first true port t new h = ap (λ (x : Table). x.first) h
-frees_first false port t new h = h.first
-
-frees_count : (up : Bool) (port : ℕ) (t new : Table) → FreesIfDown up port t new → new.conversations ≡ t.conversations
-frees_count true port t new h = ap (λ (x : Table). x.conversations) h
-frees_count false port t new h = h.conversations
+frees_on up port t new h g k p e = grind (arith, nat_tests)
 
 pub link_made : (n : ℕ) (up : Bool) (old : SystemState) (olds ws news : List SystemPort) (t : Table) → olds ≡ old.system_ports → news ≡ ws
     → old.first_marker ≡ old.table.first → old.conversations ≡ old.table.conversations
     → PortAtChangesBy (SetsPortEnabled old.max_links up) (port_index n olds) olds ws → FreesIfDown up n old.table t
     → SetsLink n up old (moved_on old news t)
-link_made n up old olds ws news t e w f k h c = (
-  subst (λ l. PortAtChangesBy (SetsPortEnabled old.max_links up) (port_index n l) l news) e
-      (subst (λ l. PortAtChangesBy (SetsPortEnabled old.max_links up) (port_index n olds) olds l) (sym w) h),
-  c,
-  is_moved_on old news t (frees_first up n old.table t c ∙ sym f) (frees_count up n old.table t c ∙ sym k),
-)
+link_made n up old olds ws news t e w f k h c = grind (arith, nat_tests)
 
 pub link_carried : (n : ℕ) (up : Bool) (old mid : SystemState) (were : List (Option AggId)) → IsSound old → SetsLink n up old mid
     → were ≡ aggregators_in_use old.system_ports → WereInUse were mid
@@ -98,5 +52,4 @@ link_carried n up old mid were s h e = were_carried old mid were s (keeps_link n
 -- one port goes on, and the conversations stay
 pub place_carried : (R : Machines → Machines → Type 0) (o : Option ℕ) (old mid : SystemState) (were : List (Option AggId)) → IsSound old
     → OnlyPortChangesBy o R old mid → were ≡ aggregators_in_use old.system_ports → WereInUse were mid
-place_carried R o old mid were s h e = were_carried old mid were s (keeps_place R o old mid h) e
-    (λ g k p x. sym (ap (λ (y : SystemState). assignment_of y.table g k) h.1) ∙ x)
+place_carried R o old mid were s h e = grind (arith, nat_tests, were_carried, keeps_place)

@@ -1,8 +1,8 @@
 -- What settling does, from what its loops do.
-use Rattle.lagsystem.proofs.Common.{Bool, List, None, Option, Some, [], ap, cond, false, filter, if◌then◌else◌, not, option_map, refl, slice_get}
-use Rattle.lagsystem.proofs.Common.{slice_set, subst, suc, sym, true, zero, ℕ, ◌&&◌, ◌||◌, ◌∙◌, ◌∷◌, ◌≡◌, or_parts, same_Some, list_all, list_any}
-use Rattle.lagsystem.proofs.Common.{AggId, Key, Choice, Selected, Standby, Unselected, is_selected, mux_rows, RunsPeriodic, RunsToRest, PortView}
-use Rattle.lagsystem.proofs.Common.{chosen_aggregator, is_aggregator, ports_that_chose, AggregatorsValue, members, has_chosen, has_waited}
+use Rattle.lagsystem.proofs.Common.{Bool, List, None, Option, Some, [], ap, arith, cond, false, filter, if◌then◌else◌, not, option_map, refl}
+use Rattle.lagsystem.proofs.Common.{slice_get, slice_set, subst, suc, sym, true, zero, ℕ, ◌&&◌, ◌||◌, ◌∙◌, ◌∷◌, ◌≡◌, or_parts, nat_tests, list_all}
+use Rattle.lagsystem.proofs.Common.{list_any, AggId, Key, Choice, Selected, Standby, Unselected, is_selected, Machines, mux_rows, RunsPeriodic}
+use Rattle.lagsystem.proofs.Common.{RunsToRest, PortView, chosen_aggregator, ports_that_chose, AggregatorsValue, has_chosen, has_waited}
 use Rattle.lagsystem.proofs.Common.{is_detached_or_waiting, is_eligible, SystemPort, ChoosesIn, PortChangesBy, PortsChangeBy, SettlesPorts}
 use Rattle.lagsystem.proofs.Common.{after_choice_at, aggregator_for, choice_for, choice_in, is_restless, ready_of, with_choice, SystemState}
 use Rattle.lagsystem.proofs.Common.{aggregators_value, with_system_ports, selection_view, views}
@@ -22,13 +22,7 @@ member_has_waited s = is_selected s.port.choice && has_waited (selection_view s)
 
 none_filtered : (agg : AggId) (c : Choice) (v : PortView) (rest : List PortView) → (is_selected c && has_waited v.stage) ≡ false
     → one_expired rest ≡ false → one_expired (cond (has_chosen agg c) (v ∷ rest) rest) ≡ false
-none_filtered agg Unselected v rest h k = k
-none_filtered agg (Standby given) v rest h k = k
-none_filtered agg (Selected given) v rest h k = one (has_chosen agg (Selected given))
-  where
-    one : (b : Bool) → one_expired (cond b (v ∷ rest) rest) ≡ false
-    one true = ap (λ x. x || one_expired rest) h ∙ k
-    one false = k
+none_filtered agg c v rest h k = grind (arith, nat_tests)
 
 none_given : (agg : AggId) (system_ports : List SystemPort) → list_any (λ s. member_has_waited s) system_ports ≡ false
     → one_expired (ports_that_chose agg (views system_ports)) ≡ false
@@ -38,15 +32,13 @@ none_given agg (s ∷ ss) h =
     none_filtered agg s.port.choice (selection_view s) (ports_that_chose agg (views ss)) both.0 (none_given agg ss both.1)
 
 none_known : (b : Bool) (xs : List PortView) → one_expired xs ≡ false → one_expired (if b then xs else []) ≡ false
-none_known true xs h = h
-none_known false xs h = refl
+none_known b xs h = grind (arith, nat_tests)
 
 first_has_not : (b : Bool) (v : PortView) (rest : List PortView) → has_waited v.stage ≡ false → have_waited rest ≡ false
     → ((b || list_any (λ w. is_detached_or_waiting w.stage) rest)
     && list_all (λ w. has_waited w.stage)
     (cond b (v ∷ filter (λ w. is_detached_or_waiting w.stage) rest) (filter (λ w. is_detached_or_waiting w.stage) rest))) ≡ false
-first_has_not true v rest h k = ap (λ x. x && list_all (λ w. has_waited w.stage) (filter (λ w. is_detached_or_waiting w.stage) rest)) h
-first_has_not false v rest h k = k
+first_has_not b v rest h k = grind (arith, nat_tests)
 
 none_has_waited : (seen : List PortView) → one_expired seen ≡ false → have_waited seen ≡ false
 none_has_waited [] h = refl
@@ -59,9 +51,7 @@ pub no_ready : (keys : List Key) (system_ports : List SystemPort) → list_any (
     → (c : Choice) → ready_of keys (views system_ports) c ≡ false
 no_ready keys system_ports h Unselected = refl
 no_ready keys system_ports h (Standby agg) = refl
-no_ready keys system_ports h (Selected agg) =
-    none_has_waited (members keys (views system_ports) agg) (none_known (is_aggregator keys agg) (ports_that_chose agg (views system_ports))
-    (none_given agg system_ports h))
+no_ready keys system_ports h (Selected agg) = grind (arith, nat_tests, none_has_waited, none_known, none_given)
 
 pub runs_unready : (keys : List Key) (olds news : List SystemPort) → list_any (λ s. member_has_waited s) olds ≡ false
     → PortsChangeBy (RunsToRest (mux_rows false)) olds news
@@ -118,6 +108,42 @@ settling_made base aggs system_ports one two four five ek es h1 h2 h4 h5 =
       ),
     )
 
+-- with Ready as it is worked out for these ports
+abbrev pub RunsReady : List Key → List PortView → Machines → Machines → Type 0
+RunsReady keys seen p q = RunsToRest (mux_rows (ready_of keys seen p.choice)) p q
+
+-- the steps that change ports, as relations between lists of ports
+pub record SettlesIn (aggs : AggregatorsValue) (old new : List SystemPort) : Type 0 where
+  pub one : List SystemPort
+  pub two : List SystemPort
+  pub four : List SystemPort
+  pub stops : PortsChangeBy (RunsToRest (mux_rows false)) old one
+  pub chooses : ChoosesIn aggs one two
+  pub runs : PortsChangeBy (RunsReady aggs.keys (views two)) two four
+  pub paces : PortsChangeBy RunsPeriodic four new
+
+pub settles_in : (old new : SystemState) → SettlesPorts old new → SettlesIn (aggregators_value old) old.system_ports new.system_ports
+settles_in old new h =
+    let two = h.2.0 in
+    let four = h.2.2.2.0 in
+    let keys : aggregators_value two ≡ aggregators_value old = ap aggregators_value h.2.1.1 ∙ ap aggregators_value h.1.1 in
+    let runs : PortsChangeBy (RunsReady two.keys (views two.system_ports)) two.system_ports four.system_ports =
+    subst (λ (s : SystemState). PortsChangeBy (RunsReady s.keys (views s.system_ports)) s.system_ports four.system_ports) h.2.2.1 h.2.2.2.1.0 in
+    record {
+      one = h.0.system_ports;
+      two = two.system_ports;
+      four = four.system_ports;
+      stops = h.1.0;
+      chooses = subst (λ a. ChoosesIn a h.0.system_ports two.system_ports) (ap aggregators_value h.1.1) h.2.1.0;
+      runs = subst (λ (a : AggregatorsValue). PortsChangeBy (RunsReady a.keys (views two.system_ports)) two.system_ports four.system_ports)
+          keys runs;
+      paces = subst (PortsChangeBy RunsPeriodic four.system_ports) (sym (ap (λ (s : SystemState). s.system_ports) h.2.2.2.2.2)) h.2.2.2.2.1.0;
+    }
+
+-- and they change nothing else
+pub ports_frame : (old new : SystemState) → SettlesPorts old new → new ≡ with_system_ports old new.system_ports
+ports_frame old new h = grind (arith, nat_tests)
+
 pub set_same : (system_ports : List SystemPort) (i : ℕ) (s : SystemPort) → slice_get system_ports i ≡ Some s
     → slice_set system_ports i s ≡ system_ports
 set_same [] i s e = refl
@@ -131,22 +157,11 @@ none_for aggs system_ports s h = ap (option_map (choice_in aggs (views system_po
 
 pub none_taken : (aggs : AggregatorsValue) (system_ports : List SystemPort) (i : ℕ) (s : SystemPort) → slice_get system_ports i ≡ Some s
     → is_eligible (selection_view s) ≡ false → system_ports ≡ after_choice_at aggs system_ports i (slice_get system_ports i)
-none_taken aggs system_ports i s e h =
-    let none : choice_for aggs system_ports s ≡ None = none_for aggs system_ports s
-    (ap (λ b. if b then chosen_aggregator aggs.keys (views system_ports) s.number else None) h) in
-    subst (λ o. system_ports ≡ after_choice_at aggs system_ports i o) (sym e)
-    (sym (ap (λ o. slice_set system_ports i (with_choice s o)) none ∙ set_same system_ports i s e))
+none_taken aggs system_ports i s e h = grind (arith, nat_tests, none_for, set_same)
 
 pub one_taken : (aggs : AggregatorsValue) (system_ports : List SystemPort) (i : ℕ) (s t : SystemPort) (o : Option AggId)
     → slice_get system_ports i ≡ Some s → slice_get system_ports i ≡ Some t → is_eligible (selection_view s) ≡ true
     → o ≡ chosen_aggregator aggs.keys (views system_ports) t.number
     → slice_set system_ports i (with_choice t (option_map (choice_in aggs (views system_ports)) o)) ≡ after_choice_at aggs system_ports i
     (slice_get system_ports i)
-one_taken aggs system_ports i s t o e f h k =
-    let seen = views system_ports in
-    let same : s ≡ t = same_Some s t (sym e ∙ f) in
-    let ok : is_eligible (selection_view t) ≡ true = subst (λ x. is_eligible (selection_view x) ≡ true) same h in
-    let what : aggregator_for aggs.keys system_ports t ≡ o =
-    ap (λ b. if b then chosen_aggregator aggs.keys seen t.number else None) ok ∙ sym k in
-    subst (λ p. slice_set system_ports i (with_choice t (option_map (choice_in aggs seen) o)) ≡ after_choice_at aggs system_ports i p) (sym f)
-    (sym (ap (λ p. slice_set system_ports i (with_choice t (option_map (choice_in aggs seen) p))) what))
+one_taken aggs system_ports i s t o e f h k = grind (arith, nat_tests)

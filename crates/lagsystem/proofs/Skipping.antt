@@ -1,12 +1,11 @@
 -- An LACPDU after which the port looks the same to the Selection Logic: a settling goes on with this port alone.
-use Rattle.lagsystem.proofs.Common.{Bool, List, None, Option, Some, [], ap, false, if◌then◌else◌, inl, inr, refl, slice_get, slice_set, subst, suc}
-use Rattle.lagsystem.proofs.Common.{sym, true, zero, ℕ, ◌||◌, ◌∙◌, ◌∷◌, ◌≡◌, same_Some, OnTrue, AllByRecursion, AggId, Key, Unselected, Lacpdu}
-use Rattle.lagsystem.proofs.Common.{Current, Defaulted, Machines, mux_rows, RunsPeriodic, same_receive_state, AtRest, RunsToRest, one_mux}
-use Rattle.lagsystem.proofs.Common.{Reaches-keeps, PortView, chosen_aggregator, is_eligible, ChangesAssignments, Table, SystemPort, OnlyPortChangesBy}
+use Rattle.lagsystem.proofs.Common.{Bool, List, Option, Some, [], ap, arith, false, refl, slice_get, slice_set, subst, suc, sym, true, zero, ℕ, ◌∙◌}
+use Rattle.lagsystem.proofs.Common.{◌∷◌, ◌≡◌, nat_tests, same_Some, OnTrue, AllByRecursion, AggId, Key, Lacpdu, Machines, mux_rows, RunsPeriodic}
+use Rattle.lagsystem.proofs.Common.{AtRest, RunsToRest, one_mux, Reaches-keeps, PortView, ChangesAssignments, Table, SystemPort, OnlyPortChangesBy}
 use Rattle.lagsystem.proofs.Common.{PortAtChangesBy, ProcessesLacpdu, ThenSettles, after_holding, aggregators_in_use, stopped, HasRecordedActor}
 use Rattle.lagsystem.proofs.Common.{IsSamePartner, LooksUnchanged, MuxIsSettled, MuxesAreSettled, PeriodicsAreSettled, ProcessesLacpduAt, NoneIsNext}
-use Rattle.lagsystem.proofs.Common.{collecting, PortChangesBy, PortsChangeBy, SettlesPorts, Settling, ready_of, IsSound, SystemState}
-use Rattle.lagsystem.proofs.Common.{aggregators_value, with_system_ports, selection_view, stage_of, views}
+use Rattle.lagsystem.proofs.Common.{collecting, PortChangesBy, PortsChangeBy, SettlesPorts, Settling, IsSound, SystemState, aggregators_value}
+use Rattle.lagsystem.proofs.Common.{with_system_ports, selection_view, stage_of, views}
 use Rattle.selection.specs.declared.view.Stage.TheVariants as stage
 use Rattle.lagsystem.proofs.Keeps.{ports_keep, ports_table, settling_joined}
 use Rattle.lagsystem.proofs.PlaceLemmas.{in_use_before}
@@ -26,17 +25,9 @@ alike_views [] i s t e h = refl
 alike_views (x ∷ xs) zero s t e h = let same : s ≡ x = sym (same_Some x s e) in λ i. (h ∙ ap selection_view same) i ∷ views xs
 alike_views (x ∷ xs) (suc i) s t e h = ap (λ vs. selection_view x ∷ vs) (alike_views xs i s t e h)
 
--- what a port takes, by what is seen
-abbrev takes_seen : List Key → List PortView → PortView → Option AggId
-takes_seen keys seen v = if is_eligible v then chosen_aggregator keys seen v.number else None
-
 still_among : (keys : List Key) (system_ports news : List SystemPort) (s : SystemPort) → views news ≡ views system_ports
     → MuxIsSettled keys system_ports s → MuxIsSettled keys news s
-still_among keys system_ports news s e h = record {
-  mux = h.mux;
-  apart = ap (λ l. takes_seen keys l (selection_view s)) e ∙ h.apart;
-  unready = ap (λ l. ready_of keys l s.port.choice) e ∙ h.unready;
-}
+still_among keys system_ports news s e h = grind (arith, nat_tests)
 
 pub all_among : (keys : List Key) (system_ports news xs : List SystemPort) → views news ≡ views system_ports
     → AllByRecursion (MuxIsSettled keys system_ports) xs → AllByRecursion (MuxIsSettled keys news) xs
@@ -45,11 +36,7 @@ all_among keys system_ports news (x ∷ xs) e h = (still_among keys system_ports
 
 pub alike_still : (keys : List Key) (system_ports : List SystemPort) (s t : SystemPort) → selection_view t ≡ selection_view s
     → AtRest (mux_rows false) t.port → MuxIsSettled keys system_ports s → MuxIsSettled keys system_ports t
-alike_still keys system_ports s t e r h = record {
-  mux = r;
-  apart = ap (takes_seen keys (views system_ports)) e ∙ h.apart;
-  unready = ap (λ (v : PortView). ready_of keys (views system_ports) v.choice) e ∙ h.unready;
-}
+alike_still keys system_ports s t e r h = grind (arith, nat_tests)
 
 -- the ports are settled again once the mux machine of one that looks the same is at rest
 ran_still : (keys : List Key) (system_ports : List SystemPort) (i : ℕ) (s u : SystemPort) → slice_get system_ports i ≡ Some s
@@ -85,11 +72,7 @@ get_set (x ∷ xs) (suc i) s t u e h = get_set xs i s t u e h
 
 pub on_place_taken : (v : Lacpdu) (i : ℕ) (old : List SystemPort) (alike : Bool) (new : List SystemPort)
     → ProcessesLacpduAt v i old alike new → PortAtChangesBy (ProcessesAndRuns v) (Some i) old new
-on_place_taken v i old alike new h =
-    (h.before, h.after.port, h.there, (h.changes.mid.port, h.changes.processes.1, h.changes.runs.1), h.others ∙ ap (slice_set old i) whole)
-  where
-    whole : h.after ≡ record h.before { port = h.after.port }
-    whole = h.changes.runs.0 ∙ ap (λ (x : SystemPort). record x { port = h.after.port }) h.changes.processes.0
+on_place_taken v i old alike new h = grind (arith, nat_tests)
 
 -- the state right after the LACPDU
 abbrev pub processed : (v : Lacpdu) (old : SystemState) (i : ℕ) (alike : Bool) (new : List SystemPort)
@@ -100,8 +83,7 @@ processed v old i alike new h = with_system_ports old (slice_set old.system_port
 pub own_made : (v : Lacpdu) (old : SystemState) (i : ℕ) (alike : Bool) (new : List SystemPort)
     (h : ProcessesLacpduAt v i old.system_ports alike new)
     → OnlyPortChangesBy (Some i) (ProcessesLacpdu v) old (processed v old i alike new h)
-own_made v old i alike new h =
-    ((h.before, h.changes.mid.port, h.there, h.changes.processes.1, ap (slice_set old.system_ports i) h.changes.processes.0), refl)
+own_made v old i alike new h = grind (arith, nat_tests)
 
 -- a settling that finds the mux machine of the port run already
 first_joined : (system_ports : List SystemPort) (i : ℕ) (t u : SystemPort) (xs : List SystemPort)
@@ -197,44 +179,12 @@ took_alone v old i one two were t s f h k e c =
     )
 
 -- what a known LACPDU leaves
-now_settled : (c d : Bool) → c ≡ true → true ≡ (c || d)
-now_settled true d h = refl
-now_settled false d h = absurd cc
-
 pub took_alike : (v : Lacpdu) (s : SystemPort) (q : Machines) → ProcessesLacpdu v s.port q → HasRecordedActor v s
     → IsSamePartner s.port.partner q.partner → LooksUnchanged s (record s { port = q })
-took_alike v s q h k same = seen
-  where
-    p : Machines
-    p = s.port
-
-    seen : selection_view (record s { port = q }) ≡ selection_view s
-    seen = elim h [
-      | inl f ↦ elim f [
-        | inl g ↦
-            let chosen_aggregator : q.choice ≡ p.choice = ap (λ (m : Machines). m.choice) g.1
-            ∙ ap (λ b. if b then p.choice else Unselected) k.1 in
-            let settled : (same_receive_state Current q.receive || same_receive_state Defaulted q.receive)
-            ≡ (same_receive_state Current p.receive || same_receive_state Defaulted p.receive) =
-            ap (λ (m : Machines). same_receive_state Current m.receive || same_receive_state Defaulted m.receive) g.1
-            ∙ now_settled (same_receive_state Current p.receive) (same_receive_state Defaulted p.receive) k.0 in
-            λ i. record {
-              number = s.number;
-              party = (g.1 i).party;
-              partner = same i;
-              enabled = (g.1 i).enabled;
-              settled = settled i;
-              stage = stage_of (g.1 i).mux (g.1 i).wait_while;
-              choice = chosen_aggregator i;
-            }
-        | inr g ↦ absurd g
-      ]
-      | inr r ↦ ap (λ (m : Machines). selection_view (record s { port = m })) r.1
-    ]
+took_alike v s q h k same = grind (arith, nat_tests)
 
 pub alike_if : (b : Bool) (P Q : Type 0) → OnTrue b P → (P → Q) → OnTrue b Q
-alike_if true P Q h f = f h
-alike_if false P Q h f = tt
+alike_if b P Q h f = grind (arith, nat_tests)
 
 -- running the mux machine changes no more than its stage
 pub ran_alike : (s : SystemPort) (q : Machines) → RunsToRest (mux_rows false) s.port q
@@ -250,5 +200,4 @@ ran_alike s q h e = λ i. record (rest i) { stage = e i }
 
 pub ran_looks : (s t : SystemPort) → PortChangesBy (RunsToRest (mux_rows false)) s t
     → (selection_view t).stage ≡ (selection_view s).stage → LooksUnchanged s t
-ran_looks s t h e =
-    subst (λ x. LooksUnchanged s x) (sym h.0) (ran_alike s t.port h.1 e)
+ran_looks s t h e = grind (arith, nat_tests, ran_alike)

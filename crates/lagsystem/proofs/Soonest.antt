@@ -1,34 +1,19 @@
 -- What is told is the first of what happens.
-use Rattle.lagsystem.proofs.Common.{Bool, List, None, Option, Some, [], ap, arith, false, if◌then◌else◌, inl, inr, map, min, nat_le, nat_lt, refl}
-use Rattle.lagsystem.proofs.Common.{slice_get, subst, suc, sym, true, zero, ℕ, ◌&&◌, ◌+◌, ◌-◌, ◌<◌, ◌∙◌, ◌∷◌, ◌≡◌, ◌≤◌, ◌⊎◌, and_parts, cases_Bool}
-use Rattle.lagsystem.proofs.Common.{false≢true, le-leb, leb-true, lt-ltb, nat_tests, none-some, same_Some, Machines, Assignment, Flushing, Free, On}
-use Rattle.lagsystem.proofs.Common.{Wanted, Table, assignment_of, is_by, sooner, ticks_until_next_wanted, ticks_until_wanted, by_left, by_right}
-use Rattle.lagsystem.proofs.Common.{soonest_member, SystemPort, would_transmit, SystemState, soonest, ticks_in_window, ticks_until_due}
-use Rattle.lagsystem.proofs.Common.{ticks_until_due_on, ticks_until_expired, ticks_until_frame, ticks_until_room}
+use Rattle.lagsystem.proofs.Common.{Bool, List, None, Option, Some, [], ap, arith, false, if◌then◌else◌, inl, inr, map, nat_lt, refl, slice_get, suc}
+use Rattle.lagsystem.proofs.Common.{sym, true, zero, ℕ, ◌&&◌, ◌+◌, ◌-◌, ◌<◌, ◌∙◌, ◌∷◌, ◌≡◌, ◌⊎◌, and_parts, false≢true, le-leb, leb-true, nat_tests}
+use Rattle.lagsystem.proofs.Common.{none-some, Machines, Assignment, Flushing, Table, assignment_of, is_by, sooner, ticks_until_next_wanted}
+use Rattle.lagsystem.proofs.Common.{ticks_until_wanted, by_left, by_right, soonest_member, SystemPort, would_transmit, SystemState, soonest}
+use Rattle.lagsystem.proofs.Common.{ticks_in_window, ticks_until_due, ticks_until_due_on, ticks_until_expired, ticks_until_frame, ticks_until_room}
 use Rattle.distributor.specs.Waiting.{soonest_below}
 use Rattle.lagsystem.specs.Soonest.{ConversationHas, FrameHas, HappensIn, IsFirstToHappen, TimerHas, WindowHas}
 
 by_trans : (a b c : Option ℕ) → is_by a b ≡ true → is_by b c ≡ true → is_by a c ≡ true
-by_trans None None None h k = refl
-by_trans None None (Some z) h k = k
-by_trans None (Some y) c h k = absurd (false≢true h)
-by_trans (Some x) None None h k = refl
-by_trans (Some x) None (Some z) h k = absurd (false≢true k)
-by_trans (Some x) (Some y) None h k = refl
-by_trans (Some x) (Some y) (Some z) h k = le-leb x z (omega (arith, leb-true x y h, leb-true y z k))
+by_trans a b c h k = grind (arith, nat_tests)
 
 -- one of them
 
 one_of_two : (a b : Option ℕ) (n : ℕ) → sooner a b ≡ Some n → (a ≡ Some n) ⊎ (b ≡ Some n)
-one_of_two None None n h = absurd (none-some n h)
-one_of_two None (Some y) n h = inr h
-one_of_two (Some x) None n h = inl h
-one_of_two (Some x) (Some y) n h =
-    let least : min x y ≡ n = same_Some (min x y) n h in
-    elim (cases_Bool (nat_le x y)) [
-      | inl e ↦ (let l : x ≤ y = leb-true x y e in let is : x ≡ n = omega (arith, least, l) in inl (ap Some is))
-      | inr g ↦ (let l : y ≤ x = grind (arith, nat_tests) in let is : y ≡ n = omega (arith, least, l) in inr (ap Some is))
-    ]
+one_of_two a b n h = grind (arith, nat_tests)
 
 one_of_list : {X : Type 0} (f : X → Option ℕ) (xs : List X) (n : ℕ) → soonest (map f xs) ≡ Some n
     → (i : ℕ) × (x : X) × (slice_get xs i ≡ Some x) × (f x ≡ Some n)
@@ -47,34 +32,18 @@ one_below f (suc n) m h = elim (one_of_two (soonest_below f n) (f n) m h) [
 ]
 
 timer_is : (t n : ℕ) (b : Bool) → nat_lt 0 t ≡ b → (if b then Some t else None) ≡ Some n → (0 < n) × (t ≡ n)
-timer_is t n true e h =
-    let is : t ≡ n = same_Some t n h in
-    let some : 0 < t = grind (arith, nat_tests) in (
-      omega (arith, is, some),
-      is,
-    )
-timer_is t n false e h = absurd (none-some n h)
+timer_is t n b e h = grind (arith, nat_tests)
 
 timer : (t n : ℕ) → ticks_until_expired t ≡ Some n → (0 < n) × (t ≡ n)
 timer t n h = timer_is t n (nat_lt 0 t) refl h
 
 frame : (s : SystemState) (x : SystemPort) (n : ℕ) (b : Bool) → would_transmit s x ≡ b → (if b then Some zero else None) ≡ Some n
     → FrameHas n s x
-frame s x n true e h = let is : zero ≡ n = same_Some zero n h in (e, sym is)
-frame s x n false e h = absurd (none-some n h)
+frame s x n b e h = grind (arith, nat_tests)
 
 room : (p : Machines) (n : ℕ) (b : Bool) → (p.enabled && p.ntt) ≡ b → (if b then soonest (map ticks_in_window p.ages) else None) ≡ Some n
     → WindowHas n p
-room p n true e h =
-    let both = and_parts p.enabled p.ntt e in
-    let one = one_of_list ticks_in_window p.ages n h in (
-      both.0,
-      both.1,
-      one.0,
-      one.1,
-      one.2,
-      sym (same_Some (11 - one.1) n one.3),
-    )
+room p n true e h = grind (arith, nat_tests, and_parts, one_of_list)
 room p n false e h = absurd (none-some n h)
 
 on_port : (s : SystemState) (x : SystemPort) (n : ℕ) → ticks_until_due_on s x ≡ Some n
@@ -103,20 +72,7 @@ on_port s x n h =
 
 conversation : (t : Table) (g k n : ℕ) (a : Assignment) → assignment_of t (g + 1) k ≡ a → g < t.aggs → k < t.conversations
     → ticks_until_wanted a ≡ Some n → ConversationHas n t
-conversation t g k n (Free preferred) e l m h = absurd (none-some n h)
-conversation t g k n (On port) e l m h = absurd (none-some n h)
-conversation t g k n (Wanted port preferred) e l m h = absurd (none-some n h)
-conversation t g k n (Flushing port id preferred age) e l m h = (
-  g + 1,
-  k,
-  port,
-  id,
-  age,
-  preferred,
-  (omega arith, omega (arith, l), m),
-  e,
-  sym (same_Some (30 - age) n h),
-)
+conversation t g k n a e l m h = grind (arith, nat_tests)
 
 in_table : (t : Table) (n : ℕ) → ticks_until_next_wanted t ≡ Some n → ConversationHas n t
 in_table t n h =
@@ -135,9 +91,7 @@ happens s n h = elim (one_of_two (ticks_until_next_wanted s.table) (soonest (map
 by_list : {X : Type 0} (f : X → Option ℕ) (xs : List X) (i : ℕ) (x : X) (y : Option ℕ) → slice_get xs i ≡ Some x → is_by (f x) y ≡ true
     → is_by (soonest (map f xs)) y ≡ true
 by_list f [] i x y e h = absurd (none-some x e)
-by_list f (w ∷ ws) zero x y e h =
-    let same : w ≡ x = same_Some w x e in
-    by_left (f w) (soonest (map f ws)) y (subst (λ v. is_by (f v) y ≡ true) (sym same) h)
+by_list f (w ∷ ws) zero x y e h = grind (arith, nat_tests)
 by_list f (w ∷ ws) (suc i) x y e h = by_right (f w) (soonest (map f ws)) y (by_list f ws i x y e h)
 
 by_below : (f : ℕ → Option ℕ) (n k : ℕ) (y : Option ℕ) → k < n → is_by (f k) y ≡ true → is_by (soonest_below f n) y ≡ true
@@ -147,9 +101,7 @@ by_number : (n : ℕ) (x : Option ℕ) → x ≡ Some n → is_by x (Some n) ≡
 by_number n x e = ap (λ y. is_by y (Some n)) e ∙ le-leb n n (omega arith)
 
 by_timer : (t n : ℕ) → 0 < n → t ≡ n → is_by (ticks_until_expired t) (Some n) ≡ true
-by_timer t n l e =
-    let some : 0 < t = omega (arith, l, e) in
-    by_number n (ticks_until_expired t) (ap (λ b. if b then Some t else None) (lt-ltb 0 t some) ∙ ap Some e)
+by_timer t n l e = grind (arith, nat_tests)
 
 abbrev at_once : Bool → Option ℕ
 at_once b = if b then Some zero else None

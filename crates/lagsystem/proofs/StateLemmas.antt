@@ -1,13 +1,12 @@
 -- States from the lists of their ports.
-use Rattle.lagsystem.proofs.Common.{List, Option, Some, drop, inl, inr, length, refl, subst, sym, true, ℕ, ◌≡◌, ◌≤◌, fault_of, IsSlowProtocolsFrame}
-use Rattle.lagsystem.proofs.Common.{ReadsPdu, Machines, FrameEffect, SystemPort, Carries, Faulty, OnlyPortChangesBy, ParsesFrame, ParsesPayload}
-use Rattle.lagsystem.proofs.Common.{ParsesWhere, PortAtChangesBy, SettlesPorts, SystemState, with_system_ports}
+use Rattle.lagsystem.proofs.Common.{List, Option, Some, arith, drop, inl, inr, length, subst, sym, true, ℕ, ◌≡◌, ◌≤◌, nat_tests, fault_of}
+use Rattle.lagsystem.proofs.Common.{IsSlowProtocolsFrame, ReadsPdu, Machines, FrameEffect, SystemPort, Carries, Faulty, OnlyPortChangesBy}
+use Rattle.lagsystem.proofs.Common.{ParsesFrame, ParsesPayload, ParsesWhere, PortAtChangesBy, SettlesPorts, SystemState, with_system_ports}
 
 pub on_port_made : (R : Machines → Machines → Type 0) (place : List SystemPort → Option ℕ) (s : SystemState)
     (olds ws news : List SystemPort) → olds ≡ s.system_ports → news ≡ ws → PortAtChangesBy R (place olds) olds ws
     → OnlyPortChangesBy (place s.system_ports) R s (with_system_ports s news)
-on_port_made R place s olds ws news e w h =
-    (subst (λ l. PortAtChangesBy R (place l) l news) e (subst (λ l. PortAtChangesBy R (place olds) olds l) (sym w) h), refl)
+on_port_made R place s olds ws news e w h = grind (arith, nat_tests)
 
 pub settled_made : (s : SystemState) (ws news : List SystemPort) → news ≡ ws → SettlesPorts s (with_system_ports s ws)
     → SettlesPorts s (with_system_ports s news)

@@ -1,9 +1,8 @@
 -- What each status of a port says of the port and its system: by the cases of its definition.
-use Rattle.lagsystem.proofs.Common.{Bool, Some, false, if◌then◌else◌, nat_lt, not, refl, slice_get, subst, sym, true, ℕ, ◌&&◌, ◌≡◌, and_parts}
-use Rattle.lagsystem.proofs.Common.{true≢false, AggId, Choice, Selected, Standby, Unselected, same_system, exact_system, MuxState, Attached}
-use Rattle.lagsystem.proofs.Common.{CollectingDistributing, Detached, Waiting, ReceiveState, Current, Defaulted, Expired, Initialize, PortDisabled}
-use Rattle.lagsystem.proofs.Common.{is_synchronized, partner_synchronized, same_mux_state, selected, receive_rows, SystemPort, can_receive_in}
-use Rattle.lagsystem.proofs.Common.{mux_consistent, none_enabled, IsSound, SystemState, IsDistributing, Says, meaning}
+use Rattle.lagsystem.proofs.Common.{Bool, Some, arith, false, if◌then◌else◌, nat_lt, not, refl, slice_get, sym, true, ℕ, ◌&&◌, ◌≡◌, true≢false}
+use Rattle.lagsystem.proofs.Common.{nat_tests, AggId, Choice, Selected, Standby, Unselected, same_system, exact_system, MuxState, Attached}
+use Rattle.lagsystem.proofs.Common.{CollectingDistributing, ReceiveState, Current, Defaulted, Expired, Initialize, PortDisabled, is_synchronized}
+use Rattle.lagsystem.proofs.Common.{same_mux_state, SystemPort, can_receive_in, IsSound, SystemState, IsDistributing, Says, meaning}
 use Rattle.lagsystem.specs.declared.port_status.PortStatus.{PortStatus}
 use Rattle.lagsystem.specs.declared.port_status.PortStatus.TheVariants as status
 use Rattle.lagsystem.specs.PortStatus.{status_by_choice, status_by_receive}
@@ -41,37 +40,27 @@ by_receive : (s : SystemState) (i : ℕ) (x : SystemPort) → IsSound s → slic
     → can_receive_in r ≡ true → meaning (status_by_receive x.port r) s x
 by_receive s i x h at idle up Expired e a = (up, e)
 by_receive s i x h at idle up Defaulted e a = (up, e)
-by_receive s i x h at idle up Current e a =
-    by_system s i x (record { sound = h; at = at; idle = idle; hears = (up, e) }) (same_system x.port.partner.system x.port.party.system) refl
+by_receive s i x h at idle up Current e a = grind (arith, nat_tests, by_system)
 by_receive s i x h at idle up Initialize e a = absurd (true≢false (sym a))
 by_receive s i x h at idle up PortDisabled e a = absurd (true≢false (sym a))
 
 where_up : (e a : Bool) → e ≡ true → (if e then a else true) ≡ true → a ≡ true
-where_up true a e h = h
-where_up false a e h = absurd (true≢false (sym e))
+where_up e a k h = grind (arith, nat_tests)
 
 by_link : (s : SystemState) (i : ℕ) (x : SystemPort) → IsSound s → slice_get s.system_ports i ≡ Some x
     → same_mux_state CollectingDistributing x.port.mux ≡ false → (up : Bool) → x.port.enabled ≡ up
     → meaning (if not up then status.LinkDown else status_by_receive x.port x.port.receive) s x
 by_link s i x h at idle false e = e
-by_link s i x h at idle true e =
-    let rest = all-get (λ (y : SystemPort). none_enabled receive_rows y.port ≡ true) s.system_ports i x at h.rested.0 in
-    by_receive s i x h at idle e x.port.receive refl (where_up x.port.enabled (can_receive_in x.port.receive) e (can_receive_at_rest x.port rest))
+by_link s i x h at idle true e = grind (arith, nat_tests, all-get, by_receive, where_up, can_receive_at_rest)
 
 distributing_mux : (m : MuxState) (chosen synchronized : Bool) → same_mux_state CollectingDistributing m ≡ true
     → ((if is_synchronized m then chosen else true) && (if same_mux_state CollectingDistributing m then synchronized else true)) ≡ true
     → (m ≡ CollectingDistributing) × (chosen ≡ true) × (synchronized ≡ true)
-distributing_mux CollectingDistributing a b e h = let both = and_parts a b h in (refl, both.0, both.1)
-distributing_mux Detached a b e h = absurd (true≢false (sym e))
-distributing_mux Waiting a b e h = absurd (true≢false (sym e))
-distributing_mux Attached a b e h = absurd (true≢false (sym e))
+distributing_mux m a b e h = grind (arith, nat_tests)
 
 is_distributing : (s : SystemState) (i : ℕ) (x : SystemPort) → IsSound s → slice_get s.system_ports i ≡ Some x
     → same_mux_state CollectingDistributing x.port.mux ≡ true → IsDistributing s x
-is_distributing s i x h at now =
-    let m = distributing_mux x.port.mux (selected x.port) (partner_synchronized x.port) now
-    (all-get (λ (y : SystemPort). mux_consistent y.port ≡ true) s.system_ports i x at h.rested.1) in
-    record { mux = m.0; chosen = m.1; synchronized = m.2 }
+is_distributing s i x h at now = grind (arith, nat_tests, distributing_mux, all-get)
 
 by_mux : (s : SystemState) (i : ℕ) (x : SystemPort) → IsSound s → slice_get s.system_ports i ≡ Some x → (distributes : Bool)
     → same_mux_state CollectingDistributing x.port.mux ≡ distributes
@@ -81,5 +70,4 @@ by_mux s i x h at true e = is_distributing s i x h at e
 by_mux s i x h at false e = by_link s i x h at e x.port.enabled refl
 
 pub says_why : (status : PortStatus) → Says status (meaning status)
-says_why status s i x h at e =
-    subst (λ status. meaning status s x) e (by_mux s i x h at (same_mux_state CollectingDistributing x.port.mux) refl)
+says_why status s i x h at e = grind (arith, nat_tests, by_mux)

@@ -1,15 +1,15 @@
 -- Why the Selection Logic finds no aggregator or no room for a port, and for what a SELECTED port waits.
-use Rattle.lagsystem.proofs.Common.{Bool, List, None, Option, Some, [], ap, arith, cond, eqb-true, false, filter, find, if◌then◌else◌, inl, inr}
-use Rattle.lagsystem.proofs.Common.{length, nat_le, nat_lt, not, option_map, refl, slice_get, subst, suc, sym, true, zero, ℕ, ◌&&◌, ◌+◌, ◌<◌, ◌==◌}
-use Rattle.lagsystem.proofs.Common.{◌||◌, ◌∙◌, ◌∷◌, ◌≡◌, ◌≤◌, ◌⊎◌, not-false, true≢false, nat_tests, none-some, same_Some, enumerate_from, list_all}
-use Rattle.lagsystem.proofs.Common.{list_any, AggId, Key, Choice, Selected, Standby, Unselected, is_selected, is_unselected, same_system, itself}
-use Rattle.lagsystem.proofs.Common.{MuxState, Attached, CollectingDistributing, Detached, Waiting, Current, Defaulted, partner_synchronized}
-use Rattle.lagsystem.proofs.Common.{same_mux_state, selected, same_receive_state, PortView, aggregator_of_entry, chosen_aggregator}
-use Rattle.lagsystem.proofs.Common.{chosen_if_eligible, has_no_occupant, has_occupant, is_aggregator, lowest, occupants_share_group, or_else}
-use Rattle.lagsystem.proofs.Common.{ports_that_chose, has_room, is_below, is_ready, has_chosen, has_waited, is_detached, is_detached_or_waiting}
-use Rattle.lagsystem.proofs.Common.{is_eligible, stands_by, NoneStandsBy, none_is_next, SystemPort, key_of, MuxIsSettled, WithinLimit, occupied}
-use Rattle.lagsystem.proofs.Common.{aggregator_numbered, ready_of, IsSound, SystemState, aggregators_value, FindsNoAggregator, FindsNoRoom}
-use Rattle.lagsystem.proofs.Common.{HearsPartner, Waits, WaitsForMember, WaitsForPartner, WaitsIn, selection_view, stage_of, views}
+use Rattle.lagsystem.proofs.Common.{Bool, List, None, Option, Some, [], ap, arith, cond, false, filter, find, if◌then◌else◌, inl, inr, length, nat_le}
+use Rattle.lagsystem.proofs.Common.{nat_lt, not, option_map, refl, slice_get, subst, suc, sym, true, zero, ℕ, ◌&&◌, ◌+◌, ◌<◌, ◌==◌, ◌||◌, ◌∙◌, ◌∷◌}
+use Rattle.lagsystem.proofs.Common.{◌≡◌, ◌≤◌, ◌⊎◌, not-false, true≢false, nat_tests, none-some, same_Some, enumerate_from, list_all, list_any, AggId}
+use Rattle.lagsystem.proofs.Common.{Key, Choice, Selected, Standby, Unselected, is_selected, is_unselected, same_system, itself, MuxState, Attached}
+use Rattle.lagsystem.proofs.Common.{CollectingDistributing, Detached, Waiting, Current, Defaulted, partner_synchronized, same_mux_state, selected}
+use Rattle.lagsystem.proofs.Common.{same_receive_state, PortView, aggregator_of_entry, chosen_aggregator, chosen_if_eligible, has_no_occupant}
+use Rattle.lagsystem.proofs.Common.{has_occupant, is_aggregator, lowest, occupants_share_group, or_else, ports_that_chose, has_room, is_below}
+use Rattle.lagsystem.proofs.Common.{is_ready, has_chosen, has_waited, is_detached, is_detached_or_waiting, is_eligible, stands_by, NoneStandsBy}
+use Rattle.lagsystem.proofs.Common.{none_is_next, SystemPort, key_of, MuxIsSettled, WithinLimit, occupied, aggregator_numbered, ready_of, IsSound}
+use Rattle.lagsystem.proofs.Common.{SystemState, aggregators_value, FindsNoAggregator, FindsNoRoom, HearsPartner, Waits, WaitsForMember}
+use Rattle.lagsystem.proofs.Common.{WaitsForPartner, WaitsIn, selection_view, stage_of, views}
 use Rattle.lagsystem.proofs.NoneLeft.{takes_is}
 use Rattle.lagsystem.proofs.Rising.{all-get, ports_rise}
 
@@ -23,12 +23,10 @@ pub record Heard (s : SystemState) (i : ℕ) (x : SystemPort) : Type 0 where
 -- what no aggregator passes
 
 passed : (b : Bool) (x : ℕ × Key) (o : Option (ℕ × Key)) → cond b (Some x) o ≡ None → (b ≡ false) × (o ≡ None)
-passed true x o h = absurd cc
-passed false x o h = (refl, h)
+passed b x o h = grind (arith, nat_tests)
 
 fails : (a b : Bool) → a ≡ true → (a && b) ≡ false → b ≡ false
-fails true b e h = h
-fails false b e h = absurd (true≢false (sym e))
+fails a b e h = grind (arith, nat_tests)
 
 none_from : (first : ℕ) (keys : List Key) (key : Key) (test : AggId → Bool)
     → find (λ (row : ℕ × Key). (row.1.0 == key.0) && test (aggregator_of_entry row)) (enumerate_from first keys) ≡ None
@@ -47,29 +45,22 @@ none_from first (k ∷ ks) key test h (suc j) e =
     subst (λ n. test (aggregator_numbered n) ≡ false) next (none_from (first + 1) ks key test both.1 j e)
 
 no_entry : (o : Option (ℕ × Key)) → option_map aggregator_of_entry o ≡ None → o ≡ None
-no_entry None h = refl
-no_entry (Some row) h = absurd cc
+no_entry o h = grind (arith, nat_tests)
 
 none_passes : (keys : List Key) (key : Key) (test : AggId → Bool) → lowest keys key test ≡ None → (g : ℕ) → key_of keys g ≡ Some key
     → test (aggregator_numbered g) ≡ false
 none_passes keys key test h zero e = absurd (none-some key e)
-none_passes keys key test h (suc g) e =
-    let next : 1 + g ≡ suc g = omega arith in
-    subst (λ n. test (aggregator_numbered n) ≡ false) next (none_from 1 keys key test (no_entry _ h) g e)
+none_passes keys key test h (suc g) e = grind (arith, nat_tests, none_from, no_entry)
 
 first_none : (a b : Option AggId) → or_else a b ≡ None → (a ≡ None) × (b ≡ None)
-first_none None b h = (refl, h)
-first_none (Some agg) b h = absurd cc
+first_none a b h = grind (arith, nat_tests)
 
 -- a port that is UNSELECTED and hears its partner is eligible
 
 detached_at : (m : MuxState) (ticks : ℕ) (c : Choice) (z : Bool) → c ≡ Unselected → (same_mux_state Waiting m && is_unselected c) ≡ false
     → (same_mux_state Attached m && not (is_selected c)) ≡ false
     → (same_mux_state CollectingDistributing m && (not (is_selected c) || z)) ≡ false → is_detached (stage_of m ticks) ≡ true
-detached_at Detached ticks c z u a b d = refl
-detached_at Waiting ticks c z u a b d = absurd (true≢false (sym (ap is_unselected u) ∙ a))
-detached_at Attached ticks c z u a b d = absurd (true≢false (sym (ap (λ c. not (is_selected c)) u) ∙ b))
-detached_at CollectingDistributing ticks c z u a b d = absurd (true≢false (sym (ap (λ c. not (is_selected c) || z) u) ∙ d))
+detached_at m ticks c z u a b d = grind (arith, nat_tests)
 
 all_five : (a b c d e : Bool) → a ≡ true → b ≡ true → c ≡ true → d ≡ true → e ≡ false → ((((a && b) && c) && d) && not e) ≡ true
 all_five a b c d e f g h i j = rw (f, g, h, i, j) refl
@@ -79,12 +70,10 @@ settled_at : (s : SystemState) (i : ℕ) (x : SystemPort) → IsSound s → slic
 settled_at s i x h at = all-get (MuxIsSettled s.keys s.system_ports) s.system_ports i x at h.quiet.0
 
 is_chosen : (b : Bool) (o : Option AggId) → b ≡ true → (if b then (if b then o else None) else None) ≡ None → o ≡ None
-is_chosen true o e h = h
-is_chosen false o e h = absurd (true≢false (sym e))
+is_chosen b o e h = grind (arith, nat_tests)
 
 none_if : (b : Bool) (o : Option AggId) → b ≡ true → (if b then o else None) ≡ None → o ≡ None
-none_if true o e h = h
-none_if false o e h = absurd (true≢false (sym e))
+none_if b o e h = grind (arith, nat_tests)
 
 pub finds_no_aggregator : (s : SystemState) (i : ℕ) (x : SystemPort) → Heard s i x
     → same_system x.port.partner.system x.port.party.system ≡ false → x.port.choice ≡ Unselected → FindsNoAggregator s x
@@ -130,15 +119,11 @@ stood_by agg (y ∷ ys) (suc i) x e h = stood_by agg ys i x e h.1
 
 full_of : (max_links : Option ℕ) (known : Bool) (n : ℕ) → known ≡ true → (known && is_below max_links n) ≡ false
     → ((most : ℕ) → max_links ≡ Some most → n ≤ most) → (most : ℕ) × (max_links ≡ Some most) × (n ≡ most)
-full_of None true n k h w = absurd cc
-full_of None false n k h w = absurd cc
-full_of (Some most) true n k h w = (most, refl, (let l = w most refl in grind (arith, nat_tests)))
-full_of (Some most) false n k h w = absurd cc
+full_of max_links known n k h w = grind (arith, nat_tests)
 
 at_most : (max_links : Option ℕ) (agg : AggId) (ports : List SystemPort) → WithinLimit max_links (views ports) → (most : ℕ)
     → max_links ≡ Some most → length (ports_that_chose agg (views ports)) ≤ most
-at_most None agg ports w most e = absurd (none-some most e)
-at_most (Some limit) agg ports w most e = subst (λ n. length (ports_that_chose agg (views ports)) ≤ n) (same_Some limit most e) (w agg)
+at_most max_links agg ports w most e = grind (arith, nat_tests)
 
 pub finds_no_room : (agg : AggId) (s : SystemState) (i : ℕ) (x : SystemPort) → Heard s i x → x.port.choice ≡ Standby agg → FindsNoRoom agg s x
 finds_no_room agg s i x l stands =
@@ -159,17 +144,11 @@ finds_no_room agg s i x l stands =
 -- a SELECTED port waits
 
 mux_attached : (m : MuxState) → same_mux_state Attached m ≡ true → m ≡ Attached
-mux_attached Attached h = refl
-mux_attached Detached h = absurd (true≢false (sym h))
-mux_attached Waiting h = absurd (true≢false (sym h))
-mux_attached CollectingDistributing h = absurd (true≢false (sym h))
+mux_attached m h = grind (arith, nat_tests)
 
 mux_waiting : (m : MuxState) (c : Choice) (agg : AggId) → c ≡ Selected agg → same_mux_state CollectingDistributing m ≡ false
     → same_mux_state Attached m ≡ false → (same_mux_state Detached m && not (is_unselected c)) ≡ false → m ≡ Waiting
-mux_waiting Waiting c agg e d a h = refl
-mux_waiting Detached c agg e d a h = absurd (true≢false (sym (ap (λ c. not (is_unselected c)) e) ∙ h))
-mux_waiting Attached c agg e d a h = absurd (true≢false a)
-mux_waiting CollectingDistributing c agg e d a h = absurd (true≢false d)
+mux_waiting m c agg e d a h = grind (arith, nat_tests)
 
 third_false : (a b c : Bool) → a ≡ true → b ≡ true → (a && (b && c)) ≡ false → c ≡ false
 third_false a b c e f h = fails b c f (fails a (b && c) e h)
@@ -220,13 +199,7 @@ has_waited_in seen = list_all (λ v. has_waited v.stage) (filter still seen)
 
 one_of : (b d w : Bool) (v : PortView) (rest : List PortView) → still v ≡ d → has_waited v.stage ≡ w
     → has_waited_in (cond b (v ∷ rest) rest) ≡ false → ((b ≡ true) × (d ≡ true) × (w ≡ false)) ⊎ (has_waited_in rest ≡ false)
-one_of false d w v rest e f h = inr h
-one_of true false w v rest e f h =
-    inr (sym (ap (λ x. list_all (λ v. has_waited v.stage) (cond x (v ∷ filter still rest) (filter still rest))) e) ∙ h)
-one_of true true false v rest e f h = inl (refl, refl, refl)
-one_of true true true v rest e f h =
-    inr (sym (ap (λ x. x && has_waited_in rest) f)
-    ∙ (sym (ap (λ x. list_all (λ v. has_waited v.stage) (cond x (v ∷ filter still rest) (filter still rest))) e) ∙ h))
+one_of b d w v rest e f h = grind (arith, nat_tests)
 
 -- a member at this index that is in DETACHED or WAITING, and has not waited
 record HasNotWaited (agg : AggId) (ports : List SystemPort) : Type 0 where
@@ -249,43 +222,28 @@ one_has_not agg (y ∷ ys) h =
 
 any_of : (b d : Bool) (v : PortView) (rest : List PortView) → still v ≡ d → (b ≡ true) × (d ≡ true) ⊎ (list_any still rest ≡ true)
     → list_any still (cond b (v ∷ rest) rest) ≡ true
-any_of b d v rest e (inl o) = rw (o.0, e, o.1) refl
-any_of false d v rest e (inr r) = r
-any_of true true v rest e (inr r) = ap (λ x. x || list_any still rest) e
-any_of true false v rest e (inr r) = ap (λ x. x || list_any still rest) e ∙ r
+any_of b d v rest e h = grind (arith, nat_tests)
 
 any_here : (agg : AggId) (ports : List SystemPort) (i : ℕ) (x : SystemPort) → slice_get ports i ≡ Some x
     → has_chosen agg x.port.choice ≡ true → is_detached_or_waiting (stage_of x.port.mux x.port.wait_while) ≡ true
     → list_any still (ports_that_chose agg (views ports)) ≡ true
 any_here agg [] i x at m w = absurd (none-some x at)
-any_here agg (y ∷ ys) zero x at m w =
-    let same = sym (same_Some y x at) in
-    any_of (has_chosen agg y.port.choice) (still (selection_view y)) (selection_view y) (ports_that_chose agg (views ys)) refl
-    (inl (ap (λ (z : SystemPort). has_chosen agg z.port.choice) (sym same) ∙ m, ap (λ (z : SystemPort). still (selection_view z)) (sym same) ∙ w))
-any_here agg (y ∷ ys) (suc i) x at m w =
-    any_of (has_chosen agg y.port.choice) (still (selection_view y)) (selection_view y) (ports_that_chose agg (views ys)) refl
-    (inr (any_here agg ys i x at m w))
+any_here agg (y ∷ ys) zero x at m w = grind (arith, nat_tests)
+any_here agg (y ∷ ys) (suc i) x at m w = grind (arith, nat_tests, any_here agg ys i x at m w)
 
 given_is : (agg : AggId) (c : Choice) → has_chosen agg c ≡ true → c ≡ Selected agg
-given_is agg Unselected h = absurd (true≢false (sym h))
-given_is agg (Standby given) h = absurd (true≢false (sym h))
-given_is agg (Selected given) h = let e = eqb-true given.0 agg.0 h in λ i. Selected (record { 0 = e i })
+given_is agg c h = grind (arith, nat_tests)
 
 still_waits : (m : MuxState) (ticks : ℕ) (c : Choice) (agg : AggId) → c ≡ Selected agg → is_detached_or_waiting (stage_of m ticks) ≡ true
     → has_waited (stage_of m ticks) ≡ false → (same_mux_state Detached m && not (is_unselected c)) ≡ false → (m ≡ Waiting) × (0 < ticks)
-still_waits Waiting zero c agg e s w h = absurd (true≢false w)
-still_waits Waiting (suc n) c agg e s w h = (refl, omega arith)
-still_waits Detached ticks c agg e s w h = absurd (true≢false (sym (ap (λ c. not (is_unselected c)) e) ∙ h))
-still_waits Attached ticks c agg e s w h = absurd (true≢false (sym s))
-still_waits CollectingDistributing ticks c agg e s w h = absurd (true≢false (sym s))
+still_waits m ticks c agg e s w h = grind (arith, nat_tests)
 
 stays_at : (m : MuxState) (ticks : ℕ) → m ≡ Waiting → is_detached_or_waiting (stage_of m ticks) ≡ true
 stays_at m ticks e = ap (λ x. is_detached_or_waiting (stage_of x ticks)) e
 
 not_all : (known any all : Bool) (seen : List PortView) → known ≡ true → list_any still seen ≡ true
     → (list_any still (if known then seen else []) && has_waited_in (if known then seen else [])) ≡ false → has_waited_in seen ≡ false
-not_all true any all seen k e h = fails (list_any still seen) (has_waited_in seen) e h
-not_all false any all seen k e h = absurd (true≢false (sym k))
+not_all known any all seen k e h = grind (arith, nat_tests)
 
 pub waits_for_member : (agg : AggId) (s : SystemState) (i : ℕ) (x : SystemPort) → Heard s i x → x.port.choice ≡ Selected agg
     → same_mux_state Attached x.port.mux ≡ false → nat_lt 0 x.port.wait_while ≡ false → WaitsForMember s x

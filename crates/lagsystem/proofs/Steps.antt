@@ -1,38 +1,36 @@
 -- Each call of a system is a list of lawful moves.
-use Rattle.lagsystem.proofs.Common.{Bool, Err, IsSome, List, None, Ok, Option, Result, Some, [], ap, append-nil, bytes_eq, cond, false, if◌then◌else◌}
-use Rattle.lagsystem.proofs.Common.{inl, inr, is_some, ltb, nat_lt, not, refl, slice_get, slice_set, subst, sym, true, ℕ, ◌&&◌, ◌<◌, ◌==◌, ◌^◌, ◌||◌}
-use Rattle.lagsystem.proofs.Common.{◌∙◌, ◌∷◌, ◌≡◌, and_from, and_parts, false≢true, ltb-true, Decides-eqb, none-some, same_Some, AggId, Choice}
-use Rattle.lagsystem.proofs.Common.{Selected, Standby, Unselected, is_selected, is_standby, Lacpdu, Marker, answer_of, Act, LawfulMoves, Move}
-use Rattle.lagsystem.proofs.Common.{PortMove, Sends_frame, Shows, Took, DistributorFacts, Lacp, Message, SystemSetup, Told, Told_receive}
-use Rattle.lagsystem.proofs.Common.{moves_joined, CollectingDistributing, Machines, is_synchronized, mux_rows, partner_synchronized, same_mux_state}
-use Rattle.lagsystem.proofs.Common.{RunsPeriodic, receive_rows, RunsToRest, after_sending, count_down, is_due, pdu_of, Assignment, DistFault}
+use Rattle.lagsystem.proofs.Common.{Bool, Err, IsSome, List, None, Ok, Option, Result, Some, [], ap, append-nil, arith, cond, false, if◌then◌else◌}
+use Rattle.lagsystem.proofs.Common.{ltb, refl, slice_get, slice_set, subst, sym, true, ℕ, ◌&&◌, ◌<◌, ◌^◌, ◌∙◌, ◌∷◌, ◌≡◌, and_from, and_parts}
+use Rattle.lagsystem.proofs.Common.{Decides-eqb, nat_tests, none-some, same_Some, AggId, Choice, is_selected, Lacpdu, Marker, answer_of, Act}
+use Rattle.lagsystem.proofs.Common.{LawfulMoves, Move, PortMove, Sends_frame, Shows, Took, DistributorFacts, Lacp, Message, SystemSetup, Told}
+use Rattle.lagsystem.proofs.Common.{Told_receive, moves_joined, CollectingDistributing, Machines, is_synchronized, mux_rows, partner_synchronized}
+use Rattle.lagsystem.proofs.Common.{same_mux_state, RunsPeriodic, receive_rows, RunsToRest, after_sending, count_down, pdu_of, Assignment, DistFault}
 use Rattle.lagsystem.proofs.Common.{force_result, move_result, ChangesAssignments, Marks, after_release, marker_due, wants_marker, Table}
 use Rattle.lagsystem.proofs.Common.{assignment_of, count_conversations, next_identifier, model_distributor, conversations_tick, down_moves}
-use Rattle.lagsystem.proofs.Common.{force_moves, mark_moves, move_moves, release_moves, send_moves, Reply, SystemFault, NoAggregator, NoPort}
-use Rattle.lagsystem.proofs.Common.{FrameEffect, Answered, ProcessLacpdu, Response, Received, Disabled, Dropped, Ignored, Released, Up, SystemPort}
-use Rattle.lagsystem.proofs.Common.{AnswersMarker, Call, Carries, ChangesParty, Configure, Data_frame, Faulty, Force, FreesIfDown, GivesEffect}
-use Rattle.lagsystem.proofs.Common.{IsFrame, Move_conversation, Offer, OnlyPortChangesBy, ParsesWhere, Performs, PortAtChangesBy, ProcessesLacpdu}
-use Rattle.lagsystem.proofs.Common.{Receive, ReceivedFrame, Releases, Restart, Runt, Set_link, SetsLink, SetsPortEnabled, Step, ThenSettles, Tick}
-use Rattle.lagsystem.proofs.Common.{Ticks, Transmit, is_own_response, up_or_dropped, CallSeenAs, EffectsSeenAs, JoinedByLawfulMoves, PortsConsistent}
-use Rattle.lagsystem.proofs.Common.{can_receive, can_receive_in, control_message, lacp_message, marker_message, model_port, model_setup, model_view}
-use Rattle.lagsystem.proofs.Common.{model_view_at, mux_consistent, none_enabled, number_of_port, selected_number, OccupantsAgree, GivesOrRefuses}
-use Rattle.lagsystem.proofs.Common.{Offers, assignment_of_frame, has_aggregator, in_system, or_not_assigned, system_force_result, system_move_result}
-use Rattle.lagsystem.proofs.Common.{collecting, conversation_count, distributing, number_of_conversation, SendsLacpdu, SendsMarkerOf, TransmitsAt}
-use Rattle.lagsystem.proofs.Common.{TransmitsIf, own_marker, PortChangesBy, PortsChangeBy, SettlesPorts, Settling, ready_of, SystemState}
-use Rattle.lagsystem.proofs.Common.{aggregators_value, port_index, port_numbers, system_port_at, with_system_ports, with_table, views}
+use Rattle.lagsystem.proofs.Common.{force_moves, mark_moves, move_moves, release_moves, send_moves, Reply, SystemFault, FrameEffect, Answered}
+use Rattle.lagsystem.proofs.Common.{ProcessLacpdu, Response, Received, Disabled, Dropped, Ignored, Released, Up, SystemPort, AnswersMarker, Call}
+use Rattle.lagsystem.proofs.Common.{Carries, ChangesParty, Configure, Data_frame, Faulty, Force, FreesIfDown, GivesEffect, IsFrame, Move_conversation}
+use Rattle.lagsystem.proofs.Common.{Offer, OnlyPortChangesBy, ParsesWhere, Performs, PortAtChangesBy, ProcessesLacpdu, Receive, ReceivedFrame}
+use Rattle.lagsystem.proofs.Common.{Releases, Restart, Runt, Set_link, SetsLink, SetsPortEnabled, Step, ThenSettles, Tick, Ticks, Transmit}
+use Rattle.lagsystem.proofs.Common.{is_own_response, up_or_dropped, CallSeenAs, EffectsSeenAs, JoinedByLawfulMoves, PortsConsistent, can_receive}
+use Rattle.lagsystem.proofs.Common.{control_message, lacp_message, marker_message, model_port, model_setup, model_view, model_view_at, mux_consistent}
+use Rattle.lagsystem.proofs.Common.{none_enabled, number_of_port, selected_number, OccupantsAgree, GivesOrRefuses, Offers, assignment_of_frame}
+use Rattle.lagsystem.proofs.Common.{in_system, system_force_result, system_move_result, collecting, distributing, number_of_conversation, SendsLacpdu}
+use Rattle.lagsystem.proofs.Common.{SendsMarkerOf, TransmitsAt, TransmitsIf, own_marker, PortChangesBy, PortsChangeBy, SettlesPorts, Settling}
+use Rattle.lagsystem.proofs.Common.{ready_of, SystemState, aggregators_value, port_index, port_numbers, system_port_at, with_system_ports, with_table}
+use Rattle.lagsystem.proofs.Common.{views}
 use Rattle.std.proofs.lemmas.Slice.Eq.{bytes_eq-Decides}
 use Rattle.slowpdu.specs.declared.pdu.MarkerKind.{MarkerKind}
 use Rattle.slowpdu.specs.declared.pdu.MarkerKind.TheVariants as kind
 use Rattle.slowpdu.specs.declared.pdu.Pdu.TheVariants as pdu
-use Rattle.distributor.specs.declared.fault.DistFault.TheVariants.{NotAssigned}
 use Rattle.lagsystem.specs.declared.drive.Reply.TheVariants as reply
 use Rattle.lagsystem.proofs.Conversing.{assigned_may, carrying_moves, leaving_moves, table_moves}
-use Rattle.lagsystem.proofs.Keeps.{Keeps, keeps_each, keeps_link, keeps_place, keeps_tick, ports_keep, ports_table, settling_parts}
+use Rattle.lagsystem.proofs.Keeps.{Keeps, choosing_numbers, keeps_link, keeps_place, keeps_tick, ports_table, settling_parts, zip_numbers}
 use Rattle.lagsystem.proofs.FirstView.{restarted_shows}
 use Rattle.lagsystem.proofs.Lists.{AllZip-weaker}
 use Rattle.lagsystem.proofs.Rest.{can_receive_at_rest, zip_all}
 use Rattle.lagsystem.proofs.Rising.{Rises, all-get, are_numbered, found_place}
-use Rattle.lagsystem.proofs.SettlingLemmas.{set_same}
+use Rattle.lagsystem.proofs.SettlingLemmas.{RunsReady, set_same, settles_in}
 use Rattle.lagsystem.proofs.OfPort.{PortMoves, SlotMoves, slot_moves, all_slots_move}
 use Rattle.lagsystem.proofs.Rows.{QuietMoves, loudly, settles_moves, mux_moves, runs_periodic_moves}
 use Rattle.lagsystem.proofs.Effects.{tick_moves, links_moves, taking_moves, configures_moves, sending}
@@ -57,64 +55,36 @@ fitting : (u : SystemSetup) (s t : SystemState) → Keeps s t → Fits u s.keys 
 fitting u s t k fits = subst (λ (x : SystemState). Fits u x.keys) (sym k.frame) fits
 
 -- at rest a STANDBY port does not distribute
-carries_not : (b c s : Bool) → (b && (not c || not s)) ≡ false → c ≡ false → b ≡ false
-carries_not true true s h e = absurd cc
-carries_not true false s h e = absurd cc
-carries_not false c s h e = refl
-
-standby_not : (c : Choice) → is_standby c ≡ true → is_selected c ≡ false
-standby_not Unselected h = refl
-standby_not (Selected agg) h = absurd (false≢true h)
-standby_not (Standby agg) h = refl
-
 rest_idle : (x y : SystemPort) → PortChangesBy (RunsToRest (mux_rows false)) x y → StandbyIsIdle y
-rest_idle x y m e = carries_not (same_mux_state CollectingDistributing y.port.mux) (is_selected y.port.choice)
-    (partner_synchronized y.port) m.1.2.1.1.1.1.1.0 (standby_not y.port.choice e)
+rest_idle x y m e = grind (arith, nat_tests)
 
 -- the steps of settling that look at ports alone
 ports_moves : (u : SystemSetup) (call : Told) (f : DistributorFacts) (old new : SystemState) → Fits u old.keys
     → Rises 0 (port_numbers old.system_ports) → OccupantsAgree old.keys old.system_ports → SettlesPorts old new
     → LawfulMoves u call (model_view_at f old.system_ports) [] (model_view_at f new.system_ports)
 ports_moves u call f old new fits r agree h =
-    let one = h.0 in
-    let two = h.2.0 in
-    let three = h.2.2.0 in
-    let four = h.2.2.2.0 in
-    let five = h.2.2.2.2.0 in
+    let s = settles_in old new h in
+    let aggs = aggregators_value old in
+    let keys = old.keys in
+    let view = model_view_at f in
     let free : Machines → Machines → Type 0 = λ p q. RunsToRest (mux_rows false) p q in
-    let ready : Machines → Machines → Type 0 = λ p q. RunsToRest (mux_rows (ready_of three.keys (views three.system_ports) p.choice)) p q in
-    let k1 : Keeps old one = keeps_each free old one h.1 in
-    let r1 = rising old one k1 r in
-    let m1 = each_moves u call f free (λ n p q x. settles_moves u call n (mux_rows false) (mux_moves u call n false) p q x) old.system_ports
-    one.system_ports r h.1.0 in
-    let a1 : OccupantsAgree one.keys one.system_ports =
-    subst (λ (s : SystemState). OccupantsAgree s.keys one.system_ports) (sym h.1.1)
-    (stay_agrees old.keys old.system_ports one.system_ports (zip_stay free (mux_stays false) old.system_ports one.system_ports h.1.0) agree) in
-    let idle = zip_all (PortChangesBy free) StandbyIsIdle rest_idle old.system_ports one.system_ports h.1.0 in
-    let m2 = choosing_moves u call f (aggregators_value one) one.system_ports two.system_ports (fitting u old one k1 fits) r1 a1 idle
-    h.2.1.0 in
-    let there : three ≡ two = h.2.2.1 in
-    let m3 : LawfulMoves u call (model_view_at f one.system_ports) [] (model_view_at f three.system_ports) =
-    subst (λ (s : SystemState). LawfulMoves u call (model_view_at f one.system_ports) [] (model_view_at f s.system_ports))
-    (sym there) m2 in
-    let last : new ≡ five = h.2.2.2.2.2 in
-    let n5 : port_numbers five.system_ports ≡ port_numbers old.system_ports = ap (λ (s : SystemState). port_numbers s.system_ports)
-    (sym last) ∙ (ports_keep old new h).same in
-    let k5 : Keeps four five = keeps_each RunsPeriodic four five h.2.2.2.2.1 in
-    let k4 : Keeps three four = keeps_each ready three four h.2.2.2.1 in
-    let r4 : Rises 0 (port_numbers four.system_ports) = subst (λ ns. Rises 0 ns) (sym (sym k5.same ∙ n5)) r in
-    let r3 : Rises 0 (port_numbers three.system_ports) = subst (λ ns. Rises 0 ns) (sym (sym k4.same ∙ sym k5.same ∙ n5)) r in
-    let m4 = each_moves u call f ready (λ n p q x. let b = ready_of three.keys (views three.system_ports) p.choice in settles_moves u call n
-    (mux_rows b) (mux_moves u call n b) p q x) three.system_ports four.system_ports r3 h.2.2.2.1.0 in
-    let m5 = each_moves u call f RunsPeriodic (λ n p q x. runs_periodic_moves u call n p q x) four.system_ports
-    five.system_ports r4 h.2.2.2.2.1.0 in
-    let all = moves_joined u call (model_view_at f old.system_ports) (model_view_at f one.system_ports)
-    (model_view_at f five.system_ports) [] [] m1
-    (moves_joined u call (model_view_at f one.system_ports) (model_view_at f three.system_ports)
-    (model_view_at f five.system_ports) [] [] m3
-    (moves_joined u call (model_view_at f three.system_ports) (model_view_at f four.system_ports)
-    (model_view_at f five.system_ports) [] [] m4 m5)) in
-    subst (λ (s : SystemState). LawfulMoves u call (model_view_at f old.system_ports) [] (model_view_at f s.system_ports)) (sym last) all
+    let run : (ready : Bool) (n : ℕ) (p q : Machines) → RunsToRest (mux_rows ready) p q → QuietMoves u call n p [] q =
+    λ ready n. settles_moves u call n (mux_rows ready) (mux_moves u call n ready) in
+    let n1 = zip_numbers free old.system_ports s.one s.stops in
+    let n2 = choosing_numbers aggs s.one s.two s.chooses ∙ n1 in
+    let n4 = zip_numbers (RunsReady keys (views s.two)) s.two s.four s.runs ∙ n2 in
+    let rise : (l : List SystemPort) → port_numbers l ≡ port_numbers old.system_ports → Rises 0 (port_numbers l) =
+    λ l e. subst (λ ns. Rises 0 ns) (sym e) r in
+    let m1 = each_moves u call f free (run false) old.system_ports s.one r s.stops in
+    let a1 = stay_agrees keys old.system_ports s.one (zip_stay free (mux_stays false) old.system_ports s.one s.stops) agree in
+    let idle = zip_all (PortChangesBy free) StandbyIsIdle rest_idle old.system_ports s.one s.stops in
+    let m2 = choosing_moves u call f aggs s.one s.two fits (rise s.one n1) a1 idle s.chooses in
+    let m4 = each_moves u call f (RunsReady keys (views s.two)) (λ n p q x. run (ready_of keys (views s.two) p.choice) n p q x) s.two s.four
+    (rise s.two n2) s.runs in
+    let m5 = each_moves u call f RunsPeriodic (λ n p q x. runs_periodic_moves u call n p q x) s.four new.system_ports (rise s.four n4) s.paces in
+    moves_joined u call (view old.system_ports) (view s.one) (view new.system_ports) [] [] m1
+    (moves_joined u call (view s.one) (view s.two) (view new.system_ports) [] [] m2
+    (moves_joined u call (view s.two) (view s.four) (view new.system_ports) [] [] m4 m5))
 
 -- settling
 pub settling_moves : (u : SystemSetup) (call : Told) (old new : SystemState) → Fits u old.keys → Rises 0 (port_numbers old.system_ports)
@@ -143,19 +113,14 @@ settled_moves u call own seen s t fits r agree keeps stay moves h =
 slots_moved : (u : SystemSetup) (call : Told) (seen : List Act) (old mid : SystemState) → mid ≡ with_system_ports old mid.system_ports
     → LawfulMoves u call (model_view old) seen (model_view_at (model_distributor old.table) mid.system_ports)
     → LawfulMoves u call (model_view old) seen (model_view mid)
-slots_moved u call seen old mid e h =
-    subst (λ (t : Table). LawfulMoves u call (model_view old) seen (model_view_at (model_distributor t) mid.system_ports))
-    (sym (ap (λ (s : SystemState). s.table) e)) h
+slots_moved u call seen old mid e h = grind (arith, nat_tests)
 
 -- conversations alone
 pub table_moved : (u : SystemSetup) (call : Told) (seen : List Act) (old new : SystemState) → new ≡ with_table old new.table
     → LawfulMoves u call (model_view old) seen (model_view_at (model_distributor new.table) old.system_ports)
     → LawfulMoves u call (model_view old) seen (model_view new)
-table_moved u call seen old new e h =
-    subst (λ (l : List SystemPort). LawfulMoves u call (model_view old) seen (model_view_at (model_distributor new.table) l))
-    (sym (ap (λ (s : SystemState). s.system_ports) e)) h
+table_moved u call seen old new e h = grind (arith, nat_tests)
 
--- the port at the place of a number has that number
 -- the port with a number moves
 one_moves : (u : SystemSetup) (call : Told) (f : DistributorFacts) (n i : ℕ) (system_ports : List SystemPort) (s : SystemPort)
     (q : Machines) (seen : List Act) → Rises 0 (port_numbers system_ports) → port_index n system_ports ≡ Some i
@@ -180,96 +145,41 @@ place_moves u call f R n old new seen r k (Some i) e h =
 
 -- an LACPDU is taken if the link is enabled
 where_awake : (b x : Bool) → b ≡ true → (if b then x else true) ≡ true → x ≡ true
-where_awake true x e h = h
-where_awake false x e h = absurd (false≢true e)
+where_awake b x e h = grind (arith, nat_tests)
 
 clash : (b : Bool) → b ≡ true → b ≡ false → ⊥
-clash true h k = cc
-clash false h k = cc
+clash b h k = grind (arith, nat_tests)
 
 takes_moves : (u : SystemSetup) (n : ℕ) (v : Lacpdu) (p q : Machines) → p.enabled ≡ true → can_receive p ≡ true → ProcessesLacpdu v p q
     → QuietMoves u (Told_receive n (Some (Lacp (lacp_message v)))) n p (Took n (lacp_message v) ∷ []) q
-takes_moves u n v p q e a h = elim h [
-  | inl f ↦ taking_moves u n v p q f
-  | inr r ↦ absurd
-      (clash (can_receive_in p.receive && p.enabled)
-      (and_from (can_receive_in p.receive) p.enabled (where_awake p.enabled (can_receive_in p.receive) e a) e) r.0.0)
-]
+takes_moves u n v p q e a h = grind (arith, nat_tests, taking_moves, clash, and_from, where_awake)
 
 -- a port that says synchronized is a member
 where_member : (b x rest : Bool) → ((if b then x else true) && rest) ≡ true → b ≡ true → x ≡ true
-where_member true true rest h e = refl
-where_member true false rest h e = absurd (false≢true h)
-where_member false x rest h e = absurd (false≢true e)
+where_member b x rest h e = grind (arith, nat_tests)
 
 is_member : (c : Choice) → is_selected c ≡ true → IsSome (selected_number c)
-is_member (Selected agg) h = refl
-is_member Unselected h = absurd (false≢true h)
-is_member (Standby agg) h = absurd (false≢true h)
+is_member c h = grind (arith, nat_tests)
 
 -- what a port heard
 not_both : (v : Lacpdu) (r : Received) → ProcessLacpdu v ≡ Answered r → ⊥
 not_both v r e = cc
 
-not_taken : (v : Lacpdu) (m : Marker) → ProcessLacpdu v ≡ Response m → ⊥
-not_taken v m e = cc
-
 not_answered : (r : Received) (m : Marker) → Answered r ≡ Response m → ⊥
 not_answered r m e = cc
-
-abbrev taken_or : Lacpdu → FrameEffect → Lacpdu
-taken_or d (ProcessLacpdu v) = v
-taken_or d effect = d
 
 abbrev answer_or : Received → FrameEffect → Received
 answer_or d (Answered r) = r
 answer_or d effect = d
 
-abbrev response_or : Marker → FrameEffect → Marker
-response_or d (Response m) = m
-response_or d effect = d
-
-taken_by : (system_port : SystemPort) (octets : List ℕ) (v : Lacpdu) (frame : ReceivedFrame) → IsFrame octets frame
-    → GivesEffect system_port frame (ProcessLacpdu v) → IsFrame octets (Carries (pdu.Lacpdu v))
-taken_by system_port octets v Runt h m = absurd (not_both v Dropped m)
-taken_by system_port octets v Data_frame h m = absurd (not_both v (up_or_dropped (collecting system_port.port)) m)
-taken_by system_port octets v (Faulty fault) h m = absurd (not_both v (Ignored fault) m)
-taken_by system_port octets v (Carries (pdu.Lacpdu w)) h m = subst (λ x. IsFrame octets (Carries (pdu.Lacpdu x)))
-    (sym (ap (taken_or v) m)) h
-taken_by system_port octets v (Carries (pdu.Marker m)) h k = absurd (no_marker (answer_of m.kind m) k)
-  where
-    no_marker : (o : Option Marker) → AnswersMarker system_port.mac m o (ProcessLacpdu v) → ⊥
-    no_marker None e = not_taken v m e
-    no_marker (Some answer) e = not_both v _ e.3
-
 heard_taken : (system_port : SystemPort) (octets : List ℕ) (v : Lacpdu) (b : Bool) → ParsesWhere b system_port octets (ProcessLacpdu v)
     → (b ≡ true) × IsFrame octets (Carries (pdu.Lacpdu v))
-heard_taken system_port octets v false h = absurd (not_both v Disabled h)
-heard_taken system_port octets v true h = (refl, taken_by system_port octets v h.0 h.1 h.2)
+heard_taken system_port octets v b h = grind (arith, nat_tests)
 
 -- a response came
-not_marked : (m : Marker) (r : Received) → Response m ≡ Answered r → ⊥
-not_marked m r e = not_answered r m (sym e)
-
-is_response : (k : MarkerKind) (m w : Marker) (mac : List ℕ) → m.kind ≡ k → AnswersMarker mac m (answer_of k m) (Response w) → (w ≡ m)
-    × (m.kind ≡ kind.Response)
-is_response kind.Response m w mac e h = (ap (response_or w) h, e)
-is_response kind.Information m w mac e h = absurd (not_marked w _ h.3)
-
-response_by : (system_port : SystemPort) (octets : List ℕ) (w : Marker) (frame : ReceivedFrame) → IsFrame octets frame
-    → GivesEffect system_port frame (Response w) → IsFrame octets (Carries (pdu.Marker w)) × (w.kind ≡ kind.Response)
-response_by system_port octets w Runt h m = absurd (not_marked w Dropped m)
-response_by system_port octets w Data_frame h m = absurd (not_marked w (up_or_dropped (collecting system_port.port)) m)
-response_by system_port octets w (Faulty fault) h m = absurd (not_marked w (Ignored fault) m)
-response_by system_port octets w (Carries (pdu.Lacpdu v)) h m = absurd (not_taken v w (sym m))
-response_by system_port octets w (Carries (pdu.Marker m)) h a =
-    let x = is_response m.kind m w system_port.mac refl a in
-    (subst (λ y. IsFrame octets (Carries (pdu.Marker y))) (sym x.0) h, ap (λ (y : Marker). y.kind) x.0 ∙ x.1)
-
 heard_response : (system_port : SystemPort) (octets : List ℕ) (w : Marker) (b : Bool) → ParsesWhere b system_port octets (Response w)
     → IsFrame octets (Carries (pdu.Marker w)) × (w.kind ≡ kind.Response)
-heard_response system_port octets w false h = absurd (not_marked w Disabled h)
-heard_response system_port octets w true h = response_by system_port octets w h.0 h.1 h.2
+heard_response system_port octets w b h = grind (arith, nat_tests)
 
 -- an answer, without effect
 abbrev Tellable : SystemState → SystemSetup → DistributorFacts → ℕ → List ℕ → List SystemPort → Received → Type 0
@@ -345,10 +255,7 @@ nothing old call answer new told t s e = (told, [], t, s, ([], tt, refl, ap mode
 
 -- a response for this system frees what waits for it
 names_us : (s : SystemState) (n : ℕ) (m : Marker) → is_own_response s n m ≡ true → (m.port ≡ n) × (m.system ≡ s.system.mac)
-names_us s n m h = (
-  (Decides-eqb m.port n).0 ((and_parts (m.port == n) (bytes_eq m.system s.system.mac) h).0),
-  (bytes_eq-Decides m.system s.system.mac).0 ((and_parts (m.port == n) (bytes_eq m.system s.system.mac) h).1),
-)
+names_us s n m h = grind (arith, nat_tests, Decides-eqb, and_parts, bytes_eq-Decides)
 
 releases : (b : Bool) (n port : ℕ) (octets : List ℕ) (m : Marker) (old : SystemState) (answer : Received) (new : SystemState) → port ≡ n
     → is_own_response old port m ≡ b → IsFrame octets (Carries (pdu.Marker m)) → m.kind ≡ kind.Response
@@ -436,12 +343,7 @@ sends_lacpdu old n i system_port answer new r rested e g h =
     (Told.Transmit, seen, refl, (pdu.Lacpdu v, (system_port.mac, h.1.0, h.1.1, h.1.2, h.1.3), refl), whole)
 
 pub below : (o : Option ℕ) (b : Bool) (n id : ℕ) → cond b (cond (ltb n (2 ^ 32)) (Some n) None) None ≡ Some id → id < 2 ^ 32
-below o false n id e = absurd (none-some id e)
-below o true n id e = fits (ltb n (2 ^ 32)) refl e
-  where
-    fits : (b : Bool) → ltb n (2 ^ 32) ≡ b → cond b (Some n) None ≡ Some id → id < 2 ^ 32
-    fits true t x = subst (λ m. m < 2 ^ 32) (same_Some n id x) (ltb-true n (2 ^ 32) t)
-    fits false t x = absurd (none-some id x)
+below o b n id e = grind (arith, nat_tests)
 
 -- a marker goes out
 pub marker_goes : (id : ℕ) (old : SystemState) (n port : ℕ) (mac : List ℕ) (answer : Option (List ℕ)) (new : SystemState)
@@ -462,9 +364,7 @@ marker_goes id old n port mac answer new fits p h =
 sends_marker : (o : Option ℕ) (old : SystemState) (n port : ℕ) (mac : List ℕ) (answer : Option (List ℕ)) (new : SystemState)
     → marker_due old.table port ≡ o → port ≡ n
     → SendsMarkerOf o port mac old answer new → JoinedByLawfulMoves old (Transmit n) (reply.Transmit (Ok answer)) new
-sends_marker None old n port mac answer new d p h =
-    subst (λ a. JoinedByLawfulMoves old (Transmit n) (reply.Transmit (Ok a)) new) (sym h.0)
-    (nothing old (Transmit n) (reply.Transmit (Ok None)) new Told.Transmit refl refl h.1)
+sends_marker None old n port mac answer new d p h = grind (arith, nat_tests)
 sends_marker (Some id) old n port mac answer new d p h =
     marker_goes id old n port mac answer new (below None (ltb 0 (count_conversations (wants_marker port) old.table)) old.table.next id d) p h
 
@@ -472,9 +372,7 @@ sends_where : (up due : Bool) (old : SystemState) (n i : ℕ) (system_port : Sys
     → Rises 0 (port_numbers old.system_ports) → PortsConsistent old.system_ports → port_index n old.system_ports ≡ Some i
     → slice_get old.system_ports i ≡ Some system_port
     → TransmitsIf up due i system_port old answer new → JoinedByLawfulMoves old (Transmit n) (reply.Transmit (Ok answer)) new
-sends_where false due old n i system_port answer new r rested e g h =
-    subst (λ a. JoinedByLawfulMoves old (Transmit n) (reply.Transmit (Ok a)) new) (sym h.0)
-    (nothing old (Transmit n) (reply.Transmit (Ok None)) new Told.Transmit refl refl h.1)
+sends_where false due old n i system_port answer new r rested e g h = grind (arith, nat_tests)
 sends_where true true old n i system_port answer new r rested e g h = sends_lacpdu old n i system_port answer new r rested e g h
 sends_where true false old n i system_port answer new r rested e g h =
     sends_marker (marker_due old.table system_port.number) old n system_port.number system_port.mac answer new refl
@@ -484,8 +382,7 @@ sends_place : (old : SystemState) (n : ℕ) (o : Option ℕ) (answer : Option (L
     → Rises 0 (port_numbers old.system_ports) → PortsConsistent old.system_ports → port_index n old.system_ports ≡ o
     → TransmitsAt o old answer new → JoinedByLawfulMoves old (Transmit n) (reply.Transmit (Ok answer)) new
 sends_place old n None answer new r rested e h = absurd h
-sends_place old n (Some i) answer new r rested e h = sends_where h.0.port.enabled (is_due h.0.port) old n i h.0
-    answer new r rested e h.1 h.2
+sends_place old n (Some i) answer new r rested e h = grind (arith, nat_tests, sends_where)
 
 -- what becomes of a conversation
 offers : (gives : ℕ → ℕ → ℕ → Type 0) (agg : AggId) (octets : List ℕ) (old : SystemState) (answer : Result ℕ SystemFault)
@@ -505,37 +402,24 @@ offers gives agg octets old (Ok port) new r rested h =
       table_moved u Told.Offer seen old new h.2.1
           (carrying_moves u Told.Offer agg old.system_ports old.table new.table seen r rested.1 moves),
     )
-offers gives agg octets old (Err fault) new r rested h = nothing old (Offer agg octets) (reply.Offer (Err fault)) new
-    Told.Offer refl refl h.1
+offers gives agg octets old (Err fault) new r rested h = grind (arith, nat_tests, nothing)
 
 pub if_ok : (b : Bool) (x : Result Assignment SystemFault) (fault : SystemFault) (s : Assignment)
     → (if b then x else Err fault) ≡ Ok s → x ≡ Ok s
-if_ok true x fault s e = e
-if_ok false x fault s e = absurd cc
+if_ok b x fault s e = grind (arith, nat_tests)
 
 pub known_ok : (b : Bool) (x : Result Assignment DistFault) (fault : DistFault) (s : Assignment)
     → in_system (if b then x else Err fault) ≡ Ok s → x ≡ Ok s
-known_ok true (Ok a) fault s e = let same : a ≡ s = cc in ap Ok same
-known_ok true (Err f) fault s e = absurd cc
-known_ok false x fault s e = absurd cc
+known_ok b x fault s e = grind (arith, nat_tests)
 
 -- what a conversation that is moved, or freed by force, becomes
 pub moved_to : (agg : AggId) (conv port : ℕ) (old : SystemState) (s : Assignment) → system_move_result old agg conv port ≡ Ok s
     → move_result (next_identifier old.table) (distributing agg old.system_ports) port (assignment_of old.table agg.0 conv) ≡ Ok s
-moved_to agg conv port old s e =
-    let answer : Result Assignment DistFault = move_result (next_identifier old.table) (distributing agg old.system_ports) port
-    (assignment_of old.table agg.0 conv) in
-    let inner : Result Assignment SystemFault = in_system (or_not_assigned old conv answer) in
-    known_ok (nat_lt conv (conversation_count old)) answer NotAssigned s
-    (if_ok (is_some (port_index port old.system_ports)) inner NoPort s
-    (if_ok (has_aggregator old agg) (if is_some (port_index port old.system_ports) then inner else Err NoPort) NoAggregator s e))
+moved_to agg conv port old s e = grind (arith, nat_tests, known_ok, if_ok)
 
 pub forced_to : (agg : AggId) (conv : ℕ) (old : SystemState) (s : Assignment) → system_force_result old agg conv ≡ Ok s
     → force_result (assignment_of old.table agg.0 conv) ≡ Ok s
-forced_to agg conv old s e =
-    let answer : Result Assignment DistFault = force_result (assignment_of old.table agg.0 conv) in
-    known_ok (nat_lt conv (conversation_count old)) answer NotAssigned s
-    (if_ok (has_aggregator old agg) (in_system (or_not_assigned old conv answer)) NoAggregator s e)
+forced_to agg conv old s e = grind (arith, nat_tests, known_ok, if_ok)
 
 moves_conversation : (agg : AggId) (conv port : ℕ) (what : Result Assignment SystemFault) (old : SystemState)
     (answer : Result Unit SystemFault) (new : SystemState) → system_move_result old agg conv port ≡ what
@@ -548,9 +432,7 @@ moves_conversation agg conv port (Ok s) old answer new e h =
     (distributing agg old.system_ports) s (moved_to agg conv port old s e) h.1.0 in
     subst (λ a. JoinedByLawfulMoves old (Move_conversation agg conv port) (reply.MoveConversation a) new) (sym h.0)
     (call, [], refl, refl, table_moved u call [] old new h.1.1 (table_moves u call old.system_ports old.table new.table [] moves))
-moves_conversation agg conv port (Err fault) old answer new e h =
-    subst (λ a. JoinedByLawfulMoves old (Move_conversation agg conv port) (reply.MoveConversation a) new) (sym h.0)
-    (nothing old (Move_conversation agg conv port) (reply.MoveConversation (Err fault)) new Told.Move_conversation refl refl h.1)
+moves_conversation agg conv port (Err fault) old answer new e h = grind (arith, nat_tests, nothing)
 
 forces : (agg : AggId) (conv : ℕ) (what : Result Assignment SystemFault) (old : SystemState) (answer : Result Unit SystemFault)
     (new : SystemState) → system_force_result old agg conv ≡ what
@@ -561,9 +443,7 @@ forces agg conv (Ok s) old answer new e h =
     let moves = force_moves old.system.mac old.table new.table agg.0 conv s (forced_to agg conv old s e) h.1.0 in
     subst (λ a. JoinedByLawfulMoves old (Force agg conv) (reply.Force a) new) (sym h.0)
     (call, [], refl, refl, table_moved u call [] old new h.1.1 (table_moves u call old.system_ports old.table new.table [] moves))
-forces agg conv (Err fault) old answer new e h =
-    subst (λ a. JoinedByLawfulMoves old (Force agg conv) (reply.Force a) new) (sym h.0)
-    (nothing old (Force agg conv) (reply.Force (Err fault)) new (Told.Force agg.0 conv) refl refl h.1)
+forces agg conv (Err fault) old answer new e h = grind (arith, nat_tests, nothing)
 
 -- the own effects of a tick and of a link
 ticks : (u : SystemSetup) (old mid : SystemState) → Rises 0 (port_numbers old.system_ports) → Ticks old mid

@@ -1,9 +1,8 @@
 -- Every call ends in a state in which one more settling has nothing to do.
-use Rattle.lagsystem.proofs.Common.{Bool, List, Some, ap, false, not, refl, slice_get, slice_set, subst, sym, true, ℕ, ◌&&◌, ◌≡◌, NoPeriodic}
-use Rattle.lagsystem.proofs.Common.{Machines, same_periodic_state, after_sending, AggregatorsValue, Reply, SystemPort, Call, ChangesParty}
-use Rattle.lagsystem.proofs.Common.{OnlyPortChangesBy, ProcessesLacpdu, SetsLink, Step, ThenSettles, Ticks, IsFirst, MuxIsSettled, MuxesAreSettled}
-use Rattle.lagsystem.proofs.Common.{PeriodicIsSettled, PeriodicsAreSettled, NoneIsNext, HasPorts, SystemState, aggregators_value, port_index}
-use Rattle.lagsystem.proofs.Common.{port_numbers, with_system_ports, views}
+use Rattle.lagsystem.proofs.Common.{Bool, List, Some, ap, arith, false, refl, slice_get, slice_set, subst, sym, ℕ, ◌&&◌, ◌≡◌, nat_tests, Machines}
+use Rattle.lagsystem.proofs.Common.{after_sending, Reply, SystemPort, Call, ChangesParty, OnlyPortChangesBy, ProcessesLacpdu, SetsLink, Step}
+use Rattle.lagsystem.proofs.Common.{ThenSettles, Ticks, IsFirst, MuxIsSettled, MuxesAreSettled, PeriodicIsSettled, PeriodicsAreSettled, NoneIsNext}
+use Rattle.lagsystem.proofs.Common.{HasPorts, SystemState, aggregators_value, port_index, port_numbers, with_system_ports, views}
 use Rattle.lagsystem.proofs.Keeps.{Keeps, Step-frame, Step-ports, keeps_link, keeps_place, keeps_tick, settling_keeps}
 use Rattle.lagsystem.proofs.Quieting.{settling_none, settling_quiet}
 use Rattle.lagsystem.proofs.Preserves.{Step-preserves_ports}
@@ -16,12 +15,7 @@ IsQuiet s = MuxesAreSettled s.keys s.system_ports × PeriodicsAreSettled s.syste
 
 -- the ports stay
 same_quiet : (s t : SystemState) → aggregators_value t ≡ aggregators_value s → t.system_ports ≡ s.system_ports → IsQuiet s → IsQuiet t
-same_quiet s t k e q = (
-  subst (λ l. MuxesAreSettled t.keys l) (sym e)
-      (subst (λ (a : AggregatorsValue). MuxesAreSettled a.keys s.system_ports) (sym k) q.0),
-  subst PeriodicsAreSettled (sym e) q.1,
-  subst (λ l. NoneIsNext (aggregators_value t) (views l)) (sym e) (subst (λ a. NoneIsNext a (views s.system_ports)) (sym k) q.2),
-)
+same_quiet s t k e q = grind (arith, nat_tests)
 
 settled_quiet : (own : SystemState → SystemState → Type 0) (old new : SystemState) → Rises 0 (port_numbers old.system_ports)
     → ((mid : SystemState) → own old mid → Keeps old mid) → ThenSettles own old new → IsQuiet new
@@ -30,14 +24,10 @@ settled_quiet own old new r k h =
 
 -- sending
 and_none : (b : Bool) → false ≡ (b && false)
-and_none true = refl
-and_none false = refl
+and_none b = grind (arith, nat_tests)
 
 sent_paced : (s : SystemPort) → PeriodicIsSettled s → PeriodicIsSettled (record s { port = after_sending s.port })
-sent_paced s h = record {
-  rows = h.rows;
-  cleared = λ i. record (after_sending s.port) { ntt = and_none (not (same_periodic_state NoPeriodic s.port.periodic)) i };
-}
+sent_paced s h = grind (arith, nat_tests, and_none)
 
 sent_quiet : (old : SystemState) (i : ℕ) (s : SystemPort) → slice_get old.system_ports i ≡ Some s → IsQuiet old
     → IsQuiet (with_system_ports old (slice_set old.system_ports i (record s { port = after_sending s.port })))

@@ -1,8 +1,7 @@
 -- The conversations that leave stopped ports are those on ports that distributed before the call and no longer do.
 use Rattle.lagsystem.proofs.Common.{Bool, List, None, Option, Some, [], ap, arith, cond, eqb, eqb-true, false, filter, if◌then◌else◌, inl, inr}
-use Rattle.lagsystem.proofs.Common.{length, map, not, refl, subst, sym, true, ℕ, ◌&&◌, ◌+◌, ◌<◌, ◌==◌, ◌||◌, ◌∙◌, ◌∷◌, ◌≡◌, and_right, cases_Bool}
-use Rattle.lagsystem.proofs.Common.{false≢true, or_from, true≢false, Decides-eqb, nat_tests, AggId, Choice, Selected, Standby, Unselected}
-use Rattle.lagsystem.proofs.Common.{CollectingDistributing, same_mux_state, has_chosen, Assignment, Flushing, Free, On, Wanted, is_among}
+use Rattle.lagsystem.proofs.Common.{length, map, not, refl, subst, sym, true, ℕ, ◌&&◌, ◌+◌, ◌<◌, ◌||◌, ◌∙◌, ◌∷◌, ◌≡◌, cases_Bool, false≢true}
+use Rattle.lagsystem.proofs.Common.{nat_tests, AggId, Choice, CollectingDistributing, same_mux_state, has_chosen, Assignment, On, is_among}
 use Rattle.lagsystem.proofs.Common.{ChangesAssignments, assignment_of, SystemPort, WereInUse, after_holding, aggregators_in_use, has_stopped, stopped}
 use Rattle.lagsystem.proofs.Common.{aggregator_numbered, collecting, distributes_in, distributing, selected_aggregator, HoldsConversations}
 use Rattle.lagsystem.proofs.Common.{held_unless_on, SystemState, port_numbers, with_table}
@@ -15,8 +14,7 @@ on agg system_ports p = is_among (distributing agg system_ports) p
 one_more : (b : Bool) (s : SystemPort) (rest : List SystemPort) (p : ℕ)
     → is_among (map (λ (x : SystemPort). x.number) (cond b (s ∷ rest) rest)) p ≡ ((b && eqb s.number p)
     || is_among (map (λ (x : SystemPort). x.number) rest) p)
-one_more true s rest p = refl
-one_more false s rest p = refl
+one_more b s rest p = grind (arith, nat_tests)
 
 pub on_more : (agg : AggId) (s : SystemPort) (system_ports : List SystemPort) (p : ℕ)
     → on agg (s ∷ system_ports) p ≡ ((distributes_in agg s && eqb s.number p) || on agg system_ports p)
@@ -30,57 +28,39 @@ pub none_on : (agg : AggId) (low : ℕ) (system_ports : List SystemPort) (p : �
     → on agg system_ports p ≡ false
 none_on agg low [] p r l = refl
 none_on agg low (s ∷ system_ports) p r l =
-    on_more agg s system_ports p
-    ∙ or_from (distributes_in agg s && eqb s.number p) (on agg system_ports p)
-    (and_right (distributes_in agg s) (eqb s.number p) (other p s.number (omega (arith, l, r.0))))
-    (none_on agg s.number system_ports p r.1 (omega (arith, l, r.0)))
+    grind (arith, nat_tests, none_on agg s.number system_ports p r.1 (omega (arith, l, r.0)))
 
 none_stopped : (low : ℕ) (before : List (Option AggId)) (system_ports : List SystemPort) (p : ℕ) → Rises low (port_numbers system_ports)
     → p < low + 1 → stopped before system_ports p ≡ false
 none_stopped low [] system_ports p r l = refl
 none_stopped low (was ∷ before) [] p r l = refl
 none_stopped low (was ∷ before) (s ∷ system_ports) p r l =
-    or_from ((s.number == p) && has_stopped was s) (stopped before system_ports p)
-    (ap (λ (b : Bool). b && has_stopped was s) (other p s.number (omega (arith, l, r.0))))
-    (none_stopped s.number before system_ports p r.1 (omega (arith, l, r.0)))
+    grind (arith, nat_tests, none_stopped s.number before system_ports p r.1 (omega (arith, l, r.0)))
 
 -- the port was carrying in the aggregator if it distributed in it
 given_agg : (agg : AggId) (c : Choice) (b : Bool) → (has_chosen agg c && b) ≡ true → (if b then selected_aggregator c else None) ≡ Some agg
-given_agg agg Unselected b h = absurd (false≢true h)
-given_agg agg (Standby a) b h = absurd (false≢true h)
-given_agg agg (Selected a) true h = let same = (Decides-eqb a.0 agg.0).0 (left (a.0 == agg.0) h) in λ i. Some (record { 0 = same i })
-  where
-    left : (x : Bool) → (x && true) ≡ true → x ≡ true
-    left true e = refl
-    left false e = absurd (false≢true e)
-given_agg agg (Selected a) false h = absurd (false≢true (sym (and_right (a.0 == agg.0) false refl) ∙ h))
+given_agg agg c b h = grind (arith, nat_tests)
 
 where_it_was : (agg : AggId) (s : SystemPort) → distributes_in agg s ≡ true → collecting s.port ≡ Some agg
 where_it_was agg s h = given_agg agg s.port.choice (same_mux_state CollectingDistributing s.port.mux) h
 
 pub from_here : (d t rest : Bool) → t ≡ true → rest ≡ false → ((d && t) || rest) ≡ true → d ≡ true
-from_here true t rest h k e = refl
-from_here false t rest h k e = absurd (false≢true (sym k ∙ e))
+from_here d t rest h k e = grind (arith, nat_tests)
 
 pub from_rest : (d t rest : Bool) → t ≡ false → ((d && t) || rest) ≡ rest
-from_rest true t rest h = ap (λ (b : Bool). b || rest) h
-from_rest false t rest h = refl
+from_rest d t rest h = grind (arith, nat_tests)
 
 only_here : (d t rest : Bool) → t ≡ true → rest ≡ false → ((d && t) || rest) ≡ d
-only_here true t rest h k = ap (λ (b : Bool). b || rest) h
-only_here false t rest h k = k
+only_here d t rest h k = grind (arith, nat_tests)
 
 same_head : (m n : ℕ) (ms ns : List ℕ) → m ∷ ms ≡ n ∷ ns → (m ≡ n) × (ms ≡ ns)
 same_head m n ms ns e = (cc, cc)
 
 stopped_more : (t h : Bool) (rest : Bool) → t ≡ true → rest ≡ false → ((t && h) || rest) ≡ h
-stopped_more true true rest e k = refl
-stopped_more true false rest e k = k
-stopped_more false h rest e k = absurd (false≢true e)
+stopped_more t h rest e k = grind (arith, nat_tests)
 
 stopped_rest : (t h rest : Bool) → t ≡ false → ((t && h) || rest) ≡ rest
-stopped_rest true h rest e = absurd (true≢false e)
-stopped_rest false h rest e = refl
+stopped_rest t h rest e = grind (arith, nat_tests)
 
 -- a port that carried a conversation stopped exactly if it no longer distributes in its aggregator
 pub stops_where : (agg : AggId) (p low : ℕ) (olds news : List SystemPort) → Rises low (port_numbers olds)
@@ -114,14 +94,7 @@ stops_where agg p low (o ∷ olds) (n ∷ news) r e h =
 -- what leaves these ports is left on the others
 left_by : (ports : List ℕ) (leaves : ℕ → Bool) (a : Assignment) → ((p : ℕ) → a ≡ On p → leaves p ≡ not (is_among ports p))
     → after_holding leaves a ≡ held_unless_on ports a
-left_by ports leaves (Free preferred) h = refl
-left_by ports leaves (Wanted p preferred) h = refl
-left_by ports leaves (Flushing p id preferred age) h = refl
-left_by ports leaves (On p) h = turned (leaves p) (is_among ports p) (h p refl)
-  where
-    turned : (b d : Bool) → b ≡ not d → (if b then Wanted p None else On p) ≡ (if d then On p else Wanted p None)
-    turned b true e = ap (λ (x : Bool). if x then Wanted p None else On p) e
-    turned b false e = ap (λ (x : Bool). if x then Wanted p None else On p) e
+left_by ports leaves a h = grind (arith, nat_tests)
 
 -- step 6 of settling
 pub leaves_made : (were : List (Option AggId)) (start mid new : SystemState) → WereInUse were start
@@ -152,5 +125,4 @@ numbers_many (s ∷ system_ports) = omega (arith, numbers_many system_ports)
 
 pub were_many : (were : List (Option AggId)) (start mid : SystemState) → WereInUse were start
     → port_numbers mid.system_ports ≡ port_numbers start.system_ports → length were ≡ length mid.system_ports
-were_many were start mid w n = ap length w.before ∙ carriers_many w.old.system_ports ∙ ap length (sym (n ∙ w.same))
-    ∙ numbers_many mid.system_ports
+were_many were start mid w n = grind (arith, nat_tests, carriers_many, numbers_many)

@@ -1,31 +1,20 @@
 -- Rows that are told one after another.
-use Rattle.lagsystem.proofs.Common.{Bool, List, ap, arith, cond, false, get_or, inl, inr, length, nat_lt, refl, set, subst, suc, sym, true, ℕ, ◌+◌}
-use Rattle.lagsystem.proofs.Common.{◌<◌, ◌∙◌, ◌≡◌, ◌≢◌, ◌≤◌, ◌⊎◌, cases_Bool, nat_tests, get_or-set_other, get_or-set_same, length-set, TellsRows}
+use Rattle.lagsystem.proofs.Common.{Bool, List, ap, arith, cond, get_or, inl, inr, length, nat_lt, set, subst, sym, ℕ, ◌+◌, ◌<◌, ◌∙◌, ◌≡◌, ◌≤◌, ◌⊎◌}
+use Rattle.lagsystem.proofs.Common.{cases_Bool, nat_tests, get_or-set_other, get_or-set_same, length-set, TellsRows}
 use mir.Val.{bool_byte}
 use Rattle.distributor.specs.Conversations.{sum_below}
 
 pub no_rows : (A : Type 0) (default : A) (value : ℕ → A) (mark : A → A → Bool) (before : List A) (unmarked : List Bool)
     → TellsRows A default value mark 0 before before unmarked unmarked 0
 unfolding sum_below
-no_rows A default value mark before unmarked = record {
-  as_long = refl;
-  marks_as_long = refl;
-  values = λ k l. absurd (omega (arith, l));
-  marks = λ k l. absurd (omega (arith, l));
-  behind = λ k l. refl;
-  marks_behind = λ k l. refl;
-  counted = refl;
-}
+no_rows A default value mark before unmarked = grind (arith, nat_tests)
 
 pub below_or_at : (k n : ℕ) → k < n + 1 → (k < n) ⊎ (k ≡ n)
 below_or_at k n l = elim (cases_Bool (nat_lt k n)) [ inl t ↦ inl (grind (arith, nat_tests)) | inr f ↦ inr (grind (arith, nat_tests)) ]
 
 one_counted : (n : ℕ) (f : ℕ → ℕ) (count more : ℕ) → count ≡ sum_below f n → more ≡ f n → count + more ≡ sum_below f (n + 1)
 unfolding sum_below
-one_counted n f count more h e = (λ i. h i + e i) ∙ ap (sum_below f) (next n)
-  where
-    next : (n : ℕ) → suc n ≡ n + 1
-    next n = omega arith
+one_counted n f count more h e = grind (arith, nat_tests)
 
 -- one row more: its value and its mark are set
 module _ (A : Type 0) (default : A) (value : ℕ → A) (mark : A → A → Bool) (n : ℕ) (before mid : List A) (unmarked marks : List Bool) (count : ℕ)
@@ -33,42 +22,13 @@ module _ (A : Type 0) (default : A) (value : ℕ → A) (mark : A → A → Bool
   pub one_row_more : TellsRows A default value mark n before mid unmarked marks count → n < length before → n < length unmarked
       → x ≡ value n → b ≡ mark (get_or before n default) (value n)
       → TellsRows A default value mark (n + 1) before (set mid n x) unmarked (set marks n b) (count + cond b 1 0)
-  one_row_more h l m e f = record {
-    as_long = length-set mid n x ∙ h.as_long;
-    marks_as_long = length-set marks n b ∙ h.marks_as_long;
-    values = λ k below. elim (below_or_at k n below) [
-      | inl less ↦ get_or-set_other mid n k x default (apart k less) ∙ h.values k less
-      | inr same ↦ ap (λ j. get_or (set mid n x) j default) same ∙ get_or-set_same mid n x default within ∙ e ∙ ap value (sym same)
-    ];
-    marks = λ k below. elim (below_or_at k n below) [
-      | inl less ↦ get_or-set_other marks n k b false (apart k less) ∙ h.marks k less
-      | inr same ↦ ap (λ j. get_or (set marks n b) j false) same ∙ get_or-set_same marks n b false inside ∙ f
-          ∙ ap (λ j. mark (get_or before j default) (value j)) (sym same)
-    ];
-    behind = λ k past. get_or-set_other mid n k x default (beyond k past) ∙ h.behind k (omega (arith, past));
-    marks_behind = λ k past. get_or-set_other marks n k b false (beyond k past) ∙ h.marks_behind k (omega (arith, past));
-    counted = one_counted n (λ k. cond (mark (get_or before k default) (value k)) 1 0) count (cond b 1 0) h.counted (ap (λ c. cond c 1 0) f);
-  }
-    where
-      within : n < length mid
-      within = omega (arith, l, h.as_long)
-
-      inside : n < length marks
-      inside = omega (arith, m, h.marks_as_long)
-
-      apart : (k : ℕ) → k < n → k ≢ n
-      apart k less s = omega (arith, less, s)
-
-      beyond : (k : ℕ) → n + 1 ≤ k → k ≢ n
-      beyond k past s = omega (arith, past, s)
+  one_row_more h l m e f = grind (arith, nat_tests, length-set, below_or_at, get_or-set_other, get_or-set_same, one_counted)
 
 bool_bit : (b : Bool) → bool_byte b ≡ cond b 1 0
-bool_bit true = refl
-bool_bit false = refl
+bool_bit b = grind (arith, nat_tests)
 
 bit_few : (b : Bool) → bool_byte b ≤ 1
-bit_few true = omega arith
-bit_few false = omega arith
+bit_few b = grind (arith, nat_tests)
 
 -- a count that a row made at most one more
 pub few_more : (n count more : ℕ) (b : Bool) → more ≡ bool_byte b → count ≤ n → count + more ≤ n + 1

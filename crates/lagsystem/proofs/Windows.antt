@@ -2,10 +2,10 @@
 use Rattle.lagsystem.proofs.Common.{Bool, List, None, Ok, Option, Some, [], ap, append-nil, append_assoc, arith, cond, eqb-true, false, find, get_or}
 use Rattle.lagsystem.proofs.Common.{if◌then◌else◌, length, length-append, nat_lt, option_map, refl, slice_get, slice_set, subst, suc, sym, true, zero}
 use Rattle.lagsystem.proofs.Common.{ℕ, ◌&&◌, ◌++◌, ◌+◌, ◌<◌, ◌==◌, ◌∙◌, ◌∷◌, ◌≡◌, ◌≤◌, and_parts, nat_tests, position-Some, get_or_from_slice_get}
-use Rattle.lagsystem.proofs.Common.{same_Some, slice_get_past, AllByRecursion, AllZip, position_or_len, SystemId, Choice, Lacpdu, read_field, Setup}
-use Rattle.lagsystem.proofs.Common.{Machines, mux_rows, RunsPeriodic, receive_rows, RunsToRest, Starts, before_start, after_sending, aged, count_down}
-use Rattle.lagsystem.proofs.Common.{is_due, Reaches-keeps, PortChange, PortConfig, Reply, SystemPort, Call, ChangesParty, OnlyPortChangesBy}
-use Rattle.lagsystem.proofs.Common.{PortAtChangesBy, ProcessesLacpdu, SetsLink, SetsPortEnabled, Step, TableRun, ThenSettles, Transmit, changed_party}
+use Rattle.lagsystem.proofs.Common.{slice_get_past, AllByRecursion, AllZip, position_or_len, SystemId, Choice, Lacpdu, read_field, Setup, Machines}
+use Rattle.lagsystem.proofs.Common.{mux_rows, RunsPeriodic, receive_rows, RunsToRest, Starts, before_start, after_sending, aged, count_down, is_due}
+use Rattle.lagsystem.proofs.Common.{Reaches-keeps, PortChange, PortConfig, Reply, SystemPort, Call, ChangesParty, OnlyPortChangesBy, PortAtChangesBy}
+use Rattle.lagsystem.proofs.Common.{ProcessesLacpdu, SetsLink, SetsPortEnabled, Step, TableRun, ThenSettles, Transmit, changed_party}
 use Rattle.lagsystem.proofs.Common.{choice_with_link, HasJustStarted, IsFirst, setup_of, PortsChangeBy, Settling, ready_of, with_choice, SystemState}
 use Rattle.lagsystem.proofs.Common.{aggregators_value, machines_of, port_index, system_port_at, with_system_ports, views, AgesSince, AtMostThreeAges}
 use Rattle.lagsystem.proofs.Common.{EachAtMostThreeAges, StartsWithoutAges, StaysWindowed, SystemWindowLaw, WindowFromStart, remembered_sends}
@@ -18,8 +18,8 @@ use Rattle.portmachines.proofs.Windows.{ages_of, mux-same, periodic-ages, settle
 use Rattle.lagsystem.specs.declared.drive.Reply.TheVariants as reply
 use Rattle.lagsystem.proofs.Preserves.{Step-preserves_ports, lacpdu_subtype}
 use Rattle.lagsystem.proofs.PromotionLemmas.{KeptByChoices, choosing_keeps}
-use Rattle.lagsystem.proofs.Keeps.{given_number}
-use Rattle.lagsystem.proofs.Rest.{last_slots, same_slots}
+use Rattle.lagsystem.proofs.Keeps.{given_number, settling_in}
+use Rattle.lagsystem.proofs.SettlingLemmas.{RunsReady}
 
 -- one port
 
@@ -73,15 +73,13 @@ good_end now before (Some p) g = subst KeepsWindow (append-nil before) (g [] [] 
 at_first : (P Q : Machines → Type 0) (N : Type 0) (b : Bool) (x y : SystemPort) (o u : Option SystemPort) → (P x.port → Q y.port)
     → (At P N (port_in o) → At Q N (port_in u))
     → At P N (port_in (cond b (Some x) o)) → At Q N (port_in (cond b (Some y) u))
-at_first P Q N true x y o u here rest g = here g
-at_first P Q N false x y o u here rest g = rest g
+at_first P Q N b x y o u here rest g = grind (arith, nat_tests)
 
 -- the same, if y has the number of x
 at_number : (P Q : Machines → Type 0) (N : Type 0) (n : ℕ) (x y : SystemPort) (o u : Option SystemPort) → y.number ≡ x.number
     → (P x.port → Q y.port) → (At P N (port_in o) → At Q N (port_in u))
     → At P N (port_in (cond (x.number == n) (Some x) o)) → At Q N (port_in (cond (y.number == n) (Some y) u))
-at_number P Q N n x y o u e here rest g =
-    subst (λ k. At Q N (port_in (cond (k == n) (Some y) u))) (sym e) (at_first P Q N (x.number == n) x y o u here rest g)
+at_number P Q N n x y o u e here rest g = grind (arith, nat_tests)
 
 in_each : (P Q : Machines → Type 0) (N : Type 0) (R : Machines → Machines → Type 0) (n : ℕ) → ((p q : Machines) → R p q → P p → Q q)
     → (xs ys : List SystemPort) → PortsChangeBy R xs ys → In P N n xs → In Q N n ys
@@ -95,11 +93,7 @@ in_each P Q N R n move (x ∷ xs) (y ∷ ys) h g =
 in_set : (P : Machines → Type 0) (N : Type 0) (n : ℕ) (xs : List SystemPort) (i : ℕ) (s t : SystemPort) → slice_get xs i ≡ Some s
     → t.number ≡ s.number → (P s.port → P t.port) → In P N n xs → In P N n (slice_set xs i t)
 in_set P N n [] i s t e k move g = g
-in_set P N n (x ∷ xs) zero s t e k move g =
-    let o = find (is_numbered n) xs in
-    let same : x ≡ s = same_Some x s e in
-    at_number P P N n x t o o (k ∙ sym (ap (λ (y : SystemPort). y.number) same))
-    (subst (λ (y : SystemPort). P y.port → P t.port) (sym same) move) (λ h. h) g
+in_set P N n (x ∷ xs) zero s t e k move g = grind (arith, nat_tests)
 in_set P N n (x ∷ xs) (suc i) s t e k move g =
     at_number P P N n x x (find (is_numbered n) xs) (find (is_numbered n) (slice_set xs i t)) refl (λ h. h)
     (in_set P N n xs i s t e k move) g
@@ -116,8 +110,7 @@ record IsKept (P : Machines → Type 0) : Type 0 where
   party : (change : PortChange) (p q : Machines) → ChangesParty change p q → P p → P q
 
 in_given : (P : Machines → Type 0) → IsKept P → (s : SystemPort) (o : Option Choice) → P s.port → P (with_choice s o).port
-in_given P kept s None g = g
-in_given P kept s (Some choice) g = kept.select choice s.port g
+in_given P kept s o g = grind (arith, nat_tests)
 
 in_select : (P : Machines → Type 0) (N : Type 0) (n : ℕ) → IsKept P → KeptByChoices (In P N n)
 in_select P N n kept l i s o e g = in_set P N n l i s (with_choice s o) e (given_number s o) (in_given P kept s o) g
@@ -129,19 +122,12 @@ in_same P N n old new e g = subst (In P N n) (sym e) g
 in_settling : (P : Machines → Type 0) (N : Type 0) (n : ℕ) → IsKept P → (old new : SystemState) → Settling old new
     → In P N n old.system_ports → In P N n new.system_ports
 in_settling P N n kept old new h g =
-    let one = h.0 in
-    let two = h.2.0 in
-    let three = h.2.2.0 in
-    let four = h.2.2.2.0 in
-    let five = h.2.2.2.2.0 in
-    let ready = λ (p : Machines). ready_of three.keys (views three.system_ports) p.choice in
-    let g1 = in_each P P N (RunsToRest (mux_rows false)) n (kept.mux false) old.system_ports one.system_ports h.1.0 g in
-    let g2 = choosing_keeps (In P N n) (in_select P N n kept) (aggregators_value one) one.system_ports two.system_ports h.2.1.0 g1 in
-    let g3 = in_same P N n two three (same_slots two three h.2.2.1) g2 in
-    let g4 = in_each P P N (λ p q. RunsToRest (mux_rows (ready p)) p q) n (λ p q d. kept.mux (ready p) p q d) three.system_ports
-    four.system_ports h.2.2.2.1.0 g3 in
-    let g5 = in_each P P N RunsPeriodic n kept.periodic four.system_ports five.system_ports h.2.2.2.2.1.0 g4 in
-    in_same P N n five new (last_slots old new h) g5
+    let s = settling_in old new h in
+    let ready = λ (p : Machines). ready_of old.keys (views s.two) p.choice in
+    in_each P P N RunsPeriodic n kept.periodic s.four new.system_ports s.paces
+    (in_each P P N (RunsReady old.keys (views s.two)) n (λ p q d. kept.mux (ready p) p q d) s.two s.four s.runs
+    (choosing_keeps (In P N n) (in_select P N n kept) (aggregators_value old) s.one s.two s.chooses
+    (in_each P P N (RunsToRest (mux_rows false)) n (kept.mux false) old.system_ports s.one s.stops g)))
 
 good_kept : (now : ℕ) (before : List ℕ) → IsKept (λ p. Good now p before)
 good_kept now before = record {
@@ -200,9 +186,7 @@ found_set p (x ∷ xs) (suc i) s t e h k =
 found_other : (p : SystemPort → Bool) (xs : List SystemPort) (i : ℕ) (s t : SystemPort) → slice_get xs i ≡ Some s → p s ≡ false
     → p t ≡ false → find p (slice_set xs i t) ≡ find p xs
 found_other p [] i s t e h k = refl
-found_other p (x ∷ xs) zero s t e h k =
-    let here : p x ≡ false = ap p (same_Some x s e) ∙ h in
-    ap (λ b. cond b (Some t) (find p xs)) k ∙ sym (ap (λ b. cond b (Some x) (find p xs)) here)
+found_other p (x ∷ xs) zero s t e h k = grind (arith, nat_tests)
 found_other p (x ∷ xs) (suc i) s t e h k = ap (λ o. cond (p x) (Some x) o) (found_other p xs i s t e h k)
 
 good_sent : (m n now : ℕ) (before : List ℕ) (b : Bool) (xs : List SystemPort) (i : ℕ) (s t : SystemPort) → (m == n) ≡ b
@@ -239,11 +223,7 @@ abbrev after_transmit : ℕ → ℕ → ℕ → List ℕ → Option (List ℕ) �
 after_transmit m n now before answer = sends_after n now (Transmit m) (reply.Transmit (Ok answer)) before
 
 first_kind : (m n now : ℕ) (before : List ℕ) → after_frame m n before now 1 ≡ (if m == n then before ++ now ∷ [] else before)
-first_kind m n now before = with_true (m == n)
-  where
-    with_true : (b : Bool) → (if b && true then before ++ now ∷ [] else before) ≡ (if b then before ++ now ∷ [] else before)
-    with_true true = refl
-    with_true false = refl
+first_kind m n now before = grind (arith, nat_tests)
 
 -- a start
 
@@ -278,27 +258,23 @@ empty_new n system (c ∷ cs) (s ∷ ss) h =
     (λ _. empty_new n system cs ss h.1) (at_unit (port_in (cond (s.number == n) (Some s) o)))
   where
     at_unit : (o : Option Machines) → At (λ _. Unit) Unit o
-    at_unit None = tt
-    at_unit (Some p) = tt
+    at_unit o = grind (arith, nat_tests)
 
 empty_first : (n : ℕ) (s : SystemState) → IsFirst s → In IsEmpty Unit n s.system_ports
 empty_first n s h = in_settling IsEmpty Unit n empty_kept (with_system_ports s h.0) s h.2 (empty_new n s.system s.ports h.0 h.1)
 
 since_empty : (o : Option Machines) → At IsEmpty Unit o → AgesSince 0 o
-since_empty None h = tt
-since_empty (Some p) h = subst (λ ages. AllByRecursion (λ a. a ≤ 0) ages) (sym h) tt
+since_empty o h = grind (arith, nat_tests)
 
 three_empty : (o : Option Machines) → At IsEmpty Unit o → AtMostThreeAges o
-three_empty None h = tt
-three_empty (Some p) h = subst (λ ages. length ages ≤ 3) (sym h) (omega arith)
+three_empty o h = grind (arith, nat_tests)
 
 good_few : (now : ℕ) (o : Option Machines) → AgesSince now o → AtMostThreeAges o → GoodAt now (remembered_sends now o) o
 good_few now None h k = none_sent
 good_few now (Some p) h k = good_ages now p h k
 
 none_kept : (o : Option Machines) → At IsEmpty Unit o → remembered_sends 0 o ≡ []
-none_kept None h = refl
-none_kept (Some p) h = ap (sent_before 0) h
+none_kept o h = grind (arith, nat_tests)
 
 good_first : (n : ℕ) (s : SystemState) → IsFirst s → GoodIn n 0 [] s.system_ports
 good_first n s h =
@@ -348,11 +324,7 @@ good_run gives n now before old new (c ∷ cs) (r ∷ rs) h g = (
 )
 
 pub window_law : (gives : ℕ → ℕ → ℕ → Type 0) → SystemWindowLaw gives
-window_law gives old new calls replies three run n now since =
-    let o = machines_of n old in
-    let g = good_few now o since (three n) in
-    good_run gives n now (remembered_sends now o) old new calls replies run
-    (subst (λ x. GoodAt now (remembered_sends now o) (port_in x)) (found n old.system_ports) g)
+window_law gives old new calls replies three run n now since = grind (arith, nat_tests, good_few, good_run, found)
 
 pub window_from_start : (gives : ℕ → ℕ → ℕ → Type 0) → WindowFromStart gives
 window_from_start gives n old new calls replies first run = good_run gives n 0 [] old new calls replies run (good_first n old first)
@@ -369,8 +341,7 @@ abbrev IsFew : Machines → Type 0
 IsFew p = length p.ages ≤ 3
 
 aged_first : (b : Bool) (a n : ℕ) (more : List ℕ) → length more ≤ n → length (cond b (a ∷ more) more) ≤ n + 1
-aged_first true a n more h = omega (arith, h)
-aged_first false a n more h = omega (arith, h)
+aged_first b a n more h = grind (arith, nat_tests)
 
 aged_few : (ages : List ℕ) → length (aged ages) ≤ length ages
 aged_few [] = omega arith
@@ -380,17 +351,13 @@ tick_few : (p q : Machines) → RunsToRest receive_rows (count_down p) q → IsF
 tick_few p q d h = subst (λ ages. length ages ≤ 3) (sym (settles-same (count_down p) q d)) (omega (arith, aged_few p.ages, h))
 
 sent_few : (p : Machines) → is_due p ≡ true → IsFew (after_sending p)
-sent_few p due =
-    let below : nat_lt (length p.ages) 3 ≡ true = (and_parts p.ntt (nat_lt (length p.ages) 3) due).1 in
-    let few : length p.ages < 3 = grind (arith, nat_tests) in
-    omega (arith, few, length-append p.ages (0 ∷ []))
+sent_few p due = grind (arith, nat_tests, and_parts, length-append)
 
 abbrev FewIn : ℕ → List SystemPort → Type 0
 FewIn n system_ports = In IsFew Unit n system_ports
 
 at_few : (o : Option Machines) → At IsEmpty Unit o → At IsFew Unit o
-at_few None h = tt
-at_few (Some p) h = subst (λ ages. length ages ≤ 3) (sym h) (omega arith)
+at_few o h = grind (arith, nat_tests)
 
 few_kept : IsKept IsFew
 few_kept = ages_kept (λ ages. length ages ≤ 3)
@@ -415,12 +382,10 @@ few_step n gives old call answer new h g =
     }) call answer new h
 
 three_from : (o : Option Machines) → At IsFew Unit o → AtMostThreeAges o
-three_from None h = tt
-three_from (Some p) h = h
+three_from o h = grind (arith, nat_tests)
 
 few_from : (o : Option Machines) → AtMostThreeAges o → At IsFew Unit o
-few_from None h = tt
-few_from (Some p) h = h
+few_from o h = grind (arith, nat_tests)
 
 pub first_three : (s : SystemState) → IsFirst s → EachAtMostThreeAges s
 first_three s h n = three_empty (machines_of n s) (empty_of n s h)

@@ -1,5 +1,5 @@
-use Rattle.lagsystem.proofs.Common.{Bool, List, None, ap, false, if◌then◌else◌, refl, sym, true, ℕ, ◌∙◌, ◌≡◌, Assignment, Flushing, Free, On, Wanted}
-use Rattle.lagsystem.proofs.Common.{is_among, assignment_of, aggregator_numbered, distributing, HoldsConversations, held_unless_on, SystemState}
+use Rattle.lagsystem.proofs.Common.{Bool, List, None, ap, arith, if◌then◌else◌, refl, sym, ℕ, ◌∙◌, ◌≡◌, nat_tests, Assignment, On, Wanted, is_among}
+use Rattle.lagsystem.proofs.Common.{assignment_of, aggregator_numbered, distributing, HoldsConversations, held_unless_on, SystemState}
 use Rattle.lagsystem.proofs.Keeps.{settling_joined, settling_parts}
 use Rattle.lagsystem.proofs.Quieting.{paced_runs, settling_none, settling_quiet, still_settles}
 use Rattle.lagsystem.proofs.Rising.{ports_rise}
@@ -7,14 +7,10 @@ use Rattle.lagsystem.proofs.laws.settling_again_is_nothing.Goals as goal
 
 still_on : (ports : List ℕ) (p : ℕ) (b : Bool) → is_among ports p ≡ b
     → held_unless_on ports (if b then On p else Wanted p None) ≡ (if b then On p else Wanted p None)
-still_on ports p true e = ap (λ x. if x then On p else Wanted p None) e
-still_on ports p false e = refl
+still_on ports p b e = grind (arith, nat_tests)
 
 left_once : (ports : List ℕ) (a : Assignment) → held_unless_on ports (held_unless_on ports a) ≡ held_unless_on ports a
-left_once ports (Free preferred) = refl
-left_once ports (On p) = still_on ports p (is_among ports p) refl
-left_once ports (Wanted p preferred) = refl
-left_once ports (Flushing p id preferred age) = refl
+left_once ports a = grind (arith, nat_tests)
 
 leaves_once : (old new : SystemState) → HoldsConversations old new → HoldsConversations new new
 leaves_once old new h = record {

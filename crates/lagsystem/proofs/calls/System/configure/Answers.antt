@@ -1,19 +1,11 @@
-use Rattle.lagsystem.proofs.Common.{subst, Reply, Call, inner_state, CallPromise, SystemValue}
+use Rattle.lagsystem.proofs.Common.{Reply, Call}
 use Rattle.lagsystem.proofs.Sound.{Step-sound, answers}
 use Rattle.lagsystem.proofs.calls.System.configure.Goals as goal
 
 pub invariant_of-self : goal.invariant_of-self
 invariant_of-self g c =
     Step-sound (λ conv count place. g.F.Fn.post c.self.inside.inner.distributor.algorithm (conv, (count, tt)) place)
-    (inner_state c.self.inside.inner) (Call.Configure c.args.port c.args.change) (Reply.Configure c.configure.result)
-    (inner_state c.configure.new.self)
-    c.configure.ensures.step c.self.invariant
+    _ (Call.Configure c.args.port c.args.change) (Reply.Configure c.configure.result) _ c.configure.ensures.step c.self.invariant
 
 pub returns-clause-answers : goal.returns-clause-answers
-returns-clause-answers g c =
-    subst (λ (w : SystemValue g.row.F.Denot). CallPromise (λ conv count place. g.F.Fn.post w.algorithm (conv, (count, tt)) place) w.state
-    (Call.Configure c.args.port c.args.change) (Reply.Configure c.configure.result) (inner_state c.configure.new.self)) c.self.view_is
-    (answers (λ conv count place. g.F.Fn.post c.self.inside.inner.distributor.algorithm (conv, (count, tt)) place)
-    (inner_state c.self.inside.inner) (Call.Configure c.args.port c.args.change) (Reply.Configure c.configure.result)
-    (inner_state c.configure.new.self)
-    c.configure.ensures.step c.self.invariant)
+returns-clause-answers g c = rw (← c.self.view_is) (answers _ _ _ _ _ c.configure.ensures.step c.self.invariant)

@@ -1,22 +1,14 @@
-use Rattle.lagsystem.proofs.Common.{subst, sym, PicksIndexes, Reply, Call, inner_state, CallPromise, SystemValue}
+use Rattle.lagsystem.proofs.Common.{subst, sym, PicksIndexes, Reply, Call, SystemValue}
 use Rattle.lagsystem.proofs.Sound.{Step-sound, answers}
 use Rattle.lagsystem.proofs.calls.System.offer.Goals as goal
 
 pub invariant_of-self : goal.invariant_of-self
 invariant_of-self g c =
     Step-sound (λ conv count place. g.F.Fn.post c.self.inside.inner.distributor.algorithm (conv, (count, tt)) place)
-    (inner_state c.self.inside.inner) (Call.Offer c.args.agg c.args.frame.now) (Reply.Offer c.offer.result)
-    (inner_state c.offer.new.self)
-    c.offer.ensures.step c.self.invariant
+    _ (Call.Offer c.args.agg c.args.frame.now) (Reply.Offer c.offer.result) _ c.offer.ensures.step c.self.invariant
 
 pub returns-clause-answers : goal.returns-clause-answers
-returns-clause-answers g c =
-    subst (λ (w : SystemValue g.row.F.Denot). CallPromise (λ conv count place. g.F.Fn.post w.algorithm (conv, (count, tt)) place) w.state
-    (Call.Offer c.args.agg c.args.frame.now) (Reply.Offer c.offer.result) (inner_state c.offer.new.self)) c.self.view_is
-    (answers (λ conv count place. g.F.Fn.post c.self.inside.inner.distributor.algorithm (conv, (count, tt)) place)
-    (inner_state c.self.inside.inner) (Call.Offer c.args.agg c.args.frame.now) (Reply.Offer c.offer.result)
-    (inner_state c.offer.new.self)
-    c.offer.ensures.step c.self.invariant)
+returns-clause-answers g c = rw (← c.self.view_is) (answers _ _ _ _ _ c.offer.ensures.step c.self.invariant)
 
 pub offer-requires-clause-usable : goal.offer-requires-clause-usable
 offer-requires-clause-usable g c =

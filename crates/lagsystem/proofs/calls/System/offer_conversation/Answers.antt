@@ -1,5 +1,4 @@
-use Rattle.lagsystem.proofs.Common.{List, subst, sym, ℕ, ◌≡◌, PicksIndexes, Reply, OffersConversation, Call, inner_state, MayBeOffered}
-use Rattle.lagsystem.proofs.Common.{number_of_conversation, CallPromise, SystemValue}
+use Rattle.lagsystem.proofs.Common.{subst, sym, PicksIndexes, inner_state, SystemValue}
 use Rattle.lagsystem.proofs.AssigningLemmas.{offers_promise, offers_sound}
 use Rattle.lagsystem.proofs.calls.System.offer_conversation.Goals as goal
 
@@ -10,16 +9,11 @@ invariant_of-self g c =
     c.offer_conversation.ensures.offers c.self.invariant
 
 pub returns-clause-offers : goal.returns-clause-offers
-returns-clause-offers g c =
-    subst (λ (w : SystemValue g.row.F.Denot). OffersConversation (λ conv count place. g.F.Fn.post w.algorithm (conv, (count, tt)) place)
-    c.args.agg c.args.conv w.state c.offer_conversation.result (inner_state c.offer_conversation.new.self)) c.self.view_is
-    c.offer_conversation.ensures.offers
+returns-clause-offers g c = rw (← c.self.view_is) c.offer_conversation.ensures.offers
 
 pub returns-clause-answers : goal.returns-clause-answers
 returns-clause-answers g c =
-    subst (λ (w : SystemValue g.row.F.Denot). (octets : List ℕ) → MayBeOffered octets → number_of_conversation w.state octets ≡ c.args.conv
-    → CallPromise (λ conv count place. g.F.Fn.post w.algorithm (conv, (count, tt)) place) w.state (Call.Offer c.args.agg octets)
-    (Reply.Offer c.offer_conversation.result) (inner_state c.offer_conversation.new.self)) c.self.view_is
+    rw (← c.self.view_is)
     (offers_promise (λ conv count place. g.F.Fn.post c.self.inside.inner.distributor.algorithm (conv, (count, tt)) place) c.args.agg
     c.args.conv (inner_state c.self.inside.inner) c.offer_conversation.result (inner_state c.offer_conversation.new.self)
     c.offer_conversation.ensures.offers c.self.invariant)

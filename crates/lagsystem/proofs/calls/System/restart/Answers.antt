@@ -1,4 +1,4 @@
-use Rattle.lagsystem.proofs.Common.{subst, ◌≡◌, first_view, Reply, Call, inner_state, model_setup, model_view, CallPromise, SystemValue}
+use Rattle.lagsystem.proofs.Common.{subst, ◌≡◌, first_view, Reply, Call, inner_state, model_setup, model_view, SystemValue}
 use Rattle.lagsystem.proofs.FirstView.{restarted_shows}
 use Rattle.lagsystem.proofs.Sound.{Step-sound, answers}
 use Rattle.lagsystem.proofs.calls.System.restart.Goals as goal
@@ -6,16 +6,10 @@ use Rattle.lagsystem.proofs.calls.System.restart.Goals as goal
 pub invariant_of-self : goal.invariant_of-self
 invariant_of-self g c =
     Step-sound (λ conv count place. g.F.Fn.post c.self.inside.inner.distributor.algorithm (conv, (count, tt)) place)
-    (inner_state c.self.inside.inner) (Call.Restart) (Reply.Restart) (inner_state c.restart.new.self)
-    c.restart.ensures.step c.self.invariant
+    _ Call.Restart Reply.Restart _ c.restart.ensures.step c.self.invariant
 
 pub returns-clause-answers : goal.returns-clause-answers
-returns-clause-answers g c =
-    subst (λ (w : SystemValue g.row.F.Denot). CallPromise (λ conv count place. g.F.Fn.post w.algorithm (conv, (count, tt)) place) w.state
-    (Call.Restart) (Reply.Restart) (inner_state c.restart.new.self)) c.self.view_is
-    (answers (λ conv count place. g.F.Fn.post c.self.inside.inner.distributor.algorithm (conv, (count, tt)) place)
-    (inner_state c.self.inside.inner) (Call.Restart) (Reply.Restart) (inner_state c.restart.new.self)
-    c.restart.ensures.step c.self.invariant)
+returns-clause-answers g c = rw (← c.self.view_is) (answers _ _ _ _ _ c.restart.ensures.step c.self.invariant)
 
 pub returns-clause-shows : goal.returns-clause-shows
 returns-clause-shows g c =

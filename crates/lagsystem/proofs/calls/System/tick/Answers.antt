@@ -1,17 +1,12 @@
-use Rattle.lagsystem.proofs.Common.{subst, Reply, Call, inner_state, CallPromise, SystemValue}
+use Rattle.lagsystem.proofs.Common.{Reply, Call}
 use Rattle.lagsystem.proofs.Sound.{Step-sound, answers}
 use Rattle.lagsystem.proofs.calls.System.tick.Goals as goal
 
 pub invariant_of-self : goal.invariant_of-self
 invariant_of-self g c =
     Step-sound (λ conv count place. g.F.Fn.post c.self.inside.inner.distributor.algorithm (conv, (count, tt)) place)
-    (inner_state c.self.inside.inner) (Call.Tick) (Reply.Tick) (inner_state c.tick.new.self)
-    c.tick.ensures.step c.self.invariant
+    _ Call.Tick Reply.Tick _ c.tick.ensures.step c.self.invariant
 
 pub returns-clause-answers : goal.returns-clause-answers
 returns-clause-answers g c =
-    subst (λ (w : SystemValue g.row.F.Denot). CallPromise (λ conv count place. g.F.Fn.post w.algorithm (conv, (count, tt)) place) w.state
-    (Call.Tick) (Reply.Tick) (inner_state c.tick.new.self)) c.self.view_is
-    (answers (λ conv count place. g.F.Fn.post c.self.inside.inner.distributor.algorithm (conv, (count, tt)) place)
-    (inner_state c.self.inside.inner) (Call.Tick) (Reply.Tick) (inner_state c.tick.new.self)
-    c.tick.ensures.step c.self.invariant)
+    rw (← c.self.view_is) (answers _ _ _ _ _ c.tick.ensures.step c.self.invariant)
