@@ -1,13 +1,12 @@
 -- What an event did to the system or cable that it names.
-use Rattle.lagworld.proofs.Common.{Bool, Err, IfOk, IsSomeAnd, None, Ok, Result, Some, Vec, false, if◌then◌else◌, is_some, nat_le, refl, subst, sym}
-use Rattle.lagworld.proofs.Common.{true, ℕ, ◌==◌, ◌≡◌, true≢false, AggId, One, Side, Two, Event, WorldFault, Reply, Algorithms, DoesEvent, WorldEmits}
+use Rattle.lagworld.proofs.Common.{Bool, Err, IfOk, IsSomeAnd, None, Ok, Result, Some, false, if◌then◌else◌, is_some, nat_le, refl, subst, sym, true}
+use Rattle.lagworld.proofs.Common.{ℕ, ◌==◌, ◌≡◌, true≢false, Vec, AggId, One, Side, Two, Event, WorldFault, Reply, Algorithms, DoesEvent, WorldEmits}
 use Rattle.lagworld.proofs.Common.{WorldOffers, cause, first_event_cause, has_cable, has_system, most_events, side_of, side_numbered, WorldState}
 use Rattle.lagscript.specs.declared.event.Event.TheVariants as event
 
 pub second : (a b c : Bool) → first_event_cause a b c ≡ None → (a ≡ true) × (b ≡ true)
 second true true c h = (refl, refl)
-second true false c h = absurd (let e = h in cc)
-second false b c h = absurd (let e = h in cc)
+second a b c h = absurd (let e = h in cc)
 
 pub side_there : (n : ℕ) → is_some (side_of n) ≡ true → side_of n ≡ Some (side_numbered n)
 side_there n h = by_one (n == 1) (n == 2) h

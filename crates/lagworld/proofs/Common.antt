@@ -1,15 +1,16 @@
 -- The names that proofs of this crate import, passed on from one place. Declares nothing; tools/proof-imports writes it.
-pub use Rattle.std.proofs.Common.{Bool, Err, Global, IfErr, IfOk, IsSome, IsSomeAnd, IsTrue, List, None, Ok, OnOk, Option, Result, Some, Vec, []}
-pub use Rattle.std.proofs.Common.{add-one, ap, arith, cond, drop, eq-eqb, eqb, eqb-true, false, get_or, if◌then◌else◌, inl, inr, is_some, length}
-pub use Rattle.std.proofs.Common.{length-drop, map, nat_le, nat_lt, not, option_and_then, option_map, position, refl, replicate, set, slice_get}
-pub use Rattle.std.proofs.Common.{slice_set, subst, suc, sym, take, true, vec_capacity, vec_len, zero, ℕ, ◌%◌, ◌&&◌, ◌++◌, ◌+◌, ◌-◌, ◌<◌, ◌==◌, ◌||◌}
-pub use Rattle.std.proofs.Common.{◌∙◌, ◌∷◌, ◌≡◌, ◌≢◌, ◌≤◌, ◌⊎◌}
+pub use Rattle.std.proofs.Common.{Bool, Err, Global, IfErr, IfOk, IsSome, IsSomeAnd, IsTrue, List, None, Ok, OnOk, Option, Result, Some, [], add-one}
+pub use Rattle.std.proofs.Common.{ap, arith, cond, drop, eq-eqb, eqb, eqb-true, false, get_or, if◌then◌else◌, inl, inr, is_some, length, length-drop}
+pub use Rattle.std.proofs.Common.{map, nat_le, nat_lt, not, option_and_then, option_map, position, refl, replicate, set, slice_get, slice_set, subst}
+pub use Rattle.std.proofs.Common.{suc, sym, take, true, vec_capacity, vec_len, zero, ℕ, ◌%◌, ◌&&◌, ◌++◌, ◌+◌, ◌-◌, ◌<◌, ◌==◌, ◌||◌, ◌∙◌, ◌∷◌, ◌≡◌}
+pub use Rattle.std.proofs.Common.{◌≢◌, ◌≤◌, ◌⊎◌}
 pub use Rattle.std.proofs.lemmas.Bool.{and_parts, cases_Bool, false≢true, not-false, not-true, or_parts, true≢false}
 pub use Rattle.std.proofs.lemmas.Bool.Decides.{nat_tests}
-pub use Rattle.std.proofs.lemmas.List.{get_or-map, length-map, length-set, map-append, map-set, replicate_more, set-get_or, set_past, take_more}
+pub use Rattle.std.proofs.lemmas.List.{length-map, length-set, map-append, map-set, replicate_more, set-get_or, set_past, take_more}
 pub use Rattle.std.proofs.lemmas.List.Edits.{map_over_more}
 pub use Rattle.std.proofs.lemmas.Option.{cond_some, get_or_from_slice_get, none-some, same_Some, slice_get-get_or, slice_get-map, slice_get_past}
 pub use Rattle.std.proofs.lemmas.Option.{slice_get_read, slice_get_within}
+pub use Rattle.std.specs.Global.{Vec}
 pub use Rattle.std.specs.List.{list_all, position_or_len}
 pub use Rattle.std.specs.Prelude.{IfSome, bit_xor, option_to_list, unwrap_or}
 pub use Rattle.lagtypes.specs.declared.identifiers.AggId.{AggId}
@@ -32,7 +33,7 @@ pub use Rattle.lagmodel.specs.World.{CallHappens, Control, CountsChanges, Data, 
 pub use Rattle.lagmodel.specs.World.{Message, One, Receives, RepeatsFirst, Run, Side, TakenLacpdu, SensesCable as Told_senses, Two, World, WorldSetup}
 pub use Rattle.lagmodel.specs.World.{at_cable, at_side, at_two, end_at, first_world, handed_up, on_cable_after, party_at, peer, port_on}
 pub use Rattle.lagmodel.specs.World.{put_on_cable as put_in, sent_after, stamp_of, taken_after, with_messages}
-pub use Rattle.lagmodel.proofs.Base.{cond_false, cond_true, none-is_some, value_of}
+pub use Rattle.lagmodel.proofs.Base.{cond_false, cond_true, mapped_some, none-is_some, value_of}
 pub use Rattle.lagmodel.proofs.Calls.{parties_same}
 pub use Rattle.lagmodel.proofs.Runs.{calls_from, put_on, runs_joined, same_world}
 pub use Rattle.cables.specs.declared.item.Item.{Item}
@@ -86,9 +87,9 @@ pub use Rattle.lagworld.specs.Places.{AreReserved, HasRoom, HasRoomAt, HasRoomIn
 pub use Rattle.lagworld.specs.Sides.{model_side}
 pub use Rattle.lagworld.specs.Sound.{AreBelow, AreItems, HeadlineFacts, IsHalfSound, IsItem, IsReached, IsSound, IsStart, RefusesNext}
 pub use Rattle.lagworld.specs.Sound.{both_algorithms, next_of}
-pub use Rattle.lagworld.specs.State.{FlowValue, HalfState, ItemValue, LinkState, WorldState, WorldValue, accepts, accepts_at, change_count_in}
-pub use Rattle.lagworld.specs.State.{change_flow, change_flow_in, change_flow_of, change_link, collected_in, cut, element_numbered, emptied, flow_at}
-pub use Rattle.lagworld.specs.State.{flow_in_aggregator, forced_in, half, history_at, is_accepted, is_at_limit, joined, limit_towards, link_at}
-pub use Rattle.lagworld.specs.State.{link_index, port_at, put_on_port, sent_in, sent_on, taken_in, towards, with_collected, with_forced, with_half}
-pub use Rattle.lagworld.specs.State.{with_links, with_sent, with_towards, without_first}
+pub use Rattle.lagworld.specs.State.{FlowValue, HalfState, ItemValue, LinkState, WorldState, WorldValue, accepts, accepts_at, by_side}
+pub use Rattle.lagworld.specs.State.{change_count_in, change_flow, change_flow_in, change_flow_of, change_link, collected_in, cut, element_numbered}
+pub use Rattle.lagworld.specs.State.{emptied, flow_at, flow_in_aggregator, forced_in, half, history_at, is_accepted, is_at_limit, joined}
+pub use Rattle.lagworld.specs.State.{limit_towards, link_at, link_index, port_at, put_on_port, sent_in, sent_on, taken_in, towards, with_collected}
+pub use Rattle.lagworld.specs.State.{with_forced, with_half, with_links, with_sent, with_towards, without_first}
 pub use Rattle.lagworld.specs.WorldCalls.{world_state}

@@ -1,6 +1,6 @@
 -- What an event does: nothing, one cable changes, one system is called, or both. Each law about events is proved of these.
-use Rattle.lagworld.proofs.Common.{Bool, IsSomeAnd, List, None, Ok, Option, Result, Some, Vec, [], is_some, map, option_and_then, refl, slice_get}
-use Rattle.lagworld.proofs.Common.{subst, suc, true, zero, ℕ, ◌∷◌, ◌≡◌, AggId, One, Side, Two, value_of, Stamp, PortChange, Answer, SystemFault, Call}
+use Rattle.lagworld.proofs.Common.{Bool, IsSomeAnd, List, None, Ok, Option, Result, Some, [], is_some, map, option_and_then, refl, slice_get, subst}
+use Rattle.lagworld.proofs.Common.{suc, true, zero, ℕ, ◌∷◌, ◌≡◌, Vec, AggId, One, Side, Two, value_of, Stamp, PortChange, Answer, SystemFault, Call}
 use Rattle.lagworld.proofs.Common.{Configure, Force, Move_conversation, Restart, Set_link, Event, cable_named, system_named, Reply, Algorithms}
 use Rattle.lagworld.proofs.Common.{DeliversFrom, DoesEvent, InHalf, LosesFrom, OnLink, RepeatsFrom, RepeatsItem, WorldEmits, WorldOffers}
 use Rattle.lagworld.proofs.Common.{WorldReceives, has_cable, has_system, side_of, with_link_at, HalfAnswers, HalfTicks, forced_if_accepted}

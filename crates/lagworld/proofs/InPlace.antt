@@ -1,7 +1,7 @@
 -- Counting the changes of all ports, and emptying all cables: loops that replace each element of a list.
 use Rattle.lagworld.proofs.Common.{List, [], ap, arith, drop, get_or, length, map, set, subst, suc, sym, take, zero, ℕ, ◌++◌, ◌+◌, ◌<◌, ◌∙◌, ◌∷◌, ◌≡◌}
-use Rattle.lagworld.proofs.Common.{◌≤◌, get_or-map, length-map, map-set, map_over_more, Side, PortHistory, most_events, AreBelow, IsSound, WorldState}
-use Rattle.lagworld.proofs.Common.{half}
+use Rattle.lagworld.proofs.Common.{◌≤◌, length-map, map-set, map_over_more, Side, PortHistory, most_events, AreBelow, IsSound, WorldState, half}
+use Rattle.std.proofs.Math.ListN.{get_or-map}
 use Rattle.lagworld.proofs.Soundness.{below_more}
 
 -- no port can have changed so often that its count overflows

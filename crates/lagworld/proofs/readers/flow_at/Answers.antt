@@ -1,4 +1,5 @@
-use Rattle.lagworld.proofs.Common.{Global, None, Some, Vec, arith, length, map, subst, suc, ◌<◌, ◌≡◌, ◌≤◌, Flow, flow_value, flow_at}
+use Rattle.lagworld.proofs.Common.{Global, None, Some, arith, length, map, subst, suc, ◌<◌, ◌≡◌, ◌≤◌, Flow, flow_value, flow_at}
+use Rattle.std.proofs.Common.{Vec}
 use Rattle.lagworld.proofs.Finding.{flow_there, flow_past}
 use Rattle.lagworld.proofs.readers.flow_at.Goals as goal
 

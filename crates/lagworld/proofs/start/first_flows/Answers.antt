@@ -1,4 +1,5 @@
-use Rattle.lagworld.proofs.Common.{Global, Vec, arith, map, Flow, flow_value, first_aggregator_flows}
+use Rattle.lagworld.proofs.Common.{Global, arith, map, Flow, flow_value, first_aggregator_flows}
+use Rattle.std.proofs.Common.{Vec}
 use Rattle.lagworld.proofs.StartLemmas.{filled}
 use Rattle.lagworld.proofs.start.first_flows.Goals as goal
 

@@ -1,6 +1,7 @@
 use Rattle.lagworld.proofs.Common.{None, arith, inr, map, subst, sym, take, true, ◌∙◌, ◌≡◌, Happens, Run, PicksIndexes, Event, Algorithms, WorldRuns}
 use Rattle.lagworld.proofs.Common.{WorldSteps, cause, cause_or_no_memory, may_take_memory, model_event, model_world, world_setup, RefusesNext}
-use Rattle.lagworld.proofs.Common.{both_algorithms, next_of, WorldState}
+use Rattle.lagworld.proofs.Common.{next_of, WorldState}
+use Rattle.lagworld.proofs.Sides.{algorithms_of, gives_of}
 use Rattle.lagworld.proofs.Running.{one_partner_of, agree_of, in_order_of, carries_of, runs_on, world_on, stopped_by}
 use Rattle.lagworld.proofs.world.World.run.Goals as goal
 
@@ -21,18 +22,17 @@ returns-in-Err-clause-carries g c = carries_of c.args.self.now.state c.alloc-all
 
 pub step-requires-clause-one : goal.step-requires-clause-one
 step-requires-clause-one g c =
-    subst (λ f. PicksIndexes (λ conv count. g.F.Fn.pre f (conv, (count, tt))) (λ conv count place. g.F.Fn.post f (conv, (count, tt)) place))
+    subst (λ f. PicksIndexes (λ conv count. g.F.Fn.pre f (conv, (count, tt))) (gives_of g.F.Fn.post f))
     (sym c.loop-done.invariant.one) c.requires.one
 
 pub step-requires-clause-two : goal.step-requires-clause-two
 step-requires-clause-two g c =
-    subst (λ f. PicksIndexes (λ conv count. g.F.Fn.pre f (conv, (count, tt))) (λ conv count place. g.F.Fn.post f (conv, (count, tt)) place))
+    subst (λ f. PicksIndexes (λ conv count. g.F.Fn.pre f (conv, (count, tt))) (gives_of g.F.Fn.post f))
     (sym c.loop-done.invariant.two) c.requires.two
 
 pub returns-in-Err-step-clause-stopped : goal.returns-in-Err-step-clause-stopped
 returns-in-Err-step-clause-stopped g c =
-    let gives : Algorithms = both_algorithms (λ conv count place. g.F.Fn.post c.args.self.now.one (conv, (count, tt)) place)
-    (λ conv count place. g.F.Fn.post c.args.self.now.two (conv, (count, tt)) place) in
+    let gives : Algorithms = algorithms_of g.F.Fn.post c.args.self.now.one c.args.self.now.two in
     let old = c.args.self.now.state in
     let es = c.args.events.now in
     let n = c.loop-done.done in
@@ -77,14 +77,11 @@ loop-done-preserved g c =
     let e = c.index-events-done.result in
     let r = c.in-Ok-step.reply in
     let steps_one = subst
-    (λ f. WorldSteps (both_algorithms (λ conv count place. g.F.Fn.post f (conv, (count, tt)) place)
-    (λ conv count place. g.F.Fn.post c.loop-done.self.two (conv, (count, tt)) place)) mid e r new) c.loop-done.invariant.one
+    (λ f. WorldSteps (algorithms_of g.F.Fn.post f c.loop-done.self.two) mid e r new) c.loop-done.invariant.one
     c.in-Ok-step.ensures.steps in
     let steps_two = subst
-    (λ f. WorldSteps (both_algorithms (λ conv count place. g.F.Fn.post c.args.self.now.one (conv, (count, tt)) place)
-    (λ conv count place. g.F.Fn.post f (conv, (count, tt)) place)) mid e r new) c.loop-done.invariant.two steps_one in
-    let gives : Algorithms = both_algorithms (λ conv count place. g.F.Fn.post c.args.self.now.one (conv, (count, tt)) place)
-    (λ conv count place. g.F.Fn.post c.args.self.now.two (conv, (count, tt)) place) in
+    (λ f. WorldSteps (algorithms_of g.F.Fn.post c.args.self.now.one f) mid e r new) c.loop-done.invariant.two steps_one in
+    let gives : Algorithms = algorithms_of g.F.Fn.post c.args.self.now.one c.args.self.now.two in
     let happens = subst (λ x. Happens x (model_event e) (model_world mid) (model_world new)) c.loop-done.invariant.fixed
     c.in-Ok-step.ensures.happens in
     record {
