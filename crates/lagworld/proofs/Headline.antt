@@ -53,7 +53,7 @@ holds_all_the_way gives (e ∷ es) (r ∷ rs) old new h i few =
     (headline_of old i, holds_all_the_way gives es rs h.0 new h.2 mid few)
 
 -- two runs, one after the other
-runs_on : (gives : Algorithms) (es fs : List Event) (rs qs : List Reply) (old mid new : WorldState) → WorldRuns gives old es rs mid
+pub runs_on : (gives : Algorithms) (es fs : List Event) (rs qs : List Reply) (old mid new : WorldState) → WorldRuns gives old es rs mid
     → WorldRuns gives mid fs qs new → WorldRuns gives old (es ++ fs) (rs ++ qs) new
 runs_on gives [] fs [] qs old mid new h k = subst (λ (j : WorldState). WorldRuns gives j fs qs new) h k
 runs_on gives [] fs (r ∷ rs) qs old mid new h k = absurd h
