@@ -73,15 +73,8 @@ port_steps : (system place : ℕ) (known : Bool) (number priority : Option ℕ) 
     Ok (make number priority mac key aggregatable active short)
     )
     )
-port_steps system place false a b c d i j k make e = cc
-port_steps system place true None b c d i j k make e = cc
-port_steps system place true (Some n) None c d i j k make e = cc
-port_steps system place true (Some n) (Some p) None d i j k make e = cc
-port_steps system place true (Some n) (Some p) (Some m) None i j k make e = cc
-port_steps system place true (Some n) (Some p) (Some m) (Some y) None j k make e = cc
-port_steps system place true (Some n) (Some p) (Some m) (Some y) (Some g) None k make e = cc
-port_steps system place true (Some n) (Some p) (Some m) (Some y) (Some g) (Some t) None make e = cc
 port_steps system place true (Some n) (Some p) (Some m) (Some y) (Some g) (Some t) (Some u) make e = cc
+port_steps system place known a b c d i j k make e = cc
 
 port_fine : (system : ℕ) (own : List ℕ) (place : ℕ) (ms : Members) → Fine (port_config_of system own place ms)
 port_fine system own place ms =
@@ -113,12 +106,8 @@ numbers_steps : (system : ℕ) (known : Bool) (priority : Option ℕ) (mac : Opt
     Ok (make priority mac max_delay first_marker)
     )
     )
-numbers_steps system false a b c d make e = cc
-numbers_steps system true None b c d make e = cc
-numbers_steps system true (Some p) None c d make e = cc
-numbers_steps system true (Some p) (Some m) None d make e = cc
-numbers_steps system true (Some p) (Some m) (Some x) None make e = cc
 numbers_steps system true (Some p) (Some m) (Some x) (Some y) make e = cc
+numbers_steps system known a b c d make e = cc
 
 numbers_fine : (system : ℕ) (ms : Members) → Fine (system_values_in system ms)
 numbers_fine system ms =
@@ -146,9 +135,7 @@ conversations_fine system ms = or_fine (fault.SystemValue system system_key.Conv
 
 ports_fine : (system : ℕ) (own : List ℕ) (ms : Members) → Fine (ports_in system own ms)
 ports_fine system own ms =
-    then_fine (or_fault (fault.SystemValue system system_key.Port) (value_at (codes "port") (list_in as_table) None ms))
-    (each_at_place (port_config_of system own) 1)
-    (or_fine (fault.SystemValue system system_key.Port) (value_at (codes "port") (list_in as_table) None ms) (λ e. cc))
+    then_fine _ _ (or_fine (fault.SystemValue system system_key.Port) (value_at (codes "port") (list_in as_table) None ms) (λ e. cc))
     (in_place_fine (port_config_of system own) (port_fine system own) 1)
 
 abbrev configured : SystemValues → List Key → Option ℕ → ℕ → List PortConfig → ConfigValue
@@ -165,8 +152,7 @@ configured n aggregators max_links conversations ports =
 
 system_fine : (system : ℕ) (ms : Members) → Fine (system_of system ms)
 system_fine system ms =
-    three_fine {D = ConfigValue} (system_values_in system ms) (λ n. aggregators_in system ms) (λ n a. max_links_in system ms)
-    (λ n a most. conversations_in system ms >>= λ c. ports_in system n.id.mac ms >>= λ ports. Ok (configured n a most c ports))
+    three_fine _ _ _ _
     (numbers_fine system ms) (λ n. aggregators_fine system ms) (λ n a. max_links_fine system ms)
     (λ n a most. then_fine (conversations_in system ms) (λ c. ports_in system n.id.mac ms >>= λ ports. Ok (configured n a most c ports))
     (conversations_fine system ms)
@@ -174,14 +160,12 @@ system_fine system ms =
 
 two_fine : (mss : List Members) → Fine (two_systems mss)
 two_fine mss =
-    three_fine {D = List ConfigValue} (or_fault fault.Systems (just_two (Some mss))) (λ p. system_of 1 p.0) (λ p first. system_of 2 p.1)
-    (λ p first second. Ok (first ∷ second ∷ [])) (or_fine fault.Systems (just_two (Some mss)) (λ e. cc))
+    three_fine _ _ _ _ (or_fine fault.Systems (just_two (Some mss)) (λ e. cc))
     (λ p. system_fine 1 p.0) (λ p first. system_fine 2 p.1) (λ p first second e. cc)
 
 systems_fine : (ms : Members) → Fine (systems_in ms)
 systems_fine ms =
-    then_fine (or_fault fault.Systems (value_at (codes "system") (list_in as_table) None ms)) two_systems
-    (or_fine fault.Systems (value_at (codes "system") (list_in as_table) None ms) (λ e. cc)) two_fine
+    then_fine _ _ (or_fine fault.Systems (value_at (codes "system") (list_in as_table) None ms) (λ e. cc)) two_fine
 
 -- ---- cables and entries
 
@@ -194,18 +178,13 @@ joined ends limit = record { ends = ends; limit = limit }
 
 cable_fine : (place : ℕ) (ms : Members) → Fine (cable_of place ms)
 cable_fine place ms =
-    unless_fine (keys_among cable_keys ms) (fault.CableExtraKey place)
-    (or_fault (fault.CableEnds place) (value_at (codes "ends") ends_in None ms) >>= λ ends. limit_of place ms >>= λ limit. Ok
-    (joined ends limit)) (λ e. cc)
-    (then_fine (or_fault (fault.CableEnds place) (value_at (codes "ends") ends_in None ms))
-    (λ ends. limit_of place ms >>= λ limit. Ok (joined ends limit))
-    (or_fine (fault.CableEnds place) (value_at (codes "ends") ends_in None ms) (λ e. cc))
+    unless_fine _ (fault.CableExtraKey place) _ (λ e. cc)
+    (then_fine _ _ (or_fine (fault.CableEnds place) (value_at (codes "ends") ends_in None ms) (λ e. cc))
     (λ ends. then_fine (limit_of place ms) (λ limit. Ok (joined ends limit)) (limit_fine place ms) (λ limit e. cc)))
 
 cables_fine : (ms : Members) → Fine (cables_in ms)
 cables_fine ms =
-    then_fine (or_fault fault.Cables (value_at (codes "cable") (list_in as_table) (Some []) ms)) (each_at_place cable_of 1)
-    (or_fine fault.Cables (value_at (codes "cable") (list_in as_table) (Some []) ms) (λ e. cc))
+    then_fine _ _ (or_fine fault.Cables (value_at (codes "cable") (list_in as_table) (Some []) ms) (λ e. cc))
     (in_place_fine cable_of cable_fine 1)
 
 entry_fine : {A : Type 0} (place : ℕ) (r : Result A EntryFault) → Fine (at_entry place r)
@@ -214,31 +193,18 @@ entry_fine place (Err w) e = cc
 
 acts_fine : (cables : ℕ) (ms : Members) → Fine (events_in cables ms)
 acts_fine cables ms =
-    then_fine (or_fault fault.Events (value_at (codes "events") entries_in (Some []) ms)) (events_from cables 1)
-    (or_fine fault.Events (value_at (codes "events") entries_in (Some []) ms) (λ e. cc))
+    then_fine _ _ (or_fine fault.Events (value_at (codes "events") entries_in (Some []) ms) (λ e. cc))
     (in_place_fine (event_at cables) (λ place text. entry_fine place (event_in cables text)) 1)
 
 -- ---- the configuration and the whole
 
 config_fine : {A : Type 0} (refusal : Option BadWorld) (x : A) → Fine (no_fault (option_and_then script_fault_for refusal) x)
-config_fine None x e = cc
 config_fine (Some (refused.System side bad.Ports)) x e = cc
-config_fine (Some (refused.System side bad.Aggregators)) x e = cc
-config_fine (Some (refused.System side (bad.PortNumber place))) x e = cc
-config_fine (Some (refused.System side bad.MaxLinks)) x e = cc
-config_fine (Some (refused.System side bad.Conversations)) x e = cc
-config_fine (Some refused.SameSystem) x e = cc
-config_fine (Some (refused.CableEnd place)) x e = cc
-config_fine (Some refused.Lines) x e = cc
+config_fine refusal x e = cc
 
 pub plan_fine : (ms : Members) → plan_in ms ≡ Err fault.NotToml → ⊥
 plan_fine ms =
-    unless_fine (keys_among top_keys ms) fault.ExtraKey
-    (systems_in ms >>= λ systems. cables_in ms >>= λ cables. events_in (length cables) ms >>= λ events. no_fault {A = PlanValue}
-    (option_and_then script_fault_for (refusal_of_all systems (ends_of cables))) (planned systems cables events))
-    (λ e. cc)
-    (three_fine {D = PlanValue} (systems_in ms) (λ systems. cables_in ms) (λ systems cables. events_in (length cables) ms)
-    (λ systems cables events. no_fault (option_and_then script_fault_for (refusal_of_all systems (ends_of cables)))
-    (planned systems cables events)) (systems_fine ms) (λ systems. cables_fine ms)
+    unless_fine _ fault.ExtraKey _ (λ e. cc)
+    (three_fine _ _ _ _ (systems_fine ms) (λ systems. cables_fine ms)
     (λ systems cables. acts_fine (length cables) ms)
     (λ systems cables events. config_fine {A = PlanValue} (refusal_of_all systems (ends_of cables)) (planned systems cables events)))

@@ -21,27 +21,16 @@ first_reason one two same place =
 no_reason : (one two : Option BadConfig) (same : Bool) (place : Option ℕ)
     → option_and_then script_fault_for (first_reason one two same place) ≡ None → first_reason one two same place ≡ None
 no_reason (Some bad.Ports) two same place h = cc
-no_reason (Some bad.Aggregators) two same place h = cc
-no_reason (Some (bad.PortNumber n)) two same place h = cc
-no_reason (Some bad.MaxLinks) two same place h = cc
-no_reason (Some bad.Conversations) two same place h = cc
 no_reason None (Some bad.Ports) same place h = cc
-no_reason None (Some bad.Aggregators) same place h = cc
-no_reason None (Some (bad.PortNumber n)) same place h = cc
-no_reason None (Some bad.MaxLinks) same place h = cc
-no_reason None (Some bad.Conversations) same place h = cc
-no_reason None None true place h = cc
-no_reason None None false (Some n) h = cc
 no_reason None None false None h = refl
+no_reason one two same place h = cc
 
 -- without a fault there is no reason to refuse it
 pub not_refused : (systems : List ConfigValue) (cables : List (ℕ × ℕ))
     → option_and_then script_fault_for (refusal_of_all systems cables) ≡ None → refusal_of_all systems cables ≡ None
-not_refused [] cables h = refl
-not_refused (a ∷ []) cables h = refl
 not_refused (a ∷ b ∷ []) cables h = no_reason (refusal a.aggregators a.ports a.max_links a.conversations)
     (refusal b.aggregators b.ports b.max_links b.conversations) (same_system a.system b.system) (bad_end a.ports b.ports cables) h
-not_refused (a ∷ b ∷ c ∷ rest) cables h = refl
+not_refused systems cables h = refl
 
 -- the steps of a plan
 abbrev pub plan_steps : Bool → Result (List ConfigValue) ScriptFault → Result (List CablePlan) ScriptFault
@@ -65,26 +54,8 @@ steps_all known rs rc ra systems cables events o k s c a f = rw (k, s, c, a, f) 
 -- the fault of a document
 reads_fault : (text : List ℕ) (ms : Members) → parse_document text ≡ Some ms → (e : ScriptFault) → plan_in ms ≡ Err e → IsRefused text e
 reads_fault text ms p fault.NotToml s = absurd (plan_fine ms s)
-reads_fault text ms p fault.ExtraKey s = (ms, p, s)
-reads_fault text ms p fault.Systems s = (ms, p, s)
-reads_fault text ms p (fault.SystemExtraKey a) s = (ms, p, s)
-reads_fault text ms p (fault.SystemValue a b) s = (ms, p, s)
-reads_fault text ms p (fault.PortExtraKey a b) s = (ms, p, s)
-reads_fault text ms p (fault.PortValue a b c) s = (ms, p, s)
-reads_fault text ms p fault.Cables s = (ms, p, s)
-reads_fault text ms p (fault.CableExtraKey a) s = (ms, p, s)
-reads_fault text ms p (fault.CableEnds a) s = (ms, p, s)
-reads_fault text ms p (fault.CableLimit a) s = (ms, p, s)
-reads_fault text ms p fault.Events s = (ms, p, s)
-reads_fault text ms p (fault.Entry a b) s = (ms, p, s)
-reads_fault text ms p (fault.Ports a) s = (ms, p, s)
-reads_fault text ms p (fault.AggregatorCount a) s = (ms, p, s)
-reads_fault text ms p (fault.PortNumber a b) s = (ms, p, s)
-reads_fault text ms p (fault.MaxLinks a) s = (ms, p, s)
-reads_fault text ms p (fault.ConversationCount a) s = (ms, p, s)
-reads_fault text ms p fault.SameSystem s = (ms, p, s)
-reads_fault text ms p (fault.CableEnd a) s = (ms, p, s)
 reads_fault text ms p fault.NoMemory s = tt
+reads_fault text ms p e s = (ms, p, s)
 
 -- what is answered of a document is read of its text
 pub reads_plan : (text : List ℕ) (ms : Members) (result : Result Plan ScriptFault) → parse_document text ≡ Some ms

@@ -66,10 +66,6 @@ cable_ok cables w c e =
 both : (a b : Bool) → a ≡ true → b ≡ true → (a && b) ≡ true
 both a b e f = ap (λ x. x && b) e ∙ f
 
-halves : (a b : Bool) → (a && b) ≡ true → (a ≡ true) × (b ≡ true)
-halves true b k = (refl, k)
-halves false b k = absurd (true≢false (sym k))
-
 -- ---- entries
 
 -- a word that was read
@@ -104,7 +100,7 @@ first_ok : (P : Option ℕ → Bool) (f : WordValue → Option ℕ) (said : List
     → list_all (λ w. P (f w)) said ≡ true → P (first_said f said) ≡ true
 first_ok P f [] none all = none
 first_ok P f (w ∷ ws) none all =
-    let parts = halves (P (f w)) (list_all (λ v. P (f v)) ws) all in
+    let parts = and_parts (P (f w)) (list_all (λ v. P (f v)) ws) all in
     one (f w) (first_said f ws) parts.0 (first_ok P f ws none parts.1)
   where
     one : (o other : Option ℕ) → P o ≡ true → P other ≡ true → P (or_number o other) ≡ true
@@ -116,8 +112,8 @@ each_all : (f g : WordValue → Bool) (said : List WordValue) → list_all (λ w
     → (list_all f said ≡ true) × (list_all g said ≡ true)
 each_all f g [] all = (refl, refl)
 each_all f g (w ∷ ws) all =
-    let parts = halves (f w && g w) (list_all (λ v. f v && g v) ws) all in
-    let here = halves (f w) (g w) parts.0 in
+    let parts = and_parts (f w && g w) (list_all (λ v. f v && g v) ws) all in
+    let here = and_parts (f w) (g w) parts.0 in
     let rest = each_all f g ws parts.1 in
     (both (f w) (list_all f ws) here.0 rest.0, both (g w) (list_all g ws) here.1 rest.1)
 
@@ -190,7 +186,7 @@ acts_named cables ms events e =
 events_named : (cables : ℕ) (es : List Event) → list_all (act_names cables) (event_values es) ≡ true → AllNameExisting cables es
 events_named cables [] h = refl
 events_named cables (e ∷ es) h =
-    let parts = halves (act_names cables (event_value e)) (list_all (act_names cables) (event_values es)) h in
+    let parts = and_parts (act_names cables (event_value e)) (list_all (act_names cables) (event_values es)) h in
     both (names_existing cables e) (list_all (names_existing cables) es) parts.0
     (events_named cables es parts.1)
 

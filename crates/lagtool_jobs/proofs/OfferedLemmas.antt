@@ -62,38 +62,25 @@ ticked gives (suc n) old new x = ap (λ (h : HalfState). h.flows) x.2.same ∙ t
 
 emitted : (s : Side) (p : ℕ) (a : Result (Option (List ℕ)) SystemFault) (j new : WorldState) (r : Reply)
     → AfterTransmit s p a j r new → NoneSent j new
-emitted s p (Err fault) j new r x = same j new x.1
-emitted s p (Ok None) j new r x = same j new x.1
 emitted s p (Ok (Some frame)) j new r x = same (with_item_sent s p (transmitted_item s p frame (half s j)) j) new x.1
-
-collected_kept : (serial : ℕ) (o : Option FlowValue) → sent_in (option_map (with_collected serial) o) ≡ sent_in o
-collected_kept serial None = refl
-collected_kept serial (Some x) = refl
-
-forced_kept : (o : Option FlowValue) → sent_in (option_map with_forced o) ≡ sent_in o
-forced_kept None = refl
-forced_kept (Some x) = refl
+emitted s p a j new r x = same j new x.1
 
 collected_on : (st : Stamp) (j : WorldState) → NoneSent j (with_stamp_collected st j)
 collected_on (stamp.Control count) j = λ t g k. refl
 collected_on (stamp.Data system agg conv serial) j =
     of_half (side_numbered system) (with_collected_in agg conv serial (half (side_numbered system) j)) j
-    (read_same sent_in (with_collected serial) agg conv (half (side_numbered system) j).flows (collected_kept serial))
+    (read_same sent_in (with_collected serial) agg conv (half (side_numbered system) j).flows (λ x. refl))
 
 arrived : (s : Side) (p : ℕ) (item : ItemValue) (a : Result Received SystemFault) (j new : WorldState) (r : Reply)
     → AfterReceive s p item a j r new → NoneSent j new
-arrived s p item (Err fault) j new r x = same j new x.1
-arrived s p item (Ok received.Disabled) j new r x = same j new x.1
-arrived s p item (Ok received.Dropped) j new r x = same j new x.1
-arrived s p item (Ok (received.Ignored fault)) j new r x = same j new x.1
 arrived s p item (Ok received.TookLacpdu) j new r x =
     let took = with_half s (with_last_lacpdu p (stamped_in item) (half s j)) j in
     followed j took new (of_half s (with_last_lacpdu p (stamped_in item) (half s j)) j (λ g k. refl)) (same took new x.1)
 arrived s p item (Ok (received.Respond frame)) j new r x =
     same (with_item_sent s p (record { octets = frame; stamp = stamp.Control 0 }) j) new x.1
-arrived s p item (Ok (received.Released n)) j new r x = same j new x.1
 arrived s p item (Ok (received.Up agg)) j new r x = followed j (with_stamp_collected item.stamp j) new (collected_on item.stamp j)
     (same (with_stamp_collected item.stamp j) new x.1)
+arrived s p item a j new r x = same j new x.1
 
 arrives : (gives : Algorithms) (s : Side) (p : ℕ) (item : ItemValue) (j new : WorldState) (r : Reply)
     → WorldReceives gives s p item j r new → NoneSent j new
@@ -102,7 +89,7 @@ arrives gives s p item j new r x =
     (arrived s p item x.0 (with_half s x.1 j) new r x.3)
 
 forced_where_sent : (a : Result Unit SystemFault) (agg : AggId) (conv : ℕ) (h : HalfState) → SameSent h (forced_if_accepted a agg conv h)
-forced_where_sent (Ok done) agg conv h = read_same sent_in with_forced agg.0 conv h.flows forced_kept
+forced_where_sent (Ok done) agg conv h = read_same sent_in with_forced agg.0 conv h.flows (λ x. refl)
 forced_where_sent (Err fault) agg conv h = λ g k. refl
 
 -- a frame is sent of one aggregator alone
@@ -123,17 +110,7 @@ offered_on s agg octets (Ok port) j new r x t g k free = ap (sent_of t g k) x.2 
 
 -- a number that names a system is that system's
 number_named : (n : ℕ) (s : Side) → side_of n ≡ Some s → n ≡ side_number s
-number_named n s e = elim (cases_Bool (n == 1)) [
-  | inl t ↦ eqb-true n 1 t
-      ∙ ap side_number (same_Some One s (sym (cond_true (n == 1) (Some One) (if n == 2 then Some Two else None) t) ∙ e))
-  | inr f ↦ second (sym (cond_false (n == 1) (Some One) (if n == 2 then Some Two else None) f) ∙ e)
-]
-  where
-    second : (if n == 2 then Some Two else None) ≡ Some s → n ≡ side_number s
-    second h = elim (cases_Bool (n == 2)) [
-      | inl t ↦ eqb-true n 2 t ∙ ap side_number (same_Some Two s (sym (cond_true (n == 2) (Some Two) None t) ∙ h))
-      | inr f ↦ absurd (none-some s (sym (cond_false (n == 2) (Some Two) None f) ∙ h))
-    ]
+number_named n s e = grind arith
 
 -- an offer to another aggregator
 other : (n : ℕ) (s t : Side) (agg : AggId) (g : ℕ) → n ≡ side_number s → ((n == side_number t) && (agg.0 == g)) ≡ false → t ≡ s → g ≡ agg.0
@@ -186,25 +163,21 @@ does_keep : (gives : Algorithms) (e : Event) (r : Reply) (old new : WorldState) 
     → (t : Side) (g k : ℕ) → offers_to (side_number t) g e ≡ false → sent_of t g k new ≡ sent_of t g k old
 does_keep gives e r old new x t g k free = let v = does_effect gives e r old new x in effect_keeps gives e v.0 r old new v.2 t g k free
 
-neither : (a b : Bool) → (a || b) ≡ false → (a ≡ false) × (b ≡ false)
-neither true b h = absurd (true≢false h)
-neither false b h = (refl, h)
-
 runs_keep : (gives : Algorithms) (es : List Event) (rs : List Reply) (old new : WorldState) → WorldRuns gives old es rs new
     → (t : Side) (g k : ℕ) → is_offered (side_number t) g es ≡ false → sent_of t g k new ≡ sent_of t g k old
 runs_keep gives [] [] old new x t g k free = ap (sent_of t g k) x
 runs_keep gives [] (r ∷ rs) old new x t g k free = absurd x
 runs_keep gives (e ∷ es) [] old new x t g k free = absurd x
 runs_keep gives (e ∷ es) (r ∷ rs) old new (mid, step, rest) t g k free =
-    let parts = neither (offers_to (side_number t) g e) (is_offered (side_number t) g es) free in
+    let parts = or_parts (offers_to (side_number t) g e) (is_offered (side_number t) g es) free in
     runs_keep gives es rs mid new rest t g k parts.1 ∙ does_keep gives e r old (record mid { acted = old.acted }) step.0 t g k parts.0
 
 first_sent : (j : WorldState) (t : Side) (g k : ℕ) → IsStart j → sent_of t g k j ≡ []
-first_sent j t g k start = none_sent (flow_at (half t j).flows g k) refl
+first_sent j t g k start = none_sent (flow_at (half t j).flows g k) (λ x e. (start.flows t g k x e).0)
   where
-    none_sent : (o : Option FlowValue) → flow_at (half t j).flows g k ≡ o → sent_in o ≡ []
-    none_sent None e = refl
-    none_sent (Some x) e = (start.flows t g k x e).0
+    none_sent : (o : Option FlowValue) → ((x : FlowValue) → o ≡ Some x → x.sent ≡ []) → sent_in o ≡ []
+    none_sent None h = refl
+    none_sent (Some x) h = h x refl
 
 -- after a run from the start only aggregators sent that frames were offered to
 pub sent_where_offered : (gives : Algorithms) (from to : WorldState) (es : List Event) (rs : List Reply) → IsStart from

@@ -19,8 +19,7 @@ pub nothing_to_refuse : (reason : Option BadWorld) (empty : Bool) (fault : World
     → RefusesToMake (or_first reason (if empty then None else Some Lines)) fault → fault ≡ NoMemory
 nothing_to_refuse None true fault r e (inl h) = h
 nothing_to_refuse None true fault r e (inr (bad, is, h)) = absurd (none-some bad is)
-nothing_to_refuse None false fault r e h = absurd (true≢false (sym e))
-nothing_to_refuse (Some bad) empty fault r e h = absurd (none-some bad (sym r))
+nothing_to_refuse reason empty fault r e h = absurd (let f = r in let g = e in cc)
 
 -- nothing is on either direction of a cable
 abbrev pub is_bare : LinkState → Bool
@@ -82,27 +81,20 @@ there [] i lt = absurd (omega (arith, lt))
 there (x ∷ xs) zero lt = refl
 there (x ∷ xs) (suc i) lt = there xs i (omega (arith, lt))
 
-halves : (a b : Bool) → (a && b) ≡ true → (a ≡ true) × (b ≡ true)
-halves true b h = (refl, h)
-halves false b h = absurd (true≢false (sym h))
-
 cable_there : (j : WorldState) (o : Option ℕ) → is_cable (length j.links) o ≡ true → has_cable j o ≡ true
 cable_there j None h = refl
-cable_there j (Some zero) h = absurd (true≢false (sym (halves (nat_le 1 0) (nat_le 0 (length j.links)) h).0))
+cable_there j (Some zero) h = absurd (true≢false (sym (and_parts (nat_le 1 0) (nat_le 0 (length j.links)) h).0))
 cable_there j (Some (suc i)) h =
-    let within = (halves (nat_le 1 (suc i)) (nat_le (suc i) (length j.links)) h).1 in
+    let within = (and_parts (nat_le 1 (suc i)) (nat_le (suc i) (length j.links)) h).1 in
     there j.links i (grind (arith, nat_tests))
 
 no_cause : (cable system spent : Bool) → cable ≡ true → system ≡ true → spent ≡ false → first_event_cause cable system spent ≡ None
-no_cause true true false c s p = refl
-no_cause true true true c s p = absurd (true≢false p)
-no_cause true false spent c s p = absurd (true≢false (sym s))
-no_cause false system spent c s p = absurd (true≢false (sym c))
+no_cause cable system spent c s p = rw (c, s, p) refl
 
 named_at : (p : Event → Bool) (es : List Event) (i : ℕ) (e : Event) → list_all p es ≡ true → slice_get es i ≡ Some e → p e ≡ true
 named_at p [] i e all at = absurd (none-some e at)
-named_at p (x ∷ es) zero e all at = subst (λ y. p y ≡ true) (same_Some x e at) (halves (p x) (list_all p es) all).0
-named_at p (x ∷ es) (suc i) e all at = named_at p es i e (halves (p x) (list_all p es) all).1 at
+named_at p (x ∷ es) zero e all at = subst (λ y. p y ≡ true) (same_Some x e at) (and_parts (p x) (list_all p es) all).0
+named_at p (x ∷ es) (suc i) e all at = named_at p es i e (and_parts (p x) (list_all p es) all).1 at
 
 not_spent : (n k : ℕ) → n ≡ k → k < most_events → nat_le most_events n ≡ false
 not_spent n k e lt = grind (arith, nat_tests)
@@ -113,7 +105,7 @@ next_fine : (gives : Algorithms) (old new : WorldState) (es : List Event) (rs : 
     → world_setup new ≡ world_setup old → AllNameExisting (length old.links) es → old.acted + length es ≤ most_events
     → slice_get es done ≡ Some e → cause new e ≡ None
 next_fine gives old new es rs done e ran within fixed named few at =
-    let held = halves (is_cable (length old.links) (cable_named e)) (has_system (system_named e))
+    let held = and_parts (is_cable (length old.links) (cable_named e)) (has_system (system_named e))
     (named_at (names_existing (length old.links)) es done e named at) in
     let more = acted_by gives (take done es) rs old new ran in
     let long = length-take-le done es within in
@@ -148,12 +140,12 @@ runs_joined gives (e ∷ es) fs (r ∷ rs) qs old mid new h k = (h.0, h.1, runs_
 
 named_behind : (p : Event → Bool) (es fs : List Event) → list_all p (es ++ fs) ≡ true → list_all p fs ≡ true
 named_behind p [] fs all = all
-named_behind p (e ∷ es) fs all = named_behind p es fs (halves (p e) (list_all p (es ++ fs)) all).1
+named_behind p (e ∷ es) fs all = named_behind p es fs (and_parts (p e) (list_all p (es ++ fs)) all).1
 
 named_before : (p : Event → Bool) (es fs : List Event) → list_all p (es ++ fs) ≡ true → list_all p es ≡ true
 named_before p [] fs all = refl
 named_before p (e ∷ es) fs all =
-    let first = halves (p e) (list_all p (es ++ fs)) all in
+    let first = and_parts (p e) (list_all p (es ++ fs)) all in
     both (p e) (list_all p es) first.0 (named_before p es fs first.1)
 
 -- a piece behind what has been played stops only for lack of memory

@@ -6,7 +6,7 @@ use Rattle.lagtool_jobs.proofs.Common.{replay_report, AreCounts, flows_with_coun
 use Rattle.lagtool_jobs.proofs.Common.{world_refusal, HasPlan, plan_value, Reply, Algorithms, first_link, first_links, LinkState, WorldState}
 use Rattle.lagscript.specs.declared.config.WorldConfig.{WorldConfig}
 use Rattle.lagsystem.specs.declared.config.Config.{Config}
-use Rattle.lagworld.proofs.Making.{second_accepted}
+use Rattle.lagworld.proofs.Making.{both_accepted}
 use Rattle.lagtool_jobs.specs.declared.flows.Counts.{Counts}
 
 abbrev with_ends : ℕ × ℕ → LinkState → LinkState
@@ -32,11 +32,9 @@ empty_line a b limit e f g h = rw (e, f, g, h) refl
 -- the report by counts is that of the systems
 pub reported_is : (first second : Counts) (systems : List Config) (es : List Event) (rs : List Reply) (j : WorldState)
     → AreCounts first second systems → replay_report_with_counts first second es rs j ≡ replay_report systems es rs j
-reported_is first second [] es rs j h = absurd h
-reported_is first second (a ∷ []) es rs j h = absurd h
 reported_is first second (a ∷ b ∷ []) es rs j (e, f) =
     ap₂ (λ (x y : Counts). entries_text 1 es rs ++ (agreements_text j ++ (flows_with_counts j 1 x ++ flows_with_counts j 2 y))) e f
-reported_is first second (a ∷ b ∷ c ∷ rest) es rs j h = absurd h
+reported_is first second systems es rs j h = absurd h
 
 -- the report of the events of a plan is that of its text
 pub replayed_is : (gives : Algorithms) (text : List ℕ) (plan : Plan) (limits : List (Option ℕ)) (es : List Event) (report said : List ℕ)
@@ -62,7 +60,5 @@ write_failed contents gives text old new (Err f) report e is breaks = subst (λ 
 -- the configuration of system 2 is accepted if those of two systems and their cables are
 pub second_fits : (config : WorldConfig) (systems : List Config) (other : Config) → config.systems ≡ systems → length systems ≡ 2
     → world_refusal config ≡ None → refusal_of_one (slice_index_or systems 1 other) ≡ None
-second_fits config [] other e two h = absurd (omega (arith, two))
-second_fits config (a ∷ []) other e two h = absurd (omega (arith, two))
-second_fits config (a ∷ b ∷ []) other e two h = second_accepted config a b e h
-second_fits config (a ∷ b ∷ c ∷ rest) other e two h = absurd (omega (arith, two))
+second_fits config (a ∷ b ∷ []) other e two h = (both_accepted config a b e h).1
+second_fits config systems other e two h = absurd (omega (arith, two))

@@ -6,8 +6,7 @@ use Rattle.lagscript.specs.declared.event.Event.TheVariants as event
 
 pub second : (a b c : Bool) → first_event_cause a b c ≡ None → (a ≡ true) × (b ≡ true)
 second true true c h = (refl, refl)
-second true false c h = absurd (let e = h in cc)
-second false b c h = absurd (let e = h in cc)
+second a b c h = absurd (let e = h in cc)
 
 pub side_there : (n : ℕ) → is_some (side_of n) ≡ true → side_of n ≡ Some (side_numbered n)
 side_there n h = by_one (n == 1) (n == 2) h

@@ -1,11 +1,11 @@
 -- The ends of a cable never have different groups if none of the earlier variants of `Agreement` holds.
-use Rattle.lagworld.proofs.Common.{Bool, IsSomeAnd, List, None, Option, Some, ap, arith, eqb-true, false, is_some, map, not, option_map, refl}
-use Rattle.lagworld.proofs.Common.{slice_get, subst, suc, sym, true, zero, ℕ, ◌&&◌, ◌+◌, ◌||◌, ◌∙◌, ◌≡◌, ◌≢◌, and_parts, not-false, or_parts}
-use Rattle.lagworld.proofs.Common.{true≢false, none-some, same_Some, slice_get-map, unwrap_or, same_group, group-itself, LastLacpduIsUpToDate, One}
-use Rattle.lagworld.proofs.Common.{Side, TakenLacpdu, Two, end_at, peer, port_on, Machines, model_port, group_at, PortsAgree, SystemState}
-use Rattle.lagworld.proofs.Common.{machines_of, port_index, system_port_at, all-get, port_seen, StampedLacpdu, agreement_at, agreement_of, end_facts}
-use Rattle.lagworld.proofs.Common.{first_agreement, is_stamp, same_groups, link_ends, model_taken, model_world, IsSound, LinkState, WorldState}
-use Rattle.lagworld.proofs.Common.{change_count_in, half, history_at, port_at, taken_in}
+use Rattle.lagworld.proofs.Common.{Bool, None, Option, Some, ap, eqb-true, false, not, option_map, refl, slice_get, subst, suc, sym, true, zero, ℕ}
+use Rattle.lagworld.proofs.Common.{◌&&◌, ◌||◌, ◌∙◌, ◌≡◌, ◌≢◌, and_parts, not-false, or_parts, true≢false, none-some, same_Some, unwrap_or, same_group}
+use Rattle.lagworld.proofs.Common.{group-itself, LastLacpduIsUpToDate, One, Side, TakenLacpdu, Two, peer, Machines, model_port, group_at, PortsAgree}
+use Rattle.lagworld.proofs.Common.{SystemState, machines_of, port_index, system_port_at, all-get, port_seen, StampedLacpdu, agreement_at}
+use Rattle.lagworld.proofs.Common.{agreement_of, end_facts, first_agreement, is_stamp, same_groups, model_taken, model_world, IsSound, LinkState}
+use Rattle.lagworld.proofs.Common.{WorldState, change_count_in, half, history_at, taken_in}
+use Rattle.lagworld.proofs.Cables.{end_is}
 use Rattle.lagtypes.specs.declared.group.Group.{Group}
 use Rattle.lagtypes.specs.Group.{SamePair, pair_of}
 use Rattle.lagtypes.proofs.GroupLemmas.{groups_from_pairs}
@@ -18,17 +18,15 @@ use Rattle.lagworld.proofs.Running.{agree_of}
 
 -- the answer is the last one only if none of the others holds
 last_of_five : (a b c d : Bool) → first_agreement a b c d ≡ Differ → (a ≡ false) × (b ≡ false) × (c ≡ false) × (d ≡ false)
-last_of_five true b c d h = absurd (let e = h in cc)
-last_of_five false true c d h = absurd (let e = h in cc)
-last_of_five false false true d h = absurd (let e = h in cc)
-last_of_five false false false true h = absurd (let e = h in cc)
 last_of_five false false false false h = (refl, refl, refl, refl)
+last_of_five a b c d h = absurd (let e = h in cc)
 
 -- a port that distributes is there
 port_there : (o : Option Machines) → unwrap_or (option_map (λ (x : Machines). same_mux_state CollectingDistributing x.mux) o) false ≡ true
-    → (x : Machines) × (o ≡ Some x) × (same_mux_state CollectingDistributing x.mux ≡ true)
-port_there None h = absurd (true≢false (sym h))
-port_there (Some x) h = (x, refl, h)
+    → unwrap_or (option_map (λ (x : Machines). x.defaulted) o) false ≡ false
+    → (x : Machines) × (o ≡ Some x) × (same_mux_state CollectingDistributing x.mux ≡ true) × (x.defaulted ≡ false)
+port_there None h d = absurd (true≢false (sym h))
+port_there (Some x) h d = (x, refl, h, d)
 
 slot_there : (s : SystemState) (o : Option ℕ) (x : Machines)
     → option_map (λ (y : SystemPort). y.port) (system_port_at o s.system_ports) ≡ Some x → (P : Machines → Type 0)
@@ -54,11 +52,6 @@ stamp_there : (n : ℕ) (o : Option StampedLacpdu) → is_stamp n o ≡ true →
 stamp_there n None h = absurd (true≢false (sym h))
 stamp_there n (Some lacpdu) h = (model_taken lacpdu, refl, eqb-true lacpdu.stamp n h)
 
-not_defaulted : (o : Option Machines) (x : Machines) → o ≡ Some x → unwrap_or (option_map (λ (x : Machines). x.defaulted) o) false ≡ false
-    → x.defaulted ≡ false
-not_defaulted None x e h = absurd (none-some x e)
-not_defaulted (Some y) x e h = subst (λ (x : Machines). x.defaulted ≡ false) (same_Some y x e) h
-
 -- an end hears its present peer
 hears : (s : Side) (p q : ℕ) (x : Machines) (j : WorldState) → PortsAgree (half s j).state → machines_of p (half s j).state ≡ Some x
     → same_mux_state CollectingDistributing x.mux ≡ true → x.defaulted ≡ false
@@ -81,14 +74,6 @@ equal_test : (x y : Machines) → SamePair (pair_of x.party (party_of x.partner)
 equal_test x y h = subst (λ (g : Group). same_group (group_at x) g ≡ true)
     (groups_from_pairs (pair_of x.party (party_of x.partner)) (pair_of y.party (party_of y.partner)) h) (group-itself (group_at x))
 
-end_there : (s : Side) (links : List LinkState) (i : ℕ) (l : LinkState) → slice_get links i ≡ Some l
-    → end_at (map link_ends links) s (suc i) ≡ Some (port_at s l)
-end_there s links i l e = ap (option_map (port_on s)) (slice_get-map link_ends links i ∙ ap (option_map link_ends) e) ∙ same_end s
-  where
-    same_end : (s : Side) → Some (port_on s (link_ends l)) ≡ Some (port_at s l)
-    same_end One = refl
-    same_end Two = refl
-
 -- So they do not differ.
 line_agrees : (j : WorldState) (i : ℕ) (l : LinkState) → IsSound j → slice_get j.links i ≡ Some l
     → agreement_of (end_facts j.one l.one) (end_facts j.two l.two) ≡ Differ → ⊥
@@ -101,14 +86,12 @@ line_agrees j i l s e h =
     let defaults = or_parts a.defaulted b.defaulted f.1 in
     let stamps = and_parts (is_stamp a.count b.taken) (is_stamp b.count a.taken)
     (not-false (is_stamp a.count b.taken && is_stamp b.count a.taken) f.2) in
-    let one = port_there (machines_of l.one j.one.state) both.0 in
-    let two = port_there (machines_of l.two j.two.state) both.1 in
-    let hears_one = hears One l.one l.two one.0 j (s.kept One).agrees one.1 one.2
-    (not_defaulted (machines_of l.one j.one.state) one.0 one.1 defaults.0) stamps.1 in
-    let hears_two = hears Two l.two l.one two.0 j (s.kept Two).agrees two.1 two.2
-    (not_defaulted (machines_of l.two j.two.state) two.0 two.1 defaults.1) stamps.0 in
-    let pair = agree_of j s (suc i) l.one l.two (model_port one.0) (model_port two.0) (end_there One j.links i l e)
-    (end_there Two j.links i l e) hears_one hears_two in
+    let one = port_there (machines_of l.one j.one.state) both.0 defaults.0 in
+    let two = port_there (machines_of l.two j.two.state) both.1 defaults.1 in
+    let hears_one = hears One l.one l.two one.0 j (s.kept One).agrees one.1 one.2 one.3 stamps.1 in
+    let hears_two = hears Two l.two l.one two.0 j (s.kept Two).agrees two.1 two.2 two.3 stamps.0 in
+    let pair = agree_of j s (suc i) l.one l.two (model_port one.0) (model_port two.0) (end_is One j.links i l e)
+    (end_is Two j.links i l e) hears_one hears_two in
     true≢false (sym (equal_test one.0 two.0 pair)
     ∙ sym (same_there (machines_of l.one j.one.state) (machines_of l.two j.two.state) one.0 two.0 one.1 two.1) ∙ f.3)
 
@@ -120,24 +103,3 @@ never_differs j (suc i) s h = by_line (slice_get j.links i) refl h
         → option_map (λ (l : LinkState). agreement_of (end_facts j.one l.one) (end_facts j.two l.two)) o ≡ Some Differ → ⊥
     by_line None e h = none-some Differ h
     by_line (Some l) e h = line_agrees j i l s e (same_Some (agreement_of (end_facts j.one l.one) (end_facts j.two l.two)) Differ h)
-
--- what code found of the cable is what there is to say of it
-pub agreement_there : (j : WorldState) (c i one two : ℕ) (whole : Bool) → c ≡ i + 1
-    → IsSomeAnd (slice_get j.links i) (λ l. (one ≡ l.one) × (two ≡ l.two) × (whole ≡ l.whole))
-    → Some (agreement_of (end_facts j.one one) (end_facts j.two two)) ≡ agreement_at j c
-agreement_there j c i one two whole e h = subst (λ c. Some (agreement_of (end_facts j.one one) (end_facts j.two two)) ≡ agreement_at j c)
-    (sym (e ∙ next i)) (by_line (slice_get j.links i) h)
-  where
-    next : (i : ℕ) → i + 1 ≡ suc i
-    next i = omega arith
-
-    by_line : (o : Option LinkState) → IsSomeAnd o (λ l. (one ≡ l.one) × (two ≡ l.two) × (whole ≡ l.whole))
-        → Some (agreement_of (end_facts j.one one) (end_facts j.two two)) ≡ option_map
-        (λ (l : LinkState). agreement_of (end_facts j.one l.one) (end_facts j.two l.two)) o
-    by_line None h = absurd h
-    by_line (Some l) h = λ k. Some (agreement_of (end_facts j.one (h.0 k)) (end_facts j.two (h.1 k)))
-
-pub no_agreement : (j : WorldState) (o : Option LinkState) → is_some o ≡ false
-    → option_map (λ (l : LinkState). agreement_of (end_facts j.one l.one) (end_facts j.two l.two)) o ≡ None
-no_agreement j None h = refl
-no_agreement j (Some l) h = absurd (true≢false h)

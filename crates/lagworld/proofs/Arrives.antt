@@ -1,19 +1,20 @@
 -- What an item that arrives on a port does.
-use Rattle.lagworld.proofs.Common.{Bool, Err, IsSome, List, None, Ok, Option, Result, Some, [], ap, cond, eq-eqb, eqb, eqb-true, false, inl, inr, map}
-use Rattle.lagworld.proofs.Common.{option_map, refl, slice_get, subst, suc, sym, true, ℕ, ◌++◌, ◌==◌, ◌∙◌, ◌∷◌, ◌≡◌, ◌⊎◌, cases_Bool, true≢false}
-use Rattle.lagworld.proofs.Common.{option_to_list, AggId, Lacpdu, Pdu, IsSlowProtocolsFrame, Reads, lacpdu_in, number_at, pdu_read, Act, LawfulMoves}
-use Rattle.lagworld.proofs.Common.{Sends, Took, Message_pdu, ModelEvent, CallHappens, Control, Data, DeliversFirst, Ends, Happens, IsCabling}
-use Rattle.lagworld.proofs.Common.{LosesFirst, Message, One, Receives, RepeatsFirst, Side, Two, WorldSetup, at_side, at_two, end_at, handed_up, peer}
-use Rattle.lagworld.proofs.Common.{stamp_of, with_messages, cond_false, cond_true, same_world, Stamp, SystemFault, Received, Receive, EffectsSeenAs}
-use Rattle.lagworld.proofs.Common.{FrameSeenAs, JoinedByLawfulMoves, control_message, model_lacpdu, model_setup, model_view, SystemState, PortHistory}
+use Rattle.lagworld.proofs.Common.{Bool, IsSome, List, None, Ok, Option, Result, Some, [], ap, arith, cond, eqb, eqb-true, false, if◌then◌else◌, inl}
+use Rattle.lagworld.proofs.Common.{inr, map, option_map, refl, slice_get, subst, suc, sym, true, ℕ, ◌++◌, ◌==◌, ◌∙◌, ◌∷◌, ◌≡◌, ◌⊎◌, cases_Bool}
+use Rattle.lagworld.proofs.Common.{true≢false, option_to_list, AggId, Lacpdu, Pdu, IsSlowProtocolsFrame, Reads, lacpdu_in, number_at, pdu_read, Act}
+use Rattle.lagworld.proofs.Common.{LawfulMoves, Sends, Took, Message_pdu, ModelEvent, CallHappens, Control, Data, DeliversFirst, Ends, Happens}
+use Rattle.lagworld.proofs.Common.{IsCabling, LosesFirst, Message, One, Receives, RepeatsFirst, Side, Two, WorldSetup, at_side, at_two, handed_up}
+use Rattle.lagworld.proofs.Common.{peer, stamp_of, with_messages, same_world, Stamp, SystemFault, Received, Receive, EffectsSeenAs, FrameSeenAs}
+use Rattle.lagworld.proofs.Common.{JoinedByLawfulMoves, control_message, model_lacpdu, model_setup, model_view, SystemState, PortHistory}
 use Rattle.lagworld.proofs.Common.{StampedLacpdu, Reply, AfterReceive, DeliversFrom, LosesFrom, RepeatsFrom, RepeatsItem, WorldReceives}
 use Rattle.lagworld.proofs.Common.{set_last_lacpdu, stamped_in, with_collected_in, with_last_lacpdu, with_link_at, HalfAnswers, set_taken}
 use Rattle.lagworld.proofs.Common.{item_message, message_in, payload_in, side_numbered, stamp_count, link_ends, messages, model_taken, model_world}
-use Rattle.lagworld.proofs.Common.{world_setup, AreItems, IsItem, FlowValue, HalfState, ItemValue, LinkState, WorldState, change_count_in}
-use Rattle.lagworld.proofs.Common.{collected_in, flow_at, forced_in, half, history_at, is_accepted, port_at, put_on_port, sent_in, taken_in, towards}
-use Rattle.lagworld.proofs.Common.{with_collected, with_half, with_towards}
+use Rattle.lagworld.proofs.Common.{world_setup, AreItems, IsItem, HalfState, ItemValue, LinkState, WorldState, change_count_in, collected_in, flow_at}
+use Rattle.lagworld.proofs.Common.{forced_in, half, history_at, is_accepted, port_at, put_on_port, sent_in, taken_in, towards, with_collected}
+use Rattle.lagworld.proofs.Common.{with_half, with_towards}
 use Rattle.slowpdu.specs.Readings.{pdu_in}
 use Rattle.lagmodel.specs.World.{Event}
+use Rattle.lagworld.proofs.OneSystem.{told_moves, Leaves, after_call, fixed_kept, history_kept, keeping_call, histories_kept, quietly, flows_kept}
 use Rattle.cables.specs.declared.item.Stamp.TheVariants as stamp
 use Rattle.slowpdu.specs.declared.pdu.Pdu.TheVariants as pdu
 use Rattle.lagmodel.proofs.Brings.{moves_bring}
@@ -22,7 +23,6 @@ use Rattle.lagsystem.specs.declared.drive.Reply.TheVariants as answer
 use Rattle.lagworld.proofs.Sides.{half_after, kept_at}
 use Rattle.lagworld.proofs.Cables.{mapped_set, end_is}
 use Rattle.lagworld.proofs.Flows.{read_changed, read_same}
-use Rattle.lagworld.proofs.OneSystem.{Leaves, after_call, one_call, counts_kept}
 use Rattle.lagworld.proofs.Happens.{popped_world}
 use Rattle.lagworld.proofs.Sends.{sent_read, stamped, sends_pdu}
 
@@ -63,16 +63,11 @@ brought_by octets (stamp.Data system agg conv serial) (Some m) t b = absurd (t b
 
 seen_act : (s : SystemState) (p : ℕ) (octets : List ℕ) (a : Result Received SystemFault) (seen : List Act)
     → EffectsSeenAs s (Receive p octets) (answer.Receive a) seen → seen ≡ option_to_list (act_of p octets a)
-seen_act s p octets (Err fault) seen h = h
-seen_act s p octets (Ok received.Disabled) seen h = h
-seen_act s p octets (Ok received.Dropped) seen h = h
-seen_act s p octets (Ok (received.Ignored fault)) seen h = h
 seen_act s p octets (Ok received.TookLacpdu) seen h = h.2
     ∙ ap (λ v. Took p (model_lacpdu v) ∷ []) (sym (lacpdu_read (payload_in octets) h.0 h.1.1))
 seen_act s p octets (Ok (received.Respond frame)) seen h = h.2
     ∙ ap (λ v. Sends p (control_message v) ∷ []) (sym (sent_read frame (pdu.Marker h.0) h.1))
-seen_act s p octets (Ok (received.Released n)) seen h = h
-seen_act s p octets (Ok (received.Up agg)) seen h = h
+seen_act s p octets a seen h = h
 
 -- What a received item lets a system do, by what it stands for.
 pub told_receive : (p : ℕ) (octets : List ℕ) (st : Stamp) (a : Result Received SystemFault) (old new : SystemState) → IsTrue_to octets st
@@ -80,120 +75,75 @@ pub told_receive : (p : ℕ) (octets : List ℕ) (st : Stamp) (a : Result Receiv
     → LawfulMoves (model_setup old) (ModelEvent.Receive p (brought octets st)) (model_view old)
     (option_to_list (act_of p octets a)) (model_view new)
 told_receive p octets st a old new t h =
-    let moves : LawfulMoves (model_setup old) (ModelEvent.Receive p h.2.0) (model_view old) h.1 (model_view new) =
-    subst (λ c. LawfulMoves (model_setup old) c (model_view old) h.1 (model_view new)) h.2.2 h.4 in
-    subst (λ l. LawfulMoves (model_setup old) (ModelEvent.Receive p (brought octets st)) (model_view old) l (model_view new))
-    (seen_act old p octets a h.1 h.3)
-    (elim (brought_by octets st h.2.0 t h.2.1) [
-      | inl e ↦ moves_bring (model_setup old) p (brought octets st) (model_view old) (model_view new) h.1
-          (subst (λ o. LawfulMoves (model_setup old) (ModelEvent.Receive p o) (model_view old) h.1 (model_view new)) e moves)
-      | inr e ↦ subst (λ o. LawfulMoves (model_setup old) (ModelEvent.Receive p o) (model_view old) h.1 (model_view new)) e moves
-    ])
+    let moves = told_moves old new h.2.2 (seen_act old p octets a h.1 h.3) h.4 in
+    elim (brought_by octets st h.2.0 t h.2.1) [
+      | inl e ↦ moves_bring (model_setup old) p (brought octets st) (model_view old) (model_view new) (option_to_list (act_of p octets a))
+          (told_moves old new (ap (ModelEvent.Receive p) e) refl moves)
+      | inr e ↦ told_moves old new (ap (ModelEvent.Receive p) e) refl moves
+    ]
 
--- The LACPDU that a port took last, as its history has it.
-heard_here : (p : ℕ) (lacpdu : StampedLacpdu) (histories : List PortHistory) → IsSome (history_at histories p)
-    → option_map model_taken (taken_in (history_at (set_last_lacpdu p lacpdu histories) p)) ≡ Some (model_taken lacpdu)
-heard_here p lacpdu [] h = absurd (let e = h in cc)
-heard_here p lacpdu (history ∷ histories) h = elim (cases_Bool (history.number == p)) [
-  | inl e ↦ ap (λ l. option_map model_taken (taken_in (history_at l p)))
-      (cond_true (history.number == p) (set_taken lacpdu history ∷ histories) (history ∷ set_last_lacpdu p lacpdu histories) e)
-      ∙ ap (λ o. option_map model_taken (taken_in o)) (cond_true (eqb p history.number) (Some (set_taken lacpdu history))
-      (history_at histories p) (eq-eqb p history.number (sym (eqb-true history.number p e))))
-  | inr e ↦ (let other : eqb p history.number ≡ false = unequal p history.number e in
-      ap (λ l. option_map model_taken (taken_in (history_at l p))) (cond_false (history.number == p) (set_taken lacpdu history ∷ histories)
-      (history ∷ set_last_lacpdu p lacpdu histories) e)
-      ∙ ap (λ o. option_map model_taken (taken_in o))
-      (cond_false (eqb p history.number) (Some history) (history_at (set_last_lacpdu p lacpdu histories) p) other)
-      ∙ heard_here p lacpdu histories (subst IsSome (cond_false (eqb p history.number) (Some history) (history_at histories p) other) h))
-]
-  where
-    unequal : (m n : ℕ) → eqb n m ≡ false → eqb m n ≡ false
-    unequal m n e = elim (cases_Bool (eqb m n)) [ inl t ↦ absurd (true≢false (sym (eq-eqb n m (sym (eqb-true m n t))) ∙ e)) | inr t ↦ t ]
+-- The history of a port, after an LACPDU was recorded for one.
+heard : (p : ℕ) (lacpdu : StampedLacpdu) (q : ℕ) (histories : List PortHistory) → history_at (set_last_lacpdu p lacpdu histories) q
+    ≡ (if q == p then option_map (set_taken lacpdu) (history_at histories q) else history_at histories q)
+heard p lacpdu q [] = elim (cases_Bool (q == p)) [ inl e ↦ rw e refl | inr e ↦ rw e refl ]
+heard p lacpdu q (history ∷ histories) = let ih = heard p lacpdu q histories in grind arith
 
+-- what does not read the LACPDU, or reads another port, reads the same
 pub read_log : {X : Type 0} (read : Option PortHistory → X) (p : ℕ) (lacpdu : StampedLacpdu) (q : ℕ)
     → ((history : PortHistory) → (q ≡ p → ⊥) ⊎ (read (Some (set_taken lacpdu history)) ≡ read (Some history)))
     → (histories : List PortHistory) → read (history_at (set_last_lacpdu p lacpdu histories) q) ≡ read (history_at histories q)
-read_log read p lacpdu q same [] = refl
-read_log read p lacpdu q same (history ∷ histories) = elim (cases_Bool (history.number == p)) [
-  | inl e ↦ ap (λ l. read (history_at l q)) (cond_true (history.number == p) (set_taken lacpdu history ∷ histories) (history
-      ∷ set_last_lacpdu p lacpdu histories) e)
-      ∙ elim (cases_Bool (eqb q history.number)) [
-        | inl t ↦ ap read (cond_true (eqb q history.number) (Some (set_taken lacpdu history)) (history_at histories q) t)
-            ∙ elim (same history) [ inl n ↦ absurd (n (eqb-true q history.number t ∙ eqb-true history.number p e)) | inr h ↦ h ]
-            ∙ sym (ap read (cond_true (eqb q history.number) (Some history) (history_at histories q) t))
-        | inr t ↦ ap read (cond_false (eqb q history.number) (Some (set_taken lacpdu history)) (history_at histories q) t)
-            ∙ sym (ap read (cond_false (eqb q history.number) (Some history) (history_at histories q) t))
-      ]
-  | inr e ↦ ap (λ l. read (history_at l q)) (cond_false (history.number == p) (set_taken lacpdu history ∷ histories) (history
-      ∷ set_last_lacpdu p lacpdu histories) e)
-      ∙ elim (cases_Bool (eqb q history.number)) [
-        | inl t ↦ ap read (cond_true (eqb q history.number) (Some history) (history_at (set_last_lacpdu p lacpdu histories) q) t)
-            ∙ sym (ap read (cond_true (eqb q history.number) (Some history) (history_at histories q) t))
-        | inr t ↦ ap read (cond_false (eqb q history.number) (Some history) (history_at (set_last_lacpdu p lacpdu histories) q) t)
-            ∙ read_log read p lacpdu q same histories
-            ∙ sym (ap read (cond_false (eqb q history.number) (Some history) (history_at histories q) t))
-      ]
-]
+read_log read p lacpdu q same histories = ap read (heard p lacpdu q histories) ∙ kept (q == p) refl (history_at histories q)
+  where
+    kept : (b : Bool) → (q == p) ≡ b → (o : Option PortHistory) → read (if b then option_map (set_taken lacpdu) o else o) ≡ read o
+    kept true e None = refl
+    kept true e (Some history) = elim (same history) [ inl n ↦ absurd (n (eqb-true q p e)) | inr h ↦ h ]
+    kept false e o = refl
 
 pub count_heard : (p : ℕ) (lacpdu : StampedLacpdu) (q : ℕ) (histories : List PortHistory)
     → change_count_in (history_at (set_last_lacpdu p lacpdu histories) q) ≡ change_count_in (history_at histories q)
 count_heard p lacpdu q histories = read_log change_count_in p lacpdu q (λ history. inr refl) histories
 
-pub taken_heard : (p : ℕ) (lacpdu : StampedLacpdu) (histories : List PortHistory) → IsSome (history_at histories p) → (q : ℕ)
+-- the LACPDU that a port took last
+taken_heard : (p : ℕ) (lacpdu : StampedLacpdu) (histories : List PortHistory) → IsSome (history_at histories p) → (q : ℕ)
     → option_map model_taken (taken_in (history_at (set_last_lacpdu p lacpdu histories) q)) ≡ cond (eqb q p) (Some (model_taken lacpdu))
     (option_map model_taken (taken_in (history_at histories q)))
-taken_heard p lacpdu histories h q = elim (cases_Bool (eqb q p)) [
-  | inl e ↦ subst (λ q. option_map model_taken (taken_in (history_at (set_last_lacpdu p lacpdu histories) q)) ≡ Some (model_taken lacpdu))
-      (sym (eqb-true q p e)) (heard_here p lacpdu histories h) ∙ sym (cond_true (eqb q p) _ _ e)
-  | inr e ↦ read_log (λ o. option_map model_taken (taken_in o)) p lacpdu q (λ history. inl (λ same. true≢false (sym (eq-eqb q p same) ∙ e)))
-      histories ∙ sym (cond_false (eqb q p) _ _ e)
-]
+taken_heard p lacpdu histories h q =
+    ap (λ o. option_map model_taken (taken_in o)) (heard p lacpdu q histories)
+    ∙ kept (q == p) (history_at histories q) (λ e. subst (λ q. IsSome (history_at histories q)) (sym (eqb-true q p e)) h)
+  where
+    kept : (b : Bool) (o : Option PortHistory) → (b ≡ true → IsSome o)
+        → option_map model_taken (taken_in (if b then option_map (set_taken lacpdu) o else o)) ≡ cond b (Some (model_taken lacpdu))
+        (option_map model_taken (taken_in o))
+    kept true None h = absurd (let e = h refl in cc)
+    kept true (Some history) h = refl
+    kept false o h = refl
 
 -- A call that an item made, in j, from which that item was taken away: no answer but `Up` looks at what the item is.
-came : (gives : ℕ → ℕ → ℕ → Type 0) (s : Side) (p : ℕ) (item : ItemValue) (a : Result Received SystemFault) (mid h : HalfState)
-    (ls : List LinkState) (kept : Bool) (j : WorldState)
-    → IsTrue_to item.octets item.stamp → HalfAnswers gives (Receive p item.octets) (answer.Receive a) (half s j) mid → h.state ≡ mid.state
-    → ((q : ℕ) → change_count_in (history_at h.histories q) ≡ change_count_in (history_at (half s j).histories q))
-    → Leaves (world_setup j) s (stamp_count item.stamp) kept (act_of p item.octets a) h ls j
-    → CallHappens (world_setup j) s (ModelEvent.Receive p (brought item.octets item.stamp)) (stamp_count item.stamp) (model_world j)
-    (model_world j) (model_world (after_call s h ls j))
-came gives s p item a mid h ls kept j t x e counts q =
-    let moves = subst
-    (λ (st : SystemState). LawfulMoves (model_setup (half s j).state) (ModelEvent.Receive p (brought item.octets item.stamp))
-    (model_view (half s j).state) (option_to_list (act_of p item.octets a)) (model_view st)) (sym e)
-    (told_receive p item.octets item.stamp a (half s j).state mid.state t x.answers.moves) in
-    one_call (world_setup j) s (ModelEvent.Receive p (brought item.octets item.stamp)) (stamp_count item.stamp) kept
-    (act_of p item.octets a) h ls j (model_world j) q moves
-    (counts_kept s h ls j (ModelEvent.Receive p (brought item.octets item.stamp)) (option_to_list (act_of p item.octets a))
-    (λ e. cc) refl moves counts)
+abbrev ItemCame : Side → ℕ → ItemValue → WorldState → WorldState → Type 0
+ItemCame s p item j new = CallHappens (world_setup j) s (ModelEvent.Receive p (brought item.octets item.stamp)) (stamp_count item.stamp)
+    (model_world j) (model_world j) (model_world new)
 
-quiet_at : (x : WorldSetup) (s : Side) (n : ℕ) (h : HalfState) (j : WorldState) → h.flows ≡ (half s j).flows
-    → ((p : ℕ) → taken_in (history_at h.histories p) ≡ taken_in (history_at (half s j).histories p)) → Leaves x s n true None h j.links j
-quiet_at x s n h j e taken = record {
-  away = λ c. refl;
-  towards = λ c. refl;
-  whole = λ c. refl;
-  taken = λ p. ap (option_map model_taken)
-      (taken p);
-  sent = λ g k. ap (λ f. sent_in (flow_at f g k)) e;
-  collected = λ g k. ap (λ f. collected_in (flow_at f g k)) e;
-  forced =
-      λ g k. ap (λ f. forced_in (flow_at f g k)) e;
-}
+-- A call that an item made, in j, from which that item was taken away: no answer but `Up` looks at what the item is.
+came : (gives : ℕ → ℕ → ℕ → Type 0) (s : Side) (p : ℕ) (item : ItemValue) (a : Result Received SystemFault) (mid : HalfState)
+    (histories : List PortHistory) (ls : List LinkState) (kept : Bool) (j new : WorldState)
+    → new ≡ after_call s (record mid { histories = histories }) ls j → IsTrue_to item.octets item.stamp
+    → HalfAnswers gives (Receive p item.octets) (answer.Receive a) (half s j) mid
+    → ((q : ℕ) → change_count_in (history_at histories q) ≡ change_count_in (history_at (half s j).histories q))
+    → Leaves s (stamp_count item.stamp) kept (act_of p item.octets a) (record mid { histories = histories }) ls j
+    → ItemCame s p item j new
+came gives s p item a mid histories ls kept j new is t x counts q =
+    keeping_call s (ModelEvent.Receive p (brought item.octets item.stamp)) (stamp_count item.stamp) kept (act_of p item.octets a)
+    (record mid { histories = histories }) ls j new is (λ e. cc) refl q
+    (told_receive p item.octets item.stamp a (half s j).state mid.state t x.answers.moves) counts
 
 silent : (gives : ℕ → ℕ → ℕ → Type 0) (s : Side) (p : ℕ) (item : ItemValue) (a : Result Received SystemFault)
     (mid : HalfState) (j new : WorldState)
     → IsTrue_to item.octets item.stamp → act_of p item.octets a ≡ None
-    → HalfAnswers gives (Receive p item.octets) (answer.Receive a) (half s j) mid → new ≡ with_half s mid j
-    → CallHappens (world_setup j) s (ModelEvent.Receive p (brought item.octets item.stamp)) (stamp_count item.stamp) (model_world j)
-    (model_world j) (model_world new)
+    → HalfAnswers gives (Receive p item.octets) (answer.Receive a) (half s j) mid → new ≡ with_half s mid j → ItemCame s p item j new
 silent gives s p item a mid j new t none x e =
-    subst (λ k. CallHappens (world_setup j) s (ModelEvent.Receive p (brought item.octets item.stamp)) (stamp_count item.stamp)
-    (model_world j) (model_world j) (model_world k)) (sym e)
-    (came gives s p item a mid mid j.links true j t x refl (λ q. ap (λ (h : HalfState). change_count_in (history_at h.histories q)) x.same)
-    (subst (λ o. Leaves (world_setup j) s (stamp_count item.stamp) true o mid j.links j) (sym none)
-    (quiet_at (world_setup j) s (stamp_count item.stamp) mid j (ap (λ (h : HalfState). h.flows) x.same)
-    (λ q. ap (λ (h : HalfState). taken_in (history_at h.histories q)) x.same))))
+    came gives s p item a mid mid.histories j.links true j new e t x (λ q. ap change_count_in (history_kept x q))
+    (subst (λ o. Leaves s (stamp_count item.stamp) true o mid j.links j) (sym none)
+    (quietly s (stamp_count item.stamp) mid j (flows_kept x) (λ q. ap taken_in (history_kept x q))))
 
 abbrev is_up : Result Received SystemFault → Bool
 is_up (Ok (received.Up agg)) = true
@@ -203,37 +153,22 @@ is_up _ = false
 arrived : (gives : ℕ → ℕ → ℕ → Type 0) (s : Side) (p : ℕ) (item : ItemValue) (a : Result Received SystemFault) (mid : HalfState) (r : Reply)
     (j new : WorldState) → IsCabling (world_setup j).cables → IsSome (history_at (half s j).histories p)
     → IsTrue_to item.octets item.stamp → is_up a ≡ false → HalfAnswers gives (Receive p item.octets) (answer.Receive a) (half s j) mid
-    → AfterReceive s p item a (with_half s mid j) r new
-    → CallHappens (world_setup j) s (ModelEvent.Receive p (brought item.octets item.stamp)) (stamp_count item.stamp) (model_world j)
-    (model_world j) (model_world new)
-arrived gives s p item (Err fault) mid r j new one history t u x y = silent gives s p item (Err fault) mid j new t refl x y.1
-arrived gives s p item (Ok received.Disabled) mid r j new one history t u x y = silent gives s p item
-    (Ok received.Disabled) mid j new t refl x y.1
-arrived gives s p item (Ok received.Dropped) mid r j new one history t u x y = silent gives s p item
-    (Ok received.Dropped) mid j new t refl x y.1
-arrived gives s p item (Ok (received.Ignored fault)) mid r j new one history t u x y = silent gives s p item
-    (Ok (received.Ignored fault)) mid j new t refl x y.1
-arrived gives s p item (Ok (received.Released n)) mid r j new one history t u x y = silent gives s p item
-    (Ok (received.Released n)) mid j new t refl x y.1
+    → AfterReceive s p item a (with_half s mid j) r new → ItemCame s p item j new
 arrived gives s p item (Ok (received.Up agg)) mid r j new one history t u x y = absurd (true≢false u)
 arrived gives s p item (Ok received.TookLacpdu) mid r j new one history t u x y =
-    let h = with_last_lacpdu p (stamped_in item) mid in
-    let histories : mid.histories ≡ (half s j).histories = ap (λ (h : HalfState). h.histories) x.same in
-    let flows : mid.flows ≡ (half s j).flows = ap (λ (h : HalfState). h.flows) x.same in
-    subst (λ k. CallHappens (world_setup j) s (ModelEvent.Receive p (brought item.octets item.stamp)) (stamp_count item.stamp)
-    (model_world j) (model_world j) (model_world k)) (sym (y.1 ∙ written s (stamped_in item) mid j))
-    (came gives s p item (Ok received.TookLacpdu) mid h j.links true j t x refl
-    (λ q. count_heard p (stamped_in item) q mid.histories ∙ ap (λ l. change_count_in (history_at l q)) histories)
+    came gives s p item (Ok received.TookLacpdu) mid (set_last_lacpdu p (stamped_in item) mid.histories) j.links true j new
+    (y.1 ∙ written s (stamped_in item) mid j) t x
+    (λ q. count_heard p (stamped_in item) q mid.histories ∙ ap change_count_in (history_kept x q))
     (record {
       away = λ c. refl;
       towards = λ c. refl;
       whole = λ c. refl;
-      taken = λ q. ap (λ l. option_map model_taken (taken_in (history_at (set_last_lacpdu p (stamped_in item) l) q))) histories
+      taken = λ q. ap (λ l. option_map model_taken (taken_in (history_at (set_last_lacpdu p (stamped_in item) l) q))) (histories_kept x)
           ∙ taken_heard p (stamped_in item) (half s j).histories history q;
-      sent = λ g k. ap (λ f. sent_in (flow_at f g k)) flows;
-      collected = λ g k. ap (λ f. collected_in (flow_at f g k)) flows;
-      forced = λ g k. ap (λ f. forced_in (flow_at f g k)) flows;
-    }))
+      sent = λ g k. ap (λ f. sent_in (flow_at f g k)) (flows_kept x);
+      collected = λ g k. ap (λ f. collected_in (flow_at f g k)) (flows_kept x);
+      forced = λ g k. ap (λ f. forced_in (flow_at f g k)) (flows_kept x);
+    })
   where
     written : (s : Side) (lacpdu : StampedLacpdu) (mid : HalfState) (j : WorldState)
         → with_half s (with_last_lacpdu p lacpdu (half s (with_half s mid j))) (with_half s mid j) ≡ with_half s
@@ -243,13 +178,9 @@ arrived gives s p item (Ok received.TookLacpdu) mid r j new one history t u x y 
 arrived gives s p item (Ok (received.Respond frame)) mid r j new one history t u x y =
     let reply : ItemValue = record { octets = frame; stamp = stamp.Control 0 } in
     let v = pdu_in (payload_in frame) in
-    subst (λ k. CallHappens (world_setup j) s (ModelEvent.Receive p (brought item.octets item.stamp)) (stamp_count item.stamp)
-    (model_world j) (model_world j) (model_world k)) (sym y.1)
-    (came gives s p item (Ok (received.Respond frame)) mid mid (put_on_port s p reply j.links) (is_accepted s p j.links) j t x refl
-    (λ q. ap (λ (h : HalfState). change_count_in (history_at h.histories q)) x.same)
-    (sends_pdu s p (control_message v) reply ((model_world j).count s p) mid j one (answers x) refl
-    (ap (λ (h : HalfState). h.flows) x.same) (λ q. ap (λ (h : HalfState). taken_in (history_at h.histories q)) x.same)
-    (stamp_count item.stamp)))
+    came gives s p item (Ok (received.Respond frame)) mid mid.histories (put_on_port s p reply j.links) (is_accepted s p j.links) j new y.1
+    t x (λ q. ap change_count_in (history_kept x q))
+    (sends_pdu s p (control_message v) reply ((model_world j).count s p) mid j x one (answers x) refl (stamp_count item.stamp))
   where
     answers : HalfAnswers gives (Receive p item.octets) (answer.Receive (Ok (received.Respond frame))) (half s j) mid
         → message_in frame (stamp.Control 0) ≡ Control (control_message (pdu_in (payload_in frame)))
@@ -259,52 +190,24 @@ arrived gives s p item (Ok (received.Respond frame)) mid r j new one history t u
         let same : pdu_in (payload_in frame) ≡ pdu.Marker sees.0 = sent_read frame (pdu.Marker sees.0) sees.1 in
         stamped frame (pdu.Marker sees.0) ((model_world j).count s p) same
         ∙ ap (λ v. Control (control_message v) (stamp_of (control_message v) ((model_world j).count s p))) (sym same)
+arrived gives s p item a mid r j new one history t u x y = silent gives s p item a mid j new t refl x y.1
 
 -- a control frame comes
 control_came : (gives : ℕ → ℕ → ℕ → Type 0) (s : Side) (p : ℕ) (octets : List ℕ) (count : ℕ) (a : Result Received SystemFault)
     (mid : HalfState) (r : Reply) (j new : WorldState) → IsCabling (world_setup j).cables → IsSome (history_at (half s j).histories p)
     → HalfAnswers gives (Receive p octets) (answer.Receive a) (half s j) mid
     → AfterReceive s p (record { octets = octets; stamp = stamp.Control count }) a (with_half s mid j) r new
-    → CallHappens (world_setup j) s (ModelEvent.Receive p (Some (control_message (pdu_in (payload_in octets))))) count (model_world j)
-    (model_world j) (model_world new)
+    → ItemCame s p (record { octets = octets; stamp = stamp.Control count }) j new
 control_came gives s p octets count (Ok (received.Up agg)) mid r j new one history x y =
     silent gives s p (record { octets = octets; stamp = stamp.Control count }) (Ok (received.Up agg)) mid j new tt refl x y.1
-control_came gives s p octets count (Err fault) mid r j new one history x y =
-    arrived gives s p (record { octets = octets; stamp = stamp.Control count }) (Err fault) mid r j new one history tt refl x y
-control_came gives s p octets count (Ok received.Disabled) mid r j new one history x y =
-    arrived gives s p (record { octets = octets; stamp = stamp.Control count }) (Ok received.Disabled) mid r j new one history tt refl x y
-control_came gives s p octets count (Ok received.Dropped) mid r j new one history x y =
-    arrived gives s p (record { octets = octets; stamp = stamp.Control count }) (Ok received.Dropped) mid r j new one history tt refl x y
-control_came gives s p octets count (Ok (received.Ignored fault)) mid r j new one history x y =
-    arrived gives s p (record { octets = octets; stamp = stamp.Control count }) (Ok (received.Ignored fault)) mid r j
-    new one history tt refl x y
-control_came gives s p octets count (Ok received.TookLacpdu) mid r j new one history x y =
-    arrived gives s p (record { octets = octets; stamp = stamp.Control count }) (Ok received.TookLacpdu) mid r j new one history tt refl x y
-control_came gives s p octets count (Ok (received.Respond frame)) mid r j new one history x y =
-    arrived gives s p (record { octets = octets; stamp = stamp.Control count }) (Ok (received.Respond frame)) mid r j
-    new one history tt refl x y
-control_came gives s p octets count (Ok (received.Released n)) mid r j new one history x y =
-    arrived gives s p (record { octets = octets; stamp = stamp.Control count }) (Ok (received.Released n)) mid r j
-    new one history tt refl x y
+control_came gives s p octets count a mid r j new one history x y =
+    arrived gives s p (record { octets = octets; stamp = stamp.Control count }) a mid r j new one history tt refl x y
 
 -- a data frame comes
 record IsData (s : Side) (octets : List ℕ) (system agg conv : ℕ) (j : WorldState) : Type 0 where
   origin : side_numbered system ≡ peer s
   there : IsSome (flow_at (half (peer s) j).flows agg conv)
   plain : IsSlowProtocolsFrame octets → ⊥
-
-collected_there : (serial : ℕ) (o : Option FlowValue) → IsSome o → collected_in (option_map (with_collected serial) o) ≡ collected_in o
-    ++ serial ∷ []
-collected_there serial None h = absurd (let e = h in cc)
-collected_there serial (Some x) h = refl
-
-sent_kept : (serial : ℕ) (o : Option FlowValue) → sent_in (option_map (with_collected serial) o) ≡ sent_in o
-sent_kept serial None = refl
-sent_kept serial (Some x) = refl
-
-forced_kept : (serial : ℕ) (o : Option FlowValue) → forced_in (option_map (with_collected serial) o) ≡ forced_in o
-forced_kept serial None = refl
-forced_kept serial (Some x) = refl
 
 abbrev after_up : Side → ℕ → ℕ → ℕ → WorldState → WorldState
 after_up t agg conv serial j = with_half t (with_collected_in agg conv serial (half t j)) j
@@ -316,17 +219,16 @@ handed_world s agg conv serial j there =
     let h = with_collected_in agg conv serial (half s j) in
     let now : (λ g k. collected_in (flow_at h.flows g k)) ≡ at_two ((model_world j).collected s) agg conv
     ((model_world j).collected s agg conv ++ serial ∷ []) =
-    (λ i g k. read_changed collected_in (with_collected serial) agg conv fl ((model_world j).collected s agg conv ++ serial ∷ [])
-    (collected_there serial (flow_at fl agg conv) there) g k i) in
+    (λ i g k. read_changed collected_in (with_collected serial) (λ l. l ++ serial ∷ []) agg conv fl (λ x. refl) there g k i) in
     same_world _ _ (kept_at (λ x. model_view x.state) s h j refl) (λ c. refl) (λ t c. refl)
     (λ t p. kept_at (λ x. change_count_in (history_at x.histories p)) s h j refl t)
     (λ t p. kept_at (λ x. option_map model_taken (taken_in (history_at x.histories p))) s h j refl t)
     (λ t g k. kept_at (λ x. sent_in (flow_at x.flows g k)) s h j
-    (read_same sent_in (with_collected serial) agg conv fl (sent_kept serial) g k) t)
+    (read_same sent_in (with_collected serial) agg conv fl (λ x. refl) g k) t)
     (λ t g k. ap (λ (f : ℕ → ℕ → List ℕ). f g k) (half_after (λ x g k. collected_in (flow_at x.flows g k)) s h j t
     ∙ ap (λ v. at_side (model_world j).collected s v t) now))
     (λ t g k. kept_at (λ x. forced_in (flow_at x.flows g k)) s h j
-    (read_same forced_in (with_collected serial) agg conv fl (forced_kept serial) g k) t)
+    (read_same forced_in (with_collected serial) agg conv fl (λ x. refl) g k) t)
 
 -- the moves of a call of s, and then a frame collected at its peer, or the other way round
 turned : (s : Side) (mid : HalfState) (agg conv serial : ℕ) (j : WorldState)
@@ -338,18 +240,6 @@ half_up : (s : Side) (agg conv serial : ℕ) (j : WorldState) → half s (after_
 half_up One agg conv serial j = refl
 half_up Two agg conv serial j = refl
 
-fixed_up : (s : Side) (agg conv serial : ℕ) (j : WorldState) → world_setup (after_up s agg conv serial j) ≡ world_setup j
-fixed_up One agg conv serial j = λ i. record { setup = λ t. same t i; cables = (world_setup j).cables }
-  where
-    same : (t : Side) → (world_setup (after_up One agg conv serial j)).setup t ≡ (world_setup j).setup t
-    same One = refl
-    same Two = refl
-fixed_up Two agg conv serial j = λ i. record { setup = λ t. same t i; cables = (world_setup j).cables }
-  where
-    same : (t : Side) → (world_setup (after_up Two agg conv serial j)).setup t ≡ (world_setup j).setup t
-    same One = refl
-    same Two = refl
-
 up_came : (gives : ℕ → ℕ → ℕ → Type 0) (s : Side) (p : ℕ) (octets : List ℕ) (agg conv serial : ℕ) (up : AggId) (mid : HalfState)
     (j : WorldState) → IsSome (flow_at (half (peer s) j).flows agg conv) → (IsSlowProtocolsFrame octets → ⊥)
     → HalfAnswers gives (Receive p octets) (answer.Receive (Ok (received.Up up))) (half s j) mid
@@ -358,18 +248,15 @@ up_came : (gives : ℕ → ℕ → ℕ → Type 0) (s : Side) (p : ℕ) (octets 
     (model_world (after_up (peer s) agg conv serial (with_half s mid j)))
 up_came gives s p octets agg conv serial up mid j there plain x =
     let after = after_up (peer s) agg conv serial j in
-    let item : ItemValue = record { octets = octets; stamp = stamp.Data 0 0 0 0 } in
+    let fixed = fixed_kept (peer s) (with_collected_in agg conv serial (half (peer s) j)) j refl in
+    let world = handed_world (peer s) agg conv serial j there in
     let asked : HalfAnswers gives (Receive p octets) (answer.Receive (Ok (received.Up up))) (half s after) mid =
     subst (λ h. HalfAnswers gives (Receive p octets) (answer.Receive (Ok (received.Up up))) h mid)
     (sym (half_up s agg conv serial j)) x in
-    let quiet = silent gives s p item (Ok (received.Up up)) mid after (with_half s mid after) plain refl asked refl in
-    let here = subst (λ w. CallHappens (world_setup after) s (ModelEvent.Receive p None) 0 w w (model_world (with_half s mid after)))
-    (handed_world (peer s) agg conv serial j there) quiet in
-    subst (λ x. CallHappens x s (ModelEvent.Receive p None) 0 (model_world j)
-    (handed_up true (Data (peer s) agg conv serial) (model_world j))
-    (model_world (after_up (peer s) agg conv serial (with_half s mid j)))) (fixed_up (peer s) agg conv serial j)
-    (subst (λ k. CallHappens (world_setup after) s (ModelEvent.Receive p None) 0 (model_world j)
-    (handed_up true (Data (peer s) agg conv serial) (model_world j)) (model_world k)) (sym (turned s mid agg conv serial j)) here)
+    subst (λ (X : Type 0). X)
+    (λ i. CallHappens (fixed i) s (ModelEvent.Receive p None) 0 (world i) (world i) (model_world (sym (turned s mid agg conv serial j) i)))
+    (silent gives s p (record { octets = octets; stamp = stamp.Data 0 0 0 0 }) (Ok (received.Up up)) mid after (with_half s mid after)
+    plain refl asked refl)
 
 abbrev DataCame : Side → ℕ → ℕ → ℕ → ℕ → ℕ → WorldState → WorldState → Type 0
 DataCame s p system agg conv serial j new =
@@ -382,50 +269,17 @@ data_came : (gives : ℕ → ℕ → ℕ → Type 0) (s : Side) (p : ℕ) (octet
     → AfterReceive s p (record { octets = octets; stamp = stamp.Data system agg conv serial }) a (with_half s mid j) r new
     → DataCame s p system agg conv serial j new
 data_came gives s p octets system agg conv serial (Ok (received.Up up)) mid r j new one history d x y =
-    let side = d.origin in
-    let here : new ≡ after_up (peer s) agg conv serial (with_half s mid j) = y.1
-    ∙ ap (λ t. after_up t agg conv serial (with_half s mid j)) side in (
+    let here : after_up (peer s) agg conv serial (with_half s mid j) ≡ new =
+    ap (λ t. after_up t agg conv serial (with_half s mid j)) (sym d.origin) ∙ sym y.1 in (
       true,
-      subst (λ t. CallHappens (world_setup j) s (ModelEvent.Receive p None) 0 (model_world j)
-          (handed_up true (Data t agg conv serial) (model_world j)) (model_world new)) (sym side)
-          (subst (λ k. CallHappens (world_setup j) s (ModelEvent.Receive p None) 0 (model_world j)
-          (handed_up true (Data (peer s) agg conv serial) (model_world j)) (model_world k)) (sym here)
-          (up_came gives s p octets agg conv serial up mid j d.there d.plain x)),
+      subst (λ (X : Type 0). X)
+          (λ i. CallHappens (world_setup j) s (ModelEvent.Receive p None) 0 (model_world j)
+          (handed_up true (Data (sym d.origin i) agg conv serial) (model_world j)) (model_world (here i)))
+          (up_came gives s p octets agg conv serial up mid j d.there d.plain x),
     )
-data_came gives s p octets system agg conv serial (Err fault) mid r j new one history d x y = (
+data_came gives s p octets system agg conv serial a mid r j new one history d x y = (
   false,
-  arrived gives s p (record { octets = octets; stamp = stamp.Data system agg conv serial }) (Err fault) mid r j new one
-      history d.plain refl x y,
-)
-data_came gives s p octets system agg conv serial (Ok received.Disabled) mid r j new one history d x y = (
-  false,
-  arrived gives s p (record { octets = octets; stamp = stamp.Data system agg conv serial }) (Ok received.Disabled) mid r j new one
-      history d.plain refl x y,
-)
-data_came gives s p octets system agg conv serial (Ok received.Dropped) mid r j new one history d x y = (
-  false,
-  arrived gives s p (record { octets = octets; stamp = stamp.Data system agg conv serial }) (Ok received.Dropped) mid r j new one
-      history d.plain refl x y,
-)
-data_came gives s p octets system agg conv serial (Ok (received.Ignored fault)) mid r j new one history d x y = (
-  false,
-  arrived gives s p (record { octets = octets; stamp = stamp.Data system agg conv serial }) (Ok (received.Ignored fault)) mid r j
-      new one history d.plain refl x y,
-)
-data_came gives s p octets system agg conv serial (Ok received.TookLacpdu) mid r j new one history d x y = (
-  false,
-  arrived gives s p (record { octets = octets; stamp = stamp.Data system agg conv serial }) (Ok received.TookLacpdu) mid r j new
-      one history d.plain refl x y,
-)
-data_came gives s p octets system agg conv serial (Ok (received.Respond frame)) mid r j new one history d x y = (
-  false,
-  arrived gives s p (record { octets = octets; stamp = stamp.Data system agg conv serial }) (Ok (received.Respond frame)) mid r j
-      new one history d.plain refl x y,
-)
-data_came gives s p octets system agg conv serial (Ok (received.Released n)) mid r j new one history d x y = (
-  false,
-  arrived gives s p (record { octets = octets; stamp = stamp.Data system agg conv serial }) (Ok (received.Released n)) mid r j new
-      one history d.plain refl x y,
+  arrived gives s p (record { octets = octets; stamp = stamp.Data system agg conv serial }) a mid r j new one history d.plain refl x y,
 )
 
 popped_fixed : (s : Side) (i : ℕ) (l : LinkState) (rest : List ItemValue) (old : WorldState) → slice_get old.links i ≡ Some l
@@ -471,15 +325,15 @@ pub deliver_happens : (gives : Side → ℕ → ℕ → ℕ → Type 0) (s : Sid
     (old new : WorldState) → slice_get old.links i ≡ Some l → towards s l ≡ xs → IsCabling (world_setup old).cables
     → IsSome (history_at (half s old).histories (port_at s l)) → AreItems s xs old → DeliversFrom gives s i l xs old r new
     → Happens (world_setup old) (Event.Deliver (suc i) s) (model_world old) (model_world new)
-deliver_happens gives s i l [] r old new there e one history t x =
-    subst (λ ms. DeliversFirst (world_setup old) (suc i) s (end_at (world_setup old).cables s (suc i)) ms (model_world old)
-    (model_world new)) (sym (line_is s i l [] old there e)) (ap model_world x.1)
-deliver_happens gives s i l (item ∷ rest) r old new there e one history t x =
-    subst (λ ms. DeliversFirst (world_setup old) (suc i) s (end_at (world_setup old).cables s (suc i)) ms (model_world old)
-    (model_world new)) (sym (line_is s i l (item ∷ rest) old there e))
-    (subst (λ o. DeliversFirst (world_setup old) (suc i) s o (map item_message (item ∷ rest)) (model_world old) (model_world new))
-    (sym (end_is s old.links i l there))
-    (delivered gives s i l item.octets item.stamp rest r old new there one history t.0 x))
+deliver_happens gives s i l xs r old new there e one history t x =
+    subst (λ (X : Type 0). X)
+    (λ k. DeliversFirst (world_setup old) (suc i) s (sym (end_is s old.links i l there) k) (sym (line_is s i l xs old there e) k)
+    (model_world old) (model_world new)) (first xs t x)
+  where
+    first : (xs : List ItemValue) → AreItems s xs old → DeliversFrom gives s i l xs old r new
+        → DeliversFirst (world_setup old) (suc i) s (Some (port_at s l)) (map item_message xs) (model_world old) (model_world new)
+    first [] t x = ap model_world x.1
+    first (item ∷ rest) t x = delivered gives s i l item.octets item.stamp rest r old new there one history t.0 x
 
 -- the first item comes and stays
 repeated : (gives : Side → ℕ → ℕ → ℕ → Type 0) (s : Side) (i : ℕ) (p : ℕ) (octets : List ℕ) (st : Stamp) (rest : List Message) (r : Reply)
@@ -494,15 +348,15 @@ pub repeat_happens : (gives : Side → ℕ → ℕ → ℕ → Type 0) (s : Side
     (old new : WorldState) → slice_get old.links i ≡ Some l → towards s l ≡ xs → IsCabling (world_setup old).cables
     → IsSome (history_at (half s old).histories (port_at s l)) → RepeatsFrom gives s l xs old r new
     → Happens (world_setup old) (Event.Repeat (suc i) s) (model_world old) (model_world new)
-repeat_happens gives s i l [] r old new there e one history x =
-    subst (λ ms. RepeatsFirst (world_setup old) (suc i) s (end_at (world_setup old).cables s (suc i)) ms (model_world old)
-    (model_world new)) (sym (line_is s i l [] old there e)) (ap model_world x.1)
-repeat_happens gives s i l (item ∷ rest) r old new there e one history x =
-    subst (λ ms. RepeatsFirst (world_setup old) (suc i) s (end_at (world_setup old).cables s (suc i)) ms (model_world old)
-    (model_world new)) (sym (line_is s i l (item ∷ rest) old there e))
-    (subst (λ o. RepeatsFirst (world_setup old) (suc i) s o (map item_message (item ∷ rest)) (model_world old) (model_world new))
-    (sym (end_is s old.links i l there))
-    (repeated gives s i (port_at s l) item.octets item.stamp (map item_message rest) r old new one history x))
+repeat_happens gives s i l xs r old new there e one history x =
+    subst (λ (X : Type 0). X)
+    (λ k. RepeatsFirst (world_setup old) (suc i) s (sym (end_is s old.links i l there) k) (sym (line_is s i l xs old there e) k)
+    (model_world old) (model_world new)) (first xs x)
+  where
+    first : (xs : List ItemValue) → RepeatsFrom gives s l xs old r new
+        → RepeatsFirst (world_setup old) (suc i) s (Some (port_at s l)) (map item_message xs) (model_world old) (model_world new)
+    first [] x = ap model_world x.1
+    first (item ∷ rest) x = repeated gives s i (port_at s l) item.octets item.stamp (map item_message rest) r old new one history x
 
 -- the first item is lost
 pub lose_happens : (s : Side) (i : ℕ) (l : LinkState) (xs : List ItemValue) (r : Reply) (old new : WorldState)

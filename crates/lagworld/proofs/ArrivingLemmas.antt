@@ -1,8 +1,8 @@
 -- An item arrives, step by step.
-use Rattle.lagworld.proofs.Common.{Bool, Err, IsSomeAnd, IsTrue, List, None, Ok, Option, Result, Some, [], ap, arith, cond, drop, false, get_or}
-use Rattle.lagworld.proofs.Common.{length, map, nat_lt, not, option_map, position, refl, set, slice_get, slice_set, subst, suc, sym, true, zero, ℕ}
-use Rattle.lagworld.proofs.Common.{◌+◌, ◌<◌, ◌==◌, ◌∙◌, ◌∷◌, ◌≡◌, ◌≤◌, true≢false, nat_tests, length-set, map-set, set_past, cond_some, none-some}
-use Rattle.lagworld.proofs.Common.{same_Some, slice_get-map, slice_get_read, position_or_len, IfSome, Lacpdu, lacpdu_in, One, Side, Two, Item, Stamp}
+use Rattle.lagworld.proofs.Common.{Bool, IsSomeAnd, IsTrue, List, None, Ok, Option, Result, Some, [], ap, arith, cond, drop, false, get_or, length}
+use Rattle.lagworld.proofs.Common.{map, nat_lt, not, option_map, position, refl, set, slice_get, slice_set, subst, suc, sym, true, zero, ℕ, ◌+◌, ◌<◌}
+use Rattle.lagworld.proofs.Common.{◌==◌, ◌∙◌, ◌∷◌, ◌≡◌, ◌≤◌, true≢false, nat_tests, length-set, map-set, set_past, cond_some, none-some, same_Some}
+use Rattle.lagworld.proofs.Common.{slice_get-map, slice_get_read, position_or_len, IfSome, Lacpdu, lacpdu_in, One, Side, Two, Item, Stamp}
 use Rattle.lagworld.proofs.Common.{SystemFault, Received, Receive, JoinedByLawfulMoves, CallPromise, SystemState, PortHistory, StampedLacpdu, Cabled}
 use Rattle.lagworld.proofs.Common.{Reply, CarriesLacpdu, Concludes, HalfReceives, HalfReceivesFirst, IsToRecord, WorldDelivers, WorldReceivesFirst}
 use Rattle.lagworld.proofs.Common.{WorldRepeats, first_head, head_in, history_index, is_data, last_lacpdu_recorded, with_lacpdu_recorded}
@@ -10,11 +10,12 @@ use Rattle.lagworld.proofs.Common.{AfterReceive, Algorithms, DeliversFrom, InHal
 use Rattle.lagworld.proofs.Common.{stamped_in, set_taken, with_state, link_state, link_states, item_value, payload_in, stamp_count, IsReserved}
 use Rattle.lagworld.proofs.Common.{IsReservedAt, is_reserved, FlowValue, HalfState, ItemValue, LinkState, WorldState, half, link_index, port_at}
 use Rattle.lagworld.proofs.Common.{towards, with_half, with_links, with_towards, without_first}
+use Rattle.lagworld.proofs.Effects.{told}
 use Rattle.cables.specs.declared.item.Stamp.TheVariants as stamp
 use Rattle.lagsystem.specs.declared.received.Received.TheVariants as received
 use Rattle.lagsystem.specs.declared.drive.Reply.TheVariants as answer
 use Rattle.lagworld.specs.declared.delivering.Head.{Head}
-use Rattle.lagworld.proofs.LineLemmas.{on_place}
+use Rattle.lagworld.proofs.LineLemmas.{on_place, seen_at}
 use Rattle.lagworld.proofs.Arrives.{lacpdu_read}
 
 abbrev make_heard : Lacpdu → ℕ → StampedLacpdu
@@ -22,11 +23,6 @@ make_heard v n = record { pdu = v; stamp = n }
 
 abbrev make_head : ℕ → Stamp → Head
 make_head p st = record { port = p; stamp = st }
-
--- an LACPDU was taken, so the frame carries one
-took_lacpdu : (p : ℕ) (octets : List ℕ) (old new : SystemState)
-    → JoinedByLawfulMoves old (Receive p octets) (answer.Receive (Ok received.TookLacpdu)) new → (v : Lacpdu) × CarriesLacpdu octets v
-took_lacpdu p octets old new h = (h.3.0, h.3.1)
 
 -- what is to be kept of it
 pub heard_is : (octets b : List ℕ) (st : Stamp) (found v : Lacpdu) (n : ℕ) → CarriesLacpdu octets v → b ≡ octets
@@ -89,22 +85,9 @@ logged_is : (p : ℕ) (item : ItemValue) (a : Result Received SystemFault) (lacp
     → JoinedByLawfulMoves old.state (Receive p item.octets) (answer.Receive a) state → IsToRecord a item lacpdu
     → histories ≡ last_lacpdu_recorded p lacpdu old.histories
     → make_half state histories old.flows ≡ with_lacpdu_recorded a p item (with_state state old)
-logged_is p item (Err fault) lacpdu old state histories j h e = ap (λ l. make_half state l old.flows) (e
-    ∙ ap (λ o. last_lacpdu_recorded p o old.histories) h)
-logged_is p item (Ok received.Disabled) lacpdu old state histories j h e = ap (λ l. make_half state l old.flows) (e
-    ∙ ap (λ o. last_lacpdu_recorded p o old.histories) h)
-logged_is p item (Ok received.Dropped) lacpdu old state histories j h e = ap (λ l. make_half state l old.flows) (e
-    ∙ ap (λ o. last_lacpdu_recorded p o old.histories) h)
-logged_is p item (Ok (received.Ignored fault)) lacpdu old state histories j h e = ap (λ l. make_half state l old.flows) (e
-    ∙ ap (λ o. last_lacpdu_recorded p o old.histories) h)
-logged_is p item (Ok received.TookLacpdu) lacpdu old state histories j h e =
-    let taken = took_lacpdu p item.octets old.state state j in
-    ap (λ l. make_half state l old.flows) (e ∙ ap (λ o. last_lacpdu_recorded p o old.histories) (h taken.0 taken.1))
-logged_is p item (Ok (received.Respond frame)) lacpdu old state histories j h e = ap (λ l. make_half state l old.flows) (e
-    ∙ ap (λ o. last_lacpdu_recorded p o old.histories) h)
-logged_is p item (Ok (received.Released n)) lacpdu old state histories j h e = ap (λ l. make_half state l old.flows) (e
-    ∙ ap (λ o. last_lacpdu_recorded p o old.histories) h)
-logged_is p item (Ok (received.Up agg)) lacpdu old state histories j h e = ap (λ l. make_half state l old.flows) (e
+logged_is p item (Ok received.TookLacpdu) lacpdu old state histories j h e = ap (λ l. make_half state l old.flows) (e
+    ∙ ap (λ o. last_lacpdu_recorded p o old.histories) (h j.3.0 j.3.1))
+logged_is p item a lacpdu old state histories j h e = ap (λ l. make_half state l old.flows) (e
     ∙ ap (λ o. last_lacpdu_recorded p o old.histories) h)
 
 pub comes_from : (gives : ℕ → ℕ → ℕ → Type 0) (p : ℕ) (item : ItemValue) (a : Result Received SystemFault) (b : List ℕ)
@@ -143,14 +126,7 @@ none_comes gives p (y ∷ ys) old h = absurd (none-some y h)
 pub taken_at : {X Y : Type 0} (f : X → Y) (h : Y → Y) (P : Y → Type 0) (xs : List X) (i : ℕ) (x new : X) → i < length xs → x ≡ get_or xs i x
     → P (f x) → f new ≡ h (f x)
     → IsSomeAnd (slice_get (map f xs) i) (λ y. P y × (map f (set xs i new) ≡ set (map f xs) i (h y)))
-taken_at f h P xs i x new lt read told e =
-    let there : slice_get (map f xs) i ≡ Some (f x) = slice_get-map f xs i
-    ∙ ap (option_map f) (slice_get_read xs (length xs) i x refl lt read) in
-    subst (λ o. IsSomeAnd o (λ y. P y × (map f (set xs i new) ≡ set (map f xs) i (h y)))) (sym there) (
-      told,
-      map-set f xs i new
-          ∙ ap (set (map f xs) i) e,
-    )
+taken_at f h P xs i x new lt read told e = seen_at f _ xs i x lt read (told, map-set f xs i new ∙ ap (set (map f xs) i) e)
 
 -- the first that is found, after something was written that is found as what was there
 same_place : {X : Type 0} (q : X → Bool) (xs : List X) (i : ℕ) (x new : X) → slice_get xs i ≡ Some x → q new ≡ q x
@@ -199,15 +175,9 @@ concluded : (s : Side) (p : ℕ) (item : ItemValue) (a : Result Received SystemF
     (r : Reply) (new : WorldState)
     → Concludes s p item.stamp a (with_half s (with_lacpdu_recorded a p item mid) old) r new
     → AfterReceive s p item a (with_half s mid old) r new
-concluded s p item (Err fault) mid old r new h = h
-concluded s p item (Ok received.Disabled) mid old r new h = h
-concluded s p item (Ok received.Dropped) mid old r new h = h
-concluded s p item (Ok (received.Ignored fault)) mid old r new h = h
 concluded One p item (Ok received.TookLacpdu) mid old r new h = h
 concluded Two p item (Ok received.TookLacpdu) mid old r new h = h
-concluded s p item (Ok (received.Respond frame)) mid old r new h = h
-concluded s p item (Ok (received.Released n)) mid old r new h = h
-concluded s p item (Ok (received.Up agg)) mid old r new h = h
+concluded s p item a mid old r new h = h
 
 -- the first item came, was answered, and what the answer leads to was done
 pub arrived : (gives : Algorithms) (s : Side) (p : ℕ) (item : ItemValue) (a : Result Received SystemFault) (links : List LinkState)

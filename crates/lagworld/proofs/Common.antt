@@ -33,7 +33,7 @@ pub use Rattle.lagmodel.specs.World.{CallHappens, Control, CountsChanges, Data, 
 pub use Rattle.lagmodel.specs.World.{Message, One, Receives, RepeatsFirst, Run, Side, TakenLacpdu, SensesCable as Told_senses, Two, World, WorldSetup}
 pub use Rattle.lagmodel.specs.World.{at_cable, at_side, at_two, end_at, first_world, handed_up, on_cable_after, party_at, peer, port_on}
 pub use Rattle.lagmodel.specs.World.{put_on_cable as put_in, sent_after, stamp_of, taken_after, with_messages}
-pub use Rattle.lagmodel.proofs.Base.{cond_false, cond_true, none-is_some, value_of}
+pub use Rattle.lagmodel.proofs.Base.{cond_false, cond_true, mapped_some, none-is_some, value_of}
 pub use Rattle.lagmodel.proofs.Calls.{parties_same}
 pub use Rattle.lagmodel.proofs.Runs.{calls_from, put_on, runs_joined, same_world}
 pub use Rattle.cables.specs.declared.item.Item.{Item}
@@ -87,9 +87,9 @@ pub use Rattle.lagworld.specs.Places.{AreReserved, HasRoom, HasRoomAt, HasRoomIn
 pub use Rattle.lagworld.specs.Sides.{model_side}
 pub use Rattle.lagworld.specs.Sound.{AreBelow, AreItems, HeadlineFacts, IsHalfSound, IsItem, IsReached, IsSound, IsStart, RefusesNext}
 pub use Rattle.lagworld.specs.Sound.{both_algorithms, next_of}
-pub use Rattle.lagworld.specs.State.{FlowValue, HalfState, ItemValue, LinkState, WorldState, WorldValue, accepts, accepts_at, change_count_in}
-pub use Rattle.lagworld.specs.State.{change_flow, change_flow_in, change_flow_of, change_link, collected_in, cut, element_numbered, emptied, flow_at}
-pub use Rattle.lagworld.specs.State.{flow_in_aggregator, forced_in, half, history_at, is_accepted, is_at_limit, joined, limit_towards, link_at}
-pub use Rattle.lagworld.specs.State.{link_index, port_at, put_on_port, sent_in, sent_on, taken_in, towards, with_collected, with_forced, with_half}
-pub use Rattle.lagworld.specs.State.{with_links, with_sent, with_towards, without_first}
+pub use Rattle.lagworld.specs.State.{FlowValue, HalfState, ItemValue, LinkState, WorldState, WorldValue, accepts, accepts_at, by_side}
+pub use Rattle.lagworld.specs.State.{change_count_in, change_flow, change_flow_in, change_flow_of, change_link, collected_in, cut, element_numbered}
+pub use Rattle.lagworld.specs.State.{emptied, flow_at, flow_in_aggregator, forced_in, half, history_at, is_accepted, is_at_limit, joined}
+pub use Rattle.lagworld.specs.State.{limit_towards, link_at, link_index, port_at, put_on_port, sent_in, sent_on, taken_in, towards, with_collected}
+pub use Rattle.lagworld.specs.State.{with_forced, with_half, with_links, with_sent, with_towards, without_first}
 pub use Rattle.lagworld.specs.WorldCalls.{world_state}

@@ -1,27 +1,25 @@
 -- The events that change parameters of ports, a configure and a restart, and the change counts.
-use Rattle.lagworld.proofs.Common.{Bool, IsSome, List, None, Option, Result, Some, [], ap, arith, eqb, eqb-true, if◌then◌else◌, inl, inr, is_some}
-use Rattle.lagworld.proofs.Common.{map, option_map, refl, slice_get, subst, suc, sym, true, zero, ℕ, ◌+◌, ◌∙◌, ◌∷◌, ◌≡◌, ◌≢◌, ◌⊎◌, cases_Bool}
-use Rattle.lagworld.proofs.Common.{true≢false, none-some, same_Some, Party, same_party, exact_party, party_itself, LawfulMoves, ModelEvent, View}
-use Rattle.lagworld.proofs.Common.{first_view, CallHappens, CountsChanges, Happens, One, Side, Two, World, at_side, cond_false, cond_true}
-use Rattle.lagworld.proofs.Common.{none-is_some, same_world, Machines, PortChange, Answer, SystemFault, Call, Configure, Restart, JoinedByLawfulMoves}
-use Rattle.lagworld.proofs.Common.{model_port, model_setup, model_view, SystemState, machines_of, first_shows, party_seen, port_seen, PortHistory}
-use Rattle.lagworld.proofs.Common.{Reply, InHalf, model_change, HalfAnswers, HalfConfigures, HalfRestarts, change_counted, is_party, party_of_port}
-use Rattle.lagworld.proofs.Common.{with_changes_counted, is_whole, messages, model_taken, model_world, world_setup, IsHalfSound, HalfState, LinkState}
-use Rattle.lagworld.proofs.Common.{WorldState, change_count_in, collected_in, element_numbered, emptied, flow_at, forced_in, half, history_at}
-use Rattle.lagworld.proofs.Common.{sent_in, taken_in, with_half, with_links}
+use Rattle.lagworld.proofs.Common.{IsSome, List, None, Option, Some, [], ap, arith, eqb, eqb-true, if◌then◌else◌, inl, inr, is_some, map, option_map}
+use Rattle.lagworld.proofs.Common.{refl, subst, suc, sym, true, zero, ℕ, ◌+◌, ◌∙◌, ◌∷◌, ◌≡◌, ◌≢◌, ◌⊎◌, cases_Bool, true≢false, none-some, same_Some}
+use Rattle.lagworld.proofs.Common.{Party, same_party, exact_party, party_itself, ModelEvent, View, first_view, CallHappens, CountsChanges, Happens}
+use Rattle.lagworld.proofs.Common.{One, Side, Two, World, at_side, cond_false, cond_true, none-is_some, same_world, Machines, PortChange, Answer}
+use Rattle.lagworld.proofs.Common.{Call, Configure, Restart, model_port, model_setup, model_view, SystemState, machines_of, first_shows, party_seen}
+use Rattle.lagworld.proofs.Common.{port_seen, PortHistory, Reply, InHalf, model_change, HalfAnswers, HalfConfigures, HalfRestarts, change_counted}
+use Rattle.lagworld.proofs.Common.{is_party, party_of_port, with_changes_counted, is_whole, messages, model_taken, model_world, world_setup}
+use Rattle.lagworld.proofs.Common.{IsHalfSound, HalfState, LinkState, WorldState, change_count_in, collected_in, element_numbered, emptied, flow_at}
+use Rattle.lagworld.proofs.Common.{forced_in, half, history_at, sent_in, taken_in, with_half, with_links}
 use Rattle.lagmodel.specs.World.{Event}
+use Rattle.lagworld.proofs.OneSystem.{told_moves, CountsParty, after_call, one_call, quietly, configured_kept, flows_kept, history_kept}
+use Rattle.lagworld.proofs.OneSystem.{histories_kept}
 use Rattle.lagsystem.specs.declared.drive.Reply.TheVariants as answer
 use Rattle.lagworld.proofs.Sides.{half_after, kept_at, moved_at}
-use Rattle.lagworld.proofs.OneSystem.{CountsParty, after_call, one_call, quietly, configured_kept}
 
 pub log_mapped : (s : SystemState) (histories : List PortHistory) (q : ℕ)
     → history_at (map (change_counted s) histories) q ≡ option_map (change_counted s) (history_at histories q)
 log_mapped s [] q = refl
 log_mapped s (history ∷ histories) q = elim (cases_Bool (eqb q history.number)) [
-  | inl e ↦ cond_true (eqb q history.number) (Some (change_counted s history)) _ e
-      ∙ sym (ap (option_map (change_counted s)) (cond_true (eqb q history.number) (Some history) (history_at histories q) e))
-  | inr e ↦ cond_false (eqb q history.number) (Some (change_counted s history)) _ e ∙ log_mapped s histories q
-      ∙ sym (ap (option_map (change_counted s)) (cond_false (eqb q history.number) (Some history) (history_at histories q) e))
+  | inl e ↦ rw e refl
+  | inr e ↦ rw e (log_mapped s histories q)
 ]
 
 taken_mapped : (s : SystemState) (o : Option PortHistory) → taken_in (option_map (change_counted s) o) ≡ taken_in o
@@ -32,13 +30,11 @@ pub taken_counted : (s : SystemState) (histories : List PortHistory) (q : ℕ)
     → taken_in (history_at (map (change_counted s) histories) q) ≡ taken_in (history_at histories q)
 taken_counted s histories q = ap taken_in (log_mapped s histories q) ∙ taken_mapped s (history_at histories q)
 
-pub find_name : (s : SystemState) (histories : List PortHistory) (q : ℕ) (history : PortHistory)
-    → history_at histories q ≡ Some history → history.number ≡ q
-find_name s [] q history e = absurd (none-some history e)
-find_name s (l ∷ histories) q history e = elim (cases_Bool (eqb q l.number)) [
-  | inl t ↦ (let same : l ≡ history = same_Some l history (sym (cond_true (eqb q l.number) (Some l) (history_at histories q) t) ∙ e) in
-      ap (λ (l : PortHistory). l.number) (sym same) ∙ sym (eqb-true q l.number t))
-  | inr t ↦ find_name s histories q history (sym (cond_false (eqb q l.number) (Some l) (history_at histories q) t) ∙ e)
+pub find_name : (histories : List PortHistory) (q : ℕ) (history : PortHistory) → history_at histories q ≡ Some history → history.number ≡ q
+find_name [] q history e = absurd (none-some history e)
+find_name (l ∷ histories) q history e = elim (cases_Bool (eqb q l.number)) [
+  | inl t ↦ ap (λ (l : PortHistory). l.number) (sym (same_Some l history (rw t at e))) ∙ sym (eqb-true q l.number t)
+  | inr t ↦ find_name histories q history (rw t at e)
 ]
 
 -- the count of one port
@@ -57,43 +53,30 @@ changed_or_not a o (Some b) n e = elim (cases_Bool (same_party b a)) [
 ]
 
 -- the same of a port of a system: old and new are what the law sees
+no_party : (o : Option Party) → (IsSome o → ⊥) → o ≡ None
+no_party None n = refl
+no_party (Some a) n = absurd (n refl)
+
+-- the same of a port of a system: old and new are what the law sees
 port_counted : (old new : HalfState) → IsHalfSound old → new.histories ≡ old.histories
     → ((p : ℕ) → party_of_port old.state p ≡ None → party_of_port new.state p ≡ None) → (p : ℕ)
     → CountsParty old (with_changes_counted new) p
-port_counted old new k e none p = by_log (history_at old.histories p) refl
+port_counted old new k e none p = rw (party_seen new.state p, party_seen old.state p, there) (counted (history_at old.histories p) refl)
   where
     there : change_count_in (history_at (with_changes_counted new).histories p) ≡ change_count_in
         (option_map (change_counted new.state) (history_at old.histories p))
     there = ap change_count_in (log_mapped new.state new.histories p)
         ∙ ap (λ l. change_count_in (option_map (change_counted new.state) (history_at l p))) e
 
-    no_party : (o : Option Party) → party_of_port old.state p ≡ o → history_at old.histories p ≡ None → party_of_port old.state p ≡ None
-    no_party None h l = h
-    no_party (Some a) h l = absurd (none-is_some (history_at old.histories p) l (k.logged p (subst IsSome (sym h) refl)))
-
-    by_log : (o : Option PortHistory) → history_at old.histories p ≡ o
-        → CountsParty old (with_changes_counted new) p
-    by_log None h =
-        let before = no_party (party_of_port old.state p) refl h in
-        inl (
-          party_seen new.state p ∙ none p before ∙ sym before ∙ sym (party_seen old.state p),
-          there
-              ∙ ap (λ o. change_count_in (option_map (change_counted new.state) o)) h ∙ sym (ap change_count_in h),
-        )
-    by_log (Some history) h =
-        let name = find_name old.state old.histories p history h in
-        let count : change_count_in (history_at (with_changes_counted new).histories p)
-        ≡ (if is_party history.party (party_of_port new.state p) then history.count else history.count + 1) =
-        there ∙ ap (λ o. change_count_in (option_map (change_counted new.state) o)) h
-        ∙ ap (λ q. if is_party history.party (party_of_port new.state q) then history.count else history.count + 1) name in
-        elim (changed_or_not history.party (party_of_port old.state p) (party_of_port new.state p) history.count (k.parties p history h)) [
-          | inl x ↦ inl (party_seen new.state p ∙ x.0 ∙ sym (party_seen old.state p), count ∙ x.1 ∙ sym (ap change_count_in h))
-          | inr x ↦ inr (
-            (λ y. x.0 (sym (party_seen new.state p) ∙ y ∙ party_seen old.state p)),
-            count ∙ x.1
-                ∙ sym (ap (λ o. suc (change_count_in o)) h),
-          )
-        ]
+    counted : (o : Option PortHistory) → history_at old.histories p ≡ o → ((party_of_port new.state p ≡ party_of_port old.state p)
+        × (change_count_in (option_map (change_counted new.state) o) ≡ change_count_in o))
+        ⊎ ((party_of_port new.state p ≢ party_of_port old.state p)
+        × (change_count_in (option_map (change_counted new.state) o) ≡ suc (change_count_in o)))
+    counted None h =
+        let before = no_party (party_of_port old.state p) (λ x. none-is_some (history_at old.histories p) h (k.logged p x)) in
+        inl (none p before ∙ sym before, refl)
+    counted (Some history) h = rw (find_name old.histories p history h)
+        (changed_or_not history.party (party_of_port old.state p) (party_of_port new.state p) history.count (k.parties p history h))
 
 -- the ports of a system are those of its configuration
 port_there : (s : SystemState) (p : ℕ) → is_some ((model_view s).port p) ≡ is_some (party_of_port s p)
@@ -112,11 +95,8 @@ same_ports gives call a old new k x p =
 
 pub no_port : (gives : ℕ → ℕ → ℕ → Type 0) (call : Call) (a : Answer) (old new : HalfState) → IsHalfSound old
     → HalfAnswers gives call a old new → (p : ℕ) → party_of_port old.state p ≡ None → party_of_port new.state p ≡ None
-no_port gives call a old new k x p e = gone (party_of_port new.state p) refl
-  where
-    gone : (o : Option Party) → party_of_port new.state p ≡ o → party_of_port new.state p ≡ None
-    gone None h = h
-    gone (Some b) h = absurd (true≢false (sym (ap is_some h) ∙ same_ports gives call a old new k x p ∙ ap is_some e))
+no_port gives call a old new k x p e =
+    no_party (party_of_port new.state p) (λ h. true≢false (sym h ∙ same_ports gives call a old new k x p ∙ ap is_some e))
 
 pub counts_of : (s : Side) (mid : HalfState) (ls : List LinkState) (j : WorldState) → IsHalfSound (half s j)
     → mid.histories ≡ (half s j).histories → ((p : ℕ) → party_of_port (half s j).state p ≡ None → party_of_port mid.state p ≡ None)
@@ -124,12 +104,6 @@ pub counts_of : (s : Side) (mid : HalfState) (ls : List LinkState) (j : WorldSta
     (model_world (after_call s (with_changes_counted mid) ls j)).count
 counts_of s mid ls j k e none = moved_at (λ x y. (p : ℕ) → CountsParty x y p) s (with_changes_counted mid) j (λ x p. inl (refl, refl))
     (port_counted (half s j) mid k e none)
-
-told_configure : (p : ℕ) (change : PortChange) (a : Result Bool SystemFault) (old new : SystemState)
-    → JoinedByLawfulMoves old (Configure p change) (answer.Configure a) new
-    → LawfulMoves (model_setup old) ModelEvent.Configure (model_view old) [] (model_view new)
-told_configure p change a old new h = subst (λ l. LawfulMoves (model_setup old) ModelEvent.Configure (model_view old) l (model_view new))
-    h.3 (subst (λ c. LawfulMoves (model_setup old) c (model_view old) h.1 (model_view new)) h.2 h.4)
 
 -- A port is configured, and the count of each port whose party differs then is one more.
 pub configure_happens : (gives : ℕ → ℕ → ℕ → Type 0) (s : Side) (p : ℕ) (change : PortChange) (r : Reply) (old new : WorldState)
@@ -139,34 +113,29 @@ configure_happens gives s p change r old new k x =
     let a = x.0.0 in
     let mid = x.0.1 in
     let asked = x.0.2 in
+    let m = asked.answers.moves in
     let same : new ≡ with_half s (with_changes_counted mid) old = x.1 ∙ ap (λ h. with_half s h old) x.0.4 in
     subst (λ j. CallHappens (world_setup old) s ModelEvent.Configure 0 (model_world old) (model_world old) (model_world j)) (sym same)
-    (one_call (world_setup old) s ModelEvent.Configure 0 true None (with_changes_counted mid) old.links old (model_world old)
-    (quietly (world_setup old) s (with_changes_counted mid) old (ap (λ (h : HalfState). h.flows) asked.same)
-    (λ q. taken_counted mid.state mid.histories q ∙ ap (λ (h : HalfState). taken_in (history_at h.histories q)) asked.same))
-    (told_configure p change a (half s old).state mid.state asked.answers.moves)
-    (counts_of s mid old.links old k (ap (λ (h : HalfState). h.histories) asked.same)
+    (one_call s ModelEvent.Configure 0 true None (with_changes_counted mid) old.links old
+    (quietly s 0 (with_changes_counted mid) old (flows_kept asked)
+    (λ q. taken_counted mid.state mid.histories q ∙ ap taken_in (history_kept asked q)))
+    (told_moves (half s old).state mid.state m.2 m.3 m.4)
+    (counts_of s mid old.links old k (histories_kept asked)
     (no_port gives (Configure p change) (answer.Configure a) (half s old) mid k asked)))
 
 -- A restart: the first view, and nothing is left on any cable.
-no_line : (links : List LinkState) (t : Side) (i : ℕ) → messages t (slice_get (map emptied links) i) ≡ []
-no_line [] t i = refl
-no_line (l ∷ links) One zero = refl
-no_line (l ∷ links) Two zero = refl
-no_line (l ∷ links) t (suc i) = no_line links t i
-
-same_whole : (links : List LinkState) (i : ℕ) → is_whole (slice_get (map emptied links) i) ≡ is_whole (slice_get links i)
-same_whole [] i = refl
-same_whole (l ∷ links) zero = refl
-same_whole (l ∷ links) (suc i) = same_whole links i
-
 nothing_left : (links : List LinkState) (t : Side) (c : ℕ) → messages t (element_numbered (map emptied links) c) ≡ []
 nothing_left links t zero = refl
-nothing_left links t (suc i) = no_line links t i
+nothing_left [] t (suc i) = refl
+nothing_left (l ∷ links) One (suc zero) = refl
+nothing_left (l ∷ links) Two (suc zero) = refl
+nothing_left (l ∷ links) t (suc (suc i)) = nothing_left links t (suc i)
 
 whole_left : (links : List LinkState) (c : ℕ) → is_whole (element_numbered (map emptied links) c) ≡ is_whole (element_numbered links c)
 whole_left links zero = refl
-whole_left links (suc i) = same_whole links i
+whole_left [] (suc i) = refl
+whole_left (l ∷ links) (suc zero) = refl
+whole_left (l ∷ links) (suc (suc i)) = whole_left links (suc i)
 
 restarted : (s : Side) (h : HalfState) (v : View) (old : WorldState) → model_view h.state ≡ v → h.flows ≡ (half s old).flows
     → ((p : ℕ) → taken_in (history_at h.histories p) ≡ taken_in (history_at (half s old).histories p))
@@ -195,9 +164,9 @@ restart_happens gives s old new k x =
     ∙ ap (λ h. with_half s h (with_links old (map emptied old.links))) x.0.2 in
     let start : model_view mid.state ≡ first_view (model_setup (half s old).state) = first_shows mid.state asked.answers.step.1
     ∙ ap first_view (configured_kept gives Restart answer.Restart (half s old) mid asked) in
-    let e = restarted s h (first_view (model_setup (half s old).state)) old start (ap (λ (h : HalfState). h.flows) asked.same)
-    (λ q. taken_counted mid.state mid.histories q ∙ ap (λ (h : HalfState). taken_in (history_at h.histories q)) asked.same) in
-    let counts = counts_of s mid (map emptied old.links) old k (ap (λ (h : HalfState). h.histories) asked.same)
+    let e = restarted s h (first_view (model_setup (half s old).state)) old start (flows_kept asked)
+    (λ q. taken_counted mid.state mid.histories q ∙ ap taken_in (history_kept asked q)) in
+    let counts = counts_of s mid (map emptied old.links) old k (histories_kept asked)
     (no_port gives Restart answer.Restart (half s old) mid k asked) in
     let w = model_world (after_call s h (map emptied old.links) old) in
     subst (λ j. Happens (world_setup old) (Event.Restart s) (model_world old) (model_world j)) (sym same)

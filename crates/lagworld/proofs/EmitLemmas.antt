@@ -4,7 +4,7 @@ use Rattle.lagworld.proofs.Common.{Stamp, SystemFault, IsSent, sent_payload, Rep
 use Rattle.lagworld.proofs.Common.{sent_reply, stamp_for, transmitted_item, payload_in, HalfState, ItemValue, LinkState, WorldState, change_count_in}
 use Rattle.lagworld.proofs.Common.{half, history_at, is_accepted, put_on_port, with_links}
 
-abbrev made : List ℕ → Stamp → ItemValue
+abbrev pub made : List ℕ → Stamp → ItemValue
 made octets stamp = record { octets = octets; stamp = stamp }
 
 -- the item that goes onto the cable
@@ -25,27 +25,25 @@ frame_sent s p frame octets v count stamp kept links j r a b c d e f g = (
 )
 
 -- what is done with an answer of a system is what the event does
-pub emits_of : (gives : Algorithms) (s : Side) (p : ℕ) (a : Result (Option (List ℕ)) SystemFault) (old mid new : WorldState) (r : Reply)
-    → WorldAsksTransmit gives s p a old mid → AfterTransmit s p a mid r new → WorldEmits gives s p old r new
-emits_of gives s p a old mid new r x y = (a, half s mid, x.0, subst (λ j. AfterTransmit s p a j r new) x.1 y)
+pub emits_of : (gives : Algorithms) (s : Side) (p : ℕ) (a b : Result (Option (List ℕ)) SystemFault) (old mid new : WorldState) (r : Reply)
+    → a ≡ b → WorldAsksTransmit gives s p a old mid → AfterTransmit s p b mid r new → WorldEmits gives s p old r new
+emits_of gives s p a b old mid new r e x y =
+    let asked = subst (λ a. WorldAsksTransmit gives s p a old mid) e x in
+    (b, half s mid, asked.0, subst (λ j. AfterTransmit s p b j r new) asked.1 y)
 
 -- what is sent has the PDU that was sent
 pub sent_reads : (frame : List ℕ) (v : Pdu) → IsSent frame v → ReadsPdu (payload_in frame) v
 sent_reads frame v h = written_pdu (payload_in frame) v (sent_payload frame v h)
 
 -- what a system sends
-pub frame_of : (gives : Algorithms) (s : Side) (p : ℕ) (frame : List ℕ) (old mid : WorldState)
-    → WorldAsksTransmit gives s p (Ok (Some frame)) old mid → (v : Pdu) × IsSent frame v
-frame_of gives s p frame old mid x = let sees = x.0.answers.moves.3 in (sees.0, sees.1)
+pub frame_of : (gives : Algorithms) (s : Side) (p : ℕ) (a : Result (Option (List ℕ)) SystemFault) (frame : List ℕ) (old mid : WorldState)
+    → a ≡ Ok (Some frame) → WorldAsksTransmit gives s p a old mid → (v : Pdu) × IsSent frame v
+frame_of gives s p a frame old mid e x =
+    let sees = (subst (λ a. WorldAsksTransmit gives s p a old mid) e x).0.answers.moves.3 in (sees.0, sees.1)
 
 always : {T E A : Type 0} (r : Result T E) → A → IfErr r (λ e. A)
 always (Ok x) h = tt
 always (Err e) h = h
-
--- if memory is refused, the world stays, whatever was reserved
-pub stays : {T E : Type 0} (r : Result T E) (links : List LinkState) (old : WorldState) → links ≡ old.links
-    → IfErr r (λ e. with_links old links ≡ old)
-stays r links old e = always r (ap (with_links old) e)
 
 pub stays_so : {T E : Type 0} (r : Result T E) (new old : WorldState) → new ≡ old → IfErr r (λ e. new ≡ old)
 stays_so r new old e = always r e

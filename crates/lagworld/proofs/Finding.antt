@@ -1,8 +1,7 @@
 -- The record of a conversation is at its index, and so are the ports that a cable joins.
 use Rattle.lagworld.proofs.Common.{Bool, IsSomeAnd, List, None, Option, Some, ap, arith, false, get_or, is_some, length, map, option_map, refl}
 use Rattle.lagworld.proofs.Common.{slice_get, subst, suc, sym, ℕ, ◌+◌, ◌<◌, ◌∙◌, ◌≡◌, ◌≤◌, true≢false, length-map, slice_get-map, slice_get_past}
-use Rattle.lagworld.proofs.Common.{slice_get_read, FlowValue, LinkState, WorldState, flow_at, flow_in_aggregator}
-use Rattle.lagworld.specs.Readers.{ends_of_cable, ports_joined}
+use Rattle.lagworld.proofs.Common.{slice_get_read, FlowValue, LinkState, element_numbered, flow_at, flow_in_aggregator}
 
 module _ {R X : Type 0} (v : X → FlowValue) (items : R → List X) where
   row_there : (rows : List R) (i k : ℕ) (row : R) → i < length rows → row ≡ get_or rows i row
@@ -27,17 +26,20 @@ module _ {R X : Type 0} (v : X → FlowValue) (items : R → List X) where
 abbrev pub pair : ℕ → ℕ → ℕ × ℕ
 pair a b = (a, b)
 
-pub ends_there : (j : WorldState) (c i one two : ℕ) (whole : Bool) → c ≡ i + 1
-    → IsSomeAnd (slice_get j.links i) (λ l. (one ≡ l.one) × (two ≡ l.two) × (whole ≡ l.whole)) → Some (pair one two) ≡ ends_of_cable c j
-ends_there j c i one two whole e h =
-    let next : i + 1 ≡ suc i = omega arith in
-    subst (λ k. Some (pair one two) ≡ ends_of_cable k j) (sym (e ∙ next)) (of_line (slice_get j.links i) h)
+-- what is made of the ports that a cable joins
+pub ends_there : {X : Type 0} (f : ℕ → ℕ → X) (links : List LinkState) (c i one two : ℕ) (whole : Bool) → c ≡ i + 1
+    → IsSomeAnd (slice_get links i) (λ l. (one ≡ l.one) × (two ≡ l.two) × (whole ≡ l.whole))
+    → Some (f one two) ≡ option_map (λ (l : LinkState). f l.one l.two) (element_numbered links c)
+ends_there f links c i one two whole e h =
+    let next : c ≡ suc i = omega arith in
+    subst (λ c. Some (f one two) ≡ option_map (λ (l : LinkState). f l.one l.two) (element_numbered links c)) (sym next)
+    (of_line (slice_get links i) h)
   where
     of_line : (o : Option LinkState) → IsSomeAnd o (λ l. (one ≡ l.one) × (two ≡ l.two) × (whole ≡ l.whole))
-        → Some (pair one two) ≡ option_map ports_joined o
+        → Some (f one two) ≡ option_map (λ (l : LinkState). f l.one l.two) o
     of_line None h = absurd h
-    of_line (Some l) h = λ k. Some (pair (h.0 k) (h.1 k))
+    of_line (Some l) h = λ k. Some (f (h.0 k) (h.1 k))
 
-pub no_ends : (o : Option LinkState) → is_some o ≡ false → option_map ports_joined o ≡ None
-no_ends None h = refl
-no_ends (Some l) h = absurd (true≢false h)
+pub no_ends : {X : Type 0} (f : LinkState → X) (o : Option LinkState) → is_some o ≡ false → option_map f o ≡ None
+no_ends f None h = refl
+no_ends f (Some l) h = absurd (true≢false h)

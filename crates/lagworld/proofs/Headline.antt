@@ -1,8 +1,7 @@
 -- Every world on the way of a run is sound, so the headline holds of each.
-use Rattle.lagworld.proofs.Common.{Bool, List, None, [], arith, false, nat_le, refl, subst, sym, true, ℕ, ◌++◌, ◌+◌, ◌<◌, ◌∷◌, ◌≡◌, ◌≤◌, false≢true}
-use Rattle.lagworld.proofs.Common.{true≢false, nat_tests, Event, cable_named, system_named, Reply, Algorithms, WorldRuns, WorldSteps, cause}
-use Rattle.lagworld.proofs.Common.{first_event_cause, has_cable, has_system, most_events, IsSound, WorldState}
-use Rattle.lagscript.specs.declared.event.Event.TheVariants as event
+use Rattle.lagworld.proofs.Common.{Bool, List, None, [], arith, false, nat_le, refl, subst, sym, true, ℕ, ◌++◌, ◌<◌, ◌∷◌, ◌≡◌, ◌≤◌, nat_tests, Event}
+use Rattle.lagworld.proofs.Common.{cable_named, system_named, Reply, Algorithms, WorldRuns, WorldSteps, cause, first_event_cause, has_cable}
+use Rattle.lagworld.proofs.Common.{has_system, most_events, IsSound, WorldState}
 use Rattle.lagworld.specs.Headline.{Headline, HoldsAllTheWay, LimitsHoldOnTheWay}
 use Rattle.lagworld.proofs.Effects.{named}
 use Rattle.lagworld.proofs.Keeping.{steps_sound}
@@ -10,10 +9,7 @@ use Rattle.lagworld.proofs.Running.{one_partner_of, agree_of, in_order_of}
 
 -- no reason to refuse it holds
 no_cause : (a b c : Bool) → a ≡ true → b ≡ true → c ≡ false → first_event_cause a b c ≡ None
-no_cause true true false h k l = refl
-no_cause true true true h k l = absurd (true≢false l)
-no_cause true false c h k l = absurd (false≢true k)
-no_cause false b c h k l = absurd (false≢true h)
+no_cause a b c h k l = rw (h, k, l) refl
 
 -- there is room for one more event
 room_of : (b : Bool) (a : ℕ) → nat_le most_events a ≡ b → a < most_events → b ≡ false
@@ -57,7 +53,7 @@ holds_all_the_way gives (e ∷ es) (r ∷ rs) old new h i few =
     (headline_of old i, holds_all_the_way gives es rs h.0 new h.2 mid few)
 
 -- two runs, one after the other
-runs_on : (gives : Algorithms) (es fs : List Event) (rs qs : List Reply) (old mid new : WorldState) → WorldRuns gives old es rs mid
+pub runs_on : (gives : Algorithms) (es fs : List Event) (rs qs : List Reply) (old mid new : WorldState) → WorldRuns gives old es rs mid
     → WorldRuns gives mid fs qs new → WorldRuns gives old (es ++ fs) (rs ++ qs) new
 runs_on gives [] fs [] qs old mid new h k = subst (λ (j : WorldState). WorldRuns gives j fs qs new) h k
 runs_on gives [] fs (r ∷ rs) qs old mid new h k = absurd h

@@ -1,24 +1,23 @@
 -- Each event preserves the invariant of a world.
 use Rattle.lagworld.proofs.Common.{Bool, Err, IsSome, List, None, Ok, Option, Result, Some, [], arith, false, map, nat_le, refl, subst, sym, true, ℕ}
 use Rattle.lagworld.proofs.Common.{◌++◌, ◌+◌, ◌∙◌, ◌∷◌, ◌≡◌, ◌≤◌, nat_tests, AggId, Pdu, IsSlowProtocolsFrame, pdu_in, Happens, IsCabling, One, Run}
-use Rattle.lagworld.proofs.Common.{Side, Two, World, WorldSetup, first_world, peer, runs_joined, Stamp, Answer, SystemFault, Received, Call}
-use Rattle.lagworld.proofs.Common.{Configure, Offer, Receive, Restart, Transmit, number_of_conversation, Event, Reply, AfterOffer, AfterReceive}
-use Rattle.lagworld.proofs.Common.{AfterTransmit, Algorithms, DoesEvent, InHalf, WorldReceives, WorldSteps, cause, first_event_cause, model_event}
-use Rattle.lagworld.proofs.Common.{most_events, offered_item, stamp_for, stamped_in, transmitted_item, with_frame_counted, with_item_sent}
-use Rattle.lagworld.proofs.Common.{with_link_at, with_stamp_collected, HalfAnswers, forced_if_accepted, payload_in, side_number, side_numbered}
-use Rattle.lagworld.proofs.Common.{model_world, world_setup, IsItem, IsReached, IsSound, HalfState, ItemValue, LinkState, WorldState, emptied}
-use Rattle.lagworld.proofs.Common.{flow_at, half, port_at, towards, with_collected, with_forced, with_half, with_links, with_sent}
+use Rattle.lagworld.proofs.Common.{Side, Two, WorldSetup, first_world, peer, runs_joined, Stamp, Answer, SystemFault, Received, Call, Configure}
+use Rattle.lagworld.proofs.Common.{Offer, Receive, Restart, Transmit, number_of_conversation, Event, Reply, AfterOffer, AfterReceive, AfterTransmit}
+use Rattle.lagworld.proofs.Common.{Algorithms, DoesEvent, InHalf, WorldReceives, WorldSteps, cause, first_event_cause, model_event, most_events}
+use Rattle.lagworld.proofs.Common.{offered_item, stamp_for, stamped_in, transmitted_item, with_frame_counted, with_item_sent, with_link_at}
+use Rattle.lagworld.proofs.Common.{with_stamp_collected, HalfAnswers, forced_if_accepted, payload_in, side_numbered, model_world, world_setup, IsItem}
+use Rattle.lagworld.proofs.Common.{IsReached, IsSound, HalfState, ItemValue, LinkState, WorldState, emptied, flow_at, half, port_at, towards}
+use Rattle.lagworld.proofs.Common.{with_collected, with_forced, with_half, with_links, with_sent}
 use Rattle.lagmodel.specs.World.{Event as ModelEvent}
+use Rattle.lagworld.proofs.Effects.{ChangesNoParty, DoesEffect, Effect, HalfAsked, Recording, Shrinks, answer_to_force, asks, changes_counted}
+use Rattle.lagworld.proofs.Effects.{delivers, does_effect, emits, if_forced, no_record, offers, receives, recorded, restarts, nothing, shrinks, ticks}
 use Rattle.cables.specs.declared.item.Stamp.TheVariants as stamp
 use Rattle.slowpdu.specs.declared.pdu.Pdu.TheVariants as pdu
 use Rattle.lagsystem.specs.declared.received.Received.TheVariants as received
 use Rattle.lagsystem.specs.declared.drive.Reply.TheVariants as answer
-use Rattle.lagscript.specs.declared.event.Event.TheVariants as event
-use Rattle.lagworld.proofs.Sides.{half_there}
+use Rattle.lagworld.proofs.Sides.{half_there, numbered_side}
 use Rattle.lagworld.proofs.Soundness.{IsShaped, GoesOn, goes_on, Follows, follows_then, follows_same, follows_half, items_weaker, follows_set}
 use Rattle.lagworld.proofs.Soundness.{follows_emptied, follows_put, asked_on, ticks_on, counted_on, heard_on, flow_on}
-use Rattle.lagworld.proofs.Effects.{ChangesNoParty, DoesEffect, Effect, HalfAsked, Recording, Shrinks, answer_to_force, asks, changes_counted}
-use Rattle.lagworld.proofs.Effects.{delivers, does_effect, emits, if_forced, no_record, offers, receives, recorded, restarts, nothing, shrinks, ticks}
 use Rattle.lagworld.proofs.Whole.{steps_happen}
 
 -- counts may rise by one
@@ -36,10 +35,9 @@ control_item s octets (pdu.Marker m) n j = tt
 
 emitted : (s : Side) (p : ℕ) (a : Result (Option (List ℕ)) SystemFault) (j new : WorldState) (r : Reply) → IsShaped j
     → AfterTransmit s p a j r new → Follows 0 j new
-emitted s p (Err fault) j new r i x = follows_same j new i x.1
-emitted s p (Ok None) j new r i x = follows_same j new i x.1
 emitted s p (Ok (Some frame)) j new r i x = subst (Follows 0 j) (sym x.1)
     (follows_put s p (transmitted_item s p frame (half s j)) j i (control_item (peer s) frame (pdu_in (payload_in frame)) _ j))
+emitted s p a j new r i x = follows_same j new i x.1
 
 collected_on : (st : Stamp) (j : WorldState) → IsShaped j → Follows 0 j (with_stamp_collected st j)
 collected_on (stamp.Control count) j i = follows_same j j i refl
@@ -48,16 +46,12 @@ collected_on (stamp.Data system agg conv serial) j i = follows_half 0 (side_numb
 
 arrived : (s : Side) (p : ℕ) (item : ItemValue) (a : Result Received SystemFault) (j new : WorldState) (r : Reply) → IsShaped j
     → AfterReceive s p item a j r new → Follows 0 j new
-arrived s p item (Err fault) j new r i x = follows_same j new i x.1
-arrived s p item (Ok received.Disabled) j new r i x = follows_same j new i x.1
-arrived s p item (Ok received.Dropped) j new r i x = follows_same j new i x.1
-arrived s p item (Ok (received.Ignored fault)) j new r i x = follows_same j new i x.1
 arrived s p item (Ok received.TookLacpdu) j new r i x = subst (Follows 0 j) (sym x.1)
     (follows_half 0 s _ j i (heard_on p (stamped_in item) (half s j) (i.kept s)))
 arrived s p item (Ok (received.Respond frame)) j new r i x = subst (Follows 0 j) (sym x.1)
     (follows_put s p (record { octets = frame; stamp = stamp.Control 0 }) j i tt)
-arrived s p item (Ok (received.Released n)) j new r i x = follows_same j new i x.1
 arrived s p item (Ok (received.Up agg)) j new r i x = subst (Follows 0 j) (sym x.1) (collected_on item.stamp j i)
+arrived s p item a j new r i x = follows_same j new i x.1
 
 arrives : (gives : Algorithms) (s : Side) (p : ℕ) (item : ItemValue) (j new : WorldState) (r : Reply) → IsShaped j
     → WorldReceives gives s p item j r new → Follows 0 j new
@@ -74,14 +68,6 @@ peer_twice : (s : Side) → peer (peer s) ≡ s
 peer_twice One = refl
 peer_twice Two = refl
 
-named_number : (s : Side) → side_numbered (side_number s) ≡ s
-named_number One = refl
-named_number Two = refl
-
-plain : (gives : ℕ → ℕ → ℕ → Type 0) (s : Side) (agg : AggId) (octets : List ℕ) (port : ℕ) (mid : HalfState) (j : WorldState)
-    → HalfAnswers gives (Offer agg octets) (answer.Offer (Ok port)) (half s j) mid → IsSlowProtocolsFrame octets → ⊥
-plain gives s agg octets port mid j x = x.answers.step.0.1.1
-
 offered_on : (gives : ℕ → ℕ → ℕ → Type 0) (s : Side) (agg : AggId) (octets : List ℕ) (a : Result ℕ SystemFault) (j mid new : WorldState)
     (r : Reply) → IsShaped mid → ((port : ℕ) → a ≡ Ok port → IsSlowProtocolsFrame octets → ⊥)
     → AfterOffer s agg octets a mid r new → Follows 0 mid new
@@ -96,7 +82,7 @@ offered_on gives s agg octets (Ok port) j mid new r i p x =
     subst (Follows 0 mid) (sym x.2)
     (follows_then 0 mid after (with_item_sent s port (offered_item s port agg octets (half s mid)) after) sent
     (follows_put s port (offered_item s port agg octets (half s mid)) after sent.shaped (
-      named_number s ∙ sym (peer_twice s),
+      numbered_side s ∙ sym (peer_twice s),
       subst (λ t. IsSome (flow_at (half t after).flows agg.0 k)) (sym (peer_twice s)) there,
       p port refl,
     )))
@@ -143,8 +129,7 @@ effect_follows gives e (offers s agg octets) r old new i (n, frame, named, same,
     let mid = asked (gives s) s (Offer agg octets) (answer.Offer x.0) x.1 old i (λ e. cc) (λ n c e. cc) x.2 in
     up_to_one old new (follows_then 0 old (with_half s x.1 old) new mid
     (offered_on (gives s) s agg octets x.0 old (with_half s x.1 old) new r mid.shaped
-    (λ port e. plain (gives s) s agg octets port x.1 old
-    (subst (λ a. HalfAnswers (gives s) (Offer agg octets) (answer.Offer a) (half s old) x.1) e x.2)) x.3))
+    (λ port e. (subst (λ a. HalfAnswers (gives s) (Offer agg octets) (answer.Offer a) (half s old) x.1) e x.2).answers.step.0.1.1) x.3))
 
 pub does_follow : (gives : Algorithms) (e : Event) (r : Reply) (old new : WorldState) → IsShaped old
     → DoesEvent gives old e r new → Follows 1 old new
@@ -155,23 +140,18 @@ shaped_of : (j : WorldState) → IsSound j → IsShaped j
 shaped_of j i = record { kept = i.kept; items = i.items; ends = i.ends }
 
 -- one event more
-one_event : (x : WorldSetup) (e : ModelEvent) (v w : World) → Happens x e v w → Run x (e ∷ []) v w
-one_event x e v w h = (w, h, refl)
-
 reached_more : (e : ModelEvent) (old new : WorldState) → world_setup new ≡ world_setup old
     → Happens (world_setup old) e (model_world old) (model_world new) → IsReached old → IsReached new
 reached_more e old new f h r =
     subst (λ x. (events : List ModelEvent) × Run x events (first_world x) (model_world new)) (sym f) (
       r.0 ++ e ∷ [],
       runs_joined (world_setup old) r.0 (e ∷ []) (first_world (world_setup old)) (model_world old) (model_world new) r.1
-          (one_event (world_setup old) e (model_world old) (model_world new) h),
+          (model_world new, h, refl),
     )
 
 not_spent : (c s b : Bool) → first_event_cause c s b ≡ None → b ≡ false
 not_spent true true false h = refl
-not_spent true true true h = absurd (let e = h in cc)
-not_spent true false b h = absurd (let e = h in cc)
-not_spent false s b h = absurd (let e = h in cc)
+not_spent c s b h = absurd (let e = h in cc)
 
 -- Every event that acts keeps a world sound, and what it has for good.
 pub steps_fixed : (gives : Algorithms) (e : Event) (r : Reply) (old new : WorldState) → IsSound old → WorldSteps gives old e r new

@@ -1,14 +1,16 @@
 -- A world made from a configuration that is accepted is a start.
 use Rattle.lagworld.proofs.Common.{Bool, IsSome, List, None, Option, Some, [], ap, arith, eq-eqb, eqb, eqb-true, false, get_or, if◌then◌else◌, inl}
-use Rattle.lagworld.proofs.Common.{inr, length, map, not, option_map, refl, replicate, slice_get, subst, suc, sym, take, true, zero, ℕ, ◌&&◌, ◌<◌}
-use Rattle.lagworld.proofs.Common.{◌==◌, ◌||◌, ◌∙◌, ◌∷◌, ◌≡◌, ◌≢◌, ◌≤◌, ◌⊎◌, and_parts, cases_Bool, not-false, not-true, true≢false}
+use Rattle.lagworld.proofs.Common.{inr, is_some, length, map, not, option_map, refl, replicate, slice_get, subst, suc, sym, take, true, zero, ℕ, ◌&&◌}
+use Rattle.lagworld.proofs.Common.{◌<◌, ◌==◌, ◌||◌, ◌∙◌, ◌∷◌, ◌≡◌, ◌≤◌, and_parts, cases_Bool, not-false, not-true, or_parts, true≢false}
 use Rattle.lagworld.proofs.Common.{get_or_from_slice_get, none-some, same_Some, slice_get-map, slice_get_within, list_all, Party, same_system}
-use Rattle.lagworld.proofs.Common.{find_number, PortFacts, first_port, first_view, IsCabling, One, Side, Two, end_at, party_at, port_on, cond_false}
-use Rattle.lagworld.proofs.Common.{cond_true, Item, configured_party, model_setup, model_view, conversation_count, PortsAgree, SystemState}
-use Rattle.lagworld.proofs.Common.{first_shows, party_seen, PortHistory, party_of_port, IsFirstHalf, are_empty_lines, empty_flow}
-use Rattle.lagworld.proofs.Common.{first_aggregator_flows, first_flows, first_histories, first_history, first_link, first_links, has_empty_directions}
-use Rattle.lagworld.proofs.Common.{item_value, link_ends, AreBelow, IsHalfSound, IsStart, FlowValue, HalfState, LinkState, WorldState, flow_at}
-use Rattle.lagworld.proofs.Common.{flow_in_aggregator, half, history_at, port_at, towards}
+use Rattle.lagworld.proofs.Common.{find_number, PortFacts, first_port, first_view, IsCabling, One, Side, Two, end_at, party_at, port_on, mapped_some}
+use Rattle.lagworld.proofs.Common.{Item, configured_party, model_setup, model_view, conversation_count, PortsAgree, SystemState, first_shows}
+use Rattle.lagworld.proofs.Common.{party_seen, PortHistory, party_of_port, IsFirstHalf, are_empty_lines, empty_flow, first_aggregator_flows}
+use Rattle.lagworld.proofs.Common.{first_flows, first_histories, first_history, first_link, first_links, has_empty_directions, item_value, link_ends}
+use Rattle.lagworld.proofs.Common.{AreBelow, IsHalfSound, IsStart, FlowValue, HalfState, LinkState, WorldState, by_side, flow_at, flow_in_aggregator}
+use Rattle.lagworld.proofs.Common.{half, history_at, port_at, towards}
+use Rattle.lagworld.proofs.Headline.{accepted}
+use Rattle.lagworld.proofs.EmitLemmas.{made}
 use Rattle.lagtypes.specs.declared.identifiers.SystemId.{SystemId}
 use Rattle.lagsystem.specs.declared.config.Config.{Config}
 use Rattle.lagsystem.specs.declared.config.PortConfig.{PortConfig}
@@ -22,12 +24,7 @@ use Rattle.lagscript.specs.Configs.{system_refusal}
 log_found : (system : SystemId) (ports : List PortConfig) (p : ℕ)
     → history_at (first_histories system ports) p ≡ option_map (first_history system) (find_number configured_number ports p)
 log_found system [] p = refl
-log_found system (c ∷ cs) p = elim (cases_Bool (eqb p c.number)) [
-  | inl e ↦ cond_true (eqb p c.number) (Some (first_history system c)) _ e
-      ∙ sym (ap (option_map (first_history system)) (cond_true (eqb p c.number) (Some c) (find_number configured_number cs p) e))
-  | inr e ↦ cond_false (eqb p c.number) (Some (first_history system c)) _ e ∙ log_found system cs p
-      ∙ sym (ap (option_map (first_history system)) (cond_false (eqb p c.number) (Some c) (find_number configured_number cs p) e))
-]
+log_found system (c ∷ cs) p = elim (cases_Bool (eqb p c.number)) [ inl e ↦ rw e refl | inr e ↦ rw e (log_found system cs p) ]
 
 party_back : (o : Option Party) → option_map (λ (a : PortFacts). a.party) (option_map first_port o) ≡ o
 party_back None = refl
@@ -38,21 +35,10 @@ first_party : (s : SystemState) (p : ℕ) → model_view s ≡ first_view (model
     → party_of_port s p ≡ option_map (configured_party s.system) (find_number configured_number s.ports p)
 first_party s p e = sym (party_seen s p) ∙ ap (λ v. party_at v p) e ∙ party_back ((model_setup s).party p)
 
--- so each history has the party of its port, and each port has a history
-log_party : (system : SystemId) (o : Option PortConfig) (history : PortHistory) → option_map (first_history system) o ≡ Some history
-    → option_map (configured_party system) o ≡ Some history.party
-log_party system None history e = absurd (none-some history e)
-log_party system (Some c) history e = ap (λ (l : PortHistory). Some l.party) (same_Some (first_history system c) history e)
-
-log_some : {X : Type 0} (f : PortConfig → X) (system : SystemId) (o : Option PortConfig) → IsSome (option_map f o)
-    → IsSome (option_map (first_history system) o)
-log_some f system None h = absurd (let e = h in cc)
-log_some f system (Some c) h = refl
-
 -- what is kept of a conversation that there is
 same_item : {X : Type 0} (n i : ℕ) (x y : X) → slice_get (replicate n x) i ≡ Some y → y ≡ x
-same_item zero i x y e = absurd (none-some y e)
-same_item (suc n) zero x y e = sym (same_Some x y e)
+same_item zero i x y e = cc
+same_item (suc n) zero x y e = cc
 same_item (suc n) (suc i) x y e = same_item n i x y e
 
 item_there : {X : Type 0} (n i : ℕ) (x : X) → i < n → slice_get (replicate n x) i ≡ Some x
@@ -64,18 +50,14 @@ flow_empty : (n m g k : ℕ) (x : FlowValue) → flow_at (first_flows n m) g k �
 flow_empty n m zero k x e = absurd (none-some x e)
 flow_empty n m (suc g) k x e = by_row (slice_get (first_flows n m) g) refl e
   where
-    by_row : (o : Option (List FlowValue)) → slice_get (first_flows n m) g ≡ o → flow_at (first_flows n m) (suc g) k ≡ Some x
-        → x ≡ empty_flow
-    by_row None h e = absurd (none-some x (sym (ap (λ o. flow_in_aggregator o k) h) ∙ e))
-    by_row (Some row) h e = same_item m k empty_flow x
-        (sym (ap (λ r. slice_get r k) (same_item n g (first_aggregator_flows m) row h)) ∙ sym (ap (λ o. flow_in_aggregator o k) h) ∙ e)
+    by_row : (o : Option (List FlowValue)) → slice_get (first_flows n m) g ≡ o → flow_in_aggregator o k ≡ Some x → x ≡ empty_flow
+    by_row None h e = absurd (none-some x e)
+    by_row (Some row) h e = same_item m k empty_flow x (rw (same_item n g (first_aggregator_flows m) row h) at e)
 
 flow_there : (n m g k : ℕ) → 0 < g → g ≤ n → k < m → IsSome (flow_at (first_flows n m) g k)
 flow_there n m zero k low high small = absurd (omega arith)
 flow_there n m (suc g) k low high small =
-    let row : slice_get (first_flows n m) g ≡ Some (first_aggregator_flows m) = item_there n g (first_aggregator_flows m) (omega arith) in
-    let x : slice_get (first_aggregator_flows m) k ≡ Some empty_flow = item_there m k empty_flow small in
-    subst IsSome (sym (ap (λ o. flow_in_aggregator o k) row ∙ x)) refl
+    rw (item_there n g (first_aggregator_flows m) (omega arith), item_there m k empty_flow small) refl
 
 -- what holds of a system that is made
 logs_named : (config : Config) (h : HalfState) → IsFirstHalf config h → h.histories ≡ first_histories h.state.system h.state.ports
@@ -88,20 +70,22 @@ flows_named config h f = f.flows ∙ (λ i. first_flows (length (sym f.configure
 half_kept : (config : Config) (h : HalfState) → IsFirstHalf config h → PortsAgree h.state → IsHalfSound h
 half_kept config h f a = record {
   agrees = a;
-  parties = λ p l e. first_party h.state p shows
-      ∙ log_party h.state.system (find_number configured_number h.state.ports p) l (sym (history p) ∙ e);
-  logged = λ p x. subst IsSome (sym (history p))
-      (log_some (configured_party h.state.system) h.state.system (find_number configured_number h.state.ports p)
-      (subst IsSome (first_party h.state p shows) x));
+  parties = λ p l e. (let c = mapped_some (first_history h.state.system) (find_number configured_number h.state.ports p) l (sym (history p) ∙ e)
+      in party p ∙ ap (option_map (configured_party h.state.system)) c.1 ∙ ap (λ (l : PortHistory). Some l.party) c.2);
+  logged = λ p x. ap is_some (history p) ∙ both (find_number configured_number h.state.ports p) ∙ ap is_some (sym (party p)) ∙ x;
   flows = λ g k low high small. subst (λ f. IsSome (flow_at f g k)) (sym (flows_named config h f))
       (flow_there (length h.state.keys) (conversation_count h.state) g k low high small);
 }
   where
-    shows : model_view h.state ≡ first_view (model_setup h.state)
-    shows = first_shows h.state f.first
+    party : (p : ℕ) → party_of_port h.state p ≡ option_map (configured_party h.state.system) (find_number configured_number h.state.ports p)
+    party p = first_party h.state p (first_shows h.state f.first)
 
     history : (p : ℕ) → history_at h.histories p ≡ option_map (first_history h.state.system) (find_number configured_number h.state.ports p)
     history p = ap (λ l. history_at l p) (logs_named config h f) ∙ log_found h.state.system h.state.ports p
+
+    both : (o : Option PortConfig) → is_some (option_map (first_history h.state.system) o) ≡ is_some (option_map (configured_party h.state.system) o)
+    both None = refl
+    both (Some c) = refl
 
 none_counted : (system : SystemId) (ports : List PortConfig) → AreBelow 0 (first_histories system ports)
 none_counted system [] = tt
@@ -109,28 +93,17 @@ none_counted system (c ∷ cs) = (omega arith, none_counted system cs)
 
 log_first : (system : SystemId) (o : Option PortConfig) (history : PortHistory) → option_map (first_history system) o ≡ Some history
     → (history.count ≡ 0) × (history.taken ≡ None)
-log_first system None history e = absurd (none-some history e)
-log_first system (Some c) history e = let same = same_Some (first_history system c) history e in
-    (sym (ap (λ (l : PortHistory). l.count) same), sym (ap (λ (l : PortHistory). l.taken) same))
+log_first system o history e =
+    let c = mapped_some (first_history system) o history e in
+    (sym (ap (λ (l : PortHistory). l.count) c.2), sym (ap (λ (l : PortHistory). l.taken) c.2))
 
 -- a port of the configuration has a history
 port_found : (ports : List PortConfig) (p : ℕ) → has_port ports p ≡ true → IsSome (find_number configured_number ports p)
 port_found [] p h = absurd (true≢false (sym h))
 port_found (c ∷ cs) p h = elim (cases_Bool (eqb p c.number)) [
-  | inl e ↦ subst IsSome (sym (cond_true (eqb p c.number) (Some c) (find_number configured_number cs p) e)) refl
-  | inr e ↦ subst IsSome (sym (cond_false (eqb p c.number) (Some c) (find_number configured_number cs p) e))
-      (port_found cs p (or_second (eqb c.number p) (has_port cs p) (other e) h))
+  | inl e ↦ rw e refl
+  | inr e ↦ rw e (port_found cs p (let other : eqb c.number p ≡ false = grind arith in rw other at h))
 ]
-  where
-    or_second : (a b : Bool) → a ≡ false → (a || b) ≡ true → b ≡ true
-    or_second true b n h = absurd (true≢false n)
-    or_second false b n h = h
-
-    other : eqb p c.number ≡ false → eqb c.number p ≡ false
-    other e = elim (cases_Bool (eqb c.number p)) [
-      | inl t ↦ absurd (true≢false (sym (eq-eqb p c.number (sym (eqb-true c.number p t))) ∙ e))
-      | inr f ↦ f
-    ]
 
 -- the cables that are made
 module _ {C : Type 0} (items : C → List Item) (limit : C → Option ℕ) where
@@ -144,14 +117,15 @@ module _ {C : Type 0} (items : C → List Item) (limit : C → Option ℕ) where
   line_empty [] lines i l h e s = absurd (none-some l e)
   line_empty (c ∷ cs) [] i l h e s = absurd (none-some l e)
   line_empty (c ∷ cs) (x ∷ xs) zero l h e s =
-      let here = and_parts (has_empty_directions items x) (list_all (has_empty_directions items) xs) h in
-      let both = and_parts (length (items x.0) == 0) (length (items x.1) == 0) here.0 in
-      subst (λ (l : LinkState). (towards s l ≡ []) × (l.whole ≡ true)) (same_Some (first_link items limit c x) l e) (on_side s both)
+      subst (λ (l : LinkState). (towards s l ≡ []) × (l.whole ≡ true)) (same_Some (first_link items limit c x) l e) (on_side s, refl)
     where
-      on_side : (s : Side) → ((length (items x.0) == 0) ≡ true) × ((length (items x.1) == 0) ≡ true)
-          → (towards s (first_link items limit c x) ≡ []) × ((first_link items limit c x).whole ≡ true)
-      on_side One b = (emptied_line (items x.0) b.0, refl)
-      on_side Two b = (emptied_line (items x.1) b.1, refl)
+      both : ((length (items x.0) == 0) ≡ true) × ((length (items x.1) == 0) ≡ true)
+      both = and_parts (length (items x.0) == 0) (length (items x.1) == 0)
+          (and_parts (has_empty_directions items x) (list_all (has_empty_directions items) xs) h).0
+
+      on_side : (s : Side) → towards s (first_link items limit c x) ≡ []
+      on_side One = emptied_line (items x.0) both.0
+      on_side Two = emptied_line (items x.1) both.1
   line_empty (c ∷ cs) (x ∷ xs) (suc i) l h e s = line_empty cs xs i l
       (and_parts (has_empty_directions items x) (list_all (has_empty_directions items) xs) h).1 e s
 
@@ -167,32 +141,27 @@ module _ {C : Type 0} (items : C → List Item) (limit : C → Option ℕ) where
 abbrev AreJoined : List PortConfig → List PortConfig → List (ℕ × ℕ) → Type 0
 AreJoined first second cables = (i : ℕ) → i < length cables → can_join first second (take i cables) (get_or cables i (0, 0)) ≡ true
 
+first_none : {X : Type 0} (o p : Option X) → or_first o p ≡ None → (o ≡ None) × (p ≡ None)
+first_none None p h = (refl, h)
+first_none (Some x) p h = absurd (none-some x (sym h))
+
 none_below : (test : ℕ → Bool) (n i : ℕ) → first_below test n ≡ None → i < n → test i ≡ false
 none_below test zero i h l = absurd (omega arith)
 none_below test (suc n) i h l = elim (cases_Bool (eqb i n)) [
-  | inl e ↦ subst (λ i. test i ≡ false) (sym (eqb-true i n e)) (last (first_below test n) (test n) h)
-  | inr e ↦ none_below test n i (before (first_below test n) (test n) h) (smaller e)
+  | inl e ↦ subst (λ i. test i ≡ false) (sym (eqb-true i n e)) (last (test n) parts.1)
+  | inr e ↦ none_below test n i parts.0 (grind arith)
 ]
   where
-    last : (o : Option ℕ) (b : Bool) → or_first o (if b then Some n else None) ≡ None → b ≡ false
-    last None true h = absurd (none-some n (sym h))
-    last None false h = refl
-    last (Some k) b h = absurd (none-some k (sym h))
+    parts : (first_below test n ≡ None) × ((if test n then Some n else None) ≡ None)
+    parts = first_none (first_below test n) _ h
 
-    before : (o : Option ℕ) (b : Bool) → or_first o (if b then Some n else None) ≡ None → o ≡ None
-    before None b h = refl
-    before (Some k) b h = h
-
-    smaller : eqb i n ≡ false → i < n
-    smaller e = let ne : i ≢ n = λ h. true≢false (sym (eq-eqb i n h) ∙ e) in omega arith
+    last : (b : Bool) → (if b then Some n else None) ≡ None → b ≡ false
+    last true h = cc
+    last false h = refl
 
 mapped_none : {X Y : Type 0} (f : X → Y) (o : Option X) → option_map f o ≡ None → o ≡ None
 mapped_none f None h = refl
 mapped_none f (Some x) h = absurd (none-some (f x) (sym h))
-
-first_none : {X : Type 0} (o p : Option X) → or_first o p ≡ None → (o ≡ None) × (p ≡ None)
-first_none None p h = (refl, h)
-first_none (Some x) p h = absurd (none-some x (sym h))
 
 are_joined : (first second : List PortConfig) (cables : List (ℕ × ℕ)) → bad_end first second cables ≡ None → AreJoined first second cables
 are_joined first second cables h i l =
@@ -224,43 +193,17 @@ not_shared : (cables : List (ℕ × ℕ)) (i k : ℕ) (c d : ℕ × ℕ) → sha
 not_shared [] i k c d h l e = absurd (none-some c e)
 not_shared (x ∷ xs) i zero c d h l e = absurd (omega arith)
 not_shared (x ∷ xs) zero (suc k) c d h l e = subst (λ (c : ℕ × ℕ). ((c.0 == d.0) || (c.1 == d.1)) ≡ false) (same_Some x c e)
-    (front ((x.0 == d.0) || (x.1 == d.1)) (shares_end (take k xs) d) h)
-  where
-    front : (a b : Bool) → (a || b) ≡ false → a ≡ false
-    front true b h = absurd (true≢false h)
-    front false b h = refl
-not_shared (x ∷ xs) (suc i) (suc k) c d h l e = not_shared xs i k c d (back ((x.0 == d.0) || (x.1 == d.1)) (shares_end (take k xs) d) h)
-    (omega arith) e
-  where
-    back : (a b : Bool) → (a || b) ≡ false → b ≡ false
-    back true b h = absurd (true≢false h)
-    back false b h = h
+    (or_parts ((x.0 == d.0) || (x.1 == d.1)) (shares_end (take k xs) d) h).0
+not_shared (x ∷ xs) (suc i) (suc k) c d h l e =
+    not_shared xs i k c d (or_parts ((x.0 == d.0) || (x.1 == d.1)) (shares_end (take k xs) d) h).1 (omega arith) e
 
 abbrev end_of_pair : Side → ℕ × ℕ → ℕ
 end_of_pair One c = c.0
 end_of_pair Two c = c.1
 
 apart : (s : Side) (c d : ℕ × ℕ) → ((c.0 == d.0) || (c.1 == d.1)) ≡ false → end_of_pair s c ≡ end_of_pair s d → ⊥
-apart One c d h e = true≢false (sym (one (c.0 == d.0) (c.1 == d.1) (eq-eqb c.0 d.0 e)) ∙ h)
-  where
-    one : (a b : Bool) → a ≡ true → (a || b) ≡ true
-    one true b h = refl
-    one false b h = absurd (true≢false (sym h))
-apart Two c d h e = true≢false (sym (two (c.0 == d.0) (c.1 == d.1) (eq-eqb c.1 d.1 e)) ∙ h)
-  where
-    two : (a b : Bool) → b ≡ true → (a || b) ≡ true
-    two true b h = refl
-    two false true h = refl
-    two false false h = absurd (true≢false (sym h))
-
-below_or : (i k : ℕ) → i ≢ k → (i < k) ⊎ (k < i)
-below_or zero zero ne = absurd (ne refl)
-below_or zero (suc k) ne = inl (omega arith)
-below_or (suc i) zero ne = inr (omega arith)
-below_or (suc i) (suc k) ne = elim (below_or i k (λ e. ne (ap suc e))) [ inl l ↦ inl (omega (arith, l)) | inr l ↦ inr (omega (arith, l)) ]
-
-neither : (i k : ℕ) → i ≢ k → (i < k → ⊥) → (k < i → ⊥) → ⊥
-neither i k ne a b = elim (below_or i k ne) [ inl l ↦ a l | inr l ↦ b l ]
+apart One c d h e = true≢false (sym (eq-eqb c.0 d.0 e) ∙ (or_parts (c.0 == d.0) (c.1 == d.1) h).0)
+apart Two c d h e = true≢false (sym (eq-eqb c.1 d.1 e) ∙ (or_parts (c.0 == d.0) (c.1 == d.1) h).1)
 
 -- so no port has two cables
 one_cable : (first second : List PortConfig) (cables : List (ℕ × ℕ)) (s : Side) (i k : ℕ) (c d : ℕ × ℕ) → AreJoined first second cables
@@ -309,20 +252,15 @@ module _ {C : Type 0} (items : C → List Item) (limit : C → Option ℕ) where
       let x = end_made cables lines s m p e in
       let y = end_made cables lines s n p f in
       let same : end_of_pair s x.1 ≡ end_of_pair s y.1 = x.4 ∙ sym y.4 in
-      x.2 ∙ ap suc (equal x.0 y.0 (one_cable first second cables s x.0 y.0 x.1 y.1 h x.3 y.3 same)
-      (one_cable first second cables s y.0 x.0 y.1 x.1 h y.3 x.3 (sym same))) ∙ sym y.2
-    where
-      equal : (i k : ℕ) → (i < k → ⊥) → (k < i → ⊥) → i ≡ k
-      equal i k a b = elim (cases_Bool (eqb i k)) [
-        | inl e ↦ eqb-true i k e
-        | inr e ↦ (let ne : i ≢ k = λ h. true≢false (sym (eq-eqb i k h) ∙ e) in absurd (neither i k ne a b))
-      ]
+      let before = one_cable first second cables s x.0 y.0 x.1 y.1 h x.3 y.3 same in
+      let behind = one_cable first second cables s y.0 x.0 y.1 x.1 h y.3 x.3 (sym same) in
+      let place : x.0 ≡ y.0 = omega (arith, before, behind) in x.2 ∙ ap suc place ∙ sym y.2
 
   -- each end of a cable that was made has a history
   end_logged : (config : Config) (h : HalfState) (p : ℕ) → IsFirstHalf config h → has_port config.ports.items p ≡ true
       → IsSome (history_at h.histories p)
   end_logged config h p f x =
-      subst IsSome (sym (ap (λ l. history_at l p) f.histories ∙ log_found config.system config.ports.items p))
+      rw (f.histories, log_found config.system config.ports.items p)
       (logged (find_number configured_number config.ports.items p) (port_found config.ports.items p x))
     where
       logged : (o : Option PortConfig) → IsSome o → IsSome (option_map (first_history config.system) o)
@@ -334,84 +272,58 @@ module _ {C : Type 0} (items : C → List Item) (limit : C → Option ℕ) where
       → refusal_of_two (config_value a) (config_value b) cables ≡ None → list_all (has_empty_directions items) lines ≡ true
       → j.links ≡ first_links items limit cables lines → j.acted ≡ 0 → IsStart j
   is_start a b cables lines j f g agrees_one agrees_two accepted empty made acted = record {
-    kept = kept;
-    shows = shows;
+    kept = λ s. half_kept (by_side s a b) (half s j) (first s) (agrees s);
+    shows = λ s. first_shows (half s j).state (first s).first;
     cabling = subst (λ ls. IsCabling (map link_ends ls)) (sym made) (cabled a.ports.items b.ports.items cables lines joined);
-    empty = λ s i l e. line_empty items limit cables lines i l empty (sym (ap (λ ls. slice_get ls i) made) ∙ e) s;
-    ends = λ s i l e. end_there s l (ports_there a.ports.items b.ports.items cables i (l.one, l.two) joined
-        (ends_made items limit cables lines i l (sym (ap (λ ls. slice_get ls i) made) ∙ e)));
-    counts = counts;
-    histories = histories;
-    flows = flows;
+    empty = λ s i l e. line_empty items limit cables lines i l empty (rw made at e) s;
+    ends = λ s i l e. end_logged (by_side s a b) (half s j) (port_at s l) (first s) (end_there s l
+        (ports_there a.ports.items b.ports.items cables i (l.one, l.two) joined (ends_made items limit cables lines i l (rw made at e))));
+    counts = λ s. rw (first s).histories (none_counted (by_side s a b).system (by_side s a b).ports.items);
+    histories = λ s p history e. log_first (by_side s a b).system (find_number configured_number (by_side s a b).ports.items p) history
+        (sym (ap (λ l. history_at l p) (first s).histories ∙ log_found (by_side s a b).system (by_side s a b).ports.items p) ∙ e);
+    flows = λ s n k x e. nothing x (flow_empty (length (by_side s a b).aggregators.items) (by_side s a b).conversations n k x
+        (sym (ap (λ l. flow_at l n k) (first s).flows) ∙ e));
     acted = acted;
   }
     where
       joined : AreJoined a.ports.items b.ports.items cables
       joined = (two_joined (config_value a) (config_value b) cables accepted).2
 
-      kept : (s : Side) → IsHalfSound (half s j)
-      kept One = half_kept a j.one f agrees_one
-      kept Two = half_kept b j.two g agrees_two
+      first : (s : Side) → IsFirstHalf (by_side s a b) (half s j)
+      first One = f
+      first Two = g
 
-      shows : (s : Side) → model_view (half s j).state ≡ first_view (model_setup (half s j).state)
-      shows One = first_shows j.one.state f.first
-      shows Two = first_shows j.two.state g.first
+      agrees : (s : Side) → PortsAgree (half s j).state
+      agrees One = agrees_one
+      agrees Two = agrees_two
 
       end_there : (s : Side) (l : LinkState) → (has_port a.ports.items l.one ≡ true) × (has_port b.ports.items l.two ≡ true)
-          → IsSome (history_at (half s j).histories (port_at s l))
-      end_there One l x = end_logged a j.one l.one f x.0
-      end_there Two l x = end_logged b j.two l.two g x.1
-
-      counts : (s : Side) → AreBelow 0 (half s j).histories
-      counts One = subst (AreBelow 0) (sym f.histories) (none_counted a.system a.ports.items)
-      counts Two = subst (AreBelow 0) (sym g.histories) (none_counted b.system b.ports.items)
-
-      histories : (s : Side) (p : ℕ) (history : PortHistory) → history_at (half s j).histories p ≡ Some history → (history.count ≡ 0)
-          × (history.taken ≡ None)
-      histories One p history e = log_first a.system (find_number configured_number a.ports.items p) history
-          (sym (ap (λ l. history_at l p) f.histories ∙ log_found a.system a.ports.items p) ∙ e)
-      histories Two p history e = log_first b.system (find_number configured_number b.ports.items p) history
-          (sym (ap (λ l. history_at l p) g.histories ∙ log_found b.system b.ports.items p) ∙ e)
+          → has_port (by_side s a b).ports.items (port_at s l) ≡ true
+      end_there One l x = x.0
+      end_there Two l x = x.1
 
       nothing : (x : FlowValue) → x ≡ empty_flow → (x.sent ≡ []) × (x.collected ≡ []) × (x.forced ≡ false)
-      nothing x e = (ap (λ (x : FlowValue). x.sent) e, ap (λ (x : FlowValue). x.collected) e, ap (λ (x : FlowValue). x.forced) e)
-
-      flows : (s : Side) (n k : ℕ) (x : FlowValue) → flow_at (half s j).flows n k ≡ Some x → (x.sent ≡ [])
-          × (x.collected ≡ []) × (x.forced ≡ false)
-      flows One n k x e = nothing x
-          (flow_empty (length a.aggregators.items) a.conversations n k x (sym (ap (λ l. flow_at l n k) f.flows) ∙ e))
-      flows Two n k x e = nothing x
-          (flow_empty (length b.aggregators.items) b.conversations n k x (sym (ap (λ l. flow_at l n k) g.flows) ∙ e))
+      nothing x e = rw e (refl, refl, refl)
 
 -- what was tested of two lists in other places holds of them
 pub same_test : {X Y : Type 0} (f : X → Y → Bool) (x there : X) (y here : Y) (r : Bool) → there ≡ x → here ≡ y → r ≡ f there here
     → r ≡ true → f x y ≡ true
 same_test f x there y here r e g h t = (λ i. f (sym e i) (sym g i)) ∙ sym h ∙ t
 
--- the configuration of system 1 is not refused if both are not
-pub first_accepted : (config : WorldConfig) (a b : Config) → config.systems ≡ a ∷ b ∷ [] → world_refusal config ≡ None
-    → refusal_of_one a ≡ None
-first_accepted config a b e h =
-    (two_joined (config_value a) (config_value b) config.cables.items
-    (sym (ap (λ systems. refusal_of_all (map config_value systems) config.cables.items) e) ∙ h)).0
-
--- nor is that of system 2
-pub second_accepted : (config : WorldConfig) (a b : Config) → config.systems ≡ a ∷ b ∷ [] → world_refusal config ≡ None
-    → refusal_of_one b ≡ None
-second_accepted config a b e h =
-    (two_joined (config_value a) (config_value b) config.cables.items
-    (sym (ap (λ systems. refusal_of_all (map config_value systems) config.cables.items) e) ∙ h)).1
+-- the configurations of both systems are not refused if the world is not
+pub both_accepted : (config : WorldConfig) (a b : Config) → config.systems ≡ a ∷ b ∷ [] → world_refusal config ≡ None
+    → (refusal_of_one a ≡ None) × (refusal_of_one b ≡ None) × (refusal_of_two (config_value a) (config_value b) config.cables.items ≡ None)
+both_accepted config a b e h =
+    let two : refusal_of_two (config_value a) (config_value b) config.cables.items ≡ None =
+    sym (ap (λ systems. refusal_of_all (map config_value systems) config.cables.items) e) ∙ h in
+    let each = two_joined (config_value a) (config_value b) config.cables.items two in (each.0, each.1, two)
 
 -- what code knows of a world that it made
 module _ {C : Type 0} (items : C → List Item) (limit : C → Option ℕ) where
-  two_accepted : (config : WorldConfig) (a b : Config) → config.systems ≡ a ∷ b ∷ [] → world_refusal config ≡ None
-      → refusal_of_two (config_value a) (config_value b) config.cables.items ≡ None
-  two_accepted config a b e h = sym (ap (λ systems. refusal_of_all (map config_value systems) config.cables.items) e) ∙ h
-
   pub made_start : (config : WorldConfig) (a b : Config) (lines : List (C × C)) (j : WorldState) → config.systems ≡ a ∷ b ∷ []
       → world_refusal config ≡ None → are_empty_lines items config.cables.items lines ≡ true
       → IsFirstHalf a j.one → IsFirstHalf b j.two → PortsAgree j.one.state → PortsAgree j.two.state
       → j.links ≡ first_links items limit config.cables.items lines → j.acted ≡ 0 → IsStart j
   made_start config a b lines j e h fit f g agrees_one agrees_two made acted =
-      is_start items limit a b config.cables.items lines j f g agrees_one agrees_two (two_accepted config a b e h)
+      is_start items limit a b config.cables.items lines j f g agrees_one agrees_two (both_accepted config a b e h).2
       (and_parts (length lines == length config.cables.items) (list_all (has_empty_directions items) lines) fit).1 made acted

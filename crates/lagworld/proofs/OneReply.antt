@@ -8,16 +8,15 @@ use Rattle.lagworld.proofs.Common.{with_frame_counted, with_item_sent, with_last
 use Rattle.lagworld.proofs.Common.{change_counted, forced_if_accepted, with_changes_counted, payload_in, side_number, side_numbered, both_algorithms}
 use Rattle.lagworld.proofs.Common.{FlowValue, HalfState, ItemValue, LinkState, WorldState, change_flow, emptied, flow_at, half, is_accepted, port_at}
 use Rattle.lagworld.proofs.Common.{put_on_port, sent_in, with_collected, with_forced, with_half, with_links, with_sent}
+use Rattle.lagworld.proofs.Effects.{DoesEffect, Effect, HalfAsked, Recording, answer_to_force, asks, changes_counted, delivers, does_some, effect}
+use Rattle.lagworld.proofs.Effects.{emits, if_forced, no_record, offers, receives, recorded, restarts, nothing, shrinks, ticks, told}
 use Rattle.cables.specs.declared.item.Stamp.TheVariants as stamp
 use Rattle.lagsystem.specs.declared.drive.Reply.TheVariants as answer
 use Rattle.lagsystem.specs.declared.received.Received.TheVariants as received
 use Rattle.lagsystem.specs.OneAnswer.{IsFunction, SameState}
 use Rattle.lagsystem.proofs.OneAnswer.{one_answer}
-use Rattle.lagscript.specs.declared.event.Event.TheVariants as event
 use Rattle.lagworld.specs.declared.reply.Reply.TheVariants as reply
 use Rattle.lagworld.specs.OneReply.{AreFunctions, OneHistory, OneReply, SameHalf, SameWorld}
-use Rattle.lagworld.proofs.Effects.{DoesEffect, Effect, HalfAsked, Recording, answer_to_force, asks, changes_counted, delivers, does_some, effect}
-use Rattle.lagworld.proofs.Effects.{emits, if_forced, no_record, offers, receives, recorded, restarts, nothing, shrinks, ticks, told}
 use Rattle.lagworld.proofs.Headline.{accepted, rises}
 use Rattle.lagworld.proofs.Keeping.{steps_sound}
 
@@ -113,29 +112,26 @@ asked_one : (gives : Gives) → IsFunction gives → (call : Call) (kept : Recor
 asked_one gives one call kept up h k new last r q agrees same x y =
     let t = answers_one gives one call x.0 y.0 h k x.1 y.1 agrees same x.2 y.2 in (
       y.3 ∙ ap (told up) t.0 ∙ sym x.3,
-      half_by (recorded kept x.0 x.1) (recorded kept y.0 y.1) new last x.4 y.4
+      half_by _ _ new last x.4 y.4
           (subst (λ a. SameHalf (recorded kept x.0 x.1) (recorded kept a y.1)) (sym t.0) (recorded_same kept x.0 x.1 y.1 t.1)),
     )
 
 -- a change of one system in the world
 in_half : (s : Side) (old twin new last : WorldState) → SameWorld old twin → new ≡ with_half s (half s new) old
     → last ≡ with_half s (half s last) twin → SameHalf (half s new) (half s last) → SameWorld new last
-in_half s old twin new last same h k part = same_by (with_half s (half s new) old) (with_half s (half s last) twin) new last h k
-    (put_half s old twin (half s new) (half s last) same part)
+in_half s old twin new last same h k part = same_by _ _ new last h k (put_half s old twin (half s new) (half s last) same part)
 
 -- emitting
 transmits_one : (s : Side) (p : ℕ) (a : Result (Option (List ℕ)) SystemFault) (old twin : WorldState) (r q : Reply) (new last : WorldState)
     → SameWorld old twin → AfterTransmit s p a old r new → AfterTransmit s p a twin q last → (q ≡ r) × SameWorld new last
-transmits_one s p (Err fault) old twin r q new last same x y = (y.0 ∙ sym x.0, same_by old twin new last x.1 y.1 same)
-transmits_one s p (Ok None) old twin r q new last same x y = (y.0 ∙ sym x.0, same_by old twin new last x.1 y.1 same)
 transmits_one s p (Ok (Some frame)) old twin r q new last same x y =
     let item : transmitted_item s p frame (half s twin) ≡ transmitted_item s p frame (half s old) =
     (λ i. transmitted_item s p frame (record (half s old) { histories = (same.halves s).histories i })) in (
       y.0 ∙ ap (sent_reply (pdu_in (payload_in frame))) (accepted_same s p old twin same) ∙ sym x.0,
-      same_by (with_item_sent s p (transmitted_item s p frame (half s old)) old)
-          (with_item_sent s p (transmitted_item s p frame (half s twin)) twin) new last x.1 y.1
+      same_by _ _ new last x.1 y.1
           (sent_same s p (transmitted_item s p frame (half s old)) (transmitted_item s p frame (half s twin)) old twin item same),
     )
+transmits_one s p a old twin r q new last same x y = (y.0 ∙ sym x.0, same_by old twin new last x.1 y.1 same)
 
 emits_one : (gives : Algorithms) → AreFunctions gives → (s : Side) (p : ℕ) (old twin : WorldState) (r q : Reply) (new last : WorldState)
     → PortsAgree (half s old).state → SameWorld old twin → WorldEmits gives s p old r new → WorldEmits gives s p twin q last
@@ -161,27 +157,18 @@ taken_same p v h k same = record { state = same.state; histories = ap (set_last_
 received_one : (s : Side) (p : ℕ) (item : ItemValue) (a : Result Received SystemFault) (old twin : WorldState) (r q : Reply)
     (new last : WorldState) → SameWorld old twin → AfterReceive s p item a old r new → AfterReceive s p item a twin q last
     → (q ≡ r) × SameWorld new last
-received_one s p item (Err fault) old twin r q new last same x y = (y.0 ∙ sym x.0, same_by old twin new last x.1 y.1 same)
-received_one s p item (Ok received.Disabled) old twin r q new last same x y = (y.0 ∙ sym x.0, same_by old twin new last x.1 y.1 same)
-received_one s p item (Ok received.Dropped) old twin r q new last same x y = (y.0 ∙ sym x.0, same_by old twin new last x.1 y.1 same)
-received_one s p item (Ok (received.Ignored fault)) old twin r q new last same x y = (y.0 ∙ sym x.0, same_by old twin new last x.1 y.1 same)
 received_one s p item (Ok received.TookLacpdu) old twin r q new last same x y = (
   y.0 ∙ sym x.0,
-  same_by (with_half s (with_last_lacpdu p (stamped_in item) (half s old)) old)
-      (with_half s (with_last_lacpdu p (stamped_in item) (half s twin)) twin) new last x.1 y.1
+  same_by _ _ new last x.1 y.1
       (put_half s old twin (with_last_lacpdu p (stamped_in item) (half s old)) (with_last_lacpdu p (stamped_in item) (half s twin)) same
       (taken_same p (stamped_in item) (half s old) (half s twin) (same.halves s))),
 )
 received_one s p item (Ok (received.Respond frame)) old twin r q new last same x y =
-    let sent : ItemValue = record { octets = frame; stamp = stamp.Control 0 } in (
-      y.0 ∙ ap reply.Responded (accepted_same s p old twin same) ∙ sym x.0,
-      same_by (with_item_sent s p sent old) (with_item_sent s p sent twin) new last x.1 y.1 (sent_same s p sent sent old twin refl same),
-    )
-received_one s p item (Ok (received.Released n)) old twin r q new last same x y = (y.0 ∙ sym x.0, same_by old twin new last x.1 y.1 same)
-received_one s p item (Ok (received.Up agg)) old twin r q new last same x y = (
-  y.0 ∙ sym x.0,
-  same_by (with_stamp_collected item.stamp old) (with_stamp_collected item.stamp twin) new last x.1 y.1 (collected_same item.stamp old twin same),
-)
+    let sent : ItemValue = record { octets = frame; stamp = stamp.Control 0 } in
+    (y.0 ∙ ap reply.Responded (accepted_same s p old twin same) ∙ sym x.0, same_by _ _ new last x.1 y.1 (sent_same s p sent sent old twin refl same))
+received_one s p item (Ok (received.Up agg)) old twin r q new last same x y =
+    (y.0 ∙ sym x.0, same_by _ _ new last x.1 y.1 (collected_same item.stamp old twin same))
+received_one s p item a old twin r q new last same x y = (y.0 ∙ sym x.0, same_by old twin new last x.1 y.1 same)
 
 receives_one : (gives : Algorithms) → AreFunctions gives → (s : Side) (p : ℕ) (item : ItemValue) (old twin : WorldState) (r q : Reply)
     (new last : WorldState) → PortsAgree (half s old).state → SameWorld old twin → WorldReceives gives s p item old r new
@@ -212,8 +199,7 @@ offered_one s agg octets (Ok port) old twin r q new last same x y =
     let mine = with_half s (with_frame_counted agg octets (half s old)) old in
     let theirs = with_half s (with_frame_counted agg octets (half s twin)) twin in (
       y.1 ∙ (λ i. reply.Port port (sent i) (accepted_same s port old twin same i)) ∙ sym x.1,
-      same_by (with_item_sent s port (offered_item s port agg octets (half s old)) mine)
-          (with_item_sent s port (offered_item s port agg octets (half s twin)) theirs) new last x.2 y.2
+      same_by _ _ new last x.2 y.2
           (sent_same s port (offered_item s port agg octets (half s old)) (offered_item s port agg octets (half s twin)) mine theirs item
           (put_half s old twin (with_frame_counted agg octets (half s old)) (with_frame_counted agg octets (half s twin)) same counted)),
     )

@@ -1,9 +1,9 @@
 -- What is put on a cable, in code and as contracts see it.
 use Rattle.lagworld.proofs.Common.{Bool, Err, IsSomeAnd, List, None, Ok, OnOk, Option, Result, Some, [], ap, arith, cond, eq-eqb, eqb, eqb-true}
-use Rattle.lagworld.proofs.Common.{false, get_or, inl, inr, length, map, nat_lt, not, option_map, position, refl, set, slice_get, subst, suc, sym}
-use Rattle.lagworld.proofs.Common.{zero, ℕ, ◌+◌, ◌<◌, ◌∙◌, ◌∷◌, ◌≡◌, ◌≤◌, cases_Bool, true≢false, length-map, map-set, set-get_or, slice_get-map}
-use Rattle.lagworld.proofs.Common.{slice_get_read, position_or_len, IfSome, Side, ItemValue, LinkState, accepts, accepts_at, change_link, is_accepted}
-use Rattle.lagworld.proofs.Common.{link_at, link_index, put_on_port, sent_on}
+use Rattle.lagworld.proofs.Common.{false, get_or, inl, inr, length, map, nat_lt, not, position, refl, set, slice_get, subst, suc, sym, zero, ℕ, ◌+◌}
+use Rattle.lagworld.proofs.Common.{◌<◌, ◌∙◌, ◌∷◌, ◌≡◌, ◌≤◌, cases_Bool, true≢false, length-map, map-set, set-get_or, position_or_len, IfSome, Side}
+use Rattle.lagworld.proofs.Common.{ItemValue, LinkState, accepts, accepts_at, change_link, is_accepted, link_at, link_index, put_on_port, sent_on}
+use Rattle.lagworld.proofs.LineLemmas.{seen_at}
 
 first_seen : {X Y : Type 0} (f : X → Y) (q : Y → Bool) (xs : List X) → position_or_len q (map f xs) ≡ position_or_len (λ x. q (f x)) xs
 first_seen f q [] = refl
@@ -43,14 +43,7 @@ put_there s p item links new kept i e h = at_it (slice_get links i) refl h
 pub sent_at : {X Y : Type 0} (f : X → Y) (h : Y → Y) (t : Y → Bool) (xs : List X) (i : ℕ) (x new : X) (kept : Bool) → i < length xs
     → x ≡ get_or xs i x → f new ≡ h (f x) → kept ≡ t (f x)
     → IsSomeAnd (slice_get (map f xs) i) (λ y. (map f (set xs i new) ≡ set (map f xs) i (h y)) × (kept ≡ t y))
-sent_at f h t xs i x new kept lt read e k =
-    let there : slice_get (map f xs) i ≡ Some (f x) = slice_get-map f xs i
-    ∙ ap (option_map f) (slice_get_read xs (length xs) i x refl lt read) in
-    subst (λ o. IsSomeAnd o (λ y. (map f (set xs i new) ≡ set (map f xs) i (h y)) × (kept ≡ t y))) (sym there) (
-      map-set f xs i new
-          ∙ ap (set (map f xs) i) e,
-      k,
-    )
+sent_at f h t xs i x new kept lt read e k = seen_at f _ xs i x lt read (map-set f xs i new ∙ ap (set (map f xs) i) e, k)
 
 -- a write that is not seen
 pub same_at : {X Y : Type 0} (f : X → Y) (xs : List X) (i : ℕ) (x new : X) → x ≡ get_or xs i x → f new ≡ f x

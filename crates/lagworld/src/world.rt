@@ -103,6 +103,7 @@ impl<C: Cable, F: Fn(u16, usize) -> usize + Drop> World<C, F> {
     ///   comes twice, since no two of its frames have one serial (`counts_from_zero` of `carries`), and nothing overtakes.
     ///
     /// `each_world_keeps_the_headline` says the same of each world on the way.
+    #[tactic(auto, using(crate::proofs::Running::agree_of, crate::proofs::Running::in_order_of))]
     pub fn run(&mut self, events: &[Event]) -> Result<Vec<Reply>, RunFault>
         requires one { PicksIndexes (F.pre self.old.one) (F.post self.old.one) }
         requires two { PicksIndexes (F.pre self.old.two) (F.post self.old.two) }

@@ -1,12 +1,12 @@
 use Rattle.lagworld.proofs.Common.{arith, length, ◌+◌, ◌<◌, ◌≡◌, aggregator_flow_values}
-use Rattle.lagworld.proofs.CollectingLemmas.{same_seen, room_at}
+use Rattle.lagworld.proofs.Putting.{same_at}
+use Rattle.lagworld.proofs.CollectingLemmas.{room_at}
 use Rattle.lagworld.proofs.collecting.reserve_collected.Goals as goal
 
 pub returns-clause-same : goal.returns-clause-same
 returns-clause-same c =
-    let lt : c.in-Some.index < length c.args.flows.now.items = omega (arith, c.if-index-len.false, c.len.ensures, c.args.flows.now.ok.0) in
-    same_seen aggregator_flow_values c.args.flows.now.items c.in-Some.index c.index_mut-conversations.result.now
-    c.reserve_collected_in.new.conversations lt c.index_mut-conversations.ensures.value c.reserve_collected_in.ensures.same
+    same_at aggregator_flow_values c.args.flows.now.items c.in-Some.index c.index_mut-conversations.result.now
+    c.reserve_collected_in.new.conversations c.index_mut-conversations.ensures.value c.reserve_collected_in.ensures.same
 
 pub returns-clause-room : goal.returns-clause-room
 returns-clause-room c =

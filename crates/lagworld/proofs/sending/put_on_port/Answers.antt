@@ -9,34 +9,19 @@ send_at-requires-clause-reserved g c =
     (place_seen (link_state g.C.Cable.items g.C.Cable.limit) (λ l. port_at s l == c.args.port) c.args.links.now.items
     ∙ sym c.in-Some.ensures.index) c.requires
 
-pub returns-in-Some-clause-put : goal.returns-in-Some-clause-put
-returns-in-Some-clause-put g c =
+pub returns-in-Some : goal.returns-in-Some
+returns-in-Some g c =
     let s = model_side c.args.side in
-    (put_there s c.args.port (item_value c.args.item) (link_states g.C.Cable.items g.C.Cable.limit c.args.links.now.items)
+    let x = put_there s c.args.port (item_value c.args.item) (link_states g.C.Cable.items g.C.Cable.limit c.args.links.now.items)
     (link_states g.C.Cable.items g.C.Cable.limit c.send_at.new.links.items) c.send_at.result c.in-Some.index
     (place_seen (link_state g.C.Cable.items g.C.Cable.limit) (λ l. port_at s l == c.args.port) c.args.links.now.items
-    ∙ sym c.in-Some.ensures.index) c.send_at.ensures).0
+    ∙ sym c.in-Some.ensures.index) c.send_at.ensures in
+    record { put = x.0; accepted = x.1 }
 
-pub returns-in-Some-clause-accepted : goal.returns-in-Some-clause-accepted
-returns-in-Some-clause-accepted g c =
+pub returns-in-None : goal.returns-in-None
+returns-in-None g c =
     let s = model_side c.args.side in
-    (put_there s c.args.port (item_value c.args.item) (link_states g.C.Cable.items g.C.Cable.limit c.args.links.now.items)
-    (link_states g.C.Cable.items g.C.Cable.limit c.send_at.new.links.items) c.send_at.result c.in-Some.index
+    let x = put_nowhere s c.args.port (item_value c.args.item) (link_states g.C.Cable.items g.C.Cable.limit c.args.links.now.items)
     (place_seen (link_state g.C.Cable.items g.C.Cable.limit) (λ l. port_at s l == c.args.port) c.args.links.now.items
-    ∙ sym c.in-Some.ensures.index) c.send_at.ensures).1
-
-pub returns-in-None-clause-put : goal.returns-in-None-clause-put
-returns-in-None-clause-put g c =
-    let s = model_side c.args.side in
-    let links = link_states g.C.Cable.items g.C.Cable.limit c.args.links.now.items in
-    sym (put_nowhere s c.args.port (item_value c.args.item) links
-    (place_seen (link_state g.C.Cable.items g.C.Cable.limit) (λ l. port_at s l == c.args.port) c.args.links.now.items
-    ∙ sym c.in-None.ensures.index)).0
-
-pub returns-in-None-clause-accepted : goal.returns-in-None-clause-accepted
-returns-in-None-clause-accepted g c =
-    let s = model_side c.args.side in
-    let links = link_states g.C.Cable.items g.C.Cable.limit c.args.links.now.items in
-    sym (put_nowhere s c.args.port (item_value c.args.item) links
-    (place_seen (link_state g.C.Cable.items g.C.Cable.limit) (λ l. port_at s l == c.args.port) c.args.links.now.items
-    ∙ sym c.in-None.ensures.index)).1
+    ∙ sym c.in-None.ensures.index) in
+    record { put = sym x.0; accepted = sym x.1 }

@@ -1,10 +1,11 @@
 use Rattle.lagworld.proofs.Common.{◌-◌, ◌≡◌, ◌≤◌, HalfTicks, half_state}
+use Rattle.lagworld.proofs.Sides.{gives_of}
 use Rattle.lagworld.proofs.half.Half.tick.Given as goal
 
 abbrev pub invariant-loop-done : goal.invariant-loop-done
 invariant-loop-done g l = record {
   within : l.done ≤ l.count;
-  ticks : HalfTicks (λ conv count place. g.F.Fn.post l.fn.self.system.algorithm (conv, (count, tt)) place) l.done
+  ticks : HalfTicks (gives_of g.F.Fn.post l.fn.self.system.algorithm) l.done
       (half_state l.fn.self) (half_state l.self);
   algorithm : l.self.system.algorithm ≡ l.fn.self.system.algorithm;
 }

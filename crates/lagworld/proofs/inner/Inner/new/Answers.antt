@@ -1,16 +1,16 @@
 use Rattle.lagworld.proofs.Common.{ap, refl, sym, ◌∙◌, are_empty_lines, first_links}
-use Rattle.lagworld.proofs.Making.{first_accepted, made_start, same_test, second_accepted}
+use Rattle.lagworld.proofs.Making.{both_accepted, made_start, same_test}
 use Rattle.lagworld.proofs.inner.Inner.new.Goals as goal
 
 pub new-requires-clause-accepted : goal.new-requires-clause-accepted
 new-requires-clause-accepted g c =
-    first_accepted c.args.config c.in-Some-both.systems.0 c.in-Some-both.systems.1 c.in-Some-both.ensures
-    (sym c.refusal.ensures ∙ c.in_default.is)
+    (both_accepted c.args.config c.in-Some-both.systems.0 c.in-Some-both.systems.1 c.in-Some-both.ensures
+    (sym c.refusal.ensures ∙ c.in_default.is)).0
 
 pub new-requires-2-clause-accepted : goal.new-requires-2-clause-accepted
 new-requires-2-clause-accepted g c =
-    second_accepted c.args.config c.in-Some-both.systems.0 c.in-Some-both.systems.1 c.in-Some-both.ensures
-    (sym c.refusal.ensures ∙ c.in_default.is)
+    (both_accepted c.args.config c.in-Some-both.systems.0 c.in-Some-both.systems.1 c.in-Some-both.ensures
+    (sym c.refusal.ensures ∙ c.in_default.is)).1
 
 pub returns-clause-start : goal.returns-clause-start
 returns-clause-start g c =

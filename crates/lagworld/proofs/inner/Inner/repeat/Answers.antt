@@ -1,5 +1,5 @@
-use Rattle.lagworld.proofs.Common.{IsSomeAnd, Some, slice_get, subst, sym, ◌∙◌, WorldReceivesFirst, WorldRepeats, Algorithms, model_side}
-use Rattle.lagworld.proofs.Common.{both_algorithms, port_at, towards, world_state}
+use Rattle.lagworld.proofs.Common.{subst, sym, ◌∙◌, WorldRepeats, model_side, world_state}
+use Rattle.lagworld.proofs.Sides.{algorithms_of}
 use Rattle.lagworld.proofs.ArrivingLemmas.{repeat_does}
 use Rattle.lagworld.proofs.inner.Inner.repeat.Goals as goal
 
@@ -7,25 +7,14 @@ pub returns-clause-repeats : goal.returns-clause-repeats
 returns-clause-repeats g c =
     let items = g.C.Cable.items in
     let limit = g.C.Cable.limit in
-    let gives : Algorithms = both_algorithms (λ conv count place. g.F.Fn.post c.args.self.now.one.system.algorithm (conv, (count, tt))
-    place) (λ conv count place. g.F.Fn.post c.args.self.now.two.system.algorithm (conv, (count, tt)) place) in
-    let side = model_side c.side_numbered-side.result in
+    let gives = algorithms_of g.F.Fn.post c.args.self.now.one.system.algorithm c.args.self.now.two.system.algorithm in
     let old = world_state items limit c.args.self.now in
     let ready = world_state items limit c.reserve_for_item.new.self in
     let lacpdu = world_state items limit c.receive_first.new.self in
-    let new = world_state items limit c.conclude.new.self in
-    let one = subst (λ f. IsSomeAnd (slice_get ready.links c.link_index_of-index.result)
-    (λ l. WorldReceivesFirst (both_algorithms (λ conv count place. g.F.Fn.post f (conv, (count, tt)) place)
-    (λ conv count place. g.F.Fn.post c.reserve_for_item.new.self.two.system.algorithm (conv, (count, tt)) place)) side (port_at side l)
-    (towards side l) (Some c.in-Some-receive_first.answer) ready lacpdu)) c.in_ok-bytes.ensures.algorithm_one
-    c.in-Some-receive_first.ensures.received in
-    let comes = subst (λ f. IsSomeAnd (slice_get ready.links c.link_index_of-index.result)
-    (λ l. WorldReceivesFirst
-    (both_algorithms (λ conv count place. g.F.Fn.post c.args.self.now.one.system.algorithm (conv, (count, tt)) place)
-    (λ conv count place. g.F.Fn.post f (conv, (count, tt)) place)) side (port_at side l) (towards side l)
-    (Some c.in-Some-receive_first.answer) ready lacpdu)) c.in_ok-bytes.ensures.algorithm_two one in
-    subst (λ s. WorldRepeats gives s c.args.cable old c.conclude.result new) c.side_numbered-side.ensures
-    (repeat_does gives side c.args.cable c.link_index_of-index.result c.in-Some.head c.in-Some-receive_first.answer old ready
-    lacpdu c.conclude.result new
+    let comes = rw (c.in_ok-bytes.ensures.algorithm_one, c.in_ok-bytes.ensures.algorithm_two) at c.in-Some-receive_first.ensures.received in
+    subst (λ s. WorldRepeats gives s c.args.cable old c.conclude.result (world_state items limit c.conclude.new.self))
+    c.side_numbered-side.ensures
+    (repeat_does gives (model_side c.side_numbered-side.result) c.args.cable c.link_index_of-index.result c.in-Some.head
+    c.in-Some-receive_first.answer old ready lacpdu c.conclude.result _
     c.link_index_of-index.ensures.at c.in_ok-bytes.ensures.same (sym c.is_data.ensures ∙ c.if-is_data.false) c.in-Some.ensures comes
     c.conclude.ensures.concludes)

@@ -1,38 +1,29 @@
 use Rattle.lagworld.proofs.Common.{None, arith, inr, map, subst, sym, take, true, ◌∙◌, ◌≡◌, Happens, Run, PicksIndexes, Event, Algorithms, WorldRuns}
 use Rattle.lagworld.proofs.Common.{WorldSteps, cause, cause_or_no_memory, may_take_memory, model_event, model_world, world_setup, RefusesNext}
-use Rattle.lagworld.proofs.Common.{both_algorithms, next_of, WorldState}
-use Rattle.lagworld.proofs.Running.{one_partner_of, agree_of, in_order_of, carries_of, runs_on, world_on, stopped_by}
+use Rattle.lagworld.proofs.Common.{next_of, WorldState}
+use Rattle.lagworld.proofs.Sides.{algorithms_of, gives_of}
+use Rattle.lagworld.proofs.Running.{one_partner_of, carries_of, runs_on, world_on, stopped_by}
 use Rattle.lagworld.proofs.world.World.run.Goals as goal
 
 pub returns-in-Err-clause-one_partner : goal.returns-in-Err-clause-one_partner
 returns-in-Err-clause-one_partner g c = one_partner_of c.args.self.now.state c.alloc-alloc.ensures
-
-pub returns-in-Err-clause-agree : goal.returns-in-Err-clause-agree
-returns-in-Err-clause-agree g c = agree_of c.args.self.now.state c.alloc-alloc.ensures
-
-pub returns-in-Err-clause-in_order : goal.returns-in-Err-clause-in_order
-returns-in-Err-clause-in_order g c = in_order_of c.args.self.now.state c.alloc-alloc.ensures
-
-pub returns-in-Err-clause-sound : goal.returns-in-Err-clause-sound
-returns-in-Err-clause-sound g c = c.alloc-alloc.ensures
 
 pub returns-in-Err-clause-carries : goal.returns-in-Err-clause-carries
 returns-in-Err-clause-carries g c = carries_of c.args.self.now.state c.alloc-alloc.ensures
 
 pub step-requires-clause-one : goal.step-requires-clause-one
 step-requires-clause-one g c =
-    subst (λ f. PicksIndexes (λ conv count. g.F.Fn.pre f (conv, (count, tt))) (λ conv count place. g.F.Fn.post f (conv, (count, tt)) place))
+    subst (λ f. PicksIndexes (λ conv count. g.F.Fn.pre f (conv, (count, tt))) (gives_of g.F.Fn.post f))
     (sym c.loop-done.invariant.one) c.requires.one
 
 pub step-requires-clause-two : goal.step-requires-clause-two
 step-requires-clause-two g c =
-    subst (λ f. PicksIndexes (λ conv count. g.F.Fn.pre f (conv, (count, tt))) (λ conv count place. g.F.Fn.post f (conv, (count, tt)) place))
+    subst (λ f. PicksIndexes (λ conv count. g.F.Fn.pre f (conv, (count, tt))) (gives_of g.F.Fn.post f))
     (sym c.loop-done.invariant.two) c.requires.two
 
 pub returns-in-Err-step-clause-stopped : goal.returns-in-Err-step-clause-stopped
 returns-in-Err-step-clause-stopped g c =
-    let gives : Algorithms = both_algorithms (λ conv count place. g.F.Fn.post c.args.self.now.one (conv, (count, tt)) place)
-    (λ conv count place. g.F.Fn.post c.args.self.now.two (conv, (count, tt)) place) in
+    let gives : Algorithms = algorithms_of g.F.Fn.post c.args.self.now.one c.args.self.now.two in
     let old = c.args.self.now.state in
     let es = c.args.events.now in
     let n = c.loop-done.done in
@@ -55,15 +46,6 @@ returns-in-Err-step-clause-stopped g c =
 pub returns-in-Err-step-clause-one_partner : goal.returns-in-Err-step-clause-one_partner
 returns-in-Err-step-clause-one_partner g c = one_partner_of c.step.new.self.state c.step.ensures.sound
 
-pub returns-in-Err-step-clause-agree : goal.returns-in-Err-step-clause-agree
-returns-in-Err-step-clause-agree g c = agree_of c.step.new.self.state c.step.ensures.sound
-
-pub returns-in-Err-step-clause-in_order : goal.returns-in-Err-step-clause-in_order
-returns-in-Err-step-clause-in_order g c = in_order_of c.step.new.self.state c.step.ensures.sound
-
-pub returns-in-Err-step-clause-sound : goal.returns-in-Err-step-clause-sound
-returns-in-Err-step-clause-sound g c = c.step.ensures.sound
-
 pub returns-in-Err-step-clause-carries : goal.returns-in-Err-step-clause-carries
 returns-in-Err-step-clause-carries g c = carries_of c.step.new.self.state c.step.ensures.sound
 
@@ -77,14 +59,11 @@ loop-done-preserved g c =
     let e = c.index-events-done.result in
     let r = c.in-Ok-step.reply in
     let steps_one = subst
-    (λ f. WorldSteps (both_algorithms (λ conv count place. g.F.Fn.post f (conv, (count, tt)) place)
-    (λ conv count place. g.F.Fn.post c.loop-done.self.two (conv, (count, tt)) place)) mid e r new) c.loop-done.invariant.one
+    (λ f. WorldSteps (algorithms_of g.F.Fn.post f c.loop-done.self.two) mid e r new) c.loop-done.invariant.one
     c.in-Ok-step.ensures.steps in
     let steps_two = subst
-    (λ f. WorldSteps (both_algorithms (λ conv count place. g.F.Fn.post c.args.self.now.one (conv, (count, tt)) place)
-    (λ conv count place. g.F.Fn.post f (conv, (count, tt)) place)) mid e r new) c.loop-done.invariant.two steps_one in
-    let gives : Algorithms = both_algorithms (λ conv count place. g.F.Fn.post c.args.self.now.one (conv, (count, tt)) place)
-    (λ conv count place. g.F.Fn.post c.args.self.now.two (conv, (count, tt)) place) in
+    (λ f. WorldSteps (algorithms_of g.F.Fn.post c.args.self.now.one f) mid e r new) c.loop-done.invariant.two steps_one in
+    let gives : Algorithms = algorithms_of g.F.Fn.post c.args.self.now.one c.args.self.now.two in
     let happens = subst (λ x. Happens x (model_event e) (model_world mid) (model_world new)) c.loop-done.invariant.fixed
     c.in-Ok-step.ensures.happens in
     record {
@@ -105,15 +84,6 @@ loop-done-preserved g c =
 
 pub returns-clause-one_partner : goal.returns-clause-one_partner
 returns-clause-one_partner g c = one_partner_of c.loop-done.self.state c.loop-done.invariant.sound
-
-pub returns-clause-agree : goal.returns-clause-agree
-returns-clause-agree g c = agree_of c.loop-done.self.state c.loop-done.invariant.sound
-
-pub returns-clause-in_order : goal.returns-clause-in_order
-returns-clause-in_order g c = in_order_of c.loop-done.self.state c.loop-done.invariant.sound
-
-pub returns-clause-sound : goal.returns-clause-sound
-returns-clause-sound g c = c.loop-done.invariant.sound
 
 pub returns-clause-carries : goal.returns-clause-carries
 returns-clause-carries g c = carries_of c.loop-done.self.state c.loop-done.invariant.sound
