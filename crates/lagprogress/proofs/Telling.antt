@@ -1,7 +1,7 @@
 -- Once an end has heard the other, it is told by an LACPDU when the other is synchronized.
 use Rattle.lagprogress.proofs.Common.{Bool, Err, List, None, Ok, Option, Result, Some, [], ap, arith, false, inl, inr, refl, slice_get, subst, sym}
-use Rattle.lagprogress.proofs.Common.{true, ℕ, ◌++◌, ◌+◌, ◌∙◌, ◌∷◌, ◌≡◌, ◌≤◌, ◌⊎◌, cases_Bool, none-some, same_Some, AllByRecursion, Lacpdu, One}
-use Rattle.lagprogress.proofs.Common.{Side, Two, peer, Machines, mux_rows, partner_synchronized, periodic_rows, receive_rows, AtRest, RunsToRest}
+use Rattle.lagprogress.proofs.Common.{true, ℕ, ◌++◌, ◌∙◌, ◌∷◌, ◌≡◌, ◌≤◌, ◌⊎◌, cases_Bool, none-some, same_Some, AllByRecursion, Lacpdu, One, Side}
+use Rattle.lagprogress.proofs.Common.{Two, peer, Machines, mux_rows, partner_synchronized, periodic_rows, receive_rows, AtRest, RunsToRest}
 use Rattle.lagprogress.proofs.Common.{after_sending, count_down, is_due, pdu_of, marker_due, SystemFault, Received, SystemPort, Carries, IsFrame}
 use Rattle.lagprogress.proofs.Common.{OnlyPortChangesBy, ProcessesLacpdu, Receive, Step, ThenSettles, Transmit, IsLacpduOf, SendsMarkerOf}
 use Rattle.lagprogress.proofs.Common.{TransmitsAt, TransmitsIf, CallPromise, SystemState, port_index, same_slots, all-get, found_place, ports_rise}
