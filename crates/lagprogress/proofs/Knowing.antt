@@ -84,9 +84,7 @@ calls_known v n most k (Receive m octets) answer u t = λ w p q took h a e.
 calls_known v n most k (Configure m change) answer u t = λ p q h a e. both (m == n) (is_number m n e) u.0
 calls_known v n most k Restart answer u t = absurd (no (sym u.0))
 calls_known v n most k (Transmit m) answer u t = λ p told a e. a e
-calls_known v n most k (Offer agg octets) answer u t = tt
-calls_known v n most k (Move_conversation agg conv port) answer u t = tt
-calls_known v n most k (Force agg conv) answer u t = tt
+calls_known v n most k call answer u t = tt
 
 known_goes_on : (v : Lacpdu) (n : ℕ) → GoesOn (LeavesUnheard n) (Known v) n
 known_goes_on v n = record { settles = known_settles v n; ticks = tick_known v; calls = calls_known v n }

@@ -2,10 +2,10 @@
 use Rattle.lagprogress.proofs.Common.{Bool, Err, List, None, Ok, Option, Result, Some, [], ap, arith, cond, get_or, inl, inr, length, map, nat_lt}
 use Rattle.lagprogress.proofs.Common.{not, option_map, position, refl, slice_get, slice_set, subst, suc, sym, true, zero, ℕ, ◌++◌, ◌<◌, ◌==◌, ◌∙◌}
 use Rattle.lagprogress.proofs.Common.{◌∷◌, ◌≡◌, ◌⊎◌, cases_Bool, false≢true, nat_tests, position-Some, same_Some, slice_get-get_or, slice_get_within}
-use Rattle.lagprogress.proofs.Common.{AllByRecursion, position_or_len, Lacpdu, all-append, IsCabling, One, Side, Two, end_at, peer, value_of, Stamp}
-use Rattle.lagprogress.proofs.Common.{Answer, SystemFault, Received, Call, Carries, IsFrame, Receive, Step, Tick, Transmit, CallPromise, SystemState}
-use Rattle.lagprogress.proofs.Common.{PortHistory, Reply, AfterReceive, AfterTransmit, Algorithms, DeliversFrom, OnLink, WorldEmits, WorldReceives}
-use Rattle.lagprogress.proofs.Common.{WorldSteps, set_last_lacpdu, side_of, stamp_for, stamped_in, with_collected_in, with_link_at}
+use Rattle.lagprogress.proofs.Common.{AllByRecursion, position_or_len, itself, Lacpdu, all-append, IsCabling, One, Side, Two, end_at, peer, value_of}
+use Rattle.lagprogress.proofs.Common.{Stamp, Answer, SystemFault, Received, Call, Carries, IsFrame, Receive, Step, Tick, Transmit, CallPromise}
+use Rattle.lagprogress.proofs.Common.{SystemState, PortHistory, Reply, AfterReceive, AfterTransmit, Algorithms, DeliversFrom, OnLink, WorldEmits}
+use Rattle.lagprogress.proofs.Common.{WorldReceives, WorldSteps, set_last_lacpdu, side_of, stamp_for, stamped_in, with_collected_in, with_link_at}
 use Rattle.lagprogress.proofs.Common.{with_stamp_collected, HalfTicks, payload_in, side_numbered, stamp_count, link_ends, HalfState, ItemValue}
 use Rattle.lagprogress.proofs.Common.{LinkState, WorldState, accepts, change_count_in, change_link, half, history_at, limit_towards, link_at}
 use Rattle.lagprogress.proofs.Common.{link_index, port_at, put_on_port, sent_on, towards, with_half, with_links, with_towards, read_log, end_is}
@@ -80,16 +80,13 @@ is_found q xs i x e h = elim (cases_Bool (nat_lt (position_or_len q xs) (length 
       absurd (false≢true (sym (fails_before_first q xs i x before) ∙ (ap q it ∙ h))))
 ]
 
-same_number : (n : ℕ) → (n == n) ≡ true
-same_number n = grind (arith, nat_tests)
-
 pub placed : (s : Side) (i : ℕ) (at : Side → ℕ) (fl : Side → List ItemValue) (links : List LinkState) → OnCable i at fl links
     → link_index s (at s) links ≡ Some i
 placed s i at fl links c =
     let q : LinkState → Bool = λ l. port_at s l == at s in
     let k = position_or_len q links in
     let found : link_index s (at s) links ≡ Some k = is_found q links i (cable at fl) c.there
-    (subst (λ n. (n == at s) ≡ true) (sym (port_there s at fl)) (same_number (at s))) in
+    (subst (λ n. (n == at s) ≡ true) (sym (port_there s at fl)) (itself (at s))) in
     let within = (position-Some q links k (cable at fl) found).0 in
     let it = slice_get-get_or links k (cable at fl) within in
     found ∙ ap (λ (n : ℕ). Some n) (alone s i k at fl links _ c it (position_there s (at s) links k _ found it))
