@@ -18,8 +18,9 @@ use Rattle.lagprogress.proofs.Linked.{Fits, each_map, each_side, peer_twice, eve
 use Rattle.lagprogress.proofs.OnePort.{AtPort, calls_each}
 use Rattle.lagprogress.proofs.OneRound.{Nothing, join, round_nears, ticked, round_holds}
 use Rattle.lagprogress.proofs.Progressing.{AtIt, Ends, FreshAt, able_fresh, beside, emptied, fits_fresh, knows_peer, machines_there, mode, own_says}
-use Rattle.lagprogress.proofs.Progressing.{said_by, stays_fresh, wait}
+use Rattle.lagprogress.proofs.Progressing.{said_by, stays_fresh, wait, awake_peer}
 use Rattle.lagprogress.proofs.Sounding.{Sounds, all_leave}
+use Rattle.std.proofs.Math.Bool.{and_comm}
 pub use Rattle.lagprogress.proofs.Linked.{EndPort, at_end, end_here, end_with}
 
 -- what no event changes
@@ -183,14 +184,9 @@ module _ (at : Side → ℕ) (w : Side → Lacpdu) where
             let l = knows_peer at w 2 0 0 old g (omega arith) t in
             inr (beside at w 2 (ticked g.known) t PartnerInSync new
             (round_holds gives t 2 at w g.known PartnerInSync PartnerInSync old new fits
-            (partner_along (w t) (w (peer t)) (ticked g.known t) 2 (omega arith) (either (awake t)))
+            (partner_along (w t) (w (peer t)) (ticked g.known t) 2 (omega arith) (awake_peer at w awake t))
             (λ p q r rest a z. ticks_partner 2 (w t) (w (peer t)) (g.known t) p q (omega (arith, l)) r a z)
             (λ p z. z) (join 2 at w g.known One t PartnerInSync old g.link y) h))
-          where
-            either : (activity (w (peer s)) ≡ true) ⊎ (activity (w (peer (peer s))) ≡ true)
-                → (activity (w (peer (peer s))) ≡ true) ⊎ (activity (w (peer s)) ≡ true)
-            either (inl a) = inr a
-            either (inr a) = inl a
 
     pub told : (n : ℕ) (j : WorldState) → 11 ≤ n → Agrees n j → (t : Side) → AtIt at w t PartnerInSync j
     told n j l c t = subst (λ u. AtIt at w u PartnerInSync j) (peer_twice t) (elim (c.tells (peer t)) [
@@ -251,16 +247,10 @@ all_same d1 d2 f1 f2 s1 s2 g a b c d e f h = rw (a, b, c, d, e, f, h) refl
 
 turned : (p q : Party) → same_group (group_of p q) (group_of q p) ≡ true
 turned p q =
-    let alone : individual p q ≡ individual q p = ap not (either_order p.aggregatable q.aggregatable) in
+    let alone : individual p q ≡ individual q p = ap not (and_comm p.aggregatable q.aggregatable) in
     let same : group_of p q ≡ group_of q p = groups_from_pairs (pair_of p q) (pair_of q p)
     (inr (ap (λ b. group_end b p) alone, ap (λ b. group_end b q) alone)) in
     subst (λ g. same_group (group_of p q) g ≡ true) same (group-itself (group_of p q))
-  where
-    either_order : (a b : Bool) → (a && b) ≡ (b && a)
-    either_order true true = refl
-    either_order true false = refl
-    either_order false true = refl
-    either_order false false = refl
 
 module _ (at : Side → ℕ) (w : Side → Lacpdu)
     (awake : (s : Side) → (activity (w s) ≡ true) ⊎ (activity (w (peer s)) ≡ true)) where

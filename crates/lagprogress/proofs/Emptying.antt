@@ -24,20 +24,16 @@ use Rattle.lagprogress.proofs.OneCable.{port_there}
 use Rattle.lagprogress.proofs.OnePort.{AtPort, at_number}
 use Rattle.lagprogress.proofs.OneRound.{IsAsk, Unrolled, all_ask, ask_all, deliver_all, join, one_of_both, tick_both, ticked, unroll, first_acts}
 use Rattle.lagprogress.proofs.OneRound.{runs_apart, AsksTwice, asks_twice}
-use Rattle.lagprogress.proofs.Progressing.{AtIt, FreshAt, beside, fits_fresh, knows_peer, stays_fresh, along_rounds}
+use Rattle.lagprogress.proofs.Progressing.{AtIt, FreshAt, beside, fits_fresh, knows_peer, stays_fresh, along_rounds, awake_peer}
 
 -- identifiers
 
 below_top : (top m n : ℕ) → m ≤ n → IsSome (cond (ltb n top) (Some n) None) → IsSome (cond (ltb m top) (Some m) None)
-below_top top m n l h = by_test (ltb n top) refl (ltb m top) refl h
-  where
-    less : ltb n top ≡ true → ltb m top ≡ false → ⊥
-    less e f = grind (arith, nat_tests)
-
-    by_test : (b : Bool) → ltb n top ≡ b → (d : Bool) → ltb m top ≡ d → IsSome (cond b (Some n) None) → IsSome (cond d (Some m) None)
-    by_test b e true f h = refl
-    by_test true e false f h = absurd (less e f)
-    by_test false e false f h = h
+below_top top m n l h = elim (cases_Bool (ltb m top)) [
+  | inl t ↦ subst (λ b. IsSome (cond b (Some m) None)) (sym t) refl
+  | inr f ↦ (let past : ltb n top ≡ false = grind (arith, nat_tests) in
+      subst (λ b. IsSome (cond b (Some m) None)) (sym f) (subst (λ b. IsSome (cond b (Some n) None)) past h))
+]
 
 left_before : (t u : Table) → t.next ≤ u.next → IsSome (next_identifier u) → IsSome (next_identifier t)
 left_before t u l h = below_top (2 ^ 32) t.next u.next l h
@@ -113,12 +109,9 @@ module _ (at : Side → ℕ) (w : Side → Lacpdu) (awake : (s : Side) → (acti
   abbrev pub Fines : ℕ → Type 0 → (ℕ → Type 0) → Table → Type 0
   Fines m W F t = AllFine at w s mac aggs count m W F t
 
-  turned_awake : (activity (w (peer s)) ≡ true) ⊎ (activity (w s) ≡ true)
-  turned_awake = elim (awake s) [ inl a ↦ inr a | inr a ↦ inl a ]
-
   along : (kn : Side → ℕ) → 1 ≤ kn s → Along Y (w s) (w (peer s)) (kn s) 2
   along kn l = both_along PartnerInSync (λ p. p.choice ≡ c) (w s) (w (peer s)) (kn s) 2
-      (partner_along (w s) (w (peer s)) (kn s) 2 (omega arith) turned_awake)
+      (partner_along (w s) (w (peer s)) (kn s) 2 (omega arith) (awake_peer at w awake s))
       (choice_along (w s) (w (peer s)) (kn s) 2 c chosen (omega arith) l)
 
   -- what is fixed of the system

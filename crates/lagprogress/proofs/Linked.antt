@@ -56,9 +56,8 @@ pub runs_all : (gives : Algorithms) (Is : Event → Type 0) (M : WorldState → 
     → ((e : Event) (r : Reply) (old new : WorldState) → Is e → WorldSteps gives old e r new → M old → M new)
     → (es : List Event) (rs : List Reply) (old new : WorldState) → AllByRecursion Is es → WorldRuns gives old es rs new → M old → M new
 runs_all gives Is M k [] [] old new a h m = subst M (sym h) m
-runs_all gives Is M k [] (r ∷ rs) old new a h m = absurd h
-runs_all gives Is M k (e ∷ es) [] old new a h m = absurd h
 runs_all gives Is M k (e ∷ es) (r ∷ rs) old new a h m = runs_all gives Is M k es rs h.0 new a.1 h.2 (k e r old h.0 a.0 h.1 m)
+runs_all gives Is M k es rs old new a h m = absurd h
 
 -- what each call of a system keeps, all events keep
 pub events_each : (gives : Algorithms) (s : Side) (P : SystemState → Type 0)

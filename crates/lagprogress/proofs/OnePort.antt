@@ -1,9 +1,9 @@
 -- Of one port, what each call keeps and each tick moves on, over a list of calls.
-use Rattle.lagprogress.proofs.Common.{Bool, List, Some, [], ap, arith, false, refl, slice_get, subst, suc, sym, zero, ℕ, ◌+◌, ◌-◌, ◌<◌, ◌∙◌, ◌∷◌, ◌≡◌}
-use Rattle.lagprogress.proofs.Common.{◌≤◌, none-some, same_Some, AllByRecursion, Unselected, Detached, NoPeriodic, Machines, mux_rows, RunsPeriodic}
-use Rattle.lagprogress.proofs.Common.{periodic_rows, receive_rows, AtRest, RunsToRest, count_down, SystemPort, Call, Step, TableRun, Tick}
-use Rattle.lagprogress.proofs.Common.{configured_numbers, PeriodicIsSettled, IsSound, SystemState, port_numbers, Step-frame, Rises, all-get}
-use Rattle.lagprogress.proofs.Common.{ports_rise, Step-sound, EachCall, tick_count}
+use Rattle.lagprogress.proofs.Common.{Bool, List, Some, [], ap, arith, false, option_map, refl, slice_get, subst, suc, sym, zero, ℕ, ◌+◌, ◌-◌, ◌<◌}
+use Rattle.lagprogress.proofs.Common.{◌∙◌, ◌∷◌, ◌≡◌, ◌≤◌, none-some, same_Some, slice_get-map, AllByRecursion, Unselected, Detached, NoPeriodic}
+use Rattle.lagprogress.proofs.Common.{Machines, mux_rows, RunsPeriodic, periodic_rows, receive_rows, AtRest, RunsToRest, count_down, SystemPort, Call}
+use Rattle.lagprogress.proofs.Common.{Step, TableRun, Tick, configured_numbers, PeriodicIsSettled, IsSound, SystemState, port_numbers, Step-frame}
+use Rattle.lagprogress.proofs.Common.{Rises, all-get, ports_rise, Step-sound, EachCall, tick_count}
 use Rattle.lagsystem.specs.declared.drive.Reply.{Reply}
 use Rattle.lagprogress.proofs.EachPort.{KeptByCall, KeptBySettling, OfEach, Step-each, Tick-each}
 use Rattle.lagprogress.proofs.Timers.{runs_keep}
@@ -77,8 +77,6 @@ module _ (Is : Call → Reply → Type 0) (P : ℕ → ℕ → Machines → Type
     subst (λ (t : SystemState). OfEach (AtPort n (P (most - 0) (k + 0))) t.system_ports) (sym h) (none_passed P n most k
         old.system_ports a),
   )
-  ends most k old new [] (answer ∷ answers) s a h u = absurd h
-  ends most k old new (call ∷ calls) [] s a h u = absurd h
   ends most k old new (Tick ∷ calls) (answer ∷ answers) s a h u =
       let rest = with_rest (AtPort n (P most k)) old.system_ports a s.quiet.1 in
       let mid = Tick-each (λ m p. AtPort n (P most k) m p × AtRest periodic_rows p) (AtPort n (P (most - 1) (k + 1)))
@@ -88,6 +86,7 @@ module _ (Is : Call → Reply → Type 0) (P : ℕ → ℕ → Machines → Type
   ends most k old new (call ∷ calls) (answer ∷ answers) s a h u =
       ends most k h.0 new calls answers (Step-sound gives old call answer h.0 h.1 s)
       (Step-each (AtPort n (P most k)) (g.settles most k) gives old call answer h.0 (g.calls most k call answer u.0 (λ e. cc)) h.1 a) h.2 u.1
+  ends most k old new calls replies s a h u = absurd h
 
 -- the port at a place, by its number
 
@@ -102,7 +101,7 @@ above S low n (y ∷ ys) r l = (
   above S y.number n ys r.1 (omega (arith, r.0, l)),
 )
 
-higher : (low : ℕ) (xs : List SystemPort) (i : ℕ) (x : SystemPort) → Rises low (port_numbers xs) → slice_get xs i ≡ Some x
+pub higher : (low : ℕ) (xs : List SystemPort) (i : ℕ) (x : SystemPort) → Rises low (port_numbers xs) → slice_get xs i ≡ Some x
     → low < x.number
 higher low [] i x r e = absurd (none-some x e)
 higher low (y ∷ ys) zero x r e = subst (λ (z : SystemPort). low < z.number) (same_Some y x e) r.0
@@ -124,21 +123,17 @@ pub same_place : (xs ys : List SystemPort) (i : ℕ) (x y : SystemPort) → port
 same_place xs ys i x y e f g = same_Some y.number x.number (sym (number_at ys i y g) ∙ (ap (λ l. slice_get l i) e ∙ number_at xs
     i x f))
   where
-    number_at : (zs : List SystemPort) (j : ℕ) (z : SystemPort) → slice_get zs j ≡ Some z
-        → slice_get (port_numbers zs) j ≡ Some z.number
-    number_at [] j z h = absurd (none-some z h)
-    number_at (w ∷ ws) zero z h = ap (λ (v : SystemPort). Some v.number) (same_Some w z h)
-    number_at (w ∷ ws) (suc j) z h = number_at ws j z h
+    number_at : (zs : List SystemPort) (j : ℕ) (z : SystemPort) → slice_get zs j ≡ Some z → slice_get (port_numbers zs) j ≡ Some z.number
+    number_at zs j z h = slice_get-map (λ (v : SystemPort). v.number) zs j ∙ ap (option_map (λ (v : SystemPort). v.number)) h
 
 -- what each call keeps, a list of them keeps
 pub calls_each : (gives : ℕ → ℕ → ℕ → Type 0) (P : SystemState → Type 0)
     → ((old new : SystemState) (call : Call) (answer : Reply) → Step gives old call answer new → P old → P new)
     → (old new : SystemState) (calls : List Call) (replies : List Reply) → TableRun gives old calls replies new → P old → P new
 calls_each gives P k old new [] [] h p = subst P (sym h) p
-calls_each gives P k old new [] (answer ∷ answers) h p = absurd h
-calls_each gives P k old new (call ∷ calls) [] h p = absurd h
 calls_each gives P k old new (call ∷ calls) (answer ∷ answers) h p =
     calls_each gives P k h.0 new calls answers h.2 (k old h.0 call answer h.1 p)
+calls_each gives P k old new calls replies h p = absurd h
 
 pub same_ports : (gives : ℕ → ℕ → ℕ → Type 0) (old new : SystemState) (calls : List Call) (replies : List Reply)
     → TableRun gives old calls replies new → new.ports ≡ old.ports

@@ -1,6 +1,6 @@
 -- How the ends of a cable come to know each other, round by round.
 use Rattle.lagprogress.proofs.Common.{Bool, List, None, Option, Some, [], ap, arith, false, inl, inr, map, option_map, refl, slice_get, subst, suc}
-use Rattle.lagprogress.proofs.Common.{sym, true, zero, ℕ, ◌+◌, ◌-◌, ◌∙◌, ◌∷◌, ◌≡◌, ◌≤◌, ◌⊎◌, cases_Bool, none-some, AllByRecursion, StateBits}
+use Rattle.lagprogress.proofs.Common.{sym, true, zero, ℕ, ◌+◌, ◌-◌, ◌∙◌, ◌∷◌, ◌≡◌, ◌≤◌, ◌⊎◌, cases_Bool, AllByRecursion, StateBits}
 use Rattle.lagprogress.proofs.Common.{encode_then_decode, Lacpdu, IsCabling, One, Side, Two, end_at, peer, CollectingDistributing, Machines}
 use Rattle.lagprogress.proofs.Common.{is_synchronized, same_mux_state, periodic_rows, receive_rows, AtRest, RunsToRest, actor_of, count_down, pdu_of}
 use Rattle.lagprogress.proofs.Common.{SystemPort, SystemState, machines_of, port_index, system_port_at, named, found_place, ports_rise, Algorithms}
@@ -240,7 +240,7 @@ module _ (at : Side → ℕ) (w : Side → Lacpdu) where
 
   -- both ends know each other, and so they go on
   module _ (awake : (s : Side) → (activity (w s) ≡ true) ⊎ (activity (w (peer s)) ≡ true)) where
-    awake_peer : (s : Side) → (activity (w (peer s)) ≡ true) ⊎ (activity (w s) ≡ true)
+    pub awake_peer : (s : Side) → (activity (w (peer s)) ≡ true) ⊎ (activity (w s) ≡ true)
     awake_peer s = elim (awake s) [ inl a ↦ inr a | inr a ↦ inl a ]
 
     pub fits_fresh : (d : ℕ) (j : WorldState) (g : FreshAt d j) → 1 ≤ d → Fits d w (ticked g.known)
@@ -544,11 +544,8 @@ pub only_cabling : (l : LinkState) (j : WorldState) → IsHealthy l j → IsCabl
 only_cabling l j h = subst (λ ls. IsCabling (map link_ends ls)) (sym h.only) one
   where
     one : (s : Side) (c d p : ℕ) → end_at (map link_ends (l ∷ [])) s c ≡ Some p → end_at (map link_ends (l ∷ [])) s d ≡ Some p → c ≡ d
-    one s zero d p e f = absurd (none-some p e)
-    one s (suc zero) zero p e f = absurd (none-some p f)
     one s (suc zero) (suc zero) p e f = refl
-    one s (suc zero) (suc (suc d)) p e f = absurd (none-some p f)
-    one s (suc (suc c)) d p e f = absurd (none-some p e)
+    one s c d p e f = absurd cc
 
 pub starts : (i : ℕ) (l : LinkState) (j : WorldState) (e : Ends l j) → IsSteady j → IsCabling (world_setup j).cables → IsHealthyAt i l j
     → Link 0 (λ s. port_at s l) (said_by l j e) (λ _. 0) One Nothing j
