@@ -16,7 +16,8 @@ use Rattle.distributor.specs.declared.fault.DistFault.TheVariants as dist
 use Rattle.lagsystem.specs.declared.drive.Reply.TheVariants as reply
 use Rattle.lagprogress.proofs.Answering.{among_port}
 use Rattle.lagprogress.proofs.EachPort.{KeptByCall, KeptBySettling, OfEach, Step-each, first_each}
-use Rattle.lagprogress.proofs.Freeing.{Stays, TableStays, asks_stay, comes_stay, held_carries, settles_stay, table_same, table_through, ticks_stay}
+use Rattle.lagprogress.proofs.Freeing.{Stays, held_carries, stays}
+use Rattle.lagprogress.proofs.TableSteps.{Turns, asks_turn, comes_turn, gives_turn, same_turns, settles_turn, ticks_turn, turns_through}
 use Rattle.lagprogress.proofs.Halves.{both_first, each_is_calls}
 use Rattle.lagprogress.proofs.Hearing.{no}
 use Rattle.lagprogress.proofs.Linked.{many}
@@ -176,7 +177,7 @@ carried_before : (a b : Assignment) (p : ℕ) → Stays a b → carrier_of b ≡
 carried_before a b p (inl e) h = absurd (none-some p (sym e ∙ h))
 carried_before a b p (inr e) h = sym e ∙ h
 
-by_stays : (call : Call) (t u : Table) → ((p : ℕ) → takes_down p call ≡ false) → TableStays t u → HeldBefore call t u
+by_stays : (call : Call) (t u : Table) → ((p : ℕ) → takes_down p call ≡ false) → Turns Stays stays t u → HeldBefore call t u
 by_stays call t u leaves h g k p e =
     (carried_before (assignment_of t g k) (assignment_of u g k) p (h g k) (held_carries (assignment_of u g k) p e), leaves p)
 
@@ -199,7 +200,7 @@ downed_before n p (Flushing q id preferred age) h = by_test (eqb q n) refl h
     by_test true e f = absurd (none-some p f)
     by_test false e f = (f, ap (λ x. eqb x n) (sym (same_Some q p f)) ∙ e)
 
-linked_before : (n : ℕ) (up : Bool) (old mid new : SystemState) → FreesIfDown up n old.table mid.table → TableStays mid.table new.table
+linked_before : (n : ℕ) (up : Bool) (old mid new : SystemState) → FreesIfDown up n old.table mid.table → Turns Stays stays mid.table new.table
     → HeldBefore (Set_link n up) old.table new.table
 linked_before n true old mid new h k g c p e =
     let carried = carried_before (assignment_of mid.table g c) (assignment_of new.table g c) p (k g c) (held_carries (assignment_of new.table g c) p e) in
@@ -236,29 +237,10 @@ forced_stays (On p) s h = let is : Free None ≡ s = cc in inl (ap carrier_of (s
 forced_stays (Wanted p preferred) s h = let is : Free preferred ≡ s = cc in inl (ap carrier_of (sym is))
 forced_stays (Flushing p n preferred age) s h = let is : Free preferred ≡ s = cc in inl (ap carrier_of (sym is))
 
-sets_stay : (agg conv : ℕ) (state : Assignment) (old new : Table) → SetsAssignment old new agg conv state
-    → Stays (assignment_of old agg conv) state → TableStays old new
-sets_stay agg conv state old new h k g c = subst (Stays (assignment_of old g c)) (sym (h.states g c))
-    (by_test (eqb agg g && eqb conv c) refl)
-  where
-    here : (eqb agg g && eqb conv c) ≡ true → (agg ≡ g) × (conv ≡ c)
-    here e = (grind (arith, nat_tests), grind (arith, nat_tests))
-
-    by_test : (b : Bool) → (eqb agg g && eqb conv c) ≡ b → Stays (assignment_of old g c) (cond b state (assignment_of old g c))
-    by_test true e = let same = here e in
-        subst (λ x. Stays (assignment_of old g x) state) same.1 (subst (λ x. Stays (assignment_of old x conv) state) same.0 k)
-    by_test false e = inr refl
-
-gives_stays : (agg : AggId) (conv : ℕ) (what : Result Assignment SystemFault) (old : SystemState) (answer : Result Unit SystemFault)
-    (new : SystemState) → ((s : Assignment) → what ≡ Ok s → Stays (assignment_of old.table agg.0 conv) s)
-    → GivesOrRefuses agg conv what old answer new → TableStays old.table new.table
-gives_stays agg conv (Ok s) old answer new k h = sets_stay agg.0 conv s old.table new.table h.1.0 (k s refl)
-gives_stays agg conv (Err fault) old answer new k h = table_same old new (ap (λ (s : SystemState). s.table) h.1)
-
 offered_before : (gives : ℕ → ℕ → ℕ → Type 0) (agg : AggId) (octets : List ℕ) (old : SystemState) (answer : Result ℕ SystemFault)
     (new : SystemState) → Offers gives agg octets old answer new → HeldBefore (Offer agg octets) old.table new.table
 offered_before gives agg octets old (Err fault) new h =
-    by_stays (Offer agg octets) old.table new.table (λ p. refl) (table_same old new (ap (λ (s : SystemState). s.table) h.1))
+    by_stays (Offer agg octets) old.table new.table (λ p. refl) (same_turns Stays stays old new (ap (λ (s : SystemState). s.table) h.1))
 offered_before gives agg octets old (Ok port) new h =
     λ g k p e. (by_test g k p _ (ap held_on (sym (h.2.0.states g k)) ∙ e), refl)
   where
@@ -273,33 +255,33 @@ first_is_free s h g k = ap (λ (t : Table). assignment_of t g k) h.3 ∙ first_f
 held_before : (gives : ℕ → ℕ → ℕ → Type 0) (old new : SystemState) (call : Call) (answer : Answer) → Step gives old call answer new
     → (new ≡ old) ⊎ HeldBefore call old.table new.table
 held_before gives old new Tick reply.Tick h = inr (
-    by_stays Tick old.table new.table (λ p. refl) (ticks_stay gives old new h))
+    by_stays Tick old.table new.table (λ p. refl) (ticks_turn Stays stays gives old new h))
 held_before gives old new (Set_link n up) (reply.SetLink (Ok done)) h = inr (
-    linked_before n up old h.0 new h.1.1 (settles_stay h.0 new h.2))
+    linked_before n up old h.0 new h.1.1 (settles_turn Stays stays h.0 new h.2))
 held_before gives old new (Set_link n up) (reply.SetLink (Err fault)) h = inl h.same
 held_before gives old new (Receive n octets) (reply.Receive a) h = inr (
-    by_stays (Receive n octets) old.table new.table (λ p. refl) (comes_stay gives n octets a old new h))
+    by_stays (Receive n octets) old.table new.table (λ p. refl) (comes_turn Stays stays gives n octets a old new h))
 held_before gives old new (Configure n change) (reply.Configure (Ok true)) h = inr (
-    by_stays (Configure n change) old.table new.table (λ p. refl) (table_through old.table h.0.table new.table
-    (table_same old h.0 (ap (λ (s : SystemState). s.table) h.1.1)) (settles_stay h.0 new h.2)))
+    by_stays (Configure n change) old.table new.table (λ p. refl) (turns_through Stays stays old.table h.0.table new.table
+    (same_turns Stays stays old h.0 (ap (λ (s : SystemState). s.table) h.1.1)) (settles_turn Stays stays h.0 new h.2)))
 held_before gives old new (Configure n change) (reply.Configure (Ok false)) h = inr (
-    by_stays (Configure n change) old.table new.table (λ p. refl) (table_same old new (ap (λ (s : SystemState). s.table) h.1)))
+    by_stays (Configure n change) old.table new.table (λ p. refl) (same_turns Stays stays old new (ap (λ (s : SystemState). s.table) h.1)))
 held_before gives old new (Configure n change) (reply.Configure (Err fault)) h = inr (
-    by_stays (Configure n change) old.table new.table (λ p. refl) (table_same old new (ap (λ (s : SystemState). s.table) h.same)))
+    by_stays (Configure n change) old.table new.table (λ p. refl) (same_turns Stays stays old new (ap (λ (s : SystemState). s.table) h.same)))
 held_before gives old new Restart reply.Restart h = inr (
     λ g k p e. absurd (none-some p (sym (ap held_on (first_is_free new h.1 g k)) ∙ e)))
 held_before gives old new (Transmit n) (reply.Transmit a) h = inr (
-    by_stays (Transmit n) old.table new.table (λ p. refl) (asks_stay gives n a old new h))
+    by_stays (Transmit n) old.table new.table (λ p. refl) (asks_turn Stays stays gives n a old new h))
 held_before gives old new (Offer agg octets) (reply.Offer answer) h = inr (
     offered_before gives agg octets old answer new h)
 held_before gives old new (Move_conversation agg conv port) (reply.MoveConversation answer) h = inr (
     by_stays (Move_conversation agg conv port) old.table new.table (λ p. refl)
-    (gives_stays agg conv (system_move_result old agg conv port) old answer new
+    (gives_turn Stays stays agg conv (system_move_result old agg conv port) old answer new
     (λ s x. moved_stays (next_identifier old.table) (distributing agg old.system_ports) port (assignment_of old.table agg.0 conv) s
     (moved_to agg conv port old s x)) h))
 held_before gives old new (Force agg conv) (reply.Force answer) h = inr (
     by_stays (Force agg conv) old.table new.table (λ p. refl)
-    (gives_stays agg conv (system_force_result old agg conv) old answer new
+    (gives_turn Stays stays agg conv (system_force_result old agg conv) old answer new
     (λ s x. forced_stays (assignment_of old.table agg.0 conv) s (forced_to agg conv old s x)) h))
 held_before gives old new call answer h = absurd h
 

@@ -46,8 +46,7 @@ pub use Rattle.portmachines.specs.declared.receive.ReceiveState.{ReceiveState}
 pub use Rattle.portmachines.specs.declared.receive.ReceiveState.TheVariants.{Current, Defaulted, Expired, Initialize, PortDisabled}
 pub use Rattle.portmachines.specs.Machines.{Machines}
 pub use Rattle.portmachines.specs.Mux.{is_synchronized, mux_rows, partner_synchronized, same_mux_state, selected}
-pub use Rattle.portmachines.specs.Periodic.{RunsPeriodic, clear_ntt, is_silent, partner_short, periodic_rows, periodic_table, same_periodic_state}
-pub use Rattle.portmachines.specs.Periodic.{timer_expired}
+pub use Rattle.portmachines.specs.Periodic.{RunsPeriodic, is_silent, partner_short, periodic_rows, periodic_table, same_periodic_state, timer_expired}
 pub use Rattle.portmachines.specs.Receive.{default_partner, is_maintained, lacpdu_rows, receive_rows, recorded_synchronization, same_receive_state}
 pub use Rattle.portmachines.specs.Receive.{start_receive}
 pub use Rattle.portmachines.specs.Rows.{AtRest, Fires, FiresTimes, Row, RunsToRest, in_order}

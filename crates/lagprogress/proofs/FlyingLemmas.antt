@@ -81,26 +81,18 @@ First t item fl = (rest : List ItemValue) × (fl t ≡ item ∷ rest)
 
 pushed_first : (u t : Side) (item more : ItemValue) (fl : Side → List ItemValue) → First t item fl → First t item (push u more fl)
 pushed_first One One item more fl h = (h.0 ++ more ∷ [], ap (λ xs. xs ++ more ∷ []) h.1)
-pushed_first One Two item more fl h = h
-pushed_first Two One item more fl h = h
 pushed_first Two Two item more fl h = (h.0 ++ more ∷ [], ap (λ xs. xs ++ more ∷ []) h.1)
+pushed_first u t item more fl h = h
 
 went_first : (s t : Side) (a : Result (Option (List ℕ)) SystemFault) (item : ItemValue) (fl now : Side → List ItemValue) → Went s a fl now
     → First t item fl → First t item now
-went_first s t (Err fault) item fl now h f = subst (First t item) (sym h) f
-went_first s t (Ok None) item fl now h f = subst (First t item) (sym h) f
 went_first s t (Ok (Some frame)) item fl now h f = subst (First t item) (sym h.2) (pushed_first (peer s) t item h.0 fl f)
+went_first s t a item fl now h f = subst (First t item) (sym h) f
 
 back_first : (s t : Side) (a : Result Received SystemFault) (item : ItemValue) (fl now : Side → List ItemValue) → Back s a fl now
     → First t item fl → First t item now
-back_first s t (Err fault) item fl now h f = subst (First t item) (sym h) f
-back_first s t (Ok received.Disabled) item fl now h f = subst (First t item) (sym h) f
-back_first s t (Ok received.Dropped) item fl now h f = subst (First t item) (sym h) f
-back_first s t (Ok (received.Ignored fault)) item fl now h f = subst (First t item) (sym h) f
-back_first s t (Ok received.TookLacpdu) item fl now h f = subst (First t item) (sym h) f
 back_first s t (Ok (received.Respond frame)) item fl now h f = subst (First t item) (sym h.2) (pushed_first (peer s) t item h.0 fl f)
-back_first s t (Ok (received.Released n)) item fl now h f = subst (First t item) (sym h) f
-back_first s t (Ok (received.Up agg)) item fl now h f = subst (First t item) (sym h) f
+back_first s t a item fl now h f = subst (First t item) (sym h) f
 
 put_first : (s : Side) (xs : List ItemValue) (item : ItemValue) (fl : Side → List ItemValue) → First (peer s) item fl
     → First (peer s) item (put s xs fl)
@@ -111,9 +103,8 @@ put_first Two xs item fl h = h
 
 collects_in : (m : MuxState) (c : Choice) → m ≡ CollectingDistributing → is_selected c ≡ true
     → (agg : AggId) × ((if same_mux_state CollectingDistributing m then selected_aggregator c else None) ≡ Some agg)
-collects_in m Unselected e h = absurd (true≢false (sym h))
-collects_in m (Standby agg) e h = absurd (true≢false (sym h))
 collects_in m (Selected agg) e h = (agg, ap (λ (n : MuxState). if same_mux_state CollectingDistributing n then Some agg else None) e)
+collects_in m c e h = absurd (true≢false (sym h))
 
 -- at some event of a run
 
@@ -122,12 +113,11 @@ until : (gives : Algorithms) (P : WorldState → Event → Reply → Type 0) (I 
     → (es : List Event) (rs : List Reply) (old new : WorldState) → AllByRecursion Is es → (run : WorldRuns gives old es rs new)
     → I old → Sometime P gives es rs old new run ⊎ I new
 until gives P I Is k [] [] old new a run m = inr (subst I (sym run) m)
-until gives P I Is k [] (r ∷ rs) old new a run m = absurd run
-until gives P I Is k (e ∷ es) [] old new a run m = absurd run
 until gives P I Is k (e ∷ es) (r ∷ rs) old new a run m = elim (k e r old run.0 a.0 run.1 m) [
   | inl p ↦ inl (inl p)
   | inr i ↦ elim (until gives P I Is k es rs run.0 new a.1 run.2 i) [ inl p ↦ inl (inr p) | inr n ↦ inr n ]
 ]
+until gives P I Is k es rs old new a run m = absurd run
 
 -- the event asks a port, or brings an item
 abbrev AsksOrDelivers : Event → Type 0
@@ -173,9 +163,7 @@ module _ (gives : Algorithms) (s : Side) (i : ℕ) (l : LinkState) (w : Side →
   ticks_on : (q r : Reply) (old mid new : WorldState) → WorldSteps gives old (event.Tick 1 1) q mid → WorldSteps gives mid (event.Tick 2 1) r new
       → Ends c old → OnItsWay s l item start old → Flies new
   ticks_on q r old mid new h k e f =
-      let one = ticks gives 1 One q old mid refl h in
-      let two = ticks gives 2 Two r mid new refl k in
-      let same = two.links ∙ one.links in (
+      let same = (ticks gives 2 Two r mid new refl k).links ∙ (ticks gives 1 One q old mid refl h).links in (
         tick_both gives 2 at w c (peer s) PartnerInSync PartnerInSync q r old mid new fits along
             (λ p z run rest a y. ticks_partner 2 (w (peer s)) (w (peer (peer s))) (c (peer s)) p z (let m = some (peer s) in omega (arith, m)) run a y)
             h k e,

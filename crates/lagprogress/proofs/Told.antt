@@ -7,20 +7,12 @@ use Rattle.lagsystem.specs.Soonest.{HappensIn, IsFirstToHappen, TimerHas, Window
 use Rattle.lagsystem.specs.Waiting.{ticks_until_due}
 use Rattle.lagsystem.proofs.Soonest.{tells_the_first}
 use Rattle.lagprogress.specs.Told.{SomeFrameIsDue, TellsAtMost900}
+use Rattle.lagprogress.proofs.Timers.{most_fast}
 
 current_within : (short : Bool) (r : ReceiveState) → most_current_while short r ≤ 900
 current_within true r = omega arith
-current_within false Initialize = omega arith
-current_within false PortDisabled = omega arith
 current_within false Expired = omega arith
-current_within false Defaulted = omega arith
-current_within false Current = omega arith
-
-periodic_within : (p : PeriodicState) → most_periodic_timer p ≤ 300
-periodic_within Fast = omega arith
-periodic_within Slow = omega arith
-periodic_within NoPeriodic = omega arith
-periodic_within PeriodicTx = omega arith
+current_within false r = omega arith
 
 age_within : (P : ℕ → Type 0) (ages : List ℕ) (i a : ℕ) → slice_get ages i ≡ Some a → AllByRecursion P ages → P a
 age_within P [] i a e h = absurd (none-some a e)
@@ -39,7 +31,7 @@ timer_within n s p t h = elim h.1 [
   )
   | inr k ↦ elim k [
     | inl e ↦ (
-      omega (arith, e, t.1, periodic_within p.periodic),
+      omega (arith, e, t.1, most_fast p.periodic),
       λ z. absurd (omega (arith, z, h.0)),
     )
     | inr e ↦ (omega (arith, e, t.2), λ z. absurd (omega (arith, z, h.0)))
