@@ -1,12 +1,13 @@
 -- What each event of a round leaves of the conversations that are held on a port whose cable is healthy.
-use Rattle.lagprogress.proofs.Common.{Bool, Err, IsSome, List, None, Ok, Option, Result, Some, [], ap, arith, cond, eqb, false, filter, inl, inr, ltb}
-use Rattle.lagprogress.proofs.Common.{map, refl, slice_get, subst, suc, sym, true, zero, ℕ, ◌&&◌, ◌+◌, ◌-◌, ◌<◌, ◌==◌, ◌||◌, ◌∙◌, ◌∷◌, ◌≡◌, ◌≤◌, ◌⊎◌}
-use Rattle.lagprogress.proofs.Common.{and_parts, cases_Bool, nat_tests, none-some, same_Some, list_any, AggId, Choice, Lacpdu, Information}
-use Rattle.lagprogress.proofs.Common.{frame_octets, IsAddress, Side, peer, CollectingDistributing, Machines, same_mux_state, has_chosen, Assignment}
-use Rattle.lagprogress.proofs.Common.{Flushing, Free, On, Wanted, is_among, after_mark, marker_due, wants_marker, Table, assignment_of}
-use Rattle.lagprogress.proofs.Common.{count_conversations, next_identifier, SystemFault, SystemPort, Carries, IsFrame, MuxIsSettled}
-use Rattle.lagprogress.proofs.Common.{aggregator_numbered, distributes_in, distributing, SendsMarkerOf, TransmitsIf, own_marker, Settling}
-use Rattle.lagprogress.proofs.Common.{SystemState, ports_table, settling_parts, all-get, ItemValue, WorldState, half}
+use Rattle.lagprogress.proofs.Common.{Bool, IsSome, List, None, Ok, Option, Result, Some, [], ap, arith, cond, eqb, false, filter, inl, inr, ltb, map}
+use Rattle.lagprogress.proofs.Common.{refl, slice_get, subst, suc, sym, true, zero, ℕ, ◌+◌, ◌-◌, ◌<◌, ◌==◌, ◌||◌, ◌∙◌, ◌∷◌, ◌≡◌, ◌≤◌, ◌⊎◌, and_parts}
+use Rattle.lagprogress.proofs.Common.{cases_Bool, nat_tests, none-some, same_Some, list_any, AggId, Choice, Lacpdu, Information, frame_octets, Side}
+use Rattle.lagprogress.proofs.Common.{peer, CollectingDistributing, Machines, same_mux_state, has_chosen, Assignment, On, Wanted, is_among}
+use Rattle.lagprogress.proofs.Common.{after_mark, marker_due, wants_marker, Table, assignment_of, count_conversations, next_identifier, SystemFault}
+use Rattle.lagprogress.proofs.Common.{SystemPort, Carries, IsFrame, MuxIsSettled, aggregator_numbered, distributes_in, distributing, SendsMarkerOf}
+use Rattle.lagprogress.proofs.Common.{TransmitsIf, own_marker, Settling, SystemState, ports_table, settling_parts, all-get, ItemValue, WorldState}
+use Rattle.lagprogress.proofs.Common.{half}
+use Rattle.slowpdu.specs.Layout.{IsAddress}
 use Rattle.distributor.specs.Conversations.{sum_below}
 use Rattle.slowpdu.specs.Markers.{WritesMarker}
 use Rattle.slowpdu.specs.declared.pdu.Pdu.TheVariants as pdu

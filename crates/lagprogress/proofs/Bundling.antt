@@ -2,17 +2,16 @@
 use Rattle.lagprogress.proofs.Common.{Bool, IsSome, List, None, Option, Some, [], ap, arith, cond, false, filter, inl, inr, is_some, length, map}
 use Rattle.lagprogress.proofs.Common.{option_map, refl, slice_get, subst, suc, sym, true, zero, ℕ, ◌++◌, ◌+◌, ◌-◌, ◌==◌, ◌∙◌, ◌∷◌, ◌≡◌, ◌≢◌, ◌≤◌, ◌⊎◌}
 use Rattle.lagprogress.proofs.Common.{cases_Bool, nat_tests, none-some, same_Some, slice_get_cases, slice_get_within, AllByRecursion, AggId, Key}
-use Rattle.lagprogress.proofs.Common.{Choice, Selected, Standby, Unselected, Party, is_selected, itself, Lacpdu, IsCabling, One, Side, Two, end_at}
-use Rattle.lagprogress.proofs.Common.{peer, find_at, Machines, mux_rows, periodic_rows, lacpdu_rows, receive_rows, RunsToRest, count_down}
-use Rattle.lagprogress.proofs.Common.{ports_that_chose, has_chosen, Table, PortConfig, SystemPort, configured_numbers, first_bad_port_number}
-use Rattle.lagprogress.proofs.Common.{or_first, refusal_of_limits, model_port_of, number_of_port, MuxIsSettled, occupied, IsSound, SystemState}
-use Rattle.lagprogress.proofs.Common.{port_numbers, with_system_ports, with_table, selection_view, views, all-get, are_numbered, found_place, if_then}
-use Rattle.lagprogress.proofs.Common.{ports_rise, Same, agreement_at, Algorithms, link_ends, world_setup, IsWorldSound, LinkState, WorldState, half}
-use Rattle.lagprogress.proofs.Common.{history_at, port_at, towards, end_is, AllHeard, BothAreActive, EachActiveLinkAgrees, EachActiveLinkComesUp}
-use Rattle.lagprogress.proofs.Common.{EachLinkAgrees, EachLinkComesUp, EndsHealthyCable, EnoughAggregators, EnoughLinks, IsBundle, OneIsActive}
-use Rattle.lagprogress.proofs.Common.{SystemsDiffer, ActiveLinkComesUp, AreApart, Distributes, HasRoom, LinkComesUp, AtEnd, IsHealthy, IsHealthyAt}
-use Rattle.lagprogress.proofs.Common.{Rounds, asks_all, ticks_of_both, WantsAggregator, aggregators_with, ports_with, IsSteady, IsTimed}
-use Rattle.lagsystem.specs.declared.fault.BadConfig.{BadConfig}
+use Rattle.lagprogress.proofs.Common.{Choice, Selected, Standby, Party, is_selected, itself, Lacpdu, IsCabling, One, Side, Two, end_at, peer, find_at}
+use Rattle.lagprogress.proofs.Common.{Machines, receive_rows, RunsToRest, count_down, ports_that_chose, has_chosen, Table, PortConfig, SystemPort}
+use Rattle.lagprogress.proofs.Common.{configured_numbers, first_bad_port_number, or_first, refusal_of_limits, model_port_of, number_of_port}
+use Rattle.lagprogress.proofs.Common.{MuxIsSettled, occupied, IsSound, SystemState, port_numbers, with_system_ports, with_table, selection_view}
+use Rattle.lagprogress.proofs.Common.{views, all-get, are_numbered, found_place, if_then, ports_rise, Same, agreement_at, Algorithms, link_ends}
+use Rattle.lagprogress.proofs.Common.{world_setup, IsWorldSound, LinkState, WorldState, half, history_at, port_at, towards, end_is, AllHeard}
+use Rattle.lagprogress.proofs.Common.{BothAreActive, EachActiveLinkAgrees, EachActiveLinkComesUp, EachLinkAgrees, EachLinkComesUp, EndsHealthyCable}
+use Rattle.lagprogress.proofs.Common.{EnoughAggregators, EnoughLinks, IsBundle, OneIsActive, SystemsDiffer, ActiveLinkComesUp, AreApart, Distributes}
+use Rattle.lagprogress.proofs.Common.{HasRoom, LinkComesUp, AtEnd, IsHealthy, IsHealthyAt, Rounds, asks_all, ticks_of_both, WantsAggregator}
+use Rattle.lagprogress.proofs.Common.{aggregators_with, ports_with, IsSteady, IsTimed}
 use Rattle.lagsystem.specs.declared.fault.BadConfig.TheVariants.{MaxLinks, PortNumber}
 use Rattle.lagprogress.specs.Agreeing.{ActiveLinkAgrees, LinkAgrees}
 use Rattle.lagprogress.proofs.Climbing.{Down, Ripe, Rising, climbed, down_settles, down_takes, down_ticks, rising_first}

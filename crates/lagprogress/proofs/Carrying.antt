@@ -5,13 +5,13 @@ use Rattle.lagprogress.proofs.Common.{slice_get_within, is_none, AggId, State, S
 use Rattle.lagprogress.proofs.Common.{CollectingDistributing, Setup, ReceiveState, Current, Defaulted, Expired, Initialize, PortDisabled, Machines}
 use Rattle.lagprogress.proofs.Common.{mux_rows, partner_synchronized, same_mux_state, selected, periodic_rows, lacpdu_rows, receive_rows}
 use Rattle.lagprogress.proofs.Common.{same_receive_state, start_receive, Starts, before_start, count_down, has_chosen, Assignment, Flushing, Free, On}
-use Rattle.lagprogress.proofs.Common.{Wanted, force_result, is_among, move_result, SetsAssignment, after_down, Table, assignment_of, next_identifier}
-use Rattle.lagprogress.proofs.Common.{first_free, Answer, SystemFault, SystemPort, Call, Configure, Force, FreesIfDown, Move_conversation, Offer}
-use Rattle.lagprogress.proofs.Common.{Receive, Restart, Set_link, Step, TableRun, Tick, Transmit, changed_party, choice_with_link, IsFirst}
-use Rattle.lagprogress.proofs.Common.{configured_numbers, none_enabled, MuxIsSettled, GivesOrRefuses, Offers, system_force_result, system_move_result}
-use Rattle.lagprogress.proofs.Common.{aggregator_numbered, distributing, IsSound, SystemState, port_numbers, Step-frame, rests, all-get, ports_rise}
-use Rattle.lagprogress.proofs.Common.{Step-sound, first_sound, forced_to, moved_to, Event, Reply, Algorithms, WorldRuns, WorldState, half}
-use Rattle.lagprogress.proofs.Common.{EachReachedHasCarriersUp, HasPortUp, carrier_of, held_on, takes_down}
+use Rattle.lagprogress.proofs.Common.{Wanted, force_result, is_among, move_result, after_down, Table, assignment_of, next_identifier, first_free}
+use Rattle.lagprogress.proofs.Common.{Answer, SystemFault, SystemPort, Call, Configure, Force, FreesIfDown, Move_conversation, Offer, Receive}
+use Rattle.lagprogress.proofs.Common.{Restart, Set_link, Step, TableRun, Tick, Transmit, changed_party, choice_with_link, IsFirst, configured_numbers}
+use Rattle.lagprogress.proofs.Common.{none_enabled, MuxIsSettled, Offers, system_force_result, system_move_result, aggregator_numbered, distributing}
+use Rattle.lagprogress.proofs.Common.{IsSound, SystemState, port_numbers, Step-frame, rests, all-get, ports_rise, Step-sound, first_sound, forced_to}
+use Rattle.lagprogress.proofs.Common.{moved_to, Event, Reply, Algorithms, WorldRuns, WorldState, half, EachReachedHasCarriersUp, HasPortUp}
+use Rattle.lagprogress.proofs.Common.{carrier_of, held_on, takes_down}
 use Rattle.distributor.specs.declared.fault.DistFault.TheVariants as dist
 use Rattle.lagsystem.specs.declared.drive.Reply.TheVariants as reply
 use Rattle.lagprogress.proofs.Answering.{among_port}

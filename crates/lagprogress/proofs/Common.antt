@@ -29,9 +29,8 @@ pub use Rattle.slowpdu.specs.declared.pdu.Marker.{Marker}
 pub use Rattle.slowpdu.specs.declared.pdu.MarkerKind.TheVariants.{Information, Response}
 pub use Rattle.slowpdu.specs.declared.pdu.Pdu.{Pdu}
 pub use Rattle.slowpdu.specs.Frames.{frame_octets}
-pub use Rattle.slowpdu.specs.Layout.{HoldsNumber, IsAddress, read_field}
 pub use Rattle.slowpdu.specs.Parties.{party_of}
-pub use Rattle.slowpdu.proofs.LayoutLemmas.{all-append, octet_stands}
+pub use Rattle.slowpdu.proofs.LayoutLemmas.{all-append}
 pub use Rattle.slowpdu.proofs.PduLemmas.{no_fault, one_pdu, written_pdu}
 pub use Rattle.lagmodel.specs.World.{Ends, IsCabling, One, Side, Two, WorldSetup, end_at, peer}
 pub use Rattle.lagmodel.proofs.Base.{cond_false, cond_true, value_of}

@@ -1,14 +1,13 @@
 -- A port that is cut off hears nothing, and is DEFAULTED in the end.
-use Rattle.lagprogress.proofs.Common.{Bool, Err, List, None, Ok, Option, Result, Some, [], ap, arith, false, if◌then◌else◌, inl, inr, length, not}
-use Rattle.lagprogress.proofs.Common.{refl, slice_get, slice_set, subst, sym, true, ℕ, ◌&&◌, ◌++◌, ◌+◌, ◌-◌, ◌==◌, ◌∙◌, ◌∷◌, ◌≡◌, ◌≤◌, ◌⊎◌}
-use Rattle.lagprogress.proofs.Common.{cases_Bool, nat_tests, none-some, same_Some, One, Side, Two, peer, value_of, ReceiveState, Current, Defaulted}
-use Rattle.lagprogress.proofs.Common.{Expired, Initialize, PortDisabled, Machines, mux_rows, periodic_rows, lacpdu_rows, receive_rows, RunsToRest}
-use Rattle.lagprogress.proofs.Common.{after_sending, count_down, is_due, SystemFault, Received, SystemPort, ParsesWhere, Performs, Receive}
-use Rattle.lagprogress.proofs.Common.{ReceivesAt, Step, Transmit, can_receive_in, none_enabled, TransmitsAt, TransmitsIf, SystemState, port_index}
-use Rattle.lagprogress.proofs.Common.{can_receive_at_rest, all-get, found_place, Reply, AfterTransmit, Algorithms, WorldSteps, side_of, HalfState}
-use Rattle.lagprogress.proofs.Common.{ItemValue, LinkState, WorldState, change_link, half, is_at_limit, link_at, link_index, port_at, put_on_port}
-use Rattle.lagprogress.proofs.Common.{sent_on, towards, with_half, with_towards, set_elsewhere, set_here, towards_other, position_there}
-use Rattle.lagprogress.proofs.Common.{CutOffIsDefaulted, IsCutOff, timeout_time, IsRound, Rounds, asks_all, IsSteady, IsTimed}
+use Rattle.lagprogress.proofs.Common.{Bool, List, None, Ok, Option, Result, Some, [], ap, arith, false, if◌then◌else◌, inl, inr, length, not, refl}
+use Rattle.lagprogress.proofs.Common.{slice_get, slice_set, subst, sym, true, ℕ, ◌&&◌, ◌++◌, ◌+◌, ◌-◌, ◌==◌, ◌∙◌, ◌∷◌, ◌≡◌, ◌≤◌, ◌⊎◌, cases_Bool}
+use Rattle.lagprogress.proofs.Common.{nat_tests, none-some, same_Some, One, Side, Two, peer, value_of, ReceiveState, Current, Expired, Machines}
+use Rattle.lagprogress.proofs.Common.{receive_rows, RunsToRest, after_sending, count_down, is_due, SystemFault, Received, SystemPort, ParsesWhere}
+use Rattle.lagprogress.proofs.Common.{Performs, Receive, ReceivesAt, Step, Transmit, can_receive_in, none_enabled, TransmitsAt, TransmitsIf}
+use Rattle.lagprogress.proofs.Common.{SystemState, port_index, can_receive_at_rest, all-get, found_place, Reply, AfterTransmit, Algorithms}
+use Rattle.lagprogress.proofs.Common.{WorldSteps, side_of, HalfState, ItemValue, LinkState, WorldState, change_link, half, is_at_limit, link_at}
+use Rattle.lagprogress.proofs.Common.{link_index, port_at, put_on_port, sent_on, towards, with_half, with_towards, set_elsewhere, set_here}
+use Rattle.lagprogress.proofs.Common.{towards_other, position_there, CutOffIsDefaulted, IsCutOff, timeout_time, IsRound, Rounds, IsSteady, IsTimed}
 use Rattle.lagprogress.proofs.OneRound.{Unrolled, one_of_both, unroll}
 use Rattle.lagprogress.proofs.RoundEvents.{asked_half, came_half, round_on, ticks_each, ticks_first}
 use Rattle.lagprogress.proofs.Hearing.{no, Unheard, Within, begins, counts, is_defaulted, receives, rested, unheard_settles, when_up}

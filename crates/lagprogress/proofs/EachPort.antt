@@ -1,10 +1,9 @@
 -- What the machines of a port keep, every call of a system keeps of each port.
-use Rattle.lagprogress.proofs.Common.{Bool, Err, List, None, Ok, Option, Result, Some, [], ap, arith, drop, false, if◌then◌else◌, inl, inr, length}
-use Rattle.lagprogress.proofs.Common.{not, option_map, refl, slice_get, slice_set, subst, sym, true, ℕ, ◌&&◌, ◌==◌, ◌||◌, ◌∙◌, ◌∷◌, ◌≡◌, ◌⊎◌}
-use Rattle.lagprogress.proofs.Common.{cases_Bool, nat_tests, none-some, AllByRecursion, AggId, Choice, Selected, Standby, Unselected, is_selected}
-use Rattle.lagprogress.proofs.Common.{is_unselected, same_system, Lacpdu, frame_octets, HoldsNumber, IsAddress, read_field, octet_stands, MuxState}
-use Rattle.lagprogress.proofs.Common.{Attached, CollectingDistributing, Detached, Waiting, Setup, Machines, is_synchronized, mux_rows}
-use Rattle.lagprogress.proofs.Common.{partner_synchronized, same_mux_state, RunsPeriodic, receive_rows, RunsToRest, Starts, before_start}
+use Rattle.lagprogress.proofs.Common.{Bool, Err, List, None, Ok, Option, Result, Some, [], ap, arith, false, if◌then◌else◌, inl, inr, length, not}
+use Rattle.lagprogress.proofs.Common.{option_map, refl, slice_get, slice_set, subst, sym, true, ℕ, ◌&&◌, ◌==◌, ◌||◌, ◌∙◌, ◌∷◌, ◌≡◌, ◌⊎◌, cases_Bool}
+use Rattle.lagprogress.proofs.Common.{nat_tests, none-some, AllByRecursion, AggId, Choice, Selected, Standby, is_selected, is_unselected, same_system}
+use Rattle.lagprogress.proofs.Common.{Lacpdu, MuxState, Attached, CollectingDistributing, Detached, Waiting, Setup, Machines, is_synchronized}
+use Rattle.lagprogress.proofs.Common.{mux_rows, partner_synchronized, same_mux_state, RunsPeriodic, receive_rows, RunsToRest, Starts, before_start}
 use Rattle.lagprogress.proofs.Common.{after_sending, count_down, is_due, PortView, chosen_aggregator, AggregatorsValue, is_detached, is_eligible}
 use Rattle.lagprogress.proofs.Common.{marker_due, SystemFault, Received, TookLacpdu, SystemPort, Call, ChangesParty, Configure, Force}
 use Rattle.lagprogress.proofs.Common.{Move_conversation, Offer, PortAtChangesBy, ProcessesLacpdu, Receive, Restart, Set_link, SetsPortEnabled, Step}

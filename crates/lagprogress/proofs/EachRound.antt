@@ -1,8 +1,8 @@
 -- What healthy rounds keep of each port of a system, and of the cables.
 use Rattle.lagprogress.proofs.Common.{Bool, List, Some, ap, arith, inl, inr, map, refl, slice_get, subst, suc, sym, ℕ, ◌++◌, ◌∙◌, ◌≡◌, Party, Lacpdu}
-use Rattle.lagprogress.proofs.Common.{One, Side, Two, end_at, Machines, receive_rows, RunsToRest, after_sending, count_down, ProcessesLacpdu, Receive}
-use Rattle.lagprogress.proofs.Common.{Transmit, SystemState, Reply, Algorithms, WorldSteps, link_ends, ItemValue, LinkState, WorldState, half}
-use Rattle.lagprogress.proofs.Common.{port_at, end_is, IsRound, Rounds, asks_all, ticks_of_both, IsSteady}
+use Rattle.lagprogress.proofs.Common.{One, Side, end_at, Machines, receive_rows, RunsToRest, after_sending, count_down, ProcessesLacpdu, Receive}
+use Rattle.lagprogress.proofs.Common.{SystemState, Reply, Algorithms, WorldSteps, link_ends, ItemValue, LinkState, WorldState, half, port_at, end_is}
+use Rattle.lagprogress.proofs.Common.{IsRound, Rounds, asks_all, ticks_of_both, IsSteady}
 use Rattle.lagsystem.specs.declared.drive.Reply.TheVariants as answer
 use Rattle.lagscript.specs.declared.event.Event.TheVariants as event
 use Rattle.lagprogress.proofs.ComingUp.{zero_on}

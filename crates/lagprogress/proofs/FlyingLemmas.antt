@@ -1,11 +1,11 @@
 -- How a frame that was sent on a healthy cable stays first on it through a round, until it is handed up.
-use Rattle.lagprogress.proofs.Common.{Err, List, None, Ok, Option, Result, Some, [], ap, arith, if◌then◌else◌, inl, inr, map, refl, slice_get, subst}
-use Rattle.lagprogress.proofs.Common.{suc, sym, true, zero, ℕ, ◌++◌, ◌==◌, ◌∙◌, ◌∷◌, ◌≡◌, ◌≤◌, ◌⊎◌, cases_Bool, true≢false, nat_tests, same_Some}
-use Rattle.lagprogress.proofs.Common.{AllByRecursion, AggId, Choice, Selected, Standby, Unselected, is_selected, Lacpdu, all-append, One, Side, Two}
-use Rattle.lagprogress.proofs.Common.{peer, value_of, MuxState, CollectingDistributing, same_mux_state, SystemFault, Received, SystemPort, Data_frame}
-use Rattle.lagprogress.proofs.Common.{IsFrame, MuxIsSettled, collecting, selected_aggregator, machines_of, port_index, all-get, found_place, Event}
-use Rattle.lagprogress.proofs.Common.{Reply, Algorithms, DeliversFrom, OnLink, WorldRuns, WorldSteps, side_of, link_ends, ItemValue, LinkState}
-use Rattle.lagprogress.proofs.Common.{WorldState, half, port_at, towards, HandsUp, InRound, Sometime, IsDeliver, IsRound, OfPort, asks_all}
+use Rattle.lagprogress.proofs.Common.{List, None, Ok, Option, Result, Some, [], ap, arith, if◌then◌else◌, inl, inr, map, refl, slice_get, subst, suc}
+use Rattle.lagprogress.proofs.Common.{sym, true, zero, ℕ, ◌++◌, ◌==◌, ◌∙◌, ◌∷◌, ◌≡◌, ◌≤◌, ◌⊎◌, cases_Bool, true≢false, nat_tests, same_Some}
+use Rattle.lagprogress.proofs.Common.{AllByRecursion, AggId, Choice, Selected, is_selected, Lacpdu, all-append, One, Side, Two, peer, value_of}
+use Rattle.lagprogress.proofs.Common.{MuxState, CollectingDistributing, same_mux_state, SystemFault, Received, SystemPort, Data_frame, IsFrame}
+use Rattle.lagprogress.proofs.Common.{MuxIsSettled, collecting, selected_aggregator, machines_of, port_index, all-get, found_place, Event, Reply}
+use Rattle.lagprogress.proofs.Common.{Algorithms, DeliversFrom, OnLink, WorldRuns, WorldSteps, side_of, link_ends, ItemValue, LinkState, WorldState}
+use Rattle.lagprogress.proofs.Common.{half, port_at, towards, HandsUp, InRound, Sometime, IsDeliver, IsRound, OfPort, asks_all}
 use Rattle.lagsystem.specs.declared.received.Received.TheVariants as received
 use Rattle.lagscript.specs.declared.event.Event.TheVariants as event
 use Rattle.lagprogress.proofs.ArrivingLemmas.{deliver_hands_up}

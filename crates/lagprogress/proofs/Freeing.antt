@@ -1,13 +1,10 @@
 -- No conversation stays held on a port of a healthy cable of a bundle.
-use Rattle.lagprogress.proofs.Common.{Bool, Err, List, None, Ok, Option, Result, Some, ap, arith, cond, eqb, false, inl, inr, length, ltb, refl}
-use Rattle.lagprogress.proofs.Common.{slice_get, subst, sym, true, ℕ, ◌&&◌, ◌+◌, ◌-◌, ◌<◌, ◌∙◌, ◌≡◌, ◌≤◌, ◌⊎◌, none-some, same_Some, One, Side, Two}
-use Rattle.lagprogress.proofs.Common.{peer, is_due, Assignment, Flushing, Free, On, Wanted, is_among, after_mark, after_release, after_tick}
-use Rattle.lagprogress.proofs.Common.{marker_due, IsConversation, Table, assignment_of, SystemFault, Received, SystemPort, Receive, Step, Tick}
-use Rattle.lagprogress.proofs.Common.{Transmit, aggregator_numbered, distributing, SendsMarkerOf, TransmitsAt, TransmitsIf, Settling, held_unless_on}
-use Rattle.lagprogress.proofs.Common.{SystemState, port_index, ports_table, settling_parts, TableChanges, table_changes, Reply, Algorithms}
-use Rattle.lagprogress.proofs.Common.{WorldSteps, LinkState, WorldState, half, port_at, BothAreActive, IsBundle, OneIsActive, CarriersAreUp}
-use Rattle.lagprogress.proofs.Common.{HasIdentifierLeft, NoneIsHeld, NoneIsHeldOn, NoneIsHeldOnActiveEnds, NoneIsHeldOnEnds, NoneIsHeldWhereActive}
-use Rattle.lagprogress.proofs.Common.{NothingIsHeld, carrier_of, held_on, IsHealthyAt, IsRound, Rounds, asks_all}
+use Rattle.lagprogress.proofs.Common.{Bool, List, None, Option, Some, ap, arith, cond, eqb, false, inl, inr, length, ltb, refl, subst, sym, true, ℕ}
+use Rattle.lagprogress.proofs.Common.{◌&&◌, ◌+◌, ◌-◌, ◌<◌, ◌∙◌, ◌≡◌, ◌≤◌, ◌⊎◌, none-some, same_Some, One, Side, Assignment, Flushing, Free, On}
+use Rattle.lagprogress.proofs.Common.{Wanted, is_among, after_mark, after_release, after_tick, IsConversation, Table, assignment_of, held_unless_on}
+use Rattle.lagprogress.proofs.Common.{SystemState, Reply, Algorithms, WorldSteps, LinkState, WorldState, half, port_at, BothAreActive, IsBundle}
+use Rattle.lagprogress.proofs.Common.{OneIsActive, CarriersAreUp, HasIdentifierLeft, NoneIsHeld, NoneIsHeldOn, NoneIsHeldOnActiveEnds}
+use Rattle.lagprogress.proofs.Common.{NoneIsHeldOnEnds, NoneIsHeldWhereActive, NothingIsHeld, carrier_of, held_on, IsHealthyAt, IsRound, Rounds}
 use Rattle.lagprogress.proofs.RoundEvents.{asked_half, came_half, round_on, ticks_first}
 use Rattle.lagprogress.proofs.EachRound.{rounds_steady}
 use Rattle.lagsystem.specs.declared.drive.Reply.TheVariants as answer

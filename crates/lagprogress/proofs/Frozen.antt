@@ -1,11 +1,11 @@
 -- Selected stays what it is in the rounds of a world in which each end of a healthy cable knows its partner.
 use Rattle.lagprogress.proofs.Common.{Err, List, None, Ok, Option, Result, Some, ap, arith, inl, inr, refl, slice_get, subst, sym, true, ℕ, ◌∙◌, ◌≡◌}
-use Rattle.lagprogress.proofs.Common.{◌≤◌, ◌⊎◌, cases_Bool, none-some, same_Some, AllByRecursion, Choice, Lacpdu, One, Side, Two, peer, Machines}
-use Rattle.lagprogress.proofs.Common.{receive_rows, RunsToRest, count_down, PortConfig, SystemFault, Received, SystemPort, Carries, IsFrame}
-use Rattle.lagprogress.proofs.Common.{OnlyPortChangesBy, ProcessesLacpdu, Receive, ReceivesAt, Step, ThenSettles, Tick, Transmit, configured_numbers}
-use Rattle.lagprogress.proofs.Common.{none_enabled, CallPromise, SystemState, aggregators_value, port_index, port_numbers, processes_or_stays, rests}
-use Rattle.lagprogress.proofs.Common.{all-get, found_place, Event, Reply, Algorithms, WorldSteps, LinkState, WorldState, half, port_at, towards}
-use Rattle.lagprogress.proofs.Common.{AllHeard, EndsHealthyCable, IsHealthyAt, IsRound, Rounds, asks_all, IsSteady}
+use Rattle.lagprogress.proofs.Common.{◌≤◌, cases_Bool, none-some, same_Some, AllByRecursion, Choice, Lacpdu, One, Side, peer, Machines, receive_rows}
+use Rattle.lagprogress.proofs.Common.{RunsToRest, count_down, PortConfig, SystemFault, Received, SystemPort, Carries, IsFrame, OnlyPortChangesBy}
+use Rattle.lagprogress.proofs.Common.{ProcessesLacpdu, Receive, ReceivesAt, ThenSettles, Tick, configured_numbers, none_enabled, CallPromise}
+use Rattle.lagprogress.proofs.Common.{SystemState, aggregators_value, port_index, port_numbers, processes_or_stays, rests, all-get, found_place}
+use Rattle.lagprogress.proofs.Common.{Event, Reply, Algorithms, WorldSteps, LinkState, WorldState, half, port_at, towards, AllHeard, EndsHealthyCable}
+use Rattle.lagprogress.proofs.Common.{IsHealthyAt, IsRound, Rounds, IsSteady}
 use Rattle.slowpdu.specs.declared.pdu.Pdu.TheVariants as pdu
 use Rattle.lagsystem.specs.declared.drive.Reply.TheVariants as answer
 use Rattle.lagscript.specs.declared.event.Event.TheVariants as event

@@ -1,16 +1,15 @@
 -- What an event does to the two systems of a world is what some calls of theirs do.
-use Rattle.lagprogress.proofs.Common.{Bool, Err, List, None, Ok, Option, Result, Some, [], map, refl, slice_set, subst, suc, sym, true, zero, ℕ, ◌++◌}
-use Rattle.lagprogress.proofs.Common.{◌∷◌, ◌≡◌, AggId, One, Side, Two, Stamp, Config, Answer, SystemFault, Received, Call, Offer, Receive, Restart}
-use Rattle.lagprogress.proofs.Common.{Step, TableRun, Tick, Transmit, IsFirst, SystemState, Step-sound, first_sound, Event, Reply, AfterOffer}
-use Rattle.lagprogress.proofs.Common.{AfterReceive, AfterTransmit, Algorithms, InHalf, WorldReceives, WorldRuns, WorldSteps, with_frame_counted}
-use Rattle.lagprogress.proofs.Common.{with_link_at, with_stamp_collected, HalfAnswers, HalfTicks, forced_if_accepted, AreFirst, IsStart, HalfState}
-use Rattle.lagprogress.proofs.Common.{ItemValue, LinkState, WorldState, emptied, half, port_at, with_half, with_links, GoesByCalls, IsSteady}
-use Rattle.lagprogress.proofs.Common.{IsSteadySystem}
+use Rattle.lagprogress.proofs.Common.{Bool, Err, List, Ok, Option, Result, Some, [], map, refl, slice_set, subst, suc, sym, true, zero, ℕ, ◌++◌, ◌∷◌}
+use Rattle.lagprogress.proofs.Common.{◌≡◌, AggId, One, Side, Two, Stamp, Config, Answer, SystemFault, Received, Call, Offer, Receive, Restart, Step}
+use Rattle.lagprogress.proofs.Common.{TableRun, Tick, Transmit, IsFirst, SystemState, Step-sound, first_sound, Event, Reply, AfterOffer, AfterReceive}
+use Rattle.lagprogress.proofs.Common.{AfterTransmit, Algorithms, InHalf, WorldReceives, WorldRuns, WorldSteps, with_frame_counted, with_link_at}
+use Rattle.lagprogress.proofs.Common.{with_stamp_collected, HalfAnswers, HalfTicks, forced_if_accepted, AreFirst, IsStart, HalfState, ItemValue}
+use Rattle.lagprogress.proofs.Common.{LinkState, WorldState, emptied, half, port_at, with_half, with_links, GoesByCalls, IsSteady, IsSteadySystem}
 use Rattle.cables.specs.declared.item.Stamp.TheVariants as stamp
 use Rattle.lagsystem.specs.declared.drive.Reply.TheVariants as answer
 use Rattle.lagsystem.specs.declared.received.Received.TheVariants as received
 use Rattle.lagworld.proofs.Effects.{DoesEffect, Effect, HalfAsked, Recording, answer_to_force, asks, changes_counted, delivers, does_effect, emits}
-use Rattle.lagworld.proofs.Effects.{if_forced, no_record, offers, receives, recorded, restarts, nothing, shrinks, ticks}
+use Rattle.lagworld.proofs.Effects.{if_forced, offers, receives, recorded, restarts, nothing, shrinks, ticks}
 use Rattle.lagprogress.proofs.EachPort.{Step-each, first_each}
 use Rattle.lagprogress.proofs.Timers.{TimedAt, timed_kept, timed_settles, timed_starts}
 

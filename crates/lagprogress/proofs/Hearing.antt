@@ -1,10 +1,10 @@
 -- A port that processes no LACPDU comes nearer to EXPIRED and DEFAULTED with each tick.
 use Rattle.lagprogress.proofs.Common.{Bool, IsTrue, List, [], ap, arith, false, if◌then◌else◌, inl, inr, not, refl, subst, suc, sym, true, zero, ℕ}
 use Rattle.lagprogress.proofs.Common.{◌&&◌, ◌+◌, ◌-◌, ◌==◌, ◌∙◌, ◌∷◌, ◌≡◌, ◌≤◌, nat_tests, ReceiveState, Current, Defaulted, Expired, Initialize}
-use Rattle.lagprogress.proofs.Common.{PortDisabled, Machines, mux_rows, periodic_rows, receive_rows, same_receive_state, AtRest, Fires, FiresTimes}
-use Rattle.lagprogress.proofs.Common.{Row, RunsToRest, count_down, SystemPort, Call, Configure, Force, Move_conversation, Offer, Receive, Restart}
-use Rattle.lagprogress.proofs.Common.{Set_link, Tick, Transmit, choice_with_link, can_receive_in, none_enabled, can_receive_at_rest, all-get}
-use Rattle.lagprogress.proofs.Common.{IsNoticed, LeavesUnheard, processed_on, timeout_time, tick_count, IsTimed, most_current_while}
+use Rattle.lagprogress.proofs.Common.{PortDisabled, Machines, periodic_rows, receive_rows, same_receive_state, AtRest, Fires, FiresTimes, Row}
+use Rattle.lagprogress.proofs.Common.{RunsToRest, count_down, SystemPort, Call, Configure, Receive, Restart, Set_link, Tick, Transmit}
+use Rattle.lagprogress.proofs.Common.{choice_with_link, can_receive_in, none_enabled, can_receive_at_rest, all-get, IsNoticed, LeavesUnheard}
+use Rattle.lagprogress.proofs.Common.{processed_on, timeout_time, tick_count, IsTimed, most_current_while}
 use Rattle.lagsystem.specs.declared.drive.Reply.{Reply}
 use Rattle.lagprogress.proofs.EachPort.{KeptByCall, KeptBySettling}
 use Rattle.lagprogress.proofs.OnePort.{AtPort, GoesOn, goes_on}

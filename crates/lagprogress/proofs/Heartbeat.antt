@@ -1,11 +1,8 @@
 -- A port that is active, whose link stays up and that sends nothing comes nearer to its next LACPDU with each tick.
-use Rattle.lagprogress.proofs.Common.{Bool, List, [], ap, arith, cond, false, if◌then◌else◌, inl, inr, length, nat_lt, not, refl, subst, suc, sym}
-use Rattle.lagprogress.proofs.Common.{true, zero, ℕ, ◌&&◌, ◌+◌, ◌-◌, ◌<◌, ◌==◌, ◌||◌, ◌∙◌, ◌∷◌, ◌≡◌, ◌≤◌, ◌⊎◌, nat_tests, AllByRecursion, Lacpdu}
-use Rattle.lagprogress.proofs.Common.{PeriodicState, Fast, NoPeriodic, PeriodicTx, Slow, Machines, mux_rows, RunsPeriodic, partner_short}
-use Rattle.lagprogress.proofs.Common.{periodic_rows, lacpdu_rows, receive_rows, start_receive, AtRest, RunsToRest, Starts, aged, count_down, is_due}
-use Rattle.lagprogress.proofs.Common.{SystemPort, Call, Configure, Force, Move_conversation, Offer, Receive, Restart, Set_link, Tick, Transmit}
-use Rattle.lagprogress.proofs.Common.{changed_party, choice_with_link, PeriodicIsSettled, reply_has_lacpdu, all-get, IsHeard, IsSilentShortly}
-use Rattle.lagprogress.proofs.Common.{LeavesUpAndSilent, takes_down, tick_count, IsLoud, SilentFor, Speaks, IsTimed, most_periodic_timer}
+use Rattle.lagprogress.proofs.Common.{Bool, ap, arith, false, if◌then◌else◌, inl, refl, subst, sym, true, ℕ, ◌+◌, ◌-◌, ◌==◌, ◌∙◌, ◌≡◌, ◌≤◌, ◌⊎◌}
+use Rattle.lagprogress.proofs.Common.{Machines, mux_rows, periodic_rows, receive_rows, start_receive, AtRest, RunsToRest, count_down, SystemPort}
+use Rattle.lagprogress.proofs.Common.{Call, Configure, Receive, Restart, Set_link, Tick, Transmit, changed_party, choice_with_link, PeriodicIsSettled}
+use Rattle.lagprogress.proofs.Common.{reply_has_lacpdu, all-get, IsHeard, IsSilentShortly, LeavesUpAndSilent, tick_count, IsLoud, IsTimed}
 use Rattle.lagsystem.specs.declared.drive.Reply.{Reply}
 use Rattle.lagprogress.proofs.EachPort.{KeptByCall, KeptBySettling}
 use Rattle.lagprogress.proofs.OnePort.{AtPort, GoesOn, goes_on}

@@ -1,9 +1,9 @@
 -- A port that is kept from silence by an active partner alone: it is CURRENT, or EXPIRED and about to speak.
-use Rattle.lagprogress.proofs.Common.{Bool, ap, arith, false, inl, inr, not, refl, subst, suc, sym, true, zero, ℕ, ◌&&◌, ◌+◌, ◌-◌, ◌==◌, ◌∙◌, ◌≡◌}
-use Rattle.lagprogress.proofs.Common.{◌≤◌, ◌⊎◌, nat_tests, Choice, State, StateBits, is_selected, bits_of, with_synchronization, with_timeout}
+use Rattle.lagprogress.proofs.Common.{Bool, ap, arith, false, inl, inr, not, refl, subst, sym, true, ℕ, ◌&&◌, ◌+◌, ◌-◌, ◌==◌, ◌∙◌, ◌≡◌, ◌≤◌, ◌⊎◌}
+use Rattle.lagprogress.proofs.Common.{nat_tests, Choice, State, StateBits, is_selected, bits_of, with_synchronization, with_timeout}
 use Rattle.lagprogress.proofs.Common.{encode_then_decode, Lacpdu, ReceiveState, Current, Expired, Initialize, PortDisabled, Machines, mux_rows}
-use Rattle.lagprogress.proofs.Common.{RunsPeriodic, periodic_rows, lacpdu_rows, receive_rows, same_receive_state, AtRest, RunsToRest, count_down}
-use Rattle.lagprogress.proofs.Common.{is_due, timeout_time, HasRecorded, IsTimed}
+use Rattle.lagprogress.proofs.Common.{RunsPeriodic, periodic_rows, receive_rows, same_receive_state, AtRest, RunsToRest, count_down, is_due}
+use Rattle.lagprogress.proofs.Common.{timeout_time, HasRecorded, IsTimed}
 use Rattle.lagprogress.proofs.EndFacts.{Along, activity, both_along, constant_along, short_timeout, sounds_takes, takes_known}
 use Rattle.lagprogress.proofs.Hearing.{EnabledKeep, no, not_down, times_keep}
 use Rattle.lagprogress.proofs.Knowing.{Recorded}

@@ -1,14 +1,12 @@
 -- How the links of a bundle agree where one system has a limit of links.
-use Rattle.lagprogress.proofs.Common.{Bool, Err, IsSome, List, None, Ok, Option, Some, [], ap, arith, false, if◌then◌else◌, inl, inr, map, refl}
-use Rattle.lagprogress.proofs.Common.{slice_get, subst, suc, sym, true, ℕ, ◌∙◌, ◌∷◌, ◌≡◌, ◌⊎◌, cases_Bool, same_Some, AggId, SystemId, Choice}
-use Rattle.lagprogress.proofs.Common.{Selected, Standby, Unselected, Party, is_selected, same_party, Lacpdu, party_of, IsCabling, One, Side, Two}
-use Rattle.lagprogress.proofs.Common.{end_at, peer, Setup, Machines, mux_rows, selected, periodic_rows, default_partner, lacpdu_rows, receive_rows}
-use Rattle.lagprogress.proofs.Common.{start_receive, RunsToRest, Starts, before_start, count_down, has_chosen, Answer, SystemPort, Call, Configure}
-use Rattle.lagprogress.proofs.Common.{Force, Move_conversation, Offer, ProcessesLacpdu, Receive, Restart, Set_link, SetsPortEnabled, Step, TableRun}
-use Rattle.lagprogress.proofs.Common.{Tick, Transmit, changed_party, choice_with_link, SystemState, port_index, Step-frame, all-get, found_place}
-use Rattle.lagprogress.proofs.Common.{ports_rise, Event, Same, Reply, agreement_at, Algorithms, WorldRuns, link_ends, world_setup, IsWorldSound}
-use Rattle.lagprogress.proofs.Common.{LinkState, WorldState, half, port_at, end_is, AllHeard, BothAreActive, OneIsActive, EndKnows, Knows, AtEnd}
-use Rattle.lagprogress.proofs.Common.{IsHealthyAt, OfPort, Rounds, StandsByFull, WantsAggregator}
+use Rattle.lagprogress.proofs.Common.{Bool, Err, IsSome, None, Ok, Option, Some, ap, arith, false, if◌then◌else◌, inl, inr, refl, slice_get, subst}
+use Rattle.lagprogress.proofs.Common.{suc, sym, true, ℕ, ◌∙◌, ◌≡◌, ◌⊎◌, cases_Bool, AggId, SystemId, Choice, Selected, Standby, Unselected, Party}
+use Rattle.lagprogress.proofs.Common.{is_selected, same_party, Lacpdu, party_of, One, Side, Two, end_at, peer, Setup, Machines, selected}
+use Rattle.lagprogress.proofs.Common.{default_partner, receive_rows, start_receive, RunsToRest, Starts, before_start, count_down, has_chosen, Answer}
+use Rattle.lagprogress.proofs.Common.{SystemPort, Call, Configure, ProcessesLacpdu, Receive, Restart, Set_link, SetsPortEnabled, Step, Tick, Transmit}
+use Rattle.lagprogress.proofs.Common.{changed_party, choice_with_link, SystemState, port_index, Step-frame, all-get, found_place, ports_rise, Same}
+use Rattle.lagprogress.proofs.Common.{agreement_at, Algorithms, IsWorldSound, LinkState, WorldState, half, port_at, end_is, BothAreActive}
+use Rattle.lagprogress.proofs.Common.{OneIsActive, EndKnows, Knows, AtEnd, IsHealthyAt, OfPort, Rounds, StandsByFull, WantsAggregator}
 use Rattle.lagsystem.specs.declared.drive.Reply.TheVariants as reply
 use Rattle.lagprogress.specs.Limited.{CarriesOnAll, DownAreUnselected, EachActiveLimitedLinkAgrees, EachLimitedLinkAgrees}
 use Rattle.lagprogress.specs.Limited.{EachReachedHasDownUnselected, EndsAgreed, IsLimitedBundle, StandsByOthers}

@@ -1,9 +1,9 @@
 -- A world that events lead to from one that was made is a bundle, if its links are up as it wants them.
 use Rattle.lagprogress.proofs.Common.{Bool, List, None, Option, Some, [], ap, false, if◌then◌else◌, map, refl, sym, true, ℕ, ◌∙◌, ◌∷◌, ◌≡◌, none-some}
-use Rattle.lagprogress.proofs.Common.{SystemId, same_system, system-itself, One, Side, Two, Config, config_value, or_first, Algorithms, AreFirst}
-use Rattle.lagprogress.proofs.Common.{LinkState, WorldState, half, BothAreActive, IsBundle, OneIsActive, ReachedIsApart, ReachedIsBundle}
-use Rattle.lagprogress.proofs.Common.{SystemsDiffer, CarriersAreUp, EachAgrees, EachDistributes, IsReached, IsReady, LeadsTo, NothingStaysHeld}
-use Rattle.lagprogress.proofs.Common.{Rounds, freed_if_both_active, freed_if_one_is, up_if_both_active, up_if_one_is}
+use Rattle.lagprogress.proofs.Common.{SystemId, same_system, system-itself, One, Side, Two, Config, config_value, Algorithms, AreFirst, LinkState}
+use Rattle.lagprogress.proofs.Common.{WorldState, half, BothAreActive, IsBundle, OneIsActive, ReachedIsApart, ReachedIsBundle, SystemsDiffer}
+use Rattle.lagprogress.proofs.Common.{CarriersAreUp, EachAgrees, EachDistributes, IsReached, IsReady, LeadsTo, NothingStaysHeld, Rounds}
+use Rattle.lagprogress.proofs.Common.{freed_if_both_active, freed_if_one_is, up_if_both_active, up_if_one_is}
 use Rattle.lagscript.specs.declared.config.BadWorld.TheVariants.{SameSystem}
 use Rattle.cables.specs.declared.item.Item.{Item}
 use Rattle.lagscript.specs.Configs.{refusal_of_all}

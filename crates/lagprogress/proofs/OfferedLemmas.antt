@@ -1,11 +1,10 @@
 -- A frame that a bundle is offered after its links came up arrives within one round.
-use Rattle.lagprogress.proofs.Common.{List, Some, [], ap, arith, inl, inr, map, refl, slice_get, subst, suc, sym, true, zero, ℕ, ◌++◌, ◌+◌, ◌∙◌, ◌∷◌}
-use Rattle.lagprogress.proofs.Common.{◌≡◌, ◌≤◌, ◌⊎◌, AggId, Lacpdu, One, Side, peer, Machines, lacpdu_rows, receive_rows, count_down, Answer}
-use Rattle.lagprogress.proofs.Common.{SystemPort, Call, Data_frame, IsFrame, TableRun, SystemState, all-get, Event, Reply, Algorithms, WorldRuns}
-use Rattle.lagprogress.proofs.Common.{WorldSteps, side_of, link_ends, ItemValue, LinkState, WorldState, accepts_at, half, is_accepted, link_at}
-use Rattle.lagprogress.proofs.Common.{port_at, put_on_port, put_ends, Arrives, DisabledAreUnsynchronized, EachActiveFrameArrives, EachFrameArrives}
-use Rattle.lagprogress.proofs.Common.{EachReachedHasUnsynchronized, GetsPort, TakesFrame, BothAreActive, EndsHealthyCable, IsBundle, OneIsActive}
-use Rattle.lagprogress.proofs.Common.{IsHealthyAt, IsRound, NothingInFlight, Rounds}
+use Rattle.lagprogress.proofs.Common.{List, Some, [], ap, arith, map, refl, slice_get, subst, suc, sym, true, zero, ℕ, ◌++◌, ◌+◌, ◌∙◌, ◌∷◌, ◌≡◌, ◌≤◌}
+use Rattle.lagprogress.proofs.Common.{AggId, Lacpdu, One, Side, peer, Machines, receive_rows, count_down, SystemPort, Data_frame, IsFrame}
+use Rattle.lagprogress.proofs.Common.{SystemState, all-get, Reply, Algorithms, WorldSteps, side_of, link_ends, ItemValue, LinkState, WorldState}
+use Rattle.lagprogress.proofs.Common.{accepts_at, half, is_accepted, link_at, port_at, put_on_port, put_ends, Arrives, DisabledAreUnsynchronized}
+use Rattle.lagprogress.proofs.Common.{EachActiveFrameArrives, EachFrameArrives, EachReachedHasUnsynchronized, GetsPort, TakesFrame, BothAreActive}
+use Rattle.lagprogress.proofs.Common.{EndsHealthyCable, IsBundle, OneIsActive, IsRound, NothingInFlight, Rounds}
 use Rattle.std.specs.Global.{Vec}
 use Rattle.lagscript.specs.declared.event.Event.TheVariants as event
 use Rattle.lagworld.specs.declared.reply.Reply.TheVariants as reply

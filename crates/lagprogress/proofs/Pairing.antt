@@ -1,9 +1,8 @@
 -- Cables of which both ends are SELECTED agree, however few aggregators and links there are.
-use Rattle.lagprogress.proofs.Common.{IsSome, List, None, Option, Some, ap, arith, inl, inr, is_some, map, refl, slice_get, subst, suc, sym, true, ℕ}
-use Rattle.lagprogress.proofs.Common.{◌+◌, ◌-◌, ◌∙◌, ◌≡◌, ◌≤◌, ◌⊎◌, cases_Bool, same_Some, AllByRecursion, is_selected, Lacpdu, IsCabling, One, Side}
-use Rattle.lagprogress.proofs.Common.{end_at, peer, selected, PortConfig, SystemPort, MuxIsSettled, all-get, found_place, ports_rise, Same}
-use Rattle.lagprogress.proofs.Common.{agreement_at, Algorithms, link_ends, world_setup, IsWorldSound, LinkState, WorldState, half, history_at}
-use Rattle.lagprogress.proofs.Common.{port_at, towards, end_is, ActiveSelectedPairsAgree, ActiveSelectedPairsComeUp, AllHeard, BothAreActive}
+use Rattle.lagprogress.proofs.Common.{List, Some, ap, arith, inl, inr, refl, slice_get, subst, suc, sym, true, ℕ, ◌+◌, ◌-◌, ◌∙◌, ◌≡◌, ◌≤◌, ◌⊎◌}
+use Rattle.lagprogress.proofs.Common.{cases_Bool, AllByRecursion, is_selected, Lacpdu, IsCabling, One, Side, peer, selected, PortConfig, SystemPort}
+use Rattle.lagprogress.proofs.Common.{MuxIsSettled, all-get, ports_rise, Same, agreement_at, Algorithms, world_setup, IsWorldSound, LinkState}
+use Rattle.lagprogress.proofs.Common.{WorldState, half, port_at, ActiveSelectedPairsAgree, ActiveSelectedPairsComeUp, AllHeard, BothAreActive}
 use Rattle.lagprogress.proofs.Common.{OneIsActive, SelectedPairsAgree, SelectedPairsComeUp, Distributes, AtEnd, IsHealthyAt, IsRound, OfPort, Rounds}
 use Rattle.lagprogress.proofs.Common.{IsSteady, IsTimed}
 use Rattle.lagprogress.proofs.Bundling.{agree_up, all_by_place, as_before, both_meet, both_wake, ends_at, heard_holds, old_port, one_meet, one_wakes}
@@ -11,7 +10,7 @@ use Rattle.lagprogress.proofs.Bundling.{rounds_alike, rounds_keep}
 use Rattle.lagprogress.proofs.Choosing.{Chose}
 use Rattle.lagprogress.proofs.Climbing.{Down, Ripe, Rising, climbed, down_settles, down_takes, down_ticks, rising_along, rising_first, ticks_rising}
 use Rattle.lagprogress.proofs.ComingUp.{Up, at_end, comes_up, end_here, end_with, splits, up_now, zero_on}
-use Rattle.lagprogress.proofs.EachRound.{EachAt, RoundKeeps, round_each, rounds_join, rounds_steady, same_index}
+use Rattle.lagprogress.proofs.EachRound.{EachAt, RoundKeeps, round_each, rounds_steady}
 use Rattle.lagprogress.proofs.EndFacts.{Synced, activity}
 use Rattle.lagprogress.proofs.Frozen.{AllChose, AllFresh, Stands, choice_rounds, on_cable}
 use Rattle.lagprogress.proofs.Hearing.{no}

@@ -1,5 +1,5 @@
 -- The silence of an active port.
-use Rattle.lagprogress.proofs.Common.{arith, false, inl, subst, sym, true, ℕ, ◌+◌, ◌-◌, ◌≡◌, bits_of, Machines, RunsPeriodic, periodic_rows, AtRest}
+use Rattle.lagprogress.proofs.Common.{arith, false, inl, subst, true, ℕ, ◌+◌, ◌-◌, ◌≡◌, bits_of, Machines, RunsPeriodic, periodic_rows, AtRest}
 use Rattle.lagprogress.proofs.Common.{IsLoud, Speaks}
 use Rattle.lagprogress.proofs.Hearing.{no}
 use Rattle.lagprogress.proofs.Sounding.{Calm, near_comes, near_ticks, not_silent, periodic_near}

@@ -1,12 +1,12 @@
 -- What the ends of a cable took last bears the present change counts.
 use Rattle.lagprogress.proofs.Common.{Bool, Err, List, Ok, Result, Some, [], ap, arith, eqb, eqb-true, false, inl, inr, is_some, refl, subst, sym}
-use Rattle.lagprogress.proofs.Common.{true, ℕ, ◌+◌, ◌==◌, ◌∙◌, ◌∷◌, ◌≡◌, ◌≤◌, ◌⊎◌, cases_Bool, true≢false, nat_tests, AllByRecursion, Lacpdu, One}
-use Rattle.lagprogress.proofs.Common.{Side, Two, peer, cond_false, cond_true, ReceiveState, Current, Machines, mux_rows, periodic_rows, receive_rows}
-use Rattle.lagprogress.proofs.Common.{AtRest, RunsToRest, count_down, SystemFault, Received, SystemPort, Carries, IsFrame, Receive, Step, Tick}
-use Rattle.lagprogress.proofs.Common.{Transmit, CallPromise, SystemState, port_index, processes_or_stays, all-get, found_place, PortHistory, Reply}
-use Rattle.lagprogress.proofs.Common.{is_stamp, Algorithms, WorldSteps, set_last_lacpdu, side_of, stamped_in, set_taken, stamp_count, ItemValue}
-use Rattle.lagprogress.proofs.Common.{WorldState, change_count_in, half, history_at, taken_in, count_heard, read_log, timeout_time, IsRound}
-use Rattle.lagprogress.proofs.Common.{NothingInFlight, asks_all, IsSteadySystem, IsTimed, most_current_while}
+use Rattle.lagprogress.proofs.Common.{true, ℕ, ◌+◌, ◌==◌, ◌∙◌, ◌∷◌, ◌≡◌, ◌≤◌, ◌⊎◌, cases_Bool, true≢false, nat_tests, AllByRecursion, Lacpdu, Side}
+use Rattle.lagprogress.proofs.Common.{peer, cond_false, cond_true, ReceiveState, Current, Machines, periodic_rows, receive_rows, AtRest, RunsToRest}
+use Rattle.lagprogress.proofs.Common.{count_down, SystemFault, Received, SystemPort, Carries, IsFrame, Receive, Step, Tick, Transmit, CallPromise}
+use Rattle.lagprogress.proofs.Common.{SystemState, port_index, processes_or_stays, all-get, found_place, PortHistory, Reply, is_stamp, Algorithms}
+use Rattle.lagprogress.proofs.Common.{WorldSteps, set_last_lacpdu, side_of, stamped_in, set_taken, stamp_count, ItemValue, WorldState}
+use Rattle.lagprogress.proofs.Common.{change_count_in, half, history_at, taken_in, count_heard, read_log, timeout_time, IsRound, NothingInFlight}
+use Rattle.lagprogress.proofs.Common.{IsSteadySystem, IsTimed, most_current_while}
 use Rattle.slowpdu.specs.declared.pdu.Pdu.TheVariants as pdu
 use Rattle.lagsystem.specs.declared.drive.Reply.TheVariants as answer
 use Rattle.lagsystem.specs.declared.received.Received.TheVariants as received

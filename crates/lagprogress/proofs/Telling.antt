@@ -1,12 +1,11 @@
 -- Once an end has heard the other, it is told by an LACPDU when the other is synchronized.
 use Rattle.lagprogress.proofs.Common.{Bool, Err, List, None, Ok, Option, Result, Some, [], ap, arith, false, inl, inr, refl, slice_get, subst, sym}
-use Rattle.lagprogress.proofs.Common.{true, ℕ, ◌++◌, ◌+◌, ◌∙◌, ◌∷◌, ◌≡◌, ◌≤◌, ◌⊎◌, cases_Bool, none-some, same_Some, AllByRecursion, Lacpdu, One}
-use Rattle.lagprogress.proofs.Common.{Side, Two, peer, Machines, mux_rows, partner_synchronized, periodic_rows, receive_rows, AtRest, RunsToRest}
-use Rattle.lagprogress.proofs.Common.{after_sending, count_down, is_due, pdu_of, marker_due, SystemFault, Received, SystemPort, Carries, IsFrame}
-use Rattle.lagprogress.proofs.Common.{OnlyPortChangesBy, ProcessesLacpdu, Receive, Step, ThenSettles, Transmit, IsLacpduOf, SendsMarkerOf}
-use Rattle.lagprogress.proofs.Common.{TransmitsAt, TransmitsIf, CallPromise, SystemState, port_index, same_slots, all-get, found_place, ports_rise}
-use Rattle.lagprogress.proofs.Common.{Reply, Algorithms, WorldSteps, side_of, ItemValue, WorldState, half, IsRound, NothingInFlight, asks_all}
-use Rattle.lagprogress.proofs.Common.{IsTimed}
+use Rattle.lagprogress.proofs.Common.{true, ℕ, ◌++◌, ◌∙◌, ◌∷◌, ◌≡◌, ◌≤◌, ◌⊎◌, cases_Bool, none-some, same_Some, AllByRecursion, Lacpdu, Side, peer}
+use Rattle.lagprogress.proofs.Common.{Machines, partner_synchronized, periodic_rows, receive_rows, AtRest, RunsToRest, after_sending, count_down}
+use Rattle.lagprogress.proofs.Common.{is_due, pdu_of, marker_due, SystemFault, Received, SystemPort, Carries, IsFrame, OnlyPortChangesBy}
+use Rattle.lagprogress.proofs.Common.{ProcessesLacpdu, Receive, Step, ThenSettles, Transmit, IsLacpduOf, SendsMarkerOf, TransmitsAt, TransmitsIf}
+use Rattle.lagprogress.proofs.Common.{CallPromise, SystemState, port_index, all-get, found_place, ports_rise, Reply, Algorithms, WorldSteps, side_of}
+use Rattle.lagprogress.proofs.Common.{ItemValue, WorldState, half, IsRound, NothingInFlight, IsTimed}
 use Rattle.slowpdu.specs.declared.pdu.Pdu.TheVariants as pdu
 use Rattle.lagsystem.specs.declared.drive.Reply.TheVariants as answer
 use Rattle.lagsystem.specs.declared.received.Received.TheVariants as received
@@ -17,7 +16,7 @@ use Rattle.lagprogress.proofs.Climbing.{PartnerInSync, ticks_partner}
 use Rattle.lagprogress.proofs.Delivering.{deliver_moves}
 use Rattle.lagprogress.proofs.EachPort.{KeptBySettling, OfEach, asked_each}
 use Rattle.lagprogress.proofs.RoundEvents.{round_on, ticks_each, ticks_first}
-use Rattle.lagprogress.proofs.EndFacts.{Along, IsEnd, Learnt, SameActor, short_timeout, takes_each, takes_end, ticks_end, wait_of}
+use Rattle.lagprogress.proofs.EndFacts.{Along, IsEnd, Learnt, SameActor, takes_each, takes_end, ticks_end, wait_of}
 use Rattle.lagprogress.proofs.Linked.{Arrived, EndIs, Fits, IsGood, Link, arrival, asked_which, beside_link, each_both, each_map, each_side}
 use Rattle.lagprogress.proofs.Linked.{elsewhere_each, emit_link, found, peer_twice, push_other, push_there, put_other, put_there}
 use Rattle.lagprogress.proofs.OneCable.{Arrives, Back, Beside, Went, cable, push, put, towards_there}

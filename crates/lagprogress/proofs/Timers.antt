@@ -4,8 +4,8 @@ use Rattle.lagprogress.proofs.Common.{◌+◌, ◌<◌, ◌∷◌, ◌≡◌, �
 use Rattle.lagprogress.proofs.Common.{Detached, Waiting, PeriodicState, Fast, NoPeriodic, PeriodicTx, Slow, Setup, ReceiveState, Current, Defaulted}
 use Rattle.lagprogress.proofs.Common.{Expired, Initialize, PortDisabled, Machines, mux_rows, RunsPeriodic, periodic_rows, lacpdu_rows, receive_rows}
 use Rattle.lagprogress.proofs.Common.{start_receive, Fires, FiresTimes, Row, RunsToRest, Starts, before_start, aged, count_down, Call, Configure}
-use Rattle.lagprogress.proofs.Common.{Force, Move_conversation, Offer, ProcessesLacpdu, Receive, Restart, Set_link, Tick, Transmit, changed_party}
-use Rattle.lagprogress.proofs.Common.{choice_with_link, IsTimed, most_current_while, most_periodic_timer}
+use Rattle.lagprogress.proofs.Common.{ProcessesLacpdu, Receive, Restart, Set_link, Tick, Transmit, changed_party, choice_with_link, IsTimed}
+use Rattle.lagprogress.proofs.Common.{most_current_while, most_periodic_timer}
 use Rattle.lagsystem.specs.declared.drive.Reply.{Reply}
 use Rattle.lagprogress.proofs.EachPort.{KeptByCall, KeptBySettling}
 use Rattle.lagprogress.proofs.OnePort.{AtPort}

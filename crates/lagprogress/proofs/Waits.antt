@@ -1,12 +1,10 @@
 -- No call leaves a conversation waiting for a response for 30 ticks.
-use Rattle.lagprogress.proofs.Common.{Bool, Err, List, None, Ok, Option, Result, Some, ap, arith, cond, eqb, false, inl, inr, length, ltb, refl}
-use Rattle.lagprogress.proofs.Common.{subst, sym, true, ℕ, ◌&&◌, ◌+◌, ◌<◌, ◌∙◌, ◌≡◌, ltb-true, is_none, AggId, is_due, Assignment, Flushing, Free, On}
-use Rattle.lagprogress.proofs.Common.{Wanted, force_result, is_among, move_result, SetsAssignment, after_down, after_mark, after_release, after_tick}
-use Rattle.lagprogress.proofs.Common.{marker_due, Table, assignment_of, next_identifier, first_free, SystemFault, SystemPort, Call, Configure, Force}
-use Rattle.lagprogress.proofs.Common.{FreesIfDown, Move_conversation, Offer, Receive, Restart, Set_link, Step, Tick, Transmit, IsFirst}
-use Rattle.lagprogress.proofs.Common.{GivesOrRefuses, Offers, system_force_result, system_move_result, aggregator_numbered, distributing}
-use Rattle.lagprogress.proofs.Common.{SendsMarkerOf, TransmitsAt, TransmitsIf, Settling, held_unless_on, SystemState, port_index, ports_table}
-use Rattle.lagprogress.proofs.Common.{settling_parts, TableChanges, table_changes, forced_to, moved_to, IsAwaited, WaitsAreShort}
+use Rattle.lagprogress.proofs.Common.{Bool, Err, List, None, Ok, Option, Result, Some, ap, arith, cond, eqb, false, length, ltb, refl, subst, sym}
+use Rattle.lagprogress.proofs.Common.{true, ℕ, ◌&&◌, ◌+◌, ◌∙◌, ◌≡◌, ltb-true, is_none, AggId, Assignment, Flushing, Free, On, Wanted, force_result}
+use Rattle.lagprogress.proofs.Common.{is_among, move_result, after_down, after_mark, after_release, after_tick, Table, assignment_of, next_identifier}
+use Rattle.lagprogress.proofs.Common.{first_free, SystemFault, Call, Configure, Force, FreesIfDown, Move_conversation, Offer, Receive, Restart}
+use Rattle.lagprogress.proofs.Common.{Set_link, Step, Tick, Transmit, IsFirst, Offers, system_force_result, system_move_result, distributing}
+use Rattle.lagprogress.proofs.Common.{Settling, held_unless_on, SystemState, forced_to, moved_to, IsAwaited, WaitsAreShort}
 use Rattle.distributor.specs.declared.fault.DistFault.TheVariants as dist
 use Rattle.lagsystem.specs.declared.drive.Reply.{Reply}
 use Rattle.lagsystem.specs.declared.drive.Reply.TheVariants as reply
