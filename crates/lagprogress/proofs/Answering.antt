@@ -7,8 +7,8 @@ use Rattle.lagprogress.proofs.Common.{after_mark, marker_due, wants_marker, Tabl
 use Rattle.lagprogress.proofs.Common.{SystemPort, Carries, IsFrame, MuxIsSettled, aggregator_numbered, distributes_in, distributing, SendsMarkerOf}
 use Rattle.lagprogress.proofs.Common.{TransmitsIf, own_marker, Settling, SystemState, ports_table, settling_parts, all-get, ItemValue, WorldState}
 use Rattle.lagprogress.proofs.Common.{half}
-use Rattle.slowpdu.specs.Layout.{IsAddress}
 use Rattle.distributor.specs.Conversations.{sum_below}
+use Rattle.slowpdu.specs.Layout.{IsAddress}
 use Rattle.slowpdu.specs.Markers.{WritesMarker}
 use Rattle.slowpdu.specs.declared.pdu.Pdu.TheVariants as pdu
 use Rattle.lagprogress.proofs.Climbing.{PartnerInSync, distributes_now}

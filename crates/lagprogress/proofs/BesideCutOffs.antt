@@ -15,9 +15,9 @@ use Rattle.lagprogress.proofs.EachPort.{KeptBySettling}
 use Rattle.lagprogress.proofs.EachRound.{EachAt, rounds_steady}
 use Rattle.lagprogress.proofs.Freeing.{freed_of}
 use Rattle.lagprogress.proofs.Hearing.{EnabledKeep, no, not_down, times_keep}
-use Rattle.lagprogress.proofs.OnePort.{AtPort, at_number}
+use Rattle.lagprogress.proofs.OnePort.{AtPort, at_number, mux_leaves, periodic_leaves, settling_leaves}
 use Rattle.lagprogress.proofs.Selecting.{finds_aggregator}
-use Rattle.lagprogress.proofs.Timers.{mux_unread, periodic_unread, port_settles, runs_keep}
+use Rattle.lagprogress.proofs.Timers.{runs_keep}
 
 -- a port that hears nothing and is DEFAULTED stays as it is
 
@@ -51,11 +51,11 @@ IdleRising c t q = Idle c q × Rising t q
 climbing_settles : (n : ℕ) (c : Info) (t : ℕ) → KeptBySettling (AtPort n (IdleRising c t))
 climbing_settles n c t = record {
   mux = λ m ready p q h a e. (
-    mux_unread (Idle c) (λ p m w s t b y. y) ready p q h (a e).0,
+    mux_leaves (Idle c) ready p q h (a e).0,
     times_keep (Rising t) (mux_rows ready) (rising_rows t ready) h.0 p q h.1 (a e).1,
   );
   periodic = λ m p q h a e. (
-    periodic_unread (Idle c) (λ p m w s t b y. y) p q h (a e).0,
+    periodic_leaves (Idle c) p q h (a e).0,
     subst (Rising t) (sym h.2) (runs_keep (Rising t) periodic_rows
         (λ p a. a, (λ p a. a, (λ p a. a, (λ p a. a, (λ p a. a, (λ p a. a, (λ p a. a, tt))))))) p h.0 h.1 (a e).1),
   );
@@ -93,7 +93,7 @@ module _ (gives : Algorithms) (s : Side) (k : ℕ) (x : SystemPort) (mid top : W
   stays : EachAt (AtPort x.number (Idle c)) s top
   stays = (zero_on gives (λ m j. EachAt (AtPort x.number (Idle c)) s j × Severed 1 s x.number M j) mid
       (at_number (Idle c) 0 st.system_ports k x (ports_rise st (steady s).0.ports) there (up, defaulted, refl), cut)
-      (λ m i j q a. cut_round x.number M (Idle c) (port_settles (Idle c) (λ p m w s t b y. y) (λ p choice y. y) x.number) (λ p y. y) (Idle c)
+      (λ m i j q a. cut_round x.number M (Idle c) (settling_leaves (AtPort x.number (Idle c))) (λ p y. y) (Idle c)
       (λ p r run y. subst (Idle c) (sym (idle_ticks c p r run y)) y) gives s i j q a) 20 top more).0
 
   climbs : is_selected x.port.choice ≡ true → EachAt (AtPort x.number (IdleRising c 0)) s top

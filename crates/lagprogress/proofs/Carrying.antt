@@ -1,27 +1,26 @@
 -- The link of each port that carries a conversation, or on which one is held, is up.
-use Rattle.lagprogress.proofs.Common.{Bool, Err, List, None, Ok, Option, Result, Some, [], ap, arith, cond, eqb, false, inl, inr, length, not, refl}
-use Rattle.lagprogress.proofs.Common.{subst, sym, true, ℕ, ◌&&◌, ◌==◌, ◌||◌, ◌∙◌, ◌∷◌, ◌≡◌, ◌⊎◌, nat_tests, none-some, same_Some, slice_get_cases}
-use Rattle.lagprogress.proofs.Common.{slice_get_within, is_none, AggId, State, StateBits, bits_of, with_synchronization, encode_then_decode, Side}
-use Rattle.lagprogress.proofs.Common.{CollectingDistributing, Setup, ReceiveState, Current, Defaulted, Expired, Initialize, PortDisabled, Machines}
-use Rattle.lagprogress.proofs.Common.{mux_rows, partner_synchronized, same_mux_state, selected, periodic_rows, lacpdu_rows, receive_rows}
-use Rattle.lagprogress.proofs.Common.{same_receive_state, start_receive, Starts, before_start, count_down, has_chosen, Assignment, Flushing, Free, On}
-use Rattle.lagprogress.proofs.Common.{Wanted, force_result, is_among, move_result, after_down, Table, assignment_of, next_identifier, first_free}
-use Rattle.lagprogress.proofs.Common.{Answer, SystemFault, SystemPort, Call, Configure, Force, FreesIfDown, Move_conversation, Offer, Receive}
-use Rattle.lagprogress.proofs.Common.{Restart, Set_link, Step, TableRun, Tick, Transmit, changed_party, choice_with_link, IsFirst, configured_numbers}
-use Rattle.lagprogress.proofs.Common.{none_enabled, MuxIsSettled, Offers, system_force_result, system_move_result, aggregator_numbered, distributing}
-use Rattle.lagprogress.proofs.Common.{IsSound, SystemState, port_numbers, Step-frame, rests, all-get, ports_rise, Step-sound, first_sound, forced_to}
-use Rattle.lagprogress.proofs.Common.{moved_to, Event, Reply, Algorithms, WorldRuns, WorldState, half, EachReachedHasCarriersUp, HasPortUp}
-use Rattle.lagprogress.proofs.Common.{carrier_of, held_on, takes_down}
+use Rattle.lagprogress.proofs.Common.{Bool, Err, List, None, Ok, Option, Result, Some, ap, arith, cond, eqb, false, inl, inr, length, not, refl}
+use Rattle.lagprogress.proofs.Common.{subst, sym, true, ℕ, ◌&&◌, ◌==◌, ◌||◌, ◌∙◌, ◌≡◌, ◌⊎◌, nat_tests, none-some, same_Some, slice_get_cases}
+use Rattle.lagprogress.proofs.Common.{slice_get_within, is_none, AggId, State, StateBits, bits_of, with_synchronization, encode_then_decode}
+use Rattle.lagprogress.proofs.Common.{CollectingDistributing, Setup, ReceiveState, PortDisabled, Machines, partner_synchronized, same_mux_state}
+use Rattle.lagprogress.proofs.Common.{selected, lacpdu_rows, receive_rows, same_receive_state, start_receive, Starts, before_start, count_down}
+use Rattle.lagprogress.proofs.Common.{has_chosen, Assignment, Flushing, Free, On, Wanted, force_result, is_among, move_result, after_down, Table}
+use Rattle.lagprogress.proofs.Common.{assignment_of, next_identifier, first_free, Answer, SystemFault, SystemPort, Call, Configure, Force}
+use Rattle.lagprogress.proofs.Common.{FreesIfDown, Move_conversation, Offer, Receive, Restart, Set_link, Step, Tick, Transmit, changed_party}
+use Rattle.lagprogress.proofs.Common.{choice_with_link, IsFirst, configured_numbers, none_enabled, MuxIsSettled, Offers, system_force_result}
+use Rattle.lagprogress.proofs.Common.{system_move_result, aggregator_numbered, distributing, IsSound, SystemState, port_numbers, Step-frame, rests}
+use Rattle.lagprogress.proofs.Common.{all-get, ports_rise, Step-sound, first_sound, forced_to, moved_to, Algorithms, half, EachReachedHasCarriersUp}
+use Rattle.lagprogress.proofs.Common.{HasPortUp, carrier_of, held_on, takes_down}
 use Rattle.distributor.specs.declared.fault.DistFault.TheVariants as dist
 use Rattle.lagsystem.specs.declared.drive.Reply.TheVariants as reply
 use Rattle.lagprogress.proofs.Answering.{among_port}
 use Rattle.lagprogress.proofs.EachPort.{KeptByCall, KeptBySettling, OfEach, Step-each, first_each}
 use Rattle.lagprogress.proofs.Freeing.{Stays, held_carries, stays}
 use Rattle.lagprogress.proofs.TableSteps.{Turns, asks_turn, comes_turn, gives_turn, same_turns, settles_turn, ticks_turn, turns_through}
-use Rattle.lagprogress.proofs.Halves.{both_first, each_is_calls}
+use Rattle.lagprogress.proofs.Halves.{both_first}
 use Rattle.lagprogress.proofs.Hearing.{no}
-use Rattle.lagprogress.proofs.Linked.{many}
-use Rattle.lagprogress.proofs.OnePort.{AtPort, at_number, same_place}
+use Rattle.lagprogress.proofs.Linked.{many, events_each}
+use Rattle.lagprogress.proofs.OnePort.{AtPort, at_number, same_place, settling_leaves}
 use Rattle.lagprogress.proofs.Timers.{RowsKeep, fires_keep, runs_keep}
 
 -- the partner of a port in PORT_DISABLED is not synchronized
@@ -45,13 +44,7 @@ lapse_starts : (p q : Machines) → Starts p q → Lapses q
 lapse_starts p q h = subst Lapses (sym h.2) (runs_keep Lapses receive_rows receive_lapses (start_receive p) h.0 h.1 (λ e. absurd cc))
 
 pub lapse_settles : KeptBySettling LapsesAt
-lapse_settles = record {
-  mux = λ n ready p q h a. runs_keep Lapses (mux_rows ready)
-      (λ p a. a, (λ p a. a, (λ p a. a, (λ p a. a, (λ p a. a, (λ p a. a, tt)))))) p q h a;
-  periodic = λ n p q h a. subst Lapses (sym h.2) (runs_keep Lapses periodic_rows
-      (λ p a. a, (λ p a. a, (λ p a. a, (λ p a. a, (λ p a. a, (λ p a. a, (λ p a. a, tt))))))) p h.0 h.1 a);
-  select = λ n choice p none may a. a;
-}
+lapse_settles = settling_leaves LapsesAt
 
 pub lapse_first : (n : ℕ) (u : Setup) (q : Machines) → Starts (before_start u) q → LapsesAt n q
 lapse_first n u q h = lapse_starts (before_start u) q h
@@ -74,11 +67,8 @@ lapse_kept (Force agg conv) answer = tt
 -- so a port that distributes has its link up
 
 is_disabled : (r : ReceiveState) → same_receive_state PortDisabled r ≡ true → r ≡ PortDisabled
-is_disabled Initialize h = absurd (no h)
 is_disabled PortDisabled h = refl
-is_disabled Expired h = absurd (no h)
-is_disabled Defaulted h = absurd (no h)
-is_disabled Current h = absurd (no h)
+is_disabled r h = absurd (no h)
 
 must_be_up : (e d sync chosen m : Bool) → (not d && not e) ≡ false → (d ≡ true → sync ≡ false) → m ≡ true
     → (m && (not chosen || not sync)) ≡ false → e ≡ true
@@ -116,13 +106,7 @@ abbrev Up : Machines → Type 0
 Up q = q.enabled ≡ true
 
 up_settles : (p : ℕ) → KeptBySettling (AtPort p Up)
-up_settles p = record {
-  mux = λ n ready q r h a e. runs_keep Up (mux_rows ready)
-      (λ p a. a, (λ p a. a, (λ p a. a, (λ p a. a, (λ p a. a, (λ p a. a, tt)))))) q r h (a e);
-  periodic = λ n q r h a e. subst Up (sym h.2) (runs_keep Up periodic_rows
-      (λ p a. a, (λ p a. a, (λ p a. a, (λ p a. a, (λ p a. a, (λ p a. a, (λ p a. a, tt))))))) q h.0 h.1 (a e));
-  select = λ n choice q none may a e. a e;
-}
+up_settles p = settling_leaves (AtPort p Up)
 
 receive_up : RowsKeep Up receive_rows
 receive_up = (λ p a. a, (λ p a. a, (λ p a. a, (λ p a. a, (λ p a. a, tt)))))
@@ -181,24 +165,17 @@ by_stays : (call : Call) (t u : Table) → ((p : ℕ) → takes_down p call ≡ 
 by_stays call t u leaves h g k p e =
     (carried_before (assignment_of t g k) (assignment_of u g k) p (h g k) (held_carries (assignment_of u g k) p e), leaves p)
 
+downed : (n p q : ℕ) (x y : Assignment) (b : Bool) → eqb q n ≡ b → carrier_of x ≡ None → carrier_of y ≡ Some q
+    → carrier_of (cond b x y) ≡ Some p → (carrier_of y ≡ Some p) × (eqb p n ≡ false)
+downed n p q x y true e none some f = absurd (none-some p (sym none ∙ f))
+downed n p q x y false e none some f = (f, ap (λ m. eqb m n) (sym (same_Some q p (sym some ∙ f))) ∙ e)
+
 downed_before : (n p : ℕ) (a : Assignment) → carrier_of (after_down n a) ≡ Some p → (carrier_of a ≡ Some p) × (eqb p n ≡ false)
 downed_before n p (Free preferred) h = absurd (none-some p h)
-downed_before n p (On q) h = by_test (eqb q n) refl h
-  where
-    by_test : (b : Bool) → eqb q n ≡ b → carrier_of (cond b (Free None) (On q)) ≡ Some p → (Some q ≡ Some p) × (eqb p n ≡ false)
-    by_test true e f = absurd (none-some p f)
-    by_test false e f = (f, ap (λ x. eqb x n) (sym (same_Some q p f)) ∙ e)
-downed_before n p (Wanted q preferred) h = by_test (eqb q n) refl h
-  where
-    by_test : (b : Bool) → eqb q n ≡ b → carrier_of (cond b (Free preferred) (Wanted q preferred)) ≡ Some p → (Some q ≡ Some p) × (eqb p n ≡ false)
-    by_test true e f = absurd (none-some p f)
-    by_test false e f = (f, ap (λ x. eqb x n) (sym (same_Some q p f)) ∙ e)
-downed_before n p (Flushing q id preferred age) h = by_test (eqb q n) refl h
-  where
-    by_test : (b : Bool) → eqb q n ≡ b → carrier_of (cond b (Free preferred) (Flushing q id preferred age)) ≡ Some p
-        → (Some q ≡ Some p) × (eqb p n ≡ false)
-    by_test true e f = absurd (none-some p f)
-    by_test false e f = (f, ap (λ x. eqb x n) (sym (same_Some q p f)) ∙ e)
+downed_before n p (On q) h = downed n p q (Free None) (On q) (eqb q n) refl refl refl h
+downed_before n p (Wanted q preferred) h = downed n p q (Free preferred) (Wanted q preferred) (eqb q n) refl refl refl h
+downed_before n p (Flushing q id preferred age) h =
+    downed n p q (Free preferred) (Flushing q id preferred age) (eqb q n) refl refl refl h
 
 linked_before : (n : ℕ) (up : Bool) (old mid new : SystemState) → FreesIfDown up n old.table mid.table → Turns Stays stays mid.table new.table
     → HeldBefore (Set_link n up) old.table new.table
@@ -319,23 +296,6 @@ call_keeps gives old new call answer h k = (
     lapses : OfEach LapsesAt new.system_ports
     lapses = Step-each LapsesAt lapse_settles gives old call answer new (lapse_kept call answer) h k.1
 
-calls_keep : (gives : ℕ → ℕ → ℕ → Type 0) (old new : SystemState) (calls : List Call) (answers : List Answer)
-    → TableRun gives old calls answers new → Keeps old → Keeps new
-calls_keep gives old new [] [] h k = subst Keeps (sym h) k
-calls_keep gives old new [] (a ∷ answers) h k = absurd h
-calls_keep gives old new (call ∷ calls) [] h k = absurd h
-calls_keep gives old new (call ∷ calls) (a ∷ answers) h k =
-    calls_keep gives h.0 new calls answers h.2 (call_keeps gives old h.0 call a h.1 k)
-
-events_keep : (gives : Algorithms) (es : List Event) (rs : List Reply) (old new : WorldState) → WorldRuns gives old es rs new → (s : Side)
-    → Keeps (half s old).state → Keeps (half s new).state
-events_keep gives [] [] old new h s k = subst (λ (j : WorldState). Keeps (half s j).state) (sym h) k
-events_keep gives [] (r ∷ rs) old new h s k = absurd h
-events_keep gives (e ∷ es) [] old new h s k = absurd h
-events_keep gives (e ∷ es) (r ∷ rs) old new h s k =
-    let c = each_is_calls gives e r old h.0 h.1 s in
-    events_keep gives es rs h.0 new h.2 s (calls_keep (gives s) (half s old).state (half s h.0).state c.0 c.1 c.2 k)
-
 pub each_reached_has_carriers_up : (gives : Algorithms) → EachReachedHasCarriersUp gives
 each_reached_has_carriers_up gives configs es rs start new i h runs s =
     let first = both_first configs start h s in
@@ -345,5 +305,5 @@ each_reached_has_carriers_up gives configs es rs start new i h runs s =
       first_each LapsesAt lapse_settles lapse_first st first,
       λ g k p e. absurd (none-some p (sym (ap carrier_of (first_is_free st first g k)) ∙ e)),
     ) in
-    let end = events_keep gives es rs start new runs s begins in
+    let end = events_each gives s Keeps (call_keeps (gives s)) es rs start new runs begins in
     λ g k p is e. end.2 g k p e

@@ -8,11 +8,11 @@ use Rattle.lagscript.specs.declared.event.Event.TheVariants as event
 use Rattle.lagprogress.proofs.ComingUp.{zero_on}
 use Rattle.lagprogress.proofs.EachPort.{KeptBySettling, OfEach, Step-each, asked_each}
 use Rattle.lagprogress.proofs.OneCable.{OnCable, cable, deliver_ends, emits}
-use Rattle.lagprogress.proofs.OnePort.{AtPort}
+use Rattle.lagprogress.proofs.OnePort.{AtPort, settling_leaves}
 use Rattle.lagprogress.proofs.OneRound.{unroll}
 use Rattle.lagprogress.proofs.RoundEvents.{asked_half, came_half, round_on, ticks_each, ticks_first}
-use Rattle.lagprogress.proofs.Timers.{port_settles, runs_keep, takes_keep}
-use Rattle.lagprogress.proofs.Halves.{runs_steady}
+use Rattle.lagprogress.proofs.Timers.{runs_keep, takes_keep}
+use Rattle.lagprogress.proofs.Reaching.{runs_steady}
 
 -- what settling, sending and a receipt keep of each port; the number is the port's
 pub record RoundKeeps (P : ℕ → Machines → Type 0) : Type 0 where
@@ -51,7 +51,7 @@ round_each P Q k ticked s gives old new h a =
 module _ (X : Party → Bool → Type 0) (n : ℕ) where
   pub own_keeps : RoundKeeps (AtPort n (λ p. X p.party p.enabled))
   own_keeps = record {
-    settles = port_settles (λ p. X p.party p.enabled) (λ p m w s t b a. a) (λ p choice a. a) n;
+    settles = settling_leaves (AtPort n (λ p. X p.party p.enabled));
     sends = λ m p a e. a e;
     takes = λ m v p q h a e. takes_keep (λ p. X p.party p.enabled) v (λ p a. a, tt) p q h (a e);
   }

@@ -11,9 +11,9 @@ use Rattle.lagprogress.proofs.EachPort.{KeptBySettling, OfEach, settling_each}
 use Rattle.lagprogress.proofs.Heartbeat.{raised}
 use Rattle.lagprogress.proofs.Hearing.{EnabledKeep, no, not_down, times_keep}
 use Rattle.lagprogress.proofs.Knowing.{Known, counts, decoded, placed, receive_known, receives, recorded}
-use Rattle.lagprogress.proofs.OnePort.{AtPort, at_number}
+use Rattle.lagprogress.proofs.OnePort.{AtPort, at_number, mux_leaves, periodic_leaves}
 use Rattle.lagprogress.proofs.Sounding.{Calm, Sounds, counts_sounds, mux_sounds, not_silent, periodic_runs}
-use Rattle.lagprogress.proofs.Timers.{RowsKeep, mux_unread, periodic_unread, runs_keep, takes_keep}
+use Rattle.lagprogress.proofs.Timers.{RowsKeep, runs_keep, takes_keep}
 
 -- Activity and Timeout of the actor of an LACPDU
 abbrev pub activity : Lacpdu → Bool
@@ -278,8 +278,8 @@ takes_learnt v u x c d p q there on e awake h a = (
 
 pub known_along : (v u : Lacpdu) (c d : ℕ) → 1 ≤ d → (2 ≤ d → (activity u ≡ true) ⊎ (activity v ≡ true)) → Along (Learnt d u (wait_of v)) v u c d
 known_along v u c d there on = record {
-  mux = mux_unread (Learnt d u (wait_of v)) (λ p m w s t b a. a);
-  periodic = λ p q h a y. periodic_unread (Learnt d u (wait_of v)) (λ p m w s t b a. a) p q h y;
+  mux = mux_leaves (Learnt d u (wait_of v));
+  periodic = λ p q h a y. periodic_leaves (Learnt d u (wait_of v)) p q h y;
   select = λ choice p none y. y;
   takes = λ x p q e awake h a y. takes_learnt v u x c d p q there on e awake h a;
 }

@@ -2,9 +2,10 @@
 use Rattle.lagprogress.proofs.Common.{Bool, Err, List, Ok, Option, Result, Some, [], map, refl, slice_set, subst, suc, sym, true, zero, ℕ, ◌++◌, ◌∷◌}
 use Rattle.lagprogress.proofs.Common.{◌≡◌, AggId, One, Side, Two, Stamp, Config, Answer, SystemFault, Received, Call, Offer, Receive, Restart, Step}
 use Rattle.lagprogress.proofs.Common.{TableRun, Tick, Transmit, IsFirst, SystemState, Step-sound, first_sound, Event, Reply, AfterOffer, AfterReceive}
-use Rattle.lagprogress.proofs.Common.{AfterTransmit, Algorithms, InHalf, WorldReceives, WorldRuns, WorldSteps, with_frame_counted, with_link_at}
+use Rattle.lagprogress.proofs.Common.{AfterTransmit, Algorithms, InHalf, WorldReceives, WorldSteps, with_frame_counted, with_link_at}
 use Rattle.lagprogress.proofs.Common.{with_stamp_collected, HalfAnswers, HalfTicks, forced_if_accepted, AreFirst, IsStart, HalfState, ItemValue}
 use Rattle.lagprogress.proofs.Common.{LinkState, WorldState, emptied, half, port_at, with_half, with_links, GoesByCalls, IsSteady, IsSteadySystem}
+use Rattle.lagprogress.proofs.OnePort.{calls_each}
 use Rattle.cables.specs.declared.item.Stamp.TheVariants as stamp
 use Rattle.lagsystem.specs.declared.drive.Reply.TheVariants as answer
 use Rattle.lagsystem.specs.declared.received.Received.TheVariants as received
@@ -146,39 +147,16 @@ each_is_calls gives e r old new x s =
 
 -- what holds of both systems
 
-module _ (P : Side → SystemState → Type 0) (gives : Algorithms)
-    (kept : (s : Side) (old new : SystemState) (call : Call) (a : Answer) → Step (gives s) old call a new → P s old → P s new) where
-  calls_hold : (s : Side) (old new : SystemState) (calls : List Call) (answers : List Answer) → TableRun (gives s) old calls answers new
-      → P s old → P s new
-  calls_hold s old new [] [] h k = subst (P s) (sym h) k
-  calls_hold s old new (call ∷ calls) (a ∷ answers) h k = calls_hold s h.0 new calls answers h.2 (kept s old h.0 call a h.1 k)
-  calls_hold s old new calls answers h k = absurd h
-
-  -- what each call keeps of a system, each event keeps
-  pub event_holds : (e : Event) (r : Reply) (old new : WorldState) → WorldSteps gives old e r new → (s : Side) → P s (half s old).state
-      → P s (half s new).state
-  event_holds e r old new x s =
-      let g = each_is_calls gives e r old new x s in calls_hold s (half s old).state (half s new).state g.0 g.1 g.2
-
-  -- and each list of events
-  pub events_hold : (es : List Event) (rs : List Reply) (old new : WorldState) → WorldRuns gives old es rs new → (s : Side)
-      → P s (half s old).state → P s (half s new).state
-  events_hold [] [] old new h s k = subst (λ (j : WorldState). P s (half s j).state) (sym h) k
-  events_hold (e ∷ es) (r ∷ rs) old new h s k = events_hold es rs h.0 new h.2 s (event_holds e r old h.0 h.1 s k)
-  events_hold es rs old new h s k = absurd h
-
-call_steady : (gives : ℕ → ℕ → ℕ → Type 0) (old new : SystemState) (call : Call) (a : Answer) → Step gives old call a new → IsSteadySystem old
+pub call_steady : (gives : ℕ → ℕ → ℕ → Type 0) (old new : SystemState) (call : Call) (a : Answer) → Step gives old call a new → IsSteadySystem old
     → IsSteadySystem new
 call_steady gives old new call a h k =
     (Step-sound gives old call a new h k.0, Step-each TimedAt timed_settles gives old call a new (timed_kept call a) h k.1)
 
 pub keeps_steady : (gives : Algorithms) (e : Event) (r : Reply) (old new : WorldState) → WorldSteps gives old e r new → IsSteady old
     → IsSteady new
-keeps_steady gives e r old new x k s = event_holds (λ t. IsSteadySystem) gives (λ t. call_steady (gives t)) e r old new x s (k s)
-
-pub runs_steady : (gives : Algorithms) (es : List Event) (rs : List Reply) (old new : WorldState) → WorldRuns gives old es rs new
-    → IsSteady old → IsSteady new
-runs_steady gives es rs old new h k s = events_hold (λ t. IsSteadySystem) gives (λ t. call_steady (gives t)) es rs old new h s (k s)
+keeps_steady gives e r old new x k s =
+    let g = each_is_calls gives e r old new x s in
+    calls_each (gives s) IsSteadySystem (call_steady (gives s)) (half s old).state (half s new).state g.0 g.1 g.2 (k s)
 
 pub both_first : (configs : List Config) (j : WorldState) → AreFirst configs j → (s : Side) → IsFirst (half s j).state
 both_first (a ∷ b ∷ []) j h One = h.0.first

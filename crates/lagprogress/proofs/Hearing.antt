@@ -7,8 +7,7 @@ use Rattle.lagprogress.proofs.Common.{choice_with_link, can_receive_in, none_ena
 use Rattle.lagprogress.proofs.Common.{processed_on, timeout_time, tick_count, IsTimed, most_current_while}
 use Rattle.lagsystem.specs.declared.drive.Reply.{Reply}
 use Rattle.lagprogress.proofs.EachPort.{KeptByCall, KeptBySettling}
-use Rattle.lagprogress.proofs.OnePort.{AtPort, GoesOn, goes_on}
-use Rattle.lagprogress.proofs.Timers.{port_settles}
+use Rattle.lagprogress.proofs.OnePort.{AtPort, GoesOn, goes_on, settling_leaves}
 
 -- DEFAULTED comes in so many ticks at the latest, and not before so many have gone
 abbrev pub Within : ℕ → ℕ → ReceiveState → ℕ → Type 0
@@ -81,7 +80,7 @@ receives least most p q h a = times_keep (Unheard least most) receive_rows (rece
 -- settling
 
 pub unheard_settles : (n most k : ℕ) → KeptBySettling (AtPort n (UnheardFor most k))
-unheard_settles n most k = port_settles (Unheard 1 most) (λ p m w s t b a. a) (λ p choice a. a) n
+unheard_settles n most k = settling_leaves (AtPort n (UnheardFor most k))
 
 -- a tick
 

@@ -5,11 +5,11 @@ use Rattle.lagprogress.proofs.Common.{Call, Configure, Receive, Restart, Set_lin
 use Rattle.lagprogress.proofs.Common.{reply_has_lacpdu, all-get, IsHeard, IsSilentShortly, LeavesUpAndSilent, tick_count, IsLoud, IsTimed}
 use Rattle.lagsystem.specs.declared.drive.Reply.{Reply}
 use Rattle.lagprogress.proofs.EachPort.{KeptByCall, KeptBySettling}
-use Rattle.lagprogress.proofs.OnePort.{AtPort, GoesOn, goes_on}
+use Rattle.lagprogress.proofs.OnePort.{AtPort, GoesOn, goes_on, mux_leaves, periodic_leaves}
 use Rattle.lagprogress.proofs.Silence.{loud}
 use Rattle.lagprogress.proofs.Sounding.{Sounds, counts_sounds, mux_sounds, now_due, periodic_runs, sounds_first}
 use Rattle.lagprogress.proofs.Hearing.{is_number, no, stays_up}
-use Rattle.lagprogress.proofs.Timers.{RowsKeep, Unread, mux_unread, periodic_unread, runs_keep, takes_keep}
+use Rattle.lagprogress.proofs.Timers.{RowsKeep, runs_keep, takes_keep}
 
 -- the link is up, the port active, and an LACPDU is due in at most so many ticks if none is sent
 abbrev Silent : ℕ → ℕ → Machines → Type 0
@@ -21,16 +21,13 @@ SilentAt n most k = AtPort n (Silent most k)
 
 -- settling
 
-unread_loud : Unread IsLoud
-unread_loud p m w s t b a = a
-
 silent_settles : (n most k : ℕ) → KeptBySettling (SilentAt n most k)
 silent_settles n most k = record {
   mux = λ m ready p q h a e. (
-    mux_unread IsLoud unread_loud ready p q h (a e).0,
+    mux_leaves IsLoud ready p q h (a e).0,
     runs_keep (Sounds false most) (mux_rows ready) (mux_sounds false most ready) p q h (a e).1,
   );
-  periodic = λ m p q h a e. (periodic_unread IsLoud unread_loud p q h (a e).0, periodic_runs false most p q h (loud p (a e).0) (a e).1);
+  periodic = λ m p q h a e. (periodic_leaves IsLoud p q h (a e).0, periodic_runs false most p q h (loud p (a e).0) (a e).1);
   select = λ m choice p none may a e. a e;
 }
 

@@ -4,12 +4,13 @@ use Rattle.lagprogress.proofs.Common.{nat_tests, Choice, State, StateBits, is_se
 use Rattle.lagprogress.proofs.Common.{encode_then_decode, Lacpdu, ReceiveState, Current, Expired, Initialize, PortDisabled, Machines, mux_rows}
 use Rattle.lagprogress.proofs.Common.{RunsPeriodic, periodic_rows, receive_rows, same_receive_state, AtRest, RunsToRest, count_down, is_due}
 use Rattle.lagprogress.proofs.Common.{timeout_time, HasRecorded, IsTimed}
+use Rattle.lagprogress.proofs.OnePort.{mux_leaves, periodic_leaves}
 use Rattle.lagprogress.proofs.EndFacts.{Along, activity, both_along, constant_along, short_timeout, sounds_takes, takes_known}
 use Rattle.lagprogress.proofs.Hearing.{EnabledKeep, no, not_down, times_keep}
 use Rattle.lagprogress.proofs.Knowing.{Recorded}
 use Rattle.lagprogress.proofs.OneRound.{Passes, still_sounds}
 use Rattle.lagprogress.proofs.Sounding.{Calm, Sounds, counts_sounds, mux_sounds, not_gone, not_silent, periodic_runs, sounds_first}
-use Rattle.lagprogress.proofs.Timers.{Unread, mux_unread, periodic_unread, runs_keep, takes_keep}
+use Rattle.lagprogress.proofs.Timers.{runs_keep, takes_keep}
 
 -- EXPIRED for so many ticks more at the least; the partner is active, and Short Timeout stands recorded of it
 abbrev pub Lapsed : ℕ → Machines → Type 0
@@ -27,17 +28,13 @@ record Kept (T : Machines → Type 0) : Type 0 where
   select : (choice : Choice) (p : Machines) → is_selected p.choice ≡ false → T p → T (record p { choice = choice })
   active : (p : Machines) → T p → (bits_of p.partner.state).activity ≡ true
 
-unread_kept : (T : Machines → Type 0) → Unread T → ((p : Machines) (choice : Choice) → T p → T (record p { choice = choice }))
-    → ((p : Machines) → T p → (bits_of p.partner.state).activity ≡ true) → Kept T
-unread_kept T unread unchosen active = record {
-  mux = mux_unread T unread;
-  periodic = λ p q h up y. periodic_unread T unread p q h y;
-  select = λ choice p none y. unchosen p choice y;
-  active = active;
-}
-
 lapsed_kept : (e : ℕ) → Kept (Lapsed e)
-lapsed_kept e = unread_kept (Lapsed e) (λ p m w s t b a. a) (λ p choice a. a) (λ p a. a.1)
+lapsed_kept e = record {
+  mux = mux_leaves (Lapsed e);
+  periodic = λ p q h up y. periodic_leaves (Lapsed e) p q h y;
+  select = λ choice p none y. y;
+  active = λ p y. y.1;
+}
 
 lapsed_calm : (e : ℕ) (p : Machines) → p.enabled ≡ true → Lapsed e p → Calm true p
 lapsed_calm e p up y = (not_silent p.enabled p.active (bits_of p.partner.state).activity up (inr y.1), λ f. y.2)
@@ -75,7 +72,12 @@ either_kept S T k l = record {
 }
 
 recorded_kept : (u : Lacpdu) → activity u ≡ true → Kept (Recorded u 1)
-recorded_kept u on = unread_kept (Recorded u 1) (λ p m w s t b a. a) (λ p choice a. a) (λ p a. a.0.active ∙ on)
+recorded_kept u on = record {
+  mux = mux_leaves (Recorded u 1);
+  periodic = λ p q h up y. periodic_leaves (Recorded u 1) p q h y;
+  select = λ choice p none y. y;
+  active = λ p y. y.0.active ∙ on;
+}
 
 -- the port has recorded an active partner, or T holds; and an LACPDU is due in so many ticks, at the pace of SLOW
 abbrev pub Phase : Lacpdu → (Machines → Type 0) → ℕ → Machines → Type 0

@@ -15,15 +15,15 @@ use Rattle.lagprogress.proofs.Bundling.{still_aggregators, still_heard, still_li
 use Rattle.lagprogress.proofs.ComingUp.{zero_on}
 use Rattle.lagprogress.proofs.EachPort.{KeptByCall, KeptBySettling, OfEach, Step-each, first_each, place_each, settling_each}
 use Rattle.lagprogress.proofs.EachRound.{EachAt, RoundKeeps, round_each, rounds_join, rounds_steady}
-use Rattle.lagprogress.proofs.Halves.{both_first, events_hold}
+use Rattle.lagprogress.proofs.Halves.{both_first}
 use Rattle.lagprogress.proofs.Hearing.{no}
-use Rattle.lagprogress.proofs.Linked.{each_side}
+use Rattle.lagprogress.proofs.Linked.{each_side, events_each}
 use Rattle.lagprogress.proofs.OneActive.{ends_of_each_know}
-use Rattle.lagprogress.proofs.OnePort.{AtPort, at_number}
+use Rattle.lagprogress.proofs.OnePort.{AtPort, at_number, mux_leaves, periodic_leaves}
 use Rattle.lagprogress.proofs.Pairing.{active_selected_pairs_agree, selected_pairs_agree}
 use Rattle.lagprogress.proofs.Progressing.{active_ends_of_each_know, end_of, machines_there}
 use Rattle.lagprogress.proofs.Selecting.{finds_aggregator}
-use Rattle.lagprogress.proofs.Timers.{RowsKeep, mux_unread, periodic_unread, runs_keep, takes_keep}
+use Rattle.lagprogress.proofs.Timers.{RowsKeep, runs_keep, takes_keep}
 
 -- a port whose link is down stays UNSELECTED
 
@@ -45,8 +45,8 @@ receive_idle = (
 
 idle_settles : KeptBySettling IdleAt
 idle_settles = record {
-  mux = λ n. mux_unread Idle (λ p m w s t b a. a);
-  periodic = λ n. periodic_unread Idle (λ p m w s t b a. a);
+  mux = λ n. mux_leaves Idle;
+  periodic = λ n. periodic_leaves Idle;
   select = λ n choice p none may a e. absurd (elim may.0 [
     | inl up ↦ no (sym e ∙ up)
     | inr s ↦ standing s.0 (sym s.1 ∙ a e)
@@ -121,7 +121,7 @@ pub each_reached_has_down_unselected : (gives : Algorithms) → EachReachedHasDo
 each_reached_has_down_unselected gives configs es rs start new s i h runs some k x there =
     let st = (half s start).state in
     let first : Limits st = λ o. first_each IdleAt idle_settles idle_first st (both_first configs start h s) in
-    all-get (λ (y : SystemPort). Idle y.port) (half s new).state.system_ports k x there (events_hold (λ t. Limits) gives (λ t. call_limits (gives t)) es rs start new runs s first some)
+    all-get (λ (y : SystemPort). Idle y.port) (half s new).state.system_ports k x there (events_each gives s Limits (call_limits (gives s)) es rs start new runs first some)
 
 -- after the rounds
 

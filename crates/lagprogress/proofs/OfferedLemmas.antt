@@ -16,8 +16,8 @@ use Rattle.lagprogress.proofs.ComingUp.{told, zero_on}
 use Rattle.lagprogress.proofs.EachPort.{OfEach, Step-each, first_each}
 use Rattle.lagprogress.proofs.EachRound.{EachAt, RoundKeeps, round_each, rounds_join, rounds_steady, same_index}
 use Rattle.lagprogress.proofs.FlyingLemmas.{OnItsWay, in_round}
-use Rattle.lagprogress.proofs.Halves.{both_first, events_hold, keeps_steady}
-use Rattle.lagprogress.proofs.Linked.{EndIs, IsGood, Link, place_kept, push_there}
+use Rattle.lagprogress.proofs.Halves.{both_first, keeps_steady}
+use Rattle.lagprogress.proofs.Linked.{EndIs, IsGood, Link, place_kept, push_there, events_each}
 use Rattle.lagprogress.proofs.OneCable.{OnCable, cable, placed, port_there, push, push_each, puts, takes_all, towards_there}
 use Rattle.lagprogress.proofs.OnePort.{AtPort}
 use Rattle.lagprogress.proofs.OneRound.{join}
@@ -45,8 +45,8 @@ pub each_reached_has_unsynchronized : (gives : Algorithms) → EachReachedHasUns
 each_reached_has_unsynchronized gives configs es rs start new s i h runs =
     let st = (half s start).state in
     let first = first_each LapsesAt lapse_settles lapse_first st (both_first configs start h s) in
-    λ k x there. all-get (λ (y : SystemPort). Lapses y.port) (half s new).state.system_ports k x there (events_hold (λ t s. OfEach LapsesAt s.system_ports) gives
-    (λ t a b call r. Step-each LapsesAt lapse_settles (gives t) a call r b (lapse_kept call r)) es rs start new runs s first)
+    λ k x there. all-get (λ (y : SystemPort). Lapses y.port) (half s new).state.system_ports k x there (events_each gives s (λ t. OfEach LapsesAt t.system_ports)
+    (λ a b call r. Step-each LapsesAt lapse_settles (gives s) a call r b (lapse_kept call r)) es rs start new runs first)
 
 -- the cable after an offer
 

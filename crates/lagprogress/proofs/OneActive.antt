@@ -1,6 +1,6 @@
 -- How the ends of a cable come to know each other if one of them is active.
-use Rattle.lagprogress.proofs.Common.{List, Some, [], ap, arith, false, inl, inr, option_map, refl, slice_get, subst, suc, sym, true, zero, ℕ, ◌+◌}
-use Rattle.lagprogress.proofs.Common.{◌-◌, ◌<◌, ◌∙◌, ◌∷◌, ◌≡◌, ◌≤◌, ◌⊎◌, cases_Bool, none-some, same_Some, Party, Lacpdu, One, Side, peer, find_at}
+use Rattle.lagprogress.proofs.Common.{List, Some, [], ap, arith, false, inl, inr, option_map, slice_get, subst, suc, sym, true, zero, ℕ, ◌+◌, ◌-◌}
+use Rattle.lagprogress.proofs.Common.{◌<◌, ◌∙◌, ◌∷◌, ◌≡◌, ◌≤◌, ◌⊎◌, cases_Bool, none-some, same_Some, Party, Lacpdu, One, Side, peer, find_at}
 use Rattle.lagprogress.proofs.Common.{SystemPort, model_port_of, number_of_port, IsSound, SystemState, port_numbers, Rises, are_numbered, ports_rise}
 use Rattle.lagprogress.proofs.Common.{Algorithms, LinkState, WorldState, half, port_at, EndsOfEachKnow, EndsComeToKnow, IsRound, NothingInFlight}
 use Rattle.lagprogress.proofs.Common.{OfPort, Rounds, IsSteady}
@@ -9,7 +9,7 @@ use Rattle.lagprogress.proofs.EndFacts.{Learnt, activity, short_timeout}
 use Rattle.lagprogress.proofs.Hearing.{no}
 use Rattle.lagprogress.proofs.Lapsing.{Lapsed, Lasting, Phase, Tails, begins_lasting, lasting_active, lasting_passes, some_wait}
 use Rattle.lagprogress.proofs.Linked.{Link, each_side, peer_twice}
-use Rattle.lagprogress.proofs.OneRound.{Nothing, at_rest, end_port, round_nears, round_passes, ticked}
+use Rattle.lagprogress.proofs.OneRound.{Nothing, at_rest, beside_here, round_nears, round_passes, ticked}
 use Rattle.lagprogress.proofs.Progressing.{Answers, Calls, Comes, Ends, Fresh, Linked, along_rounds, answered, answers, called, came, comes}
 use Rattle.lagprogress.proofs.Progressing.{comes_first, only_cabling, only_cable, beside, end_of, first_round, fits_first, fresh_knows, hears, lower}
 use Rattle.lagprogress.proofs.Progressing.{machines_there, meets_short, mode, own_says, room_short, said_by, starts, stays_fresh, wait}
@@ -71,7 +71,7 @@ module _ (at : Side → ℕ) (w : Side → Lacpdu) where
         elim (round_passes gives s 1 at w (λ _. 0) (Lasting u k) (Phase u (λ r. Lapsed 30 r ⊎ Tails r) (k - 1)) (Phase u Tails (k - 1))
         (Lasting u (k - 1)) old new (omega arith) (fits_first at w (ticked (λ _. 0)) (λ t. omega arith))
         (lasting_passes (w s) u 1 k active (omega arith)) link h) [
-          | inl q ↦ (let z = (end_port 1 at w (ticked (λ _. 0)) s (Lasting u (k - 1)) new q s).1.1 refl in
+          | inl q ↦ (let z = beside_here 1 at w (ticked (λ _. 0)) s (Lasting u (k - 1)) new q in
               let more = z.0 in
               inr (inl (
                 k - 1,

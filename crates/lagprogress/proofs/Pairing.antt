@@ -3,20 +3,20 @@ use Rattle.lagprogress.proofs.Common.{List, Some, ap, arith, inl, inr, refl, sli
 use Rattle.lagprogress.proofs.Common.{cases_Bool, AllByRecursion, is_selected, Lacpdu, IsCabling, One, Side, peer, selected, PortConfig, SystemPort}
 use Rattle.lagprogress.proofs.Common.{MuxIsSettled, all-get, ports_rise, Same, agreement_at, Algorithms, world_setup, IsWorldSound, LinkState}
 use Rattle.lagprogress.proofs.Common.{WorldState, half, port_at, ActiveSelectedPairsAgree, ActiveSelectedPairsComeUp, AllHeard, BothAreActive}
-use Rattle.lagprogress.proofs.Common.{OneIsActive, SelectedPairsAgree, SelectedPairsComeUp, Distributes, AtEnd, IsHealthyAt, IsRound, OfPort, Rounds}
-use Rattle.lagprogress.proofs.Common.{IsSteady, IsTimed}
+use Rattle.lagprogress.proofs.Common.{OneIsActive, SelectedPairsAgree, SelectedPairsComeUp, Distributes, AtEnd, IsHealthyAt, OfPort, Rounds, IsSteady}
+use Rattle.lagprogress.proofs.Common.{IsTimed}
 use Rattle.lagprogress.proofs.Bundling.{agree_up, all_by_place, as_before, both_meet, both_wake, ends_at, heard_holds, old_port, one_meet, one_wakes}
 use Rattle.lagprogress.proofs.Bundling.{rounds_alike, rounds_keep}
 use Rattle.lagprogress.proofs.Choosing.{Chose}
-use Rattle.lagprogress.proofs.Climbing.{Down, Ripe, Rising, climbed, down_settles, down_takes, down_ticks, rising_along, rising_first, ticks_rising}
-use Rattle.lagprogress.proofs.ComingUp.{Up, at_end, comes_up, end_here, end_with, splits, up_now, zero_on}
+use Rattle.lagprogress.proofs.Climbing.{Down, Ripe, Rising, climbed, down_settles, down_takes, down_ticks, rising_first}
+use Rattle.lagprogress.proofs.ComingUp.{Up, at_end, comes_up, end_here, end_with, splits, up_now, zero_on, climb_first, climb_on}
 use Rattle.lagprogress.proofs.EachRound.{EachAt, RoundKeeps, round_each, rounds_steady}
 use Rattle.lagprogress.proofs.EndFacts.{Synced, activity}
 use Rattle.lagprogress.proofs.Frozen.{AllChose, AllFresh, Stands, choice_rounds, on_cable}
 use Rattle.lagprogress.proofs.Hearing.{no}
 use Rattle.lagprogress.proofs.OnePort.{AtPort, at_number}
-use Rattle.lagprogress.proofs.OneRound.{Nothing, join, round_holds, ticked}
-use Rattle.lagprogress.proofs.Progressing.{AtIt, Fresh, FreshAt, beside, fits_fresh, knows_peer, said_by, stays_fresh}
+use Rattle.lagprogress.proofs.OneRound.{Nothing}
+use Rattle.lagprogress.proofs.Progressing.{AtIt, Fresh, FreshAt, said_by, stays_fresh, starts}
 
 -- one end climbs
 
@@ -24,31 +24,8 @@ climb_one : (at : Side → ℕ) (w : Side → Lacpdu) → ((s : Side) → (activ
     (gives : Algorithms) (mid top : WorldState) → FreshAt at w 1 mid → AtIt at w s (λ p. is_selected p.choice ≡ true) mid
     → Rounds gives 20 mid top → AtIt at w s (Rising 0) top
 climb_one at w awake s gives mid top g chosen h =
-    subst (λ t. AtIt at w s (Rising t) top) (omega arith) (zero_on gives (λ n j. FreshAt at w 1 j × AtIt at w s (Rising (20 - n)) j) mid
-    (g, subst (λ t. AtIt at w s (Rising t) mid) (omega arith) first) on 20 top h).1
-  where
-    first : AtIt at w s (Rising 20) mid
-    first =
-        let e = end_here at w 1 g.known One Nothing mid g.link s in
-        let steady = g.link.steady in
-        let st = (half s mid).state in
-        let mux = (all-get (MuxIsSettled st.keys st.system_ports) st.system_ports e.index e.port e.there (steady s).0.quiet.0).mux in
-        let timed = all-get (λ (y : SystemPort). IsTimed y.port) st.system_ports e.index e.port e.there (steady s).1 in
-        at_end at w 1 g.known s mid e steady (Rising 20) (rising_first e.port.port mux timed
-        (end_with at w 1 g.known s mid e (λ p. is_selected p.choice ≡ true) chosen))
-
-    on : (n : ℕ) (i j : WorldState) → IsRound gives i j → FreshAt at w 1 i × AtIt at w s (Rising (20 - n)) i
-        → FreshAt at w 1 j × AtIt at w s (Rising (20 - (n + 1))) j
-    on n i j r (f, rising) =
-        let l = knows_peer at w 1 0 0 i f (omega arith) s in (
-          stays_fresh at w awake gives 1 i j (omega arith) r f,
-          subst (λ t. AtIt at w s (Rising t) j) (omega arith)
-              (beside at w 1 (ticked f.known) s (Rising (20 - n - 1)) j
-              (round_holds gives s 1 at w f.known (Rising (20 - n)) (Rising (20 - n - 1)) i j (fits_fresh at w awake 1 i f (omega arith))
-              (rising_along (w s) (w (peer s)) (ticked f.known s) 1 (20 - n - 1) (omega arith) (omega (arith, l)))
-              (λ p q run rest a y. ticks_rising 1 (w s) (w (peer s)) (f.known s) (20 - n) p q (omega (arith, l)) run a y)
-              (λ p y. y) (join 1 at w f.known One s (Rising (20 - n)) i f.link rising) r)),
-        )
+    (zero_on gives (λ n j. FreshAt at w 1 j × AtIt at w s (Rising (20 - n)) j) mid (g, climb_first at w awake mid g s chosen)
+    (λ n i j r f. (stays_fresh at w awake gives 1 i j (omega arith) r f.0, climb_on at w awake s gives n i j f.0 r f.1)) 20 top h).1
 
 -- a SELECTED port whose link is down
 

@@ -1,11 +1,16 @@
 -- What holds of each world that events lead to.
 use Rattle.lagprogress.proofs.Common.{List, [], arith, subst, sym, ◌∷◌, ◌≤◌, Config, Event, Reply, Algorithms, WorldRuns, most_events, AreFirst}
-use Rattle.lagprogress.proofs.Common.{IsStart, WorldState, IsSteady}
+use Rattle.lagprogress.proofs.Common.{IsStart, WorldState, IsSteady, IsSteadySystem}
+use Rattle.lagprogress.proofs.Linked.{events_each}
 use Rattle.lagworld.specs.Sound.{IsSound}
 use Rattle.lagworld.proofs.Headline.{accepted, rises}
 use Rattle.lagworld.proofs.Keeping.{steps_sound}
 use Rattle.lagworld.proofs.Starts.{start_sound}
-use Rattle.lagprogress.proofs.Halves.{runs_steady, start_steady}
+use Rattle.lagprogress.proofs.Halves.{call_steady, start_steady}
+
+pub runs_steady : (gives : Algorithms) (es : List Event) (rs : List Reply) (old new : WorldState) → WorldRuns gives old es rs new
+    → IsSteady old → IsSteady new
+runs_steady gives es rs old new h k s = events_each gives s IsSteadySystem (call_steady (gives s)) es rs old new h (k s)
 
 runs_sound : (gives : Algorithms) (es : List Event) (rs : List Reply) (old new : WorldState) → WorldRuns gives old es rs new
     → new.acted ≤ most_events → IsSound old → IsSound new

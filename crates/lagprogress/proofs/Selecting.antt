@@ -125,15 +125,9 @@ is_detached_at : (m : MuxState) (w : ℕ) (c : Choice) (z : Bool) → is_unselec
     → (same_mux_state Attached m && not (is_selected c)) ≡ false
     → (same_mux_state CollectingDistributing m && (not (is_selected c) || z)) ≡ false → is_detached (stage_of m w) ≡ true
 is_detached_at Detached w c z u a b d = refl
-is_detached_at Waiting w Unselected z u a b d = absurd cc
-is_detached_at Waiting w (Selected agg) z u a b d = absurd cc
-is_detached_at Waiting w (Standby agg) z u a b d = absurd cc
-is_detached_at Attached w Unselected z u a b d = absurd cc
-is_detached_at Attached w (Selected agg) z u a b d = absurd cc
-is_detached_at Attached w (Standby agg) z u a b d = absurd cc
-is_detached_at CollectingDistributing w Unselected z u a b d = absurd cc
-is_detached_at CollectingDistributing w (Selected agg) z u a b d = absurd cc
-is_detached_at CollectingDistributing w (Standby agg) z u a b d = absurd cc
+is_detached_at m w Unselected z u a b d = absurd cc
+is_detached_at m w (Selected agg) z u a b d = absurd cc
+is_detached_at m w (Standby agg) z u a b d = absurd cc
 
 is_known : (r : ReceiveState) → (r ≡ Current) ⊎ (r ≡ Defaulted) → (same_receive_state Current r || same_receive_state Defaulted
     r) ≡ true
@@ -168,8 +162,7 @@ no_entry (Some row) h = absurd cc
 
 unselected_at : (c : Choice) → is_unselected c ≡ true → place c ≡ 0
 unselected_at Unselected u = refl
-unselected_at (Selected agg) u = absurd cc
-unselected_at (Standby agg) u = absurd cc
+unselected_at c u = absurd cc
 
 from_any : (k c n : ℕ) → ((n == k) && nat_le 1 c) ≡ true → (n == k) ≡ true
 from_any k c n h = (and_parts (n == k) (nat_le 1 c) h).0

@@ -1,15 +1,15 @@
 -- The silence of an active port.
 use Rattle.lagprogress.proofs.Common.{arith, false, inl, subst, true, ℕ, ◌+◌, ◌-◌, ◌≡◌, bits_of, Machines, RunsPeriodic, periodic_rows, AtRest}
 use Rattle.lagprogress.proofs.Common.{IsLoud, Speaks}
+use Rattle.lagprogress.proofs.OnePort.{periodic_leaves}
 use Rattle.lagprogress.proofs.Hearing.{no}
 use Rattle.lagprogress.proofs.Sounding.{Calm, near_comes, near_ticks, not_silent, periodic_near}
-use Rattle.lagprogress.proofs.Timers.{periodic_unread}
 
 pub loud : (p : Machines) → IsLoud p → Calm false p
 loud p l = (not_silent p.enabled p.active (bits_of p.partner.state).activity l.0 (inl l.1), λ f. absurd (no f))
 
 pub silence_settles : (most : ℕ) (p q : Machines) → IsLoud p → Speaks most p → RunsPeriodic p q → IsLoud q × Speaks most q
-silence_settles most p q l s run = (periodic_unread IsLoud (λ p m w st t b a. a) p q run l, periodic_near false most p q run (loud p l) s)
+silence_settles most p q l s run = (periodic_leaves IsLoud p q run l, periodic_near false most p q run (loud p l) s)
 
 pub silence_ticks : (most : ℕ) (p : Machines) → IsLoud p → AtRest periodic_rows p → Speaks (most + 1) p
     → Speaks most (record p { periodic_timer = p.periodic_timer - 1 })

@@ -19,9 +19,9 @@ use Rattle.lagprogress.proofs.OneRound.{timed_ends, unroll}
 use Rattle.lagprogress.proofs.RoundEvents.{BothTick, round_on, ticks_first}
 use Rattle.lagprogress.proofs.Linked.{EndIs, Link, asked_which, each_side, elsewhere_each, found, is_took, peer_twice, put_other, put_there}
 use Rattle.lagprogress.proofs.OneCable.{Arrives, Back, Beside, IsStamped, OnCable, asks, cable, delivers, logged, push_each, put, towards_there}
-use Rattle.lagprogress.proofs.OnePort.{AtPort}
+use Rattle.lagprogress.proofs.OnePort.{AtPort, settling_leaves}
 use Rattle.lagprogress.proofs.Passing.{marker_carries_none}
-use Rattle.lagprogress.proofs.Timers.{port_settles, runs_keep}
+use Rattle.lagprogress.proofs.Timers.{runs_keep}
 
 -- histories
 
@@ -73,7 +73,7 @@ abbrev pub Low : (Side → ℕ) → ℕ → Side → WorldState → Type 0
 Low at most t j = OfEach (AtPort (at t) (Late most)) (half t j).state.system_ports
 
 low_settles : (n most : ℕ) → KeptBySettling (AtPort n (Late most))
-low_settles n most = port_settles (Late most) (λ p m w s t b a. a) (λ p choice a. a) n
+low_settles n most = settling_leaves (AtPort n (Late most))
 
 -- what an event leaves
 pub record Stamping (b : ℕ) (at k : Side → ℕ) (kept : Side → Bool) (old new : WorldState) : Type 0 where

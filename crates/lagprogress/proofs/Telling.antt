@@ -20,11 +20,10 @@ use Rattle.lagprogress.proofs.EndFacts.{Along, IsEnd, Learnt, SameActor, takes_e
 use Rattle.lagprogress.proofs.Linked.{Arrived, EndIs, Fits, IsGood, Link, arrival, asked_which, beside_link, each_both, each_map, each_side}
 use Rattle.lagprogress.proofs.Linked.{elsewhere_each, emit_link, found, peer_twice, push_other, push_there, put_other, put_there}
 use Rattle.lagprogress.proofs.OneCable.{Arrives, Back, Beside, Went, cable, push, put, towards_there}
-use Rattle.lagprogress.proofs.OnePort.{AtPort, at_number}
+use Rattle.lagprogress.proofs.OnePort.{AtPort, at_number, settling_leaves}
 use Rattle.lagprogress.proofs.OneRound.{Unrolled, same_ports_then, tick_both, ticked, timed_ends, unroll}
 use Rattle.lagprogress.proofs.Passing.{carries_one, lacpdu_is_sent, marker_carries_none, sends_due, sent_carries}
 use Rattle.lagprogress.proofs.Stamps.{Late, late_ticks, not_late}
-use Rattle.lagprogress.proofs.Timers.{port_settles}
 
 -- what is on its way
 
@@ -377,10 +376,10 @@ abbrev TookOrLate : ℕ → Machines → Type 0
 TookOrLate most p = PartnerInSync p ⊎ Late most p
 
 sync_settles : (n : ℕ) → KeptBySettling (AtPort n PartnerInSync)
-sync_settles = port_settles PartnerInSync (λ p m w s t b a. a) (λ p choice a. a)
+sync_settles n = settling_leaves (AtPort n PartnerInSync)
 
 late_settles : (n most : ℕ) → KeptBySettling (AtPort n (TookOrLate most))
-late_settles n most = port_settles (TookOrLate most) (λ p m w s t b a. a) (λ p choice a. a) n
+late_settles n most = settling_leaves (AtPort n (TookOrLate most))
 
 -- a round
 

@@ -1,14 +1,12 @@
 -- What happens to a port leaves no timer above the ticks that it can start with.
 use Rattle.lagprogress.proofs.Common.{Bool, List, [], arith, cond, false, if◌then◌else◌, inl, inr, nat_lt, refl, subst, suc, sym, true, zero, ℕ, ◌++◌}
-use Rattle.lagprogress.proofs.Common.{◌+◌, ◌<◌, ◌∷◌, ◌≡◌, ◌≤◌, nat_tests, AllByRecursion, Choice, Lacpdu, MuxState, Attached, CollectingDistributing}
-use Rattle.lagprogress.proofs.Common.{Detached, Waiting, PeriodicState, Fast, NoPeriodic, PeriodicTx, Slow, Setup, ReceiveState, Current, Defaulted}
-use Rattle.lagprogress.proofs.Common.{Expired, Initialize, PortDisabled, Machines, mux_rows, RunsPeriodic, periodic_rows, lacpdu_rows, receive_rows}
+use Rattle.lagprogress.proofs.Common.{◌+◌, ◌<◌, ◌∷◌, ◌≡◌, ◌≤◌, nat_tests, AllByRecursion, Lacpdu, PeriodicState, Fast, Setup, ReceiveState, Current}
+use Rattle.lagprogress.proofs.Common.{Defaulted, Expired, Initialize, PortDisabled, Machines, mux_rows, periodic_rows, lacpdu_rows, receive_rows}
 use Rattle.lagprogress.proofs.Common.{start_receive, Fires, FiresTimes, Row, RunsToRest, Starts, before_start, aged, count_down, Call, Configure}
 use Rattle.lagprogress.proofs.Common.{ProcessesLacpdu, Receive, Restart, Set_link, Tick, Transmit, changed_party, choice_with_link, IsTimed}
 use Rattle.lagprogress.proofs.Common.{most_current_while, most_periodic_timer}
 use Rattle.lagsystem.specs.declared.drive.Reply.{Reply}
 use Rattle.lagprogress.proofs.EachPort.{KeptByCall, KeptBySettling}
-use Rattle.lagprogress.proofs.OnePort.{AtPort}
 
 -- what each row keeps, its machine keeps
 
@@ -27,61 +25,6 @@ times_keep P rows k (suc n) p q h a = fires_keep P rows k h.0 q h.2 (times_keep 
 
 pub runs_keep : (P : Machines → Type 0) (rows : List Row) → RowsKeep P rows → (p q : Machines) → RunsToRest rows p q → P p → P q
 runs_keep P rows k p q h a = times_keep P rows k h.0 p q h.1 a
-
--- what the mux machine and the periodic machine change, P does not read
-abbrev pub Unread : (Machines → Type 0) → Type 0
-Unread P = (p : Machines) (mux : MuxState) (wait : ℕ) (periodic : PeriodicState) (timer : ℕ) (ntt : Bool) → P p
-    → P (record p { mux = mux; wait_while = wait; periodic = periodic; periodic_timer = timer; ntt = ntt })
-
-module _ (P : Machines → Type 0) (unread : Unread P) where
-  in_mux : (p : Machines) (mux : MuxState) (wait : ℕ) (ntt : Bool) → P p → P (record p { mux = mux; wait_while = wait; ntt = ntt })
-  in_mux p mux wait ntt a = unread p mux wait p.periodic p.periodic_timer ntt a
-
-  in_periodic : (p : Machines) (state : PeriodicState) (timer : ℕ) (ntt : Bool) → P p
-      → P (record p { periodic = state; periodic_timer = timer; ntt = ntt })
-  in_periodic p state timer ntt a = unread p p.mux p.wait_while state timer ntt a
-
-  pub mux_unread : (ready : Bool) (p q : Machines) → RunsToRest (mux_rows ready) p q → P p → P q
-  mux_unread ready p q h a = runs_keep P (mux_rows ready) (
-    λ p a. in_mux p Waiting 20 p.ntt a,
-    (
-      λ p a. in_mux p Detached p.wait_while true a,
-      (
-        λ p a. in_mux p Attached p.wait_while true a,
-        (
-          λ p a. in_mux p Detached p.wait_while true a,
-          (λ p a. in_mux p CollectingDistributing p.wait_while true a, (λ p a. in_mux p Attached p.wait_while true a, tt)),
-        ),
-      ),
-    ),
-  ) p q h a
-
-  pub periodic_unread : (p q : Machines) → RunsPeriodic p q → P p → P q
-  periodic_unread p q h a = subst P (sym h.2) (in_periodic h.0 h.0.periodic h.0.periodic_timer _ (runs_keep P periodic_rows (
-    λ p a. in_periodic p NoPeriodic p.periodic_timer p.ntt a,
-    (
-      λ p a. in_periodic p Fast 10 p.ntt a,
-      (
-        λ p a. in_periodic p PeriodicTx p.periodic_timer true a,
-        (
-          λ p a. in_periodic p Slow 300 p.ntt a,
-          (
-            λ p a. in_periodic p PeriodicTx p.periodic_timer true a,
-            (λ p a. in_periodic p Fast 10 p.ntt a, (λ p a. in_periodic p Slow 300 p.ntt a, tt)),
-          ),
-        ),
-      ),
-    ),
-  ) p h.0 h.1 a))
-
--- so settling keeps P of the port, which does not read Selected either
-pub port_settles : (P : Machines → Type 0) → Unread P → ((p : Machines) (choice : Choice) → P p → P (record p { choice = choice })) → (n : ℕ)
-    → KeptBySettling (AtPort n P)
-port_settles P unread unchosen n = record {
-  mux = λ m ready p q h a e. mux_unread P unread ready p q h (a e);
-  periodic = λ m p q h a e. periodic_unread P unread p q h (a e);
-  select = λ m choice p none may a e. unchosen p choice (a e);
-}
 
 -- an LACPDU is processed only by its row
 pub takes_keep : (P : Machines → Type 0) (v : Lacpdu) → RowsKeep P (lacpdu_rows v) → (p q : Machines) → ProcessesLacpdu v p q → P p → P q
