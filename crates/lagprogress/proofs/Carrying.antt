@@ -1,11 +1,11 @@
 -- The link of each port that carries a conversation, or on which one is held, is up.
 use Rattle.lagprogress.proofs.Common.{Bool, Err, List, None, Ok, Option, Result, Some, ap, arith, cond, eqb, false, inl, inr, length, not, refl}
-use Rattle.lagprogress.proofs.Common.{subst, sym, true, ℕ, ◌&&◌, ◌==◌, ◌||◌, ◌∙◌, ◌≡◌, ◌⊎◌, nat_tests, none-some, same_Some, slice_get_cases}
-use Rattle.lagprogress.proofs.Common.{slice_get_within, is_none, AggId, State, StateBits, bits_of, with_synchronization, encode_then_decode}
-use Rattle.lagprogress.proofs.Common.{CollectingDistributing, Setup, ReceiveState, PortDisabled, Machines, partner_synchronized, same_mux_state}
-use Rattle.lagprogress.proofs.Common.{selected, lacpdu_rows, receive_rows, same_receive_state, start_receive, Starts, before_start, count_down}
-use Rattle.lagprogress.proofs.Common.{has_chosen, Assignment, Flushing, Free, On, Wanted, force_result, is_among, move_result, after_down, Table}
-use Rattle.lagprogress.proofs.Common.{assignment_of, next_identifier, first_free, Answer, SystemFault, SystemPort, Call, Configure, Force}
+use Rattle.lagprogress.proofs.Common.{subst, sym, true, ℕ, ◌&&◌, ◌==◌, ◌||◌, ◌∙◌, ◌≡◌, ◌⊎◌, and_parts, nat_tests, none-some, same_Some}
+use Rattle.lagprogress.proofs.Common.{slice_get_cases, slice_get_within, is_none, AggId, State, StateBits, bits_of, with_synchronization}
+use Rattle.lagprogress.proofs.Common.{encode_then_decode, CollectingDistributing, Setup, ReceiveState, PortDisabled, Machines, partner_synchronized}
+use Rattle.lagprogress.proofs.Common.{same_mux_state, selected, lacpdu_rows, receive_rows, same_receive_state, start_receive, Starts, before_start}
+use Rattle.lagprogress.proofs.Common.{count_down, has_chosen, Assignment, Flushing, Free, On, Wanted, force_result, is_among, move_result, after_down}
+use Rattle.lagprogress.proofs.Common.{Table, assignment_of, next_identifier, first_free, Answer, SystemFault, SystemPort, Call, Configure, Force}
 use Rattle.lagprogress.proofs.Common.{FreesIfDown, Move_conversation, Offer, Receive, Restart, Set_link, Step, Tick, Transmit, changed_party}
 use Rattle.lagprogress.proofs.Common.{choice_with_link, IsFirst, configured_numbers, none_enabled, MuxIsSettled, Offers, system_force_result}
 use Rattle.lagprogress.proofs.Common.{system_move_result, aggregator_numbered, distributing, IsSound, SystemState, port_numbers, Step-frame, rests}
@@ -60,9 +60,7 @@ lapse_kept (Receive n octets) answer = λ v p q t h a. elim h [
 lapse_kept (Configure n change) answer = λ p q h a. lapse_starts (record p { party = changed_party change p.party }) q h.1
 lapse_kept Restart answer = lapse_first
 lapse_kept (Transmit n) answer = λ p e a. a
-lapse_kept (Offer agg octets) answer = tt
-lapse_kept (Move_conversation agg conv port) answer = tt
-lapse_kept (Force agg conv) answer = tt
+lapse_kept call answer = tt
 
 -- so a port that distributes has its link up
 
@@ -93,12 +91,8 @@ distributes_up s agg p h lapses e =
       d.3,
       must_be_up x.port.enabled (same_receive_state PortDisabled x.port.receive) (partner_synchronized x.port)
           (selected x.port) (same_mux_state CollectingDistributing x.port.mux) rest.1.0 (λ f. lapse (is_disabled x.port.receive f))
-          (second (has_chosen agg x.port.choice) (same_mux_state CollectingDistributing x.port.mux) d.4) mux.1.1.1.1.1.0,
+          (and_parts (has_chosen agg x.port.choice) (same_mux_state CollectingDistributing x.port.mux) d.4).1 mux.1.1.1.1.1.0,
     )
-  where
-    second : (a b : Bool) → (a && b) ≡ true → b ≡ true
-    second true b f = f
-    second false b f = absurd (no f)
 
 -- a call that does not take a link down leaves it up
 
@@ -129,9 +123,7 @@ up_kept p (Receive n octets) answer t = λ v q r took h a e. elim h [
 up_kept p (Configure n change) answer t = λ q r h a e. up_starts (record q { party = changed_party change q.party }) r h.1 (a e)
 up_kept p Restart answer t = absurd (no (sym t))
 up_kept p (Transmit n) answer t = λ q told a e. a e
-up_kept p (Offer agg octets) answer t = tt
-up_kept p (Move_conversation agg conv port) answer t = tt
-up_kept p (Force agg conv) answer t = tt
+up_kept p call answer t = tt
 
 still_up : (gives : ℕ → ℕ → ℕ → Type 0) (p : ℕ) (old new : SystemState) (call : Call) (answer : Answer) → IsSound old → IsSound new
     → Step gives old call answer new → takes_down p call ≡ false → HasPortUp p old → HasPortUp p new

@@ -1,6 +1,6 @@
 -- How the mux machine of a SELECTED port climbs, and what a round keeps of what holds of one end.
 use Rattle.lagprogress.proofs.Common.{Bool, List, Some, [], ap, arith, cond, false, filter, if◌then◌else◌, inl, inr, not, refl, slice_get, subst, suc}
-use Rattle.lagprogress.proofs.Common.{sym, true, zero, ℕ, ◌&&◌, ◌-◌, ◌==◌, ◌||◌, ◌∙◌, ◌∷◌, ◌≡◌, ◌≤◌, ◌⊎◌, nat_tests, none-some, same_Some}
+use Rattle.lagprogress.proofs.Common.{sym, true, zero, ℕ, ◌&&◌, ◌-◌, ◌==◌, ◌||◌, ◌∙◌, ◌∷◌, ◌≡◌, ◌≤◌, ◌⊎◌, and_parts, nat_tests, none-some, same_Some}
 use Rattle.lagprogress.proofs.Common.{AllByRecursion, list_all, list_any, AggId, Key, Choice, Selected, Standby, Unselected, is_selected}
 use Rattle.lagprogress.proofs.Common.{is_unselected, same_party, itself, party_itself, Lacpdu, party_of, MuxState, Attached, CollectingDistributing}
 use Rattle.lagprogress.proofs.Common.{Detached, Waiting, ReceiveState, Machines, is_synchronized, mux_rows, partner_synchronized, same_mux_state}
@@ -47,10 +47,6 @@ both_not Unselected h k = no h
 both_not (Selected agg) h k = no k
 both_not (Standby agg) h k = no h
 
-second : (a b : Bool) → (a && b) ≡ true → b ≡ true
-second true b h = h
-second false b h = absurd (no h)
-
 not_waiting : (m : MuxState) (g : Bool) (s : MuxState) → same_mux_state s Waiting ≡ false → (same_mux_state s m && g) ≡ true → m ≡ Waiting → ⊥
 not_waiting m g s f h e = no (sym (ap (λ b. b && g) f) ∙ subst (λ x. (same_mux_state s x && g) ≡ true) e h)
 
@@ -61,7 +57,7 @@ rising_rows t ready = (
     | inr w ↦ not_waiting p.mux (not (is_unselected p.choice)) Detached refl h w.0
   ]),
   (
-    λ p h a. absurd (both_not p.choice a.0 (second (same_mux_state Waiting p.mux) (is_unselected p.choice) h)),
+    λ p h a. absurd (both_not p.choice a.0 (and_parts (same_mux_state Waiting p.mux) (is_unselected p.choice) h).1),
     (
       λ p h a. (a.0, inl refl),
       (
@@ -253,28 +249,14 @@ unselects : (t : ℕ) (b : Bool) (c : Choice) (m : MuxState) (n : ℕ) → Dorma
 unselects t true c m n a = a
 unselects t false c m n a = (λ agg e. cc, λ e. absurd (no e))
 
-down_mux : (t k : ℕ) (ready : Bool) → EnabledKeep (Down t k) (mux_rows ready)
-down_mux t k ready =
-    let rows = rising_rows t ready in (
-      λ p h a e. ((a e).0, λ s. (rows.0 p h (s, (a e).1 s)).1),
-      (
-        λ p h a e. ((a e).0, λ s. (rows.1.0 p h (s, (a e).1 s)).1),
-        (
-          λ p h a e. ((a e).0, λ s. (rows.1.1.0 p h (s, (a e).1 s)).1),
-          (
-            λ p h a e. ((a e).0, λ s. (rows.1.1.1.0 p h (s, (a e).1 s)).1),
-            (
-              λ p h a e. ((a e).0, λ s. (rows.1.1.1.1.0 p h (s, (a e).1 s)).1),
-              (λ p h a e. ((a e).0, λ s. (rows.1.1.1.1.1.0 p h (s, (a e).1 s)).1), tt),
-            ),
-          ),
-        ),
-      ),
-    )
-
 pub down_settles : (t : ℕ) → KeptBySettling (Down t)
 down_settles t = record {
-  mux = λ k ready p q h a. times_keep (Down t k) (mux_rows ready) (down_mux t k ready) h.0 p q h.1 a;
+  mux = λ k ready p q h a e. (let same = mux_leaves (λ r. (r.choice ≡ p.choice) × (r.enabled ≡ p.enabled)) ready p q h (refl, refl) in
+      let was = a (sym same.1 ∙ e) in (
+        λ agg s. was.0 agg (sym same.0 ∙ s),
+        λ s. (let chosen = ap is_selected (sym same.0) ∙ s in
+            (times_keep (Rising t) (mux_rows ready) (rising_rows t ready) h.0 p q h.1 (chosen, was.1 chosen)).1),
+      ));
   periodic = λ k. periodic_leaves (Down t k);
   select = λ k choice p none may a e. absurd (elim may.0 [ inl up ↦ no (sym e ∙ up) | inr s ↦ (a e).0 s.0 s.1 ]);
 }

@@ -3,11 +3,10 @@ use Rattle.lagprogress.proofs.Common.{Bool, List, Some, [], ap, arith, false, if
 use Rattle.lagprogress.proofs.Common.{true, zero, ℕ, ◌&&◌, ◌+◌, ◌-◌, ◌==◌, ◌∙◌, ◌∷◌, ◌≡◌, ◌≤◌, nat_tests, none-some, same_Some, StateBits, bits_of}
 use Rattle.lagprogress.proofs.Common.{with_synchronization, encode_then_decode, Info, Lacpdu, ReceiveState, Current, Expired, Initialize}
 use Rattle.lagprogress.proofs.Common.{PortDisabled, Machines, periodic_rows, receive_rows, recorded_synchronization, same_receive_state, AtRest}
-use Rattle.lagprogress.proofs.Common.{Fires, FiresTimes, Row, RunsToRest, count_down, SystemPort, Call, Configure, Force, Move_conversation, Offer}
-use Rattle.lagprogress.proofs.Common.{OnlyPortChangesBy, ProcessesLacpdu, Receive, Restart, Set_link, ThenSettles, Tick, Transmit, choice_with_link}
-use Rattle.lagprogress.proofs.Common.{can_receive, can_receive_in, none_enabled, IsSound, SystemState, port_numbers, named, keeps_place}
-use Rattle.lagprogress.proofs.Common.{keeps_settled, can_receive_at_rest, Rises, all-get, ports_rise, LeavesUnheard, processed_on, timeout_time}
-use Rattle.lagprogress.proofs.Common.{HasRecorded, IsKnown}
+use Rattle.lagprogress.proofs.Common.{Fires, FiresTimes, Row, RunsToRest, count_down, SystemPort, Call, Configure, OnlyPortChangesBy, ProcessesLacpdu}
+use Rattle.lagprogress.proofs.Common.{Receive, Restart, Set_link, ThenSettles, Tick, Transmit, choice_with_link, can_receive, can_receive_in}
+use Rattle.lagprogress.proofs.Common.{none_enabled, IsSound, SystemState, port_numbers, named, keeps_place, keeps_settled, can_receive_at_rest, Rises}
+use Rattle.lagprogress.proofs.Common.{all-get, ports_rise, LeavesUnheard, processed_on, timeout_time, HasRecorded, IsKnown}
 use Rattle.lagsystem.specs.declared.drive.Reply.{Reply}
 use Rattle.lagprogress.proofs.EachPort.{KeptByCall, KeptBySettling, settling_each}
 use Rattle.lagprogress.proofs.Hearing.{EnabledKeep, both, is_number, no, not_down, stays_up, times_keep}
@@ -84,9 +83,7 @@ calls_known v n most k (Receive m octets) answer u t = λ w p q took h a e.
 calls_known v n most k (Configure m change) answer u t = λ p q h a e. both (m == n) (is_number m n e) u.0
 calls_known v n most k Restart answer u t = absurd (no (sym u.0))
 calls_known v n most k (Transmit m) answer u t = λ p told a e. a e
-calls_known v n most k (Offer agg octets) answer u t = tt
-calls_known v n most k (Move_conversation agg conv port) answer u t = tt
-calls_known v n most k (Force agg conv) answer u t = tt
+calls_known v n most k call answer u t = tt
 
 known_goes_on : (v : Lacpdu) (n : ℕ) → GoesOn (LeavesUnheard n) (Known v) n
 known_goes_on v n = record { settles = known_settles v n; ticks = tick_known v; calls = calls_known v n }

@@ -6,14 +6,13 @@ use Rattle.lagprogress.proofs.Common.{Algorithms, LinkState, WorldState, half, p
 use Rattle.lagprogress.proofs.Common.{OfPort, Rounds, IsSteady}
 use Rattle.lagprogress.proofs.Claims.{IsNamed}
 use Rattle.lagprogress.proofs.EndFacts.{Learnt, activity, short_timeout}
-use Rattle.lagprogress.proofs.Hearing.{no}
 use Rattle.lagprogress.proofs.Lapsing.{Lapsed, Lasting, Phase, Tails, begins_lasting, lasting_active, lasting_passes, some_wait}
 use Rattle.lagprogress.proofs.Linked.{Link, each_side, peer_twice}
-use Rattle.lagprogress.proofs.OneRound.{Nothing, at_rest, beside_here, round_nears, round_passes, ticked}
+use Rattle.lagprogress.proofs.OneRound.{Nothing, at_rest, beside_here, round_passes, ticked}
 use Rattle.lagprogress.proofs.Progressing.{Answers, Calls, Comes, Ends, Fresh, Linked, along_rounds, answered, answers, called, came, comes}
 use Rattle.lagprogress.proofs.Progressing.{comes_first, only_cabling, only_cable, beside, end_of, first_round, fits_first, fresh_knows, hears, lower}
-use Rattle.lagprogress.proofs.Progressing.{machines_there, meets_short, mode, own_says, room_short, said_by, starts, stays_fresh, wait}
-use Rattle.lagprogress.proofs.Sounding.{Sounds, silence_of}
+use Rattle.lagprogress.proofs.Progressing.{machines_there, meets_short, mode, own_says, room_short, said_by, starts, stays_fresh, wait, calls_on}
+use Rattle.lagprogress.proofs.Sounding.{silence_of}
 use Rattle.lagprogress.proofs.Stamps.{present_heard}
 use Rattle.lagprogress.proofs.Telling.{told_heard}
 
@@ -47,23 +46,14 @@ module _ (at : Side → ℕ) (w : Side → Lacpdu) where
     )
 
     calls : (gives : Algorithms) (n : ℕ) (old new : WorldState) → IsRound gives old new → Calls at w (peer s) n old → Slowly s (n + 1) new
-    calls gives n old new h g = elim (round_nears gives (peer s) 1 at w (λ _. 0) false g.0 old new (omega arith)
-        (fits_first at w (ticked (λ _. 0)) (λ t. omega arith)) (inl active, λ e. absurd (no e)) (inl active, λ e. absurd (no e)) g.3 h) [
-          | inl q ↦ (let l = g.2 in
-              let m = q.0 in
-              inl (
-                g.0 - 1,
-                q.0,
-                omega (arith, l, m),
-                lower at w 1 (ticked (λ _. 0)) (λ _. 0) (peer s) (Sounds false (g.0 - 1)) new (λ _. omega arith) q.1,
-                h.empties,
-              ))
-          | inr q ↦ (let l = g.2 in
-              let m = g.1 in
-              inr (inl (begins (n + 1) new (omega (arith, l, m)) (lower at w 1 (ticked (λ _. 0)) (λ _. 0) s
-              (Learnt 1 (w (peer s)) (wait at w s)) new (λ _. omega arith)
-              (subst (λ t. Linked at w (ticked (λ _. 0)) t (Learnt 1 (w (peer t)) (wait at w t)) new) (peer_twice s) q)) h.empties)))
-        ]
+    calls gives n old new h g = elim (calls_on at w (peer s) active gives n old new h g) [
+      | inl c ↦ inl c
+      | inr q ↦ (let l = g.2 in
+          let m = g.1 in
+          inr (inl (begins (n + 1) new (omega (arith, l, m)) (lower at w 1 (ticked (λ _. 0)) (λ _. 0) s
+          (Learnt 1 (w (peer s)) (wait at w s)) new (λ _. omega arith)
+          (subst (λ t. Linked at w (ticked (λ _. 0)) t (Learnt 1 (w (peer t)) (wait at w t)) new) (peer_twice s) q)) h.empties)))
+    ]
 
     lasts : (gives : Algorithms) (n : ℕ) (old new : WorldState) → IsRound gives old new → Lasts s n old → Slowly s (n + 1) new
     lasts gives n old new h (k, some, soon, link, none) =

@@ -2,10 +2,10 @@
 use Rattle.lagprogress.proofs.Common.{Bool, Err, List, None, Ok, Option, Result, Some, [], ap, arith, cond, get_or, inl, inr, length, map, nat_lt}
 use Rattle.lagprogress.proofs.Common.{not, option_map, position, refl, slice_get, slice_set, subst, suc, sym, true, zero, ℕ, ◌++◌, ◌<◌, ◌==◌, ◌∙◌}
 use Rattle.lagprogress.proofs.Common.{◌∷◌, ◌≡◌, ◌⊎◌, cases_Bool, false≢true, nat_tests, position-Some, same_Some, slice_get-get_or, slice_get_within}
-use Rattle.lagprogress.proofs.Common.{AllByRecursion, position_or_len, Lacpdu, all-append, IsCabling, One, Side, Two, end_at, peer, value_of, Stamp}
-use Rattle.lagprogress.proofs.Common.{Answer, SystemFault, Received, Call, Carries, IsFrame, Receive, Step, Tick, Transmit, CallPromise, SystemState}
-use Rattle.lagprogress.proofs.Common.{PortHistory, Reply, AfterReceive, AfterTransmit, Algorithms, DeliversFrom, OnLink, WorldEmits, WorldReceives}
-use Rattle.lagprogress.proofs.Common.{WorldSteps, set_last_lacpdu, side_of, stamp_for, stamped_in, with_collected_in, with_link_at}
+use Rattle.lagprogress.proofs.Common.{AllByRecursion, position_or_len, itself, Lacpdu, all-append, IsCabling, One, Side, Two, end_at, peer, value_of}
+use Rattle.lagprogress.proofs.Common.{Stamp, Answer, SystemFault, Received, Call, Carries, IsFrame, Receive, Step, Tick, Transmit, CallPromise}
+use Rattle.lagprogress.proofs.Common.{SystemState, PortHistory, Reply, AfterReceive, AfterTransmit, Algorithms, DeliversFrom, OnLink, WorldEmits}
+use Rattle.lagprogress.proofs.Common.{WorldReceives, WorldSteps, set_last_lacpdu, side_of, stamp_for, stamped_in, with_collected_in, with_link_at}
 use Rattle.lagprogress.proofs.Common.{with_stamp_collected, HalfTicks, payload_in, side_numbered, stamp_count, link_ends, HalfState, ItemValue}
 use Rattle.lagprogress.proofs.Common.{LinkState, WorldState, accepts, change_count_in, change_link, half, history_at, limit_towards, link_at}
 use Rattle.lagprogress.proofs.Common.{link_index, port_at, put_on_port, sent_on, towards, with_half, with_links, with_towards, read_log, end_is}
@@ -80,16 +80,13 @@ is_found q xs i x e h = elim (cases_Bool (nat_lt (position_or_len q xs) (length 
       absurd (false≢true (sym (fails_before_first q xs i x before) ∙ (ap q it ∙ h))))
 ]
 
-same_number : (n : ℕ) → (n == n) ≡ true
-same_number n = grind (arith, nat_tests)
-
 pub placed : (s : Side) (i : ℕ) (at : Side → ℕ) (fl : Side → List ItemValue) (links : List LinkState) → OnCable i at fl links
     → link_index s (at s) links ≡ Some i
 placed s i at fl links c =
     let q : LinkState → Bool = λ l. port_at s l == at s in
     let k = position_or_len q links in
     let found : link_index s (at s) links ≡ Some k = is_found q links i (cable at fl) c.there
-    (subst (λ n. (n == at s) ≡ true) (sym (port_there s at fl)) (same_number (at s))) in
+    (subst (λ n. (n == at s) ≡ true) (sym (port_there s at fl)) (itself (at s))) in
     let within = (position-Some q links k (cable at fl) found).0 in
     let it = slice_get-get_or links k (cable at fl) within in
     found ∙ ap (λ (n : ℕ). Some n) (alone s i k at fl links _ c it (position_there s (at s) links k _ found it))
@@ -436,25 +433,27 @@ came_from gives s k l [] r old new first x = inr (record {
 came_from gives s k l (item ∷ rest) r old new first x = inl (came gives s k l item rest r old new first x)
 
 -- a Deliver event takes the first item off some cable, or there is none
-pub record CameOff (gives : Algorithms) (old new : WorldState) : Type 0 where
+pub record CameOff (gives : Algorithms) (c n : ℕ) (old new : WorldState) : Type 0 where
   pub side : Side
+  pub named : side_of n ≡ Some side
   pub index : ℕ
+  pub numbered : c ≡ suc index
   pub link : LinkState
   pub there : slice_get old.links index ≡ Some link
   pub comes : Comes gives side index link old new
 
 pub came_off : (gives : Algorithms) (c n : ℕ) (r : Reply) (old new : WorldState) → WorldSteps gives old (event.Deliver c n) r new
-    → CameOff gives old new ⊎ Stays old new
-came_off gives c n r old new h = let v = value_of (side_of n) _ h.0 in by_number c v.0 v.2
+    → CameOff gives c n old new ⊎ Stays old new
+came_off gives c n r old new h = let v = value_of (side_of n) _ h.0 in by_number c v.0 v.1 v.2
   where
-    by_number : (c : ℕ) (s : Side)
+    by_number : (c : ℕ) (s : Side) → side_of n ≡ Some s
         → OnLink c (λ i l. DeliversFrom gives s i l (towards s l) old r (record new { acted = old.acted })) old.links
-        → CameOff gives old new ⊎ Stays old new
-    by_number zero s on = absurd on
-    by_number (suc k) s on =
+        → CameOff gives c n old new ⊎ Stays old new
+    by_number zero s named on = absurd on
+    by_number (suc k) s named on =
         let m = value_of (slice_get old.links k) _ on in
         elim (came_from gives s k m.0 (towards s m.0) r old new refl m.2) [
-          | inl comes ↦ inl (record { side = s; index = k; link = m.0; there = m.1; comes = comes })
+          | inl comes ↦ inl (record { side = s; named = named; index = k; numbered = refl; link = m.0; there = m.1; comes = comes })
           | inr stays ↦ inr stays
         ]
 

@@ -166,14 +166,31 @@ ask_peer gives n s d at w c Y r old new fits named along l h =
 pub one_of_both : (s t : Side) → (t ≡ s) ⊎ (t ≡ peer s)
 one_of_both s t = each_side (λ t. (t ≡ s) ⊎ (t ≡ peer s)) s (inl refl) (inr refl) t
 
+-- an Emit event where the end of s may not have been asked
+ask_which : (gives : Algorithms) (n p : ℕ) (s : Side) (d : ℕ) (at : Side → ℕ) (w : Side → Lacpdu) (c : Side → ℕ) (Y Z : Machines → Type 0)
+    (r : Reply) (old new : WorldState) → Fits d w c → Along Y (w s) (w (peer s)) (c s) d → Asks d Y Z (w s) (w (peer s)) (c s)
+    → Link d at w c s Y old → WorldSteps gives old (event.Emit n p) r new → Link d at w c s Y new ⊎ Midway d at w c s Z new
+ask_which gives n p s d at w c Y Z r old new fits along asks l h = elim (asked_which gives n p l.index at l.flying r old new l.links h) [
+  | inl (t, named, is) ↦ asked t named (subst (λ q. WorldSteps gives old (event.Emit n q) r new) is h)
+  | inr b ↦ inl (beside_link gives (event.Emit n p) d at w c s Y r old new along l h b).link
+]
+  where
+    asked : (t : Side) → side_of n ≡ Some t → WorldSteps gives old (event.Emit n (at t)) r new → Link d at w c s Y new ⊎ Midway d at w c s Z new
+    asked t named h = elim (one_of_both s t) [
+      | inl e ↦ inr (ask_own gives n s d at w c Y Z r old new fits (subst (λ u. side_of n ≡ Some u) e named) asks l
+          (subst (λ u. WorldSteps gives old (event.Emit n (at u)) r new) e h))
+      | inr e ↦ inl (ask_peer gives n s d at w c Y r old new fits (subst (λ u. side_of n ≡ Some u) e named) along l
+          (subst (λ u. WorldSteps gives old (event.Emit n (at u)) r new) e h))
+    ]
+
 -- any Emit event leaves what is midway
 ask_any : (gives : Algorithms) (n p : ℕ) (s : Side) (d : ℕ) (at : Side → ℕ) (w : Side → Lacpdu) (c : Side → ℕ) (Z : Machines → Type 0)
     (r : Reply) (old new : WorldState) → Fits d w c → 1 ≤ d → Along Z (w s) (w (peer s)) (c s) d
     → Midway d at w c s Z old → WorldSteps gives old (event.Emit n p) r new → Midway d at w c s Z new
 ask_any gives n p s d at w c Z r old new fits there along m h = elim m [
-  | inl l ↦ elim (asked_which gives n p l.index at l.flying r old new l.links h) [
-    | inl (t, named, is) ↦ asked t named l (subst (λ q. WorldSteps gives old (event.Emit n q) r new) is h)
-    | inr b ↦ inl (beside_link gives (event.Emit n p) d at w c s Z r old new along l h b).link
+  | inl l ↦ elim (ask_which gives n p s d at w c Z Z r old new fits along (λ p rest timed a y not. y) l h) [
+    | inl k ↦ inl k
+    | inr k ↦ k
   ]
   | inr k ↦ elim k [
     | inl l ↦ (let e = emit_any gives n p d at w c s Nothing r old new fits (nothing_along (w s) (w (peer s)) (c s) d) (λ q y. y) l.0 h in
@@ -182,14 +199,6 @@ ask_any gives n p s d at w c Z r old new fits there along m h = elim m [
         (known_along (w (peer s)) (w (peer (peer s))) (c (peer s)) d there (fits (peer s)).3) (λ q y. y) l h).link)
   ]
 ]
-  where
-    asked : (t : Side) → side_of n ≡ Some t → Link d at w c s Z old → WorldSteps gives old (event.Emit n (at t)) r new → Midway d at w c s Z new
-    asked t named l h = elim (one_of_both s t) [
-      | inl e ↦ ask_own gives n s d at w c Z Z r old new fits (subst (λ u. side_of n ≡ Some u) e named) (λ p rest timed a y not. y) l
-          (subst (λ u. WorldSteps gives old (event.Emit n (at u)) r new) e h)
-      | inr e ↦ inl (ask_peer gives n s d at w c Z r old new fits (subst (λ u. side_of n ≡ Some u) e named) along l
-          (subst (λ u. WorldSteps gives old (event.Emit n (at u)) r new) e h))
-    ]
 
 -- the end of s was not asked yet, or it was
 abbrev Before : ℕ → (Side → ℕ) → (Side → Lacpdu) → (Side → ℕ) → Side → (Machines → Type 0) → (Machines → Type 0) → WorldState → Type 0
@@ -202,18 +211,7 @@ ask_before : (gives : Algorithms) (n p : ℕ) (s : Side) (d : ℕ) (at : Side �
 ask_before gives n p s d at w c Y Z r old new fits there waits asks along (inr m) h =
     inr (ask_any gives n p s d at w c Z r old new fits there along m h)
 ask_before gives n p s d at w c Y Z r old new fits there waits asks along (inl l) h =
-    elim (asked_which gives n p l.index at l.flying r old new l.links h) [
-      | inl (t, named, is) ↦ asked t named (subst (λ q. WorldSteps gives old (event.Emit n q) r new) is h)
-      | inr b ↦ inl (beside_link gives (event.Emit n p) d at w c s Y r old new waits l h b).link
-    ]
-  where
-    asked : (t : Side) → side_of n ≡ Some t → WorldSteps gives old (event.Emit n (at t)) r new → Before d at w c s Y Z new
-    asked t named h = elim (one_of_both s t) [
-      | inl e ↦ inr (ask_own gives n s d at w c Y Z r old new fits (subst (λ u. side_of n ≡ Some u) e named) asks l
-          (subst (λ u. WorldSteps gives old (event.Emit n (at u)) r new) e h))
-      | inr e ↦ inl (ask_peer gives n s d at w c Y r old new fits (subst (λ u. side_of n ≡ Some u) e named) waits l
-          (subst (λ u. WorldSteps gives old (event.Emit n (at u)) r new) e h))
-    ]
+    ask_which gives n p s d at w c Y Z r old new fits waits asks l h
 
 -- the end of s itself is asked
 ask_now : (gives : Algorithms) (n : ℕ) (s : Side) (d : ℕ) (at : Side → ℕ) (w : Side → Lacpdu) (c : Side → ℕ) (Y Z : Machines → Type 0)

@@ -301,6 +301,23 @@ module _ (at : Side → ℕ) (w : Side → Lacpdu) where
     none,
   )
 
+  -- it still does, or the other end has just heard it
+  pub calls_on : (s : Side) → activity (w s) ≡ true → (gives : Algorithms) (n : ℕ) (old new : WorldState) → IsRound gives old new → Calls s n old
+      → Calls s (n + 1) new ⊎ Linked (ticked (λ _. 0)) (peer s) (Learnt 1 (w (peer (peer s))) (wait (peer s))) new
+  calls_on s active gives n old new h g = elim (round_nears gives s 1 at w (λ _. 0) false g.0 old new (omega arith)
+      (fits_first (ticked (λ _. 0)) (λ t. omega arith)) (inl active, λ e. absurd (no e)) (inl active, λ e. absurd (no e)) g.3 h) [
+        | inl q ↦ (let l = g.2 in
+            let m = q.0 in
+            inl (
+              g.0 - 1,
+              q.0,
+              omega (arith, l, m),
+              lower 1 (ticked (λ _. 0)) (λ _. 0) s (Sounds false (g.0 - 1)) new (λ _. omega arith) q.1,
+              h.empties,
+            ))
+        | inr q ↦ inr q
+      ]
+
   abbrev pub Answers : Side → ℕ → ℕ → WorldState → Type 0
   Answers s most n j = (k : ℕ) × (b : ℕ) × (1 ≤ k) × (n + k ≤ most + silence_of (mode (peer s)))
       × (wait (peer s) + k ≤ b + silence_of (mode (peer s))) × (b ≤ wait (peer s))
@@ -436,23 +453,14 @@ module _ (at : Side → ℕ) (w : Side → Lacpdu) where
         (inr (subst (λ t. activity (w t) ≡ true) (sym (peer_twice s)) active))
 
     calls : (gives : Algorithms) (n : ℕ) (old new : WorldState) → IsRound gives old new → Calls s n old → Comes s (n + 1) new
-    calls gives n old new h g = elim (round_nears gives s 1 at w (λ _. 0) false g.0 old new (omega arith)
-        (fits_first (ticked (λ _. 0)) (λ t. omega arith)) (inl active, λ e. absurd (no e)) (inl active, λ e. absurd (no e)) g.3 h) [
-          | inl q ↦ (let l = g.2 in
-              let m = q.0 in
-              inl (
-                g.0 - 1,
-                q.0,
-                omega (arith, l, m),
-                lower 1 (ticked (λ _. 0)) (λ _. 0) s (Sounds false (g.0 - 1)) new (λ _. omega arith) q.1,
-                h.empties,
-              ))
-          | inr q ↦ inr (inl (hears s some_awake (inl active) room 310 (n + 1) new (let l = g.2 in let o = g.1 in omega (arith, l, o)) q
-              (told_heard gives 1 at w (λ _. 0) s (Sounds false g.0) old new (omega arith) (fits_first (ticked (λ _. 0)) (λ t. omega arith))
-              (λ p q run rest a y. inl active) g.3 g.4 h
-              (beside 1 (ticked (λ _. 0)) (peer s) (Learnt 1 (w (peer (peer s))) (wait (peer s))) new q))
-              (present_heard at old new gives 1 w (λ _. 0) s (Sounds false g.0) g.3 g.4 h (peer s) 1 (ticked (λ _. 0)) q) h.empties))
-        ]
+    calls gives n old new h g = elim (calls_on s active gives n old new h g) [
+      | inl c ↦ inl c
+      | inr q ↦ inr (inl (hears s some_awake (inl active) room 310 (n + 1) new (let l = g.2 in let o = g.1 in omega (arith, l, o)) q
+          (told_heard gives 1 at w (λ _. 0) s (Sounds false g.0) old new (omega arith) (fits_first (ticked (λ _. 0)) (λ t. omega arith))
+          (λ p q run rest a y. inl active) g.3 g.4 h
+          (beside 1 (ticked (λ _. 0)) (peer s) (Learnt 1 (w (peer (peer s))) (wait (peer s))) new q))
+          (present_heard at old new gives 1 w (λ _. 0) s (Sounds false g.0) g.3 g.4 h (peer s) 1 (ticked (λ _. 0)) q) h.empties))
+    ]
 
     pub comes : (gives : Algorithms) (n : ℕ) (old new : WorldState) → IsRound gives old new → Comes s n old → Comes s (n + 1) new
     comes gives n old new h (inl c) = calls gives n old new h c
