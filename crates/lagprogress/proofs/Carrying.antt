@@ -4,18 +4,19 @@ use Rattle.lagprogress.proofs.Common.{subst, sym, true, ℕ, ◌&&◌, ◌==◌,
 use Rattle.lagprogress.proofs.Common.{slice_get_cases, slice_get_within, is_none, AggId, State, StateBits, bits_of, with_synchronization}
 use Rattle.lagprogress.proofs.Common.{encode_then_decode, CollectingDistributing, Setup, ReceiveState, PortDisabled, Machines, partner_synchronized}
 use Rattle.lagprogress.proofs.Common.{same_mux_state, selected, lacpdu_rows, receive_rows, same_receive_state, start_receive, Starts, before_start}
-use Rattle.lagprogress.proofs.Common.{count_down, has_chosen, Assignment, Flushing, Free, On, Wanted, force_result, is_among, move_result}
-use Rattle.lagprogress.proofs.Common.{SetsAssignment, after_down, Table, assignment_of, next_identifier, first_free, Answer, SystemFault, SystemPort}
-use Rattle.lagprogress.proofs.Common.{Call, Configure, Force, FreesIfDown, Move_conversation, Offer, Receive, Restart, Set_link, Step, Tick, Transmit}
-use Rattle.lagprogress.proofs.Common.{changed_party, choice_with_link, IsFirst, configured_numbers, none_enabled, MuxIsSettled, GivesOrRefuses}
-use Rattle.lagprogress.proofs.Common.{Offers, system_force_result, system_move_result, aggregator_numbered, distributing, IsSound, SystemState}
-use Rattle.lagprogress.proofs.Common.{port_numbers, Step-frame, rests, all-get, ports_rise, Step-sound, first_sound, forced_to, moved_to, Algorithms}
-use Rattle.lagprogress.proofs.Common.{half, EachReachedHasCarriersUp, HasPortUp, carrier_of, held_on, takes_down}
+use Rattle.lagprogress.proofs.Common.{count_down, has_chosen, Assignment, Flushing, Free, On, Wanted, force_result, is_among, move_result, after_down}
+use Rattle.lagprogress.proofs.Common.{Table, assignment_of, next_identifier, first_free, Answer, SystemFault, SystemPort, Call, Configure, Force}
+use Rattle.lagprogress.proofs.Common.{FreesIfDown, Move_conversation, Offer, Receive, Restart, Set_link, Step, Tick, Transmit, changed_party}
+use Rattle.lagprogress.proofs.Common.{choice_with_link, IsFirst, configured_numbers, none_enabled, MuxIsSettled, Offers, system_force_result}
+use Rattle.lagprogress.proofs.Common.{system_move_result, aggregator_numbered, distributing, IsSound, SystemState, port_numbers, Step-frame, rests}
+use Rattle.lagprogress.proofs.Common.{all-get, ports_rise, Step-sound, first_sound, forced_to, moved_to, Algorithms, half, EachReachedHasCarriersUp}
+use Rattle.lagprogress.proofs.Common.{HasPortUp, carrier_of, held_on, takes_down}
 use Rattle.distributor.specs.declared.fault.DistFault.TheVariants as dist
 use Rattle.lagsystem.specs.declared.drive.Reply.TheVariants as reply
 use Rattle.lagprogress.proofs.Answering.{among_port}
 use Rattle.lagprogress.proofs.EachPort.{KeptByCall, KeptBySettling, OfEach, Step-each, first_each}
-use Rattle.lagprogress.proofs.Freeing.{Stays, TableStays, asks_stay, comes_stay, held_carries, settles_stay, table_same, table_through, ticks_stay}
+use Rattle.lagprogress.proofs.Freeing.{Stays, held_carries, stays}
+use Rattle.lagprogress.proofs.TableSteps.{Turns, asks_turn, comes_turn, gives_turn, same_turns, settles_turn, ticks_turn, turns_through}
 use Rattle.lagprogress.proofs.Halves.{both_first}
 use Rattle.lagprogress.proofs.Hearing.{no}
 use Rattle.lagprogress.proofs.Linked.{many, events_each}
@@ -152,7 +153,7 @@ carried_before : (a b : Assignment) (p : ℕ) → Stays a b → carrier_of b ≡
 carried_before a b p (inl e) h = absurd (none-some p (sym e ∙ h))
 carried_before a b p (inr e) h = sym e ∙ h
 
-by_stays : (call : Call) (t u : Table) → ((p : ℕ) → takes_down p call ≡ false) → TableStays t u → HeldBefore call t u
+by_stays : (call : Call) (t u : Table) → ((p : ℕ) → takes_down p call ≡ false) → Turns Stays stays t u → HeldBefore call t u
 by_stays call t u leaves h g k p e =
     (carried_before (assignment_of t g k) (assignment_of u g k) p (h g k) (held_carries (assignment_of u g k) p e), leaves p)
 
@@ -168,7 +169,7 @@ downed_before n p (Wanted q preferred) h = downed n p q (Free preferred) (Wanted
 downed_before n p (Flushing q id preferred age) h =
     downed n p q (Free preferred) (Flushing q id preferred age) (eqb q n) refl refl refl h
 
-linked_before : (n : ℕ) (up : Bool) (old mid new : SystemState) → FreesIfDown up n old.table mid.table → TableStays mid.table new.table
+linked_before : (n : ℕ) (up : Bool) (old mid new : SystemState) → FreesIfDown up n old.table mid.table → Turns Stays stays mid.table new.table
     → HeldBefore (Set_link n up) old.table new.table
 linked_before n true old mid new h k g c p e =
     let carried = carried_before (assignment_of mid.table g c) (assignment_of new.table g c) p (k g c) (held_carries (assignment_of new.table g c) p e) in
@@ -205,29 +206,10 @@ forced_stays (On p) s h = let is : Free None ≡ s = cc in inl (ap carrier_of (s
 forced_stays (Wanted p preferred) s h = let is : Free preferred ≡ s = cc in inl (ap carrier_of (sym is))
 forced_stays (Flushing p n preferred age) s h = let is : Free preferred ≡ s = cc in inl (ap carrier_of (sym is))
 
-sets_stay : (agg conv : ℕ) (state : Assignment) (old new : Table) → SetsAssignment old new agg conv state
-    → Stays (assignment_of old agg conv) state → TableStays old new
-sets_stay agg conv state old new h k g c = subst (Stays (assignment_of old g c)) (sym (h.states g c))
-    (by_test (eqb agg g && eqb conv c) refl)
-  where
-    here : (eqb agg g && eqb conv c) ≡ true → (agg ≡ g) × (conv ≡ c)
-    here e = (grind (arith, nat_tests), grind (arith, nat_tests))
-
-    by_test : (b : Bool) → (eqb agg g && eqb conv c) ≡ b → Stays (assignment_of old g c) (cond b state (assignment_of old g c))
-    by_test true e = let same = here e in
-        subst (λ x. Stays (assignment_of old g x) state) same.1 (subst (λ x. Stays (assignment_of old x conv) state) same.0 k)
-    by_test false e = inr refl
-
-gives_stays : (agg : AggId) (conv : ℕ) (what : Result Assignment SystemFault) (old : SystemState) (answer : Result Unit SystemFault)
-    (new : SystemState) → ((s : Assignment) → what ≡ Ok s → Stays (assignment_of old.table agg.0 conv) s)
-    → GivesOrRefuses agg conv what old answer new → TableStays old.table new.table
-gives_stays agg conv (Ok s) old answer new k h = sets_stay agg.0 conv s old.table new.table h.1.0 (k s refl)
-gives_stays agg conv (Err fault) old answer new k h = table_same old new (ap (λ (s : SystemState). s.table) h.1)
-
 offered_before : (gives : ℕ → ℕ → ℕ → Type 0) (agg : AggId) (octets : List ℕ) (old : SystemState) (answer : Result ℕ SystemFault)
     (new : SystemState) → Offers gives agg octets old answer new → HeldBefore (Offer agg octets) old.table new.table
 offered_before gives agg octets old (Err fault) new h =
-    by_stays (Offer agg octets) old.table new.table (λ p. refl) (table_same old new (ap (λ (s : SystemState). s.table) h.1))
+    by_stays (Offer agg octets) old.table new.table (λ p. refl) (same_turns Stays stays old new (ap (λ (s : SystemState). s.table) h.1))
 offered_before gives agg octets old (Ok port) new h =
     λ g k p e. (by_test g k p _ (ap held_on (sym (h.2.0.states g k)) ∙ e), refl)
   where
@@ -242,33 +224,33 @@ first_is_free s h g k = ap (λ (t : Table). assignment_of t g k) h.3 ∙ first_f
 held_before : (gives : ℕ → ℕ → ℕ → Type 0) (old new : SystemState) (call : Call) (answer : Answer) → Step gives old call answer new
     → (new ≡ old) ⊎ HeldBefore call old.table new.table
 held_before gives old new Tick reply.Tick h = inr (
-    by_stays Tick old.table new.table (λ p. refl) (ticks_stay gives old new h))
+    by_stays Tick old.table new.table (λ p. refl) (ticks_turn Stays stays gives old new h))
 held_before gives old new (Set_link n up) (reply.SetLink (Ok done)) h = inr (
-    linked_before n up old h.0 new h.1.1 (settles_stay h.0 new h.2))
+    linked_before n up old h.0 new h.1.1 (settles_turn Stays stays h.0 new h.2))
 held_before gives old new (Set_link n up) (reply.SetLink (Err fault)) h = inl h.same
 held_before gives old new (Receive n octets) (reply.Receive a) h = inr (
-    by_stays (Receive n octets) old.table new.table (λ p. refl) (comes_stay gives n octets a old new h))
+    by_stays (Receive n octets) old.table new.table (λ p. refl) (comes_turn Stays stays gives n octets a old new h))
 held_before gives old new (Configure n change) (reply.Configure (Ok true)) h = inr (
-    by_stays (Configure n change) old.table new.table (λ p. refl) (table_through old.table h.0.table new.table
-    (table_same old h.0 (ap (λ (s : SystemState). s.table) h.1.1)) (settles_stay h.0 new h.2)))
+    by_stays (Configure n change) old.table new.table (λ p. refl) (turns_through Stays stays old.table h.0.table new.table
+    (same_turns Stays stays old h.0 (ap (λ (s : SystemState). s.table) h.1.1)) (settles_turn Stays stays h.0 new h.2)))
 held_before gives old new (Configure n change) (reply.Configure (Ok false)) h = inr (
-    by_stays (Configure n change) old.table new.table (λ p. refl) (table_same old new (ap (λ (s : SystemState). s.table) h.1)))
+    by_stays (Configure n change) old.table new.table (λ p. refl) (same_turns Stays stays old new (ap (λ (s : SystemState). s.table) h.1)))
 held_before gives old new (Configure n change) (reply.Configure (Err fault)) h = inr (
-    by_stays (Configure n change) old.table new.table (λ p. refl) (table_same old new (ap (λ (s : SystemState). s.table) h.same)))
+    by_stays (Configure n change) old.table new.table (λ p. refl) (same_turns Stays stays old new (ap (λ (s : SystemState). s.table) h.same)))
 held_before gives old new Restart reply.Restart h = inr (
     λ g k p e. absurd (none-some p (sym (ap held_on (first_is_free new h.1 g k)) ∙ e)))
 held_before gives old new (Transmit n) (reply.Transmit a) h = inr (
-    by_stays (Transmit n) old.table new.table (λ p. refl) (asks_stay gives n a old new h))
+    by_stays (Transmit n) old.table new.table (λ p. refl) (asks_turn Stays stays gives n a old new h))
 held_before gives old new (Offer agg octets) (reply.Offer answer) h = inr (
     offered_before gives agg octets old answer new h)
 held_before gives old new (Move_conversation agg conv port) (reply.MoveConversation answer) h = inr (
     by_stays (Move_conversation agg conv port) old.table new.table (λ p. refl)
-    (gives_stays agg conv (system_move_result old agg conv port) old answer new
+    (gives_turn Stays stays agg conv (system_move_result old agg conv port) old answer new
     (λ s x. moved_stays (next_identifier old.table) (distributing agg old.system_ports) port (assignment_of old.table agg.0 conv) s
     (moved_to agg conv port old s x)) h))
 held_before gives old new (Force agg conv) (reply.Force answer) h = inr (
     by_stays (Force agg conv) old.table new.table (λ p. refl)
-    (gives_stays agg conv (system_force_result old agg conv) old answer new
+    (gives_turn Stays stays agg conv (system_force_result old agg conv) old answer new
     (λ s x. forced_stays (assignment_of old.table agg.0 conv) s (forced_to agg conv old s x)) h))
 held_before gives old new call answer h = absurd h
 

@@ -7,11 +7,11 @@ use Rattle.lagprogress.proofs.Common.{periodic_rows, timer_expired, default_part
 use Rattle.lagprogress.proofs.Common.{recorded_synchronization, RunsToRest, count_down, pdu_of, ProcessesLacpdu, can_receive, can_receive_in, named}
 use Rattle.lagprogress.proofs.EachPort.{KeptBySettling}
 use Rattle.lagprogress.proofs.EndFacts.{Along, CanSound, IsEnd, SameActor, Says, Synced, activity, all_true, awake_fires, end_settles, first_true}
-use Rattle.lagprogress.proofs.EndFacts.{maintained, not_silent}
+use Rattle.lagprogress.proofs.EndFacts.{maintained}
 use Rattle.lagprogress.proofs.Hearing.{no}
 use Rattle.lagprogress.proofs.Knowing.{decoded}
 use Rattle.lagprogress.proofs.OnePort.{AtPort, mux_leaves, periodic_leaves}
-use Rattle.lagprogress.proofs.Sounding.{rests, unclear}
+use Rattle.lagprogress.proofs.Sounding.{rests, unclear, not_silent}
 use Rattle.lagprogress.proofs.Lapsing.{expired_active}
 use Rattle.lagprogress.proofs.Timers.{RowsKeep, fires_keep, runs_keep}
 

@@ -29,9 +29,8 @@ pub use Rattle.slowpdu.specs.declared.pdu.Marker.{Marker}
 pub use Rattle.slowpdu.specs.declared.pdu.MarkerKind.TheVariants.{Information, Response}
 pub use Rattle.slowpdu.specs.declared.pdu.Pdu.{Pdu}
 pub use Rattle.slowpdu.specs.Frames.{frame_octets}
-pub use Rattle.slowpdu.specs.Layout.{HoldsNumber, IsAddress, read_field}
 pub use Rattle.slowpdu.specs.Parties.{party_of}
-pub use Rattle.slowpdu.proofs.LayoutLemmas.{all-append, octet_stands}
+pub use Rattle.slowpdu.proofs.LayoutLemmas.{all-append}
 pub use Rattle.slowpdu.proofs.PduLemmas.{no_fault, one_pdu, written_pdu}
 pub use Rattle.lagmodel.specs.World.{Ends, IsCabling, One, Side, Two, WorldSetup, end_at, peer}
 pub use Rattle.lagmodel.proofs.Base.{cond_false, cond_true, value_of}
@@ -46,8 +45,7 @@ pub use Rattle.portmachines.specs.declared.receive.ReceiveState.{ReceiveState}
 pub use Rattle.portmachines.specs.declared.receive.ReceiveState.TheVariants.{Current, Defaulted, Expired, Initialize, PortDisabled}
 pub use Rattle.portmachines.specs.Machines.{Machines}
 pub use Rattle.portmachines.specs.Mux.{is_synchronized, mux_rows, partner_synchronized, same_mux_state, selected}
-pub use Rattle.portmachines.specs.Periodic.{RunsPeriodic, clear_ntt, is_silent, partner_short, periodic_rows, periodic_table, same_periodic_state}
-pub use Rattle.portmachines.specs.Periodic.{timer_expired}
+pub use Rattle.portmachines.specs.Periodic.{RunsPeriodic, is_silent, partner_short, periodic_rows, periodic_table, same_periodic_state, timer_expired}
 pub use Rattle.portmachines.specs.Receive.{default_partner, is_maintained, lacpdu_rows, receive_rows, recorded_synchronization, same_receive_state}
 pub use Rattle.portmachines.specs.Receive.{start_receive}
 pub use Rattle.portmachines.specs.Rows.{AtRest, Fires, FiresTimes, Row, RunsToRest, in_order}

@@ -433,25 +433,27 @@ came_from gives s k l [] r old new first x = inr (record {
 came_from gives s k l (item ∷ rest) r old new first x = inl (came gives s k l item rest r old new first x)
 
 -- a Deliver event takes the first item off some cable, or there is none
-pub record CameOff (gives : Algorithms) (old new : WorldState) : Type 0 where
+pub record CameOff (gives : Algorithms) (c n : ℕ) (old new : WorldState) : Type 0 where
   pub side : Side
+  pub named : side_of n ≡ Some side
   pub index : ℕ
+  pub numbered : c ≡ suc index
   pub link : LinkState
   pub there : slice_get old.links index ≡ Some link
   pub comes : Comes gives side index link old new
 
 pub came_off : (gives : Algorithms) (c n : ℕ) (r : Reply) (old new : WorldState) → WorldSteps gives old (event.Deliver c n) r new
-    → CameOff gives old new ⊎ Stays old new
-came_off gives c n r old new h = let v = value_of (side_of n) _ h.0 in by_number c v.0 v.2
+    → CameOff gives c n old new ⊎ Stays old new
+came_off gives c n r old new h = let v = value_of (side_of n) _ h.0 in by_number c v.0 v.1 v.2
   where
-    by_number : (c : ℕ) (s : Side)
+    by_number : (c : ℕ) (s : Side) → side_of n ≡ Some s
         → OnLink c (λ i l. DeliversFrom gives s i l (towards s l) old r (record new { acted = old.acted })) old.links
-        → CameOff gives old new ⊎ Stays old new
-    by_number zero s on = absurd on
-    by_number (suc k) s on =
+        → CameOff gives c n old new ⊎ Stays old new
+    by_number zero s named on = absurd on
+    by_number (suc k) s named on =
         let m = value_of (slice_get old.links k) _ on in
         elim (came_from gives s k m.0 (towards s m.0) r old new refl m.2) [
-          | inl comes ↦ inl (record { side = s; index = k; link = m.0; there = m.1; comes = comes })
+          | inl comes ↦ inl (record { side = s; named = named; index = k; numbered = refl; link = m.0; there = m.1; comes = comes })
           | inr stays ↦ inr stays
         ]
 

@@ -1,5 +1,6 @@
-use Rattle.lagprogress.proofs.Common.{arith, length, refl, ◌+◌, ◌<◌, ◌∙◌, ◌≡◌, ◌≤◌, One, Two, Algorithms, both_algorithms}
-use Rattle.lagprogress.proofs.Played.{nothing_left, on_fault, one_more, quiet_more, refused_delivery}
+use Rattle.lagprogress.proofs.Common.{arith, length, refl, ◌+◌, ◌<◌, ◌∙◌, ◌≡◌, ◌≤◌, One, Two, Algorithms, both_algorithms, IsOutOfMemoryOrSpent}
+use Rattle.lagprogress.proofs.Played.{nothing_left, on_err, one_more, quiet_more, refused_delivery}
+use Rattle.lagscript.specs.declared.event.Event.TheVariants as event
 use Rattle.lagprogress.proofs.playing.deliver_each.Goals as goal
 
 pub step-requires-clause-one : goal.step-requires-clause-one
@@ -17,15 +18,15 @@ step-requires-in-loop-seen-clause-two g c = rw (c.step.ensures.algorithm_two, c.
 pub returns-in_err-first-clause-refused : goal.returns-in_err-first-clause-refused
 returns-in_err-first-clause-refused g c =
     let within : c.loop-seen.seen < length c.args.world.now.state.links = omega (arith, c.loop-seen-test.true, c.requires.counted) in
-    on_fault c.step.new.self.state c.in_err-first.field-0.0 c.from_residual.result c.from_residual.ensures.1
+    on_err (λ fault. IsOutOfMemoryOrSpent fault c.step.new.self.state) c.in_err-first.field-0.0 c.from_residual.result c.from_residual.ensures.1
     (refused_delivery c.in_err-first.field-0.0 1 c.loop-seen.seen One c.args.world.now.state c.loop-seen.world.state c.step.new.self.state refl
     within c.loop-seen.invariant.fixed c.in_err-first.ensures.refused c.in_err-first.ensures.unchanged)
 
 pub returns-in_err-second-clause-refused : goal.returns-in_err-second-clause-refused
 returns-in_err-second-clause-refused g c =
     let within : c.loop-seen.seen < length c.args.world.now.state.links = omega (arith, c.loop-seen-test.true, c.requires.counted) in
-    on_fault c.step-in-loop-seen.new.self.state c.in_err-second.field-0.0 c.from_residual-in_err-second.result
-    c.from_residual-in_err-second.ensures.1
+    on_err (λ fault. IsOutOfMemoryOrSpent fault c.step-in-loop-seen.new.self.state) c.in_err-second.field-0.0
+    c.from_residual-in_err-second.result c.from_residual-in_err-second.ensures.1
     (refused_delivery c.in_err-second.field-0.0 2 c.loop-seen.seen Two c.args.world.now.state c.step.new.self.state
     c.step-in-loop-seen.new.self.state refl within (c.step.ensures.fixed ∙ c.loop-seen.invariant.fixed) c.in_err-second.ensures.refused
     c.in_err-second.ensures.unchanged)
