@@ -1,13 +1,14 @@
 -- What each event of a round leaves of the conversations that are held on a port whose cable is healthy.
-use Rattle.lagprogress.proofs.Common.{Bool, Err, IsSome, List, None, Ok, Option, Result, Some, [], ap, arith, cond, eqb, false, filter, inl, inr, ltb}
-use Rattle.lagprogress.proofs.Common.{map, refl, slice_get, subst, suc, sym, true, zero, ℕ, ◌&&◌, ◌+◌, ◌-◌, ◌<◌, ◌==◌, ◌||◌, ◌∙◌, ◌∷◌, ◌≡◌, ◌≤◌, ◌⊎◌}
-use Rattle.lagprogress.proofs.Common.{cases_Bool, nat_tests, none-some, same_Some, list_any, AggId, Choice, Lacpdu, Information, frame_octets}
-use Rattle.lagprogress.proofs.Common.{IsAddress, Side, peer, CollectingDistributing, Machines, same_mux_state, has_chosen, Assignment, Flushing, Free}
-use Rattle.lagprogress.proofs.Common.{On, Wanted, is_among, after_mark, marker_due, wants_marker, Table, assignment_of, count_conversations}
-use Rattle.lagprogress.proofs.Common.{next_identifier, SystemFault, SystemPort, Carries, IsFrame, MuxIsSettled, aggregator_numbered, distributes_in}
-use Rattle.lagprogress.proofs.Common.{distributing, SendsMarkerOf, TransmitsIf, own_marker, Settling, SystemState, ports_table, settling_parts}
-use Rattle.lagprogress.proofs.Common.{all-get, ItemValue, WorldState, half}
+use Rattle.lagprogress.proofs.Common.{Bool, IsSome, List, None, Ok, Option, Result, Some, [], ap, arith, cond, eqb, false, filter, inl, inr, ltb, map}
+use Rattle.lagprogress.proofs.Common.{refl, slice_get, subst, suc, sym, true, zero, ℕ, ◌+◌, ◌-◌, ◌<◌, ◌==◌, ◌||◌, ◌∙◌, ◌∷◌, ◌≡◌, ◌≤◌, ◌⊎◌, and_parts}
+use Rattle.lagprogress.proofs.Common.{cases_Bool, nat_tests, none-some, same_Some, list_any, AggId, Choice, Lacpdu, Information, frame_octets, Side}
+use Rattle.lagprogress.proofs.Common.{peer, CollectingDistributing, Machines, same_mux_state, has_chosen, Assignment, On, Wanted, is_among}
+use Rattle.lagprogress.proofs.Common.{after_mark, marker_due, wants_marker, Table, assignment_of, count_conversations, next_identifier, SystemFault}
+use Rattle.lagprogress.proofs.Common.{SystemPort, Carries, IsFrame, MuxIsSettled, aggregator_numbered, distributes_in, distributing, SendsMarkerOf}
+use Rattle.lagprogress.proofs.Common.{TransmitsIf, own_marker, Settling, SystemState, ports_table, settling_parts, all-get, ItemValue, WorldState}
+use Rattle.lagprogress.proofs.Common.{half}
 use Rattle.distributor.specs.Conversations.{sum_below}
+use Rattle.slowpdu.specs.Layout.{IsAddress}
 use Rattle.slowpdu.specs.Markers.{WritesMarker}
 use Rattle.slowpdu.specs.declared.pdu.Pdu.TheVariants as pdu
 use Rattle.lagprogress.proofs.Climbing.{PartnerInSync, distributes_now}
@@ -22,14 +23,6 @@ use Rattle.lagprogress.proofs.Passing.{sent_carries}
 use Rattle.lagprogress.proofs.Progressing.{beside}
 
 -- the ports that distribute
-
-both_parts : (a b : Bool) → (a && b) ≡ true → (a ≡ true) × (b ≡ true)
-both_parts true b h = (refl, h)
-both_parts false b h = absurd (no h)
-
-both_true : (a b : Bool) → a ≡ true → b ≡ true → (a && b) ≡ true
-both_true true b e f = f
-both_true false b e f = absurd (no e)
 
 -- a port that is among those that distribute
 abbrev pub Distributor : AggId → List SystemPort → ℕ → Type 0
@@ -114,13 +107,11 @@ none_wanted p t none g k l m n =
     subst (λ x. wants_marker p (assignment_of t x k) ≡ false) here (no_bit (wants_marker p (assignment_of t (g - 1 + 1) k)) _ refl bit)
 
 not_wanted : (p m : ℕ) (W : Type 0) (F : ℕ → Type 0) (a : Assignment) → wants_marker p a ≡ false → Fine p m W F a → Fine p m ⊥ F a
-not_wanted p m W F (Free preferred) e h = tt
-not_wanted p m W F (On q) e h = tt
-not_wanted p m W F (Flushing q id preferred age) e h = h
 not_wanted p m W F (Wanted q preferred) e h = λ f. apart f
   where
     apart : q ≡ p → ⊥
     apart f = grind (arith, nat_tests)
+not_wanted p m W F a e h = h
 
 module _ (at : Side → ℕ) (w : Side → Lacpdu) (s : Side) (mac : List ℕ) (aggs count : ℕ) where
   -- what is known of the conversations of the port at the end of s
@@ -133,10 +124,9 @@ module _ (at : Side → ℕ) (w : Side → Lacpdu) (s : Side) (mac : List ℕ) (
   -- what goes out leaves what is on its way
   pub went_has : (u t : Side) (P : ItemValue → Type 0) (a : Result (Option (List ℕ)) SystemFault) (fl now : Side → List ItemValue) → Went u a fl now
       → Has P (fl t) → Has P (now t)
-  went_has u t P (Err fault) fl now h f = subst (λ (g : Side → List ItemValue). Has P (g t)) (sym h) f
-  went_has u t P (Ok None) fl now h f = subst (λ (g : Side → List ItemValue). Has P (g t)) (sym h) f
   went_has u t P (Ok (Some frame)) fl now h f = subst (λ (g : Side → List ItemValue). Has P (g t)) (sym h.2)
       (pushed (λ v xs. Has P (fl v) → Has P xs) (peer u) h.0 fl (λ g y. has_on P (fl (peer u)) (h.0 ∷ []) (g y)) (λ v y. y) t f)
+  went_has u t P a fl now h f = subst (λ (g : Side → List ItemValue). Has P (g t)) (sym h) f
 
   pub went_flights : (u : Side) (a : Result (Option (List ℕ)) SystemFault) (fl now : Side → List ItemValue) → Went u a fl now → (id : ℕ)
       → Flights s (at s) mac fl id → Flights s (at s) mac now id
@@ -174,19 +164,21 @@ module _ (at : Side → ℕ) (w : Side → Lacpdu) (s : Side) (mac : List ℕ) (
       (λ b f. marked_here (at s) m id W (Flights s (at s) mac fl) (Flights s (at s) mac now) flies
       (went_flights s (Ok (Some (frame_octets z.mac h.0))) fl now gone) b f) fine)
 
+  went_fine : (a : Option (List ℕ)) (old new : SystemState) (fl now : Side → List ItemValue) (m : ℕ) (W : Type 0) → new.table ≡ old.table
+      → Went s (Ok a) fl now → AllFine m W (Flights s (at s) mac fl) old.table → AllFine m W (Flights s (at s) mac now) new.table
+  went_fine a old new fl now m W same went fine = subst (AllFine m W (Flights s (at s) mac now)) (sym same)
+      (all_map m W W (Flights s (at s) mac fl) (Flights s (at s) mac now) old.table (λ x. x) (went_flights s (Ok a) fl now went) fine)
+
   pub sends_fine : (up due : Bool) (i : ℕ) (z : SystemPort) (old : SystemState) (a : Option (List ℕ)) (new : SystemState)
       (fl now : Side → List ItemValue) (m : ℕ) (W : Type 0) → z.number ≡ at s → old.system.mac ≡ mac → TransmitsIf up due i z old a new
       → Went s (Ok a) fl now → AllFine m W (Flights s (at s) mac fl) old.table → AllFine m W (Flights s (at s) mac now) new.table
   sends_fine false due i z old a new fl now m W number own h went fine =
-      subst (AllFine m W (Flights s (at s) mac now)) (sym (ap (λ (t : SystemState). t.table) h.1))
-      (all_map m W W (Flights s (at s) mac fl) (Flights s (at s) mac now) old.table (λ x. x) (went_flights s (Ok a) fl now went) fine)
+      went_fine a old new fl now m W (ap (λ (t : SystemState). t.table) h.1) went fine
   sends_fine true true i z old a new fl now m W number own h went fine =
-      subst (AllFine m W (Flights s (at s) mac now)) (sym (ap (λ (t : SystemState). t.table) h.3))
-      (all_map m W W (Flights s (at s) mac fl) (Flights s (at s) mac now) old.table (λ x. x) (went_flights s (Ok a) fl now went) fine)
+      went_fine a old new fl now m W (ap (λ (t : SystemState). t.table) h.3) went fine
   sends_fine true false i z old a new fl now m W number own h went fine =
       elim (sends_marker (marker_due old.table z.number) z old a new fl now m W number own h went fine) [
-        | inl n ↦ subst (AllFine m W (Flights s (at s) mac now)) (sym (ap (λ (t : SystemState). t.table) n.1))
-            (all_map m W W (Flights s (at s) mac fl) (Flights s (at s) mac now) old.table (λ x. x) (went_flights s (Ok a) fl now went) fine)
+        | inl n ↦ went_fine a old new fl now m W (ap (λ (t : SystemState). t.table) n.1) went fine
         | inr f ↦ all_map m ⊥ W (Flights s (at s) mac now) (Flights s (at s) mac now) new.table (λ x. absurd x) (λ id y. y) f
       ]
 
@@ -251,11 +243,10 @@ module _ (at : Side → ℕ) (w : Side → Lacpdu) (s : Side) (mac : List ℕ) (
         let own = all-get (λ (y : SystemPort). AtPort (at s) Steady y.number y.port) was.system_ports x.0 x.1 x.2
         (beside at w 2 one s Steady old a) x.3 in
         let chose : has_chosen agg c ≡ true = sym (ap (has_chosen agg) own.1)
-        ∙ (both_parts (has_chosen agg x.1.port.choice) (same_mux_state CollectingDistributing x.1.port.mux) x.4).0 in
+        ∙ (and_parts (has_chosen agg x.1.port.choice) (same_mux_state CollectingDistributing x.1.port.mux) x.4).0 in
         let z = end_here at w 2 two s Steady new b s in
         let now = end_with at w 2 two s new z Steady (beside at w 2 two s Steady new b) in
         let mux = (all-get (MuxIsSettled st.keys st.system_ports) st.system_ports z.index z.port z.there (b.steady s).0.quiet.0).mux in
         let up = distributes_now z.port.port mux (z.is.2 (omega arith)) now.0 in
         port_among agg st.system_ports (at s) z.index z.port z.there z.number
-        (both_true (has_chosen agg z.port.port.choice) (same_mux_state CollectingDistributing z.port.port.mux)
-        (ap (has_chosen agg) now.1 ∙ chose) (ap (same_mux_state CollectingDistributing) up))
+        (rw (ap (has_chosen agg) now.1 ∙ chose, ap (same_mux_state CollectingDistributing) up) refl)

@@ -1,9 +1,9 @@
 -- How a data frame gets a port, and how it is handed up at the other end of its cable.
 use Rattle.lagprogress.proofs.Common.{Bool, Err, List, None, Ok, Result, Some, [], ap, arith, cond, false, length, nat_le, refl, slice_get, subst}
-use Rattle.lagprogress.proofs.Common.{suc, sym, true, ℕ, ◌&&◌, ◌∙◌, ◌∷◌, ◌≡◌, true≢false, nat_tests, none-some, same_Some, MatchOption, AggId, One}
-use Rattle.lagprogress.proofs.Common.{Side, Two, value_of, Assignment, Flushing, Free, On, Wanted, Assigns, MaySend, PicksPort, is_among, SystemFault}
-use Rattle.lagprogress.proofs.Common.{Received, Up, SystemPort, Data_frame, IsFrame, Offer, ParsesWhere, Performs, ReceivesAt, Step, up_or_dropped}
-use Rattle.lagprogress.proofs.Common.{MayBeOffered, RefusesOffer, assignment_of_frame, longest_frame, collecting, distributing}
+use Rattle.lagprogress.proofs.Common.{suc, sym, true, ℕ, ◌∙◌, ◌∷◌, ◌≡◌, and_parts, true≢false, nat_tests, none-some, same_Some, MatchOption, AggId}
+use Rattle.lagprogress.proofs.Common.{One, Side, Two, value_of, Assignment, Flushing, Free, On, Wanted, Assigns, MaySend, PicksPort, is_among}
+use Rattle.lagprogress.proofs.Common.{SystemFault, Received, Up, SystemPort, Data_frame, IsFrame, Offer, ParsesWhere, Performs, ReceivesAt, Step}
+use Rattle.lagprogress.proofs.Common.{up_or_dropped, MayBeOffered, RefusesOffer, assignment_of_frame, longest_frame, collecting, distributing}
 use Rattle.lagprogress.proofs.Common.{number_of_conversation, IsSound, SystemState, port_index, effect_one, Reply, AfterOffer, AfterReceive}
 use Rattle.lagprogress.proofs.Common.{Algorithms, DeliversFrom, OnLink, WorldOffers, WorldReceives, offered_item, side_of, with_frame_counted}
 use Rattle.lagprogress.proofs.Common.{with_link_at, HalfState, ItemValue, LinkState, WorldState, half, port_at, towards, with_half, with_towards}
@@ -16,13 +16,9 @@ use Rattle.lagprogress.proofs.OneCable.{collected_links, collected_states, with_
 
 -- the answer to an offer
 
-both : (a b : Bool) → (a && b) ≡ true → (a ≡ true) × (b ≡ true)
-both true b h = (refl, h)
-both false b h = absurd (true≢false (sym h))
-
 pub is_data : (octets : List ℕ) → MayBeOffered octets → IsFrame octets Data_frame
 is_data octets h =
-    let test = (both (nat_le 14 (length octets)) (nat_le (length octets) longest_frame) h.0).0 in (grind (arith, nat_tests), h.1)
+    let test = (and_parts (nat_le 14 (length octets)) (nat_le (length octets) longest_frame) h.0).0 in (grind (arith, nat_tests), h.1)
 
 abbrev refused : DistFault → Result ℕ DistFault
 refused cause = Err cause
@@ -75,7 +71,7 @@ same_ports Two Two h k j e f = f ∙ e
 
 offered : (gives : Algorithms) (s : Side) (agg : AggId) (octets : List ℕ) (a : Result ℕ SystemFault) (old new : WorldState) (mid : HalfState)
     (r : Reply) → IsSound (half s old).state → TakesFrame agg octets (half s old).state
-    → Step (gives s) (half s old).state (Offer agg octets) (answer.Offer a) mid.state → AfterOffer s agg octets a (with_half s mid old) r new
+    → Step (gives s) (half s old).state (Offer agg octets) (answer.Offer a) mid.state → AfterOffer s agg octets a (with_half s mid old) r (record new { acted = old.acted })
     → GetsPort s agg octets old r new
 offered gives s agg octets (Err fault) old new mid r sound takes h after =
     absurd (not_refused (gives s) agg octets (half s old).state fault takes h.0)
@@ -102,19 +98,8 @@ pub offer_gets_port : (gives : Algorithms) → OfferGetsPort gives
 offer_gets_port gives n s agg octets r old new named sound takes h =
     let v = value_of (side_of n) _ h.0 in
     let same : v.0 ≡ s = same_Some v.0 s (sym v.1 ∙ named) in
-    let now = record new { acted = old.acted } in
-    let e = subst (λ t. WorldOffers gives t agg octets.items old r now) same v.2 in
-    let g = offered gives s agg octets.items e.0 old now e.1 r sound takes e.2.answers.step e.3 in
-    record {
-      port = g.port;
-      serial = g.serial;
-      item = g.item;
-      distributes = g.distributes;
-      replied = g.replied;
-      frame = g.frame;
-      sent = g.sent;
-      same = λ t. g.same t;
-    }
+    let e = subst (λ t. WorldOffers gives t agg octets.items old r (record new { acted = old.acted })) same v.2 in
+    offered gives s agg octets.items e.0 old new e.1 r sound takes e.2.answers.step e.3
 
 -- a data frame comes off its cable
 

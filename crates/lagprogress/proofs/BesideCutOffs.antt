@@ -1,23 +1,21 @@
 -- What is cut off does no harm: the other links come up beside it.
 use Rattle.lagprogress.proofs.Common.{Some, ap, arith, false, inl, inr, refl, slice_get, subst, sym, true, ℕ, ◌-◌, ◌==◌, ◌∙◌, ◌≡◌, cases_Bool}
-use Rattle.lagprogress.proofs.Common.{same_Some, Choice, Selected, Standby, Unselected, Party, is_selected, same_system, exact_system, system-itself}
-use Rattle.lagprogress.proofs.Common.{Info, Side, peer, Current, Defaulted, Expired, Initialize, PortDisabled, Machines, mux_rows, periodic_rows}
-use Rattle.lagprogress.proofs.Common.{receive_rows, same_receive_state, RunsToRest, count_down, SystemPort, MuxIsSettled, occupied, SystemState}
-use Rattle.lagprogress.proofs.Common.{all-get, found_place, ports_rise, Algorithms, LinkState, WorldState, half, port_at, EnoughAggregators}
-use Rattle.lagprogress.proofs.Common.{EnoughLinks, OneIsActive, EachLinkAgreesBesideCutOffs, EachLinkComesUpBesideCutOffs, IsBundleBesideCutOffs}
-use Rattle.lagprogress.proofs.Common.{IsCutOff, NoneIsHeldBesideCutOffs, IsHealthyAt, Rounds, WantsAggregator, IsSteady, IsTimed}
-use Rattle.lagprogress.proofs.Bundling.{IsMixed, agree_of, distribute_of, as_before, ends_at, never_stands, old_port, one_wakes, still_aggregators}
-use Rattle.lagprogress.proofs.Bundling.{still_links}
+use Rattle.lagprogress.proofs.Common.{same_Some, Choice, Selected, Party, is_selected, same_system, exact_system, system-itself, Info, Side, peer}
+use Rattle.lagprogress.proofs.Common.{Current, Defaulted, Expired, Initialize, PortDisabled, Machines, mux_rows, periodic_rows, receive_rows}
+use Rattle.lagprogress.proofs.Common.{same_receive_state, RunsToRest, count_down, SystemPort, MuxIsSettled, occupied, SystemState, all-get}
+use Rattle.lagprogress.proofs.Common.{found_place, ports_rise, Algorithms, LinkState, WorldState, half, port_at, EnoughAggregators, EnoughLinks}
+use Rattle.lagprogress.proofs.Common.{OneIsActive, EachLinkAgreesBesideCutOffs, EachLinkComesUpBesideCutOffs, IsBundleBesideCutOffs, IsCutOff}
+use Rattle.lagprogress.proofs.Common.{NoneIsHeldBesideCutOffs, IsHealthyAt, Rounds, WantsAggregator, IsSteady, IsTimed}
+use Rattle.lagprogress.proofs.Bundling.{Meets, agree_of, distribute_of, as_before, ends_at, never_stands, old_port, one_meet, one_wakes}
+use Rattle.lagprogress.proofs.Bundling.{still_aggregators, still_links}
 use Rattle.lagprogress.proofs.Climbing.{Ripe, Rising, rising_first, rising_rows, state_not}
-use Rattle.lagprogress.proofs.ComingUp.{active_at, zero_on}
+use Rattle.lagprogress.proofs.ComingUp.{zero_on}
 use Rattle.lagprogress.proofs.CutOffLemmas.{Severed, WereDown, cut_off_is_defaulted, cut_round, cut_since}
 use Rattle.lagprogress.proofs.EachPort.{KeptBySettling}
 use Rattle.lagprogress.proofs.EachRound.{EachAt, rounds_steady}
 use Rattle.lagprogress.proofs.Freeing.{freed_of}
 use Rattle.lagprogress.proofs.Hearing.{EnabledKeep, no, not_down, times_keep}
-use Rattle.lagprogress.proofs.OneActive.{named_at, one_meets}
-use Rattle.lagprogress.proofs.OnePort.{AtPort, at_number}
-use Rattle.lagprogress.proofs.Progressing.{Fresh, said_by, starts}
+use Rattle.lagprogress.proofs.OnePort.{AtPort, at_number, mux_leaves, periodic_leaves, settling_leaves}
 use Rattle.lagprogress.proofs.Selecting.{finds_aggregator}
 use Rattle.lagprogress.proofs.Timers.{runs_keep}
 
@@ -46,34 +44,23 @@ idle_ticks : (c : Info) (p q : Machines) → RunsToRest receive_rows (count_down
 idle_ticks c p q h a = (times_keep (λ r. Idle c r × (r ≡ count_down p)) receive_rows (still_rows c (count_down p)) h.0 (count_down p) q h.1
     (a, refl)).1
 
-idle_settles : (n : ℕ) (c : Info) → KeptBySettling (AtPort n (Idle c))
-idle_settles n c = record {
-  mux = λ m ready p q h a e. runs_keep (Idle c) (mux_rows ready)
-      (λ p a. a, (λ p a. a, (λ p a. a, (λ p a. a, (λ p a. a, (λ p a. a, tt)))))) p q h (a e);
-  periodic = λ m p q h a e. subst (Idle c) (sym h.2) (runs_keep (Idle c) periodic_rows
-      (λ p a. a, (λ p a. a, (λ p a. a, (λ p a. a, (λ p a. a, (λ p a. a, (λ p a. a, tt))))))) p h.0 h.1 (a e));
-  select = λ m choice p none may a e. a e;
-}
-
 -- and climbs
 abbrev IdleRising : Info → ℕ → Machines → Type 0
 IdleRising c t q = Idle c q × Rising t q
 
 climbing_settles : (n : ℕ) (c : Info) (t : ℕ) → KeptBySettling (AtPort n (IdleRising c t))
-climbing_settles n c t =
-    let k = idle_settles n c in
-    record {
-      mux = λ m ready p q h a e. (
-        k.mux m ready p q h (λ f. (a f).0) e,
-        times_keep (Rising t) (mux_rows ready) (rising_rows t ready) h.0 p q h.1 (a e).1,
-      );
-      periodic = λ m p q h a e. (
-        k.periodic m p q h (λ f. (a f).0) e,
-        subst (Rising t) (sym h.2) (runs_keep (Rising t) periodic_rows
-            (λ p a. a, (λ p a. a, (λ p a. a, (λ p a. a, (λ p a. a, (λ p a. a, (λ p a. a, tt))))))) p h.0 h.1 (a e).1),
-      );
-      select = λ m choice p none may a e. absurd (no (sym none ∙ (a e).1.0));
-    }
+climbing_settles n c t = record {
+  mux = λ m ready p q h a e. (
+    mux_leaves (Idle c) ready p q h (a e).0,
+    times_keep (Rising t) (mux_rows ready) (rising_rows t ready) h.0 p q h.1 (a e).1,
+  );
+  periodic = λ m p q h a e. (
+    periodic_leaves (Idle c) p q h (a e).0,
+    subst (Rising t) (sym h.2) (runs_keep (Rising t) periodic_rows
+        (λ p a. a, (λ p a. a, (λ p a. a, (λ p a. a, (λ p a. a, (λ p a. a, (λ p a. a, tt))))))) p h.0 h.1 (a e).1),
+  );
+  select = λ m choice p none may a e. absurd (no (sym none ∙ (a e).1.0));
+}
 
 climbing_ticks : (c : Info) (t : ℕ) (p q : Machines) → RunsToRest receive_rows (count_down p) q → IdleRising c t p → IdleRising c (t - 1) q
 climbing_ticks c t p q h a = subst (IdleRising c (t - 1)) (sym (idle_ticks c p q h a.0)) (
@@ -90,9 +77,8 @@ climbing_ticks c t p q h a = subst (IdleRising c (t - 1)) (sym (idle_ticks c p q
 -- so it has risen if it is SELECTED
 
 chosen_occupies : (c : Choice) → is_selected c ≡ true → (g : ℕ) × (occupied c ≡ Some g)
-chosen_occupies Unselected h = absurd (no h)
 chosen_occupies (Selected agg) h = (agg.0, refl)
-chosen_occupies (Standby agg) h = absurd (no h)
+chosen_occupies c h = absurd (no h)
 
 module _ (gives : Algorithms) (s : Side) (k : ℕ) (x : SystemPort) (mid top : WorldState) (steady : IsSteady mid)
     (aggregators : EnoughAggregators (half s mid).state) (links : EnoughLinks (half s mid).state)
@@ -107,7 +93,7 @@ module _ (gives : Algorithms) (s : Side) (k : ℕ) (x : SystemPort) (mid top : W
   stays : EachAt (AtPort x.number (Idle c)) s top
   stays = (zero_on gives (λ m j. EachAt (AtPort x.number (Idle c)) s j × Severed 1 s x.number M j) mid
       (at_number (Idle c) 0 st.system_ports k x (ports_rise st (steady s).0.ports) there (up, defaulted, refl), cut)
-      (λ m i j q a. cut_round x.number M (Idle c) (idle_settles x.number c) (λ p y. y) (Idle c)
+      (λ m i j q a. cut_round x.number M (Idle c) (settling_leaves (AtPort x.number (Idle c))) (λ p y. y) (Idle c)
       (λ p r run y. subst (Idle c) (sym (idle_ticks c p r run y)) y) gives s i j q a) 20 top more).0
 
   climbs : is_selected x.port.choice ≡ true → EachAt (AtPort x.number (IdleRising c 0)) s top
@@ -150,16 +136,6 @@ module _ (gives : Algorithms) (s : Side) (k : ℕ) (x : SystemPort) (mid top : W
 -- the laws
 
 module _ (gives : Algorithms) (old : WorldState) (b : IsBundleBesideCutOffs old) where
-  mixed : IsMixed OneIsActive (λ s n. IsCutOff s n old) old
-  mixed = record {
-    steady = b.steady;
-    cabling = b.cabling;
-    differ = b.differ;
-    heard = b.heard;
-    aggregators = b.aggregators;
-    links = b.links;
-  }
-
   never : (s : Side) (i : ℕ) (l : LinkState) → IsHealthyAt i l old → IsCutOff s (port_at s l) old → ⊥
   never s i l y cut = elim (cut i l y.there refl) [
     | inl w ↦ no (sym w ∙ y.whole)
@@ -183,23 +159,28 @@ module _ (gives : Algorithms) (old : WorldState) (b : IsBundleBesideCutOffs old)
       (cut_off_is_defaulted gives 931 k s z x.0 old mid b.steady there up cut (omega arith) h x.1)
       (WereDown (peer s) old) (subst (λ n. Severed 1 s n (WereDown (peer s) old) mid) (sym number) (cut_since gives 931 k s z old mid b.steady there up cut (omega arith) h)) more y now x.2
 
-  meets : (i : ℕ) (l : LinkState) (h : IsHealthyAt i l old) → OneIsActive l old → (mid : WorldState) → Rounds gives 931 old mid
-      → Fresh (λ s. port_at s l) (said_by l old (ends_at i l old h)) mid
-  meets i l h a mid r = one_meets gives (λ s. port_at s l) (said_by l old (ends_at i l old h)) a.0 931 old mid
-      (named_at l old (ends_at i l old h) b.steady) (active_at l old (ends_at i l old h) a.0 a.1) (omega arith)
-      (starts i l old (ends_at i l old h) b.steady b.cabling h) r
+  beside : Meets OneIsActive (λ s n. IsCutOff s n old) 931 gives old
+  beside = record {
+    steady = b.steady;
+    cabling = b.cabling;
+    differ = b.differ;
+    heard = b.heard;
+    aggregators = b.aggregators;
+    links = b.links;
+    never = never;
+    idle = idle;
+    meets = one_meet gives 931 old b.cabling b.steady (omega arith);
+    wakes = one_wakes old;
+  }
 
 pub each_link_comes_up_beside : (gives : Algorithms) → EachLinkComesUpBesideCutOffs gives
 each_link_comes_up_beside gives n i l old new b y enough h =
-    distribute_of OneIsActive (λ s n. IsCutOff s n old) 931 gives old (mixed gives old b) (never gives old b) (idle gives old b) (meets gives old b)
-    (one_wakes old) i l y n new (omega (arith, enough)) h
+    distribute_of OneIsActive (λ s n. IsCutOff s n old) 931 gives old (beside gives old b) i l y n new (omega (arith, enough)) h
 
 pub each_link_agrees_beside : (gives : Algorithms) → EachLinkAgreesBesideCutOffs gives
 each_link_agrees_beside gives n i l old new sound b y enough h =
-    agree_of OneIsActive (λ s n. IsCutOff s n old) 931 gives old (mixed gives old b) (never gives old b) (idle gives old b) (meets gives old b)
-    (one_wakes old) sound i l y n new (omega (arith, enough)) h
+    agree_of OneIsActive (λ s n. IsCutOff s n old) 931 gives old (beside gives old b) sound i l y n new (omega (arith, enough)) h
 
 pub none_is_held_beside : (gives : Algorithms) → NoneIsHeldBesideCutOffs gives
 none_is_held_beside gives n i l old new s b y enough h left =
-    freed_of OneIsActive (λ s n. IsCutOff s n old) 931 gives old (mixed gives old b) (never gives old b) (idle gives old b) (meets gives old b)
-    (one_wakes old) i l y n new s (omega (arith, enough)) h left
+    freed_of OneIsActive (λ s n. IsCutOff s n old) 931 gives old (beside gives old b) i l y n new s (omega (arith, enough)) h left

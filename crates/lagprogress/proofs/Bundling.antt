@@ -2,17 +2,16 @@
 use Rattle.lagprogress.proofs.Common.{Bool, IsSome, List, None, Option, Some, [], ap, arith, cond, false, filter, inl, inr, is_some, length, map}
 use Rattle.lagprogress.proofs.Common.{option_map, refl, slice_get, subst, suc, sym, true, zero, ℕ, ◌++◌, ◌+◌, ◌-◌, ◌==◌, ◌∙◌, ◌∷◌, ◌≡◌, ◌≢◌, ◌≤◌, ◌⊎◌}
 use Rattle.lagprogress.proofs.Common.{cases_Bool, nat_tests, none-some, same_Some, slice_get_cases, slice_get_within, AllByRecursion, AggId, Key}
-use Rattle.lagprogress.proofs.Common.{Choice, Selected, Standby, Unselected, Party, is_selected, itself, Lacpdu, IsCabling, One, Side, Two, end_at}
-use Rattle.lagprogress.proofs.Common.{peer, find_at, Machines, mux_rows, periodic_rows, lacpdu_rows, receive_rows, RunsToRest, count_down}
-use Rattle.lagprogress.proofs.Common.{ports_that_chose, has_chosen, Table, PortConfig, SystemPort, configured_numbers, first_bad_port_number}
-use Rattle.lagprogress.proofs.Common.{or_first, refusal_of_limits, model_port_of, number_of_port, MuxIsSettled, occupied, IsSound, SystemState}
-use Rattle.lagprogress.proofs.Common.{port_numbers, with_system_ports, with_table, selection_view, views, all-get, are_numbered, found_place, if_then}
-use Rattle.lagprogress.proofs.Common.{ports_rise, Same, agreement_at, Algorithms, link_ends, world_setup, IsWorldSound, LinkState, WorldState, half}
-use Rattle.lagprogress.proofs.Common.{history_at, port_at, towards, end_is, AllHeard, BothAreActive, EachActiveLinkAgrees, EachActiveLinkComesUp}
-use Rattle.lagprogress.proofs.Common.{EachLinkAgrees, EachLinkComesUp, EndsHealthyCable, EnoughAggregators, EnoughLinks, IsBundle, OneIsActive}
-use Rattle.lagprogress.proofs.Common.{SystemsDiffer, ActiveLinkComesUp, AreApart, Distributes, HasRoom, LinkComesUp, AtEnd, IsHealthy, IsHealthyAt}
-use Rattle.lagprogress.proofs.Common.{Rounds, asks_all, ticks_of_both, WantsAggregator, aggregators_with, ports_with, IsSteady, IsTimed}
-use Rattle.lagsystem.specs.declared.fault.BadConfig.{BadConfig}
+use Rattle.lagprogress.proofs.Common.{Choice, Selected, Standby, Party, is_selected, itself, Lacpdu, IsCabling, One, Side, Two, end_at, peer, find_at}
+use Rattle.lagprogress.proofs.Common.{Machines, receive_rows, RunsToRest, count_down, ports_that_chose, has_chosen, Table, PortConfig, SystemPort}
+use Rattle.lagprogress.proofs.Common.{configured_numbers, first_bad_port_number, or_first, refusal_of_limits, model_port_of, number_of_port}
+use Rattle.lagprogress.proofs.Common.{MuxIsSettled, occupied, IsSound, SystemState, port_numbers, with_system_ports, with_table, selection_view}
+use Rattle.lagprogress.proofs.Common.{views, all-get, are_numbered, found_place, if_then, ports_rise, Same, agreement_at, Algorithms, link_ends}
+use Rattle.lagprogress.proofs.Common.{world_setup, IsWorldSound, LinkState, WorldState, half, history_at, port_at, towards, end_is, AllHeard}
+use Rattle.lagprogress.proofs.Common.{BothAreActive, EachActiveLinkAgrees, EachActiveLinkComesUp, EachLinkAgrees, EachLinkComesUp, EndsHealthyCable}
+use Rattle.lagprogress.proofs.Common.{EnoughAggregators, EnoughLinks, IsBundle, OneIsActive, SystemsDiffer, ActiveLinkComesUp, AreApart, Distributes}
+use Rattle.lagprogress.proofs.Common.{HasRoom, LinkComesUp, AtEnd, IsHealthy, IsHealthyAt, Rounds, asks_all, ticks_of_both, WantsAggregator}
+use Rattle.lagprogress.proofs.Common.{aggregators_with, ports_with, IsSteady, IsTimed}
 use Rattle.lagsystem.specs.declared.fault.BadConfig.TheVariants.{MaxLinks, PortNumber}
 use Rattle.lagprogress.specs.Agreeing.{ActiveLinkAgrees, LinkAgrees}
 use Rattle.lagprogress.proofs.Climbing.{Down, Ripe, Rising, climbed, down_settles, down_takes, down_ticks, rising_first}
@@ -20,7 +19,7 @@ use Rattle.lagprogress.proofs.ComingUp.{Climbs, EndPort, Up, active_at, agrees_n
 use Rattle.lagprogress.proofs.ComingUp.{end_here, end_with, events_keep, splits, rounds_kept, up_now, zero_on}
 use Rattle.lagprogress.proofs.Counting.{count, count_more_of, count_same, counted}
 use Rattle.lagprogress.proofs.EachPort.{OfEach}
-use Rattle.lagprogress.proofs.EachRound.{EachAt, RoundKeeps, round_each, rounds_join, rounds_steady, same_index}
+use Rattle.lagprogress.proofs.EachRound.{EachAt, RoundKeeps, own_keeps, own_ticks, round_each, rounds_join, rounds_steady, same_index}
 use Rattle.lagprogress.proofs.EndFacts.{Synced, activity}
 use Rattle.lagprogress.proofs.Hearing.{no}
 use Rattle.lagprogress.proofs.Linked.{many}
@@ -30,7 +29,6 @@ use Rattle.lagprogress.proofs.OneRound.{Nothing}
 use Rattle.lagprogress.proofs.Progressing.{AtIt, Ends, Fresh, active_meet, end_of, healthy_cable, knows_peer, only_cable, only_cabling, said_by}
 use Rattle.lagprogress.proofs.Progressing.{starts}
 use Rattle.lagprogress.proofs.Selecting.{finds_aggregator, waits_for_room}
-use Rattle.lagprogress.proofs.Timers.{fires_keep, runs_keep}
 
 -- what stays of each port
 
@@ -39,25 +37,11 @@ abbrev pub Alike : Machines → Machines → Type 0
 Alike x p = (p.party ≡ x.party) × (p.enabled ≡ x.enabled)
 
 pub alike_keeps : (n : ℕ) (x : Machines) → RoundKeeps (AtPort n (Alike x))
-alike_keeps n x = record {
-  settles = record {
-    mux = λ m ready p q h a e. runs_keep (Alike x) (mux_rows ready)
-        (λ p a. a, (λ p a. a, (λ p a. a, (λ p a. a, (λ p a. a, (λ p a. a, tt)))))) p q h (a e);
-    periodic = λ m p q h a e. subst (Alike x) (sym h.2) (runs_keep (Alike x) periodic_rows
-        (λ p a. a, (λ p a. a, (λ p a. a, (λ p a. a, (λ p a. a, (λ p a. a, (λ p a. a, tt))))))) p h.0 h.1 (a e));
-    select = λ m choice p none may a e. a e;
-  };
-  sends = λ m p a e. a e;
-  takes = λ m v p q h a e. elim h [
-    | inl f ↦ fires_keep (Alike x) (lacpdu_rows v) (λ p a. a, tt) p q f (a e)
-    | inr r ↦ subst (Alike x) (sym r.1) (a e)
-  ];
-}
+alike_keeps n x = own_keeps (λ party up. (party ≡ x.party) × (up ≡ x.enabled)) n
 
 pub alike_ticks : (n : ℕ) (x : Machines) (m : ℕ) (p q : Machines) → RunsToRest receive_rows (count_down p) q → AtPort n (Alike x) m p
     → AtPort n (Alike x) m q
-alike_ticks n x m p q h a e =
-    runs_keep (Alike x) receive_rows (λ p a. a, (λ p a. a, (λ p a. a, (λ p a. a, (λ p a. a, tt))))) (count_down p) q h (a e)
+alike_ticks n x = own_ticks (λ party up. (party ≡ x.party) × (up ≡ x.enabled)) n
 
 pub rounds_alike : (gives : Algorithms) (n : ℕ) (old new : WorldState) → IsSteady old → Rounds gives n old new → (s : Side) (k : ℕ)
     (x : SystemPort) → slice_get (half s old).state.system_ports k ≡ Some x → EachAt (AtPort x.number (Alike x.port)) s new
@@ -141,6 +125,14 @@ still_links s old new b enough k most y there limit =
     subst (λ (q : Party). ports_with q.key (half s new).state ≤ most) (sym (b.alike k x.0 y x.1 there).0)
     (subst (λ n. n ≤ most) (sym (same_ports_with s old new b x.0.port.party.key)) (enough k most x.0 x.1 (sym b.limit ∙ limit)))
 
+-- a port whose link is up ended a healthy cable before
+pub still_heard : (Holds : LinkState → WorldState → Type 0) (s : Side) (old new : WorldState) → IsAsBefore s old new → AllHeard Holds old
+    → (k : ℕ) (z : SystemPort) → slice_get (half s new).state.system_ports k ≡ Some z → z.port.enabled ≡ true
+    → EndsHealthyCable Holds s z.number old
+still_heard Holds s old new like heard k z there up =
+    let x = old_port (half s old).state.system_ports (half s new).state.system_ports k z like.numbers there in
+    subst (λ n. EndsHealthyCable Holds s n old) (sym x.2) (heard s k x.0 x.1 (sym (like.alike k x.0 z x.1 there).1 ∙ up))
+
 -- no port stands by
 
 members_counted : (agg : AggId) (ports : List SystemPort)
@@ -155,9 +147,8 @@ members_counted agg (y ∷ ys) = by_test (has_chosen agg y.port.choice) (members
     by_test false e = e
 
 chose_occupies : (agg : AggId) (c : Choice) → has_chosen agg c ≡ true → occupied c ≡ Some agg.0
-chose_occupies agg Unselected h = absurd (no h)
 chose_occupies agg (Selected given) h = ap (λ (n : ℕ). Some n) (grind (arith, nat_tests))
-chose_occupies agg (Standby given) h = absurd (no h)
+chose_occupies agg c h = absurd (no h)
 
 pub never_stands : (s : SystemState) (i : ℕ) (x : SystemPort) (agg : AggId) → IsSound s → EnoughLinks s → slice_get s.system_ports i ≡ Some x
     → x.port.choice ≡ Standby agg → ⊥
@@ -242,83 +233,123 @@ down_rounds gives n old new steady s enough h = zero_on gives (λ m j. EachAt (D
 pub ends_at : (i : ℕ) (l : LinkState) (j : WorldState) → IsHealthyAt i l j → Ends l j
 ends_at i l j h s = end_of (λ p. p.enabled ≡ true) (port_at s l) (half s j).state (h.up s)
 
--- a bundle, but that a port whose link is up may be another in place of an end of a healthy cable
-pub record IsMixed (Holds : LinkState → WorldState → Type 0) (Other : Side → ℕ → Type 0) (j : WorldState) : Type 0 where
-  pub steady : IsSteady j
-  pub cabling : IsCabling (world_setup j).cables
-  pub differ : SystemsDiffer j
-  pub heard : (s : Side) (k : ℕ) (x : SystemPort) → slice_get (half s j).state.system_ports k ≡ Some x → x.port.enabled ≡ true
-      → EndsHealthyCable Holds s x.number j ⊎ Other s x.number
-  pub aggregators : (s : Side) → EnoughAggregators (half s j).state
-  pub links : (s : Side) → EnoughLinks (half s j).state
+-- of each healthy cable it holds, since no port has two cables
+holds_there : (Holds : LinkState → WorldState → Type 0) (old : WorldState) → IsCabling (world_setup old).cables → (i : ℕ) (l : LinkState)
+    → (h : IsHealthyAt i l old) → EndsHealthyCable Holds One (ends_at i l old h One).1.number old → Holds l old
+holds_there Holds old cabling i l h it =
+    let e = ends_at i l old h One in
+    let joins : port_at One it.link ≡ port_at One l = it.joins ∙ found_place (port_at One l) (half One old).state.system_ports e.0 e.1 e.2 e.3 in
+    let here : end_at (map link_ends old.links) One (suc it.index) ≡ Some (port_at One l) =
+    end_is One old.links it.index it.link it.healthy.there ∙ ap (λ (n : ℕ). Some n) joins in
+    let place : suc it.index ≡ suc i = cabling One (suc it.index) (suc i) (port_at One l) here (end_is One old.links i l h.there) in
+    let same : it.index ≡ i = omega (arith, place) in
+    subst (λ m. Holds m old) (same_Some it.link l (sym it.healthy.there ∙ (ap (slice_get old.links) same ∙ h.there))) it.holds
 
--- the others end no healthy cable, and have risen in 20 rounds if they are SELECTED
+pub heard_holds : (Holds : LinkState → WorldState → Type 0) (old : WorldState) → IsCabling (world_setup old).cables → AllHeard Holds old
+    → (i : ℕ) (l : LinkState) → IsHealthyAt i l old → Holds l old
+heard_holds Holds old cabling heard i l h =
+    let e = ends_at i l old h One in holds_there Holds old cabling i l h (heard One e.0 e.1 e.3 e.4)
+
+-- what the ends of a healthy cable say of themselves
+abbrev pub said : (old : WorldState) (i : ℕ) (l : LinkState) → IsHealthyAt i l old → Side → Lacpdu
+said old i l h = said_by l old (ends_at i l old h)
+
+-- one of them is active, for each end
+abbrev pub Awake : (old : WorldState) (i : ℕ) (l : LinkState) → IsHealthyAt i l old → Type 0
+Awake old i l h = (s : Side) → (activity (said old i l h s) ≡ true) ⊎ (activity (said old i l h (peer s)) ≡ true)
+
+-- ends that are up agree
+pub agree_up : (gives : Algorithms) (n : ℕ) (old new : WorldState) → IsWorldSound old → Rounds gives n old new → (i : ℕ) (l : LinkState)
+    (h : IsHealthyAt i l old) (awake : Awake old i l h) → Up (λ s. port_at s l) (said old i l h) awake new
+    → agreement_at new (suc i) ≡ Some Same
+agree_up gives n old new sound rounds i l h awake up = agrees_now (λ s. port_at s l) (said old i l h) awake i new
+    (λ x fl c. same_index i x l fl old new h.there (rounds_join gives n old new rounds) c)
+    (λ s. rounds_kept gives n i (λ t. port_at t l) (λ t. towards t l) old new (healthy_cable i l old sound.cabling h) rounds s
+    ∙ some_is (history_at (half s old).histories (port_at s l)) (sound.ends s i l h.there)) up
+  where
+    some_is : {X : Type 0} (o : Option X) → IsSome o → is_some o ≡ true
+    some_is None h = absurd (let e = h in cc)
+    some_is (Some x) h = refl
+
+-- A bundle, but that a port whose link is up may be another in place of an end of a healthy cable. In so many rounds the ends of
+-- each healthy cable know each other, and one of them is active; the others end none, and have risen in 20 rounds more if they are
+-- SELECTED.
+pub record Meets (Holds : LinkState → WorldState → Type 0) (Other : Side → ℕ → Type 0) (first : ℕ) (gives : Algorithms) (old : WorldState)
+    : Type 0 where
+  pub steady : IsSteady old
+  pub cabling : IsCabling (world_setup old).cables
+  pub differ : SystemsDiffer old
+  pub heard : (s : Side) (k : ℕ) (x : SystemPort) → slice_get (half s old).state.system_ports k ≡ Some x → x.port.enabled ≡ true
+      → EndsHealthyCable Holds s x.number old ⊎ Other s x.number
+  pub aggregators : (s : Side) → EnoughAggregators (half s old).state
+  pub links : (s : Side) → EnoughLinks (half s old).state
+  pub never : (s : Side) (i : ℕ) (l : LinkState) → IsHealthyAt i l old → Other s (port_at s l) → ⊥
+  pub idle : (mid top : WorldState) → Rounds gives first old mid → Rounds gives 20 mid top → (s : Side) (k : ℕ) (z y : SystemPort)
+      → slice_get (half s old).state.system_ports k ≡ Some z → z.port.enabled ≡ true → Other s z.number
+      → slice_get (half s top).state.system_ports k ≡ Some y → Ripe 0 y.port
+  pub meets : (i : ℕ) (l : LinkState) (h : IsHealthyAt i l old) → Holds l old → (mid : WorldState) → Rounds gives first old mid
+      → Fresh (λ s. port_at s l) (said old i l h) mid
+  pub wakes : (i : ℕ) (l : LinkState) (h : IsHealthyAt i l old) → Holds l old → Awake old i l h
+
 module _ (Holds : LinkState → WorldState → Type 0) (Other : Side → ℕ → Type 0) (first : ℕ) (gives : Algorithms) (old : WorldState)
-    (b : IsMixed Holds Other old) (never : (s : Side) (i : ℕ) (l : LinkState) → IsHealthyAt i l old → Other s (port_at s l) → ⊥)
-    (idle : (mid top : WorldState) → Rounds gives first old mid → Rounds gives 20 mid top → (s : Side) (k : ℕ) (z y : SystemPort)
-    → slice_get (half s old).state.system_ports k ≡ Some z → z.port.enabled ≡ true → Other s z.number
-    → slice_get (half s top).state.system_ports k ≡ Some y → Ripe 0 y.port)
-    (meets : (i : ℕ) (l : LinkState) (h : IsHealthyAt i l old) → Holds l old → (mid : WorldState) → Rounds gives first old mid
-    → Fresh (λ s. port_at s l) (said_by l old (ends_at i l old h)) mid)
-    (wakes : (i : ℕ) (l : LinkState) (h : IsHealthyAt i l old) → Holds l old → (s : Side)
-    → (activity (said_by l old (ends_at i l old h) s) ≡ true) ⊎ (activity (said_by l old (ends_at i l old h) (peer s)) ≡ true)) where
+    (m : Meets Holds Other first gives old) where
   -- of each healthy cable it holds
   pub holds_of : (i : ℕ) (l : LinkState) → IsHealthyAt i l old → Holds l old
   holds_of i l h =
       let e = ends_at i l old h One in
-      let number = found_place (port_at One l) (half One old).state.system_ports e.0 e.1 e.2 e.3 in
-      let it : EndsHealthyCable Holds One e.1.number old = elim (b.heard One e.0 e.1 e.3 e.4) [
+      holds_there Holds old m.cabling i l h (elim (m.heard One e.0 e.1 e.3 e.4) [
         | inl y ↦ y
-        | inr o ↦ absurd (never One i l h (subst (Other One) number o))
-      ] in
-      let joins : port_at One it.link ≡ port_at One l = it.joins ∙ found_place (port_at One l) (half One old).state.system_ports e.0 e.1 e.2 e.3 in
-      let here : end_at (map link_ends old.links) One (suc it.index) ≡ Some (port_at One l) =
-      end_is One old.links it.index it.link it.healthy.there ∙ ap (λ (n : ℕ). Some n) joins in
-      let place : suc it.index ≡ suc i = b.cabling One (suc it.index) (suc i) (port_at One l) here (end_is One old.links i l h.there) in
-      let same : it.index ≡ i = omega (arith, place) in
-      subst (λ m. Holds m old) (same_Some it.link l (sym it.healthy.there ∙ (ap (slice_get old.links) same ∙ h.there))) it.holds
+        | inr o ↦ absurd (m.never One i l h
+            (subst (Other One) (found_place (port_at One l) (half One old).state.system_ports e.0 e.1 e.2 e.3) o))
+      ])
+
+  pub awake_of : (i : ℕ) (l : LinkState) (h : IsHealthyAt i l old) → Awake old i l h
+  awake_of i l h = m.wakes i l h (holds_of i l h)
+
+  met : (i : ℕ) (l : LinkState) (h : IsHealthyAt i l old) (mid : WorldState) → Rounds gives first old mid → Fresh (λ s. port_at s l) (said old i l h) mid
+  met i l h = m.meets i l h (holds_of i l h)
 
   systems : (i : ℕ) (l : LinkState) (h : IsHealthyAt i l old) → (s : Side)
-      → (said_by l old (ends_at i l old h) (peer s)).actor.system ≢ (said_by l old (ends_at i l old h) s).actor.system
+      → (said old i l h (peer s)).actor.system ≢ (said old i l h s).actor.system
   systems i l h =
       let e = ends_at i l old h in
       let own : (s : Side) → (e s).1.port.party.system ≡ (half s old).state.system =
-      λ s. own_system (half s old).state (e s).0 (e s).1 (b.steady s).0 (e s).3 in
+      λ s. own_system (half s old).state (e s).0 (e s).1 (m.steady s).0 (e s).3 in
       apart_by e own
     where
       apart_by : (e : Ends l old) → ((s : Side) → (e s).1.port.party.system ≡ (half s old).state.system) → (s : Side)
           → (said_by l old e (peer s)).actor.system ≢ (said_by l old e s).actor.system
-      apart_by e own One same = b.differ (sym (own One) ∙ (sym same ∙ own Two))
-      apart_by e own Two same = b.differ (sym (own One) ∙ (same ∙ own Two))
+      apart_by e own One same = m.differ (sym (own One) ∙ (sym same ∙ own Two))
+      apart_by e own Two same = m.differ (sym (own One) ∙ (same ∙ own Two))
 
   module _ (mid top : WorldState) (h : Rounds gives first old mid) (more : Rounds gives 20 mid top) where
     middle : IsSteady mid
-    middle = rounds_steady gives first old mid b.steady h
+    middle = rounds_steady gives first old mid m.steady h
 
     above : IsSteady top
     above = rounds_steady gives 20 mid top middle more
 
     -- both ends of each healthy cable are SELECTED
     chosen : (i : ℕ) (l : LinkState) (y : IsHealthyAt i l old) → (s : Side)
-        → AtIt (λ t. port_at t l) (said_by l old (ends_at i l old y)) s (λ p. is_selected p.choice ≡ true) mid
+        → AtIt (λ t. port_at t l) (said old i l y) s (λ p. is_selected p.choice ≡ true) mid
     chosen i l y s =
         let at : Side → ℕ = λ t. port_at t l in
-        let w = said_by l old (ends_at i l old y) in
-        let g = meets i l y (holds_of i l y) mid h in
+        let w = said old i l y in
+        let g = met i l y mid h in
         let e = end_here at w 1 g.known One Nothing mid g.link s in
-        let k = as_before gives first old mid b.steady h s in
+        let k = as_before gives first old mid m.steady h s in
         at_end at w 1 g.known s mid e middle (λ p. is_selected p.choice ≡ true)
-        (is_chosen at w g.known s mid middle (still_aggregators s old mid k (b.aggregators s)) (still_links s old mid k (b.links s))
-        (systems i l y s) (let m = knows_peer at w 1 0 0 mid g (omega arith) s in omega (arith, m)) e)
+        (is_chosen at w g.known s mid middle (still_aggregators s old mid k (m.aggregators s)) (still_links s old mid k (m.links s))
+        (systems i l y s) (let known = knows_peer at w 1 0 0 mid g (omega arith) s in omega (arith, known)) e)
 
     climb : (i : ℕ) (l : LinkState) (y : IsHealthyAt i l old)
-        → Climbs (λ t. port_at t l) (said_by l old (ends_at i l old y)) (wakes i l y (holds_of i l y)) 20 top
+        → Climbs (λ t. port_at t l) (said old i l y) (awake_of i l y) 20 top
     climb i l y =
         let at : Side → ℕ = λ t. port_at t l in
-        let w = said_by l old (ends_at i l old y) in
-        let awake = wakes i l y (holds_of i l y) in
+        let w = said old i l y in
+        let awake = awake_of i l y in
         zero_on gives (Climbs at w awake) mid
-        (climbs_first at w awake mid (meets i l y (holds_of i l y) mid h) (chosen i l y))
+        (climbs_first at w awake mid (met i l y mid h) (chosen i l y))
         (climbs_on at w awake gives) 20 top more
 
     -- and have risen, as the SELECTED ports have whose links are down
@@ -329,11 +360,11 @@ module _ (Holds : LinkState → WorldState → Type 0) (Other : Side → ℕ →
         both = as_before gives 20 mid top middle more s
 
         start : IsAsBefore s old mid
-        start = as_before gives first old mid b.steady h s
+        start = as_before gives first old mid m.steady h s
 
         down : EachAt (Down 0) s top
         down = subst (λ t. EachAt (Down t) s top) (omega arith)
-            (down_rounds gives 20 mid top middle s (still_links s old mid start (b.links s)) more)
+            (down_rounds gives 20 mid top middle s (still_links s old mid start (m.links s)) more)
 
         each : (k : ℕ) (y : SystemPort) → slice_get (half s top).state.system_ports k ≡ Some y → Ripe 0 y.port
         each k y there =
@@ -341,140 +372,132 @@ module _ (Holds : LinkState → WorldState → Type 0) (Other : Side → ℕ →
             let z = old_port (half s old).state.system_ports (half s mid).state.system_ports k x.0 start.numbers x.1 in
             let enabled : y.port.enabled ≡ z.0.port.enabled = (both.alike k x.0 y x.1 there).1 ∙ (start.alike k z.0 x.0 z.1 x.1).1 in
             elim (cases_Bool z.0.port.enabled) [
-              | inl up ↦ elim (b.heard s k z.0 z.1 up) [
+              | inl up ↦ elim (m.heard s k z.0 z.1 up) [
                 | inl it ↦ (let c = climb it.index it.link it.healthy in
                     let number : y.number ≡ port_at s it.link = x.2 ∙ (z.2 ∙ sym it.joins) in
                     λ _. (all-get (λ (q : SystemPort). AtPort (port_at s it.link) (Rising 0) q.number q.port) (half s top).state.system_ports k y
                     there (subst (λ t. EachAt (AtPort (port_at s it.link) (Rising t)) s top) (omega arith) (c.rising s)) number).1)
-                | inr o ↦ idle mid top h more s k z.0 y z.1 up o there
+                | inr o ↦ m.idle mid top h more s k z.0 y z.1 up o there
               ]
               | inr gone ↦ (all-get (λ (q : SystemPort). Down 0 q.number q.port) (half s top).state.system_ports k y there down
                   (enabled ∙ gone)).1
             ]
 
     ready : (i : ℕ) (l : LinkState) (y : IsHealthyAt i l old) → (s : Side)
-        → AtIt (λ t. port_at t l) (said_by l old (ends_at i l old y)) s (Rising 0) top
-        → AtIt (λ t. port_at t l) (said_by l old (ends_at i l old y)) s Synced top
+        → AtIt (λ t. port_at t l) (said old i l y) s (Rising 0) top
+        → AtIt (λ t. port_at t l) (said old i l y) s Synced top
     ready i l y s a =
         let at : Side → ℕ = λ t. port_at t l in
-        let w = said_by l old (ends_at i l old y) in
+        let w = said old i l y in
         let g = (climb i l y).fresh in
         let e = end_here at w 1 g.known One Nothing top g.link s in
         at_end at w 1 g.known s top e above Synced
         (climbed (half s top).state e.index e.port (above s).0 e.there (ripe s) (end_with at w 1 g.known s top e (Rising 0) a))
 
   pub ups_of : (i : ℕ) (l : LinkState) (y : IsHealthyAt i l old) (n : ℕ) (new : WorldState) → first + 31 ≤ n → Rounds gives n old new
-      → Up (λ s. port_at s l) (said_by l old (ends_at i l old y)) (wakes i l y (holds_of i l y)) new
+      → Up (λ s. port_at s l) (said old i l y) (awake_of i l y) new
   ups_of i l y n new enough h =
       let at : Side → ℕ = λ s. port_at s l in
-      let w = said_by l old (ends_at i l old y) in
-      let m = n - first in
-      let cut = splits gives m first n old new (omega (arith, enough)) h in
-      let up = splits gives (m - 20) 20 m cut.0 new (omega (arith, enough)) cut.2 in
-      comes_up at w (wakes i l y (holds_of i l y)) gives (m - 20) cut.0 up.0 new (meets i l y (holds_of i l y) cut.0 cut.1)
+      let w = said old i l y in
+      let cut = splits gives (n - first) first n old new (omega (arith, enough)) h in
+      let up = splits gives (n - first - 20) 20 (n - first) cut.0 new (omega (arith, enough)) cut.2 in
+      comes_up at w (awake_of i l y) gives (n - first - 20) cut.0 up.0 new (met i l y cut.0 cut.1)
       (chosen cut.0 up.0 cut.1 up.1 i l y) (ready cut.0 up.0 cut.1 up.1 i l y) (omega (arith, enough)) up.1 up.2
 
   pub distribute_of : (i : ℕ) (l : LinkState) (y : IsHealthyAt i l old) (n : ℕ) (new : WorldState) → first + 31 ≤ n → Rounds gives n old new
       → (s : Side) → AtEnd Distributes s l new
   distribute_of i l y n new enough h =
       let up = ups_of i l y n new enough h in
-      up_now (λ s. port_at s l) (said_by l old (ends_at i l old y)) (wakes i l y (holds_of i l y)) up.0 new up.1 up.2
+      up_now (λ s. port_at s l) (said old i l y) (awake_of i l y) up.0 new up.1 up.2
 
   pub agree_of : IsWorldSound old → (i : ℕ) (l : LinkState) (y : IsHealthyAt i l old) (n : ℕ) (new : WorldState) → first + 31 ≤ n
       → Rounds gives n old new → agreement_at new (suc i) ≡ Some Same
-  agree_of sound i l y n new enough h =
-      agrees_now (λ s. port_at s l) (said_by l old (ends_at i l old y)) (wakes i l y (holds_of i l y)) i new
-      (λ x fl c. same_index i x l fl old new y.there (rounds_join gives n old new h) c)
-      (λ s. rounds_kept gives n i (λ t. port_at t l) (λ t. towards t l) old new (healthy_cable i l old b.cabling y) h s
-      ∙ some_is (history_at (half s old).histories (port_at s l)) (sound.ends s i l y.there)) (ups_of i l y n new enough h)
-    where
-      some_is : {X : Type 0} (o : Option X) → IsSome o → is_some o ≡ true
-      some_is None h = absurd (let e = h in cc)
-      some_is (Some x) h = refl
+  agree_of sound i l y n new enough h = agree_up gives n old new sound h i l y (awake_of i l y) (ups_of i l y n new enough h)
 
 -- where there are no others
 
 abbrev pub Nowhere : Side → ℕ → Type 0
 Nowhere s n = ⊥
 
-module _ (Holds : LinkState → WorldState → Type 0) (first : ℕ) (gives : Algorithms) (old : WorldState) (b : IsBundle Holds old)
-    (meets : (i : ℕ) (l : LinkState) (h : IsHealthyAt i l old) → Holds l old → (mid : WorldState) → Rounds gives first old mid
-    → Fresh (λ s. port_at s l) (said_by l old (ends_at i l old h)) mid)
-    (wakes : (i : ℕ) (l : LinkState) (h : IsHealthyAt i l old) → Holds l old → (s : Side)
-    → (activity (said_by l old (ends_at i l old h) s) ≡ true) ⊎ (activity (said_by l old (ends_at i l old h) (peer s)) ≡ true)) where
-  pub mixed : IsMixed Holds Nowhere old
-  mixed = record {
-    steady = b.steady;
-    cabling = b.cabling;
-    differ = b.differ;
-    heard = λ s k x e up. inl (b.heard s k x e up);
-    aggregators = b.aggregators;
-    links = b.links;
-  }
+alone : (Holds : LinkState → WorldState → Type 0) (first : ℕ) (gives : Algorithms) (old : WorldState) → IsBundle Holds old
+    → ((i : ℕ) (l : LinkState) (h : IsHealthyAt i l old) → Holds l old → (mid : WorldState) → Rounds gives first old mid
+    → Fresh (λ s. port_at s l) (said old i l h) mid)
+    → ((i : ℕ) (l : LinkState) (h : IsHealthyAt i l old) → Holds l old → Awake old i l h) → Meets Holds Nowhere first gives old
+alone Holds first gives old b meets wakes = record {
+  steady = b.steady;
+  cabling = b.cabling;
+  differ = b.differ;
+  heard = λ s k x e up. inl (b.heard s k x e up);
+  aggregators = b.aggregators;
+  links = b.links;
+  never = λ s i l h o. o;
+  idle = λ mid top h more s k z y there up o now. absurd o;
+  meets = meets;
+  wakes = wakes;
+}
 
-  abbrev pub holds : (i : ℕ) (l : LinkState) → IsHealthyAt i l old → Holds l old
-  holds = holds_of Holds Nowhere first gives old mixed (λ s i l h o. o) (λ mid top h more s k z y there up o now. absurd o) meets wakes
+-- where one end of each healthy cable is active
 
-  pub ups : (i : ℕ) (l : LinkState) (y : IsHealthyAt i l old) (n : ℕ) (new : WorldState) → first + 31 ≤ n → Rounds gives n old new
-      → Up (λ s. port_at s l) (said_by l old (ends_at i l old y)) (wakes i l y (holds i l y)) new
-  ups = ups_of Holds Nowhere first gives old mixed (λ s i l h o. o) (λ mid top h more s k z y there up o now. absurd o) meets wakes
+pub one_wakes : (old : WorldState) (i : ℕ) (l : LinkState) (h : IsHealthyAt i l old) → OneIsActive l old → Awake old i l h
+one_wakes old i l h a = awake_at (said old i l h) a.0 (active_at l old (ends_at i l old h) a.0 a.1)
 
-  pub distribute : (i : ℕ) (l : LinkState) (y : IsHealthyAt i l old) (n : ℕ) (new : WorldState) → first + 31 ≤ n → Rounds gives n old new
-      → (s : Side) → AtEnd Distributes s l new
-  distribute = distribute_of Holds Nowhere first gives old mixed (λ s i l h o. o) (λ mid top h more s k z y there up o now. absurd o) meets wakes
+pub one_meet : (gives : Algorithms) (first : ℕ) (old : WorldState) → IsCabling (world_setup old).cables → IsSteady old → 630 ≤ first
+    → (i : ℕ) (l : LinkState) (h : IsHealthyAt i l old) → OneIsActive l old → (mid : WorldState) → Rounds gives first old mid
+    → Fresh (λ s. port_at s l) (said old i l h) mid
+one_meet gives first old cabling steady many i l h a mid r =
+    let e = ends_at i l old h in
+    one_meets gives (λ s. port_at s l) (said old i l h) a.0 first old mid (named_at l old e steady) (active_at l old e a.0 a.1) many
+    (starts i l old e steady cabling h) r
 
-  pub agree : IsWorldSound old → (i : ℕ) (l : LinkState) (y : IsHealthyAt i l old) (n : ℕ) (new : WorldState) → first + 31 ≤ n
-      → Rounds gives n old new → agreement_at new (suc i) ≡ Some Same
-  agree = agree_of Holds Nowhere first gives old mixed (λ s i l h o. o) (λ mid top h more s k z y there up o now. absurd o) meets wakes
+pub one_active : (gives : Algorithms) (old : WorldState) → IsBundle OneIsActive old → Meets OneIsActive Nowhere 630 gives old
+one_active gives old b = alone OneIsActive 630 gives old b (one_meet gives 630 old b.cabling b.steady (omega arith)) (one_wakes old)
+
+-- where both are
+
+pub both_wake : (old : WorldState) (i : ℕ) (l : LinkState) (h : IsHealthyAt i l old) → BothAreActive l old → Awake old i l h
+both_wake old i l h a s = inl (active_at l old (ends_at i l old h) s (a s))
+
+pub both_meet : (gives : Algorithms) (old : WorldState) → IsCabling (world_setup old).cables → IsSteady old
+    → (i : ℕ) (l : LinkState) (h : IsHealthyAt i l old) → BothAreActive l old → (mid : WorldState) → Rounds gives 321 old mid
+    → Fresh (λ s. port_at s l) (said old i l h) mid
+both_meet gives old cabling steady i l h a mid r =
+    let e = ends_at i l old h in
+    active_meet gives (λ s. port_at s l) (said old i l h) 321 old mid (λ s. active_at l old e s (a s)) (omega arith)
+    (starts i l old e steady cabling h) r
+
+pub both_active : (gives : Algorithms) (old : WorldState) → IsBundle BothAreActive old → Meets BothAreActive Nowhere 321 gives old
+both_active gives old b = alone BothAreActive 321 gives old b (both_meet gives old b.cabling b.steady) (both_wake old)
 
 -- the laws of a bundle
 
-pub one_wakes : (old : WorldState) (i : ℕ) (l : LinkState) (h : IsHealthyAt i l old) → OneIsActive l old → (s : Side)
-    → (activity (said_by l old (ends_at i l old h) s) ≡ true) ⊎ (activity (said_by l old (ends_at i l old h) (peer s)) ≡ true)
-one_wakes old i l h a = awake_at (said_by l old (ends_at i l old h)) a.0 (active_at l old (ends_at i l old h) a.0 a.1)
-
-pub one_meet : (gives : Algorithms) (old : WorldState) → IsBundle OneIsActive old → (i : ℕ) (l : LinkState) (h : IsHealthyAt i l old)
-    → OneIsActive l old → (mid : WorldState) → Rounds gives 630 old mid → Fresh (λ s. port_at s l) (said_by l old (ends_at i l old h)) mid
-one_meet gives old b i l h a mid r = one_meets gives (λ s. port_at s l) (said_by l old (ends_at i l old h)) a.0 630 old mid
-    (named_at l old (ends_at i l old h) b.steady) (active_at l old (ends_at i l old h) a.0 a.1) (omega arith) (starts i l old (ends_at i l old h) b.steady b.cabling h) r
-
-pub both_wake : (old : WorldState) (i : ℕ) (l : LinkState) (h : IsHealthyAt i l old) → BothAreActive l old → (s : Side)
-    → (activity (said_by l old (ends_at i l old h) s) ≡ true) ⊎ (activity (said_by l old (ends_at i l old h) (peer s)) ≡ true)
-both_wake old i l h a s = inl (active_at l old (ends_at i l old h) s (a s))
-
-pub both_meet : (gives : Algorithms) (old : WorldState) → IsBundle BothAreActive old → (i : ℕ) (l : LinkState) (h : IsHealthyAt i l old)
-    → BothAreActive l old → (mid : WorldState) → Rounds gives 321 old mid → Fresh (λ s. port_at s l) (said_by l old (ends_at i l old h)) mid
-both_meet gives old b i l h a mid r = active_meet gives (λ s. port_at s l) (said_by l old (ends_at i l old h)) 321 old mid
-    (λ s. active_at l old (ends_at i l old h) s (a s)) (omega arith) (starts i l old (ends_at i l old h) b.steady b.cabling h) r
-
 pub each_link_comes_up : (gives : Algorithms) → EachLinkComesUp gives
 each_link_comes_up gives n i l old new b y enough h =
-    distribute OneIsActive 630 gives old b (one_meet gives old b) (one_wakes old) i l y n new (omega (arith, enough)) h
+    distribute_of OneIsActive Nowhere 630 gives old (one_active gives old b) i l y n new (omega (arith, enough)) h
 
 pub each_active_link_comes_up : (gives : Algorithms) → EachActiveLinkComesUp gives
 each_active_link_comes_up gives n i l old new b y enough h =
-    distribute BothAreActive 321 gives old b (both_meet gives old b) (both_wake old) i l y n new (omega (arith, enough)) h
+    distribute_of BothAreActive Nowhere 321 gives old (both_active gives old b) i l y n new (omega (arith, enough)) h
 
 pub each_link_agrees : (gives : Algorithms) → EachLinkAgrees gives
 each_link_agrees gives n i l old new sound b y enough h =
-    agree OneIsActive 630 gives old b (one_meet gives old b) (one_wakes old) sound i l y n new (omega (arith, enough)) h
+    agree_of OneIsActive Nowhere 630 gives old (one_active gives old b) sound i l y n new (omega (arith, enough)) h
 
 pub each_active_link_agrees : (gives : Algorithms) → EachActiveLinkAgrees gives
 each_active_link_agrees gives n i l old new sound b y enough h =
-    agree BothAreActive 321 gives old b (both_meet gives old b) (both_wake old) sound i l y n new (omega (arith, enough)) h
+    agree_of BothAreActive Nowhere 321 gives old (both_active gives old b) sound i l y n new (omega (arith, enough)) h
 
 -- a world with one cable, and one port in each system
 
 no_zero : (conversations : ℕ) → refusal_of_limits (Some 0) conversations ≡ None → ⊥
 no_zero conversations h = none-some MaxLinks (sym h)
 
+pub first_none : {X : Type 0} (a b : Option X) → or_first a b ≡ None → (a ≡ None) × (b ≡ None)
+first_none None b e = (refl, e)
+first_none (Some x) b e = absurd (none-some x (sym e))
+
 limit_accepted : (s : SystemState) → IsSound s → refusal_of_limits s.max_links s.conversations ≡ None
-limit_accepted s h = last (first_bad_port_number 1 0 (configured_numbers s.ports)) (refusal_of_limits s.max_links s.conversations)
-    (if_then _ _ _ (if_then _ _ _ h.ports.accepted))
-  where
-    last : (o : Option ℕ) (b : Option BadConfig) → or_first (option_map PortNumber o) b ≡ None → b ≡ None
-    last None b e = e
-    last (Some n) b e = absurd (none-some (PortNumber n) (sym e))
+limit_accepted s h = (first_none (option_map PortNumber (first_bad_port_number 1 0 (configured_numbers s.ports)))
+    (refusal_of_limits s.max_links s.conversations) (if_then _ _ _ (if_then _ _ _ h.ports.accepted))).1
 
 some_most : (s : SystemState) (most : ℕ) → IsSound s → s.max_links ≡ Some most → 1 ≤ most
 some_most s zero h e = absurd (no_zero s.conversations (subst (λ o. refusal_of_limits o s.conversations ≡ None) e (limit_accepted s h)))
@@ -510,23 +533,16 @@ few_ports s h room key =
     subst (λ (ys : List SystemPort). length (filter (λ (x : SystemPort). x.port.party.key.0 == key.0) ys) ≤ 1) (sym one.1)
     (few (λ (x : SystemPort). x.port.party.key.0 == key.0) one.0)
 
+at_most : (m n : ℕ) → m ≤ 1 → 1 ≤ n → m ≤ n
+at_most m n a b = omega (arith, a, b)
+
 room_aggregators : (s : SystemState) → IsSound s → HasRoom s → EnoughAggregators s
 room_aggregators s h room k x there up =
-    let few = few_ports s h room x.port.party.key in
-    let some = room.aggregator k x there in
-    at_most (ports_with x.port.party.key s) (aggregators_with x.port.party.key s) few some
-  where
-    at_most : (m n : ℕ) → m ≤ 1 → 1 ≤ n → m ≤ n
-    at_most m n a b = omega (arith, a, b)
+    at_most (ports_with x.port.party.key s) (aggregators_with x.port.party.key s) (few_ports s h room x.port.party.key) (room.aggregator k x there)
 
 room_links : (s : SystemState) → IsSound s → HasRoom s → EnoughLinks s
 room_links s h room k most x there limit =
-    let few = few_ports s h room x.port.party.key in
-    let some = some_most s most h limit in
-    at_most (ports_with x.port.party.key s) most few some
-  where
-    at_most : (m n : ℕ) → m ≤ 1 → 1 ≤ n → m ≤ n
-    at_most m n a b = omega (arith, a, b)
+    at_most (ports_with x.port.party.key s) most (few_ports s h room x.port.party.key) (some_most s most h limit)
 
 -- its only port is that at the end of the cable
 only_heard : (Holds : LinkState → WorldState → Type 0) (l : LinkState) (j : WorldState) → IsSteady j → IsHealthy l j

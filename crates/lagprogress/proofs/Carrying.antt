@@ -1,26 +1,26 @@
 -- The link of each port that carries a conversation, or on which one is held, is up.
-use Rattle.lagprogress.proofs.Common.{Bool, Err, List, None, Ok, Option, Result, Some, [], ap, arith, cond, eqb, false, inl, inr, length, not, refl}
-use Rattle.lagprogress.proofs.Common.{subst, sym, true, ℕ, ◌&&◌, ◌==◌, ◌||◌, ◌∙◌, ◌∷◌, ◌≡◌, ◌⊎◌, nat_tests, none-some, same_Some, slice_get_cases}
-use Rattle.lagprogress.proofs.Common.{slice_get_within, is_none, AggId, State, StateBits, bits_of, with_synchronization, encode_then_decode, Side}
-use Rattle.lagprogress.proofs.Common.{CollectingDistributing, Setup, ReceiveState, Current, Defaulted, Expired, Initialize, PortDisabled, Machines}
-use Rattle.lagprogress.proofs.Common.{mux_rows, partner_synchronized, same_mux_state, selected, periodic_rows, lacpdu_rows, receive_rows}
-use Rattle.lagprogress.proofs.Common.{same_receive_state, start_receive, Starts, before_start, count_down, has_chosen, Assignment, Flushing, Free, On}
-use Rattle.lagprogress.proofs.Common.{Wanted, force_result, is_among, move_result, SetsAssignment, after_down, Table, assignment_of, next_identifier}
-use Rattle.lagprogress.proofs.Common.{first_free, Answer, SystemFault, SystemPort, Call, Configure, Force, FreesIfDown, Move_conversation, Offer}
-use Rattle.lagprogress.proofs.Common.{Receive, Restart, Set_link, Step, TableRun, Tick, Transmit, changed_party, choice_with_link, IsFirst}
-use Rattle.lagprogress.proofs.Common.{configured_numbers, none_enabled, MuxIsSettled, GivesOrRefuses, Offers, system_force_result, system_move_result}
-use Rattle.lagprogress.proofs.Common.{aggregator_numbered, distributing, IsSound, SystemState, port_numbers, Step-frame, rests, all-get, ports_rise}
-use Rattle.lagprogress.proofs.Common.{Step-sound, first_sound, forced_to, moved_to, Event, Reply, Algorithms, WorldRuns, WorldState, half}
-use Rattle.lagprogress.proofs.Common.{EachReachedHasCarriersUp, HasPortUp, carrier_of, held_on, takes_down}
+use Rattle.lagprogress.proofs.Common.{Bool, Err, List, None, Ok, Option, Result, Some, ap, arith, cond, eqb, false, inl, inr, length, not, refl}
+use Rattle.lagprogress.proofs.Common.{subst, sym, true, ℕ, ◌&&◌, ◌==◌, ◌||◌, ◌∙◌, ◌≡◌, ◌⊎◌, and_parts, nat_tests, none-some, same_Some}
+use Rattle.lagprogress.proofs.Common.{slice_get_cases, slice_get_within, is_none, AggId, State, StateBits, bits_of, with_synchronization}
+use Rattle.lagprogress.proofs.Common.{encode_then_decode, CollectingDistributing, Setup, ReceiveState, PortDisabled, Machines, partner_synchronized}
+use Rattle.lagprogress.proofs.Common.{same_mux_state, selected, lacpdu_rows, receive_rows, same_receive_state, start_receive, Starts, before_start}
+use Rattle.lagprogress.proofs.Common.{count_down, has_chosen, Assignment, Flushing, Free, On, Wanted, force_result, is_among, move_result, after_down}
+use Rattle.lagprogress.proofs.Common.{Table, assignment_of, next_identifier, first_free, Answer, SystemFault, SystemPort, Call, Configure, Force}
+use Rattle.lagprogress.proofs.Common.{FreesIfDown, Move_conversation, Offer, Receive, Restart, Set_link, Step, Tick, Transmit, changed_party}
+use Rattle.lagprogress.proofs.Common.{choice_with_link, IsFirst, configured_numbers, none_enabled, MuxIsSettled, Offers, system_force_result}
+use Rattle.lagprogress.proofs.Common.{system_move_result, aggregator_numbered, distributing, IsSound, SystemState, port_numbers, Step-frame, rests}
+use Rattle.lagprogress.proofs.Common.{all-get, ports_rise, Step-sound, first_sound, forced_to, moved_to, Algorithms, half, EachReachedHasCarriersUp}
+use Rattle.lagprogress.proofs.Common.{HasPortUp, carrier_of, held_on, takes_down}
 use Rattle.distributor.specs.declared.fault.DistFault.TheVariants as dist
 use Rattle.lagsystem.specs.declared.drive.Reply.TheVariants as reply
 use Rattle.lagprogress.proofs.Answering.{among_port}
 use Rattle.lagprogress.proofs.EachPort.{KeptByCall, KeptBySettling, OfEach, Step-each, first_each}
-use Rattle.lagprogress.proofs.Freeing.{Stays, TableStays, asks_stay, comes_stay, held_carries, settles_stay, table_same, table_through, ticks_stay}
-use Rattle.lagprogress.proofs.Halves.{both_first, each_is_calls}
+use Rattle.lagprogress.proofs.Freeing.{Stays, held_carries, stays}
+use Rattle.lagprogress.proofs.TableSteps.{Turns, asks_turn, comes_turn, gives_turn, same_turns, settles_turn, ticks_turn, turns_through}
+use Rattle.lagprogress.proofs.Halves.{both_first}
 use Rattle.lagprogress.proofs.Hearing.{no}
-use Rattle.lagprogress.proofs.Linked.{many}
-use Rattle.lagprogress.proofs.OnePort.{AtPort, at_number, same_place}
+use Rattle.lagprogress.proofs.Linked.{many, events_each}
+use Rattle.lagprogress.proofs.OnePort.{AtPort, at_number, same_place, settling_leaves}
 use Rattle.lagprogress.proofs.Timers.{RowsKeep, fires_keep, runs_keep}
 
 -- the partner of a port in PORT_DISABLED is not synchronized
@@ -44,13 +44,7 @@ lapse_starts : (p q : Machines) → Starts p q → Lapses q
 lapse_starts p q h = subst Lapses (sym h.2) (runs_keep Lapses receive_rows receive_lapses (start_receive p) h.0 h.1 (λ e. absurd cc))
 
 pub lapse_settles : KeptBySettling LapsesAt
-lapse_settles = record {
-  mux = λ n ready p q h a. runs_keep Lapses (mux_rows ready)
-      (λ p a. a, (λ p a. a, (λ p a. a, (λ p a. a, (λ p a. a, (λ p a. a, tt)))))) p q h a;
-  periodic = λ n p q h a. subst Lapses (sym h.2) (runs_keep Lapses periodic_rows
-      (λ p a. a, (λ p a. a, (λ p a. a, (λ p a. a, (λ p a. a, (λ p a. a, (λ p a. a, tt))))))) p h.0 h.1 a);
-  select = λ n choice p none may a. a;
-}
+lapse_settles = settling_leaves LapsesAt
 
 pub lapse_first : (n : ℕ) (u : Setup) (q : Machines) → Starts (before_start u) q → LapsesAt n q
 lapse_first n u q h = lapse_starts (before_start u) q h
@@ -66,18 +60,13 @@ lapse_kept (Receive n octets) answer = λ v p q t h a. elim h [
 lapse_kept (Configure n change) answer = λ p q h a. lapse_starts (record p { party = changed_party change p.party }) q h.1
 lapse_kept Restart answer = lapse_first
 lapse_kept (Transmit n) answer = λ p e a. a
-lapse_kept (Offer agg octets) answer = tt
-lapse_kept (Move_conversation agg conv port) answer = tt
-lapse_kept (Force agg conv) answer = tt
+lapse_kept call answer = tt
 
 -- so a port that distributes has its link up
 
 is_disabled : (r : ReceiveState) → same_receive_state PortDisabled r ≡ true → r ≡ PortDisabled
-is_disabled Initialize h = absurd (no h)
 is_disabled PortDisabled h = refl
-is_disabled Expired h = absurd (no h)
-is_disabled Defaulted h = absurd (no h)
-is_disabled Current h = absurd (no h)
+is_disabled r h = absurd (no h)
 
 must_be_up : (e d sync chosen m : Bool) → (not d && not e) ≡ false → (d ≡ true → sync ≡ false) → m ≡ true
     → (m && (not chosen || not sync)) ≡ false → e ≡ true
@@ -102,12 +91,8 @@ distributes_up s agg p h lapses e =
       d.3,
       must_be_up x.port.enabled (same_receive_state PortDisabled x.port.receive) (partner_synchronized x.port)
           (selected x.port) (same_mux_state CollectingDistributing x.port.mux) rest.1.0 (λ f. lapse (is_disabled x.port.receive f))
-          (second (has_chosen agg x.port.choice) (same_mux_state CollectingDistributing x.port.mux) d.4) mux.1.1.1.1.1.0,
+          (and_parts (has_chosen agg x.port.choice) (same_mux_state CollectingDistributing x.port.mux) d.4).1 mux.1.1.1.1.1.0,
     )
-  where
-    second : (a b : Bool) → (a && b) ≡ true → b ≡ true
-    second true b f = f
-    second false b f = absurd (no f)
 
 -- a call that does not take a link down leaves it up
 
@@ -115,13 +100,7 @@ abbrev Up : Machines → Type 0
 Up q = q.enabled ≡ true
 
 up_settles : (p : ℕ) → KeptBySettling (AtPort p Up)
-up_settles p = record {
-  mux = λ n ready q r h a e. runs_keep Up (mux_rows ready)
-      (λ p a. a, (λ p a. a, (λ p a. a, (λ p a. a, (λ p a. a, (λ p a. a, tt)))))) q r h (a e);
-  periodic = λ n q r h a e. subst Up (sym h.2) (runs_keep Up periodic_rows
-      (λ p a. a, (λ p a. a, (λ p a. a, (λ p a. a, (λ p a. a, (λ p a. a, (λ p a. a, tt))))))) q h.0 h.1 (a e));
-  select = λ n choice q none may a e. a e;
-}
+up_settles p = settling_leaves (AtPort p Up)
 
 receive_up : RowsKeep Up receive_rows
 receive_up = (λ p a. a, (λ p a. a, (λ p a. a, (λ p a. a, (λ p a. a, tt)))))
@@ -144,9 +123,7 @@ up_kept p (Receive n octets) answer t = λ v q r took h a e. elim h [
 up_kept p (Configure n change) answer t = λ q r h a e. up_starts (record q { party = changed_party change q.party }) r h.1 (a e)
 up_kept p Restart answer t = absurd (no (sym t))
 up_kept p (Transmit n) answer t = λ q told a e. a e
-up_kept p (Offer agg octets) answer t = tt
-up_kept p (Move_conversation agg conv port) answer t = tt
-up_kept p (Force agg conv) answer t = tt
+up_kept p call answer t = tt
 
 still_up : (gives : ℕ → ℕ → ℕ → Type 0) (p : ℕ) (old new : SystemState) (call : Call) (answer : Answer) → IsSound old → IsSound new
     → Step gives old call answer new → takes_down p call ≡ false → HasPortUp p old → HasPortUp p new
@@ -176,30 +153,23 @@ carried_before : (a b : Assignment) (p : ℕ) → Stays a b → carrier_of b ≡
 carried_before a b p (inl e) h = absurd (none-some p (sym e ∙ h))
 carried_before a b p (inr e) h = sym e ∙ h
 
-by_stays : (call : Call) (t u : Table) → ((p : ℕ) → takes_down p call ≡ false) → TableStays t u → HeldBefore call t u
+by_stays : (call : Call) (t u : Table) → ((p : ℕ) → takes_down p call ≡ false) → Turns Stays stays t u → HeldBefore call t u
 by_stays call t u leaves h g k p e =
     (carried_before (assignment_of t g k) (assignment_of u g k) p (h g k) (held_carries (assignment_of u g k) p e), leaves p)
 
+downed : (n p q : ℕ) (x y : Assignment) (b : Bool) → eqb q n ≡ b → carrier_of x ≡ None → carrier_of y ≡ Some q
+    → carrier_of (cond b x y) ≡ Some p → (carrier_of y ≡ Some p) × (eqb p n ≡ false)
+downed n p q x y true e none some f = absurd (none-some p (sym none ∙ f))
+downed n p q x y false e none some f = (f, ap (λ m. eqb m n) (sym (same_Some q p (sym some ∙ f))) ∙ e)
+
 downed_before : (n p : ℕ) (a : Assignment) → carrier_of (after_down n a) ≡ Some p → (carrier_of a ≡ Some p) × (eqb p n ≡ false)
 downed_before n p (Free preferred) h = absurd (none-some p h)
-downed_before n p (On q) h = by_test (eqb q n) refl h
-  where
-    by_test : (b : Bool) → eqb q n ≡ b → carrier_of (cond b (Free None) (On q)) ≡ Some p → (Some q ≡ Some p) × (eqb p n ≡ false)
-    by_test true e f = absurd (none-some p f)
-    by_test false e f = (f, ap (λ x. eqb x n) (sym (same_Some q p f)) ∙ e)
-downed_before n p (Wanted q preferred) h = by_test (eqb q n) refl h
-  where
-    by_test : (b : Bool) → eqb q n ≡ b → carrier_of (cond b (Free preferred) (Wanted q preferred)) ≡ Some p → (Some q ≡ Some p) × (eqb p n ≡ false)
-    by_test true e f = absurd (none-some p f)
-    by_test false e f = (f, ap (λ x. eqb x n) (sym (same_Some q p f)) ∙ e)
-downed_before n p (Flushing q id preferred age) h = by_test (eqb q n) refl h
-  where
-    by_test : (b : Bool) → eqb q n ≡ b → carrier_of (cond b (Free preferred) (Flushing q id preferred age)) ≡ Some p
-        → (Some q ≡ Some p) × (eqb p n ≡ false)
-    by_test true e f = absurd (none-some p f)
-    by_test false e f = (f, ap (λ x. eqb x n) (sym (same_Some q p f)) ∙ e)
+downed_before n p (On q) h = downed n p q (Free None) (On q) (eqb q n) refl refl refl h
+downed_before n p (Wanted q preferred) h = downed n p q (Free preferred) (Wanted q preferred) (eqb q n) refl refl refl h
+downed_before n p (Flushing q id preferred age) h =
+    downed n p q (Free preferred) (Flushing q id preferred age) (eqb q n) refl refl refl h
 
-linked_before : (n : ℕ) (up : Bool) (old mid new : SystemState) → FreesIfDown up n old.table mid.table → TableStays mid.table new.table
+linked_before : (n : ℕ) (up : Bool) (old mid new : SystemState) → FreesIfDown up n old.table mid.table → Turns Stays stays mid.table new.table
     → HeldBefore (Set_link n up) old.table new.table
 linked_before n true old mid new h k g c p e =
     let carried = carried_before (assignment_of mid.table g c) (assignment_of new.table g c) p (k g c) (held_carries (assignment_of new.table g c) p e) in
@@ -236,29 +206,10 @@ forced_stays (On p) s h = let is : Free None ≡ s = cc in inl (ap carrier_of (s
 forced_stays (Wanted p preferred) s h = let is : Free preferred ≡ s = cc in inl (ap carrier_of (sym is))
 forced_stays (Flushing p n preferred age) s h = let is : Free preferred ≡ s = cc in inl (ap carrier_of (sym is))
 
-sets_stay : (agg conv : ℕ) (state : Assignment) (old new : Table) → SetsAssignment old new agg conv state
-    → Stays (assignment_of old agg conv) state → TableStays old new
-sets_stay agg conv state old new h k g c = subst (Stays (assignment_of old g c)) (sym (h.states g c))
-    (by_test (eqb agg g && eqb conv c) refl)
-  where
-    here : (eqb agg g && eqb conv c) ≡ true → (agg ≡ g) × (conv ≡ c)
-    here e = (grind (arith, nat_tests), grind (arith, nat_tests))
-
-    by_test : (b : Bool) → (eqb agg g && eqb conv c) ≡ b → Stays (assignment_of old g c) (cond b state (assignment_of old g c))
-    by_test true e = let same = here e in
-        subst (λ x. Stays (assignment_of old g x) state) same.1 (subst (λ x. Stays (assignment_of old x conv) state) same.0 k)
-    by_test false e = inr refl
-
-gives_stays : (agg : AggId) (conv : ℕ) (what : Result Assignment SystemFault) (old : SystemState) (answer : Result Unit SystemFault)
-    (new : SystemState) → ((s : Assignment) → what ≡ Ok s → Stays (assignment_of old.table agg.0 conv) s)
-    → GivesOrRefuses agg conv what old answer new → TableStays old.table new.table
-gives_stays agg conv (Ok s) old answer new k h = sets_stay agg.0 conv s old.table new.table h.1.0 (k s refl)
-gives_stays agg conv (Err fault) old answer new k h = table_same old new (ap (λ (s : SystemState). s.table) h.1)
-
 offered_before : (gives : ℕ → ℕ → ℕ → Type 0) (agg : AggId) (octets : List ℕ) (old : SystemState) (answer : Result ℕ SystemFault)
     (new : SystemState) → Offers gives agg octets old answer new → HeldBefore (Offer agg octets) old.table new.table
 offered_before gives agg octets old (Err fault) new h =
-    by_stays (Offer agg octets) old.table new.table (λ p. refl) (table_same old new (ap (λ (s : SystemState). s.table) h.1))
+    by_stays (Offer agg octets) old.table new.table (λ p. refl) (same_turns Stays stays old new (ap (λ (s : SystemState). s.table) h.1))
 offered_before gives agg octets old (Ok port) new h =
     λ g k p e. (by_test g k p _ (ap held_on (sym (h.2.0.states g k)) ∙ e), refl)
   where
@@ -273,33 +224,33 @@ first_is_free s h g k = ap (λ (t : Table). assignment_of t g k) h.3 ∙ first_f
 held_before : (gives : ℕ → ℕ → ℕ → Type 0) (old new : SystemState) (call : Call) (answer : Answer) → Step gives old call answer new
     → (new ≡ old) ⊎ HeldBefore call old.table new.table
 held_before gives old new Tick reply.Tick h = inr (
-    by_stays Tick old.table new.table (λ p. refl) (ticks_stay gives old new h))
+    by_stays Tick old.table new.table (λ p. refl) (ticks_turn Stays stays gives old new h))
 held_before gives old new (Set_link n up) (reply.SetLink (Ok done)) h = inr (
-    linked_before n up old h.0 new h.1.1 (settles_stay h.0 new h.2))
+    linked_before n up old h.0 new h.1.1 (settles_turn Stays stays h.0 new h.2))
 held_before gives old new (Set_link n up) (reply.SetLink (Err fault)) h = inl h.same
 held_before gives old new (Receive n octets) (reply.Receive a) h = inr (
-    by_stays (Receive n octets) old.table new.table (λ p. refl) (comes_stay gives n octets a old new h))
+    by_stays (Receive n octets) old.table new.table (λ p. refl) (comes_turn Stays stays gives n octets a old new h))
 held_before gives old new (Configure n change) (reply.Configure (Ok true)) h = inr (
-    by_stays (Configure n change) old.table new.table (λ p. refl) (table_through old.table h.0.table new.table
-    (table_same old h.0 (ap (λ (s : SystemState). s.table) h.1.1)) (settles_stay h.0 new h.2)))
+    by_stays (Configure n change) old.table new.table (λ p. refl) (turns_through Stays stays old.table h.0.table new.table
+    (same_turns Stays stays old h.0 (ap (λ (s : SystemState). s.table) h.1.1)) (settles_turn Stays stays h.0 new h.2)))
 held_before gives old new (Configure n change) (reply.Configure (Ok false)) h = inr (
-    by_stays (Configure n change) old.table new.table (λ p. refl) (table_same old new (ap (λ (s : SystemState). s.table) h.1)))
+    by_stays (Configure n change) old.table new.table (λ p. refl) (same_turns Stays stays old new (ap (λ (s : SystemState). s.table) h.1)))
 held_before gives old new (Configure n change) (reply.Configure (Err fault)) h = inr (
-    by_stays (Configure n change) old.table new.table (λ p. refl) (table_same old new (ap (λ (s : SystemState). s.table) h.same)))
+    by_stays (Configure n change) old.table new.table (λ p. refl) (same_turns Stays stays old new (ap (λ (s : SystemState). s.table) h.same)))
 held_before gives old new Restart reply.Restart h = inr (
     λ g k p e. absurd (none-some p (sym (ap held_on (first_is_free new h.1 g k)) ∙ e)))
 held_before gives old new (Transmit n) (reply.Transmit a) h = inr (
-    by_stays (Transmit n) old.table new.table (λ p. refl) (asks_stay gives n a old new h))
+    by_stays (Transmit n) old.table new.table (λ p. refl) (asks_turn Stays stays gives n a old new h))
 held_before gives old new (Offer agg octets) (reply.Offer answer) h = inr (
     offered_before gives agg octets old answer new h)
 held_before gives old new (Move_conversation agg conv port) (reply.MoveConversation answer) h = inr (
     by_stays (Move_conversation agg conv port) old.table new.table (λ p. refl)
-    (gives_stays agg conv (system_move_result old agg conv port) old answer new
+    (gives_turn Stays stays agg conv (system_move_result old agg conv port) old answer new
     (λ s x. moved_stays (next_identifier old.table) (distributing agg old.system_ports) port (assignment_of old.table agg.0 conv) s
     (moved_to agg conv port old s x)) h))
 held_before gives old new (Force agg conv) (reply.Force answer) h = inr (
     by_stays (Force agg conv) old.table new.table (λ p. refl)
-    (gives_stays agg conv (system_force_result old agg conv) old answer new
+    (gives_turn Stays stays agg conv (system_force_result old agg conv) old answer new
     (λ s x. forced_stays (assignment_of old.table agg.0 conv) s (forced_to agg conv old s x)) h))
 held_before gives old new call answer h = absurd h
 
@@ -337,23 +288,6 @@ call_keeps gives old new call answer h k = (
     lapses : OfEach LapsesAt new.system_ports
     lapses = Step-each LapsesAt lapse_settles gives old call answer new (lapse_kept call answer) h k.1
 
-calls_keep : (gives : ℕ → ℕ → ℕ → Type 0) (old new : SystemState) (calls : List Call) (answers : List Answer)
-    → TableRun gives old calls answers new → Keeps old → Keeps new
-calls_keep gives old new [] [] h k = subst Keeps (sym h) k
-calls_keep gives old new [] (a ∷ answers) h k = absurd h
-calls_keep gives old new (call ∷ calls) [] h k = absurd h
-calls_keep gives old new (call ∷ calls) (a ∷ answers) h k =
-    calls_keep gives h.0 new calls answers h.2 (call_keeps gives old h.0 call a h.1 k)
-
-events_keep : (gives : Algorithms) (es : List Event) (rs : List Reply) (old new : WorldState) → WorldRuns gives old es rs new → (s : Side)
-    → Keeps (half s old).state → Keeps (half s new).state
-events_keep gives [] [] old new h s k = subst (λ (j : WorldState). Keeps (half s j).state) (sym h) k
-events_keep gives [] (r ∷ rs) old new h s k = absurd h
-events_keep gives (e ∷ es) [] old new h s k = absurd h
-events_keep gives (e ∷ es) (r ∷ rs) old new h s k =
-    let c = each_is_calls gives e r old h.0 h.1 s in
-    events_keep gives es rs h.0 new h.2 s (calls_keep (gives s) (half s old).state (half s h.0).state c.0 c.1 c.2 k)
-
 pub each_reached_has_carriers_up : (gives : Algorithms) → EachReachedHasCarriersUp gives
 each_reached_has_carriers_up gives configs es rs start new i h runs s =
     let first = both_first configs start h s in
@@ -363,5 +297,5 @@ each_reached_has_carriers_up gives configs es rs start new i h runs s =
       first_each LapsesAt lapse_settles lapse_first st first,
       λ g k p e. absurd (none-some p (sym (ap carrier_of (first_is_free st first g k)) ∙ e)),
     ) in
-    let end = events_keep gives es rs start new runs s begins in
+    let end = events_each gives s Keeps (call_keeps (gives s)) es rs start new runs begins in
     λ g k p is e. end.2 g k p e

@@ -1,21 +1,21 @@
 -- Selected stays what it is in a bundle, once each end knows its partner.
 use Rattle.lagprogress.proofs.Common.{Bool, List, Some, [], ap, false, if◌then◌else◌, inl, inr, not, refl, slice_get, slice_set, subst, suc, sym}
-use Rattle.lagprogress.proofs.Common.{true, zero, ℕ, ◌&&◌, ◌==◌, ◌||◌, ◌∙◌, ◌∷◌, ◌≡◌, ◌⊎◌, none-some, same_Some, AllByRecursion, Choice, Party}
-use Rattle.lagprogress.proofs.Common.{is_unselected, same_system, system-itself, Lacpdu, party_of, ReceiveState, Current, Defaulted, Expired}
-use Rattle.lagprogress.proofs.Common.{Initialize, PortDisabled, Machines, mux_rows, RunsPeriodic, periodic_rows, lacpdu_rows, receive_rows}
-use Rattle.lagprogress.proofs.Common.{same_receive_state, AtRest, RunsToRest, count_down, is_detached, is_eligible, SystemPort, ProcessesLacpdu}
-use Rattle.lagprogress.proofs.Common.{can_receive, can_receive_in, ChoosesIn, PortsChangeBy, Settling, ready_of, IsSound, SystemState}
-use Rattle.lagprogress.proofs.Common.{aggregators_value, selection_view, views, last_slots, HasRecorded, WantsAggregator}
-use Rattle.lagprogress.proofs.Knowing.{recorded}
+use Rattle.lagprogress.proofs.Common.{true, zero, ℕ, ◌&&◌, ◌||◌, ◌∙◌, ◌∷◌, ◌≡◌, ◌⊎◌, none-some, same_Some, AllByRecursion, Choice, Party}
+use Rattle.lagprogress.proofs.Common.{is_unselected, same_system, system-itself, Lacpdu, party_of, ReceiveState, Current, Defaulted, PortDisabled}
+use Rattle.lagprogress.proofs.Common.{Machines, mux_rows, RunsPeriodic, lacpdu_rows, receive_rows, same_receive_state, AtRest, RunsToRest, count_down}
+use Rattle.lagprogress.proofs.Common.{is_detached, is_eligible, SystemPort, ProcessesLacpdu, can_receive, can_receive_in, ChoosesIn, PortsChangeBy}
+use Rattle.lagprogress.proofs.Common.{Settling, ready_of, IsSound, SystemState, aggregators_value, selection_view, views, last_slots, HasRecorded}
+use Rattle.lagprogress.proofs.Common.{WantsAggregator}
+use Rattle.lagprogress.proofs.Knowing.{recorded, rests_still}
 use Rattle.lagprogress.proofs.Bundling.{all_by_place}
 use Rattle.lagprogress.proofs.Climbing.{keeps_selected}
 use Rattle.lagprogress.proofs.EachPort.{OfEach, zip_kept}
 use Rattle.lagprogress.proofs.EndFacts.{SameActor}
-use Rattle.lagprogress.proofs.Hearing.{EnabledKeep, no, times_keep}
-use Rattle.lagprogress.proofs.OnePort.{AtPort}
+use Rattle.lagprogress.proofs.Hearing.{no}
+use Rattle.lagprogress.proofs.OnePort.{AtPort, mux_leaves, periodic_leaves}
 use Rattle.lagprogress.proofs.Selecting.{eligible}
 use Rattle.lagprogress.proofs.Staying.{SameSeen, nothing_chosen}
-use Rattle.lagprogress.proofs.Timers.{runs_keep, fires_keep}
+use Rattle.lagprogress.proofs.Timers.{fires_keep}
 
 -- the machines are as they were, in what the Selection Logic reads of them but for the mux machine
 abbrev pub AsRead : Machines → Machines → Type 0
@@ -56,19 +56,13 @@ abbrev Able : SystemPort → Type 0
 Able x = WantsAggregator x.port → is_unselected x.port.choice ≡ true → is_eligible (selection_view x) ≡ true
 
 known_state : (r : ReceiveState) → (same_receive_state Current r || same_receive_state Defaulted r) ≡ true → (r ≡ Current) ⊎ (r ≡ Defaulted)
-known_state Initialize h = absurd (no h)
-known_state PortDisabled h = absurd (no h)
-known_state Expired h = absurd (no h)
 known_state Defaulted h = inr refl
 known_state Current h = inl refl
+known_state r h = absurd (no h)
 
 five_parts : (a b c d e : Bool) → ((((a && b) && c) && d) && not e) ≡ true → (a ≡ true) × (b ≡ true) × (d ≡ true) × (e ≡ false)
 five_parts true true true true false h = (refl, refl, refl, refl)
-five_parts true true true true true h = absurd (no h)
-five_parts true true true false e h = absurd (no h)
-five_parts true true false d e h = absurd (no h)
-five_parts true false c d e h = absurd (no h)
-five_parts false b c d e h = absurd (no h)
+five_parts a b c d e h = absurd (no h)
 
 eligible_before : (x z : SystemPort) → Able x → AsRead x.port z.port → is_eligible (selection_view z) ≡ true
     → is_eligible (selection_view x) ≡ true
@@ -92,8 +86,7 @@ one_seen [] (y ∷ ys) zs k a h = absurd a
 one_seen (x ∷ xs) [] zs k a h = absurd a
 one_seen (x ∷ xs) (y ∷ ys) [] k a h = absurd h
 one_seen (x ∷ xs) (y ∷ ys) (z ∷ zs) k a h =
-    let b = runs_keep (AsRead x.port) (mux_rows false) (λ p a. a, (λ p a. a, (λ p a. a, (λ p a. a, (λ p a. a, (λ p a. a, tt)))))) y.port z.port
-    h.0.1 a.0.1 in (
+    let b = mux_leaves (AsRead x.port) false y.port z.port h.0.1 a.0.1 in (
       record {
         number = ap (λ (q : SystemPort). q.number) h.0.0 ∙ a.0.0;
         party = b.0;
@@ -132,12 +125,10 @@ settles_choice s mid new h read aggs k n c a =
     let a3 : OfEach (Chose n c) three.system_ports = subst (λ (t : SystemState). OfEach (Chose n c) t.system_ports) (sym k.2.2.1) a2 in
     let ready = λ (p : Machines). ready_of three.keys (views three.system_ports) p.choice in
     let a4 : OfEach (Chose n c) four.system_ports = zip_kept (λ p q. RunsToRest (mux_rows (ready p)) p q) (Chose n c) (Chose n c)
-    (λ m p q r b e. runs_keep (λ p. p.choice ≡ c) (mux_rows (ready p))
-    (λ p a. a, (λ p a. a, (λ p a. a, (λ p a. a, (λ p a. a, (λ p a. a, tt)))))) p q r (b e))
+    (λ m p q r b e. mux_leaves (λ p. p.choice ≡ c) (ready p) p q r (b e))
     three.system_ports four.system_ports k.2.2.2.1.0 a3 in
     let a5 : OfEach (Chose n c) five.system_ports = zip_kept RunsPeriodic (Chose n c) (Chose n c)
-    (λ m p q r b e. subst (λ (t : Machines). t.choice ≡ c) (sym r.2) (runs_keep (λ p. p.choice ≡ c) periodic_rows
-    (λ p a. a, (λ p a. a, (λ p a. a, (λ p a. a, (λ p a. a, (λ p a. a, (λ p a. a, tt))))))) p r.0 r.1 (b e)))
+    (λ m p q r b e. periodic_leaves (λ p. p.choice ≡ c) p q r (b e))
     four.system_ports five.system_ports k.2.2.2.2.1.0 a4 in
     subst (OfEach (Chose n c)) (sym (last_slots mid new k)) a5
 
@@ -170,39 +161,10 @@ down_as_read x p q down h = elim h [
 
 -- a tick leaves the receive machine of a port whose link is down
 pub down_still : (p q : Machines) → p.enabled ≡ false → AtRest receive_rows p → RunsToRest receive_rows (count_down p) q → q ≡ count_down p
-down_still p q down rest h = times_keep (λ r. r ≡ count_down p) receive_rows rows h.0 (count_down p) q h.1 refl
+down_still p q down rest h =
+    let is = disabled p.receive p.enabled down rest.1.0 in
+    rests_still receive_rows h.0 (count_down p) q (rw (is, down) (refl, (refl, (refl, (refl, (refl, tt)))))) h.1
   where
     disabled : (r : ReceiveState) (e : Bool) → e ≡ false → (not (same_receive_state PortDisabled r) && not e) ≡ false → r ≡ PortDisabled
-    disabled Initialize e f g = absurd (no (sym g ∙ ap not f))
     disabled PortDisabled e f g = refl
-    disabled Expired e f g = absurd (no (sym g ∙ ap not f))
-    disabled Defaulted e f g = absurd (no (sym g ∙ ap not f))
-    disabled Current e f g = absurd (no (sym g ∙ ap not f))
-
-    is : p.receive ≡ PortDisabled
-    is = disabled p.receive p.enabled down rest.1.0
-
-    at : (r : Machines) → r ≡ count_down p → r.receive ≡ PortDisabled
-    at r a = ap (λ (t : Machines). t.receive) a ∙ is
-
-    never : (f : ReceiveState → Bool) (r : ReceiveState) (b : Bool) → f PortDisabled ≡ false → r ≡ PortDisabled → (f r && b) ≡ true → ⊥
-    never f r b e g h = no (sym (ap (λ c. c && b) (ap f g ∙ e)) ∙ h)
-
-    second : (a e : Bool) → e ≡ false → (a && e) ≡ true → ⊥
-    second true e f g = no (sym f ∙ g)
-    second false e f g = no g
-
-    rows : EnabledKeep (λ r. r ≡ count_down p) receive_rows
-    rows = (
-      λ r h a. absurd (never (same_receive_state Initialize) r.receive true refl (at r a) h),
-      (
-        λ r h a. absurd (never (λ t. not (same_receive_state PortDisabled t)) r.receive (not r.enabled) refl (at r a) h),
-        (
-          λ r h a. absurd (second (same_receive_state PortDisabled r.receive) r.enabled (ap (λ (t : Machines). t.enabled) a ∙ down) h),
-          (
-            λ r h a. absurd (never (same_receive_state Expired) r.receive (r.current_while == 0) refl (at r a) h),
-            (λ r h a. absurd (never (same_receive_state Current) r.receive (r.current_while == 0) refl (at r a) h), tt),
-          ),
-        ),
-      ),
-    )
+    disabled r e f g = absurd (no (sym g ∙ ap not f))

@@ -7,11 +7,11 @@ use Rattle.lagprogress.proofs.Common.{periodic_rows, timer_expired, default_part
 use Rattle.lagprogress.proofs.Common.{recorded_synchronization, RunsToRest, count_down, pdu_of, ProcessesLacpdu, can_receive, can_receive_in, named}
 use Rattle.lagprogress.proofs.EachPort.{KeptBySettling}
 use Rattle.lagprogress.proofs.EndFacts.{Along, CanSound, IsEnd, SameActor, Says, Synced, activity, all_true, awake_fires, end_settles, first_true}
-use Rattle.lagprogress.proofs.EndFacts.{maintained, not_silent}
+use Rattle.lagprogress.proofs.EndFacts.{maintained}
 use Rattle.lagprogress.proofs.Hearing.{no}
 use Rattle.lagprogress.proofs.Knowing.{decoded}
-use Rattle.lagprogress.proofs.OnePort.{AtPort}
-use Rattle.lagprogress.proofs.Sounding.{rests, unclear}
+use Rattle.lagprogress.proofs.OnePort.{AtPort, mux_leaves, periodic_leaves}
+use Rattle.lagprogress.proofs.Sounding.{rests, unclear, not_silent}
 use Rattle.lagprogress.proofs.Lapsing.{expired_active}
 use Rattle.lagprogress.proofs.Timers.{RowsKeep, fires_keep, runs_keep}
 
@@ -58,9 +58,7 @@ owes_periodic u p q h calm a = elim (claims_or_not u p) [
       let r = rests h.0.periodic h.0 h.1.2 mid.0 in
       let same = unclear h.0.periodic (timer_expired h.0) (partner_short h.0) h.0.ntt r in
       subst (Owes u) (sym h.2) (λ c. same ∙ mid.1 c))
-  | inr not ↦ (let mid = runs_keep (λ r. Claims u r → ⊥) periodic_rows
-      (λ p a. a, (λ p a. a, (λ p a. a, (λ p a. a, (λ p a. a, (λ p a. a, (λ p a. a, tt))))))) p h.0 h.1 not in
-      subst (Owes u) (sym h.2) (λ c. absurd (mid c)))
+  | inr not ↦ λ c. absurd (periodic_leaves (λ r. Claims u r → ⊥) p q h not c)
 ]
 
 -- The port is active, or its partner is, and recorded as active if it is recorded. The first LACPDU is of the port itself, the
@@ -84,10 +82,8 @@ wakeful_calm v u p up says y claim = not_silent p.enabled p.active (bits_of p.pa
 
 pub wakeful_along : (v u : Lacpdu) (c d : ℕ) → 1 ≤ d → Along (Wakeful v u) v u c d
 wakeful_along v u c d there = record {
-  mux = λ ready p q h y. runs_keep (Wakeful v u) (mux_rows ready)
-      (λ p a. a, (λ p a. a, (λ p a. a, (λ p a. a, (λ p a. a, (λ p a. a, tt)))))) p q h y;
-  periodic = λ p q h a y. subst (Wakeful v u) (sym h.2) (runs_keep (Wakeful v u) periodic_rows
-      (λ p a. a, (λ p a. a, (λ p a. a, (λ p a. a, (λ p a. a, (λ p a. a, (λ p a. a, tt))))))) p h.0 h.1 y);
+  mux = mux_leaves (Wakeful v u);
+  periodic = λ p q h a y. periodic_leaves (Wakeful v u) p q h y;
   select = λ choice p none y. y;
   takes = λ x p q e awake h a y. elim h [
     | inl f ↦ fires_keep (Wakeful v u) (lacpdu_rows x) (

@@ -1,48 +1,36 @@
 -- How the mux machine of a SELECTED port climbs, and what a round keeps of what holds of one end.
 use Rattle.lagprogress.proofs.Common.{Bool, List, Some, [], ap, arith, cond, false, filter, if◌then◌else◌, inl, inr, not, refl, slice_get, subst, suc}
-use Rattle.lagprogress.proofs.Common.{sym, true, zero, ℕ, ◌&&◌, ◌-◌, ◌==◌, ◌||◌, ◌∙◌, ◌∷◌, ◌≡◌, ◌≤◌, ◌⊎◌, nat_tests, none-some, same_Some}
+use Rattle.lagprogress.proofs.Common.{sym, true, zero, ℕ, ◌&&◌, ◌-◌, ◌==◌, ◌||◌, ◌∙◌, ◌∷◌, ◌≡◌, ◌≤◌, ◌⊎◌, and_parts, nat_tests, none-some, same_Some}
 use Rattle.lagprogress.proofs.Common.{AllByRecursion, list_all, list_any, AggId, Key, Choice, Selected, Standby, Unselected, is_selected}
 use Rattle.lagprogress.proofs.Common.{is_unselected, same_party, itself, party_itself, Lacpdu, party_of, MuxState, Attached, CollectingDistributing}
-use Rattle.lagprogress.proofs.Common.{Detached, Waiting, ReceiveState, Current, Expired, Initialize, PortDisabled, Machines, is_synchronized}
-use Rattle.lagprogress.proofs.Common.{mux_rows, partner_synchronized, same_mux_state, periodic_rows, default_partner, lacpdu_rows, receive_rows}
-use Rattle.lagprogress.proofs.Common.{same_receive_state, AtRest, RunsToRest, count_down, PortView, is_aggregator, ports_that_chose, has_chosen}
-use Rattle.lagprogress.proofs.Common.{has_waited, is_detached_or_waiting, SystemPort, ProcessesLacpdu, MuxIsSettled, occupied, ready_of, IsSound}
-use Rattle.lagprogress.proofs.Common.{SystemState, selection_view, stage_of, views, all-get, HasRecorded, IsTimed}
+use Rattle.lagprogress.proofs.Common.{Detached, Waiting, ReceiveState, Machines, is_synchronized, mux_rows, partner_synchronized, same_mux_state}
+use Rattle.lagprogress.proofs.Common.{default_partner, lacpdu_rows, receive_rows, same_receive_state, AtRest, RunsToRest, count_down, PortView}
+use Rattle.lagprogress.proofs.Common.{is_aggregator, ports_that_chose, has_chosen, has_waited, is_detached_or_waiting, SystemPort, ProcessesLacpdu}
+use Rattle.lagprogress.proofs.Common.{MuxIsSettled, occupied, ready_of, IsSound, SystemState, selection_view, stage_of, views, all-get, HasRecorded}
+use Rattle.lagprogress.proofs.Common.{IsTimed}
 use Rattle.lagprogress.proofs.EachPort.{KeptBySettling}
 use Rattle.selection.specs.Ready.{is_ready}
 use Rattle.lagprogress.proofs.EndFacts.{Along, IsEnd, SameActor, Synced, activity, not_attached, takes_sync}
 use Rattle.lagprogress.proofs.Hearing.{EnabledKeep, no, not_down, times_keep}
-use Rattle.lagprogress.proofs.Knowing.{Known, counts}
+use Rattle.lagprogress.proofs.Knowing.{Known, counts, rests_still}
 use Rattle.lagprogress.proofs.Selecting.{known_number}
 use Rattle.lagprogress.proofs.Timers.{runs_keep, fires_keep}
+use Rattle.lagprogress.proofs.OnePort.{mux_leaves, periodic_leaves}
 
 -- while current_while has ticks left the receive machine stays
 
 pub state_not : (s : ReceiveState) (r : ReceiveState) (b : Bool) → same_receive_state s r ≡ false → (same_receive_state s r && b) ≡ true → ⊥
 state_not s r b e h = no (sym (ap (λ c. c && b) e) ∙ h)
 
-still_rows : (u : Lacpdu) (c : ℕ) (o : Machines) → 1 ≤ c → EnabledKeep (λ r. Known u c 0 r × (r ≡ o)) receive_rows
-still_rows u c o l = (
-  λ p h a. absurd (state_not Initialize p.receive true (ap (same_receive_state Initialize) (a.0.1 l).0.current) h),
-  (
-    λ p h a. absurd (not_down _ p.enabled h a.0.0),
-    (
-      λ p h a. absurd (state_not PortDisabled p.receive p.enabled (ap (same_receive_state PortDisabled) (a.0.1 l).0.current) h),
-      (
-        λ p h a. absurd (state_not Expired p.receive (p.current_while == 0) (ap (same_receive_state Expired) (a.0.1 l).0.current) h),
-        (λ p h a. absurd (run_out (same_receive_state Current p.receive) p.current_while h (a.0.1 l).1), tt),
-      ),
-    ),
-  ),
-)
-  where
-    run_out : (b : Bool) (n : ℕ) → (b && (n == 0)) ≡ true → c ≤ n → ⊥
-    run_out true n h m = let z : n ≡ 0 = grind (arith, nat_tests) in omega (arith, z, l, m)
-    run_out false n h m = no h
+known_rests : (u : Lacpdu) (c : ℕ) (p : Machines) → 1 ≤ c → Known u c 0 p → AtRest receive_rows p
+known_rests u c p l a =
+    let current = (a.1 l).0.current in
+    let some = (a.1 l).1 in
+    let left : (p.current_while == 0) ≡ false = grind (arith, nat_tests) in
+    rw (current, a.0, left) (refl, (refl, (refl, (refl, (refl, tt)))))
 
 pub known_still : (u : Lacpdu) (c : ℕ) (p q : Machines) → 1 ≤ c → Known u c 0 p → RunsToRest receive_rows p q → q ≡ p
-known_still u c p q l k h =
-    (times_keep (λ r. Known u c 0 r × (r ≡ p)) receive_rows (still_rows u c p l) h.0 p q h.1 (k, refl)).1
+known_still u c p q l k h = rests_still receive_rows h.0 p q (known_rests u c p l k) h.1
 
 pub ticks_still : (d : ℕ) (v u : Lacpdu) (c : ℕ) (p q : Machines) → 1 ≤ c - 1 → IsEnd d v u c p → RunsToRest receive_rows (count_down p) q
     → q ≡ count_down p
@@ -59,10 +47,6 @@ both_not Unselected h k = no h
 both_not (Selected agg) h k = no k
 both_not (Standby agg) h k = no h
 
-second : (a b : Bool) → (a && b) ≡ true → b ≡ true
-second true b h = h
-second false b h = absurd (no h)
-
 not_waiting : (m : MuxState) (g : Bool) (s : MuxState) → same_mux_state s Waiting ≡ false → (same_mux_state s m && g) ≡ true → m ≡ Waiting → ⊥
 not_waiting m g s f h e = no (sym (ap (λ b. b && g) f) ∙ subst (λ x. (same_mux_state s x && g) ≡ true) e h)
 
@@ -73,7 +57,7 @@ rising_rows t ready = (
     | inr w ↦ not_waiting p.mux (not (is_unselected p.choice)) Detached refl h w.0
   ]),
   (
-    λ p h a. absurd (both_not p.choice a.0 (second (same_mux_state Waiting p.mux) (is_unselected p.choice) h)),
+    λ p h a. absurd (both_not p.choice a.0 (and_parts (same_mux_state Waiting p.mux) (is_unselected p.choice) h).1),
     (
       λ p h a. (a.0, inl refl),
       (
@@ -102,8 +86,7 @@ keeps_selected u x p q e known h = elim h [
 pub rising_along : (v u : Lacpdu) (c d t : ℕ) → 1 ≤ d → 1 ≤ c → Along (Rising t) v u c d
 rising_along v u c d t there known = record {
   mux = λ ready p q h y. times_keep (Rising t) (mux_rows ready) (rising_rows t ready) h.0 p q h.1 y;
-  periodic = λ p q h a y. subst (Rising t) (sym h.2) (runs_keep (Rising t) periodic_rows
-      (λ p a. a, (λ p a. a, (λ p a. a, (λ p a. a, (λ p a. a, (λ p a. a, (λ p a. a, tt))))))) p h.0 h.1 y);
+  periodic = λ p q h a y. periodic_leaves (Rising t) p q h y;
   select = λ choice p none y. absurd (no (sym none ∙ y.0));
   takes = λ x p q e awake h a y. (let k = keeps_selected u x p q (e.0 there) (a.1.1 known).0 h in (
     ap is_selected k.0 ∙ y.0,
@@ -266,30 +249,15 @@ unselects : (t : ℕ) (b : Bool) (c : Choice) (m : MuxState) (n : ℕ) → Dorma
 unselects t true c m n a = a
 unselects t false c m n a = (λ agg e. cc, λ e. absurd (no e))
 
-down_mux : (t k : ℕ) (ready : Bool) → EnabledKeep (Down t k) (mux_rows ready)
-down_mux t k ready =
-    let rows = rising_rows t ready in (
-      λ p h a e. ((a e).0, λ s. (rows.0 p h (s, (a e).1 s)).1),
-      (
-        λ p h a e. ((a e).0, λ s. (rows.1.0 p h (s, (a e).1 s)).1),
-        (
-          λ p h a e. ((a e).0, λ s. (rows.1.1.0 p h (s, (a e).1 s)).1),
-          (
-            λ p h a e. ((a e).0, λ s. (rows.1.1.1.0 p h (s, (a e).1 s)).1),
-            (
-              λ p h a e. ((a e).0, λ s. (rows.1.1.1.1.0 p h (s, (a e).1 s)).1),
-              (λ p h a e. ((a e).0, λ s. (rows.1.1.1.1.1.0 p h (s, (a e).1 s)).1), tt),
-            ),
-          ),
-        ),
-      ),
-    )
-
 pub down_settles : (t : ℕ) → KeptBySettling (Down t)
 down_settles t = record {
-  mux = λ k ready p q h a. times_keep (Down t k) (mux_rows ready) (down_mux t k ready) h.0 p q h.1 a;
-  periodic = λ k p q h a. subst (Down t k) (sym h.2) (runs_keep (Down t k) periodic_rows
-      (λ p a. a, (λ p a. a, (λ p a. a, (λ p a. a, (λ p a. a, (λ p a. a, (λ p a. a, tt))))))) p h.0 h.1 a);
+  mux = λ k ready p q h a e. (let same = mux_leaves (λ r. (r.choice ≡ p.choice) × (r.enabled ≡ p.enabled)) ready p q h (refl, refl) in
+      let was = a (sym same.1 ∙ e) in (
+        λ agg s. was.0 agg (sym same.0 ∙ s),
+        λ s. (let chosen = ap is_selected (sym same.0) ∙ s in
+            (times_keep (Rising t) (mux_rows ready) (rising_rows t ready) h.0 p q h.1 (chosen, was.1 chosen)).1),
+      ));
+  periodic = λ k. periodic_leaves (Down t k);
   select = λ k choice p none may a e. absurd (elim may.0 [ inl up ↦ no (sym e ∙ up) | inr s ↦ (a e).0 s.0 s.1 ]);
 }
 
@@ -328,10 +296,8 @@ PartnerInSync p = partner_synchronized p ≡ true
 
 pub partner_along : (v u : Lacpdu) (c d : ℕ) → 2 ≤ d → (activity u ≡ true) ⊎ (activity v ≡ true) → Along PartnerInSync v u c d
 partner_along v u c d there on = record {
-  mux = λ ready p q h y. runs_keep PartnerInSync (mux_rows ready)
-      (λ p a. a, (λ p a. a, (λ p a. a, (λ p a. a, (λ p a. a, (λ p a. a, tt)))))) p q h y;
-  periodic = λ p q h a y. subst PartnerInSync (sym h.2) (runs_keep PartnerInSync periodic_rows
-      (λ p a. a, (λ p a. a, (λ p a. a, (λ p a. a, (λ p a. a, (λ p a. a, (λ p a. a, tt))))))) p h.0 h.1 y);
+  mux = mux_leaves PartnerInSync;
+  periodic = λ p q h a y. periodic_leaves PartnerInSync p q h y;
   select = λ choice p none y. y;
   takes = λ x p q e awake h a y. takes_sync v u x p q on (e.0 (omega (arith, there))) (e.1 there) awake h a.0 a.1.0;
 }
@@ -345,10 +311,8 @@ ticks_partner d v u c p q l h a y = subst PartnerInSync (sym (ticks_still d v u 
 pub choice_along : (v u : Lacpdu) (c d : ℕ) (choice : Choice) → is_selected choice ≡ true → 1 ≤ d → 1 ≤ c
     → Along (λ p. p.choice ≡ choice) v u c d
 choice_along v u c d choice chosen there known = record {
-  mux = λ ready p q h y. runs_keep (λ p. p.choice ≡ choice) (mux_rows ready)
-      (λ p a. a, (λ p a. a, (λ p a. a, (λ p a. a, (λ p a. a, (λ p a. a, tt)))))) p q h y;
-  periodic = λ p q h a y. subst (λ (r : Machines). r.choice ≡ choice) (sym h.2) (runs_keep (λ p. p.choice ≡ choice) periodic_rows
-      (λ p a. a, (λ p a. a, (λ p a. a, (λ p a. a, (λ p a. a, (λ p a. a, (λ p a. a, tt))))))) p h.0 h.1 y);
+  mux = mux_leaves (λ p. p.choice ≡ choice);
+  periodic = λ p q h a y. periodic_leaves (λ p. p.choice ≡ choice) p q h y;
   select = λ other p none y. absurd (no (sym none ∙ (ap is_selected y ∙ chosen)));
   takes = λ x p q e awake h a y. (keeps_selected u x p q (e.0 there) (a.1.1 known).0 h).0 ∙ y;
 }

@@ -1,12 +1,11 @@
 -- How both ends of a cable come to distribute, round by round.
-use Rattle.lagprogress.proofs.Common.{Bool, List, Some, [], ap, arith, false, inl, inr, is_some, not, option_map, refl, slice_get, subst, suc, sym}
-use Rattle.lagprogress.proofs.Common.{true, zero, ℕ, ◌&&◌, ◌+◌, ◌-◌, ◌||◌, ◌∙◌, ◌∷◌, ◌≡◌, ◌≢◌, ◌≤◌, ◌⊎◌, unwrap_or, Party, is_selected, group_end}
-use Rattle.lagprogress.proofs.Common.{group_of, individual, pair_of, same_group, group-itself, Lacpdu, party_of, One, Side, Two, peer}
-use Rattle.lagprogress.proofs.Common.{CollectingDistributing, Machines, same_mux_state, Table, Answer, SystemPort, Call, TableRun, MuxIsSettled}
-use Rattle.lagprogress.proofs.Common.{group_at, SystemState, machines_of, with_system_ports, with_table, Step-frame, all-get, found_place, ports_rise}
-use Rattle.lagprogress.proofs.Common.{Event, Same, Reply, agreement_at, agreement_of, end_facts, first_agreement, is_stamp, same_groups, Algorithms}
-use Rattle.lagprogress.proofs.Common.{WorldRuns, ItemValue, LinkState, WorldState, change_count_in, half, history_at, port_at, AreApart, Distributes}
-use Rattle.lagprogress.proofs.Common.{AtEnd, IsRound, OfPort, Rounds, IsSteady, IsTimed}
+use Rattle.lagprogress.proofs.Common.{Bool, List, Some, ap, arith, false, inl, inr, is_some, not, option_map, refl, slice_get, subst, suc, sym, true}
+use Rattle.lagprogress.proofs.Common.{zero, ℕ, ◌&&◌, ◌+◌, ◌-◌, ◌||◌, ◌∙◌, ◌≡◌, ◌≢◌, ◌≤◌, ◌⊎◌, unwrap_or, Party, is_selected, group_end, group_of}
+use Rattle.lagprogress.proofs.Common.{individual, pair_of, same_group, group-itself, Lacpdu, party_of, One, Side, Two, peer, CollectingDistributing}
+use Rattle.lagprogress.proofs.Common.{Machines, same_mux_state, Table, Answer, SystemPort, Call, Step, TableRun, MuxIsSettled, group_at, SystemState}
+use Rattle.lagprogress.proofs.Common.{machines_of, with_system_ports, with_table, Step-frame, all-get, Event, Same, Reply, agreement_at, agreement_of}
+use Rattle.lagprogress.proofs.Common.{end_facts, first_agreement, is_stamp, same_groups, Algorithms, WorldRuns, ItemValue, LinkState, WorldState}
+use Rattle.lagprogress.proofs.Common.{change_count_in, half, history_at, port_at, AreApart, Distributes, AtEnd, IsRound, OfPort, Rounds, IsTimed}
 use Rattle.lagprogress.proofs.Stamps.{Stamped, stamped_round}
 use Rattle.lagtypes.proofs.GroupLemmas.{groups_from_pairs}
 use Rattle.lagprogress.proofs.Claims.{Owes}
@@ -14,36 +13,32 @@ use Rattle.lagprogress.proofs.Climbing.{PartnerInSync, Rising, distributes_now, 
 use Rattle.lagprogress.proofs.Climbing.{ticks_rising}
 use Rattle.lagprogress.proofs.EachPort.{OfEach}
 use Rattle.lagprogress.proofs.OneCable.{cable, OnCable}
-use Rattle.lagprogress.proofs.EndFacts.{IsEnd, Learnt, Synced, activity}
-use Rattle.lagprogress.proofs.Halves.{each_is_calls}
-use Rattle.lagprogress.proofs.Linked.{EndIs, Fits, Link, each_map, each_side, found, peer_twice}
-use Rattle.lagprogress.proofs.OnePort.{AtPort, at_number}
+use Rattle.lagprogress.proofs.EndFacts.{Learnt, Synced, activity}
+use Rattle.lagprogress.proofs.Linked.{Fits, each_map, each_side, peer_twice, events_each}
+use Rattle.lagprogress.proofs.OnePort.{AtPort, calls_each}
 use Rattle.lagprogress.proofs.OneRound.{Nothing, join, round_nears, ticked, round_holds}
 use Rattle.lagprogress.proofs.Progressing.{AtIt, Ends, FreshAt, able_fresh, beside, emptied, fits_fresh, knows_peer, machines_there, mode, own_says}
-use Rattle.lagprogress.proofs.Progressing.{said_by, stays_fresh, wait}
+use Rattle.lagprogress.proofs.Progressing.{said_by, stays_fresh, wait, awake_peer}
 use Rattle.lagprogress.proofs.Sounding.{Sounds, all_leave}
+use Rattle.std.proofs.Math.Bool.{and_comm}
+pub use Rattle.lagprogress.proofs.Linked.{EndPort, at_end, end_here, end_with}
 
 -- what no event changes
 
 module _ (X : Type 0) (g : SystemState → X)
     (kept : (s : SystemState) (ports : List SystemPort) (t : Table) → g (with_table (with_system_ports s ports) t) ≡ g s) where
+  one : (gives : ℕ → ℕ → ℕ → Type 0) (was : X) (old new : SystemState) (call : Call) (answer : Answer) → Step gives old call answer new
+      → g old ≡ was → g new ≡ was
+  one gives was old new call answer step e = ap g (Step-frame gives old call answer new step) ∙ (kept old new.system_ports new.table ∙ e)
+
   pub calls_keep : (gives : ℕ → ℕ → ℕ → Type 0) (old new : SystemState) (calls : List Call) (replies : List Answer)
       → TableRun gives old calls replies new → g new ≡ g old
-  calls_keep gives old new [] [] h = ap g h
-  calls_keep gives old new [] (answer ∷ answers) h = absurd h
-  calls_keep gives old new (call ∷ calls) [] h = absurd h
-  calls_keep gives old new (call ∷ calls) (answer ∷ answers) h =
-      calls_keep gives h.0 new calls answers h.2
-      ∙ (ap g (Step-frame gives old call answer h.0 h.1) ∙ kept old h.0.system_ports h.0.table)
+  calls_keep gives old new calls replies h = calls_each gives (λ s. g s ≡ g old) (one gives (g old)) old new calls replies h refl
 
   pub events_keep : (gives : Algorithms) (es : List Event) (rs : List Reply) (old new : WorldState) → WorldRuns gives old es rs new
       → (s : Side) → g (half s new).state ≡ g (half s old).state
-  events_keep gives [] [] old new h s = ap (λ (j : WorldState). g (half s j).state) h
-  events_keep gives [] (r ∷ rs) old new h s = absurd h
-  events_keep gives (e ∷ es) [] old new h s = absurd h
-  events_keep gives (e ∷ es) (r ∷ rs) old new h s =
-      let c = each_is_calls gives e r old h.0 h.1 s in
-      events_keep gives es rs h.0 new h.2 s ∙ calls_keep (gives s) (half s old).state (half s h.0).state c.0 c.1 c.2
+  events_keep gives es rs old new h s = let was = g (half s old).state in
+      events_each gives s (λ t. g t ≡ was) (one (gives s) was) es rs old new h refl
 
 -- runs of rounds
 
@@ -81,72 +76,43 @@ rounds_kept gives n i at fl old new c h s = (zero_on gives (λ m j. Stamped 0 at
     kept t = is_some (history_at (half t old).histories (at t))
 
 module _ (at : Side → ℕ) (w : Side → Lacpdu) where
-  -- the port at an end
-  pub record EndPort (d : ℕ) (c : Side → ℕ) (s : Side) (j : WorldState) : Type 0 where
-    pub port : SystemPort
-    pub index : ℕ
-    pub there : slice_get (half s j).state.system_ports index ≡ Some port
-    pub number : port.number ≡ at s
-    pub is : IsEnd d (w s) (w (peer s)) (c s) port.port
-    pub found : machines_of (at s) (half s j).state ≡ Some port.port
-
-  pub end_here : (d : ℕ) (c : Side → ℕ) (x : Side) (Y : Machines → Type 0) (j : WorldState) → Link d at w c x Y j → (s : Side) → EndPort d c s j
-  end_here d c x Y j l s =
-      let st = (half s j).state in
-      let place = l.place s in
-      let it = found (at s) place.0 st.system_ports place.1 in
-      let numbered = found_place (at s) st.system_ports place.0 it.0 place.1 it.1 in
-      record {
-        port = it.0;
-        index = place.0;
-        there = it.1;
-        number = numbered;
-        is = (all-get (λ (y : SystemPort). AtPort (at s) (EndIs d w c x Y s) y.number y.port) st.system_ports place.0 it.0 it.1
-            (l.ports s) numbered).0;
-        found = machines_there (at s) st place.0 it.0 place.1 it.1;
-      }
-
-  pub at_end : (d : ℕ) (c : Side → ℕ) (s : Side) (j : WorldState) (e : EndPort d c s j) → IsSteady j → (P : Machines → Type 0)
-      → P e.port.port → OfEach (AtPort (at s) P) (half s j).state.system_ports
-  at_end d c s j e steady P p =
-      subst (λ n. OfEach (AtPort n P) (half s j).state.system_ports) e.number
-      (at_number P 0 (half s j).state.system_ports e.index e.port (ports_rise (half s j).state (steady s).0.ports) e.there p)
-
-  pub end_with : (d : ℕ) (c : Side → ℕ) (s : Side) (j : WorldState) (e : EndPort d c s j) (P : Machines → Type 0)
-      → OfEach (AtPort (at s) P) (half s j).state.system_ports → P e.port.port
-  end_with d c s j e P a =
-      all-get (λ (y : SystemPort). AtPort (at s) P y.number y.port) (half s j).state.system_ports e.index e.port e.there a e.number
-
   module _ (awake : (s : Side) → (activity (w s) ≡ true) ⊎ (activity (w (peer s)) ≡ true)) where
-    -- both ends climb
+    -- an end climbs
+    pub climb_first : (j : WorldState) (g : FreshAt at w 1 j) (s : Side) → AtIt at w s (λ p. is_selected p.choice ≡ true) j
+        → AtIt at w s (Rising (20 - 0)) j
+    climb_first j g s chosen =
+        let e = end_here at w 1 g.known One Nothing j g.link s in
+        let steady = g.link.steady in
+        let st = (half s j).state in
+        let mux = (all-get (MuxIsSettled st.keys st.system_ports) st.system_ports e.index e.port e.there (steady s).0.quiet.0).mux in
+        let timed = all-get (λ (y : SystemPort). IsTimed y.port) st.system_ports e.index e.port e.there (steady s).1 in
+        at_end at w 1 g.known s j e steady (Rising 20) (rising_first e.port.port mux timed
+        (end_with at w 1 g.known s j e (λ p. is_selected p.choice ≡ true) chosen))
+
+    pub climb_on : (s : Side) (gives : Algorithms) (n : ℕ) (old new : WorldState) (g : FreshAt at w 1 old) → IsRound gives old new
+        → AtIt at w s (Rising (20 - n)) old → AtIt at w s (Rising (20 - (n + 1))) new
+    climb_on s gives n old new g h rising =
+        let l = knows_peer at w 1 0 0 old g (omega arith) s in
+        subst (λ t. AtIt at w s (Rising t) new) (omega arith)
+        (beside at w 1 (ticked g.known) s (Rising (20 - n - 1)) new
+        (round_holds gives s 1 at w g.known (Rising (20 - n)) (Rising (20 - n - 1)) old new
+        (fits_fresh at w awake 1 old g (omega arith))
+        (rising_along (w s) (w (peer s)) (ticked g.known s) 1 (20 - n - 1) (omega arith) (omega (arith, l)))
+        (λ p q r rest a y. ticks_rising 1 (w s) (w (peer s)) (g.known s) (20 - n) p q (omega (arith, l)) r a y)
+        (λ p y. y) (join 1 at w g.known One s (Rising (20 - n)) old g.link rising) h))
+
+    -- both do
     pub record Climbs (n : ℕ) (j : WorldState) : Type 0 where
       pub fresh : FreshAt at w 1 j
       pub rising : (s : Side) → AtIt at w s (Rising (20 - n)) j
 
     pub climbs_first : (j : WorldState) → FreshAt at w 1 j → ((s : Side) → AtIt at w s (λ p. is_selected p.choice ≡ true) j) → Climbs 0 j
-    climbs_first j g chosen = record {
-      fresh = g;
-      rising = λ s. (let e = end_here 1 g.known One Nothing j g.link s in
-          let steady = g.link.steady in
-          let st = (half s j).state in
-          let mux = (all-get (MuxIsSettled st.keys st.system_ports) st.system_ports e.index e.port e.there (steady s).0.quiet.0).mux in
-          let timed = all-get (λ (y : SystemPort). IsTimed y.port) st.system_ports e.index e.port e.there (steady s).1 in
-          at_end 1 g.known s j e steady (Rising 20) (rising_first e.port.port mux timed
-          (end_with 1 g.known s j e (λ p. is_selected p.choice ≡ true) (chosen s))));
-    }
+    climbs_first j g chosen = record { fresh = g; rising = λ s. climb_first j g s (chosen s) }
 
     pub climbs_on : (gives : Algorithms) (n : ℕ) (old new : WorldState) → IsRound gives old new → Climbs n old → Climbs (n + 1) new
     climbs_on gives n old new h k = record {
       fresh = stays_fresh at w awake gives 1 old new (omega arith) h k.fresh;
-      rising = λ s. (let g = k.fresh in
-          let l = knows_peer at w 1 0 0 old g (omega arith) s in
-          subst (λ t. AtIt at w s (Rising t) new) (omega arith)
-          (beside at w 1 (ticked g.known) s (Rising (20 - n - 1)) new
-          (round_holds gives s 1 at w g.known (Rising (20 - n)) (Rising (20 - n - 1)) old new
-          (fits_fresh at w awake 1 old g (omega arith))
-          (rising_along (w s) (w (peer s)) (ticked g.known s) 1 (20 - n - 1) (omega arith) (omega (arith, l)))
-          (λ p q r rest a y. ticks_rising 1 (w s) (w (peer s)) (g.known s) (20 - n) p q (omega (arith, l)) r a y)
-          (λ p y. y) (join 1 at w g.known One s (Rising (20 - n)) old g.link (k.rising s)) h)));
+      rising = λ s. climb_on s gives n old new k.fresh h (k.rising s);
     }
 
     -- Then each end hears that the other is in sync, since it is told or is owed an LACPDU.
@@ -161,11 +127,11 @@ module _ (at : Side → ℕ) (w : Side → Lacpdu) where
     -- an end that owes an LACPDU sounds as soon as its transmit window lets it
     owed : (j : WorldState) (g : FreshAt at w 2 j) (s : Side) → AtIt at w s (Owes (w (peer s))) j → AtIt at w s (Sounds (mode at w s) 11) j
     owed j g s owes =
-        let e = end_here 2 g.known One Nothing j g.link s in
+        let e = end_here at w 2 g.known One Nothing j g.link s in
         let known = (e.is.1.1 (let l = knows_peer at w 2 0 0 j g (omega arith) s in omega (arith, l))).0 in
         let timed = all-get (λ (y : SystemPort). IsTimed y.port) (half s j).state.system_ports e.index e.port e.there (g.link.steady s).1 in
-        at_end 2 g.known s j e g.link.steady (Sounds (mode at w s) 11) (
-          inl (end_with 2 g.known s j e (Owes (w (peer s))) owes (e.is.2 (omega arith), known.party)),
+        at_end at w 2 g.known s j e g.link.steady (Sounds (mode at w s) 11) (
+          inl (end_with at w 2 g.known s j e (Owes (w (peer s))) owes (e.is.2 (omega arith), known.party)),
           all_leave true e.port.port.ages timed.3,
         )
 
@@ -218,14 +184,9 @@ module _ (at : Side → ℕ) (w : Side → Lacpdu) where
             let l = knows_peer at w 2 0 0 old g (omega arith) t in
             inr (beside at w 2 (ticked g.known) t PartnerInSync new
             (round_holds gives t 2 at w g.known PartnerInSync PartnerInSync old new fits
-            (partner_along (w t) (w (peer t)) (ticked g.known t) 2 (omega arith) (either (awake t)))
+            (partner_along (w t) (w (peer t)) (ticked g.known t) 2 (omega arith) (awake_peer at w awake t))
             (λ p q r rest a z. ticks_partner 2 (w t) (w (peer t)) (g.known t) p q (omega (arith, l)) r a z)
             (λ p z. z) (join 2 at w g.known One t PartnerInSync old g.link y) h))
-          where
-            either : (activity (w (peer s)) ≡ true) ⊎ (activity (w (peer (peer s))) ≡ true)
-                → (activity (w (peer (peer s))) ≡ true) ⊎ (activity (w (peer s)) ≡ true)
-            either (inl a) = inr a
-            either (inr a) = inl a
 
     pub told : (n : ℕ) (j : WorldState) → 11 ≤ n → Agrees n j → (t : Side) → AtIt at w t PartnerInSync j
     told n j l c t = subst (λ u. AtIt at w u PartnerInSync j) (peer_twice t) (elim (c.tells (peer t)) [
@@ -237,11 +198,11 @@ module _ (at : Side → ℕ) (w : Side → Lacpdu) where
     pub up_now : (n : ℕ) (j : WorldState) → 11 ≤ n → Agrees n j → (s : Side) → OfPort Distributes (machines_of (at s) (half s j).state)
     up_now n j l c s =
         let g = c.fresh in
-        let e = end_here 2 g.known One Nothing j g.link s in
+        let e = end_here at w 2 g.known One Nothing j g.link s in
         let st = (half s j).state in
         let mux = (all-get (MuxIsSettled st.keys st.system_ports) st.system_ports e.index e.port e.there (g.link.steady s).0.quiet.0).mux in
         let synced = e.is.2 (omega arith) in
-        let heard = end_with 2 g.known s j e PartnerInSync (told n j l c s) in
+        let heard = end_with at w 2 g.known s j e PartnerInSync (told n j l c s) in
         subst (OfPort Distributes) (sym e.found) (distributes_now e.port.port mux synced heard, synced.0)
 
     abbrev pub Up : WorldState → Type 0
@@ -286,16 +247,10 @@ all_same d1 d2 f1 f2 s1 s2 g a b c d e f h = rw (a, b, c, d, e, f, h) refl
 
 turned : (p q : Party) → same_group (group_of p q) (group_of q p) ≡ true
 turned p q =
-    let alone : individual p q ≡ individual q p = ap not (either_order p.aggregatable q.aggregatable) in
+    let alone : individual p q ≡ individual q p = ap not (and_comm p.aggregatable q.aggregatable) in
     let same : group_of p q ≡ group_of q p = groups_from_pairs (pair_of p q) (pair_of q p)
     (inr (ap (λ b. group_end b p) alone, ap (λ b. group_end b q) alone)) in
     subst (λ g. same_group (group_of p q) g ≡ true) same (group-itself (group_of p q))
-  where
-    either_order : (a b : Bool) → (a && b) ≡ (b && a)
-    either_order true true = refl
-    either_order true false = refl
-    either_order false true = refl
-    either_order false false = refl
 
 module _ (at : Side → ℕ) (w : Side → Lacpdu)
     (awake : (s : Side) → (activity (w s) ≡ true) ⊎ (activity (w (peer s)) ≡ true)) where

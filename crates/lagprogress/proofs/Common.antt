@@ -1,9 +1,9 @@
 -- The names that proofs of this crate import, passed on from one place. Declares nothing; tools/proof-imports writes it.
 pub use Rattle.std.proofs.Common.{Bool, Err, IfErr, IfOk, IsSome, IsTrue, List, None, Ok, Option, Result, Some, [], ap, append_assoc, arith, bytes_eq}
-pub use Rattle.std.proofs.Common.{cond, drop, eqb, eqb-true, false, filter, find, if◌then◌else◌, inl, inr, is_some, length, ltb, map, nat_le, nat_lt}
-pub use Rattle.std.proofs.Common.{not, option_map, position, refl, slice_get, slice_set, subst, suc, sym, take, take-append-drop, take_all, true}
-pub use Rattle.std.proofs.Common.{zero, ℕ, ◌&&◌, ◌++◌, ◌+◌, ◌-◌, ◌<◌, ◌==◌, ◌^◌, ◌||◌, ◌∙◌, ◌∷◌, ◌≡◌, ◌≢◌, ◌≤◌, ◌⊎◌}
-pub use Rattle.std.proofs.lemmas.Bool.{and_parts, cases_Bool, false≢true, ltb-true, true≢false}
+pub use Rattle.std.proofs.Common.{cond, drop, eqb, eqb-true, false, filter, find, get_or, if◌then◌else◌, inl, inr, is_some, length, ltb, map, nat_le}
+pub use Rattle.std.proofs.Common.{nat_lt, not, option_map, position, refl, slice_get, slice_set, subst, suc, sym, take, take-append-drop, take_all}
+pub use Rattle.std.proofs.Common.{true, zero, ℕ, ◌&&◌, ◌++◌, ◌+◌, ◌-◌, ◌<◌, ◌==◌, ◌^◌, ◌||◌, ◌∙◌, ◌∷◌, ◌≡◌, ◌≢◌, ◌≤◌, ◌⊎◌}
+pub use Rattle.std.proofs.lemmas.Bool.{and_parts, cases_Bool, cond_both, false≢true, ltb-true, true≢false}
 pub use Rattle.std.proofs.lemmas.Bool.Decides.{nat_tests}
 pub use Rattle.std.proofs.lemmas.List.Quantifiers.{position-Some}
 pub use Rattle.std.proofs.lemmas.Option.{none-some, same_Some, slice_get-get_or, slice_get-map, slice_get_cases, slice_get_within}
@@ -29,9 +29,8 @@ pub use Rattle.slowpdu.specs.declared.pdu.Marker.{Marker}
 pub use Rattle.slowpdu.specs.declared.pdu.MarkerKind.TheVariants.{Information, Response}
 pub use Rattle.slowpdu.specs.declared.pdu.Pdu.{Pdu}
 pub use Rattle.slowpdu.specs.Frames.{frame_octets}
-pub use Rattle.slowpdu.specs.Layout.{HoldsNumber, IsAddress, read_field}
 pub use Rattle.slowpdu.specs.Parties.{party_of}
-pub use Rattle.slowpdu.proofs.LayoutLemmas.{all-append, octet_stands}
+pub use Rattle.slowpdu.proofs.LayoutLemmas.{all-append}
 pub use Rattle.slowpdu.proofs.PduLemmas.{no_fault, one_pdu, written_pdu}
 pub use Rattle.lagmodel.specs.World.{Ends, IsCabling, One, Side, Two, WorldSetup, end_at, peer}
 pub use Rattle.lagmodel.proofs.Base.{cond_false, cond_true, value_of}
@@ -46,8 +45,7 @@ pub use Rattle.portmachines.specs.declared.receive.ReceiveState.{ReceiveState}
 pub use Rattle.portmachines.specs.declared.receive.ReceiveState.TheVariants.{Current, Defaulted, Expired, Initialize, PortDisabled}
 pub use Rattle.portmachines.specs.Machines.{Machines}
 pub use Rattle.portmachines.specs.Mux.{is_synchronized, mux_rows, partner_synchronized, same_mux_state, selected}
-pub use Rattle.portmachines.specs.Periodic.{RunsPeriodic, clear_ntt, is_silent, partner_short, periodic_rows, periodic_table, same_periodic_state}
-pub use Rattle.portmachines.specs.Periodic.{timer_expired}
+pub use Rattle.portmachines.specs.Periodic.{RunsPeriodic, is_silent, partner_short, periodic_rows, periodic_table, same_periodic_state, timer_expired}
 pub use Rattle.portmachines.specs.Receive.{default_partner, is_maintained, lacpdu_rows, receive_rows, recorded_synchronization, same_receive_state}
 pub use Rattle.portmachines.specs.Receive.{start_receive}
 pub use Rattle.portmachines.specs.Rows.{AtRest, Fires, FiresTimes, Row, RunsToRest, in_order}
@@ -61,7 +59,7 @@ pub use Rattle.selection.specs.Views.{has_chosen, has_waited, is_detached, is_de
 pub use Rattle.selection.proofs.LimitLemmas.{NoneStandsBy, is_next, none_is_next}
 pub use Rattle.distributor.specs.declared.assignment.Assignment.{Assignment}
 pub use Rattle.distributor.specs.declared.assignment.Assignment.TheVariants.{Flushing, Free, On, Wanted}
-pub use Rattle.distributor.specs.Calls.{Assigns, MaySend, PicksIndexes, PicksPort, force_result, is_among, move_result}
+pub use Rattle.distributor.specs.Calls.{Assigns, MaySend, PicksPort, force_result, is_among, move_result}
 pub use Rattle.distributor.specs.Changes.{SetsAssignment, after_down, after_mark, after_release, after_tick, marker_due, wants_marker}
 pub use Rattle.distributor.specs.Conversations.{IsConversation, Table, assignment_of, count_conversations, next_identifier}
 pub use Rattle.distributor.proofs.TableLemmas.{first_free}
@@ -111,8 +109,8 @@ pub use Rattle.lagworld.specs.declared.reply.Reply.{Reply}
 pub use Rattle.lagworld.specs.Agreement.{agreement_at, agreement_of, end_facts, first_agreement, is_stamp, same_groups}
 pub use Rattle.lagworld.specs.Events.{AfterOffer, AfterReceive, AfterTransmit, Algorithms, DeliversFrom, InHalf, OnLink, WorldEmits, WorldOffers}
 pub use Rattle.lagworld.specs.Events.{WorldReceives, WorldRuns, WorldSteps, cause, cause_or_no_memory, first_event_cause, has_cable, most_events}
-pub use Rattle.lagworld.specs.Events.{offered_item, set_last_lacpdu, side_of, stamp_for, stamped_in, transmitted_item, with_collected_in}
-pub use Rattle.lagworld.specs.Events.{with_frame_counted, with_link_at, with_stamp_collected}
+pub use Rattle.lagworld.specs.Events.{offered_item, set_last_lacpdu, side_of, stamp_for, stamped_in, with_collected_in, with_frame_counted}
+pub use Rattle.lagworld.specs.Events.{with_link_at, with_stamp_collected}
 pub use Rattle.lagworld.specs.HalfCalls.{HalfAnswers, HalfTicks, forced_if_accepted, set_taken}
 pub use Rattle.lagworld.specs.Making.{AreFirst}
 pub use Rattle.lagworld.specs.Messages.{payload_in, side_numbered, stamp_count}
@@ -140,7 +138,7 @@ pub use Rattle.lagprogress.specs.Heartbeat.{EachCall, IsHeard, IsSilentShortly, 
 pub use Rattle.lagprogress.specs.Knowing.{HasRecorded, IsKnown}
 pub use Rattle.lagprogress.specs.Passing.{DeliverProcessesLacpdu, EmitSendsLacpdu, EndIsUp, IsHeardOn, IsSentOn}
 pub use Rattle.lagprogress.specs.Played.{Delivers, EachAgrees, EachDistributes, IsOutOfMemoryOrSpent, IsReached, IsReady, IsRefused, LeadsTo}
-pub use Rattle.lagprogress.specs.Played.{NamesNoCable, NothingStaysHeld, PlaysPart, RunsAll, RunsPart, StopsInRound, found_nothing}
+pub use Rattle.lagprogress.specs.Played.{NamesNoCable, NothingStaysHeld, PlaysPart, RunsAll, RunsPart, found_nothing}
 pub use Rattle.lagprogress.specs.Progress.{ActiveEndsComeToKnow, EndKnows, EndsComeToKnow, Knows}
 pub use Rattle.lagprogress.specs.Rounds.{AtEnd, IsDeliver, IsHealthy, IsHealthyAt, IsRound, NothingInFlight, OfPort, Rounds, asks_all, asks_ends}
 pub use Rattle.lagprogress.specs.Rounds.{freed_if_both_active, freed_if_one_is, ticks_of_both, up_if_both_active, up_if_one_is}

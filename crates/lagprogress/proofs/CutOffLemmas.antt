@@ -1,26 +1,24 @@
 -- A port that is cut off hears nothing, and is DEFAULTED in the end.
-use Rattle.lagprogress.proofs.Common.{Bool, Err, List, None, Ok, Option, Result, Some, [], ap, arith, false, if◌then◌else◌, inl, inr, length, not}
-use Rattle.lagprogress.proofs.Common.{refl, slice_get, slice_set, subst, sym, true, ℕ, ◌&&◌, ◌++◌, ◌+◌, ◌-◌, ◌==◌, ◌∙◌, ◌∷◌, ◌≡◌, ◌≤◌, ◌⊎◌}
-use Rattle.lagprogress.proofs.Common.{cases_Bool, nat_tests, none-some, same_Some, One, Side, Two, peer, value_of, ReceiveState, Current, Defaulted}
-use Rattle.lagprogress.proofs.Common.{Expired, Initialize, PortDisabled, Machines, mux_rows, periodic_rows, lacpdu_rows, receive_rows, RunsToRest}
-use Rattle.lagprogress.proofs.Common.{after_sending, count_down, is_due, SystemFault, Received, SystemPort, ParsesWhere, Performs, Receive}
-use Rattle.lagprogress.proofs.Common.{ReceivesAt, Step, Transmit, can_receive_in, none_enabled, TransmitsAt, TransmitsIf, SystemState, port_index}
-use Rattle.lagprogress.proofs.Common.{can_receive_at_rest, all-get, found_place, Reply, AfterTransmit, Algorithms, WorldSteps, side_of, HalfState}
-use Rattle.lagprogress.proofs.Common.{ItemValue, LinkState, WorldState, change_link, half, is_at_limit, link_at, link_index, port_at, put_on_port}
-use Rattle.lagprogress.proofs.Common.{sent_on, towards, with_half, with_towards, set_elsewhere, set_here, towards_other, position_there}
-use Rattle.lagprogress.proofs.Common.{CutOffIsDefaulted, IsCutOff, timeout_time, IsRound, Rounds, asks_all, IsSteady, IsTimed}
-use Rattle.lagprogress.proofs.OneRound.{Unrolled, all_ask, ask_all, deliver_all, one_of_both, unroll}
+use Rattle.lagprogress.proofs.Common.{Bool, List, None, Ok, Option, Result, Some, [], ap, arith, false, if◌then◌else◌, inl, inr, length, not, refl}
+use Rattle.lagprogress.proofs.Common.{slice_get, slice_set, subst, sym, true, ℕ, ◌&&◌, ◌++◌, ◌+◌, ◌-◌, ◌==◌, ◌∙◌, ◌∷◌, ◌≡◌, ◌≤◌, ◌⊎◌, cases_Bool}
+use Rattle.lagprogress.proofs.Common.{nat_tests, none-some, same_Some, One, Side, Two, peer, value_of, ReceiveState, Current, Expired, Machines}
+use Rattle.lagprogress.proofs.Common.{receive_rows, RunsToRest, after_sending, count_down, is_due, SystemFault, Received, SystemPort, ParsesWhere}
+use Rattle.lagprogress.proofs.Common.{Performs, Receive, ReceivesAt, Step, Transmit, can_receive_in, none_enabled, TransmitsAt, TransmitsIf}
+use Rattle.lagprogress.proofs.Common.{SystemState, port_index, can_receive_at_rest, all-get, found_place, Reply, AfterTransmit, Algorithms}
+use Rattle.lagprogress.proofs.Common.{WorldSteps, side_of, HalfState, ItemValue, LinkState, WorldState, change_link, half, is_at_limit, link_at}
+use Rattle.lagprogress.proofs.Common.{link_index, port_at, put_on_port, sent_on, towards, with_half, with_towards, set_elsewhere, set_here}
+use Rattle.lagprogress.proofs.Common.{towards_other, position_there, CutOffIsDefaulted, IsCutOff, timeout_time, IsRound, Rounds, IsSteady, IsTimed}
+use Rattle.lagprogress.proofs.OneRound.{Unrolled, one_of_both, unroll}
+use Rattle.lagprogress.proofs.RoundEvents.{asked_half, came_half, round_on, ticks_each, ticks_first}
 use Rattle.lagprogress.proofs.Hearing.{no, Unheard, Within, begins, counts, is_defaulted, receives, rested, unheard_settles, when_up}
-use Rattle.lagprogress.proofs.Timers.{fires_keep, runs_keep}
-use Rattle.lagprogress.proofs.EachRound.{RoundKeeps, asks_each, delivers_each, ticks_each, EachAt, rounds_steady}
+use Rattle.lagprogress.proofs.EachRound.{EachAt, RoundKeeps, asks_each, delivers_each, own_keeps, own_ticks, rounds_steady}
 use Rattle.lagsystem.specs.declared.drive.Reply.TheVariants as answer
 use Rattle.lagsystem.specs.declared.received.Received.TheVariants as received
 use Rattle.lagscript.specs.declared.event.Event.TheVariants as event
 use Rattle.lagprogress.proofs.Bundling.{Alike, all_by_place, as_before, rounds_alike}
 use Rattle.lagprogress.proofs.ComingUp.{splits, zero_on}
-use Rattle.lagprogress.proofs.EachPort.{OfEach, Step-each, Tick-each, KeptBySettling}
-use Rattle.lagprogress.proofs.Linked.{each_side, peer_twice}
-use Rattle.lagprogress.proofs.OneCable.{Comes, Sends, came_off, emits, ticks}
+use Rattle.lagprogress.proofs.EachPort.{KeptBySettling, OfEach, Step-each, asked_each}
+use Rattle.lagprogress.proofs.OneCable.{Comes, Sends, came_off}
 use Rattle.lagprogress.proofs.OnePort.{AtPort, same_place}
 
 -- a port that is down says nothing
@@ -32,24 +30,7 @@ abbrev pub DownAt : Side → ℕ → WorldState → Type 0
 DownAt s n j = EachAt (AtPort n Dead) s j
 
 dead_keeps : (n : ℕ) → RoundKeeps (AtPort n Dead)
-dead_keeps n = record {
-  settles = record {
-    mux = λ m ready p q h a e. runs_keep Dead (mux_rows ready)
-        (λ p a. a, (λ p a. a, (λ p a. a, (λ p a. a, (λ p a. a, (λ p a. a, tt)))))) p q h (a e);
-    periodic = λ m p q h a e. subst Dead (sym h.2) (runs_keep Dead periodic_rows
-        (λ p a. a, (λ p a. a, (λ p a. a, (λ p a. a, (λ p a. a, (λ p a. a, (λ p a. a, tt))))))) p h.0 h.1 (a e));
-    select = λ m choice p none may a e. a e;
-  };
-  sends = λ m p a e. a e;
-  takes = λ m v p q h a e. elim h [
-    | inl f ↦ fires_keep Dead (lacpdu_rows v) (λ p a. a, tt) p q f (a e)
-    | inr r ↦ subst Dead (sym r.1) (a e)
-  ];
-}
-
-dead_ticks : (n m : ℕ) (p q : Machines) → RunsToRest receive_rows (count_down p) q → AtPort n Dead m p → AtPort n Dead m q
-dead_ticks n m p q h a e =
-    runs_keep Dead receive_rows (λ p a. a, (λ p a. a, (λ p a. a, (λ p a. a, (λ p a. a, tt))))) (count_down p) q h (a e)
+dead_keeps = own_keeps (λ party up. up ≡ false)
 
 says_none : (up due : Bool) (i : ℕ) (z : SystemPort) (old : SystemState) (frame : List ℕ) (new : SystemState) → up ≡ false
     → TransmitsIf up due i z old (Some frame) new → ⊥
@@ -102,15 +83,11 @@ sent_cut Two One item m cut none =
 ends_stay : (M : ℕ → Type 0) (s u : Side) (item : ItemValue) (m : LinkState) → (m.whole ≡ false) ⊎ M (port_at (peer s) m)
     → ((sent_on u item m).whole ≡ false) ⊎ M (port_at (peer s) (sent_on u item m))
 ends_stay M One One item m h = h
-ends_stay M One Two item m h = h
-ends_stay M Two One item m h = h
-ends_stay M Two Two item m h = h
+ends_stay M s u item m h = h
 
 joins_stay : (s u : Side) (item : ItemValue) (m : LinkState) → port_at s (sent_on u item m) ≡ port_at s m
 joins_stay One One item m = refl
-joins_stay One Two item m = refl
-joins_stay Two One item m = refl
-joins_stay Two Two item m = refl
+joins_stay s u item m = refl
 
 put_cut : (b : ℕ) (s u : Side) (p q : ℕ) (M : ℕ → Type 0) (item : ItemValue) (links : List LinkState) → (u ≡ peer s → M q → ⊥)
     → CutAt b s p M links → CutAt b s p M (put_on_port u q item links)
@@ -139,10 +116,9 @@ put_cut b s u p q M item links not cut = by_index (link_index u q links) refl
 transmitted_cut : (b : ℕ) (s : Side) (p : ℕ) (M : ℕ → Type 0) (v : Side) (q : ℕ) (a : Result (Option (List ℕ)) SystemFault) (mid : HalfState)
     (r : Reply) (old new : WorldState) → ((frame : List ℕ) → a ≡ Ok (Some frame) → v ≡ peer s → M q → ⊥)
     → AfterTransmit v q a (with_half v mid old) r new → CutAt b s p M old.links → CutAt b s p M new.links
-transmitted_cut b s p M v q (Err fault) mid r old new not h cut = subst (λ (j : WorldState). CutAt b s p M j.links) (sym h.1) cut
-transmitted_cut b s p M v q (Ok None) mid r old new not h cut = subst (λ (j : WorldState). CutAt b s p M j.links) (sym h.1) cut
 transmitted_cut b s p M v q (Ok (Some frame)) mid r old new not h cut =
     subst (λ (j : WorldState). CutAt b s p M j.links) (sym h.1) (put_cut b s v p q M _ old.links (not frame refl) cut)
+transmitted_cut b s p M v q a mid r old new not h cut = subst (λ (j : WorldState). CutAt b s p M j.links) (sym h.1) cut
 
 -- the ports that are meant are down
 abbrev pub Downs : (ℕ → Type 0) → Side → WorldState → Type 0
@@ -165,15 +141,9 @@ emit_cut gives b s p M n q r old new h down cut =
 sends_cut : (b : ℕ) (s v : Side) (p q : ℕ) (M : ℕ → Type 0) (a : Result Received SystemFault) (old new : List LinkState)
     → ((frame : List ℕ) → a ≡ Ok (received.Respond frame) → v ≡ peer s → M q → ⊥) → Sends v q a old new
     → CutAt b s p M old → CutAt b s p M new
-sends_cut b s v p q M (Err fault) old new not h cut = subst (CutAt b s p M) (sym h) cut
-sends_cut b s v p q M (Ok received.Disabled) old new not h cut = subst (CutAt b s p M) (sym h) cut
-sends_cut b s v p q M (Ok received.Dropped) old new not h cut = subst (CutAt b s p M) (sym h) cut
-sends_cut b s v p q M (Ok (received.Ignored fault)) old new not h cut = subst (CutAt b s p M) (sym h) cut
-sends_cut b s v p q M (Ok received.TookLacpdu) old new not h cut = subst (CutAt b s p M) (sym h) cut
 sends_cut b s v p q M (Ok (received.Respond frame)) old new not h cut =
     subst (CutAt b s p M) (sym h) (put_cut b s v p q M _ old (not frame refl) cut)
-sends_cut b s v p q M (Ok (received.Released n)) old new not h cut = subst (CutAt b s p M) (sym h) cut
-sends_cut b s v p q M (Ok (received.Up agg)) old new not h cut = subst (CutAt b s p M) (sym h) cut
+sends_cut b s v p q M a old new not h cut = subst (CutAt b s p M) (sym h) cut
 
 none_first : (xs rest : List ItemValue) (item : ItemValue) → xs ≡ [] → xs ≡ item ∷ rest → ⊥
 none_first xs rest item e f = let x : [] ≡ item ∷ rest = sym e ∙ f in cc
@@ -188,15 +158,11 @@ taken_cut b s v p m rest item first none (inr e) l =
 ends_left : (M : ℕ → Type 0) (s v : Side) (rest : List ItemValue) (m : LinkState) → (m.whole ≡ false) ⊎ M (port_at (peer s) m)
     → ((with_towards v rest m).whole ≡ false) ⊎ M (port_at (peer s) (with_towards v rest m))
 ends_left M One One rest m h = h
-ends_left M One Two rest m h = h
-ends_left M Two One rest m h = h
-ends_left M Two Two rest m h = h
+ends_left M s v rest m h = h
 
 joins_left : (s v : Side) (rest : List ItemValue) (m : LinkState) → port_at s (with_towards v rest m) ≡ port_at s m
 joins_left One One rest m = refl
-joins_left One Two rest m = refl
-joins_left Two One rest m = refl
-joins_left Two Two rest m = refl
+joins_left s v rest m = refl
 
 replies_no : (gives : ℕ → ℕ → ℕ → Type 0) (n : ℕ) (octets : List ℕ) (a : Result Received SystemFault) (old new : SystemState) (frame : List ℕ)
     → a ≡ Ok (received.Respond frame) → Step gives old (Receive n octets) (answer.Receive a) new → OfEach (AtPort n Dead) old.system_ports → ⊥
@@ -241,22 +207,17 @@ deliver_severed gives b s p M cn n r old new h a = (
 
 ticks_severed : (gives : Algorithms) (b : ℕ) (s : Side) (p : ℕ) (M : ℕ → Type 0) (old new : WorldState) (u : Unrolled gives old new)
     → Severed b s p M old → Severed b s p M u.two
-ticks_severed gives b s p M old new u a =
-    let one = ticks gives 1 One u.tick_one.0 old u.one refl u.tick_one.1 in
-    let two = ticks gives 2 Two u.tick_two.0 u.one u.two refl u.tick_two.1 in (
-      subst (CutAt b s p M) (sym (two.links ∙ one.links)) a.0,
-      λ m dead. ticks_each (AtPort m Dead) (AtPort m Dead) (dead_keeps m) (λ x y z run c. dead_ticks m x y z run c) (peer s) gives old new u
-          (a.1 m dead),
-    )
+ticks_severed gives b s p M old new u a = (
+  subst (CutAt b s p M) (sym (ticks_first gives old new u).links) a.0,
+  λ m dead. ticks_each (AtPort m Dead) (AtPort m Dead) (dead_keeps m).settles (own_ticks (λ party up. up ≡ false) m) (peer s) gives old new u
+      (a.1 m dead),
+)
 
 leaves_cut : (gives : Algorithms) (b : ℕ) (s : Side) (p : ℕ) (M : ℕ → Type 0) (old new : WorldState) → IsRound gives old new
     → Severed b s p M old → Severed b s p M new
 leaves_cut gives b s p M old new h a =
     let u = unroll gives old new h in
-    let six = ask_all gives (Severed b s p M) (λ n q r i j step m. emit_severed gives b s p M n q r i j step m)
-    (asks_all old.links) u.asked u.two u.six (all_ask old.links) u.asks (ticks_severed gives b s p M old new u a) in
-    deliver_all gives (Severed b s p M) (λ c n r i j step m. deliver_severed gives b s p M c n r i j step m)
-    u.delivers u.replies u.six new u.arrives u.rest six
+    round_on gives (Severed b s p M) (emit_severed gives b s p M) (deliver_severed gives b s p M) old new u (ticks_severed gives b s p M old new u a)
 
 -- the port hears nothing: what settling and sending keep of it, a round keeps
 
@@ -267,32 +228,21 @@ module _ (p : ℕ) (M : ℕ → Type 0) (Q : Machines → Type 0) (settles : Kep
   asked : (gives : Algorithms) (s : Side) (n q : ℕ) (r : Reply) (old new : WorldState) → WorldSteps gives old (event.Emit n q) r new
       → Silent s old → Silent s new
   asked gives s n q r old new h a = (
-    (let m = emits gives n q r old new h in
-        each_side (λ t. EachAt (AtPort p Q) t old → EachAt (AtPort p Q) t new) m.0
-        (λ b. Step-each (AtPort p Q) settles (gives m.0) (half m.0 old).state (Transmit q) (answer.Transmit m.2.a)
-        (half m.0 new).state (λ x told c e. sends x (c e)) m.2.promise.step b)
-        (λ b. subst (λ (z : SystemState). OfEach (AtPort p Q) z.system_ports) (sym m.2.peers) b) s a.0),
+    elim (asked_half gives n q r old new h s) [
+      | inl same ↦ subst (λ (z : SystemState). OfEach (AtPort p Q) z.system_ports) (sym same) a.0
+      | inr (b, step) ↦ asked_each (AtPort p Q) (λ m x c e. sends x (c e)) (gives s) q b (half s old).state (half s new).state step a.0
+    ],
     emit_severed gives 1 s p M n q r old new h a.1,
   )
-
-  comes_to : (gives : Algorithms) (s : Side) (k : ℕ) (l : LinkState) (old new : WorldState) → slice_get old.links k ≡ Some l
-      → Comes gives s k l old new → Silent s old → EachAt (AtPort p Q) s new
-  comes_to gives s k l old new there c a =
-      Step-each (AtPort p Q) settles (gives s) (half s old).state (Receive (port_at s l) c.item.octets) (answer.Receive c.a)
-      (half s new).state (λ v x y took does d e. absurd (none_first (towards s l) c.rest c.item ((a.1.0 k l there e).1 (omega arith)) c.first))
-      c.promise.step a.0
 
   delivered : (gives : Algorithms) (s : Side) (cn n : ℕ) (r : Reply) (old new : WorldState)
       → WorldSteps gives old (event.Deliver cn n) r new → Silent s old → Silent s new
   delivered gives s cn n r old new h a = (
-    elim (came_off gives cn n r old new h) [
-      | inl m ↦ elim (one_of_both s m.side) [
-        | inl e ↦ comes_to gives s m.index m.link old new m.there (subst (λ v. Comes gives v m.index m.link old new) e m.comes) a
-        | inr e ↦ (let same : (half s new).state ≡ (half s old).state =
-            subst (λ t. (half t new).state ≡ (half t old).state) (ap peer e ∙ peer_twice s) m.comes.peers in
-            subst (λ (z : SystemState). OfEach (AtPort p Q) z.system_ports) (sym same) a.0)
-      ]
-      | inr m ↦ subst (λ (z : SystemState). OfEach (AtPort p Q) z.system_ports) (sym (m.halves s)) a.0
+    elim (came_half gives cn n r old new h s) [
+      | inl same ↦ subst (λ (z : SystemState). OfEach (AtPort p Q) z.system_ports) (sym same) a.0
+      | inr (k, l, there, c) ↦ Step-each (AtPort p Q) settles (gives s) (half s old).state (Receive (port_at s l) c.item.octets)
+          (answer.Receive c.a) (half s new).state
+          (λ v x y took does d e. absurd (none_first (towards s l) c.rest c.item ((a.1.0 k l there e).1 (omega arith)) c.first)) c.promise.step a.0
     ],
     deliver_severed gives 1 s p M cn n r old new h a.1,
   )
@@ -303,18 +253,10 @@ module _ (p : ℕ) (M : ℕ → Type 0) (Q : Machines → Type 0) (settles : Kep
       → EachAt (AtPort p Q) s new × Severed 1 s p M new
   cut_round P counted gives s old new h a =
       let u = unroll gives old new h in
-      let one = ticks gives 1 One u.tick_one.0 old u.one refl u.tick_one.1 in
-      let two = ticks gives 2 Two u.tick_two.0 u.one u.two refl u.tick_two.1 in
-      let first : EachAt (AtPort p Q) s u.two = each_side (λ t. EachAt (AtPort p P) t old → EachAt (AtPort p Q) t u.two) One
-      (λ b. subst (λ (z : SystemState). OfEach (AtPort p Q) z.system_ports) (sym two.peers)
-      (Tick-each (AtPort p P) (AtPort p Q) settles (λ m x y run c e. counted x y run (c e)) (gives One) old.one.state answer.Tick u.one.one.state
-      one.step b))
-      (λ b. Tick-each (AtPort p P) (AtPort p Q) settles (λ m x y run c e. counted x y run (c e)) (gives Two) u.one.two.state answer.Tick
-      u.two.two.state two.step (subst (λ (z : SystemState). OfEach (AtPort p P) z.system_ports) (sym one.peers) b)) s a.0 in
-      let six = ask_all gives (Silent s) (λ n q r i j step m. asked gives s n q r i j step m)
-      (asks_all old.links) u.asked u.two u.six (all_ask old.links) u.asks (first, ticks_severed gives 1 s p M old new u a.1) in
-      deliver_all gives (Silent s) (λ c n r i j step m. delivered gives s c n r i j step m)
-      u.delivers u.replies u.six new u.arrives u.rest six
+      round_on gives (Silent s) (asked gives s) (delivered gives s) old new u (
+        ticks_each (AtPort p P) (AtPort p Q) settles (λ m x y run c e. counted x y run (c e)) s gives old new u a.0,
+        ticks_severed gives 1 s p M old new u a.1,
+      )
 
 abbrev Deaf : ℕ → ℕ → ℕ → Machines → Type 0
 Deaf p most = AtPort p (Unheard 1 most)
@@ -327,11 +269,9 @@ deaf_ticks most x y h a =
 -- where it begins
 
 longer : (a b n : ℕ) (r : ReceiveState) → a ≤ b → Within 1 a r n → Within 1 b r n
-longer a b n Initialize l w = absurd w
-longer a b n PortDisabled l w = absurd w
 longer a b n Expired l w = (omega (arith, l, w.0), omega (arith, l, w.1))
-longer a b n Defaulted l w = tt
 longer a b n Current l w = (omega (arith, l, w.0), omega (arith, l, w.1))
+longer a b n r l w = w
 
 short_or_long : (short : Bool) → timeout_time short + 30 ≤ 930
 short_or_long true = omega arith

@@ -1,8 +1,8 @@
 -- What a Deliver event leaves of a cable and its ends.
-use Rattle.lagprogress.proofs.Common.{Err, List, Ok, Result, Some, [], inl, inr, refl, slice_get, subst, sym, true, ℕ, ◌∙◌, ◌∷◌, ◌≡◌, ◌≤◌, ◌⊎◌}
-use Rattle.lagprogress.proofs.Common.{none-some, AllByRecursion, Lacpdu, all-append, Side, peer, Machines, SystemFault, Received, SystemPort, Carries}
-use Rattle.lagprogress.proofs.Common.{IsFrame, Receive, CallPromise, SystemState, port_index, all-get, found_place, Reply, Algorithms, WorldSteps}
-use Rattle.lagprogress.proofs.Common.{ItemValue, WorldState, half}
+use Rattle.lagprogress.proofs.Common.{Err, List, Ok, Result, Some, inl, inr, refl, slice_get, subst, sym, true, ℕ, ◌∙◌, ◌∷◌, ◌≡◌, ◌≤◌, ◌⊎◌, none-some}
+use Rattle.lagprogress.proofs.Common.{same_Some, AllByRecursion, Lacpdu, Side, peer, Machines, SystemFault, Received, SystemPort, Carries, IsFrame}
+use Rattle.lagprogress.proofs.Common.{Receive, CallPromise, SystemState, port_index, all-get, Reply, Algorithms, WorldSteps, ItemValue, WorldState}
+use Rattle.lagprogress.proofs.Common.{half}
 use Rattle.slowpdu.specs.declared.pdu.Pdu.TheVariants as pdu
 use Rattle.lagsystem.specs.declared.drive.Reply.TheVariants as answer
 use Rattle.lagsystem.specs.declared.received.Received.TheVariants as received
@@ -11,47 +11,22 @@ use Rattle.lagprogress.proofs.EachPort.{OfEach}
 use Rattle.lagprogress.proofs.EndFacts.{Along, IsEnd, Learnt, Suits, both_along, end_settles, known_along, takes_each, takes_end, takes_learnt}
 use Rattle.lagprogress.proofs.EndFacts.{wait_of}
 use Rattle.lagprogress.proofs.Halves.{keeps_steady}
-use Rattle.lagprogress.proofs.OneCable.{Arrives, Back, delivers, put, Beside}
+use Rattle.lagprogress.proofs.OneCable.{Arrives, delivers, put, Beside, response}
 use Rattle.lagprogress.proofs.OnePort.{AtPort}
 use Rattle.lagprogress.proofs.Passing.{marker_carries_none}
-use Rattle.lagprogress.proofs.Linked.{Arrived, EndIs, Fits, Flying, IsGood, Link, along_if, arrival, each_map, each_side, flying_on, found}
-use Rattle.lagprogress.proofs.Linked.{beside_link, place_kept, pushed, put_other, put_there}
+use Rattle.lagprogress.proofs.Linked.{Arrived, EndIs, Fits, Flying, IsGood, Link, along_if, arrival, each_map, each_side, beside_link, place_kept}
+use Rattle.lagprogress.proofs.Linked.{put_other, put_there, gains_has, gains_good, HasLacpdu, AllGood, end_here}
 
 -- what goes back
 
-back_flying : (s : Side) (a : Result Received SystemFault) (fl now : Side → List ItemValue) → Back s a fl now
-    → (t : Side) → Flying (fl t) → Flying (now t)
-back_flying s (Err fault) fl now h t f = subst (λ (g : Side → List ItemValue). Flying (g t)) (sym h) f
-back_flying s (Ok received.Disabled) fl now h t f = subst (λ (g : Side → List ItemValue). Flying (g t)) (sym h) f
-back_flying s (Ok received.Dropped) fl now h t f = subst (λ (g : Side → List ItemValue). Flying (g t)) (sym h) f
-back_flying s (Ok (received.Ignored fault)) fl now h t f = subst (λ (g : Side → List ItemValue). Flying (g t)) (sym h) f
-back_flying s (Ok received.TookLacpdu) fl now h t f = subst (λ (g : Side → List ItemValue). Flying (g t)) (sym h) f
-back_flying s (Ok (received.Respond frame)) fl now h t f =
-    subst (λ (g : Side → List ItemValue). Flying (g t)) (sym h.2)
-    (pushed (λ u xs. Flying (fl u) → Flying xs) (peer s) h.0 fl (λ g y. flying_on (fl (peer s)) (h.0 ∷ []) (g y)) (λ u y. y) t f)
-back_flying s (Ok (received.Released n)) fl now h t f = subst (λ (g : Side → List ItemValue). Flying (g t)) (sym h) f
-back_flying s (Ok (received.Up agg)) fl now h t f = subst (λ (g : Side → List ItemValue). Flying (g t)) (sym h) f
-
-abbrev AllGood : ℕ → (Side → Lacpdu) → (Side → List ItemValue) → Type 0
-AllGood d w fl = (t : Side) → AllByRecursion (IsGood d w t) (fl t)
-
-back_good : (d : ℕ) (w : Side → Lacpdu) (gives : ℕ → ℕ → ℕ → Type 0) (s : Side) (n : ℕ) (octets : List ℕ) (a : Result Received SystemFault)
-    (old new : SystemState) (fl now : Side → List ItemValue) → CallPromise gives old (Receive n octets) (answer.Receive a) new
-    → Back s a fl now → AllGood d w fl → AllGood d w now
-back_good d w gives s n octets (Err fault) old new fl now k h g = subst (AllGood d w) (sym h) g
-back_good d w gives s n octets (Ok received.Disabled) old new fl now k h g = subst (AllGood d w) (sym h) g
-back_good d w gives s n octets (Ok received.Dropped) old new fl now k h g = subst (AllGood d w) (sym h) g
-back_good d w gives s n octets (Ok (received.Ignored fault)) old new fl now k h g = subst (AllGood d w) (sym h) g
-back_good d w gives s n octets (Ok received.TookLacpdu) old new fl now k h g = subst (AllGood d w) (sym h) g
-back_good d w gives s n octets (Ok (received.Respond frame)) old new fl now k h g =
+-- what goes back is no LACPDU
+responds_none : (gives : ℕ → ℕ → ℕ → Type 0) (n : ℕ) (octets : List ℕ) (a : Result Received SystemFault) (old new : SystemState)
+    → CallPromise gives old (Receive n octets) (answer.Receive a) new → (frame : List ℕ) → response a ≡ Some frame → (x : Lacpdu)
+    → IsFrame frame (Carries (pdu.Lacpdu x)) → ⊥
+responds_none gives n octets (Ok (received.Respond sent)) old new k frame e x c =
     let m = k.moves.3 in
-    let one : IsGood d w (peer s) h.0 = λ x c. absurd (marker_carries_none frame x m.0
-    (subst (λ o. IsFrame o (Carries (pdu.Lacpdu x))) h.1 c) m.1) in
-    subst (AllGood d w) (sym h.2)
-    (pushed (λ t xs. AllByRecursion (IsGood d w t) xs) (peer s) h.0 fl
-    (λ b. all-append (IsGood d w (peer s)) (fl (peer s)) (h.0 ∷ []) b (one, tt)) g)
-back_good d w gives s n octets (Ok (received.Released m)) old new fl now k h g = subst (AllGood d w) (sym h) g
-back_good d w gives s n octets (Ok (received.Up agg)) old new fl now k h g = subst (AllGood d w) (sym h) g
+    marker_carries_none sent x m.0 (subst (λ o. IsFrame o (Carries (pdu.Lacpdu x))) (sym (same_Some sent frame e)) c) m.1
+responds_none gives n octets a old new k frame e x c = none-some frame e
 
 -- the port at the end of system s has just heard its partner
 abbrev pub Heard : ℕ → (Side → ℕ) → (Side → Lacpdu) → Side → WorldState → Type 0
@@ -119,28 +94,25 @@ arrives_link : (gives : Algorithms) (cn n : ℕ) (s : Side) (d : ℕ) (at : Side
     → Delivered d at w c x Y l.flying new
 arrives_link gives cn n s d at w c x Y r old new fits along l h k =
     let steady = keeps_steady gives (event.Deliver cn n) r old new h l.steady in
-    let place = l.place s in
-    let it = found (at s) place.0 (half s old).state.system_ports place.1 in
-    let numbered = found_place (at s) (half s old).state.system_ports place.0 it.0 place.1 it.1 in
+    let z = end_here at w d c x Y old l s in
     let P = EndIs d w c x Y in
-    let up = (all-get (λ (y : SystemPort). AtPort (at s) (P s) y.number y.port) (half s old).state.system_ports place.0 it.0 it.1
-    (l.ports s) numbered).0.1.0 in
     let good = subst (AllByRecursion (IsGood d w s)) k.first (l.good s) in
-    let came = arrived_by k.a place.0 it.0 up place.1 it.1 k.promise in
-    let own = arrived_ports d at w c x Y s place.0 it.0 k.item.octets old new fits along l it.1 numbered good.0 came in
+    let came = arrived_by k.a z.index z.port z.is.1.0 z.place z.there k.promise in
+    let own = arrived_ports d at w c x Y s z.index z.port k.item.octets old new fits along l z.there z.number good.0 came in
     let other = subst (λ (y : SystemState). OfEach (AtPort (at (peer s)) (P (peer s))) y.system_ports) (sym k.peers) (l.ports (peer s)) in
     let less : AllGood d w (put s k.rest l.flying) = each_side (λ t. AllByRecursion (IsGood d w t) (put s k.rest l.flying t)) s
     (subst (AllByRecursion (IsGood d w s)) (sym (put_there s k.rest l.flying)) good.1)
     (subst (AllByRecursion (IsGood d w (peer s))) (sym (put_other s k.rest l.flying)) (l.good (peer s))) in
-    let on = back_flying s k.a (put s k.rest l.flying) k.now k.back in
+    let on = gains_has s HasLacpdu (response k.a) (put s k.rest l.flying) k.now k.back in
     record {
       link = record {
         steady = steady;
         flying = k.now;
         index = k.index;
         links = k.links;
-        good = back_good d w (gives s) s (at s) k.item.octets k.a (half s old).state (half s new).state (put s k.rest l.flying) k.now
-            k.promise k.back less;
+        good = gains_good d w s (response k.a) (put s k.rest l.flying) k.now k.back
+            (λ frame e v c. absurd (responds_none (gives s) (at s) k.item.octets k.a (half s old).state (half s new).state k.promise
+            frame e v c)) less;
         place = λ t. ((l.place t).0, place_kept gives (event.Deliver cn n) r old new h l.steady steady t (at t) ∙ (l.place t).1);
         ports = each_side (λ t. OfEach (AtPort (at t) (P t)) (half t new).state.system_ports) s own.0 other;
       };

@@ -1,9 +1,9 @@
 -- How the conversations that are held on a port of a healthy cable are freed, round by round.
-use Rattle.lagprogress.proofs.Common.{Bool, Err, List, None, Ok, Option, Result, Some, [], ap, arith, bytes_eq, cond, eqb, false, inl, inr, ltb, refl}
-use Rattle.lagprogress.proofs.Common.{slice_get, subst, sym, true, ℕ, ◌&&◌, ◌+◌, ◌==◌, ◌∙◌, ◌∷◌, ◌≡◌, ◌⊎◌, cases_Bool, nat_tests, none-some}
-use Rattle.lagprogress.proofs.Common.{same_Some, Lacpdu, frame_octets, Side, peer, is_due, Assignment, Flushing, Free, On, Wanted, is_among}
-use Rattle.lagprogress.proofs.Common.{after_mark, after_release, after_tick, marker_due, Table, assignment_of, SystemFault, Received, SystemPort}
-use Rattle.lagprogress.proofs.Common.{Carries, GivesEffect, IsFrame, ParsesWhere, Performs, Receive, ReceivesAt, Releases, Transmit, is_own_response}
+use Rattle.lagprogress.proofs.Common.{Bool, Err, List, None, Ok, Option, Result, Some, ap, arith, bytes_eq, cond, eqb, false, inl, inr, ltb, refl}
+use Rattle.lagprogress.proofs.Common.{slice_get, subst, sym, true, ℕ, ◌&&◌, ◌+◌, ◌==◌, ◌∙◌, ◌≡◌, ◌⊎◌, cases_Bool, nat_tests, none-some, same_Some}
+use Rattle.lagprogress.proofs.Common.{Lacpdu, frame_octets, Side, peer, is_due, Assignment, Flushing, Free, On, Wanted, is_among, after_mark}
+use Rattle.lagprogress.proofs.Common.{after_release, after_tick, marker_due, Table, assignment_of, SystemFault, Received, SystemPort, Carries}
+use Rattle.lagprogress.proofs.Common.{GivesEffect, IsFrame, ParsesWhere, Performs, Receive, ReceivesAt, Releases, Transmit, is_own_response}
 use Rattle.lagprogress.proofs.Common.{aggregator_numbered, distributing, SendsMarkerOf, TransmitsAt, TransmitsIf, Settling, CallPromise, SystemState}
 use Rattle.lagprogress.proofs.Common.{port_index, ports_table, settling_parts, effect_one, TableChanges, table_changes, found_place, Algorithms}
 use Rattle.lagprogress.proofs.Common.{ItemValue, WorldState, half}
@@ -12,25 +12,11 @@ use Rattle.slowpdu.specs.declared.pdu.Pdu.TheVariants as pdu
 use Rattle.lagsystem.specs.declared.drive.Reply.TheVariants as answer
 use Rattle.lagsystem.specs.declared.received.Received.TheVariants as received
 use Rattle.lagprogress.proofs.Answering.{AllFine, each_by, settles_all}
-use Rattle.lagprogress.proofs.Hearing.{no}
-use Rattle.lagprogress.proofs.Holding.{Fine, Flights, Has, IsMarker, answering, asking, frame_is, has_last, has_on, marked_beside, is_port, not_port}
+use Rattle.lagprogress.proofs.Holding.{Fine, Flights, Has, IsMarker, answering, asking, frame_is, has_last, marked_beside, is_port, not_port}
 use Rattle.lagprogress.proofs.Holding.{released_beside, settled_fine}
-use Rattle.lagprogress.proofs.Linked.{peer_twice, push_there, pushed, put_other, put_there}
-use Rattle.lagprogress.proofs.OneCable.{Arrives, Back, Elsewhere, put}
+use Rattle.lagprogress.proofs.Linked.{peer_twice, push_there, put_other, put_there, gains_has}
+use Rattle.lagprogress.proofs.OneCable.{Arrives, Back, Elsewhere, put, response}
 use Rattle.lagprogress.proofs.Passing.{sent_carries}
-
--- what goes back leaves what is on its way
-back_has : (u t : Side) (P : ItemValue → Type 0) (a : Result Received SystemFault) (fl now : Side → List ItemValue) → Back u a fl now
-    → Has P (fl t) → Has P (now t)
-back_has u t P (Err fault) fl now h f = subst (λ (g : Side → List ItemValue). Has P (g t)) (sym h) f
-back_has u t P (Ok received.Disabled) fl now h f = subst (λ (g : Side → List ItemValue). Has P (g t)) (sym h) f
-back_has u t P (Ok received.Dropped) fl now h f = subst (λ (g : Side → List ItemValue). Has P (g t)) (sym h) f
-back_has u t P (Ok (received.Ignored fault)) fl now h f = subst (λ (g : Side → List ItemValue). Has P (g t)) (sym h) f
-back_has u t P (Ok received.TookLacpdu) fl now h f = subst (λ (g : Side → List ItemValue). Has P (g t)) (sym h) f
-back_has u t P (Ok (received.Respond frame)) fl now h f = subst (λ (g : Side → List ItemValue). Has P (g t)) (sym h.2)
-    (pushed (λ v xs. Has P (fl v) → Has P xs) (peer u) h.0 fl (λ g y. has_on P (fl (peer u)) (h.0 ∷ []) (g y)) (λ v y. y) t f)
-back_has u t P (Ok (received.Released n)) fl now h f = subst (λ (g : Side → List ItemValue). Has P (g t)) (sym h) f
-back_has u t P (Ok (received.Up agg)) fl now h f = subst (λ (g : Side → List ItemValue). Has P (g t)) (sym h) f
 
 pub after_tick_on : (p : ℕ) (a : Assignment) → after_tick a ≡ On p → a ≡ On p
 after_tick_on p (Free preferred) e = e
@@ -67,11 +53,7 @@ module _ (at : Side → ℕ) (w : Side → Lacpdu) (s : Side) (mac : List ℕ) (
   own_response old port id number own =
       let bytes : bytes_eq mac old.system.mac ≡ true = (bytes_eq-Decides mac old.system.mac).1 (sym own) in
       let same : (at s == port) ≡ true = grind (arith, nat_tests) in
-      both (at s == port) (bytes_eq mac old.system.mac) same bytes
-    where
-      both : (a b : Bool) → a ≡ true → b ≡ true → (a && b) ≡ true
-      both true b e f = f
-      both false b e f = absurd (no e)
+      rw (same, bytes) refl
 
   -- one conversation: its response came, or what is known of it goes on
   one_fine : (octets : List ℕ) (m : ℕ) (W : Type 0) (F G : ℕ → Type 0) (a b : Assignment)
@@ -130,11 +112,11 @@ module _ (at : Side → ℕ) (w : Side → Lacpdu) (s : Side) (mac : List ℕ) (
 
       split : Back s k.a (put s k.rest fl) k.now → (id : ℕ) → Flights s (at s) mac fl id
           → IsResponse k.item.octets id ⊎ Flights s (at s) mac k.now id
-      split back id (inl y) = inr (inl (back_has s (peer s) (IsMarker (asking (at s) mac id)) k.a (put s k.rest fl) k.now back
+      split back id (inl y) = inr (inl (gains_has s (IsMarker (asking (at s) mac id)) (response k.a) (put s k.rest fl) k.now back (peer s)
           (subst (Has (IsMarker (asking (at s) mac id))) (sym (put_other s k.rest fl)) y)))
       split back id (inr y) = elim (subst (Has (IsMarker (answering (at s) mac id))) k.first y) [
         | inl r ↦ inl r
-        | inr r ↦ inr (inr (back_has s s (IsMarker (answering (at s) mac id)) k.a (put s k.rest fl) k.now back
+        | inr r ↦ inr (inr (gains_has s (IsMarker (answering (at s) mac id)) (response k.a) (put s k.rest fl) k.now back s
             (subst (Has (IsMarker (answering (at s) mac id))) (sym (put_there s k.rest fl)) r)))
       ]
 
@@ -163,13 +145,13 @@ module _ (at : Side → ℕ) (w : Side → Lacpdu) (s : Side) (mac : List ℕ) (
       → slice_get (half (peer s) old).state.system_ports i ≡ Some z → z.port.enabled ≡ true → (k : Arrives gives (peer s) at fl old new) → (id : ℕ)
       → Flights s (at s) mac fl id → Flights s (at s) mac k.now id
   peer_answers gives fl old new i z place there up k id (inr y) =
-      inr (back_has (peer s) s (IsMarker (answering (at s) mac id)) k.a (put (peer s) k.rest fl) k.now k.back
+      inr (gains_has (peer s) (IsMarker (answering (at s) mac id)) (response k.a) (put (peer s) k.rest fl) k.now k.back s
       (subst (Has (IsMarker (answering (at s) mac id)))
       (sym (subst (λ t. put (peer s) k.rest fl t ≡ fl t) (peer_twice s) (put_other (peer s) k.rest fl))) y))
   peer_answers gives fl old new i z place there up k id (inl y) =
       elim (subst (Has (IsMarker (asking (at s) mac id))) k.first y) [
         | inl r ↦ inr (by_answer k.a k.promise k.back r)
-        | inr r ↦ inl (back_has (peer s) (peer s) (IsMarker (asking (at s) mac id)) k.a (put (peer s) k.rest fl) k.now k.back
+        | inr r ↦ inl (gains_has (peer s) (IsMarker (asking (at s) mac id)) (response k.a) (put (peer s) k.rest fl) k.now k.back (peer s)
             (subst (Has (IsMarker (asking (at s) mac id))) (sym (put_there (peer s) k.rest fl)) r))
       ]
     where

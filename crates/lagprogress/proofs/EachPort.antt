@@ -1,19 +1,18 @@
 -- What the machines of a port keep, every call of a system keeps of each port.
-use Rattle.lagprogress.proofs.Common.{Bool, Err, List, None, Ok, Option, Some, [], ap, arith, drop, false, if◌then◌else◌, inl, inr, length, not}
+use Rattle.lagprogress.proofs.Common.{Bool, Err, List, None, Ok, Option, Result, Some, [], ap, arith, false, if◌then◌else◌, inl, inr, length, not}
 use Rattle.lagprogress.proofs.Common.{option_map, refl, slice_get, slice_set, subst, sym, true, ℕ, ◌&&◌, ◌==◌, ◌||◌, ◌∙◌, ◌∷◌, ◌≡◌, ◌⊎◌, cases_Bool}
-use Rattle.lagprogress.proofs.Common.{nat_tests, none-some, AllByRecursion, AggId, Choice, Selected, Standby, Unselected, is_selected, is_unselected}
-use Rattle.lagprogress.proofs.Common.{same_system, Lacpdu, frame_octets, HoldsNumber, IsAddress, read_field, octet_stands, MuxState, Attached}
-use Rattle.lagprogress.proofs.Common.{CollectingDistributing, Detached, Waiting, Setup, Machines, is_synchronized, mux_rows, partner_synchronized}
-use Rattle.lagprogress.proofs.Common.{same_mux_state, RunsPeriodic, receive_rows, RunsToRest, Starts, before_start, after_sending, count_down, is_due}
-use Rattle.lagprogress.proofs.Common.{PortView, chosen_aggregator, AggregatorsValue, is_detached, is_eligible, marker_due, Received, TookLacpdu}
-use Rattle.lagprogress.proofs.Common.{SystemPort, Call, ChangesParty, Configure, Force, Move_conversation, Offer, PortAtChangesBy, ProcessesLacpdu}
-use Rattle.lagprogress.proofs.Common.{Receive, Restart, Set_link, SetsPortEnabled, Step, Tick, Transmit, HasJustStarted, IsFirst, setup_of}
-use Rattle.lagprogress.proofs.Common.{system_force_result, system_move_result, TransmitsAt, TransmitsIf, ChoosesIn, PortsChangeBy, PromotesNext}
-use Rattle.lagprogress.proofs.Common.{Settling, choice_for, choice_in, ready_of, with_choice, SystemState, aggregators_value, port_index}
-use Rattle.lagprogress.proofs.Common.{with_system_ports, selection_view, views, reply_has_lacpdu, subtype, next_stands, ProcessesOrStays}
-use Rattle.lagprogress.proofs.Common.{processes_or_stays, choices_keep, promotions_keep, becomes_slots, last_slots, marker_slots, offers_slots}
-use Rattle.lagprogress.proofs.Common.{same_slots, zip_all, all-get, all-set, found_place}
-use Rattle.slowpdu.proofs.WritingLemmas.{framed_payload}
+use Rattle.lagprogress.proofs.Common.{nat_tests, none-some, AllByRecursion, AggId, Choice, Selected, Standby, is_selected, is_unselected, same_system}
+use Rattle.lagprogress.proofs.Common.{Lacpdu, MuxState, Attached, CollectingDistributing, Detached, Waiting, Setup, Machines, is_synchronized}
+use Rattle.lagprogress.proofs.Common.{mux_rows, partner_synchronized, same_mux_state, RunsPeriodic, receive_rows, RunsToRest, Starts, before_start}
+use Rattle.lagprogress.proofs.Common.{after_sending, count_down, is_due, PortView, chosen_aggregator, AggregatorsValue, is_detached, is_eligible}
+use Rattle.lagprogress.proofs.Common.{marker_due, SystemFault, Received, TookLacpdu, SystemPort, Call, ChangesParty, Configure, Force}
+use Rattle.lagprogress.proofs.Common.{Move_conversation, Offer, PortAtChangesBy, ProcessesLacpdu, Receive, Restart, Set_link, SetsPortEnabled, Step}
+use Rattle.lagprogress.proofs.Common.{Tick, Transmit, HasJustStarted, IsFirst, setup_of, system_force_result, system_move_result, TransmitsAt}
+use Rattle.lagprogress.proofs.Common.{TransmitsIf, ChoosesIn, PortsChangeBy, PromotesNext, Settling, choice_for, choice_in, ready_of, with_choice}
+use Rattle.lagprogress.proofs.Common.{SystemState, aggregators_value, port_index, with_system_ports, selection_view, views, reply_has_lacpdu, subtype}
+use Rattle.lagprogress.proofs.Common.{next_stands, ProcessesOrStays, processes_or_stays, choices_keep, promotions_keep, becomes_slots, last_slots}
+use Rattle.lagprogress.proofs.Common.{marker_slots, offers_slots, same_slots, zip_all, all-get, all-set, found_place}
+use Rattle.lagsystem.proofs.Preserves.{lacpdu_subtype}
 use Rattle.lagsystem.specs.declared.drive.Reply.{Reply}
 use Rattle.lagsystem.specs.declared.drive.Reply.TheVariants as reply
 
@@ -38,9 +37,7 @@ KeptByCall P (Receive n octets) answer = (v : Lacpdu) (p q : Machines) → answe
 KeptByCall P (Configure n change) answer = (p q : Machines) → ChangesParty change p q → P n p → P n q
 KeptByCall P Restart answer = (n : ℕ) (u : Setup) (q : Machines) → Starts (before_start u) q → P n q
 KeptByCall P (Transmit n) answer = (p : Machines) → reply_has_lacpdu n (Transmit n) answer ≡ true → P n p → P n (after_sending p)
-KeptByCall P (Offer agg octets) answer = Unit {0}
-KeptByCall P (Move_conversation agg conv port) answer = Unit {0}
-KeptByCall P (Force agg conv) answer = Unit {0}
+KeptByCall P call answer = Unit {0}
 
 abbrev pub OfEach : (ℕ → Machines → Type 0) → List SystemPort → Type 0
 OfEach P ports = AllByRecursion (λ (x : SystemPort). P x.number x.port) ports
@@ -48,13 +45,11 @@ OfEach P ports = AllByRecursion (λ (x : SystemPort). P x.number x.port) ports
 pub zip_kept : (R : Machines → Machines → Type 0) (P Q : ℕ → Machines → Type 0) → ((n : ℕ) (p q : Machines) → R p q → P n p → Q n q)
     → (xs ys : List SystemPort) → PortsChangeBy R xs ys → OfEach P xs → OfEach Q ys
 zip_kept R P Q k [] [] h a = tt
-zip_kept R P Q k [] (y ∷ ys) h a = absurd h
-zip_kept R P Q k (x ∷ xs) [] h a = absurd h
 zip_kept R P Q k (x ∷ xs) (y ∷ ys) h a = (
   subst (λ n. Q n y.port) (sym (ap (λ (z : SystemPort). z.number) h.0.0)) (k x.number x.port y.port h.0.1 a.0),
-  zip_kept R P Q
-      k xs ys h.1 a.1,
+  zip_kept R P Q k xs ys h.1 a.1,
 )
+zip_kept R P Q k xs ys h a = absurd h
 
 -- a port that is SELECTED gets no other value of Selected
 
@@ -67,9 +62,8 @@ chosen_not_eligible v h = by_choice v.choice h
 
     by_choice : (c : Choice) → is_selected c ≡ true
         → ((((v.enabled && v.settled) && is_detached v.stage) && is_unselected c) && not (same_system v.partner.system v.party.system)) ≡ false
-    by_choice Unselected e = absurd cc
-    by_choice (Standby agg) e = absurd cc
     by_choice (Selected agg) e = middle ((v.enabled && v.settled) && is_detached v.stage) (not (same_system v.partner.system v.party.system))
+    by_choice c e = absurd cc
 
 none_for : (aggs : AggregatorsValue) (l : List SystemPort) (s : SystemPort) → is_selected s.port.choice ≡ true → choice_for aggs l s ≡ None
 none_for aggs l s h =
@@ -97,10 +91,9 @@ unsynchronized : (m : MuxState) (sel b : Bool) → sel ≡ false → (same_mux_s
     → (same_mux_state CollectingDistributing m && (not sel || b)) ≡ false → is_synchronized m ≡ false
 unsynchronized Detached sel b e f g = refl
 unsynchronized Waiting sel b e f g = refl
-unsynchronized Attached true b e f g = absurd (let x = e in cc)
-unsynchronized Attached false b e f g = absurd (let x = f in cc)
-unsynchronized CollectingDistributing true b e f g = absurd (let x = e in cc)
-unsynchronized CollectingDistributing false b e f g = absurd (let x = g in cc)
+unsynchronized m true b e f g = cc
+unsynchronized Attached false b e f g = cc
+unsynchronized CollectingDistributing false b e f g = cc
 
 mux_rested : (P : ℕ → Machines → Type 0) → KeptBySettling P → (n : ℕ) (p q : Machines) → RunsToRest (mux_rows false) p q → P n p
     → AtRestAnd P n q
@@ -194,14 +187,6 @@ same_each : (P : ℕ → Machines → Type 0) (s t : SystemState) → t.system_p
     → OfEach P t.system_ports
 same_each P s t e a = subst (OfEach P) (sym e) a
 
--- the octet behind the header of a control frame
-subtype_of : (mac payload : List ℕ) (k : ℕ) → IsAddress mac → HoldsNumber payload (read_field 0 1 k)
-    → subtype (frame_octets mac payload) ≡ k
-subtype_of mac payload k a h =
-    let behind : HoldsNumber (drop 14 (frame_octets mac payload)) (read_field 0 1 k) = subst (λ b. HoldsNumber b (read_field 0 1 k))
-    (sym (framed_payload mac payload a.0)) h in
-    sym (octet_stands (frame_octets mac payload) 14) ∙ behind
-
 is_told : (n : ℕ) (frame : List ℕ) → subtype frame ≡ 1 → ((n == n) && (subtype frame == 1)) ≡ true
 is_told n frame e = grind (arith, nat_tests)
 
@@ -213,7 +198,7 @@ sends_each P n false due i x old answer new k at e h a = same_each P old new (sa
 sends_each P n true true i x old answer new k at e h a =
     let Q : SystemPort → Type 0 = λ y. P y.number y.port in
     let numbered : x.number ≡ n = found_place n old.system_ports i x at e in
-    let kind : subtype h.0 ≡ 1 = ap subtype h.1.3 ∙ subtype_of x.mac h.1.0 1 h.1.1 h.1.2.table.fields_hold.0 in
+    let kind : subtype h.0 ≡ 1 = lacpdu_subtype old.max_delay x h.0 h.1 in
     let told : reply_has_lacpdu n (Transmit n) (reply.Transmit (Ok answer)) ≡ true =
     ap (λ (o : Option (List ℕ)). reply_has_lacpdu n (Transmit n) (reply.Transmit (Ok o))) h.2 ∙ is_told n h.0 kind in
     let was : P n x.port = subst (λ m. P m x.port) numbered (all-get Q old.system_ports i x e a) in
@@ -223,13 +208,20 @@ sends_each P n true true i x old answer new k at e h a =
 sends_each P n true false i x old answer new k at e h a =
     same_each P old new (marker_slots (marker_due old.table x.number) x.number x.mac old answer new h) a
 
-pub transmits_each : (P : ℕ → Machines → Type 0) (n : ℕ) (o : Option ℕ) (old : SystemState) (answer : Option (List ℕ)) (new :
+transmits_each : (P : ℕ → Machines → Type 0) (n : ℕ) (o : Option ℕ) (old : SystemState) (answer : Option (List ℕ)) (new :
     SystemState)
     → KeptByCall P (Transmit n) (reply.Transmit (Ok answer)) → port_index n old.system_ports ≡ o
     → TransmitsAt o old answer new → OfEach P old.system_ports → OfEach P new.system_ports
 transmits_each P n None old answer new k e h a = absurd h
 transmits_each P n (Some i) old answer new k e h a =
     sends_each P n h.0.port.enabled (is_due h.0.port) i h.0 old answer new k e h.1 h.2 a
+
+-- what sending keeps of each port
+pub asked_each : (P : ℕ → Machines → Type 0) → ((n : ℕ) (p : Machines) → P n p → P n (after_sending p)) → (gives : ℕ → ℕ → ℕ → Type 0) (n : ℕ)
+    (a : Result (Option (List ℕ)) SystemFault) (old new : SystemState) → Step gives old (Transmit n) (reply.Transmit a) new
+    → OfEach P old.system_ports → OfEach P new.system_ports
+asked_each P k gives n (Err fault) old new h b = same_each P old new (same_slots old new h.same) b
+asked_each P k gives n (Ok o) old new h b = transmits_each P n (port_index n old.system_ports) old o new (λ p told c. k n p c) refl h b
 
 receives_each : (P : ℕ → Machines → Type 0) → KeptBySettling P → (n : ℕ) (old : SystemState) (answer : Received) (new : SystemState)
     → ((v : Lacpdu) (p q : Machines) → reply.Receive (Ok answer) ≡ reply.Receive (Ok TookLacpdu) → ProcessesLacpdu v p q

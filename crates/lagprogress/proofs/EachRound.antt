@@ -1,15 +1,17 @@
 -- What healthy rounds keep of each port of a system, and of the cables.
-use Rattle.lagprogress.proofs.Common.{List, Some, ap, arith, inl, inr, map, refl, slice_get, subst, suc, sym, ℕ, ◌++◌, ◌∙◌, ◌≡◌, Lacpdu, One, Side}
-use Rattle.lagprogress.proofs.Common.{Two, end_at, Machines, receive_rows, RunsToRest, after_sending, count_down, ProcessesLacpdu, Receive, Transmit}
+use Rattle.lagprogress.proofs.Common.{Bool, List, Some, ap, arith, inl, inr, map, refl, slice_get, subst, suc, sym, ℕ, ◌++◌, ◌∙◌, ◌≡◌, Party, Lacpdu}
+use Rattle.lagprogress.proofs.Common.{One, Side, end_at, Machines, receive_rows, RunsToRest, after_sending, count_down, ProcessesLacpdu, Receive}
 use Rattle.lagprogress.proofs.Common.{SystemState, Reply, Algorithms, WorldSteps, link_ends, ItemValue, LinkState, WorldState, half, port_at, end_is}
 use Rattle.lagprogress.proofs.Common.{IsRound, Rounds, asks_all, ticks_of_both, IsSteady}
 use Rattle.lagsystem.specs.declared.drive.Reply.TheVariants as answer
 use Rattle.lagscript.specs.declared.event.Event.TheVariants as event
 use Rattle.lagprogress.proofs.ComingUp.{zero_on}
-use Rattle.lagprogress.proofs.EachPort.{KeptBySettling, OfEach, Step-each, Tick-each}
-use Rattle.lagprogress.proofs.Linked.{each_side}
-use Rattle.lagprogress.proofs.OneCable.{OnCable, cable, came_off, deliver_ends, emits, ticks}
-use Rattle.lagprogress.proofs.OneRound.{all_ask, ask_all, deliver_all, unroll, Unrolled}
+use Rattle.lagprogress.proofs.EachPort.{KeptBySettling, OfEach, Step-each, asked_each}
+use Rattle.lagprogress.proofs.OneCable.{OnCable, cable, deliver_ends, emits}
+use Rattle.lagprogress.proofs.OnePort.{AtPort, settling_leaves}
+use Rattle.lagprogress.proofs.OneRound.{unroll}
+use Rattle.lagprogress.proofs.RoundEvents.{asked_half, came_half, round_on, ticks_each, ticks_first}
+use Rattle.lagprogress.proofs.Timers.{runs_keep, takes_keep}
 use Rattle.lagprogress.proofs.Reaching.{runs_steady}
 
 -- what settling, sending and a receipt keep of each port; the number is the port's
@@ -24,36 +26,18 @@ EachAt P s j = OfEach P (half s j).state.system_ports
 
 pub asks_each : (P : ℕ → Machines → Type 0) → RoundKeeps P → (s : Side) (gives : Algorithms) (n p : ℕ) (r : Reply) (old new : WorldState)
     → WorldSteps gives old (event.Emit n p) r new → EachAt P s old → EachAt P s new
-asks_each P k s gives n p r old new h a =
-    let m = emits gives n p r old new h in
-    each_side (λ t. EachAt P t old → EachAt P t new) m.0
-    (λ b. Step-each P k.settles (gives m.0) (half m.0 old).state (Transmit p) (answer.Transmit m.2.a) (half m.0 new).state
-    (λ q told c. k.sends p q c) m.2.promise.step b)
-    (λ b. subst (λ (z : SystemState). OfEach P z.system_ports) (sym m.2.peers) b) s a
+asks_each P k s gives n p r old new h a = elim (asked_half gives n p r old new h s) [
+  | inl same ↦ subst (λ (z : SystemState). OfEach P z.system_ports) (sym same) a
+  | inr (b, step) ↦ asked_each P k.sends (gives s) p b (half s old).state (half s new).state step a
+]
 
 pub delivers_each : (P : ℕ → Machines → Type 0) → RoundKeeps P → (s : Side) (gives : Algorithms) (c n : ℕ) (r : Reply) (old new : WorldState)
     → WorldSteps gives old (event.Deliver c n) r new → EachAt P s old → EachAt P s new
-delivers_each P k s gives c n r old new h a = elim (came_off gives c n r old new h) [
-  | inl m ↦ each_side (λ t. EachAt P t old → EachAt P t new) m.side
-      (λ b. Step-each P k.settles (gives m.side) (half m.side old).state (Receive (port_at m.side m.link) m.comes.item.octets)
-      (answer.Receive m.comes.a) (half m.side new).state (λ v p q took does d. k.takes (port_at m.side m.link) v p q does d)
-      m.comes.promise.step b)
-      (λ b. subst (λ (z : SystemState). OfEach P z.system_ports) (sym m.comes.peers) b) s a
-  | inr m ↦ subst (λ (z : SystemState). OfEach P z.system_ports) (sym (m.halves s)) a
+delivers_each P k s gives c n r old new h a = elim (came_half gives c n r old new h s) [
+  | inl same ↦ subst (λ (z : SystemState). OfEach P z.system_ports) (sym same) a
+  | inr (i, l, there, m) ↦ Step-each P k.settles (gives s) (half s old).state (Receive (port_at s l) m.item.octets) (answer.Receive m.a)
+      (half s new).state (λ v p q took does d. k.takes (port_at s l) v p q does d) m.promise.step a
 ]
-
--- the ticks of a round make Q of P
-pub ticks_each : (P Q : ℕ → Machines → Type 0) → RoundKeeps Q
-    → ((n : ℕ) (p q : Machines) → RunsToRest receive_rows (count_down p) q → P n p → Q n q)
-    → (s : Side) (gives : Algorithms) (old new : WorldState) (u : Unrolled gives old new) → EachAt P s old → EachAt Q s u.two
-ticks_each P Q k ticked s gives old new u a =
-    let one = ticks gives 1 One u.tick_one.0 old u.one refl u.tick_one.1 in
-    let two = ticks gives 2 Two u.tick_two.0 u.one u.two refl u.tick_two.1 in
-    each_side (λ t. EachAt P t old → EachAt Q t u.two) One
-    (λ b. subst (λ (z : SystemState). OfEach Q z.system_ports) (sym two.peers)
-    (Tick-each P Q k.settles ticked (gives One) old.one.state answer.Tick u.one.one.state one.step b))
-    (λ b. Tick-each P Q k.settles ticked (gives Two) u.one.two.state answer.Tick u.two.two.state two.step
-    (subst (λ (z : SystemState). OfEach P z.system_ports) (sym one.peers) b)) s a
 
 -- a round makes Q of P, if the tick does and the rest keeps Q
 pub round_each : (P Q : ℕ → Machines → Type 0) → RoundKeeps Q
@@ -61,10 +45,21 @@ pub round_each : (P Q : ℕ → Machines → Type 0) → RoundKeeps Q
     → (s : Side) (gives : Algorithms) (old new : WorldState) → IsRound gives old new → EachAt P s old → EachAt Q s new
 round_each P Q k ticked s gives old new h a =
     let u = unroll gives old new h in
-    let six = ask_all gives (EachAt Q s) (λ n p r i j step m. asks_each Q k s gives n p r i j step m)
-    (asks_all old.links) u.asked u.two u.six (all_ask old.links) u.asks (ticks_each P Q k ticked s gives old new u a) in
-    deliver_all gives (EachAt Q s) (λ c n r i j step m. delivers_each Q k s gives c n r i j step m)
-    u.delivers u.replies u.six new u.arrives u.rest six
+    round_on gives (EachAt Q s) (asks_each Q k s gives) (delivers_each Q k s gives) old new u (ticks_each P Q k.settles ticked s gives old new u a)
+
+-- the own parameters of a port, and whether its link is up: no event of a round changes them
+module _ (X : Party → Bool → Type 0) (n : ℕ) where
+  pub own_keeps : RoundKeeps (AtPort n (λ p. X p.party p.enabled))
+  own_keeps = record {
+    settles = settling_leaves (AtPort n (λ p. X p.party p.enabled));
+    sends = λ m p a e. a e;
+    takes = λ m v p q h a e. takes_keep (λ p. X p.party p.enabled) v (λ p a. a, tt) p q h (a e);
+  }
+
+  pub own_ticks : (m : ℕ) (p q : Machines) → RunsToRest receive_rows (count_down p) q → AtPort n (λ p. X p.party p.enabled) m p
+      → AtPort n (λ p. X p.party p.enabled) m q
+  own_ticks m p q h a e = runs_keep (λ p. X p.party p.enabled) receive_rows
+      (λ p a. a, (λ p a. a, (λ p a. a, (λ p a. a, (λ p a. a, tt))))) (count_down p) q h (a e)
 
 -- the ports that the cables join
 
@@ -74,13 +69,8 @@ Joins links j = map link_ends j.links ≡ map link_ends links
 round_joins : (gives : Algorithms) (old new : WorldState) → IsRound gives old new → Joins old.links new
 round_joins gives old new h =
     let u = unroll gives old new h in
-    let one = ticks gives 1 One u.tick_one.0 old u.one refl u.tick_one.1 in
-    let two = ticks gives 2 Two u.tick_two.0 u.one u.two refl u.tick_two.1 in
-    let first : Joins old.links u.two = ap (map link_ends) (two.links ∙ one.links) in
-    let six = ask_all gives (Joins old.links) (λ n p r i j step m. (emits gives n p r i j step).2.ends ∙ m)
-    (asks_all old.links) u.asked u.two u.six (all_ask old.links) u.asks first in
-    deliver_all gives (Joins old.links) (λ c n r i j step m. deliver_ends gives c n r i j step ∙ m)
-    u.delivers u.replies u.six new u.arrives u.rest six
+    round_on gives (Joins old.links) (λ n p r i j step m. (emits gives n p r i j step).2.ends ∙ m)
+    (λ c n r i j step m. deliver_ends gives c n r i j step ∙ m) old new u (ap (map link_ends) (ticks_first gives old new u).links)
 
 pub rounds_join : (gives : Algorithms) (n : ℕ) (old new : WorldState) → Rounds gives n old new
     → map link_ends new.links ≡ map link_ends old.links

@@ -1,13 +1,12 @@
 -- A port of a healthy cable is drained of the conversations that are held on it.
 use Rattle.lagprogress.proofs.Common.{Bool, Err, IsSome, List, None, Ok, Option, Result, Some, [], ap, arith, cond, false, inl, inr, length, ltb}
-use Rattle.lagprogress.proofs.Common.{refl, slice_get, slice_set, subst, suc, sym, true, zero, ℕ, ◌++◌, ◌+◌, ◌-◌, ◌^◌, ◌∙◌, ◌∷◌, ◌≡◌, ◌≤◌, ◌⊎◌}
-use Rattle.lagprogress.proofs.Common.{cases_Bool, nat_tests, none-some, same_Some, AllByRecursion, Choice, is_selected, Lacpdu, One, Side, Two, peer}
-use Rattle.lagprogress.proofs.Common.{Machines, after_sending, is_due, On, is_among, after_tick, marker_due, Table, assignment_of, next_identifier}
-use Rattle.lagprogress.proofs.Common.{SystemFault, SystemPort, Receive, Step, Tick, Transmit, aggregator_numbered, distributing, SendsMarkerOf}
-use Rattle.lagprogress.proofs.Common.{TransmitsAt, TransmitsIf, Settling, CallPromise, SystemState, port_index, ports_table, settling_parts}
-use Rattle.lagprogress.proofs.Common.{TableChanges, table_changes, all-get, found_place, ports_rise, Event, Reply, Algorithms, WorldRuns, WorldSteps}
-use Rattle.lagprogress.proofs.Common.{side_of, ItemValue, LinkState, WorldState, half, port_at, set_here, IsRound, NothingInFlight, Rounds, asks_all}
-use Rattle.lagprogress.proofs.Common.{asks_ends, IsSteady}
+use Rattle.lagprogress.proofs.Common.{refl, slice_get, slice_set, subst, sym, true, ℕ, ◌+◌, ◌-◌, ◌^◌, ◌∙◌, ◌∷◌, ◌≡◌, ◌≤◌, ◌⊎◌, cases_Bool, nat_tests}
+use Rattle.lagprogress.proofs.Common.{none-some, same_Some, AllByRecursion, Choice, is_selected, Lacpdu, One, Side, Two, peer, Machines}
+use Rattle.lagprogress.proofs.Common.{after_sending, is_due, after_tick, marker_due, Table, assignment_of, next_identifier, SystemFault, SystemPort}
+use Rattle.lagprogress.proofs.Common.{Receive, Step, Tick, Transmit, SendsMarkerOf, TransmitsAt, TransmitsIf, Settling, CallPromise, SystemState}
+use Rattle.lagprogress.proofs.Common.{port_index, ports_table, settling_parts, TableChanges, table_changes, all-get, found_place, ports_rise, Event}
+use Rattle.lagprogress.proofs.Common.{Reply, Algorithms, WorldRuns, WorldSteps, side_of, ItemValue, WorldState, half, port_at, set_here, IsRound}
+use Rattle.lagprogress.proofs.Common.{NothingInFlight, Rounds, asks_all, IsSteady}
 use Rattle.lagprogress.proofs.EachPort.{OfEach}
 use Rattle.lagsystem.specs.declared.drive.Reply.TheVariants as answer
 use Rattle.lagscript.specs.declared.event.Event.TheVariants as event
@@ -19,26 +18,22 @@ use Rattle.lagprogress.proofs.Draining.{after_tick_on, comes_fine, elsewhere_fin
 use Rattle.lagprogress.proofs.EndFacts.{Along, activity, both_along}
 use Rattle.lagprogress.proofs.Halves.{each_is_calls, keeps_steady}
 use Rattle.lagprogress.proofs.Holding.{Fine, Flights, Has, ticked_fine, IsMarker, asking, answering}
-use Rattle.lagprogress.proofs.Linked.{EndIs, Fits, Link, asked_which, each_side, emit_any, found, peer_twice}
+use Rattle.lagprogress.proofs.Linked.{Fits, Link, asked_which, each_side, emit_any, peer_twice, EndPort, end_here}
 use Rattle.lagprogress.proofs.OneCable.{Arrives, Asks, OnCable, Went, asks, cable, came_off, delivers, emits, ticks, towards_there, Beside}
 use Rattle.lagprogress.proofs.OneCable.{port_there}
 use Rattle.lagprogress.proofs.OnePort.{AtPort, at_number}
 use Rattle.lagprogress.proofs.OneRound.{IsAsk, Unrolled, all_ask, ask_all, deliver_all, join, one_of_both, tick_both, ticked, unroll, first_acts}
-use Rattle.lagprogress.proofs.OneRound.{runs_apart}
-use Rattle.lagprogress.proofs.Progressing.{AtIt, FreshAt, beside, fits_fresh, knows_peer, stays_fresh, along_rounds}
+use Rattle.lagprogress.proofs.OneRound.{runs_apart, AsksTwice, asks_twice}
+use Rattle.lagprogress.proofs.Progressing.{AtIt, FreshAt, beside, fits_fresh, knows_peer, stays_fresh, along_rounds, awake_peer}
 
 -- identifiers
 
 below_top : (top m n : ℕ) → m ≤ n → IsSome (cond (ltb n top) (Some n) None) → IsSome (cond (ltb m top) (Some m) None)
-below_top top m n l h = by_test (ltb n top) refl (ltb m top) refl h
-  where
-    less : ltb n top ≡ true → ltb m top ≡ false → ⊥
-    less e f = grind (arith, nat_tests)
-
-    by_test : (b : Bool) → ltb n top ≡ b → (d : Bool) → ltb m top ≡ d → IsSome (cond b (Some n) None) → IsSome (cond d (Some m) None)
-    by_test b e true f h = refl
-    by_test true e false f h = absurd (less e f)
-    by_test false e false f h = h
+below_top top m n l h = elim (cases_Bool (ltb m top)) [
+  | inl t ↦ subst (λ b. IsSome (cond b (Some m) None)) (sym t) refl
+  | inr f ↦ (let past : ltb n top ≡ false = grind (arith, nat_tests) in
+      subst (λ b. IsSome (cond b (Some m) None)) (sym f) (subst (λ b. IsSome (cond b (Some n) None)) past h))
+]
 
 left_before : (t u : Table) → t.next ≤ u.next → IsSome (next_identifier u) → IsSome (next_identifier t)
 left_before t u l h = below_top (2 ^ 32) t.next u.next l h
@@ -106,51 +101,6 @@ deliver_next s gives c n r old new h = elim (came_off gives c n r old new h) [
     equal : (a b : ℕ) → b ≡ a → a ≤ b
     equal a b e = omega (arith, e)
 
--- the events that ask the ends of all cables ask this port of system s twice in turn
-record AsksTwice (s : Side) (p : ℕ) (events : List Event) : Type 0 where
-  number : ℕ
-  named : side_of number ≡ Some s
-  before : List Event
-  later : List Event
-  is : events ≡ before ++ (event.Emit number p ∷ event.Emit number p ∷ later)
-  firsts : AllByRecursion IsAsk before
-  lasts : AllByRecursion IsAsk later
-
-asks_twice : (s : Side) (i : ℕ) (links : List LinkState) (l : LinkState) → slice_get links i ≡ Some l → AsksTwice s (port_at s l) (asks_all links)
-asks_twice s i [] l e = absurd (none-some l e)
-asks_twice s zero (m ∷ links) l e = subst (λ k. AsksTwice s (port_at s k) (asks_all (m ∷ links))) (same_Some m l e) (first s)
-  where
-    first : (s : Side) → AsksTwice s (port_at s m) (asks_all (m ∷ links))
-    first One = record {
-      number = 1;
-      named = refl;
-      before = [];
-      later = event.Emit 2 m.two ∷ event.Emit 2 m.two ∷ asks_all links;
-      is = refl;
-      firsts = tt;
-      lasts = (tt, (tt, all_ask links));
-    }
-    first Two = record {
-      number = 2;
-      named = refl;
-      before = event.Emit 1 m.one ∷ event.Emit 1 m.one ∷ [];
-      later = asks_all links;
-      is = refl;
-      firsts = (tt, (tt, tt));
-      lasts = all_ask links;
-    }
-asks_twice s (suc i) (m ∷ links) l e =
-    let k = asks_twice s i links l e in
-    record {
-      number = k.number;
-      named = k.named;
-      before = asks_ends m ++ k.before;
-      later = k.later;
-      is = ap (λ es. asks_ends m ++ es) k.is;
-      firsts = (tt, (tt, (tt, (tt, k.firsts))));
-      lasts = k.lasts;
-    }
-
 module _ (at : Side → ℕ) (w : Side → Lacpdu) (awake : (s : Side) → (activity (w s) ≡ true) ⊎ (activity (w (peer s)) ≡ true)) (s : Side)
     (mac : List ℕ) (aggs count : ℕ) (c : Choice) (chosen : is_selected c ≡ true) (gives : Algorithms) where
   abbrev pub Y : Machines → Type 0
@@ -159,12 +109,9 @@ module _ (at : Side → ℕ) (w : Side → Lacpdu) (awake : (s : Side) → (acti
   abbrev pub Fines : ℕ → Type 0 → (ℕ → Type 0) → Table → Type 0
   Fines m W F t = AllFine at w s mac aggs count m W F t
 
-  turned_awake : (activity (w (peer s)) ≡ true) ⊎ (activity (w s) ≡ true)
-  turned_awake = elim (awake s) [ inl a ↦ inr a | inr a ↦ inl a ]
-
   along : (kn : Side → ℕ) → 1 ≤ kn s → Along Y (w s) (w (peer s)) (kn s) 2
   along kn l = both_along PartnerInSync (λ p. p.choice ≡ c) (w s) (w (peer s)) (kn s) 2
-      (partner_along (w s) (w (peer s)) (kn s) 2 (omega arith) turned_awake)
+      (partner_along (w s) (w (peer s)) (kn s) 2 (omega arith) (awake_peer at w awake s))
       (choice_along (w s) (w (peer s)) (kn s) 2 c chosen (omega arith) l)
 
   -- what is fixed of the system
@@ -194,39 +141,31 @@ module _ (at : Side → ℕ) (w : Side → Lacpdu) (awake : (s : Side) → (acti
     same : IsFixed j
     fine : Fines m W (Flights s (at s) mac flying) (half s j).state.table
 
-  -- the port at an end, and its place
-  record Placed (t : Side) (j : WorldState) : Type 0 where
-    place : ℕ
-    port : SystemPort
-    found : port_index (at t) (half t j).state.system_ports ≡ Some place
-    there : slice_get (half t j).state.system_ports place ≡ Some port
-    number : port.number ≡ at t
-    up : port.port.enabled ≡ true
+  -- another event of a round
+  made : {m : ℕ} {V : Type 0} {kn : Side → ℕ} {old new : WorldState} (W : Type 0) (e : Event) (r : Reply) → WorldSteps gives old e r new
+      → Mid m V kn old → Link 2 at w kn s Y new → (fl : Side → List ItemValue) (i : ℕ) → OnCable i at fl new.links
+      → Fines m W (Flights s (at s) mac fl) (half s new).state.table → Mid m W kn new
+  made {old = old} {new = new} W e r h d link fl i links fine = record {
+    link = link;
+    flying = fl;
+    index = i;
+    links = links;
+    same = fixed e r old new h d.link.steady d.same;
+    fine = fine;
+  }
 
-  placed : (kn : Side → ℕ) (j : WorldState) → Link 2 at w kn s Y j → (t : Side) → Placed t j
-  placed kn j l t =
-      let st = (half t j).state in
-      let place = l.place t in
-      let it = found (at t) place.0 st.system_ports place.1 in
-      let number = found_place (at t) st.system_ports place.0 it.0 place.1 it.1 in
-      record {
-        place = place.0;
-        port = it.0;
-        found = place.1;
-        there = it.1;
-        number = number;
-        up = (all-get (λ (y : SystemPort). AtPort (at t) (EndIs 2 w kn s Y t) y.number y.port) st.system_ports place.0 it.0 it.1 (l.ports t) number).0.1.0;
-      }
+  placed : (kn : Side → ℕ) (j : WorldState) → Link 2 at w kn s Y j → (t : Side) → EndPort at w 2 kn t j
+  placed kn j l t = end_here at w 2 kn s Y j l t
 
   -- the port is asked
-  own_asked : (m : ℕ) (W : Type 0) (a : Result (Option (List ℕ)) SystemFault) (j new : WorldState) (fl now : Side → List ItemValue)
-      → Placed s j → IsFixed j → CallPromise (gives s) (half s j).state (Transmit (at s)) (answer.Transmit a) (half s new).state → Went s a fl now
+  own_asked : {kn : Side → ℕ} (m : ℕ) (W : Type 0) (a : Result (Option (List ℕ)) SystemFault) (j new : WorldState) (fl now : Side → List ItemValue)
+      → EndPort at w 2 kn s j → IsFixed j → CallPromise (gives s) (half s j).state (Transmit (at s)) (answer.Transmit a) (half s new).state → Went s a fl now
       → Fines m W (Flights s (at s) mac fl) (half s j).state.table → Fines m W (Flights s (at s) mac now) (half s new).state.table
-  own_asked m W (Err fault) j new fl now z f h went fine = absurd (none-some z.place (sym h.step.cause ∙ z.found))
+  own_asked m W (Err fault) j new fl now z f h went fine = absurd (none-some z.index (sym h.step.cause ∙ z.place))
   own_asked m W (Ok o) j new fl now z f h went fine =
-      let t = subst (λ i. TransmitsAt i (half s j).state o (half s new).state) z.found h.step in
-      let number : t.0.number ≡ at s = found_place (at s) (half s j).state.system_ports z.place t.0 z.found t.1 in
-      sends_fine at w s mac aggs count t.0.port.enabled (is_due t.0.port) z.place t.0 (half s j).state o (half s new).state fl now m W number
+      let t = subst (λ i. TransmitsAt i (half s j).state o (half s new).state) z.place h.step in
+      let number : t.0.number ≡ at s = found_place (at s) (half s j).state.system_ports z.index t.0 z.place t.1 in
+      sends_fine at w s mac aggs count t.0.port.enabled (is_due t.0.port) z.index t.0 (half s j).state o (half s new).state fl now m W number
       f.own t.2 went fine
 
   peer_asked : (m : ℕ) (W : Type 0) (j new : WorldState) (fl : Side → List ItemValue) (k : Asks gives (peer s) at fl j new)
@@ -245,103 +184,57 @@ module _ (at : Side → ℕ) (w : Side → Lacpdu) (awake : (s : Side) → (acti
         → Link 2 at w kn s Y new
     asked_link n p r old new h l = (emit_any gives n p 2 at w kn s Y r old new fits (along kn some_known) (λ q y. y) l h).link
 
+    mid_beside : (m : ℕ) (W : Type 0) (e : Event) (r : Reply) (old new : WorldState) → WorldSteps gives old e r new → (d : Mid m W kn old)
+        → Link 2 at w kn s Y new → Beside gives at d.flying old new → Mid m W kn new
+    mid_beside m W e r old new h d link b = made W e r h d link d.flying b.index b.links
+        (elsewhere_fine at w s mac aggs count (gives s) (half s old).state (half s new).state m W (Flights s (at s) mac d.flying)
+        (b.calls s) (stays_on at w s mac aggs count c kn kn old new d.link link) d.fine)
+
     mid_asked : (m : ℕ) (W : Type 0) (n p : ℕ) (r : Reply) (old new : WorldState) → WorldSteps gives old (event.Emit n p) r new
         → Mid m W kn old → Mid m W kn new
-    mid_asked m W n p r old new h d = by_which (asked_which gives n p d.index at d.flying r old new d.links h)
+    mid_asked m W n p r old new h d = elim (asked_which gives n p d.index at d.flying r old new d.links h) [
+      | inl (t, told, is) ↦ asked t (asks gives n t d.index at d.flying r old new told d.links
+          (subst (λ q. WorldSteps gives old (event.Emit n q) r new) is h))
+      | inr b ↦ mid_beside m W (event.Emit n p) r old new h d link b
+    ]
       where
         link : Link 2 at w kn s Y new
         link = asked_link n p r old new h d.link
 
-        same : IsFixed new
-        same = fixed (event.Emit n p) r old new h d.link.steady d.same
-
         asked : (t : Side) (k : Asks gives t at d.flying old new) → Mid m W kn new
         asked t k = elim (one_of_both s t) [
           | inl e ↦ (let o = subst (λ u. Asks gives u at d.flying old new) e k in
-              record {
-                link = link;
-                flying = o.now;
-                index = o.index;
-                links = o.links;
-                same = same;
-                fine = own_asked m W o.a old new d.flying o.now (placed kn old d.link s) d.same o.promise o.went d.fine;
-              })
+              made W (event.Emit n p) r h d link o.now o.index o.links
+              (own_asked m W o.a old new d.flying o.now (placed kn old d.link s) d.same o.promise o.went d.fine))
           | inr e ↦ (let o = subst (λ u. Asks gives u at d.flying old new) e k in
-              record {
-                link = link;
-                flying = o.now;
-                index = o.index;
-                links = o.links;
-                same = same;
-                fine = peer_asked m W old new d.flying o d.fine;
-              })
+              made W (event.Emit n p) r h d link o.now o.index o.links (peer_asked m W old new d.flying o d.fine))
         ]
-
-        by_which : ((t : Side) × (side_of n ≡ Some t) × (p ≡ at t)) ⊎ Beside gives at d.flying old new → Mid m W kn new
-        by_which (inl (t, told, is)) = asked t (asks gives n t d.index at d.flying r old new told d.links
-            (subst (λ q. WorldSteps gives old (event.Emit n q) r new) is h))
-        by_which (inr b) = record {
-          link = link;
-          flying = d.flying;
-          index = b.index;
-          links = b.links;
-          same = same;
-          fine = elsewhere_fine at w s mac aggs count (gives s) (half s old).state (half s new).state m W (Flights s (at s) mac d.flying)
-              (b.calls s) (stays_on at w s mac aggs count c kn kn old new d.link link) d.fine;
-        }
 
     mid_delivers : (m : ℕ) (W : Type 0) (cn n : ℕ) (r : Reply) (old new : WorldState) → WorldSteps gives old (event.Deliver cn n) r new
         → Mid m W kn old → Mid m W kn new
-    mid_delivers m W cn n r old new h d = by_which (delivers gives cn n d.index at d.flying r old new d.links h)
+    mid_delivers m W cn n r old new h d = elim (delivers gives cn n d.index at d.flying r old new d.links h) [
+      | inl (t, k) ↦ came t k
+      | inr b ↦ mid_beside m W (event.Deliver cn n) r old new h d link b
+    ]
       where
         link : Link 2 at w kn s Y new
         link = (deliver_link gives cn n 2 at w kn s Y r old new fits (along kn some_known) d.link h).link
-
-        same : IsFixed new
-        same = fixed (event.Deliver cn n) r old new h d.link.steady d.same
-
-        stays : (g k : ℕ) → assignment_of (half s old).state.table g k ≡ On (at s)
-            → is_among (distributing (aggregator_numbered g) (half s new).state.system_ports) (at s) ≡ true
-        stays = stays_on at w s mac aggs count c kn kn old new d.link link
 
         came : (t : Side) (k : Arrives gives t at d.flying old new) → Mid m W kn new
         came t k = elim (one_of_both s t) [
           | inl e ↦ (let o = subst (λ u. Arrives gives u at d.flying old new) e k in
               let z = placed kn old d.link s in
-              record {
-                link = link;
-                flying = o.now;
-                index = o.index;
-                links = o.links;
-                same = same;
-                fine = comes_fine at w s mac aggs count gives d.flying old new z.place z.port m W z.found z.there z.up d.same.own o stays d.fine;
-              })
+              made W (event.Deliver cn n) r h d link o.now o.index o.links
+              (comes_fine at w s mac aggs count gives d.flying old new z.index z.port m W z.place z.there z.is.1.0 d.same.own o
+              (stays_on at w s mac aggs count c kn kn old new d.link link) d.fine))
           | inr e ↦ (let o = subst (λ u. Arrives gives u at d.flying old new) e k in
               let z = placed kn old d.link (peer s) in
               let still : (half s new).state ≡ (half s old).state = subst (λ u. (half u new).state ≡ (half u old).state) (peer_twice s) o.peers in
-              record {
-                link = link;
-                flying = o.now;
-                index = o.index;
-                links = o.links;
-                same = same;
-                fine = subst (λ (y : SystemState). Fines m W (Flights s (at s) mac o.now) y.table) (sym still)
-                    (all_map at w s mac aggs count m W W (Flights s (at s) mac d.flying) (Flights s (at s) mac o.now) (half s old).state.table
-                    (λ x. x) (peer_answers at w s mac aggs count gives d.flying old new z.place z.port z.found z.there z.up o) d.fine);
-              })
+              made W (event.Deliver cn n) r h d link o.now o.index o.links
+              (subst (λ (y : SystemState). Fines m W (Flights s (at s) mac o.now) y.table) (sym still)
+              (all_map at w s mac aggs count m W W (Flights s (at s) mac d.flying) (Flights s (at s) mac o.now) (half s old).state.table
+              (λ x. x) (peer_answers at w s mac aggs count gives d.flying old new z.index z.port z.place z.there z.is.1.0 o) d.fine)))
         ]
-
-        by_which : ((t : Side) × Arrives gives t at d.flying old new) ⊎ Beside gives at d.flying old new → Mid m W kn new
-        by_which (inl (t, k)) = came t k
-        by_which (inr b) = record {
-          link = link;
-          flying = d.flying;
-          index = b.index;
-          links = b.links;
-          same = same;
-          fine = elsewhere_fine at w s mac aggs count (gives s) (half s old).state (half s new).state m W (Flights s (at s) mac d.flying)
-              (b.calls s) stays d.fine;
-        }
 
     -- the port itself is asked: a marker goes out if no LACPDU does, and no LACPDU is due after one went
 
@@ -353,29 +246,23 @@ module _ (at : Side → ℕ) (w : Side → Lacpdu) (awake : (s : Side) → (acti
         → is_due (placed kn old d.link s).port.port ≡ false → Mid m ⊥ kn new
     marked m W n r old new told h d left not =
         let o = asks gives n s d.index at d.flying r old new told d.links h in
-        record {
-          link = asked_link n (at s) r old new h d.link;
-          flying = o.now;
-          index = o.index;
-          links = o.links;
-          same = fixed (event.Emit n (at s)) r old new h d.link.steady d.same;
-          fine = by_answer o.a o.now o.promise o.went;
-        }
+        made ⊥ (event.Emit n (at s)) r h d (asked_link n (at s) r old new h d.link) o.now o.index o.links
+        (by_answer o.a o.now o.promise o.went)
       where
-        z : Placed s old
+        z : EndPort at w 2 kn s old
         z = placed kn old d.link s
 
         by_answer : (a : Result (Option (List ℕ)) SystemFault) (now : Side → List ItemValue)
             → CallPromise (gives s) (half s old).state (Transmit (at s)) (answer.Transmit a) (half s new).state → Went s a d.flying now
             → Fines m ⊥ (Flights s (at s) mac now) (half s new).state.table
-        by_answer (Err fault) now p went = absurd (none-some z.place (sym p.step.cause ∙ z.found))
+        by_answer (Err fault) now p went = absurd (none-some z.index (sym p.step.cause ∙ z.place))
         by_answer (Ok a) now p went =
-            let t = subst (λ i. TransmitsAt i (half s old).state a (half s new).state) z.found p.step in
+            let t = subst (λ i. TransmitsAt i (half s old).state a (half s new).state) z.place p.step in
             let is : t.0 ≡ z.port = same_Some t.0 z.port (sym t.1 ∙ z.there) in
             let number : t.0.number ≡ at s = ap (λ (y : SystemPort). y.number) is ∙ z.number in
-            let sent = subst (λ b. TransmitsIf b (is_due t.0.port) z.place t.0 (half s old).state a (half s new).state)
-            (ap (λ (y : SystemPort). y.port.enabled) is ∙ z.up) t.2 in
-            marks_now at w s mac aggs count (is_due t.0.port) z.place t.0 (half s old).state a (half s new).state d.flying now m W number
+            let sent = subst (λ b. TransmitsIf b (is_due t.0.port) z.index t.0 (half s old).state a (half s new).state)
+            (ap (λ (y : SystemPort). y.port.enabled) is ∙ z.is.1.0) t.2 in
+            marks_now at w s mac aggs count (is_due t.0.port) z.index t.0 (half s old).state a (half s new).state d.flying now m W number
             d.same.own d.same.rows d.same.cols left (ap (λ (y : SystemPort). is_due y.port) is ∙ not) sent went d.fine
 
     silenced : (m : ℕ) (W : Type 0) (n : ℕ) (r : Reply) (old new : WorldState) → side_of n ≡ Some s
@@ -384,7 +271,7 @@ module _ (at : Side → ℕ) (w : Side → Lacpdu) (awake : (s : Side) → (acti
     silenced m W n r old new told h d due =
         let o = asks gives n s d.index at d.flying r old new told d.links h in by_answer o.a o.promise
       where
-        z : Placed s old
+        z : EndPort at w 2 kn s old
         z = placed kn old d.link s
 
         steady : IsSteady new
@@ -392,21 +279,21 @@ module _ (at : Side → ℕ) (w : Side → Lacpdu) (awake : (s : Side) → (acti
 
         by_answer : (a : Result (Option (List ℕ)) SystemFault)
             → CallPromise (gives s) (half s old).state (Transmit (at s)) (answer.Transmit a) (half s new).state → AtIt at w s NotDue new
-        by_answer (Err fault) p = absurd (none-some z.place (sym p.step.cause ∙ z.found))
+        by_answer (Err fault) p = absurd (none-some z.index (sym p.step.cause ∙ z.place))
         by_answer (Ok a) p =
-            let t = subst (λ i. TransmitsAt i (half s old).state a (half s new).state) z.found p.step in
+            let t = subst (λ i. TransmitsAt i (half s old).state a (half s new).state) z.place p.step in
             let is : t.0 ≡ z.port = same_Some t.0 z.port (sym t.1 ∙ z.there) in
-            let up = subst (λ b. TransmitsIf b (is_due t.0.port) z.place t.0 (half s old).state a (half s new).state)
-            (ap (λ (y : SystemPort). y.port.enabled) is ∙ z.up) t.2 in
-            let sent = subst (λ b. TransmitsIf true b z.place t.0 (half s old).state a (half s new).state)
+            let up = subst (λ b. TransmitsIf b (is_due t.0.port) z.index t.0 (half s old).state a (half s new).state)
+            (ap (λ (y : SystemPort). y.port.enabled) is ∙ z.is.1.0) t.2 in
+            let sent = subst (λ b. TransmitsIf true b z.index t.0 (half s old).state a (half s new).state)
             (ap (λ (y : SystemPort). is_due y.port) is ∙ due) up in
             let after : SystemPort = record t.0 { port = after_sending t.0.port } in
-            let ports : (half s new).state.system_ports ≡ slice_set (half s old).state.system_ports z.place after =
+            let ports : (half s new).state.system_ports ≡ slice_set (half s old).state.system_ports z.index after =
             ap (λ (y : SystemState). y.system_ports) sent.3 in
-            let there : slice_get (half s new).state.system_ports z.place ≡ Some after =
-            subst (λ xs. slice_get xs z.place ≡ Some after) (sym ports) (set_here (half s old).state.system_ports z.place after t.0 t.1) in
+            let there : slice_get (half s new).state.system_ports z.index ≡ Some after =
+            subst (λ xs. slice_get xs z.index ≡ Some after) (sym ports) (set_here (half s old).state.system_ports z.index after t.0 t.1) in
             subst (λ q. OfEach (AtPort q NotDue) (half s new).state.system_ports) (ap (λ (y : SystemPort). y.number) is ∙ z.number)
-            (at_number NotDue 0 (half s new).state.system_ports z.place after (ports_rise (half s new).state (steady s).0.ports) there refl)
+            (at_number NotDue 0 (half s new).state.system_ports z.index after (ports_rise (half s new).state (steady s).0.ports) there refl)
 
     asked_once : (m : ℕ) (W : Type 0) (n : ℕ) (r : Reply) (old new : WorldState) → side_of n ≡ Some s
         → WorldSteps gives old (event.Emit n (at s)) r new → IsSome (next_identifier (half s old).state.table) → Mid m W kn old
@@ -425,7 +312,7 @@ module _ (at : Side → ℕ) (w : Side → Lacpdu) (awake : (s : Side) → (acti
           | inl y ↦ mid_asked m ⊥ n (at s) r mid new g y
           | inr y ↦ (let z = placed kn mid y.0.link s in
               marked m W n r mid new told g y.0 left
-              (all-get (λ (x : SystemPort). AtPort (at s) NotDue x.number x.port) (half s mid).state.system_ports z.place z.port z.there y.1 z.number))
+              (all-get (λ (x : SystemPort). AtPort (at s) NotDue x.number x.port) (half s mid).state.system_ports z.index z.port z.there y.1 z.number))
         ]
 
   -- at the end of a round

@@ -11,9 +11,9 @@ use Rattle.lagprogress.proofs.EachPort.{KeptBySettling, OfEach, settling_each}
 use Rattle.lagprogress.proofs.Heartbeat.{raised}
 use Rattle.lagprogress.proofs.Hearing.{EnabledKeep, no, not_down, times_keep}
 use Rattle.lagprogress.proofs.Knowing.{Known, counts, decoded, placed, receive_known, receives, recorded}
-use Rattle.lagprogress.proofs.OnePort.{AtPort, at_number}
-use Rattle.lagprogress.proofs.Sounding.{Calm, Sounds, counts_sounds, mux_sounds, periodic_runs}
-use Rattle.lagprogress.proofs.Timers.{RowsKeep, fires_keep, runs_keep}
+use Rattle.lagprogress.proofs.OnePort.{AtPort, at_number, mux_leaves, periodic_leaves}
+use Rattle.lagprogress.proofs.Sounding.{Calm, Sounds, counts_sounds, mux_sounds, not_silent, periodic_runs}
+use Rattle.lagprogress.proofs.Timers.{RowsKeep, runs_keep, takes_keep}
 
 -- Activity and Timeout of the actor of an LACPDU
 abbrev pub activity : Lacpdu → Bool
@@ -66,21 +66,10 @@ pub record Along (Y : Machines → Type 0) (v u : Lacpdu) (c d : ℕ) : Type 0 w
 pub not_attached : (m : MuxState) (g : Bool) (from : MuxState) → is_synchronized from ≡ false → (same_mux_state from m && g) ≡ true
     → is_synchronized m ≡ true → ⊥
 not_attached Detached g Detached f h e = no e
-not_attached Detached g Waiting f h e = no h
-not_attached Detached g Attached f h e = no h
-not_attached Detached g CollectingDistributing f h e = no h
-not_attached Waiting g Detached f h e = no h
 not_attached Waiting g Waiting f h e = no e
-not_attached Waiting g Attached f h e = no h
-not_attached Waiting g CollectingDistributing f h e = no h
-not_attached Attached g Detached f h e = no h
-not_attached Attached g Waiting f h e = no h
 not_attached Attached g Attached f h e = no (sym f)
-not_attached Attached g CollectingDistributing f h e = no h
-not_attached CollectingDistributing g Detached f h e = no h
-not_attached CollectingDistributing g Waiting f h e = no h
-not_attached CollectingDistributing g Attached f h e = no h
 not_attached CollectingDistributing g CollectingDistributing f h e = no (sym f)
+not_attached m g from f h e = no h
 
 end_mux : (d : ℕ) (v u : Lacpdu) (c : ℕ) (ready : Bool) → EnabledKeep (IsEnd d v u c) (mux_rows ready)
 end_mux d v u c ready = (
@@ -119,10 +108,7 @@ end_settles Y v u c d n k = record {
 -- a receipt
 
 says_kept : (v x : Lacpdu) (p q : Machines) → ProcessesLacpdu x p q → Says v p → Says v q
-says_kept v x p q h a = elim h [
-  | inl f ↦ fires_keep (Says v) (lacpdu_rows x) (λ p a. a, tt) p q f a
-  | inr r ↦ subst (Says v) (sym r.1) a
-]
+says_kept v x p q h a = takes_keep (Says v) x (λ p a. a, tt) p q h a
 
 same_recorded : (x u : Lacpdu) (p : Machines) → SameActor x u → HasRecorded x p → HasRecorded u p
 same_recorded x u p e r = record {
@@ -199,13 +185,6 @@ ticks_end d v u c p q known h a = (
 abbrev pub CanSound : Lacpdu → Lacpdu → Bool → ℕ → Type 0
 CanSound v u fast c = ((activity v ≡ true) ⊎ ((1 ≤ c) × (activity u ≡ true))) × (fast ≡ true → (1 ≤ c) × (short_timeout u ≡ true))
 
-pub not_silent : (e a b : Bool) → e ≡ true → (a ≡ true) ⊎ (b ≡ true) → (not e || (not a && not b)) ≡ false
-not_silent true true b up h = refl
-not_silent true false true up h = refl
-not_silent true false false up (inl x) = absurd (no x)
-not_silent true false false up (inr x) = absurd (no x)
-not_silent false a b up h = absurd (no up)
-
 pub calm : (d : ℕ) (v u : Lacpdu) (fast : Bool) (c : ℕ) (p : Machines) → CanSound v u fast c → IsEnd d v u c p → Calm fast p
 calm d v u fast c p can a = (
   not_silent p.enabled p.active (bits_of p.partner.state).activity a.1.0 (active can.0),
@@ -218,13 +197,16 @@ calm d v u fast c p can a = (
 
 -- what may stand beside it
 
-pub nothing_along : (v u : Lacpdu) (c d : ℕ) → Along (λ p. Unit {0}) v u c d
-nothing_along v u c d = record {
+pub constant_along : (A : Type 0) (v u : Lacpdu) (c d : ℕ) → Along (λ p. A) v u c d
+constant_along A v u c d = record {
   mux = λ ready p q h y. y;
   periodic = λ p q h a y. y;
   select = λ choice p none y. y;
   takes = λ x p q e awake h a y. y;
 }
+
+pub nothing_along : (v u : Lacpdu) (c d : ℕ) → Along (λ p. Unit {0}) v u c d
+nothing_along = constant_along (Unit {0})
 
 pub sounds_takes : (fast : Bool) (most : ℕ) (x : Lacpdu) → RowsKeep (Sounds fast most) (lacpdu_rows x)
 sounds_takes fast most x = (λ p a. (raised _ p.ntt _ a.0, a.1), tt)
@@ -234,10 +216,7 @@ sounds_along v u fast c d most can = record {
   mux = λ ready p q h y. runs_keep (Sounds fast most) (mux_rows ready) (mux_sounds fast most ready) p q h y;
   periodic = λ p q h a y. periodic_runs fast most p q h (calm d v u fast c p can a) y;
   select = λ choice p none y. y;
-  takes = λ x p q e awake h a y. elim h [
-    | inl f ↦ fires_keep (Sounds fast most) (lacpdu_rows x) (sounds_takes fast most x) p q f y
-    | inr r ↦ subst (Sounds fast most) (sym r.1) y
-  ];
+  takes = λ x p q e awake h a y. takes_keep (Sounds fast most) x (sounds_takes fast most x) p q h y;
 }
 
 pub ticks_sounds : (d : ℕ) (v u : Lacpdu) (fast : Bool) (c most : ℕ) (p q : Machines) → CanSound v u fast c
@@ -251,21 +230,15 @@ abbrev pub Learnt : ℕ → Lacpdu → ℕ → Machines → Type 0
 Learnt d u most p = Known u most 0 p × (2 ≤ d → partner_synchronized p ≡ true)
 
 pub all_true : (a b c : Bool) → a ≡ true → b ≡ true → c ≡ true → (a && b && c) ≡ true
-all_true true true true e f g = refl
-all_true true true false e f g = g
-all_true true false c e f g = absurd (no f)
-all_true false b c e f g = absurd (no e)
+all_true a b c e f g = rw (e, f, g) refl
 
 pub maintained : (a b c : Bool) → (a ≡ true) ⊎ ((b ≡ true) × (c ≡ true)) → (a || (b && c)) ≡ true
 maintained true b c h = refl
 maintained false b c (inl h) = absurd (no h)
-maintained false true true (inr h) = refl
-maintained false true false (inr h) = h.1
-maintained false false c (inr h) = absurd (no h.0)
+maintained false b c (inr h) = rw (h.0, h.1) refl
 
 pub first_true : (a b : Bool) → a ≡ true → (a || b) ≡ true
-first_true true b h = refl
-first_true false b h = absurd (no h)
+first_true a b h = rw h refl
 
 records_sync : (v u x : Lacpdu) (p : Machines) → (activity u ≡ true) ⊎ (activity v ≡ true) → SameActor x u → InSync v x → Says v p
     → recorded_synchronization x p ≡ true
@@ -305,10 +278,8 @@ takes_learnt v u x c d p q there on e awake h a = (
 
 pub known_along : (v u : Lacpdu) (c d : ℕ) → 1 ≤ d → (2 ≤ d → (activity u ≡ true) ⊎ (activity v ≡ true)) → Along (Learnt d u (wait_of v)) v u c d
 known_along v u c d there on = record {
-  mux = λ ready p q h y. runs_keep (Learnt d u (wait_of v)) (mux_rows ready)
-      (λ p a. a, (λ p a. a, (λ p a. a, (λ p a. a, (λ p a. a, (λ p a. a, tt)))))) p q h y;
-  periodic = λ p q h a y. subst (Learnt d u (wait_of v)) (sym h.2) (runs_keep (Learnt d u (wait_of v)) periodic_rows
-      (λ p a. a, (λ p a. a, (λ p a. a, (λ p a. a, (λ p a. a, (λ p a. a, (λ p a. a, tt))))))) p h.0 h.1 y);
+  mux = mux_leaves (Learnt d u (wait_of v));
+  periodic = λ p q h a y. periodic_leaves (Learnt d u (wait_of v)) p q h y;
   select = λ choice p none y. y;
   takes = λ x p q e awake h a y. takes_learnt v u x c d p q there on e awake h a;
 }

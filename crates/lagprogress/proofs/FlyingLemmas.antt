@@ -1,11 +1,11 @@
 -- How a frame that was sent on a healthy cable stays first on it through a round, until it is handed up.
-use Rattle.lagprogress.proofs.Common.{Err, List, None, Ok, Option, Result, Some, [], ap, arith, if◌then◌else◌, inl, inr, map, refl, slice_get, subst}
-use Rattle.lagprogress.proofs.Common.{suc, sym, true, zero, ℕ, ◌++◌, ◌==◌, ◌∙◌, ◌∷◌, ◌≡◌, ◌≤◌, ◌⊎◌, cases_Bool, true≢false, nat_tests, same_Some}
-use Rattle.lagprogress.proofs.Common.{AllByRecursion, AggId, Choice, Selected, Standby, Unselected, is_selected, Lacpdu, all-append, One, Side, Two}
-use Rattle.lagprogress.proofs.Common.{peer, value_of, MuxState, CollectingDistributing, same_mux_state, SystemFault, Received, SystemPort, Data_frame}
-use Rattle.lagprogress.proofs.Common.{IsFrame, MuxIsSettled, collecting, selected_aggregator, machines_of, port_index, all-get, found_place, Event}
-use Rattle.lagprogress.proofs.Common.{Reply, Algorithms, DeliversFrom, OnLink, WorldRuns, WorldSteps, side_of, link_ends, ItemValue, LinkState}
-use Rattle.lagprogress.proofs.Common.{WorldState, half, port_at, towards, HandsUp, InRound, Sometime, IsDeliver, IsRound, OfPort, asks_all}
+use Rattle.lagprogress.proofs.Common.{List, None, Ok, Option, Result, Some, [], ap, arith, if◌then◌else◌, inl, inr, map, refl, slice_get, subst, suc}
+use Rattle.lagprogress.proofs.Common.{sym, true, ℕ, ◌++◌, ◌==◌, ◌∙◌, ◌∷◌, ◌≡◌, ◌≤◌, ◌⊎◌, cases_Bool, true≢false, nat_tests, same_Some, AllByRecursion}
+use Rattle.lagprogress.proofs.Common.{AggId, Choice, Selected, is_selected, Lacpdu, all-append, One, Side, Two, peer, MuxState}
+use Rattle.lagprogress.proofs.Common.{CollectingDistributing, same_mux_state, SystemFault, Received, SystemPort, Data_frame, IsFrame, MuxIsSettled}
+use Rattle.lagprogress.proofs.Common.{collecting, selected_aggregator, machines_of, port_index, all-get, found_place, Event, Reply, Algorithms}
+use Rattle.lagprogress.proofs.Common.{WorldRuns, WorldSteps, side_of, link_ends, ItemValue, LinkState, WorldState, half, port_at, towards, HandsUp}
+use Rattle.lagprogress.proofs.Common.{InRound, Sometime, IsDeliver, IsRound, OfPort, asks_all}
 use Rattle.lagsystem.specs.declared.received.Received.TheVariants as received
 use Rattle.lagscript.specs.declared.event.Event.TheVariants as event
 use Rattle.lagprogress.proofs.ArrivingLemmas.{deliver_hands_up}
@@ -14,7 +14,7 @@ use Rattle.lagprogress.proofs.Delivering.{deliver_link}
 use Rattle.lagprogress.proofs.EachRound.{same_index}
 use Rattle.lagprogress.proofs.EndFacts.{activity, Along}
 use Rattle.lagprogress.proofs.Linked.{EndIs, Fits, Link, asked_which, emit_any, found}
-use Rattle.lagprogress.proofs.OneCable.{Arrives, Back, Beside, Comes, OnCable, Went, arrived, asks, cable, came_from, deliver_ends, emits, passed_by}
+use Rattle.lagprogress.proofs.OneCable.{came_off, Arrives, Back, Beside, Comes, OnCable, Went, arrived, asks, cable, deliver_ends, emits, passed_by}
 use Rattle.lagprogress.proofs.OneCable.{port_there, push, put, stays_beside, ticks, towards_there}
 use Rattle.lagprogress.proofs.OnePort.{AtPort}
 use Rattle.lagprogress.proofs.OneRound.{IsAsk, all_ask, one_of_both, tick_both, ticked}
@@ -25,54 +25,17 @@ use Rattle.lagprogress.proofs.Progressing.{machines_there}
 pub delivers_at : (gives : Algorithms) (c n i : ℕ) (at : Side → ℕ) (fl : Side → List ItemValue) (r : Reply) (old new : WorldState)
     → OnCable i at fl old.links → WorldSteps gives old (event.Deliver c n) r new
     → ((v : Side) × (side_of n ≡ Some v) × (c ≡ suc i) × Arrives gives v at fl old new) ⊎ Beside gives at fl old new
-delivers_at gives c n i at fl r old new on h =
-    let v = value_of (side_of n) _ h.0 in
-    by_number c v.0 v.1 v.2
-  where
-    now : WorldState
-    now = record new { acted = old.acted }
-
-    wide : Beside gives at fl old now → Beside gives at fl old new
-    wide b = record { index = b.index; links = b.links; calls = λ s. b.calls s; logs = λ s. b.logs s }
-
-    by_place : (k : ℕ) (v : Side) (l : LinkState) → side_of n ≡ Some v → slice_get old.links k ≡ Some l → Comes gives v k l old now
-        → ((v : Side) × (side_of n ≡ Some v) × (suc k ≡ suc i) × Arrives gives v at fl old new) ⊎ Beside gives at fl old new
-    by_place k v l named there m = elim (cases_Bool (k == i)) [
-      | inl t ↦ (let same : k ≡ i = grind (arith, nat_tests) in
-          let is : l ≡ cable at fl = same_Some l (cable at fl) (sym there ∙ (ap (slice_get old.links) same ∙ on.there)) in
-          let a = arrived gives v i at fl l old now on is (subst (λ k. Comes gives v k l old now) same m) in
-          inl (
-            v,
-            named,
-            ap (λ n. suc n) same,
-            record {
-              item = a.item;
-              rest = a.rest;
-              first = a.first;
-              a = a.a;
-              promise = a.promise;
-              peers = a.peers;
-              now = a.now;
-              back = a.back;
-              index = a.index;
-              links = a.links;
-              log = a.log;
-              peer_log = a.peer_log;
-            },
-          ))
-      | inr f ↦ (let other : k ≡ i → ⊥ = grind (arith, nat_tests) in
-          inr (wide (passed_by gives v i k at fl l old now on there other m)))
-    ]
-
-    by_number : (c : ℕ) (v : Side) → side_of n ≡ Some v → OnLink c (λ i l. DeliversFrom gives v i l (towards v l) old r now) old.links
-        → ((v : Side) × (side_of n ≡ Some v) × (c ≡ suc i) × Arrives gives v at fl old new) ⊎ Beside gives at fl old new
-    by_number zero v named on = absurd on
-    by_number (suc k) v named here =
-        let m = value_of (slice_get old.links k) _ here in
-        elim (came_from gives v k m.0 (towards v m.0) r old now refl m.2) [
-          | inl x ↦ by_place k v m.0 named m.1 x
-          | inr x ↦ inr (wide (stays_beside gives i at fl old now on x))
-        ]
+delivers_at gives c n i at fl r old new on h = elim (came_off gives c n r old new h) [
+  | inl m ↦ elim (cases_Bool (m.index == i)) [
+    | inl t ↦ (let same : m.index ≡ i = grind (arith, nat_tests) in
+        let is : m.link ≡ cable at fl = same_Some m.link (cable at fl) (sym m.there ∙ (ap (slice_get old.links) same ∙ on.there)) in
+        let a = arrived gives m.side i at fl m.link old new on is (subst (λ k. Comes gives m.side k m.link old new) same m.comes) in
+        inl (m.side, m.named, m.numbered ∙ ap (λ k. suc k) same, a))
+    | inr f ↦ (let other : m.index ≡ i → ⊥ = grind (arith, nat_tests) in
+        inr (passed_by gives m.side i m.index at fl m.link old new on m.there other m.comes))
+  ]
+  | inr m ↦ inr (stays_beside gives i at fl old new on m)
+]
 
 -- the first item stays the first
 
@@ -81,26 +44,18 @@ First t item fl = (rest : List ItemValue) × (fl t ≡ item ∷ rest)
 
 pushed_first : (u t : Side) (item more : ItemValue) (fl : Side → List ItemValue) → First t item fl → First t item (push u more fl)
 pushed_first One One item more fl h = (h.0 ++ more ∷ [], ap (λ xs. xs ++ more ∷ []) h.1)
-pushed_first One Two item more fl h = h
-pushed_first Two One item more fl h = h
 pushed_first Two Two item more fl h = (h.0 ++ more ∷ [], ap (λ xs. xs ++ more ∷ []) h.1)
+pushed_first u t item more fl h = h
 
 went_first : (s t : Side) (a : Result (Option (List ℕ)) SystemFault) (item : ItemValue) (fl now : Side → List ItemValue) → Went s a fl now
     → First t item fl → First t item now
-went_first s t (Err fault) item fl now h f = subst (First t item) (sym h) f
-went_first s t (Ok None) item fl now h f = subst (First t item) (sym h) f
 went_first s t (Ok (Some frame)) item fl now h f = subst (First t item) (sym h.2) (pushed_first (peer s) t item h.0 fl f)
+went_first s t a item fl now h f = subst (First t item) (sym h) f
 
 back_first : (s t : Side) (a : Result Received SystemFault) (item : ItemValue) (fl now : Side → List ItemValue) → Back s a fl now
     → First t item fl → First t item now
-back_first s t (Err fault) item fl now h f = subst (First t item) (sym h) f
-back_first s t (Ok received.Disabled) item fl now h f = subst (First t item) (sym h) f
-back_first s t (Ok received.Dropped) item fl now h f = subst (First t item) (sym h) f
-back_first s t (Ok (received.Ignored fault)) item fl now h f = subst (First t item) (sym h) f
-back_first s t (Ok received.TookLacpdu) item fl now h f = subst (First t item) (sym h) f
 back_first s t (Ok (received.Respond frame)) item fl now h f = subst (First t item) (sym h.2) (pushed_first (peer s) t item h.0 fl f)
-back_first s t (Ok (received.Released n)) item fl now h f = subst (First t item) (sym h) f
-back_first s t (Ok (received.Up agg)) item fl now h f = subst (First t item) (sym h) f
+back_first s t a item fl now h f = subst (First t item) (sym h) f
 
 put_first : (s : Side) (xs : List ItemValue) (item : ItemValue) (fl : Side → List ItemValue) → First (peer s) item fl
     → First (peer s) item (put s xs fl)
@@ -111,9 +66,8 @@ put_first Two xs item fl h = h
 
 collects_in : (m : MuxState) (c : Choice) → m ≡ CollectingDistributing → is_selected c ≡ true
     → (agg : AggId) × ((if same_mux_state CollectingDistributing m then selected_aggregator c else None) ≡ Some agg)
-collects_in m Unselected e h = absurd (true≢false (sym h))
-collects_in m (Standby agg) e h = absurd (true≢false (sym h))
 collects_in m (Selected agg) e h = (agg, ap (λ (n : MuxState). if same_mux_state CollectingDistributing n then Some agg else None) e)
+collects_in m c e h = absurd (true≢false (sym h))
 
 -- at some event of a run
 
@@ -122,12 +76,11 @@ until : (gives : Algorithms) (P : WorldState → Event → Reply → Type 0) (I 
     → (es : List Event) (rs : List Reply) (old new : WorldState) → AllByRecursion Is es → (run : WorldRuns gives old es rs new)
     → I old → Sometime P gives es rs old new run ⊎ I new
 until gives P I Is k [] [] old new a run m = inr (subst I (sym run) m)
-until gives P I Is k [] (r ∷ rs) old new a run m = absurd run
-until gives P I Is k (e ∷ es) [] old new a run m = absurd run
 until gives P I Is k (e ∷ es) (r ∷ rs) old new a run m = elim (k e r old run.0 a.0 run.1 m) [
   | inl p ↦ inl (inl p)
   | inr i ↦ elim (until gives P I Is k es rs run.0 new a.1 run.2 i) [ inl p ↦ inl (inr p) | inr n ↦ inr n ]
 ]
+until gives P I Is k es rs old new a run m = absurd run
 
 -- the event asks a port, or brings an item
 abbrev AsksOrDelivers : Event → Type 0
@@ -173,9 +126,7 @@ module _ (gives : Algorithms) (s : Side) (i : ℕ) (l : LinkState) (w : Side →
   ticks_on : (q r : Reply) (old mid new : WorldState) → WorldSteps gives old (event.Tick 1 1) q mid → WorldSteps gives mid (event.Tick 2 1) r new
       → Ends c old → OnItsWay s l item start old → Flies new
   ticks_on q r old mid new h k e f =
-      let one = ticks gives 1 One q old mid refl h in
-      let two = ticks gives 2 Two r mid new refl k in
-      let same = two.links ∙ one.links in (
+      let same = (ticks gives 2 Two r mid new refl k).links ∙ (ticks gives 1 One q old mid refl h).links in (
         tick_both gives 2 at w c (peer s) PartnerInSync PartnerInSync q r old mid new fits along
             (λ p z run rest a y. ticks_partner 2 (w (peer s)) (w (peer (peer s))) (c (peer s)) p z (let m = some (peer s) in omega (arith, m)) run a y)
             h k e,

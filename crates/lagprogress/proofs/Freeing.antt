@@ -1,39 +1,32 @@
 -- No conversation stays held on a port of a healthy cable of a bundle.
-use Rattle.lagprogress.proofs.Common.{Bool, Err, List, None, Ok, Option, Result, Some, ap, arith, cond, eqb, false, inl, inr, length, ltb, refl}
-use Rattle.lagprogress.proofs.Common.{slice_get, subst, sym, true, ℕ, ◌&&◌, ◌+◌, ◌-◌, ◌<◌, ◌∙◌, ◌≡◌, ◌≤◌, ◌⊎◌, none-some, same_Some, One, Side, Two}
-use Rattle.lagprogress.proofs.Common.{peer, is_due, Assignment, Flushing, Free, On, Wanted, is_among, after_mark, after_release, after_tick}
-use Rattle.lagprogress.proofs.Common.{marker_due, IsConversation, Table, assignment_of, SystemFault, Received, SystemPort, Receive, Step, Tick}
-use Rattle.lagprogress.proofs.Common.{Transmit, aggregator_numbered, distributing, SendsMarkerOf, TransmitsAt, TransmitsIf, Settling, held_unless_on}
-use Rattle.lagprogress.proofs.Common.{SystemState, port_index, ports_table, settling_parts, TableChanges, table_changes, Reply, Algorithms}
-use Rattle.lagprogress.proofs.Common.{WorldSteps, LinkState, WorldState, half, port_at, BothAreActive, IsBundle, OneIsActive, CarriersAreUp}
-use Rattle.lagprogress.proofs.Common.{HasIdentifierLeft, NoneIsHeld, NoneIsHeldOn, NoneIsHeldOnActiveEnds, NoneIsHeldOnEnds, NoneIsHeldWhereActive}
-use Rattle.lagprogress.proofs.Common.{NothingIsHeld, carrier_of, held_on, IsHealthyAt, IsRound, Rounds, asks_all}
-use Rattle.lagprogress.proofs.OneCable.{came_off, emits, ticks}
+use Rattle.lagprogress.proofs.Common.{Bool, List, None, Option, Some, ap, arith, cond, eqb, false, inl, inr, length, ltb, refl, subst, sym, true, ℕ}
+use Rattle.lagprogress.proofs.Common.{◌&&◌, ◌+◌, ◌-◌, ◌<◌, ◌∙◌, ◌≡◌, ◌≤◌, ◌⊎◌, none-some, same_Some, One, Side, Assignment, Flushing, Free, On}
+use Rattle.lagprogress.proofs.Common.{Wanted, is_among, after_mark, after_release, after_tick, IsConversation, Table, assignment_of, held_unless_on}
+use Rattle.lagprogress.proofs.Common.{SystemState, Reply, Algorithms, WorldSteps, LinkState, WorldState, half, port_at, BothAreActive, IsBundle}
+use Rattle.lagprogress.proofs.Common.{OneIsActive, CarriersAreUp, HasIdentifierLeft, NoneIsHeld, NoneIsHeldOn, NoneIsHeldOnActiveEnds}
+use Rattle.lagprogress.proofs.Common.{NoneIsHeldOnEnds, NoneIsHeldWhereActive, NothingIsHeld, carrier_of, held_on, IsHealthyAt, IsRound, Rounds}
+use Rattle.lagprogress.proofs.RoundEvents.{asked_half, came_half, round_on, ticks_first}
 use Rattle.lagprogress.proofs.EachRound.{rounds_steady}
 use Rattle.lagsystem.specs.declared.drive.Reply.TheVariants as answer
 use Rattle.lagscript.specs.declared.event.Event.TheVariants as event
-use Rattle.lagprogress.proofs.Bundling.{IsMixed, Nowhere, both_meet, both_wake, ends_at, holds_of, mixed, one_meet, one_wakes, rounds_keep, ups_of}
-use Rattle.lagprogress.proofs.Climbing.{PartnerInSync, Ripe}
+use Rattle.lagprogress.proofs.Bundling.{Meets, Nowhere, awake_of, both_active, one_active, rounds_keep, said, ups_of}
+use Rattle.lagprogress.proofs.Climbing.{PartnerInSync}
 use Rattle.lagprogress.proofs.ComingUp.{Up, at_end, end_here, splits, told, zero_on}
-use Rattle.lagprogress.proofs.EndFacts.{activity}
 use Rattle.lagprogress.proofs.Emptying.{rounds_rest}
 use Rattle.lagprogress.proofs.Holding.{Fine, is_port}
-use Rattle.lagprogress.proofs.Linked.{each_both, each_map, each_side}
+use Rattle.lagprogress.proofs.Linked.{each_both, each_map}
 use Rattle.lagprogress.proofs.OnePort.{AtPort}
-use Rattle.lagprogress.proofs.OneRound.{Nothing, all_ask, ask_all, deliver_all, unroll}
-use Rattle.lagprogress.proofs.Progressing.{Fresh, said_by}
+use Rattle.lagprogress.proofs.TableSteps.{Turning, Turns, asks_turn, comes_turn, same_turns, ticks_turn, turns_through}
+use Rattle.lagprogress.proofs.OneRound.{Nothing, unroll}
 
 -- at first a marker may be wanted, and any response may be waited for
 fine_first : (p : ℕ) (a : Assignment) → Fine p 0 (Unit {0}) (λ id. ⊥) a
-fine_first p (Free preferred) = tt
-fine_first p (On q) = tt
 fine_first p (Wanted q preferred) = λ e. tt
 fine_first p (Flushing q id preferred age) = λ e. inl (omega arith, λ l. absurd (omega (arith, l)))
+fine_first p a = tt
 
 -- in the end none is held on the port
 fine_last : (p m : ℕ) → 30 ≤ m → (a : Assignment) → Fine p m ⊥ (λ id. ⊥) a → held_on a ≡ Some p → ⊥
-fine_last p m l (Free preferred) h e = none-some p e
-fine_last p m l (On q) h e = none-some p e
 fine_last p m l (Wanted q preferred) h e = h (same_Some q p e)
 fine_last p m l (Flushing q id preferred age) h e = elim (h (same_Some q p e)) [
   | inl a ↦ too_old m age l a.0 (a.1 (omega (arith, l)))
@@ -42,33 +35,26 @@ fine_last p m l (Flushing q id preferred age) h e = elim (h (same_Some q p e)) [
   where
     too_old : (m age : ℕ) → 30 ≤ m → m ≤ age → age < 30 → ⊥
     too_old m age a b c = omega (arith, a, b, c)
+fine_last p m l a h e = none-some p e
 
 module _ (Holds : LinkState → WorldState → Type 0) (Other : Side → ℕ → Type 0) (first : ℕ) (gives : Algorithms) (old : WorldState)
-    (b : IsMixed Holds Other old) (never : (s : Side) (i : ℕ) (l : LinkState) → IsHealthyAt i l old → Other s (port_at s l) → ⊥)
-    (idle : (mid top : WorldState) → Rounds gives first old mid → Rounds gives 20 mid top → (s : Side) (k : ℕ) (z y : SystemPort)
-    → slice_get (half s old).state.system_ports k ≡ Some z → z.port.enabled ≡ true → Other s z.number
-    → slice_get (half s top).state.system_ports k ≡ Some y → Ripe 0 y.port)
-    (meets : (i : ℕ) (l : LinkState) (h : IsHealthyAt i l old) → Holds l old → (mid : WorldState) → Rounds gives first old mid
-    → Fresh (λ s. port_at s l) (said_by l old (ends_at i l old h)) mid)
-    (wakes : (i : ℕ) (l : LinkState) (h : IsHealthyAt i l old) → Holds l old → (s : Side)
-    → (activity (said_by l old (ends_at i l old h) s) ≡ true) ⊎ (activity (said_by l old (ends_at i l old h) (peer s)) ≡ true)) where
+    (b : Meets Holds Other first gives old) where
   pub freed_of : (i : ℕ) (l : LinkState) (y : IsHealthyAt i l old) (n : ℕ) (new : WorldState) (s : Side) → first + 61 ≤ n
       → Rounds gives n old new → HasIdentifierLeft (half s new).state → NoneIsHeldOn (port_at s l) (half s new).state
   freed_of i l y n new s enough h left =
       let m = first + 31 in
       let cut = splits gives (n - m) m n old new (omega (arith, enough)) h in
-      from cut.0 (ups_of Holds Other first gives old b never idle meets wakes i l y m cut.0 (omega arith) cut.1) (n - m)
-      (omega (arith, enough)) cut.2
+      from cut.0 (ups_of Holds Other first gives old b i l y m cut.0 (omega arith) cut.1) (n - m) (omega (arith, enough)) cut.2
     where
       at : Side → ℕ
       at = λ t. port_at t l
 
       from : (j : WorldState)
-          → Up (λ t. port_at t l) (said_by l old (ends_at i l old y)) (wakes i l y (holds_of Holds Other first gives old b never idle meets wakes i l y)) j
+          → Up (λ t. port_at t l) (said old i l y) (awake_of Holds Other first gives old b i l y) j
           → (k : ℕ) → 30 ≤ k → Rounds gives k j new → NoneIsHeldOn (port_at s l) (half s new).state
       from j up k late rounds =
-          let w = said_by l old (ends_at i l old y) in
-          let awake = wakes i l y (holds_of Holds Other first gives old b never idle meets wakes i l y) in
+          let w = said old i l y in
+          let awake = awake_of Holds Other first gives old b i l y in
           let g = up.2.fresh in
           let e = end_here (λ t. port_at t l) w 2 g.known One Nothing j g.link s in
           let c = e.port.port.choice in
@@ -91,13 +77,11 @@ module _ (Holds : LinkState → WorldState → Type 0) (Other : Side → ℕ →
 
 pub none_is_held_on_ends : (gives : Algorithms) → NoneIsHeldOnEnds gives
 none_is_held_on_ends gives n i l old new s b y enough h left =
-    freed_of OneIsActive Nowhere 630 gives old (mixed OneIsActive 630 gives old b (one_meet gives old b) (one_wakes old)) (λ s i l h o. o)
-    (λ mid top h more s k z y there up o now. absurd o) (one_meet gives old b) (one_wakes old) i l y n new s (omega (arith, enough)) h left
+    freed_of OneIsActive Nowhere 630 gives old (one_active gives old b) i l y n new s (omega (arith, enough)) h left
 
 pub none_is_held_on_active_ends : (gives : Algorithms) → NoneIsHeldOnActiveEnds gives
 none_is_held_on_active_ends gives n i l old new s b y enough h left =
-    freed_of BothAreActive Nowhere 321 gives old (mixed BothAreActive 321 gives old b (both_meet gives old b) (both_wake old)) (λ s i l h o. o)
-    (λ mid top h more s k z y there up o now. absurd o) (both_meet gives old b) (both_wake old) i l y n new s (omega (arith, enough)) h left
+    freed_of BothAreActive Nowhere 321 gives old (both_active gives old b) i l y n new s (omega (arith, enough)) h left
 
 -- what carries a conversation in a round
 
@@ -105,143 +89,79 @@ none_is_held_on_active_ends gives n i l old new s b y enough h left =
 abbrev pub Stays : Assignment → Assignment → Type 0
 Stays a b = (carrier_of b ≡ None) ⊎ (carrier_of b ≡ carrier_of a)
 
-pub stays_through : (a b d : Assignment) → Stays a b → Stays b d → Stays a d
+stays_through : (a b d : Assignment) → Stays a b → Stays b d → Stays a d
 stays_through a b d h (inl e) = inl e
 stays_through a b d (inl e) (inr f) = inl (f ∙ e)
 stays_through a b d (inr e) (inr f) = inr (f ∙ e)
 
-pub stays_tick : (a : Assignment) → Stays a (after_tick a)
-stays_tick (Free preferred) = inr refl
-stays_tick (On q) = inr refl
-stays_tick (Wanted q preferred) = inr refl
+stays_tick : (a : Assignment) → Stays a (after_tick a)
 stays_tick (Flushing q n preferred age) = by_test (ltb (age + 1) 30)
   where
     by_test : (b : Bool) → Stays (Flushing q n preferred age) (cond b (Flushing q n preferred (age + 1)) (Wanted q preferred))
     by_test true = inr refl
     by_test false = inr refl
+stays_tick a = inr refl
 
-pub stays_mark : (port id : ℕ) (a : Assignment) → Stays a (after_mark port id a)
-stays_mark port id (Free preferred) = inr refl
-stays_mark port id (On q) = inr refl
-stays_mark port id (Flushing q n preferred age) = inr refl
+stays_mark : (port id : ℕ) (a : Assignment) → Stays a (after_mark port id a)
 stays_mark port id (Wanted q preferred) = by_test (eqb q port) refl
   where
     by_test : (b : Bool) → eqb q port ≡ b → Stays (Wanted q preferred) (cond b (Flushing port id preferred 0) (Wanted q preferred))
     by_test true e = inr (ap (λ (n : ℕ). Some n) (sym (is_port q port e)))
     by_test false e = inr refl
+stays_mark port id a = inr refl
 
-pub stays_release : (port id : ℕ) (a : Assignment) → Stays a (after_release port id a)
-stays_release port id (Free preferred) = inr refl
-stays_release port id (On q) = inr refl
-stays_release port id (Wanted q preferred) = inr refl
+stays_release : (port id : ℕ) (a : Assignment) → Stays a (after_release port id a)
 stays_release port id (Flushing q n preferred age) = by_test (eqb q port && eqb n id)
   where
     by_test : (b : Bool) → Stays (Flushing q n preferred age) (cond b (Free preferred) (Flushing q n preferred age))
     by_test true = inl refl
     by_test false = inr refl
+stays_release port id a = inr refl
 
-pub stays_held : (ports : List ℕ) (a : Assignment) → Stays a (held_unless_on ports a)
-stays_held ports (Free preferred) = inr refl
-stays_held ports (Wanted q preferred) = inr refl
-stays_held ports (Flushing q n preferred age) = inr refl
+stays_held : (ports : List ℕ) (a : Assignment) → Stays a (held_unless_on ports a)
 stays_held ports (On q) = by_test (is_among ports q)
   where
     by_test : (b : Bool) → Stays (On q) (cond b (On q) (Wanted q None))
     by_test true = inr refl
     by_test false = inr refl
+stays_held ports a = inr refl
 
-abbrev pub TableStays : Table → Table → Type 0
-TableStays t u = (g k : ℕ) → Stays (assignment_of t g k) (assignment_of u g k)
-
-pub table_same : (old new : SystemState) → new.table ≡ old.table → TableStays old.table new.table
-table_same old new e g k = inr (ap (λ t. carrier_of (assignment_of t g k)) e)
-
-pub table_by : (f : Assignment → Assignment) (t u : Table) → ((g k : ℕ) → assignment_of u g k ≡ f (assignment_of t g k))
-    → ((a : Assignment) → Stays a (f a)) → TableStays t u
-table_by f t u h k g c = subst (Stays (assignment_of t g c)) (sym (h g c)) (k (assignment_of t g c))
-
-pub table_through : (t u v : Table) → TableStays t u → TableStays u v → TableStays t v
-table_through t u v a b g k = stays_through (assignment_of t g k) (assignment_of u g k) (assignment_of v g k) (a g k) (b g k)
-
-pub settles_stay : (old new : SystemState) → Settling old new → TableStays old.table new.table
-settles_stay old new h g k =
-    let q = settling_parts old new h in
-    subst (λ t. Stays (assignment_of t g k) (assignment_of new.table g k)) (ports_table old q.0 q.1)
-    (subst (Stays (assignment_of q.0.table g k)) (sym (q.2.states g k))
-    (stays_held (distributing (aggregator_numbered g) q.0.system_ports) (assignment_of q.0.table g k)))
-
-marks_stay : (o : Option ℕ) (port : ℕ) (mac : List ℕ) (old : SystemState) (a : Option (List ℕ)) (new : SystemState)
-    → SendsMarkerOf o port mac old a new → TableStays old.table new.table
-marks_stay None port mac old a new h = table_same old new (ap (λ (s : SystemState). s.table) h.1)
-marks_stay (Some id) port mac old a new h = table_by (after_mark port id) old.table new.table h.4.states (stays_mark port id)
-
-sends_stay : (up due : Bool) (i : ℕ) (z : SystemPort) (old : SystemState) (a : Option (List ℕ)) (new : SystemState)
-    → TransmitsIf up due i z old a new → TableStays old.table new.table
-sends_stay false due i z old a new h = table_same old new (ap (λ (s : SystemState). s.table) h.1)
-sends_stay true true i z old a new h = table_same old new (ap (λ (s : SystemState). s.table) h.3)
-sends_stay true false i z old a new h = marks_stay (marker_due old.table z.number) z.number z.mac old a new h
-
-transmits_stay : (o : Option ℕ) (old : SystemState) (a : Option (List ℕ)) (new : SystemState) → TransmitsAt o old a new
-    → TableStays old.table new.table
-transmits_stay None old a new h = absurd h
-transmits_stay (Some i) old a new h = sends_stay h.0.port.enabled (is_due h.0.port) i h.0 old a new h.2
-
-pub asks_stay : (gives : ℕ → ℕ → ℕ → Type 0) (n : ℕ) (a : Result (Option (List ℕ)) SystemFault) (old new : SystemState)
-    → Step gives old (Transmit n) (answer.Transmit a) new → TableStays old.table new.table
-asks_stay gives n (Err fault) old new h = table_same old new (ap (λ (s : SystemState). s.table) h.same)
-asks_stay gives n (Ok o) old new h = transmits_stay (port_index n old.system_ports) old o new h
-
-changes_stay : (index : Option ℕ) (old new : SystemState) → TableChanges index old new → TableStays old.table new.table
-changes_stay index old new (inl x) =
-    table_through old.table x.1.0.table new.table (table_same old x.1.0 (ap (λ (s : SystemState). s.table) x.1.1.1))
-    (settles_stay x.1.0 new x.1.2)
-changes_stay index old new (inr (inl z)) = table_by (after_release z.0 z.1) old.table new.table z.2.states (stays_release z.0 z.1)
-changes_stay index old new (inr (inr e)) = table_same old new e
-
-pub comes_stay : (gives : ℕ → ℕ → ℕ → Type 0) (n : ℕ) (octets : List ℕ) (a : Result Received SystemFault) (old new : SystemState)
-    → Step gives old (Receive n octets) (answer.Receive a) new → TableStays old.table new.table
-comes_stay gives n octets (Err fault) old new h = table_same old new (ap (λ (s : SystemState). s.table) h.same)
-comes_stay gives n octets (Ok o) old new h =
-    changes_stay (port_index n old.system_ports) old new (table_changes h.1 h.0.number (port_index n old.system_ports) old o new h.4)
-
-pub ticks_stay : (gives : ℕ → ℕ → ℕ → Type 0) (old new : SystemState) → Step gives old Tick answer.Tick new → TableStays old.table new.table
-ticks_stay gives old new h = table_through old.table h.0.table new.table
-    (table_by after_tick old.table h.0.table h.1.1.states stays_tick) (settles_stay h.0 new h.2)
+pub stays : Turning Stays
+stays = record {
+  same = λ a. inr refl;
+  through = stays_through;
+  tick = stays_tick;
+  mark = stays_mark;
+  release = stays_release;
+  held = stays_held;
+}
 
 abbrev WorldStays : Side → WorldState → WorldState → Type 0
-WorldStays s i j = TableStays (half s i).state.table (half s j).state.table
+WorldStays s i j = Turns Stays stays (half s i).state.table (half s j).state.table
 
 world_same : (s : Side) (i j : WorldState) → (half s j).state ≡ (half s i).state → WorldStays s i j
-world_same s i j e = table_same (half s i).state (half s j).state (ap (λ (t : SystemState). t.table) e)
+world_same s i j e = same_turns Stays stays (half s i).state (half s j).state (ap (λ (t : SystemState). t.table) e)
 
 world_through : (s : Side) (i j k : WorldState) → WorldStays s i j → WorldStays s j k → WorldStays s i k
-world_through s i j k a b = table_through (half s i).state.table (half s j).state.table (half s k).state.table a b
+world_through s i j k a b = turns_through Stays stays (half s i).state.table (half s j).state.table (half s k).state.table a b
 
 round_stays : (s : Side) (gives : Algorithms) (old new : WorldState) → IsRound gives old new → WorldStays s old new
 round_stays s gives old new h =
     let u = unroll gives old new h in
-    let one = ticks gives 1 One u.tick_one.0 old u.one refl u.tick_one.1 in
-    let two = ticks gives 2 Two u.tick_two.0 u.one u.two refl u.tick_two.1 in
-    let first : (t : Side) → WorldStays t old u.two = each_side (λ t. WorldStays t old u.two) One
-    (world_through One old u.one u.two (ticks_stay (gives One) old.one.state u.one.one.state one.step) (world_same One u.one u.two two.peers))
-    (world_through Two old u.one u.two (world_same Two old u.one one.peers) (ticks_stay (gives Two) u.one.two.state u.two.two.state two.step)) in
-    let six = ask_all gives (WorldStays s old) (λ n p r i j step k. world_through s old i j k (asked n p r i j step))
-    (asks_all old.links) u.asked u.two u.six (all_ask old.links) u.asks (first s) in
-    deliver_all gives (WorldStays s old) (λ c n r i j step k. world_through s old i j k (delivered c n r i j step))
-    u.delivers u.replies u.six new u.arrives u.rest six
+    round_on gives (WorldStays s old) (λ n p r i j step k. world_through s old i j k (asked n p r i j step))
+    (λ c n r i j step k. world_through s old i j k (delivered c n r i j step)) old new u
+    (ticks_turn Stays stays (gives s) (half s old).state (half s u.two).state ((ticks_first gives old new u).step s))
   where
     asked : (n p : ℕ) (r : Reply) (i j : WorldState) → WorldSteps gives i (event.Emit n p) r j → WorldStays s i j
-    asked n p r i j h =
-        let m = emits gives n p r i j h in
-        each_side (λ t. WorldStays t i j) m.0 (asks_stay (gives m.0) p m.2.a (half m.0 i).state (half m.0 j).state m.2.promise.step)
-        (world_same (peer m.0) i j m.2.peers) s
+    asked n p r i j h = elim (asked_half gives n p r i j h s) [
+      | inl same ↦ world_same s i j same
+      | inr (a, step) ↦ asks_turn Stays stays (gives s) p a (half s i).state (half s j).state step
+    ]
 
     delivered : (c n : ℕ) (r : Reply) (i j : WorldState) → WorldSteps gives i (event.Deliver c n) r j → WorldStays s i j
-    delivered c n r i j h = elim (came_off gives c n r i j h) [
-      | inl m ↦ each_side (λ t. WorldStays t i j) m.side
-          (comes_stay (gives m.side) (port_at m.side m.link) m.comes.item.octets m.comes.a (half m.side i).state (half m.side j).state
-          m.comes.promise.step) (world_same (peer m.side) i j m.comes.peers) s
-      | inr m ↦ world_same s i j (m.halves s)
+    delivered c n r i j h = elim (came_half gives c n r i j h s) [
+      | inl same ↦ world_same s i j same
+      | inr (k, l, there, m) ↦ comes_turn Stays stays (gives s) (port_at s l) m.item.octets m.a (half s i).state (half s j).state m.promise.step
     ]
 
 rounds_stay : (s : Side) (gives : Algorithms) (n : ℕ) (old new : WorldState) → Rounds gives n old new → WorldStays s old new
@@ -249,10 +169,8 @@ rounds_stay s gives n old new h = zero_on gives (λ m j. WorldStays s old j) old
     (λ m i j q k. world_through s old i j k (round_stays s gives i j q)) n new h
 
 pub held_carries : (a : Assignment) (p : ℕ) → held_on a ≡ Some p → carrier_of a ≡ Some p
-held_carries (Free preferred) p e = absurd (none-some p e)
 held_carries (On q) p e = absurd (none-some p e)
-held_carries (Wanted q preferred) p e = e
-held_carries (Flushing q id preferred age) p e = e
+held_carries a p e = e
 
 -- so all that is held is held on ends of healthy cables
 

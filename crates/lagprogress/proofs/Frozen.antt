@@ -1,64 +1,47 @@
 -- Selected stays what it is in the rounds of a world in which each end of a healthy cable knows its partner.
 use Rattle.lagprogress.proofs.Common.{Err, List, None, Ok, Option, Result, Some, ap, arith, inl, inr, refl, slice_get, subst, sym, true, ℕ, ◌∙◌, ◌≡◌}
-use Rattle.lagprogress.proofs.Common.{◌≤◌, ◌⊎◌, cases_Bool, none-some, same_Some, AllByRecursion, Choice, Lacpdu, One, Side, Two, peer, Machines}
-use Rattle.lagprogress.proofs.Common.{receive_rows, RunsToRest, count_down, PortConfig, SystemFault, Received, SystemPort, Carries, IsFrame}
-use Rattle.lagprogress.proofs.Common.{OnlyPortChangesBy, ProcessesLacpdu, Receive, ReceivesAt, Step, ThenSettles, Tick, Transmit, configured_numbers}
-use Rattle.lagprogress.proofs.Common.{none_enabled, CallPromise, SystemState, aggregators_value, port_index, port_numbers, processes_or_stays, rests}
-use Rattle.lagprogress.proofs.Common.{all-get, found_place, Event, Reply, Algorithms, WorldSteps, LinkState, WorldState, half, port_at, towards}
-use Rattle.lagprogress.proofs.Common.{AllHeard, IsHealthyAt, IsRound, Rounds, asks_all, IsSteady}
+use Rattle.lagprogress.proofs.Common.{◌≤◌, cases_Bool, none-some, same_Some, AllByRecursion, Choice, Lacpdu, One, Side, peer, Machines, receive_rows}
+use Rattle.lagprogress.proofs.Common.{RunsToRest, count_down, PortConfig, SystemFault, Received, SystemPort, Carries, IsFrame, OnlyPortChangesBy}
+use Rattle.lagprogress.proofs.Common.{ProcessesLacpdu, Receive, ReceivesAt, ThenSettles, Tick, configured_numbers, none_enabled, CallPromise}
+use Rattle.lagprogress.proofs.Common.{SystemState, aggregators_value, port_index, port_numbers, processes_or_stays, rests, all-get, found_place}
+use Rattle.lagprogress.proofs.Common.{Event, Reply, Algorithms, WorldSteps, LinkState, WorldState, half, port_at, towards, AllHeard, EndsHealthyCable}
+use Rattle.lagprogress.proofs.Common.{IsHealthyAt, IsRound, Rounds, IsSteady}
 use Rattle.slowpdu.specs.declared.pdu.Pdu.TheVariants as pdu
 use Rattle.lagsystem.specs.declared.drive.Reply.TheVariants as answer
 use Rattle.lagscript.specs.declared.event.Event.TheVariants as event
-use Rattle.lagprogress.proofs.Bundling.{Alike, alike_keeps, alike_ticks, all_by_place, ends_at, old_port}
+use Rattle.lagprogress.proofs.Bundling.{Alike, Awake, alike_keeps, alike_ticks, all_by_place, old_port, said}
 use Rattle.lagprogress.proofs.Choosing.{AllAsRead, AsRead, Chose, down_as_read, down_still, one_as_read, settles_choice, takes_as_read, zip_as_read}
 use Rattle.lagprogress.proofs.Climbing.{ticks_still}
 use Rattle.lagprogress.proofs.ComingUp.{calls_keep, zero_on}
 use Rattle.lagprogress.proofs.Delivering.{deliver_link}
-use Rattle.lagprogress.proofs.EachPort.{OfEach, transmits_each}
-use Rattle.lagprogress.proofs.EachRound.{EachAt, asks_each, delivers_each, ticks_each}
-use Rattle.lagprogress.proofs.EndFacts.{nothing_along, activity}
+use Rattle.lagprogress.proofs.EachPort.{OfEach, asked_each}
+use Rattle.lagprogress.proofs.EachRound.{EachAt, asks_each, delivers_each}
+use Rattle.lagprogress.proofs.EndFacts.{nothing_along}
 use Rattle.lagprogress.proofs.Halves.{each_is_calls, keeps_steady}
-use Rattle.lagprogress.proofs.Linked.{EndIs, Fits, IsGood, Link, arrival, each_side, emit_any}
-use Rattle.lagprogress.proofs.OneCable.{Comes, alone, cable, came_off, emits, ticks, towards_there}
+use Rattle.lagprogress.proofs.Linked.{EndIs, Fits, IsGood, Link, arrival, emit_any}
+use Rattle.lagprogress.proofs.OneCable.{Comes, alone, cable, towards_there}
 use Rattle.lagprogress.proofs.OnePort.{AtPort}
-use Rattle.lagprogress.proofs.OneRound.{Nothing, Unrolled, all_ask, ask_all, deliver_all, tick_both, ticked, unroll}
-use Rattle.lagprogress.proofs.Progressing.{Fresh, fits_fresh, knows_peer, said_by, stays_fresh}
-
-both_tick : (gives : Algorithms) (t : Side) (old new : WorldState) (u : Unrolled gives old new)
-    → Step (gives t) (half t old).state Tick answer.Tick (half t u.two).state
-both_tick gives t old new u =
-    let one = ticks gives 1 One u.tick_one.0 old u.one refl u.tick_one.1 in
-    let two = ticks gives 2 Two u.tick_two.0 u.one u.two refl u.tick_two.1 in
-    each_side (λ t. Step (gives t) (half t old).state Tick answer.Tick (half t u.two).state) One
-    (subst (λ z. Step (gives One) old.one.state Tick answer.Tick z) (sym two.peers) one.step)
-    (subst (λ z. Step (gives Two) z Tick answer.Tick u.two.two.state) one.peers two.step) t
-
--- a port that is asked
-
-asked_choice : (gives : ℕ → ℕ → ℕ → Type 0) (q : ℕ) (a : Result (Option (List ℕ)) SystemFault) (old new : SystemState) (n : ℕ) (c : Choice)
-    → Step gives old (Transmit q) (answer.Transmit a) new → OfEach (Chose n c) old.system_ports → OfEach (Chose n c) new.system_ports
-asked_choice gives q (Err fault) old new n c h a = subst (λ (s : SystemState). OfEach (Chose n c) s.system_ports) (sym h.same) a
-asked_choice gives q (Ok o) old new n c h a =
-    transmits_each (Chose n c) q (port_index q old.system_ports) old o new (λ p told b e. b e) refl h a
+use Rattle.lagprogress.proofs.OneRound.{Nothing, Unrolled, tick_both, ticked, unroll}
+use Rattle.lagprogress.proofs.RoundEvents.{asked_half, came_half, round_on, ticks_each, ticks_first}
+use Rattle.lagprogress.proofs.Progressing.{Fresh, fits_fresh, knows_peer, stays_fresh}
 
 module _ (Holds : LinkState → WorldState → Type 0) (gives : Algorithms) (old : WorldState) (heard : AllHeard Holds old)
-    (wakes : (i : ℕ) (l : LinkState) (h : IsHealthyAt i l old) → (s : Side)
-    → (activity (said_by l old (ends_at i l old h) s) ≡ true) ⊎ (activity (said_by l old (ends_at i l old h) (peer s)) ≡ true)) where
+    (wakes : (i : ℕ) (l : LinkState) (h : IsHealthyAt i l old) → Awake old i l h) where
   -- of each healthy cable
   abbrev pub OfCables : ((i : ℕ) (l : LinkState) → IsHealthyAt i l old → Type 0) → Type 0
   OfCables X = (i : ℕ) (l : LinkState) (y : IsHealthyAt i l old) → X i l y
 
   abbrev pub AllFresh : WorldState → Type 0
-  AllFresh j = OfCables (λ i l y. Fresh (λ t. port_at t l) (said_by l old (ends_at i l old y)) j)
+  AllFresh j = OfCables (λ i l y. Fresh (λ t. port_at t l) (said old i l y) j)
 
   abbrev Known : Type 0
   Known = OfCables (λ i l y. Side → ℕ)
 
   abbrev AllLinked : Known → WorldState → Type 0
-  AllLinked kn j = OfCables (λ i l y. Link 1 (λ t. port_at t l) (said_by l old (ends_at i l old y)) (kn i l y) One Nothing j)
+  AllLinked kn j = OfCables (λ i l y. Link 1 (λ t. port_at t l) (said old i l y) (kn i l y) One Nothing j)
 
   abbrev AllFit : Known → Type 0
-  AllFit kn = OfCables (λ i l y. Fits 1 (said_by l old (ends_at i l old y)) (kn i l y) × ((t : Side) → 1 ≤ kn i l y t))
+  AllFit kn = OfCables (λ i l y. Fits 1 (said old i l y) (kn i l y) × ((t : Side) → 1 ≤ kn i l y t))
 
   -- what stays of both systems
   pub record Stands (j : WorldState) : Type 0 where
@@ -79,22 +62,15 @@ module _ (Holds : LinkState → WorldState → Type 0) (gives : Algorithms) (old
       calls_keep (List PortConfig) (λ x. x.ports) (λ x a b. refl) (gives t) (half t i).state (half t j).state c.0 c.1 c.2 ∙ s t
 
   -- a port whose link is up ends a healthy cable
-  pub record OnCableOf (t : Side) (j : WorldState) (number : ℕ) : Type 0 where
-    pub index : ℕ
-    pub link : LinkState
-    pub healthy : IsHealthyAt index link old
-    pub joins : port_at t link ≡ number
-
   pub on_cable : (t : Side) (j : WorldState) (k : ℕ) (z : SystemPort) → IsSteady old → Stands j → slice_get (half t j).state.system_ports k ≡ Some z
-      → z.port.enabled ≡ true → OnCableOf t j z.number
+      → z.port.enabled ≡ true → EndsHealthyCable Holds t z.number old
   on_cable t j k z start s there up =
       let numbers : port_numbers (half t j).state.system_ports ≡ port_numbers (half t old).state.system_ports =
       (s.steady t).0.ports.same ∙ (ap configured_numbers (s.config t) ∙ sym (start t).0.ports.same) in
       let x = old_port (half t old).state.system_ports (half t j).state.system_ports k z numbers there in
       let like = all-get (λ (y : SystemPort). AtPort x.0.number (Alike x.0.port) y.number y.port) (half t j).state.system_ports k z there
       (s.alike t k x.0 x.1) x.2 in
-      let it = heard t k x.0 x.1 (sym like.1 ∙ up) in
-      record { index = it.index; link = it.link; healthy = it.healthy; joins = it.joins ∙ sym x.2 }
+      subst (λ n. EndsHealthyCable Holds t n old) (sym x.2) (heard t k x.0 x.1 (sym like.1 ∙ up))
 
   module _ (start : IsSteady old) where
     -- an item comes to a port
@@ -128,7 +104,7 @@ module _ (Holds : LinkState → WorldState → Type 0) (gives : Algorithms) (old
         up_read kk z v there number up carried p does =
             let o = on_cable t i kk z start s there up in
             let at : Side → ℕ = λ u. port_at u o.link in
-            let w = said_by o.link old (ends_at o.index o.link old o.healthy) in
+            let w = said old o.index o.link o.healthy in
             let link = links o.index o.link o.healthy in
             let fit = fits o.index o.link o.healthy in
             let end = (all-get (λ (y : SystemPort). AtPort (at t) (EndIs 1 w (kn o.index o.link o.healthy) One Nothing t) y.number y.port)
@@ -172,36 +148,35 @@ module _ (Holds : LinkState → WorldState → Type 0) (gives : Algorithms) (old
     asked : (kn : Known) (from : WorldState) (n p : ℕ) (r : Reply) (i j : WorldState) → AllFit kn → WorldSteps gives i (event.Emit n p) r j
         → Mid kn from i → Mid kn from j
     asked kn from n p r i j fits h d = record {
-      links = λ x l y. (emit_any gives n p 1 (λ t. port_at t l) (said_by l old (ends_at x l old y)) (kn x l y) One Nothing r i j (fits x l y).0
-          (nothing_along (said_by l old (ends_at x l old y) One) (said_by l old (ends_at x l old y) (peer One)) (kn x l y One) 1) (λ q y. y)
+      links = λ x l y. (emit_any gives n p 1 (λ t. port_at t l) (said old x l y) (kn x l y) One Nothing r i j (fits x l y).0
+          (nothing_along (said old x l y One) (said old x l y (peer One)) (kn x l y One) 1) (λ q y. y)
           (d.links x l y) h).link;
       stands = record {
         steady = keeps_steady gives (event.Emit n p) r i j h d.stands.steady;
         config = config_kept (event.Emit n p) r i j h d.stands.config;
         alike = λ t k x e. asks_each (AtPort x.number (Alike x.port)) (alike_keeps x.number x.port) t gives n p r i j h (d.stands.alike t k x e);
       };
-      chose = λ t k x e. (let m = emits gives n p r i j h in
-          each_side (λ u. EachAt (Chose x.number x.port.choice) u i → EachAt (Chose x.number x.port.choice) u j) m.0
-          (λ a. asked_choice (gives m.0) p m.2.a (half m.0 i).state (half m.0 j).state x.number x.port.choice m.2.promise.step a)
-          (λ a. subst (λ (z : SystemState). OfEach (Chose x.number x.port.choice) z.system_ports) (sym m.2.peers) a) t (d.chose t k x e));
+      chose = λ t k x e. elim (asked_half gives n p r i j h t) [
+        | inl same ↦ subst (λ (z : SystemState). OfEach (Chose x.number x.port.choice) z.system_ports) (sym same) (d.chose t k x e)
+        | inr (a, step) ↦ asked_each (Chose x.number x.port.choice) (λ m q b f. b f) (gives t) p a (half t i).state (half t j).state step
+            (d.chose t k x e)
+      ];
     }
 
     delivered : (kn : Known) (from : WorldState) (cn n : ℕ) (r : Reply) (i j : WorldState) → AllFit kn
         → WorldSteps gives i (event.Deliver cn n) r j → Mid kn from i → Mid kn from j
     delivered kn from cn n r i j fits h d = record {
-      links = λ x l y. (deliver_link gives cn n 1 (λ t. port_at t l) (said_by l old (ends_at x l old y)) (kn x l y) One Nothing r i j (fits x l y).0
-          (nothing_along (said_by l old (ends_at x l old y) One) (said_by l old (ends_at x l old y) (peer One)) (kn x l y One) 1)
+      links = λ x l y. (deliver_link gives cn n 1 (λ t. port_at t l) (said old x l y) (kn x l y) One Nothing r i j (fits x l y).0
+          (nothing_along (said old x l y One) (said old x l y (peer One)) (kn x l y One) 1)
           (d.links x l y) h).link;
       stands = record {
         steady = keeps_steady gives (event.Deliver cn n) r i j h d.stands.steady;
         config = config_kept (event.Deliver cn n) r i j h d.stands.config;
         alike = λ t k x e. delivers_each (AtPort x.number (Alike x.port)) (alike_keeps x.number x.port) t gives cn n r i j h (d.stands.alike t k x e);
       };
-      chose = λ t k x e. elim (came_off gives cn n r i j h) [
-        | inl m ↦ each_side (λ u. EachAt (Chose x.number x.port.choice) u i → EachAt (Chose x.number x.port.choice) u j) m.side
-            (λ a. came_choice kn m.side i j m.index m.link x.number x.port.choice fits d.links d.stands m.there m.comes a)
-            (λ a. subst (λ (z : SystemState). OfEach (Chose x.number x.port.choice) z.system_ports) (sym m.comes.peers) a) t (d.chose t k x e)
-        | inr m ↦ subst (λ (z : SystemState). OfEach (Chose x.number x.port.choice) z.system_ports) (sym (m.halves t)) (d.chose t k x e)
+      chose = λ t k x e. elim (came_half gives cn n r i j h t) [
+        | inl same ↦ subst (λ (z : SystemState). OfEach (Chose x.number x.port.choice) z.system_ports) (sym same) (d.chose t k x e)
+        | inr (q, l, there, comes) ↦ came_choice kn t i j q l x.number x.port.choice fits d.links d.stands there comes (d.chose t k x e)
       ];
     }
 
@@ -209,7 +184,7 @@ module _ (Holds : LinkState → WorldState → Type 0) (gives : Algorithms) (old
     tick_choice : (i j : WorldState) (u : Unrolled gives i j) (t : Side) (n : ℕ) (c : Choice) → AllFresh i → Stands i
         → OfEach (Chose n c) (half t i).state.system_ports → OfEach (Chose n c) (half t u.two).state.system_ports
     tick_choice i j u t n c fresh s a =
-        let h = both_tick gives t i j u in
+        let h = (ticks_first gives i j u).step t in
         settles_choice (half t i).state h.0 (half t u.two).state (s.steady t).0
         (zip_as_read (λ p q. RunsToRest receive_rows (count_down p) q) (half t i).state.system_ports h.0.system_ports
         (all_by_place (λ x. (q : Machines) → RunsToRest receive_rows (count_down x.port) q → AsRead x.port q) (half t i).state.system_ports read)
@@ -223,7 +198,7 @@ module _ (Holds : LinkState → WorldState → Type 0) (gives : Algorithms) (old
         read k x there q run = elim (cases_Bool x.port.enabled) [
           | inl up ↦ (let o = on_cable t i k x start s there up in
               let at : Side → ℕ = λ u. port_at u o.link in
-              let w = said_by o.link old (ends_at o.index o.link old o.healthy) in
+              let w = said old o.index o.link o.healthy in
               let g = fresh o.index o.link o.healthy in
               let l = knows_peer at w 1 0 0 i g (omega arith) t in
               let end = (all-get (λ (y : SystemPort). AtPort (at t) (EndIs 1 w g.known One Nothing t) y.number y.port)
@@ -239,12 +214,12 @@ module _ (Holds : LinkState → WorldState → Type 0) (gives : Algorithms) (old
         let u = unroll gives i j h in
         let kn : Known = λ x l y. ticked (fresh x l y).known in
         let fits : AllFit kn = λ x l y. (
-          fits_fresh (λ t. port_at t l) (said_by l old (ends_at x l old y)) (wakes x l y) 1 i (fresh x l y) (omega arith),
-          λ t. (let m = knows_peer (λ t. port_at t l) (said_by l old (ends_at x l old y)) 1 0 0 i (fresh x l y) (omega arith) t in omega (arith, m)),
+          fits_fresh (λ t. port_at t l) (said old x l y) (wakes x l y) 1 i (fresh x l y) (omega arith),
+          λ t. (let m = knows_peer (λ t. port_at t l) (said old x l y) 1 0 0 i (fresh x l y) (omega arith) t in omega (arith, m)),
         ) in
         let first = keeps_steady gives (event.Tick 1 1) u.tick_one.0 i u.one u.tick_one.1 s.steady in
         let two : Mid kn from u.two = record {
-          links = λ x l y. (let w = said_by l old (ends_at x l old y) in
+          links = λ x l y. (let w = said old x l y in
               let g = fresh x l y in
               tick_both gives 1 (λ t. port_at t l) w g.known One Nothing Nothing u.tick_one.0 u.tick_two.0 i u.one u.two (fits x l y).0
               (nothing_along (w One) (w (peer One)) (kn x l y One) 1) (λ p q run rest a z. z) u.tick_one.1 u.tick_two.1 g.link);
@@ -252,15 +227,13 @@ module _ (Holds : LinkState → WorldState → Type 0) (gives : Algorithms) (old
             steady = keeps_steady gives (event.Tick 2 1) u.tick_two.0 u.one u.two u.tick_two.1 first;
             config = config_kept (event.Tick 2 1) u.tick_two.0 u.one u.two u.tick_two.1
                 (config_kept (event.Tick 1 1) u.tick_one.0 i u.one u.tick_one.1 s.config);
-            alike = λ t k x e. ticks_each (AtPort x.number (Alike x.port)) (AtPort x.number (Alike x.port)) (alike_keeps x.number x.port)
+            alike = λ t k x e. ticks_each (AtPort x.number (Alike x.port)) (AtPort x.number (Alike x.port)) (alike_keeps x.number x.port).settles
                 (alike_ticks x.number x.port) t gives i j u (s.alike t k x e);
           };
           chose = λ t k x e. tick_choice i j u t x.number x.port.choice fresh s (chose t k x e);
         } in
-        let six = ask_all gives (Mid kn from) (λ n p r a b step d. asked kn from n p r a b fits step d)
-        (asks_all i.links) u.asked u.two u.six (all_ask i.links) u.asks two in
-        let end = deliver_all gives (Mid kn from) (λ cn n r a b step d. delivered kn from cn n r a b fits step d)
-        u.delivers u.replies u.six j u.arrives u.rest six in
+        let end = round_on gives (Mid kn from) (λ n p r a b step d. asked kn from n p r a b fits step d)
+        (λ cn n r a b step d. delivered kn from cn n r a b fits step d) i j u two in
         (end.stands, end.chose)
 
     -- so many rounds
@@ -268,7 +241,7 @@ module _ (Holds : LinkState → WorldState → Type 0) (gives : Algorithms) (old
         → AllFresh j × Stands j × AllChose from j
     choice_rounds n from j fresh s chose h = zero_on gives (λ m k. AllFresh k × Stands k × AllChose from k) from (fresh, s, chose)
         (λ m a b q d. (let e = choice_round from a b q d.0 d.1 d.2 in (
-          λ x l y. stays_fresh (λ t. port_at t l) (said_by l old (ends_at x l old y)) (wakes x l y) gives 1 a b (omega arith) q (d.0 x l y),
+          λ x l y. stays_fresh (λ t. port_at t l) (said old x l y) (wakes x l y) gives 1 a b (omega arith) q (d.0 x l y),
           e.0,
           e.1,
         ))) n j h

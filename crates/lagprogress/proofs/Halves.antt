@@ -1,15 +1,16 @@
 -- What an event does to the two systems of a world is what some calls of theirs do.
-use Rattle.lagprogress.proofs.Common.{Bool, Err, List, None, Ok, Option, Result, Some, [], map, refl, slice_set, subst, suc, sym, true, zero, ℕ, ◌++◌}
-use Rattle.lagprogress.proofs.Common.{◌∷◌, ◌≡◌, AggId, One, Side, Two, Stamp, Config, Answer, SystemFault, Received, Call, Offer, Receive, Restart}
+use Rattle.lagprogress.proofs.Common.{Bool, Err, List, Ok, Option, Result, Some, [], map, refl, slice_set, subst, suc, sym, true, zero, ℕ, ◌++◌, ◌∷◌}
+use Rattle.lagprogress.proofs.Common.{◌≡◌, AggId, One, Side, Two, Stamp, Config, Answer, SystemFault, Received, Call, Offer, Receive, Restart, Step}
 use Rattle.lagprogress.proofs.Common.{TableRun, Tick, Transmit, IsFirst, SystemState, Step-sound, first_sound, Event, Reply, AfterOffer, AfterReceive}
 use Rattle.lagprogress.proofs.Common.{AfterTransmit, Algorithms, InHalf, WorldReceives, WorldSteps, with_frame_counted, with_link_at}
 use Rattle.lagprogress.proofs.Common.{with_stamp_collected, HalfAnswers, HalfTicks, forced_if_accepted, AreFirst, IsStart, HalfState, ItemValue}
 use Rattle.lagprogress.proofs.Common.{LinkState, WorldState, emptied, half, port_at, with_half, with_links, GoesByCalls, IsSteady, IsSteadySystem}
+use Rattle.lagprogress.proofs.OnePort.{calls_each}
 use Rattle.cables.specs.declared.item.Stamp.TheVariants as stamp
 use Rattle.lagsystem.specs.declared.drive.Reply.TheVariants as answer
 use Rattle.lagsystem.specs.declared.received.Received.TheVariants as received
 use Rattle.lagworld.proofs.Effects.{DoesEffect, Effect, HalfAsked, Recording, answer_to_force, asks, changes_counted, delivers, does_effect, emits}
-use Rattle.lagworld.proofs.Effects.{if_forced, no_record, offers, receives, recorded, restarts, nothing, shrinks, ticks}
+use Rattle.lagworld.proofs.Effects.{if_forced, offers, receives, recorded, restarts, nothing, shrinks, ticks}
 use Rattle.lagprogress.proofs.EachPort.{Step-each, first_each}
 use Rattle.lagprogress.proofs.Timers.{TimedAt, timed_kept, timed_settles, timed_starts}
 
@@ -21,9 +22,8 @@ stays gives s t e = ([], [], e)
 runs_on : (gives : ℕ → ℕ → ℕ → Type 0) (a b c : SystemState) (calls more : List Call) (answers others : List Answer)
     → TableRun gives a calls answers b → TableRun gives b more others c → TableRun gives a (calls ++ more) (answers ++ others) c
 runs_on gives a b c [] more [] others h k = subst (λ (s : SystemState). TableRun gives s more others c) h k
-runs_on gives a b c [] more (x ∷ answers) others h k = absurd h
-runs_on gives a b c (call ∷ calls) more [] others h k = absurd h
 runs_on gives a b c (call ∷ calls) more (x ∷ answers) others h k = (h.0, h.1, runs_on gives h.0 b c calls more answers others h.2 k)
+runs_on gives a b c calls more answers others h k = absurd h
 
 goes_on : (gives : ℕ → ℕ → ℕ → Type 0) (a b c : SystemState) → GoesByCalls gives a b → GoesByCalls gives b c → GoesByCalls gives a c
 goes_on gives a b c h k = (h.0 ++ k.0, h.1 ++ k.1, runs_on gives a b c h.0 k.0 h.1 k.1 h.2 k.2)
@@ -52,9 +52,8 @@ then gives a b c h k s = goes_on (gives s) (half s a).state (half s b).state (ha
 in_half : (gives : Algorithms) (s : Side) (h : HalfState) (j : WorldState) → GoesByCalls (gives s) (half s j).state h.state
     → Both gives j (with_half s h j)
 in_half gives One h j g One = g
-in_half gives One h j g Two = stays (gives Two) j.two.state j.two.state refl
-in_half gives Two h j g One = stays (gives One) j.one.state j.one.state refl
 in_half gives Two h j g Two = g
+in_half gives s h j g t = stays (gives t) (half t j).state (half t j).state refl
 
 as_half : (gives : Algorithms) (s : Side) (h : HalfState) (j : WorldState) → h.state ≡ (half s j).state
     → Both gives j (with_half s h j)
@@ -67,9 +66,8 @@ cables gives j links new e s = stays (gives s) (half s j).state (half s new).sta
 
 emitted : (gives : Algorithms) (s : Side) (p : ℕ) (a : Result (Option (List ℕ)) SystemFault) (j new : WorldState) (r : Reply)
     → AfterTransmit s p a j r new → Both gives j new
-emitted gives s p (Err fault) j new r x = same gives j new x.1
-emitted gives s p (Ok None) j new r x = same gives j new x.1
 emitted gives s p (Ok (Some frame)) j new r x = cables gives j _ new x.1
+emitted gives s p a j new r x = same gives j new x.1
 
 collected_on : (gives : Algorithms) (st : Stamp) (j : WorldState) → Both gives j (with_stamp_collected st j)
 collected_on gives (stamp.Control count) j = same gives j j refl
@@ -78,14 +76,10 @@ collected_on gives (stamp.Data system agg conv serial) j = as_half gives _ _ j r
 arrived : (gives : Algorithms) (s : Side) (p : ℕ) (item : ItemValue) (a : Result Received SystemFault) (j new : WorldState) (r :
     Reply)
     → AfterReceive s p item a j r new → Both gives j new
-arrived gives s p item (Err fault) j new r x = same gives j new x.1
-arrived gives s p item (Ok received.Disabled) j new r x = same gives j new x.1
-arrived gives s p item (Ok received.Dropped) j new r x = same gives j new x.1
-arrived gives s p item (Ok (received.Ignored fault)) j new r x = same gives j new x.1
 arrived gives s p item (Ok received.TookLacpdu) j new r x = subst (Both gives j) (sym x.1) (as_half gives s _ j refl)
 arrived gives s p item (Ok (received.Respond frame)) j new r x = cables gives j _ new x.1
-arrived gives s p item (Ok (received.Released n)) j new r x = same gives j new x.1
 arrived gives s p item (Ok (received.Up agg)) j new r x = subst (Both gives j) (sym x.1) (collected_on gives item.stamp j)
+arrived gives s p item a j new r x = same gives j new x.1
 
 arrives : (gives : Algorithms) (s : Side) (p : ℕ) (item : ItemValue) (j new : WorldState) (r : Reply)
     → WorldReceives gives s p item j r new → Both gives j new
@@ -104,13 +98,12 @@ offered gives s agg octets (Ok port) j new r x =
 
 -- what is recorded changes no state
 noted : (kept : Recording) (a : Answer) (h : HalfState) → (recorded kept a h).state ≡ h.state
-noted no_record a h = refl
-noted changes_counted a h = refl
 noted (if_forced agg conv) a h = forced (answer_to_force a)
   where
     forced : (a : Result Unit SystemFault) → (forced_if_accepted a agg conv h).state ≡ h.state
     forced (Ok done) = refl
     forced (Err fault) = refl
+noted kept a h = refl
 
 changes : (gives : Algorithms) (s : Side) (h : HalfState) (j new : WorldState)
     → GoesByCalls (gives s) (half s j).state (half s new).state
@@ -154,31 +147,25 @@ each_is_calls gives e r old new x s =
 
 -- what holds of both systems
 
-run_steady : (gives : ℕ → ℕ → ℕ → Type 0) (old new : SystemState) (calls : List Call) (answers : List Answer)
-    → TableRun gives old calls answers new → IsSteadySystem old → IsSteadySystem new
-run_steady gives old new [] [] h k = subst IsSteadySystem (sym h) k
-run_steady gives old new [] (a ∷ answers) h k = absurd h
-run_steady gives old new (call ∷ calls) [] h k = absurd h
-run_steady gives old new (call ∷ calls) (a ∷ answers) h k =
-    run_steady gives h.0 new calls answers h.2
-    (Step-sound gives old call a h.0 h.1 k.0, Step-each TimedAt timed_settles gives old call a h.0 (timed_kept call a) h.1 k.1)
+pub call_steady : (gives : ℕ → ℕ → ℕ → Type 0) (old new : SystemState) (call : Call) (a : Answer) → Step gives old call a new → IsSteadySystem old
+    → IsSteadySystem new
+call_steady gives old new call a h k =
+    (Step-sound gives old call a new h k.0, Step-each TimedAt timed_settles gives old call a new (timed_kept call a) h k.1)
 
 pub keeps_steady : (gives : Algorithms) (e : Event) (r : Reply) (old new : WorldState) → WorldSteps gives old e r new → IsSteady old
     → IsSteady new
 keeps_steady gives e r old new x k s =
-    let g = each_is_calls gives e r old new x s in run_steady (gives s) (half s old).state (half s new).state g.0 g.1 g.2 (k s)
+    let g = each_is_calls gives e r old new x s in
+    calls_each (gives s) IsSteadySystem (call_steady (gives s)) (half s old).state (half s new).state g.0 g.1 g.2 (k s)
 
 pub both_first : (configs : List Config) (j : WorldState) → AreFirst configs j → (s : Side) → IsFirst (half s j).state
-both_first [] j h s = absurd h
-both_first (a ∷ []) j h s = absurd h
 both_first (a ∷ b ∷ []) j h One = h.0.first
 both_first (a ∷ b ∷ []) j h Two = h.1.first
-both_first (a ∷ b ∷ c ∷ rest) j h s = absurd h
+both_first configs j h s = absurd h
 
 pub start_steady : (configs : List Config) (j : WorldState) → IsStart j → AreFirst configs j → IsSteady j
 start_steady configs j i h s =
     let first = both_first configs j h s in (
       first_sound (half s j).state (i.kept s).agrees.ports first,
-      first_each TimedAt timed_settles timed_starts (half s j).state
-          first,
+      first_each TimedAt timed_settles timed_starts (half s j).state first,
     )

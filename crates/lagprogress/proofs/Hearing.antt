@@ -1,14 +1,13 @@
 -- A port that processes no LACPDU comes nearer to EXPIRED and DEFAULTED with each tick.
 use Rattle.lagprogress.proofs.Common.{Bool, IsTrue, List, [], ap, arith, false, if◌then◌else◌, inl, inr, not, refl, subst, suc, sym, true, zero, ℕ}
 use Rattle.lagprogress.proofs.Common.{◌&&◌, ◌+◌, ◌-◌, ◌==◌, ◌∙◌, ◌∷◌, ◌≡◌, ◌≤◌, nat_tests, ReceiveState, Current, Defaulted, Expired, Initialize}
-use Rattle.lagprogress.proofs.Common.{PortDisabled, Machines, mux_rows, periodic_rows, receive_rows, same_receive_state, AtRest, Fires, FiresTimes}
-use Rattle.lagprogress.proofs.Common.{Row, RunsToRest, count_down, SystemPort, Call, Configure, Force, Move_conversation, Offer, Receive, Restart}
-use Rattle.lagprogress.proofs.Common.{Set_link, Tick, Transmit, choice_with_link, can_receive_in, none_enabled, can_receive_at_rest, all-get}
-use Rattle.lagprogress.proofs.Common.{IsNoticed, LeavesUnheard, processed_on, timeout_time, tick_count, IsTimed, most_current_while}
+use Rattle.lagprogress.proofs.Common.{PortDisabled, Machines, periodic_rows, receive_rows, same_receive_state, AtRest, Fires, FiresTimes, Row}
+use Rattle.lagprogress.proofs.Common.{RunsToRest, count_down, SystemPort, Call, Configure, Receive, Restart, Set_link, Tick, Transmit}
+use Rattle.lagprogress.proofs.Common.{choice_with_link, can_receive_in, none_enabled, can_receive_at_rest, all-get, IsNoticed, LeavesUnheard}
+use Rattle.lagprogress.proofs.Common.{processed_on, timeout_time, tick_count, IsTimed, most_current_while}
 use Rattle.lagsystem.specs.declared.drive.Reply.{Reply}
 use Rattle.lagprogress.proofs.EachPort.{KeptByCall, KeptBySettling}
-use Rattle.lagprogress.proofs.OnePort.{AtPort, GoesOn, goes_on}
-use Rattle.lagprogress.proofs.Timers.{RowsKeep, runs_keep}
+use Rattle.lagprogress.proofs.OnePort.{AtPort, GoesOn, goes_on, settling_leaves}
 
 -- DEFAULTED comes in so many ticks at the latest, and not before so many have gone
 abbrev pub Within : ℕ → ℕ → ReceiveState → ℕ → Type 0
@@ -46,18 +45,12 @@ no e = cc
 not_initialize : (least most n : ℕ) (r : ReceiveState) (g : Bool) → (same_receive_state Initialize r && g) ≡ true
     → Within least most r n → ⊥
 not_initialize least most n Initialize g h w = w
-not_initialize least most n PortDisabled g h w = w
-not_initialize least most n Expired g h w = no h
-not_initialize least most n Defaulted g h w = no h
-not_initialize least most n Current g h w = no h
+not_initialize least most n r g h w = no h
 
 not_disabled : (least most n : ℕ) (r : ReceiveState) (g : Bool) → (same_receive_state PortDisabled r && g) ≡ true
     → Within least most r n → ⊥
-not_disabled least most n Initialize g h w = w
 not_disabled least most n PortDisabled g h w = w
-not_disabled least most n Expired g h w = no h
-not_disabled least most n Defaulted g h w = no h
-not_disabled least most n Current g h w = no h
+not_disabled least most n r g h w = no h
 
 pub not_down : (a up : Bool) → (a && not up) ≡ true → up ≡ true → ⊥
 not_down true true h e = no h
@@ -66,11 +59,8 @@ not_down false up h e = no h
 
 expires : (least most n : ℕ) (r : ReceiveState) (g : Bool) → (same_receive_state Current r && g) ≡ true → Within least most r n
     → (30 ≤ most) × (least ≤ most)
-expires least most n Initialize g h w = absurd w
-expires least most n PortDisabled g h w = absurd w
-expires least most n Expired g h w = absurd (no h)
-expires least most n Defaulted g h w = absurd (no h)
 expires least most n Current g h w = (omega (arith, w.1), omega (arith, w.1))
+expires least most n r g h w = absurd (no h)
 
 receive_keeps : (least most : ℕ) → EnabledKeep (Unheard least most) receive_rows
 receive_keeps least most = (
@@ -89,37 +79,22 @@ receives least most p q h a = times_keep (Unheard least most) receive_rows (rece
 
 -- settling
 
-pub mux_keeps : (most : ℕ) (ready : Bool) → RowsKeep (Unheard 1 most) (mux_rows ready)
-mux_keeps most ready = (λ p a. a, (λ p a. a, (λ p a. a, (λ p a. a, (λ p a. a, (λ p a. a, tt))))))
-
-pub periodic_keeps : (most : ℕ) → RowsKeep (Unheard 1 most) periodic_rows
-periodic_keeps most = (λ p a. a, (λ p a. a, (λ p a. a, (λ p a. a, (λ p a. a, (λ p a. a, (λ p a. a, tt)))))))
-
 pub unheard_settles : (n most k : ℕ) → KeptBySettling (AtPort n (UnheardFor most k))
-unheard_settles n most k = record {
-  mux = λ m ready p q h a e. runs_keep (Unheard 1 most) (mux_rows ready) (mux_keeps most ready) p q h (a e);
-  periodic = λ m p q h a e. subst (Unheard 1 most) (sym h.2) (runs_keep (Unheard 1 most) periodic_rows (periodic_keeps most) p
-      h.0 h.1 (a e));
-  select = λ m choice p none may a e. a e;
-}
+unheard_settles n most k = settling_leaves (AtPort n (UnheardFor most k))
 
 -- a tick
 
 pub counts : (most n : ℕ) (r : ReceiveState) → Within 1 most r n → Within 0 (most - 1) r (n - 1)
-counts most n Initialize w = w
-counts most n PortDisabled w = w
 counts most n Expired w = (omega (arith, w.0), omega arith)
-counts most n Defaulted w = tt
 counts most n Current w = (omega (arith, w.0, w.1), omega (arith, w.1))
+counts most n r w = w
 
 pub rested : (most n : ℕ) (r : ReceiveState) → (same_receive_state Expired r && (n == 0)) ≡ false
     → (same_receive_state Current r && (n == 0)) ≡ false
     → Within 0 most r n → Within 1 most r n
-rested most n Initialize e f w = w
-rested most n PortDisabled e f w = w
 rested most n Expired e f w = (w.0, (let l = w.0 in grind (arith, nat_tests)))
-rested most n Defaulted e f w = w
 rested most n Current e f w = (w.0, (let l = w.0 in grind (arith, nat_tests)))
+rested most n r e f w = w
 
 tick_unheard : (most k : ℕ) (p q : Machines) → RunsToRest receive_rows (count_down p) q → AtRest periodic_rows p
     → UnheardFor most k p
@@ -153,9 +128,7 @@ calls_unheard n most k (Receive m octets) answer u t = λ v p q took h a e.
 calls_unheard n most k (Configure m change) answer u t = λ p q h a e. both (m == n) (is_number m n e) u.0
 calls_unheard n most k Restart answer u t = absurd (no (sym u.0))
 calls_unheard n most k (Transmit m) answer u t = λ p told a e. a e
-calls_unheard n most k (Offer agg octets) answer u t = tt
-calls_unheard n most k (Move_conversation agg conv port) answer u t = tt
-calls_unheard n most k (Force agg conv) answer u t = tt
+calls_unheard n most k call answer u t = tt
 
 unheard_goes_on : (n : ℕ) → GoesOn (LeavesUnheard n) UnheardFor n
 unheard_goes_on n = record { settles = unheard_settles n; ticks = tick_unheard; calls = calls_unheard n }
@@ -166,11 +139,10 @@ pub begins : (r : ReceiveState) (short : Bool) (n : ℕ) → can_receive_in r �
     → Within 1 (timeout_time short + 30) r n
 begins Initialize short n c l = absurd (no c)
 begins PortDisabled short n c l = absurd (no c)
-begins Expired true n c l = (omega (arith, l), omega arith)
-begins Expired false n c l = (omega (arith, l), omega arith)
 begins Defaulted short n c l = tt
+begins Expired true n c l = (omega (arith, l), omega arith)
 begins Current true n c l = (omega (arith, l), omega arith)
-begins Current false n c l = (omega (arith, l), omega arith)
+begins r short n c l = (omega (arith, l), omega arith)
 
 pub when_up : (up : Bool) (b : Bool) → up ≡ true → (if up then b else true) ≡ true → b ≡ true
 when_up true b e h = h
@@ -185,9 +157,8 @@ not_current most n r l w e = late (subst (λ s. Within 1 most s n) e w)
 pub is_defaulted : (most n : ℕ) (r : ReceiveState) → most ≡ 0 → Within 1 most r n → r ≡ Defaulted
 is_defaulted most n Initialize l w = absurd w
 is_defaulted most n PortDisabled l w = absurd w
-is_defaulted most n Expired l w = absurd (omega (arith, w.1, l))
 is_defaulted most n Defaulted l w = refl
-is_defaulted most n Current l w = absurd (omega (arith, w.1, l))
+is_defaulted most n r l w = absurd (omega (arith, w.1, l))
 
 pub is_noticed : (gives : ℕ → ℕ → ℕ → Type 0) → IsNoticed gives
 is_noticed gives old new calls replies i x y s t at up h u there =

@@ -1,29 +1,14 @@
 -- What a healthy round leaves of conversations that are held on a port whose cable is healthy: their markers are answered.
-use Rattle.lagprogress.proofs.Common.{Bool, List, None, Some, [], ap, arith, cond, drop, eqb, false, inl, inr, length, ltb, refl, sym, true, ℕ, ◌&&◌}
-use Rattle.lagprogress.proofs.Common.{◌++◌, ◌+◌, ◌<◌, ◌∙◌, ◌∷◌, ◌≡◌, ◌≤◌, ◌⊎◌, ltb-true, nat_tests, none-some, Marker, Information, Response, Pdu}
-use Rattle.lagprogress.proofs.Common.{no_fault, one_pdu, Side, peer, Assignment, Flushing, Free, On, Wanted, is_among, after_mark, after_release}
-use Rattle.lagprogress.proofs.Common.{after_tick, Carries, Data_frame, Faulty, IsFrame, ReceivedFrame, Runt, held_unless_on, ItemValue}
+use Rattle.lagprogress.proofs.Common.{List, None, Some, ap, arith, drop, eqb, false, inl, inr, length, ltb, sym, true, ℕ, ◌&&◌, ◌+◌, ◌<◌, ◌∙◌, ◌≡◌}
+use Rattle.lagprogress.proofs.Common.{◌≤◌, ◌⊎◌, cond_both, ltb-true, nat_tests, none-some, Marker, Information, Response, Pdu, no_fault, one_pdu}
+use Rattle.lagprogress.proofs.Common.{Side, peer, Assignment, Flushing, Free, On, Wanted, is_among, after_mark, after_release, after_tick, Carries}
+use Rattle.lagprogress.proofs.Common.{Data_frame, Faulty, IsFrame, ReceivedFrame, Runt, held_unless_on, ItemValue}
 use Rattle.slowpdu.specs.declared.pdu.Pdu.TheVariants as pdu
 use Rattle.slowpdu.specs.declared.fault.WireFault.{WireFault}
 use Rattle.slowpdu.specs.Faults.{fault_of}
 use Rattle.slowpdu.specs.Pdus.{ReadsPdu}
 use Rattle.lagprogress.proofs.Hearing.{no}
-
--- items
-
--- one of the items is so
-abbrev pub Has : (ItemValue → Type 0) → List ItemValue → Type 0
-Has P [] = ⊥
-Has P (x ∷ xs) = P x ⊎ Has P xs
-
-pub has_on : (P : ItemValue → Type 0) (xs ys : List ItemValue) → Has P xs → Has P (xs ++ ys)
-has_on P [] ys h = absurd h
-has_on P (x ∷ xs) ys (inl h) = inl h
-has_on P (x ∷ xs) ys (inr h) = inr (has_on P xs ys h)
-
-pub has_last : (P : ItemValue → Type 0) (xs : List ItemValue) (x : ItemValue) → P x → Has P (xs ++ x ∷ [])
-has_last P [] x h = inl h
-has_last P (y ∷ ys) x h = inr (has_last P ys x h)
+pub use Rattle.lagprogress.proofs.Linked.{Has, has_last, has_on}
 
 -- the marker that port p of the system with this address sends, and its response
 abbrev pub asking : ℕ → List ℕ → ℕ → Marker
@@ -69,11 +54,8 @@ pub marked_beside : (p m q id : ℕ) (W : Type 0) (F : ℕ → Type 0) → (q �
 marked_beside p m q id W F other (Free preferred) h = tt
 marked_beside p m q id W F other (On r) h = tt
 marked_beside p m q id W F other (Flushing r n preferred age) h = h
-marked_beside p m q id W F other (Wanted r preferred) h = by_test (eqb r q)
-  where
-    by_test : (b : Bool) → Fine p m W F (cond b (Flushing q id preferred 0) (Wanted r preferred))
-    by_test true = λ e. absurd (other e)
-    by_test false = h
+marked_beside p m q id W F other (Wanted r preferred) h =
+    cond_both (eqb r q) (Flushing q id preferred 0) (Wanted r preferred) (Fine p m W F) (λ t e. absurd (other e)) (λ f. h)
 
 -- a marker is sent on the port, and is on its way
 pub marked_here : (p m id : ℕ) (W : Type 0) (F G : ℕ → Type 0) → G id → ((n : ℕ) → F n → G n) → (a : Assignment) → Fine p m W F a
@@ -81,11 +63,8 @@ pub marked_here : (p m id : ℕ) (W : Type 0) (F G : ℕ → Type 0) → G id �
 marked_here p m id W F G here k (Free preferred) h = tt
 marked_here p m id W F G here k (On r) h = tt
 marked_here p m id W F G here k (Flushing r n preferred age) h = λ e. elim (h e) [ inl a ↦ inl a | inr b ↦ inr (k n b) ]
-marked_here p m id W F G here k (Wanted r preferred) h = by_test (eqb r p) refl
-  where
-    by_test : (b : Bool) → eqb r p ≡ b → Fine p m ⊥ G (cond b (Flushing p id preferred 0) (Wanted r preferred))
-    by_test true e = λ f. inr here
-    by_test false e = not_port r p e
+marked_here p m id W F G here k (Wanted r preferred) h =
+    cond_both (eqb r p) (Flushing p id preferred 0) (Wanted r preferred) (Fine p m ⊥ G) (λ t e. inr here) (not_port r p)
 
 -- a response comes on another port
 pub released_beside : (p m q id : ℕ) (W : Type 0) (F : ℕ → Type 0) (a : Assignment) → Fine p m W F a
@@ -93,29 +72,8 @@ pub released_beside : (p m q id : ℕ) (W : Type 0) (F : ℕ → Type 0) (a : As
 released_beside p m q id W F (Free preferred) h = tt
 released_beside p m q id W F (On r) h = tt
 released_beside p m q id W F (Wanted r preferred) h = h
-released_beside p m q id W F (Flushing r n preferred age) h = by_test (eqb r q && eqb n id)
-  where
-    by_test : (b : Bool) → Fine p m W F (cond b (Free preferred) (Flushing r n preferred age))
-    by_test true = tt
-    by_test false = h
-
--- the response with this identifier comes on the port
-pub released_here : (p m id : ℕ) (W : Type 0) (F G : ℕ → Type 0) → ((n : ℕ) → F n → (n ≡ id) ⊎ G n) → (a : Assignment) → Fine p m W F a
-    → Fine p m W G (after_release p id a)
-released_here p m id W F G k (Free preferred) h = tt
-released_here p m id W F G k (On r) h = tt
-released_here p m id W F G k (Wanted r preferred) h = h
-released_here p m id W F G k (Flushing r n preferred age) h = by_test (eqb r p && eqb n id) refl
-  where
-    passes : (r ≡ p) → (n ≡ id) → (eqb r p && eqb n id) ≡ false → ⊥
-    passes e f g = grind (arith, nat_tests)
-
-    by_test : (b : Bool) → (eqb r p && eqb n id) ≡ b → Fine p m W G (cond b (Free preferred) (Flushing r n preferred age))
-    by_test true g = tt
-    by_test false g = λ e. elim (h e) [
-      | inl a ↦ inl a
-      | inr f ↦ elim (k n f) [ inl same ↦ absurd (passes e same g) | inr y ↦ inr y ]
-    ]
+released_beside p m q id W F (Flushing r n preferred age) h =
+    cond_both (eqb r q && eqb n id) (Free preferred) (Flushing r n preferred age) (Fine p m W F) (λ t. tt) (λ f. h)
 
 -- a settling leaves what is On the port
 pub settled_fine : (p m : ℕ) (W : Type 0) (F : ℕ → Type 0) (ports : List ℕ) (a : Assignment) → (a ≡ On p → is_among ports p ≡ true)
@@ -123,11 +81,8 @@ pub settled_fine : (p m : ℕ) (W : Type 0) (F : ℕ → Type 0) (ports : List �
 settled_fine p m W F ports (Free preferred) k h = tt
 settled_fine p m W F ports (Wanted q preferred) k h = h
 settled_fine p m W F ports (Flushing q n preferred age) k h = h
-settled_fine p m W F ports (On q) k h = by_test (is_among ports q) refl
-  where
-    by_test : (b : Bool) → is_among ports q ≡ b → Fine p m W F (cond b (On q) (Wanted q None))
-    by_test true e = tt
-    by_test false e = λ f. absurd (no (sym e ∙ (ap (is_among ports) f ∙ k (ap (λ (n : ℕ). On n) f))))
+settled_fine p m W F ports (On q) k h = cond_both (is_among ports q) (On q) (Wanted q None) (Fine p m W F) (λ t. tt)
+    (λ e f. absurd (no (sym e ∙ (ap (is_among ports) f ∙ k (ap (λ (n : ℕ). On n) f)))))
 
 -- a tick, with nothing on its way
 pub ticked_fine : (p m : ℕ) (W : Type 0) (G : ℕ → Type 0) (a : Assignment) → Fine p m W (λ id. ⊥) a
@@ -135,15 +90,12 @@ pub ticked_fine : (p m : ℕ) (W : Type 0) (G : ℕ → Type 0) (a : Assignment)
 ticked_fine p m W G (Free preferred) h = tt
 ticked_fine p m W G (On q) h = tt
 ticked_fine p m W G (Wanted q preferred) h = λ e. tt
-ticked_fine p m W G (Flushing q n preferred age) h = by_test (ltb (age + 1) 30) refl
-  where
-    by_test : (b : Bool) → ltb (age + 1) 30 ≡ b
-        → Fine p (m + 1) (Unit {0}) G (cond b (Flushing q n preferred (age + 1)) (Wanted q preferred))
-    by_test true g = λ e. elim (h e) [
+ticked_fine p m W G (Flushing q n preferred age) h =
+    cond_both (ltb (age + 1) 30) (Flushing q n preferred (age + 1)) (Wanted q preferred) (Fine p (m + 1) (Unit {0}) G)
+    (λ g e. elim (h e) [
       | inl a ↦ (let l = a.0 in inl (omega (arith, l), λ _. ltb-true (age + 1) 30 g))
       | inr f ↦ absurd f
-    ]
-    by_test false g = λ e. tt
+    ]) (λ g e. tt)
 
 -- frames
 

@@ -1,18 +1,16 @@
 -- A port keeps what it recorded of an LACPDU while current_while has ticks left.
 use Rattle.lagprogress.proofs.Common.{Bool, List, Some, [], ap, arith, false, if◌then◌else◌, inl, inr, refl, slice_get, slice_set, subst, suc, sym}
 use Rattle.lagprogress.proofs.Common.{true, zero, ℕ, ◌&&◌, ◌+◌, ◌-◌, ◌==◌, ◌∙◌, ◌∷◌, ◌≡◌, ◌≤◌, nat_tests, none-some, same_Some, StateBits, bits_of}
-use Rattle.lagprogress.proofs.Common.{with_synchronization, encode_then_decode, Info, Lacpdu, ReceiveState, Current, Defaulted, Expired, Initialize}
-use Rattle.lagprogress.proofs.Common.{PortDisabled, Machines, mux_rows, periodic_rows, receive_rows, recorded_synchronization, same_receive_state}
-use Rattle.lagprogress.proofs.Common.{AtRest, RunsToRest, count_down, SystemPort, Call, Configure, Force, Move_conversation, Offer, OnlyPortChangesBy}
-use Rattle.lagprogress.proofs.Common.{ProcessesLacpdu, Receive, Restart, Set_link, ThenSettles, Tick, Transmit, choice_with_link, can_receive}
-use Rattle.lagprogress.proofs.Common.{can_receive_in, none_enabled, IsSound, SystemState, port_numbers, named, keeps_place, keeps_settled}
-use Rattle.lagprogress.proofs.Common.{can_receive_at_rest, Rises, all-get, ports_rise, LeavesUnheard, processed_on, timeout_time, HasRecorded}
-use Rattle.lagprogress.proofs.Common.{IsKnown}
+use Rattle.lagprogress.proofs.Common.{with_synchronization, encode_then_decode, Info, Lacpdu, ReceiveState, Current, Expired, Initialize}
+use Rattle.lagprogress.proofs.Common.{PortDisabled, Machines, periodic_rows, receive_rows, recorded_synchronization, same_receive_state, AtRest}
+use Rattle.lagprogress.proofs.Common.{Fires, FiresTimes, Row, RunsToRest, count_down, SystemPort, Call, Configure, OnlyPortChangesBy, ProcessesLacpdu}
+use Rattle.lagprogress.proofs.Common.{Receive, Restart, Set_link, ThenSettles, Tick, Transmit, choice_with_link, can_receive, can_receive_in}
+use Rattle.lagprogress.proofs.Common.{none_enabled, IsSound, SystemState, port_numbers, named, keeps_place, keeps_settled, can_receive_at_rest, Rises}
+use Rattle.lagprogress.proofs.Common.{all-get, ports_rise, LeavesUnheard, processed_on, timeout_time, HasRecorded, IsKnown}
 use Rattle.lagsystem.specs.declared.drive.Reply.{Reply}
 use Rattle.lagprogress.proofs.EachPort.{KeptByCall, KeptBySettling, settling_each}
 use Rattle.lagprogress.proofs.Hearing.{EnabledKeep, both, is_number, no, not_down, stays_up, times_keep}
-use Rattle.lagprogress.proofs.OnePort.{AtPort, GoesOn, at_number, goes_on, same_place}
-use Rattle.lagprogress.proofs.Timers.{RowsKeep, runs_keep}
+use Rattle.lagprogress.proofs.OnePort.{AtPort, GoesOn, at_number, goes_on, same_place, settling_leaves}
 
 -- the actor is recorded for so many ticks more
 abbrev pub Recorded : Lacpdu → ℕ → Machines → Type 0
@@ -22,33 +20,21 @@ Recorded v most p = HasRecorded v p × (most ≤ p.current_while)
 abbrev pub Known : Lacpdu → ℕ → ℕ → Machines → Type 0
 Known v most k p = (p.enabled ≡ true) × (1 ≤ most → Recorded v most p)
 
+-- a machine at rest stays
+
+never_fires : (rows : List Row) (p q : Machines) → AtRest rows p → Fires rows p q → ⊥
+never_fires [] p q r h = h
+never_fires (row ∷ rows) p q r h = elim h [ inl f ↦ no (sym r.0 ∙ f.0) | inr f ↦ never_fires rows p q r.1 f ]
+
+pub rests_still : (rows : List Row) (n : ℕ) (p q : Machines) → AtRest rows p → FiresTimes rows n p q → q ≡ p
+rests_still rows zero p q r run = run
+rests_still rows (suc n) p q r run =
+    absurd (never_fires rows run.0 q (subst (AtRest rows) (sym (rests_still rows n p run.0 r run.1)) r) run.2)
+
 -- no row of the receive machine is enabled while there are ticks left
 
-other_state : (r : ReceiveState) (s g : Bool) → r ≡ Current → (same_receive_state Current r ≡ true → s ≡ false)
-    → (s && g) ≡ true → ⊥
-other_state r true g e k h = no (sym (k (ap (same_receive_state Current) e)))
-other_state r false g e k h = no h
-
-not_initialize : (r : ReceiveState) → same_receive_state Current r ≡ true → same_receive_state Initialize r ≡ false
-not_initialize Initialize h = absurd (no h)
-not_initialize PortDisabled h = refl
-not_initialize Expired h = refl
-not_initialize Defaulted h = refl
-not_initialize Current h = refl
-
-not_disabled : (r : ReceiveState) → same_receive_state Current r ≡ true → same_receive_state PortDisabled r ≡ false
-not_disabled Initialize h = refl
-not_disabled PortDisabled h = absurd (no h)
-not_disabled Expired h = refl
-not_disabled Defaulted h = refl
-not_disabled Current h = refl
-
-not_expired : (r : ReceiveState) → same_receive_state Current r ≡ true → same_receive_state Expired r ≡ false
-not_expired Initialize h = refl
-not_expired PortDisabled h = refl
-not_expired Expired h = absurd (no h)
-not_expired Defaulted h = refl
-not_expired Current h = refl
+other_state : (r s : ReceiveState) (g : Bool) → r ≡ Current → same_receive_state s Current ≡ false → (same_receive_state s r && g) ≡ true → ⊥
+other_state r s g e k h = no (sym (ap (λ c. c && g) k) ∙ subst (λ t. (same_receive_state s t && g) ≡ true) e h)
 
 not_run_out : (b : Bool) (most n : ℕ) → (b && (n == 0)) ≡ true → 1 ≤ most → most ≤ n → ⊥
 not_run_out true most n h l m = let z : n ≡ 0 = grind (arith, nat_tests) in omega (arith, z, l, m)
@@ -56,13 +42,13 @@ not_run_out false most n h l m = no h
 
 pub receive_known : (v : Lacpdu) (most k : ℕ) → EnabledKeep (Known v most k) receive_rows
 receive_known v most k = (
-  λ p e a. (a.0, λ l. absurd (other_state p.receive _ _ (a.1 l).0.current (not_initialize p.receive) e)),
+  λ p e a. (a.0, λ l. absurd (other_state p.receive Initialize true (a.1 l).0.current refl e)),
   (
     λ p e a. absurd (not_down _ p.enabled e a.0),
     (
-      λ p e a. (a.0, λ l. absurd (other_state p.receive _ _ (a.1 l).0.current (not_disabled p.receive) e)),
+      λ p e a. (a.0, λ l. absurd (other_state p.receive PortDisabled p.enabled (a.1 l).0.current refl e)),
       (
-        λ p e a. (a.0, λ l. absurd (other_state p.receive _ _ (a.1 l).0.current (not_expired p.receive) e)),
+        λ p e a. (a.0, λ l. absurd (other_state p.receive Expired (p.current_while == 0) (a.1 l).0.current refl e)),
         (λ p e a. (a.0, λ l. absurd (not_run_out _ most p.current_while e l (a.1 l).1)), tt),
       ),
     ),
@@ -74,19 +60,8 @@ receives v most k p q h a = times_keep (Known v most k) receive_rows (receive_kn
 
 -- settling
 
-pub mux_known : (v : Lacpdu) (most k : ℕ) (ready : Bool) → RowsKeep (Known v most k) (mux_rows ready)
-mux_known v most k ready = (λ p a. a, (λ p a. a, (λ p a. a, (λ p a. a, (λ p a. a, (λ p a. a, tt))))))
-
-pub periodic_known : (v : Lacpdu) (most k : ℕ) → RowsKeep (Known v most k) periodic_rows
-periodic_known v most k = (λ p a. a, (λ p a. a, (λ p a. a, (λ p a. a, (λ p a. a, (λ p a. a, (λ p a. a, tt)))))))
-
 known_settles : (v : Lacpdu) (n most k : ℕ) → KeptBySettling (AtPort n (Known v most k))
-known_settles v n most k = record {
-  mux = λ m ready p q h a e. runs_keep (Known v most k) (mux_rows ready) (mux_known v most k ready) p q h (a e);
-  periodic = λ m p q h a e. subst (Known v most k) (sym h.2) (runs_keep (Known v most k) periodic_rows (periodic_known v most k)
-      p h.0 h.1 (a e));
-  select = λ m choice p none may a e. a e;
-}
+known_settles v n most k = settling_leaves (AtPort n (Known v most k))
 
 -- a tick
 pub counts : (v : Lacpdu) (most k : ℕ) (p : Machines) → Known v most k p → Known v (most - 1) (k + 1) (count_down p)
@@ -108,9 +83,7 @@ calls_known v n most k (Receive m octets) answer u t = λ w p q took h a e.
 calls_known v n most k (Configure m change) answer u t = λ p q h a e. both (m == n) (is_number m n e) u.0
 calls_known v n most k Restart answer u t = absurd (no (sym u.0))
 calls_known v n most k (Transmit m) answer u t = λ p told a e. a e
-calls_known v n most k (Offer agg octets) answer u t = tt
-calls_known v n most k (Move_conversation agg conv port) answer u t = tt
-calls_known v n most k (Force agg conv) answer u t = tt
+calls_known v n most k call answer u t = tt
 
 known_goes_on : (v : Lacpdu) (n : ℕ) → GoesOn (LeavesUnheard n) (Known v) n
 known_goes_on v n = record { settles = known_settles v n; ticks = tick_known v; calls = calls_known v n }
@@ -148,17 +121,13 @@ recorded v p q up awake h = elim h [
         ))
     | inr g ↦ absurd g
   ]
-  | inr r ↦ absurd (asleep p.receive p.enabled up awake r.0.0)
+  | inr r ↦ absurd (asleep (can_receive_in p.receive) p.enabled up awake r.0.0)
 ]
   where
-    asleep : (r : ReceiveState) (b : Bool) → b ≡ true → (if b then can_receive_in r else true) ≡ true
-        → (can_receive_in r && b) ≡ false → ⊥
-    asleep Initialize true e a k = no a
-    asleep PortDisabled true e a k = no a
-    asleep Expired true e a k = no (sym k)
-    asleep Defaulted true e a k = no (sym k)
-    asleep Current true e a k = no (sym k)
-    asleep r false e a k = no e
+    asleep : (c b : Bool) → b ≡ true → (if b then c else true) ≡ true → (c && b) ≡ false → ⊥
+    asleep true true e a k = no (sym k)
+    asleep false true e a k = no a
+    asleep c false e a k = no e
 
 pub placed : (l : List SystemPort) (i : ℕ) (w t : SystemPort) → slice_get l i ≡ Some w → slice_get (slice_set l i t) i ≡ Some t
 placed [] i w t e = absurd (none-some w e)
@@ -169,19 +138,8 @@ placed (y ∷ ys) (suc i) w t e = placed ys i w t e
 abbrev Begins : Lacpdu → Bool → Machines → Type 0
 Begins v short p = Known v (timeout_time short) 0 p × (p.short ≡ short)
 
-mux_begins : (v : Lacpdu) (short ready : Bool) → RowsKeep (Begins v short) (mux_rows ready)
-mux_begins v short ready = (λ p a. a, (λ p a. a, (λ p a. a, (λ p a. a, (λ p a. a, (λ p a. a, tt))))))
-
-periodic_begins : (v : Lacpdu) (short : Bool) → RowsKeep (Begins v short) periodic_rows
-periodic_begins v short = (λ p a. a, (λ p a. a, (λ p a. a, (λ p a. a, (λ p a. a, (λ p a. a, (λ p a. a, tt)))))))
-
 begins_settles : (v : Lacpdu) (n : ℕ) (short : Bool) → KeptBySettling (AtPort n (Begins v short))
-begins_settles v n short = record {
-  mux = λ m ready p q h a e. runs_keep (Begins v short) (mux_rows ready) (mux_begins v short ready) p q h (a e);
-  periodic = λ m p q h a e. subst (Begins v short) (sym h.2) (runs_keep (Begins v short) periodic_rows (periodic_begins v short)
-      p h.0 h.1 (a e));
-  select = λ m choice p none may a e. a e;
-}
+begins_settles v n short = settling_leaves (AtPort n (Begins v short))
 
 begins : (old mid : SystemState) (v : Lacpdu) (i : ℕ) (w x : SystemPort) → IsSound old → slice_get old.system_ports i ≡ Some w
     → w.port.enabled ≡ true → ThenSettles (OnlyPortChangesBy (Some i) (ProcessesLacpdu v)) old mid

@@ -1,15 +1,16 @@
 -- A port that is kept from silence by an active partner alone: it is CURRENT, or EXPIRED and about to speak.
-use Rattle.lagprogress.proofs.Common.{Bool, ap, arith, false, inl, inr, not, refl, subst, suc, sym, true, zero, ℕ, ◌&&◌, ◌+◌, ◌-◌, ◌==◌, ◌∙◌, ◌≡◌}
-use Rattle.lagprogress.proofs.Common.{◌≤◌, ◌⊎◌, nat_tests, Choice, State, StateBits, is_selected, bits_of, with_synchronization, with_timeout}
+use Rattle.lagprogress.proofs.Common.{Bool, ap, arith, false, inl, inr, not, refl, subst, sym, true, ℕ, ◌&&◌, ◌+◌, ◌-◌, ◌==◌, ◌∙◌, ◌≡◌, ◌≤◌, ◌⊎◌}
+use Rattle.lagprogress.proofs.Common.{nat_tests, Choice, State, StateBits, is_selected, bits_of, with_synchronization, with_timeout}
 use Rattle.lagprogress.proofs.Common.{encode_then_decode, Lacpdu, ReceiveState, Current, Expired, Initialize, PortDisabled, Machines, mux_rows}
-use Rattle.lagprogress.proofs.Common.{RunsPeriodic, periodic_rows, lacpdu_rows, receive_rows, same_receive_state, AtRest, RunsToRest, count_down}
-use Rattle.lagprogress.proofs.Common.{is_due, timeout_time, HasRecorded, IsTimed}
-use Rattle.lagprogress.proofs.EndFacts.{Along, activity, both_along, not_silent, short_timeout, sounds_takes, takes_known}
+use Rattle.lagprogress.proofs.Common.{RunsPeriodic, periodic_rows, receive_rows, same_receive_state, AtRest, RunsToRest, count_down, is_due}
+use Rattle.lagprogress.proofs.Common.{timeout_time, HasRecorded, IsTimed}
+use Rattle.lagprogress.proofs.OnePort.{mux_leaves, periodic_leaves}
+use Rattle.lagprogress.proofs.EndFacts.{Along, activity, both_along, constant_along, short_timeout, sounds_takes, takes_known}
 use Rattle.lagprogress.proofs.Hearing.{EnabledKeep, no, not_down, times_keep}
 use Rattle.lagprogress.proofs.Knowing.{Recorded}
 use Rattle.lagprogress.proofs.OneRound.{Passes, still_sounds}
-use Rattle.lagprogress.proofs.Sounding.{Calm, Sounds, counts_sounds, mux_sounds, periodic_runs, sounds_first}
-use Rattle.lagprogress.proofs.Timers.{RowsKeep, fires_keep, runs_keep}
+use Rattle.lagprogress.proofs.Sounding.{Calm, Sounds, counts_sounds, mux_sounds, not_gone, not_silent, periodic_runs, sounds_first}
+use Rattle.lagprogress.proofs.Timers.{runs_keep, takes_keep}
 
 -- EXPIRED for so many ticks more at the least; the partner is active, and Short Timeout stands recorded of it
 abbrev pub Lapsed : ℕ → Machines → Type 0
@@ -27,16 +28,10 @@ record Kept (T : Machines → Type 0) : Type 0 where
   select : (choice : Choice) (p : Machines) → is_selected p.choice ≡ false → T p → T (record p { choice = choice })
   active : (p : Machines) → T p → (bits_of p.partner.state).activity ≡ true
 
-lapsed_mux : (e : ℕ) (ready : Bool) → RowsKeep (Lapsed e) (mux_rows ready)
-lapsed_mux e ready = (λ p a. a, (λ p a. a, (λ p a. a, (λ p a. a, (λ p a. a, (λ p a. a, tt))))))
-
-lapsed_periodic : (e : ℕ) → RowsKeep (Lapsed e) periodic_rows
-lapsed_periodic e = (λ p a. a, (λ p a. a, (λ p a. a, (λ p a. a, (λ p a. a, (λ p a. a, (λ p a. a, tt)))))))
-
 lapsed_kept : (e : ℕ) → Kept (Lapsed e)
 lapsed_kept e = record {
-  mux = λ ready p q h y. runs_keep (Lapsed e) (mux_rows ready) (lapsed_mux e ready) p q h y;
-  periodic = λ p q h up y. subst (Lapsed e) (sym h.2) (runs_keep (Lapsed e) periodic_rows (lapsed_periodic e) p h.0 h.1 y);
+  mux = mux_leaves (Lapsed e);
+  periodic = λ p q h up y. periodic_leaves (Lapsed e) p q h y;
   select = λ choice p none y. y;
   active = λ p y. y.1;
 }
@@ -76,17 +71,10 @@ either_kept S T k l = record {
   active = λ p y. elim y [ inl a ↦ k.active p a | inr a ↦ l.active p a ];
 }
 
-recorded_mux : (u : Lacpdu) (ready : Bool) → RowsKeep (Recorded u 1) (mux_rows ready)
-recorded_mux u ready = (λ p a. a, (λ p a. a, (λ p a. a, (λ p a. a, (λ p a. a, (λ p a. a, tt))))))
-
-recorded_periodic : (u : Lacpdu) → RowsKeep (Recorded u 1) periodic_rows
-recorded_periodic u = (λ p a. a, (λ p a. a, (λ p a. a, (λ p a. a, (λ p a. a, (λ p a. a, (λ p a. a, tt)))))))
-
 recorded_kept : (u : Lacpdu) → activity u ≡ true → Kept (Recorded u 1)
 recorded_kept u on = record {
-  mux = λ ready p q h y. runs_keep (Recorded u 1) (mux_rows ready) (recorded_mux u ready) p q h y;
-  periodic = λ p q h up y. subst (Recorded u 1) (sym h.2)
-      (runs_keep (Recorded u 1) periodic_rows (recorded_periodic u) p h.0 h.1 y);
+  mux = mux_leaves (Recorded u 1);
+  periodic = λ p q h up y. periodic_leaves (Recorded u 1) p q h y;
   select = λ choice p none y. y;
   active = λ p y. y.0.active ∙ on;
 }
@@ -119,10 +107,7 @@ phase_along v u T d k on there kept =
       );
       select = λ choice p none y. (y.0, both.select choice p none y.1);
       takes = λ x p q e awake h a y. (
-        elim h [
-          | inl f ↦ fires_keep (Sounds false k) (lacpdu_rows x) (sounds_takes false k x) p q f y.0
-          | inr r ↦ subst (Sounds false k) (sym r.1) y.0
-        ],
+        takes_keep (Sounds false k) x (sounds_takes false k x) p q h y.0,
         (let known = takes_known v u x p q (e.0 there) awake h a.0 a.1.0 in
             let some = some_wait (short_timeout v) in
             let r = known.1 some in
@@ -205,11 +190,7 @@ told_rows u on = (
 )
 
 running : (r : ReceiveState) (n : ℕ) → r ≡ Current → (same_receive_state Current r && (n == 0)) ≡ false → 1 ≤ n
-running r n e h = counts n (subst (λ x. (same_receive_state Current x && (n == 0)) ≡ false) e h)
-  where
-    counts : (n : ℕ) → (n == 0) ≡ false → 1 ≤ n
-    counts zero h = absurd (no (sym h))
-    counts (suc n) h = omega arith
+running r n e h = not_gone n (subst (λ x. (same_receive_state Current x && (n == 0)) ≡ false) e h)
 
 abbrev pub Tails : Machines → Type 0
 Tails p = (i : ℕ) × Lapsing i p
@@ -254,14 +235,6 @@ tails_kept = some_kept Lapsing lapsing_kept
 later_tails_kept : Kept LaterTails
 later_tails_kept = some_kept (λ i p. (1 ≤ i) × Lapsing i p) later_kept
 
-constant : (A : Type 0) (v u : Lacpdu) (c d : ℕ) → Along (λ p. A) v u c d
-constant A v u c d = record {
-  mux = λ ready p q h y. y;
-  periodic = λ p q h a y. y;
-  select = λ choice p none y. y;
-  takes = λ x p q e awake h a y. y;
-}
-
 rests_in : (u : Lacpdu) (k : ℕ) (p : Machines) → AtRest periodic_rows p → IsTimed p → p.enabled ≡ true
     → Phase u (λ r. Lapsed 30 r ⊎ Tails r) k p → Phase u Tails k p
 rests_in u k p rest timed up y = (
@@ -302,7 +275,7 @@ lasting_passes v u d k on there = record {
   rests = λ p rest timed a y. rests_in u (k - 1) p rest timed a.1.0 y;
   waits = phase_along v u Tails d (k - 1) on there tails_kept;
   asks = λ p rest timed a y not. asks_in u (k - 1) p on rest a.1.0 y not;
-  asked = both_along (λ p. 1 ≤ k - 1) (Phase u LaterTails (k - 1)) v u 0 d (constant (1 ≤ k - 1) v u 0 d)
+  asked = both_along (λ p. 1 ≤ k - 1) (Phase u LaterTails (k - 1)) v u 0 d (constant_along (1 ≤ k - 1) v u 0 d)
       (phase_along v u LaterTails d (k - 1) on there later_tails_kept);
 }
 

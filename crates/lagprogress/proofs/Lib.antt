@@ -8,6 +8,7 @@ mod OnePort
 mod Heartbeat
 mod Hearing
 mod Knowing
+mod TableSteps
 mod Waits
 mod Told
 mod Halves
@@ -18,6 +19,7 @@ mod EndFacts
 mod Linked
 mod Delivering
 mod OneRound
+mod RoundEvents
 mod Claims
 mod Telling
 mod Progressing

@@ -1,31 +1,29 @@
 -- How the links of a bundle agree where one system has a limit of links.
-use Rattle.lagprogress.proofs.Common.{Bool, Err, IsSome, List, None, Ok, Option, Some, [], ap, arith, false, if◌then◌else◌, inl, inr, map, refl}
-use Rattle.lagprogress.proofs.Common.{slice_get, subst, suc, sym, true, ℕ, ◌∙◌, ◌∷◌, ◌≡◌, ◌⊎◌, cases_Bool, same_Some, AggId, SystemId, Choice}
-use Rattle.lagprogress.proofs.Common.{Selected, Standby, Unselected, Party, is_selected, same_party, Lacpdu, party_of, IsCabling, One, Side, Two}
-use Rattle.lagprogress.proofs.Common.{end_at, peer, Setup, Machines, mux_rows, selected, periodic_rows, default_partner, lacpdu_rows, receive_rows}
-use Rattle.lagprogress.proofs.Common.{start_receive, RunsToRest, Starts, before_start, count_down, has_chosen, Answer, SystemPort, Call, Configure}
-use Rattle.lagprogress.proofs.Common.{Force, Move_conversation, Offer, ProcessesLacpdu, Receive, Restart, Set_link, SetsPortEnabled, Step, TableRun}
-use Rattle.lagprogress.proofs.Common.{Tick, Transmit, changed_party, choice_with_link, SystemState, port_index, Step-frame, all-get, found_place}
-use Rattle.lagprogress.proofs.Common.{ports_rise, Event, Same, Reply, agreement_at, Algorithms, WorldRuns, link_ends, world_setup, IsWorldSound}
-use Rattle.lagprogress.proofs.Common.{LinkState, WorldState, half, port_at, end_is, AllHeard, BothAreActive, OneIsActive, EndKnows, Knows, AtEnd}
-use Rattle.lagprogress.proofs.Common.{IsHealthyAt, OfPort, Rounds, StandsByFull, WantsAggregator}
+use Rattle.lagprogress.proofs.Common.{Bool, Err, IsSome, None, Ok, Option, Some, ap, arith, false, if◌then◌else◌, inl, inr, refl, slice_get, subst}
+use Rattle.lagprogress.proofs.Common.{suc, sym, true, ℕ, ◌∙◌, ◌≡◌, ◌⊎◌, cases_Bool, AggId, SystemId, Choice, Selected, Standby, Unselected, Party}
+use Rattle.lagprogress.proofs.Common.{is_selected, same_party, Lacpdu, party_of, One, Side, Two, end_at, peer, Setup, Machines, selected}
+use Rattle.lagprogress.proofs.Common.{default_partner, receive_rows, start_receive, RunsToRest, Starts, before_start, count_down, has_chosen, Answer}
+use Rattle.lagprogress.proofs.Common.{SystemPort, Call, Configure, ProcessesLacpdu, Receive, Restart, Set_link, SetsPortEnabled, Step, Tick, Transmit}
+use Rattle.lagprogress.proofs.Common.{changed_party, choice_with_link, SystemState, port_index, Step-frame, all-get, found_place, ports_rise, Same}
+use Rattle.lagprogress.proofs.Common.{agreement_at, Algorithms, IsWorldSound, LinkState, WorldState, half, port_at, end_is, BothAreActive}
+use Rattle.lagprogress.proofs.Common.{OneIsActive, EndKnows, Knows, AtEnd, IsHealthyAt, OfPort, Rounds, StandsByFull, WantsAggregator}
 use Rattle.lagsystem.specs.declared.drive.Reply.TheVariants as reply
 use Rattle.lagprogress.specs.Limited.{CarriesOnAll, DownAreUnselected, EachActiveLimitedLinkAgrees, EachLimitedLinkAgrees}
 use Rattle.lagprogress.specs.Limited.{EachReachedHasDownUnselected, EndsAgreed, IsLimitedBundle, StandsByOthers}
-use Rattle.lagprogress.proofs.Bundling.{all_by_place, as_before, ends_at, never_stands, old_port, own_system, rounds_alike, rounds_keep}
-use Rattle.lagprogress.proofs.Bundling.{still_aggregators, still_links, Alike}
+use Rattle.lagprogress.proofs.Bundling.{all_by_place, as_before, ends_at, never_stands, own_system, rounds_alike, rounds_keep, heard_holds}
+use Rattle.lagprogress.proofs.Bundling.{still_aggregators, still_heard, still_links, Alike}
 use Rattle.lagprogress.proofs.ComingUp.{zero_on}
-use Rattle.lagprogress.proofs.EachPort.{KeptBySettling, OfEach, Step-each, first_each, place_each, settling_each}
+use Rattle.lagprogress.proofs.EachPort.{KeptByCall, KeptBySettling, OfEach, Step-each, first_each, place_each, settling_each}
 use Rattle.lagprogress.proofs.EachRound.{EachAt, RoundKeeps, round_each, rounds_join, rounds_steady}
-use Rattle.lagprogress.proofs.Halves.{both_first, each_is_calls}
+use Rattle.lagprogress.proofs.Halves.{both_first}
 use Rattle.lagprogress.proofs.Hearing.{no}
-use Rattle.lagprogress.proofs.Linked.{each_side}
+use Rattle.lagprogress.proofs.Linked.{each_side, events_each}
 use Rattle.lagprogress.proofs.OneActive.{ends_of_each_know}
-use Rattle.lagprogress.proofs.OnePort.{AtPort, at_number}
+use Rattle.lagprogress.proofs.OnePort.{AtPort, at_number, mux_leaves, periodic_leaves}
 use Rattle.lagprogress.proofs.Pairing.{active_selected_pairs_agree, selected_pairs_agree}
 use Rattle.lagprogress.proofs.Progressing.{active_ends_of_each_know, end_of, machines_there}
 use Rattle.lagprogress.proofs.Selecting.{finds_aggregator}
-use Rattle.lagprogress.proofs.Timers.{RowsKeep, fires_keep, runs_keep}
+use Rattle.lagprogress.proofs.Timers.{RowsKeep, runs_keep, takes_keep}
 
 -- a port whose link is down stays UNSELECTED
 
@@ -42,21 +40,13 @@ chooses_none false c e = refl
 receive_idle : RowsKeep Idle receive_rows
 receive_idle = (
   λ p a. a,
-  (
-    λ p a. a,
-    (
-      λ p a. a,
-      (λ p a e. chooses_none (same_party (party_of default_partner) (party_of p.partner)) p.choice (a e), (λ p a. a, tt)),
-    ),
-  ),
+  (λ p a. a, (λ p a. a, (λ p a e. chooses_none (same_party (party_of default_partner) (party_of p.partner)) p.choice (a e), (λ p a. a, tt)))),
 )
 
 idle_settles : KeptBySettling IdleAt
 idle_settles = record {
-  mux = λ n ready p q h a. runs_keep Idle (mux_rows ready)
-      (λ p a. a, (λ p a. a, (λ p a. a, (λ p a. a, (λ p a. a, (λ p a. a, tt)))))) p q h a;
-  periodic = λ n p q h a. subst Idle (sym h.2) (runs_keep Idle periodic_rows
-      (λ p a. a, (λ p a. a, (λ p a. a, (λ p a. a, (λ p a. a, (λ p a. a, (λ p a. a, tt))))))) p h.0 h.1 a);
+  mux = λ n. mux_leaves Idle;
+  periodic = λ n. periodic_leaves Idle;
   select = λ n choice p none may a e. absurd (elim may.0 [
     | inl up ↦ no (sym e ∙ up)
     | inr s ↦ standing s.0 (sym s.1 ∙ a e)
@@ -67,11 +57,7 @@ idle_settles = record {
     standing agg e = cc
 
 idle_takes : (v : Lacpdu) (p q : Machines) → ProcessesLacpdu v p q → Idle p → Idle q
-idle_takes v p q h a = elim h [
-  | inl f ↦ fires_keep Idle (lacpdu_rows v)
-      (λ p a e. chooses_none (same_party (party_of v.actor) (party_of p.partner)) p.choice (a e), tt) p q f a
-  | inr r ↦ subst Idle (sym r.1) a
-]
+idle_takes v = takes_keep Idle v (λ p a e. chooses_none (same_party (party_of v.actor) (party_of p.partner)) p.choice (a e), tt)
 
 idle_ticks : (n : ℕ) (p q : Machines) → RunsToRest receive_rows (count_down p) q → IdleAt n p → IdleAt n q
 idle_ticks n p q h a = runs_keep Idle receive_rows receive_idle (count_down p) q h a
@@ -105,25 +91,25 @@ links_idle (Some most) true p q some h a = runs_keep Idle receive_rows receive_i
 links_idle (Some most) false p q some h a = runs_keep Idle receive_rows receive_idle
     (record p { enabled = false; choice = choice_with_link (Some most) false p.choice }) q h (λ e. refl)
 
+idle_kept : (call : Call) (answer : Answer) → ((n : ℕ) (up : Bool) → call ≡ Set_link n up → ⊥) → KeptByCall IdleAt call answer
+idle_kept Tick answer other = idle_ticks
+idle_kept (Set_link n up) answer other = absurd (other n up refl)
+idle_kept (Receive n octets) answer other = λ v p q t d b. idle_takes v p q d b
+idle_kept (Configure n change) answer other = λ p q d b. idle_starts (record p { party = changed_party change p.party }) q d.1 b
+idle_kept Restart answer other = idle_first
+idle_kept (Transmit n) answer other = λ p e b. b
+idle_kept call answer other = tt
+
 call_idle : (gives : ℕ → ℕ → ℕ → Type 0) (old new : SystemState) (call : Call) (answer : Answer) → Step gives old call answer new
     → IsSome old.max_links → OfEach IdleAt old.system_ports → OfEach IdleAt new.system_ports
-call_idle gives old new Tick answer h some a = Step-each IdleAt idle_settles gives old Tick answer new idle_ticks h a
 call_idle gives old new (Set_link n up) (reply.SetLink (Ok done)) h some a = settling_each IdleAt idle_settles h.0 new h.2
     (place_each IdleAt (SetsPortEnabled old.max_links up) n (λ p q k b. links_idle old.max_links up p q some k b)
     (port_index n old.system_ports) old.system_ports h.0.system_ports refl h.1.0 a)
 call_idle gives old new (Set_link n up) (reply.SetLink (Err fault)) h some a =
     subst (λ (s : SystemState). OfEach IdleAt s.system_ports) (sym h.same) a
-call_idle gives old new (Receive n octets) answer h some a = Step-each IdleAt idle_settles gives old (Receive n octets) answer new
-    (λ v p q t d b. idle_takes v p q d b) h a
-call_idle gives old new (Configure n change) answer h some a = Step-each IdleAt idle_settles gives old (Configure n change) answer new
-    (λ p q d b. idle_starts (record p { party = changed_party change p.party }) q d.1 b) h a
-call_idle gives old new Restart answer h some a = Step-each IdleAt idle_settles gives old Restart answer new idle_first h a
-call_idle gives old new (Transmit n) answer h some a = Step-each IdleAt idle_settles gives old (Transmit n) answer new (λ p e b. b) h a
-call_idle gives old new (Offer agg octets) answer h some a = Step-each IdleAt idle_settles gives old (Offer agg octets) answer new tt h a
-call_idle gives old new (Move_conversation agg conv port) answer h some a =
-    Step-each IdleAt idle_settles gives old (Move_conversation agg conv port) answer new tt h a
-call_idle gives old new (Force agg conv) answer h some a = Step-each IdleAt idle_settles gives old (Force agg conv) answer new tt h a
-call_idle gives old new call answer h some a = absurd h
+call_idle gives old new (Set_link n up) answer h some a = absurd h
+call_idle gives old new call answer h some a =
+    Step-each IdleAt idle_settles gives old call answer new (idle_kept call answer (λ n up e. cc)) h a
 
 call_limits : (gives : ℕ → ℕ → ℕ → Type 0) (old new : SystemState) (call : Call) (answer : Answer) → Step gives old call answer new → Limits old
     → Limits new
@@ -131,42 +117,11 @@ call_limits gives old new call answer h a some =
     let was = subst (λ (o : Option ℕ). IsSome o) (ap (λ (s : SystemState). s.max_links) (Step-frame gives old call answer new h)) some in
     call_idle gives old new call answer h was (a was)
 
-calls_limits : (gives : ℕ → ℕ → ℕ → Type 0) (old new : SystemState) (calls : List Call) (answers : List Answer)
-    → TableRun gives old calls answers new → Limits old → Limits new
-calls_limits gives old new [] [] h a = subst Limits (sym h) a
-calls_limits gives old new [] (r ∷ answers) h a = absurd h
-calls_limits gives old new (call ∷ calls) [] h a = absurd h
-calls_limits gives old new (call ∷ calls) (r ∷ answers) h a =
-    calls_limits gives h.0 new calls answers h.2 (call_limits gives old h.0 call r h.1 a)
-
-events_limits : (gives : Algorithms) (es : List Event) (rs : List Reply) (old new : WorldState) → WorldRuns gives old es rs new → (s : Side)
-    → Limits (half s old).state → Limits (half s new).state
-events_limits gives [] [] old new h s a = subst (λ (j : WorldState). Limits (half s j).state) (sym h) a
-events_limits gives [] (r ∷ rs) old new h s a = absurd h
-events_limits gives (e ∷ es) [] old new h s a = absurd h
-events_limits gives (e ∷ es) (r ∷ rs) old new h s a =
-    let c = each_is_calls gives e r old h.0 h.1 s in
-    events_limits gives es rs h.0 new h.2 s (calls_limits (gives s) (half s old).state (half s h.0).state c.0 c.1 c.2 a)
-
 pub each_reached_has_down_unselected : (gives : Algorithms) → EachReachedHasDownUnselected gives
 each_reached_has_down_unselected gives configs es rs start new s i h runs some k x there =
     let st = (half s start).state in
     let first : Limits st = λ o. first_each IdleAt idle_settles idle_first st (both_first configs start h s) in
-    all-get (λ (y : SystemPort). Idle y.port) (half s new).state.system_ports k x there (events_limits gives es rs start new runs s first some)
-
--- of each healthy cable it holds
-
-heard_holds : (Holds : LinkState → WorldState → Type 0) (old : WorldState) → IsCabling (world_setup old).cables → AllHeard Holds old
-    → (i : ℕ) (l : LinkState) → IsHealthyAt i l old → Holds l old
-heard_holds Holds old cabling heard i l h =
-    let e = ends_at i l old h One in
-    let it = heard One e.0 e.1 e.3 e.4 in
-    let joins : port_at One it.link ≡ port_at One l = it.joins ∙ found_place (port_at One l) (half One old).state.system_ports e.0 e.1 e.2 e.3 in
-    let here : end_at (map link_ends old.links) One (suc it.index) ≡ Some (port_at One l) =
-    end_is One old.links it.index it.link it.healthy.there ∙ ap (λ (n : ℕ). Some n) joins in
-    let place : suc it.index ≡ suc i = cabling One (suc it.index) (suc i) (port_at One l) here (end_is One old.links i l h.there) in
-    let same : it.index ≡ i = omega (arith, place) in
-    subst (λ m. Holds m old) (same_Some it.link l (sym it.healthy.there ∙ (ap (slice_get old.links) same ∙ h.there))) it.holds
+    all-get (λ (y : SystemPort). Idle y.port) (half s new).state.system_ports k x there (events_each gives s Limits (call_limits (gives s)) es rs start new runs first some)
 
 -- after the rounds
 
@@ -251,17 +206,15 @@ module _ (Holds : LinkState → WorldState → Type 0) (t : Side) (gives : Algor
       let st = (half t new).state in
       let like = as_before gives n old new b.steady h t in
       let now = rounds_steady gives n old new b.steady h t in
-      let z = old_port (half t old).state.system_ports st.system_ports k x like.numbers there in
       let sel : selected x.port ≡ true = is_chosen x.port.choice chose in
       elim (cases_Bool x.port.enabled) [
-        | inl up ↦ (let it = b.heard t k z.0 z.1 (sym (like.alike k z.0 x z.1 there).1 ∙ up) in
+        | inl up ↦ (let it = still_heard Holds t old new like b.heard k x there up in
             let e = known it.index it.link it.healthy t in
-            let number : e.port.number ≡ x.number = found_place (port_at t it.link) st.system_ports e.place e.port e.index e.there
-            ∙ (it.joins ∙ sym z.2) in
+            let number : e.port.number ≡ x.number = found_place (port_at t it.link) st.system_ports e.place e.port e.index e.there ∙ it.joins in
             record {
               index = it.index;
               joins = subst (λ es. end_at es t (suc it.index) ≡ Some x.number) (sym (rounds_join gives n old new h))
-                  (end_is t old.links it.index it.link it.healthy.there ∙ ap (λ (m : ℕ). Some m) (it.joins ∙ sym z.2));
+                  (end_is t old.links it.index it.link it.healthy.there ∙ ap (λ (m : ℕ). Some m) it.joins);
               same = same it.index it.link it.healthy (subst (OfPort (λ p. selected p ≡ true))
                   (sym (machines_there (port_at t it.link) st e.place e.port e.index e.there))
                   (all-get (λ (y : SystemPort). y.number ≡ x.number → selected y.port ≡ true) st.system_ports e.place e.port e.there
@@ -271,9 +224,8 @@ module _ (Holds : LinkState → WorldState → Type 0) (t : Side) (gives : Algor
       ]
     where
       is_chosen : (c : Choice) → has_chosen agg c ≡ true → is_selected c ≡ true
-      is_chosen Unselected e = e
       is_chosen (Selected given) e = refl
-      is_chosen (Standby given) e = e
+      is_chosen c e = e
 
   pub limited : (i : ℕ) (l : LinkState) → IsHealthyAt i l old → (agreement_at new (suc i) ≡ Some Same) ⊎ StandsByOthers t l new
   limited i l y = elim (chooses i l y t) [

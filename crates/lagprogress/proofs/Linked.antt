@@ -1,13 +1,14 @@
 -- What Emit and Deliver events, and ticks, leave of a world with one cable.
 use Rattle.lagprogress.proofs.Common.{Bool, Err, List, None, Ok, Option, Result, Some, [], ap, arith, cond, false, inl, inr, length, nat_lt, not}
-use Rattle.lagprogress.proofs.Common.{refl, slice_get, subst, suc, sym, true, zero, ℕ, ◌++◌, ◌+◌, ◌<◌, ◌==◌, ◌∙◌, ◌∷◌, ◌≡◌, ◌≤◌, ◌⊎◌, cases_Bool}
-use Rattle.lagprogress.proofs.Common.{nat_tests, position-Some, none-some, same_Some, AllByRecursion, position_or_len, StateBits, encode_then_decode}
-use Rattle.lagprogress.proofs.Common.{Lacpdu, all-append, One, Side, Two, peer, CollectingDistributing, Machines, is_synchronized, same_mux_state}
-use Rattle.lagprogress.proofs.Common.{actor_of, after_sending, is_due, pdu_of, marker_due, SystemFault, Received, SystemPort, Carries, IsFrame}
-use Rattle.lagprogress.proofs.Common.{OnlyPortChangesBy, ProcessesLacpdu, Receive, ReceivesAt, ThenSettles, Transmit, configured_numbers, IsLacpduOf}
-use Rattle.lagprogress.proofs.Common.{SendsMarkerOf, TransmitsAt, TransmitsIf, CallPromise, SystemState, port_index, port_numbers, named}
-use Rattle.lagprogress.proofs.Common.{processes_or_stays, all-get, found_place, Event, Reply, Algorithms, WorldSteps, side_of, ItemValue, WorldState}
-use Rattle.lagprogress.proofs.Common.{half, IsSteady}
+use Rattle.lagprogress.proofs.Common.{option_map, refl, slice_get, subst, suc, sym, true, zero, ℕ, ◌++◌, ◌+◌, ◌<◌, ◌==◌, ◌∙◌, ◌∷◌, ◌≡◌, ◌≤◌, ◌⊎◌}
+use Rattle.lagprogress.proofs.Common.{cases_Bool, nat_tests, position-Some, none-some, same_Some, AllByRecursion, position_or_len, StateBits}
+use Rattle.lagprogress.proofs.Common.{encode_then_decode, Lacpdu, One, Side, Two, peer, CollectingDistributing, Machines, is_synchronized}
+use Rattle.lagprogress.proofs.Common.{same_mux_state, periodic_rows, AtRest, actor_of, after_sending, is_due, pdu_of, marker_due, Answer, SystemFault}
+use Rattle.lagprogress.proofs.Common.{Received, SystemPort, Call, Carries, IsFrame, OnlyPortChangesBy, ProcessesLacpdu, Receive, ReceivesAt, Step}
+use Rattle.lagprogress.proofs.Common.{ThenSettles, Transmit, configured_numbers, PeriodicIsSettled, IsLacpduOf, SendsMarkerOf, TransmitsAt}
+use Rattle.lagprogress.proofs.Common.{TransmitsIf, CallPromise, SystemState, machines_of, port_index, port_numbers, system_port_at, named}
+use Rattle.lagprogress.proofs.Common.{processes_or_stays, all-get, found_place, ports_rise, Event, Reply, Algorithms, WorldRuns, WorldSteps, side_of}
+use Rattle.lagprogress.proofs.Common.{ItemValue, WorldState, half, IsSteady, IsTimed}
 use Rattle.slowpdu.specs.declared.pdu.Pdu.TheVariants as pdu
 use Rattle.lagsystem.specs.declared.drive.Reply.TheVariants as answer
 use Rattle.lagsystem.specs.declared.received.Received.TheVariants as received
@@ -15,9 +16,10 @@ use Rattle.lagscript.specs.declared.event.Event.TheVariants as event
 use Rattle.lagprogress.proofs.EachPort.{KeptBySettling, OfEach, Step-each}
 use Rattle.lagprogress.proofs.EndFacts.{Along, IsEnd, Suits, activity, end_settles, wait_of}
 use Rattle.lagprogress.proofs.Halves.{each_is_calls, keeps_steady}
-use Rattle.lagprogress.proofs.OneCable.{Asks, Beside, Elsewhere, OnCable, Went, asks, emits, emits_beside, push, put}
-use Rattle.lagprogress.proofs.OnePort.{AtPort, same_ports}
+use Rattle.lagprogress.proofs.OneCable.{Asks, Beside, Elsewhere, Gains, OnCable, asks, emits, emits_beside, push, push_each, put, sent_frame}
+use Rattle.lagprogress.proofs.OnePort.{AtPort, same_ports, at_number, calls_each}
 use Rattle.lagprogress.proofs.Passing.{carries_one, lacpdu_is_sent, marker_carries_none, receives_lacpdu, sent_carries}
+pub use Rattle.lagprogress.proofs.OneCable.{each_side}
 
 -- the place of a port depends on the numbers alone
 
@@ -49,30 +51,51 @@ place_kept gives e r old new x a b s n =
     same_index n (half s old).state.system_ports (half s new).state.system_ports
     ((b s).0.ports.same ∙ (ap configured_numbers ports ∙ sym (a s).0.ports.same))
 
+-- what each event keeps that is so, a list of them keeps
+pub runs_all : (gives : Algorithms) (Is : Event → Type 0) (M : WorldState → Type 0)
+    → ((e : Event) (r : Reply) (old new : WorldState) → Is e → WorldSteps gives old e r new → M old → M new)
+    → (es : List Event) (rs : List Reply) (old new : WorldState) → AllByRecursion Is es → WorldRuns gives old es rs new → M old → M new
+runs_all gives Is M k [] [] old new a h m = subst M (sym h) m
+runs_all gives Is M k (e ∷ es) (r ∷ rs) old new a h m = runs_all gives Is M k es rs h.0 new a.1 h.2 (k e r old h.0 a.0 h.1 m)
+runs_all gives Is M k es rs old new a h m = absurd h
+
+-- what each call of a system keeps, all events keep
+pub events_each : (gives : Algorithms) (s : Side) (P : SystemState → Type 0)
+    → ((old new : SystemState) (call : Call) (a : Answer) → Step (gives s) old call a new → P old → P new)
+    → (es : List Event) (rs : List Reply) (old new : WorldState) → WorldRuns gives old es rs new
+    → P (half s old).state → P (half s new).state
+events_each gives s P k es rs old new h p = runs_all gives (λ e. Unit {0}) (λ j. P (half s j).state)
+    (λ e r i j d step q. let c = each_is_calls gives e r i j step s in
+    calls_each (gives s) P k (half s i).state (half s j).state c.0 c.1 c.2 q) es rs old new (any es) h p
+  where
+    any : (es : List Event) → AllByRecursion (λ (e : Event). Unit {0}) es
+    any [] = tt
+    any (e ∷ es) = (tt, any es)
+
 -- items
 
--- one of the items is an LACPDU
+-- one of the items is so
+abbrev pub Has : (ItemValue → Type 0) → List ItemValue → Type 0
+Has P [] = ⊥
+Has P (x ∷ xs) = P x ⊎ Has P xs
+
+pub has_on : (P : ItemValue → Type 0) (xs ys : List ItemValue) → Has P xs → Has P (xs ++ ys)
+has_on P [] ys h = absurd h
+has_on P (x ∷ xs) ys (inl h) = inl h
+has_on P (x ∷ xs) ys (inr h) = inr (has_on P xs ys h)
+
+pub has_last : (P : ItemValue → Type 0) (xs : List ItemValue) (x : ItemValue) → P x → Has P (xs ++ x ∷ [])
+has_last P [] x h = inl h
+has_last P (y ∷ ys) x h = inr (has_last P ys x h)
+
+-- the item is an LACPDU, and one of the items is one
+abbrev pub HasLacpdu : ItemValue → Type 0
+HasLacpdu item = (x : Lacpdu) × IsFrame item.octets (Carries (pdu.Lacpdu x))
+
 abbrev pub Flying : List ItemValue → Type 0
-Flying [] = ⊥
-Flying (item ∷ items) = ((x : Lacpdu) × IsFrame item.octets (Carries (pdu.Lacpdu x))) ⊎ Flying items
-
-pub flying_on : (xs ys : List ItemValue) → Flying xs → Flying (xs ++ ys)
-flying_on [] ys h = absurd h
-flying_on (x ∷ xs) ys (inl h) = inl h
-flying_on (x ∷ xs) ys (inr h) = inr (flying_on xs ys h)
-
-pub flying_last : (xs : List ItemValue) (item : ItemValue) (x : Lacpdu) → IsFrame item.octets (Carries (pdu.Lacpdu x))
-    → Flying (xs ++ item ∷ [])
-flying_last [] item x h = inl (x, h)
-flying_last (y ∷ ys) item x h = inr (flying_last ys item x h)
+Flying xs = Has HasLacpdu xs
 
 -- of both sides
-
-pub each_side : (X : Side → Type 0) (s : Side) → X s → X (peer s) → (t : Side) → X t
-each_side X One a b One = a
-each_side X One a b Two = b
-each_side X Two a b One = b
-each_side X Two a b Two = a
 
 pub peer_twice : (s : Side) → peer (peer s) ≡ s
 peer_twice One = refl
@@ -152,13 +175,8 @@ sent_good d v u c true false i z old frame new known a h x k = by_marker (marker
 -- an arrival
 
 pub is_took : (o : Received) → (o ≡ received.TookLacpdu) ⊎ (o ≡ received.TookLacpdu → ⊥)
-is_took received.Disabled = inr (λ e. cc)
-is_took received.Dropped = inr (λ e. cc)
-is_took (received.Ignored fault) = inr (λ e. cc)
 is_took received.TookLacpdu = inl refl
-is_took (received.Respond frame) = inr (λ e. cc)
-is_took (received.Released n) = inr (λ e. cc)
-is_took (received.Up agg) = inr (λ e. cc)
+is_took o = inr (λ e. cc)
 
 -- the port processed the LACPDU that came, or what came is none and leaves the ports
 abbrev pub Arrived : ℕ → List ℕ → SystemState → SystemState → Type 0
@@ -203,6 +221,17 @@ pub each_both : (P Q : ℕ → Machines → Type 0) → (xs : List SystemPort) �
 each_both P Q [] a b = tt
 each_both P Q (x ∷ xs) a b = ((a.0, b.0), each_both P Q xs a.1 b.1)
 
+-- of the port with one number, two things and what follows from them
+pub both_at : (n : ℕ) (P Q R : Machines → Type 0) → ((p : Machines) → P p → Q p → R p) → (xs : List SystemPort) → OfEach (AtPort n P) xs
+    → OfEach (AtPort n Q) xs → OfEach (AtPort n R) xs
+both_at n P Q R k xs a b = each_map (λ m p. AtPort n P m p × AtPort n Q m p) (AtPort n R) (λ m p c e. k p (c.0 e) (c.1 e)) xs
+    (each_both (AtPort n P) (AtPort n Q) xs a b)
+
+pub timed_ends : (P : ℕ → Machines → Type 0) (xs : List SystemPort) → AllByRecursion PeriodicIsSettled xs
+    → AllByRecursion (λ (x : SystemPort). IsTimed x.port) xs → OfEach P xs → OfEach (λ m p. P m p × AtRest periodic_rows p × IsTimed p) xs
+timed_ends P [] a b c = tt
+timed_ends P (x ∷ xs) a b c = ((c.0, a.0.rows, b.0), timed_ends P xs a.1 b.1 c.1)
+
 -- the link
 
 -- an item towards system t carries no LACPDU but one that suits
@@ -227,6 +256,78 @@ pub record Link (d : ℕ) (at : Side → ℕ) (w : Side → Lacpdu) (c : Side �
   pub place : (s : Side) → (k : ℕ) × (port_index (at s) (half s j).state.system_ports ≡ Some k)
   pub ports : (s : Side) → OfEach (AtPort (at s) (EndIs d w c x Y s)) (half s j).state.system_ports
 
+-- the link, with something else known of the ports
+pub with_ports : {d : ℕ} {at : Side → ℕ} {w : Side → Lacpdu} {c b : Side → ℕ} {x y : Side} {Y Z : Machines → Type 0} {j : WorldState}
+    → Link d at w c x Y j → ((s : Side) → OfEach (AtPort (at s) (EndIs d w b y Z s)) (half s j).state.system_ports) → Link d at w b y Z j
+with_ports l ports = record {
+  steady = l.steady;
+  flying = l.flying;
+  index = l.index;
+  links = l.links;
+  good = l.good;
+  place = l.place;
+  ports = ports;
+}
+
+-- what follows of the port at an end
+pub of_end : {d : ℕ} {at : Side → ℕ} {w : Side → Lacpdu} {c : Side → ℕ} {x : Side} {Y : Machines → Type 0} {j : WorldState}
+    (l : Link d at w c x Y j) (s : Side) (P : Machines → Type 0)
+    → ((p : Machines) → AtRest periodic_rows p → IsTimed p → EndIs d w c x Y s p → P p)
+    → OfEach (AtPort (at s) P) (half s j).state.system_ports
+of_end {d} {at} {w} {c} {x} {Y} {j} l s P k =
+    each_map (λ m p. AtPort (at s) (EndIs d w c x Y s) m p × AtRest periodic_rows p × IsTimed p) (AtPort (at s) P)
+    (λ m p a e. k p a.1 a.2 (a.0 e)) (half s j).state.system_ports
+    (timed_ends (AtPort (at s) (EndIs d w c x Y s)) (half s j).state.system_ports (l.steady s).0.quiet.1 (l.steady s).1 (l.ports s))
+
+pub other_ports : {d : ℕ} {at : Side → ℕ} {w : Side → Lacpdu} {c b : Side → ℕ} {x y : Side} {Y Z : Machines → Type 0} {j : WorldState}
+    → Link d at w c x Y j
+    → ((s : Side) (p : Machines) → AtRest periodic_rows p → IsTimed p → EndIs d w c x Y s p → EndIs d w b y Z s p) → Link d at w b y Z j
+other_ports {d} {at} {w} {c} {b} {x} {y} {Y} {Z} {j} l k = with_ports l (λ s. of_end l s (EndIs d w b y Z s) (k s))
+
+pub machines_there : (n : ℕ) (s : SystemState) (k : ℕ) (z : SystemPort) → port_index n s.system_ports ≡ Some k
+    → slice_get s.system_ports k ≡ Some z → machines_of n s ≡ Some z.port
+machines_there n s k z e f = ap (λ o. option_map (λ (x : SystemPort). x.port) (system_port_at o s.system_ports)) e
+    ∙ ap (option_map (λ (x : SystemPort). x.port)) f
+
+module _ (at : Side → ℕ) (w : Side → Lacpdu) where
+  -- the port at an end
+  pub record EndPort (d : ℕ) (c : Side → ℕ) (s : Side) (j : WorldState) : Type 0 where
+    pub port : SystemPort
+    pub index : ℕ
+    pub place : port_index (at s) (half s j).state.system_ports ≡ Some index
+    pub there : slice_get (half s j).state.system_ports index ≡ Some port
+    pub number : port.number ≡ at s
+    pub is : IsEnd d (w s) (w (peer s)) (c s) port.port
+    pub found : machines_of (at s) (half s j).state ≡ Some port.port
+
+  pub end_here : (d : ℕ) (c : Side → ℕ) (x : Side) (Y : Machines → Type 0) (j : WorldState) → Link d at w c x Y j → (s : Side) → EndPort d c s j
+  end_here d c x Y j l s =
+      let st = (half s j).state in
+      let place = l.place s in
+      let it = found (at s) place.0 st.system_ports place.1 in
+      let numbered = found_place (at s) st.system_ports place.0 it.0 place.1 it.1 in
+      record {
+        port = it.0;
+        index = place.0;
+        place = place.1;
+        there = it.1;
+        number = numbered;
+        is = (all-get (λ (y : SystemPort). AtPort (at s) (EndIs d w c x Y s) y.number y.port) st.system_ports place.0 it.0 it.1
+            (l.ports s) numbered).0;
+        found = machines_there (at s) st place.0 it.0 place.1 it.1;
+      }
+
+  pub at_end : (d : ℕ) (c : Side → ℕ) (s : Side) (j : WorldState) (e : EndPort d c s j) → IsSteady j → (P : Machines → Type 0)
+      → P e.port.port → OfEach (AtPort (at s) P) (half s j).state.system_ports
+  at_end d c s j e steady P p =
+      subst (λ n. OfEach (AtPort n P) (half s j).state.system_ports) e.number
+      (at_number P 0 (half s j).state.system_ports e.index e.port (ports_rise (half s j).state (steady s).0.ports) e.there p)
+
+  pub end_with : (d : ℕ) (c : Side → ℕ) (s : Side) (j : WorldState) (e : EndPort d c s j) (P : Machines → Type 0)
+      → OfEach (AtPort (at s) P) (half s j).state.system_ports → P e.port.port
+  end_with d c s j e P a =
+      all-get (λ (y : SystemPort). AtPort (at s) P y.number y.port) (half s j).state.system_ports e.index e.port e.there a e.number
+
 pub along_if : (w : Side → Lacpdu) (c : Side → ℕ) (d : ℕ) (x : Side) (Y : Machines → Type 0) → Along Y (w x) (w (peer x)) (c x) d → (s : Side)
     → Along (λ p. s ≡ x → Y p) (w s) (w (peer s)) (c s) d
 along_if w c d x Y k s = record {
@@ -243,28 +344,25 @@ end_kept w c d x Y k s n = end_settles (λ p. s ≡ x → Y p) (w s) (w (peer s)
 
 -- asking
 
-went_flying : (s : Side) (a : Result (Option (List ℕ)) SystemFault) (fl now : Side → List ItemValue) → Went s a fl now
-    → (t : Side) → Flying (fl t) → Flying (now t)
-went_flying s (Err fault) fl now h t f = subst (λ (g : Side → List ItemValue). Flying (g t)) (sym h) f
-went_flying s (Ok None) fl now h t f = subst (λ (g : Side → List ItemValue). Flying (g t)) (sym h) f
-went_flying s (Ok (Some frame)) fl now h t f =
-    subst (λ (g : Side → List ItemValue). Flying (g t)) (sym h.2)
-    (pushed (λ u xs. Flying (fl u) → Flying xs) (peer s) h.0 fl (λ g y. flying_on (fl (peer s)) (h.0 ∷ []) (g y)) (λ u y. y) t f)
+-- what goes out leaves what is on its way
+pub gains_has : (s : Side) (P : ItemValue → Type 0) (o : Option (List ℕ)) (fl now : Side → List ItemValue) → Gains s o fl now
+    → (t : Side) → Has P (fl t) → Has P (now t)
+gains_has s P None fl now h t f = subst (λ (g : Side → List ItemValue). Has P (g t)) (sym h) f
+gains_has s P (Some frame) fl now h t f =
+    subst (λ (g : Side → List ItemValue). Has P (g t)) (sym h.2)
+    (pushed (λ u xs. Has P (fl u) → Has P xs) (peer s) h.0 fl (λ g y. has_on P (fl (peer s)) (h.0 ∷ []) (g y)) (λ u y. y) t f)
 
-went_good : (d : ℕ) (w : Side → Lacpdu) (s : Side) (a : Result (Option (List ℕ)) SystemFault) (fl now : Side → List ItemValue)
-    → Went s a fl now
-    → ((frame : List ℕ) → a ≡ Ok (Some frame) → (x : Lacpdu) → IsFrame frame (Carries (pdu.Lacpdu x))
+-- all items on the cable are good
+abbrev pub AllGood : ℕ → (Side → Lacpdu) → (Side → List ItemValue) → Type 0
+AllGood d w fl = (t : Side) → AllByRecursion (IsGood d w t) (fl t)
+
+pub gains_good : (d : ℕ) (w : Side → Lacpdu) (s : Side) (o : Option (List ℕ)) (fl now : Side → List ItemValue) → Gains s o fl now
+    → ((frame : List ℕ) → o ≡ Some frame → (x : Lacpdu) → IsFrame frame (Carries (pdu.Lacpdu x))
     → Suits d (w (peer s)) (w (peer (peer s))) x)
-    → ((t : Side) → AllByRecursion (IsGood d w t) (fl t)) → (t : Side) → AllByRecursion (IsGood d w t) (now t)
-went_good d w s (Err fault) fl now h k g =
-    subst (λ (f : Side → List ItemValue). (t : Side) → AllByRecursion (IsGood d w t) (f t)) (sym h) g
-went_good d w s (Ok None) fl now h k g =
-    subst (λ (f : Side → List ItemValue). (t : Side) → AllByRecursion (IsGood d w t) (f t)) (sym h) g
-went_good d w s (Ok (Some frame)) fl now h k g =
-    let one : IsGood d w (peer s) h.0 = λ x c. k frame refl x (subst (λ o. IsFrame o (Carries (pdu.Lacpdu x))) h.1 c) in
-    subst (λ (f : Side → List ItemValue). (t : Side) → AllByRecursion (IsGood d w t) (f t)) (sym h.2)
-    (pushed (λ t xs. AllByRecursion (IsGood d w t) xs) (peer s) h.0 fl
-    (λ a. all-append (IsGood d w (peer s)) (fl (peer s)) (h.0 ∷ []) a (one, tt)) g)
+    → AllGood d w fl → AllGood d w now
+gains_good d w s None fl now h k g = subst (AllGood d w) (sym h) g
+gains_good d w s (Some frame) fl now h k g = subst (AllGood d w) (sym h.2)
+    (push_each (IsGood d w) (peer s) h.0 fl (λ x c. k frame refl x (subst (λ o. IsFrame o (Carries (pdu.Lacpdu x))) h.1 c)) g)
 
 transmits_good : (d : ℕ) (v u : Lacpdu) (c n : ℕ) (o : Option ℕ) (old : SystemState) (frame : List ℕ) (new : SystemState)
     → (2 ≤ d → 1 ≤ c) → port_index n old.system_ports ≡ o → TransmitsAt o old (Some frame) new
@@ -279,10 +377,10 @@ transmits_good d v u c n (Some i) old frame new known e h a =
 told_good : (d : ℕ) (v u : Lacpdu) (c : ℕ) (gives : ℕ → ℕ → ℕ → Type 0) (n : ℕ) (a : Result (Option (List ℕ)) SystemFault)
     (old new : SystemState) → (2 ≤ d → 1 ≤ c) → CallPromise gives old (Transmit n) (answer.Transmit a) new
     → OfEach (AtPort n (IsEnd d v u c)) old.system_ports
-    → (frame : List ℕ) → a ≡ Ok (Some frame) → (x : Lacpdu) → IsFrame frame (Carries (pdu.Lacpdu x)) → Suits d u v x
-told_good d v u c gives n a old new known h ports frame e =
-    let k = subst (λ b. CallPromise gives old (Transmit n) (answer.Transmit b) new) e h in
-    transmits_good d v u c n (port_index n old.system_ports) old frame new known refl k.step ports
+    → (frame : List ℕ) → sent_frame a ≡ Some frame → (x : Lacpdu) → IsFrame frame (Carries (pdu.Lacpdu x)) → Suits d u v x
+told_good d v u c gives n (Err fault) old new known h ports frame e = absurd (none-some frame e)
+told_good d v u c gives n (Ok o) old new known h ports frame e = transmits_good d v u c n (port_index n old.system_ports) old frame new
+    known refl (subst (λ b. TransmitsAt (port_index n old.system_ports) old b new) e h.step) ports
 
 -- what an Emit event of an end leaves
 pub record Emitted (gives : Algorithms) (s : Side) (d : ℕ) (at : Side → ℕ) (w : Side → Lacpdu) (c : Side → ℕ) (x : Side)
@@ -304,15 +402,14 @@ emit_link gives n s d at w c x Y r old new fits told along sends l h =
     (l.ports s) in
     let other = subst (λ (y : SystemState). OfEach (AtPort (at (peer s)) (EndIs d w c x Y (peer s))) y.system_ports) (sym k.peers)
     (l.ports (peer s)) in
-    let says = each_map (AtPort (at s) (EndIs d w c x Y s)) (AtPort (at s) (IsEnd d (w s) (w (peer s)) (c s))) (λ m p a e. (a e).0)
-    (half s old).state.system_ports (l.ports s) in
+    let says = of_end l s (IsEnd d (w s) (w (peer s)) (c s)) (λ p rest timed a. a.0) in
     record {
       link = record {
         steady = steady;
         flying = k.now;
         index = k.index;
         links = k.links;
-        good = went_good d w s k.a l.flying k.now k.went (λ frame e x carried. subst (λ t. Suits d (w (peer s)) (w t) x)
+        good = gains_good d w s (sent_frame k.a) l.flying k.now k.went (λ frame e x carried. subst (λ t. Suits d (w (peer s)) (w t) x)
             (sym (peer_twice s)) (told_good d (w s) (w (peer s)) (c s) (gives s) (at s) k.a (half s old).state
             (half s new).state (fits s).2 k.promise says frame e x carried)) l.good;
         place = λ t. ((l.place t).0, place_kept gives (event.Emit n (at s)) r old new h l.steady steady t (at t) ∙ (l.place t).1);
@@ -320,7 +417,7 @@ emit_link gives n s d at w c x Y r old new fits told along sends l h =
       };
       asks = k;
       same = refl;
-      flying = went_flying s k.a l.flying k.now k.went;
+      flying = gains_has s HasLacpdu (sent_frame k.a) l.flying k.now k.went;
     }
 
 -- what leaves the cable to itself

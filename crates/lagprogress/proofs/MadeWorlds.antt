@@ -1,27 +1,19 @@
 -- A world that events lead to from one that was made is a bundle, if its links are up as it wants them.
 use Rattle.lagprogress.proofs.Common.{Bool, List, None, Option, Some, [], ap, false, if◌then◌else◌, map, refl, sym, true, ℕ, ◌∙◌, ◌∷◌, ◌≡◌, none-some}
-use Rattle.lagprogress.proofs.Common.{SystemId, same_system, system-itself, One, Side, Two, Config, config_value, or_first, Algorithms, AreFirst}
-use Rattle.lagprogress.proofs.Common.{LinkState, WorldState, half, BothAreActive, IsBundle, OneIsActive, ReachedIsApart, ReachedIsBundle}
-use Rattle.lagprogress.proofs.Common.{SystemsDiffer, CarriersAreUp, EachAgrees, EachDistributes, IsReached, IsReady, LeadsTo, NothingStaysHeld}
-use Rattle.lagprogress.proofs.Common.{Rounds, freed_if_both_active, freed_if_one_is, up_if_both_active, up_if_one_is}
+use Rattle.lagprogress.proofs.Common.{SystemId, same_system, system-itself, One, Side, Two, Config, config_value, Algorithms, AreFirst, LinkState}
+use Rattle.lagprogress.proofs.Common.{WorldState, half, BothAreActive, IsBundle, OneIsActive, ReachedIsApart, ReachedIsBundle, SystemsDiffer}
+use Rattle.lagprogress.proofs.Common.{CarriersAreUp, EachAgrees, EachDistributes, IsReached, IsReady, LeadsTo, NothingStaysHeld, Rounds}
+use Rattle.lagprogress.proofs.Common.{freed_if_both_active, freed_if_one_is, up_if_both_active, up_if_one_is}
 use Rattle.lagscript.specs.declared.config.BadWorld.TheVariants.{SameSystem}
 use Rattle.cables.specs.declared.item.Item.{Item}
 use Rattle.lagscript.specs.Configs.{refusal_of_all}
 use Rattle.lagworld.specs.Sound.{IsSound}
-use Rattle.lagprogress.proofs.Bundling.{each_active_link_agrees, each_active_link_comes_up, each_link_agrees, each_link_comes_up}
+use Rattle.lagprogress.proofs.Bundling.{each_active_link_agrees, each_active_link_comes_up, each_link_agrees, each_link_comes_up, first_none}
 use Rattle.lagprogress.proofs.Carrying.{each_reached_has_carriers_up}
 use Rattle.lagprogress.proofs.ComingUp.{events_keep}
 use Rattle.lagprogress.proofs.Freeing.{none_is_held_where_active, nothing_is_held}
 use Rattle.lagprogress.proofs.Hearing.{no}
 use Rattle.lagprogress.proofs.Reaching.{reached_steady}
-
-first_none : {X : Type 0} (a b : Option X) → or_first a b ≡ None → a ≡ None
-first_none None b e = refl
-first_none (Some x) b e = e
-
-other_none : {X : Type 0} (a b : Option X) → or_first a b ≡ None → b ≡ None
-other_none None b e = e
-other_none (Some x) b e = absurd (none-some x (sym e))
 
 when_none : {X : Type 0} (b : Bool) (x : X) → (if b then Some x else None) ≡ None → b ≡ false
 when_none true x e = absurd (none-some x (sym e))
@@ -29,14 +21,12 @@ when_none false x e = refl
 
 start_differs : (configs : List Config) (cables : List (ℕ × ℕ)) (j : WorldState) → refusal_of_all (map config_value configs) cables ≡ None
     → AreFirst configs j → SystemsDiffer j
-start_differs [] cables j h f = absurd f
-start_differs (a ∷ []) cables j h f = absurd f
-start_differs (a ∷ b ∷ c ∷ rest) cables j h f = absurd f
 start_differs (a ∷ b ∷ []) cables j h f = λ same.
     (let apart : same_system a.system b.system ≡ false = when_none (same_system a.system b.system) SameSystem
-    (first_none _ _ (other_none _ _ (other_none _ _ h))) in
+    (first_none _ _ (first_none _ _ (first_none _ _ h).1).1).0 in
     let one : a.system ≡ b.system = sym f.0.configured.system ∙ (same ∙ f.1.configured.system) in
     no (sym apart ∙ (ap (λ x. same_system x b.system) one ∙ system-itself b.system)))
+start_differs configs cables j h f = absurd f
 
 pub reached_apart : (gives : Algorithms) → ReachedIsApart gives
 reached_apart gives config es rs start new accepted first runs =
@@ -62,7 +52,7 @@ reached_is_bundle Holds gives config es rs start new accepted i first runs few h
 module _ {C : Type 0} (items : C → List Item) (limit : C → Option ℕ) where
   is_bundle : (Holds : LinkState → WorldState → Type 0) (gives : Algorithms) (j : WorldState) → IsReached items limit gives j → IsReady Holds j
       → IsSound j × IsBundle Holds j
-  is_bundle Holds gives j r ready = reached_is_bundle Holds gives r.config r.events r.replies r.start j (first_none _ _ r.accepted) r.starts
+  is_bundle Holds gives j r ready = reached_is_bundle Holds gives r.config r.events r.replies r.start j (first_none _ _ r.accepted).0 r.starts
       r.made.systems r.runs r.few ready.heard ready.aggregators ready.links
 
   carriers : (gives : Algorithms) (j : WorldState) → IsReached items limit gives j → (s : Side) → CarriersAreUp (half s j).state

@@ -1,30 +1,28 @@
 -- A frame that a bundle is offered after its links came up arrives within one round.
-use Rattle.lagprogress.proofs.Common.{List, Some, [], ap, arith, inl, inr, map, refl, slice_get, subst, suc, sym, true, zero, ℕ, ◌++◌, ◌+◌, ◌∙◌, ◌∷◌}
-use Rattle.lagprogress.proofs.Common.{◌≡◌, ◌≤◌, ◌⊎◌, AggId, Lacpdu, One, Side, peer, Machines, lacpdu_rows, receive_rows, count_down, Answer}
-use Rattle.lagprogress.proofs.Common.{SystemPort, Call, Data_frame, IsFrame, TableRun, SystemState, all-get, Event, Reply, Algorithms, WorldRuns}
-use Rattle.lagprogress.proofs.Common.{WorldSteps, side_of, link_ends, ItemValue, LinkState, WorldState, accepts_at, half, is_accepted, link_at}
-use Rattle.lagprogress.proofs.Common.{port_at, put_on_port, put_ends, Arrives, DisabledAreUnsynchronized, EachActiveFrameArrives, EachFrameArrives}
-use Rattle.lagprogress.proofs.Common.{EachReachedHasUnsynchronized, GetsPort, TakesFrame, BothAreActive, IsBundle, OneIsActive, IsHealthyAt, IsRound}
-use Rattle.lagprogress.proofs.Common.{NothingInFlight, Rounds}
+use Rattle.lagprogress.proofs.Common.{List, Some, [], ap, arith, map, refl, slice_get, subst, suc, sym, true, zero, ℕ, ◌++◌, ◌+◌, ◌∙◌, ◌∷◌, ◌≡◌, ◌≤◌}
+use Rattle.lagprogress.proofs.Common.{AggId, Lacpdu, One, Side, peer, Machines, receive_rows, count_down, SystemPort, Data_frame, IsFrame}
+use Rattle.lagprogress.proofs.Common.{SystemState, all-get, Reply, Algorithms, WorldSteps, side_of, link_ends, ItemValue, LinkState, WorldState}
+use Rattle.lagprogress.proofs.Common.{accepts_at, half, is_accepted, link_at, port_at, put_on_port, put_ends, Arrives, DisabledAreUnsynchronized}
+use Rattle.lagprogress.proofs.Common.{EachActiveFrameArrives, EachFrameArrives, EachReachedHasUnsynchronized, GetsPort, TakesFrame, BothAreActive}
+use Rattle.lagprogress.proofs.Common.{EndsHealthyCable, IsBundle, OneIsActive, IsRound, NothingInFlight, Rounds}
 use Rattle.std.specs.Global.{Vec}
 use Rattle.lagscript.specs.declared.event.Event.TheVariants as event
 use Rattle.lagworld.specs.declared.reply.Reply.TheVariants as reply
 use Rattle.lagprogress.proofs.ArrivingLemmas.{is_data, offer_gets_port}
-use Rattle.lagprogress.proofs.Bundling.{all_by_place, as_before, both_meet, both_wake, ends_at, holds, old_port, one_meet, one_wakes, ups}
+use Rattle.lagprogress.proofs.Bundling.{Meets, Nowhere, all_by_place, as_before, awake_of, both_active, one_active, said, still_heard, ups_of}
 use Rattle.lagprogress.proofs.Carrying.{Lapses, LapsesAt, distributes_up, lapse_first, lapse_kept, lapse_settles, receive_lapses}
 use Rattle.lagprogress.proofs.Climbing.{PartnerInSync}
 use Rattle.lagprogress.proofs.ComingUp.{told, zero_on}
 use Rattle.lagprogress.proofs.EachPort.{OfEach, Step-each, first_each}
 use Rattle.lagprogress.proofs.EachRound.{EachAt, RoundKeeps, round_each, rounds_join, rounds_steady, same_index}
-use Rattle.lagprogress.proofs.EndFacts.{activity}
 use Rattle.lagprogress.proofs.FlyingLemmas.{OnItsWay, in_round}
-use Rattle.lagprogress.proofs.Halves.{both_first, each_is_calls, keeps_steady}
-use Rattle.lagprogress.proofs.Linked.{EndIs, IsGood, Link, place_kept, push_there}
+use Rattle.lagprogress.proofs.Halves.{both_first, keeps_steady}
+use Rattle.lagprogress.proofs.Linked.{EndIs, IsGood, Link, place_kept, push_there, events_each}
 use Rattle.lagprogress.proofs.OneCable.{OnCable, cable, placed, port_there, push, push_each, puts, takes_all, towards_there}
 use Rattle.lagprogress.proofs.OnePort.{AtPort}
 use Rattle.lagprogress.proofs.OneRound.{join}
-use Rattle.lagprogress.proofs.Progressing.{Fresh, fits_fresh, knows_peer, said_by}
-use Rattle.lagprogress.proofs.Timers.{fires_keep, runs_keep}
+use Rattle.lagprogress.proofs.Progressing.{fits_fresh, knows_peer}
+use Rattle.lagprogress.proofs.Timers.{runs_keep, takes_keep}
 
 -- the partner of a port in PORT_DISABLED is not synchronized
 
@@ -35,10 +33,7 @@ lapse_round : RoundKeeps LapsesAt
 lapse_round = record {
   settles = lapse_settles;
   sends = λ n p a. a;
-  takes = λ n v p q h a. elim h [
-    | inl f ↦ fires_keep Lapses (lacpdu_rows v) (λ p a e. absurd cc, tt) p q f a
-    | inr r ↦ subst Lapses (sym r.1) a
-  ];
+  takes = λ n v p q h a. takes_keep Lapses v (λ p a e. absurd cc, tt) p q h a;
 }
 
 lapses_on : (gives : Algorithms) (n : ℕ) (old new : WorldState) (s : Side) → Rounds gives n old new → EachAt LapsesAt s old → EachAt LapsesAt s new
@@ -46,28 +41,12 @@ lapses_on gives n old new s h a = zero_on gives (λ m j. EachAt LapsesAt s j) ol
     (λ m i j q b. round_each LapsesAt LapsesAt lapse_round
     (λ k p r run c. runs_keep Lapses receive_rows receive_lapses (count_down p) r run c) s gives i j q b) n new h
 
-calls_lapse : (gives : ℕ → ℕ → ℕ → Type 0) (old new : SystemState) (calls : List Call) (answers : List Answer)
-    → TableRun gives old calls answers new → OfEach LapsesAt old.system_ports → OfEach LapsesAt new.system_ports
-calls_lapse gives old new [] [] h a = subst (λ (s : SystemState). OfEach LapsesAt s.system_ports) (sym h) a
-calls_lapse gives old new [] (r ∷ answers) h a = absurd h
-calls_lapse gives old new (call ∷ calls) [] h a = absurd h
-calls_lapse gives old new (call ∷ calls) (r ∷ answers) h a = calls_lapse gives h.0 new calls answers h.2
-    (Step-each LapsesAt lapse_settles gives old call r h.0 (lapse_kept call r) h.1 a)
-
-events_lapse : (gives : Algorithms) (es : List Event) (rs : List Reply) (old new : WorldState) → WorldRuns gives old es rs new → (s : Side)
-    → EachAt LapsesAt s old → EachAt LapsesAt s new
-events_lapse gives [] [] old new h s a = subst (λ (j : WorldState). EachAt LapsesAt s j) (sym h) a
-events_lapse gives [] (r ∷ rs) old new h s a = absurd h
-events_lapse gives (e ∷ es) [] old new h s a = absurd h
-events_lapse gives (e ∷ es) (r ∷ rs) old new h s a =
-    let c = each_is_calls gives e r old h.0 h.1 s in
-    events_lapse gives es rs h.0 new h.2 s (calls_lapse (gives s) (half s old).state (half s h.0).state c.0 c.1 c.2 a)
-
 pub each_reached_has_unsynchronized : (gives : Algorithms) → EachReachedHasUnsynchronized gives
 each_reached_has_unsynchronized gives configs es rs start new s i h runs =
     let st = (half s start).state in
     let first = first_each LapsesAt lapse_settles lapse_first st (both_first configs start h s) in
-    λ k x there. all-get (λ (y : SystemPort). Lapses y.port) (half s new).state.system_ports k x there (events_lapse gives es rs start new runs s first)
+    λ k x there. all-get (λ (y : SystemPort). Lapses y.port) (half s new).state.system_ports k x there (events_each gives s (λ t. OfEach LapsesAt t.system_ports)
+    (λ a b call r. Step-each LapsesAt lapse_settles (gives s) a call r b (lapse_kept call r)) es rs start new runs first)
 
 -- the cable after an offer
 
@@ -102,27 +81,16 @@ none_flies gives zero old new l h = absurd (omega (arith, l))
 none_flies gives (suc n) old new l h = h.2.empties
 
 module _ (Holds : LinkState → WorldState → Type 0) (first : ℕ) (gives : Algorithms) (old : WorldState) (b : IsBundle Holds old)
-    (meets : (i : ℕ) (l : LinkState) (h : IsHealthyAt i l old) → Holds l old → (mid : WorldState) → Rounds gives first old mid
-    → Fresh (λ s. port_at s l) (said_by l old (ends_at i l old h)) mid)
-    (wakes : (i : ℕ) (l : LinkState) (h : IsHealthyAt i l old) → Holds l old → (s : Side)
-    → (activity (said_by l old (ends_at i l old h) s) ≡ true) ⊎ (activity (said_by l old (ends_at i l old h) (peer s)) ≡ true)) where
+    (m : Meets Holds Nowhere first gives old) where
   -- the healthy cable of a port that is up
-  record Carrier (s : Side) (port : ℕ) : Type 0 where
-    index : ℕ
-    link : LinkState
-    healthy : IsHealthyAt index link old
-    joins : port_at s link ≡ port
-
   carrier : (n : ℕ) (s : Side) (agg : AggId) (octets : List ℕ) (r : Reply) (mid sent : WorldState) → DisabledAreUnsynchronized (half s old).state
-      → Rounds gives n old mid → (g : GetsPort s agg octets mid r sent) → Carrier s g.port
+      → Rounds gives n old mid → (g : GetsPort s agg octets mid r sent) → EndsHealthyCable Holds s g.port old
   carrier n s agg octets r mid sent quiet h g =
       let st = (half s mid).state in
       let now = rounds_steady gives n old mid b.steady h in
       let up = distributes_up st agg g.port (now s).0 (lapses_on gives n old mid s h (unsynchronized (half s old).state quiet)) g.distributes in
-      let like = as_before gives n old mid b.steady h s in
-      let x = old_port (half s old).state.system_ports st.system_ports up.0 up.1 like.numbers up.2 in
-      let it = b.heard s up.0 x.0 x.1 (sym (like.alike up.0 x.0 up.1 x.1 up.2).1 ∙ up.4) in
-      record { index = it.index; link = it.link; healthy = it.healthy; joins = it.joins ∙ (sym x.2 ∙ up.3) }
+      subst (λ p. EndsHealthyCable Holds s p old) up.3
+      (still_heard Holds s old mid (as_before gives n old mid b.steady h s) b.heard up.0 up.1 up.2 up.4)
 
   pub frame_arrives : (n number : ℕ) (s : Side) (agg : AggId) (octets : Vec ℕ) (r : Reply) (mid sent new : WorldState)
       → DisabledAreUnsynchronized (half s old).state → 1 ≤ n → first + 31 ≤ n → Rounds gives n old mid
@@ -137,9 +105,9 @@ module _ (Holds : LinkState → WorldState → Type 0) (first : ℕ) (gives : Al
       let l = it.link in
       let y = it.healthy in
       let at : Side → ℕ = λ t. port_at t l in
-      let w = said_by l old (ends_at i l old y) in
-      let awake = wakes i l y (holds Holds first gives old b meets wakes i l y) in
-      let top = ups Holds first gives old b meets wakes i l y n mid enough h in
+      let w = said old i l y in
+      let awake = awake_of Holds Nowhere first gives old m i l y in
+      let top = ups_of Holds Nowhere first gives old m i l y n mid enough h in
       let fresh = top.2.fresh in
       let heard = told at w awake top.0 mid top.1 top.2 (peer s) in
       let start = join 2 at w fresh.known One (peer s) PartnerInSync mid fresh.link heard in
@@ -172,10 +140,8 @@ module _ (Holds : LinkState → WorldState → Type 0) (first : ℕ) (gives : Al
 
 pub each_frame_arrives : (gives : Algorithms) → EachFrameArrives gives
 each_frame_arrives gives n number s agg octets r old mid sent new b quiet enough h named takes step q =
-    frame_arrives OneIsActive 630 gives old b (one_meet gives old b) (one_wakes old) n number s agg octets r mid sent new
-    quiet (omega (arith, enough)) (omega (arith, enough)) h named takes step q
+    frame_arrives OneIsActive 630 gives old b (one_active gives old b) n number s agg octets r mid sent new quiet (omega (arith, enough)) (omega (arith, enough)) h named takes step q
 
 pub each_active_frame_arrives : (gives : Algorithms) → EachActiveFrameArrives gives
 each_active_frame_arrives gives n number s agg octets r old mid sent new b quiet enough h named takes step q =
-    frame_arrives BothAreActive 321 gives old b (both_meet gives old b) (both_wake old) n number s agg octets r mid sent new
-    quiet (omega (arith, enough)) (omega (arith, enough)) h named takes step q
+    frame_arrives BothAreActive 321 gives old b (both_active gives old b) n number s agg octets r mid sent new quiet (omega (arith, enough)) (omega (arith, enough)) h named takes step q

@@ -1,21 +1,20 @@
 -- How the ends of a cable come to know each other if one of them is active.
-use Rattle.lagprogress.proofs.Common.{List, Some, [], ap, arith, false, inl, inr, option_map, refl, slice_get, subst, suc, sym, true, zero, ℕ, ◌+◌}
-use Rattle.lagprogress.proofs.Common.{◌-◌, ◌<◌, ◌∙◌, ◌∷◌, ◌≡◌, ◌≤◌, ◌⊎◌, cases_Bool, none-some, same_Some, Party, Lacpdu, One, Side, peer, find_at}
-use Rattle.lagprogress.proofs.Common.{SystemPort, model_port_of, number_of_port, IsSound, SystemState, port_numbers, Rises, are_numbered, ports_rise}
-use Rattle.lagprogress.proofs.Common.{Algorithms, LinkState, WorldState, half, port_at, EndsOfEachKnow, EndsComeToKnow, IsRound, NothingInFlight}
-use Rattle.lagprogress.proofs.Common.{OfPort, Rounds, IsSteady}
+use Rattle.lagprogress.proofs.Common.{Some, ap, arith, false, inl, inr, option_map, slice_get, subst, sym, true, zero, ℕ, ◌+◌, ◌-◌, ◌<◌, ◌∙◌, ◌≡◌}
+use Rattle.lagprogress.proofs.Common.{◌≤◌, ◌⊎◌, cases_Bool, Party, Lacpdu, One, Side, peer, find_at, SystemPort, model_port_of, number_of_port}
+use Rattle.lagprogress.proofs.Common.{IsSound, SystemState, are_numbered, ports_rise, Algorithms, LinkState, WorldState, half, port_at}
+use Rattle.lagprogress.proofs.Common.{EndsOfEachKnow, EndsComeToKnow, IsRound, NothingInFlight, OfPort, Rounds, IsSteady}
 use Rattle.lagprogress.proofs.Claims.{IsNamed}
 use Rattle.lagprogress.proofs.EndFacts.{Learnt, activity, short_timeout}
-use Rattle.lagprogress.proofs.Hearing.{no}
 use Rattle.lagprogress.proofs.Lapsing.{Lapsed, Lasting, Phase, Tails, begins_lasting, lasting_active, lasting_passes, some_wait}
 use Rattle.lagprogress.proofs.Linked.{Link, each_side, peer_twice}
-use Rattle.lagprogress.proofs.OneRound.{Nothing, at_rest, end_port, round_nears, round_passes, ticked}
+use Rattle.lagprogress.proofs.OneRound.{Nothing, at_rest, beside_here, round_passes, ticked}
 use Rattle.lagprogress.proofs.Progressing.{Answers, Calls, Comes, Ends, Fresh, Linked, along_rounds, answered, answers, called, came, comes}
 use Rattle.lagprogress.proofs.Progressing.{comes_first, only_cabling, only_cable, beside, end_of, first_round, fits_first, fresh_knows, hears, lower}
-use Rattle.lagprogress.proofs.Progressing.{machines_there, meets_short, mode, own_says, room_short, said_by, starts, stays_fresh, wait}
-use Rattle.lagprogress.proofs.Sounding.{Sounds, silence_of}
+use Rattle.lagprogress.proofs.Progressing.{machines_there, meets_short, mode, own_says, room_short, said_by, starts, stays_fresh, wait, calls_on}
+use Rattle.lagprogress.proofs.Sounding.{silence_of}
 use Rattle.lagprogress.proofs.Stamps.{present_heard}
 use Rattle.lagprogress.proofs.Telling.{told_heard}
+use Rattle.lagprogress.proofs.OnePort.{higher}
 
 module _ (at : Side → ℕ) (w : Side → Lacpdu) where
   -- The end of s hears its partner, which is active; then it sounds, since it goes to EXPIRED if it hears nothing more.
@@ -47,23 +46,14 @@ module _ (at : Side → ℕ) (w : Side → Lacpdu) where
     )
 
     calls : (gives : Algorithms) (n : ℕ) (old new : WorldState) → IsRound gives old new → Calls at w (peer s) n old → Slowly s (n + 1) new
-    calls gives n old new h g = elim (round_nears gives (peer s) 1 at w (λ _. 0) false g.0 old new (omega arith)
-        (fits_first at w (ticked (λ _. 0)) (λ t. omega arith)) (inl active, λ e. absurd (no e)) (inl active, λ e. absurd (no e)) g.3 h) [
-          | inl q ↦ (let l = g.2 in
-              let m = q.0 in
-              inl (
-                g.0 - 1,
-                q.0,
-                omega (arith, l, m),
-                lower at w 1 (ticked (λ _. 0)) (λ _. 0) (peer s) (Sounds false (g.0 - 1)) new (λ _. omega arith) q.1,
-                h.empties,
-              ))
-          | inr q ↦ (let l = g.2 in
-              let m = g.1 in
-              inr (inl (begins (n + 1) new (omega (arith, l, m)) (lower at w 1 (ticked (λ _. 0)) (λ _. 0) s
-              (Learnt 1 (w (peer s)) (wait at w s)) new (λ _. omega arith)
-              (subst (λ t. Linked at w (ticked (λ _. 0)) t (Learnt 1 (w (peer t)) (wait at w t)) new) (peer_twice s) q)) h.empties)))
-        ]
+    calls gives n old new h g = elim (calls_on at w (peer s) active gives n old new h g) [
+      | inl c ↦ inl c
+      | inr q ↦ (let l = g.2 in
+          let m = g.1 in
+          inr (inl (begins (n + 1) new (omega (arith, l, m)) (lower at w 1 (ticked (λ _. 0)) (λ _. 0) s
+          (Learnt 1 (w (peer s)) (wait at w s)) new (λ _. omega arith)
+          (subst (λ t. Linked at w (ticked (λ _. 0)) t (Learnt 1 (w (peer t)) (wait at w t)) new) (peer_twice s) q)) h.empties)))
+    ]
 
     lasts : (gives : Algorithms) (n : ℕ) (old new : WorldState) → IsRound gives old new → Lasts s n old → Slowly s (n + 1) new
     lasts gives n old new h (k, some, soon, link, none) =
@@ -71,7 +61,7 @@ module _ (at : Side → ℕ) (w : Side → Lacpdu) where
         elim (round_passes gives s 1 at w (λ _. 0) (Lasting u k) (Phase u (λ r. Lapsed 30 r ⊎ Tails r) (k - 1)) (Phase u Tails (k - 1))
         (Lasting u (k - 1)) old new (omega arith) (fits_first at w (ticked (λ _. 0)) (λ t. omega arith))
         (lasting_passes (w s) u 1 k active (omega arith)) link h) [
-          | inl q ↦ (let z = (end_port 1 at w (ticked (λ _. 0)) s (Lasting u (k - 1)) new q s).1.1 refl in
+          | inl q ↦ (let z = beside_here 1 at w (ticked (λ _. 0)) s (Lasting u (k - 1)) new q in
               let more = z.0 in
               inr (inl (
                 k - 1,
@@ -127,12 +117,6 @@ one_meets gives at w s n old new named active enough l h = elim (cases_Bool (sho
 
 -- an end names itself by a port number that the default partner has not
 
-risen : (low : ℕ) (ports : List SystemPort) (k : ℕ) (x : SystemPort) → Rises low (port_numbers ports) → slice_get ports k ≡ Some x
-    → low < x.number
-risen low [] k x r e = absurd (none-some x e)
-risen low (y ∷ ys) zero x r e = subst (λ (z : SystemPort). low < z.number) (same_Some y x e) r.0
-risen low (y ∷ ys) (suc k) x r e = let l = risen y.number ys k x r.1 e in let m = r.0 in omega (arith, l, m)
-
 own_number : (s : SystemState) (k : ℕ) (x : SystemPort) → IsSound s → slice_get s.system_ports k ≡ Some x → x.port.party.port.number ≡ x.number
 own_number s k x h there =
     let found = find_at number_of_port s.system_ports k x (are_numbered 0 s.system_ports (ports_rise s h.ports)) there in
@@ -142,7 +126,7 @@ pub named_at : (l : LinkState) (j : WorldState) (e : Ends l j) → IsSteady j �
 named_at l j e steady t same =
     let st = (half t j).state in
     let x = (e t).1 in
-    let some : 0 < x.number = risen 0 st.system_ports (e t).0 x (ports_rise st (steady t).0.ports) (e t).3 in
+    let some : 0 < x.number = higher 0 st.system_ports (e t).0 x (ports_rise st (steady t).0.ports) (e t).3 in
     let none : 0 ≡ x.number = ap (λ (p : Party). p.port.number) (same ∙ sym (own_says x.port).0)
     ∙ own_number st (e t).0 x (steady t).0 (e t).3 in
     absurd (omega (arith, some, none))

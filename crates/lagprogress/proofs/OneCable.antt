@@ -1,15 +1,15 @@
 -- What ticks, Emit and Deliver events do to a cable that is whole and has no limit, and what they leave to itself.
-use Rattle.lagprogress.proofs.Common.{Bool, Err, List, None, Ok, Option, Result, Some, [], ap, arith, cond, false, inl, inr, length, map, nat_lt, not}
-use Rattle.lagprogress.proofs.Common.{position, refl, slice_get, slice_set, subst, suc, sym, true, zero, ℕ, ◌++◌, ◌+◌, ◌<◌, ◌==◌, ◌∙◌, ◌∷◌, ◌≡◌, ◌⊎◌}
-use Rattle.lagprogress.proofs.Common.{cases_Bool, nat_tests, position-Some, none-some, same_Some, slice_get-get_or, AllByRecursion, position_or_len}
-use Rattle.lagprogress.proofs.Common.{Lacpdu, all-append, IsCabling, One, Side, Two, end_at, peer, value_of, Stamp, Answer, SystemFault, Received}
-use Rattle.lagprogress.proofs.Common.{Call, Carries, IsFrame, Receive, Step, Tick, Transmit, CallPromise, SystemState, PortHistory, Reply}
-use Rattle.lagprogress.proofs.Common.{AfterReceive, AfterTransmit, Algorithms, DeliversFrom, OnLink, WorldEmits, WorldReceives, WorldSteps}
-use Rattle.lagprogress.proofs.Common.{set_last_lacpdu, side_of, stamp_for, stamped_in, transmitted_item, with_collected_in, with_link_at}
+use Rattle.lagprogress.proofs.Common.{Bool, Err, List, None, Ok, Option, Result, Some, [], ap, arith, cond, get_or, inl, inr, length, map, nat_lt}
+use Rattle.lagprogress.proofs.Common.{not, option_map, position, refl, slice_get, slice_set, subst, suc, sym, true, zero, ℕ, ◌++◌, ◌<◌, ◌==◌, ◌∙◌}
+use Rattle.lagprogress.proofs.Common.{◌∷◌, ◌≡◌, ◌⊎◌, cases_Bool, false≢true, nat_tests, position-Some, same_Some, slice_get-get_or, slice_get_within}
+use Rattle.lagprogress.proofs.Common.{AllByRecursion, position_or_len, itself, Lacpdu, all-append, IsCabling, One, Side, Two, end_at, peer, value_of}
+use Rattle.lagprogress.proofs.Common.{Stamp, Answer, SystemFault, Received, Call, Carries, IsFrame, Receive, Step, Tick, Transmit, CallPromise}
+use Rattle.lagprogress.proofs.Common.{SystemState, PortHistory, Reply, AfterReceive, AfterTransmit, Algorithms, DeliversFrom, OnLink, WorldEmits}
+use Rattle.lagprogress.proofs.Common.{WorldReceives, WorldSteps, set_last_lacpdu, side_of, stamp_for, stamped_in, with_collected_in, with_link_at}
 use Rattle.lagprogress.proofs.Common.{with_stamp_collected, HalfTicks, payload_in, side_numbered, stamp_count, link_ends, HalfState, ItemValue}
 use Rattle.lagprogress.proofs.Common.{LinkState, WorldState, accepts, change_count_in, change_link, half, history_at, limit_towards, link_at}
-use Rattle.lagprogress.proofs.Common.{link_index, port_at, put_on_port, sent_on, towards, with_half, with_towards, read_log, end_is, mapped_set}
-use Rattle.lagprogress.proofs.Common.{put_ends, set_elsewhere, set_here, half_there, position_there}
+use Rattle.lagprogress.proofs.Common.{link_index, port_at, put_on_port, sent_on, towards, with_half, with_links, with_towards, read_log, end_is}
+use Rattle.lagprogress.proofs.Common.{mapped_set, put_ends, set_elsewhere, set_here, half_there, position_there}
 use Rattle.lagsystem.specs.declared.drive.Reply.TheVariants as answer
 use Rattle.lagsystem.specs.declared.received.Received.TheVariants as received
 use Rattle.lagscript.specs.declared.event.Event.TheVariants as event
@@ -17,6 +17,8 @@ use Rattle.slowpdu.specs.declared.pdu.Pdu.TheVariants as pdu
 use Rattle.slowpdu.proofs.PduInLemmas.{pdu_read}
 use Rattle.cables.specs.declared.item.Stamp.TheVariants as stamp
 use Rattle.lagprogress.proofs.Passing.{peer_there, put_there}
+use Rattle.std.proofs.lemmas.List.Sums.{fails_before_first}
+use Rattle.slowpdu.specs.Readings.{pdu_in}
 
 -- the cable that joins these ports, with these items on it towards each system
 abbrev pub cable : (Side → ℕ) → (Side → List ItemValue) → LinkState
@@ -67,27 +69,16 @@ alone s i k at fl links l c h e =
     end_is s links i (cable at fl) c.there ∙ ap (λ (n : ℕ). Some n) (port_there s at fl) in
     let same : suc k ≡ suc i = c.cabling s (suc k) (suc i) (at s) there here in omega (arith, same)
 
--- an element that passes is found, or one before it
-first_within : {X : Type 0} (q : X → Bool) (xs : List X) (i : ℕ) (x : X) → slice_get xs i ≡ Some x → q x ≡ true
-    → position_or_len q xs < length xs
-first_within q [] i x e h = absurd (none-some x e)
-first_within q (y ∷ ys) zero x e h =
-    subst (λ b. cond (not b) (1 + position_or_len q ys) 0 < length (y ∷ ys)) (sym (ap q (same_Some y x e) ∙ h)) (omega arith)
-first_within q (y ∷ ys) (suc i) x e h = by_test (q y) (position_or_len q ys) (length ys) (first_within q ys i x e h)
-  where
-    by_test : (b : Bool) (n m : ℕ) → n < m → cond (not b) (1 + n) 0 < suc m
-    by_test true n m l = omega (arith, l)
-    by_test false n m l = omega (arith, l)
-
+-- where an element passes, one is found
 is_found : {X : Type 0} (q : X → Bool) (xs : List X) (i : ℕ) (x : X) → slice_get xs i ≡ Some x → q x ≡ true
     → position q xs ≡ Some (position_or_len q xs)
-is_found q xs i x e h = ap (λ b. cond b (Some (position_or_len q xs)) None) (below (position_or_len q xs) (length xs) (first_within q xs i x e h))
-  where
-    below : (n m : ℕ) → n < m → nat_lt n m ≡ true
-    below n m l = grind (arith, nat_tests)
-
-same_number : (n : ℕ) → (n == n) ≡ true
-same_number n = grind (arith, nat_tests)
+is_found q xs i x e h = elim (cases_Bool (nat_lt (position_or_len q xs) (length xs))) [
+  | inl t ↦ ap (λ b. cond b (Some (position_or_len q xs)) None) t
+  | inr f ↦ (let within = slice_get_within xs i x e in
+      let before : i < position_or_len q xs = grind (arith, nat_tests) in
+      let it = same_Some (get_or xs i x) x (sym (slice_get-get_or xs i x within) ∙ e) in
+      absurd (false≢true (sym (fails_before_first q xs i x before) ∙ (ap q it ∙ h))))
+]
 
 pub placed : (s : Side) (i : ℕ) (at : Side → ℕ) (fl : Side → List ItemValue) (links : List LinkState) → OnCable i at fl links
     → link_index s (at s) links ≡ Some i
@@ -95,7 +86,7 @@ placed s i at fl links c =
     let q : LinkState → Bool = λ l. port_at s l == at s in
     let k = position_or_len q links in
     let found : link_index s (at s) links ≡ Some k = is_found q links i (cable at fl) c.there
-    (subst (λ n. (n == at s) ≡ true) (sym (port_there s at fl)) (same_number (at s))) in
+    (subst (λ n. (n == at s) ≡ true) (sym (port_there s at fl)) (itself (at s))) in
     let within = (position-Some q links k (cable at fl) found).0 in
     let it = slice_get-get_or links k (cable at fl) within in
     found ∙ ap (λ (n : ℕ). Some n) (alone s i k at fl links _ c it (position_there s (at s) links k _ found it))
@@ -151,11 +142,51 @@ puts s i at fl item links c =
     (takes_all s at fl) ∙ ap (slice_set links i) (pushed s at fl item)))
     (on_set i at fl (push (peer s) item fl) links c)
 
+-- one more item away from system s, if there is one
+abbrev pub gained : Side → Option ItemValue → (Side → List ItemValue) → Side → List ItemValue
+gained s None fl = fl
+gained s (Some item) fl = push (peer s) item fl
+
+-- the cables after port p of system s sent an item, if there is one
+abbrev pub with_put : Side → ℕ → Option ItemValue → List LinkState → List LinkState
+with_put s p None links = links
+with_put s p (Some item) links = put_on_port s p item links
+
+with_put_ends : (s : Side) (p : ℕ) (o : Option ItemValue) (links : List LinkState) → map link_ends (with_put s p o links) ≡ map link_ends links
+with_put_ends s p None links = refl
+with_put_ends s p (Some item) links = put_ends s p item links
+
+beside_put : (s : Side) (p i : ℕ) (at : Side → ℕ) (fl : Side → List ItemValue) (o : Option ItemValue) (links : List LinkState)
+    → (at s ≡ p → ⊥) → OnCable i at fl links → OnCable i at fl (with_put s p o links)
+beside_put s p i at fl None links not c = c
+beside_put s p i at fl (Some item) links not c = put_beside s p i at fl item links not c
+
+own_put : (s : Side) (i : ℕ) (at : Side → ℕ) (fl : Side → List ItemValue) (o : Option ItemValue) (links : List LinkState)
+    → OnCable i at fl links → OnCable i at (gained s o fl) (with_put s (at s) o links)
+own_put s i at fl None links c = c
+own_put s i at fl (Some item) links c = puts s i at fl item links c
+
+-- what became of the cable after system s sent a frame with these octets, or none
+abbrev pub Gains : Side → Option (List ℕ) → (Side → List ItemValue) → (Side → List ItemValue) → Type 0
+Gains s None fl now = now ≡ fl
+Gains s (Some frame) fl now = (item : ItemValue) × (item.octets ≡ frame) × (now ≡ push (peer s) item fl)
+
+gains : (s : Side) (as_item : List ℕ → ItemValue) → ((frame : List ℕ) → (as_item frame).octets ≡ frame) → (o : Option (List ℕ))
+    (fl : Side → List ItemValue) → Gains s o fl (gained s (option_map as_item o) fl)
+gains s as_item same None fl = refl
+gains s as_item same (Some frame) fl = (as_item frame, same frame, refl)
+
+-- the frame that goes out with an answer to Transmit, and the item that it becomes; its stamp depends on the histories
+abbrev pub sent_frame : Result (Option (List ℕ)) SystemFault → Option (List ℕ)
+sent_frame (Err fault) = None
+sent_frame (Ok o) = o
+
+abbrev pub sent_item : ℕ → List PortHistory → List ℕ → ItemValue
+sent_item p logs frame = record { octets = frame; stamp = stamp_for (pdu_in (payload_in frame)) (change_count_in (history_at logs p)) }
+
 -- what became of the cable after a frame was asked for
 abbrev pub Went : Side → Result (Option (List ℕ)) SystemFault → (Side → List ItemValue) → (Side → List ItemValue) → Type 0
-Went s (Err fault) fl now = now ≡ fl
-Went s (Ok None) fl now = now ≡ fl
-Went s (Ok (Some frame)) fl now = (item : ItemValue) × (item.octets ≡ frame) × (now ≡ push (peer s) item fl)
+Went s a fl now = Gains s (sent_frame a) fl now
 
 -- an LACPDU in the item has this number as its stamp
 abbrev pub IsStamped : ℕ → ItemValue → Type 0
@@ -172,10 +203,55 @@ abbrev Stamping : Side → ℕ → List PortHistory → (Side → List ItemValue
 Stamping s p logs fl now = (m : Side → ℕ) → change_count_in (history_at logs p) ≡ m (peer s)
     → ((t : Side) → AllByRecursion (IsStamped (m t)) (fl t)) → (t : Side) → AllByRecursion (IsStamped (m t)) (now t)
 
-item_stamped : (s : Side) (p : ℕ) (frame : List ℕ) (h : HalfState) (n : ℕ) → change_count_in (history_at h.histories p) ≡ n
-    → IsStamped n (transmitted_item s p frame h)
-item_stamped s p frame h n e x c =
-    ap (λ v. stamp_count (stamp_for v (change_count_in (history_at h.histories p)))) (pdu_read (payload_in frame) (pdu.Lacpdu x) c.1) ∙ e
+stamping : (s : Side) (p : ℕ) (logs : List PortHistory) (o : Option (List ℕ)) (fl : Side → List ItemValue)
+    → Stamping s p logs fl (gained s (option_map (sent_item p logs) o) fl)
+stamping s p logs None fl = λ m e y. y
+stamping s p logs (Some frame) fl = λ m e y. push_each (λ t. IsStamped (m t)) (peer s) (sent_item p logs frame) fl
+    (λ x c. ap (λ v. stamp_count (stamp_for v (change_count_in (history_at logs p)))) (pdu_read (payload_in frame) (pdu.Lacpdu x) c.1) ∙ e) y
+
+half_logs : (s : Side) (h : HalfState) (j : WorldState) → h.histories ≡ (half s j).histories
+    → (t : Side) → (half t (with_half s h j)).histories ≡ (half t j).histories
+half_logs One h j e One = e
+half_logs One h j e Two = refl
+half_logs Two h j e One = refl
+half_logs Two h j e Two = e
+
+-- system s was asked for a frame of port p
+pub record Emits (gives : Algorithms) (s : Side) (p : ℕ) (old new : WorldState) : Type 0 where
+  pub a : Result (Option (List ℕ)) SystemFault
+  pub promise : CallPromise (gives s) (half s old).state (Transmit p) (answer.Transmit a) (half s new).state
+  pub peers : (half (peer s) new).state ≡ (half (peer s) old).state
+  pub links : new.links ≡ with_put s p (option_map (sent_item p (half s old).histories) (sent_frame a)) old.links
+  pub ends : map link_ends new.links ≡ map link_ends old.links
+  pub logs : (t : Side) → (half t new).histories ≡ (half t old).histories
+
+after_transmit : (s : Side) (p : ℕ) (a : Result (Option (List ℕ)) SystemFault) (j new : WorldState) (r : Reply) → AfterTransmit s p a j r new
+    → new ≡ with_links j (with_put s p (option_map (sent_item p (half s j).histories) (sent_frame a)) j.links)
+after_transmit s p (Err fault) j new r x = x.1
+after_transmit s p (Ok None) j new r x = x.1
+after_transmit s p (Ok (Some frame)) j new r x = x.1
+
+emitted : (gives : Algorithms) (s : Side) (p : ℕ) (r : Reply) (old new : WorldState)
+    → WorldEmits gives s p old r (record new { acted = old.acted }) → Emits gives s p old new
+emitted gives s p r old new (a, mid, h, x) =
+    let log : mid.histories ≡ (half s old).histories = ap (λ (m : HalfState). m.histories) h.same in
+    let is = after_transmit s p a (with_half s mid old) (record new { acted = old.acted }) r x in
+    let item : List PortHistory → Option ItemValue = λ logs. option_map (sent_item p logs) (sent_frame a) in
+    let links : new.links ≡ with_put s p (item (half s old).histories) old.links = ap (λ (j : WorldState). j.links) is
+    ∙ ap (λ logs. with_put s p (item logs) old.links) (ap (λ (k : HalfState). k.histories) (half_there s mid old) ∙ log) in
+    record {
+      a = a;
+      promise = subst (CallPromise (gives s) (half s old).state (Transmit p) (answer.Transmit a))
+          (sym (ap (λ (j : WorldState). (half s j).state) is ∙ ap (λ (k : HalfState). k.state) (half_there s mid old))) h.answers;
+      peers = ap (λ (j : WorldState). (half (peer s) j).state) is ∙ peer_there s mid old;
+      links = links;
+      ends = ap (map link_ends) links ∙ with_put_ends s p (item (half s old).histories) old.links;
+      logs = λ t. ap (λ (j : WorldState). (half t j).histories) is ∙ half_logs s mid old log t;
+    }
+
+pub emits : (gives : Algorithms) (n p : ℕ) (r : Reply) (old new : WorldState) → WorldSteps gives old (event.Emit n p) r new
+    → (s : Side) × (side_of n ≡ Some s) × Emits gives s p old new
+emits gives n p r old new h = let v = value_of (side_of n) _ h.0 in (v.0, v.1, emitted gives v.0 p r old new v.2)
 
 -- system s was asked for a frame of its port
 pub record Asks (gives : Algorithms) (s : Side) (at : Side → ℕ) (fl : Side → List ItemValue) (old new : WorldState) : Type 0 where
@@ -189,87 +265,36 @@ pub record Asks (gives : Algorithms) (s : Side) (at : Side → ℕ) (fl : Side �
   pub logs : (t : Side) → (half t new).histories ≡ (half t old).histories
   pub stamps : Stamping s (at s) (half s old).histories fl now
 
-half_logs : (s : Side) (h : HalfState) (j : WorldState) → h.histories ≡ (half s j).histories
-    → (t : Side) → (half t (with_half s h j)).histories ≡ (half t j).histories
-half_logs One h j e One = e
-half_logs One h j e Two = refl
-half_logs Two h j e One = refl
-half_logs Two h j e Two = e
-
-asked : (gives : Algorithms) (s : Side) (i : ℕ) (at : Side → ℕ) (fl : Side → List ItemValue) (a : Result (Option (List ℕ)) SystemFault)
-    (old new : WorldState) (mid : HalfState) (r : Reply) → OnCable i at fl old.links → mid.histories ≡ (half s old).histories
-    → CallPromise (gives s) (half s old).state (Transmit (at s)) (answer.Transmit a) mid.state
-    → AfterTransmit s (at s) a (with_half s mid old) r new → Asks gives s at fl old new
-asked gives s i at fl (Err fault) old new mid r e log h x = record {
-  a = Err fault;
-  promise = subst (CallPromise (gives s) (half s old).state (Transmit (at s)) (answer.Transmit (Err fault)))
-      (sym (ap (λ (j : WorldState). (half s j).state) x.1 ∙ ap (λ (k : HalfState). k.state) (half_there s mid old))) h;
-  peers = ap (λ (j : WorldState). (half (peer s) j).state) x.1 ∙ peer_there s mid old;
-  now = fl;
-  went = refl;
-  index = i;
-  links = subst (OnCable i at fl) (sym (ap (λ (j : WorldState). j.links) x.1)) e;
-  logs = λ t. ap (λ (j : WorldState). (half t j).histories) x.1 ∙ half_logs s mid old log t;
-  stamps = λ m c y. y;
-}
-asked gives s i at fl (Ok None) old new mid r e log h x = record {
-  a = Ok None;
-  promise = subst (CallPromise (gives s) (half s old).state (Transmit (at s)) (answer.Transmit (Ok None)))
-      (sym (ap (λ (j : WorldState). (half s j).state) x.1 ∙ ap (λ (k : HalfState). k.state) (half_there s mid old))) h;
-  peers = ap (λ (j : WorldState). (half (peer s) j).state) x.1 ∙ peer_there s mid old;
-  now = fl;
-  went = refl;
-  index = i;
-  links = subst (OnCable i at fl) (sym (ap (λ (j : WorldState). j.links) x.1)) e;
-  logs = λ t. ap (λ (j : WorldState). (half t j).histories) x.1 ∙ half_logs s mid old log t;
-  stamps = λ m c y. y;
-}
-asked gives s i at fl (Ok (Some frame)) old new mid r e log h x = record {
-  a = Ok (Some frame);
-  promise = subst (CallPromise (gives s) (half s old).state (Transmit (at s)) (answer.Transmit (Ok (Some frame))))
-      (sym (ap (λ (j : WorldState). (half s j).state) x.1 ∙ ap (λ (k : HalfState). k.state) (half_there s mid old))) h;
-  peers = ap (λ (j : WorldState). (half (peer s) j).state) x.1 ∙ peer_there s mid old;
-  now = push (peer s) _ fl;
-  went = (_, refl, refl);
-  index = i;
-  links = subst (OnCable i at (push (peer s) _ fl)) (sym (ap (λ (j : WorldState). j.links) x.1)) (puts s i at fl _ old.links e);
-  logs = λ t. ap (λ (j : WorldState). (half t j).histories) x.1 ∙ half_logs s mid old log t;
-  stamps = λ m c y. push_each (λ t. IsStamped (m t)) (peer s) _ fl
-      (item_stamped s (at s) frame (half s (with_half s mid old)) (m (peer s))
-      (ap (λ (l : List PortHistory). change_count_in (history_at l (at s)))
-      (ap (λ (k : HalfState). k.histories) (half_there s mid old) ∙ log) ∙ c)) y;
-}
-
 pub asks : (gives : Algorithms) (n : ℕ) (s : Side) (i : ℕ) (at : Side → ℕ) (fl : Side → List ItemValue) (r : Reply) (old new : WorldState)
     → side_of n ≡ Some s → OnCable i at fl old.links → WorldSteps gives old (event.Emit n (at s)) r new → Asks gives s at fl old new
-asks gives n s i at fl r old new named e h =
-    let now = record new { acted = old.acted } in
-    let v = value_of (side_of n) _ h.0 in
-    let same : v.0 ≡ s = same_Some v.0 s (sym v.1 ∙ named) in
-    let w = subst (λ t. WorldEmits gives t (at s) old r now) same v.2 in
-    let k = asked gives s i at fl w.0 old now w.1 r e (ap (λ (m : HalfState). m.histories) w.2.same) w.2.answers w.3 in
+asks gives n s i at fl r old new named c h =
+    let m = emits gives n (at s) r old new h in
+    let k = subst (λ t. Emits gives t (at s) old new) (same_Some m.0 s (sym m.1 ∙ named)) m.2 in
+    let as_item = sent_item (at s) (half s old).histories in
+    let item = option_map as_item (sent_frame k.a) in
     record {
       a = k.a;
       promise = k.promise;
       peers = k.peers;
-      now = k.now;
-      went = k.went;
-      index = k.index;
-      links = k.links;
-      logs = λ t. k.logs t;
-      stamps = k.stamps;
+      now = gained s item fl;
+      went = gains s as_item (λ frame. refl) (sent_frame k.a) fl;
+      index = i;
+      links = subst (OnCable i at (gained s item fl)) (sym k.links) (own_put s i at fl item old.links c);
+      logs = k.logs;
+      stamps = stamping s (at s) (half s old).histories (sent_frame k.a) fl;
     }
+
+-- the frame that goes back with an answer to Receive, and the item that it becomes
+abbrev pub response : Result Received SystemFault → Option (List ℕ)
+response (Ok (received.Respond frame)) = Some frame
+response a = None
+
+abbrev pub as_response : List ℕ → ItemValue
+as_response frame = record { octets = frame; stamp = stamp.Control 0 }
 
 -- what became of the cable after an item came off it
 abbrev pub Back : Side → Result Received SystemFault → (Side → List ItemValue) → (Side → List ItemValue) → Type 0
-Back s (Err fault) fl now = now ≡ fl
-Back s (Ok received.Disabled) fl now = now ≡ fl
-Back s (Ok received.Dropped) fl now = now ≡ fl
-Back s (Ok (received.Ignored fault)) fl now = now ≡ fl
-Back s (Ok received.TookLacpdu) fl now = now ≡ fl
-Back s (Ok (received.Respond frame)) fl now = (item : ItemValue) × (item.octets ≡ frame) × (now ≡ push (peer s) item fl)
-Back s (Ok (received.Released n)) fl now = now ≡ fl
-Back s (Ok (received.Up agg)) fl now = now ≡ fl
+Back s a fl now = Gains s (response a) fl now
 
 -- the histories after an arrival on port p
 abbrev pub logged : Result Received SystemFault → ℕ → ItemValue → List PortHistory → List PortHistory
@@ -299,14 +324,7 @@ pub record Stays (old new : WorldState) : Type 0 where
 
 -- the cables after what goes back from port p
 abbrev pub Sends : Side → ℕ → Result Received SystemFault → List LinkState → List LinkState → Type 0
-Sends s p (Ok (received.Respond frame)) old new = new ≡ put_on_port s p (record { octets = frame; stamp = stamp.Control 0 }) old
-Sends s p (Ok received.Disabled) old new = new ≡ old
-Sends s p (Ok received.Dropped) old new = new ≡ old
-Sends s p (Ok (received.Ignored fault)) old new = new ≡ old
-Sends s p (Ok received.TookLacpdu) old new = new ≡ old
-Sends s p (Ok (received.Released n)) old new = new ≡ old
-Sends s p (Ok (received.Up agg)) old new = new ≡ old
-Sends s p (Err fault) old new = new ≡ old
+Sends s p a old new = new ≡ with_put s p (option_map as_response (response a)) old
 
 -- the states and the cables after what is done with an answer
 record After (s : Side) (p : ℕ) (item : ItemValue) (a : Result Received SystemFault) (j new : WorldState) : Type 0 where
@@ -344,33 +362,23 @@ same_halves j new x t = ap (λ (k : WorldState). (half t k).state) x
 
 after : (s : Side) (p : ℕ) (item : ItemValue) (a : Result Received SystemFault) (j new : WorldState) (r : Reply)
     → AfterReceive s p item a j r new → After s p item a j new
-after s p item (Err fault) j new r x =
-    record { halves = same_halves j new x.1; sends = ap (λ (k : WorldState). k.links) x.1; log = ap (λ (k : WorldState). (half s k).histories) x.1; peer_log = ap (λ (k : WorldState). (half (peer s) k).histories) x.1 }
-after s p item (Ok received.Disabled) j new r x =
-    record { halves = same_halves j new x.1; sends = ap (λ (k : WorldState). k.links) x.1; log = ap (λ (k : WorldState). (half s k).histories) x.1; peer_log = ap (λ (k : WorldState). (half (peer s) k).histories) x.1 }
-after s p item (Ok received.Dropped) j new r x =
-    record { halves = same_halves j new x.1; sends = ap (λ (k : WorldState). k.links) x.1; log = ap (λ (k : WorldState). (half s k).histories) x.1; peer_log = ap (λ (k : WorldState). (half (peer s) k).histories) x.1 }
-after s p item (Ok (received.Ignored fault)) j new r x =
-    record { halves = same_halves j new x.1; sends = ap (λ (k : WorldState). k.links) x.1; log = ap (λ (k : WorldState). (half s k).histories) x.1; peer_log = ap (λ (k : WorldState). (half (peer s) k).histories) x.1 }
 after s p item (Ok received.TookLacpdu) j new r x = record {
   halves = λ t. same_halves _ new x.1 t ∙ with_half_states s _ j refl t;
   sends = ap (λ (k : WorldState). k.links) x.1;
   log = ap (λ (k : WorldState). (half s k).histories) x.1 ∙ ap (λ (k : HalfState). k.histories) (half_there s _ j);
   peer_log = ap (λ (k : WorldState). (half (peer s) k).histories) x.1 ∙ peer_logs s _ j;
 }
-after s p item (Ok (received.Respond frame)) j new r x = record {
-  halves = λ t. same_halves _ new x.1 t;
-  sends = ap (λ (k : WorldState). k.links) x.1;
-  log = ap (λ (k : WorldState). (half s k).histories) x.1;
-  peer_log = ap (λ (k : WorldState). (half (peer s) k).histories) x.1;
-}
-after s p item (Ok (received.Released n)) j new r x =
-    record { halves = same_halves j new x.1; sends = ap (λ (k : WorldState). k.links) x.1; log = ap (λ (k : WorldState). (half s k).histories) x.1; peer_log = ap (λ (k : WorldState). (half (peer s) k).histories) x.1 }
 after s p item (Ok (received.Up agg)) j new r x = record {
   halves = λ t. same_halves _ new x.1 t ∙ collected_states item.stamp j t;
   sends = ap (λ (k : WorldState). k.links) x.1 ∙ collected_links item.stamp j;
   log = ap (λ (k : WorldState). (half s k).histories) x.1 ∙ collected_logs item.stamp j s;
   peer_log = ap (λ (k : WorldState). (half (peer s) k).histories) x.1 ∙ collected_logs item.stamp j (peer s);
+}
+after s p item a j new r x = record {
+  halves = λ t. same_halves _ new x.1 t;
+  sends = ap (λ (k : WorldState). k.links) x.1;
+  log = ap (λ (k : WorldState). (half s k).histories) x.1;
+  peer_log = ap (λ (k : WorldState). (half (peer s) k).histories) x.1;
 }
 
 without : (s : Side) (at : Side → ℕ) (fl : Side → List ItemValue) (rest : List ItemValue)
@@ -381,9 +389,6 @@ without Two at fl rest = refl
 pub towards_there : (s : Side) (at : Side → ℕ) (fl : Side → List ItemValue) → towards s (cable at fl) ≡ fl s
 towards_there One at fl = refl
 towards_there Two at fl = refl
-
-same_ends : (s : Side) (rest : List ItemValue) (l : LinkState) → link_ends (with_towards s rest l) ≡ link_ends l
-same_ends s rest l = refl
 
 -- the first item towards system s on the cable at index k came to its port
 pub record Comes (gives : Algorithms) (s : Side) (k : ℕ) (l : LinkState) (old new : WorldState) : Type 0 where
@@ -397,109 +402,68 @@ pub record Comes (gives : Algorithms) (s : Side) (k : ℕ) (l : LinkState) (old 
   pub log : (half s new).histories ≡ logged a (port_at s l) item (half s old).histories
   pub peer_log : (half (peer s) new).histories ≡ (half (peer s) old).histories
 
-came : (gives : Algorithms) (s : Side) (k : ℕ) (l : LinkState) (item : ItemValue) (rest : List ItemValue) (r : Reply) (old j new : WorldState)
-    → j.links ≡ slice_set old.links k (with_towards s rest l) → towards s l ≡ item ∷ rest
-    → ((t : Side) → (half t j).state ≡ (half t old).state) → ((t : Side) → (half t j).histories ≡ (half t old).histories)
-    → WorldReceives gives s (port_at s l) item j r new → Comes gives s k l old new
-came gives s k l item rest r old j new e first same logs (a, mid, h, x) =
-    let f = after s (port_at s l) item a (with_half s mid j) new r x in
+came : (gives : Algorithms) (s : Side) (k : ℕ) (l : LinkState) (item : ItemValue) (rest : List ItemValue) (r : Reply) (old new : WorldState)
+    → towards s l ≡ item ∷ rest
+    → WorldReceives gives s (port_at s l) item (with_link_at k (with_towards s rest l) old) r (record new { acted = old.acted })
+    → Comes gives s k l old new
+came gives s k l item rest r old new first (a, mid, h, x) =
+    let j = with_link_at k (with_towards s rest l) old in
+    let f = after s (port_at s l) item a (with_half s mid j) (record new { acted = old.acted }) r x in
     record {
       item = item;
       rest = rest;
       first = first;
       a = a;
-      promise = subst (λ b. CallPromise (gives s) b (Receive (port_at s l) item.octets) (answer.Receive a) (half s new).state) (same s)
-          (subst (CallPromise (gives s) (half s j).state (Receive (port_at s l) item.octets) (answer.Receive a))
-          (sym (f.halves s ∙ ap (λ (h : HalfState). h.state) (half_there s mid j))) h.answers);
-      peers = f.halves (peer s) ∙ (peer_there s mid j ∙ same (peer s));
-      sends = subst (λ ls. Sends s (port_at s l) a ls new.links) e f.sends;
+      promise = subst (CallPromise (gives s) (half s old).state (Receive (port_at s l) item.octets) (answer.Receive a))
+          (sym (f.halves s ∙ ap (λ (h : HalfState). h.state) (half_there s mid j))) h.answers;
+      peers = f.halves (peer s) ∙ peer_there s mid j;
+      sends = f.sends;
       log = f.log ∙ ap (logged a (port_at s l) item) (ap (λ (h : HalfState). h.histories) (half_there s mid j)
-          ∙ (ap (λ (h : HalfState). h.histories) h.same ∙ logs s));
-      peer_log = f.peer_log ∙ (peer_logs s mid j ∙ logs (peer s));
+          ∙ ap (λ (h : HalfState). h.histories) h.same);
+      peer_log = f.peer_log ∙ peer_logs s mid j;
     }
 
 pub came_from : (gives : Algorithms) (s : Side) (k : ℕ) (l : LinkState) (xs : List ItemValue) (r : Reply) (old new : WorldState)
-    → towards s l ≡ xs → DeliversFrom gives s k l xs old r new → Comes gives s k l old new ⊎ Stays old new
-came_from gives s k l [] r old new first x =
-    inr (record {
-      halves = same_halves old new x.1;
-      logs = λ t. ap (λ (k : WorldState). (half t k).histories) x.1;
-      links = ap (λ (k : WorldState). k.links) x.1;
-    })
-came_from gives s k l (item ∷ rest) r old new first x =
-    let j = with_link_at k (with_towards s rest l) old in
-    inl (came gives s k l item rest r old j new refl first (kept s) (kept_logs s) x)
-  where
-    kept : (s : Side) (t : Side) → (half t (with_link_at k (with_towards s rest l) old)).state ≡ (half t old).state
-    kept s One = refl
-    kept s Two = refl
-
-    kept_logs : (s : Side) (t : Side) → (half t (with_link_at k (with_towards s rest l) old)).histories ≡ (half t old).histories
-    kept_logs s One = refl
-    kept_logs s Two = refl
+    → towards s l ≡ xs → DeliversFrom gives s k l xs old r (record new { acted = old.acted }) → Comes gives s k l old new ⊎ Stays old new
+came_from gives s k l [] r old new first x = inr (record {
+  halves = λ t. ap (λ (j : WorldState). (half t j).state) x.1;
+  logs = λ t. ap (λ (j : WorldState). (half t j).histories) x.1;
+  links = ap (λ (j : WorldState). j.links) x.1;
+})
+came_from gives s k l (item ∷ rest) r old new first x = inl (came gives s k l item rest r old new first x)
 
 -- a Deliver event takes the first item off some cable, or there is none
-pub record CameOff (gives : Algorithms) (old new : WorldState) : Type 0 where
+pub record CameOff (gives : Algorithms) (c n : ℕ) (old new : WorldState) : Type 0 where
   pub side : Side
+  pub named : side_of n ≡ Some side
   pub index : ℕ
+  pub numbered : c ≡ suc index
   pub link : LinkState
   pub there : slice_get old.links index ≡ Some link
   pub comes : Comes gives side index link old new
 
 pub came_off : (gives : Algorithms) (c n : ℕ) (r : Reply) (old new : WorldState) → WorldSteps gives old (event.Deliver c n) r new
-    → CameOff gives old new ⊎ Stays old new
-came_off gives c n r old new h =
-    let now = record new { acted = old.acted } in
-    let v = value_of (side_of n) _ h.0 in
-    by_number c v.0 v.2
+    → CameOff gives c n old new ⊎ Stays old new
+came_off gives c n r old new h = let v = value_of (side_of n) _ h.0 in by_number c v.0 v.1 v.2
   where
-    off : (s : Side) (k : ℕ) (l : LinkState) → slice_get old.links k ≡ Some l
-        → Comes gives s k l old (record new { acted = old.acted }) ⊎ Stays old (record new { acted = old.acted })
-        → CameOff gives old new ⊎ Stays old new
-    off s k l e (inl m) = inl (record {
-      side = s;
-      index = k;
-      link = l;
-      there = e;
-      comes = record {
-        item = m.item;
-        rest = m.rest;
-        first = m.first;
-        a = m.a;
-        promise = m.promise;
-        peers = m.peers;
-        sends = m.sends;
-        log = m.log;
-        peer_log = m.peer_log;
-      };
-    })
-    off s k l e (inr m) = inr (record { halves = λ t. m.halves t; logs = λ t. m.logs t; links = m.links })
-
-    by_number : (c : ℕ) (s : Side)
+    by_number : (c : ℕ) (s : Side) → side_of n ≡ Some s
         → OnLink c (λ i l. DeliversFrom gives s i l (towards s l) old r (record new { acted = old.acted })) old.links
-        → CameOff gives old new ⊎ Stays old new
-    by_number zero s on = absurd on
-    by_number (suc k) s on =
+        → CameOff gives c n old new ⊎ Stays old new
+    by_number zero s named on = absurd on
+    by_number (suc k) s named on =
         let m = value_of (slice_get old.links k) _ on in
-        off s k m.0 m.1 (came_from gives s k m.0 (towards s m.0) r old (record new { acted = old.acted }) refl m.2)
+        elim (came_from gives s k m.0 (towards s m.0) r old new refl m.2) [
+          | inl comes ↦ inl (record { side = s; named = named; index = k; numbered = refl; link = m.0; there = m.1; comes = comes })
+          | inr stays ↦ inr stays
+        ]
 
 -- it leaves the ports that the cables join
-sent_ends : (s : Side) (p : ℕ) (a : Result Received SystemFault) (old new : List LinkState) → Sends s p a old new
-    → map link_ends new ≡ map link_ends old
-sent_ends s p (Err fault) old new h = ap (map link_ends) h
-sent_ends s p (Ok received.Disabled) old new h = ap (map link_ends) h
-sent_ends s p (Ok received.Dropped) old new h = ap (map link_ends) h
-sent_ends s p (Ok (received.Ignored fault)) old new h = ap (map link_ends) h
-sent_ends s p (Ok received.TookLacpdu) old new h = ap (map link_ends) h
-sent_ends s p (Ok (received.Respond frame)) old new h = ap (map link_ends) h ∙ put_ends s p _ old
-sent_ends s p (Ok (received.Released n)) old new h = ap (map link_ends) h
-sent_ends s p (Ok (received.Up agg)) old new h = ap (map link_ends) h
-
 pub deliver_ends : (gives : Algorithms) (c n : ℕ) (r : Reply) (old new : WorldState) → WorldSteps gives old (event.Deliver c n) r new
     → map link_ends new.links ≡ map link_ends old.links
 deliver_ends gives c n r old new h = elim (came_off gives c n r old new h) [
-  | inl m ↦ sent_ends m.side (port_at m.side m.link) m.comes.a _ new.links m.comes.sends
-      ∙ mapped_set link_ends old.links m.index (with_towards m.side m.comes.rest m.link) m.link m.there refl
+  | inl m ↦ ap (map link_ends) m.comes.sends
+      ∙ (with_put_ends m.side (port_at m.side m.link) (option_map as_response (response m.comes.a)) _
+      ∙ mapped_set link_ends old.links m.index (with_towards m.side m.comes.rest m.link) m.link m.there refl)
   | inr m ↦ ap (map link_ends) m.links
 ]
 
@@ -523,48 +487,16 @@ pub record Beside (gives : Algorithms) (at : Side → ℕ) (fl : Side → List I
   pub calls : (s : Side) → Elsewhere (gives s) (at s) (half s old).state (half s new).state
   pub logs : (s : Side) → history_at (half s new).histories (at s) ≡ history_at (half s old).histories (at s)
 
-at_both : (X : Side → Type 0) (s : Side) → X s → X (peer s) → (t : Side) → X t
-at_both X One a b One = a
-at_both X One a b Two = b
-at_both X Two a b One = b
-at_both X Two a b Two = a
-
-back_beside : (s : Side) (p i : ℕ) (at : Side → ℕ) (fl : Side → List ItemValue) (a : Result Received SystemFault) (links new : List LinkState)
-    → (at s ≡ p → ⊥) → Sends s p a links new → OnCable i at fl links → OnCable i at fl new
-back_beside s p i at fl (Err fault) links new not h c = subst (OnCable i at fl) (sym h) c
-back_beside s p i at fl (Ok received.Disabled) links new not h c = subst (OnCable i at fl) (sym h) c
-back_beside s p i at fl (Ok received.Dropped) links new not h c = subst (OnCable i at fl) (sym h) c
-back_beside s p i at fl (Ok (received.Ignored fault)) links new not h c = subst (OnCable i at fl) (sym h) c
-back_beside s p i at fl (Ok received.TookLacpdu) links new not h c = subst (OnCable i at fl) (sym h) c
-back_beside s p i at fl (Ok (received.Respond frame)) links new not h c = subst (OnCable i at fl) (sym h) (put_beside s p i at fl _ links not c)
-back_beside s p i at fl (Ok (received.Released n)) links new not h c = subst (OnCable i at fl) (sym h) c
-back_beside s p i at fl (Ok (received.Up agg)) links new not h c = subst (OnCable i at fl) (sym h) c
+pub each_side : (X : Side → Type 0) (s : Side) → X s → X (peer s) → (t : Side) → X t
+each_side X One a b One = a
+each_side X One a b Two = b
+each_side X Two a b One = b
+each_side X Two a b Two = a
 
 log_beside : (a : Result Received SystemFault) (p : ℕ) (item : ItemValue) (logs : List PortHistory) (q : ℕ) → (q ≡ p → ⊥)
     → history_at (logged a p item logs) q ≡ history_at logs q
 log_beside (Ok received.TookLacpdu) p item logs q not = read_log (λ o. o) p (stamped_in item) q (λ history. inl not) logs
 log_beside a p item logs q not = refl
-
--- what goes back onto the cable itself
-record Returned (s : Side) (i : ℕ) (at : Side → ℕ) (a : Result Received SystemFault) (fl : Side → List ItemValue) (new : List LinkState) : Type 0 where
-  now : Side → List ItemValue
-  back : Back s a fl now
-  links : OnCable i at now new
-
-returned : (s : Side) (i : ℕ) (at : Side → ℕ) (a : Result Received SystemFault) (fl : Side → List ItemValue) (links new : List LinkState)
-    → OnCable i at fl links → Sends s (at s) a links new → Returned s i at a fl new
-returned s i at (Err fault) fl links new c h = record { now = fl; back = refl; links = subst (OnCable i at fl) (sym h) c }
-returned s i at (Ok received.Disabled) fl links new c h = record { now = fl; back = refl; links = subst (OnCable i at fl) (sym h) c }
-returned s i at (Ok received.Dropped) fl links new c h = record { now = fl; back = refl; links = subst (OnCable i at fl) (sym h) c }
-returned s i at (Ok (received.Ignored fault)) fl links new c h = record { now = fl; back = refl; links = subst (OnCable i at fl) (sym h) c }
-returned s i at (Ok received.TookLacpdu) fl links new c h = record { now = fl; back = refl; links = subst (OnCable i at fl) (sym h) c }
-returned s i at (Ok (received.Respond frame)) fl links new c h = record {
-  now = push (peer s) _ fl;
-  back = (_, refl, refl);
-  links = subst (OnCable i at (push (peer s) _ fl)) (sym h) (puts s i at fl _ links c);
-}
-returned s i at (Ok (received.Released n)) fl links new c h = record { now = fl; back = refl; links = subst (OnCable i at fl) (sym h) c }
-returned s i at (Ok (received.Up agg)) fl links new c h = record { now = fl; back = refl; links = subst (OnCable i at fl) (sym h) c }
 
 pub arrived : (gives : Algorithms) (s : Side) (i : ℕ) (at : Side → ℕ) (fl : Side → List ItemValue) (l : LinkState) (old new : WorldState)
     → OnCable i at fl old.links → l ≡ cable at fl → Comes gives s i l old new → Arrives gives s at fl old new
@@ -574,7 +506,7 @@ arrived gives s i at fl l old new c is m =
     let less : OnCable i at (put s m.rest fl) links =
     subst (OnCable i at (put s m.rest fl)) (ap (slice_set old.links i) (sym (ap (with_towards s m.rest) is ∙ without s at fl m.rest)))
     (on_set i at fl (put s m.rest fl) old.links c) in
-    let k = returned s i at m.a (put s m.rest fl) links new.links less (subst (λ p. Sends s p m.a links new.links) port m.sends) in
+    let item = option_map as_response (response m.a) in
     record {
       item = m.item;
       rest = m.rest;
@@ -583,10 +515,11 @@ arrived gives s i at fl l old new c is m =
       promise = subst (λ p. CallPromise (gives s) (half s old).state (Receive p m.item.octets) (answer.Receive m.a) (half s new).state) port
           m.promise;
       peers = m.peers;
-      now = k.now;
-      back = k.back;
+      now = gained s item (put s m.rest fl);
+      back = gains s as_response (λ frame. refl) (response m.a) (put s m.rest fl);
       index = i;
-      links = k.links;
+      links = subst (OnCable i at (gained s item (put s m.rest fl))) (sym (subst (λ p. Sends s p m.a links new.links) port m.sends))
+          (own_put s i at (put s m.rest fl) item links less);
       log = subst (λ p. (half s new).histories ≡ logged m.a p m.item (half s old).histories) port m.log;
       peer_log = m.peer_log;
     }
@@ -595,14 +528,14 @@ pub passed_by : (gives : Algorithms) (s : Side) (i k : ℕ) (at : Side → ℕ) 
     → OnCable i at fl old.links → slice_get old.links k ≡ Some l → (k ≡ i → ⊥) → Comes gives s k l old new → Beside gives at fl old new
 passed_by gives s i k at fl l old new c there not m =
     let other : at s ≡ port_at s l → ⊥ = λ e. not (alone s i k at fl old.links l c there (sym e)) in
-    let less = set_beside i k at fl old.links l (with_towards s m.rest l) c there not (same_ends s m.rest l) in
+    let less = set_beside i k at fl old.links l (with_towards s m.rest l) c there not refl in
     record {
       index = i;
-      links = back_beside s (port_at s l) i at fl m.a (slice_set old.links k (with_towards s m.rest l)) new.links other m.sends less;
-      calls = at_both (λ t. Elsewhere (gives t) (at t) (half t old).state (half t new).state) s
+      links = subst (OnCable i at fl) (sym m.sends) (beside_put s (port_at s l) i at fl (option_map as_response (response m.a)) _ other less);
+      calls = each_side (λ t. Elsewhere (gives t) (at t) (half t old).state (half t new).state) s
           (inr (port_at s l, Receive (port_at s l) m.item.octets, answer.Receive m.a, λ e. other (sym e), refl, m.promise.step))
           (inl m.peers);
-      logs = at_both (λ t. history_at (half t new).histories (at t) ≡ history_at (half t old).histories (at t)) s
+      logs = each_side (λ t. history_at (half t new).histories (at t) ≡ history_at (half t old).histories (at t)) s
           (ap (λ g. history_at g (at s)) m.log ∙ log_beside m.a (port_at s l) m.item (half s old).histories (at s) other)
           (ap (λ g. history_at g (at (peer s))) m.peer_log);
     }
@@ -631,72 +564,14 @@ delivers gives c n i at fl r old new e h = elim (came_off gives c n r old new h)
   | inr m ↦ inr (stays_beside gives i at fl old new e m)
 ]
 
--- system s was asked for a frame of port p
-pub record Emits (gives : Algorithms) (s : Side) (p : ℕ) (old new : WorldState) : Type 0 where
-  pub a : Result (Option (List ℕ)) SystemFault
-  pub promise : CallPromise (gives s) (half s old).state (Transmit p) (answer.Transmit a) (half s new).state
-  pub peers : (half (peer s) new).state ≡ (half (peer s) old).state
-  pub beside : (i : ℕ) (at : Side → ℕ) (fl : Side → List ItemValue) → (at s ≡ p → ⊥) → OnCable i at fl old.links → OnCable i at fl new.links
-  pub ends : map link_ends new.links ≡ map link_ends old.links
-  pub logs : (t : Side) → (half t new).histories ≡ (half t old).histories
-
-emitted : (gives : Algorithms) (s : Side) (p : ℕ) (a : Result (Option (List ℕ)) SystemFault) (old new : WorldState) (mid : HalfState)
-    (r : Reply) → mid.histories ≡ (half s old).histories → CallPromise (gives s) (half s old).state (Transmit p) (answer.Transmit a) mid.state
-    → AfterTransmit s p a (with_half s mid old) r new → Emits gives s p old new
-emitted gives s p (Err fault) old new mid r log h x = record {
-  a = Err fault;
-  promise = subst (CallPromise (gives s) (half s old).state (Transmit p) (answer.Transmit (Err fault)))
-      (sym (ap (λ (j : WorldState). (half s j).state) x.1 ∙ ap (λ (k : HalfState). k.state) (half_there s mid old))) h;
-  peers = ap (λ (j : WorldState). (half (peer s) j).state) x.1 ∙ peer_there s mid old;
-  beside = λ i at fl not c. subst (OnCable i at fl) (sym (ap (λ (j : WorldState). j.links) x.1)) c;
-  ends = ap (λ (j : WorldState). map link_ends j.links) x.1;
-  logs = λ t. ap (λ (j : WorldState). (half t j).histories) x.1 ∙ half_logs s mid old log t;
-}
-emitted gives s p (Ok None) old new mid r log h x = record {
-  a = Ok None;
-  promise = subst (CallPromise (gives s) (half s old).state (Transmit p) (answer.Transmit (Ok None)))
-      (sym (ap (λ (j : WorldState). (half s j).state) x.1 ∙ ap (λ (k : HalfState). k.state) (half_there s mid old))) h;
-  peers = ap (λ (j : WorldState). (half (peer s) j).state) x.1 ∙ peer_there s mid old;
-  beside = λ i at fl not c. subst (OnCable i at fl) (sym (ap (λ (j : WorldState). j.links) x.1)) c;
-  ends = ap (λ (j : WorldState). map link_ends j.links) x.1;
-  logs = λ t. ap (λ (j : WorldState). (half t j).histories) x.1 ∙ half_logs s mid old log t;
-}
-emitted gives s p (Ok (Some frame)) old new mid r log h x = record {
-  a = Ok (Some frame);
-  promise = subst (CallPromise (gives s) (half s old).state (Transmit p) (answer.Transmit (Ok (Some frame))))
-      (sym (ap (λ (j : WorldState). (half s j).state) x.1 ∙ ap (λ (k : HalfState). k.state) (half_there s mid old))) h;
-  peers = ap (λ (j : WorldState). (half (peer s) j).state) x.1 ∙ peer_there s mid old;
-  beside = λ i at fl not c. subst (OnCable i at fl) (sym (ap (λ (j : WorldState). j.links) x.1)) (put_beside s p i at fl _ old.links not c);
-  ends = ap (λ (j : WorldState). map link_ends j.links) x.1 ∙ put_ends s p _ old.links;
-  logs = λ t. ap (λ (j : WorldState). (half t j).histories) x.1 ∙ half_logs s mid old log t;
-}
-
-pub emits : (gives : Algorithms) (n p : ℕ) (r : Reply) (old new : WorldState) → WorldSteps gives old (event.Emit n p) r new
-    → (s : Side) × (side_of n ≡ Some s) × Emits gives s p old new
-emits gives n p r old new h =
-    let now = record new { acted = old.acted } in
-    let v = value_of (side_of n) _ h.0 in
-    let w = v.2 in
-    let k = emitted gives v.0 p w.0 old now w.1 r (ap (λ (m : HalfState). m.histories) w.2.same) w.2.answers w.3 in (
-      v.0,
-      v.1,
-      record {
-        a = k.a;
-        promise = k.promise;
-        peers = k.peers;
-        beside = k.beside;
-        ends = k.ends;
-        logs = λ t. k.logs t;
-      },
-    )
-
 -- an Emit event of another port leaves the cable to itself
 pub emits_beside : (gives : Algorithms) (s : Side) (p i : ℕ) (at : Side → ℕ) (fl : Side → List ItemValue) (old new : WorldState)
     → OnCable i at fl old.links → (at s ≡ p → ⊥) → Emits gives s p old new → Beside gives at fl old new
 emits_beside gives s p i at fl old new c other m = record {
   index = i;
-  links = m.beside i at fl other c;
-  calls = at_both (λ t. Elsewhere (gives t) (at t) (half t old).state (half t new).state) s
+  links = subst (OnCable i at fl) (sym m.links)
+      (beside_put s p i at fl (option_map (sent_item p (half s old).histories) (sent_frame m.a)) old.links other c);
+  calls = each_side (λ t. Elsewhere (gives t) (at t) (half t old).state (half t new).state) s
       (inr (p, Transmit p, answer.Transmit m.a, λ e. other (sym e), refl, m.promise.step)) (inl m.peers);
   logs = λ t. ap (λ g. history_at g (at t)) (m.logs t);
 }

@@ -1,15 +1,45 @@
 -- Of one port, what each call keeps and each tick moves on, over a list of calls.
-use Rattle.lagprogress.proofs.Common.{List, Some, [], ap, arith, slice_get, subst, suc, sym, zero, ℕ, ◌+◌, ◌-◌, ◌<◌, ◌∙◌, ◌∷◌, ◌≡◌, ◌≤◌, none-some}
-use Rattle.lagprogress.proofs.Common.{same_Some, AllByRecursion, Machines, periodic_rows, receive_rows, AtRest, RunsToRest, count_down, SystemPort}
-use Rattle.lagprogress.proofs.Common.{Call, Configure, Force, Move_conversation, Offer, Receive, Restart, Set_link, TableRun, Tick, Transmit}
-use Rattle.lagprogress.proofs.Common.{configured_numbers, PeriodicIsSettled, IsSound, SystemState, port_numbers, Step-frame, Rises, all-get}
-use Rattle.lagprogress.proofs.Common.{ports_rise, Step-sound, EachCall, tick_count}
+use Rattle.lagprogress.proofs.Common.{Bool, List, Some, [], ap, arith, false, option_map, refl, slice_get, subst, suc, sym, zero, ℕ, ◌+◌, ◌-◌, ◌<◌}
+use Rattle.lagprogress.proofs.Common.{◌∙◌, ◌∷◌, ◌≡◌, ◌≤◌, none-some, same_Some, slice_get-map, AllByRecursion, Unselected, Detached, NoPeriodic}
+use Rattle.lagprogress.proofs.Common.{Machines, mux_rows, RunsPeriodic, periodic_rows, receive_rows, AtRest, RunsToRest, count_down, SystemPort, Call}
+use Rattle.lagprogress.proofs.Common.{Step, TableRun, Tick, configured_numbers, PeriodicIsSettled, IsSound, SystemState, port_numbers, Step-frame}
+use Rattle.lagprogress.proofs.Common.{Rises, all-get, ports_rise, Step-sound, EachCall, tick_count}
 use Rattle.lagsystem.specs.declared.drive.Reply.{Reply}
 use Rattle.lagprogress.proofs.EachPort.{KeptByCall, KeptBySettling, OfEach, Step-each, Tick-each}
+use Rattle.lagprogress.proofs.Timers.{runs_keep}
 
 -- the port with number n is so
 abbrev pub AtPort : ℕ → (Machines → Type 0) → ℕ → Machines → Type 0
 AtPort n P m p = m ≡ n → P p
+
+-- what the mux and the periodic machine leave, and settling
+
+abbrev without_mux : Machines → Machines
+without_mux p = record p { mux = Detached; wait_while = 0; ntt = false }
+
+-- a property that does not read what the mux machine changes
+pub mux_leaves : (P : Machines → Type 0) (ready : Bool) (p q : Machines) → RunsToRest (mux_rows ready) p q → P (without_mux p)
+    → P (without_mux q)
+mux_leaves P ready p q h a = runs_keep (λ r. P (without_mux r)) (mux_rows ready)
+    (λ p a. a, (λ p a. a, (λ p a. a, (λ p a. a, (λ p a. a, (λ p a. a, tt)))))) p q h a
+
+abbrev without_periodic : Machines → Machines
+without_periodic p = record p { periodic = NoPeriodic; periodic_timer = 0; ntt = false }
+
+pub periodic_leaves : (P : Machines → Type 0) (p q : Machines) → RunsPeriodic p q → P (without_periodic p) → P (without_periodic q)
+periodic_leaves P p q h a = subst (λ r. P (without_periodic r)) (sym h.2) (runs_keep (λ r. P (without_periodic r)) periodic_rows
+    (λ p a. a, (λ p a. a, (λ p a. a, (λ p a. a, (λ p a. a, (λ p a. a, (λ p a. a, tt))))))) p h.0 h.1 a)
+
+abbrev without_both : Machines → Machines
+without_both p = record (without_mux (without_periodic p)) { choice = Unselected }
+
+-- nor the periodic machine, nor the Selection Logic
+pub settling_leaves : (P : ℕ → Machines → Type 0) → KeptBySettling (λ n p. P n (without_both p))
+settling_leaves P = record {
+  mux = λ n ready. mux_leaves (λ p. P n (without_both p)) ready;
+  periodic = λ n. periodic_leaves (λ p. P n (without_both p));
+  select = λ n choice p none may a. a;
+}
 
 -- P of port n, with so many ticks to go and so many gone, goes on over calls that are so
 pub record GoesOn (Is : Call → Reply → Type 0) (P : ℕ → ℕ → Machines → Type 0) (n : ℕ) : Type 0 where
@@ -47,46 +77,16 @@ module _ (Is : Call → Reply → Type 0) (P : ℕ → ℕ → Machines → Type
     subst (λ (t : SystemState). OfEach (AtPort n (P (most - 0) (k + 0))) t.system_ports) (sym h) (none_passed P n most k
         old.system_ports a),
   )
-  ends most k old new [] (answer ∷ answers) s a h u = absurd h
-  ends most k old new (call ∷ calls) [] s a h u = absurd h
   ends most k old new (Tick ∷ calls) (answer ∷ answers) s a h u =
       let rest = with_rest (AtPort n (P most k)) old.system_ports a s.quiet.1 in
       let mid = Tick-each (λ m p. AtPort n (P most k) m p × AtRest periodic_rows p) (AtPort n (P (most - 1) (k + 1)))
       (g.settles (most - 1) (k + 1)) (λ m p q r b e. g.ticks most k p q r b.1 (b.0 e)) gives old answer h.0 h.1 rest in
       let end = ends (most - 1) (k + 1) h.0 new calls answers (Step-sound gives old Tick answer h.0 h.1 s) mid h.2 u.1 in
       (end.0, one_more P n most k (tick_count calls) new.system_ports end.1)
-  ends most k old new (Set_link m up ∷ calls) (answer ∷ answers) s a h u =
-      ends most k h.0 new calls answers (Step-sound gives old (Set_link m up) answer h.0 h.1 s)
-      (Step-each (AtPort n (P most k)) (g.settles most k) gives old (Set_link m up) answer h.0
-      (g.calls most k (Set_link m up) answer u.0 (λ e. cc)) h.1 a) h.2 u.1
-  ends most k old new (Receive m octets ∷ calls) (answer ∷ answers) s a h u =
-      ends most k h.0 new calls answers (Step-sound gives old (Receive m octets) answer h.0 h.1 s)
-      (Step-each (AtPort n (P most k)) (g.settles most k) gives old (Receive m octets) answer h.0
-      (g.calls most k (Receive m octets) answer u.0 (λ e. cc)) h.1 a) h.2 u.1
-  ends most k old new (Configure m change ∷ calls) (answer ∷ answers) s a h u =
-      ends most k h.0 new calls answers (Step-sound gives old (Configure m change) answer h.0 h.1 s)
-      (Step-each (AtPort n (P most k)) (g.settles most k) gives old (Configure m change) answer h.0
-      (g.calls most k (Configure m change) answer u.0 (λ e. cc)) h.1 a) h.2 u.1
-  ends most k old new (Restart ∷ calls) (answer ∷ answers) s a h u =
-      ends most k h.0 new calls answers (Step-sound gives old Restart answer h.0 h.1 s)
-      (Step-each (AtPort n (P most k)) (g.settles most k) gives old Restart answer h.0
-      (g.calls most k Restart answer u.0 (λ e. cc)) h.1 a) h.2 u.1
-  ends most k old new (Transmit m ∷ calls) (answer ∷ answers) s a h u =
-      ends most k h.0 new calls answers (Step-sound gives old (Transmit m) answer h.0 h.1 s)
-      (Step-each (AtPort n (P most k)) (g.settles most k) gives old (Transmit m) answer h.0
-      (g.calls most k (Transmit m) answer u.0 (λ e. cc)) h.1 a) h.2 u.1
-  ends most k old new (Offer agg octets ∷ calls) (answer ∷ answers) s a h u =
-      ends most k h.0 new calls answers (Step-sound gives old (Offer agg octets) answer h.0 h.1 s)
-      (Step-each (AtPort n (P most k)) (g.settles most k) gives old (Offer agg octets) answer h.0
-      (g.calls most k (Offer agg octets) answer u.0 (λ e. cc)) h.1 a) h.2 u.1
-  ends most k old new (Move_conversation agg conv port ∷ calls) (answer ∷ answers) s a h u =
-      ends most k h.0 new calls answers (Step-sound gives old (Move_conversation agg conv port) answer h.0 h.1 s)
-      (Step-each (AtPort n (P most k)) (g.settles most k) gives old (Move_conversation agg conv port) answer h.0
-      (g.calls most k (Move_conversation agg conv port) answer u.0 (λ e. cc)) h.1 a) h.2 u.1
-  ends most k old new (Force agg conv ∷ calls) (answer ∷ answers) s a h u =
-      ends most k h.0 new calls answers (Step-sound gives old (Force agg conv) answer h.0 h.1 s)
-      (Step-each (AtPort n (P most k)) (g.settles most k) gives old (Force agg conv) answer h.0
-      (g.calls most k (Force agg conv) answer u.0 (λ e. cc)) h.1 a) h.2 u.1
+  ends most k old new (call ∷ calls) (answer ∷ answers) s a h u =
+      ends most k h.0 new calls answers (Step-sound gives old call answer h.0 h.1 s)
+      (Step-each (AtPort n (P most k)) (g.settles most k) gives old call answer h.0 (g.calls most k call answer u.0 (λ e. cc)) h.1 a) h.2 u.1
+  ends most k old new calls replies s a h u = absurd h
 
 -- the port at a place, by its number
 
@@ -101,7 +101,7 @@ above S low n (y ∷ ys) r l = (
   above S y.number n ys r.1 (omega (arith, r.0, l)),
 )
 
-higher : (low : ℕ) (xs : List SystemPort) (i : ℕ) (x : SystemPort) → Rises low (port_numbers xs) → slice_get xs i ≡ Some x
+pub higher : (low : ℕ) (xs : List SystemPort) (i : ℕ) (x : SystemPort) → Rises low (port_numbers xs) → slice_get xs i ≡ Some x
     → low < x.number
 higher low [] i x r e = absurd (none-some x e)
 higher low (y ∷ ys) zero x r e = subst (λ (z : SystemPort). low < z.number) (same_Some y x e) r.0
@@ -123,19 +123,22 @@ pub same_place : (xs ys : List SystemPort) (i : ℕ) (x y : SystemPort) → port
 same_place xs ys i x y e f g = same_Some y.number x.number (sym (number_at ys i y g) ∙ (ap (λ l. slice_get l i) e ∙ number_at xs
     i x f))
   where
-    number_at : (zs : List SystemPort) (j : ℕ) (z : SystemPort) → slice_get zs j ≡ Some z
-        → slice_get (port_numbers zs) j ≡ Some z.number
-    number_at [] j z h = absurd (none-some z h)
-    number_at (w ∷ ws) zero z h = ap (λ (v : SystemPort). Some v.number) (same_Some w z h)
-    number_at (w ∷ ws) (suc j) z h = number_at ws j z h
+    number_at : (zs : List SystemPort) (j : ℕ) (z : SystemPort) → slice_get zs j ≡ Some z → slice_get (port_numbers zs) j ≡ Some z.number
+    number_at zs j z h = slice_get-map (λ (v : SystemPort). v.number) zs j ∙ ap (option_map (λ (v : SystemPort). v.number)) h
+
+-- what each call keeps, a list of them keeps
+pub calls_each : (gives : ℕ → ℕ → ℕ → Type 0) (P : SystemState → Type 0)
+    → ((old new : SystemState) (call : Call) (answer : Reply) → Step gives old call answer new → P old → P new)
+    → (old new : SystemState) (calls : List Call) (replies : List Reply) → TableRun gives old calls replies new → P old → P new
+calls_each gives P k old new [] [] h p = subst P (sym h) p
+calls_each gives P k old new (call ∷ calls) (answer ∷ answers) h p =
+    calls_each gives P k h.0 new calls answers h.2 (k old h.0 call answer h.1 p)
+calls_each gives P k old new calls replies h p = absurd h
 
 pub same_ports : (gives : ℕ → ℕ → ℕ → Type 0) (old new : SystemState) (calls : List Call) (replies : List Reply)
     → TableRun gives old calls replies new → new.ports ≡ old.ports
-same_ports gives old new [] [] h = ap (λ (s : SystemState). s.ports) h
-same_ports gives old new [] (answer ∷ answers) h = absurd h
-same_ports gives old new (call ∷ calls) [] h = absurd h
-same_ports gives old new (call ∷ calls) (answer ∷ answers) h =
-    same_ports gives h.0 new calls answers h.2 ∙ ap (λ (s : SystemState). s.ports) (Step-frame gives old call answer h.0 h.1)
+same_ports gives old new calls replies h = calls_each gives (λ s. s.ports ≡ old.ports)
+    (λ s t call answer step e. ap (λ (u : SystemState). u.ports) (Step-frame gives s call answer t step) ∙ e) old new calls replies h refl
 
 -- the port at a place, after the calls
 pub goes_on : (Is : Call → Reply → Type 0) (P : ℕ → ℕ → Machines → Type 0) (gives : ℕ → ℕ → ℕ

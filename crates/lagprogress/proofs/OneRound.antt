@@ -4,8 +4,8 @@ use Rattle.lagprogress.proofs.Common.{sym, true, zero, ℕ, ◌++◌, ◌-◌, �
 use Rattle.lagprogress.proofs.Common.{Lacpdu, One, Side, Two, peer, Machines, is_silent, periodic_rows, receive_rows, AtRest, RunsToRest}
 use Rattle.lagprogress.proofs.Common.{after_sending, count_down, is_due, pdu_of, marker_due, SystemFault, SystemPort, Step, Tick, Transmit}
 use Rattle.lagprogress.proofs.Common.{PeriodicIsSettled, IsLacpduOf, TransmitsAt, TransmitsIf, SystemState, port_index, marker_slots, same_slots}
-use Rattle.lagprogress.proofs.Common.{all-get, found_place, ports_rise, Event, Reply, Algorithms, WorldRuns, WorldSteps, side_of, ItemValue}
-use Rattle.lagprogress.proofs.Common.{LinkState, WorldState, half, port_at, IsDeliver, IsRound, NothingInFlight, asks_all, asks_ends, IsTimed}
+use Rattle.lagprogress.proofs.Common.{Event, Reply, Algorithms, WorldRuns, WorldSteps, side_of, ItemValue, LinkState, WorldState, half, port_at}
+use Rattle.lagprogress.proofs.Common.{IsDeliver, IsRound, NothingInFlight, asks_all, asks_ends, IsTimed}
 use Rattle.slowpdu.specs.declared.pdu.Pdu.TheVariants as pdu
 use Rattle.lagsystem.specs.declared.drive.Reply.TheVariants as answer
 use Rattle.lagscript.specs.declared.event.Event.TheVariants as event
@@ -16,11 +16,13 @@ use Rattle.lagprogress.proofs.Halves.{keeps_steady}
 use Rattle.lagprogress.proofs.Delivering.{deliver_link}
 use Rattle.lagprogress.proofs.Hearing.{no}
 use Rattle.lagprogress.proofs.OneCable.{OnCable, Went, cable, port_there, ticks, towards_there}
-use Rattle.lagprogress.proofs.OnePort.{AtPort, at_number, with_rest}
+use Rattle.lagprogress.proofs.OnePort.{AtPort, with_rest}
 use Rattle.lagprogress.proofs.Passing.{lacpdu_is_sent, sends_due, sent_carries}
 use Rattle.lagprogress.proofs.Sounding.{Sounds, now_due}
-use Rattle.lagprogress.proofs.Linked.{EndIs, Fits, Flying, Link, each_both, each_map, each_side, emit_link, end_kept, flying_last, found, asked_which}
-use Rattle.lagprogress.proofs.Linked.{beside_link, emit_any, other_side, place_kept, push_there}
+use Rattle.lagprogress.proofs.Linked.{EndIs, Fits, Flying, Link, each_side, emit_link, end_kept, HasLacpdu, has_last, asked_which, beside_link}
+use Rattle.lagprogress.proofs.Linked.{emit_any, other_side, place_kept, push_there, other_ports, with_ports, both_at, of_end, end_here, at_end}
+use Rattle.lagprogress.proofs.Linked.{end_with, runs_all}
+pub use Rattle.lagprogress.proofs.Linked.{timed_ends}
 
 abbrev pub Nothing : Machines → Type 0
 Nothing p = Unit {0}
@@ -28,34 +30,14 @@ Nothing p = Unit {0}
 -- the link without what stands beside it
 pub forget : (d : ℕ) (at : Side → ℕ) (w : Side → Lacpdu) (c : Side → ℕ) (x y : Side) (Y : Machines → Type 0) (j : WorldState)
     → Link d at w c x Y j → Link d at w c y Nothing j
-forget d at w c x y Y j l = record {
-  steady = l.steady;
-  flying = l.flying;
-  index = l.index;
-  links = l.links;
-  good = l.good;
-  place = l.place;
-  ports = λ s. each_map (AtPort (at s) (EndIs d w c x Y s)) (AtPort (at s) (EndIs d w c y Nothing s)) (λ m p a e. ((a e).0, λ f. tt))
-      (half s j).state.system_ports (l.ports s);
-}
+forget d at w c x y Y j l = other_ports l (λ s p rest timed a. (a.0, λ f. tt))
 
 -- and with something else at one end
 pub join : (d : ℕ) (at : Side → ℕ) (w : Side → Lacpdu) (c : Side → ℕ) (x y : Side) (Y : Machines → Type 0) (j : WorldState)
     → Link d at w c x Nothing j → OfEach (AtPort (at y) Y) (half y j).state.system_ports → Link d at w c y Y j
-join d at w c x y Y j l h = record {
-  steady = l.steady;
-  flying = l.flying;
-  index = l.index;
-  links = l.links;
-  good = l.good;
-  place = l.place;
-  ports = each_side (λ s. OfEach (AtPort (at s) (EndIs d w c y Y s)) (half s j).state.system_ports) y
-      (each_map (λ m p. AtPort (at y) (EndIs d w c x Nothing y) m p × AtPort (at y) Y m p) (AtPort (at y) (EndIs d w c y Y y))
-      (λ m p a e. ((a.0 e).0, λ f. a.1 e)) (half y j).state.system_ports
-      (each_both (AtPort (at y) (EndIs d w c x Nothing y)) (AtPort (at y) Y) (half y j).state.system_ports (l.ports y) h))
-      (each_map (AtPort (at (peer y)) (EndIs d w c x Nothing (peer y))) (AtPort (at (peer y)) (EndIs d w c y Y (peer y)))
-      (λ m p a e. ((a e).0, λ f. absurd (other_side y f))) (half (peer y) j).state.system_ports (l.ports (peer y)));
-}
+join d at w c x y Y j l h = with_ports l (each_side (λ s. OfEach (AtPort (at s) (EndIs d w c y Y s)) (half s j).state.system_ports) y
+    (both_at (at y) (EndIs d w c x Nothing y) Y (EndIs d w c y Y y) (λ p a b. (a.0, λ f. b)) (half y j).state.system_ports (l.ports y) h)
+    (of_end l (peer y) (EndIs d w c y Y (peer y)) (λ p rest timed a. (a.0, λ f. absurd (other_side y f)))))
 
 -- ticks
 
@@ -146,7 +128,7 @@ flies gives s n k z (Ok (Some frame)) old new fl now place there up due h w =
     let v = pdu_of z.port old.max_delay in
     subst (λ (f : Side → List ItemValue). Flying (f (peer s))) (sym w.2)
     (subst Flying (sym (push_there (peer s) w.0 fl))
-    (flying_last (fl (peer s)) w.0 v (sent_carries w.0.octets (pdu.Lacpdu v) (lacpdu_is_sent old.max_delay z w.0.octets lacpdu))))
+    (has_last HasLacpdu (fl (peer s)) w.0 (v, sent_carries w.0.octets (pdu.Lacpdu v) (lacpdu_is_sent old.max_delay z w.0.octets lacpdu))))
 
 ask_own : (gives : Algorithms) (n : ℕ) (s : Side) (d : ℕ) (at : Side → ℕ) (w : Side → Lacpdu) (c : Side → ℕ) (Y Z : Machines → Type 0)
     (r : Reply) (old new : WorldState) → Fits d w c → side_of n ≡ Some s → Asks d Y Z (w s) (w (peer s)) (c s)
@@ -154,40 +136,25 @@ ask_own : (gives : Algorithms) (n : ℕ) (s : Side) (d : ℕ) (at : Side → ℕ
 ask_own gives n s d at w c Y Z r old new fits named asks l h =
     let bare = forget d at w c s s Y old l in
     let e = emit_link gives n s d at w c s Nothing r old new fits named (nothing_along (w s) (w (peer s)) (c s) d) (λ f p y. y) bare h in
-    let place = l.place s in
+    let z = end_here at w d c s Y old l s in
     let st = (half s old).state in
-    let it = found (at s) place.0 st.system_ports place.1 in
-    let P = EndIs d w c s Y s in
-    let numbered = found_place (at s) st.system_ports place.0 it.0 place.1 it.1 in
-    let is = all-get (λ (y : SystemPort). AtPort (at s) P y.number y.port) st.system_ports place.0 it.0 it.1 (l.ports s) numbered in
-    elim (cases_Bool (is_due it.0.port)) [
+    elim (cases_Bool (is_due z.port.port)) [
       | inl due ↦ inr (inl (
         e.link,
         subst (λ (f : Side → List ItemValue). Flying (f (peer s))) (sym e.same)
-            (flies (gives s) s (at s) place.0 it.0 e.asks.a st (half s new).state bare.flying e.asks.now place.1 it.1 is.0.1.0 due
+            (flies (gives s) s (at s) z.index z.port e.asks.a st (half s new).state bare.flying e.asks.now z.place z.there z.is.1.0 due
             e.asks.promise.step e.asks.went),
       ))
-      | inr not ↦ (let same = same_ports_then (gives s) (at s) place.0 it.0 e.asks.a st (half s new).state place.1 it.1 not
+      | inr not ↦ (let same = same_ports_then (gives s) (at s) z.index z.port e.asks.a st (half s new).state z.place z.there not
           e.asks.promise.step in
-          let rest = all-get PeriodicIsSettled st.system_ports place.0 it.0 it.1 (l.steady s).0.quiet.1 in
-          let timed = all-get (λ (y : SystemPort). IsTimed y.port) st.system_ports place.0 it.0 it.1 (l.steady s).1 in
-          let now = at_number (EndIs d w c s Z s) 0 st.system_ports place.0 it.0 (ports_rise st (l.steady s).0.ports) it.1
-          (is.0, λ f. asks it.0.port rest.rows timed is.0 (is.1 refl) not) in
-          inl (record {
-            steady = e.link.steady;
-            flying = e.link.flying;
-            index = e.link.index;
-            links = e.link.links;
-            good = e.link.good;
-            place = e.link.place;
-            ports = each_side (λ t. OfEach (AtPort (at t) (EndIs d w c s Z t)) (half t new).state.system_ports) s
-                (subst (OfEach (AtPort (at s) (EndIs d w c s Z s))) (sym same)
-                (subst (λ n. OfEach (AtPort n (EndIs d w c s Z s)) st.system_ports) numbered now))
-                (each_map (AtPort (at (peer s)) (EndIs d w c s Y (peer s))) (AtPort (at (peer s)) (EndIs d w c s Z (peer s)))
-                (λ m p a f. ((a f).0, λ g. absurd (other_side s g))) (half (peer s) new).state.system_ports
-                (subst (λ (y : SystemState). OfEach (AtPort (at (peer s)) (EndIs d w c s Y (peer s))) y.system_ports)
-                (sym e.asks.peers) (l.ports (peer s))));
-          }))
+          let now = of_end l s (λ p. is_due p ≡ false → EndIs d w c s Z s p)
+          (λ p rest timed a none. (a.0, λ f. asks p rest timed a.0 (a.1 refl) none)) in
+          inl (with_ports e.link (each_side (λ t. OfEach (AtPort (at t) (EndIs d w c s Z t)) (half t new).state.system_ports) s
+          (subst (OfEach (AtPort (at s) (EndIs d w c s Z s))) (sym same) (at_end at w d c s old z l.steady (EndIs d w c s Z s)
+          (end_with at w d c s old z (λ p. is_due p ≡ false → EndIs d w c s Z s p) now not)))
+          (subst (λ (y : SystemState). OfEach (AtPort (at (peer s)) (EndIs d w c s Z (peer s))) y.system_ports) (sym e.asks.peers)
+          (of_end l (peer s) (EndIs d w c s Z (peer s)) (λ p rest timed a. (a.0, λ g. absurd (other_side s g)))))))
+          )
     ]
 
 ask_peer : (gives : Algorithms) (n : ℕ) (s : Side) (d : ℕ) (at : Side → ℕ) (w : Side → Lacpdu) (c : Side → ℕ) (Y : Machines → Type 0)
@@ -199,14 +166,31 @@ ask_peer gives n s d at w c Y r old new fits named along l h =
 pub one_of_both : (s t : Side) → (t ≡ s) ⊎ (t ≡ peer s)
 one_of_both s t = each_side (λ t. (t ≡ s) ⊎ (t ≡ peer s)) s (inl refl) (inr refl) t
 
+-- an Emit event where the end of s may not have been asked
+ask_which : (gives : Algorithms) (n p : ℕ) (s : Side) (d : ℕ) (at : Side → ℕ) (w : Side → Lacpdu) (c : Side → ℕ) (Y Z : Machines → Type 0)
+    (r : Reply) (old new : WorldState) → Fits d w c → Along Y (w s) (w (peer s)) (c s) d → Asks d Y Z (w s) (w (peer s)) (c s)
+    → Link d at w c s Y old → WorldSteps gives old (event.Emit n p) r new → Link d at w c s Y new ⊎ Midway d at w c s Z new
+ask_which gives n p s d at w c Y Z r old new fits along asks l h = elim (asked_which gives n p l.index at l.flying r old new l.links h) [
+  | inl (t, named, is) ↦ asked t named (subst (λ q. WorldSteps gives old (event.Emit n q) r new) is h)
+  | inr b ↦ inl (beside_link gives (event.Emit n p) d at w c s Y r old new along l h b).link
+]
+  where
+    asked : (t : Side) → side_of n ≡ Some t → WorldSteps gives old (event.Emit n (at t)) r new → Link d at w c s Y new ⊎ Midway d at w c s Z new
+    asked t named h = elim (one_of_both s t) [
+      | inl e ↦ inr (ask_own gives n s d at w c Y Z r old new fits (subst (λ u. side_of n ≡ Some u) e named) asks l
+          (subst (λ u. WorldSteps gives old (event.Emit n (at u)) r new) e h))
+      | inr e ↦ inl (ask_peer gives n s d at w c Y r old new fits (subst (λ u. side_of n ≡ Some u) e named) along l
+          (subst (λ u. WorldSteps gives old (event.Emit n (at u)) r new) e h))
+    ]
+
 -- any Emit event leaves what is midway
 ask_any : (gives : Algorithms) (n p : ℕ) (s : Side) (d : ℕ) (at : Side → ℕ) (w : Side → Lacpdu) (c : Side → ℕ) (Z : Machines → Type 0)
     (r : Reply) (old new : WorldState) → Fits d w c → 1 ≤ d → Along Z (w s) (w (peer s)) (c s) d
     → Midway d at w c s Z old → WorldSteps gives old (event.Emit n p) r new → Midway d at w c s Z new
 ask_any gives n p s d at w c Z r old new fits there along m h = elim m [
-  | inl l ↦ elim (asked_which gives n p l.index at l.flying r old new l.links h) [
-    | inl (t, named, is) ↦ asked t named l (subst (λ q. WorldSteps gives old (event.Emit n q) r new) is h)
-    | inr b ↦ inl (beside_link gives (event.Emit n p) d at w c s Z r old new along l h b).link
+  | inl l ↦ elim (ask_which gives n p s d at w c Z Z r old new fits along (λ p rest timed a y not. y) l h) [
+    | inl k ↦ inl k
+    | inr k ↦ k
   ]
   | inr k ↦ elim k [
     | inl l ↦ (let e = emit_any gives n p d at w c s Nothing r old new fits (nothing_along (w s) (w (peer s)) (c s) d) (λ q y. y) l.0 h in
@@ -215,14 +199,6 @@ ask_any gives n p s d at w c Z r old new fits there along m h = elim m [
         (known_along (w (peer s)) (w (peer (peer s))) (c (peer s)) d there (fits (peer s)).3) (λ q y. y) l h).link)
   ]
 ]
-  where
-    asked : (t : Side) → side_of n ≡ Some t → Link d at w c s Z old → WorldSteps gives old (event.Emit n (at t)) r new → Midway d at w c s Z new
-    asked t named l h = elim (one_of_both s t) [
-      | inl e ↦ ask_own gives n s d at w c Z Z r old new fits (subst (λ u. side_of n ≡ Some u) e named) (λ p rest timed a y not. y) l
-          (subst (λ u. WorldSteps gives old (event.Emit n (at u)) r new) e h)
-      | inr e ↦ inl (ask_peer gives n s d at w c Z r old new fits (subst (λ u. side_of n ≡ Some u) e named) along l
-          (subst (λ u. WorldSteps gives old (event.Emit n (at u)) r new) e h))
-    ]
 
 -- the end of s was not asked yet, or it was
 abbrev Before : ℕ → (Side → ℕ) → (Side → Lacpdu) → (Side → ℕ) → Side → (Machines → Type 0) → (Machines → Type 0) → WorldState → Type 0
@@ -235,18 +211,7 @@ ask_before : (gives : Algorithms) (n p : ℕ) (s : Side) (d : ℕ) (at : Side �
 ask_before gives n p s d at w c Y Z r old new fits there waits asks along (inr m) h =
     inr (ask_any gives n p s d at w c Z r old new fits there along m h)
 ask_before gives n p s d at w c Y Z r old new fits there waits asks along (inl l) h =
-    elim (asked_which gives n p l.index at l.flying r old new l.links h) [
-      | inl (t, named, is) ↦ asked t named (subst (λ q. WorldSteps gives old (event.Emit n q) r new) is h)
-      | inr b ↦ inl (beside_link gives (event.Emit n p) d at w c s Y r old new waits l h b).link
-    ]
-  where
-    asked : (t : Side) → side_of n ≡ Some t → WorldSteps gives old (event.Emit n (at t)) r new → Before d at w c s Y Z new
-    asked t named h = elim (one_of_both s t) [
-      | inl e ↦ inr (ask_own gives n s d at w c Y Z r old new fits (subst (λ u. side_of n ≡ Some u) e named) asks l
-          (subst (λ u. WorldSteps gives old (event.Emit n (at u)) r new) e h))
-      | inr e ↦ inl (ask_peer gives n s d at w c Y r old new fits (subst (λ u. side_of n ≡ Some u) e named) waits l
-          (subst (λ u. WorldSteps gives old (event.Emit n (at u)) r new) e h))
-    ]
+    ask_which gives n p s d at w c Y Z r old new fits waits asks l h
 
 -- the end of s itself is asked
 ask_now : (gives : Algorithms) (n : ℕ) (s : Side) (d : ℕ) (at : Side → ℕ) (w : Side → Lacpdu) (c : Side → ℕ) (Y Z : Machines → Type 0)
@@ -332,54 +297,51 @@ pub ask_all : (gives : Algorithms) (M : WorldState → Type 0)
     → ((n p : ℕ) (r : Reply) (old new : WorldState) → WorldSteps gives old (event.Emit n p) r new → M old → M new)
     → (es : List Event) (rs : List Reply) (old new : WorldState) → AllByRecursion IsAsk es → WorldRuns gives old es rs new
     → M old → M new
-ask_all gives M k [] [] old new a h m = subst M (sym h) m
-ask_all gives M k [] (r ∷ rs) old new a h m = absurd h
-ask_all gives M k (e ∷ es) [] old new a h m = absurd h
-ask_all gives M k (e ∷ es) (r ∷ rs) old new a h m = ask_all gives M k es rs h.0 new a.1 h.2 (one e a.0 h.1)
+ask_all gives M k = runs_all gives IsAsk M one
   where
-    one : (e : Event) → IsAsk e → WorldSteps gives old e r h.0 → M h.0
-    one (event.Emit n p) d step = k n p r old h.0 step m
-    one e d step = absurd d
+    one : (e : Event) (r : Reply) (old new : WorldState) → IsAsk e → WorldSteps gives old e r new → M old → M new
+    one (event.Emit n p) r old new d step m = k n p r old new step m
+    one e r old new d step m = absurd d
 
 pub all_ask : (links : List LinkState) → AllByRecursion IsAsk (asks_all links)
 all_ask [] = tt
 all_ask (l ∷ links) = (tt, (tt, (tt, (tt, all_ask links))))
 
--- among the events that ask the ends of all cables, one asks this port of system s
-record AsksIt (s : Side) (p : ℕ) (events : List Event) : Type 0 where
-  number : ℕ
-  named : side_of number ≡ Some s
-  before : List Event
-  later : List Event
-  is : events ≡ before ++ (event.Emit number p ∷ later)
-  firsts : AllByRecursion IsAsk before
-  lasts : AllByRecursion IsAsk later
+-- the events that ask the ends of all cables ask this port of system s twice in turn
+pub record AsksTwice (s : Side) (p : ℕ) (events : List Event) : Type 0 where
+  pub number : ℕ
+  pub named : side_of number ≡ Some s
+  pub before : List Event
+  pub later : List Event
+  pub is : events ≡ before ++ (event.Emit number p ∷ event.Emit number p ∷ later)
+  pub firsts : AllByRecursion IsAsk before
+  pub lasts : AllByRecursion IsAsk later
 
-asks_it : (s : Side) (i : ℕ) (links : List LinkState) (l : LinkState) → slice_get links i ≡ Some l → AsksIt s (port_at s l) (asks_all links)
-asks_it s i [] l e = absurd (none-some l e)
-asks_it s zero (m ∷ links) l e = subst (λ k. AsksIt s (port_at s k) (asks_all (m ∷ links))) (same_Some m l e) (first s)
+pub asks_twice : (s : Side) (i : ℕ) (links : List LinkState) (l : LinkState) → slice_get links i ≡ Some l → AsksTwice s (port_at s l) (asks_all links)
+asks_twice s i [] l e = absurd (none-some l e)
+asks_twice s zero (m ∷ links) l e = subst (λ k. AsksTwice s (port_at s k) (asks_all (m ∷ links))) (same_Some m l e) (first s)
   where
-    first : (s : Side) → AsksIt s (port_at s m) (asks_all (m ∷ links))
+    first : (s : Side) → AsksTwice s (port_at s m) (asks_all (m ∷ links))
     first One = record {
       number = 1;
       named = refl;
       before = [];
-      later = event.Emit 1 m.one ∷ event.Emit 2 m.two ∷ event.Emit 2 m.two ∷ asks_all links;
+      later = event.Emit 2 m.two ∷ event.Emit 2 m.two ∷ asks_all links;
       is = refl;
       firsts = tt;
-      lasts = (tt, (tt, (tt, all_ask links)));
+      lasts = (tt, (tt, all_ask links));
     }
     first Two = record {
       number = 2;
       named = refl;
       before = event.Emit 1 m.one ∷ event.Emit 1 m.one ∷ [];
-      later = event.Emit 2 m.two ∷ asks_all links;
+      later = asks_all links;
       is = refl;
       firsts = (tt, (tt, tt));
-      lasts = (tt, all_ask links);
+      lasts = all_ask links;
     }
-asks_it s (suc i) (m ∷ links) l e =
-    let k = asks_it s i links l e in
+asks_twice s (suc i) (m ∷ links) l e =
+    let k = asks_twice s i links l e in
     record {
       number = k.number;
       named = k.named;
@@ -395,14 +357,11 @@ pub deliver_all : (gives : Algorithms) (M : WorldState → Type 0)
     → ((cn n : ℕ) (r : Reply) (old new : WorldState) → WorldSteps gives old (event.Deliver cn n) r new → M old → M new)
     → (es : List Event) (rs : List Reply) (old new : WorldState) → AllByRecursion IsDeliver es → WorldRuns gives old es rs new
     → M old → M new
-deliver_all gives M k [] [] old new a h m = subst M (sym h) m
-deliver_all gives M k [] (r ∷ rs) old new a h m = absurd h
-deliver_all gives M k (e ∷ es) [] old new a h m = absurd h
-deliver_all gives M k (e ∷ es) (r ∷ rs) old new a h m = deliver_all gives M k es rs h.0 new a.1 h.2 (one e a.0 h.1)
+deliver_all gives M k = runs_all gives IsDeliver M one
   where
-    one : (e : Event) → IsDeliver e → WorldSteps gives old e r h.0 → M h.0
-    one (event.Deliver cn n) d step = k cn n r old h.0 step m
-    one e d step = absurd d
+    one : (e : Event) (r : Reply) (old new : WorldState) → IsDeliver e → WorldSteps gives old e r new → M old → M new
+    one (event.Deliver cn n) r old new d step m = k cn n r old new step m
+    one e r old new d step m = absurd d
 
 -- the rounds
 
@@ -431,28 +390,13 @@ pub record Passes (X V Y Z : Machines → Type 0) (v u : Lacpdu) (before c d : �
   pub asks : Asks d Y Z v u c
   pub asked : Along Z v u c d
 
-pub timed_ends : (P : ℕ → Machines → Type 0) (xs : List SystemPort) → AllByRecursion PeriodicIsSettled xs
-    → AllByRecursion (λ (x : SystemPort). IsTimed x.port) xs → OfEach P xs → OfEach (λ m p. P m p × AtRest periodic_rows p × IsTimed p) xs
-timed_ends P [] a b c = tt
-timed_ends P (x ∷ xs) a b c = ((c.0, a.0.rows, b.0), timed_ends P xs a.1 b.1 c.1)
-
 pub at_rest : (d : ℕ) (at : Side → ℕ) (w : Side → Lacpdu) (c : Side → ℕ) (s : Side) (V Y : Machines → Type 0) (j : WorldState)
     → ((p : Machines) → AtRest periodic_rows p → IsTimed p → IsEnd d (w s) (w (peer s)) (c s) p → V p → Y p)
     → Link d at w c s V j → Link d at w c s Y j
-at_rest d at w c s V Y j k l = record {
-  steady = l.steady;
-  flying = l.flying;
-  index = l.index;
-  links = l.links;
-  good = l.good;
-  place = l.place;
-  ports = λ t. each_map (λ m p. AtPort (at t) (EndIs d w c s V t) m p × AtRest periodic_rows p × IsTimed p) (AtPort (at t) (EndIs d w c s Y t))
-      (λ m p a e. (
-        (a.0 e).0,
-        λ f. k p a.1 a.2 (subst (λ t. IsEnd d (w t) (w (peer t)) (c t) p) f (a.0 e).0) ((a.0 e).1 f),
-      )) (half t j).state.system_ports
-      (timed_ends (AtPort (at t) (EndIs d w c s V t)) (half t j).state.system_ports (l.steady t).0.quiet.1 (l.steady t).1 (l.ports t));
-}
+at_rest d at w c s V Y j k l = other_ports l (λ t p rest timed a. (
+  a.0,
+  λ f. k p rest timed (subst (λ t. IsEnd d (w t) (w (peer t)) (c t) p) f a.0) (a.1 f),
+))
 
 pub round_passes : (gives : Algorithms) (s : Side) (d : ℕ) (at : Side → ℕ) (w : Side → Lacpdu) (c : Side → ℕ) (X V Y Z : Machines → Type 0)
     (old new : WorldState) → 1 ≤ d → Fits d w (ticked c) → Passes X V Y Z (w s) (w (peer s)) (c s) (ticked c s) d
@@ -461,18 +405,19 @@ round_passes gives s d at w c X V Y Z old new there fits k l h =
     let u = unroll gives old new h in
     let two = at_rest d at w (ticked c) s V Y u.two k.rests
     (tick_both gives d at w c s X V u.tick_one.0 u.tick_two.0 old u.one u.two fits k.ticked k.ticks u.tick_one.1 u.tick_two.1 l) in
-    let o : AsksIt s (at s) (asks_all old.links) = subst (λ p. AsksIt s p (asks_all old.links)) (port_there s at l.flying)
-    (asks_it s l.index old.links (cable at l.flying) l.links.there) in
-    let a = runs_apart gives o.before (event.Emit o.number (at s) ∷ o.later) u.asked u.two u.six
+    let o : AsksTwice s (at s) (asks_all old.links) = subst (λ p. AsksTwice s p (asks_all old.links)) (port_there s at l.flying)
+    (asks_twice s l.index old.links (cable at l.flying) l.links.there) in
+    let e = event.Emit o.number (at s) in
+    let a = runs_apart gives o.before (e ∷ e ∷ o.later) u.asked u.two u.six
     (subst (λ es. WorldRuns gives u.two es u.asked u.six) o.is u.asks) in
-    let b = first_acts gives (event.Emit o.number (at s)) o.later a.2 a.0 u.six a.4 in
+    let b = first_acts gives e (e ∷ o.later) a.2 a.0 u.six a.4 in
     let first = ask_all gives (Before d at w (ticked c) s Y Z)
     (λ n p r i j step m. ask_before gives n p s d at w (ticked c) Y Z r i j fits there k.waits k.asks k.asked m step)
     o.before a.1 u.two a.0 o.firsts a.3 (inl two) in
     let now = ask_now gives o.number s d at w (ticked c) Y Z b.2.0 a.0 b.0 fits there o.named k.asks k.asked first b.2.1 in
     let six = ask_all gives (Midway d at w (ticked c) s Z)
     (λ n p r i j step m. ask_any gives n p s d at w (ticked c) Z r i j fits there k.asked m step)
-    o.later b.1 b.0 u.six o.lasts b.3 now in
+    (e ∷ o.later) b.1 b.0 u.six (tt, o.lasts) b.3 now in
     landed d at w (ticked c) s Z new h.empties
     (deliver_all gives (Midway d at w (ticked c) s Z)
     (λ cn n r i j step mid. deliver_later gives cn n s d at w (ticked c) Z r i j there fits k.asked mid step)
@@ -489,17 +434,10 @@ pub still_sounds : (fast : Bool) (most : ℕ) (p : Machines) → AtRest periodic
 still_sounds fast zero p rest silent not y = absurd (no (sym not ∙ now_due fast p rest silent y))
 still_sounds fast (suc m) p rest silent not y = omega arith
 
--- the port at the end of s
-pub end_port : (d : ℕ) (at : Side → ℕ) (w : Side → Lacpdu) (c : Side → ℕ) (x : Side) (Y : Machines → Type 0) (j : WorldState)
-    → Link d at w c x Y j → (s : Side) → (z : SystemPort) × EndIs d w c x Y s z.port
-end_port d at w c x Y j l s =
-    let ports = (half s j).state.system_ports in
-    let place = l.place s in
-    let it = found (at s) place.0 ports place.1 in (
-      it.0,
-      all-get (λ (y : SystemPort). AtPort (at s) (EndIs d w c x Y s) y.number y.port) ports place.0 it.0 it.1 (l.ports s)
-          (found_place (at s) ports place.0 it.0 place.1 it.1),
-    )
+-- what stands beside it is so
+pub beside_here : (d : ℕ) (at : Side → ℕ) (w : Side → Lacpdu) (c : Side → ℕ) (x : Side) (Y : Machines → Type 0) (j : WorldState)
+    → (l : Link d at w c x Y j) → Y (end_here at w d c x Y j l x).port.port
+beside_here d at w c x Y j l = end_with at w d c x j (end_here at w d c x Y j l x) Y (of_end l x Y (λ p rest timed a. a.1 refl))
 
 abbrev Later : Bool → ℕ → Machines → Type 0
 Later fast most p = (1 ≤ most) × Sounds fast most p
@@ -530,7 +468,7 @@ round_nears gives s d at w c fast most old new there fits can was l h = elim (ro
     (Sounds fast (most - 1)) (Sounds fast (most - 1)) (Later fast (most - 1)) old new there fits
     (sounds_pass (w s) (w (peer s)) fast (c s) (ticked c s) d most was can) l h) [
       | inl z ↦ inl (
-        ((end_port d at w (ticked c) s (Later fast (most - 1)) new z s).1.1 refl).0,
+        (beside_here d at w (ticked c) s (Later fast (most - 1)) new z).0,
         at_rest d at w (ticked c) s (Later fast (most - 1)) (Sounds fast (most - 1)) new (λ p rest timed a y. y.1) z,
       )
       | inr k ↦ inr k

@@ -1,24 +1,22 @@
 -- Cables of which both ends are SELECTED agree, however few aggregators and links there are.
-use Rattle.lagprogress.proofs.Common.{IsSome, List, None, Option, Some, ap, arith, inl, inr, is_some, map, refl, slice_get, subst, suc, sym, true, ℕ}
-use Rattle.lagprogress.proofs.Common.{◌+◌, ◌-◌, ◌∙◌, ◌≡◌, ◌≤◌, ◌⊎◌, cases_Bool, same_Some, AllByRecursion, is_selected, Lacpdu, IsCabling, One, Side}
-use Rattle.lagprogress.proofs.Common.{end_at, peer, selected, PortConfig, SystemPort, MuxIsSettled, all-get, found_place, ports_rise, Same}
-use Rattle.lagprogress.proofs.Common.{agreement_at, Algorithms, link_ends, world_setup, IsWorldSound, LinkState, WorldState, half, history_at}
-use Rattle.lagprogress.proofs.Common.{port_at, towards, end_is, ActiveSelectedPairsAgree, ActiveSelectedPairsComeUp, AllHeard, BothAreActive}
-use Rattle.lagprogress.proofs.Common.{OneIsActive, SelectedPairsAgree, SelectedPairsComeUp, Distributes, AtEnd, IsHealthyAt, IsRound, OfPort, Rounds}
-use Rattle.lagprogress.proofs.Common.{IsSteady, IsTimed}
-use Rattle.lagprogress.proofs.Bundling.{all_by_place, as_before, both_wake, ends_at, old_port, one_wakes, rounds_alike, rounds_keep}
+use Rattle.lagprogress.proofs.Common.{List, Some, ap, arith, inl, inr, refl, slice_get, subst, suc, sym, true, ℕ, ◌+◌, ◌-◌, ◌∙◌, ◌≡◌, ◌≤◌, ◌⊎◌}
+use Rattle.lagprogress.proofs.Common.{cases_Bool, AllByRecursion, is_selected, Lacpdu, IsCabling, One, Side, peer, selected, PortConfig, SystemPort}
+use Rattle.lagprogress.proofs.Common.{MuxIsSettled, all-get, ports_rise, Same, agreement_at, Algorithms, world_setup, IsWorldSound, LinkState}
+use Rattle.lagprogress.proofs.Common.{WorldState, half, port_at, ActiveSelectedPairsAgree, ActiveSelectedPairsComeUp, AllHeard, BothAreActive}
+use Rattle.lagprogress.proofs.Common.{OneIsActive, SelectedPairsAgree, SelectedPairsComeUp, Distributes, AtEnd, IsHealthyAt, OfPort, Rounds, IsSteady}
+use Rattle.lagprogress.proofs.Common.{IsTimed}
+use Rattle.lagprogress.proofs.Bundling.{agree_up, all_by_place, as_before, both_meet, both_wake, ends_at, heard_holds, old_port, one_meet, one_wakes}
+use Rattle.lagprogress.proofs.Bundling.{rounds_alike, rounds_keep}
 use Rattle.lagprogress.proofs.Choosing.{Chose}
-use Rattle.lagprogress.proofs.Climbing.{Down, Ripe, Rising, climbed, down_settles, down_takes, down_ticks, rising_along, rising_first, ticks_rising}
-use Rattle.lagprogress.proofs.ComingUp.{Up, active_at, agrees_now, at_end, comes_up, end_here, end_with, splits, rounds_kept, up_now, zero_on}
-use Rattle.lagprogress.proofs.EachRound.{EachAt, RoundKeeps, round_each, rounds_join, rounds_steady, same_index}
+use Rattle.lagprogress.proofs.Climbing.{Down, Ripe, Rising, climbed, down_settles, down_takes, down_ticks, rising_first}
+use Rattle.lagprogress.proofs.ComingUp.{Up, at_end, comes_up, end_here, end_with, splits, up_now, zero_on, climb_first, climb_on}
+use Rattle.lagprogress.proofs.EachRound.{EachAt, RoundKeeps, round_each, rounds_steady}
 use Rattle.lagprogress.proofs.EndFacts.{Synced, activity}
 use Rattle.lagprogress.proofs.Frozen.{AllChose, AllFresh, Stands, choice_rounds, on_cable}
 use Rattle.lagprogress.proofs.Hearing.{no}
-use Rattle.lagprogress.proofs.OneActive.{named_at, one_meets}
 use Rattle.lagprogress.proofs.OnePort.{AtPort, at_number}
-use Rattle.lagprogress.proofs.OneRound.{Nothing, join, round_holds, ticked}
-use Rattle.lagprogress.proofs.Progressing.{AtIt, Fresh, FreshAt, active_meet, beside, fits_fresh, healthy_cable, knows_peer, said_by, starts}
-use Rattle.lagprogress.proofs.Progressing.{stays_fresh}
+use Rattle.lagprogress.proofs.OneRound.{Nothing}
+use Rattle.lagprogress.proofs.Progressing.{AtIt, Fresh, FreshAt, said_by, stays_fresh, starts}
 
 -- one end climbs
 
@@ -26,31 +24,8 @@ climb_one : (at : Side → ℕ) (w : Side → Lacpdu) → ((s : Side) → (activ
     (gives : Algorithms) (mid top : WorldState) → FreshAt at w 1 mid → AtIt at w s (λ p. is_selected p.choice ≡ true) mid
     → Rounds gives 20 mid top → AtIt at w s (Rising 0) top
 climb_one at w awake s gives mid top g chosen h =
-    subst (λ t. AtIt at w s (Rising t) top) (omega arith) (zero_on gives (λ n j. FreshAt at w 1 j × AtIt at w s (Rising (20 - n)) j) mid
-    (g, subst (λ t. AtIt at w s (Rising t) mid) (omega arith) first) on 20 top h).1
-  where
-    first : AtIt at w s (Rising 20) mid
-    first =
-        let e = end_here at w 1 g.known One Nothing mid g.link s in
-        let steady = g.link.steady in
-        let st = (half s mid).state in
-        let mux = (all-get (MuxIsSettled st.keys st.system_ports) st.system_ports e.index e.port e.there (steady s).0.quiet.0).mux in
-        let timed = all-get (λ (y : SystemPort). IsTimed y.port) st.system_ports e.index e.port e.there (steady s).1 in
-        at_end at w 1 g.known s mid e steady (Rising 20) (rising_first e.port.port mux timed
-        (end_with at w 1 g.known s mid e (λ p. is_selected p.choice ≡ true) chosen))
-
-    on : (n : ℕ) (i j : WorldState) → IsRound gives i j → FreshAt at w 1 i × AtIt at w s (Rising (20 - n)) i
-        → FreshAt at w 1 j × AtIt at w s (Rising (20 - (n + 1))) j
-    on n i j r (f, rising) =
-        let l = knows_peer at w 1 0 0 i f (omega arith) s in (
-          stays_fresh at w awake gives 1 i j (omega arith) r f,
-          subst (λ t. AtIt at w s (Rising t) j) (omega arith)
-              (beside at w 1 (ticked f.known) s (Rising (20 - n - 1)) j
-              (round_holds gives s 1 at w f.known (Rising (20 - n)) (Rising (20 - n - 1)) i j (fits_fresh at w awake 1 i f (omega arith))
-              (rising_along (w s) (w (peer s)) (ticked f.known s) 1 (20 - n - 1) (omega arith) (omega (arith, l)))
-              (λ p q run rest a y. ticks_rising 1 (w s) (w (peer s)) (f.known s) (20 - n) p q (omega (arith, l)) run a y)
-              (λ p y. y) (join 1 at w f.known One s (Rising (20 - n)) i f.link rising) r)),
-        )
+    (zero_on gives (λ n j. FreshAt at w 1 j × AtIt at w s (Rising (20 - n)) j) mid (g, climb_first at w awake mid g s chosen)
+    (λ n i j r f. (stays_fresh at w awake gives 1 i j (omega arith) r f.0, climb_on at w awake s gives n i j f.0 r f.1)) 20 top h).1
 
 -- a SELECTED port whose link is down
 
@@ -81,15 +56,7 @@ module _ (Holds : LinkState → WorldState → Type 0) (first : ℕ) (gives : Al
     → (activity (said_by l old (ends_at i l old h) s) ≡ true) ⊎ (activity (said_by l old (ends_at i l old h) (peer s)) ≡ true)) where
   -- of each healthy cable it holds
   holds : (i : ℕ) (l : LinkState) → IsHealthyAt i l old → Holds l old
-  holds i l h =
-      let e = ends_at i l old h One in
-      let it = heard One e.0 e.1 e.3 e.4 in
-      let joins : port_at One it.link ≡ port_at One l = it.joins ∙ found_place (port_at One l) (half One old).state.system_ports e.0 e.1 e.2 e.3 in
-      let here : end_at (map link_ends old.links) One (suc it.index) ≡ Some (port_at One l) =
-      end_is One old.links it.index it.link it.healthy.there ∙ ap (λ (n : ℕ). Some n) joins in
-      let place : suc it.index ≡ suc i = cabling One (suc it.index) (suc i) (port_at One l) here (end_is One old.links i l h.there) in
-      let same : it.index ≡ i = omega (arith, place) in
-      subst (λ m. Holds m old) (same_Some it.link l (sym it.healthy.there ∙ (ap (slice_get old.links) same ∙ h.there))) it.holds
+  holds = heard_holds Holds old cabling heard
 
   pub wake : (i : ℕ) (l : LinkState) (h : IsHealthyAt i l old) → (s : Side)
       → (activity (said_by l old (ends_at i l old h) s) ≡ true) ⊎ (activity (said_by l old (ends_at i l old h) (peer s)) ≡ true)
@@ -198,31 +165,11 @@ module _ (Holds : LinkState → WorldState → Type 0) (first : ℕ) (gives : Al
   pub pairs_agree : IsWorldSound old → (i : ℕ) (l : LinkState) (y : IsHealthyAt i l old) (n : ℕ) (new : WorldState) → first + 31 ≤ n
       → Rounds gives n old new
       → ((s : Side) → AtEnd (λ p. selected p ≡ true) s l new) → agreement_at new (suc i) ≡ Some Same
-  pairs_agree sound i l y n new enough h sel =
-      agrees_now (λ s. port_at s l) (said_by l old (ends_at i l old y)) (wake i l y) i new
-      (λ x fl c. same_index i x l fl old new y.there (rounds_join gives n old new h) c)
-      (λ s. rounds_kept gives n i (λ t. port_at t l) (λ t. towards t l) old new (healthy_cable i l old cabling y) h s
-      ∙ some_is (history_at (half s old).histories (port_at s l)) (sound.ends s i l y.there)) (ups i l y n new enough h sel)
-    where
-      some_is : {X : Type 0} (o : Option X) → IsSome o → is_some o ≡ true
-      some_is None h = absurd (let e = h in cc)
-      some_is (Some x) h = refl
-
-one_meet : (gives : Algorithms) (old : WorldState) → IsCabling (world_setup old).cables → IsSteady old → (i : ℕ) (l : LinkState)
-    (h : IsHealthyAt i l old) → OneIsActive l old → (mid : WorldState) → Rounds gives 630 old mid
-    → Fresh (λ s. port_at s l) (said_by l old (ends_at i l old h)) mid
-one_meet gives old cabling steady i l h a mid r = one_meets gives (λ s. port_at s l) (said_by l old (ends_at i l old h)) a.0 630 old mid
-    (named_at l old (ends_at i l old h) steady) (active_at l old (ends_at i l old h) a.0 a.1) (omega arith) (starts i l old (ends_at i l old h) steady cabling h) r
-
-both_meet : (gives : Algorithms) (old : WorldState) → IsCabling (world_setup old).cables → IsSteady old → (i : ℕ) (l : LinkState)
-    (h : IsHealthyAt i l old) → BothAreActive l old → (mid : WorldState) → Rounds gives 321 old mid
-    → Fresh (λ s. port_at s l) (said_by l old (ends_at i l old h)) mid
-both_meet gives old cabling steady i l h a mid r = active_meet gives (λ s. port_at s l) (said_by l old (ends_at i l old h)) 321 old mid
-    (λ s. active_at l old (ends_at i l old h) s (a s)) (omega arith) (starts i l old (ends_at i l old h) steady cabling h) r
+  pairs_agree sound i l y n new enough h sel = agree_up gives n old new sound h i l y (wake i l y) (ups i l y n new enough h sel)
 
 pub selected_pairs_come_up : (gives : Algorithms) → SelectedPairsComeUp gives
 selected_pairs_come_up gives n i l old new cabling steady heard y enough h sel = pairs_distribute OneIsActive 630 gives old cabling steady heard
-    (one_meet gives old cabling steady) (one_wakes old) i l y n new (omega (arith, enough)) h sel
+    (one_meet gives 630 old cabling steady (omega arith)) (one_wakes old) i l y n new (omega (arith, enough)) h sel
 
 pub active_selected_pairs_come_up : (gives : Algorithms) → ActiveSelectedPairsComeUp gives
 active_selected_pairs_come_up gives n i l old new cabling steady heard y enough h sel = pairs_distribute BothAreActive 321 gives old cabling
@@ -230,7 +177,7 @@ active_selected_pairs_come_up gives n i l old new cabling steady heard y enough 
 
 pub selected_pairs_agree : (gives : Algorithms) → SelectedPairsAgree gives
 selected_pairs_agree gives n i l old new sound steady heard y enough h sel = pairs_agree OneIsActive 630 gives old sound.cabling steady heard
-    (one_meet gives old sound.cabling steady) (one_wakes old) sound i l y n new (omega (arith, enough)) h sel
+    (one_meet gives 630 old sound.cabling steady (omega arith)) (one_wakes old) sound i l y n new (omega (arith, enough)) h sel
 
 pub active_selected_pairs_agree : (gives : Algorithms) → ActiveSelectedPairsAgree gives
 active_selected_pairs_agree gives n i l old new sound steady heard y enough h sel = pairs_agree BothAreActive 321 gives old sound.cabling steady

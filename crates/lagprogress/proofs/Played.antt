@@ -1,9 +1,9 @@
 -- Healthy rounds that are played.
 use Rattle.lagprogress.proofs.Common.{Bool, Err, IfErr, IfOk, List, None, Ok, Option, Result, Some, [], ap, append_assoc, arith, drop, false, inl}
 use Rattle.lagprogress.proofs.Common.{inr, is_some, length, map, nat_le, option_map, refl, slice_get, subst, suc, sym, take, take-append-drop}
-use Rattle.lagprogress.proofs.Common.{take_all, true, zero, ℕ, ◌&&◌, ◌++◌, ◌+◌, ◌<◌, ◌∙◌, ◌∷◌, ◌≡◌, ◌≤◌, ◌⊎◌, false≢true, nat_tests, none-some}
-use Rattle.lagprogress.proofs.Common.{same_Some, slice_get-map, slice_get_within, AllByRecursion, IsErrAnd, all-append, Ends, One, Side, Two}
-use Rattle.lagprogress.proofs.Common.{WorldSetup, value_of, SystemFault, Received, Event, Reply, AfterReceive, Algorithms, DeliversFrom, OnLink}
+use Rattle.lagprogress.proofs.Common.{take_all, true, zero, ℕ, ◌&&◌, ◌++◌, ◌+◌, ◌<◌, ◌==◌, ◌∙◌, ◌∷◌, ◌≡◌, ◌≤◌, ◌⊎◌, cases_Bool, false≢true, nat_tests}
+use Rattle.lagprogress.proofs.Common.{none-some, same_Some, slice_get-map, slice_get_within, AllByRecursion, IsErrAnd, all-append, Ends, One, Side}
+use Rattle.lagprogress.proofs.Common.{Two, WorldSetup, value_of, SystemFault, Received, Event, Reply, AfterReceive, Algorithms, DeliversFrom, OnLink}
 use Rattle.lagprogress.proofs.Common.{WorldRuns, WorldSteps, cause, cause_or_no_memory, first_event_cause, has_cable, most_events, side_of, link_ends}
 use Rattle.lagprogress.proofs.Common.{world_setup, RefusesNext, RunStops, both_algorithms, next_of, ItemValue, LinkState, WorldState}
 use Rattle.lagprogress.proofs.Common.{element_numbered, towards, Delivers, IsOutOfMemoryOrSpent, IsRefused, NamesNoCable, PlaysPart, RunsAll}
@@ -17,6 +17,7 @@ use Rattle.lagworld.specs.declared.fault.WorldFault.{WorldFault}
 use Rattle.lagworld.specs.declared.fault.WorldFault.TheVariants.{NoCable}
 use Rattle.lagworld.specs.declared.reply.Reply.TheVariants as reply
 use Rattle.lagworld.specs.Readers.{ends_of_cable}
+use Rattle.lagprogress.proofs.Linked.{each_side}
 
 -- what holds of algorithms holds of the same ones
 pub same_algorithms : {F : Type 0} (Q : Algorithms → Type 0) (a b f h : F) (post : F → ℕ → ℕ → ℕ → Type 0) → f ≡ a → h ≡ b
@@ -53,9 +54,8 @@ was_err P r x e h = subst (λ k. IfErr k P) (sym e) h
 pub runs_append : (gives : Algorithms) (es fs : List Event) (rs qs : List Reply) (old mid new : WorldState)
     → WorldRuns gives old es rs mid → WorldRuns gives mid fs qs new → WorldRuns gives old (es ++ fs) (rs ++ qs) new
 runs_append gives [] fs [] qs old mid new h x = subst (λ j. WorldRuns gives j fs qs new) h x
-runs_append gives [] fs (r ∷ rs) qs old mid new h x = absurd h
-runs_append gives (e ∷ es) fs [] qs old mid new h x = absurd h
 runs_append gives (e ∷ es) fs (r ∷ rs) qs old mid new h x = (h.0, h.1, runs_append gives es fs rs qs h.0 mid new h.2 x)
+runs_append gives es fs rs qs old mid new h x = absurd h
 
 pub runs_none : (gives : Algorithms) (j : WorldState) → RunsAll gives [] j j
 runs_none gives j = record { replies = []; acts = refl }
@@ -267,23 +267,16 @@ one_more gives c n r old mid new h x = delivers_both gives old mid new h (record
   acts = record { replies = r ∷ []; acts = (new, x, refl) };
 })
 
-abbrev is_empty : Reply → Bool
-is_empty reply.Empty = true
-is_empty r = false
-
-not_empty : (r : Reply) → is_empty r ≡ false → reply.Empty ≡ r → ⊥
-not_empty r h e = false≢true (sym h ∙ sym (ap is_empty e))
-
 none_back : (s : Side) (p : ℕ) (item : ItemValue) (a : Result Received SystemFault) (old new : WorldState)
     → AfterReceive s p item a old reply.Empty new → ⊥
-none_back s p item (Err fault) old new h = not_empty (reply.Refused fault) refl h.0
-none_back s p item (Ok received.Disabled) old new h = not_empty reply.Disabled refl h.0
-none_back s p item (Ok received.Dropped) old new h = not_empty reply.Dropped refl h.0
-none_back s p item (Ok (received.Ignored fault)) old new h = not_empty reply.Ignored refl h.0
-none_back s p item (Ok received.TookLacpdu) old new h = not_empty reply.Took refl h.0
-none_back s p item (Ok (received.Respond frame)) old new h = not_empty (reply.Responded _) refl h.0
-none_back s p item (Ok (received.Released n)) old new h = not_empty (reply.Released n) refl h.0
-none_back s p item (Ok (received.Up agg)) old new h = not_empty (reply.Up agg) refl h.0
+none_back s p item (Err fault) old new h = cc
+none_back s p item (Ok received.Disabled) old new h = cc
+none_back s p item (Ok received.Dropped) old new h = cc
+none_back s p item (Ok (received.Ignored fault)) old new h = cc
+none_back s p item (Ok received.TookLacpdu) old new h = cc
+none_back s p item (Ok (received.Respond frame)) old new h = cc
+none_back s p item (Ok (received.Released n)) old new h = cc
+none_back s p item (Ok (received.Up agg)) old new h = cc
 
 was_empty : (gives : Algorithms) (s : Side) (i : ℕ) (l : LinkState) (xs : List ItemValue) (old new : WorldState)
     → DeliversFrom gives s i l xs old reply.Empty new → (xs ≡ []) × (new ≡ old)
@@ -320,12 +313,9 @@ pub quiet_first : (j : WorldState) → IsQuiet 0 j j
 quiet_first j = record { same = refl; before = λ s i l h f. absurd (omega (arith, h)) }
 
 below_or_same : (i n : ℕ) → i < n + 1 → (i < n) ⊎ (i ≡ n)
-below_or_same zero zero h = inr refl
-below_or_same zero (suc n) h = inl (omega arith)
-below_or_same (suc i) zero h = absurd (omega (arith, h))
-below_or_same (suc i) (suc n) h = elim (below_or_same i n (omega (arith, h))) [
-  | inl less ↦ inl (omega (arith, less))
-  | inr same ↦ inr (ap suc same)
+below_or_same i n h = elim (cases_Bool (i == n)) [
+  | inl t ↦ inr (grind (arith, nat_tests))
+  | inr f ↦ (let other : i ≡ n → ⊥ = grind (arith, nat_tests) in inl (omega (arith, h, other)))
 ]
 
 -- nor on the next one, in either direction
@@ -339,16 +329,11 @@ quiet_next gives n q r start old mid new h x y first second =
       same = b.1 ∙ (a.1 ∙ h.same);
       before = λ s i l within f. elim (below_or_same i n within) [
         | inl less ↦ h.before s i l less f
-        | inr same ↦ either s l (subst (λ k. slice_get start.links k ≡ Some l) same f) (λ m k. a.0 m (ap (λ ls. slice_get ls n) h.same ∙ k))
-            (λ m k. b.0 m (ap (λ ls. slice_get ls n) (a.1 ∙ h.same) ∙ k))
+        | inr same ↦ (let g = subst (λ k. slice_get start.links k ≡ Some l) same f in
+            each_side (λ t. towards t l ≡ []) One (a.0 l (ap (λ ls. slice_get ls n) h.same ∙ g))
+            (b.0 l (ap (λ ls. slice_get ls n) (a.1 ∙ h.same) ∙ g)) s)
       ];
     }
-  where
-    either : (s : Side) (l : LinkState) → slice_get start.links n ≡ Some l
-        → ((m : LinkState) → slice_get start.links n ≡ Some m → towards One m ≡ [])
-        → ((m : LinkState) → slice_get start.links n ≡ Some m → towards Two m ≡ []) → towards s l ≡ []
-    either One l f one two = one l f
-    either Two l f one two = two l f
 
 pub nothing_left : (n : ℕ) (old new : WorldState) → length old.links ≤ n → IsQuiet n old new → NothingInFlight new
 nothing_left n old new h q s i l f =
@@ -391,18 +376,10 @@ pub round_more : (gives : Algorithms) (n : ℕ) (old mid new : WorldState) → R
     → Rounds gives (n + 1) old new
 round_more gives n old mid new h x = let e : suc n ≡ n + 1 = omega arith in subst (λ k. Rounds gives k old new) e (mid, h, x)
 
--- what a call answers that was refused with this fault
-pub on_fault : {T : Type 0} (j : WorldState) (why : WorldFault) (r : Result T WorldFault) → IsErrAnd r (λ e. e ≡ why)
-    → IsOutOfMemoryOrSpent why j → IfErr r (λ fault. IsOutOfMemoryOrSpent fault j)
-on_fault j why (Ok x) e h = tt
-on_fault j why (Err x) e h = subst (λ f. IsOutOfMemoryOrSpent f j) (sym e) h
-
 -- all three hold
 pub all_hold : (a b c r : Bool) → r ≡ ((a && b) && c) → r ≡ true → (a ≡ true) × (b ≡ true) × (c ≡ true)
 all_hold true true true r e h = (refl, refl, refl)
-all_hold true true false r e h = absurd (false≢true (sym e ∙ h))
-all_hold true false c r e h = absurd (false≢true (sym e ∙ h))
-all_hold false b c r e h = absurd (false≢true (sym e ∙ h))
+all_hold a b c r e h = absurd (false≢true (sym e ∙ h))
 
 pub quiet_more : (gives : Algorithms) (n : ℕ) (q r : Reply) (empty now : Bool) (start old mid new : WorldState)
     → (empty ≡ true → IsQuiet n start old) → WorldSteps gives old (event.Deliver (n + 1) 1) q mid

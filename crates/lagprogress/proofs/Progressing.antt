@@ -1,16 +1,16 @@
 -- How the ends of a cable come to know each other, round by round.
 use Rattle.lagprogress.proofs.Common.{Bool, List, None, Option, Some, [], ap, arith, false, inl, inr, map, option_map, refl, slice_get, subst, suc}
-use Rattle.lagprogress.proofs.Common.{sym, true, zero, ℕ, ◌+◌, ◌-◌, ◌∙◌, ◌∷◌, ◌≡◌, ◌≤◌, ◌⊎◌, cases_Bool, none-some, AllByRecursion, StateBits}
+use Rattle.lagprogress.proofs.Common.{sym, true, zero, ℕ, ◌+◌, ◌-◌, ◌∙◌, ◌∷◌, ◌≡◌, ◌≤◌, ◌⊎◌, cases_Bool, AllByRecursion, StateBits}
 use Rattle.lagprogress.proofs.Common.{encode_then_decode, Lacpdu, IsCabling, One, Side, Two, end_at, peer, CollectingDistributing, Machines}
 use Rattle.lagprogress.proofs.Common.{is_synchronized, same_mux_state, periodic_rows, receive_rows, AtRest, RunsToRest, actor_of, count_down, pdu_of}
-use Rattle.lagprogress.proofs.Common.{SystemPort, PeriodicIsSettled, SystemState, machines_of, port_index, system_port_at, named, all-get}
-use Rattle.lagprogress.proofs.Common.{found_place, ports_rise, Algorithms, link_ends, world_setup, ItemValue, LinkState, WorldState, half, port_at}
-use Rattle.lagprogress.proofs.Common.{towards, ActiveEndsOfEachKnow, timeout_time, ActiveEndsComeToKnow, EndKnows, Knows, AtEnd, IsHealthy}
-use Rattle.lagprogress.proofs.Common.{IsHealthyAt, IsRound, NothingInFlight, OfPort, Rounds, IsSteady, IsTimed}
+use Rattle.lagprogress.proofs.Common.{SystemPort, SystemState, machines_of, port_index, system_port_at, named, found_place, ports_rise, Algorithms}
+use Rattle.lagprogress.proofs.Common.{link_ends, world_setup, ItemValue, LinkState, WorldState, half, port_at, towards, ActiveEndsOfEachKnow}
+use Rattle.lagprogress.proofs.Common.{timeout_time, ActiveEndsComeToKnow, EndKnows, Knows, AtEnd, IsHealthy, IsHealthyAt, IsRound, NothingInFlight}
+use Rattle.lagprogress.proofs.Common.{OfPort, Rounds, IsSteady, IsTimed}
 use Rattle.lagprogress.proofs.EachPort.{OfEach}
 use Rattle.lagprogress.proofs.EndFacts.{CanSound, IsEnd, Learnt, Says, Synced, activity, calm, less_known, short_timeout, ticks_end, wait_of}
 use Rattle.lagprogress.proofs.Hearing.{no}
-use Rattle.lagprogress.proofs.Linked.{each_both, EndIs, Fits, IsGood, Link, each_map, each_side, found, peer_twice}
+use Rattle.lagprogress.proofs.Linked.{EndIs, Fits, IsGood, Link, each_map, each_side, peer_twice, other_ports, of_end, both_at, with_ports, end_here}
 use Rattle.lagprogress.proofs.OneCable.{OnCable, as_cable, cable, towards_there}
 use Rattle.lagprogress.proofs.OnePort.{AtPort, at_number}
 use Rattle.lagprogress.proofs.OneRound.{Nothing, forget, join, round_keeps, round_nears, ticked}
@@ -18,6 +18,7 @@ use Rattle.lagprogress.proofs.Sounding.{Sounds, silence_of, sounds_first}
 use Rattle.lagprogress.proofs.Stamps.{Present, present_heard, present_kept}
 use Rattle.lagprogress.proofs.Telling.{Told, Wakes, told_heard, told_kept}
 use Rattle.lagprogress.proofs.Claims.{IsNamed, Wakeful, can_wake, wakeful_ticks}
+pub use Rattle.lagprogress.proofs.Linked.{machines_there}
 
 -- numbers of both sides
 
@@ -59,61 +60,35 @@ module _ (at : Side → ℕ) (w : Side → Lacpdu) where
 
   pub lower : (d : ℕ) (c b : Side → ℕ) (x : Side) (Y : Machines → Type 0) (j : WorldState) → ((s : Side) → b s ≤ c s)
       → Link d at w c x Y j → Link d at w b x Y j
-  lower d c b x Y j less l = record {
-    steady = l.steady;
-    flying = l.flying;
-    index = l.index;
-    links = l.links;
-    good = l.good;
-    place = l.place;
-    ports = λ s. each_map (AtPort (at s) (EndIs d w c x Y s)) (AtPort (at s) (EndIs d w b x Y s))
-        (λ m p a e. (less_known d (w s) (w (peer s)) (c s) (b s) p (less s) (a e).0, (a e).1)) (half s j).state.system_ports (l.ports s);
-  }
+  lower d c b x Y j less l =
+      other_ports l (λ s p rest timed a. (less_known d (w s) (w (peer s)) (c s) (b s) p (less s) a.0, a.1))
 
   -- what stands beside it
   pub beside : (d : ℕ) (c : Side → ℕ) (x : Side) (Y : Machines → Type 0) (j : WorldState) → Link d at w c x Y j → AtIt x Y j
-  beside d c x Y j l = each_map (AtPort (at x) (EndIs d w c x Y x)) (AtPort (at x) Y) (λ m p a e. (a e).1 refl)
-      (half x j).state.system_ports (l.ports x)
+  beside d c x Y j l = of_end l x Y (λ p rest timed a. a.1 refl)
 
   -- the end of s knows its partner since just now
   learns : (d : ℕ) (c : Side → ℕ) (s : Side) (b : ℕ) (j : WorldState) → b ≤ c (peer s)
       → Link d at w c s (Learnt d (w (peer s)) (wait s)) j → Link d at w (two s (wait s) b) s Nothing j
-  learns d c s b j less l = record {
-    steady = l.steady;
-    flying = l.flying;
-    index = l.index;
-    links = l.links;
-    good = l.good;
-    place = l.place;
-    ports = each_side (λ u. OfEach (AtPort (at u) (EndIs d w (two s (wait s) b) s Nothing u)) (half u j).state.system_ports) s
-        (each_map (AtPort (at s) (EndIs d w c s (Learnt d (w (peer s)) (wait s)) s)) (AtPort (at s) (EndIs d w (two s (wait s) b) s Nothing s))
-        (λ m p a e. (subst (λ n. IsEnd d (w s) (w (peer s)) n p) (sym (two_there s (wait s) b)) ((a e).0.0, ((a e).1 refl).0, (a e).0.2), λ f. tt))
-        (half s j).state.system_ports (l.ports s))
-        (each_map (AtPort (at (peer s)) (EndIs d w c s (Learnt d (w (peer s)) (wait s)) (peer s)))
-        (AtPort (at (peer s)) (EndIs d w (two s (wait s) b) s Nothing (peer s)))
-        (λ m p a e. (
-          less_known d (w (peer s)) (w (peer (peer s))) (c (peer s)) (two s (wait s) b (peer s)) p
-              (subst (λ n. n ≤ c (peer s)) (sym (two_other s (wait s) b)) less) (a e).0,
-          λ f. tt,
-        )) (half (peer s) j).state.system_ports (l.ports (peer s)));
-  }
-
-  all_settled : (n : ℕ) (P : Machines → Type 0) (xs : List SystemPort) → AllByRecursion PeriodicIsSettled xs
-      → AllByRecursion (λ (x : SystemPort). IsTimed x.port) xs → OfEach (AtPort n P) xs
-      → OfEach (λ m p. (m ≡ n → P p) × (PeriodicIsSettled (record { number = 0; mac = []; port = p }) × IsTimed p)) xs
-  all_settled n P [] a b c = tt
-  all_settled n P (x ∷ xs) a b c =
-      ((c.0, (record { rows = a.0.rows; cleared = a.0.cleared }, b.0)), all_settled n P xs a.1 b.1 c.1)
+  learns d c s b j less l =
+      let P : Side → Machines → Type 0 = EndIs d w c s (Learnt d (w (peer s)) (wait s)) in
+      let Q : Side → Machines → Type 0 = EndIs d w (two s (wait s) b) s Nothing in
+      other_ports l (each_side (λ u. (p : Machines) → AtRest periodic_rows p → IsTimed p → P u p → Q u p) s
+      (λ p rest timed a. (
+        subst (λ n. IsEnd d (w s) (w (peer s)) n p) (sym (two_there s (wait s) b)) (a.0.0, (a.1 refl).0, a.0.2),
+        λ f. tt,
+      ))
+      (λ p rest timed a. (
+        less_known d (w (peer s)) (w (peer (peer s))) (c (peer s)) (two s (wait s) b (peer s)) p
+            (subst (λ n. n ≤ c (peer s)) (sym (two_other s (wait s) b)) less) a.0,
+        λ f. tt,
+      )))
 
   -- in how many ticks at the latest an end that may sound does
   pub sounds_now : (d : ℕ) (c : Side → ℕ) (x : Side) (Y : Machines → Type 0) (s : Side) (fast : Bool) (j : WorldState)
       → CanSound (w s) (w (peer s)) fast (c s) → Link d at w c x Y j → AtIt s (Sounds fast (silence_of fast)) j
-  sounds_now d c x Y s fast j can l =
-      each_map (λ m p. (m ≡ at s → EndIs d w c x Y s p) × (PeriodicIsSettled (record { number = 0; mac = []; port = p }) × IsTimed p))
-      (AtPort (at s) (Sounds fast (silence_of fast)))
-      (λ m p a e. sounds_first fast p a.1.0.rows a.1.1 (calm d (w s) (w (peer s)) fast (c s) p can (a.0 e).0))
-      (half s j).state.system_ports
-      (all_settled (at s) (EndIs d w c x Y s) (half s j).state.system_ports (l.steady s).0.quiet.1 (l.steady s).1 (l.ports s))
+  sounds_now d c x Y s fast j can l = of_end l s (Sounds fast (silence_of fast))
+      (λ p rest timed a. sounds_first fast p rest timed (calm d (w s) (w (peer s)) fast (c s) p can a.0))
 
   can_known : (s : Side) (c : ℕ) → 1 ≤ c → (activity (w s) ≡ true) ⊎ (activity (w (peer s)) ≡ true)
       → CanSound (w s) (w (peer s)) (mode s) c
@@ -155,8 +130,7 @@ module _ (at : Side → ℕ) (w : Side → Lacpdu) where
 
   ends_of : (d : ℕ) (c : Side → ℕ) (x : Side) (Y : Machines → Type 0) (s : Side) (j : WorldState) → Link d at w c x Y j
       → AtIt s (IsEnd d (w s) (w (peer s)) (c s)) j
-  ends_of d c x Y s j l = each_map (AtPort (at s) (EndIs d w c x Y s)) (AtPort (at s) (IsEnd d (w s) (w (peer s)) (c s)))
-      (λ m p a e. (a e).0) (half s j).state.system_ports (l.ports s)
+  ends_of d c x Y s j l = of_end l s (IsEnd d (w s) (w (peer s)) (c s)) (λ p rest timed a. a.0)
 
   abbrev Able : ℕ → (Side → ℕ) → Type 0
   Able d c = (s : Side) → CanSound (w s) (w (peer s)) (mode s) (c s) × CanSound (w s) (w (peer s)) (mode s) (c s - 1)
@@ -214,17 +188,9 @@ module _ (at : Side → ℕ) (w : Side → Lacpdu) where
       record {
         known = λ u. (r (peer u)).known;
         next = λ s. (r s).next;
-        link = record {
-          steady = base.steady;
-          flying = base.flying;
-          index = base.index;
-          links = base.links;
-          good = base.good;
-          place = base.place;
-          ports = λ u. each_map (AtPort (at u) (IsEnd d (w u) (w (peer u)) (r (peer u)).known))
-              (AtPort (at u) (EndIs d w (λ v. (r (peer v)).known) One Nothing u)) (λ m p a e. (a e, λ f. tt))
-              (half u new).state.system_ports (own u);
-        };
+        link = with_ports base (λ u. each_map (AtPort (at u) (IsEnd d (w u) (w (peer u)) (r (peer u)).known))
+            (AtPort (at u) (EndIs d w (λ v. (r (peer v)).known) One Nothing u)) (λ m p a e. (a e, λ f. tt))
+            (half u new).state.system_ports (own u));
         fits = λ u. subst (λ t. (r (peer u)).known ≤ wait t) (peer_twice u) (r (peer u)).fits;
         later = λ s. (r s).later;
         longer = λ s. subst (λ t. ((r s).next + 1 ≤ (r t).known) ⊎ (n + 1 + (r s).next ≤ most)) (sym (peer_twice s)) (r s).longer;
@@ -274,7 +240,7 @@ module _ (at : Side → ℕ) (w : Side → Lacpdu) where
 
   -- both ends know each other, and so they go on
   module _ (awake : (s : Side) → (activity (w s) ≡ true) ⊎ (activity (w (peer s)) ≡ true)) where
-    awake_peer : (s : Side) → (activity (w (peer s)) ≡ true) ⊎ (activity (w s) ≡ true)
+    pub awake_peer : (s : Side) → (activity (w (peer s)) ≡ true) ⊎ (activity (w s) ≡ true)
     awake_peer s = elim (awake s) [ inl a ↦ inr a | inr a ↦ inl a ]
 
     pub fits_fresh : (d : ℕ) (j : WorldState) (g : FreshAt d j) → 1 ≤ d → Fits d w (ticked g.known)
@@ -334,6 +300,23 @@ module _ (at : Side → ℕ) (w : Side → Lacpdu) where
     join 1 at w (λ _. 0) One s (Sounds false 309) j l (sounds_now 1 (λ _. 0) One Nothing s false j (inl active, λ e. absurd (no e)) l),
     none,
   )
+
+  -- it still does, or the other end has just heard it
+  pub calls_on : (s : Side) → activity (w s) ≡ true → (gives : Algorithms) (n : ℕ) (old new : WorldState) → IsRound gives old new → Calls s n old
+      → Calls s (n + 1) new ⊎ Linked (ticked (λ _. 0)) (peer s) (Learnt 1 (w (peer (peer s))) (wait (peer s))) new
+  calls_on s active gives n old new h g = elim (round_nears gives s 1 at w (λ _. 0) false g.0 old new (omega arith)
+      (fits_first (ticked (λ _. 0)) (λ t. omega arith)) (inl active, λ e. absurd (no e)) (inl active, λ e. absurd (no e)) g.3 h) [
+        | inl q ↦ (let l = g.2 in
+            let m = q.0 in
+            inl (
+              g.0 - 1,
+              q.0,
+              omega (arith, l, m),
+              lower 1 (ticked (λ _. 0)) (λ _. 0) s (Sounds false (g.0 - 1)) new (λ _. omega arith) q.1,
+              h.empties,
+            ))
+        | inr q ↦ inr q
+      ]
 
   abbrev pub Answers : Side → ℕ → ℕ → WorldState → Type 0
   Answers s most n j = (k : ℕ) × (b : ℕ) × (1 ≤ k) × (n + k ≤ most + silence_of (mode (peer s)))
@@ -470,23 +453,14 @@ module _ (at : Side → ℕ) (w : Side → Lacpdu) where
         (inr (subst (λ t. activity (w t) ≡ true) (sym (peer_twice s)) active))
 
     calls : (gives : Algorithms) (n : ℕ) (old new : WorldState) → IsRound gives old new → Calls s n old → Comes s (n + 1) new
-    calls gives n old new h g = elim (round_nears gives s 1 at w (λ _. 0) false g.0 old new (omega arith)
-        (fits_first (ticked (λ _. 0)) (λ t. omega arith)) (inl active, λ e. absurd (no e)) (inl active, λ e. absurd (no e)) g.3 h) [
-          | inl q ↦ (let l = g.2 in
-              let m = q.0 in
-              inl (
-                g.0 - 1,
-                q.0,
-                omega (arith, l, m),
-                lower 1 (ticked (λ _. 0)) (λ _. 0) s (Sounds false (g.0 - 1)) new (λ _. omega arith) q.1,
-                h.empties,
-              ))
-          | inr q ↦ inr (inl (hears s some_awake (inl active) room 310 (n + 1) new (let l = g.2 in let o = g.1 in omega (arith, l, o)) q
-              (told_heard gives 1 at w (λ _. 0) s (Sounds false g.0) old new (omega arith) (fits_first (ticked (λ _. 0)) (λ t. omega arith))
-              (λ p q run rest a y. inl active) g.3 g.4 h
-              (beside 1 (ticked (λ _. 0)) (peer s) (Learnt 1 (w (peer (peer s))) (wait (peer s))) new q))
-              (present_heard at old new gives 1 w (λ _. 0) s (Sounds false g.0) g.3 g.4 h (peer s) 1 (ticked (λ _. 0)) q) h.empties))
-        ]
+    calls gives n old new h g = elim (calls_on s active gives n old new h g) [
+      | inl c ↦ inl c
+      | inr q ↦ inr (inl (hears s some_awake (inl active) room 310 (n + 1) new (let l = g.2 in let o = g.1 in omega (arith, l, o)) q
+          (told_heard gives 1 at w (λ _. 0) s (Sounds false g.0) old new (omega arith) (fits_first (ticked (λ _. 0)) (λ t. omega arith))
+          (λ p q run rest a y. inl active) g.3 g.4 h
+          (beside 1 (ticked (λ _. 0)) (peer s) (Learnt 1 (w (peer (peer s))) (wait (peer s))) new q))
+          (present_heard at old new gives 1 w (λ _. 0) s (Sounds false g.0) g.3 g.4 h (peer s) 1 (ticked (λ _. 0)) q) h.empties))
+    ]
 
     pub comes : (gives : Algorithms) (n : ℕ) (old new : WorldState) → IsRound gives old new → Comes s n old → Comes s (n + 1) new
     comes gives n old new h (inl c) = calls gives n old new h c
@@ -531,11 +505,6 @@ end_of P n s h = by_index (port_index n s.system_ports) refl h
     by_index None e h = absurd h
     by_index (Some k) e h = by_slot k (slice_get s.system_ports k) e refl h
 
-pub machines_there : (n : ℕ) (s : SystemState) (k : ℕ) (z : SystemPort) → port_index n s.system_ports ≡ Some k
-    → slice_get s.system_ports k ≡ Some z → machines_of n s ≡ Some z.port
-machines_there n s k z e f = ap (λ o. option_map (λ (x : SystemPort). x.port) (system_port_at o s.system_ports)) e
-    ∙ ap (option_map (λ (x : SystemPort). x.port)) f
-
 pub own_says : (p : Machines) → Says (pdu_of p 0) p
 own_says p =
     let bits = encode_then_decode (record {
@@ -575,11 +544,8 @@ pub only_cabling : (l : LinkState) (j : WorldState) → IsHealthy l j → IsCabl
 only_cabling l j h = subst (λ ls. IsCabling (map link_ends ls)) (sym h.only) one
   where
     one : (s : Side) (c d p : ℕ) → end_at (map link_ends (l ∷ [])) s c ≡ Some p → end_at (map link_ends (l ∷ [])) s d ≡ Some p → c ≡ d
-    one s zero d p e f = absurd (none-some p e)
-    one s (suc zero) zero p e f = absurd (none-some p f)
     one s (suc zero) (suc zero) p e f = refl
-    one s (suc zero) (suc (suc d)) p e f = absurd (none-some p f)
-    one s (suc (suc c)) d p e f = absurd (none-some p e)
+    one s c d p e f = absurd cc
 
 pub starts : (i : ℕ) (l : LinkState) (j : WorldState) (e : Ends l j) → IsSteady j → IsCabling (world_setup j).cables → IsHealthyAt i l j
     → Link 0 (λ s. port_at s l) (said_by l j e) (λ _. 0) One Nothing j
@@ -612,10 +578,8 @@ emptied at w d e c x Y j none synced k =
       links = k.links;
       good = λ s. subst (AllByRecursion (IsGood e w s)) (sym (empty s)) tt;
       place = k.place;
-      ports = λ s. each_map (λ m p. AtPort (at s) (EndIs d w c x Y s) m p × AtPort (at s) (λ p. 2 ≤ e → Synced p) m p)
-          (AtPort (at s) (EndIs e w c x Y s)) (λ m p a f. (((a.0 f).0.0, (a.0 f).0.1, a.1 f), (a.0 f).1)) (half s j).state.system_ports
-          (each_both (AtPort (at s) (EndIs d w c x Y s)) (AtPort (at s) (λ p. 2 ≤ e → Synced p)) (half s j).state.system_ports
-          (k.ports s) (synced s));
+      ports = λ s. both_at (at s) (EndIs d w c x Y s) (λ p. 2 ≤ e → Synced p) (EndIs e w c x Y s)
+          (λ p a b. ((a.0.0, a.0.1, b), a.1)) (half s j).state.system_ports (k.ports s) (synced s);
     }
 
 -- after the first round nothing is on the cable
@@ -626,37 +590,25 @@ first_round gives at w old new l h =
     (round_keeps gives One 0 at w (λ _. 0) old new
     (λ t. (omega arith, λ m. omega (arith, m), λ m. absurd (omega (arith, m)), λ m. absurd (omega (arith, m)))) l h) in
     emptied at w 0 1 (λ _. 0) One Nothing new h.empties
-    (λ s. each_map (AtPort (at s) (EndIs 0 w (λ _. 0) One Nothing s)) (AtPort (at s) (λ p. 2 ≤ 1 → Synced p))
-    (λ m p a e f. absurd (omega (arith, f))) (half s new).state.system_ports (k.ports s)) k
+    (λ s. of_end k s (λ p. 2 ≤ 1 → Synced p) (λ p rest timed a f. absurd (omega (arith, f)))) k
 
 -- both ends know each other
 pub fresh_knows : (l : LinkState) (w : Side → Lacpdu) (j : WorldState) → Fresh (λ s. port_at s l) w j → (s : Side) → EndKnows s l j
 fresh_knows l w j g s =
-    let one = port_of s in
-    let other = port_of (peer s) in
-    let r = (one.2.1.1 (let m = knows_peer (λ s. port_at s l) w 1 0 0 j g (omega arith) s in omega (arith, m))).0 in
-    let knows : Knows one.0.port other.0.port = record {
+    let at : Side → ℕ = λ s. port_at s l in
+    let one = end_here at w 1 g.known One Nothing j g.link s in
+    let other = end_here at w 1 g.known One Nothing j g.link (peer s) in
+    let r = (one.is.1.1 (let m = knows_peer at w 1 0 0 j g (omega arith) s in omega (arith, m))).0 in
+    let knows : Knows one.port.port other.port.port = record {
       current = r.current;
-      party = r.party ∙ sym other.2.0.0;
-      active = r.active ∙ sym other.2.0.1;
-      short = r.short ∙ sym other.2.0.2;
+      party = r.party ∙ sym other.is.0.0;
+      active = r.active ∙ sym other.is.0.1;
+      short = r.short ∙ sym other.is.0.2;
       present = r.present;
       heard = r.heard;
     } in
-    subst (OfPort (λ p. AtEnd (λ q. Knows p q) (peer s) l j)) (sym one.1)
-    (subst (OfPort (λ q. Knows one.0.port q)) (sym other.1) knows)
-  where
-    port_of : (u : Side) → (z : SystemPort) × (machines_of (port_at u l) (half u j).state ≡ Some z.port)
-        × IsEnd 1 (w u) (w (peer u)) (g.known u) z.port
-    port_of u =
-        let ports = (half u j).state.system_ports in
-        let place = g.link.place u in
-        let it = found (port_at u l) place.0 ports place.1 in (
-          it.0,
-          machines_there (port_at u l) (half u j).state place.0 it.0 place.1 it.1,
-          all-get (λ (y : SystemPort). AtPort (port_at u l) (IsEnd 1 (w u) (w (peer u)) (g.known u)) y.number y.port) ports place.0 it.0 it.1
-              (ends_of (λ s. port_at s l) w 1 g.known One Nothing u j g.link) (found_place (port_at u l) ports place.0 it.0 place.1 it.1),
-        )
+    subst (OfPort (λ p. AtEnd (λ q. Knows p q) (peer s) l j)) (sym one.found)
+    (subst (OfPort (λ q. Knows one.port.port q)) (sym other.found) knows)
 
 -- both ends are active
 

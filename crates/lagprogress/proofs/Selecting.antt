@@ -9,7 +9,7 @@ use Rattle.lagprogress.proofs.Common.{occupants_share_group, or_else, ports_that
 use Rattle.lagprogress.proofs.Common.{stands_by, NoneStandsBy, none_is_next, SystemPort, key_of, MuxIsSettled, OccupantsAgree, WithinLimit, occupied}
 use Rattle.lagprogress.proofs.Common.{IsSound, SystemState, aggregators_value, selection_view, stage_of, views, takes_is, all-get, ports_rise, IsFull}
 use Rattle.lagprogress.proofs.Common.{StandsByFull, WantsAggregator, aggregators_with, ports_with}
-use Rattle.lagprogress.proofs.Counting.{count, counted, count_less, count_more}
+use Rattle.lagprogress.proofs.Counting.{count, counted, count_less_of, count_more_of}
 
 -- the number of the aggregator that a port occupies; aggregators are numbered from 1
 abbrev place : Choice → ℕ
@@ -55,9 +55,9 @@ enough k ports first (key ∷ keys) h =
     λ x. from_less k first (first + 1) (place x.port.choice) x.port.party.key.0 (omega arith) in
     one_enough (key.0 == k) (count (λ (key : Key). key.0 == k) keys) (count (is_from k (first + 1)) ports) (count (is_from k
     first) ports)
-    (enough k ports (first + 1) keys h.1) (count_less (is_from k (first + 1)) (is_from k first) wider ports)
+    (enough k ports (first + 1) keys h.1) (count_less_of (is_from k (first + 1)) (is_from k first) ports (λ j x g. wider x))
     (λ e. let o = h.0 e in
-    count_more (is_from k (first + 1)) (is_from k first) wider ports o.index o.port o.there
+    count_more_of (is_from k (first + 1)) (is_from k first) ports (λ j x g. wider x) o.index o.port o.there
     (not_from k first (place o.port.port.choice) o.port.port.party.key.0 o.number)
     (from_here k first (place o.port.port.choice) o.port.port.party.key.0 o.key o.number))
 
@@ -125,15 +125,9 @@ is_detached_at : (m : MuxState) (w : ℕ) (c : Choice) (z : Bool) → is_unselec
     → (same_mux_state Attached m && not (is_selected c)) ≡ false
     → (same_mux_state CollectingDistributing m && (not (is_selected c) || z)) ≡ false → is_detached (stage_of m w) ≡ true
 is_detached_at Detached w c z u a b d = refl
-is_detached_at Waiting w Unselected z u a b d = absurd cc
-is_detached_at Waiting w (Selected agg) z u a b d = absurd cc
-is_detached_at Waiting w (Standby agg) z u a b d = absurd cc
-is_detached_at Attached w Unselected z u a b d = absurd cc
-is_detached_at Attached w (Selected agg) z u a b d = absurd cc
-is_detached_at Attached w (Standby agg) z u a b d = absurd cc
-is_detached_at CollectingDistributing w Unselected z u a b d = absurd cc
-is_detached_at CollectingDistributing w (Selected agg) z u a b d = absurd cc
-is_detached_at CollectingDistributing w (Standby agg) z u a b d = absurd cc
+is_detached_at m w Unselected z u a b d = absurd cc
+is_detached_at m w (Selected agg) z u a b d = absurd cc
+is_detached_at m w (Standby agg) z u a b d = absurd cc
 
 is_known : (r : ReceiveState) → (r ≡ Current) ⊎ (r ≡ Defaulted) → (same_receive_state Current r || same_receive_state Defaulted
     r) ≡ true
@@ -168,8 +162,7 @@ no_entry (Some row) h = absurd cc
 
 unselected_at : (c : Choice) → is_unselected c ≡ true → place c ≡ 0
 unselected_at Unselected u = refl
-unselected_at (Selected agg) u = absurd cc
-unselected_at (Standby agg) u = absurd cc
+unselected_at c u = absurd cc
 
 from_any : (k c n : ℕ) → ((n == k) && nat_le 1 c) ≡ true → (n == k) ≡ true
 from_any k c n h = (and_parts (n == k) (nat_le 1 c) h).0
@@ -201,8 +194,8 @@ never_unselected s i x h e w many u =
     no_entry _ (second_none (lowest s.keys x.port.party.key (occupants_share_group seen v)) _ none) in
     let full = enough k s.system_ports 1 s.keys (all_occupied s.keys s.system_ports k 1 s.keys h.occupants
     (λ j key g. from_first s.keys j key g) without) in
-    let least = count_more (is_from k 1) (λ (y : SystemPort). y.port.party.key.0 == k)
-    (λ y. from_any k (place y.port.choice) y.port.party.key.0) s.system_ports i x e
+    let least = count_more_of (is_from k 1) (λ (y : SystemPort). y.port.party.key.0 == k) s.system_ports
+    (λ j y g. from_any k (place y.port.choice) y.port.party.key.0) i x e
     (not_first k (place x.port.choice) k (unselected_at x.port.choice u)) (itself k) in
     crowded (count (λ (y : SystemPort). y.port.party.key.0 == k) s.system_ports) (count (is_from k 1) s.system_ports)
     (omega (

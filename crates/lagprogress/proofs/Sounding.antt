@@ -1,20 +1,22 @@
 -- In how many ticks an LACPDU of a port is due that neither its own end nor its partner keeps silent.
 use Rattle.lagprogress.proofs.Common.{Bool, List, [], arith, cond, false, inl, inr, length, nat_lt, not, refl, subst, suc, sym, true, zero, ℕ, ◌&&◌}
-use Rattle.lagprogress.proofs.Common.{◌+◌, ◌-◌, ◌<◌, ◌==◌, ◌||◌, ◌∷◌, ◌≡◌, ◌≤◌, ◌⊎◌, nat_tests, AllByRecursion, PeriodicState, Fast, NoPeriodic}
-use Rattle.lagprogress.proofs.Common.{PeriodicTx, Slow, Machines, mux_rows, RunsPeriodic, is_silent, partner_short, periodic_rows, periodic_table}
-use Rattle.lagprogress.proofs.Common.{same_periodic_state, timer_expired, AtRest, Row, in_order, aged, count_down, is_due, IsTimed}
-use Rattle.lagprogress.proofs.Common.{most_periodic_timer}
+use Rattle.lagprogress.proofs.Common.{◌+◌, ◌-◌, ◌<◌, ◌==◌, ◌||◌, ◌∷◌, ◌≡◌, ◌≤◌, ◌⊎◌, and_parts, nat_tests, AllByRecursion, PeriodicState, Fast}
+use Rattle.lagprogress.proofs.Common.{NoPeriodic, PeriodicTx, Slow, Machines, mux_rows, RunsPeriodic, is_silent, partner_short, periodic_rows}
+use Rattle.lagprogress.proofs.Common.{periodic_table, same_periodic_state, timer_expired, AtRest, Row, in_order, aged, count_down, is_due, SilentFor}
+use Rattle.lagprogress.proofs.Common.{IsTimed, most_periodic_timer}
 use Rattle.lagprogress.proofs.Hearing.{EnabledKeep, no, times_keep}
 use Rattle.lagprogress.proofs.Timers.{RowsKeep}
+use Rattle.portmachines.proofs.Windows.{periodic-ages}
 
 -- NTT becomes true in so many ticks at the latest; the second argument: the partner has Short Timeout all the while
 abbrev pub NextIn : PeriodicState → Bool → ℕ → ℕ → Type 0
-NextIn NoPeriodic fast most n = ⊥
-NextIn PeriodicTx fast most n = ⊥
+NextIn st false most n = SilentFor most st n
 NextIn Fast true most n = n ≤ most
-NextIn Fast false most n = n + 299 ≤ most
-NextIn Slow true most n = ⊥
-NextIn Slow false most n = n ≤ most
+NextIn st true most n = ⊥
+
+-- NTT is true, or becomes true in so many ticks
+abbrev pub Near : Bool → ℕ → Machines → Type 0
+Near fast most p = (p.ntt ≡ true) ⊎ NextIn p.periodic fast most p.periodic_timer
 
 -- an age is 11 in so many ticks
 abbrev pub Leaves : ℕ → ℕ → Type 0
@@ -22,18 +24,20 @@ Leaves most a = (11 ≤ a + most) × (a < 11)
 
 -- NTT is true in so many ticks, and the transmit window then empty, if nothing is sent
 abbrev pub Sounds : Bool → ℕ → Machines → Type 0
-Sounds fast most p = ((p.ntt ≡ true) ⊎ NextIn p.periodic fast most p.periodic_timer) × AllByRecursion (Leaves most) p.ages
+Sounds fast most p = Near fast most p × AllByRecursion (Leaves most) p.ages
 
 -- the periodic machine is not kept silent, and the partner has Short Timeout if that is said
 abbrev pub Calm : Bool → Machines → Type 0
 Calm fast p = (is_silent p ≡ false) × (fast ≡ true → partner_short p ≡ true)
 
--- the rows of the periodic machine
+pub not_silent : (e a b : Bool) → e ≡ true → (a ≡ true) ⊎ (b ≡ true) → (not e || (not a && not b)) ≡ false
+not_silent true true b up h = refl
+not_silent true false true up h = refl
+not_silent true false false up (inl x) = absurd (no x)
+not_silent true false false up (inr x) = absurd (no x)
+not_silent false a b up h = absurd (no up)
 
-both_true : (b c : Bool) → (b && c) ≡ true → (b ≡ true) × (c ≡ true)
-both_true true true h = (refl, refl)
-both_true true false h = absurd (no h)
-both_true false c h = absurd (no h)
+-- the rows of the periodic machine
 
 last_false : (a b : Bool) → (a || b) ≡ false → b ≡ false
 last_false true b h = absurd (no (sym h))
@@ -65,20 +69,18 @@ clash false t f = absurd (no t)
 from_none : (st : PeriodicState) (fast b : Bool) (most n : ℕ) → same_periodic_state NoPeriodic st ≡ true
     → (b ≡ true) ⊎ NextIn st fast most n → b ≡ true
 from_none NoPeriodic fast b most n e (inl t) = t
-from_none NoPeriodic fast b most n e (inr x) = absurd x
-from_none Fast fast b most n e h = absurd (no e)
-from_none Slow fast b most n e h = absurd (no e)
-from_none PeriodicTx fast b most n e h = absurd (no e)
+from_none NoPeriodic true b most n e (inr x) = absurd x
+from_none NoPeriodic false b most n e (inr x) = absurd x
+from_none st fast b most n e h = absurd (no e)
 
 from_tx : (st : PeriodicState) (fast b : Bool) (most n : ℕ) → same_periodic_state PeriodicTx st ≡ true
     → (b ≡ true) ⊎ NextIn st fast most n → b ≡ true
 from_tx PeriodicTx fast b most n e (inl t) = t
-from_tx PeriodicTx fast b most n e (inr x) = absurd x
-from_tx NoPeriodic fast b most n e h = absurd (no e)
-from_tx Fast fast b most n e h = absurd (no e)
-from_tx Slow fast b most n e h = absurd (no e)
+from_tx PeriodicTx true b most n e (inr x) = absurd x
+from_tx PeriodicTx false b most n e (inr x) = absurd x
+from_tx st fast b most n e h = absurd (no e)
 
-not_gone : (n : ℕ) → (n == 0) ≡ false → 1 ≤ n
+pub not_gone : (n : ℕ) → (n == 0) ≡ false → 1 ≤ n
 not_gone zero h = absurd (no (sym h))
 not_gone (suc n) h = omega arith
 
@@ -89,57 +91,43 @@ slows st fast b true most n x e s c h = absurd (no s)
 slows st true b false most n x e s c h = absurd (no (c refl))
 slows Fast false b false most n x e s c (inl t) = inl t
 slows Fast false b false most n x e s c (inr i) = let l = not_gone n x in inr (omega (arith, l, i))
-slows NoPeriodic false b false most n x e s c h = absurd (no e)
-slows Slow false b false most n x e s c h = absurd (no e)
-slows PeriodicTx false b false most n x e s c h = absurd (no e)
+slows st false b false most n x e s c h = absurd (no e)
 
-abbrev CalmSounds : Bool → ℕ → Machines → Type 0
-CalmSounds fast most p = Calm fast p × Sounds fast most p
+abbrev CalmNear : Bool → ℕ → Machines → Type 0
+CalmNear fast most p = Calm fast p × Near fast most p
 
-table_sounds : (fast : Bool) (most : ℕ) → OrderedKeep (CalmSounds fast most) (λ p. false) periodic_table
-table_sounds fast most = (
-  λ p f e a. absurd (clash (is_silent p) (both_true (not (same_periodic_state NoPeriodic p.periodic)) (is_silent p) e).1 a.0.0),
+table_near : (fast : Bool) (most : ℕ) → OrderedKeep (CalmNear fast most) (λ p. false) periodic_table
+table_near fast most = (
+  λ p f e a. absurd (clash (is_silent p) (and_parts (not (same_periodic_state NoPeriodic p.periodic)) (is_silent p) e).1 a.0.0),
   (
     λ p f e a. (
       a.0,
-      (
-        inl (from_none p.periodic fast p.ntt most p.periodic_timer
-            (both_true (same_periodic_state NoPeriodic p.periodic) (not (is_silent p)) e).0 a.1.0),
-        a.1.1,
-      ),
+      inl (from_none p.periodic fast p.ntt most p.periodic_timer
+          (and_parts (same_periodic_state NoPeriodic p.periodic) (not (is_silent p)) e).0 a.1),
     ),
     (
-      λ p f e a. (a.0, (inl refl, a.1.1)),
+      λ p f e a. (a.0, inl refl),
       (
-        λ p f e a. let g = both_true (same_periodic_state Fast p.periodic) (not (partner_short p)) e in (
+        λ p f e a. let g = and_parts (same_periodic_state Fast p.periodic) (not (partner_short p)) e in (
           a.0,
-          (
-            slows p.periodic fast p.ntt (partner_short p) most p.periodic_timer (last_false ((false
-                || (not (same_periodic_state NoPeriodic p.periodic) && is_silent p))
-                || (same_periodic_state NoPeriodic p.periodic && not (is_silent p)))
-                (same_periodic_state Fast p.periodic && timer_expired p) f) g.0 g.1 a.0.1 a.1.0,
-            a.1.1,
-          ),
+          slows p.periodic fast p.ntt (partner_short p) most p.periodic_timer (last_false ((false
+              || (not (same_periodic_state NoPeriodic p.periodic) && is_silent p))
+              || (same_periodic_state NoPeriodic p.periodic && not (is_silent p)))
+              (same_periodic_state Fast p.periodic && timer_expired p) f) g.0 g.1 a.0.1 a.1,
         ),
         (
-          λ p f e a. (a.0, (inl refl, a.1.1)),
+          λ p f e a. (a.0, inl refl),
           (
             λ p f e a. (
               a.0,
-              (
-                inl (from_tx p.periodic fast p.ntt most p.periodic_timer
-                    (both_true (same_periodic_state PeriodicTx p.periodic) (partner_short p) e).0 a.1.0),
-                a.1.1,
-              ),
+              inl (from_tx p.periodic fast p.ntt most p.periodic_timer
+                  (and_parts (same_periodic_state PeriodicTx p.periodic) (partner_short p) e).0 a.1),
             ),
             (
               λ p f e a. (
                 a.0,
-                (
-                  inl (from_tx p.periodic fast p.ntt most p.periodic_timer
-                      (both_true (same_periodic_state PeriodicTx p.periodic) (not (partner_short p)) e).0 a.1.0),
-                  a.1.1,
-                ),
+                inl (from_tx p.periodic fast p.ntt most p.periodic_timer
+                    (and_parts (same_periodic_state PeriodicTx p.periodic) (not (partner_short p)) e).0 a.1),
               ),
               tt,
             ),
@@ -149,9 +137,6 @@ table_sounds fast most = (
     ),
   ),
 )
-
-periodic_sounds : (fast : Bool) (most : ℕ) → EnabledKeep (CalmSounds fast most) periodic_rows
-periodic_sounds fast most = ordered (CalmSounds fast most) (λ p. false) periodic_table (table_sounds fast most)
 
 -- what a periodic machine at rest that is not kept silent shows: its timer has not expired, and it is in FAST if the
 -- partner has Short Timeout, else in SLOW
@@ -169,18 +154,14 @@ rest_fast : (silent expired short : Bool) → silent ≡ false
     → (not ((false || (true && silent)) || (false && not silent)) && (true && expired)) ≡ false
     → (not (((false || (true && silent)) || (false && not silent)) || (true && expired)) && (true && not short)) ≡ false
     → (expired ≡ false) × (short ≡ true)
-rest_fast true expired short e h k = absurd (no (sym e))
-rest_fast false true short e h k = absurd (no (sym h))
 rest_fast false false true e h k = (refl, refl)
-rest_fast false false false e h k = absurd (no (sym k))
+rest_fast silent expired short e h k = cc
 
 rest_slow : (silent expired short : Bool) → silent ≡ false
     → (not ((((false || (true && silent)) || (false && not silent)) || (false && expired)) || (false && not short))
     && (true && (expired || short))) ≡ false → (expired ≡ false) × (short ≡ false)
-rest_slow true expired short e h = absurd (no (sym e))
-rest_slow false true short e h = absurd (no (sym h))
-rest_slow false false true e h = absurd (no (sym h))
 rest_slow false false false e h = (refl, refl)
+rest_slow silent expired short e h = cc
 
 rest_tx : (silent expired short : Bool) → silent ≡ false
     → (not (((((false || (true && silent)) || (false && not silent)) || (false && expired)) || (false && not short))
@@ -201,20 +182,19 @@ rests PeriodicTx p r e = rest_tx (is_silent p) (timer_expired p) (partner_short 
 -- the machine runs
 pub unclear : (st : PeriodicState) (expired short b : Bool) → Resting st expired short → (not (same_periodic_state NoPeriodic st) && b) ≡ b
 unclear NoPeriodic expired short b h = absurd h
-unclear Fast expired short b h = refl
-unclear Slow expired short b h = refl
-unclear PeriodicTx expired short b h = absurd h
+unclear st expired short b h = refl
 
-pub periodic_runs : (fast : Bool) (most : ℕ) (p q : Machines) → RunsPeriodic p q → Calm fast p → Sounds fast most p
-    → Sounds fast most q
-periodic_runs fast most p q h c s =
-    let mid = times_keep (CalmSounds fast most) periodic_rows (periodic_sounds fast most) h.1.0 p h.0 h.1.1 (c, s) in
+pub periodic_near : (fast : Bool) (most : ℕ) (p q : Machines) → RunsPeriodic p q → Calm fast p → Near fast most p → Near fast most q
+periodic_near fast most p q h c s =
+    let mid = times_keep (CalmNear fast most) periodic_rows (ordered (CalmNear fast most) (λ p. false) periodic_table (table_near fast most))
+    h.1.0 p h.0 h.1.1 (c, s) in
     let r = rests h.0.periodic h.0 h.1.2 mid.0.0 in
-    let same = unclear h.0.periodic (timer_expired h.0) (partner_short h.0) h.0.ntt r in
-    subst (Sounds fast most) (sym h.2) (
-      subst (λ b. (b ≡ true) ⊎ NextIn h.0.periodic fast most h.0.periodic_timer) (sym same) mid.1.0,
-      mid.1.1,
-    )
+    subst (Near fast most) (sym h.2) (subst (λ b. (b ≡ true) ⊎ NextIn h.0.periodic fast most h.0.periodic_timer)
+    (sym (unclear h.0.periodic (timer_expired h.0) (partner_short h.0) h.0.ntt r)) mid.1)
+
+pub periodic_runs : (fast : Bool) (most : ℕ) (p q : Machines) → RunsPeriodic p q → Calm fast p → Sounds fast most p → Sounds fast most q
+periodic_runs fast most p q h c s =
+    (periodic_near fast most p q h c s.0, subst (AllByRecursion (Leaves most)) (sym (periodic-ages p q h)) s.1)
 
 pub mux_sounds : (fast : Bool) (most : ℕ) (ready : Bool) → RowsKeep (Sounds fast most) (mux_rows ready)
 mux_sounds fast most ready = (
@@ -228,12 +208,15 @@ nearer : (st : PeriodicState) (fast b short : Bool) (most n : ℕ) → Resting s
     → (b ≡ true) ⊎ NextIn st fast (most - 1) (n - 1)
 nearer NoPeriodic fast b short most n r h = absurd r
 nearer PeriodicTx fast b short most n r h = absurd r
-nearer Fast fast b short most n r (inl t) = inl t
+nearer st fast b short most n r (inl t) = inl t
 nearer Fast true b short most n r (inr i) = inr (omega (arith, i))
 nearer Fast false b short most n r (inr i) = let l = not_gone n r.0 in inr (omega (arith, i, l))
-nearer Slow fast b short most n r (inl t) = inl t
 nearer Slow true b short most n r (inr i) = inr i
 nearer Slow false b short most n r (inr i) = inr (omega (arith, i))
+
+pub near_ticks : (fast : Bool) (most : ℕ) (p : Machines) → AtRest periodic_rows p → is_silent p ≡ false → Near fast most p
+    → Near fast (most - 1) (record p { periodic_timer = p.periodic_timer - 1 })
+near_ticks fast most p rest e s = nearer p.periodic fast p.ntt (partner_short p) most p.periodic_timer (rests p.periodic p rest e) s
 
 older : (b : Bool) (most a : ℕ) (rest : List ℕ) → nat_lt (a + 1) 11 ≡ b → 11 ≤ a + most → AllByRecursion (Leaves (most - 1)) rest
     → AllByRecursion (Leaves (most - 1)) (cond b ((a + 1) ∷ rest) rest)
@@ -246,29 +229,28 @@ all_older most (a ∷ ages) h = older (nat_lt (a + 1) 11) most a (aged ages) ref
 
 pub counts_sounds : (fast : Bool) (most : ℕ) (p : Machines) → AtRest periodic_rows p → is_silent p ≡ false → Sounds fast most p
     → Sounds fast (most - 1) (count_down p)
-counts_sounds fast most p rest e s = (
-  nearer p.periodic fast p.ntt (partner_short p) most p.periodic_timer (rests p.periodic p rest e) s.0,
-  all_older most p.ages s.1,
-)
+counts_sounds fast most p rest e s = (near_ticks fast most p rest e s.0, all_older most p.ages s.1)
 
 -- no ticks are left
 
 still : (st : PeriodicState) (fast b short : Bool) (n : ℕ) → Resting st (n == 0) short → (b ≡ true) ⊎ NextIn st fast 0 n → b ≡ true
 still st fast b short n r (inl t) = t
-still NoPeriodic fast b short n r (inr i) = absurd i
-still PeriodicTx fast b short n r (inr i) = absurd i
+still NoPeriodic fast b short n r (inr i) = absurd r
+still PeriodicTx fast b short n r (inr i) = absurd r
 still Fast true b short n r (inr i) = let l = not_gone n r.0 in absurd (omega (arith, i, l))
 still Fast false b short n r (inr i) = absurd (omega (arith, i))
 still Slow true b short n r (inr i) = absurd i
 still Slow false b short n r (inr i) = let l = not_gone n r.0 in absurd (omega (arith, i, l))
+
+pub near_comes : (fast : Bool) (p : Machines) → AtRest periodic_rows p → is_silent p ≡ false → Near fast 0 p → p.ntt ≡ true
+near_comes fast p rest e s = still p.periodic fast p.ntt (partner_short p) p.periodic_timer (rests p.periodic p rest e) s
 
 none_left : (ages : List ℕ) → AllByRecursion (Leaves 0) ages → length ages ≡ 0
 none_left [] h = refl
 none_left (a ∷ ages) h = absurd (omega (arith, h.0.0, h.0.1))
 
 pub now_due : (fast : Bool) (p : Machines) → AtRest periodic_rows p → is_silent p ≡ false → Sounds fast 0 p → is_due p ≡ true
-now_due fast p rest e s =
-    rw (still p.periodic fast p.ntt (partner_short p) p.periodic_timer (rests p.periodic p rest e) s.0, none_left p.ages s.1) refl
+now_due fast p rest e s = rw (near_comes fast p rest e s.0, none_left p.ages s.1) refl
 
 -- where it begins
 
@@ -280,10 +262,9 @@ begins_in : (st : PeriodicState) (fast short expired : Bool) (n : ℕ) → Resti
     → n ≤ most_periodic_timer st → NextIn st fast (silence_of fast) n
 begins_in NoPeriodic fast short expired n r c l = absurd r
 begins_in PeriodicTx fast short expired n r c l = absurd r
-begins_in Fast true short expired n r c l = omega (arith, l)
-begins_in Fast false short expired n r c l = omega (arith, l)
 begins_in Slow true short expired n r c l = clash short (c refl) r.1
-begins_in Slow false short expired n r c l = omega (arith, l)
+begins_in Fast true short expired n r c l = omega (arith, l)
+begins_in st fast short expired n r c l = omega (arith, l)
 
 pub all_leave : (fast : Bool) (ages : List ℕ) → AllByRecursion (λ a. a < 11) ages → AllByRecursion (Leaves (silence_of fast)) ages
 all_leave fast [] h = tt

@@ -1,12 +1,12 @@
 -- What the ends of a cable took last bears the present change counts.
 use Rattle.lagprogress.proofs.Common.{Bool, Err, List, Ok, Result, Some, [], ap, arith, eqb, eqb-true, false, inl, inr, is_some, refl, subst, sym}
-use Rattle.lagprogress.proofs.Common.{true, ℕ, ◌+◌, ◌==◌, ◌∙◌, ◌∷◌, ◌≡◌, ◌≤◌, ◌⊎◌, cases_Bool, true≢false, nat_tests, AllByRecursion, Lacpdu, One}
-use Rattle.lagprogress.proofs.Common.{Side, Two, peer, cond_false, cond_true, ReceiveState, Current, Machines, mux_rows, periodic_rows, receive_rows}
-use Rattle.lagprogress.proofs.Common.{AtRest, RunsToRest, count_down, SystemFault, Received, SystemPort, Carries, IsFrame, Receive, Step, Tick}
-use Rattle.lagprogress.proofs.Common.{Transmit, CallPromise, SystemState, port_index, processes_or_stays, all-get, found_place, PortHistory, Reply}
-use Rattle.lagprogress.proofs.Common.{is_stamp, Algorithms, WorldSteps, set_last_lacpdu, side_of, stamped_in, set_taken, stamp_count, ItemValue}
-use Rattle.lagprogress.proofs.Common.{WorldState, change_count_in, half, history_at, taken_in, count_heard, read_log, timeout_time, IsRound}
-use Rattle.lagprogress.proofs.Common.{NothingInFlight, asks_all, IsSteadySystem, IsTimed, most_current_while}
+use Rattle.lagprogress.proofs.Common.{true, ℕ, ◌+◌, ◌==◌, ◌∙◌, ◌∷◌, ◌≡◌, ◌≤◌, ◌⊎◌, cases_Bool, true≢false, nat_tests, AllByRecursion, Lacpdu, Side}
+use Rattle.lagprogress.proofs.Common.{peer, cond_false, cond_true, ReceiveState, Current, Machines, periodic_rows, receive_rows, AtRest, RunsToRest}
+use Rattle.lagprogress.proofs.Common.{count_down, SystemFault, Received, SystemPort, Carries, IsFrame, Receive, Step, Tick, Transmit, CallPromise}
+use Rattle.lagprogress.proofs.Common.{SystemState, port_index, processes_or_stays, all-get, found_place, PortHistory, Reply, is_stamp, Algorithms}
+use Rattle.lagprogress.proofs.Common.{WorldSteps, set_last_lacpdu, side_of, stamped_in, set_taken, stamp_count, ItemValue, WorldState}
+use Rattle.lagprogress.proofs.Common.{change_count_in, half, history_at, taken_in, count_heard, read_log, timeout_time, IsRound, NothingInFlight}
+use Rattle.lagprogress.proofs.Common.{IsSteadySystem, IsTimed, most_current_while}
 use Rattle.slowpdu.specs.declared.pdu.Pdu.TheVariants as pdu
 use Rattle.lagsystem.specs.declared.drive.Reply.TheVariants as answer
 use Rattle.lagsystem.specs.declared.received.Received.TheVariants as received
@@ -14,13 +14,12 @@ use Rattle.lagscript.specs.declared.event.Event.TheVariants as event
 use Rattle.lagworld.specs.declared.histories.StampedLacpdu.{StampedLacpdu}
 use Rattle.lagprogress.proofs.EachPort.{KeptBySettling, OfEach, Step-each, Tick-each}
 use Rattle.lagprogress.proofs.EndFacts.{Learnt, Says, short_timeout, wait_of}
-use Rattle.lagprogress.proofs.Halves.{keeps_steady}
 use Rattle.lagprogress.proofs.Lapsing.{some_wait}
-use Rattle.lagprogress.proofs.OneRound.{all_ask, ask_all, deliver_all, timed_ends, unroll}
+use Rattle.lagprogress.proofs.OneRound.{timed_ends, unroll}
+use Rattle.lagprogress.proofs.RoundEvents.{BothTick, round_on, ticks_first}
 use Rattle.lagprogress.proofs.Linked.{EndIs, Link, asked_which, each_side, elsewhere_each, found, is_took, peer_twice, put_other, put_there}
-use Rattle.lagprogress.proofs.OneCable.{Arrives, Back, Beside, IsStamped, OnCable, Ticked, asks, cable, delivers, logged, push_each, put, ticks}
-use Rattle.lagprogress.proofs.OneCable.{towards_there}
-use Rattle.lagprogress.proofs.OnePort.{AtPort}
+use Rattle.lagprogress.proofs.OneCable.{Arrives, Back, Beside, IsStamped, OnCable, asks, cable, delivers, logged, push_each, put, towards_there}
+use Rattle.lagprogress.proofs.OnePort.{AtPort, settling_leaves}
 use Rattle.lagprogress.proofs.Passing.{marker_carries_none}
 use Rattle.lagprogress.proofs.Timers.{runs_keep}
 
@@ -74,13 +73,7 @@ abbrev pub Low : (Side → ℕ) → ℕ → Side → WorldState → Type 0
 Low at most t j = OfEach (AtPort (at t) (Late most)) (half t j).state.system_ports
 
 low_settles : (n most : ℕ) → KeptBySettling (AtPort n (Late most))
-low_settles n most = record {
-  mux = λ m ready p q h a e. runs_keep (Late most) (mux_rows ready)
-      (λ p a. a, (λ p a. a, (λ p a. a, (λ p a. a, (λ p a. a, (λ p a. a, tt)))))) p q h (a e);
-  periodic = λ m p q h a e. subst (Late most) (sym h.2) (runs_keep (Late most) periodic_rows
-      (λ p a. a, (λ p a. a, (λ p a. a, (λ p a. a, (λ p a. a, (λ p a. a, (λ p a. a, tt))))))) p h.0 h.1 (a e));
-  select = λ m choice p none may a e. a e;
-}
+low_settles n most = settling_leaves (AtPort n (Late most))
 
 -- what an event leaves
 pub record Stamping (b : ℕ) (at k : Side → ℕ) (kept : Side → Bool) (old new : WorldState) : Type 0 where
@@ -146,23 +139,11 @@ back_all : (P : Side → ItemValue → Type 0) (gives : ℕ → ℕ → ℕ → 
     → ((t : Side) (item : ItemValue) → ((x : Lacpdu) → IsFrame item.octets (Carries (pdu.Lacpdu x)) → ⊥) → P t item)
     → CallPromise gives old (Receive n octets) (answer.Receive a) new → Back s a fl now
     → ((t : Side) → AllByRecursion (P t) (fl t)) → (t : Side) → AllByRecursion (P t) (now t)
-back_all P gives s n octets (Err fault) old new fl now z k h g = subst (λ (f : Side → List ItemValue). (t : Side) → AllByRecursion (P t) (f t)) (sym h) g
-back_all P gives s n octets (Ok received.Disabled) old new fl now z k h g =
-    subst (λ (f : Side → List ItemValue). (t : Side) → AllByRecursion (P t) (f t)) (sym h) g
-back_all P gives s n octets (Ok received.Dropped) old new fl now z k h g =
-    subst (λ (f : Side → List ItemValue). (t : Side) → AllByRecursion (P t) (f t)) (sym h) g
-back_all P gives s n octets (Ok (received.Ignored fault)) old new fl now z k h g =
-    subst (λ (f : Side → List ItemValue). (t : Side) → AllByRecursion (P t) (f t)) (sym h) g
-back_all P gives s n octets (Ok received.TookLacpdu) old new fl now z k h g =
-    subst (λ (f : Side → List ItemValue). (t : Side) → AllByRecursion (P t) (f t)) (sym h) g
 back_all P gives s n octets (Ok (received.Respond frame)) old new fl now z k h g =
     let m = k.moves.3 in
     let one = z (peer s) h.0 (λ x c. marker_carries_none frame x m.0 (subst (λ o. IsFrame o (Carries (pdu.Lacpdu x))) h.1 c) m.1) in
     subst (λ (f : Side → List ItemValue). (t : Side) → AllByRecursion (P t) (f t)) (sym h.2) (push_each P (peer s) h.0 fl one g)
-back_all P gives s n octets (Ok (received.Released m)) old new fl now z k h g =
-    subst (λ (f : Side → List ItemValue). (t : Side) → AllByRecursion (P t) (f t)) (sym h) g
-back_all P gives s n octets (Ok (received.Up agg)) old new fl now z k h g =
-    subst (λ (f : Side → List ItemValue). (t : Side) → AllByRecursion (P t) (f t)) (sym h) g
+back_all P gives s n octets a old new fl now z k h g = subst (λ (f : Side → List ItemValue). (t : Side) → AllByRecursion (P t) (f t)) (sym h) g
 
 came_in : (gives : ℕ → ℕ → ℕ → Type 0) (at k : Side → ℕ) (kept : Side → Bool) (s : Side) (item : ItemValue) (a : Result Received SystemFault) (old new : WorldState)
     → is_some (history_at (half s old).histories (at s)) ≡ kept s → IsStamped (k (peer s)) item
@@ -237,9 +218,9 @@ stamps_deliver gives cn n b at k kept r old new l h = elim (delivers gives cn n 
 
 -- ticks
 
-stamps_tick : (gives : Algorithms) (s : Side) (b : ℕ) (at k : Side → ℕ) (kept : Side → Bool) (old new : WorldState) → Ticked gives s old new → Stamped b at k kept old
-    → Stamped b at k kept new
-stamps_tick gives s b at k kept old new a l = record {
+stamps_tick : (gives : Algorithms) (b : ℕ) (at k : Side → ℕ) (kept : Side → Bool) (old new : WorldState) → BothTick gives old new
+    → Stamped b at k kept old → Stamped b at k kept new
+stamps_tick gives b at k kept old new a l = record {
   flying = l.flying;
   index = l.index;
   links = subst (OnCable l.index at l.flying) (sym a.links) l.links;
@@ -256,18 +237,19 @@ most_is b r e = ap (most_current_while b) e ∙ at_current b
     at_current false = refl
 
 pub late_ticks : (v : Lacpdu) (p q : Machines) → RunsToRest receive_rows (count_down p) q → Says v p → IsTimed p → Late (wait_of v) q
-late_ticks v p q h says timed = runs_keep (Late (wait_of v)) receive_rows (
-  λ p a e. absurd (let x = e in cc),
-  (
-    λ p a e. absurd (let x = e in cc),
-    (
-      λ p a e. absurd (let x = e in cc),
-      (λ p a e. absurd (let x = e in cc), (λ p a e. absurd (let x = e in cc), tt)),
-    ),
-  ),
-) (count_down p) q h (λ e. (let bound : p.current_while ≤ wait_of v =
+late_ticks v p q h says timed = runs_keep (Late (wait_of v)) receive_rows
+    (λ p a e. cc, (λ p a e. cc, (λ p a e. cc, (λ p a e. cc, (λ p a e. cc, tt))))) (count_down p) q h (λ e. (let bound : p.current_while ≤ wait_of v =
     subst (λ n. p.current_while ≤ n) (most_is p.short p.receive e ∙ ap timeout_time says.2) timed.0 in
     let some = some_wait (short_timeout v) in omega (arith, bound, some)))
+
+-- in the round in which an LACPDU comes it does
+pub not_late : (d : ℕ) (v u : Lacpdu) (p : Machines) → Learnt d u (wait_of v) p → Late (wait_of v) p → ⊥
+not_late d v u p learnt late =
+    let some = some_wait (short_timeout v) in
+    let r = learnt.0.1 some in
+    let long = r.1 in
+    let short = late r.0.current in
+    omega (arith, long, short)
 
 low_ticked : (gives : ℕ → ℕ → ℕ → Type 0) (d : ℕ) (at : Side → ℕ) (w : Side → Lacpdu) (c : Side → ℕ) (x : Side) (Y : Machines → Type 0)
     (t : Side) (old new : SystemState) → IsSteadySystem old → OfEach (AtPort (at t) (EndIs d w c x Y t)) old.system_ports
@@ -298,37 +280,23 @@ pub stamp_round : (gives : Algorithms) (d : ℕ) (at k : Side → ℕ) (kept : S
     → Marked at k kept w old new
 stamp_round gives d at k kept w c x Y old new l st h =
     let u = unroll gives old new h in
-    let one = ticks gives 1 One u.tick_one.0 old u.one refl u.tick_one.1 in
-    let two = ticks gives 2 Two u.tick_two.0 u.one u.two refl u.tick_two.1 in
-    let steady = keeps_steady gives (event.Tick 1 1) u.tick_one.0 old u.one u.tick_one.1 l.steady in
-    let first = low_ticked (gives One) d at w c x Y One old.one.state u.one.one.state (l.steady One) (l.ports One) one.step in
-    let second = low_ticked (gives Two) d at w c x Y Two u.one.two.state u.two.two.state (steady Two)
-    (subst (λ (y : SystemState). OfEach (AtPort (at Two) (EndIs d w c x Y Two)) y.system_ports) (sym one.peers) (l.ports Two)) two.step in
-    let m2 : Marked at k kept w old u.two = (
-      stamps_tick gives Two 1 at k kept u.one u.two two (stamps_tick gives One 1 at k kept old u.one one st),
-      λ t y. took_same at k kept t u.one u.two (two.logs t) (took_same at k kept t old u.one (one.logs t) y),
-      λ t. inl (each_side (λ t. Low at (wait_of (w t)) t u.two) One
-          (subst (λ (y : SystemState). OfEach (AtPort (at One) (Late (wait_of (w One)))) y.system_ports)
-          (sym two.peers) first) second t),
-    ) in
-    let m6 = ask_all gives (Marked at k kept w old)
+    let both = ticks_first gives old new u in
+    round_on gives (Marked at k kept w old)
     (λ n p r i j step m. marked_on at k kept w old i j (stamps_ask gives n p 1 at k kept r i j m.0 step) m)
-    (asks_all old.links) u.asked u.two u.six (all_ask old.links) u.asks m2 in
-    deliver_all gives (Marked at k kept w old)
-    (λ cn n r i j step m. marked_on at k kept w old i j (stamps_deliver gives cn n 1 at k kept r i j m.0 step) m)
-    u.delivers u.replies u.six new u.arrives u.rest m6
+    (λ cn n r i j step m. marked_on at k kept w old i j (stamps_deliver gives cn n 1 at k kept r i j m.0 step) m) old new u (
+      stamps_tick gives 1 at k kept old u.two both st,
+      λ t y. took_same at k kept t old u.two (both.logs t) y,
+      λ t. inl (low_ticked (gives t) d at w c x Y t (half t old).state (half t u.two).state (l.steady t) (l.ports t) (both.step t)),
+    )
 
 -- the invariant alone
 pub stamped_round : (gives : Algorithms) (b : ℕ) (at k : Side → ℕ) (kept : Side → Bool) (old new : WorldState) → Stamped b at k kept old → IsRound gives old new
     → Stamped b at k kept new
 stamped_round gives b at k kept old new l h =
     let u = unroll gives old new h in
-    let m1 = stamps_tick gives One b at k kept old u.one (ticks gives 1 One u.tick_one.0 old u.one refl u.tick_one.1) l in
-    let m2 = stamps_tick gives Two b at k kept u.one u.two (ticks gives 2 Two u.tick_two.0 u.one u.two refl u.tick_two.1) m1 in
-    let m6 = ask_all gives (Stamped b at k kept) (λ n p r i j step m. (stamps_ask gives n p b at k kept r i j m step).world)
-    (asks_all old.links) u.asked u.two u.six (all_ask old.links) u.asks m2 in
-    deliver_all gives (Stamped b at k kept) (λ cn n r i j step m. (stamps_deliver gives cn n b at k kept r i j m step).world)
-    u.delivers u.replies u.six new u.arrives u.rest m6
+    round_on gives (Stamped b at k kept) (λ n p r i j step m. (stamps_ask gives n p b at k kept r i j m step).world)
+    (λ cn n r i j step m. (stamps_deliver gives cn n b at k kept r i j m step).world) old new u
+    (stamps_tick gives b at k kept old u.two (ticks_first gives old new u) l)
 
 -- the LACPDU that the end of t took last bears the present change count of its sender, if the port at the end has a history
 abbrev pub Present : (Side → ℕ) → Side → WorldState → Type 0
@@ -378,10 +346,6 @@ module _ (at : Side → ℕ) (old new : WorldState) where
             let learnt = (all-get (λ (y : SystemPort). AtPort (at t) (EndIs e w b t (Learnt e (w (peer t)) (wait_of (w t))) t) y.number y.port)
             ports place.0 it.0 it.1 (q.ports t) number).1 refl in
             let late = all-get (λ (y : SystemPort). AtPort (at t) (Late (wait_of (w t))) y.number y.port) ports place.0 it.0 it.1 low number in
-            let some = some_wait (short_timeout (w t)) in
-            let r = learnt.0.1 some in
-            let long = r.1 in
-            let short = late r.0.current in
-            absurd (omega (arith, long, short)))
+            absurd (not_late e (w t) (w (peer t)) it.0.port learnt late))
         | inr took ↦ present w m t took
       ]

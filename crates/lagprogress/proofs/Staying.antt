@@ -22,36 +22,30 @@ pub record SameView (x y : SystemPort) : Type 0 where
 abbrev pub SameSeen : List SystemPort → List SystemPort → Type 0
 SameSeen [] [] = Unit {0}
 SameSeen (x ∷ xs) (y ∷ ys) = SameView x y × SameSeen xs ys
-SameSeen [] (y ∷ ys) = ⊥
-SameSeen (x ∷ xs) [] = ⊥
+SameSeen xs ys = ⊥
 
 pub same_at : (xs ys : List SystemPort) (k : ℕ) (y : SystemPort) → SameSeen xs ys → slice_get ys k ≡ Some y
     → (x : SystemPort) × (slice_get xs k ≡ Some x) × SameView x y
-same_at [] [] k y h e = absurd (none-some y e)
-same_at [] (z ∷ ys) k y h e = absurd h
-same_at (x ∷ xs) [] k y h e = absurd h
 same_at (x ∷ xs) (z ∷ ys) zero y h e = (x, refl, subst (SameView x) (same_Some z y e) h.0)
 same_at (x ∷ xs) (z ∷ ys) (suc k) y h e = same_at xs ys k y h.1 e
+same_at xs [] k y h e = absurd (none-some y e)
+same_at xs ys k y h e = absurd h
 
 same_numbers : (xs ys : List SystemPort) → SameSeen xs ys → port_numbers ys ≡ port_numbers xs
 same_numbers [] [] h = refl
-same_numbers [] (y ∷ ys) h = absurd h
-same_numbers (x ∷ xs) [] h = absurd h
 same_numbers (x ∷ xs) (y ∷ ys) h = ap (λ n. n ∷ port_numbers ys) h.0.number ∙ ap (λ ns. x.number ∷ ns) (same_numbers xs ys h.1)
+same_numbers xs ys h = absurd h
 
 same_occupied : (agg : AggId) (xs ys : List SystemPort) → SameSeen xs ys → has_occupant (views ys) agg ≡ has_occupant (views xs) agg
 same_occupied agg [] [] h = refl
-same_occupied agg [] (y ∷ ys) h = absurd h
-same_occupied agg (x ∷ xs) [] h = absurd h
 same_occupied agg (x ∷ xs) (y ∷ ys) h =
     ap (λ c. occupies agg c || has_occupant (views ys) agg) h.0.choice
     ∙ ap (λ b. occupies agg x.port.choice || b) (same_occupied agg xs ys h.1)
+same_occupied agg xs ys h = absurd h
 
 same_members : (agg : AggId) (xs ys : List SystemPort) → SameSeen xs ys
     → length (ports_that_chose agg (views ys)) ≡ length (ports_that_chose agg (views xs))
 same_members agg [] [] h = refl
-same_members agg [] (y ∷ ys) h = absurd h
-same_members agg (x ∷ xs) [] h = absurd h
 same_members agg (x ∷ xs) (y ∷ ys) h =
     ap (λ c. length (cond (has_chosen agg c) (selection_view y ∷ ports_that_chose agg (views ys)) (ports_that_chose agg (views ys)))) h.0.choice
     ∙ by_test (has_chosen agg x.port.choice) (same_members agg xs ys h.1)
@@ -61,12 +55,11 @@ same_members agg (x ∷ xs) (y ∷ ys) h =
         ≡ length (cond b (selection_view x ∷ ports_that_chose agg (views xs)) (ports_that_chose agg (views xs)))
     by_test true e = ap (λ n. suc n) e
     by_test false e = e
+same_members agg xs ys h = absurd h
 
 same_groups : (agg : AggId) (v u : PortView) (xs ys : List SystemPort) → u.party ≡ v.party → u.partner ≡ v.partner → SameSeen xs ys
     → list_all (has_group_of u) (occupants agg (views ys)) ≡ list_all (has_group_of v) (occupants agg (views xs))
 same_groups agg v u [] [] p q h = refl
-same_groups agg v u [] (y ∷ ys) p q h = absurd h
-same_groups agg v u (x ∷ xs) [] p q h = absurd h
 same_groups agg v u (x ∷ xs) (y ∷ ys) p q h =
     ap (λ c. list_all (has_group_of u) (cond (occupies agg c) (selection_view y ∷ occupants agg (views ys)) (occupants agg (views ys)))) h.0.choice
     ∙ by_test (occupies agg x.port.choice) (same_groups agg v u xs ys p q h.1)
@@ -84,6 +77,7 @@ same_groups agg v u (x ∷ xs) (y ∷ ys) p q h =
     by_test true e = ap (λ c. c && list_all (has_group_of u) (occupants agg (views ys))) group
         ∙ ap (λ c. has_group_of v (selection_view x) && c) e
     by_test false e = e
+same_groups agg v u xs ys p q h = absurd h
 
 same_share : (v u : PortView) (xs ys : List SystemPort) → u.party ≡ v.party → u.partner ≡ v.partner → SameSeen xs ys → (agg : AggId)
     → occupants_share_group (views ys) u agg ≡ occupants_share_group (views xs) v agg

@@ -1,12 +1,11 @@
 -- Once an end has heard the other, it is told by an LACPDU when the other is synchronized.
 use Rattle.lagprogress.proofs.Common.{Bool, Err, List, None, Ok, Option, Result, Some, [], ap, arith, false, inl, inr, refl, slice_get, subst, sym}
-use Rattle.lagprogress.proofs.Common.{true, ℕ, ◌++◌, ◌+◌, ◌∙◌, ◌∷◌, ◌≡◌, ◌≤◌, ◌⊎◌, cases_Bool, none-some, same_Some, AllByRecursion, Lacpdu, One}
-use Rattle.lagprogress.proofs.Common.{Side, Two, peer, Machines, mux_rows, partner_synchronized, periodic_rows, receive_rows, AtRest, RunsToRest}
-use Rattle.lagprogress.proofs.Common.{after_sending, count_down, is_due, pdu_of, marker_due, SystemFault, Received, SystemPort, Carries, IsFrame}
-use Rattle.lagprogress.proofs.Common.{OnlyPortChangesBy, ProcessesLacpdu, Receive, Step, ThenSettles, Transmit, IsLacpduOf, SendsMarkerOf}
-use Rattle.lagprogress.proofs.Common.{TransmitsAt, TransmitsIf, CallPromise, SystemState, port_index, same_slots, all-get, found_place, ports_rise}
-use Rattle.lagprogress.proofs.Common.{Reply, Algorithms, WorldSteps, side_of, ItemValue, WorldState, half, IsRound, NothingInFlight, asks_all}
-use Rattle.lagprogress.proofs.Common.{IsTimed}
+use Rattle.lagprogress.proofs.Common.{true, ℕ, ◌++◌, ◌∙◌, ◌∷◌, ◌≡◌, ◌≤◌, ◌⊎◌, cases_Bool, none-some, same_Some, AllByRecursion, Lacpdu, Side, peer}
+use Rattle.lagprogress.proofs.Common.{Machines, partner_synchronized, periodic_rows, receive_rows, AtRest, RunsToRest, after_sending, count_down}
+use Rattle.lagprogress.proofs.Common.{is_due, pdu_of, marker_due, SystemFault, Received, SystemPort, Carries, IsFrame, OnlyPortChangesBy}
+use Rattle.lagprogress.proofs.Common.{ProcessesLacpdu, Receive, Step, ThenSettles, Transmit, IsLacpduOf, SendsMarkerOf, TransmitsAt, TransmitsIf}
+use Rattle.lagprogress.proofs.Common.{CallPromise, SystemState, port_index, all-get, found_place, ports_rise, Reply, Algorithms, WorldSteps, side_of}
+use Rattle.lagprogress.proofs.Common.{ItemValue, WorldState, half, IsRound, NothingInFlight, IsTimed}
 use Rattle.slowpdu.specs.declared.pdu.Pdu.TheVariants as pdu
 use Rattle.lagsystem.specs.declared.drive.Reply.TheVariants as answer
 use Rattle.lagsystem.specs.declared.received.Received.TheVariants as received
@@ -15,17 +14,16 @@ use Rattle.lagprogress.proofs.Claims.{Claims, Owes, Owing, SaysSynced, Wakeful, 
 use Rattle.lagprogress.proofs.Claims.{takes_claim, wakeful_along}
 use Rattle.lagprogress.proofs.Climbing.{PartnerInSync, ticks_partner}
 use Rattle.lagprogress.proofs.Delivering.{deliver_moves}
-use Rattle.lagprogress.proofs.EachPort.{KeptBySettling, OfEach, Tick-each, transmits_each}
-use Rattle.lagprogress.proofs.EndFacts.{Along, IsEnd, Learnt, SameActor, short_timeout, takes_each, takes_end, ticks_end, wait_of}
-use Rattle.lagprogress.proofs.Lapsing.{some_wait}
+use Rattle.lagprogress.proofs.EachPort.{KeptBySettling, OfEach, asked_each}
+use Rattle.lagprogress.proofs.RoundEvents.{round_on, ticks_each, ticks_first}
+use Rattle.lagprogress.proofs.EndFacts.{Along, IsEnd, Learnt, SameActor, takes_each, takes_end, ticks_end, wait_of}
 use Rattle.lagprogress.proofs.Linked.{Arrived, EndIs, Fits, IsGood, Link, arrival, asked_which, beside_link, each_both, each_map, each_side}
 use Rattle.lagprogress.proofs.Linked.{elsewhere_each, emit_link, found, peer_twice, push_other, push_there, put_other, put_there}
-use Rattle.lagprogress.proofs.OneCable.{Arrives, Back, Beside, Went, cable, put, ticks, towards_there}
-use Rattle.lagprogress.proofs.OnePort.{AtPort, at_number}
-use Rattle.lagprogress.proofs.OneRound.{Unrolled, all_ask, ask_all, deliver_all, one_of_both, same_ports_then, tick_both, ticked, timed_ends, unroll}
+use Rattle.lagprogress.proofs.OneCable.{Arrives, Back, Beside, Went, cable, push, put, towards_there}
+use Rattle.lagprogress.proofs.OnePort.{AtPort, at_number, settling_leaves}
+use Rattle.lagprogress.proofs.OneRound.{Unrolled, same_ports_then, tick_both, ticked, timed_ends, unroll}
 use Rattle.lagprogress.proofs.Passing.{carries_one, lacpdu_is_sent, marker_carries_none, sends_due, sent_carries}
-use Rattle.lagprogress.proofs.Stamps.{Late, late_ticks}
-use Rattle.lagprogress.proofs.Timers.{runs_keep}
+use Rattle.lagprogress.proofs.Stamps.{Late, late_ticks, not_late}
 
 -- what is on its way
 
@@ -68,29 +66,23 @@ sent_is true false i z old frame new h x k = by_marker (marker_due old.table z.n
     by_marker None m = absurd (none-some frame (sym m.0))
     by_marker (Some id) m = absurd (marker_carries_none frame x _ k (z.mac, m.0, m.1, m.2, same_Some frame _ m.3))
 
--- what sending keeps of a port
-kept_by_sending : (P : Machines → Type 0) → ((p : Machines) → P p → P (after_sending p)) → (gives : ℕ → ℕ → ℕ → Type 0) (n : ℕ)
-    (a : Result (Option (List ℕ)) SystemFault) (old new : SystemState) → Step gives old (Transmit n) (answer.Transmit a) new
-    → OfEach (AtPort n P) old.system_ports → OfEach (AtPort n P) new.system_ports
-kept_by_sending P k gives n (Err fault) old new h b = subst (OfEach (AtPort n P)) (sym (same_slots old new h.same)) b
-kept_by_sending P k gives n (Ok o) old new h b =
-    transmits_each (AtPort n P) n (port_index n old.system_ports) old o new (λ p told c e. k p (c e)) refl h b
-
 went_other : (s : Side) (a : Result (Option (List ℕ)) SystemFault) (fl now : Side → List ItemValue) → Went s a fl now → now s ≡ fl s
-went_other s (Err fault) fl now h = ap (λ (f : Side → List ItemValue). f s) h
-went_other s (Ok None) fl now h = ap (λ (f : Side → List ItemValue). f s) h
 went_other s (Ok (Some frame)) fl now h = ap (λ (f : Side → List ItemValue). f s) h.2 ∙ push_other s h.0 fl
+went_other s a fl now h = ap (λ (f : Side → List ItemValue). f s) h
+
+-- one item more that says so
+said_more : (u v : Lacpdu) (H : Type 0) (s : Side) (item : ItemValue) (fl now : Side → List ItemValue) → now ≡ push (peer s) item fl
+    → SaysIt u v item → Tells u v (fl (peer s)) H ⊎ Bears item → Tells u v (now (peer s)) H
+said_more u v H s item fl now e says h = subst (λ xs. Tells u v xs H)
+    (sym (ap (λ (f : Side → List ItemValue). f (peer s)) e ∙ push_there (peer s) item fl)) (tells_push u v (fl (peer s)) item H says h)
 
 -- an end that says so is asked
 went_tells : (u v : Lacpdu) (H : Type 0) (s : Side) (a : Result (Option (List ℕ)) SystemFault) (fl now : Side → List ItemValue)
     → Went s a fl now → ((frame : List ℕ) → a ≡ Ok (Some frame) → (x : Lacpdu) → IsFrame frame (Carries (pdu.Lacpdu x)) → SaysSynced u v x)
     → Tells u v (fl (peer s)) H → Tells u v (now (peer s)) H
-went_tells u v H s (Err fault) fl now h k m = subst (λ (f : Side → List ItemValue). Tells u v (f (peer s)) H) (sym h) m
-went_tells u v H s (Ok None) fl now h k m = subst (λ (f : Side → List ItemValue). Tells u v (f (peer s)) H) (sym h) m
-went_tells u v H s (Ok (Some frame)) fl now h k m =
-    subst (λ (f : Side → List ItemValue). Tells u v (f (peer s)) H) (sym h.2)
-    (subst (λ xs. Tells u v xs H) (sym (push_there (peer s) h.0 fl))
-    (tells_push u v (fl (peer s)) h.0 H (λ x c. k frame refl x (subst (λ o. IsFrame o (Carries (pdu.Lacpdu x))) h.1 c)) (inl m)))
+went_tells u v H s (Ok (Some frame)) fl now h k m = said_more u v H s h.0 fl now h.2
+    (λ x c. k frame refl x (subst (λ o. IsFrame o (Carries (pdu.Lacpdu x))) h.1 c)) (inl m)
+went_tells u v H s a fl now h k m = subst (λ (f : Side → List ItemValue). Tells u v (f (peer s)) H) (sym h) m
 
 -- and an LACPDU is due
 due_tells : (u v : Lacpdu) (H : Type 0) (gives : ℕ → ℕ → ℕ → Type 0) (s : Side) (n k : ℕ) (z : SystemPort)
@@ -108,44 +100,22 @@ due_tells u v H gives s n k z (Ok (Some frame)) old new fl now says place there 
     let x = pdu_of z.port old.max_delay in
     let bears : IsFrame w.0.octets (Carries (pdu.Lacpdu x)) =
     sent_carries w.0.octets (pdu.Lacpdu x) (lacpdu_is_sent old.max_delay z w.0.octets lacpdu) in
-    subst (λ (f : Side → List ItemValue). Tells u v (f (peer s)) H) (sym w.2)
-    (subst (λ xs. Tells u v xs H) (sym (push_there (peer s) w.0 fl))
-    (tells_push u v (fl (peer s)) w.0 H (λ y c. subst (SaysSynced u v) (carries_one w.0.octets y x c bears) says) (inr (x, bears))))
+    said_more u v H s w.0 fl now w.2 (λ y c. subst (SaysSynced u v) (carries_one w.0.octets y x c bears) says) (inr (x, bears))
 
 -- what goes back
 
 back_other : (s : Side) (a : Result Received SystemFault) (fl now : Side → List ItemValue) → Back s a fl now → now s ≡ fl s
-back_other s (Err fault) fl now h = ap (λ (f : Side → List ItemValue). f s) h
-back_other s (Ok received.Disabled) fl now h = ap (λ (f : Side → List ItemValue). f s) h
-back_other s (Ok received.Dropped) fl now h = ap (λ (f : Side → List ItemValue). f s) h
-back_other s (Ok (received.Ignored fault)) fl now h = ap (λ (f : Side → List ItemValue). f s) h
-back_other s (Ok received.TookLacpdu) fl now h = ap (λ (f : Side → List ItemValue). f s) h
 back_other s (Ok (received.Respond frame)) fl now h = ap (λ (f : Side → List ItemValue). f s) h.2 ∙ push_other s h.0 fl
-back_other s (Ok (received.Released m)) fl now h = ap (λ (f : Side → List ItemValue). f s) h
-back_other s (Ok (received.Up agg)) fl now h = ap (λ (f : Side → List ItemValue). f s) h
+back_other s a fl now h = ap (λ (f : Side → List ItemValue). f s) h
 
 back_tells : (u v : Lacpdu) (H : Type 0) (gives : ℕ → ℕ → ℕ → Type 0) (s : Side) (n : ℕ) (octets : List ℕ) (a : Result Received SystemFault)
     (old new : SystemState) (fl now : Side → List ItemValue) → CallPromise gives old (Receive n octets) (answer.Receive a) new
     → Back s a fl now → Tells u v (fl (peer s)) H → Tells u v (now (peer s)) H
-back_tells u v H gives s n octets (Err fault) old new fl now k h m = subst (λ (f : Side → List ItemValue). Tells u v (f (peer s)) H) (sym h) m
-back_tells u v H gives s n octets (Ok received.Disabled) old new fl now k h m =
-    subst (λ (f : Side → List ItemValue). Tells u v (f (peer s)) H) (sym h) m
-back_tells u v H gives s n octets (Ok received.Dropped) old new fl now k h m =
-    subst (λ (f : Side → List ItemValue). Tells u v (f (peer s)) H) (sym h) m
-back_tells u v H gives s n octets (Ok (received.Ignored fault)) old new fl now k h m =
-    subst (λ (f : Side → List ItemValue). Tells u v (f (peer s)) H) (sym h) m
-back_tells u v H gives s n octets (Ok received.TookLacpdu) old new fl now k h m =
-    subst (λ (f : Side → List ItemValue). Tells u v (f (peer s)) H) (sym h) m
 back_tells u v H gives s n octets (Ok (received.Respond frame)) old new fl now k h m =
     let g = k.moves.3 in
-    subst (λ (f : Side → List ItemValue). Tells u v (f (peer s)) H) (sym h.2)
-    (subst (λ xs. Tells u v xs H) (sym (push_there (peer s) h.0 fl))
-    (tells_push u v (fl (peer s)) h.0 H
-    (λ x c. absurd (marker_carries_none frame x g.0 (subst (λ o. IsFrame o (Carries (pdu.Lacpdu x))) h.1 c) g.1)) (inl m)))
-back_tells u v H gives s n octets (Ok (received.Released g)) old new fl now k h m =
-    subst (λ (f : Side → List ItemValue). Tells u v (f (peer s)) H) (sym h) m
-back_tells u v H gives s n octets (Ok (received.Up agg)) old new fl now k h m =
-    subst (λ (f : Side → List ItemValue). Tells u v (f (peer s)) H) (sym h) m
+    said_more u v H s h.0 fl now h.2
+    (λ x c. absurd (marker_carries_none frame x g.0 (subst (λ o. IsFrame o (Carries (pdu.Lacpdu x))) h.1 c) g.1)) (inl m)
+back_tells u v H gives s n octets a old new fl now k h m = subst (λ (f : Side → List ItemValue). Tells u v (f (peer s)) H) (sym h) m
 
 -- the events of a round
 
@@ -229,7 +199,7 @@ module _ (gives : Algorithms) (d : ℕ) (at : Side → ℕ) (w : Side → Lacpdu
         e.link,
         elim (claims_or_not u z.port.port) [
           | inr not ↦ inl (each_map (AtPort (at s) (λ p. Claims u p → ⊥)) (AtPort (at s) (Owes u)) (λ q p b f k. absurd (b f k))
-              now.system_ports (kept_by_sending (λ p. Claims u p → ⊥) (λ p b. b) (gives s) (at s) e.asks.a st now e.asks.promise.step
+              now.system_ports (asked_each (AtPort (at s) (λ p. Claims u p → ⊥)) (λ m p b. b) (gives s) (at s) e.asks.a st now e.asks.promise.step
               (at_here (λ p. Claims u p → ⊥) s old l z not)))
           | inl claim ↦ elim m [
             | inl owes ↦ elim (cases_Bool (is_due z.port.port)) [
@@ -275,8 +245,8 @@ module _ (gives : Algorithms) (d : ℕ) (at : Side → ℕ) (w : Side → Lacpdu
           | inl owes ↦ inl (subst (λ (t : SystemState). OfEach (AtPort (at s) (Owes (w (peer s)))) t.system_ports) (sym same) owes)
           | inr tells ↦ inr (subst (λ xs. Tells (w (peer s)) (w s) xs (HoldsAt new)) (sym items)
               (tells_map (w (peer s)) (w s) (l.flying (peer s)) (HoldsAt old) (HoldsAt new)
-              (λ y. kept_by_sending X sends (gives (peer s)) (at (peer s)) e.asks.a (half (peer s) old).state (half (peer s) new).state
-              e.asks.promise.step y) tells))
+              (λ y. asked_each (AtPort (at (peer s)) X) (λ m p b f. sends p (b f)) (gives (peer s)) (at (peer s)) e.asks.a (half (peer s) old).state
+              (half (peer s) new).state e.asks.promise.step y) tells))
         ],
       )
 
@@ -297,18 +267,12 @@ module _ (gives : Algorithms) (d : ℕ) (at : Side → ℕ) (w : Side → Lacpdu
 
   ask_on : (n p : ℕ) (r : Reply) (old new : WorldState) → WorldSteps gives old (event.Emit n p) r new → On old → On new
   ask_on n p r old new h (l, m) = elim (asked_which gives n p l.index at l.flying r old new l.links h) [
-    | inl (t, named, is) ↦ asked t named (subst (λ q. WorldSteps gives old (event.Emit n q) r new) is h)
+    | inl (t, named, is) ↦ each_side (λ t. side_of n ≡ Some t → WorldSteps gives old (event.Emit n (at t)) r new → On new) s
+        (λ a b. ask_own n r old new a (l, m) b) (λ a b. ask_peer n r old new a (l, m) b) t named
+        (subst (λ q. WorldSteps gives old (event.Emit n q) r new) is h)
     | inr b ↦ (let k = beside_link gives (event.Emit n p) d at w c s Wake r old new along l h b in
         left_alone old new l k.link b k.same m)
   ]
-    where
-      asked : (t : Side) → side_of n ≡ Some t → WorldSteps gives old (event.Emit n (at t)) r new → On new
-      asked t named h = elim (one_of_both s t) [
-        | inl e ↦ ask_own n r old new (subst (λ x. side_of n ≡ Some x) e named) (l, m)
-            (subst (λ x. WorldSteps gives old (event.Emit n (at x)) r new) e h)
-        | inr e ↦ ask_peer n r old new (subst (λ x. side_of n ≡ Some x) e named) (l, m)
-            (subst (λ x. WorldSteps gives old (event.Emit n (at x)) r new) e h)
-      ]
 
   -- an arrival
 
@@ -398,54 +362,24 @@ module _ (gives : Algorithms) (d : ℕ) (at : Side → ℕ) (w : Side → Lacpdu
   -- from the ticks of a round to its end
   pub told_on : (old new : WorldState) (u : Unrolled gives old new) → NothingInFlight new → On u.two → Held new × (OwesAt new ⊎ HoldsAt new)
   told_on old new u none h =
-      let six = ask_all gives On (λ n p r i j step m. ask_on n p r i j step m) (asks_all old.links) u.asked u.two u.six (all_ask old.links) u.asks h in
-      let last = deliver_all gives On (λ cn n r i j step m. deliver_on cn n r i j step m) u.delivers u.replies u.six new u.arrives u.rest six in (
+      let last = round_on gives On ask_on deliver_on old new u h in (
         last.0,
         elim last.1 [
           | inl owes ↦ inl owes
-          | inr tells ↦ inr (subst (λ xs. Tells (w (peer s)) (w s) xs (HoldsAt new)) (empty last.0) tells)
+          | inr tells ↦ inr (subst (λ xs. Tells (w (peer s)) (w s) xs (HoldsAt new))
+              (sym (towards_there (peer s) at last.0.flying) ∙ none (peer s) last.0.index (cable at last.0.flying) last.0.links.there) tells)
         ],
       )
-    where
-      empty : (l : Held new) → l.flying (peer s) ≡ []
-      empty l = sym (towards_there (peer s) at l.flying) ∙ none (peer s) l.index (cable at l.flying) l.links.there
-
--- the ticks
-
-tick_side : (P Q : ℕ → Machines → Type 0) → KeptBySettling Q
-    → ((n : ℕ) (p q : Machines) → RunsToRest receive_rows (count_down p) q → P n p → Q n q)
-    → (gives : Algorithms) (s : Side) (old new : WorldState) (u : Unrolled gives old new) → OfEach P (half s old).state.system_ports
-    → OfEach Q (half s u.two).state.system_ports
-tick_side P Q k counts gives s old new u a =
-    let one = ticks gives 1 One u.tick_one.0 old u.one refl u.tick_one.1 in
-    let two = ticks gives 2 Two u.tick_two.0 u.one u.two refl u.tick_two.1 in
-    each_side (λ t. OfEach P (half t old).state.system_ports → OfEach Q (half t u.two).state.system_ports) One
-    (λ b. subst (λ (z : SystemState). OfEach Q z.system_ports) (sym two.peers)
-    (Tick-each P Q k counts (gives One) old.one.state answer.Tick u.one.one.state one.step b))
-    (λ b. Tick-each P Q k counts (gives Two) u.one.two.state answer.Tick u.two.two.state two.step
-    (subst (λ (z : SystemState). OfEach P z.system_ports) (sym one.peers) b)) s a
 
 -- the partner is recorded as synchronized, or current_while does not start anew
 abbrev TookOrLate : ℕ → Machines → Type 0
 TookOrLate most p = PartnerInSync p ⊎ Late most p
 
 sync_settles : (n : ℕ) → KeptBySettling (AtPort n PartnerInSync)
-sync_settles n = record {
-  mux = λ m ready p q h a e. runs_keep PartnerInSync (mux_rows ready)
-      (λ p a. a, (λ p a. a, (λ p a. a, (λ p a. a, (λ p a. a, (λ p a. a, tt)))))) p q h (a e);
-  periodic = λ m p q h a e. subst PartnerInSync (sym h.2) (runs_keep PartnerInSync periodic_rows
-      (λ p a. a, (λ p a. a, (λ p a. a, (λ p a. a, (λ p a. a, (λ p a. a, (λ p a. a, tt))))))) p h.0 h.1 (a e));
-  select = λ m choice p none may a e. a e;
-}
+sync_settles n = settling_leaves (AtPort n PartnerInSync)
 
 late_settles : (n most : ℕ) → KeptBySettling (AtPort n (TookOrLate most))
-late_settles n most = record {
-  mux = λ m ready p q h a e. runs_keep (TookOrLate most) (mux_rows ready)
-      (λ p a. a, (λ p a. a, (λ p a. a, (λ p a. a, (λ p a. a, (λ p a. a, tt)))))) p q h (a e);
-  periodic = λ m p q h a e. subst (TookOrLate most) (sym h.2) (runs_keep (TookOrLate most) periodic_rows
-      (λ p a. a, (λ p a. a, (λ p a. a, (λ p a. a, (λ p a. a, (λ p a. a, (λ p a. a, tt))))))) p h.0 h.1 (a e));
-  select = λ m choice p none may a e. a e;
-}
+late_settles n most = settling_leaves (AtPort n (TookOrLate most))
 
 -- a round
 
@@ -472,11 +406,8 @@ module _ (gives : Algorithms) (d : ℕ) (at : Side → ℕ) (w : Side → Lacpdu
       (wakeful_along (w s) (w (peer s)) (ticked c s) d there) wakes round.tick_one.1 round.tick_two.1 l
 
   empty : two.flying (peer s) ≡ []
-  empty =
-      let one = ticks gives 1 One round.tick_one.0 old round.one refl round.tick_one.1 in
-      let next = ticks gives 2 Two round.tick_two.0 round.one round.two refl round.tick_two.1 in
-      sym (towards_there (peer s) at two.flying) ∙ none (peer s) two.index (cable at two.flying)
-      (subst (λ ls. slice_get ls two.index ≡ Some (cable at two.flying)) (next.links ∙ one.links) two.links.there)
+  empty = sym (towards_there (peer s) at two.flying) ∙ none (peer s) two.index (cable at two.flying)
+      (subst (λ ls. slice_get ls two.index ≡ Some (cable at two.flying)) (ticks_first gives old new round).links two.links.there)
 
   wakeful : Link d at w (ticked c) s (Wakeful (w s) (w (peer s))) new → Wakes at w s new
   wakeful k = each_map (AtPort (at s) (EndIs d w (ticked c) s (Wakeful (w s) (w (peer s))) s)) (AtPort (at s) (Wakeful (w s) (w (peer s))))
@@ -490,23 +421,23 @@ module _ (gives : Algorithms) (d : ℕ) (at : Side → ℕ) (w : Side → Lacpdu
         elim told [
           | inl owes ↦ inl (each_map (AtPort (at s) (Owing d (w s) (w (peer s)) (ticked c s))) (AtPort (at s) (Owes (w (peer s))))
               (λ m p b e. (b e).2) (half s round.two).state.system_ports
-              (tick_side (λ m p. (AtPort (at s) (EndIs d w c s X s) m p × AtRest periodic_rows p × IsTimed p) × AtPort (at s) (Owes (w (peer s))) m p)
+              (ticks_each (λ m p. (AtPort (at s) (EndIs d w c s X s) m p × AtRest periodic_rows p × IsTimed p) × AtPort (at s) (Owes (w (peer s))) m p)
               (AtPort (at s) (Owing d (w s) (w (peer s)) (ticked c s))) (owing_settles d (w s) (w (peer s)) (ticked c s) (at s) there)
               (λ m p q run b e. (let was = b.0.0 e in (
                 ticks_end d (w s) (w (peer s)) (c s) p q (fits s).2 run was.0,
                 wakes p q run b.0.1 was.0 (was.1 refl),
                 owes_ticks (w (peer s)) p q run (b.1 e),
-              ))) gives s old new round
+              ))) s gives old new round
               (each_both (λ m p. AtPort (at s) (EndIs d w c s X s) m p × AtRest periodic_rows p × IsTimed p) (AtPort (at s) (Owes (w (peer s))))
               (half s old).state.system_ports
               (timed_ends (AtPort (at s) (EndIs d w c s X s)) (half s old).state.system_ports (l.steady s).0.quiet.1 (l.steady s).1 (l.ports s))
               owes)))
           | inr y ↦ inr (subst (λ xs. Tells (w (peer s)) (w s) xs
               (OfEach (AtPort (at (peer s)) PartnerInSync) (half (peer s) round.two).state.system_ports)) (sym empty)
-              (tick_side (λ m p. AtPort (at (peer s)) (EndIs d w c s X (peer s)) m p × AtPort (at (peer s)) PartnerInSync m p)
+              (ticks_each (λ m p. AtPort (at (peer s)) (EndIs d w c s X (peer s)) m p × AtPort (at (peer s)) PartnerInSync m p)
               (AtPort (at (peer s)) PartnerInSync) (sync_settles (at (peer s)))
               (λ m p q run b e. ticks_partner d (w (peer s)) (w (peer (peer s))) (c (peer s)) p q (omega (arith, known)) run (b.0 e).0 (b.1 e))
-              gives (peer s) old new round
+              (peer s) gives old new round
               (each_both (AtPort (at (peer s)) (EndIs d w c s X (peer s))) (AtPort (at (peer s)) PartnerInSync)
               (half (peer s) old).state.system_ports (l.ports (peer s)) y)))
         ],
@@ -523,8 +454,8 @@ module _ (gives : Algorithms) (d : ℕ) (at : Side → ℕ) (w : Side → Lacpdu
         two,
         inr (subst (λ xs. Tells (w t) (w s) xs
             (OfEach (AtPort (at t) (TookOrLate W)) (half t round.two).state.system_ports)) (sym empty)
-            (tick_side (λ m p. AtPort (at t) (EndIs d w c s X t) m p × AtRest periodic_rows p × IsTimed p) (AtPort (at t) (TookOrLate W))
-            (late_settles (at t) W) (λ m p q run b e. inr (late_ticks (w t) p q run (b.0 e).0.0 b.2)) gives t old new round
+            (ticks_each (λ m p. AtPort (at t) (EndIs d w c s X t) m p × AtRest periodic_rows p × IsTimed p) (AtPort (at t) (TookOrLate W))
+            (late_settles (at t) W) (λ m p q run b e. inr (late_ticks (w t) p q run (b.0 e).0.0 b.2)) t gives old new round
             (timed_ends (AtPort (at t) (EndIs d w c s X t)) (half t old).state.system_ports (l.steady t).0.quiet.1 (l.steady t).1
             (l.ports t)))),
       ) in (
@@ -539,9 +470,4 @@ module _ (gives : Algorithms) (d : ℕ) (at : Side → ℕ) (w : Side → Lacpdu
     where
       in_sync : (p : Machines) → TookOrLate (wait_of (w (peer s))) p → Learnt d (w (peer (peer s))) (wait_of (w (peer s))) p → PartnerInSync p
       in_sync p (inl y) learnt = y
-      in_sync p (inr late) learnt =
-          let some = some_wait (short_timeout (w (peer s))) in
-          let r = learnt.0.1 some in
-          let long = r.1 in
-          let short = late r.0.current in
-          absurd (omega (arith, long, short))
+      in_sync p (inr late) learnt = absurd (not_late d (w (peer s)) (w (peer (peer s))) p learnt late)

@@ -1,10 +1,10 @@
 -- What happens to a port leaves no timer above the ticks that it can start with.
 use Rattle.lagprogress.proofs.Common.{Bool, List, [], arith, cond, false, if◌then◌else◌, inl, inr, nat_lt, refl, subst, suc, sym, true, zero, ℕ, ◌++◌}
-use Rattle.lagprogress.proofs.Common.{◌+◌, ◌<◌, ◌∷◌, ◌≡◌, ◌≤◌, nat_tests, AllByRecursion, Lacpdu, PeriodicState, Fast, NoPeriodic, PeriodicTx, Slow}
-use Rattle.lagprogress.proofs.Common.{Setup, ReceiveState, Current, Defaulted, Expired, Initialize, PortDisabled, Machines, mux_rows, periodic_rows}
-use Rattle.lagprogress.proofs.Common.{lacpdu_rows, receive_rows, start_receive, Fires, FiresTimes, Row, RunsToRest, Starts, before_start, aged}
-use Rattle.lagprogress.proofs.Common.{count_down, Call, Configure, Force, Move_conversation, Offer, ProcessesLacpdu, Receive, Restart, Set_link, Tick}
-use Rattle.lagprogress.proofs.Common.{Transmit, changed_party, choice_with_link, IsTimed, most_current_while, most_periodic_timer}
+use Rattle.lagprogress.proofs.Common.{◌+◌, ◌<◌, ◌∷◌, ◌≡◌, ◌≤◌, nat_tests, AllByRecursion, Lacpdu, PeriodicState, Fast, Setup, ReceiveState, Current}
+use Rattle.lagprogress.proofs.Common.{Defaulted, Expired, Initialize, PortDisabled, Machines, mux_rows, periodic_rows, lacpdu_rows, receive_rows}
+use Rattle.lagprogress.proofs.Common.{start_receive, Fires, FiresTimes, Row, RunsToRest, Starts, before_start, aged, count_down, Call, Configure}
+use Rattle.lagprogress.proofs.Common.{ProcessesLacpdu, Receive, Restart, Set_link, Tick, Transmit, changed_party, choice_with_link, IsTimed}
+use Rattle.lagprogress.proofs.Common.{most_current_while, most_periodic_timer}
 use Rattle.lagsystem.specs.declared.drive.Reply.{Reply}
 use Rattle.lagprogress.proofs.EachPort.{KeptByCall, KeptBySettling}
 
@@ -26,66 +26,39 @@ times_keep P rows k (suc n) p q h a = fires_keep P rows k h.0 q h.2 (times_keep 
 pub runs_keep : (P : Machines → Type 0) (rows : List Row) → RowsKeep P rows → (p q : Machines) → RunsToRest rows p q → P p → P q
 runs_keep P rows k p q h a = times_keep P rows k h.0 p q h.1 a
 
+-- an LACPDU is processed only by its row
+pub takes_keep : (P : Machines → Type 0) (v : Lacpdu) → RowsKeep P (lacpdu_rows v) → (p q : Machines) → ProcessesLacpdu v p q → P p → P q
+takes_keep P v k p q h a = elim h [ inl f ↦ fires_keep P (lacpdu_rows v) k p q f a | inr r ↦ subst P (sym r.1) a ]
+
 -- current_while
 
 -- the bound is the least in EXPIRED
-least_expired : (short : Bool) (r : ReceiveState) → 30 ≤ most_current_while short r
-least_expired true r = omega arith
-least_expired false Initialize = omega arith
-least_expired false PortDisabled = omega arith
-least_expired false Expired = omega arith
-least_expired false Defaulted = omega arith
-least_expired false Current = omega arith
+least_expired : (short : Bool) → 30 ≤ most_current_while short Expired
+least_expired true = omega arith
+least_expired false = omega arith
 
-rises : (short : Bool) (r : ReceiveState) → most_current_while short r ≤ most_current_while short Current
-rises true r = omega arith
-rises false Initialize = omega arith
-rises false PortDisabled = omega arith
-rises false Expired = omega arith
-rises false Defaulted = omega arith
-rises false Current = omega arith
-
-as_current : (short : Bool) → (most_current_while short Initialize ≡ most_current_while short Current)
-    × (most_current_while short PortDisabled ≡ most_current_while short Current)
-    × (most_current_while short Defaulted ≡ most_current_while short Current)
-as_current true = (refl, refl, refl)
-as_current false = (refl, refl, refl)
+-- and the highest in these states
+rises : (short : Bool) (r : ReceiveState) (n : ℕ) → n ≤ most_current_while short r → (n ≤ most_current_while short Initialize)
+    × (n ≤ most_current_while short PortDisabled) × (n ≤ most_current_while short Defaulted)
+rises true r n h = (h, h, h)
+rises false Expired n h = (omega (arith, h), omega (arith, h), omega (arith, h))
+rises false Initialize n h = (h, h, h)
+rises false r n h = (h, h, h)
 
 starts_with : (short : Bool) → (if short then 30 else 900) ≤ most_current_while short Current
 starts_with true = omega arith
 starts_with false = omega arith
 
-abbrev Current_while : ReceiveState → Machines → Type 0
-Current_while to p = p.current_while ≤ most_current_while p.short to
-
-to_initialize : (p : Machines) → Current_while p.receive p → Current_while Initialize p
-to_initialize p a = omega (arith, a, rises p.short p.receive, (as_current p.short).0)
-
-to_disabled : (p : Machines) → Current_while p.receive p → Current_while PortDisabled p
-to_disabled p a = omega (arith, a, rises p.short p.receive, (as_current p.short).1)
-
-to_defaulted : (p : Machines) → Current_while p.receive p → Current_while Defaulted p
-to_defaulted p a = omega (arith, a, rises p.short p.receive, (as_current p.short).2)
-
 receive_keeps : RowsKeep IsTimed receive_rows
 receive_keeps = (
-  λ p a. (to_disabled p a.0, a.1, a.2, a.3),
+  λ p a. ((rises p.short p.receive p.current_while a.0).1, a.1, a.2, a.3),
   (
-    λ p a. (to_disabled p a.0, a.1, a.2, a.3),
+    λ p a. ((rises p.short p.receive p.current_while a.0).1, a.1, a.2, a.3),
     (
-      λ p a. (least_expired p.short Expired, a.1, a.2, a.3),
+      λ p a. (least_expired p.short, a.1, a.2, a.3),
       (
-        λ p a. (to_defaulted p a.0, a.1, a.2, a.3),
-        (
-          λ p a. (
-            least_expired
-                p.short Expired,
-            a.1,
-            a.2,
-            a.3,
-          ),
-          tt,
-        ),
+        λ p a. ((rises p.short p.receive p.current_while a.0).2, a.1, a.2, a.3),
+        (λ p a. (least_expired p.short, a.1, a.2, a.3), tt),
       ),
     ),
   ),
@@ -96,11 +69,9 @@ take_keeps v = (λ p a. (starts_with p.short, a.1, a.2, a.3), tt)
 
 -- periodic_timer
 
-most_fast : (s : PeriodicState) → most_periodic_timer s ≤ 300
+pub most_fast : (s : PeriodicState) → most_periodic_timer s ≤ 300
 most_fast Fast = omega arith
-most_fast Slow = omega arith
-most_fast NoPeriodic = omega arith
-most_fast PeriodicTx = omega arith
+most_fast s = omega arith
 
 abbrev rises_to : (p : Machines) → IsTimed p → p.periodic_timer ≤ 300
 rises_to p a = omega (arith, a.1, most_fast p.periodic)
@@ -148,18 +119,8 @@ counts p a = (omega (arith, a.0), omega (arith, a.1), omega (arith, a.2), recent
 
 starts : (p q : Machines) → Starts p q → IsTimed p → IsTimed q
 starts p q h a =
-    subst IsTimed (sym h.2) (runs_keep IsTimed receive_rows receive_keeps (start_receive p) h.0 h.1 (
-      to_initialize p a.0,
-      a.1,
-      a.2,
-      a.3,
-    ))
-
-takes : (v : Lacpdu) (p q : Machines) → ProcessesLacpdu v p q → IsTimed p → IsTimed q
-takes v p q h a = elim h [ inl f ↦ fires_keep IsTimed (lacpdu_rows v) (take_keeps v) p q f a | inr r ↦ subst IsTimed (sym r.1) a ]
-
-zero_current : (short : Bool) → 0 ≤ most_current_while short Initialize
-zero_current short = omega arith
+    subst IsTimed (sym h.2) (runs_keep IsTimed receive_rows receive_keeps (start_receive p) h.0 h.1
+    ((rises p.short p.receive p.current_while a.0).0, a.1, a.2, a.3))
 
 abbrev pub TimedAt : ℕ → Machines → Type 0
 TimedAt n p = IsTimed p
@@ -172,16 +133,14 @@ timed_settles = record {
 }
 
 pub timed_starts : (n : ℕ) (u : Setup) (q : Machines) → Starts (before_start u) q → TimedAt n q
-timed_starts n u q h = starts (before_start u) q h (zero_current u.short, omega arith, omega arith, tt)
+timed_starts n u q h = starts (before_start u) q h (omega arith, omega arith, omega arith, tt)
 
 pub timed_kept : (call : Call) (answer : Reply) → KeptByCall TimedAt call answer
 timed_kept Tick answer = λ n p q h a. runs_keep IsTimed receive_rows receive_keeps (count_down p) q h (counts p a)
 timed_kept (Set_link n up) answer = λ max_links p q h a. runs_keep IsTimed receive_rows receive_keeps
     (record p { enabled = up; choice = choice_with_link max_links up p.choice }) q h a
-timed_kept (Receive n octets) answer = λ v p q t h a. takes v p q h a
+timed_kept (Receive n octets) answer = λ v p q t h a. takes_keep IsTimed v (take_keeps v) p q h a
 timed_kept (Configure n change) answer = λ p q h a. starts (record p { party = changed_party change p.party }) q h.1 a
 timed_kept Restart answer = timed_starts
 timed_kept (Transmit n) answer = λ p e a. (a.0, a.1, a.2, sent p.ages a.3)
-timed_kept (Offer agg octets) answer = tt
-timed_kept (Move_conversation agg conv port) answer = tt
-timed_kept (Force agg conv) answer = tt
+timed_kept call answer = tt

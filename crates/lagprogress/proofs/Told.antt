@@ -1,26 +1,17 @@
 -- Bounds of the ticks that are told.
 use Rattle.lagprogress.proofs.Common.{Bool, List, None, Option, Some, [], ap, arith, false, inl, inr, refl, slice_get, subst, suc, true, zero, ℕ, ◌<◌}
-use Rattle.lagprogress.proofs.Common.{◌∷◌, ◌≡◌, ◌≤◌, none-some, same_Some, AllByRecursion, PeriodicState, Fast, NoPeriodic, PeriodicTx, Slow}
-use Rattle.lagprogress.proofs.Common.{ReceiveState, Current, Defaulted, Expired, Initialize, PortDisabled, Machines, SystemPort, SystemState, all-get}
-use Rattle.lagprogress.proofs.Common.{IsTimed, PortsAreTimed, most_current_while, most_periodic_timer, IsAwaited, WaitsAreShort}
+use Rattle.lagprogress.proofs.Common.{◌∷◌, ◌≡◌, ◌≤◌, none-some, same_Some, AllByRecursion, ReceiveState, Expired, Machines, SystemPort, SystemState}
+use Rattle.lagprogress.proofs.Common.{all-get, IsTimed, PortsAreTimed, most_current_while, IsAwaited, WaitsAreShort}
 use Rattle.lagsystem.specs.Soonest.{HappensIn, IsFirstToHappen, TimerHas, WindowHas}
 use Rattle.lagsystem.specs.Waiting.{ticks_until_due}
 use Rattle.lagsystem.proofs.Soonest.{tells_the_first}
 use Rattle.lagprogress.specs.Told.{SomeFrameIsDue, TellsAtMost900}
+use Rattle.lagprogress.proofs.Timers.{most_fast}
 
 current_within : (short : Bool) (r : ReceiveState) → most_current_while short r ≤ 900
 current_within true r = omega arith
-current_within false Initialize = omega arith
-current_within false PortDisabled = omega arith
 current_within false Expired = omega arith
-current_within false Defaulted = omega arith
-current_within false Current = omega arith
-
-periodic_within : (p : PeriodicState) → most_periodic_timer p ≤ 300
-periodic_within Fast = omega arith
-periodic_within Slow = omega arith
-periodic_within NoPeriodic = omega arith
-periodic_within PeriodicTx = omega arith
+current_within false r = omega arith
 
 age_within : (P : ℕ → Type 0) (ages : List ℕ) (i a : ℕ) → slice_get ages i ≡ Some a → AllByRecursion P ages → P a
 age_within P [] i a e h = absurd (none-some a e)
@@ -39,7 +30,7 @@ timer_within n s p t h = elim h.1 [
   )
   | inr k ↦ elim k [
     | inl e ↦ (
-      omega (arith, e, t.1, periodic_within p.periodic),
+      omega (arith, e, t.1, most_fast p.periodic),
       λ z. absurd (omega (arith, z, h.0)),
     )
     | inr e ↦ (omega (arith, e, t.2), λ z. absurd (omega (arith, z, h.0)))

@@ -1,11 +1,8 @@
-use Rattle.lagprogress.proofs.Common.{both_algorithms}
 use Rattle.lagprogress.proofs.Bundling.{each_active_link_comes_up, each_link_comes_up}
 use Rattle.lagprogress.proofs.each_link_comes_up.Goals as goal
 
 pub returns-clause-both : goal.returns-clause-both
-returns-clause-both g c = λ one two. each_active_link_comes_up (both_algorithms (λ conv count place. g.F.Fn.post one (conv, (count, tt)) place)
-    (λ conv count place. g.F.Fn.post two (conv, (count, tt)) place))
+returns-clause-both g c = λ one two. each_active_link_comes_up _
 
 pub returns-clause-one : goal.returns-clause-one
-returns-clause-one g c = λ one two. each_link_comes_up (both_algorithms (λ conv count place. g.F.Fn.post one (conv, (count, tt)) place)
-    (λ conv count place. g.F.Fn.post two (conv, (count, tt)) place))
+returns-clause-one g c = λ one two. each_link_comes_up _

@@ -1,19 +1,14 @@
-use Rattle.lagprogress.proofs.Common.{both_algorithms}
 use Rattle.lagprogress.proofs.Pairing.{active_selected_pairs_agree, active_selected_pairs_come_up, selected_pairs_agree, selected_pairs_come_up}
 use Rattle.lagprogress.proofs.selected_pairs_agree.Goals as goal
 
 pub returns-clause-up_both : goal.returns-clause-up_both
-returns-clause-up_both g c = λ one two. active_selected_pairs_come_up (both_algorithms (λ conv count place. g.F.Fn.post one (conv, (count, tt)) place)
-    (λ conv count place. g.F.Fn.post two (conv, (count, tt)) place))
+returns-clause-up_both g c = λ one two. active_selected_pairs_come_up _
 
 pub returns-clause-up_one : goal.returns-clause-up_one
-returns-clause-up_one g c = λ one two. selected_pairs_come_up (both_algorithms (λ conv count place. g.F.Fn.post one (conv, (count, tt)) place)
-    (λ conv count place. g.F.Fn.post two (conv, (count, tt)) place))
+returns-clause-up_one g c = λ one two. selected_pairs_come_up _
 
 pub returns-clause-both : goal.returns-clause-both
-returns-clause-both g c = λ one two. active_selected_pairs_agree (both_algorithms (λ conv count place. g.F.Fn.post one (conv, (count, tt)) place)
-    (λ conv count place. g.F.Fn.post two (conv, (count, tt)) place))
+returns-clause-both g c = λ one two. active_selected_pairs_agree _
 
 pub returns-clause-one : goal.returns-clause-one
-returns-clause-one g c = λ one two. selected_pairs_agree (both_algorithms (λ conv count place. g.F.Fn.post one (conv, (count, tt)) place)
-    (λ conv count place. g.F.Fn.post two (conv, (count, tt)) place))
+returns-clause-one g c = λ one two. selected_pairs_agree _

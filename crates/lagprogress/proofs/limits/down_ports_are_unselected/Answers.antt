@@ -1,7 +1,5 @@
-use Rattle.lagprogress.proofs.Common.{both_algorithms}
 use Rattle.lagprogress.proofs.LimitLemmas.{each_reached_has_down_unselected}
 use Rattle.lagprogress.proofs.limits.down_ports_are_unselected.Goals as goal
 
 pub returns : goal.returns
-returns g c = λ one two. each_reached_has_down_unselected (both_algorithms (λ conv count place. g.F.Fn.post one (conv, (count, tt)) place)
-    (λ conv count place. g.F.Fn.post two (conv, (count, tt)) place))
+returns g c = λ one two. each_reached_has_down_unselected _
