@@ -19,17 +19,7 @@ use Rattle.lagworld.specs.declared.reply.Reply.TheVariants as reply
 use Rattle.lagworld.specs.Readers.{ends_of_cable}
 use Rattle.lagprogress.proofs.Linked.{each_side}
 
--- what holds of algorithms holds of the same ones
-pub same_algorithms : {F : Type 0} (Q : Algorithms → Type 0) (a b f h : F) (post : F → ℕ → ℕ → ℕ → Type 0) → f ≡ a → h ≡ b
-    → Q (both_algorithms (post f) (post h)) → Q (both_algorithms (post a) (post b))
-same_algorithms Q a b f h post p q x =
-    subst (λ k. Q (both_algorithms (post k) (post b))) p (subst (λ k. Q (both_algorithms (post f) (post k))) q x)
-
 -- what holds of both answers holds of the one that came
-pub of_ok : {T E : Type 0} (P : Type 0) (r : Result T E) → P → IfOk r (λ x. P)
-of_ok P (Ok x) h = h
-of_ok P (Err e) h = tt
-
 pub of_err : {T E : Type 0} (P : Type 0) (r : Result T E) → P → IfErr r (λ x. P)
 of_err P (Ok x) h = tt
 of_err P (Err e) h = h
@@ -37,10 +27,6 @@ of_err P (Err e) h = h
 pub if_ok : {T E : Type 0} (P Q : T → Type 0) (r : Result T E) → ((x : T) → P x → Q x) → IfOk r P → IfOk r Q
 if_ok P Q (Ok x) k h = k x h
 if_ok P Q (Err e) k h = tt
-
-pub if_err : {T E : Type 0} (P Q : E → Type 0) (r : Result T E) → ((e : E) → P e → Q e) → IfErr r P → IfErr r Q
-if_err P Q (Ok x) k h = tt
-if_err P Q (Err e) k h = k e h
 
 -- of an answer that is known
 pub was_ok : {T E : Type 0} (P : E → Type 0) (r : Result T E) (x : T) → r ≡ Ok x → IfErr r P
@@ -215,26 +201,6 @@ asks_part gives n one two old mid new a fixed h b =
     (part_behind gives (asks_all (take n old.links)) (asks_pair (one, two) ++ rest) old mid new a
     (part_before gives (asks_pair (one, two)) rest mid new b))
 
--- there is a cable at each index below their number
-pub no_cable : (n : ℕ) (old mid : WorldState) → world_setup mid ≡ world_setup old → n < length old.links
-    → None ≡ ends_of_cable (n + 1) mid → ⊥
-no_cable n old mid fixed within h =
-    let next : n + 1 ≡ suc n = omega arith in
-    let inside : n < length mid.links = omega (arith, within, as_many mid old fixed) in
-    none (slice_get mid.links n) (some_within mid.links n inside) (sym (h ∙ ap (λ c. ends_of_cable c mid) next))
-  where
-    none : (o : Option LinkState) → is_some o ≡ true → option_map ports o ≡ None → ⊥
-    none None e f = false≢true e
-    none (Some l) e f = none-some (ports l) (sym f)
-
--- all are asked
-pub all_asked : (gives : Algorithms) (n : ℕ) (old new : WorldState) → length old.links ≤ n → RunsAll gives (asks_all (take n old.links)) old new
-    → RunsAll gives (asks_all old.links) old new
-all_asked gives n old new h a = subst (λ ls. RunsAll gives (asks_all ls) old new) (take_all n old.links h) a
-
-pub nothing_asked : (gives : Algorithms) (j : WorldState) → RunsAll gives (asks_all (take 0 j.links)) j j
-nothing_asked gives j = runs_none gives j
-
 abbrev asks_by_ends : List Ends → List Event
 asks_by_ends [] = []
 asks_by_ends (e ∷ es) = asks_pair (ports_of e) ++ asks_by_ends es
@@ -248,9 +214,6 @@ asks_stay : (a b : WorldState) → world_setup a ≡ world_setup b → asks_all 
 asks_stay a b e = all_by_ends a.links ∙ (ap (λ (x : WorldSetup). asks_by_ends x.cables) e ∙ sym (all_by_ends b.links))
 
 -- delivering
-
-pub none_yet : (gives : Algorithms) (j : WorldState) → Delivers gives j j
-none_yet gives j = record { delivers = []; arrives = tt; acts = runs_none gives j }
 
 pub delivers_both : (gives : Algorithms) (old mid new : WorldState) → Delivers gives old mid → Delivers gives mid new → Delivers gives old new
 delivers_both gives old mid new a b = record {
@@ -308,9 +271,6 @@ is_nothing r h = absurd (false≢true h)
 pub record IsQuiet (n : ℕ) (old new : WorldState) : Type 0 where
   pub same : new.links ≡ old.links
   pub before : (s : Side) (i : ℕ) (l : LinkState) → i < n → slice_get old.links i ≡ Some l → towards s l ≡ []
-
-pub quiet_first : (j : WorldState) → IsQuiet 0 j j
-quiet_first j = record { same = refl; before = λ s i l h f. absurd (omega (arith, h)) }
 
 below_or_same : (i n : ℕ) → i < n + 1 → (i < n) ⊎ (i ≡ n)
 below_or_same i n h = elim (cases_Bool (i == n)) [
