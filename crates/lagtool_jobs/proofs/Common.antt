@@ -5,7 +5,7 @@ pub use Rattle.std.proofs.Common.{is_some, length, length-append, length-drop, m
 pub use Rattle.std.proofs.Common.{slice_index, string_bytes, subst, suc, sym, take, take-append-drop, take_all, true, vec_capacity, vec_len, zero, ℕ}
 pub use Rattle.std.proofs.Common.{◌&&◌, ◌++◌, ◌+◌, ◌-◌, ◌<◌, ◌==◌, ◌||◌, ◌∙◌, ◌∷◌, ◌≡◌, ◌≤◌}
 pub use Rattle.std.proofs.Math.Seq.{take-append_seam, take-length}
-pub use Rattle.std.proofs.lemmas.Bool.{cases_Bool, cases_lt, lt-ltb, true≢false}
+pub use Rattle.std.proofs.lemmas.Bool.{and_parts, cases_lt, lt-ltb, or_parts, true≢false}
 pub use Rattle.std.proofs.lemmas.Bool.Decides.{nat_tests}
 pub use Rattle.std.proofs.lemmas.List.{drop_more, ext_get_or, get_or-take, get_or_read, length-map, length-take-le, nil_from_length, take_more}
 pub use Rattle.std.proofs.lemmas.List.{take_rest}
@@ -21,7 +21,6 @@ pub use Rattle.cables.specs.AnyCable.{any_items, any_limit}
 pub use Rattle.lagstreams.specs.Sinks.{AppendsPart, SinkState, WritesPart, WritesWhole}
 pub use Rattle.lagtool_jobs.specs.declared.fault.ToolFault.{ToolFault}
 pub use Rattle.lagtool_jobs.specs.declared.fault.ToolFault.TheVariants.{NoMemory, Read, Write}
-pub use Rattle.lagtool_jobs.specs.CheckEnds.{Checks, Completes, HasCause, Stops}
 pub use Rattle.lagtool_jobs.specs.Explained.{SaysUnreadOf, character_text, digits_first, is_input, name_of, utf8_text}
 pub use Rattle.lagtool_jobs.specs.Naming.{AllNameExisting, is_cable, names_existing}
 pub use Rattle.lagtool_jobs.specs.Offered.{AreOfferFlags, HasSentNothing, IsSentWhereOffered, is_offered, offers_to}
@@ -32,7 +31,6 @@ pub use Rattle.lagtool_jobs.specs.ReplaySteps.{AreCounts, flows_with_counts, rep
 pub use Rattle.lagtool_jobs.specs.Scans.{ReadsOctets, ScanState, summary_after, to_write_after, unwritten}
 pub use Rattle.lagtool_jobs.specs.Vectors.{vector_line, vector_lines_from}
 pub use Rattle.lagtool_jobs.specs.Verdicts.{hex_verdict, is_fault, kind_verdict, line_verdict, payload_verdict, verdict_in, verdict_text}
-pub use Rattle.distributor.specs.Calls.{PicksIndexes}
 pub use Rattle.lagsystem.specs.First.{or_first, config_refusal as refusal_of_one}
 pub use Rattle.lagscript.specs.declared.event.Event.{Event}
 pub use Rattle.lagscript.specs.declared.fault.ScriptFault.{ScriptFault}
@@ -53,6 +51,7 @@ pub use Rattle.lagworld.specs.Making.{RefusesToMake, are_empty_lines, first_link
 pub use Rattle.lagworld.specs.Messages.{item_value, side_number, side_numbered}
 pub use Rattle.lagworld.specs.ModelWorld.{link_ends, world_setup}
 pub use Rattle.lagworld.specs.Readers.{flow_of_system}
-pub use Rattle.lagworld.specs.Sound.{IsSound, IsStart, RefusesNext, RunStops, both_algorithms, next_of}
+pub use Rattle.lagworld.specs.Sound.{IsSound, IsStart, RefusesNext, RunStops, next_of}
 pub use Rattle.lagworld.specs.State.{FlowValue, HalfState, ItemValue, LinkState, WorldState, collected_in, emptied, flow_at, forced_in, half, port_at}
 pub use Rattle.lagworld.specs.State.{sent_in, with_collected, with_forced, with_half, with_links, with_sent}
+pub use Rattle.lagworld.proofs.Sides.{algorithms_of}

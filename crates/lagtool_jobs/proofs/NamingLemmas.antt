@@ -1,7 +1,7 @@
 -- The entries of a script name only systems and cables that exist.
 use Rattle.lagtool_jobs.proofs.Common.{Bool, Err, List, None, Ok, Option, Result, Some, [], ap, arith, codes, false, if◌then◌else◌, is_some, length}
-use Rattle.lagtool_jobs.proofs.Common.{nat_le, option_and_then, refl, subst, suc, sym, true, ℕ, ◌&&◌, ◌+◌, ◌==◌, ◌||◌, ◌∙◌, ◌∷◌, ◌≡◌, ◌≤◌, true≢false}
-use Rattle.lagtool_jobs.proofs.Common.{nat_tests, length-map, none-some, same_Some, list_all, Data, Members, as_str, get_member, One, Two}
+use Rattle.lagtool_jobs.proofs.Common.{nat_le, option_and_then, refl, subst, suc, sym, true, ℕ, ◌&&◌, ◌+◌, ◌==◌, ◌||◌, ◌∙◌, ◌∷◌, ◌≡◌, ◌≤◌, and_parts}
+use Rattle.lagtool_jobs.proofs.Common.{true≢false, nat_tests, length-map, none-some, same_Some, list_all, Data, Members, as_str, get_member, One, Two}
 use Rattle.lagtool_jobs.proofs.Common.{AllNameExisting, is_cable, names_existing, Event, ScriptFault, Plan, refusal_of_all, EntryForm, EventValue}
 use Rattle.lagtool_jobs.proofs.Common.{WordValue, aggregation, cable, cable_said, event_value, event_values, first_said, number, octets, or_number}
 use Rattle.lagtool_jobs.proofs.Common.{system, system_said, each_at_place, if_or_fault, or_fault, ◌>>=◌, HasPlan, PlanValue, cables_in, ends_of}

@@ -1,17 +1,16 @@
 -- An aggregator that no event offers a frame to sends none.
-use Rattle.lagtool_jobs.proofs.Common.{Bool, Err, List, None, Ok, Option, Result, Some, [], ap, arith, eq-eqb, eqb-true, false, get_or, if◌then◌else◌}
-use Rattle.lagtool_jobs.proofs.Common.{inl, inr, length, map, option_map, refl, subst, suc, sym, true, zero, ℕ, ◌&&◌, ◌++◌, ◌+◌, ◌<◌, ◌==◌, ◌||◌, ◌∙◌}
-use Rattle.lagtool_jobs.proofs.Common.{◌∷◌, ◌≡◌, cases_Bool, true≢false, get_or_read, none-some, same_Some, range_with_len, flat_map, One, Side, Two}
-use Rattle.lagtool_jobs.proofs.Common.{HasSentNothing, IsSentWhereOffered, is_offered, offers_to, aggregator_flows_text, flow_line, Event, Reply}
-use Rattle.lagtool_jobs.proofs.Common.{AfterOffer, AfterReceive, AfterTransmit, Algorithms, DoesEvent, InHalf, WorldReceives, WorldRuns, side_of}
-use Rattle.lagtool_jobs.proofs.Common.{stamped_in, transmitted_item, with_collected_in, with_frame_counted, with_item_sent, with_last_lacpdu}
-use Rattle.lagtool_jobs.proofs.Common.{with_link_at, with_stamp_collected, side_number, side_numbered, flow_of_system, IsStart, FlowValue, HalfState}
-use Rattle.lagtool_jobs.proofs.Common.{ItemValue, WorldState, emptied, flow_at, half, port_at, sent_in, with_collected, with_forced, with_half}
-use Rattle.lagtool_jobs.proofs.Common.{with_links, with_sent}
+use Rattle.lagtool_jobs.proofs.Common.{Bool, Err, List, None, Ok, Option, Result, Some, [], ap, arith, eq-eqb, false, get_or, length, map, refl}
+use Rattle.lagtool_jobs.proofs.Common.{subst, suc, sym, true, zero, ℕ, ◌&&◌, ◌++◌, ◌+◌, ◌<◌, ◌==◌, ◌∙◌, ◌∷◌, ◌≡◌, or_parts, true≢false, get_or_read}
+use Rattle.lagtool_jobs.proofs.Common.{range_with_len, flat_map, One, Side, Two, HasSentNothing, IsSentWhereOffered, is_offered, offers_to}
+use Rattle.lagtool_jobs.proofs.Common.{aggregator_flows_text, flow_line, Event, Reply, AfterOffer, AfterReceive, AfterTransmit, Algorithms, DoesEvent}
+use Rattle.lagtool_jobs.proofs.Common.{InHalf, WorldReceives, WorldRuns, side_of, stamped_in, transmitted_item, with_collected_in, with_frame_counted}
+use Rattle.lagtool_jobs.proofs.Common.{with_item_sent, with_last_lacpdu, with_link_at, with_stamp_collected, side_number, side_numbered}
+use Rattle.lagtool_jobs.proofs.Common.{flow_of_system, IsStart, FlowValue, HalfState, ItemValue, WorldState, emptied, flow_at, half, port_at, sent_in}
+use Rattle.lagtool_jobs.proofs.Common.{with_collected, with_forced, with_half, with_links, with_sent}
 use Rattle.cables.specs.declared.item.Stamp.{Stamp}
 use Rattle.cables.specs.declared.item.Stamp.TheVariants as stamp
 use Rattle.lagtypes.specs.declared.identifiers.AggId.{AggId}
-use Rattle.lagmodel.proofs.Base.{cond_true, cond_false}
+use Rattle.lagmodel.proofs.Base.{cond_true}
 use Rattle.lagsystem.specs.declared.received.Received.{Received}
 use Rattle.lagsystem.specs.declared.received.Received.TheVariants as received
 use Rattle.lagsystem.specs.declared.drive.Reply.{Reply as Answer}

@@ -1,12 +1,12 @@
 -- A script is refused nothing but memory.
 use Rattle.lagtool_jobs.proofs.Common.{Bool, List, None, Option, Some, [], ap, ap₂, arith, false, if◌then◌else◌, inl, inr, is_some, length}
 use Rattle.lagtool_jobs.proofs.Common.{length-append, map, nat_le, refl, slice_get, subst, suc, sym, take, true, zero, ℕ, ◌&&◌, ◌++◌, ◌+◌, ◌<◌, ◌==◌}
-use Rattle.lagtool_jobs.proofs.Common.{◌∙◌, ◌∷◌, ◌≡◌, ◌≤◌, true≢false, nat_tests, length-map, length-take-le, none-some, same_Some, slice_get_within}
-use Rattle.lagtool_jobs.proofs.Common.{list_all, WorldSetup, AnyCable, any_items, any_limit, AllNameExisting, is_cable, names_existing, empty_link}
-use Rattle.lagtool_jobs.proofs.Common.{empty_links, or_first, Event, cable_named, system_named, Reply, Algorithms, WorldRuns, cause}
-use Rattle.lagtool_jobs.proofs.Common.{cause_or_no_memory, first_event_cause, has_cable, has_system, most_events, RefusesToMake, are_empty_lines}
-use Rattle.lagtool_jobs.proofs.Common.{first_link, has_empty_directions, item_value, link_ends, world_setup, RefusesNext, RunStops, next_of}
-use Rattle.lagtool_jobs.proofs.Common.{LinkState, WorldState}
+use Rattle.lagtool_jobs.proofs.Common.{◌∙◌, ◌∷◌, ◌≡◌, ◌≤◌, and_parts, true≢false, nat_tests, length-map, length-take-le, none-some, same_Some}
+use Rattle.lagtool_jobs.proofs.Common.{slice_get_within, list_all, WorldSetup, AnyCable, any_items, any_limit, AllNameExisting, is_cable}
+use Rattle.lagtool_jobs.proofs.Common.{names_existing, empty_link, empty_links, or_first, Event, cable_named, system_named, Reply, Algorithms}
+use Rattle.lagtool_jobs.proofs.Common.{WorldRuns, cause, cause_or_no_memory, first_event_cause, has_cable, has_system, most_events, RefusesToMake}
+use Rattle.lagtool_jobs.proofs.Common.{are_empty_lines, first_link, has_empty_directions, item_value, link_ends, world_setup, RefusesNext, RunStops}
+use Rattle.lagtool_jobs.proofs.Common.{next_of, LinkState, WorldState}
 use Rattle.lagscript.specs.declared.config.BadWorld.{BadWorld}
 use Rattle.lagscript.specs.declared.config.BadWorld.TheVariants.{Lines}
 use Rattle.lagworld.specs.declared.fault.RunFault.{RunFault}
@@ -129,14 +129,6 @@ stops_for_memory gives old new es stop fixed named few s =
         ∙ ap cause_or_no_memory (next_fine gives old new es s.replies stop.done e s.acted s.within fixed named few at)
 
 -- ---- events are played in pieces
-
--- runs one after the other are one run
-pub runs_joined : (gives : Algorithms) (es fs : List Event) (rs qs : List Reply) (old mid new : WorldState)
-    → WorldRuns gives old es rs mid → WorldRuns gives mid fs qs new → WorldRuns gives old (es ++ fs) (rs ++ qs) new
-runs_joined gives [] fs [] qs old mid new h k = subst (λ j. WorldRuns gives j fs qs new) h k
-runs_joined gives [] fs (r ∷ rs) qs old mid new h k = absurd h
-runs_joined gives (e ∷ es) fs [] qs old mid new h k = absurd h
-runs_joined gives (e ∷ es) fs (r ∷ rs) qs old mid new h k = (h.0, h.1, runs_joined gives es fs rs qs h.0 mid new h.2 k)
 
 named_behind : (p : Event → Bool) (es fs : List Event) → list_all p (es ++ fs) ≡ true → list_all p fs ≡ true
 named_behind p [] fs all = all

@@ -3,8 +3,9 @@ use Rattle.lagtool_jobs.proofs.Common.{Bool, Err, IfErr, IfOk, List, Ok, OnOk, O
 use Rattle.lagtool_jobs.proofs.Common.{drop, eqb-true, false, get_or, inl, inr, length, length-append, length-drop, min, refl, subst, suc, sym, take}
 use Rattle.lagtool_jobs.proofs.Common.{take-append-drop, take_all, true, zero, ℕ, ◌++◌, ◌+◌, ◌-◌, ◌<◌, ◌==◌, ◌∙◌, ◌∷◌, ◌≡◌, ◌≤◌, cases_lt, lt-ltb}
 use Rattle.lagtool_jobs.proofs.Common.{drop_more, get_or-take, length-take-le, take_rest, Appends, IsAtEnd, IsErrAnd, is_ok, AppendsPart, SinkState}
-use Rattle.lagtool_jobs.proofs.Common.{WritesWhole, ToolFault, NoMemory, Read, Write, Checks, Completes, HasCause, Stops, ReadsOctets, ScanState}
-use Rattle.lagtool_jobs.proofs.Common.{summary_after, to_write_after, unwritten, hex_verdict, is_fault, line_verdict, verdict_text}
+use Rattle.lagtool_jobs.proofs.Common.{WritesWhole, ToolFault, NoMemory, Read, Write, ReadsOctets, ScanState, summary_after, to_write_after}
+use Rattle.lagtool_jobs.proofs.Common.{unwritten, hex_verdict, is_fault, line_verdict, verdict_text}
+use Rattle.lagtool_jobs.specs.CheckEnds.{Checks, Completes, HasCause, Stops}
 use Rattle.memchr.specs.Find.{Nowhere, Passes, is_byte}
 use Rattle.hex.specs.Hex.{decode_of}
 use Rattle.lagstreams.specs.Lines.{continue_line, lines_of, newline_count, without_return}
@@ -231,107 +232,112 @@ module _ {R W : Type 0} (remaining : R → Option (List ℕ)) (contents : W → 
     counts_are = λ rest. ap (summary_from 0 0) (sym (prepend_none (lines_of rest))) ∙ sym (same_counted _ 0 _ 0 _ [] rest f g h);
   }
 
-  gives_both : (a b c : SourceState R) (xs ys : List ℕ) → Gives remaining a b xs → Gives remaining b c ys → Gives remaining a c (xs ++ ys)
-  gives_both a b c xs ys p q = record {
-    read = consumes_both _ _ _ xs ys p.read q.read;
-    failed = q.failed ∙ p.failed;
-    left = simp length-append (omega (arith, p.left, q.left));
+gives_both : {R : Type 0} {remaining : R → Option (List ℕ)} (a b c : SourceState R) (xs ys : List ℕ) → Gives remaining a b xs
+    → Gives remaining b c ys → Gives remaining a c (xs ++ ys)
+gives_both a b c xs ys p q = record {
+  read = consumes_both _ _ _ xs ys p.read q.read;
+  failed = q.failed ∙ p.failed;
+  left = simp length-append (omega (arith, p.left, q.left));
+}
+
+module _ {R W : Type 0} {remaining : R → Option (List ℕ)} {contents : W → Option (List ℕ)} where
+  pub told_reads : {from mid to : SourceState R} {old half : SinkState W} {s t : ScanState} {ys : List ℕ}
+      → Told remaining contents from mid old half s → Gives remaining mid to ys → ReadsOctets s t ys → Told remaining contents from to old half t
+  told_reads {from} {mid} {to} {old} {half} {s} {t} {ys} p c q = record {
+    octets = p.octets ++ ys;
+    read = gives_both from mid to p.octets ys p.read c;
+    out = p.out;
+    written = p.written;
+    report_is = λ rest. ap check_report (append_assoc p.octets ys rest) ∙ p.report_is (ys ++ rest)
+        ∙ ap (λ zs. p.out ++ zs) (q.report rest);
+    said_is = λ rest. ap ended_lines_text (append_assoc p.octets ys rest) ∙ p.said_is (ys ++ rest)
+        ∙ ap (λ zs. p.out ++ zs) (q.to_write rest);
+    counts_are = λ rest. ap summary (append_assoc p.octets ys rest) ∙ p.counts_are (ys ++ rest) ∙ q.counts rest;
   }
 
-  module _ (from mid to : SourceState R) (old half new : SinkState W) (s : ScanState) where
-    pub told_reads : (t : ScanState) (ys : List ℕ) → Told from mid old half s → Gives remaining mid to ys → ReadsOctets s t ys
-        → Told from to old half t
-    told_reads t ys p c q = record {
-      octets = p.octets ++ ys;
-      read = gives_both from mid to p.octets ys p.read c;
-      out = p.out;
-      written = p.written;
-      report_is = λ rest. ap check_report (append_assoc p.octets ys rest) ∙ p.report_is (ys ++ rest)
-          ∙ ap (λ zs. p.out ++ zs) (q.report rest);
-      said_is = λ rest. ap ended_lines_text (append_assoc p.octets ys rest) ∙ p.said_is (ys ++ rest)
-          ∙ ap (λ zs. p.out ++ zs) (q.to_write rest);
-      counts_are = λ rest. ap summary (append_assoc p.octets ys rest) ∙ p.counts_are (ys ++ rest) ∙ q.counts rest;
-    }
+  pub told_writes : {from mid : SourceState R} {old half new : SinkState W} {s t : ScanState} → Told remaining contents from mid old half s
+      → WritesWhole contents half new s.to_write → t ≡ record s { to_write = [] } → Told remaining contents from mid old new t
+  told_writes {from} {mid} {old} {half} {new} {s} {t} p a e = record {
+    octets = p.octets;
+    read = p.read;
+    out = p.out ++ s.to_write;
+    written = takes_more contents _ _ _ _ _ p.written a;
+    report_is = λ rest. p.report_is rest ∙ sym (append_assoc p.out s.to_write (pending s.lines s.faults s.line rest))
+        ∙ ap (λ zs. (p.out ++ s.to_write) ++ zs) (sym (ap (λ v. unwritten v rest) e));
+    said_is = λ rest. p.said_is rest ∙ sym (append_assoc p.out s.to_write (ended s.lines s.line rest))
+        ∙ ap (λ zs. (p.out ++ s.to_write) ++ zs) (sym (ap (λ v. to_write_after v rest) e));
+    counts_are = λ rest. p.counts_are rest ∙ sym (ap (λ v. summary_after v rest) e);
+  }
 
-    pub told_writes : (t : ScanState) → Told from mid old half s → WritesWhole contents half new s.to_write → t ≡ record s { to_write = [] }
-        → Told from mid old new t
-    told_writes t p a e = record {
-      octets = p.octets;
-      read = p.read;
-      out = p.out ++ s.to_write;
-      written = takes_more contents _ _ _ _ _ p.written a;
-      report_is = λ rest. p.report_is rest ∙ sym (append_assoc p.out s.to_write (pending s.lines s.faults s.line rest))
-          ∙ ap (λ zs. (p.out ++ s.to_write) ++ zs) (sym (ap (λ v. unwritten v rest) e));
-      said_is = λ rest. p.said_is rest ∙ sym (append_assoc p.out s.to_write (ended s.lines s.line rest))
-          ∙ ap (λ zs. (p.out ++ s.to_write) ++ zs) (sym (ap (λ v. to_write_after v rest) e));
-      counts_are = λ rest. p.counts_are rest ∙ sym (ap (λ v. summary_after v rest) e);
-    }
+  -- an empty piece
+  pub told_still : {from mid to : SourceState R} {old half : SinkState W} {s : ScanState} {ys : List ℕ}
+      → Told remaining contents from mid old half s → Gives remaining mid to ys → ys ≡ [] → Told remaining contents from to old half s
+  told_still {s = s} p c none = told_reads p c (subst (ReadsOctets s s) (sym none) (reads_none s))
 
-    -- an empty piece
-    pub told_still : (ys : List ℕ) → Told from mid old half s → Gives remaining mid to ys → ys ≡ [] → Told from to old half s
-    told_still ys p c none = told_reads s ys p c (subst (ReadsOctets s s) (sym none) (reads_none s))
+  -- if nothing is said but not written, all is written of the lines that were ended
+  all_written : {from mid : SourceState R} {old half : SinkState W} {s : ScanState} (p : Told remaining contents from mid old half s)
+      → s.to_write ≡ [] → p.out ≡ ended_lines_text p.octets
+  all_written p e = sym (ap ended_lines_text (sym (append-nil p.octets)) ∙ p.said_is []
+      ∙ ap (λ zs. p.out ++ (zs ++ [])) e ∙ append-nil p.out)
 
-    -- if nothing is said but not written, all is written of the lines that were ended
-    all_written : (p : Told from mid old half s) → s.to_write ≡ [] → p.out ≡ ended_lines_text p.octets
-    all_written p e = sym (ap ended_lines_text (sym (append-nil p.octets)) ∙ p.said_is []
-        ∙ ap (λ zs. p.out ++ (zs ++ [])) e ∙ append-nil p.out)
+  pub stops_reading : {from mid to : SourceState R} {old half : SinkState W} {s : ScanState} → Told remaining contents from mid old half s
+      → s.to_write ≡ [] → Fails remaining mid to → Stops remaining contents from to old half Read
+  stops_reading {mid = mid} {old = old} {half = half} p e fails = record {
+    octets = p.octets;
+    before = mid;
+    read = p.read;
+    fails = fails;
+    written =
+        subst (WritesWhole contents old half) (all_written p e) p.written;
+  }
 
-    pub stops_reading : Told from mid old half s → s.to_write ≡ [] → Fails remaining mid to → Stops remaining contents from to old half Read
-    stops_reading p e fails = record {
-      octets = p.octets;
-      before = mid;
-      read = p.read;
-      fails = fails;
-      written =
-          subst (WritesWhole contents old half) (all_written p e) p.written;
-    }
+  pub stops_short : {from mid to : SourceState R} {old half : SinkState W} {s : ScanState} {ys : List ℕ}
+      → Told remaining contents from mid old half s → s.to_write ≡ [] → Gives remaining mid to ys → length ys ≤ 4096
+      → Stops remaining contents from to old half NoMemory
+  stops_short {from} {mid} {to} {old} {half} {s} {ys} p e c short = record {
+    octets = p.octets;
+    last = ys;
+    read = gives_both from mid to p.octets ys p.read c;
+    one_read = short;
+    written = subst (WritesWhole contents old half) (all_written p e) p.written;
+  }
 
-    pub stops_short : (ys : List ℕ) → Told from mid old half s → s.to_write ≡ [] → Gives remaining mid to ys → length ys ≤ 4096
-        → Stops remaining contents from to old half NoMemory
-    stops_short ys p e c short = record {
-      octets = p.octets;
-      last = ys;
-      read = gives_both from mid to p.octets ys p.read c;
-      one_read = short;
-      written = subst (WritesWhole contents old half) (all_written p e) p.written;
-    }
+  -- a beginning of what was said is written
+  pub stops_writing : {from mid to : SourceState R} {old half new : SinkState W} {s : ScanState} {ys : List ℕ} (to_write tail : List ℕ)
+      → Told remaining contents from mid old half s → s.to_write ≡ [] → Gives remaining mid to ys → length ys ≤ 4096 → unwritten s ys ≡ to_write ++ tail
+      → AppendsPart (contents half.writer) (contents new.writer) to_write → Stops remaining contents from to old new Write
+  stops_writing {from} {mid} {to} {old} {half} {new} {s} {ys} to_write tail p e c short is b =
+      let n = b.0 in
+      let out = all_written p e in record {
+        octets = p.octets;
+        last = ys;
+        read = gives_both from mid to p.octets ys p.read c;
+        one_read = short;
+        more = take n to_write;
+        unsaid = drop n to_write ++ tail;
+        written = subst (λ o. Appends (contents old.writer) (contents new.writer) (o ++ take n to_write)) out
+            (appends_both _ _ _ p.out (take n to_write) p.written.written b.1);
+        report_is = p.report_is ys ∙ ap (λ zs. p.out ++ zs) (is ∙ ap (λ zs. zs ++ tail) (sym (take-append-drop n to_write))
+            ∙ append_assoc (take n to_write) (drop n to_write) tail)
+            ∙ sym (append_assoc p.out (take n to_write) (drop n to_write ++ tail))
+            ∙ ap (λ o. (o ++ take n to_write) ++ (drop n to_write ++ tail)) out;
+      }
 
-    -- a beginning of what was said is written
-    pub stops_writing : (ys to_write tail : List ℕ) → Told from mid old half s → s.to_write ≡ [] → Gives remaining mid to ys
-        → length ys ≤ 4096 → unwritten s ys ≡ to_write ++ tail
-        → AppendsPart (contents half.writer) (contents new.writer) to_write → Stops remaining contents from to old new Write
-    stops_writing ys to_write tail p e c short is b =
-        let n = b.0 in
-        let out = all_written p e in record {
-          octets = p.octets;
-          last = ys;
-          read = gives_both from mid to p.octets ys p.read c;
-          one_read = short;
-          more = take n to_write;
-          unsaid = drop n to_write ++ tail;
-          written = subst (λ o. Appends (contents old.writer) (contents new.writer) (o ++ take n to_write)) out
-              (appends_both _ _ _ p.out (take n to_write) p.written.written b.1);
-          report_is = p.report_is ys ∙ ap (λ zs. p.out ++ zs) (is ∙ ap (λ zs. zs ++ tail) (sym (take-append-drop n to_write))
-              ∙ append_assoc (take n to_write) (drop n to_write) tail)
-              ∙ sym (append_assoc p.out (take n to_write) (drop n to_write ++ tail))
-              ∙ ap (λ o. (o ++ take n to_write) ++ (drop n to_write ++ tail)) out;
-        }
-
-    -- all is written
-    pub ends : (to_write : List ℕ) (counts : Summary) → Told from mid old half s → to_write ≡ unwritten s [] → counts ≡ summary_after s []
-        → IsAtEnd (remaining mid.reader)
-        → WritesWhole contents half new to_write → Completes remaining contents from mid old new counts
-    ends to_write counts p e k end a =
-        let whole : check_report p.octets ≡ p.out ++ to_write = ap check_report (sym (append-nil p.octets)) ∙ p.report_is []
-        ∙ ap (λ zs. p.out ++ zs) (sym e) in
-        record {
-          octets = p.octets;
-          read = p.read.read;
-          unfailed = p.read.failed;
-          end = end;
-          written = subst (WritesWhole contents old new) (sym whole) (takes_more contents _ _ _ _ _ p.written a);
-          counts_are = k ∙ sym (p.counts_are []) ∙ ap summary (append-nil p.octets);
-        }
+  -- all is written
+  pub ends : {from mid : SourceState R} {old half new : SinkState W} {s : ScanState} {to_write : List ℕ} {counts : Summary}
+      → Told remaining contents from mid old half s → to_write ≡ unwritten s [] → counts ≡ summary_after s [] → IsAtEnd (remaining mid.reader)
+      → WritesWhole contents half new to_write → Completes remaining contents from mid old new counts
+  ends {old = old} {new = new} {to_write = to_write} p e k end a =
+      let whole : check_report p.octets ≡ p.out ++ to_write = ap check_report (sym (append-nil p.octets)) ∙ p.report_is []
+      ∙ ap (λ zs. p.out ++ zs) (sym e) in
+      record {
+        octets = p.octets;
+        read = p.read.read;
+        unfailed = p.read.failed;
+        end = end;
+        written = subst (WritesWhole contents old new) (sym whole) (takes_more contents _ _ _ _ _ p.written a);
+        counts_are = k ∙ sym (p.counts_are []) ∙ ap summary (append-nil p.octets);
+      }
 
 -- the fault of a call that ends in it
 pub on_fault : {T : Type 0} (P : ToolFault → Type 0) (f : ToolFault) (r : Result T ToolFault) → IsErrAnd r (λ e. e ≡ f) → P f → IfErr r P

@@ -1,4 +1,4 @@
-use Rattle.lagtool_jobs.proofs.Common.{List, length, subst, sym, ◌≤◌, AllNameExisting, Event, Algorithms, most_events, both_algorithms}
+use Rattle.lagtool_jobs.proofs.Common.{List, length, subst, sym, ◌≤◌, AllNameExisting, Event, Algorithms, most_events, algorithms_of}
 use Rattle.lagtool_jobs.proofs.NamingLemmas.{plan_few, plan_names}
 use Rattle.lagtool_jobs.proofs.StartLemmas.{replayed_is, write_failed}
 use Rattle.lagtool_jobs.proofs.replaying.replay_watched.Goals as goal
@@ -15,8 +15,7 @@ report_of_script-requires-clause-few g c =
 
 pub returns-in_err-put : goal.returns-in_err-put
 returns-in_err-put g c =
-    let gives : Algorithms = both_algorithms (λ conv count place. g.F.Fn.post c.args.one (conv, (count, tt)) place)
-    (λ conv count place. g.F.Fn.post c.args.two (conv, (count, tt)) place) in
+    let gives : Algorithms = algorithms_of g.F.Fn.post c.args.one c.args.two in
     write_failed g.W.Write.contents gives c.args.text.now c.args.sink.now c.put.new.self c.from_residual-in_err-put.result
     c.as_bytes.result.now (c.from_residual-in_err-put.ensures.1)
     (replayed_is gives c.args.text.now c.in_ok-plan.plan c.deref.result.now c.deref-2.result.now _ c.as_bytes.result.now
@@ -25,8 +24,7 @@ returns-in_err-put g c =
 
 pub returns : goal.returns
 returns g c =
-    let gives : Algorithms = both_algorithms (λ conv count place. g.F.Fn.post c.args.one (conv, (count, tt)) place)
-    (λ conv count place. g.F.Fn.post c.args.two (conv, (count, tt)) place) in (
+    let gives : Algorithms = algorithms_of g.F.Fn.post c.args.one c.args.two in (
       c.as_bytes.result.now,
       replayed_is gives c.args.text.now c.in_ok-plan.plan c.deref.result.now c.deref-2.result.now _
           c.as_bytes.result.now c.in_ok-plan.ensures.reads c.deref.ensures.value c.deref-2.ensures.value c.as_bytes.ensures.value

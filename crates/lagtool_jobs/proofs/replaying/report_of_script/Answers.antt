@@ -1,5 +1,5 @@
 use Rattle.lagtool_jobs.proofs.Common.{List, ap, length, map, subst, sym, ◌∙◌, length-map, AllNameExisting, empty_link, replay_report_with_counts}
-use Rattle.lagtool_jobs.proofs.Common.{PicksIndexes, Reply, Algorithms, WorldRuns, both_algorithms}
+use Rattle.lagtool_jobs.proofs.Common.{Reply, Algorithms, algorithms_of}
 use Rattle.lagworld.proofs.Starts.{start_sound}
 use Rattle.lagtool_jobs.proofs.OfferedLemmas.{sent_where_offered}
 use Rattle.lagtool_jobs.proofs.PlayingLemmas.{cables_counted, first_bare, lines_there}
@@ -14,14 +14,10 @@ make_world-requires-clause-lines g c =
     (first_bare c.args.limits.now)
 
 pub run_events-requires-clause-one : goal.run_events-requires-clause-one
-run_events-requires-clause-one g c =
-    subst (λ f. PicksIndexes (λ conv count. g.F.Fn.pre f (conv, (count, tt))) (λ conv count place. g.F.Fn.post f (conv, (count, tt)) place))
-    (sym c.in-Ok-make_world.ensures.algorithm_one) c.requires.one
+run_events-requires-clause-one g c = rw c.in-Ok-make_world.ensures.algorithm_one c.requires.one
 
 pub run_events-requires-clause-two : goal.run_events-requires-clause-two
-run_events-requires-clause-two g c =
-    subst (λ f. PicksIndexes (λ conv count. g.F.Fn.pre f (conv, (count, tt))) (λ conv count place. g.F.Fn.post f (conv, (count, tt)) place))
-    (sym c.in-Ok-make_world.ensures.algorithm_two) c.requires.two
+run_events-requires-clause-two g c = rw c.in-Ok-make_world.ensures.algorithm_two c.requires.two
 
 pub run_events-requires-clause-sound : goal.run_events-requires-clause-sound
 run_events-requires-clause-sound g c = start_sound c.in-Ok-make_world.world.state c.in-Ok-make_world.ensures.start
@@ -38,15 +34,13 @@ run_events-requires-clause-named g c =
 
 pub report_of-requires-clause-replies : goal.report_of-requires-clause-replies
 report_of-requires-clause-replies g c =
-    let gives : Algorithms = both_algorithms (λ conv count place. g.F.Fn.post c.in-Ok-make_world.world.one (conv, (count, tt)) place)
-    (λ conv count place. g.F.Fn.post c.in-Ok-make_world.world.two (conv, (count, tt)) place) in
+    let gives : Algorithms = algorithms_of g.F.Fn.post c.in-Ok-make_world.world.one c.in-Ok-make_world.world.two in
     ap length c.deref.ensures.value ∙ as_many gives c.in-Ok-make_world.world.state c.run_events.new.world.state c.args.events.now
     c.in-Ok-run_events.replies.items c.in-Ok-run_events.ensures.ran
 
 pub report_of-requires-clause-offered : goal.report_of-requires-clause-offered
 report_of-requires-clause-offered g c =
-    let gives : Algorithms = both_algorithms (λ conv count place. g.F.Fn.post c.in-Ok-make_world.world.one (conv, (count, tt)) place)
-    (λ conv count place. g.F.Fn.post c.in-Ok-make_world.world.two (conv, (count, tt)) place) in
+    let gives : Algorithms = algorithms_of g.F.Fn.post c.in-Ok-make_world.world.one c.in-Ok-make_world.world.two in
     sent_where_offered gives c.in-Ok-make_world.world.state c.run_events.new.world.state c.args.events.now c.in-Ok-run_events.replies.items
     c.in-Ok-make_world.ensures.start c.in-Ok-run_events.ensures.ran
 
@@ -57,13 +51,6 @@ returns-clause-ok g c =
     let es = c.args.events.now in
     let rs = c.in-Ok-run_events.replies.items in
     let counts = c.both_counts-counts.result in
-    let runs_one = subst
-    (λ f. WorldRuns (both_algorithms (λ conv count place. g.F.Fn.post f (conv, (count, tt)) place)
-    (λ conv count place. g.F.Fn.post c.in-Ok-make_world.world.two (conv, (count, tt)) place)) old es rs new)
-    c.in-Ok-make_world.ensures.algorithm_one c.in-Ok-run_events.ensures.ran in
-    let runs_both = subst
-    (λ f. WorldRuns (both_algorithms (λ conv count place. g.F.Fn.post c.args.one (conv, (count, tt)) place)
-    (λ conv count place. g.F.Fn.post f (conv, (count, tt)) place)) old es rs new) c.in-Ok-make_world.ensures.algorithm_two runs_one in
     record {
       replies = rs;
       to = new;
@@ -73,7 +60,7 @@ returns-clause-ok g c =
         links = c.in-Ok-make_world.ensures.made.links
             ∙ first_lines_are c.args.config.cables.items c.in-Ok.lines.items c.args.limits.now c.in-Ok.ensures.ok;
         acted = c.in-Ok-make_world.ensures.made.acted;
-        runs = runs_both;
+        runs = rw (c.in-Ok-make_world.ensures.algorithm_one, c.in-Ok-make_world.ensures.algorithm_two) at c.in-Ok-run_events.ensures.ran;
         sound = c.in-Ok-run_events.ensures.sound;
       };
       says = c.in_ok-report_of.ensures

@@ -1,17 +1,14 @@
 use Rattle.lagtool_jobs.proofs.Common.{List, [], ap, append-nil, append_assoc, refl, rules, subst, sym, ◌++◌, ◌∙◌, ◌≡◌, nil_from_length, chunks_rest}
-use Rattle.lagtool_jobs.proofs.Common.{PicksIndexes, Event, Algorithms, WorldRuns, RunStops, both_algorithms}
-use Rattle.lagtool_jobs.proofs.PlayingLemmas.{piece_stops_for_memory, runs_joined}
+use Rattle.lagtool_jobs.proofs.Common.{Event, Algorithms, WorldRuns, algorithms_of}
+use Rattle.lagtool_jobs.proofs.PlayingLemmas.{piece_stops_for_memory}
+use Rattle.lagworld.proofs.Headline.{runs_on}
 use Rattle.lagtool_jobs.proofs.running.run_events.Goals as goal
 
 pub run-requires-clause-one : goal.run-requires-clause-one
-run-requires-clause-one g c =
-    subst (λ f. PicksIndexes (λ conv count. g.F.Fn.pre f (conv, (count, tt))) (λ conv count place. g.F.Fn.post f (conv, (count, tt)) place))
-    (sym c.loop-piece.invariant.one) c.requires.one
+run-requires-clause-one g c = rw c.loop-piece.invariant.one c.requires.one
 
 pub run-requires-clause-two : goal.run-requires-clause-two
-run-requires-clause-two g c =
-    subst (λ f. PicksIndexes (λ conv count. g.F.Fn.pre f (conv, (count, tt))) (λ conv count place. g.F.Fn.post f (conv, (count, tt)) place))
-    (sym c.loop-piece.invariant.two) c.requires.two
+run-requires-clause-two g c = rw c.loop-piece.invariant.two c.requires.two
 
 pub loop-piece-init : goal.loop-piece-init
 loop-piece-init g c = record {
@@ -26,29 +23,20 @@ loop-piece-init g c = record {
 
 pub returns-in-Err-clause-stopped : goal.returns-in-Err-clause-stopped
 returns-in-Err-clause-stopped g c =
-    let gives : Algorithms = both_algorithms (λ conv count place. g.F.Fn.post c.args.world.now.one (conv, (count, tt)) place)
-    (λ conv count place. g.F.Fn.post c.args.world.now.two (conv, (count, tt)) place) in
+    let gives : Algorithms = algorithms_of g.F.Fn.post c.args.world.now.one c.args.world.now.two in
     let so_far = c.loop-piece.invariant.ran in
     let old = c.args.world.now.state in
     let mid = c.loop-piece.world.state in
     let new = c.run.new.self.state in
     let piece = c.in-Some.piece.now in
-    let stopped_one = subst
-    (λ f. RunStops (both_algorithms (λ conv count place. g.F.Fn.post f (conv, (count, tt)) place)
-    (λ conv count place. g.F.Fn.post c.loop-piece.world.two (conv, (count, tt)) place)) mid piece c.in-Err.stop new)
-    c.loop-piece.invariant.one c.in-Err.ensures.stopped in
-    let stopped = subst
-    (λ f. RunStops (both_algorithms (λ conv count place. g.F.Fn.post c.args.world.now.one (conv, (count, tt)) place)
-    (λ conv count place. g.F.Fn.post f (conv, (count, tt)) place)) mid piece c.in-Err.stop new)
-    c.loop-piece.invariant.two stopped_one in
+    let stopped = rw (c.loop-piece.invariant.one, c.loop-piece.invariant.two) at c.in-Err.ensures.stopped in
     piece_stops_for_memory gives old mid new c.args.events.now so_far.0 piece (chunks_rest c.next.new.self) c.loop-piece.replies.items
     c.in-Err.stop so_far.2 (so_far.1 ∙ ap (λ (es : List Event). so_far.0 ++ es) c.in-Some.ensures.steps.1.0) c.loop-piece.invariant.fixed
     c.run.ensures.fixed c.requires.acted c.requires.named c.requires.few stopped
 
 pub loop-piece-preserved : goal.loop-piece-preserved
 loop-piece-preserved g c =
-    let gives : Algorithms = both_algorithms (λ conv count place. g.F.Fn.post c.args.world.now.one (conv, (count, tt)) place)
-    (λ conv count place. g.F.Fn.post c.args.world.now.two (conv, (count, tt)) place) in
+    let gives : Algorithms = algorithms_of g.F.Fn.post c.args.world.now.one c.args.world.now.two in
     let so_far = c.loop-piece.invariant.ran in
     let old = c.args.world.now.state in
     let mid = c.loop-piece.world.state in
@@ -56,14 +44,7 @@ loop-piece-preserved g c =
     let piece = c.in-Some.piece.now in
     let rest = chunks_rest c.next.new.self in
     let replies = c.in-Ok.more.items in
-    let ran_one = subst
-    (λ f. WorldRuns (both_algorithms (λ conv count place. g.F.Fn.post f (conv, (count, tt)) place)
-    (λ conv count place. g.F.Fn.post c.loop-piece.world.two (conv, (count, tt)) place)) mid piece replies new)
-    c.loop-piece.invariant.one c.in-Ok.ensures.ran in
-    let ran = subst
-    (λ f. WorldRuns (both_algorithms (λ conv count place. g.F.Fn.post c.args.world.now.one (conv, (count, tt)) place)
-    (λ conv count place. g.F.Fn.post f (conv, (count, tt)) place)) mid piece replies new)
-    c.loop-piece.invariant.two ran_one in
+    let ran = rw (c.loop-piece.invariant.one, c.loop-piece.invariant.two) at c.in-Ok.ensures.ran in
     let grown : c.append.new.self.items ≡ c.loop-piece.replies.items ++ replies = search rules in
     record {
       can_next = search rules;
@@ -71,7 +52,7 @@ loop-piece-preserved g c =
       ran = (
         so_far.0 ++ piece,
         so_far.1 ∙ ap (λ (es : List Event). so_far.0 ++ es) c.in-Some.ensures.steps.1.0 ∙ sym (append_assoc so_far.0 piece rest),
-        rw grown (runs_joined gives so_far.0 piece c.loop-piece.replies.items replies old mid new so_far.2 ran),
+        rw grown (runs_on gives so_far.0 piece c.loop-piece.replies.items replies old mid new so_far.2 ran),
       );
       fixed = c.run.ensures.fixed ∙ c.loop-piece.invariant.fixed;
       sound = c.run.ensures.sound;
@@ -83,8 +64,7 @@ pub returns-clause-ran : goal.returns-clause-ran
 returns-clause-ran g c =
     let so_far = c.loop-piece.invariant.ran in
     let none = nil_from_length _ c.in-None.ensures.steps.1.0 in
-    let gives : Algorithms = both_algorithms (λ conv count place. g.F.Fn.post c.args.world.now.one (conv, (count, tt)) place)
-    (λ conv count place. g.F.Fn.post c.args.world.now.two (conv, (count, tt)) place) in
+    let gives : Algorithms = algorithms_of g.F.Fn.post c.args.world.now.one c.args.world.now.two in
     let all : c.args.events.now ≡ so_far.0 = so_far.1 ∙ ap (λ (es : List Event). so_far.0 ++ es) none ∙ append-nil so_far.0 in
     subst (λ es. WorldRuns gives c.args.world.now.state es c.loop-piece.replies.items c.loop-piece.world.state) (sym all) so_far.2
 
