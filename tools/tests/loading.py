@@ -20,7 +20,7 @@ def program(name: str) -> ModuleType:
     tree.body.pop()
     made = ModuleType(name.replace("-", "_"))
     made.__file__ = path
-    # A dataclass looks its module up.
+    # dataclasses looks the module of a class up in sys.modules.
     sys.modules[made.__name__] = made
     exec(compile(tree, path, "exec"), made.__dict__)
     return made
