@@ -50,28 +50,8 @@ among_port agg (y ∷ ys) p h = by_test (λ e. one_later agg y ys p (among_port 
 port_among : (agg : AggId) (ports : List SystemPort) (p k : ℕ) (x : SystemPort) → slice_get ports k ≡ Some x → x.number ≡ p
     → distributes_in agg x ≡ true → is_among (distributing agg ports) p ≡ true
 port_among agg [] p k x e n d = absurd (none-some x e)
-port_among agg (y ∷ ys) p zero x e n d =
-    let same : y ≡ x = same_Some y x e in
-    subst (λ b. list_any (λ q. eqb q p) (map (λ (s : SystemPort). s.number) (cond b (y ∷ filter (distributes_in agg) ys)
-    (filter (distributes_in agg) ys))) ≡ true) (sym (ap (distributes_in agg) same ∙ d))
-    (first (eqb y.number p) (is_it y.number (ap (λ (z : SystemPort). z.number) same ∙ n)))
-  where
-    is_it : (q : ℕ) → q ≡ p → eqb q p ≡ true
-    is_it q f = grind (arith, nat_tests)
-
-    first : (b : Bool) → b ≡ true → (b || is_among (distributing agg ys) p) ≡ true
-    first true f = refl
-    first false f = absurd (no f)
-port_among agg (y ∷ ys) p (suc k) x e n d = by_test (distributes_in agg y) (port_among agg ys p k x e n d)
-  where
-    second : (b : Bool) → is_among (distributing agg ys) p ≡ true → (b || is_among (distributing agg ys) p) ≡ true
-    second true g = refl
-    second false g = g
-
-    by_test : (b : Bool) → is_among (distributing agg ys) p ≡ true
-        → list_any (λ q. eqb q p) (map (λ (s : SystemPort). s.number) (cond b (y ∷ filter (distributes_in agg) ys) (filter (distributes_in agg) ys))) ≡ true
-    by_test true g = second (eqb y.number p) g
-    by_test false g = g
+port_among agg (y ∷ ys) p zero x e n d = grind (arith, nat_tests, no)
+port_among agg (y ∷ ys) p (suc k) x e n d = grind (arith, nat_tests, port_among agg ys p k x e n d)
 
 -- existing conversations
 
@@ -93,8 +73,7 @@ none_below f (suc n) k lt e = elim (cases_Bool (k == n)) [
 ]
 
 no_bit : (b : Bool) (n : ℕ) → n ≡ cond b 1 0 → n ≡ 0 → b ≡ false
-no_bit true n f e = absurd (omega (arith, f, e))
-no_bit false n f e = refl
+no_bit b n f e = grind (arith, nat_tests)
 
 -- if none is counted, no conversation is Wanted on the port
 none_wanted : (p : ℕ) (t : Table) → count_conversations (wants_marker p) t ≡ 0 → (g k : ℕ) → 0 < g → g ≤ t.aggs → k < t.conversations

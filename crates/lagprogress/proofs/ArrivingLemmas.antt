@@ -17,8 +17,7 @@ use Rattle.lagprogress.proofs.OneCable.{collected_links, collected_states, with_
 -- the answer to an offer
 
 pub is_data : (octets : List ℕ) → MayBeOffered octets → IsFrame octets Data_frame
-is_data octets h =
-    let test = (and_parts (nat_le 14 (length octets)) (nat_le (length octets) longest_frame) h.0).0 in (grind (arith, nat_tests), h.1)
+is_data octets h = grind (arith, nat_tests, and_parts)
 
 abbrev refused : DistFault → Result ℕ DistFault
 refused cause = Err cause
@@ -28,28 +27,16 @@ no_fault p cause e = cc
 
 picks : (gives : ℕ → ℕ → ℕ → Type 0) (conv p : ℕ) (ports : List ℕ) (cause : DistFault) → is_among ports p ≡ true
     → PicksPort gives conv ports (Err cause) → ⊥
-picks gives conv p [] cause e h = true≢false (sym e)
-picks gives conv p (q ∷ ports) cause e h = no_fault h.1 cause h.4
+picks gives conv p ports cause e h = grind (arith, nat_tests)
 
 -- the distributor has a port for a conversation that is not held
 assigns : (gives : ℕ → ℕ → ℕ → Type 0) (conv p : ℕ) (ports : List ℕ) (a : Assignment) (cause : DistFault) → is_among ports p ≡ true
     → held_on a ≡ None → Assigns gives conv ports a (Err cause) → ⊥
-assigns gives conv p ports (Free None) cause e free h = picks gives conv p ports cause e h
-assigns gives conv p ports (Free (Some q)) cause e free h = by_test (is_among ports q) h
-  where
-    by_test : (b : Bool) → MatchOption (cond b (Some q) None) (PicksPort gives conv ports (Err cause)) (λ q. refused cause ≡ Ok q) → ⊥
-    by_test true m = no_fault q cause m
-    by_test false m = picks gives conv p ports cause e m
-assigns gives conv p ports (On q) cause e free h = no_fault q cause h
-assigns gives conv p ports (Wanted q preferred) cause e free h = none-some q (sym free)
-assigns gives conv p ports (Flushing q id preferred age) cause e free h = none-some q (sym free)
+assigns gives conv p ports a cause e free h = grind (arith, nat_tests)
 
 not_refused : (gives : ℕ → ℕ → ℕ → Type 0) (agg : AggId) (octets : List ℕ) (s : SystemState) (fault : SystemFault) → TakesFrame agg octets s
     → RefusesOffer gives s agg octets fault → ⊥
-not_refused gives agg octets s fault t h =
-    let by = refused_by gives s agg octets fault t.may h in
-    assigns gives (number_of_conversation s octets) t.distributor.0 (distributing agg s.system_ports) (assignment_of_frame s agg octets) by.0
-    t.distributor.1 t.free by.1.1
+not_refused gives agg octets s fault t h = grind (arith, nat_tests, refused_by, assigns)
 
 -- the port that it gives distributes
 given : (ports : List ℕ) (a : Assignment) (port : ℕ) → ((p : ℕ) → a ≡ On p → is_among ports p ≡ true) → MaySend ports a port
@@ -107,15 +94,7 @@ receives_data : (n k : ℕ) (x : SystemPort) (octets : List ℕ) (agg : AggId) (
     → port_index n old.system_ports ≡ Some k → slice_get old.system_ports k ≡ Some x → x.port.enabled ≡ true
     → IsFrame octets Data_frame → collecting x.port ≡ Some agg → ReceivesAt (port_index n old.system_ports) octets old o new
     → (o ≡ Up agg) × (new ≡ old)
-receives_data n k x octets agg old o new place there up plain collects h =
-    let at = subst (λ i. ReceivesAt i octets old o new) place h in
-    let same : at.0 ≡ x = same_Some at.0 x (sym at.2 ∙ there) in
-    let parsed = subst (λ b. ParsesWhere b at.0 octets at.1) (ap (λ (y : SystemPort). y.port.enabled) same ∙ up) at.3 in
-    let does = effect_one true at.0 octets at.1 _ parsed (Data_frame, plain, refl) in
-    let p = subst (λ f. Performs f at.0.number (Some k) old o new) does at.4 in (
-      p.0 ∙ ap up_or_dropped (ap (λ (y : SystemPort). collecting y.port) same ∙ collects),
-      p.1,
-    )
+receives_data n k x octets agg old o new place there up plain collects h = grind (arith, nat_tests, effect_one)
 
 handed : (gives : Algorithms) (s : Side) (i k : ℕ) (l : LinkState) (x : SystemPort) (agg : AggId) (item : ItemValue) (rest : List ItemValue)
     (r : Reply) (old new : WorldState) → EndIsUp s l k x old → IsFrame item.octets Data_frame → collecting x.port ≡ Some agg

@@ -1,11 +1,11 @@
 -- What is cut off does no harm: the other links come up beside it.
 use Rattle.lagprogress.proofs.Common.{Some, ap, arith, false, inl, inr, refl, slice_get, subst, sym, true, ℕ, ◌-◌, ◌==◌, ◌∙◌, ◌≡◌, cases_Bool}
-use Rattle.lagprogress.proofs.Common.{same_Some, Choice, Selected, Party, is_selected, same_system, exact_system, system-itself, Info, Side, peer}
-use Rattle.lagprogress.proofs.Common.{Current, Defaulted, Expired, Initialize, PortDisabled, Machines, mux_rows, periodic_rows, receive_rows}
-use Rattle.lagprogress.proofs.Common.{same_receive_state, RunsToRest, count_down, SystemPort, MuxIsSettled, occupied, SystemState, all-get}
-use Rattle.lagprogress.proofs.Common.{found_place, ports_rise, Algorithms, LinkState, WorldState, half, port_at, EnoughAggregators, EnoughLinks}
-use Rattle.lagprogress.proofs.Common.{OneIsActive, EachLinkAgreesBesideCutOffs, EachLinkComesUpBesideCutOffs, IsBundleBesideCutOffs, IsCutOff}
-use Rattle.lagprogress.proofs.Common.{NoneIsHeldBesideCutOffs, IsHealthyAt, Rounds, WantsAggregator, IsSteady, IsTimed}
+use Rattle.lagprogress.proofs.Common.{nat_tests, same_Some, Choice, Selected, Party, is_selected, same_system, exact_system, system-itself, Info}
+use Rattle.lagprogress.proofs.Common.{Side, peer, Current, Defaulted, Expired, Initialize, PortDisabled, Machines, mux_rows, periodic_rows}
+use Rattle.lagprogress.proofs.Common.{receive_rows, same_receive_state, RunsToRest, count_down, SystemPort, MuxIsSettled, occupied, SystemState}
+use Rattle.lagprogress.proofs.Common.{all-get, found_place, ports_rise, Algorithms, LinkState, WorldState, half, port_at, EnoughAggregators}
+use Rattle.lagprogress.proofs.Common.{EnoughLinks, OneIsActive, EachLinkAgreesBesideCutOffs, EachLinkComesUpBesideCutOffs, IsBundleBesideCutOffs}
+use Rattle.lagprogress.proofs.Common.{IsCutOff, NoneIsHeldBesideCutOffs, IsHealthyAt, Rounds, WantsAggregator, IsSteady, IsTimed}
 use Rattle.lagprogress.proofs.Bundling.{Meets, agree_of, distribute_of, as_before, ends_at, never_stands, old_port, one_meet, one_wakes}
 use Rattle.lagprogress.proofs.Bundling.{still_aggregators, still_links}
 use Rattle.lagprogress.proofs.Climbing.{Ripe, Rising, rising_first, rising_rows, state_not}
@@ -26,19 +26,7 @@ abbrev Idle : Info → Machines → Type 0
 Idle c q = (q.enabled ≡ true) × (q.receive ≡ Defaulted) × (q.partner ≡ c)
 
 still_rows : (c : Info) (o : Machines) → EnabledKeep (λ r. Idle c r × (r ≡ o)) receive_rows
-still_rows c o = (
-  λ p h a. absurd (state_not Initialize p.receive true (ap (same_receive_state Initialize) a.0.1) h),
-  (
-    λ p h a. absurd (not_down _ p.enabled h a.0.0),
-    (
-      λ p h a. absurd (state_not PortDisabled p.receive p.enabled (ap (same_receive_state PortDisabled) a.0.1) h),
-      (
-        λ p h a. absurd (state_not Expired p.receive (p.current_while == 0) (ap (same_receive_state Expired) a.0.1) h),
-        (λ p h a. absurd (state_not Current p.receive (p.current_while == 0) (ap (same_receive_state Current) a.0.1) h), tt),
-      ),
-    ),
-  ),
-)
+still_rows c o = grind (arith, nat_tests, state_not, not_down)
 
 idle_ticks : (c : Info) (p q : Machines) → RunsToRest receive_rows (count_down p) q → Idle c p → q ≡ count_down p
 idle_ticks c p q h a = (times_keep (λ r. Idle c r × (r ≡ count_down p)) receive_rows (still_rows c (count_down p)) h.0 (count_down p) q h.1

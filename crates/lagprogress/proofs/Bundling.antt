@@ -97,13 +97,7 @@ old_port xs ys k y numbers f =
 
 same_ports_with : (s : Side) (old new : WorldState) → IsAsBefore s old new → (key : Key)
     → ports_with key (half s new).state ≡ ports_with key (half s old).state
-same_ports_with s old new b key =
-    let test : SystemPort → Bool = λ x. x.port.party.key.0 == key.0 in
-    let xs = (half s old).state.system_ports in
-    let ys = (half s new).state.system_ports in
-    let lengths : length ys ≡ length xs = many ys ∙ (ap (λ (ns : List ℕ). length ns) b.numbers ∙ sym (many xs)) in
-    counted test ys ∙ (count_same test xs ys lengths
-    (λ j x y e f. ap (λ (q : Party). q.key.0 == key.0) (b.alike j x y e f).0) ∙ sym (counted test xs))
+same_ports_with s old new b key = grind (arith, nat_tests, many, counted, count_same)
 
 same_aggregators_with : (s : Side) (old new : WorldState) → IsAsBefore s old new → (key : Key)
     → aggregators_with key (half s new).state ≡ aggregators_with key (half s old).state
@@ -138,17 +132,10 @@ still_heard Holds s old new like heard k z there up =
 members_counted : (agg : AggId) (ports : List SystemPort)
     → length (ports_that_chose agg (views ports)) ≡ count (λ (y : SystemPort). has_chosen agg y.port.choice) ports
 members_counted agg [] = refl
-members_counted agg (y ∷ ys) = by_test (has_chosen agg y.port.choice) (members_counted agg ys)
-  where
-    by_test : (b : Bool) → length (ports_that_chose agg (views ys)) ≡ count (λ (y : SystemPort). has_chosen agg y.port.choice) ys
-        → length (cond b (selection_view y ∷ ports_that_chose agg (views ys)) (ports_that_chose agg (views ys)))
-        ≡ cond b (suc (count (λ (y : SystemPort). has_chosen agg y.port.choice) ys)) (count (λ (y : SystemPort). has_chosen agg y.port.choice) ys)
-    by_test true e = ap (λ n. suc n) e
-    by_test false e = e
+members_counted agg (y ∷ ys) = grind (arith, nat_tests, members_counted agg ys)
 
 chose_occupies : (agg : AggId) (c : Choice) → has_chosen agg c ≡ true → occupied c ≡ Some agg.0
-chose_occupies agg (Selected given) h = ap (λ (n : ℕ). Some n) (grind (arith, nat_tests))
-chose_occupies agg c h = absurd (no h)
+chose_occupies agg c h = grind (arith, nat_tests)
 
 pub never_stands : (s : SystemState) (i : ℕ) (x : SystemPort) (agg : AggId) → IsSound s → EnoughLinks s → slice_get s.system_ports i ≡ Some x
     → x.port.choice ≡ Standby agg → ⊥
@@ -488,20 +475,11 @@ each_active_link_agrees gives n i l old new sound b y enough h =
 
 -- a world with one cable, and one port in each system
 
-no_zero : (conversations : ℕ) → refusal_of_limits (Some 0) conversations ≡ None → ⊥
-no_zero conversations h = none-some MaxLinks (sym h)
-
 pub first_none : {X : Type 0} (a b : Option X) → or_first a b ≡ None → (a ≡ None) × (b ≡ None)
-first_none None b e = (refl, e)
-first_none (Some x) b e = absurd (none-some x (sym e))
-
-limit_accepted : (s : SystemState) → IsSound s → refusal_of_limits s.max_links s.conversations ≡ None
-limit_accepted s h = (first_none (option_map PortNumber (first_bad_port_number 1 0 (configured_numbers s.ports)))
-    (refusal_of_limits s.max_links s.conversations) (if_then _ _ _ (if_then _ _ _ h.ports.accepted))).1
+first_none a b e = grind (arith, nat_tests)
 
 some_most : (s : SystemState) (most : ℕ) → IsSound s → s.max_links ≡ Some most → 1 ≤ most
-some_most s zero h e = absurd (no_zero s.conversations (subst (λ o. refusal_of_limits o s.conversations ≡ None) e (limit_accepted s h)))
-some_most s (suc most) h e = omega arith
+some_most s most h e = grind (arith, nat_tests)
 
 one_of : (s : SystemState) (xs : List SystemPort) → s.system_ports ≡ xs → length xs ≡ 1 → (x : SystemPort) × (s.system_ports ≡ x ∷ [])
 one_of s [] e l = absurd (omega (arith, l))
@@ -517,15 +495,10 @@ one_port s h l = one_of s s.system_ports refl
     numbered (c ∷ cs) = ap (λ n. suc n) (numbered cs)
 
 only_one : (x z : SystemPort) (k : ℕ) → slice_get (x ∷ []) k ≡ Some z → z ≡ x
-only_one x z zero e = sym (same_Some x z e)
-only_one x z (suc k) e = absurd (none-some z e)
+only_one x z k e = grind (arith, nat_tests)
 
 few : (test : SystemPort → Bool) (x : SystemPort) → length (filter test (x ∷ [])) ≤ 1
-few test x = by_test (test x)
-  where
-    by_test : (b : Bool) → length (cond b (x ∷ []) []) ≤ 1
-    by_test true = omega arith
-    by_test false = omega arith
+few test x = grind (arith, nat_tests)
 
 few_ports : (s : SystemState) → IsSound s → HasRoom s → (key : Key) → ports_with key s ≤ 1
 few_ports s h room key =

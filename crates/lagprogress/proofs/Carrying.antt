@@ -35,10 +35,7 @@ not_synchronized : (st : State) → (bits_of (with_synchronization false st)).sy
 not_synchronized st = ap (λ (b : StateBits). b.synchronization) (encode_then_decode (record (bits_of st) { synchronization = false }))
 
 pub receive_lapses : RowsKeep Lapses receive_rows
-receive_lapses = (
-  λ p a e. not_synchronized p.partner.state,
-  (λ p a e. not_synchronized p.partner.state, (λ p a e. absurd cc, (λ p a e. absurd cc, (λ p a e. absurd cc, tt)))),
-)
+receive_lapses = grind (arith, nat_tests, not_synchronized)
 
 lapse_starts : (p q : Machines) → Starts p q → Lapses q
 lapse_starts p q h = subst Lapses (sym h.2) (runs_keep Lapses receive_rows receive_lapses (start_receive p) h.0 h.1 (λ e. absurd cc))
@@ -65,17 +62,11 @@ lapse_kept call answer = tt
 -- so a port that distributes has its link up
 
 is_disabled : (r : ReceiveState) → same_receive_state PortDisabled r ≡ true → r ≡ PortDisabled
-is_disabled PortDisabled h = refl
-is_disabled r h = absurd (no h)
+is_disabled r h = grind (arith, nat_tests)
 
 must_be_up : (e d sync chosen m : Bool) → (not d && not e) ≡ false → (d ≡ true → sync ≡ false) → m ≡ true
     → (m && (not chosen || not sync)) ≡ false → e ≡ true
-must_be_up true d sync chosen m r l i j = refl
-must_be_up false false sync chosen m r l i j = absurd (no (sym r))
-must_be_up false true true chosen m r l i j = absurd (no (sym (l refl)))
-must_be_up false true false true true r l i j = absurd (no (sym j))
-must_be_up false true false false true r l i j = absurd (no (sym j))
-must_be_up false true false chosen false r l i j = absurd (no i)
+must_be_up e d sync chosen m r l i j = grind (arith, nat_tests)
 
 pub distributes_up : (s : SystemState) (agg : AggId) (p : ℕ) → IsSound s → OfEach LapsesAt s.system_ports
     → is_among (distributing agg s.system_ports) p ≡ true → HasPortUp p s
@@ -109,8 +100,7 @@ up_starts : (p q : Machines) → Starts p q → Up p → Up q
 up_starts p q h a = subst Up (sym h.2) (runs_keep Up receive_rows receive_up (start_receive p) h.0 h.1 a)
 
 set_up : (m p : ℕ) (up : Bool) → ((m == p) && not up) ≡ false → m ≡ p → up ≡ true
-set_up m p true h e = refl
-set_up m p false h e = let same : (m == p) ≡ true = grind (arith, nat_tests) in absurd (no (sym h ∙ ap (λ b. b && true) same))
+set_up m p up h e = grind (arith, nat_tests)
 
 up_kept : (p : ℕ) (call : Call) (answer : Answer) → takes_down p call ≡ false → KeptByCall (AtPort p Up) call answer
 up_kept p Tick answer t = λ n q r h a e. runs_keep Up receive_rows receive_up (count_down q) r h (a e)
@@ -150,8 +140,7 @@ HeldBefore call t u = (g k p : ℕ) → held_on (assignment_of u g k) ≡ Some p
     → (carrier_of (assignment_of t g k) ≡ Some p) × (takes_down p call ≡ false)
 
 carried_before : (a b : Assignment) (p : ℕ) → Stays a b → carrier_of b ≡ Some p → carrier_of a ≡ Some p
-carried_before a b p (inl e) h = absurd (none-some p (sym e ∙ h))
-carried_before a b p (inr e) h = sym e ∙ h
+carried_before a b p k h = grind (arith, nat_tests)
 
 by_stays : (call : Call) (t u : Table) → ((p : ℕ) → takes_down p call ≡ false) → Turns Stays stays t u → HeldBefore call t u
 by_stays call t u leaves h g k p e =
@@ -159,15 +148,10 @@ by_stays call t u leaves h g k p e =
 
 downed : (n p q : ℕ) (x y : Assignment) (b : Bool) → eqb q n ≡ b → carrier_of x ≡ None → carrier_of y ≡ Some q
     → carrier_of (cond b x y) ≡ Some p → (carrier_of y ≡ Some p) × (eqb p n ≡ false)
-downed n p q x y true e none some f = absurd (none-some p (sym none ∙ f))
-downed n p q x y false e none some f = (f, ap (λ m. eqb m n) (sym (same_Some q p (sym some ∙ f))) ∙ e)
+downed n p q x y b e none some f = grind (arith, nat_tests)
 
 downed_before : (n p : ℕ) (a : Assignment) → carrier_of (after_down n a) ≡ Some p → (carrier_of a ≡ Some p) × (eqb p n ≡ false)
-downed_before n p (Free preferred) h = absurd (none-some p h)
-downed_before n p (On q) h = downed n p q (Free None) (On q) (eqb q n) refl refl refl h
-downed_before n p (Wanted q preferred) h = downed n p q (Free preferred) (Wanted q preferred) (eqb q n) refl refl refl h
-downed_before n p (Flushing q id preferred age) h =
-    downed n p q (Free preferred) (Flushing q id preferred age) (eqb q n) refl refl refl h
+downed_before n p a h = grind (arith, nat_tests)
 
 linked_before : (n : ℕ) (up : Bool) (old mid new : SystemState) → FreesIfDown up n old.table mid.table → Turns Stays stays mid.table new.table
     → HeldBefore (Set_link n up) old.table new.table
@@ -187,36 +171,14 @@ linked_before n false old mid new h k g c p e =
     other f = grind (arith, nat_tests)
 
 moved_stays : (next : Option ℕ) (ports : List ℕ) (to : ℕ) (a s : Assignment) → move_result next ports to a ≡ Ok s → Stays a s
-moved_stays next ports to (Free preferred) s h = absurd cc
-moved_stays next ports to (Wanted p preferred) s h = absurd cc
-moved_stays next ports to (Flushing p n preferred age) s h = absurd cc
-moved_stays next ports to (On p) s h = checked (is_among ports to) (eqb p to) (is_none next) h
-  where
-    checked : (x y z : Bool)
-        → cond x (cond y (Err dist.SamePort) (cond z (Err dist.MarkersSpent) (Ok (Wanted p (Some to))))) (Err dist.NotDistributing) ≡ Ok s
-        → Stays (On p) s
-    checked false y z e = absurd cc
-    checked true true z e = absurd cc
-    checked true false true e = absurd cc
-    checked true false false e = let is : Wanted p (Some to) ≡ s = cc in inr (ap carrier_of (sym is))
+moved_stays next ports to a s h = grind (arith, nat_tests)
 
 forced_stays : (a s : Assignment) → force_result a ≡ Ok s → Stays a s
-forced_stays (Free preferred) s h = absurd cc
-forced_stays (On p) s h = let is : Free None ≡ s = cc in inl (ap carrier_of (sym is))
-forced_stays (Wanted p preferred) s h = let is : Free preferred ≡ s = cc in inl (ap carrier_of (sym is))
-forced_stays (Flushing p n preferred age) s h = let is : Free preferred ≡ s = cc in inl (ap carrier_of (sym is))
+forced_stays a s h = grind (arith, nat_tests)
 
 offered_before : (gives : ℕ → ℕ → ℕ → Type 0) (agg : AggId) (octets : List ℕ) (old : SystemState) (answer : Result ℕ SystemFault)
     (new : SystemState) → Offers gives agg octets old answer new → HeldBefore (Offer agg octets) old.table new.table
-offered_before gives agg octets old (Err fault) new h =
-    by_stays (Offer agg octets) old.table new.table (λ p. refl) (same_turns Stays stays old new (ap (λ (s : SystemState). s.table) h.1))
-offered_before gives agg octets old (Ok port) new h =
-    λ g k p e. (by_test g k p _ (ap held_on (sym (h.2.0.states g k)) ∙ e), refl)
-  where
-    by_test : (g k p : ℕ) (b : Bool) → held_on (cond b (On port) (assignment_of old.table g k)) ≡ Some p
-        → carrier_of (assignment_of old.table g k) ≡ Some p
-    by_test g k p true f = absurd (none-some p f)
-    by_test g k p false f = held_carries (assignment_of old.table g k) p f
+offered_before gives agg octets old answer new h = grind (arith, nat_tests)
 
 first_is_free : (s : SystemState) → IsFirst s → (g k : ℕ) → assignment_of s.table g k ≡ Free None
 first_is_free s h g k = ap (λ (t : Table). assignment_of t g k) h.3 ∙ first_free (length s.keys) s.conversations s.first_marker g k
@@ -263,10 +225,7 @@ abbrev Keeps : SystemState → Type 0
 Keeps s = IsSound s × OfEach LapsesAt s.system_ports × Carries s
 
 carrier_cases : (a : Assignment) (p : ℕ) → carrier_of a ≡ Some p → (held_on a ≡ Some p) ⊎ (a ≡ On p)
-carrier_cases (Free preferred) p e = absurd (none-some p e)
-carrier_cases (On q) p e = inr (ap (λ (n : ℕ). On n) (same_Some q p e))
-carrier_cases (Wanted q preferred) p e = inl e
-carrier_cases (Flushing q id preferred age) p e = inl e
+carrier_cases a p e = grind (arith, nat_tests)
 
 call_keeps : (gives : ℕ → ℕ → ℕ → Type 0) (old new : SystemState) (call : Call) (answer : Answer) → Step gives old call answer new → Keeps old
     → Keeps new

@@ -1,11 +1,11 @@
 -- Selected stays what it is in a bundle, once each end knows its partner.
-use Rattle.lagprogress.proofs.Common.{Bool, List, Some, [], ap, false, if◌then◌else◌, inl, inr, not, refl, slice_get, slice_set, subst, suc, sym}
-use Rattle.lagprogress.proofs.Common.{true, zero, ℕ, ◌&&◌, ◌||◌, ◌∙◌, ◌∷◌, ◌≡◌, ◌⊎◌, none-some, same_Some, AllByRecursion, Choice, Party}
-use Rattle.lagprogress.proofs.Common.{is_unselected, same_system, system-itself, Lacpdu, party_of, ReceiveState, Current, Defaulted, PortDisabled}
-use Rattle.lagprogress.proofs.Common.{Machines, mux_rows, RunsPeriodic, lacpdu_rows, receive_rows, same_receive_state, AtRest, RunsToRest, count_down}
-use Rattle.lagprogress.proofs.Common.{is_detached, is_eligible, SystemPort, ProcessesLacpdu, can_receive, can_receive_in, ChoosesIn, PortsChangeBy}
-use Rattle.lagprogress.proofs.Common.{Settling, ready_of, IsSound, SystemState, aggregators_value, selection_view, views, last_slots, HasRecorded}
-use Rattle.lagprogress.proofs.Common.{WantsAggregator}
+use Rattle.lagprogress.proofs.Common.{Bool, List, Some, [], ap, arith, false, if◌then◌else◌, inl, inr, not, refl, slice_get, slice_set, subst, suc}
+use Rattle.lagprogress.proofs.Common.{sym, true, zero, ℕ, ◌&&◌, ◌||◌, ◌∙◌, ◌∷◌, ◌≡◌, ◌⊎◌, nat_tests, none-some, same_Some, AllByRecursion, Choice}
+use Rattle.lagprogress.proofs.Common.{Party, is_unselected, same_system, system-itself, Lacpdu, party_of, ReceiveState, Current, Defaulted}
+use Rattle.lagprogress.proofs.Common.{PortDisabled, Machines, mux_rows, RunsPeriodic, lacpdu_rows, receive_rows, same_receive_state, AtRest}
+use Rattle.lagprogress.proofs.Common.{RunsToRest, count_down, is_detached, is_eligible, SystemPort, ProcessesLacpdu, can_receive, can_receive_in}
+use Rattle.lagprogress.proofs.Common.{ChoosesIn, PortsChangeBy, Settling, ready_of, IsSound, SystemState, aggregators_value, selection_view, views}
+use Rattle.lagprogress.proofs.Common.{last_slots, HasRecorded, WantsAggregator}
 use Rattle.lagprogress.proofs.Knowing.{recorded, rests_still}
 use Rattle.lagprogress.proofs.Bundling.{all_by_place}
 use Rattle.lagprogress.proofs.Climbing.{keeps_selected}
@@ -39,9 +39,7 @@ all_as_read (x ∷ xs) = ((refl, as_read x.port), all_as_read xs)
 pub one_as_read : (xs : List SystemPort) (i : ℕ) (x : SystemPort) (p : Machines) → slice_get xs i ≡ Some x → AsRead x.port p
     → AllAsRead xs (slice_set xs i (record x { port = p }))
 one_as_read [] i x p e h = absurd (none-some x e)
-one_as_read (y ∷ ys) zero x p e h =
-    let same : x ≡ y = sym (same_Some y x e) in
-    ((ap (λ (z : SystemPort). z.number) same, subst (λ (z : SystemPort). AsRead z.port p) same h), all_as_read ys)
+one_as_read (y ∷ ys) zero x p e h = grind (arith, nat_tests, all_as_read)
 one_as_read (y ∷ ys) (suc i) x p e h = ((refl, as_read y.port), one_as_read ys i x p e h)
 
 pub zip_as_read : (R : Machines → Machines → Type 0) (xs ys : List SystemPort)
@@ -56,26 +54,14 @@ abbrev Able : SystemPort → Type 0
 Able x = WantsAggregator x.port → is_unselected x.port.choice ≡ true → is_eligible (selection_view x) ≡ true
 
 known_state : (r : ReceiveState) → (same_receive_state Current r || same_receive_state Defaulted r) ≡ true → (r ≡ Current) ⊎ (r ≡ Defaulted)
-known_state Defaulted h = inr refl
-known_state Current h = inl refl
-known_state r h = absurd (no h)
+known_state r h = grind (arith, nat_tests)
 
 five_parts : (a b c d e : Bool) → ((((a && b) && c) && d) && not e) ≡ true → (a ≡ true) × (b ≡ true) × (d ≡ true) × (e ≡ false)
-five_parts true true true true false h = (refl, refl, refl, refl)
-five_parts a b c d e h = absurd (no h)
+five_parts a b c d e h = grind (arith, nat_tests)
 
 eligible_before : (x z : SystemPort) → Able x → AsRead x.port z.port → is_eligible (selection_view z) ≡ true
     → is_eligible (selection_view x) ≡ true
-eligible_before x z able a h =
-    let p = five_parts z.port.enabled (same_receive_state Current z.port.receive || same_receive_state Defaulted z.port.receive)
-    (is_detached (selection_view z).stage) (is_unselected z.port.choice) (same_system z.port.partner.system z.port.party.system) h in
-    able (record {
-      up = sym a.3 ∙ p.0;
-      known = subst (λ r. (r ≡ Current) ⊎ (r ≡ Defaulted)) a.4 (known_state z.port.receive p.1);
-      apart = λ e. no (sym p.3 ∙ (ap (λ (q : Party). same_system q.system z.port.party.system) a.1
-          ∙ (ap (λ (q : Party). same_system x.port.partner.system q.system) a.0
-          ∙ (ap (λ y. same_system y x.port.party.system) e ∙ system-itself x.port.party.system))));
-    }) (sym (ap is_unselected a.2) ∙ p.2)
+eligible_before x z able a h = grind (arith, nat_tests, five_parts, known_state, no, system-itself)
 
 -- step 1 of a settling
 one_seen : (xs ys zs : List SystemPort) → AllByRecursion Able xs → AllAsRead xs ys → PortsChangeBy (RunsToRest (mux_rows false)) ys zs

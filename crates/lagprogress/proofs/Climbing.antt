@@ -43,30 +43,13 @@ abbrev pub Rising : ℕ → Machines → Type 0
 Rising t p = (is_selected p.choice ≡ true) × ((is_synchronized p.mux ≡ true) ⊎ ((p.mux ≡ Waiting) × (p.wait_while ≤ t)))
 
 both_not : (c : Choice) → is_selected c ≡ true → is_unselected c ≡ true → ⊥
-both_not Unselected h k = no h
-both_not (Selected agg) h k = no k
-both_not (Standby agg) h k = no h
+both_not c h k = grind (arith, nat_tests)
 
 not_waiting : (m : MuxState) (g : Bool) (s : MuxState) → same_mux_state s Waiting ≡ false → (same_mux_state s m && g) ≡ true → m ≡ Waiting → ⊥
 not_waiting m g s f h e = no (sym (ap (λ b. b && g) f) ∙ subst (λ x. (same_mux_state s x && g) ≡ true) e h)
 
 pub rising_rows : (t : ℕ) (ready : Bool) → EnabledKeep (Rising t) (mux_rows ready)
-rising_rows t ready = (
-  λ p h a. absurd (elim a.1 [
-    | inl s ↦ not_attached p.mux _ Detached refl h s
-    | inr w ↦ not_waiting p.mux (not (is_unselected p.choice)) Detached refl h w.0
-  ]),
-  (
-    λ p h a. absurd (both_not p.choice a.0 (and_parts (same_mux_state Waiting p.mux) (is_unselected p.choice) h).1),
-    (
-      λ p h a. (a.0, inl refl),
-      (
-        λ p h a. absurd (not_down _ (is_selected p.choice) h a.0),
-        (λ p h a. (a.0, inl refl), (λ p h a. (a.0, inl refl), tt)),
-      ),
-    ),
-  ),
-)
+rising_rows t ready = grind (arith, nat_tests, not_attached, not_waiting, both_not, and_parts, not_down)
 
 pub keeps_selected : (u x : Lacpdu) (p q : Machines) → SameActor x u → HasRecorded u p → ProcessesLacpdu x p q
     → (q.choice ≡ p.choice) × (q.mux ≡ p.mux) × (q.wait_while ≡ p.wait_while)
@@ -109,15 +92,10 @@ ticks_rising d v u c t p q l h a y = subst (Rising (t - 1)) (sym (ticks_still d 
 
 climbs : (m : MuxState) (sel unsel ready : Bool) (n : ℕ) → unsel ≡ false → (same_mux_state Detached m && not unsel) ≡ false → n ≤ 20
     → (is_synchronized m ≡ true) ⊎ ((m ≡ Waiting) × (n ≤ 20))
-climbs Detached sel unsel ready n e h l = absurd (no (sym h ∙ ap not e))
-climbs Waiting sel unsel ready n e h l = inr (refl, l)
-climbs Attached sel unsel ready n e h l = inl refl
-climbs CollectingDistributing sel unsel ready n e h l = inl refl
+climbs m sel unsel ready n e h l = grind (arith, nat_tests)
 
 not_unselected : (c : Choice) → is_selected c ≡ true → is_unselected c ≡ false
-not_unselected Unselected h = absurd (no h)
-not_unselected (Selected agg) h = refl
-not_unselected (Standby agg) h = absurd (no h)
+not_unselected c h = grind (arith, nat_tests)
 
 -- a SELECTED port at rest
 pub rising_first : (p : Machines) → AtRest (mux_rows false) p → IsTimed p → is_selected p.choice ≡ true → Rising 20 p
@@ -137,19 +115,13 @@ Ripe t p = is_selected p.choice ≡ true → HasRisen t p.mux p.wait_while
 -- each port that waits in an aggregator has waited
 
 waited : (n : ℕ) → n ≤ 0 → (n == 0) ≡ true
-waited zero l = refl
-waited (suc n) l = absurd (omega (arith, l))
+waited n l = grind (arith, nat_tests)
 
 risen_waits : (m : MuxState) (n : ℕ) → HasRisen 0 m n → is_detached_or_waiting (stage_of m n) ≡ true → has_waited (stage_of m n) ≡ true
-risen_waits Detached n h e = absurd (elim h [ inl s ↦ no s | inr w ↦ not_waiting Detached true Detached refl refl w.0 ])
-risen_waits Waiting n h e = elim h [ inl s ↦ absurd (no s) | inr w ↦ waited n w.1 ]
-risen_waits Attached n h e = absurd (no e)
-risen_waits CollectingDistributing n h e = absurd (no e)
+risen_waits m n h e = grind (arith, nat_tests)
 
 member_selected : (agg : AggId) (c : Choice) → has_chosen agg c ≡ true → is_selected c ≡ true
-member_selected agg Unselected h = h
-member_selected agg (Selected given) h = refl
-member_selected agg (Standby given) h = h
+member_selected agg c h = grind (arith, nat_tests)
 
 abbrev Lags : PortView → Bool
 Lags v = is_detached_or_waiting v.stage
@@ -158,57 +130,31 @@ abbrev Waited : PortView → Bool
 Waited v = has_waited v.stage
 
 both_true : (a b : Bool) → a ≡ true → b ≡ true → (a && b) ≡ true
-both_true true b e f = f
-both_true false b e f = absurd (no e)
+both_true a b e f = grind (arith, nat_tests)
 
 either_true : (a b : Bool) → (a ≡ true) ⊎ (b ≡ true) → (a || b) ≡ true
-either_true true b h = refl
-either_true false b (inl e) = absurd (no e)
-either_true false b (inr f) = f
-
-one_waited : (v : PortView) (xs : List PortView) → (Lags v ≡ true → Waited v ≡ true) → list_all Waited (filter Lags xs) ≡ true
-    → list_all Waited (filter Lags (v ∷ xs)) ≡ true
-one_waited v xs k rest = by_test (Lags v) k
-  where
-    by_test : (b : Bool) → (b ≡ true → Waited v ≡ true) → list_all Waited (cond b (v ∷ filter Lags xs) (filter Lags xs)) ≡ true
-    by_test true k = both_true (Waited v) (list_all Waited (filter Lags xs)) (k refl) rest
-    by_test false k = rest
+either_true a b h = grind (arith, nat_tests)
 
 member_waited : (c : Bool) (v : PortView) (xs : List PortView) → (c ≡ true → Lags v ≡ true → Waited v ≡ true)
     → list_all Waited (filter Lags xs) ≡ true → list_all Waited (filter Lags (cond c (v ∷ xs) xs)) ≡ true
-member_waited true v xs k rest = one_waited v xs (k refl) rest
-member_waited false v xs k rest = rest
+member_waited c v xs k rest = grind (arith, nat_tests)
 
 all_waited : (agg : AggId) (ports : List SystemPort) → AllByRecursion (λ (y : SystemPort). Ripe 0 y.port) ports
     → list_all Waited (filter Lags (ports_that_chose agg (views ports))) ≡ true
 all_waited agg [] a = refl
-all_waited agg (y ∷ ys) a = member_waited (has_chosen agg y.port.choice) (selection_view y) (ports_that_chose agg (views ys))
-    (λ c d. risen_waits y.port.mux y.port.wait_while (a.0 (member_selected agg y.port.choice c)) d) (all_waited agg ys a.1)
+all_waited agg (y ∷ ys) a = grind (arith, nat_tests, member_waited, risen_waits, member_selected, all_waited agg ys a.1)
 
 some_lags : (agg : AggId) (ports : List SystemPort) (i : ℕ) (x : SystemPort) → slice_get ports i ≡ Some x
     → has_chosen agg x.port.choice ≡ true → Lags (selection_view x) ≡ true → list_any Lags (ports_that_chose agg (views ports)) ≡ true
 some_lags agg [] i x e c d = absurd (none-some x e)
-some_lags agg (y ∷ ys) zero x e c d =
-    let same : y ≡ x = same_Some y x e in
-    subst (λ b. list_any Lags (cond b (selection_view y ∷ ports_that_chose agg (views ys)) (ports_that_chose agg (views ys))) ≡ true)
-    (sym (ap (λ (z : SystemPort). has_chosen agg z.port.choice) same ∙ c))
-    (either_true (Lags (selection_view y)) (list_any Lags (ports_that_chose agg (views ys)))
-    (inl (ap (λ (z : SystemPort). Lags (selection_view z)) same ∙ d)))
-some_lags agg (y ∷ ys) (suc i) x e c d = by_test (has_chosen agg y.port.choice) (some_lags agg ys i x e c d)
-  where
-    by_test : (b : Bool) → list_any Lags (ports_that_chose agg (views ys)) ≡ true
-        → list_any Lags (cond b (selection_view y ∷ ports_that_chose agg (views ys)) (ports_that_chose agg (views ys))) ≡ true
-    by_test true k = either_true (Lags (selection_view y)) (list_any Lags (ports_that_chose agg (views ys))) (inr k)
-    by_test false k = k
+some_lags agg (y ∷ ys) zero x e c d = grind (arith, nat_tests, either_true)
+some_lags agg (y ∷ ys) (suc i) x e c d = grind (arith, nat_tests, either_true, some_lags agg ys i x e c d)
 
 -- so the aggregator is Ready
 all_ready : (keys : List Key) (ports : List SystemPort) (agg : AggId) → is_aggregator keys agg ≡ true
     → list_any Lags (ports_that_chose agg (views ports)) ≡ true
     → list_all Waited (filter Lags (ports_that_chose agg (views ports))) ≡ true → is_ready keys (views ports) agg ≡ true
-all_ready keys ports agg known some all =
-    let ps = ports_that_chose agg (views ports) in
-    ap (λ (b : Bool). list_any Lags (if b then ps else []) && list_all Waited (filter Lags (if b then ps else []))) known
-    ∙ both_true (list_any Lags ps) (list_all Waited (filter Lags ps)) some all
+all_ready keys ports agg known some all = grind (arith, nat_tests, both_true)
 
 never_waits : (s : SystemState) (i : ℕ) (x : SystemPort) (c : Choice) → x.port.choice ≡ c → IsSound s → slice_get s.system_ports i ≡ Some x
     → AllByRecursion (λ (y : SystemPort). Ripe 0 y.port) s.system_ports → is_selected c ≡ true → x.port.mux ≡ Waiting → ⊥
@@ -323,12 +269,7 @@ ticks_choice d v u c p q choice l h a y = subst (λ (r : Machines). r.choice ≡
 
 distributing_now : (m : MuxState) (sel sync : Bool) → is_synchronized m ≡ true → sel ≡ true → sync ≡ true
     → (same_mux_state Attached m && (sel && sync)) ≡ false → m ≡ CollectingDistributing
-distributing_now Detached sel sync h e f g = absurd (no h)
-distributing_now Waiting sel sync h e f g = absurd (no h)
-distributing_now Attached true true h e f g = absurd (no (sym g))
-distributing_now Attached true false h e f g = absurd (no f)
-distributing_now Attached false sync h e f g = absurd (no e)
-distributing_now CollectingDistributing sel sync h e f g = refl
+distributing_now m sel sync h e f g = grind (arith, nat_tests)
 
 -- a synchronized port at rest whose partner is synchronized
 pub distributes_now : (p : Machines) → AtRest (mux_rows false) p → Synced p → PartnerInSync p → p.mux ≡ CollectingDistributing

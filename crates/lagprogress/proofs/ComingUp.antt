@@ -1,11 +1,12 @@
 -- How both ends of a cable come to distribute, round by round.
 use Rattle.lagprogress.proofs.Common.{Bool, List, Some, ap, arith, false, inl, inr, is_some, not, option_map, refl, slice_get, subst, suc, sym, true}
-use Rattle.lagprogress.proofs.Common.{zero, ℕ, ◌&&◌, ◌+◌, ◌-◌, ◌||◌, ◌∙◌, ◌≡◌, ◌≢◌, ◌≤◌, ◌⊎◌, unwrap_or, Party, is_selected, group_end, group_of}
-use Rattle.lagprogress.proofs.Common.{individual, pair_of, same_group, group-itself, Lacpdu, party_of, One, Side, Two, peer, CollectingDistributing}
-use Rattle.lagprogress.proofs.Common.{Machines, same_mux_state, Table, Answer, SystemPort, Call, Step, TableRun, MuxIsSettled, group_at, SystemState}
-use Rattle.lagprogress.proofs.Common.{machines_of, with_system_ports, with_table, Step-frame, all-get, Event, Same, Reply, agreement_at, agreement_of}
-use Rattle.lagprogress.proofs.Common.{end_facts, first_agreement, is_stamp, same_groups, Algorithms, WorldRuns, ItemValue, LinkState, WorldState}
-use Rattle.lagprogress.proofs.Common.{change_count_in, half, history_at, port_at, AreApart, Distributes, AtEnd, IsRound, OfPort, Rounds, IsTimed}
+use Rattle.lagprogress.proofs.Common.{zero, ℕ, ◌&&◌, ◌+◌, ◌-◌, ◌||◌, ◌∙◌, ◌≡◌, ◌≢◌, ◌≤◌, ◌⊎◌, nat_tests, unwrap_or, Party, is_selected, group_end}
+use Rattle.lagprogress.proofs.Common.{group_of, individual, pair_of, same_group, group-itself, Lacpdu, party_of, One, Side, Two, peer}
+use Rattle.lagprogress.proofs.Common.{CollectingDistributing, Machines, same_mux_state, Table, Answer, SystemPort, Call, Step, TableRun, MuxIsSettled}
+use Rattle.lagprogress.proofs.Common.{group_at, SystemState, machines_of, with_system_ports, with_table, Step-frame, all-get, Event, Same, Reply}
+use Rattle.lagprogress.proofs.Common.{agreement_at, agreement_of, end_facts, first_agreement, is_stamp, same_groups, Algorithms, WorldRuns, ItemValue}
+use Rattle.lagprogress.proofs.Common.{LinkState, WorldState, change_count_in, half, history_at, port_at, AreApart, Distributes, AtEnd, IsRound}
+use Rattle.lagprogress.proofs.Common.{OfPort, Rounds, IsTimed}
 use Rattle.lagprogress.proofs.Stamps.{Stamped, stamped_round}
 use Rattle.lagtypes.proofs.GroupLemmas.{groups_from_pairs}
 use Rattle.lagprogress.proofs.Claims.{Owes}
@@ -53,8 +54,7 @@ pub splits : (gives : Algorithms) (k m n : ℕ) (old new : WorldState) → n ≡
     → (mid : WorldState) × Rounds gives m old mid × Rounds gives k mid new
 splits gives zero m n old new e h = (new, subst (λ i. Rounds gives i old new) (omega (arith, e)) h, refl)
 splits gives (suc k) m zero old new e h = absurd (omega (arith, e))
-splits gives (suc k) m (suc n) old new e h =
-    let r = splits gives k m n old h.0 (omega (arith, e)) h.1 in (r.0, r.1, (h.0, r.2, h.2))
+splits gives (suc k) m (suc n) old new e h = grind (arith, nat_tests, splits gives k m n old h.0 (omega (arith, e)) h.1)
 
 -- a port at an end of a cable has a history as before
 pub rounds_kept : (gives : Algorithms) (n i : ℕ) (at : Side → ℕ) (fl : Side → List ItemValue) (old new : WorldState)
@@ -231,8 +231,7 @@ apart_at l j e h = each_side (λ s. (said_by l j e (peer s)).actor.system ≢ (s
         (subst (OfPort (λ p. AtEnd (λ q. q.party.system ≢ p.party.system) Two l j)) (there One) h)
 
 pub awake_at : (w : Side → Lacpdu) (a : Side) → activity (w a) ≡ true → (s : Side) → (activity (w s) ≡ true) ⊎ (activity (w (peer s)) ≡ true)
-awake_at w a h = each_side (λ s. (activity (w s) ≡ true) ⊎ (activity (w (peer s)) ≡ true)) a (inl h)
-    (inr (subst (λ t. activity (w t) ≡ true) (sym (peer_twice a)) h))
+awake_at w a h = grind (arith, nat_tests, each_side, peer_twice)
 
 pub active_at : (l : LinkState) (j : WorldState) (e : Ends l j) (a : Side) → AtEnd (λ p. p.active ≡ true) a l j
     → activity (said_by l j e a) ≡ true

@@ -1,6 +1,6 @@
 -- How many elements of a list pass a test.
 use Rattle.lagprogress.proofs.Common.{Bool, List, Some, [], ap, arith, cond, false, filter, length, refl, slice_get, suc, true, zero, ℕ, ◌+◌, ◌∙◌}
-use Rattle.lagprogress.proofs.Common.{◌∷◌, ◌≡◌, ◌≤◌, false≢true, none-some, same_Some}
+use Rattle.lagprogress.proofs.Common.{◌∷◌, ◌≡◌, ◌≤◌, false≢true, nat_tests, none-some, same_Some}
 
 abbrev pub count : {A : Type 0} → (A → Bool) → List A → ℕ
 count test [] = zero
@@ -8,22 +8,17 @@ count test (x ∷ xs) = cond (test x) (suc (count test xs)) (count test xs)
 
 one_counted : {A : Type 0} (b : Bool) (x : A) (rest : List A) (n : ℕ) → length rest ≡ n
     → length (cond b (x ∷ rest) rest) ≡ cond b (suc n) n
-one_counted true x rest n h = ap (λ m. suc m) h
-one_counted false x rest n h = h
+one_counted b x rest n h = grind (arith, nat_tests)
 
 pub counted : {A : Type 0} (test : A → Bool) (xs : List A) → length (filter test xs) ≡ count test xs
 counted test [] = refl
 counted test (x ∷ xs) = one_counted (test x) x (filter test xs) (count test xs) (counted test xs)
 
 bit_less : (a b : Bool) (m n : ℕ) → (a ≡ true → b ≡ true) → m ≤ n → cond a (suc m) m ≤ cond b (suc n) n
-bit_less true true m n h l = omega (arith, l)
-bit_less true false m n h l = absurd (false≢true (h refl))
-bit_less false true m n h l = omega (arith, l)
-bit_less false false m n h l = l
+bit_less a b m n h l = grind (arith, nat_tests)
 
 bit_more : (a b : Bool) (m n : ℕ) → a ≡ false → b ≡ true → m ≤ n → cond a (suc m) m + 1 ≤ cond b (suc n) n
-bit_more false true m n h k l = omega (arith, l)
-bit_more a b m n h k l = cc
+bit_more a b m n h k l = grind (arith, nat_tests)
 
 later_more : (a b : Bool) (m n : ℕ) → (a ≡ true → b ≡ true) → m + 1 ≤ n → cond a (suc m) m + 1 ≤ cond b (suc n) n
 later_more true true m n h l = omega (arith, l)

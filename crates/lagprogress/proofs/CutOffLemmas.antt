@@ -34,8 +34,7 @@ dead_keeps = own_keeps (λ party up. up ≡ false)
 
 says_none : (up due : Bool) (i : ℕ) (z : SystemPort) (old : SystemState) (frame : List ℕ) (new : SystemState) → up ≡ false
     → TransmitsIf up due i z old (Some frame) new → ⊥
-says_none false due i z old frame new e h = none-some frame (sym h.0)
-says_none true due i z old frame new e h = no (sym e)
+says_none up due i z old frame new e h = grind (arith, nat_tests)
 
 sends_none : (n : ℕ) (o : Option ℕ) (old : SystemState) (frame : List ℕ) (new : SystemState) → port_index n old.system_ports ≡ o
     → TransmitsAt o old (Some frame) new → OfEach (AtPort n Dead) old.system_ports → ⊥
@@ -73,21 +72,14 @@ set_cut b s p k M m new links there is cut i l h e = elim (cases_Bool (i == k)) 
 
 -- a cable that is cut accepts nothing
 sent_cut : (s u : Side) (item : ItemValue) (m : LinkState) → (u ≡ peer s → m.whole ≡ false) → towards s m ≡ [] → towards s (sent_on u item m) ≡ []
-sent_cut One One item m cut none = none
-sent_cut Two Two item m cut none = none
-sent_cut One Two item m cut none =
-    ap (λ w. if w && not (is_at_limit m.limit_one (length m.to_one)) then m.to_one ++ item ∷ [] else m.to_one) (cut refl) ∙ none
-sent_cut Two One item m cut none =
-    ap (λ w. if w && not (is_at_limit m.limit_two (length m.to_two)) then m.to_two ++ item ∷ [] else m.to_two) (cut refl) ∙ none
+sent_cut s u item m cut none = grind (arith, nat_tests)
 
 ends_stay : (M : ℕ → Type 0) (s u : Side) (item : ItemValue) (m : LinkState) → (m.whole ≡ false) ⊎ M (port_at (peer s) m)
     → ((sent_on u item m).whole ≡ false) ⊎ M (port_at (peer s) (sent_on u item m))
-ends_stay M One One item m h = h
-ends_stay M s u item m h = h
+ends_stay M s u item m h = grind (arith, nat_tests)
 
 joins_stay : (s u : Side) (item : ItemValue) (m : LinkState) → port_at s (sent_on u item m) ≡ port_at s m
-joins_stay One One item m = refl
-joins_stay s u item m = refl
+joins_stay s u item m = grind (arith, nat_tests)
 
 put_cut : (b : ℕ) (s u : Side) (p q : ℕ) (M : ℕ → Type 0) (item : ItemValue) (links : List LinkState) → (u ≡ peer s → M q → ⊥)
     → CutAt b s p M links → CutAt b s p M (put_on_port u q item links)
@@ -150,19 +142,14 @@ none_first xs rest item e f = let x : [] ≡ item ∷ rest = sym e ∙ f in cc
 
 taken_cut : (b : ℕ) (s v : Side) (p : ℕ) (m : LinkState) (rest : List ItemValue) (item : ItemValue) → towards v m ≡ item ∷ rest
     → (1 ≤ b → towards s m ≡ []) → (v ≡ s) ⊎ (v ≡ peer s) → 1 ≤ b → towards s (with_towards v rest m) ≡ []
-taken_cut b s v p m rest item first none (inl e) l =
-    absurd (none_first (towards s m) rest item (none l) (subst (λ t. towards t m ≡ item ∷ rest) e first))
-taken_cut b s v p m rest item first none (inr e) l =
-    subst (λ t. towards s (with_towards t rest m) ≡ []) (sym e) (towards_other s rest m ∙ none l)
+taken_cut b s v p m rest item first none h l = grind (arith, nat_tests)
 
 ends_left : (M : ℕ → Type 0) (s v : Side) (rest : List ItemValue) (m : LinkState) → (m.whole ≡ false) ⊎ M (port_at (peer s) m)
     → ((with_towards v rest m).whole ≡ false) ⊎ M (port_at (peer s) (with_towards v rest m))
-ends_left M One One rest m h = h
-ends_left M s v rest m h = h
+ends_left M s v rest m h = grind (arith, nat_tests)
 
 joins_left : (s v : Side) (rest : List ItemValue) (m : LinkState) → port_at s (with_towards v rest m) ≡ port_at s m
-joins_left One One rest m = refl
-joins_left s v rest m = refl
+joins_left s v rest m = grind (arith, nat_tests)
 
 replies_no : (gives : ℕ → ℕ → ℕ → Type 0) (n : ℕ) (octets : List ℕ) (a : Result Received SystemFault) (old new : SystemState) (frame : List ℕ)
     → a ≡ Ok (received.Respond frame) → Step gives old (Receive n octets) (answer.Receive a) new → OfEach (AtPort n Dead) old.system_ports → ⊥
@@ -269,13 +256,10 @@ deaf_ticks most x y h a =
 -- where it begins
 
 longer : (a b n : ℕ) (r : ReceiveState) → a ≤ b → Within 1 a r n → Within 1 b r n
-longer a b n Expired l w = (omega (arith, l, w.0), omega (arith, l, w.1))
-longer a b n Current l w = (omega (arith, l, w.0), omega (arith, l, w.1))
-longer a b n r l w = w
+longer a b n r l w = grind (arith, nat_tests)
 
 short_or_long : (short : Bool) → timeout_time short + 30 ≤ 930
-short_or_long true = omega arith
-short_or_long false = omega arith
+short_or_long short = grind (arith, nat_tests)
 
 deaf_first : (s : Side) (j : WorldState) (k : ℕ) (z : SystemPort) → IsSteady j → slice_get (half s j).state.system_ports k ≡ Some z
     → z.port.enabled ≡ true → Unheard 1 930 z.port

@@ -45,39 +45,20 @@ OfEach P ports = AllByRecursion (λ (x : SystemPort). P x.number x.port) ports
 pub zip_kept : (R : Machines → Machines → Type 0) (P Q : ℕ → Machines → Type 0) → ((n : ℕ) (p q : Machines) → R p q → P n p → Q n q)
     → (xs ys : List SystemPort) → PortsChangeBy R xs ys → OfEach P xs → OfEach Q ys
 zip_kept R P Q k [] [] h a = tt
-zip_kept R P Q k (x ∷ xs) (y ∷ ys) h a = (
-  subst (λ n. Q n y.port) (sym (ap (λ (z : SystemPort). z.number) h.0.0)) (k x.number x.port y.port h.0.1 a.0),
-  zip_kept R P Q k xs ys h.1 a.1,
-)
+zip_kept R P Q k (x ∷ xs) (y ∷ ys) h a = grind (arith, nat_tests, zip_kept R P Q k xs ys h.1 a.1)
 zip_kept R P Q k xs ys h a = absurd h
 
 -- a port that is SELECTED gets no other value of Selected
 
 chosen_not_eligible : (v : PortView) → is_selected v.choice ≡ true → is_eligible v ≡ false
-chosen_not_eligible v h = by_choice v.choice h
-  where
-    middle : (a b : Bool) → ((a && false) && b) ≡ false
-    middle true b = refl
-    middle false b = refl
-
-    by_choice : (c : Choice) → is_selected c ≡ true
-        → ((((v.enabled && v.settled) && is_detached v.stage) && is_unselected c) && not (same_system v.partner.system v.party.system)) ≡ false
-    by_choice (Selected agg) e = middle ((v.enabled && v.settled) && is_detached v.stage) (not (same_system v.partner.system v.party.system))
-    by_choice c e = absurd cc
+chosen_not_eligible v h = grind (arith, nat_tests)
 
 none_for : (aggs : AggregatorsValue) (l : List SystemPort) (s : SystemPort) → is_selected s.port.choice ≡ true → choice_for aggs l s ≡ None
-none_for aggs l s h =
-    ap (λ (b : Bool). option_map (choice_in aggs (views l)) (if b then chosen_aggregator aggs.keys (views l) s.number else None))
-    (chosen_not_eligible (selection_view s) h)
+none_for aggs l s h = grind (arith, nat_tests, chosen_not_eligible)
 
 -- a port whose link is down gets none
 down_none : (aggs : AggregatorsValue) (l : List SystemPort) (s : SystemPort) → s.port.enabled ≡ false → choice_for aggs l s ≡ None
-down_none aggs l s h =
-    ap (λ (b : Bool). option_map (choice_in aggs (views l)) (if b then chosen_aggregator aggs.keys (views l) s.number else None)) down
-  where
-    down : is_eligible (selection_view s) ≡ false
-    down = ap (λ (b : Bool). (((b && (selection_view s).settled) && is_detached (selection_view s).stage) && is_unselected s.port.choice)
-        && not (same_system (selection_view s).partner.system s.port.party.system)) h
+down_none aggs l s h = grind (arith, nat_tests)
 
 -- what another value of Selected keeps
 abbrev Selects : (ℕ → Machines → Type 0) → Type 0
@@ -89,11 +70,7 @@ AtRestAnd P n p = P n p × (is_selected p.choice ≡ false → is_synchronized p
 
 unsynchronized : (m : MuxState) (sel b : Bool) → sel ≡ false → (same_mux_state Attached m && not sel) ≡ false
     → (same_mux_state CollectingDistributing m && (not sel || b)) ≡ false → is_synchronized m ≡ false
-unsynchronized Detached sel b e f g = refl
-unsynchronized Waiting sel b e f g = refl
-unsynchronized m true b e f g = cc
-unsynchronized Attached false b e f g = cc
-unsynchronized CollectingDistributing false b e f g = cc
+unsynchronized m sel b e f g = grind (arith, nat_tests)
 
 mux_rested : (P : ℕ → Machines → Type 0) → KeptBySettling P → (n : ℕ) (p q : Machines) → RunsToRest (mux_rows false) p q → P n p
     → AtRestAnd P n q

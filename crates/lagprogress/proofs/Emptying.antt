@@ -29,49 +29,21 @@ use Rattle.lagprogress.proofs.Progressing.{AtIt, FreshAt, beside, fits_fresh, kn
 -- identifiers
 
 below_top : (top m n : ℕ) → m ≤ n → IsSome (cond (ltb n top) (Some n) None) → IsSome (cond (ltb m top) (Some m) None)
-below_top top m n l h = elim (cases_Bool (ltb m top)) [
-  | inl t ↦ subst (λ b. IsSome (cond b (Some m) None)) (sym t) refl
-  | inr f ↦ (let past : ltb n top ≡ false = grind (arith, nat_tests) in
-      subst (λ b. IsSome (cond b (Some m) None)) (sym f) (subst (λ b. IsSome (cond b (Some n) None)) past h))
-]
+below_top top m n l h = grind (arith, nat_tests)
 
 left_before : (t u : Table) → t.next ≤ u.next → IsSome (next_identifier u) → IsSome (next_identifier t)
 left_before t u l h = below_top (2 ^ 32) t.next u.next l h
 
-marks_next : (o : Option ℕ) (port : ℕ) (mac : List ℕ) (old : SystemState) (a : Option (List ℕ)) (new : SystemState)
-    → SendsMarkerOf o port mac old a new → old.table.next ≤ new.table.next
-marks_next None port mac old a new h = subst (λ (s : SystemState). old.table.next ≤ s.table.next) (sym h.1) (omega arith)
-marks_next (Some id) port mac old a new h = let e = h.4.next in omega (arith, e)
-
-sends_next : (up due : Bool) (i : ℕ) (z : SystemPort) (old : SystemState) (a : Option (List ℕ)) (new : SystemState)
-    → TransmitsIf up due i z old a new → old.table.next ≤ new.table.next
-sends_next false due i z old a new h = subst (λ (s : SystemState). old.table.next ≤ s.table.next) (sym h.1) (omega arith)
-sends_next true true i z old a new h = subst (λ (s : SystemState). old.table.next ≤ s.table.next) (sym h.3) (omega arith)
-sends_next true false i z old a new h = marks_next (marker_due old.table z.number) z.number z.mac old a new h
-
-transmits_next : (o : Option ℕ) (old : SystemState) (a : Option (List ℕ)) (new : SystemState) → TransmitsAt o old a new
-    → old.table.next ≤ new.table.next
-transmits_next None old a new h = absurd h
-transmits_next (Some i) old a new h = sends_next h.0.port.enabled (is_due h.0.port) i h.0 old a new h.2
-
 settles_next : (old new : SystemState) → Settling old new → new.table.next ≡ old.table.next
 settles_next old new h = let q = settling_parts old new h in q.2.next ∙ ap (λ (t : Table). t.next) (ports_table old q.0 q.1)
 
-changes_next : (index : Option ℕ) (old new : SystemState) → TableChanges index old new → new.table.next ≡ old.table.next
-changes_next index old new (inl x) = settles_next x.1.0 new x.1.2 ∙ ap (λ (s : SystemState). s.table.next) x.1.1.1
-changes_next index old new (inr (inl z)) = z.2.next
-changes_next index old new (inr (inr e)) = ap (λ (t : Table). t.next) e
-
 calls_next : (gives : ℕ → ℕ → ℕ → Type 0) (n : ℕ) (octets : List ℕ) (a : _) (old new : SystemState) → Step gives old (Receive n octets) (answer.Receive a) new
     → new.table.next ≡ old.table.next
-calls_next gives n octets (Err fault) old new h = ap (λ (s : SystemState). s.table.next) h.same
-calls_next gives n octets (Ok o) old new h =
-    changes_next (port_index n old.system_ports) old new (table_changes h.1 h.0.number (port_index n old.system_ports) old o new h.4)
+calls_next gives n octets a old new h = grind (arith, nat_tests)
 
 asks_next : (gives : ℕ → ℕ → ℕ → Type 0) (n : ℕ) (a : Result (Option (List ℕ)) SystemFault) (old new : SystemState)
     → Step gives old (Transmit n) (answer.Transmit a) new → old.table.next ≤ new.table.next
-asks_next gives n (Err fault) old new h = subst (λ (s : SystemState). old.table.next ≤ s.table.next) (sym h.same) (omega arith)
-asks_next gives n (Ok o) old new h = transmits_next (port_index n old.system_ports) old o new h
+asks_next gives n a old new h = grind (arith, nat_tests)
 
 abbrev Rising : Side → WorldState → WorldState → Type 0
 Rising s old new = (half s old).state.table.next ≤ (half s new).state.table.next

@@ -1,7 +1,7 @@
 -- What ticks, receipts and settlings leave of a port at an end of a cable whose other end sends LACPDUs of one kind.
 use Rattle.lagprogress.proofs.Common.{Bool, Some, ap, arith, false, if◌then◌else◌, inl, inr, not, refl, slice_get, subst, sym, true, ℕ, ◌&&◌, ◌-◌}
-use Rattle.lagprogress.proofs.Common.{◌==◌, ◌||◌, ◌∙◌, ◌≡◌, ◌≤◌, ◌⊎◌, same_Some, Choice, Unselected, StateBits, is_selected, same_party, bits_of}
-use Rattle.lagprogress.proofs.Common.{party_itself, Lacpdu, party_of, MuxState, Attached, CollectingDistributing, Detached, Waiting, Expired}
+use Rattle.lagprogress.proofs.Common.{◌==◌, ◌||◌, ◌∙◌, ◌≡◌, ◌≤◌, ◌⊎◌, nat_tests, same_Some, Choice, Unselected, StateBits, is_selected, same_party}
+use Rattle.lagprogress.proofs.Common.{bits_of, party_itself, Lacpdu, party_of, MuxState, Attached, CollectingDistributing, Detached, Waiting, Expired}
 use Rattle.lagprogress.proofs.Common.{Machines, is_synchronized, mux_rows, partner_synchronized, same_mux_state, RunsPeriodic, periodic_rows}
 use Rattle.lagprogress.proofs.Common.{is_maintained, lacpdu_rows, receive_rows, recorded_synchronization, same_receive_state, AtRest, RunsToRest}
 use Rattle.lagprogress.proofs.Common.{count_down, SystemPort, OnlyPortChangesBy, ProcessesLacpdu, ThenSettles, can_receive, can_receive_in}
@@ -65,11 +65,7 @@ pub record Along (Y : Machines → Type 0) (v u : Lacpdu) (c d : ℕ) : Type 0 w
 
 pub not_attached : (m : MuxState) (g : Bool) (from : MuxState) → is_synchronized from ≡ false → (same_mux_state from m && g) ≡ true
     → is_synchronized m ≡ true → ⊥
-not_attached Detached g Detached f h e = no e
-not_attached Waiting g Waiting f h e = no e
-not_attached Attached g Attached f h e = no (sym f)
-not_attached CollectingDistributing g CollectingDistributing f h e = no (sym f)
-not_attached m g from f h e = no h
+not_attached m g from f h e = grind (arith, nat_tests)
 
 end_mux : (d : ℕ) (v u : Lacpdu) (c : ℕ) (ready : Bool) → EnabledKeep (IsEnd d v u c) (mux_rows ready)
 end_mux d v u c ready = (
@@ -233,9 +229,7 @@ pub all_true : (a b c : Bool) → a ≡ true → b ≡ true → c ≡ true → (
 all_true a b c e f g = rw (e, f, g) refl
 
 pub maintained : (a b c : Bool) → (a ≡ true) ⊎ ((b ≡ true) × (c ≡ true)) → (a || (b && c)) ≡ true
-maintained true b c h = refl
-maintained false b c (inl h) = absurd (no h)
-maintained false b c (inr h) = rw (h.0, h.1) refl
+maintained a b c h = grind (arith, nat_tests)
 
 pub first_true : (a b : Bool) → a ≡ true → (a || b) ≡ true
 first_true a b h = rw h refl

@@ -59,8 +59,7 @@ back_first s t a item fl now h f = subst (First t item) (sym h) f
 
 put_first : (s : Side) (xs : List ItemValue) (item : ItemValue) (fl : Side → List ItemValue) → First (peer s) item fl
     → First (peer s) item (put s xs fl)
-put_first One xs item fl h = h
-put_first Two xs item fl h = h
+put_first s xs item fl h = grind (arith, nat_tests)
 
 -- a port that distributes collects
 

@@ -1,9 +1,9 @@
 -- No conversation stays held on a port of a healthy cable of a bundle.
 use Rattle.lagprogress.proofs.Common.{Bool, List, None, Option, Some, ap, arith, cond, eqb, false, inl, inr, length, ltb, refl, subst, sym, true, ℕ}
-use Rattle.lagprogress.proofs.Common.{◌&&◌, ◌+◌, ◌-◌, ◌<◌, ◌∙◌, ◌≡◌, ◌≤◌, ◌⊎◌, none-some, same_Some, One, Side, Assignment, Flushing, Free, On}
-use Rattle.lagprogress.proofs.Common.{Wanted, is_among, after_mark, after_release, after_tick, IsConversation, Table, assignment_of, held_unless_on}
-use Rattle.lagprogress.proofs.Common.{SystemState, Reply, Algorithms, WorldSteps, LinkState, WorldState, half, port_at, BothAreActive, IsBundle}
-use Rattle.lagprogress.proofs.Common.{OneIsActive, CarriersAreUp, HasIdentifierLeft, NoneIsHeld, NoneIsHeldOn, NoneIsHeldOnActiveEnds}
+use Rattle.lagprogress.proofs.Common.{◌&&◌, ◌+◌, ◌-◌, ◌<◌, ◌∙◌, ◌≡◌, ◌≤◌, ◌⊎◌, nat_tests, none-some, same_Some, One, Side, Assignment, Flushing, Free}
+use Rattle.lagprogress.proofs.Common.{On, Wanted, is_among, after_mark, after_release, after_tick, IsConversation, Table, assignment_of}
+use Rattle.lagprogress.proofs.Common.{held_unless_on, SystemState, Reply, Algorithms, WorldSteps, LinkState, WorldState, half, port_at, BothAreActive}
+use Rattle.lagprogress.proofs.Common.{IsBundle, OneIsActive, CarriersAreUp, HasIdentifierLeft, NoneIsHeld, NoneIsHeldOn, NoneIsHeldOnActiveEnds}
 use Rattle.lagprogress.proofs.Common.{NoneIsHeldOnEnds, NoneIsHeldWhereActive, NothingIsHeld, carrier_of, held_on, IsHealthyAt, IsRound, Rounds}
 use Rattle.lagprogress.proofs.RoundEvents.{asked_half, came_half, round_on, ticks_first}
 use Rattle.lagprogress.proofs.EachRound.{rounds_steady}
@@ -21,9 +21,7 @@ use Rattle.lagprogress.proofs.OneRound.{Nothing, unroll}
 
 -- at first a marker may be wanted, and any response may be waited for
 fine_first : (p : ℕ) (a : Assignment) → Fine p 0 (Unit {0}) (λ id. ⊥) a
-fine_first p (Wanted q preferred) = λ e. tt
-fine_first p (Flushing q id preferred age) = λ e. inl (omega arith, λ l. absurd (omega (arith, l)))
-fine_first p a = tt
+fine_first p a = grind (arith, nat_tests)
 
 -- in the end none is held on the port
 fine_last : (p m : ℕ) → 30 ≤ m → (a : Assignment) → Fine p m ⊥ (λ id. ⊥) a → held_on a ≡ Some p → ⊥
@@ -90,41 +88,19 @@ abbrev pub Stays : Assignment → Assignment → Type 0
 Stays a b = (carrier_of b ≡ None) ⊎ (carrier_of b ≡ carrier_of a)
 
 stays_through : (a b d : Assignment) → Stays a b → Stays b d → Stays a d
-stays_through a b d h (inl e) = inl e
-stays_through a b d (inl e) (inr f) = inl (f ∙ e)
-stays_through a b d (inr e) (inr f) = inr (f ∙ e)
+stays_through a b d h k = grind (arith, nat_tests)
 
 stays_tick : (a : Assignment) → Stays a (after_tick a)
-stays_tick (Flushing q n preferred age) = by_test (ltb (age + 1) 30)
-  where
-    by_test : (b : Bool) → Stays (Flushing q n preferred age) (cond b (Flushing q n preferred (age + 1)) (Wanted q preferred))
-    by_test true = inr refl
-    by_test false = inr refl
-stays_tick a = inr refl
+stays_tick a = grind (arith, nat_tests)
 
 stays_mark : (port id : ℕ) (a : Assignment) → Stays a (after_mark port id a)
-stays_mark port id (Wanted q preferred) = by_test (eqb q port) refl
-  where
-    by_test : (b : Bool) → eqb q port ≡ b → Stays (Wanted q preferred) (cond b (Flushing port id preferred 0) (Wanted q preferred))
-    by_test true e = inr (ap (λ (n : ℕ). Some n) (sym (is_port q port e)))
-    by_test false e = inr refl
-stays_mark port id a = inr refl
+stays_mark port id a = grind (arith, nat_tests)
 
 stays_release : (port id : ℕ) (a : Assignment) → Stays a (after_release port id a)
-stays_release port id (Flushing q n preferred age) = by_test (eqb q port && eqb n id)
-  where
-    by_test : (b : Bool) → Stays (Flushing q n preferred age) (cond b (Free preferred) (Flushing q n preferred age))
-    by_test true = inl refl
-    by_test false = inr refl
-stays_release port id a = inr refl
+stays_release port id a = grind (arith, nat_tests)
 
 stays_held : (ports : List ℕ) (a : Assignment) → Stays a (held_unless_on ports a)
-stays_held ports (On q) = by_test (is_among ports q)
-  where
-    by_test : (b : Bool) → Stays (On q) (cond b (On q) (Wanted q None))
-    by_test true = inr refl
-    by_test false = inr refl
-stays_held ports a = inr refl
+stays_held ports a = grind (arith, nat_tests)
 
 pub stays : Turning Stays
 stays = record {

@@ -44,35 +44,21 @@ no e = cc
 
 not_initialize : (least most n : ℕ) (r : ReceiveState) (g : Bool) → (same_receive_state Initialize r && g) ≡ true
     → Within least most r n → ⊥
-not_initialize least most n Initialize g h w = w
-not_initialize least most n r g h w = no h
+not_initialize least most n r g h w = grind (arith, nat_tests)
 
 not_disabled : (least most n : ℕ) (r : ReceiveState) (g : Bool) → (same_receive_state PortDisabled r && g) ≡ true
     → Within least most r n → ⊥
-not_disabled least most n PortDisabled g h w = w
-not_disabled least most n r g h w = no h
+not_disabled least most n r g h w = grind (arith, nat_tests)
 
 pub not_down : (a up : Bool) → (a && not up) ≡ true → up ≡ true → ⊥
-not_down true true h e = no h
-not_down true false h e = no e
-not_down false up h e = no h
+not_down a up h e = grind (arith, nat_tests)
 
 expires : (least most n : ℕ) (r : ReceiveState) (g : Bool) → (same_receive_state Current r && g) ≡ true → Within least most r n
     → (30 ≤ most) × (least ≤ most)
-expires least most n Current g h w = (omega (arith, w.1), omega (arith, w.1))
-expires least most n r g h w = absurd (no h)
+expires least most n r g h w = grind (arith, nat_tests)
 
 receive_keeps : (least most : ℕ) → EnabledKeep (Unheard least most) receive_rows
-receive_keeps least most = (
-  λ p e a. absurd (not_initialize least most p.current_while p.receive _ e a.1),
-  (
-    λ p e a. absurd (not_down _ p.enabled e a.0),
-    (
-      λ p e a. absurd (not_disabled least most p.current_while p.receive _ e a.1),
-      (λ p e a. (a.0, tt), (λ p e a. (a.0, expires least most p.current_while p.receive _ e a.1), tt)),
-    ),
-  ),
-)
+receive_keeps least most = grind (arith, nat_tests, not_initialize, not_down, not_disabled, expires)
 
 pub receives : (least most : ℕ) (p q : Machines) → RunsToRest receive_rows p q → Unheard least most p → Unheard least most q
 receives least most p q h a = times_keep (Unheard least most) receive_rows (receive_keeps least most) h.0 p q h.1 a
@@ -92,9 +78,7 @@ counts most n r w = w
 pub rested : (most n : ℕ) (r : ReceiveState) → (same_receive_state Expired r && (n == 0)) ≡ false
     → (same_receive_state Current r && (n == 0)) ≡ false
     → Within 0 most r n → Within 1 most r n
-rested most n Expired e f w = (w.0, (let l = w.0 in grind (arith, nat_tests)))
-rested most n Current e f w = (w.0, (let l = w.0 in grind (arith, nat_tests)))
-rested most n r e f w = w
+rested most n r e f w = grind (arith, nat_tests)
 
 tick_unheard : (most k : ℕ) (p q : Machines) → RunsToRest receive_rows (count_down p) q → AtRest periodic_rows p
     → UnheardFor most k p
@@ -106,16 +90,13 @@ tick_unheard most k p q h rest a =
 -- the calls
 
 pub both : {A : Type 0} (b : Bool) → b ≡ true → b ≡ false → A
-both true t f = absurd (no (sym f))
-both false t f = absurd (no t)
+both b t f = grind (arith, nat_tests)
 
 pub is_number : (m n : ℕ) → m ≡ n → (m == n) ≡ true
 is_number m n e = grind (arith, nat_tests)
 
 pub stays_up : (b up : Bool) → (b && not up) ≡ false → b ≡ true → up ≡ true
-stays_up true true h e = refl
-stays_up true false h e = absurd (no (sym h))
-stays_up false up h e = absurd (no e)
+stays_up b up h e = grind (arith, nat_tests)
 
 calls_unheard : (n most k : ℕ) (call : Call) (answer : Reply) → LeavesUnheard n call answer → (call ≡ Tick → ⊥)
     → KeptByCall (AtPort n (UnheardFor most k)) call answer
@@ -149,16 +130,10 @@ when_up true b e h = h
 when_up false b e h = absurd (no e)
 
 not_current : (most n : ℕ) (r : ReceiveState) → most ≤ 30 → Within 1 most r n → r ≡ Current → ⊥
-not_current most n r l w e = late (subst (λ s. Within 1 most s n) e w)
-  where
-    late : Within 1 most Current n → ⊥
-    late v = omega (arith, v.1, l)
+not_current most n r l w e = grind (arith, nat_tests)
 
 pub is_defaulted : (most n : ℕ) (r : ReceiveState) → most ≡ 0 → Within 1 most r n → r ≡ Defaulted
-is_defaulted most n Initialize l w = absurd w
-is_defaulted most n PortDisabled l w = absurd w
-is_defaulted most n Defaulted l w = refl
-is_defaulted most n r l w = absurd (omega (arith, w.1, l))
+is_defaulted most n r l w = grind (arith, nat_tests)
 
 pub is_noticed : (gives : ℕ → ℕ → ℕ → Type 0) → IsNoticed gives
 is_noticed gives old new calls replies i x y s t at up h u there =

@@ -37,10 +37,7 @@ Fine p m W F (Flushing q id preferred age) = q ≡ p → ((m ≤ age) × (1 ≤ 
 
 pub fine_map : (p m : ℕ) (W V : Type 0) (F G : ℕ → Type 0) → (W → V) → ((id : ℕ) → F id → G id) → (a : Assignment) → Fine p m W F a
     → Fine p m V G a
-fine_map p m W V F G k f (Free preferred) h = tt
-fine_map p m W V F G k f (On q) h = tt
-fine_map p m W V F G k f (Wanted q preferred) h = λ e. k (h e)
-fine_map p m W V F G k f (Flushing q id preferred age) h = λ e. elim (h e) [ inl a ↦ inl a | inr b ↦ inr (f id b) ]
+fine_map p m W V F G k f a h = grind (arith, nat_tests)
 
 pub is_port : (q p : ℕ) → eqb q p ≡ true → q ≡ p
 is_port q p e = grind (arith, nat_tests)
@@ -51,51 +48,27 @@ not_port q p e f = grind (arith, nat_tests)
 -- a marker is sent on another port
 pub marked_beside : (p m q id : ℕ) (W : Type 0) (F : ℕ → Type 0) → (q ≡ p → ⊥) → (a : Assignment) → Fine p m W F a
     → Fine p m W F (after_mark q id a)
-marked_beside p m q id W F other (Free preferred) h = tt
-marked_beside p m q id W F other (On r) h = tt
-marked_beside p m q id W F other (Flushing r n preferred age) h = h
-marked_beside p m q id W F other (Wanted r preferred) h =
-    cond_both (eqb r q) (Flushing q id preferred 0) (Wanted r preferred) (Fine p m W F) (λ t e. absurd (other e)) (λ f. h)
+marked_beside p m q id W F other a h = grind (arith, nat_tests)
 
 -- a marker is sent on the port, and is on its way
 pub marked_here : (p m id : ℕ) (W : Type 0) (F G : ℕ → Type 0) → G id → ((n : ℕ) → F n → G n) → (a : Assignment) → Fine p m W F a
     → Fine p m ⊥ G (after_mark p id a)
-marked_here p m id W F G here k (Free preferred) h = tt
-marked_here p m id W F G here k (On r) h = tt
-marked_here p m id W F G here k (Flushing r n preferred age) h = λ e. elim (h e) [ inl a ↦ inl a | inr b ↦ inr (k n b) ]
-marked_here p m id W F G here k (Wanted r preferred) h =
-    cond_both (eqb r p) (Flushing p id preferred 0) (Wanted r preferred) (Fine p m ⊥ G) (λ t e. inr here) (not_port r p)
+marked_here p m id W F G here k a h = grind (arith, nat_tests)
 
 -- a response comes on another port
 pub released_beside : (p m q id : ℕ) (W : Type 0) (F : ℕ → Type 0) (a : Assignment) → Fine p m W F a
     → Fine p m W F (after_release q id a)
-released_beside p m q id W F (Free preferred) h = tt
-released_beside p m q id W F (On r) h = tt
-released_beside p m q id W F (Wanted r preferred) h = h
-released_beside p m q id W F (Flushing r n preferred age) h =
-    cond_both (eqb r q && eqb n id) (Free preferred) (Flushing r n preferred age) (Fine p m W F) (λ t. tt) (λ f. h)
+released_beside p m q id W F a h = grind (arith, nat_tests)
 
 -- a settling leaves what is On the port
 pub settled_fine : (p m : ℕ) (W : Type 0) (F : ℕ → Type 0) (ports : List ℕ) (a : Assignment) → (a ≡ On p → is_among ports p ≡ true)
     → Fine p m W F a → Fine p m W F (held_unless_on ports a)
-settled_fine p m W F ports (Free preferred) k h = tt
-settled_fine p m W F ports (Wanted q preferred) k h = h
-settled_fine p m W F ports (Flushing q n preferred age) k h = h
-settled_fine p m W F ports (On q) k h = cond_both (is_among ports q) (On q) (Wanted q None) (Fine p m W F) (λ t. tt)
-    (λ e f. absurd (no (sym e ∙ (ap (is_among ports) f ∙ k (ap (λ (n : ℕ). On n) f)))))
+settled_fine p m W F ports a k h = grind (arith, nat_tests)
 
 -- a tick, with nothing on its way
 pub ticked_fine : (p m : ℕ) (W : Type 0) (G : ℕ → Type 0) (a : Assignment) → Fine p m W (λ id. ⊥) a
     → Fine p (m + 1) (Unit {0}) G (after_tick a)
-ticked_fine p m W G (Free preferred) h = tt
-ticked_fine p m W G (On q) h = tt
-ticked_fine p m W G (Wanted q preferred) h = λ e. tt
-ticked_fine p m W G (Flushing q n preferred age) h =
-    cond_both (ltb (age + 1) 30) (Flushing q n preferred (age + 1)) (Wanted q preferred) (Fine p (m + 1) (Unit {0}) G)
-    (λ g e. elim (h e) [
-      | inl a ↦ (let l = a.0 in inl (omega (arith, l), λ _. ltb-true (age + 1) 30 g))
-      | inr f ↦ absurd f
-    ]) (λ g e. tt)
+ticked_fine p m W G a h = grind (arith, nat_tests)
 
 -- frames
 

@@ -37,8 +37,7 @@ other_state : (r s : ReceiveState) (g : Bool) → r ≡ Current → same_receive
 other_state r s g e k h = no (sym (ap (λ c. c && g) k) ∙ subst (λ t. (same_receive_state s t && g) ≡ true) e h)
 
 not_run_out : (b : Bool) (most n : ℕ) → (b && (n == 0)) ≡ true → 1 ≤ most → most ≤ n → ⊥
-not_run_out true most n h l m = let z : n ≡ 0 = grind (arith, nat_tests) in omega (arith, z, l, m)
-not_run_out false most n h l m = no h
+not_run_out b most n h l m = grind (arith, nat_tests)
 
 pub receive_known : (v : Lacpdu) (most k : ℕ) → EnabledKeep (Known v most k) receive_rows
 receive_known v most k = (

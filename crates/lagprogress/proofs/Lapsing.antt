@@ -84,14 +84,10 @@ abbrev pub Phase : Lacpdu → (Machines → Type 0) → ℕ → Machines → Typ
 Phase u T k p = Sounds false k p × (Recorded u 1 p ⊎ T p)
 
 pub some_wait : (b : Bool) → 1 ≤ timeout_time b
-some_wait true = omega arith
-some_wait false = omega arith
+some_wait b = grind (arith, nat_tests)
 
 slow_calm : (T : Machines → Type 0) (p : Machines) → Kept T → p.enabled ≡ true → T p → Calm false p
-slow_calm T p k up y = (
-  not_silent p.enabled p.active (bits_of p.partner.state).activity up (inr (k.active p y)),
-  λ f. absurd (no f),
-)
+slow_calm T p k up y = grind (arith, nat_tests, not_silent, no)
 
 phase_along : (v u : Lacpdu) (T : Machines → Type 0) (d k : ℕ) → activity u ≡ true → 1 ≤ d → Kept T → Along (Phase u T k) v u 0 d
 phase_along v u T d k on there kept =
@@ -121,8 +117,7 @@ not_in : (from : ReceiveState → Bool) (r to : ReceiveState) (b : Bool) → r �
 not_in from r to b e f h = no (sym (ap (λ c. c && b) f) ∙ subst (λ x. (from x && b) ≡ true) e h)
 
 some_left : (b : Bool) (n e : ℕ) → (b && (n == 0)) ≡ true → 1 ≤ e → e ≤ n → ⊥
-some_left true n e h l m = let z : n ≡ 0 = grind (arith, nat_tests) in omega (arith, z, l, m)
-some_left false n e h l m = no h
+some_left b n e h l m = grind (arith, nat_tests)
 
 -- the link is up, and so it is
 abbrev UpAnd : (Machines → Type 0) → Machines → Type 0

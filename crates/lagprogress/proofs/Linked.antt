@@ -98,36 +98,27 @@ Flying xs = Has HasLacpdu xs
 -- of both sides
 
 pub peer_twice : (s : Side) → peer (peer s) ≡ s
-peer_twice One = refl
-peer_twice Two = refl
+peer_twice s = grind (arith, nat_tests)
 
 pub other_side : (s : Side) → peer s ≡ s → ⊥
-other_side One e = cc
-other_side Two e = cc
+other_side s e = grind (arith, nat_tests)
 
 pub push_other : (s : Side) (item : ItemValue) (fl : Side → List ItemValue) → push (peer s) item fl s ≡ fl s
-push_other One item fl = refl
-push_other Two item fl = refl
+push_other s item fl = grind (arith, nat_tests)
 
 pub push_there : (s : Side) (item : ItemValue) (fl : Side → List ItemValue) → push s item fl s ≡ fl s ++ item ∷ []
-push_there One item fl = refl
-push_there Two item fl = refl
+push_there s item fl = grind (arith, nat_tests)
 
 pub put_there : (s : Side) (xs : List ItemValue) (fl : Side → List ItemValue) → put s xs fl s ≡ xs
-put_there One xs fl = refl
-put_there Two xs fl = refl
+put_there s xs fl = grind (arith, nat_tests)
 
 pub put_other : (s : Side) (xs : List ItemValue) (fl : Side → List ItemValue) → put s xs fl (peer s) ≡ fl (peer s)
-put_other One xs fl = refl
-put_other Two xs fl = refl
+put_other s xs fl = grind (arith, nat_tests)
 
 -- a property of lists that one more item keeps, at both sides
 pub pushed : (P : Side → List ItemValue → Type 0) (s : Side) (item : ItemValue) (fl : Side → List ItemValue)
     → (P s (fl s) → P s (fl s ++ item ∷ [])) → ((t : Side) → P t (fl t)) → (t : Side) → P t (push s item fl t)
-pushed P One item fl k a One = k (a One)
-pushed P One item fl k a Two = a Two
-pushed P Two item fl k a One = a One
-pushed P Two item fl k a Two = k (a Two)
+pushed P s item fl k a t = grind (arith, nat_tests)
 
 -- what the frames of a port say
 
@@ -175,8 +166,7 @@ sent_good d v u c true false i z old frame new known a h x k = by_marker (marker
 -- an arrival
 
 pub is_took : (o : Received) → (o ≡ received.TookLacpdu) ⊎ (o ≡ received.TookLacpdu → ⊥)
-is_took received.TookLacpdu = inl refl
-is_took o = inr (λ e. cc)
+is_took o = grind (arith, nat_tests)
 
 -- the port processed the LACPDU that came, or what came is none and leaves the ports
 abbrev pub Arrived : ℕ → List ℕ → SystemState → SystemState → Type 0
@@ -224,8 +214,7 @@ each_both P Q (x ∷ xs) a b = ((a.0, b.0), each_both P Q xs a.1 b.1)
 -- of the port with one number, two things and what follows from them
 pub both_at : (n : ℕ) (P Q R : Machines → Type 0) → ((p : Machines) → P p → Q p → R p) → (xs : List SystemPort) → OfEach (AtPort n P) xs
     → OfEach (AtPort n Q) xs → OfEach (AtPort n R) xs
-both_at n P Q R k xs a b = each_map (λ m p. AtPort n P m p × AtPort n Q m p) (AtPort n R) (λ m p c e. k p (c.0 e) (c.1 e)) xs
-    (each_both (AtPort n P) (AtPort n Q) xs a b)
+both_at n P Q R k xs a b = grind (arith, nat_tests, each_map, each_both)
 
 pub timed_ends : (P : ℕ → Machines → Type 0) (xs : List SystemPort) → AllByRecursion PeriodicIsSettled xs
     → AllByRecursion (λ (x : SystemPort). IsTimed x.port) xs → OfEach P xs → OfEach (λ m p. P m p × AtRest periodic_rows p × IsTimed p) xs

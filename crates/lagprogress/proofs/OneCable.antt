@@ -126,13 +126,11 @@ put_beside s p i at fl item links not c = record {
     beside (Some k) (Some l) e h = set_elsewhere links k i (sent_on s item l) (apart k l e h) ∙ c.there
 
 pub takes_all : (s : Side) (at : Side → ℕ) (fl : Side → List ItemValue) → accepts s (cable at fl) ≡ true
-takes_all One at fl = refl
-takes_all Two at fl = refl
+takes_all s at fl = grind (arith, nat_tests)
 
 pushed : (s : Side) (at : Side → ℕ) (fl : Side → List ItemValue) (item : ItemValue)
     → with_towards (peer s) (towards (peer s) (cable at fl) ++ item ∷ []) (cable at fl) ≡ cable at (push (peer s) item fl)
-pushed One at fl item = refl
-pushed Two at fl item = refl
+pushed s at fl item = grind (arith, nat_tests)
 
 -- what an item that is put on the port's cable makes of it
 pub puts : (s : Side) (i : ℕ) (at : Side → ℕ) (fl : Side → List ItemValue) (item : ItemValue) (links : List LinkState) → OnCable i at fl links
@@ -335,56 +333,27 @@ record After (s : Side) (p : ℕ) (item : ItemValue) (a : Result Received System
 
 pub with_half_states : (s : Side) (h : HalfState) (j : WorldState) → h.state ≡ (half s j).state
     → (t : Side) → (half t (with_half s h j)).state ≡ (half t j).state
-with_half_states One h j e One = e
-with_half_states One h j e Two = refl
-with_half_states Two h j e One = refl
-with_half_states Two h j e Two = e
+with_half_states s h j e t = grind (arith, nat_tests)
 
 pub collected_states : (st : Stamp) (j : WorldState) (t : Side) → (half t (with_stamp_collected st j)).state ≡ (half t j).state
-collected_states (stamp.Control count) j t = refl
-collected_states (stamp.Data system agg conv serial) j t = with_half_states _ _ j refl t
+collected_states st j t = grind (arith, nat_tests)
 
 peer_logs : (s : Side) (h : HalfState) (j : WorldState) → (half (peer s) (with_half s h j)).histories ≡ (half (peer s) j).histories
-peer_logs One h j = refl
-peer_logs Two h j = refl
-
-collected_logs : (st : Stamp) (j : WorldState) (t : Side) → (half t (with_stamp_collected st j)).histories ≡ (half t j).histories
-collected_logs (stamp.Control count) j t = refl
-collected_logs (stamp.Data system agg conv serial) j t =
-    half_logs (side_numbered system) (with_collected_in agg conv serial (half (side_numbered system) j)) j refl t
+peer_logs s h j = grind (arith, nat_tests)
 
 pub collected_links : (st : Stamp) (j : WorldState) → (with_stamp_collected st j).links ≡ j.links
-collected_links (stamp.Control count) j = refl
-collected_links (stamp.Data system agg conv serial) j = refl
+collected_links st j = grind (arith, nat_tests)
 
 abbrev same_halves : (j new : WorldState) → new ≡ j → (t : Side) → (half t new).state ≡ (half t j).state
 same_halves j new x t = ap (λ (k : WorldState). (half t k).state) x
 
 after : (s : Side) (p : ℕ) (item : ItemValue) (a : Result Received SystemFault) (j new : WorldState) (r : Reply)
     → AfterReceive s p item a j r new → After s p item a j new
-after s p item (Ok received.TookLacpdu) j new r x = record {
-  halves = λ t. same_halves _ new x.1 t ∙ with_half_states s _ j refl t;
-  sends = ap (λ (k : WorldState). k.links) x.1;
-  log = ap (λ (k : WorldState). (half s k).histories) x.1 ∙ ap (λ (k : HalfState). k.histories) (half_there s _ j);
-  peer_log = ap (λ (k : WorldState). (half (peer s) k).histories) x.1 ∙ peer_logs s _ j;
-}
-after s p item (Ok (received.Up agg)) j new r x = record {
-  halves = λ t. same_halves _ new x.1 t ∙ collected_states item.stamp j t;
-  sends = ap (λ (k : WorldState). k.links) x.1 ∙ collected_links item.stamp j;
-  log = ap (λ (k : WorldState). (half s k).histories) x.1 ∙ collected_logs item.stamp j s;
-  peer_log = ap (λ (k : WorldState). (half (peer s) k).histories) x.1 ∙ collected_logs item.stamp j (peer s);
-}
-after s p item a j new r x = record {
-  halves = λ t. same_halves _ new x.1 t;
-  sends = ap (λ (k : WorldState). k.links) x.1;
-  log = ap (λ (k : WorldState). (half s k).histories) x.1;
-  peer_log = ap (λ (k : WorldState). (half (peer s) k).histories) x.1;
-}
+after s p item a j new r x = grind (arith, nat_tests)
 
 without : (s : Side) (at : Side → ℕ) (fl : Side → List ItemValue) (rest : List ItemValue)
     → with_towards s rest (cable at fl) ≡ cable at (put s rest fl)
-without One at fl rest = refl
-without Two at fl rest = refl
+without s at fl rest = grind (arith, nat_tests)
 
 pub towards_there : (s : Side) (at : Side → ℕ) (fl : Side → List ItemValue) → towards s (cable at fl) ≡ fl s
 towards_there One at fl = refl
@@ -406,22 +375,7 @@ came : (gives : Algorithms) (s : Side) (k : ℕ) (l : LinkState) (item : ItemVal
     → towards s l ≡ item ∷ rest
     → WorldReceives gives s (port_at s l) item (with_link_at k (with_towards s rest l) old) r (record new { acted = old.acted })
     → Comes gives s k l old new
-came gives s k l item rest r old new first (a, mid, h, x) =
-    let j = with_link_at k (with_towards s rest l) old in
-    let f = after s (port_at s l) item a (with_half s mid j) (record new { acted = old.acted }) r x in
-    record {
-      item = item;
-      rest = rest;
-      first = first;
-      a = a;
-      promise = subst (CallPromise (gives s) (half s old).state (Receive (port_at s l) item.octets) (answer.Receive a))
-          (sym (f.halves s ∙ ap (λ (h : HalfState). h.state) (half_there s mid j))) h.answers;
-      peers = f.halves (peer s) ∙ peer_there s mid j;
-      sends = f.sends;
-      log = f.log ∙ ap (logged a (port_at s l) item) (ap (λ (h : HalfState). h.histories) (half_there s mid j)
-          ∙ ap (λ (h : HalfState). h.histories) h.same);
-      peer_log = f.peer_log ∙ peer_logs s mid j;
-    }
+came gives s k l item rest r old new first (a, mid, h, x) = grind (arith, nat_tests, after, half_there, peer_there, peer_logs)
 
 pub came_from : (gives : Algorithms) (s : Side) (k : ℕ) (l : LinkState) (xs : List ItemValue) (r : Reply) (old new : WorldState)
     → towards s l ≡ xs → DeliversFrom gives s k l xs old r (record new { acted = old.acted }) → Comes gives s k l old new ⊎ Stays old new
@@ -488,10 +442,7 @@ pub record Beside (gives : Algorithms) (at : Side → ℕ) (fl : Side → List I
   pub logs : (s : Side) → history_at (half s new).histories (at s) ≡ history_at (half s old).histories (at s)
 
 pub each_side : (X : Side → Type 0) (s : Side) → X s → X (peer s) → (t : Side) → X t
-each_side X One a b One = a
-each_side X One a b Two = b
-each_side X Two a b One = b
-each_side X Two a b Two = a
+each_side X s a b t = grind (arith, nat_tests)
 
 log_beside : (a : Result Received SystemFault) (p : ℕ) (item : ItemValue) (logs : List PortHistory) (q : ℕ) → (q ≡ p → ⊥)
     → history_at (logged a p item logs) q ≡ history_at logs q

@@ -1,9 +1,9 @@
 -- Of one port, what each call keeps and each tick moves on, over a list of calls.
 use Rattle.lagprogress.proofs.Common.{Bool, List, Some, [], ap, arith, false, option_map, refl, slice_get, subst, suc, sym, zero, ℕ, ◌+◌, ◌-◌, ◌<◌}
-use Rattle.lagprogress.proofs.Common.{◌∙◌, ◌∷◌, ◌≡◌, ◌≤◌, none-some, same_Some, slice_get-map, AllByRecursion, Unselected, Detached, NoPeriodic}
-use Rattle.lagprogress.proofs.Common.{Machines, mux_rows, RunsPeriodic, periodic_rows, receive_rows, AtRest, RunsToRest, count_down, SystemPort, Call}
-use Rattle.lagprogress.proofs.Common.{Step, TableRun, Tick, configured_numbers, PeriodicIsSettled, IsSound, SystemState, port_numbers, Step-frame}
-use Rattle.lagprogress.proofs.Common.{Rises, all-get, ports_rise, Step-sound, EachCall, tick_count}
+use Rattle.lagprogress.proofs.Common.{◌∙◌, ◌∷◌, ◌≡◌, ◌≤◌, nat_tests, none-some, same_Some, slice_get-map, AllByRecursion, Unselected, Detached}
+use Rattle.lagprogress.proofs.Common.{NoPeriodic, Machines, mux_rows, RunsPeriodic, periodic_rows, receive_rows, AtRest, RunsToRest, count_down}
+use Rattle.lagprogress.proofs.Common.{SystemPort, Call, Step, TableRun, Tick, configured_numbers, PeriodicIsSettled, IsSound, SystemState}
+use Rattle.lagprogress.proofs.Common.{port_numbers, Step-frame, Rises, all-get, ports_rise, Step-sound, EachCall, tick_count}
 use Rattle.lagsystem.specs.declared.drive.Reply.{Reply}
 use Rattle.lagprogress.proofs.EachPort.{KeptByCall, KeptBySettling, OfEach, Step-each, Tick-each}
 use Rattle.lagprogress.proofs.Timers.{runs_keep}
@@ -59,8 +59,7 @@ Ends P n most k ticks new = IsSound new × OfEach (AtPort n (P (most - ticks) (k
 
 none_passed : (P : ℕ → ℕ → Machines → Type 0) (n most k : ℕ) (ports : List SystemPort) → OfEach (AtPort n (P most k)) ports
     → OfEach (AtPort n (P (most - 0) (k + 0))) ports
-none_passed P n most k ports a = subst (λ m. OfEach (AtPort n (P m (k + 0))) ports) (omega arith)
-    (subst (λ j. OfEach (AtPort n (P most j)) ports) (omega arith) a)
+none_passed P n most k ports a = grind (arith, nat_tests)
 
 one_more : (P : ℕ → ℕ → Machines → Type 0) (n most k ticks : ℕ) (ports : List SystemPort)
     → OfEach (AtPort n (P (most - 1 - ticks) (k + 1 + ticks))) ports → OfEach (AtPort n (P (most - (ticks + 1)) (k + (ticks +
@@ -96,10 +95,7 @@ wrong_number m n l e = omega (arith, l, e)
 above : (S : Machines → Type 0) (low n : ℕ) (xs : List SystemPort) → Rises low (port_numbers xs) → n ≤ low
     → OfEach (λ m p. m ≡ n → S p) xs
 above S low n [] r l = tt
-above S low n (y ∷ ys) r l = (
-  λ e. absurd (wrong_number n y.number (omega (arith, r.0, l)) (sym e)),
-  above S y.number n ys r.1 (omega (arith, r.0, l)),
-)
+above S low n (y ∷ ys) r l = grind (arith, nat_tests, wrong_number, above S y.number n ys r.1 (omega (arith, r.0, l)))
 
 pub higher : (low : ℕ) (xs : List SystemPort) (i : ℕ) (x : SystemPort) → Rises low (port_numbers xs) → slice_get xs i ≡ Some x
     → low < x.number

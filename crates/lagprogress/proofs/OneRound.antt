@@ -1,11 +1,11 @@
 -- What a healthy round leaves of a cable: an LACPDU of an end is nearer by a tick, or was heard.
 use Rattle.lagprogress.proofs.Common.{Bool, Err, List, None, Ok, Option, Result, Some, [], ap, arith, false, inl, inr, refl, slice_get, subst, suc}
-use Rattle.lagprogress.proofs.Common.{sym, true, zero, ℕ, ◌++◌, ◌-◌, ◌∙◌, ◌∷◌, ◌≡◌, ◌≤◌, ◌⊎◌, cases_Bool, none-some, same_Some, AllByRecursion}
-use Rattle.lagprogress.proofs.Common.{Lacpdu, One, Side, Two, peer, Machines, is_silent, periodic_rows, receive_rows, AtRest, RunsToRest}
-use Rattle.lagprogress.proofs.Common.{after_sending, count_down, is_due, pdu_of, marker_due, SystemFault, SystemPort, Step, Tick, Transmit}
-use Rattle.lagprogress.proofs.Common.{PeriodicIsSettled, IsLacpduOf, TransmitsAt, TransmitsIf, SystemState, port_index, marker_slots, same_slots}
-use Rattle.lagprogress.proofs.Common.{Event, Reply, Algorithms, WorldRuns, WorldSteps, side_of, ItemValue, LinkState, WorldState, half, port_at}
-use Rattle.lagprogress.proofs.Common.{IsDeliver, IsRound, NothingInFlight, asks_all, asks_ends, IsTimed}
+use Rattle.lagprogress.proofs.Common.{sym, true, zero, ℕ, ◌++◌, ◌-◌, ◌∙◌, ◌∷◌, ◌≡◌, ◌≤◌, ◌⊎◌, cases_Bool, nat_tests, none-some, same_Some}
+use Rattle.lagprogress.proofs.Common.{AllByRecursion, Lacpdu, One, Side, Two, peer, Machines, is_silent, periodic_rows, receive_rows, AtRest}
+use Rattle.lagprogress.proofs.Common.{RunsToRest, after_sending, count_down, is_due, pdu_of, marker_due, SystemFault, SystemPort, Step, Tick}
+use Rattle.lagprogress.proofs.Common.{Transmit, PeriodicIsSettled, IsLacpduOf, TransmitsAt, TransmitsIf, SystemState, port_index, marker_slots}
+use Rattle.lagprogress.proofs.Common.{same_slots, Event, Reply, Algorithms, WorldRuns, WorldSteps, side_of, ItemValue, LinkState, WorldState, half}
+use Rattle.lagprogress.proofs.Common.{port_at, IsDeliver, IsRound, NothingInFlight, asks_all, asks_ends, IsTimed}
 use Rattle.slowpdu.specs.declared.pdu.Pdu.TheVariants as pdu
 use Rattle.lagsystem.specs.declared.drive.Reply.TheVariants as answer
 use Rattle.lagscript.specs.declared.event.Event.TheVariants as event
@@ -99,20 +99,10 @@ Midway d at w c s Z j =
 abbrev pub Asks : ℕ → (Machines → Type 0) → (Machines → Type 0) → Lacpdu → Lacpdu → ℕ → Type 0
 Asks d Y Z v u c = (p : Machines) → AtRest periodic_rows p → IsTimed p → IsEnd d v u c p → Y p → is_due p ≡ false → Z p
 
-not_sent : (u due : Bool) (i : ℕ) (z : SystemPort) (old : SystemState) (o : Option (List ℕ)) (new : SystemState) → due ≡ false
-    → TransmitsIf u due i z old o new → new.system_ports ≡ old.system_ports
-not_sent false due i z old o new e h = same_slots old new h.1
-not_sent true true i z old o new e h = absurd (no (sym e))
-not_sent true false i z old o new e h = marker_slots (marker_due old.table z.number) z.number z.mac old o new h
-
 pub same_ports_then : (gives : ℕ → ℕ → ℕ → Type 0) (n k : ℕ) (z : SystemPort) (a : Result (Option (List ℕ)) SystemFault) (old new : SystemState)
     → port_index n old.system_ports ≡ Some k → slice_get old.system_ports k ≡ Some z → is_due z.port ≡ false
     → Step gives old (Transmit n) (answer.Transmit a) new → new.system_ports ≡ old.system_ports
-same_ports_then gives n k z (Err fault) old new place there due h = same_slots old new h.same
-same_ports_then gives n k z (Ok o) old new place there due h =
-    let t = subst (λ i. TransmitsAt i old o new) place h in
-    let same : t.0 ≡ z = same_Some t.0 z (sym t.1 ∙ there) in
-    not_sent t.0.port.enabled (is_due t.0.port) k t.0 old o new (ap (λ (y : SystemPort). is_due y.port) same ∙ due) t.2
+same_ports_then gives n k z a old new place there due h = grind (arith, nat_tests)
 
 flies : (gives : ℕ → ℕ → ℕ → Type 0) (s : Side) (n k : ℕ) (z : SystemPort) (a : Result (Option (List ℕ)) SystemFault)
     (old new : SystemState) (fl now : Side → List ItemValue)

@@ -1,13 +1,13 @@
 -- What a system sends is what it carries; and how an LACPDU goes onto a cable and comes off it.
-use Rattle.lagprogress.proofs.Common.{Bool, Err, List, None, Ok, Option, Result, Some, [], ap, drop, if◌then◌else◌, refl, slice_get, slice_set, subst}
-use Rattle.lagprogress.proofs.Common.{suc, sym, true, ℕ, ◌++◌, ◌∙◌, ◌∷◌, ◌≡◌, none-some, same_Some, Lacpdu, Marker, Pdu, written_pdu, One, Side, Two}
-use Rattle.lagprogress.proofs.Common.{peer, value_of, is_due, pdu_of, SystemFault, Received, TookLacpdu, SystemPort, Carries, IsFrame}
-use Rattle.lagprogress.proofs.Common.{OnlyPortChangesBy, ParsesWhere, Performs, ProcessesLacpdu, ReceivesAt, Step, ThenSettles, Transmit, IsSent}
-use Rattle.lagprogress.proofs.Common.{IsLacpduOf, PortTransmits, SendsLacpdu, TransmitsAt, TransmitsIf, SystemState, port_index, effect_one, Reply}
-use Rattle.lagprogress.proofs.Common.{AfterReceive, AfterTransmit, Algorithms, DeliversFrom, OnLink, WorldEmits, WorldReceives, side_of, with_link_at}
-use Rattle.lagprogress.proofs.Common.{HalfState, ItemValue, LinkState, WorldState, accepts, change_link, half, link_at, link_index, port_at}
-use Rattle.lagprogress.proofs.Common.{put_on_port, sent_on, towards, with_half, with_towards, half_there, DeliverProcessesLacpdu, EmitSendsLacpdu}
-use Rattle.lagprogress.proofs.Common.{EndIsUp, IsHeardOn, IsSentOn}
+use Rattle.lagprogress.proofs.Common.{Bool, Err, List, None, Ok, Option, Result, Some, [], ap, arith, drop, if◌then◌else◌, refl, slice_get, slice_set}
+use Rattle.lagprogress.proofs.Common.{subst, suc, sym, true, ℕ, ◌++◌, ◌∙◌, ◌∷◌, ◌≡◌, nat_tests, none-some, same_Some, Lacpdu, Marker, Pdu}
+use Rattle.lagprogress.proofs.Common.{written_pdu, One, Side, Two, peer, value_of, is_due, pdu_of, SystemFault, Received, TookLacpdu, SystemPort}
+use Rattle.lagprogress.proofs.Common.{Carries, IsFrame, OnlyPortChangesBy, ParsesWhere, Performs, ProcessesLacpdu, ReceivesAt, Step, ThenSettles}
+use Rattle.lagprogress.proofs.Common.{Transmit, IsSent, IsLacpduOf, PortTransmits, SendsLacpdu, TransmitsAt, TransmitsIf, SystemState, port_index}
+use Rattle.lagprogress.proofs.Common.{effect_one, Reply, AfterReceive, AfterTransmit, Algorithms, DeliversFrom, OnLink, WorldEmits, WorldReceives}
+use Rattle.lagprogress.proofs.Common.{side_of, with_link_at, HalfState, ItemValue, LinkState, WorldState, accepts, change_link, half, link_at}
+use Rattle.lagprogress.proofs.Common.{link_index, port_at, put_on_port, sent_on, towards, with_half, with_towards, half_there, DeliverProcessesLacpdu}
+use Rattle.lagprogress.proofs.Common.{EmitSendsLacpdu, EndIsUp, IsHeardOn, IsSentOn}
 use Rattle.slowpdu.specs.declared.pdu.Pdu.TheVariants as pdu
 use Rattle.slowpdu.proofs.LacpduLemmas.{one_reading}
 use Rattle.slowpdu.proofs.MarkerLemmas.{not_both}
@@ -53,22 +53,16 @@ sends_flagged u d k x old o new e f h = subst (λ c. TransmitsIf true c k x old 
 pub sends_due : (i : Option ℕ) (k : ℕ) (x : SystemPort) (old : SystemState) (o : Option (List ℕ)) (new : SystemState) → i ≡ Some k
     → slice_get old.system_ports k ≡ Some x → x.port.enabled ≡ true → is_due x.port ≡ true → TransmitsAt i old o new
     → SendsLacpdu k x old o new
-sends_due i k x old o new place there up due h =
-    let at = subst (λ m. TransmitsAt m old o new) place h in
-    let same : at.0 ≡ x = same_Some at.0 x (sym at.1 ∙ there) in
-    sends_flagged x.port.enabled (is_due x.port) k x old o new up due (subst (λ (y : SystemPort). PortTransmits k y old o new) same at.2)
+sends_due i k x old o new place there up due h = grind (arith, nat_tests, sends_flagged)
 
 -- the cable after it
 pub put_there : (s : Side) (p i : ℕ) (item : ItemValue) (l : LinkState) (links : List LinkState) → link_index s p links ≡ Some i
     → slice_get links i ≡ Some l → accepts s l ≡ true
     → put_on_port s p item links ≡ slice_set links i (with_towards (peer s) (towards (peer s) l ++ item ∷ []) l)
-put_there s p i item l links e f g =
-    ap (λ o. change_link o (sent_on s item) (link_at o links) links) e ∙ (ap (λ m. change_link (Some i) (sent_on s item) m links) f
-    ∙ ap (λ b. slice_set links i (with_towards (peer s) (if b then towards (peer s) l ++ item ∷ [] else towards (peer s) l) l)) g)
+put_there s p i item l links e f g = grind (arith, nat_tests)
 
 pub peer_there : (s : Side) (h : HalfState) (j : WorldState) → (half (peer s) (with_half s h j)).state ≡ (half (peer s) j).state
-peer_there One h j = refl
-peer_there Two h j = refl
+peer_there s h j = grind (arith, nat_tests)
 
 emitted : (gives : Algorithms) (s : Side) (i k : ℕ) (l : LinkState) (x : SystemPort) (a : Result (Option (List ℕ)) SystemFault)
     (old new : WorldState) (mid : HalfState) (r : Reply) → link_index s (port_at s l) old.links ≡ Some i → slice_get old.links i ≡ Some l

@@ -21,12 +21,10 @@ use Rattle.lagprogress.proofs.Linked.{each_side}
 
 -- what holds of both answers holds of the one that came
 pub of_err : {T E : Type 0} (P : Type 0) (r : Result T E) → P → IfErr r (λ x. P)
-of_err P (Ok x) h = tt
-of_err P (Err e) h = h
+of_err P r h = grind (arith, nat_tests)
 
 pub if_ok : {T E : Type 0} (P Q : T → Type 0) (r : Result T E) → ((x : T) → P x → Q x) → IfOk r P → IfOk r Q
-if_ok P Q (Ok x) k h = k x h
-if_ok P Q (Err e) k h = tt
+if_ok P Q r k h = grind (arith, nat_tests)
 
 -- of an answer that is known
 pub was_ok : {T E : Type 0} (P : E → Type 0) (r : Result T E) (x : T) → r ≡ Ok x → IfErr r P
@@ -42,9 +40,6 @@ pub runs_append : (gives : Algorithms) (es fs : List Event) (rs qs : List Reply)
 runs_append gives [] fs [] qs old mid new h x = subst (λ j. WorldRuns gives j fs qs new) h x
 runs_append gives (e ∷ es) fs (r ∷ rs) qs old mid new h x = (h.0, h.1, runs_append gives es fs rs qs h.0 mid new h.2 x)
 runs_append gives es fs rs qs old mid new h x = absurd h
-
-pub runs_none : (gives : Algorithms) (j : WorldState) → RunsAll gives [] j j
-runs_none gives j = record { replies = []; acts = refl }
 
 pub runs_both : (gives : Algorithms) (es fs : List Event) (old mid new : WorldState) → RunsAll gives es old mid → RunsAll gives fs mid new
     → RunsAll gives (es ++ fs) old new
@@ -86,15 +81,12 @@ stopped_part gives es stop old new h = record {
 
 spent_or_not : (fault : WorldFault) (j : WorldState) (spent : Bool) → nat_le most_events j.acted ≡ spent
     → fault ≡ cause_or_no_memory (first_event_cause true true spent) → IsOutOfMemoryOrSpent fault j
-spent_or_not fault j true e h = let l : most_events ≤ j.acted = grind (arith, nat_tests) in inr (h, l)
-spent_or_not fault j false e h = inl h
+spent_or_not fault j spent e h = grind (arith, nat_tests)
 
 -- an event whose cable and system exist
 refused_event : (fault : WorldFault) (j : WorldState) (cable system : Bool) → cable ≡ true → system ≡ true
     → fault ≡ cause_or_no_memory (first_event_cause cable system (nat_le most_events j.acted)) → IsOutOfMemoryOrSpent fault j
-refused_event fault j cable system c s h =
-    spent_or_not fault j (nat_le most_events j.acted) refl
-    (h ∙ (λ i. cause_or_no_memory (first_event_cause (c i) (s i) (nat_le most_events j.acted))))
+refused_event fault j cable system c s h = grind (arith, nat_tests, spent_or_not)
 
 refused_next : (fault : WorldFault) (es : List Event) (n : ℕ) (j : WorldState) → AllByRecursion NamesNoCable es
     → RefusesNext j (next_of es n) fault → IsOutOfMemoryOrSpent fault j
@@ -104,10 +96,7 @@ refused_next fault (e ∷ es) (suc n) j all h = refused_next fault es n j all.1 
 
 pub refused_run : (gives : Algorithms) (es : List Event) (stop : RunFault) (old new : WorldState) → RunStops gives old es stop new
     → AllByRecursion NamesNoCable es → IsOutOfMemoryOrSpent stop.fault new
-refused_run gives es stop old new h all = elim h.fault [
-  | inl none ↦ inl none.1
-  | inr next ↦ refused_next stop.fault es stop.done new all next
-]
+refused_run gives es stop old new h all = grind (arith, nat_tests, refused_next)
 
 some_within : {X : Type 0} (xs : List X) (i : ℕ) → i < length xs → is_some (slice_get xs i) ≡ true
 some_within [] i h = absurd (omega (arith, h))
@@ -155,8 +144,7 @@ ports_stay a b n e =
 
 asked_there : (o : Option LinkState) (one two : ℕ) → option_map ports o ≡ Some (one, two)
     → (l : LinkState) × (o ≡ Some l) × (asks_ends l ≡ asks_pair (one, two))
-asked_there None one two h = absurd (none-some (one, two) h)
-asked_there (Some l) one two h = (l, refl, ap asks_pair (same_Some (ports l) (one, two) h))
+asked_there o one two h = grind (arith, nat_tests)
 
 -- the cable at the next index of the first world, from the ports that its number joins
 cable_at : (n one two : ℕ) (old mid : WorldState) → world_setup mid ≡ world_setup old → Some (one, two) ≡ ends_of_cable (n + 1) mid
@@ -230,38 +218,15 @@ one_more gives c n r old mid new h x = delivers_both gives old mid new h (record
   acts = record { replies = r ∷ []; acts = (new, x, refl) };
 })
 
-none_back : (s : Side) (p : ℕ) (item : ItemValue) (a : Result Received SystemFault) (old new : WorldState)
-    → AfterReceive s p item a old reply.Empty new → ⊥
-none_back s p item (Err fault) old new h = cc
-none_back s p item (Ok received.Disabled) old new h = cc
-none_back s p item (Ok received.Dropped) old new h = cc
-none_back s p item (Ok (received.Ignored fault)) old new h = cc
-none_back s p item (Ok received.TookLacpdu) old new h = cc
-none_back s p item (Ok (received.Respond frame)) old new h = cc
-none_back s p item (Ok (received.Released n)) old new h = cc
-none_back s p item (Ok (received.Up agg)) old new h = cc
-
 was_empty : (gives : Algorithms) (s : Side) (i : ℕ) (l : LinkState) (xs : List ItemValue) (old new : WorldState)
     → DeliversFrom gives s i l xs old reply.Empty new → (xs ≡ []) × (new ≡ old)
-was_empty gives s i l [] old new h = (refl, h.1)
-was_empty gives s i l (item ∷ rest) old new h = absurd (none_back s _ item h.0 _ new h.3)
+was_empty gives s i l xs old new h = grind (arith, nat_tests)
 
 -- a Deliver event with the reply Empty: nothing is on the cable towards that system, and no cable changed
 nothing_came : (gives : Algorithms) (n i : ℕ) (s : Side) (old new : WorldState) → side_of n ≡ Some s
     → WorldSteps gives old (event.Deliver (i + 1) n) reply.Empty new
     → ((l : LinkState) → slice_get old.links i ≡ Some l → towards s l ≡ []) × (new.links ≡ old.links)
-nothing_came gives n i s old new named h =
-    let now = record new { acted = old.acted } in
-    let next : i + 1 ≡ suc i = omega arith in
-    let v = value_of (side_of n) _ h.0 in
-    let same : v.0 ≡ s = same_Some v.0 s (sym v.1 ∙ named) in
-    let on = subst (λ t. OnLink (i + 1) (λ k m. DeliversFrom gives t k m (towards t m) old reply.Empty now) old.links) same v.2 in
-    let at = subst (λ c. OnLink c (λ k m. DeliversFrom gives s k m (towards s m) old reply.Empty now) old.links) next on in
-    let w = value_of (slice_get old.links i) _ at in
-    let k = was_empty gives s i w.0 (towards s w.0) old now w.2 in (
-      λ l f. subst (λ m. towards s m ≡ []) (same_Some w.0 l (sym w.1 ∙ f)) k.0,
-      ap (λ (j : WorldState). j.links) k.1,
-    )
+nothing_came gives n i s old new named h = grind (arith, nat_tests, value_of, was_empty)
 
 is_nothing : (r : Reply) → found_nothing r ≡ true → r ≡ reply.Empty
 is_nothing reply.Empty h = refl
@@ -273,10 +238,7 @@ pub record IsQuiet (n : ℕ) (old new : WorldState) : Type 0 where
   pub before : (s : Side) (i : ℕ) (l : LinkState) → i < n → slice_get old.links i ≡ Some l → towards s l ≡ []
 
 below_or_same : (i n : ℕ) → i < n + 1 → (i < n) ⊎ (i ≡ n)
-below_or_same i n h = elim (cases_Bool (i == n)) [
-  | inl t ↦ inr (grind (arith, nat_tests))
-  | inr f ↦ (let other : i ≡ n → ⊥ = grind (arith, nat_tests) in inl (omega (arith, h, other)))
-]
+below_or_same i n h = grind (arith, nat_tests, cases_Bool)
 
 -- nor on the next one, in either direction
 pub quiet_next : (gives : Algorithms) (n : ℕ) (q r : Reply) (start old mid new : WorldState) → IsQuiet n start old
@@ -296,10 +258,7 @@ quiet_next gives n q r start old mid new h x y first second =
     }
 
 pub nothing_left : (n : ℕ) (old new : WorldState) → length old.links ≤ n → IsQuiet n old new → NothingInFlight new
-nothing_left n old new h q s i l f =
-    let g : slice_get old.links i ≡ Some l = ap (λ ls. slice_get ls i) (sym q.same) ∙ f in
-    let within : i < length old.links = slice_get_within old.links i l g in
-    q.before s i l (omega (arith, h, within)) g
+nothing_left n old new h q s i l f = grind (arith, nat_tests, slice_get_within)
 
 -- a round
 
@@ -338,8 +297,7 @@ round_more gives n old mid new h x = let e : suc n ≡ n + 1 = omega arith in su
 
 -- all three hold
 pub all_hold : (a b c r : Bool) → r ≡ ((a && b) && c) → r ≡ true → (a ≡ true) × (b ≡ true) × (c ≡ true)
-all_hold true true true r e h = (refl, refl, refl)
-all_hold a b c r e h = absurd (false≢true (sym e ∙ h))
+all_hold a b c r e h = grind (arith, nat_tests)
 
 pub quiet_more : (gives : Algorithms) (n : ℕ) (q r : Reply) (empty now : Bool) (start old mid new : WorldState)
     → (empty ≡ true → IsQuiet n start old) → WorldSteps gives old (event.Deliver (n + 1) 1) q mid
@@ -350,8 +308,7 @@ quiet_more gives n q r empty now start old mid new h x y e all =
     quiet_next gives n q r start old mid new (h k.0) x y k.1 k.2
 
 pub on_err : {T : Type 0} (P : WorldFault → Type 0) (why : WorldFault) (r : Result T WorldFault) → IsErrAnd r (λ e. e ≡ why) → P why → IfErr r P
-on_err P why (Ok x) e h = tt
-on_err P why (Err x) e h = subst P (sym e) h
+on_err P why r e h = grind (arith, nat_tests)
 
 over_most : (n m : ℕ) → n ≡ m → (n < 65536 → ⊥) → most_cables < m
 unfolding most_cables

@@ -1,12 +1,12 @@
 -- How the ends of a cable come to know each other, round by round.
 use Rattle.lagprogress.proofs.Common.{Bool, List, None, Option, Some, [], ap, arith, false, inl, inr, map, option_map, refl, slice_get, subst, suc}
-use Rattle.lagprogress.proofs.Common.{sym, true, zero, ℕ, ◌+◌, ◌-◌, ◌∙◌, ◌∷◌, ◌≡◌, ◌≤◌, ◌⊎◌, cases_Bool, AllByRecursion, StateBits}
-use Rattle.lagprogress.proofs.Common.{encode_then_decode, Lacpdu, IsCabling, One, Side, Two, end_at, peer, CollectingDistributing, Machines}
-use Rattle.lagprogress.proofs.Common.{is_synchronized, same_mux_state, periodic_rows, receive_rows, AtRest, RunsToRest, actor_of, count_down, pdu_of}
-use Rattle.lagprogress.proofs.Common.{SystemPort, SystemState, machines_of, port_index, system_port_at, named, found_place, ports_rise, Algorithms}
-use Rattle.lagprogress.proofs.Common.{link_ends, world_setup, ItemValue, LinkState, WorldState, half, port_at, towards, ActiveEndsOfEachKnow}
-use Rattle.lagprogress.proofs.Common.{timeout_time, ActiveEndsComeToKnow, EndKnows, Knows, AtEnd, IsHealthy, IsHealthyAt, IsRound, NothingInFlight}
-use Rattle.lagprogress.proofs.Common.{OfPort, Rounds, IsSteady, IsTimed}
+use Rattle.lagprogress.proofs.Common.{sym, true, zero, ℕ, ◌+◌, ◌-◌, ◌∙◌, ◌∷◌, ◌≡◌, ◌≤◌, ◌⊎◌, cases_Bool, nat_tests, none-some, AllByRecursion}
+use Rattle.lagprogress.proofs.Common.{StateBits, encode_then_decode, Lacpdu, IsCabling, One, Side, Two, end_at, peer, CollectingDistributing}
+use Rattle.lagprogress.proofs.Common.{Machines, is_synchronized, same_mux_state, periodic_rows, receive_rows, AtRest, RunsToRest, actor_of}
+use Rattle.lagprogress.proofs.Common.{count_down, pdu_of, SystemPort, SystemState, machines_of, port_index, system_port_at, named, found_place}
+use Rattle.lagprogress.proofs.Common.{ports_rise, Algorithms, link_ends, world_setup, ItemValue, LinkState, WorldState, half, port_at, towards}
+use Rattle.lagprogress.proofs.Common.{ActiveEndsOfEachKnow, timeout_time, ActiveEndsComeToKnow, EndKnows, Knows, AtEnd, IsHealthy, IsHealthyAt}
+use Rattle.lagprogress.proofs.Common.{IsRound, NothingInFlight, OfPort, Rounds, IsSteady, IsTimed}
 use Rattle.lagprogress.proofs.EachPort.{OfEach}
 use Rattle.lagprogress.proofs.EndFacts.{CanSound, IsEnd, Learnt, Says, Synced, activity, calm, less_known, short_timeout, ticks_end, wait_of}
 use Rattle.lagprogress.proofs.Hearing.{no}
@@ -30,12 +30,10 @@ two Two a b One = b
 two Two a b Two = a
 
 pub two_there : (s : Side) (a b : ℕ) → two s a b s ≡ a
-two_there One a b = refl
-two_there Two a b = refl
+two_there s a b = grind (arith, nat_tests)
 
 two_other : (s : Side) (a b : ℕ) → two s a b (peer s) ≡ b
-two_other One a b = refl
-two_other Two a b = refl
+two_other s a b = grind (arith, nat_tests)
 
 two_less : (s : Side) (c : Side → ℕ) (a b : ℕ) → a ≤ c s → b ≤ c (peer s) → (u : Side) → two s a b u ≤ c u
 two_less One c a b l m One = l
@@ -493,17 +491,7 @@ abbrev pub Found : (Machines → Type 0) → ℕ → SystemState → Type 0
 Found P n s = (k : ℕ) × (z : SystemPort) × (port_index n s.system_ports ≡ Some k) × (slice_get s.system_ports k ≡ Some z) × P z.port
 
 pub end_of : (P : Machines → Type 0) (n : ℕ) (s : SystemState) → OfPort P (machines_of n s) → Found P n s
-end_of P n s h = by_index (port_index n s.system_ports) refl h
-  where
-    by_slot : (k : ℕ) (o : Option SystemPort) → port_index n s.system_ports ≡ Some k → slice_get s.system_ports k ≡ o
-        → OfPort P (option_map (λ x. x.port) o) → Found P n s
-    by_slot k None e f h = absurd h
-    by_slot k (Some z) e f h = (k, z, e, f, h)
-
-    by_index : (o : Option ℕ) → port_index n s.system_ports ≡ o
-        → OfPort P (option_map (λ x. x.port) (system_port_at o s.system_ports)) → Found P n s
-    by_index None e h = absurd h
-    by_index (Some k) e h = by_slot k (slice_get s.system_ports k) e refl h
+end_of P n s h = grind (arith, nat_tests)
 
 pub own_says : (p : Machines) → Says (pdu_of p 0) p
 own_says p =
@@ -613,8 +601,7 @@ fresh_knows l w j g s =
 -- both ends are active
 
 pub room_short : (b : Bool) → silence_of b + silence_of true + 2 ≤ timeout_time b
-room_short true = omega arith
-room_short false = omega arith
+room_short b = grind (arith, nat_tests)
 
 pub meets_short : (gives : Algorithms) (at : Side → ℕ) (w : Side → Lacpdu) (s : Side) (n : ℕ) (old new : WorldState)
     → activity (w s) ≡ true → short_timeout (w s) ≡ true → 321 ≤ n → Link 0 at w (λ _. 0) One Nothing old → Rounds gives n old new

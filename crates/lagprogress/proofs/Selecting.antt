@@ -44,8 +44,7 @@ AllOccupied k ports first [] = Unit {0}
 AllOccupied k ports first (key ∷ keys) = ((key.0 == k) ≡ true → Occupied k ports first) × AllOccupied k ports (first + 1) keys
 
 one_enough : (b : Bool) (n next now : ℕ) → n ≤ next → next ≤ now → (b ≡ true → next + 1 ≤ now) → cond b (suc n) n ≤ now
-one_enough true n next now h l k = omega (arith, h, k refl)
-one_enough false n next now h l k = omega (arith, h, l)
+one_enough b n next now h l k = grind (arith, nat_tests)
 
 enough : (k : ℕ) (ports : List SystemPort) (first : ℕ) (keys : List Key) → AllOccupied k ports first keys
     → count (λ (key : Key). key.0 == k) keys ≤ count (is_from k first) ports
@@ -64,9 +63,7 @@ enough k ports first (key ∷ keys) h =
 -- who occupies an aggregator
 
 occupies_is : (agg : AggId) (c : Choice) → occupies agg c ≡ true → (occupied c ≡ Some agg.0) × (place c ≡ agg.0)
-occupies_is agg Unselected h = absurd cc
-occupies_is agg (Selected given) h = let e : given.0 ≡ agg.0 = eqb-true given.0 agg.0 h in (ap (λ n. Some n) e, e)
-occupies_is agg (Standby given) h = let e : given.0 ≡ agg.0 = eqb-true given.0 agg.0 h in (ap (λ n. Some n) e, e)
+occupies_is agg c h = grind (arith, nat_tests)
 
 abbrev Somebody : AggId → List SystemPort → Type 0
 Somebody agg ports = (i : ℕ) × (x : SystemPort) × (slice_get ports i ≡ Some x) × (occupies agg x.port.choice ≡ true)
@@ -82,8 +79,7 @@ somebody agg [] h = absurd cc
 somebody agg (x ∷ xs) h = somebody_of agg (occupies agg x.port.choice) x xs refl h (somebody agg xs)
 
 passed : (b : Bool) (x : ℕ × Key) (o : Option (ℕ × Key)) → cond b (Some x) o ≡ None → (b ≡ false) × (o ≡ None)
-passed true x o h = absurd cc
-passed false x o h = (refl, h)
+passed b x o h = grind (arith, nat_tests)
 
 has_one : (a b : Bool) → a ≡ true → (a && not b) ≡ false → b ≡ true
 has_one a true e h = refl
@@ -124,10 +120,7 @@ is_detached_at : (m : MuxState) (w : ℕ) (c : Choice) (z : Bool) → is_unselec
     → (same_mux_state Waiting m && is_unselected c) ≡ false
     → (same_mux_state Attached m && not (is_selected c)) ≡ false
     → (same_mux_state CollectingDistributing m && (not (is_selected c) || z)) ≡ false → is_detached (stage_of m w) ≡ true
-is_detached_at Detached w c z u a b d = refl
-is_detached_at m w Unselected z u a b d = absurd cc
-is_detached_at m w (Selected agg) z u a b d = absurd cc
-is_detached_at m w (Standby agg) z u a b d = absurd cc
+is_detached_at m w c z u a b d = grind (arith, nat_tests)
 
 is_known : (r : ReceiveState) → (r ≡ Current) ⊎ (r ≡ Defaulted) → (same_receive_state Current r || same_receive_state Defaulted
     r) ≡ true
@@ -153,16 +146,13 @@ when_is true o e h = h
 when_is false o e h = absurd cc
 
 second_none : (a b : Option AggId) → or_else a b ≡ None → b ≡ None
-second_none None b h = h
-second_none (Some agg) b h = absurd cc
+second_none a b h = grind (arith, nat_tests)
 
 no_entry : (o : Option (ℕ × Key)) → option_map aggregator_of_entry o ≡ None → o ≡ None
-no_entry None h = refl
-no_entry (Some row) h = absurd cc
+no_entry o h = grind (arith, nat_tests)
 
 unselected_at : (c : Choice) → is_unselected c ≡ true → place c ≡ 0
-unselected_at Unselected u = refl
-unselected_at c u = absurd cc
+unselected_at c u = grind (arith, nat_tests)
 
 from_any : (k c n : ℕ) → ((n == k) && nat_le 1 c) ≡ true → (n == k) ≡ true
 from_any k c n h = (and_parts (n == k) (nat_le 1 c) h).0
@@ -174,9 +164,7 @@ crowded : (m n : ℕ) → m ≤ n → n + 1 ≤ m → ⊥
 crowded m n a b = omega (arith, a, b)
 
 from_first : (keys : List Key) (j : ℕ) (key : Key) → slice_get keys j ≡ Some key → key_of keys (1 + j) ≡ Some key
-from_first keys j key g =
-    let here : key_of keys (suc j) ≡ Some key = g in
-    let next : suc j ≡ 1 + j = omega arith in subst (λ n. key_of keys n ≡ Some key) next here
+from_first keys j key g = grind (arith, nat_tests)
 
 never_unselected : (s : SystemState) (i : ℕ) (x : SystemPort) → IsSound s → slice_get s.system_ports i ≡ Some x
     → WantsAggregator x.port
@@ -231,16 +219,11 @@ known_number keys (suc n) key e = let l = within keys n key e in grind (arith, n
 
 full_of : (max_links : Option ℕ) (known : Bool) (n : ℕ) → known ≡ true → (known && is_below max_links n) ≡ false
     → ((most : ℕ) → max_links ≡ Some most → n ≤ most) → (most : ℕ) × (max_links ≡ Some most) × (n ≡ most)
-full_of None true n k h w = absurd cc
-full_of None false n k h w = absurd cc
-full_of (Some most) true n k h w = (most, refl, (let l = w most refl in grind (arith, nat_tests)))
-full_of (Some most) false n k h w = absurd cc
+full_of max_links known n k h w = grind (arith, nat_tests)
 
 at_most : (max_links : Option ℕ) (agg : AggId) (ports : List SystemPort) → WithinLimit max_links (views ports) → (most : ℕ)
     → max_links ≡ Some most → length (ports_that_chose agg (views ports)) ≤ most
-at_most None agg ports w most e = absurd (none-some most e)
-at_most (Some limit) agg ports w most e = subst (λ n. length (ports_that_chose agg (views ports)) ≤ n) (same_Some limit most e)
-    (w agg)
+at_most max_links agg ports w most e = grind (arith, nat_tests)
 
 pub waits_for_room : (s : SystemState) (i : ℕ) (x : SystemPort) (agg : AggId) → IsSound s → slice_get s.system_ports i ≡ Some x
     → x.port.choice ≡ Standby agg → IsFull s agg

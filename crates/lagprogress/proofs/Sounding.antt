@@ -31,21 +31,15 @@ abbrev pub Calm : Bool → Machines → Type 0
 Calm fast p = (is_silent p ≡ false) × (fast ≡ true → partner_short p ≡ true)
 
 pub not_silent : (e a b : Bool) → e ≡ true → (a ≡ true) ⊎ (b ≡ true) → (not e || (not a && not b)) ≡ false
-not_silent true true b up h = refl
-not_silent true false true up h = refl
-not_silent true false false up (inl x) = absurd (no x)
-not_silent true false false up (inr x) = absurd (no x)
-not_silent false a b up h = absurd (no up)
+not_silent e a b up h = grind (arith, nat_tests)
 
 -- the rows of the periodic machine
 
 last_false : (a b : Bool) → (a || b) ≡ false → b ≡ false
-last_false true b h = absurd (no (sym h))
-last_false false b h = h
+last_false a b h = grind (arith, nat_tests)
 
 unordered : (a b : Bool) → (not a && b) ≡ true → (a ≡ false) × (b ≡ true)
-unordered true b h = absurd (no h)
-unordered false b h = (refl, h)
+unordered a b h = grind (arith, nat_tests)
 
 -- rows that are tried in their order, each where none before it is enabled
 abbrev OrderedKeep : (Machines → Type 0) → (Machines → Bool) → List Row → Type 0
@@ -57,14 +51,10 @@ OrderedKeep P earlier (row ∷ rows) =
 ordered : (P : Machines → Type 0) (earlier : Machines → Bool) (rows : List Row) → OrderedKeep P earlier rows
     → EnabledKeep P (in_order earlier rows)
 ordered P earlier [] k = tt
-ordered P earlier (row ∷ rows) k = (
-  λ p e a. let h = unordered (earlier p) (row.enabled p) e in k.0 p h.0 h.1 a,
-  ordered P (λ p. earlier p || row.enabled p) rows k.1,
-)
+ordered P earlier (row ∷ rows) k = grind (arith, nat_tests, unordered, ordered P (λ p. earlier p || row.enabled p) rows k.1)
 
 clash : {A : Type 0} (b : Bool) → b ≡ true → b ≡ false → A
-clash true t f = absurd (no (sym f))
-clash false t f = absurd (no t)
+clash b t f = grind (arith, nat_tests)
 
 from_none : (st : PeriodicState) (fast b : Bool) (most n : ℕ) → same_periodic_state NoPeriodic st ≡ true
     → (b ≡ true) ⊎ NextIn st fast most n → b ≡ true
@@ -81,8 +71,7 @@ from_tx PeriodicTx false b most n e (inr x) = absurd x
 from_tx st fast b most n e h = absurd (no e)
 
 pub not_gone : (n : ℕ) → (n == 0) ≡ false → 1 ≤ n
-not_gone zero h = absurd (no (sym h))
-not_gone (suc n) h = omega arith
+not_gone n h = grind (arith, nat_tests)
 
 slows : (st : PeriodicState) (fast b short : Bool) (most n : ℕ) → (same_periodic_state Fast st && (n == 0)) ≡ false
     → same_periodic_state Fast st ≡ true → not short ≡ true → (fast ≡ true → short ≡ true)
@@ -146,43 +135,13 @@ Resting PeriodicTx expired short = ⊥
 Resting Fast expired short = (expired ≡ false) × (short ≡ true)
 Resting Slow expired short = (expired ≡ false) × (short ≡ false)
 
-rest_none : (silent : Bool) → silent ≡ false → (not (false || (false && silent)) && (true && not silent)) ≡ false → ⊥
-rest_none true e h = no (sym e)
-rest_none false e h = no (sym h)
-
-rest_fast : (silent expired short : Bool) → silent ≡ false
-    → (not ((false || (true && silent)) || (false && not silent)) && (true && expired)) ≡ false
-    → (not (((false || (true && silent)) || (false && not silent)) || (true && expired)) && (true && not short)) ≡ false
-    → (expired ≡ false) × (short ≡ true)
-rest_fast false false true e h k = (refl, refl)
-rest_fast silent expired short e h k = cc
-
-rest_slow : (silent expired short : Bool) → silent ≡ false
-    → (not ((((false || (true && silent)) || (false && not silent)) || (false && expired)) || (false && not short))
-    && (true && (expired || short))) ≡ false → (expired ≡ false) × (short ≡ false)
-rest_slow false false false e h = (refl, refl)
-rest_slow silent expired short e h = cc
-
-rest_tx : (silent expired short : Bool) → silent ≡ false
-    → (not (((((false || (true && silent)) || (false && not silent)) || (false && expired)) || (false && not short))
-    || (false && (expired || short))) && (true && short)) ≡ false
-    → (not ((((((false || (true && silent)) || (false && not silent)) || (false && expired)) || (false && not short))
-    || (false && (expired || short))) || (true && short)) && (true && not short)) ≡ false → ⊥
-rest_tx true expired short e h k = no (sym e)
-rest_tx false expired true e h k = no (sym h)
-rest_tx false expired false e h k = no (sym k)
-
 pub rests : (st : PeriodicState) (p : Machines) → AtRest periodic_rows (record p { periodic = st }) → is_silent p ≡ false
     → Resting st (timer_expired p) (partner_short p)
-rests NoPeriodic p r e = rest_none (is_silent p) e r.1.0
-rests Fast p r e = rest_fast (is_silent p) (timer_expired p) (partner_short p) e r.1.1.0 r.1.1.1.0
-rests Slow p r e = rest_slow (is_silent p) (timer_expired p) (partner_short p) e r.1.1.1.1.0
-rests PeriodicTx p r e = rest_tx (is_silent p) (timer_expired p) (partner_short p) e r.1.1.1.1.1.0 r.1.1.1.1.1.1.0
+rests st p r e = grind (arith, nat_tests)
 
 -- the machine runs
 pub unclear : (st : PeriodicState) (expired short b : Bool) → Resting st expired short → (not (same_periodic_state NoPeriodic st) && b) ≡ b
-unclear NoPeriodic expired short b h = absurd h
-unclear st expired short b h = refl
+unclear st expired short b h = grind (arith, nat_tests)
 
 pub periodic_near : (fast : Bool) (most : ℕ) (p q : Machines) → RunsPeriodic p q → Calm fast p → Near fast most p → Near fast most q
 periodic_near fast most p q h c s =

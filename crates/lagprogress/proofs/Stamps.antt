@@ -230,11 +230,7 @@ stamps_tick gives b at k kept old new a l = record {
 }
 
 pub most_is : (b : Bool) (r : ReceiveState) → r ≡ Current → most_current_while b r ≡ timeout_time b
-most_is b r e = ap (most_current_while b) e ∙ at_current b
-  where
-    at_current : (b : Bool) → most_current_while b Current ≡ timeout_time b
-    at_current true = refl
-    at_current false = refl
+most_is b r e = grind (arith, nat_tests)
 
 pub late_ticks : (v : Lacpdu) (p q : Machines) → RunsToRest receive_rows (count_down p) q → Says v p → IsTimed p → Late (wait_of v) q
 late_ticks v p q h says timed = runs_keep (Late (wait_of v)) receive_rows

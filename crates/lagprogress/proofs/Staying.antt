@@ -1,12 +1,12 @@
 -- A settling gives no port another value of Selected where what the Selection Logic reads is as it was at rest.
-use Rattle.lagprogress.proofs.Common.{Bool, List, None, Some, [], ap, cond, false, if◌then◌else◌, inl, inr, length, not, option_map, refl, slice_get}
-use Rattle.lagprogress.proofs.Common.{slice_set, subst, suc, sym, true, zero, ℕ, ◌&&◌, ◌||◌, ◌∙◌, ◌∷◌, ◌≡◌, none-some, same_Some, list_all, AggId}
-use Rattle.lagprogress.proofs.Common.{Key, Party, group_of, individual, same_group, party_of, PortView, chosen_if_eligible, has_group_of}
-use Rattle.lagprogress.proofs.Common.{has_no_occupant, has_occupant, is_aggregator, lowest, occupants, occupants_share_group, or_else}
-use Rattle.lagprogress.proofs.Common.{ports_that_chose, is_below, has_chosen, is_eligible, occupies, stands_by, is_next, none_is_next, SystemPort}
-use Rattle.lagprogress.proofs.Common.{MuxIsSettled, ChoosesIn, PromotesNext, choice_for, choice_in, with_choice, IsSound, SystemState}
-use Rattle.lagprogress.proofs.Common.{aggregators_value, port_numbers, selection_view, views, next_stands, takes_is, choices_keep, promotions_keep}
-use Rattle.lagprogress.proofs.Common.{Rises, all-get, ports_rise}
+use Rattle.lagprogress.proofs.Common.{Bool, List, None, Some, [], ap, arith, cond, false, if◌then◌else◌, inl, inr, length, not, option_map, refl}
+use Rattle.lagprogress.proofs.Common.{slice_get, slice_set, subst, suc, sym, true, zero, ℕ, ◌&&◌, ◌||◌, ◌∙◌, ◌∷◌, ◌≡◌, nat_tests, none-some}
+use Rattle.lagprogress.proofs.Common.{same_Some, list_all, AggId, Key, Party, group_of, individual, same_group, party_of, PortView}
+use Rattle.lagprogress.proofs.Common.{chosen_if_eligible, has_group_of, has_no_occupant, has_occupant, is_aggregator, lowest, occupants}
+use Rattle.lagprogress.proofs.Common.{occupants_share_group, or_else, ports_that_chose, is_below, has_chosen, is_eligible, occupies, stands_by}
+use Rattle.lagprogress.proofs.Common.{is_next, none_is_next, SystemPort, MuxIsSettled, ChoosesIn, PromotesNext, choice_for, choice_in, with_choice}
+use Rattle.lagprogress.proofs.Common.{IsSound, SystemState, aggregators_value, port_numbers, selection_view, views, next_stands, takes_is}
+use Rattle.lagprogress.proofs.Common.{choices_keep, promotions_keep, Rises, all-get, ports_rise}
 use Rattle.lagsystem.proofs.SettlingLemmas.{set_same}
 use Rattle.lagprogress.proofs.Hearing.{no}
 use Rattle.lagprogress.proofs.Selecting.{clash, seen_stands, stands, when_is}
@@ -38,54 +38,24 @@ same_numbers xs ys h = absurd h
 
 same_occupied : (agg : AggId) (xs ys : List SystemPort) → SameSeen xs ys → has_occupant (views ys) agg ≡ has_occupant (views xs) agg
 same_occupied agg [] [] h = refl
-same_occupied agg (x ∷ xs) (y ∷ ys) h =
-    ap (λ c. occupies agg c || has_occupant (views ys) agg) h.0.choice
-    ∙ ap (λ b. occupies agg x.port.choice || b) (same_occupied agg xs ys h.1)
+same_occupied agg (x ∷ xs) (y ∷ ys) h = grind (arith, nat_tests, same_occupied agg xs ys h.1)
 same_occupied agg xs ys h = absurd h
 
 same_members : (agg : AggId) (xs ys : List SystemPort) → SameSeen xs ys
     → length (ports_that_chose agg (views ys)) ≡ length (ports_that_chose agg (views xs))
 same_members agg [] [] h = refl
-same_members agg (x ∷ xs) (y ∷ ys) h =
-    ap (λ c. length (cond (has_chosen agg c) (selection_view y ∷ ports_that_chose agg (views ys)) (ports_that_chose agg (views ys)))) h.0.choice
-    ∙ by_test (has_chosen agg x.port.choice) (same_members agg xs ys h.1)
-  where
-    by_test : (b : Bool) → length (ports_that_chose agg (views ys)) ≡ length (ports_that_chose agg (views xs))
-        → length (cond b (selection_view y ∷ ports_that_chose agg (views ys)) (ports_that_chose agg (views ys)))
-        ≡ length (cond b (selection_view x ∷ ports_that_chose agg (views xs)) (ports_that_chose agg (views xs)))
-    by_test true e = ap (λ n. suc n) e
-    by_test false e = e
+same_members agg (x ∷ xs) (y ∷ ys) h = grind (arith, nat_tests, same_members agg xs ys h.1)
 same_members agg xs ys h = absurd h
 
 same_groups : (agg : AggId) (v u : PortView) (xs ys : List SystemPort) → u.party ≡ v.party → u.partner ≡ v.partner → SameSeen xs ys
     → list_all (has_group_of u) (occupants agg (views ys)) ≡ list_all (has_group_of v) (occupants agg (views xs))
 same_groups agg v u [] [] p q h = refl
-same_groups agg v u (x ∷ xs) (y ∷ ys) p q h =
-    ap (λ c. list_all (has_group_of u) (cond (occupies agg c) (selection_view y ∷ occupants agg (views ys)) (occupants agg (views ys)))) h.0.choice
-    ∙ by_test (occupies agg x.port.choice) (same_groups agg v u xs ys p q h.1)
-  where
-    group : has_group_of u (selection_view y) ≡ has_group_of v (selection_view x)
-    group =
-        ap (λ (a : Party). same_group (group_of a (party_of y.port.partner)) (group_of u.party u.partner)) h.0.party
-        ∙ (ap (λ (a : Party). same_group (group_of x.port.party a) (group_of u.party u.partner)) h.0.partner
-        ∙ (ap (λ (a : Party). same_group (group_of x.port.party (party_of x.port.partner)) (group_of a u.partner)) p
-        ∙ ap (λ (a : Party). same_group (group_of x.port.party (party_of x.port.partner)) (group_of v.party a)) q))
-
-    by_test : (b : Bool) → list_all (has_group_of u) (occupants agg (views ys)) ≡ list_all (has_group_of v) (occupants agg (views xs))
-        → list_all (has_group_of u) (cond b (selection_view y ∷ occupants agg (views ys)) (occupants agg (views ys)))
-        ≡ list_all (has_group_of v) (cond b (selection_view x ∷ occupants agg (views xs)) (occupants agg (views xs)))
-    by_test true e = ap (λ c. c && list_all (has_group_of u) (occupants agg (views ys))) group
-        ∙ ap (λ c. has_group_of v (selection_view x) && c) e
-    by_test false e = e
+same_groups agg v u (x ∷ xs) (y ∷ ys) p q h = grind (arith, nat_tests, same_groups agg v u xs ys p q h.1)
 same_groups agg v u xs ys p q h = absurd h
 
 same_share : (v u : PortView) (xs ys : List SystemPort) → u.party ≡ v.party → u.partner ≡ v.partner → SameSeen xs ys → (agg : AggId)
     → occupants_share_group (views ys) u agg ≡ occupants_share_group (views xs) v agg
-same_share v u xs ys p q h agg =
-    ap (λ (a : Party). (not (individual a u.partner) && has_occupant (views ys) agg) && list_all (has_group_of u) (occupants agg (views ys))) p
-    ∙ (ap (λ (a : Party). (not (individual v.party a) && has_occupant (views ys) agg) && list_all (has_group_of u) (occupants agg (views ys))) q
-    ∙ (ap (λ b. (not (individual v.party v.partner) && b) && list_all (has_group_of u) (occupants agg (views ys))) (same_occupied agg xs ys h)
-    ∙ ap (λ b. (not (individual v.party v.partner) && has_occupant (views xs) agg) && b) (same_groups agg v u xs ys p q h)))
+same_share v u xs ys p q h agg = grind (arith, nat_tests, same_occupied, same_groups)
 
 same_chosen : (keys : List Key) (v u : PortView) (xs ys : List SystemPort) → u.party ≡ v.party → u.partner ≡ v.partner → SameSeen xs ys
     → chosen_if_eligible keys (views ys) u ≡ chosen_if_eligible keys (views xs) v

@@ -1,8 +1,8 @@
 -- Once an end has heard the other, it is told by an LACPDU when the other is synchronized.
 use Rattle.lagprogress.proofs.Common.{Bool, Err, List, None, Ok, Option, Result, Some, [], ap, arith, false, inl, inr, refl, slice_get, subst, sym}
-use Rattle.lagprogress.proofs.Common.{true, ℕ, ◌++◌, ◌∙◌, ◌∷◌, ◌≡◌, ◌≤◌, ◌⊎◌, cases_Bool, none-some, same_Some, AllByRecursion, Lacpdu, Side, peer}
-use Rattle.lagprogress.proofs.Common.{Machines, partner_synchronized, periodic_rows, receive_rows, AtRest, RunsToRest, after_sending, count_down}
-use Rattle.lagprogress.proofs.Common.{is_due, pdu_of, marker_due, SystemFault, Received, SystemPort, Carries, IsFrame, OnlyPortChangesBy}
+use Rattle.lagprogress.proofs.Common.{true, ℕ, ◌++◌, ◌∙◌, ◌∷◌, ◌≡◌, ◌≤◌, ◌⊎◌, cases_Bool, nat_tests, none-some, same_Some, AllByRecursion, Lacpdu}
+use Rattle.lagprogress.proofs.Common.{Side, peer, Machines, partner_synchronized, periodic_rows, receive_rows, AtRest, RunsToRest, after_sending}
+use Rattle.lagprogress.proofs.Common.{count_down, is_due, pdu_of, marker_due, SystemFault, Received, SystemPort, Carries, IsFrame, OnlyPortChangesBy}
 use Rattle.lagprogress.proofs.Common.{ProcessesLacpdu, Receive, Step, ThenSettles, Transmit, IsLacpduOf, SendsMarkerOf, TransmitsAt, TransmitsIf}
 use Rattle.lagprogress.proofs.Common.{CallPromise, SystemState, port_index, all-get, found_place, ports_rise, Reply, Algorithms, WorldSteps, side_of}
 use Rattle.lagprogress.proofs.Common.{ItemValue, WorldState, half, IsRound, NothingInFlight, IsTimed}
@@ -67,8 +67,7 @@ sent_is true false i z old frame new h x k = by_marker (marker_due old.table z.n
     by_marker (Some id) m = absurd (marker_carries_none frame x _ k (z.mac, m.0, m.1, m.2, same_Some frame _ m.3))
 
 went_other : (s : Side) (a : Result (Option (List ℕ)) SystemFault) (fl now : Side → List ItemValue) → Went s a fl now → now s ≡ fl s
-went_other s (Ok (Some frame)) fl now h = ap (λ (f : Side → List ItemValue). f s) h.2 ∙ push_other s h.0 fl
-went_other s a fl now h = ap (λ (f : Side → List ItemValue). f s) h
+went_other s a fl now h = grind (arith, nat_tests)
 
 -- one item more that says so
 said_more : (u v : Lacpdu) (H : Type 0) (s : Side) (item : ItemValue) (fl now : Side → List ItemValue) → now ≡ push (peer s) item fl

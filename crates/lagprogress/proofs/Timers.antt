@@ -34,35 +34,19 @@ takes_keep P v k p q h a = elim h [ inl f ↦ fires_keep P (lacpdu_rows v) k p q
 
 -- the bound is the least in EXPIRED
 least_expired : (short : Bool) → 30 ≤ most_current_while short Expired
-least_expired true = omega arith
-least_expired false = omega arith
+least_expired short = grind (arith, nat_tests)
 
 -- and the highest in these states
 rises : (short : Bool) (r : ReceiveState) (n : ℕ) → n ≤ most_current_while short r → (n ≤ most_current_while short Initialize)
     × (n ≤ most_current_while short PortDisabled) × (n ≤ most_current_while short Defaulted)
-rises true r n h = (h, h, h)
-rises false Expired n h = (omega (arith, h), omega (arith, h), omega (arith, h))
-rises false Initialize n h = (h, h, h)
-rises false r n h = (h, h, h)
+rises short r n h = grind (arith, nat_tests)
 
 starts_with : (short : Bool) → (if short then 30 else 900) ≤ most_current_while short Current
 starts_with true = omega arith
 starts_with false = omega arith
 
 receive_keeps : RowsKeep IsTimed receive_rows
-receive_keeps = (
-  λ p a. ((rises p.short p.receive p.current_while a.0).1, a.1, a.2, a.3),
-  (
-    λ p a. ((rises p.short p.receive p.current_while a.0).1, a.1, a.2, a.3),
-    (
-      λ p a. (least_expired p.short, a.1, a.2, a.3),
-      (
-        λ p a. ((rises p.short p.receive p.current_while a.0).2, a.1, a.2, a.3),
-        (λ p a. (least_expired p.short, a.1, a.2, a.3), tt),
-      ),
-    ),
-  ),
-)
+receive_keeps = grind (arith, nat_tests, rises, least_expired)
 
 take_keeps : (v : Lacpdu) → RowsKeep IsTimed (lacpdu_rows v)
 take_keeps v = (λ p a. (starts_with p.short, a.1, a.2, a.3), tt)
@@ -70,41 +54,21 @@ take_keeps v = (λ p a. (starts_with p.short, a.1, a.2, a.3), tt)
 -- periodic_timer
 
 pub most_fast : (s : PeriodicState) → most_periodic_timer s ≤ 300
-most_fast Fast = omega arith
-most_fast s = omega arith
-
-abbrev rises_to : (p : Machines) → IsTimed p → p.periodic_timer ≤ 300
-rises_to p a = omega (arith, a.1, most_fast p.periodic)
+most_fast s = grind (arith, nat_tests)
 
 periodic_keeps : RowsKeep IsTimed periodic_rows
-periodic_keeps = (
-  λ p a. (a.0, rises_to p a, a.2, a.3),
-  (
-    λ p a. (a.0, omega arith, a.2, a.3),
-    (
-      λ p a. (a.0, rises_to p a, a.2, a.3),
-      (
-        λ p a. (a.0, omega arith, a.2, a.3),
-        (λ p a. (a.0, rises_to p a, a.2, a.3), (λ p a. (a.0, omega arith, a.2, a.3), (λ p a. (a.0, omega arith, a.2, a.3), tt))),
-      ),
-    ),
-  ),
-)
+periodic_keeps = grind (arith, nat_tests)
 
 -- wait_while
 
 mux_keeps : (ready : Bool) → RowsKeep IsTimed (mux_rows ready)
-mux_keeps ready = (
-  λ p a. (a.0, a.1, omega arith, a.3),
-  (λ p a. a, (λ p a. a, (λ p a. a, (λ p a. a, (λ p a. a, tt))))),
-)
+mux_keeps ready = grind (arith, nat_tests)
 
 -- the ages
 
 kept_age : (b : Bool) (n : ℕ) (rest : List ℕ) → nat_lt n 11 ≡ b → AllByRecursion (λ a. a < 11) rest
     → AllByRecursion (λ a. a < 11) (cond b (n ∷ rest) rest)
-kept_age true n rest e h = (grind (arith, nat_tests), h)
-kept_age false n rest e h = h
+kept_age b n rest e h = grind (arith, nat_tests)
 
 recent : (ages : List ℕ) → AllByRecursion (λ a. a < 11) (aged ages)
 recent [] = tt

@@ -1,7 +1,7 @@
 -- Bounds of the ticks that are told.
 use Rattle.lagprogress.proofs.Common.{Bool, List, None, Option, Some, [], ap, arith, false, inl, inr, refl, slice_get, subst, suc, true, zero, ℕ, ◌<◌}
-use Rattle.lagprogress.proofs.Common.{◌∷◌, ◌≡◌, ◌≤◌, none-some, same_Some, AllByRecursion, ReceiveState, Expired, Machines, SystemPort, SystemState}
-use Rattle.lagprogress.proofs.Common.{all-get, IsTimed, PortsAreTimed, most_current_while, IsAwaited, WaitsAreShort}
+use Rattle.lagprogress.proofs.Common.{◌∷◌, ◌≡◌, ◌≤◌, nat_tests, none-some, same_Some, AllByRecursion, ReceiveState, Expired, Machines, SystemPort}
+use Rattle.lagprogress.proofs.Common.{SystemState, all-get, IsTimed, PortsAreTimed, most_current_while, IsAwaited, WaitsAreShort}
 use Rattle.lagsystem.specs.Soonest.{HappensIn, IsFirstToHappen, TimerHas, WindowHas}
 use Rattle.lagsystem.specs.Waiting.{ticks_until_due}
 use Rattle.lagsystem.proofs.Soonest.{tells_the_first}
@@ -9,9 +9,7 @@ use Rattle.lagprogress.specs.Told.{SomeFrameIsDue, TellsAtMost900}
 use Rattle.lagprogress.proofs.Timers.{most_fast}
 
 current_within : (short : Bool) (r : ReceiveState) → most_current_while short r ≤ 900
-current_within true r = omega arith
-current_within false Expired = omega arith
-current_within false r = omega arith
+current_within short r = grind (arith, nat_tests)
 
 age_within : (P : ℕ → Type 0) (ages : List ℕ) (i a : ℕ) → slice_get ages i ≡ Some a → AllByRecursion P ages → P a
 age_within P [] i a e h = absurd (none-some a e)
@@ -23,26 +21,10 @@ abbrev Within : ℕ → SystemState → Type 0
 Within n s = (n ≤ 900) × (n ≡ 0 → SomeFrameIsDue s)
 
 timer_within : (n : ℕ) (s : SystemState) (p : Machines) → IsTimed p → TimerHas n p → Within n s
-timer_within n s p t h = elim h.1 [
-  | inl e ↦ (
-    omega (arith, e, t.0, current_within p.short p.receive),
-    λ z. absurd (omega (arith, z, h.0)),
-  )
-  | inr k ↦ elim k [
-    | inl e ↦ (
-      omega (arith, e, t.1, most_fast p.periodic),
-      λ z. absurd (omega (arith, z, h.0)),
-    )
-    | inr e ↦ (omega (arith, e, t.2), λ z. absurd (omega (arith, z, h.0)))
-  ]
-]
+timer_within n s p t h = grind (arith, nat_tests, current_within, most_fast)
 
 window_within : (n : ℕ) (s : SystemState) (p : Machines) → IsTimed p → WindowHas n p → Within n s
-window_within n s p t h =
-    let young : h.3 < 11 = age_within (λ a. a < 11) p.ages h.2 h.3 h.4 t.3 in (
-      omega (arith, h.5),
-      λ z. absurd (omega (arith, z, h.5, young)),
-    )
+window_within n s p t h = grind (arith, nat_tests, age_within)
 
 happens_within : (n : ℕ) (s : SystemState) → PortsAreTimed s → WaitsAreShort s → HappensIn n s → Within n s
 happens_within n s t w h = elim h [
@@ -58,8 +40,7 @@ happens_within n s t w h = elim h [
 ]
 
 first_is : (s : SystemState) (n : ℕ) (r : Option ℕ) → r ≡ Some n → IsFirstToHappen s r → HappensIn n s
-first_is s n None e h = absurd (none-some n e)
-first_is s n (Some m) e h = subst (λ k. HappensIn k s) (same_Some m n e) h.0
+first_is s n r e h = grind (arith, nat_tests)
 
 none_sooner : (s : SystemState) (r : Option ℕ) → IsFirstToHappen s r → HappensIn 0 s → r ≡ Some 0
 none_sooner s None h k = absurd (h 0 k)

@@ -1,10 +1,10 @@
 -- No call leaves a conversation waiting for a response for 30 ticks.
 use Rattle.lagprogress.proofs.Common.{Bool, Err, List, None, Ok, Option, Result, Some, ap, arith, cond, eqb, false, length, ltb, refl, subst, sym}
-use Rattle.lagprogress.proofs.Common.{true, ℕ, ◌&&◌, ◌+◌, ◌∙◌, ◌≡◌, ltb-true, is_none, AggId, Assignment, Flushing, Free, On, Wanted, force_result}
-use Rattle.lagprogress.proofs.Common.{is_among, move_result, after_down, after_mark, after_release, after_tick, Table, assignment_of, next_identifier}
-use Rattle.lagprogress.proofs.Common.{first_free, SystemFault, Call, Configure, Force, FreesIfDown, Move_conversation, Offer, Receive, Restart}
-use Rattle.lagprogress.proofs.Common.{Set_link, Step, Tick, Transmit, IsFirst, Offers, system_force_result, system_move_result, distributing}
-use Rattle.lagprogress.proofs.Common.{Settling, held_unless_on, SystemState, forced_to, moved_to, IsAwaited, WaitsAreShort}
+use Rattle.lagprogress.proofs.Common.{true, ℕ, ◌&&◌, ◌+◌, ◌∙◌, ◌≡◌, ltb-true, nat_tests, is_none, AggId, Assignment, Flushing, Free, On, Wanted}
+use Rattle.lagprogress.proofs.Common.{force_result, is_among, move_result, after_down, after_mark, after_release, after_tick, Table, assignment_of}
+use Rattle.lagprogress.proofs.Common.{next_identifier, first_free, SystemFault, Call, Configure, Force, FreesIfDown, Move_conversation, Offer}
+use Rattle.lagprogress.proofs.Common.{Receive, Restart, Set_link, Step, Tick, Transmit, IsFirst, Offers, system_force_result, system_move_result}
+use Rattle.lagprogress.proofs.Common.{distributing, Settling, held_unless_on, SystemState, forced_to, moved_to, IsAwaited, WaitsAreShort}
 use Rattle.distributor.specs.declared.fault.DistFault.TheVariants as dist
 use Rattle.lagsystem.specs.declared.drive.Reply.{Reply}
 use Rattle.lagsystem.specs.declared.drive.Reply.TheVariants as reply
@@ -16,8 +16,7 @@ abbrev Stays : Assignment → Assignment → Type 0
 Stays a b = IsAwaited a → IsAwaited b
 
 either : (b : Bool) (x y : Assignment) → IsAwaited x → IsAwaited y → IsAwaited (cond b x y)
-either true x y h k = h
-either false x y h k = k
+either b x y h k = grind (arith, nat_tests)
 
 ticked : (a : Assignment) → IsAwaited a → IsAwaited (after_tick a)
 ticked (Flushing p n preferred age) h = waits (ltb (age + 1) 30) refl
@@ -28,22 +27,16 @@ ticked (Flushing p n preferred age) h = waits (ltb (age + 1) 30) refl
 ticked a h = h
 
 released : (port id : ℕ) (a : Assignment) → IsAwaited a → IsAwaited (after_release port id a)
-released port id (Flushing p n preferred age) h = either (eqb p port && eqb n id) (Free preferred) (Flushing p n preferred age) tt h
-released port id a h = h
+released port id a h = grind (arith, nat_tests)
 
 marked : (port id : ℕ) (a : Assignment) → IsAwaited a → IsAwaited (after_mark port id a)
-marked port id (Wanted p preferred) h = either (eqb p port) (Flushing port id preferred 0) (Wanted p preferred) (omega arith) tt
-marked port id a h = h
+marked port id a h = grind (arith, nat_tests)
 
 downed : (port : ℕ) (a : Assignment) → IsAwaited a → IsAwaited (after_down port a)
-downed port (Free preferred) h = tt
-downed port (On p) h = either (eqb p port) (Free None) (On p) tt tt
-downed port (Wanted p preferred) h = either (eqb p port) (Free preferred) (Wanted p preferred) tt tt
-downed port (Flushing p n preferred age) h = either (eqb p port) (Free preferred) (Flushing p n preferred age) tt h
+downed port a h = grind (arith, nat_tests)
 
 held : (ports : List ℕ) (a : Assignment) → IsAwaited a → IsAwaited (held_unless_on ports a)
-held ports (On p) h = either (is_among ports p) (On p) (Wanted p None) tt tt
-held ports a h = h
+held ports a h = grind (arith, nat_tests)
 
 stays : Turning Stays
 stays = record { same = λ a h. h; through = λ a b c f g h. g (f h); tick = ticked; mark = marked; release = released; held = held }
@@ -62,20 +55,10 @@ offers gives agg octets old (Ok port) new h = sets_turn Stays stays agg.0 _ (On 
 offers gives agg octets old (Err fault) new h = same_turns Stays stays old new (ap (λ (s : SystemState). s.table) h.1)
 
 moved : (next : Option ℕ) (ports : List ℕ) (to : ℕ) (a s : Assignment) → move_result next ports to a ≡ Ok s → IsAwaited s
-moved next ports to (On p) s h = checked (is_among ports to) (eqb p to) (is_none next) h
-  where
-    checked : (x y z : Bool)
-        → cond x (cond y (Err dist.SamePort) (cond z (Err dist.MarkersSpent) (Ok (Wanted p (Some to))))) (Err dist.NotDistributing) ≡ Ok s
-        → IsAwaited s
-    checked true false false e = let is : Wanted p (Some to) ≡ s = cc in subst IsAwaited is tt
-    checked x y z e = absurd cc
-moved next ports to a s h = absurd cc
+moved next ports to a s h = grind (arith, nat_tests)
 
 forced : (a s : Assignment) → force_result a ≡ Ok s → IsAwaited s
-forced (Free preferred) s h = absurd cc
-forced (On p) s h = let is : Free None ≡ s = cc in subst IsAwaited is tt
-forced (Wanted p preferred) s h = let is : Free preferred ≡ s = cc in subst IsAwaited is tt
-forced (Flushing p n preferred age) s h = let is : Free preferred ≡ s = cc in subst IsAwaited is tt
+forced a s h = grind (arith, nat_tests)
 
 pub first_waits : (s : SystemState) → IsFirst s → WaitsAreShort s
 first_waits s h g k = subst IsAwaited
