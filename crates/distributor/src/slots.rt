@@ -272,7 +272,7 @@ impl Slots {
         false
     }
 
-    /// One tick for each conversation in this chain. It stands alone, so that the walk over the flags is short.
+    /// One tick for each conversation in this chain. A function of its own, so that the walk over the flags is short.
     #[inline(never)]
     fn tick_chain(&mut self, chain: u32)
         requires chained { AreChained self.old }
@@ -286,7 +286,8 @@ impl Slots {
         self.change_chain(chain, Change::Tick);
     }
 
-    /// Whether some chain has a flag for Flushing. Each flag is read, so that the compiler can read many at once.
+    /// Whether some chain has a flag for Flushing. If this returns false, none has; true says nothing. The loop has no early
+    /// exit, so that the compiler can read many flags at once.
     fn any_may_flush(&self) -> bool
         requires flagged { AreFlagged self.now }
         ensures { OnFalse result ((c : ℕ) → get_or self.now.may_flush.items c false ≡ false) }
@@ -308,12 +309,12 @@ impl Slots {
         ensures count { self.new.count ≡ self.old.count }
     {
         if self.any_may_flush() {
-            self.tick_chains();
+            self.tick_flagged();
         }
     }
 
-    /// The same, chain by chain.
-    fn tick_chains(&mut self)
+    /// One tick for each conversation, by a walk along each chain that has a flag for Flushing.
+    fn tick_flagged(&mut self)
         requires chained { AreChained self.old }
         requires flagged { AreFlagged self.old }
         ensures chained { AreChained self.new }

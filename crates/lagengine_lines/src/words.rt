@@ -6,7 +6,7 @@ ghost use Rattle.lagtypes.specs.Words.{parts};
 
 use crate::fault::{RequestError, RequestFault};
 use hex::{FromHex, FromHexError};
-use lagtypes::{long_number_of, number_of};
+use lagtypes::{decimal_u16, decimal_u32};
 use std::alloc::{AllocError, Global};
 
 /// The fields of a word, between colons.
@@ -27,14 +27,14 @@ pub(crate) fn items_of<'a>(alloc: Global, word: &'a str) -> Result<Vec<&'a str>,
 pub(crate) fn number(place: usize, word: &str) -> Result<u16, RequestFault>
     ensures { result ≡ number_word place word.now }
 {
-    number_of(word).ok_or(RequestFault::Number(place))
+    decimal_u16(word).ok_or(RequestFault::Number(place))
 }
 
 /// Reads the word at this place as a number of ticks, 1 to 65535.
 pub(crate) fn ticks(place: usize, word: &str) -> Result<u16, RequestFault>
     ensures { result ≡ ticks_word place word.now }
 {
-    match number_of(word) {
+    match decimal_u16(word) {
         None | Some(0) => Err(RequestFault::Number(place)),
         Some(n) => Ok(n),
     }
@@ -44,7 +44,7 @@ pub(crate) fn ticks(place: usize, word: &str) -> Result<u16, RequestFault>
 pub(crate) fn long_number(place: usize, word: &str) -> Result<u32, RequestFault>
     ensures { result ≡ long_number_word place word.now }
 {
-    long_number_of(word).ok_or(RequestFault::Number(place))
+    decimal_u32(word).ok_or(RequestFault::Number(place))
 }
 
 /// Reads these numbers, which stand in the word at this place.

@@ -3,14 +3,14 @@ ghost use Rattle.lagexplain.specs.Entries.{first_wrong, is_wrong, is_wrong_at};
 
 use hex::FromHexError;
 use lagscript::WordKind;
-use lagtypes::number_of;
+use lagtypes::decimal_u16;
 use std::alloc::{AllocError, Global};
 
 /// Whether the word is none of its kind, in a script with this many cables.
 fn is_wrong(alloc: Global, cables: usize, kind: WordKind, word: &str) -> Result<bool, AllocError>
     ensures { IfOk result (λ wrong. wrong ≡ is_wrong cables kind word.now) }
 {
-    let number = number_of(word);
+    let number = decimal_u16(word);
     match kind {
         WordKind::System => Ok(number != Some(1) && number != Some(2)),
         WordKind::Ticks => Ok(number.is_none() || number == Some(0)),

@@ -11,7 +11,7 @@ use crate::fault::EntryFault;
 use crate::forms::{Form, WordKind};
 use crate::words::{NoOctets, octets_of};
 use lagsystem::PortChange;
-use lagtypes::{AggId, Key, number_of, words_of};
+use lagtypes::{AggId, Key, decimal_u16, words_of};
 use std::alloc::{AllocError, Global};
 
 /// Why an entry cannot be read as an event.
@@ -112,14 +112,14 @@ pub fn form_of(name: &str) -> Option<Form>
 fn number(word: &str) -> Result<u16, EntryFault>
     ensures { result ≡ number_word word.now }
 {
-    number_of(word).ok_or(EntryFault::Number)
+    decimal_u16(word).ok_or(EntryFault::Number)
 }
 
 /// Reads a system, 1 or 2.
 fn system(word: &str) -> Result<u8, EntryFault>
     ensures { result ≡ system_word word.now }
 {
-    match number_of(word) {
+    match decimal_u16(word) {
         None => Err(EntryFault::Number),
         Some(1) => Ok(1),
         Some(2) => Ok(2),
@@ -131,7 +131,7 @@ fn system(word: &str) -> Result<u8, EntryFault>
 fn cable(cables: usize, word: &str) -> Result<u16, EntryFault>
     ensures { result ≡ cable_word cables word.now }
 {
-    match number_of(word) {
+    match decimal_u16(word) {
         None => Err(EntryFault::Number),
         Some(n) => {
             if n >= 1 && n as usize <= cables {
@@ -147,7 +147,7 @@ fn cable(cables: usize, word: &str) -> Result<u16, EntryFault>
 fn ticks(word: &str) -> Result<u16, EntryFault>
     ensures { result ≡ ticks_word word.now }
 {
-    match number_of(word) {
+    match decimal_u16(word) {
         None | Some(0) => Err(EntryFault::Number),
         Some(n) => Ok(n),
     }

@@ -16,7 +16,7 @@ use distributor::Assignment;
 use lagtypes::AggId;
 
 impl<F: Fn(u16, usize) -> usize + Drop> Inner<F> {
-    /// The port for a frame of a conversation that there is; the conversation is On it then.
+    /// The port for a frame of a conversation that exists. The conversation is On that port afterwards.
     #[inline(always)]
     pub(crate) fn take_port(&mut self, agg: AggId, conv: u16) -> Result<u16, SystemFault>
         requires usable { PicksIndexes (F.pre self.old.distributor.algorithm) (F.post self.old.distributor.algorithm) }
@@ -33,7 +33,8 @@ impl<F: Fn(u16, usize) -> usize + Drop> Inner<F> {
         self.assign_port(agg, conv)
     }
 
-    /// The same, by a look at the ports that distribute. It stands alone, so that a caller need not make room for them.
+    /// As `take_port`, but this looks at the ports that distribute. A function of its own, so that `take_port` reserves no
+    /// stack for their list.
     #[inline(never)]
     fn assign_port(&mut self, agg: AggId, conv: u16) -> Result<u16, SystemFault>
         requires usable { PicksIndexes (F.pre self.old.distributor.algorithm) (F.post self.old.distributor.algorithm) }

@@ -9,8 +9,8 @@ use lagtypes::{AggId, Choice};
 use portmachines::{MuxState, Port, ReceiveState};
 use std::fmt;
 
-/// Whether a port distributes, and else the first reason why not, in the order in which they stand here (profile). A clause
-/// of `port_status_says_why` proves what each says.
+/// Whether a port distributes, and else the first reason why not, in the order in which they stand here (profile). The law
+/// `port_status_says_why` proves what each says.
 #[derive(Clone, Copy, Debug, PartialEq, Eq)]
 pub enum PortStatus {
     /// The mux machine is in COLLECTING_DISTRIBUTING, the port is SELECTED, and its partner is synchronized (6.4.15).

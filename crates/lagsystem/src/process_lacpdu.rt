@@ -14,7 +14,8 @@ use portmachines::ReceiveState;
 use selection::Stage;
 use slowpdu::{Info, Lacpdu};
 
-/// Whether a port is in CURRENT, and the actor of the LACPDU is the partner that it has recorded.
+/// Whether a port is in CURRENT, and the actor of the LACPDU is the partner that it has recorded. If this returns true, both
+/// hold; false says nothing.
 fn has_recorded_actor(system_port: &SystemPort, pdu: &Lacpdu) -> bool
     ensures { OnTrue result (HasRecordedActor pdu.now system_port.now) }
 {
@@ -27,6 +28,7 @@ fn has_recorded_actor(system_port: &SystemPort, pdu: &Lacpdu) -> bool
     }
 }
 
+/// Whether two records name the same partner. If this returns true, they do; false says nothing.
 fn is_same_partner(now: &Info, was: &Info) -> bool
     ensures { OnTrue result (IsSamePartner was.now now.now) }
 {

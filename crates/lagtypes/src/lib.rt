@@ -1,5 +1,6 @@
 //! Identifiers of link aggregation (IEEE 802.1AX-2014, 6.3): systems, ports, keys, aggregators; the state octet of a
-//! port; the parameters of one end of a link; and the Link Aggregation Group of two ends; words of a text, and the numbers that they stand for.
+//! port; the parameters of one end of a link; the Link Aggregation Group of two ends; and the words of a line of text, with
+//! the numbers that they stand for.
 //!
 //! In comments, numbers such as 6.4.2.3 are sections of that standard, and "profile" is docs/PROFILE.md.
 #![tactic(auto)]
@@ -18,4 +19,4 @@ pub use laws::{equal_groups_are_equal_pairs, state_bits_are_kept};
 pub use memory::NoMemory;
 pub use party::{Choice, Party};
 pub use state::{State, StateBits};
-pub use words::{long_number_of, number_of, words_of};
+pub use words::{decimal_u16, decimal_u32, words_of};

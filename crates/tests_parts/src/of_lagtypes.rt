@@ -1,8 +1,8 @@
 use crate::comparing::{holds, same, same_in_row};
 use bitflags::Flags;
 use lagtypes::{
-    AggId, Choice, Group, Key, OctetText, Party, PortId, State, StateBits, SystemId,
-    long_number_of, number_of, words_of,
+    AggId, Choice, Group, Key, OctetText, Party, PortId, State, StateBits, SystemId, decimal_u16,
+    decimal_u32, words_of,
 };
 use std::alloc::{AllocError, Global};
 use std::cmp::Ordering;
@@ -284,13 +284,13 @@ fn numbers_are_decimal_digits(rt: HostRuntime) {
         (" 1", None),
     ];
     for (row, (word, wanted)) in rows.iter().enumerate() {
-        same_in_row(&rt, row, &number_of(*word), wanted);
+        same_in_row(&rt, row, &decimal_u16(*word), wanted);
     }
-    let greatest = long_number_of("4294967295");
+    let greatest = decimal_u32("4294967295");
     same(&rt, "greatest", &greatest, &Some(4294967295));
-    let past = long_number_of("4294967296");
+    let past = decimal_u32("4294967296");
     same(&rt, "past the greatest", &past, &None);
-    same(&rt, "plus sign", &long_number_of("+1"), &None);
+    same(&rt, "plus sign", &decimal_u32("+1"), &None);
 }
 
 #[test]

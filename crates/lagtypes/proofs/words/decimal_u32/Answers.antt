@@ -1,7 +1,7 @@
 use Rattle.std.proofs.Common.{lit<, sym, ◌∙◌}
 use Rattle.std.proofs.lemmas.Bool.{eqb-false}
 use Rattle.lagtypes.proofs.NumberLemmas.{long_parsed}
-use Rattle.lagtypes.proofs.words.long_number_of.Goals as goal
+use Rattle.lagtypes.proofs.words.decimal_u32.Goals as goal
 
 pub returns : goal.returns
 returns c =
