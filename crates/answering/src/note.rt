@@ -15,7 +15,7 @@ pub enum MarkerNote {
 }
 
 impl MarkerNote {
-    /// Its number: 0 for `NeverAsked`, 1 for `Asked`, 2 for `Answered` (profile).
+    /// The number of the note: 0 for `NeverAsked`, 1 for `Asked`, 2 for `Answered` (profile).
     pub fn number(&self) -> u8
         ensures { result ≡ answers_number self.now }
     {

@@ -12,9 +12,9 @@ pub enum Stamp {
         system: u8,
         /// The aggregator whose client sent it, from 1.
         agg: u16,
-        /// Its conversation, 0 to 4095.
+        /// The conversation of the frame, 0 to 4095.
         conv: u16,
-        /// Its number among the frames of that conversation, from 0.
+        /// The number of the frame among those of its conversation, from 0.
         serial: u64,
     },
 }

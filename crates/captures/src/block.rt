@@ -12,13 +12,13 @@ use crate::pcapng::{SECTION, length_in, section_in, simple_packet, stamped_packe
 /// What a block of pcapng says.
 #[derive(Clone, Copy)]
 pub(crate) enum Block {
-    /// It begins a section with this order of octets.
+    /// The block begins a section with this order of octets.
     Section(Order),
-    /// It describes an interface.
+    /// The block describes an interface.
     Interface(Interface),
-    /// It holds a packet.
+    /// The block holds a packet.
     Packet(Packet),
-    /// It is skipped.
+    /// The block is skipped.
     Other,
 }
 

@@ -47,7 +47,7 @@ pub struct Fault {
 /// Why `Reader::read` gives no step.
 #[derive(Clone, Copy, Debug, PartialEq, Eq)]
 pub enum Stop {
-    /// As many octets are wanted, counted from the first of those that were given; fewer were.
+    /// The next step needs this many octets, counted from the first of those that were given, and fewer were given.
     Wants(usize),
     /// The capture is not read on.
     Refused(Fault),

@@ -11,13 +11,13 @@ use std::cmp::Reverse;
 pub(crate) struct Rank {
     /// Whether the first port that distributes in it runs on defaults.
     pub(crate) on_defaults: bool,
-    /// How many ports distribute in it.
+    /// How many ports distribute in the aggregator.
     pub(crate) ports: Reverse<usize>,
-    /// Whether it is another one than carries now.
+    /// Whether the aggregator is another one than carries now.
     pub(crate) is_other: bool,
-    /// Its LAG ID.
+    /// The LAG ID of the aggregator.
     pub(crate) group: Group,
-    /// Its number.
+    /// The number of the aggregator.
     pub(crate) agg: AggId,
 }
 

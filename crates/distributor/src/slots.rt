@@ -29,7 +29,7 @@ pub(crate) struct Slots {
     states: Vec<Assignment>,
     /// For each slot, and then for the end of each chain: what comes next in the ring.
     next: Vec<u32>,
-    /// The same, backwards.
+    /// For each slot, and then for the end of each chain: what comes before it in the ring.
     prev: Vec<u32>,
     /// For each chain, whether one of its conversations may be Wanted.
     may_want: Vec<bool>,
@@ -40,13 +40,13 @@ pub(crate) struct Slots {
 /// Which conversations are counted.
 #[derive(Clone, Copy, Debug)]
 pub(crate) enum ConversationTest {
-    /// Those that wait for a marker to be sent on this port.
+    /// Conversations that wait for a marker to be sent on this port.
     WantsMarker(u16),
-    /// Those that wait for the response to this marker on this port.
+    /// Conversations that wait for the response to this marker on this port.
     AwaitsResponse(u16, u32),
-    /// Those that are On, Wanted or Flushing on this port.
+    /// Conversations that are On, Wanted or Flushing on this port.
     NamesPort(u16),
-    /// Those that are Wanted or Flushing on this port.
+    /// Conversations that are Wanted or Flushing on this port.
     HeldOn(u16),
 }
 
@@ -77,7 +77,7 @@ impl ConversationTest {
 }
 
 impl Slots {
-    /// This many slots, all free.
+    /// Makes this many slots, all free.
     pub(crate) fn new(alloc: Global, count: u32) -> Result<Slots, AllocError>
         requires few { count + 64 < 2 ^ 32 }
         ensures chained { IfOk result (λ s. AreChained s) }
@@ -218,7 +218,7 @@ impl Slots {
         }
     }
 
-    /// The same, by a walk along the chain of the test.
+    /// How many conversations the test counts, by a walk along the chain of the test, whatever its flags are.
     fn count_chain(&self, test: ConversationTest) -> u32
         requires chained { AreChained self.now }
         ensures { result ≡ sum_below (λ k. cond (passes test (slot_state self.now.states.items k)) 1 0) self.now.count }

@@ -157,7 +157,8 @@ impl ConversationTable {
         u32::try_from(self.next).ok()
     }
 
-    /// The same as `wants_marker_on`. A walk that finds none works the flags of its chain out anew.
+    /// Whether a conversation waits for a marker on this port, as `wants_marker_on`. A walk that finds none also corrects the
+    /// flags of its chain.
     fn find_wanted(&mut self, port: u16) -> bool
         ensures found { result ≡ nat_lt 0 (count_conversations (wants_marker port) self.old) }
         ensures same { self.new ≡ self.old }

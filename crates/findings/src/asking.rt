@@ -119,7 +119,7 @@ impl Asking {
         }
     }
 
-    /// The same behind one more frame, of this end or another.
+    /// What is known of the markers of this end after one more frame, of this end or another.
     pub(crate) fn with(&self, end: &LinkEnd, is_own: bool, now: &Observed) -> Asking
         ensures { (h : List Observed) → same_end (end_of now.now) end.now ≡ is_own → self.now ≡ asking end.now h
             → result ≡ asking end.now (now.now ∷ h) }

@@ -9,7 +9,7 @@ use crate::others::Other;
 use crate::recent::{Heard, LONG_TIMEOUT, is_ordered};
 
 impl Heard {
-    /// This LACPDU, and the end that answers its sender.
+    /// What a report shows of this LACPDU, and the end that answers its sender.
     pub(crate) fn shown(&self) -> Shown
         ensures { result ≡ shown_heard self.now }
     {

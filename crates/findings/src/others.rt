@@ -8,7 +8,7 @@ use slowpdu::Lacpdu;
 /// An LACPDU of another end.
 #[derive(Clone, Copy, Debug, PartialEq, Eq)]
 pub(crate) struct Other {
-    /// Its sender.
+    /// The end that sent the LACPDU.
     pub(crate) end: LinkEnd,
     /// When it was captured, in nanoseconds.
     pub(crate) nanoseconds: u64,

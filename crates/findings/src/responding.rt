@@ -55,7 +55,7 @@ impl Asked {
     }
 }
 
-/// One more.
+/// A count with one more counted.
 #[tactic(auto, unfolding(crate::specs::Counts::counted))]
 fn one_more(count: u64) -> u64
     ensures { result ≡ counted (count + 1) }
@@ -133,7 +133,8 @@ impl Responding {
         }
     }
 
-    /// The same behind one more frame, which is none of the end's LACPDUs and markers, if the end has sent an LACPDU.
+    /// What is known of the responses of this end after one more frame, which is none of the end's LACPDUs and markers, if
+    /// the end has sent an LACPDU.
     pub(crate) fn with(&self, end: &LinkEnd, now: &Observed) -> Responding
         ensures { (h : List Observed) → same_end (end_of now.now) end.now ≡ false → is_some (said end.now h) ≡ true → self.now ≡ responding end.now h
             → result ≡ responding end.now (now.now ∷ h) }

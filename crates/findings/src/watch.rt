@@ -21,11 +21,11 @@ use slowpdu::Lacpdu;
 #[derive(Clone, Copy, Debug, Default, PartialEq, Eq)]
 pub(crate) struct Watch {
     pub(crate) end: LinkEnd,
-    /// Its latest LACPDU.
+    /// The latest LACPDU that the end sent.
     pub(crate) said: Option<Lacpdu>,
-    /// Its markers.
+    /// What is known of the markers that the end sent.
     pub(crate) asking: Asking,
-    /// Its responses.
+    /// What is known of the Marker Responses that the end sent.
     pub(crate) responding: Responding,
     pub(crate) others: Others,
     pub(crate) recent: Recent,
@@ -50,7 +50,7 @@ impl Watch {
         }
     }
 
-    /// The same behind one more frame of this end.
+    /// What is known of this end after one more frame that it sent.
     fn with_own(&self, now: &Observed) -> Watch
         ensures end { result.end ≡ self.now.end }
         ensures exact { (h : List Observed) → same_end (end_of now.now) self.now.end ≡ true → self.now ≡ watched self.now.end h

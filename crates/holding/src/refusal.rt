@@ -7,6 +7,6 @@ pub enum Refusal {
     NoConversation,
     /// The queue of the conversation is full.
     ConversationFull,
-    /// As many frames wait as may wait in all.
+    /// As many frames wait, of all conversations, as may.
     AllFull,
 }

@@ -39,7 +39,7 @@ impl LagMove {
         }
     }
 
-    /// This move, or none.
+    /// A move as C reads it, or that there is none.
     fn of(answer: Option<Move>) -> LagMove
         ensures { result ≡ move_of answer }
     {

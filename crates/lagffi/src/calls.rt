@@ -115,7 +115,7 @@ fn tick_times<F: Fn(u16, usize) -> usize + Drop>(system: &mut System<F>, count: 
     }
 }
 
-/// So many ticks of 100 ms, one after another, and nothing between them.
+/// Takes this many ticks of 100 ms, one after another, and nothing between them.
 #[unsafe(no_mangle)]
 pub extern "C" fn lagffi_ticks(alloc: Global, lag: &mut Lag, count: u32) -> u32
     ensures { CallsHeldSystem (held_value lag.old.held.kept) (held_value lag.new.held.kept)

@@ -39,7 +39,7 @@ pub struct LagParticipant {
 }
 
 impl LagParticipant {
-    /// This end.
+    /// The record of one end in an LACPDU, as C reads it.
     fn of(info: &Info) -> LagParticipant
         ensures { result ≡ participant_of info.now }
     {

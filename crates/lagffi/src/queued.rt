@@ -8,9 +8,9 @@ use holding::{Holding, Refusal, Released};
 pub(crate) const NO_QUEUE: u32 = 19;
 /// The handle holds queues already.
 pub(crate) const HOLDS_QUEUE_ALREADY: u32 = 20;
-/// As many frames of the conversation wait as may.
+/// The queue of the conversation is full.
 const CONVERSATION_FULL: u32 = 21;
-/// As many frames wait as may in all.
+/// As many frames wait, of all conversations, as may.
 const ALL_FULL: u32 = 22;
 
 /// The status of a put, by why it is refused.
@@ -33,7 +33,7 @@ pub struct LagQueued {
     pub status: u32,
     /// Whether there is one.
     pub is: bool,
-    /// Its conversation; 0 where there is none.
+    /// The conversation of the frame; 0 where there is no frame.
     pub conversation: u16,
     /// The port that it is to be sent on, where ports were asked; else 0.
     pub port: u16,

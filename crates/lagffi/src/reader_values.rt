@@ -263,7 +263,7 @@ pub struct LagEnd {
 }
 
 impl LagEnd {
-    /// This end.
+    /// An end of a LAG ID as C reads it.
     fn of(end: &End) -> LagEnd
         ensures { result ≡ lag_end end.now }
     {
@@ -304,7 +304,7 @@ pub struct LagGroup {
     pub status: u32,
     /// The lower end.
     pub lower: LagEnd,
-    /// The other end.
+    /// The upper end.
     pub upper: LagEnd,
 }
 
@@ -497,7 +497,7 @@ impl LagWait {
         }
     }
 
-    /// So many ticks; None for never.
+    /// A number of ticks as C reads it; None for never.
     pub(crate) fn of(wait: Option<u16>) -> LagWait
         ensures { result ≡ lag_wait wait }
     {

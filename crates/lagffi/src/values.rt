@@ -75,7 +75,7 @@ pub struct LagTruth {
 }
 
 impl LagTruth {
-    /// It is so, or not.
+    /// Status 0 with this answer.
     pub(crate) fn answered(is: bool) -> LagTruth
         ensures { result ≡ truth is }
     {
@@ -124,7 +124,7 @@ pub struct LagNumber {
 }
 
 impl LagNumber {
-    /// This number.
+    /// Status 0 with this number.
     pub(crate) fn answered(answer: u64) -> LagNumber
         ensures { result ≡ number answer }
     {

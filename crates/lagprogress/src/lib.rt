@@ -143,7 +143,8 @@ pub fn active_ends_come_to_know<F: Fn(u16, usize) -> usize>()
 
 ghost use Rattle.lagprogress.specs.Progress.{EndsComeToKnow};
 
-/// The same if one of the two ports is active, whatever the other is, from 630 healthy rounds (63 s) on (6.4.12, 6.4.13).
+/// The ends of a cable come to know each other as in `active_ends_come_to_know`, if one of the two ports is active, whatever the
+/// other is: from 630 healthy rounds (63 s) on (6.4.12, 6.4.13).
 pub fn ends_come_to_know<F: Fn(u16, usize) -> usize>()
     ensures { (one two : F) → EndsComeToKnow (both_algorithms (F.post one) (F.post two)) }
 {}
@@ -161,8 +162,8 @@ pub fn links_come_up<F: Fn(u16, usize) -> usize>()
 
 ghost use Rattle.lagprogress.specs.Agreeing.{ActiveLinkAgrees, LinkAgrees};
 
-/// And then the ends agree: in a sound world as in `links_come_up` the agreement of the cable is `Same` from as many
-/// healthy rounds on: 352 (35.2 s) if both ends are active, 661 (66.1 s) if one is (6.3.6; profile).
+/// The two ends of a link that is up agree: in a sound world as in `links_come_up` the agreement of the cable is `Same`
+/// from as many healthy rounds on: 352 (35.2 s) if both ends are active, 661 (66.1 s) if one is (6.3.6; profile).
 pub fn links_agree<F: Fn(u16, usize) -> usize>()
     ensures both { (one two : F) → ActiveLinkAgrees (both_algorithms (F.post one) (F.post two)) }
     ensures one { (one two : F) → LinkAgrees (both_algorithms (F.post one) (F.post two)) }
@@ -205,8 +206,8 @@ pub fn each_link_comes_up<F: Fn(u16, usize) -> usize>()
 
 ghost use Rattle.lagprogress.specs.Bundle.{EachActiveLinkAgrees, EachLinkAgrees};
 
-/// And then the ends agree: in a sound world as in `each_link_comes_up` the agreement of each healthy cable is `Same` from as many
-/// healthy rounds on: 352 (35.2 s) if both ends of each are active, 661 (66.1 s) if one is (6.3.6; profile).
+/// The two ends of each link that is up agree: in a sound world as in `each_link_comes_up` the agreement of each healthy
+/// cable is `Same` from as many healthy rounds on: 352 (35.2 s) if both ends of each are active, 661 (66.1 s) if one is (6.3.6; profile).
 pub fn each_link_agrees<F: Fn(u16, usize) -> usize>()
     ensures both { (one two : F) → EachActiveLinkAgrees (both_algorithms (F.post one) (F.post two)) }
     ensures one { (one two : F) → EachLinkAgrees (both_algorithms (F.post one) (F.post two)) }

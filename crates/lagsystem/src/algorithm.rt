@@ -5,7 +5,7 @@ use crate::calls::System;
 use crate::inner::Inner;
 
 impl<F: Drop> Inner<F> {
-    /// The same system under another algorithm.
+    /// Puts this system, in its state, under another algorithm.
     fn with_algorithm<G>(self, algorithm: G) -> Inner<G>
         ensures state { inner_state result ≡ inner_state self }
         ensures algorithm { result.distributor.algorithm ≡ algorithm }
@@ -30,8 +30,8 @@ impl<F: Drop> Inner<F> {
 }
 
 impl<F: Drop> System<F> {
-    /// The same system under another algorithm. A `System<()>` has none and takes no call: it is how a system is kept where
-    /// no type can name its algorithm (profile).
+    /// Puts this system, in its state, under another algorithm. A `System<()>` has no algorithm and takes no call: a program
+    /// keeps a system so where no type can name its algorithm (profile).
     pub fn with_algorithm<G>(self, algorithm: G) -> System<G>
         ensures state { result.state ≡ self.state }
         ensures algorithm { result.algorithm ≡ algorithm }

@@ -30,7 +30,7 @@ impl<F: Fn(u16, usize) -> usize + Drop> System<F> {
         Ok(forced)
     }
 
-    /// The same in one aggregator.
+    /// Forces each conversation of one aggregator that is held on a port; returns how many were held.
     fn force_held_in(&mut self, agg: AggId, port: u16) -> u32
         requires there { has_aggregator self.old.state agg ≡ true }
         ensures forced { ForcesIn (F.post self.old.algorithm) port agg self.old.state.conversations self.old.state result self.new.state }
@@ -47,7 +47,7 @@ impl<F: Fn(u16, usize) -> usize + Drop> System<F> {
         forced
     }
 
-    /// The same of one conversation; false if it is not held there.
+    /// Forces a conversation if it is held on this port, and returns true; returns false if it is not held there.
     fn force_if_held(&mut self, agg: AggId, conv: u16, port: u16) -> bool
         requires there { has_aggregator self.old.state agg ≡ true }
         requires within { conv < self.old.state.conversations }

@@ -86,7 +86,8 @@ pub(crate) fn may_promote(
     any_standby(rest) && some_may_have_room(aggregators, system_ports, first)
 }
 
-/// The same where some port is STANDBY. The members are counted once, however many aggregators there are.
+/// False only if no aggregator of a STANDBY port has room for one more member. The members are counted once, however many
+/// aggregators there are.
 fn some_may_have_room(aggregators: &Aggregators, system_ports: &[SystemPort], first: usize) -> bool
     requires few { length system_ports.now ≤ 64 }
     requires first { position (λ s. not (is_selected s.port.choice)) system_ports.now ≡ Some first }
@@ -145,7 +146,7 @@ fn promote_all(
     while promote_next(aggregators, system_ports, port_views, agg) {}
 }
 
-/// The same in each aggregator, in order.
+/// Makes STANDBY ports SELECTED in each aggregator, in order, until none comes next in any.
 pub(crate) fn promote_each(
     aggregators: &Aggregators,
     system_ports: &mut [SystemPort],

@@ -50,7 +50,7 @@ fn any_eligible(system_ports: &[SystemPort]) -> bool
         .any(|system_port| is_eligible(system_port))
 }
 
-/// The same where the first port that is not SELECTED is known: none before it may choose.
+/// Whether some port may choose an aggregator, where the first port that is not SELECTED is known: none before it may.
 fn any_eligible_from(system_ports: &[SystemPort], first: usize) -> bool
     requires { position (λ s. not (is_selected s.port.choice)) system_ports.now ≡ Some first }
     ensures { result ≡ list_any (λ s. is_eligible (selection_view s)) system_ports.now }
@@ -120,8 +120,8 @@ fn choose_all(aggregators: &Aggregators, system_ports: &mut [SystemPort])
     }
 }
 
-/// The same where the port at this index is the first that is not SELECTED. It stands alone, so that where each port is
-/// SELECTED the walk over them is short.
+/// Step 2 where the port at this index is the first that is not SELECTED. A function of its own, so that the walk is short
+/// where each port is SELECTED.
 #[inline(never)]
 fn choose_some(aggregators: &Aggregators, system_ports: &mut [SystemPort], first: usize)
     requires few { length system_ports.old ≤ 64 }
@@ -135,8 +135,8 @@ fn choose_some(aggregators: &Aggregators, system_ports: &mut [SystemPort], first
     }
 }
 
-/// Step 2 where a STANDBY port may be promoted. It stands alone, as do the next two that list views: else each settling
-/// clears room for lists that it does not make.
+/// Step 2 where a STANDBY port may be promoted. This function, `choose_only` and `run_mux_by_ready` are not inlined, so that a
+/// settling that makes no list of views reserves no stack for one.
 #[inline(never)]
 fn promote_and_choose(aggregators: &Aggregators, system_ports: &mut [SystemPort])
     requires { length system_ports.old ≤ 64 }
@@ -182,7 +182,7 @@ fn run_mux(aggregators: &Aggregators, system_ports: &mut [SystemPort])
     }
 }
 
-/// The same where some member has waited.
+/// Steps 3 and 4 where the wait_while of some member in WAITING has expired.
 #[inline(never)]
 fn run_mux_by_ready(aggregators: &Aggregators, system_ports: &mut [SystemPort])
     requires { length system_ports.old ≤ 64 }

@@ -124,7 +124,7 @@ fn capture_file<R: Print + Files + Input + AllocGlobal>(
     }
 }
 
-/// The same fault as one of the program.
+/// A fault of a job with captures as a fault of the program.
 fn tool_fault(fault: CaptureFault) -> ToolFault {
     match fault {
         CaptureFault::Read => ToolFault::Read,

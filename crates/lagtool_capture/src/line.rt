@@ -174,11 +174,11 @@ impl fmt::Display for MarkerText {
 /// What the line of a frame says behind its head.
 #[derive(Clone, Copy)]
 pub(crate) enum WhatText {
-    /// It holds an LACPDU.
+    /// The frame holds an LACPDU.
     Lacpdu(LacpduText),
-    /// It holds a Marker PDU.
+    /// The frame holds a Marker PDU.
     Marker(Marker),
-    /// It is refused.
+    /// The frame is refused.
     Refused(WireFault),
 }
 

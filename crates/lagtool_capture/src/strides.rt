@@ -41,7 +41,7 @@ fn observe_any(
     }
 }
 
-/// So many octets are taken, and this is why no more are.
+/// The count of octets that were taken, with the reason why no more were.
 fn stopped_at(count: usize, stop: Stop) -> Taken
     ensures { result ≡ stopped_at count stop }
 {

@@ -13,7 +13,7 @@ const APART: u128 = 100;
 
 /// What is shown how far work is.
 pub trait Watch {
-    /// So much is done.
+    /// Shows how much is done.
     fn show(&self, done: u64);
 
     /// Takes away what is shown.

@@ -168,7 +168,7 @@ impl State {
         self.contains(State::EXPIRED)
     }
 
-    /// The same state, but Synchronization has this value (6.4.2.3).
+    /// This state with Synchronization set to this value, and all other bits as they are (6.4.2.3).
     pub fn with_synchronization(self, on: bool) -> State
         ensures { result ≡ with_synchronization on self }
     {
@@ -177,7 +177,7 @@ impl State {
         State::from(bits)
     }
 
-    /// The same state, but LACP_Timeout has this value (6.4.2.3).
+    /// This state with LACP_Timeout set to this value, and all other bits as they are (6.4.2.3).
     pub fn with_timeout(self, on: bool) -> State
         ensures { result ≡ with_timeout on self }
     {

@@ -60,7 +60,7 @@ pub(crate) fn history_of(histories: &[PortHistory], number: u16) -> Option<PortH
 pub(crate) struct Flow {
     /// The serial numbers of the frames that it sent.
     pub(crate) sent: Vec<u64>,
-    /// Those that the other system handed up, in that order.
+    /// The serial numbers of the frames that the other system handed up, in that order.
     pub(crate) collected: Vec<u64>,
     /// Whether it was ever forced.
     pub(crate) forced: bool,

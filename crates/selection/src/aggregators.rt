@@ -48,7 +48,8 @@ impl Aggregators {
         Aggregators::with_limit(alloc, keys, None)
     }
 
-    /// The same with a limit: no port becomes a member of an aggregator that has this many; None: no limit (profile).
+    /// Makes aggregators as `new` does, with a limit: no port becomes a member of an aggregator that has this many members; None
+    /// is no limit. `NoMemory` if memory for them is refused (profile).
     pub fn with_limit(
         alloc: Global,
         keys: &[Key],

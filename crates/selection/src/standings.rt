@@ -8,11 +8,11 @@ use lagtypes::{AggId, Choice, Group};
 /// How an aggregator stands to a port that chooses.
 #[derive(Clone, Copy, Debug)]
 pub(crate) enum Standing {
-    /// No port occupies it.
+    /// No port occupies the aggregator.
     Empty,
-    /// It has an occupant, and all occupants have the port's group, which is not Individual.
+    /// The aggregator has an occupant, and all occupants have the port's group, which is not Individual.
     Joinable,
-    /// It has an occupant, and the port cannot join.
+    /// The aggregator has an occupant, and the port cannot join.
     Taken,
 }
 

@@ -114,7 +114,7 @@ finding 7 end 02-00-00-00-00-02 packet 8 at -0.000001: a frame of another length
 packets 8 slow 7 ends 2 findings 1
 ";
 
-/// The same as records.
+/// The records of the same capture, in JSON.
 const RECORDS: &str = "\
 {\"record\":\"frame\",\"packet\":1,\"seconds\":0.000000,\"interface\":0,\"source\":\"02-00-00-00-00-01\",\"destination\":\"01-80-c2-00-00-02\",\"tags\":0,\"kind\":\"lacpdu\",\"actor\":{\"system\":\"32768/02-00-00-00-00-01\",\"key\":1,\"port\":\"255/1\",\"state\":77},\"partner\":{\"system\":\"0/00-00-00-00-00-00\",\"key\":0,\"port\":\"0/0\",\"state\":0},\"max_delay\":0}
 {\"record\":\"frame\",\"packet\":2,\"seconds\":1.000000,\"interface\":0,\"source\":\"02-00-00-00-00-02\",\"destination\":\"01-80-c2-00-00-02\",\"tags\":0,\"kind\":\"lacpdu\",\"actor\":{\"system\":\"32768/02-00-00-00-00-02\",\"key\":7,\"port\":\"255/2\",\"state\":5},\"partner\":{\"system\":\"32768/02-00-00-00-00-01\",\"key\":1,\"port\":\"255/1\",\"state\":77},\"max_delay\":0}

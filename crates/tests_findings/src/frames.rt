@@ -14,7 +14,7 @@ pub const C: u8 = 0xc;
 /// A state octet: active, Long Timeout, aggregatable, synchronized, collecting, distributing.
 pub const UP: u8 = 0x3d;
 
-/// The same with Short Timeout.
+/// A state octet: active, Short Timeout, aggregatable, synchronized, collecting, distributing.
 pub const FAST: u8 = 0x3f;
 
 /// Port 1 of a system, with key 1.

@@ -20,7 +20,7 @@ const DATA: [u8; 14] = [2, 0, 0, 0, 0, 0x20, 2, 0, 0, 0, 0, 0x10, 0x08, 0x00];
 /// A frame of the slow protocols.
 const SLOW: [u8; 14] = [1, 0x80, 0xc2, 0, 0, 2, 2, 0, 0, 0, 0, 1, 0x88, 0x09];
 
-/// The same with another type.
+/// A frame to the address of the slow protocols with an EtherType that is not theirs.
 const OTHER: [u8; 14] = [1, 0x80, 0xc2, 0, 0, 2, 2, 0, 0, 0, 0, 1, 0x88, 0x08];
 
 /// An octet less than a header.

@@ -49,7 +49,7 @@ enum Step {
     Quiet(u16),
     /// The port gets an LACPDU of system 2 with this Actor_State and a Partner that is all zero.
     Take(u8),
-    /// The same, with this Partner.
+    /// The port gets an LACPDU of system 2 with this Actor_State and this Partner.
     Told(u8, Info),
     /// The port gets an LACPDU with this Actor and Partner, and a CollectorMaxDelay of 27.
     Heard(Info, Info),
@@ -604,7 +604,7 @@ fn hearing_port(state: u8) -> Port {
     port
 }
 
-/// The same, SELECTED, and `mux` was called with this Ready.
+/// A port that has heard an LACPDU with this Actor_State and is SELECTED. `mux` was called with this Ready.
 fn selected_port(state: u8, ready: bool) -> Port {
     let mut port = hearing_port(state);
     port.select(SELECTED);

@@ -69,14 +69,14 @@ fn first_selected() -> [PortView; 3] {
     views
 }
 
-/// The same, and the partner of port 2 is Individual.
+/// Port 1 is a member of aggregator 1, and the partner of port 2 is Individual.
 fn second_individual() -> [PortView; 3] {
     let mut views = first_selected();
     views[1].partner.aggregatable = false;
     views
 }
 
-/// The same, and port 3 is a member of aggregator 2.
+/// Ports 1 and 3 are members of aggregators 1 and 2, and the partner of port 2 is Individual.
 fn both_taken() -> [PortView; 3] {
     let mut views = second_individual();
     views[2].choice = selected(2);
@@ -104,7 +104,7 @@ fn second_taken() -> [PortView; 3] {
     views
 }
 
-/// The same, and port 1 is a member of aggregator 1.
+/// All ports have one partner. Port 1 is a member of aggregator 1, and port 3 of aggregator 2.
 fn two_joinable() -> [PortView; 3] {
     let mut views = second_taken();
     views[0].choice = selected(1);
@@ -134,7 +134,7 @@ fn same_individual() -> [PortView; 3] {
     views
 }
 
-/// The same, but the port's own side is Individual.
+/// Port 1 is a member of aggregator 1 by a link whose own end is Individual, and port 2 has the same two ends.
 fn same_individual_own() -> [PortView; 3] {
     let mut views = same_individual();
     views[0].partner.aggregatable = true;
@@ -328,7 +328,7 @@ fn equal_priorities() -> [PortView; 3] {
     views
 }
 
-/// The same, and the numbers in their port identifiers fall.
+/// Ports of equal priority, whose numbers in their port identifiers fall.
 fn falling_identifiers() -> [PortView; 3] {
     let mut views = equal_priorities();
     for (view, number) in views.iter_mut().zip([40, 30, 20]) {
@@ -404,7 +404,7 @@ fn first_standby() -> [PortView; 3] {
     views
 }
 
-/// The same, and port 3, whose partner is another one, is STANDBY with aggregator 2.
+/// Port 1 is STANDBY with aggregator 1, and port 3, whose partner is another one, with aggregator 2.
 fn both_occupied() -> [PortView; 3] {
     let mut views = first_standby();
     views[2].choice = standby(2);

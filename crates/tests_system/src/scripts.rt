@@ -77,7 +77,7 @@ const ENTRY_2: Frame = Frame {
 /// The first keys of a system, before those of a row.
 pub(crate) const MAC: &str = "mac = \"02-00-00-00-00-0f\", ";
 
-/// The same and the aggregators.
+/// The first keys of a system, and its aggregators.
 pub(crate) const AGGREGATORS: &str = "mac = \"02-00-00-00-00-0f\", aggregators = [1], ";
 
 /// The outcome of reading a text: `read`, or the text of the fault.

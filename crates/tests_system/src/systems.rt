@@ -40,7 +40,7 @@ enum Row<'a> {
     Takes(u16, Info, Info),
     /// `receive` of this frame on a port returns this.
     Hears(u16, &'a [u8], Received),
-    /// The same, and the readers return for the port what they returned before.
+    /// `receive` of this frame on a port returns this, and the readers return for the port what they returned before.
     Keeps(u16, &'a [u8], Received),
     /// `configure` of a port to this key, and else its present values, returns this.
     Configures(u16, u16, bool),

@@ -159,7 +159,7 @@ fn shows_as(
     Ok(())
 }
 
-/// The same for lower and upper case.
+/// Compares what is shown for the payload in lower and in upper case.
 fn shows_both(rt: &(impl Abort + AllocGlobal), (pieces, accepted, text): Row) -> Result<(), Fail> {
     let mut hex = joined(rt.alloc(), pieces)?;
     shows_as(rt, hex.as_str(), accepted, text)?;

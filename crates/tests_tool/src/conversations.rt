@@ -25,7 +25,7 @@ flow 1/1/48 sent 2 collected none
 flow 1/1/304 sent 1 collected none
 ";
 
-/// The same frames where there are 256.
+/// Two frames that are of one conversation, since there are 256.
 const TOGETHER: &str = r#"    "offer 1 1 0200000001200200000000100800",
     "offer 1 1 0200000000200200000000100800",
     "move 1 1 304 2",

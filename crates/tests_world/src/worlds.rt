@@ -60,7 +60,7 @@ enum Entry {
 enum Want {
     /// An LACPDU whose Actor has this state was sent, and a cable accepted it.
     Lacpdu(u8),
-    /// The same, but no cable accepted it.
+    /// An LACPDU whose Actor has this state was sent, and no cable accepted it.
     LacpduLost(u8),
     Is(Reply),
 }
@@ -260,7 +260,7 @@ fn runs(
     Ok(())
 }
 
-/// The same, but all events at once, on cables without a limit.
+/// Plays all events of a row at once, on cables without a limit.
 fn plays(rt: &impl Abort, alloc: Global, row: &Row) -> Result<(), WorldFault> {
     runs(rt, alloc, row, None, 0)
 }

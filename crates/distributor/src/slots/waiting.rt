@@ -49,7 +49,7 @@ impl Slots {
         soonest
     }
 
-    /// The same for the conversations in this chain, by a walk along it.
+    /// In how many ticks the next conversation in this chain is Wanted again; None if none in it is Flushing.
     fn ticks_in_chain(&self, chain: u32) -> Option<u8>
         requires chained { AreChained self.now }
         requires below { chain < 64 }

@@ -30,7 +30,7 @@ fn follows<F: Fn(u16, usize) -> usize + Drop>(
     }
 }
 
-/// The same, with the calls of all rows on a new system.
+/// Whether `drive` of the calls of all rows gives their replies on a new system.
 pub(crate) fn drives(alloc: Global, rows: &[Row<'_>]) -> Result<bool, SystemFault> {
     let mut driven = System::new(alloc, config(alloc, &[1, 2], 2)?, modulo)?;
     let plan = plan_of_all(alloc, rows)?;

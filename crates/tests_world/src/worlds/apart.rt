@@ -131,7 +131,7 @@ const CROSSED: [(Entry, Want); 9] = [
     (Deliver(1, 1), TOOK),
 ];
 
-/// The same ports come up, as in `COMING_UP`.
+/// The ports that come up in `COMING_UP`, with these cables.
 const CROSSED_UP: [(Entry, Want); 6] = [
     (Tick(1, 20), TICKED),
     (Tick(2, 20), TICKED),

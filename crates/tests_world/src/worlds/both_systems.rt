@@ -90,7 +90,7 @@ const ONE_SENT: Flow = Flow {
     forced: false,
 };
 
-/// The same, but the frame is collected.
+/// Conversation 48 of system 1 sent one frame, which is collected.
 const ONE_UP: Flow = Flow {
     collected: &[0],
     ..ONE_SENT
@@ -102,7 +102,7 @@ const ONE_SENT_BACK: Flow = Flow {
     ..ONE_SENT
 };
 
-/// The same, but the frame is collected.
+/// Conversation 48 of system 2 sent one frame, which is collected.
 const ONE_UP_BACK: Flow = Flow {
     system: 2,
     ..ONE_UP

@@ -28,7 +28,7 @@ const BOTH_LIMITED: Setting = Setting {
     ..TWO
 };
 
-/// The same, but only in system 1.
+/// A limit of one link in system 1 only.
 const FIRST_LIMITED: Setting = Setting {
     limits: Limits {
         first: Some(1),
@@ -37,7 +37,7 @@ const FIRST_LIMITED: Setting = Setting {
     ..TWO
 };
 
-/// The same, but only in system 2.
+/// A limit of one link in system 2 only.
 const SECOND_LIMITED: Setting = Setting {
     limits: Limits {
         first: None,
