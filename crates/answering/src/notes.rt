@@ -68,7 +68,7 @@ impl Answering {
         }
     }
 
-    /// After `System::receive` gave this answer for a frame that came on a port: a response answers.
+    /// Updates the notes by what `System::receive` returned for a frame that came on a port: a response answers.
     pub fn after_receive<F: Fn(u16, usize) -> usize + Drop>(
         &mut self,
         system: &System<F>,
@@ -82,7 +82,7 @@ impl Answering {
         }
     }
 
-    /// After `System::transmit` or `System::probe` gave this answer for a port: a marker asks.
+    /// Updates the notes by what `System::transmit` or `System::probe` returned for a port: a marker asks.
     pub fn after_transmit<F: Fn(u16, usize) -> usize + Drop>(
         &mut self,
         system: &System<F>,
@@ -98,7 +98,7 @@ impl Answering {
         }
     }
 
-    /// After `System::set_link` gave this answer: a link that is down now forgets.
+    /// Updates the notes by what `System::set_link` returned: a link that is down now forgets.
     pub fn after_set_link<F: Fn(u16, usize) -> usize + Drop>(
         &mut self,
         system: &System<F>,
@@ -113,7 +113,7 @@ impl Answering {
         }
     }
 
-    /// After `System::call` gave this reply to a call. A restart forgets all notes.
+    /// Updates the notes by the reply of `System::call` to a call. A restart forgets all notes.
     pub fn after_call<F: Fn(u16, usize) -> usize + Drop>(
         &mut self,
         system: &System<F>,
@@ -137,7 +137,7 @@ impl Answering {
         }
     }
 
-    /// After `System::drive` gave these replies to these calls.
+    /// Updates the notes by the replies of `System::drive` to these calls.
     pub fn after_calls<F: Fn(u16, usize) -> usize + Drop>(
         &mut self,
         system: &System<F>,

@@ -8,7 +8,7 @@ ghost use Rattle.balance.specs.Moves.{load_on, conversation_at, IsMove};
 pub struct Carried {
     /// The number of the port that the conversation is on; 0 if it is on none.
     pub port: u16,
-    /// The load of the conversation, in a unit of the host's: octets a second, frames, or 1 for each conversation.
+    /// The load of the conversation, in a unit that the host chooses: octets a second, frames, or 1 for each conversation.
     pub load: u32,
 }
 

@@ -8,9 +8,9 @@ pub enum Stamp {
     Control(u64),
     /// A data frame.
     Data {
-        /// The system that sent it, 1 or 2.
+        /// The system that sent the frame, 1 or 2.
         system: u8,
-        /// The aggregator whose client sent it, from 1.
+        /// The aggregator whose client sent the frame, from 1.
         agg: u16,
         /// The conversation of the frame, 0 to 4095.
         conv: u16,

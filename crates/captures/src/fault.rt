@@ -49,7 +49,7 @@ pub struct Fault {
 pub enum Stop {
     /// The next step needs this many octets, counted from the first of those that were given, and fewer were given.
     Wants(usize),
-    /// The capture is not read on.
+    /// The capture has this fault, and reading stops.
     Refused(Fault),
 }
 

@@ -9,11 +9,11 @@ use std::cmp::Reverse;
 /// How an aggregator ranks among those that may carry a client's frames; the least carries (profile).
 #[derive(Clone, Copy, Debug, PartialEq, Eq, PartialOrd, Ord)]
 pub(crate) struct Rank {
-    /// Whether the first port that distributes in it runs on defaults.
+    /// Whether the first port that distributes in the aggregator runs on defaults.
     pub(crate) on_defaults: bool,
     /// How many ports distribute in the aggregator.
     pub(crate) ports: Reverse<usize>,
-    /// Whether the aggregator is another one than carries now.
+    /// False only if this aggregator carries now.
     pub(crate) is_other: bool,
     /// The LAG ID of the aggregator.
     pub(crate) group: Group,
@@ -30,7 +30,7 @@ impl Rank {
     }
 }
 
-/// Whether an aggregator is another one than carries now.
+/// Whether an aggregator is not the one that carries now; true if none does.
 fn is_other(now: Option<AggId>, agg: AggId) -> bool
     ensures { result ≡ is_other now agg }
 {

@@ -272,7 +272,7 @@ impl Slots {
         false
     }
 
-    /// One tick for each conversation in this chain. A function of its own, so that the walk over the flags is short.
+    /// One tick for each conversation in this chain. Not inlined, so that the loop of `tick_flagged_chains` is small.
     #[inline(never)]
     fn tick_chain(&mut self, chain: u32)
         requires chained { AreChained self.old }
@@ -286,8 +286,8 @@ impl Slots {
         self.change_chain(chain, Change::Tick);
     }
 
-    /// Whether some chain has a flag for Flushing. If this returns false, none has; true says nothing. The loop has no early
-    /// exit, so that the compiler can read many flags at once.
+    /// Whether the flag for Flushing of some chain is set. The contract says only what false means. The loop has no early exit,
+    /// so that the compiler can read many flags at once.
     fn any_may_flush(&self) -> bool
         requires flagged { AreFlagged self.now }
         ensures { OnFalse result ((c : ℕ) → get_or self.now.may_flush.items c false ≡ false) }
@@ -309,12 +309,12 @@ impl Slots {
         ensures count { self.new.count ≡ self.old.count }
     {
         if self.any_may_flush() {
-            self.tick_flagged();
+            self.tick_flagged_chains();
         }
     }
 
-    /// One tick for each conversation, by a walk along each chain that has a flag for Flushing.
-    fn tick_flagged(&mut self)
+    /// One tick for each conversation, by a walk along each chain whose flag for Flushing is set.
+    fn tick_flagged_chains(&mut self)
         requires chained { AreChained self.old }
         requires flagged { AreFlagged self.old }
         ensures chained { AreChained self.new }

@@ -157,8 +157,7 @@ impl ConversationTable {
         u32::try_from(self.next).ok()
     }
 
-    /// Whether a conversation waits for a marker on this port, as `wants_marker_on`. A walk that finds none also corrects the
-    /// flags of its chain.
+    /// Whether a conversation is Wanted on this port. A walk that finds none computes the flags of its chain again.
     fn find_wanted(&mut self, port: u16) -> bool
         ensures found { result ≡ nat_lt 0 (count_conversations (wants_marker port) self.old) }
         ensures same { self.new ≡ self.old }

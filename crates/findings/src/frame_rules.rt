@@ -58,7 +58,7 @@ impl Observed {
         self.is_read() && self.reserved
     }
 
-    /// Whether the length is another one.
+    /// Whether the length is neither 124 nor 128 octets.
     fn has_other_length(&self) -> bool
         ensures { (l : List Observed) → result ≡ has_other_length self.now l }
     {
@@ -77,7 +77,7 @@ impl Observed {
 }
 
 impl FrameRules {
-    /// The first ones with one more frame.
+    /// The first frame that shows each rule, after one more frame.
     pub(crate) fn with(&self, now: &Observed) -> FrameRules
         ensures { (l : List Observed) → self.now ≡ frame_rules l → result ≡ frame_rules (now.now ∷ l) }
     {

@@ -9,7 +9,8 @@ use crate::others::Other;
 use crate::recent::{Heard, LONG_TIMEOUT, is_ordered};
 
 impl Heard {
-    /// What a report shows of this LACPDU, and the end that answers its sender.
+    /// The number and the time of this LACPDU, and the end whose latest LACPDU on the interface has its sender as Partner; None
+    /// where there is none.
     pub(crate) fn shown(&self) -> Shown
         ensures { result ≡ shown_heard self.now }
     {

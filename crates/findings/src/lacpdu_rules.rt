@@ -26,7 +26,7 @@ pub(crate) struct LacpduRules {
 }
 
 impl LacpduRules {
-    /// The first ones with one more LACPDU, behind those that came last.
+    /// The first LACPDU that shows each rule, after one more LACPDU; `recent` has those that came before it.
     pub(crate) fn with(&self, recent: &Recent, now: &Heard) -> LacpduRules
         ensures { (l : List Heard) → recent.now ≡ recent_of l → self.now ≡ lacpdu_rules l → result ≡ lacpdu_rules (now.now ∷ l) }
     {

@@ -19,13 +19,13 @@ pub(crate) struct Other {
 /// The latest LACPDUs of other ends that are related to an end, by what this end said last before them.
 #[derive(Clone, Copy, Debug, Default, PartialEq, Eq)]
 pub(crate) struct Others {
-    /// On the same interface, its Partner is this end.
+    /// The latest LACPDU of another end on the same interface whose Partner is this end.
     pub(crate) answer: Option<Other>,
-    /// On the same interface, it has the same Partner as this end.
+    /// The latest LACPDU of another end on the same interface that has the same Partner as this end.
     pub(crate) rival: Option<Other>,
-    /// On any interface, it is of the same pair of systems.
+    /// The latest LACPDU of another end, on any interface, between the same pair of systems.
     pub(crate) sibling: Option<Other>,
-    /// On the same interface, any.
+    /// The latest LACPDU of another end on the same interface, whatever its Partner.
     pub(crate) facing: Option<Other>,
 }
 

@@ -65,7 +65,7 @@ pub(crate) struct Recent {
     pub(crate) relapsed: bool,
 }
 
-/// When it began: as it was, or now; None if it is not so.
+/// When a condition began to hold: `before` if that is known, else `now`; None if it does not hold.
 fn since(is_so: bool, before: Option<u64>, now: u64) -> Option<u64>
     ensures { result ≡ (if is_so then Some (unwrap_or before now) else None) }
 {
@@ -127,7 +127,7 @@ impl Heard {
         self.others.facing.is_none()
     }
 
-    /// Whether that is so, and the sender asks for Short Timeout.
+    /// Whether no LACPDU of another end has come on the interface, and the sender asks for Short Timeout.
     fn is_alone_short(&self) -> bool
         ensures { result ≡ is_alone_short self.now }
     {

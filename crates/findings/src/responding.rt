@@ -55,7 +55,7 @@ impl Asked {
     }
 }
 
-/// A count with one more counted.
+/// The count and 1, at most 2^64 - 1.
 #[tactic(auto, unfolding(crate::specs::Counts::counted))]
 fn one_more(count: u64) -> u64
     ensures { result ≡ counted (count + 1) }
@@ -133,8 +133,8 @@ impl Responding {
         }
     }
 
-    /// What is known of the responses of this end after one more frame, which is none of the end's LACPDUs and markers, if
-    /// the end has sent an LACPDU.
+    /// What is known of the responses of this end after one more frame. The end has sent an LACPDU before, and the frame is
+    /// none of its LACPDUs and markers.
     pub(crate) fn with(&self, end: &LinkEnd, now: &Observed) -> Responding
         ensures { (h : List Observed) → same_end (end_of now.now) end.now ≡ false → is_some (said end.now h) ≡ true → self.now ≡ responding end.now h
             → result ≡ responding end.now (now.now ∷ h) }

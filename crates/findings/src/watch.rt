@@ -25,7 +25,7 @@ pub(crate) struct Watch {
     pub(crate) said: Option<Lacpdu>,
     /// What is known of the markers that the end sent.
     pub(crate) asking: Asking,
-    /// What is known of the Marker Responses that the end sent.
+    /// The markers that ask the end, and the Marker Responses that it sent.
     pub(crate) responding: Responding,
     pub(crate) others: Others,
     pub(crate) recent: Recent,
@@ -96,7 +96,7 @@ impl Watch {
         }
     }
 
-    /// What is known of its responses behind one more frame of another end.
+    /// What is known of the responses of this end after one more frame of another end.
     fn responding_with(&self, now: &Observed) -> Responding
         ensures { (h : List Observed) → same_end (end_of now.now) self.now.end ≡ false → self.now ≡ watched self.now.end h
             → result ≡ responding self.now.end (now.now ∷ h) }

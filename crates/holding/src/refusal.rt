@@ -7,6 +7,6 @@ pub enum Refusal {
     NoConversation,
     /// The queue of the conversation is full.
     ConversationFull,
-    /// As many frames wait, of all conversations, as may.
+    /// As many frames wait in all queues together as the limit allows.
     AllFull,
 }

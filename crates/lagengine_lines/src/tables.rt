@@ -8,7 +8,7 @@ use balance::{Carried, next_move};
 use lagsystem::{AggId, System};
 use std::alloc::{AllocError, Global};
 
-/// No aggregator has more conversations.
+/// The most conversations that an aggregator has.
 pub(crate) const MOST_CONVERSATIONS: u16 = 4096;
 
 /// A conversation of an aggregator, and the port that it is On (profile).
@@ -62,7 +62,7 @@ fn numbers_of(alloc: Global, marks: &[bool], count: u16) -> Result<Vec<u16>, All
     Ok(numbers)
 }
 
-/// Marks this conversation, if it has a mark.
+/// Sets the mark of a conversation. Does nothing if the list has no place for it.
 fn mark_one(marks: &mut [bool], conversation: u16)
     ensures long { length marks.new ≡ length marks.old }
     ensures marks { (conv : ℕ) → conv < length marks.old → get_or marks.new conv false ≡ (get_or marks.old conv false || (conversation == conv)) }

@@ -4,9 +4,9 @@ ghost use Rattle.lagexplain.specs.TextPlaces.{begins_character, characters_behin
 /// A place in a text.
 #[derive(Clone, Copy, Debug, PartialEq, Eq)]
 pub struct Place {
-    /// From 1.
+    /// The line, from 1.
     pub line: usize,
-    /// From 1; characters are counted.
+    /// The column in characters, from 1.
     pub column: usize,
 }
 

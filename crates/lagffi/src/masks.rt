@@ -26,7 +26,7 @@ pub(crate) fn mask(bits: &[bool]) -> u64
     value
 }
 
-/// Whether it is told, and so.
+/// The answer of a reader as a bit: false also where there is none.
 fn is_so(answer: Option<bool>) -> bool
     ensures { result ≡ is_so answer }
 {

@@ -10,7 +10,7 @@ pub(crate) const NO_QUEUE: u32 = 19;
 pub(crate) const HOLDS_QUEUE_ALREADY: u32 = 20;
 /// The queue of the conversation is full.
 const CONVERSATION_FULL: u32 = 21;
-/// As many frames wait, of all conversations, as may.
+/// As many frames wait in all queues together as the limit allows.
 const ALL_FULL: u32 = 22;
 
 /// The status of a put, by why it is refused.
@@ -31,7 +31,7 @@ pub(crate) fn status_of_put(refusal: Option<Refusal>) -> u32
 pub struct LagQueued {
     /// 0, or the number of the refusal.
     pub status: u32,
-    /// Whether there is one.
+    /// Whether there is a frame.
     pub is: bool,
     /// The conversation of the frame; 0 where there is no frame.
     pub conversation: u16,
@@ -103,7 +103,7 @@ pub struct LagQueueCounts {
 }
 
 impl LagQueueCounts {
-    /// None, with this status.
+    /// All counts 0, with this status.
     pub(crate) fn none(status: u32) -> LagQueueCounts
         ensures { result ≡ no_counts status }
     {
@@ -115,7 +115,7 @@ impl LagQueueCounts {
         }
     }
 
-    /// Of these queues.
+    /// The counts of these queues, with status 0.
     pub(crate) fn of(queue: &Holding<u64>) -> LagQueueCounts
         ensures { result ≡ counts_of queue.now }
     {

@@ -57,7 +57,7 @@ pub struct LagView {
 }
 
 impl LagView {
-    /// Of a port that is not there.
+    /// The view of a port that does not exist: its number, and 0 in all other fields.
     fn none(port: u16) -> LagView
         ensures { result ≡ no_view port }
     {
@@ -80,7 +80,7 @@ impl LagView {
         }
     }
 
-    /// Of the port with this number, these machines and this status.
+    /// The view of a port, from its number, its machines and its status.
     fn of(number: u16, port: &Port, status: PortStatus) -> LagView
         ensures { result ≡ record (view_of_machines number port.now) { port_status = status_number status } }
     {

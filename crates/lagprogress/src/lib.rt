@@ -162,8 +162,8 @@ pub fn links_come_up<F: Fn(u16, usize) -> usize>()
 
 ghost use Rattle.lagprogress.specs.Agreeing.{ActiveLinkAgrees, LinkAgrees};
 
-/// The two ends of a link that is up agree: in a sound world as in `links_come_up` the agreement of the cable is `Same`
-/// from as many healthy rounds on: 352 (35.2 s) if both ends are active, 661 (66.1 s) if one is (6.3.6; profile).
+/// The two ends of a link agree: in a sound world as in `links_come_up` the agreement of the cable is `Same` from 352
+/// healthy rounds (35.2 s) on if both ends are active, from 661 (66.1 s) on if one is (6.3.6; profile).
 pub fn links_agree<F: Fn(u16, usize) -> usize>()
     ensures both { (one two : F) → ActiveLinkAgrees (both_algorithms (F.post one) (F.post two)) }
     ensures one { (one two : F) → LinkAgrees (both_algorithms (F.post one) (F.post two)) }
@@ -206,8 +206,8 @@ pub fn each_link_comes_up<F: Fn(u16, usize) -> usize>()
 
 ghost use Rattle.lagprogress.specs.Bundle.{EachActiveLinkAgrees, EachLinkAgrees};
 
-/// The two ends of each link that is up agree: in a sound world as in `each_link_comes_up` the agreement of each healthy
-/// cable is `Same` from as many healthy rounds on: 352 (35.2 s) if both ends of each are active, 661 (66.1 s) if one is (6.3.6; profile).
+/// The two ends of each link agree: in a sound world as in `each_link_comes_up` the agreement of each healthy cable is
+/// `Same` from 352 healthy rounds (35.2 s) on if both ends of each are active, from 661 (66.1 s) on if one is (6.3.6; profile).
 pub fn each_link_agrees<F: Fn(u16, usize) -> usize>()
     ensures both { (one two : F) → EachActiveLinkAgrees (both_algorithms (F.post one) (F.post two)) }
     ensures one { (one two : F) → EachLinkAgrees (both_algorithms (F.post one) (F.post two)) }

@@ -5,7 +5,7 @@ use crate::calls::System;
 use crate::inner::Inner;
 
 impl<F: Drop> Inner<F> {
-    /// Puts this system, in its state, under another algorithm.
+    /// Replaces the distribution algorithm; the state stays.
     fn with_algorithm<G>(self, algorithm: G) -> Inner<G>
         ensures state { inner_state result ≡ inner_state self }
         ensures algorithm { result.distributor.algorithm ≡ algorithm }
@@ -30,8 +30,8 @@ impl<F: Drop> Inner<F> {
 }
 
 impl<F: Drop> System<F> {
-    /// Puts this system, in its state, under another algorithm. A `System<()>` has no algorithm and takes no call: a program
-    /// keeps a system so where no type can name its algorithm (profile).
+    /// Replaces the distribution algorithm; the state stays. A `System<()>` has no algorithm and no other call: a program keeps
+    /// a system in this form where a type cannot name the algorithm (profile).
     pub fn with_algorithm<G>(self, algorithm: G) -> System<G>
         ensures state { result.state ≡ self.state }
         ensures algorithm { result.algorithm ≡ algorithm }

@@ -16,7 +16,7 @@ use distributor::Assignment;
 use lagtypes::AggId;
 
 impl<F: Fn(u16, usize) -> usize + Drop> Inner<F> {
-    /// The port for a frame of a conversation that exists. The conversation is On that port afterwards.
+    /// The port for a frame of a conversation that exists. The conversation is On that port afterwards; an Err changes nothing.
     #[inline(always)]
     pub(crate) fn take_port(&mut self, agg: AggId, conv: u16) -> Result<u16, SystemFault>
         requires usable { PicksIndexes (F.pre self.old.distributor.algorithm) (F.post self.old.distributor.algorithm) }
@@ -33,8 +33,8 @@ impl<F: Fn(u16, usize) -> usize + Drop> Inner<F> {
         self.assign_port(agg, conv)
     }
 
-    /// As `take_port`, but this looks at the ports that distribute. A function of its own, so that `take_port` reserves no
-    /// stack for their list.
+    /// As `take_port`, without its short way for a conversation that is On a port. Not inlined, so that `take_port` reserves no
+    /// stack for the list of ports that distribute.
     #[inline(never)]
     fn assign_port(&mut self, agg: AggId, conv: u16) -> Result<u16, SystemFault>
         requires usable { PicksIndexes (F.pre self.old.distributor.algorithm) (F.post self.old.distributor.algorithm) }

@@ -20,8 +20,8 @@ fn collect_data_frame(system_port: &SystemPort, octets: &[u8]) -> Taken
     collect(collecting(&system_port.port), octets)
 }
 
-/// What a data frame on a port whose link is up asks for: to be handed up, or dropped. If this returns None, the caller knows
-/// nothing about the frame.
+/// What a data frame on a port whose link is up asks for: to be handed up, or dropped. None if the link is
+/// down, or the frame is no data frame; the contract says only what Some means.
 pub(crate) fn take_data_frame(system_port: &SystemPort, octets: &[u8]) -> Option<Taken>
     ensures { IfSome result (λ taken. ParsesFrame system_port.now octets.now (Answered (received_of taken))) }
 {

@@ -14,8 +14,8 @@ use portmachines::ReceiveState;
 use selection::Stage;
 use slowpdu::{Info, Lacpdu};
 
-/// Whether a port is in CURRENT, and the actor of the LACPDU is the partner that it has recorded. If this returns true, both
-/// hold; false says nothing.
+/// Whether a port is in CURRENT, and the actor of the LACPDU has the parameters of its recorded partner. The contract says only
+/// what true means.
 fn has_recorded_actor(system_port: &SystemPort, pdu: &Lacpdu) -> bool
     ensures { OnTrue result (HasRecordedActor pdu.now system_port.now) }
 {
@@ -28,14 +28,14 @@ fn has_recorded_actor(system_port: &SystemPort, pdu: &Lacpdu) -> bool
     }
 }
 
-/// Whether two records name the same partner. If this returns true, they do; false says nothing.
+/// Whether two records have the same system, key, port and Aggregation bit. The contract says only what true means.
 fn is_same_partner(now: &Info, was: &Info) -> bool
     ensures { OnTrue result (IsSamePartner was.now now.now) }
 {
     now.party().matches(&was.party())
 }
 
-/// Whether a port is at the stage at which it was. If this returns true, it is; false says nothing.
+/// Whether a port is at the stage at which it was. The contract says only what true means.
 fn is_same_stage(now: Stage, was: Stage) -> bool
     ensures { OnTrue result (now ≡ was) }
 {

@@ -71,8 +71,8 @@ fn any_standby(system_ports: &[SystemPort]) -> bool
         .any(|system_port| is_standby(system_port))
 }
 
-/// False only if no STANDBY port can be promoted: each aggregator of one has no room. The first port that is not SELECTED is
-/// known.
+/// False only if no STANDBY port can be promoted: each aggregator of one has no room. `first` is the index of the first port that
+/// is not SELECTED.
 pub(crate) fn may_promote(
     aggregators: &Aggregators,
     system_ports: &[SystemPort],
@@ -86,8 +86,8 @@ pub(crate) fn may_promote(
     any_standby(rest) && some_may_have_room(aggregators, system_ports, first)
 }
 
-/// False only if no aggregator of a STANDBY port has room for one more member. The members are counted once, however many
-/// aggregators there are.
+/// False only if no aggregator of a STANDBY port has room for one more member. `first` is the index of the first port that is not
+/// SELECTED. The members are counted once, however many aggregators there are.
 fn some_may_have_room(aggregators: &Aggregators, system_ports: &[SystemPort], first: usize) -> bool
     requires few { length system_ports.now ≤ 64 }
     requires first { position (λ s. not (is_selected s.port.choice)) system_ports.now ≡ Some first }
@@ -146,7 +146,7 @@ fn promote_all(
     while promote_next(aggregators, system_ports, port_views, agg) {}
 }
 
-/// Makes STANDBY ports SELECTED in each aggregator, in order, until none comes next in any.
+/// Makes STANDBY ports SELECTED in each aggregator in turn, until no aggregator has both room and a STANDBY port.
 pub(crate) fn promote_each(
     aggregators: &Aggregators,
     system_ports: &mut [SystemPort],

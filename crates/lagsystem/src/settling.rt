@@ -50,7 +50,8 @@ fn any_eligible(system_ports: &[SystemPort]) -> bool
         .any(|system_port| is_eligible(system_port))
 }
 
-/// Whether some port may choose an aggregator, where the first port that is not SELECTED is known: none before it may.
+/// Whether some port may choose an aggregator. `first` is the index of the first port that is not SELECTED: none before it
+/// may.
 fn any_eligible_from(system_ports: &[SystemPort], first: usize) -> bool
     requires { position (λ s. not (is_selected s.port.choice)) system_ports.now ≡ Some first }
     ensures { result ≡ list_any (λ s. is_eligible (selection_view s)) system_ports.now }
@@ -120,7 +121,7 @@ fn choose_all(aggregators: &Aggregators, system_ports: &mut [SystemPort])
     }
 }
 
-/// Step 2 where the port at this index is the first that is not SELECTED. A function of its own, so that the walk is short
+/// Step 2 where some port is not SELECTED. `first` is the index of the first one. Not inlined, so that `choose_all` is small
 /// where each port is SELECTED.
 #[inline(never)]
 fn choose_some(aggregators: &Aggregators, system_ports: &mut [SystemPort], first: usize)
@@ -230,7 +231,7 @@ fn is_restless(system_port: &SystemPort) -> bool
     !is_selected(system_port) || member_has_waited(system_port)
 }
 
-/// Whether some port is so.
+/// Whether some port is restless: not SELECTED, or in WAITING with wait_while expired.
 fn any_restless(system_ports: &[SystemPort]) -> bool
     ensures { result ≡ list_any (λ s. is_restless s) system_ports.now }
 {

@@ -65,7 +65,7 @@ impl Model for Explainer {
 }
 
 impl Explainer {
-    /// Before the first packet.
+    /// An explanation with these settings, before the first packet.
     pub fn new(alloc: Global, settings: Settings) -> Explainer
         ensures { result ≡ nothing_seen settings }
     {

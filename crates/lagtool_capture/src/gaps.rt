@@ -42,7 +42,7 @@ fn tenths_up_to(counts: &[u64], wanted: u64) -> Option<usize>
 }
 
 impl Gaps {
-    /// Before the first time.
+    /// No gap counted yet.
     #[tactic(auto, unfolding(crate::specs::Gaps::no_gaps))]
     pub fn none() -> Gaps
         ensures { result ≡ no_gaps }

@@ -51,7 +51,7 @@ impl fmt::Display for IdentityValue {
     }
 }
 
-/// What it says of the end that it named last, and of the one that names it, among all ends.
+/// The fields of an end for the partner that it named last, and for the end, among all, that names it.
 #[derive(Clone, Copy)]
 struct PartiesPart<'a> {
     all: &'a [End],
@@ -84,7 +84,7 @@ impl fmt::Display for MedianValue {
     }
 }
 
-/// What it says of times.
+/// The fields of an end for times: its first and latest LACPDU, and the shortest, longest and median gap, in seconds.
 #[derive(Clone, Copy)]
 struct TimesPart<'a> {
     first: Option<u64>,
@@ -116,7 +116,7 @@ impl fmt::Display for TimesPart<'_> {
     }
 }
 
-/// What it says of the bits of the actor's state.
+/// The fields of an end for the bits of its state: synchronized, collecting, distributing.
 #[derive(Clone, Copy)]
 struct PhasesPart<'a> {
     first: Option<u64>,
@@ -265,7 +265,7 @@ impl fmt::Display for AdvicePart {
     }
 }
 
-/// What it says of whom it is shown, and where.
+/// The fields of a finding for the end and its partner, and for the packet that shows it.
 #[derive(Clone, Copy)]
 struct ShownPart {
     first: Option<u64>,
@@ -356,7 +356,7 @@ impl fmt::Display for PacketsPart {
     }
 }
 
-/// What it says of ends, of findings, and of the LACPDUs of further ends.
+/// The fields of the counts of ends, of findings, and of LACPDUs of ends beyond the limit.
 #[derive(Clone, Copy)]
 struct ToldPart {
     ends: usize,

@@ -47,7 +47,7 @@ fn put_findings(
 }
 
 impl Noticed {
-    /// Before the first packet.
+    /// Nothing noticed yet, before the first packet.
     pub fn new() -> Noticed
         ensures { Follows nothing_logged result }
     {

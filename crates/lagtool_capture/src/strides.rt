@@ -41,7 +41,7 @@ fn observe_any(
     }
 }
 
-/// The count of octets that were taken, with the reason why no more were.
+/// This many octets are taken and none is skipped; with the fault if the capture is refused, and none if octets are missing.
 fn stopped_at(count: usize, stop: Stop) -> Taken
     ensures { result ≡ stopped_at count stop }
 {

@@ -11,9 +11,9 @@ use std::time::{Clock, Instant};
 /// How many milliseconds lie between two signs, at the least.
 const APART: u128 = 100;
 
-/// What is shown how far work is.
+/// A display of how far long work has come.
 pub trait Watch {
-    /// Shows how much is done.
+    /// Shows how many lines or entries are done.
     fn show(&self, done: u64);
 
     /// Takes away what is shown.

@@ -1,4 +1,4 @@
--- The words of a line of text, and the numbers that they stand for: the forms of docs/COMMAND.md and docs/ENGINE.md.
+-- The words of a line of text, and the numbers that they stand for, as docs/COMMAND.md has them.
 use Rattle.std.specs.Prelude.{ℕ, ◌==◌, ◌&&◌, Bool, List, length, nat_lt, if◌then◌else◌, Option, Some, None}
 use Rattle.std.specs.List.{slice_split}
 use Rattle.std.specs.Str.{all_ascii_digits}

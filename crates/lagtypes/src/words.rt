@@ -3,15 +3,16 @@ ghost use Rattle.lagtypes.specs.Words.{number_below, words_of};
 
 use std::alloc::{AllocError, Global};
 
-/// The words of a text, cut at every single space: two spaces beside each other have the empty word between them, and the
-/// empty text is one empty word. Refused with `AllocError` if memory is refused.
+/// The words of a text, cut at each space: an empty word stands between two spaces, and an empty text is one empty word.
+/// `AllocError` if memory for the list is refused.
 pub fn words_of<'a>(alloc: Global, text: &'a str) -> Result<Vec<&'a str>, AllocError>
     ensures { IfOk result (λ words. map (λ w. w.now) words.items ≡ words_of text.now) }
 {
     text.split(' ').collect(alloc)
 }
 
-/// The value of a word of decimal digits, 0 to 65535, leading zeros allowed; None for any other word, a sign included.
+/// The value of a word of decimal digits, 0 to 65535; leading zeros are allowed. None for any other word: one that is empty,
+/// signed or too large.
 pub fn decimal_u16(word: &str) -> Option<u16>
     ensures { result ≡ number_below 65536 word.now }
 {
@@ -22,7 +23,8 @@ pub fn decimal_u16(word: &str) -> Option<u16>
     word.parse().ok()
 }
 
-/// The value of a word of decimal digits, 0 to 4294967295, leading zeros allowed; None for any other word, a sign included.
+/// The value of a word of decimal digits, 0 to 4294967295; leading zeros are allowed. None for any other word: one that is
+/// empty, signed or too large.
 pub fn decimal_u32(word: &str) -> Option<u32>
     ensures { result ≡ number_below 4294967296 word.now }
 {

@@ -58,10 +58,10 @@ pub(crate) fn history_of(histories: &[PortHistory], number: u16) -> Option<PortH
 /// The record of one conversation of an aggregator (profile).
 #[derive(Drop)]
 pub(crate) struct Flow {
-    /// The serial numbers of the frames that it sent.
+    /// The serial numbers of the frames that the conversation sent.
     pub(crate) sent: Vec<u64>,
     /// The serial numbers of the frames that the other system handed up, in that order.
     pub(crate) collected: Vec<u64>,
-    /// Whether it was ever forced.
+    /// Whether the conversation was ever forced.
     pub(crate) forced: bool,
 }

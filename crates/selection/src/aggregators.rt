@@ -48,8 +48,8 @@ impl Aggregators {
         Aggregators::with_limit(alloc, keys, None)
     }
 
-    /// Makes aggregators as `new` does, with a limit: no port becomes a member of an aggregator that has this many members; None
-    /// is no limit. `NoMemory` if memory for them is refused (profile).
+    /// Makes aggregators as `new` does, with a limit: one that has `max_links` members or more has no room; None is no limit.
+    /// Keys after the first 65535 are left out. `NoMemory` if memory for them is refused (profile).
     pub fn with_limit(
         alloc: Global,
         keys: &[Key],
@@ -128,7 +128,7 @@ impl Aggregators {
         }
     }
 
-    /// The index of that port among the views.
+    /// The index in `views` of the port that `next_standby` names; None if it names none.
     pub fn next_standby_index(&self, views: &[PortView], agg: AggId) -> Option<usize>
         ensures exact { result ≡ next_standby_index self.now views.now agg }
         ensures next { IfSome result (λ index. IsNext self.now views.now agg index) }

@@ -25,7 +25,7 @@ flow 1/1/48 sent 2 collected none
 flow 1/1/304 sent 1 collected none
 ";
 
-/// Two frames that are of one conversation, since there are 256.
+/// Two frames of one conversation where there are 256, and a move of conversation 304, which does not exist.
 const TOGETHER: &str = r#"    "offer 1 1 0200000001200200000000100800",
     "offer 1 1 0200000000200200000000100800",
     "move 1 1 304 2",

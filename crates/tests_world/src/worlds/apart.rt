@@ -131,7 +131,7 @@ const CROSSED: [(Entry, Want); 9] = [
     (Deliver(1, 1), TOOK),
 ];
 
-/// The ports that come up in `COMING_UP`, with these cables.
+/// The two ports of `CROSSED` come up: port 1 of system 1 and port 2 of system 2.
 const CROSSED_UP: [(Entry, Want); 6] = [
     (Tick(1, 20), TICKED),
     (Tick(2, 20), TICKED),

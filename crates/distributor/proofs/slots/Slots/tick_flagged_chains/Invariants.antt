@@ -1,7 +1,7 @@
 use Rattle.distributor.proofs.Common.{◌≡◌, ◌≤◌}
 use Rattle.distributor.specs.Slots.{AreFlagged, AreChained}
 use Rattle.distributor.proofs.TickLemmas.{Ticking}
-use Rattle.distributor.proofs.slots.Slots.tick_flagged.Given as goal
+use Rattle.distributor.proofs.slots.Slots.tick_flagged_chains.Given as goal
 
 abbrev pub invariant-loop-chain : goal.invariant-loop-chain
 invariant-loop-chain l = record {

@@ -1,8 +1,8 @@
 use Rattle.distributor.proofs.Common.{arith, refl, subst, ◌+◌, ◌∙◌, ◌≡◌, ◌≤◌}
 use Rattle.distributor.proofs.FlagLemmas.{flag_clear}
 use Rattle.distributor.proofs.TickLemmas.{Ticking, tick_begins, tick_ends, tick_passed, tick_walked}
-use Rattle.distributor.proofs.slots.Slots.tick_flagged.Goals as goal
-use Rattle.distributor.proofs.slots.Slots.tick_flagged.Goals.{then-index, else-index}
+use Rattle.distributor.proofs.slots.Slots.tick_flagged_chains.Goals as goal
+use Rattle.distributor.proofs.slots.Slots.tick_flagged_chains.Goals.{then-index, else-index}
 
 pub loop-chain-init : goal.loop-chain-init
 loop-chain-init c = record {
