@@ -63,6 +63,7 @@ impl ConversationTest {
         }
     }
 
+    /// The chain of the port that the test names, 0 to 63.
     fn chain(&self) -> u32
         ensures chain { result ≡ chain_of (tested_port self.now) }
         ensures below { result < 64 }
@@ -103,6 +104,7 @@ impl Slots {
         })
     }
 
+    /// The state of the conversation in a slot.
     pub(crate) fn state(&self, slot: u32) -> Assignment
         requires chained { AreChained self.now }
         requires inside { slot < self.now.count }

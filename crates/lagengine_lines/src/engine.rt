@@ -17,7 +17,7 @@ use crate::answer::Answer;
 use crate::fault::{RequestError, RequestFault};
 use crate::looks::{agg_answer, all_aggregators, all_ports, answers_of, port_answer};
 use crate::request::{Question, Request, Task, request_in};
-use crate::tables::{MOST_CONVERSATIONS, conversation_ports, next_move_in, released};
+use crate::tables::{MANY_CONVERSATIONS, conversation_ports, next_move_in, released};
 use crate::ticks::tick_or_keep;
 use answering::Answering;
 use carrier::{carrier, offer_conversation_in_carrier, offer_in_carrier};
@@ -74,7 +74,7 @@ fn answer_question<F: Fn(u16, usize) -> usize + Drop>(
             Ok(Answer::ConversationState(system.conversation_state(agg, conv)))
         }
         Question::ConversationPorts(agg) => {
-            conversation_ports(alloc, system, agg, MOST_CONVERSATIONS)
+            conversation_ports(alloc, system, agg, MANY_CONVERSATIONS)
         }
         Question::NextMarker => Ok(Answer::NextMarker(system.next_marker())),
         Question::TicksUntilDue => Ok(Answer::TicksUntilDue(system.ticks_until_due())),
@@ -205,9 +205,9 @@ fn do_task<F: Fn(u16, usize) -> usize + Drop>(
             Ok(offered(offer_conversation_in_carrier(system, agg, conv)))
         }
         Task::Carrier(now) => Ok(Answer::Carrier(carrier(system, now))),
-        Task::NextMove(agg, loads) => next_move_in(alloc, system, agg, &loads, MOST_CONVERSATIONS),
+        Task::NextMove(agg, loads) => next_move_in(alloc, system, agg, &loads, MANY_CONVERSATIONS),
         Task::Released(agg, listed) => {
-            released(alloc, system, agg, listed.as_slice(), MOST_CONVERSATIONS)
+            released(alloc, system, agg, listed.as_slice(), MANY_CONVERSATIONS)
         }
         Task::Ask(question) => answer_question(alloc, system, answering, question),
     }

@@ -136,7 +136,7 @@ impl fmt::Display for RefusedText {
     }
 }
 
-/// `done` for a call, or its fault.
+/// `ok` for a call that was carried out, or why it was refused.
 #[derive(Clone, Copy)]
 struct DoneText(Result<(), SystemFault>);
 

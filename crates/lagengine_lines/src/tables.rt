@@ -9,7 +9,7 @@ use lagsystem::{AggId, System};
 use std::alloc::{AllocError, Global};
 
 /// The most conversations that an aggregator has.
-pub(crate) const MOST_CONVERSATIONS: u16 = 4096;
+pub(crate) const MANY_CONVERSATIONS: u16 = 4096;
 
 /// A conversation of an aggregator, and the port that it is On (profile).
 #[derive(Clone, Copy)]

@@ -49,6 +49,7 @@ impl<F: Fn(u16, usize) -> usize + Drop> Inner<F> {
         Ok(port)
     }
 
+    /// As `System::offer_conversation`.
     fn offer_conversation(&mut self, agg: AggId, conv: u16) -> Result<u16, SystemFault>
         requires usable { PicksIndexes (F.pre self.old.distributor.algorithm) (F.post self.old.distributor.algorithm) }
         requires sound { IsSound (inner_state self.old) }

@@ -46,6 +46,7 @@ fn reinit_slot(system_port: &mut SystemPort, change: PortChange)
     system_port.port.reinit(changed_party(change, &party));
 }
 
+/// The parameters of a port once the change is made; system and port number stay.
 fn changed_party(change: PortChange, party: &Party) -> Party
     ensures { result ≡ changed_party change party.now }
 {

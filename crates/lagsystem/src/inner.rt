@@ -130,6 +130,7 @@ impl<F: Fn(u16, usize) -> usize + Drop> Inner<F> {
         hold_conversations(&mut self.distributor, &self.system_ports, before);
     }
 
+    /// As `System::tick`.
     pub(crate) fn tick(&mut self)
         requires { IsSound (inner_state self.old) }
         ensures step { Step (F.post self.old.distributor.algorithm) (inner_state self.old) Call.Tick Reply.Tick (inner_state self.new) }
@@ -142,6 +143,7 @@ impl<F: Fn(u16, usize) -> usize + Drop> Inner<F> {
         self.settle(before.as_slice());
     }
 
+    /// As `System::set_link`.
     pub(crate) fn set_link(&mut self, number: u16, up: bool) -> Result<(), SystemFault>
         requires { IsSound (inner_state self.old) }
         ensures step { Step (F.post self.old.distributor.algorithm) (inner_state self.old) (Call.Set_link number up) (Reply.SetLink result)
@@ -162,6 +164,7 @@ impl<F: Fn(u16, usize) -> usize + Drop> Inner<F> {
         Ok(())
     }
 
+    /// As `System::receive`.
     pub(crate) fn receive(&mut self, number: u16, octets: &[u8]) -> Result<Received, SystemFault>
         requires { IsSound (inner_state self.old) }
         ensures step { Step (F.post self.old.distributor.algorithm) (inner_state self.old) (Call.Receive number octets.now)
@@ -248,6 +251,7 @@ impl<F: Fn(u16, usize) -> usize + Drop> Inner<F> {
         Ok(true)
     }
 
+    /// As `System::restart`.
     pub(crate) fn restart(&mut self)
         requires { IsSound (inner_state self.old) }
         ensures step { Step (F.post self.old.distributor.algorithm) (inner_state self.old) Call.Restart Reply.Restart
@@ -259,6 +263,7 @@ impl<F: Fn(u16, usize) -> usize + Drop> Inner<F> {
         self.settle_ports();
     }
 
+    /// As `System::transmit`.
     pub(crate) fn transmit(&mut self, number: u16) -> Result<Option<[u8; 124]>, SystemFault>
         requires { IsSound (inner_state self.old) }
         ensures step { Step (F.post self.old.distributor.algorithm) (inner_state self.old) (Call.Transmit number) (Reply.Transmit result)
@@ -326,6 +331,7 @@ impl<F: Fn(u16, usize) -> usize + Drop> Inner<F> {
                 || self.distributor.due_marker(system_port.number).is_some())
     }
 
+    /// As `System::offer`.
     pub(crate) fn offer(&mut self, agg: AggId, octets: &[u8]) -> Result<u16, SystemFault>
         requires usable { PicksIndexes (F.pre self.old.distributor.algorithm) (F.post self.old.distributor.algorithm) }
         requires sound { IsSound (inner_state self.old) }
@@ -343,6 +349,7 @@ impl<F: Fn(u16, usize) -> usize + Drop> Inner<F> {
         self.take_port(agg, conv)
     }
 
+    /// As `System::move_conversation`.
     pub(crate) fn move_conversation(
         &mut self,
         agg: AggId,
@@ -363,6 +370,7 @@ impl<F: Fn(u16, usize) -> usize + Drop> Inner<F> {
         Ok(())
     }
 
+    /// As `System::force`.
     pub(crate) fn force(&mut self, agg: AggId, conv: u16) -> Result<(), SystemFault>
         requires { IsSound (inner_state self.old) }
         ensures step { Step (F.post self.old.distributor.algorithm) (inner_state self.old) (Call.Force agg conv) (Reply.Force result)

@@ -15,6 +15,7 @@ use crate::inner::Inner;
 use lagtypes::AggId;
 
 impl<F: Fn(u16, usize) -> usize + Drop> Inner<F> {
+    /// As `System::leave_conversation`.
     fn leave_conversation(&mut self, agg: AggId, conv: u16) -> Result<(), SystemFault>
         requires { IsSound (inner_state self.old) }
         ensures gives { GivesOrRefuses agg conv (system_leave_result (inner_state self.old) agg conv) (inner_state self.old) result
@@ -28,6 +29,7 @@ impl<F: Fn(u16, usize) -> usize + Drop> Inner<F> {
         Ok(())
     }
 
+    /// As `System::rest`.
     fn rest(&mut self, agg: AggId, conv: u16) -> Result<(), SystemFault>
         requires { IsSound (inner_state self.old) }
         ensures gives { GivesOrRefuses agg conv (system_rest_result (inner_state self.old) agg conv) (inner_state self.old) result

@@ -11,6 +11,7 @@ use crate::inner::Inner;
 use crate::transmit::control_frame;
 
 impl<F: Fn(u16, usize) -> usize + Drop> Inner<F> {
+    /// As `System::probe`.
     fn probe(&mut self, number: u16) -> Result<Option<[u8; 124]>, SystemFault>
         requires { IsSound (inner_state self.old) }
         ensures probes { Probes number (inner_state self.old) result (inner_state self.new) }

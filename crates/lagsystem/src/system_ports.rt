@@ -39,6 +39,7 @@ pub(crate) fn port_index(system_ports: &[SystemPort], number: u16) -> Option<usi
         .position(|system_port| system_port.number == number)
 }
 
+/// The stage that the Selection Logic sees, by the state of the mux machine and the ticks that wait_while has left.
 fn stage_of(mux: MuxState, wait_while: u8) -> Stage
     ensures { result ≡ stage_of mux wait_while }
 {

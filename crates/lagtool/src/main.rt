@@ -1,4 +1,4 @@
-//! `lagtool`: reads and answers LACPDUs and Marker PDUs, and runs scripts of two systems.
+//! `lagtool`: reads and answers LACPDUs and Marker PDUs, explains captures, and runs scripts of two systems.
 //!
 //! Exit status 0: accepted; 1: refused, or no answer, or a line that is a fault, or a finding; 2: it could not be done, and standard
 //! error says why.

@@ -28,7 +28,8 @@ pub struct PortId {
 #[derive(Clone, Copy, Debug, Default, PartialEq, Eq, PartialOrd, Ord, Hash)]
 pub struct Key(pub u16);
 
-/// An aggregator of a system: its place in the configuration, 1 to 65535 (6.3.3; profile).
+/// An aggregator of a system: its place in the configuration, from 1 (6.3.3; profile). A system has 1 to 64 of them, and refuses
+/// a call that names another one.
 #[derive(Clone, Copy, Debug, Default, PartialEq, Eq, PartialOrd, Ord, Hash)]
 pub struct AggId(pub u16);
 

@@ -139,6 +139,7 @@ impl Aggregators {
         }
     }
 
+    /// The STANDBY port that comes next in the aggregator, with its index in `views`; None without room or without a STANDBY port.
     fn next_standby_row(&self, views: &[PortView], agg: AggId) -> Option<StandbyRow>
         ensures { result ≡ next_standby_row self.now views.now agg }
     {

@@ -95,6 +95,7 @@ impl PortView {
         self.partner.system == self.party.system
     }
 
+    /// Whether the mux machine of the port is in DETACHED or WAITING.
     pub(crate) fn is_detached_or_waiting(&self) -> bool
         ensures { result ≡ is_detached_or_waiting self.now.stage }
     {

@@ -14,7 +14,7 @@ mod scripted;
 mod standby;
 mod starts;
 
-use crate::comparing::{same, same_in_row};
+use crate::comparing::same_in_row;
 use crate::worlds::given::{Setting, lines, modulo, world_config};
 use bitflags::Flags;
 use cables::AnyCable;
@@ -35,7 +35,7 @@ const F50: [u8; 14] = [2, 0, 0, 0, 0, 0x22, 2, 0, 0, 0, 0, 0x10, 8, 0];
 
 /// An event, with the octets of an offered frame. The values have the order of `Event`; a tick is 100 ms. `Configure` and
 /// `Prefer` are one event.
-#[derive(Clone, Copy)]
+#[derive(Clone, Copy, Debug)]
 enum Entry {
     Tick(u8, u16),
     Emit(u8, u16),
@@ -152,18 +152,23 @@ fn events(alloc: Global, entries: &[(Entry, Want)]) -> Result<Vec<Event>, NoMemo
     Ok(events)
 }
 
-/// Compares the reply to the event at this place, counted from 1, with the expected one.
-fn compare(rt: &impl Abort, place: usize, came: Result<Reply, WorldFault>, want: Want) {
-    same_in_row(rt, place, &came, &Ok(reply(want)));
+/// Compares the reply to an event with the expected one; the event is at this place, counted from 1.
+fn compare(
+    rt: &impl Abort,
+    place: usize,
+    (entry, want): (Entry, Want),
+    came: Result<Reply, WorldFault>,
+) {
+    assert_eq!(rt; came, Ok(reply(want)), "event {place}, {entry:?}");
 }
 
 /// Compares the replies to entries that come after this many others.
 fn compare_all(rt: &impl Abort, before: usize, entries: &[(Entry, Want)], came: &[Reply]) {
     same_in_row(rt, before, &came.len(), &entries.len());
     let mut place = before;
-    for ((_, want), came) in entries.iter().zip(came) {
+    for (entry, came) in entries.iter().zip(came) {
         place = place.saturating_add(1);
-        compare(rt, place, Ok(*came), *want);
+        compare(rt, place, *entry, Ok(*came));
     }
 }
 
@@ -177,9 +182,9 @@ fn compare_run(
     match came {
         Ok(replies) => compare_all(rt, before, entries, &replies),
         Err(stop) => {
-            if let Some((_, want)) = entries.get(stop.done) {
+            if let Some(entry) = entries.get(stop.done) {
                 let place = before.saturating_add(stop.done).saturating_add(1);
-                compare(rt, place, Err(stop.fault), *want);
+                compare(rt, place, *entry, Err(stop.fault));
             }
             same_in_row(rt, before, &Some(stop), &None);
         }
@@ -199,11 +204,14 @@ fn is_from_zero(serials: &[u64]) -> bool {
 
 /// Compares what a conversation sent and collected with what a row expects.
 fn compare_flow(rt: &impl Abort, told: Flow, sent: &[u64], collected: &[u64], forced: bool) {
-    let place = usize::from(told.conv);
-    same_in_row(rt, place, &sent.len(), &told.sent);
-    same(rt, "sent from 0 on", &is_from_zero(sent), &true);
-    same_in_row(rt, place, &collected, &told.collected);
-    same_in_row(rt, place, &forced, &told.forced);
+    let came = (sent.len(), is_from_zero(sent), collected, forced);
+    let wanted = (told.sent, true, told.collected, told.forced);
+    assert_eq!(rt;
+        came,
+        wanted,
+        "conversation {} of system {}",
+        told.conv, told.system
+    );
 }
 
 /// Compares what the readers return with what a row expects.
@@ -231,10 +239,10 @@ fn steps(rt: &impl Abort, alloc: Global, row: &Row, limit: Option<u16>) -> Resul
     let lines = lines(alloc, config.cables.len(), limit)?;
     let mut world = World::new(alloc, config, modulo, modulo, lines)?;
     let mut place = 0usize;
-    for (entry, want) in &entries {
-        let came = world.step(&event(alloc, *entry)?);
+    for entry in &entries {
+        let came = world.step(&event(alloc, entry.0)?);
         place = place.saturating_add(1);
-        compare(rt, place, came, *want);
+        compare(rt, place, *entry, came);
     }
     tells(rt, &world, row);
     Ok(())
