@@ -3,6 +3,7 @@
 #include "settings.h"
 
 #include <ctype.h>
+#include <stdio.h>
 #include <stdlib.h>
 #include <string.h>
 
@@ -173,13 +174,26 @@ static const struct {
     {"fast", "yes or no", take_fast},
 };
 
+enum { BUNDLE_KEY_COUNT = sizeof BUNDLE_KEYS / sizeof *BUNDLE_KEYS };
+
+/* What is expected in the place of a key that a bundle does not have: the names of all its keys. */
+static const char *a_bundle_key(void) {
+    static char text[512];
+    size_t length = 0;
+    for (size_t i = 0; i < BUNDLE_KEY_COUNT && length < sizeof text; i++) {
+        const char *joint = i == 0 ? "" : i + 1 < BUNDLE_KEY_COUNT ? ", " : " or ";
+        const char *end = i + 1 < BUNDLE_KEY_COUNT ? "" : " as a key of [Bundle]";
+        length += (size_t)snprintf(text + length, sizeof text - length, "%s%s%s", joint, BUNDLE_KEYS[i].name, end);
+    }
+    return text;
+}
+
 /* Gives a key of the bundle a value; answers NULL, or what was expected. */
 const char *set_bundle(struct settings *settings, const char *name, const char *text) {
-    for (size_t i = 0; i < sizeof BUNDLE_KEYS / sizeof *BUNDLE_KEYS; i++)
+    for (size_t i = 0; i < BUNDLE_KEY_COUNT; i++)
         if (strcmp(name, BUNDLE_KEYS[i].name) == 0)
             return BUNDLE_KEYS[i].take(text, settings) ? NULL : BUNDLE_KEYS[i].expected;
-    return "key, system, partner, partner-required, key-by-speed, min-links, max-links, port-priority, timeout, activity, "
-           "marker-responses, hook, carry, hash, flight, offload or fast as a key of [Bundle]";
+    return a_bundle_key();
 }
 
 /* A number of a port. */
