@@ -70,7 +70,7 @@ static void enter(const struct bundle *now) {
 /* Looks at the ports, and tells what became of the bundle. What changes too often is told later. */
 void look_at_bundle(void) {
     struct bundle now = bundle;
-    if (!started || lines == 0) return;
+    if (!has_started || lines == 0) return;
     choose_aggregator(&now);
     now.state = state_of(now.carrying);
     if (told && now.state == bundle.state && now.carrying == bundle.carrying && now.aggregator == bundle.aggregator) return;

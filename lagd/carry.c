@@ -311,7 +311,7 @@ void open_carry(void) {
     load_guard();
     tap = open_tap(settings.carry, settings.config.mac);
     if (settings.fast) start_fast();
-    if (!watch(tap, HOST)) stop(REFUSED, "epoll", strerror(errno));
+    if (!await_input(tap, HOST)) stop(REFUSED, "epoll", strerror(errno));
 }
 
 /* The daemon ends: members are as they were before, and the device goes with the program. */

@@ -52,7 +52,7 @@ static void ask(void) {
     question.mask = RTEXT_FILTER_SKIP_STATS;
     for (uint16_t i = 0; i < link_count; i++) links[i].present = false;
     asking = send(route, &question, sizeof question, 0) == sizeof question;
-    if (!asking && !started) stop(REFUSED, "the kernel takes no question", strerror(errno));
+    if (!asking && !has_started) stop(REFUSED, "the kernel takes no question", strerror(errno));
     ask_again = !asking;
     interrupted = false;
 }
@@ -120,12 +120,12 @@ static _Noreturn void refuse_link(const struct link *link) {
 /* Takes up an interface that has the name of a port. At the start, what is wrong with one ends the program. */
 static bool take_up(struct link *link, const struct interface *interface) {
     if (interface->type != ARPHRD_ETHER) {
-        if (!started) stop(WRONG_WORD, "not an Ethernet interface", link->name);
+        if (!has_started) stop(WRONG_WORD, "not an Ethernet interface", link->name);
         return false;
     }
     memcpy(link->discipline, interface->discipline, sizeof link->discipline);
     if (!open_link(link, interface->index)) {
-        if (!started) refuse_link(link);
+        if (!has_started) refuse_link(link);
         ask_again = true;
         return false;
     }
@@ -195,7 +195,7 @@ static int error_of(const uint8_t *message, const struct nlmsghdr *head) {
  * the start; later the kernel is asked again. */
 static void end_answer(int error) {
     bool whole = error == 0 && !interrupted;
-    if (error < 0 && !started) stop(REFUSED, "the kernel does not tell of interfaces", strerror(-error));
+    if (error < 0 && !has_started) stop(REFUSED, "the kernel does not tell of interfaces", strerror(-error));
     asking = false;
     ask_again = ask_again || !whole;
     for (uint16_t i = 0; whole && i < link_count; i++)

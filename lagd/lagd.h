@@ -145,7 +145,7 @@ extern struct settings settings; /* those that hold now */
 extern struct link links[NIW_MOST_PORTS];
 extern uint16_t link_count;
 extern struct bundle bundle;
-extern bool started; /* whether the interfaces that are there were taken up */
+extern bool has_started; /* whether the interfaces that are there were taken up */
 extern bool broken;  /* whether the library refused a call: the peers are told, and the program ends */
 
 /* names.c */
@@ -360,8 +360,8 @@ enum {
     MEMBERS,                       /* their data */
     TAGS = MEMBERS + NIW_MOST_PORTS,
 };
-bool watch(int fd, uint32_t tag);
-bool watch_output(int fd, uint32_t tag);
-void unwatch(int fd);
+bool await_input(int fd, uint32_t tag);
+bool await_output(int fd, uint32_t tag);
+void await_no_more(int fd);
 
 #endif

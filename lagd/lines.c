@@ -85,7 +85,7 @@ void check_call(uint32_t status, const char *call) {
     char why[64];
     if (status == NIW_OK || broken) return;
     snprintf(why, sizeof why, "refused with %" PRIu32, status);
-    if (!started) stop(REFUSED, call, why);
+    if (!has_started) stop(REFUSED, call, why);
     broken = true;
     (void)say(LOG_ERR | ABOUT_REFUSAL, "%s: %s; the peers are told, and the daemon ends", call, why);
 }
@@ -127,7 +127,7 @@ void complain(const char *format, ...) {
     length = vsnprintf(raw, sizeof raw, format, given);
     va_end(given);
     (void)escape(text, sizeof text, raw, length < (int)sizeof raw ? (size_t)length : sizeof raw - 1, false);
-    if (started)
+    if (has_started)
         (void)say_text(LOG_WARNING | ABOUT_FILE, text);
     else
         write_error(text);

@@ -44,7 +44,7 @@ bool open_link(struct link *link, int index) {
     link->lock = lock_interface(index);
     link->socket = link->lock < 0 ? -1 : open_socket(index);
     link->index = index;
-    taken = link->socket >= 0 && watch(link->socket, link->settings.number) && open_member(link);
+    taken = link->socket >= 0 && await_input(link->socket, link->settings.number) && open_member(link);
     link->trouble = taken ? 0 : errno;
     link->trouble_ticks = TROUBLE_TICKS;
     link->unsent = false;

@@ -28,25 +28,25 @@
 static int waits = -1;
 
 /* Waits for a file descriptor, too; answers whether the kernel takes it. */
-bool watch(int fd, uint32_t tag) {
+bool await_input(int fd, uint32_t tag) {
     struct epoll_event event = {.events = EPOLLIN, .data = {.u32 = tag}};
     return epoll_ctl(waits, EPOLL_CTL_ADD, fd, &event) == 0;
 }
 
 /* Waits until it takes what is sent, and for nothing that comes. */
-bool watch_output(int fd, uint32_t tag) {
+bool await_output(int fd, uint32_t tag) {
     struct epoll_event event = {.events = EPOLLOUT, .data = {.u32 = tag}};
     return epoll_ctl(waits, EPOLL_CTL_MOD, fd, &event) == 0;
 }
 
 /* Waits for it no longer. */
-void unwatch(int fd) {
+void await_no_more(int fd) {
     (void)epoll_ctl(waits, EPOLL_CTL_DEL, fd, NULL);
 }
 
 /* At the start, what cannot be waited for ends the program. */
-static void watch_at_start(int fd, uint32_t tag) {
-    if (!watch(fd, tag)) stop(REFUSED, "epoll", strerror(errno));
+static void await_at_start(int fd, uint32_t tag) {
+    if (!await_input(fd, tag)) stop(REFUSED, "epoll", strerror(errno));
 }
 
 static int open_clock(void) {
@@ -180,13 +180,13 @@ static int run_daemon(const struct options *options) {
     if (waits < 0) stop(REFUSED, "epoll", strerror(errno));
     make_system();
     open_carry();
-    watch_at_start(open_changes(), CHANGES);
+    await_at_start(open_changes(), CHANGES);
     (void)open_status(options->folder);
     clock = open_clock();
-    watch_at_start(signals, SIGNALS);
-    watch_at_start(clock, CLOCK);
+    await_at_start(signals, SIGNALS);
+    await_at_start(clock, CLOCK);
     drop_privileges();
-    started = true;
+    has_started = true;
     tell_changes();
     settle_carry();
     notify_ready();

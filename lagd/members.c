@@ -136,7 +136,7 @@ static bool open_sockets(struct member *member, const struct link *link) {
     uint32_t tag = MEMBERS + (uint32_t)(member - members);
     member->socket = open_data(link->index, fast);
     member->markers = fast && member->socket >= 0 ? open_markers(link->settings.number) : -1;
-    return member->socket >= 0 && (!fast || member->markers >= 0) && watch(fast ? member->markers : member->socket, tag);
+    return member->socket >= 0 && (!fast || member->markers >= 0) && await_input(fast ? member->markers : member->socket, tag);
 }
 
 /* Takes up an interface for data, if data is carried; answers whether it did, and else errno tells why not. */

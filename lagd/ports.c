@@ -91,7 +91,7 @@ static bool print_facts(const struct link *link, const struct facts *facts, bool
 bool print_change(struct link *link) {
     struct facts facts = facts_of(link);
     bool same = link->told && is_same(&facts, &link->printed), watched = link->watched && is_same(&facts, &link->shown);
-    if (!started) return false;
+    if (!has_started) return false;
     if (!same && !watched) {
         link->changed_at = time(NULL);
         tell_watchers_of(link);

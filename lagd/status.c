@@ -56,7 +56,7 @@ static void take_caller(int fd) {
     struct ucred who = {0};
     socklen_t length = sizeof who;
     struct caller *place = getsockopt(fd, SOL_SOCKET, SO_PEERCRED, &who, &length) == 0 ? place_for(who.uid) : NULL;
-    if (!place || !watch(fd, CALLERS + (uint32_t)(place - callers))) {
+    if (!place || !await_input(fd, CALLERS + (uint32_t)(place - callers))) {
         close(fd);
         return;
     }
@@ -71,7 +71,7 @@ void take_callers(void) {
         left_in_tick--;
         take_caller(fd);
     }
-    if (listens) unwatch(listener);
+    if (listens) await_no_more(listener);
     listens = false;
 }
 
@@ -83,7 +83,7 @@ static void send_rest(struct caller *caller) {
         caller->sent += (size_t)sent;
         caller->ticks = PATIENCE;
     }
-    if (!waits || caller->sent == caller->answer_length || !watch_output(caller->fd, CALLERS + (uint32_t)(caller - callers)))
+    if (!waits || caller->sent == caller->answer_length || !await_output(caller->fd, CALLERS + (uint32_t)(caller - callers)))
         close_caller(caller);
 }
 
@@ -137,7 +137,7 @@ void pass_tick_of_callers(void) {
     for (unsigned i = 0; i < MOST_CALLERS; i++)
         if (callers[i].fd >= 0 && !callers[i].watches && --callers[i].ticks == 0) close_caller(&callers[i]);
     left_in_tick = MOST_IN_TICK;
-    if (!listens) listens = watch(listener, STATUS);
+    if (!listens) listens = await_input(listener, STATUS);
 }
 
 /* Tells those who watch; who does not keep up is let go. */
@@ -186,6 +186,6 @@ int open_status(const char *folder) {
     umask(mask);
     if (fault) stop(REFUSED, folder, strerror(fault));
     (void)atexit(remove_socket);
-    listens = watch(listener, STATUS);
+    listens = await_input(listener, STATUS);
     return listener;
 }

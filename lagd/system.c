@@ -8,7 +8,7 @@ struct niw_system own_system = NIW_EMPTY;
 struct settings settings;
 struct link links[NIW_MOST_PORTS];
 uint16_t link_count;
-bool started;
+bool has_started;
 
 static uint64_t ticks;
 static struct timespec began;

@@ -22,17 +22,17 @@ static int wire[2];                             /* the packet socket of the firs
 static const uint8_t *waiting;                  /* what waits there, or NULL */
 static size_t waiting_length;
 
-bool watch(int fd, uint32_t tag) {
+bool await_input(int fd, uint32_t tag) {
     (void)fd;
     (void)tag;
     return true;
 }
 
-bool watch_output(int fd, uint32_t tag) {
-    return watch(fd, tag);
+bool await_output(int fd, uint32_t tag) {
+    return await_input(fd, tag);
 }
 
-void unwatch(int fd) {
+void await_no_more(int fd) {
     (void)fd;
 }
 
@@ -75,7 +75,7 @@ static void make_ports(void) {
     if (!mkdtemp(folder) || socketpair(AF_UNIX, SOCK_DGRAM | SOCK_NONBLOCK, 0, wire) < 0) abort();
     (void)atexit(remove_folder);
     (void)open_status(folder);
-    started = true;
+    has_started = true;
     set_link(1, true);
     set_link(2, true);
 }
