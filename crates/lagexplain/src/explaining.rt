@@ -6,9 +6,7 @@ ghost use Rattle.lagexplain.specs.Explanations.{SaysWhere, place_text};
 use crate::arrays::{count_at, table_at};
 use crate::cables::explain_ends;
 use crate::entries::explain_entry;
-use crate::keys::{
-    CABLE_KEYS, PORT_KEYS, SYSTEM_KEYS, TOP_KEYS, explain_extra_key, port_key, system_key,
-};
+use crate::keys::{explain_extra_key, port_key, system_key};
 use crate::ports::explain_port_number;
 use crate::subject_text::SubjectText;
 use crate::text_places::place_of;

@@ -3,35 +3,6 @@ use lagscript::{PortKey, SystemKey};
 use std::alloc::{AllocError, Global};
 use toml::Table;
 
-/// The keys at the top of a script.
-pub(crate) const TOP_KEYS: [&str; 3] = ["system", "cable", "events"];
-
-/// The keys in the table of a system.
-pub(crate) const SYSTEM_KEYS: [&str; 8] = [
-    "priority",
-    "mac",
-    "max_delay",
-    "first_marker",
-    "aggregators",
-    "max_links",
-    "conversations",
-    "port",
-];
-
-/// The keys in the table of a port.
-pub(crate) const PORT_KEYS: [&str; 7] = [
-    "number",
-    "priority",
-    "mac",
-    "key",
-    "aggregatable",
-    "active",
-    "short",
-];
-
-/// The keys in the table of a cable.
-pub(crate) const CABLE_KEYS: [&str; 2] = ["ends", "limit"];
-
 /// A number of 16 bits.
 const NUMBER: &str = "a number, 0 to 65535";
 

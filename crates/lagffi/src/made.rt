@@ -17,6 +17,12 @@ use std::alloc::Global;
 
 /// The last of the distribution algorithms, which are numbered from 0.
 const LAST_ALGORITHM: u16 = 2;
+/// The configuration is refused, for a reason.
+const BAD_CONFIGURATION: u32 = 11;
+/// The reason: a port number is 0 or not above the one before it.
+const BAD_PORT_NUMBER: u32 = 3;
+/// The reason: there is no algorithm of this number.
+const BAD_ALGORITHM: u32 = 6;
 /// The handle holds a system already.
 const HOLDS_SYSTEM_ALREADY: u32 = 14;
 
@@ -106,8 +112,8 @@ impl LagMade {
         ensures { result ≡ no_algorithm }
     {
         LagMade {
-            status: 11,
-            reason: 6,
+            status: BAD_CONFIGURATION,
+            reason: BAD_ALGORITHM,
             place: 0,
         }
     }
@@ -120,7 +126,7 @@ impl LagMade {
         match fault {
             SystemFault::BadConfig(BadConfig::PortNumber(place)) => LagMade {
                 status,
-                reason: 3,
+                reason: BAD_PORT_NUMBER,
                 place: *place,
             },
             SystemFault::BadConfig(reason) => LagMade {

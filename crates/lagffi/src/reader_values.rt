@@ -157,7 +157,7 @@ impl LagParty {
     }
 
     /// The own parameters of a port.
-    fn this(party: &Party) -> LagParty
+    fn of(party: &Party) -> LagParty
         ensures { result ≡ lag_party party.now }
     {
         LagParty {
@@ -176,7 +176,7 @@ impl LagParty {
         ensures { result ≡ party_or_no_port answer }
     {
         match answer {
-            Some(party) => LagParty::this(&party),
+            Some(party) => LagParty::of(&party),
             None => LagParty::refused(NO_PORT),
         }
     }
@@ -219,7 +219,7 @@ impl LagInfo {
     }
 
     /// The recorded partner of a port.
-    fn this(info: &Info) -> LagInfo
+    fn of(info: &Info) -> LagInfo
         ensures { result ≡ lag_info info.now }
     {
         LagInfo {
@@ -238,7 +238,7 @@ impl LagInfo {
         ensures { result ≡ info_or_no_port answer }
     {
         match answer {
-            Some(info) => LagInfo::this(&info),
+            Some(info) => LagInfo::of(&info),
             None => LagInfo::refused(NO_PORT),
         }
     }
@@ -321,7 +321,7 @@ impl LagGroup {
     }
 
     /// The group of a port.
-    fn this(group: &Group) -> LagGroup
+    fn of(group: &Group) -> LagGroup
         ensures { result ≡ lag_group group.now }
     {
         LagGroup {
@@ -336,7 +336,7 @@ impl LagGroup {
         ensures { result ≡ group_or_no_port answer }
     {
         match answer {
-            Some(group) => LagGroup::this(&group),
+            Some(group) => LagGroup::of(&group),
             None => LagGroup::refused(NO_PORT),
         }
     }
@@ -398,7 +398,7 @@ impl LagAssignment {
     }
 
     /// The state of a conversation.
-    fn this(assignment: &Assignment) -> LagAssignment
+    fn of(assignment: &Assignment) -> LagAssignment
         ensures { result ≡ lag_assignment assignment.now }
     {
         match *assignment {
@@ -424,7 +424,7 @@ impl LagAssignment {
         ensures { result ≡ assignment_or_refused answer }
     {
         match answer {
-            Some(assignment) => LagAssignment::this(&assignment),
+            Some(assignment) => LagAssignment::of(&assignment),
             None => LagAssignment::refused(NO_CONVERSATION),
         }
     }

@@ -28,7 +28,7 @@ use toml::Table;
 const MOST_ENTRIES: usize = 100_000;
 
 /// The keys at the top of a script.
-const TOP_KEYS: [&str; 3] = ["system", "cable", "events"];
+pub const TOP_KEYS: [&str; 3] = ["system", "cable", "events"];
 
 /// The fault of a script whose configuration is refused for this reason; None for `Lines`, which a script does not
 /// have.

@@ -18,7 +18,7 @@ use std::alloc::Global;
 use toml::Table;
 
 /// The keys in the table of a system.
-const SYSTEM_KEYS: [&str; 8] = [
+pub const SYSTEM_KEYS: [&str; 8] = [
     "priority",
     "mac",
     "max_delay",
@@ -30,7 +30,7 @@ const SYSTEM_KEYS: [&str; 8] = [
 ];
 
 /// The keys in the table of a port.
-const PORT_KEYS: [&str; 7] = [
+pub const PORT_KEYS: [&str; 7] = [
     "number",
     "priority",
     "mac",
@@ -41,7 +41,7 @@ const PORT_KEYS: [&str; 7] = [
 ];
 
 /// The keys in the table of a cable.
-const CABLE_KEYS: [&str; 2] = ["ends", "limit"];
+pub const CABLE_KEYS: [&str; 2] = ["ends", "limit"];
 
 /// Reads the port at this place of a system. If the MAC address is left out, it is that of the system.
 fn port_config_of(

@@ -17,7 +17,6 @@ use lagtypes::AggId;
 
 impl<F: Fn(u16, usize) -> usize + Drop> Inner<F> {
     /// The port for a frame of a conversation that exists. The conversation is On that port afterwards; an Err changes nothing.
-    #[inline(always)]
     pub(crate) fn take_port(&mut self, agg: AggId, conv: u16) -> Result<u16, SystemFault>
         requires usable { PicksIndexes (F.pre self.old.distributor.algorithm) (F.post self.old.distributor.algorithm) }
         requires sound { IsSound (inner_state self.old) }
@@ -30,20 +29,6 @@ impl<F: Fn(u16, usize) -> usize + Drop> Inner<F> {
         if let Assignment::On(port) = self.distributor.state(agg, conv) {
             return Ok(port);
         }
-        self.assign_port(agg, conv)
-    }
-
-    /// As `take_port`, without its short way for a conversation that is On a port. Not inlined, so that `take_port` reserves no
-    /// stack for the list of ports that distribute.
-    #[inline(never)]
-    fn assign_port(&mut self, agg: AggId, conv: u16) -> Result<u16, SystemFault>
-        requires usable { PicksIndexes (F.pre self.old.distributor.algorithm) (F.post self.old.distributor.algorithm) }
-        requires sound { IsSound (inner_state self.old) }
-        requires there { has_aggregator (inner_state self.old) agg ≡ true }
-        requires within { conv < conversation_count (inner_state self.old) }
-        ensures takes { TakesPort (F.post self.old.distributor.algorithm) agg conv (inner_state self.old) result (inner_state self.new) }
-        ensures algorithm { self.new.distributor.algorithm ≡ self.old.distributor.algorithm }
-    {
         let ports = distributing(&self.system_ports, agg);
         let port = self.distributor.assign(agg, conv, ports.as_slice())?;
         Ok(port)

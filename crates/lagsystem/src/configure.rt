@@ -25,7 +25,7 @@ pub(crate) fn configure_at(
         return false;
     }
     let system_port = &mut system_ports[place];
-    reinit_slot(system_port, change);
+    reinit_system_port(system_port, change);
     true
 }
 
@@ -38,7 +38,7 @@ fn is_same(port: &Port, change: PortChange) -> bool
 }
 
 /// Gives a port the changed parameters and starts its machines again (BEGIN).
-fn reinit_slot(system_port: &mut SystemPort, change: PortChange)
+fn reinit_system_port(system_port: &mut SystemPort, change: PortChange)
     ensures kept { system_port.new ≡ record system_port.old { port = system_port.new.port } }
     ensures port { Starts (record system_port.old.port { party = changed_party change system_port.old.port.party }) system_port.new.port }
 {

@@ -16,7 +16,7 @@ use slowpdu::Info;
 
 impl<F: Fn(u16, usize) -> usize + Drop> Inner<F> {
     /// The port with this number.
-    pub(crate) fn slot_of(&self, number: u16) -> Option<&SystemPort>
+    pub(crate) fn system_port(&self, number: u16) -> Option<&SystemPort>
         requires { IsSound (inner_state self.now) }
         ensures { MatchOption result (system_port_at (port_index number self.now.system_ports.items) self.now.system_ports.items ≡ None)
             (λ system_port. system_port_at (port_index number self.now.system_ports.items) self.now.system_ports.items
@@ -34,7 +34,7 @@ impl<F: Fn(u16, usize) -> usize + Drop> System<F> {
     pub fn machines(&self, port: u16) -> Option<&Port>
         ensures { MatchOption result (machines_of port self.now.state ≡ None) (λ p. machines_of port self.now.state ≡ Some p.now) }
     {
-        match self.inner.slot_of(port) {
+        match self.inner.system_port(port) {
             Some(system_port) => Some(&system_port.port),
             None => None,
         }
@@ -44,7 +44,7 @@ impl<F: Fn(u16, usize) -> usize + Drop> System<F> {
     pub fn is_up(&self, port: u16) -> Option<bool>
         ensures { result ≡ option_map (λ p. p.enabled) (machines_of port self.now.state) }
     {
-        match self.inner.slot_of(port) {
+        match self.inner.system_port(port) {
             Some(system_port) => Some(system_port.port.is_enabled()),
             None => None,
         }
@@ -55,7 +55,7 @@ impl<F: Fn(u16, usize) -> usize + Drop> System<F> {
     pub fn state(&self, port: u16) -> Option<State>
         ensures { result ≡ option_map actor_state (machines_of port self.now.state) }
     {
-        match self.inner.slot_of(port) {
+        match self.inner.system_port(port) {
             Some(system_port) => Some(system_port.port.state()),
             None => None,
         }
@@ -65,7 +65,7 @@ impl<F: Fn(u16, usize) -> usize + Drop> System<F> {
     pub fn receive_state(&self, port: u16) -> Option<ReceiveState>
         ensures { result ≡ option_map (λ p. p.receive) (machines_of port self.now.state) }
     {
-        match self.inner.slot_of(port) {
+        match self.inner.system_port(port) {
             Some(system_port) => Some(system_port.port.receive_state()),
             None => None,
         }
@@ -77,7 +77,7 @@ impl<F: Fn(u16, usize) -> usize + Drop> System<F> {
     pub fn is_due(&self, port: u16) -> Option<bool>
         ensures { result ≡ would_transmit_at port self.now.state }
     {
-        match self.inner.slot_of(port) {
+        match self.inner.system_port(port) {
             Some(system_port) => Some(self.inner.would_transmit(system_port)),
             None => None,
         }
@@ -87,7 +87,7 @@ impl<F: Fn(u16, usize) -> usize + Drop> System<F> {
     pub fn party(&self, port: u16) -> Option<Party>
         ensures { result ≡ option_map (λ p. p.party) (machines_of port self.now.state) }
     {
-        match self.inner.slot_of(port) {
+        match self.inner.system_port(port) {
             Some(system_port) => Some(system_port.port.party()),
             None => None,
         }
@@ -97,7 +97,7 @@ impl<F: Fn(u16, usize) -> usize + Drop> System<F> {
     pub fn partner(&self, port: u16) -> Option<Info>
         ensures { result ≡ option_map (λ p. p.partner) (machines_of port self.now.state) }
     {
-        match self.inner.slot_of(port) {
+        match self.inner.system_port(port) {
             Some(system_port) => Some(system_port.port.partner()),
             None => None,
         }
@@ -108,7 +108,7 @@ impl<F: Fn(u16, usize) -> usize + Drop> System<F> {
     pub fn group(&self, port: u16) -> Option<Group>
         ensures { result ≡ option_map group_at (machines_of port self.now.state) }
     {
-        match self.inner.slot_of(port) {
+        match self.inner.system_port(port) {
             Some(system_port) => Some(Group::of(
                 &system_port.port.party(),
                 &system_port.port.partner().party(),
@@ -122,7 +122,7 @@ impl<F: Fn(u16, usize) -> usize + Drop> System<F> {
     pub fn defaulted(&self, port: u16) -> Option<bool>
         ensures { result ≡ option_map (λ p. p.defaulted) (machines_of port self.now.state) }
     {
-        match self.inner.slot_of(port) {
+        match self.inner.system_port(port) {
             Some(system_port) => Some(system_port.port.is_defaulted()),
             None => None,
         }
@@ -133,7 +133,7 @@ impl<F: Fn(u16, usize) -> usize + Drop> System<F> {
     pub fn distributes(&self, port: u16) -> Option<bool>
         ensures { result ≡ option_map (λ p. same_mux_state MuxState.CollectingDistributing p.mux) (machines_of port self.now.state) }
     {
-        match self.inner.slot_of(port) {
+        match self.inner.system_port(port) {
             Some(system_port) => Some(system_port.port.distributes()),
             None => None,
         }
@@ -143,7 +143,7 @@ impl<F: Fn(u16, usize) -> usize + Drop> System<F> {
     pub fn choice(&self, port: u16) -> Option<Choice>
         ensures { result ≡ option_map (λ p. p.choice) (machines_of port self.now.state) }
     {
-        match self.inner.slot_of(port) {
+        match self.inner.system_port(port) {
             Some(system_port) => Some(system_port.port.choice()),
             None => None,
         }
@@ -153,7 +153,7 @@ impl<F: Fn(u16, usize) -> usize + Drop> System<F> {
     pub fn mux_state(&self, port: u16) -> Option<MuxState>
         ensures { result ≡ option_map (λ p. p.mux) (machines_of port self.now.state) }
     {
-        match self.inner.slot_of(port) {
+        match self.inner.system_port(port) {
             Some(system_port) => Some(system_port.port.mux_state()),
             None => None,
         }
@@ -163,7 +163,7 @@ impl<F: Fn(u16, usize) -> usize + Drop> System<F> {
     pub fn current_while(&self, port: u16) -> Option<u16>
         ensures { result ≡ option_map (λ p. p.current_while) (machines_of port self.now.state) }
     {
-        match self.inner.slot_of(port) {
+        match self.inner.system_port(port) {
             Some(system_port) => Some(system_port.port.current_while()),
             None => None,
         }
@@ -173,7 +173,7 @@ impl<F: Fn(u16, usize) -> usize + Drop> System<F> {
     pub fn wait_while(&self, port: u16) -> Option<u8>
         ensures { result ≡ option_map (λ p. p.wait_while) (machines_of port self.now.state) }
     {
-        match self.inner.slot_of(port) {
+        match self.inner.system_port(port) {
             Some(system_port) => Some(system_port.port.wait_while()),
             None => None,
         }
@@ -183,7 +183,7 @@ impl<F: Fn(u16, usize) -> usize + Drop> System<F> {
     pub fn ntt(&self, port: u16) -> Option<bool>
         ensures { result ≡ option_map (λ p. p.ntt) (machines_of port self.now.state) }
     {
-        match self.inner.slot_of(port) {
+        match self.inner.system_port(port) {
             Some(system_port) => Some(system_port.port.ntt()),
             None => None,
         }

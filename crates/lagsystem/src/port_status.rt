@@ -154,7 +154,7 @@ impl<F: Fn(u16, usize) -> usize + Drop> System<F> {
         ensures distributing { (result ≡ Some PortStatus.Distributing)
             ↔ (option_map (λ p. same_mux_state MuxState.CollectingDistributing p.mux) (machines_of port self.now.state) ≡ Some true) }
     {
-        match self.inner.slot_of(port) {
+        match self.inner.system_port(port) {
             Some(system_port) => Some(status_of_port(&system_port.port)),
             None => None,
         }

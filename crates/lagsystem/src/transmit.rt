@@ -17,13 +17,13 @@ pub(crate) fn control_frame(mac: [u8; 6], payload: &[u8; 110]) -> [u8; 124]
 }
 
 /// How many LACPDUs a port may send in eleven ticks (6.4.16).
-const WINDOW: usize = 3;
+const MOST_LACPDUS: usize = 3;
 
 /// Whether the port may send an LACPDU now: NTT is set, and the window is not full.
 pub(crate) fn is_lacpdu_due(port: &Port) -> bool
     ensures { result ≡ is_due port.now }
 {
-    port.ntt() && port.ages().len() < WINDOW
+    port.ntt() && port.ages().len() < MOST_LACPDUS
 }
 
 /// The LACPDU that is due on a port, as a control frame; None if none is due.

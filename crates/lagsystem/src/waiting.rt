@@ -10,7 +10,7 @@ use crate::system_ports::SystemPort;
 use portmachines::Port;
 
 /// An LACPDU leaves the transmit window when its age becomes 11 ticks (6.4.16).
-const WINDOW: u8 = 11;
+const WINDOW_TICKS: u8 = 11;
 
 /// The sooner of two numbers of ticks; None is never.
 fn sooner(one: Option<u16>, other: Option<u16>) -> Option<u16>
@@ -47,7 +47,7 @@ fn first_to_leave(ages: &[u8]) -> Option<u16>
 {
     let mut first = None;
     for age in ages {
-        let left = u16::from(WINDOW.saturating_sub(*age));
+        let left = u16::from(WINDOW_TICKS.saturating_sub(*age));
         first = sooner(first, Some(left));
     }
     first

@@ -6,9 +6,6 @@ use crate::gaps::Gaps;
 use findings::LinkEnd;
 use slowpdu::Lacpdu;
 
-/// The most ends of links that are told of.
-pub const MOST_ENDS: usize = 64;
-
 /// Where an LACPDU came from: an end of a link as a capture shows it.
 #[derive(Clone, Copy, Debug, PartialEq, Eq)]
 pub struct Sender {

@@ -4,7 +4,7 @@ ghost use Rattle.lagstreams.specs.Sinks.{WritesPart, WritesWhole};
 
 use crate::content::content_of;
 use crate::end_texts::{CountsText, EndsText};
-use crate::ends::{End, MOST_ENDS, Sender, end_place, last_of};
+use crate::ends::{End, Sender, end_place, last_of};
 use crate::envelope::{Envelope, envelope_of};
 use crate::fault::ReadFault;
 use crate::finding_texts::FindingsText;
@@ -16,7 +16,7 @@ use crate::names::{Identity, MOST_NAMES, place_of};
 use crate::settings::Settings;
 use crate::summary::Summary;
 use captures::Packet;
-use findings::Finding;
+use findings::{Finding, MOST_ENDS};
 use lagstreams::{Sink, WriteFailed};
 use slowpdu::{Lacpdu, Pdu};
 use std::alloc::{AllocError, Global};

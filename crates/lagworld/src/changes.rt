@@ -6,12 +6,12 @@ ghost use Rattle.lagworld.specs.Inner.{half_state};
 ghost use Rattle.lagworld.specs.Messages.{side_numbered};
 ghost use Rattle.lagworld.specs.Sound.{AreBelow, IsSound, both_algorithms};
 
-use crate::causes::{Side, side_numbered};
 use crate::half::Half;
 use crate::histories::PortHistory;
 use crate::inner::Inner;
 use crate::link::empty_all;
 use crate::reply::Reply;
+use crate::side::{Side, side_numbered};
 use cables::Cable;
 use lagsystem::{PortChange, System};
 

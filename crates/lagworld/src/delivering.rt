@@ -15,7 +15,6 @@ ghost use Rattle.lagworld.specs.Sides.{model_side};
 ghost use Rattle.lagworld.specs.Sound.{both_algorithms};
 ghost use Rattle.lagworld.specs.State.{is_accepted, port_at, towards, without_first};
 
-use crate::causes::{Side, side_numbered};
 use crate::collecting::{collect, reserve_collected};
 use crate::emitting::{CONTROL_FRAME_LENGTH, filled};
 use crate::fault::WorldFault;
@@ -25,6 +24,7 @@ use crate::inner::Inner;
 use crate::link::Link;
 use crate::reply::Reply;
 use crate::sending::{put_on_port, reserve_on};
+use crate::side::{Side, side_numbered};
 use cables::{Cable, Item, Stamp};
 use lagsystem::{Received, SystemFault};
 use slowpdu::{Kind, Lacpdu, Pdu, classify, decode};

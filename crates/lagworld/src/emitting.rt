@@ -14,13 +14,13 @@ ghost use Rattle.lagworld.specs.Sides.{model_side};
 ghost use Rattle.lagworld.specs.Sound.{both_algorithms};
 ghost use Rattle.lagworld.specs.State.{change_count_in, half, history_at};
 
-use crate::causes::{Side, side_numbered};
 use crate::fault::WorldFault;
 use crate::half::Half;
 use crate::histories::{PortHistory, history_of};
 use crate::inner::Inner;
 use crate::reply::Reply;
 use crate::sending::{put_on_port, reserve_on};
+use crate::side::{Side, side_numbered};
 use cables::{Cable, Item, Stamp};
 use lagsystem::SystemFault;
 use slowpdu::{Pdu, decode};

@@ -9,11 +9,11 @@ ghost use Rattle.lagworld.specs.WorldCalls.{WorldMoves, WorldSenses, WorldTicks,
 ghost use Rattle.lagworld.specs.Messages.{side_numbered};
 ghost use Rattle.lagworld.specs.Sound.{IsSound, both_algorithms};
 
-use crate::causes::{Side, has_system, side_numbered};
 use crate::fault::WorldFault;
 use crate::half::Half;
 use crate::link::{Link, cut_at, join_at, link_status};
 use crate::reply::Reply;
+use crate::side::{Side, has_system, side_numbered};
 use cables::Cable;
 use lagscript::Event;
 use lagtypes::AggId;

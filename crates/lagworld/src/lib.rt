@@ -9,7 +9,6 @@
 #![tactic(auto)]
 
 mod agreement;
-mod causes;
 mod changes;
 mod collecting;
 mod delivering;
@@ -26,6 +25,7 @@ mod readers;
 mod reply;
 mod sending;
 mod serials;
+mod side;
 mod start;
 mod world;
 

@@ -7,10 +7,10 @@ ghost use Rattle.lagworld.specs.Messages.{item_value, side_numbered};
 ghost use Rattle.lagworld.specs.Sides.{model_side};
 ghost use Rattle.lagworld.specs.State.{towards, without_first};
 
-use crate::causes::{Side, side_numbered};
 use crate::inner::Inner;
 use crate::link::Link;
 use crate::reply::Reply;
+use crate::side::{Side, side_numbered};
 use cables::Cable;
 
 /// Takes the first item off; returns whether there was one.

@@ -14,13 +14,13 @@ ghost use Rattle.lagworld.specs.Sides.{model_side};
 ghost use Rattle.lagworld.specs.Sound.{IsSound, both_algorithms};
 ghost use Rattle.lagworld.specs.State.{half, by_side, sent_in, flow_at, with_half};
 
-use crate::causes::{Side, side_numbered};
 use crate::fault::WorldFault;
 use crate::half::Half;
 use crate::inner::Inner;
 use crate::reply::Reply;
 use crate::sending::{put_on_port, reserve_all};
 use crate::serials::{record_force, record_frame_sent, reserve_serial};
+use crate::side::{Side, side_numbered};
 use cables::{Cable, Item, Stamp};
 use lagsystem::SystemFault;
 use lagtypes::AggId;

@@ -7,9 +7,9 @@ ghost use Rattle.lagworld.specs.Places.{AreReserved, IsReserved, IsReservedAt, i
 ghost use Rattle.lagworld.specs.Sides.{model_side};
 ghost use Rattle.lagworld.specs.State.{is_at_limit, is_accepted, by_side, put_on_port, sent_on, accepts};
 
-use crate::causes::Side;
 use crate::fault::WorldFault;
 use crate::link::Link;
+use crate::side::Side;
 use cables::{Cable, Item, NoMemory};
 
 /// Puts an item behind the others on a direction of a cable; returns false, and loses the item, if that is full.

@@ -5,9 +5,7 @@ ghost use Rattle.distributor.specs.Waiting.{is_by, sooner, soonest_below, ticks_
 
 use super::{CHAINS, Slots};
 use crate::assignment::Assignment;
-
-/// A marker whose response does not come is followed by another at this tick after it.
-const LIMIT: u8 = 30;
+use crate::change::MARKER_TICKS;
 
 impl Assignment {
     /// In how many ticks the conversation is Wanted again; None if it is not Flushing.
@@ -15,7 +13,7 @@ impl Assignment {
         ensures { result ≡ ticks_until_wanted self.now }
     {
         match *self {
-            Assignment::Flushing { age, .. } => Some(LIMIT.saturating_sub(age)),
+            Assignment::Flushing { age, .. } => Some(MARKER_TICKS.saturating_sub(age)),
             Assignment::Free { .. } | Assignment::On(_) | Assignment::Wanted { .. } => None,
         }
     }
