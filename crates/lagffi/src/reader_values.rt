@@ -157,7 +157,7 @@ impl LagParty {
     }
 
     /// The own parameters of a port.
-    fn of(party: &Party) -> LagParty
+    fn of_party(party: &Party) -> LagParty
         ensures { result ≡ lag_party party.now }
     {
         LagParty {
@@ -176,7 +176,7 @@ impl LagParty {
         ensures { result ≡ party_or_no_port answer }
     {
         match answer {
-            Some(party) => LagParty::of(&party),
+            Some(party) => LagParty::of_party(&party),
             None => LagParty::refused(NO_PORT),
         }
     }
@@ -219,7 +219,7 @@ impl LagInfo {
     }
 
     /// The recorded partner of a port.
-    fn of(info: &Info) -> LagInfo
+    fn of_info(info: &Info) -> LagInfo
         ensures { result ≡ lag_info info.now }
     {
         LagInfo {
@@ -238,7 +238,7 @@ impl LagInfo {
         ensures { result ≡ info_or_no_port answer }
     {
         match answer {
-            Some(info) => LagInfo::of(&info),
+            Some(info) => LagInfo::of_info(&info),
             None => LagInfo::refused(NO_PORT),
         }
     }
@@ -321,7 +321,7 @@ impl LagGroup {
     }
 
     /// The group of a port.
-    fn of(group: &Group) -> LagGroup
+    fn of_group(group: &Group) -> LagGroup
         ensures { result ≡ lag_group group.now }
     {
         LagGroup {
@@ -336,7 +336,7 @@ impl LagGroup {
         ensures { result ≡ group_or_no_port answer }
     {
         match answer {
-            Some(group) => LagGroup::of(&group),
+            Some(group) => LagGroup::of_group(&group),
             None => LagGroup::refused(NO_PORT),
         }
     }
@@ -398,7 +398,7 @@ impl LagAssignment {
     }
 
     /// The state of a conversation.
-    fn of(assignment: &Assignment) -> LagAssignment
+    fn of_assignment(assignment: &Assignment) -> LagAssignment
         ensures { result ≡ lag_assignment assignment.now }
     {
         match *assignment {
@@ -424,7 +424,7 @@ impl LagAssignment {
         ensures { result ≡ assignment_or_refused answer }
     {
         match answer {
-            Some(assignment) => LagAssignment::of(&assignment),
+            Some(assignment) => LagAssignment::of_assignment(&assignment),
             None => LagAssignment::refused(NO_CONVERSATION),
         }
     }
