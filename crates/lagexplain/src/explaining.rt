@@ -11,7 +11,7 @@ use crate::ports::explain_port_number;
 use crate::subject_text::SubjectText;
 use crate::text_places::place_of;
 use crate::values::explain_value;
-use lagscript::{PortKey, ScriptFault, SystemKey};
+use lagscript::{CABLE_KEYS, PORT_KEYS, PortKey, SYSTEM_KEYS, ScriptFault, SystemKey, TOP_KEYS};
 use std::alloc::{AllocError, Global};
 use toml::Table;
 

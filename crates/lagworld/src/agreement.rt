@@ -1,5 +1,5 @@
 ghost use Rattle.std.specs.Prelude.{◌≡◌};
-ghost use Rattle.lagworld.specs.Agreement.{agreement_at, agreement_of, end_facts, first_agreement, is_stamp, same_groups};
+ghost use Rattle.lagworld.specs.Agreement.{agreement_at, agreement_of, end_facts, is_stamp, same_groups};
 ghost use Rattle.lagworld.specs.WorldCalls.{world_state};
 ghost use Rattle.lagworld.specs.Inner.{half_state};
 ghost use Rattle.lagworld.specs.State.{change_count_in, taken_in};
@@ -78,34 +78,24 @@ fn same_groups(one: Option<Group>, two: Option<Group>) -> bool
     }
 }
 
-/// The first variant whose condition holds; `Differ` if none does.
-fn first_agreement(not_both: bool, defaults: bool, changed: bool, same: bool) -> Agreement
-    ensures { result ≡ first_agreement not_both defaults changed same }
-{
-    if not_both {
-        return Agreement::NotBoth;
-    }
-    if defaults {
-        return Agreement::Defaults;
-    }
-    if changed {
-        return Agreement::Changed;
-    }
-    if same {
-        Agreement::Same
-    } else {
-        Agreement::Differ
-    }
-}
-
 /// How these two ends stand to each other.
 fn agreement_of(one: &EndFacts, two: &EndFacts) -> Agreement
     ensures { result ≡ agreement_of one.now two.now }
 {
-    let both = one.distributes && two.distributes;
-    let defaults = one.defaulted || two.defaulted;
-    let lacpdu = is_stamp(one.count, two.taken) && is_stamp(two.count, one.taken);
-    first_agreement(!both, defaults, !lacpdu, same_groups(one.group, two.group))
+    if !one.distributes || !two.distributes {
+        return Agreement::NotBoth;
+    }
+    if one.defaulted || two.defaulted {
+        return Agreement::Defaults;
+    }
+    if !is_stamp(one.count, two.taken) || !is_stamp(two.count, one.taken) {
+        return Agreement::Changed;
+    }
+    if same_groups(one.group, two.group) {
+        Agreement::Same
+    } else {
+        Agreement::Differ
+    }
 }
 
 impl<F: Fn(u16, usize) -> usize + Drop> Half<F> {

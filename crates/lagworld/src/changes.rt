@@ -11,7 +11,7 @@ use crate::histories::PortHistory;
 use crate::inner::Inner;
 use crate::link::empty_all;
 use crate::reply::Reply;
-use crate::side::{Side, side_numbered};
+use crate::side::side_numbered;
 use cables::Cable;
 use lagsystem::{PortChange, System};
 
@@ -67,10 +67,7 @@ impl<C: Cable, F: Fn(u16, usize) -> usize + Drop> Inner<C, F> {
         ensures algorithm_two { self.new.two.system.algorithm ≡ self.old.two.system.algorithm }
     {
         empty_all(&mut self.links);
-        match side_numbered(system) {
-            Side::One => self.one.restart(),
-            Side::Two => self.two.restart(),
-        }
+        self.half_mut(side_numbered(system)).restart();
         Reply::Restarted
     }
 
@@ -83,9 +80,7 @@ impl<C: Cable, F: Fn(u16, usize) -> usize + Drop> Inner<C, F> {
         ensures algorithm_one { self.new.one.system.algorithm ≡ self.old.one.system.algorithm }
         ensures algorithm_two { self.new.two.system.algorithm ≡ self.old.two.system.algorithm }
     {
-        match side_numbered(system) {
-            Side::One => self.one.configure(port, change),
-            Side::Two => self.two.configure(port, change),
-        }
+        let half = self.half_mut(side_numbered(system));
+        half.configure(port, change)
     }
 }

@@ -188,10 +188,7 @@ impl<C: Cable> Link<C> {
     fn head(&self, side: Side) -> Option<Head>
         ensures { result ≡ head_in (model_side side) (link_state C.items C.limit self.now) }
     {
-        match side {
-            Side::One => first_head(&self.to_one, self.one),
-            Side::Two => first_head(&self.to_two, self.two),
-        }
+        first_head(self.towards(side), self.port_at(side))
     }
 
     /// Takes the first item on this cable towards a system off.
@@ -200,10 +197,7 @@ impl<C: Cable> Link<C> {
         ensures rest { link_state C.items C.limit self.new ≡ without_first (model_side side) (link_state C.items C.limit self.old) }
         ensures reserved { is_reserved C.reserved (model_side side) self.new ≡ is_reserved C.reserved (model_side side) self.old }
     {
-        match side {
-            Side::One => self.to_one.pop(),
-            Side::Two => self.to_two.pop(),
-        }
+        self.towards_mut(side).pop()
     }
 }
 
@@ -252,10 +246,10 @@ impl<C: Cable, F: Fn(u16, usize) -> usize + Drop> Inner<C, F> {
                 agg,
                 conv,
                 ..
-            } => match side_numbered(system) {
-                Side::One => reserve_collected(&mut self.one.flows, agg, conv),
-                Side::Two => reserve_collected(&mut self.two.flows, agg, conv),
-            },
+            } => {
+                let half = self.half_mut(side_numbered(system));
+                reserve_collected(&mut half.flows, agg, conv)
+            }
         }
     }
 
@@ -334,10 +328,11 @@ impl<C: Cable, F: Fn(u16, usize) -> usize + Drop> Inner<C, F> {
                 agg,
                 conv,
                 serial,
-            } => match side_numbered(system) {
-                Side::One => collect(&mut self.one.flows, agg, conv, serial),
-                Side::Two => collect(&mut self.two.flows, agg, conv, serial),
-            },
+            } => {
+                let sender = side_numbered(system);
+                let half = self.half_mut(sender);
+                collect(&mut half.flows, agg, conv, serial);
+            }
         }
     }
 

@@ -106,20 +106,14 @@ impl<C: Cable, F: Fn(u16, usize) -> usize + Drop> Inner<C, F> {
         ensures algorithm_one { self.new.one.system.algorithm ≡ self.old.one.system.algorithm }
         ensures algorithm_two { self.new.two.system.algorithm ≡ self.old.two.system.algorithm }
     {
-        match side {
-            Side::One => self.one.transmit(port),
-            Side::Two => self.two.transmit(port),
-        }
+        self.half_mut(side).transmit(port)
     }
 
     /// The change count of a port of a system.
     fn change_count(&self, side: Side, port: u16) -> u64
         ensures { result ≡ change_count_in (history_at (half (model_side side) (world_state C.items C.limit self.now)).histories port) }
     {
-        match side {
-            Side::One => change_count(&self.one.histories, port),
-            Side::Two => change_count(&self.two.histories, port),
-        }
+        change_count(&self.half(side).histories, port)
     }
 
     /// Sends a frame on a port of a system.

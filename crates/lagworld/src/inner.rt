@@ -6,7 +6,9 @@ ghost use Rattle.distributor.specs.Calls.{PicksIndexes};
 ghost use Rattle.lagworld.specs.Events.{DoesEvent, OnLink, WorldSteps, with_link_at, cause, cause_or_no_memory, has_cable, may_take_memory};
 ghost use Rattle.lagworld.specs.declared.fault.WorldFault.TheVariants.{NoMemory as OutOfMemory};
 ghost use Rattle.lagworld.specs.WorldCalls.{WorldMoves, WorldSenses, WorldTicks, world_state};
+ghost use Rattle.lagworld.specs.Lending.{LendsHalf, half_of};
 ghost use Rattle.lagworld.specs.Messages.{side_numbered};
+ghost use Rattle.std.specs.Borrow.{sem};
 ghost use Rattle.lagworld.specs.Sound.{IsSound, both_algorithms};
 
 use crate::fault::WorldFault;
@@ -34,6 +36,27 @@ pub(crate) struct Inner<C: Cable, F> {
 const MOST_EVENTS: u64 = 9_223_372_036_854_775_808;
 
 impl<C: Cable, F: Fn(u16, usize) -> usize + Drop> Inner<C, F> {
+    /// The half of a system.
+    pub(crate) fn half(&self, side: Side) -> &Half<F>
+        ensures { result.now ≡ half_of side self.now }
+    {
+        match side {
+            Side::One => &self.one,
+            Side::Two => &self.two,
+        }
+    }
+
+    /// The half of a system, to be changed.
+    pub(crate) fn half_mut(&mut self, side: Side) -> &mut Half<F>
+        ensures* writes_back { sem 𝓛 (LendsHalf C.row F.row self.entry side result) }
+        ensures value { result.now ≡ half_of side self.old }
+    {
+        match side {
+            Side::One => &mut self.one,
+            Side::Two => &mut self.two,
+        }
+    }
+
     /// Whether the cable that an event names exists; true if it names none.
     pub(crate) fn has_cable(&self, number: Option<u16>) -> bool
         ensures { result ≡ has_cable (world_state C.items C.limit self.now) number }
@@ -123,10 +146,7 @@ impl<C: Cable, F: Fn(u16, usize) -> usize + Drop> Inner<C, F> {
         ensures algorithm_one { self.new.one.system.algorithm ≡ self.old.one.system.algorithm }
         ensures algorithm_two { self.new.two.system.algorithm ≡ self.old.two.system.algorithm }
     {
-        match side_numbered(system) {
-            Side::One => self.one.tick(count),
-            Side::Two => self.two.tick(count),
-        }
+        self.half_mut(side_numbered(system)).tick(count);
         Reply::Ticked
     }
 
@@ -138,10 +158,8 @@ impl<C: Cable, F: Fn(u16, usize) -> usize + Drop> Inner<C, F> {
         ensures algorithm_one { self.new.one.system.algorithm ≡ self.old.one.system.algorithm }
         ensures algorithm_two { self.new.two.system.algorithm ≡ self.old.two.system.algorithm }
     {
-        match side_numbered(system) {
-            Side::One => self.one.move_to(agg, conv, port),
-            Side::Two => self.two.move_to(agg, conv, port),
-        }
+        let half = self.half_mut(side_numbered(system));
+        half.move_to(agg, conv, port)
     }
 
     /// The index of a cable that exists.
@@ -195,11 +213,10 @@ impl<C: Cable, F: Fn(u16, usize) -> usize + Drop> Inner<C, F> {
         ensures algorithm_one { self.new.one.system.algorithm ≡ self.old.one.system.algorithm }
         ensures algorithm_two { self.new.two.system.algorithm ≡ self.old.two.system.algorithm }
     {
+        let side = side_numbered(system);
         let index = self.link_index_of(cable);
         let status = link_status(&self.links, index);
-        match side_numbered(system) {
-            Side::One => self.one.sense(status.one, status.whole),
-            Side::Two => self.two.sense(status.two, status.whole),
-        }
+        let half = self.half_mut(side);
+        half.sense(status.port_at(side), status.whole)
     }
 }

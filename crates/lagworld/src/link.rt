@@ -1,7 +1,11 @@
 ghost use Rattle.std.specs.Prelude.{◌≡◌, ◌<◌, length, map, slice_get, slice_set, IsSomeAnd};
 ghost use Rattle.lagworld.specs.Inner.{link_state, link_states};
-ghost use Rattle.lagworld.specs.State.{cut, emptied, joined};
+ghost use Rattle.lagworld.specs.Lending.{LendsDirection};
+ghost use Rattle.lagworld.specs.Sides.{model_side};
+ghost use Rattle.lagworld.specs.State.{by_side, cut, emptied, joined};
+ghost use Rattle.std.specs.Borrow.{sem};
 
+use crate::side::Side;
 use cables::Cable;
 
 /// A cable and the ports that it joins (profile).
@@ -20,6 +24,37 @@ pub(crate) struct Link<C: Cable> {
 }
 
 impl<C: Cable> Link<C> {
+    /// The port at a system's end of the cable.
+    pub(crate) fn port_at(&self, side: Side) -> u16
+        ensures { result ≡ by_side (model_side side) self.now.one self.now.two }
+    {
+        match side {
+            Side::One => self.one,
+            Side::Two => self.two,
+        }
+    }
+
+    /// What is on the cable towards a system.
+    pub(crate) fn towards(&self, side: Side) -> &C
+        ensures { result.now ≡ by_side (model_side side) self.now.to_one self.now.to_two }
+    {
+        match side {
+            Side::One => &self.to_one,
+            Side::Two => &self.to_two,
+        }
+    }
+
+    /// What is on the cable towards a system, to be changed.
+    pub(crate) fn towards_mut(&mut self, side: Side) -> &mut C
+        ensures* writes_back { sem 𝓛 (LendsDirection C.row self.entry side result) }
+        ensures value { result.now ≡ by_side (model_side side) self.old.to_one self.old.to_two }
+    {
+        match side {
+            Side::One => &mut self.to_one,
+            Side::Two => &mut self.to_two,
+        }
+    }
+
     /// Cuts the cable; all that is on it is lost.
     pub(crate) fn cut(&mut self)
         ensures { link_state C.items C.limit self.new ≡ cut (link_state C.items C.limit self.old) }
@@ -71,6 +106,18 @@ pub(crate) struct LinkStatus {
     pub(crate) one: u16,
     pub(crate) two: u16,
     pub(crate) whole: bool,
+}
+
+impl LinkStatus {
+    /// The port at a system's end of the cable.
+    pub(crate) fn port_at(&self, side: Side) -> u16
+        ensures { result ≡ by_side (model_side side) self.now.one self.now.two }
+    {
+        match side {
+            Side::One => self.one,
+            Side::Two => self.two,
+        }
+    }
 }
 
 /// What a system learns about the cable at an index.

@@ -28,10 +28,7 @@ impl<C: Cable> Link<C> {
         ensures rest { link_state C.items C.limit self.new ≡ without_first (model_side side) (link_state C.items C.limit self.old) }
         ensures lost { result ≡ is_some (slice_get (towards (model_side side) (link_state C.items C.limit self.old)) 0) }
     {
-        match side {
-            Side::One => lose_first(&mut self.to_one),
-            Side::Two => lose_first(&mut self.to_two),
-        }
+        lose_first(self.towards_mut(side))
     }
 }
 

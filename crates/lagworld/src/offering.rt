@@ -93,10 +93,8 @@ impl<C: Cable, F: Fn(u16, usize) -> usize + Drop> Inner<C, F> {
         ensures algorithm_one { self.new.one.system.algorithm ≡ self.old.one.system.algorithm }
         ensures algorithm_two { self.new.two.system.algorithm ≡ self.old.two.system.algorithm }
     {
-        match side_numbered(system) {
-            Side::One => self.one.force(agg, conv),
-            Side::Two => self.two.force(agg, conv),
-        }
+        let half = self.half_mut(side_numbered(system));
+        half.force(agg, conv)
     }
 
     /// The conversation of a frame in a system.
@@ -106,10 +104,7 @@ impl<C: Cable, F: Fn(u16, usize) -> usize + Drop> Inner<C, F> {
             (half (model_side side) (world_state C.items C.limit self.now)).state frame.now }
         ensures within { result < conversation_count (half (model_side side) (world_state C.items C.limit self.now)).state }
     {
-        match side {
-            Side::One => self.one.conversation(frame),
-            Side::Two => self.two.conversation(frame),
-        }
+        self.half(side).conversation(frame)
     }
 
     /// Offers a frame to an aggregator of a system; returns the port to send it on.
@@ -125,10 +120,7 @@ impl<C: Cable, F: Fn(u16, usize) -> usize + Drop> Inner<C, F> {
         ensures algorithm_one { self.new.one.system.algorithm ≡ self.old.one.system.algorithm }
         ensures algorithm_two { self.new.two.system.algorithm ≡ self.old.two.system.algorithm }
     {
-        match side {
-            Side::One => self.one.ask_offer(agg, frame),
-            Side::Two => self.two.ask_offer(agg, frame),
-        }
+        self.half_mut(side).ask_offer(agg, frame)
     }
 
     /// Reserves a place for the next serial number of a conversation of a system, if the conversation exists.
@@ -140,10 +132,8 @@ impl<C: Cable, F: Fn(u16, usize) -> usize + Drop> Inner<C, F> {
         ensures algorithm_one { self.new.one.system.algorithm ≡ self.old.one.system.algorithm }
         ensures algorithm_two { self.new.two.system.algorithm ≡ self.old.two.system.algorithm }
     {
-        match side {
-            Side::One => reserve_serial(&mut self.one.flows, agg, conv),
-            Side::Two => reserve_serial(&mut self.two.flows, agg, conv),
-        }
+        let half = self.half_mut(side);
+        reserve_serial(&mut half.flows, agg, conv)
     }
 
     /// Records that a conversation of a system sends one more frame; returns the serial number of that frame.
@@ -159,10 +149,8 @@ impl<C: Cable, F: Fn(u16, usize) -> usize + Drop> Inner<C, F> {
         ensures algorithm_one { self.new.one.system.algorithm ≡ self.old.one.system.algorithm }
         ensures algorithm_two { self.new.two.system.algorithm ≡ self.old.two.system.algorithm }
     {
-        match side {
-            Side::One => record_frame_sent(&mut self.one.flows, agg, conv),
-            Side::Two => record_frame_sent(&mut self.two.flows, agg, conv),
-        }
+        let half = self.half_mut(side);
+        record_frame_sent(&mut half.flows, agg, conv)
     }
 
     /// Sends an offered frame on a port, as the next frame of its conversation.

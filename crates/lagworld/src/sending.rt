@@ -24,25 +24,12 @@ fn push_or_lose<C: Cable>(cable: &mut C, item: Item) -> bool
 }
 
 impl<C: Cable> Link<C> {
-    /// The port at a system's end of the cable.
-    pub(crate) fn port_at(&self, side: Side) -> u16
-        ensures { result ≡ by_side (model_side side) self.now.one self.now.two }
-    {
-        match side {
-            Side::One => self.one,
-            Side::Two => self.two,
-        }
-    }
-
     /// Reserves a place on this cable for what a system sends.
     fn reserve(&mut self, side: Side) -> Result<(), NoMemory>
         ensures same { link_state C.items C.limit self.new ≡ link_state C.items C.limit self.old }
         ensures ok { OnOk result (IsTrue (is_reserved C.reserved (model_side side) self.new)) }
     {
-        match side {
-            Side::One => self.to_two.reserve_one(),
-            Side::Two => self.to_one.reserve_one(),
-        }
+        self.towards_mut(side.peer()).reserve_one()
     }
 
     /// Sends an item of a system on this cable; returns false, and loses the item, if the cable is cut or full.
@@ -55,10 +42,7 @@ impl<C: Cable> Link<C> {
         if !self.whole {
             return false;
         }
-        match side {
-            Side::One => push_or_lose(&mut self.to_two, item),
-            Side::Two => push_or_lose(&mut self.to_one, item),
-        }
+        push_or_lose(self.towards_mut(side.peer()), item)
     }
 }
 

@@ -1,4 +1,5 @@
 ghost use Rattle.std.specs.Prelude.{◌≡◌};
+ghost use Rattle.lagmodel.specs.World.{peer};
 ghost use Rattle.lagworld.specs.Events.{has_system};
 ghost use Rattle.lagworld.specs.Messages.{side_numbered};
 ghost use Rattle.lagworld.specs.Sides.{model_side};
@@ -10,6 +11,18 @@ pub(crate) enum Side {
     One,
     /// System 2.
     Two,
+}
+
+impl Side {
+    /// The other system.
+    pub(crate) fn peer(self) -> Side
+        ensures { model_side result ≡ peer (model_side self) }
+    {
+        match self {
+            Side::One => Side::Two,
+            Side::Two => Side::One,
+        }
+    }
 }
 
 /// System 1 for the number 1, else system 2; callers have refused every other number.

@@ -1,9 +1,10 @@
-use Rattle.lagworld.proofs.Common.{One, Two, world_state}
+use Rattle.lagworld.proofs.Common.{AreBelow, One, Two, model_side, most_events, world_state}
 use Rattle.lagworld.proofs.InPlace.{few_changes}
+use Rattle.lagworld.proofs.Sides.{of_either}
 use Rattle.lagworld.proofs.inner.Inner.configure.Goals as goal
 
 pub configure-requires : goal.configure-requires
-configure-requires g c = few_changes One (world_state g.C.Cable.items g.C.Cable.limit c.args.self.now) c.requires
-
-pub configure-requires-in-Two : goal.configure-requires-in-Two
-configure-requires-in-Two g c = few_changes Two (world_state g.C.Cable.items g.C.Cable.limit c.args.self.now) c.requires
+configure-requires g c =
+    let old = world_state g.C.Cable.items g.C.Cable.limit c.args.self.now in
+    of_either (λ h. AreBelow most_events h.histories.items) (model_side c.side_numbered.result) c.args.self.now.one c.args.self.now.two
+    c.half_mut-half.result.now c.half_mut-half.ensures.value (few_changes One old c.requires) (few_changes Two old c.requires)
