@@ -7,7 +7,13 @@ pub(crate) fn same<T: Debug + PartialEq>(rt: &impl Abort, what: &str, came: &T, 
     assert_eq!(rt; *came, *wanted, "{what}");
 }
 
-/// Fails unless the value of a row is the expected one.
-pub(crate) fn same_in_row<T: Debug + PartialEq>(rt: &impl Abort, row: usize, came: &T, wanted: &T) {
-    assert_eq!(rt; *came, *wanted, "row {row}");
+/// Fails unless the value of one of several is the expected one; the text says of what they are, and the number which it is.
+pub(crate) fn same_at<T: Debug + PartialEq>(
+    rt: &impl Abort,
+    what: &str,
+    number: usize,
+    came: &T,
+    wanted: &T,
+) {
+    assert_eq!(rt; *came, *wanted, "{what} {number}");
 }

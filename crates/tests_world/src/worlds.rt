@@ -5,6 +5,7 @@ mod bundles;
 mod changes;
 mod conversations;
 mod given;
+mod joined;
 mod memory;
 mod planned;
 mod refusals;
@@ -14,46 +15,14 @@ mod scripted;
 mod standby;
 mod starts;
 
-use crate::comparing::same_in_row;
-use crate::worlds::given::{Setting, lines, modulo, world_config};
+use crate::comparing::{same, same_at};
+use crate::worlds::given::{Setting, lines, modulo, read};
 use bitflags::Flags;
 use cables::AnyCable;
-use lagsystem::PortChange;
-use lagtypes::{AggId, Key, NoMemory, State};
-use lagworld::{Agreement, Event, Reply, RunFault, World, WorldFault};
+use lagtypes::{AggId, NoMemory, State};
+use lagworld::{Agreement, Reply, RunFault, World, WorldFault};
 use std::alloc::Global;
 use std::process::Abort;
-
-/// A frame of conversation 48 of system 1: octet 5 and octet 11 give 0x20 xor 0x10 (profile).
-const F48: [u8; 14] = [2, 0, 0, 0, 0, 0x20, 2, 0, 0, 0, 0, 0x10, 8, 0];
-
-/// One of conversation 49.
-const F49: [u8; 14] = [2, 0, 0, 0, 0, 0x21, 2, 0, 0, 0, 0, 0x10, 8, 0];
-
-/// One of conversation 50.
-const F50: [u8; 14] = [2, 0, 0, 0, 0, 0x22, 2, 0, 0, 0, 0, 0x10, 8, 0];
-
-/// An event, with the octets of an offered frame. The values have the order of `Event`; a tick is 100 ms. `Configure` and
-/// `Prefer` are one event.
-#[derive(Clone, Copy, Debug)]
-enum Entry {
-    Tick(u8, u16),
-    Emit(u8, u16),
-    Deliver(u16, u8),
-    Lose(u16, u8),
-    Repeat(u16, u8),
-    Cut(u16),
-    Join(u16),
-    Sense(u16, u8),
-    Restart(u8),
-    /// The port gets this key and Aggregation bit; its priority stays 128.
-    Configure(u8, u16, u16, bool),
-    /// The port gets this priority; its key stays 1, and it stays aggregatable.
-    Prefer(u8, u16, u16),
-    Offer(u8, u16, &'static [u8]),
-    Move(u8, u16, u16, u16),
-    Force(u8, u16, u16),
-}
 
 /// The expected reply.
 #[derive(Clone, Copy)]
@@ -62,11 +31,22 @@ enum Want {
     Lacpdu(u8),
     /// An LACPDU whose Actor has this state was sent, and no cable accepted it.
     LacpduLost(u8),
+    /// The offered frame was sent on this port with this serial number, and a cable accepted it.
+    Frame(u16, u64),
+    /// The offered frame was sent on this port with this serial number, and no cable accepted it.
+    FrameLost(u16, u64),
     Is(Reply),
 }
 
+/// An event, as an entry of a script has it, and its expected reply.
+///
+/// The offered frames are of conversation 48, unless a comment says more: octets 5 and 11 of the frame
+/// 0200000000200200000000100800 give 0x20 xor 0x10 (profile). A frame of conversation 49 or 50 has 0x21 or 0x22 in octet 5, and
+/// one from system 2 has the two octets the other way round.
+type Entry = (&'static str, Want);
+
 /// Events and their expected replies.
-type Entries = &'static [(Entry, Want)];
+type Entries = &'static [Entry];
 
 /// A conversation of aggregator 1 at the end: how many serial numbers it sent, from 0 on, and which of them were
 /// collected.
@@ -91,80 +71,32 @@ struct Row {
     flows: &'static [Flow],
 }
 
-fn event(alloc: Global, entry: Entry) -> Result<Event, NoMemory> {
-    Ok(match entry {
-        Entry::Tick(system, count) => Event::Tick(system, count),
-        Entry::Emit(system, port) => Event::Emit(system, port),
-        Entry::Deliver(cable, to) => Event::Deliver(cable, to),
-        Entry::Lose(cable, to) => Event::Lose(cable, to),
-        Entry::Repeat(cable, to) => Event::Repeat(cable, to),
-        Entry::Cut(cable) => Event::Cut(cable),
-        Entry::Join(cable) => Event::Join(cable),
-        Entry::Sense(cable, system) => Event::Sense(cable, system),
-        Entry::Restart(system) => Event::Restart(system),
-        Entry::Configure(system, port, key, aggregatable) => Event::Configure(
-            system,
-            port,
-            PortChange {
-                key: Key(key),
-                priority: 128,
-                aggregatable,
-            },
-        ),
-        Entry::Prefer(system, port, priority) => Event::Configure(
-            system,
-            port,
-            PortChange {
-                key: Key(1),
-                priority,
-                aggregatable: true,
-            },
-        ),
-        Entry::Offer(system, agg, octets) => {
-            Event::Offer(system, AggId(agg), Vec::from_slice(alloc, octets)?)
-        }
-        Entry::Move(system, agg, conv, port) => Event::Move(system, AggId(agg), conv, port),
-        Entry::Force(system, agg, conv) => Event::Force(system, AggId(agg), conv),
-    })
-}
-
 fn reply(want: Want) -> Reply {
     match want {
         Want::Lacpdu(octet) => Reply::Lacpdu(State::from_bits_retain(octet), true),
         Want::LacpduLost(octet) => Reply::Lacpdu(State::from_bits_retain(octet), false),
+        Want::Frame(port, serial) => Reply::Port(port, serial, true),
+        Want::FrameLost(port, serial) => Reply::Port(port, serial, false),
         Want::Is(reply) => reply,
     }
 }
 
 /// The entries of a row: `first` and then `rest`.
-fn entries(alloc: Global, row: &Row) -> Result<Vec<(Entry, Want)>, NoMemory> {
+fn entries(alloc: Global, row: &Row) -> Result<Vec<Entry>, NoMemory> {
     let mut entries = Vec::new(alloc);
     entries.extend_from_slice(row.first)?;
     entries.extend_from_slice(row.rest)?;
     Ok(entries)
 }
 
-fn events(alloc: Global, entries: &[(Entry, Want)]) -> Result<Vec<Event>, NoMemory> {
-    let mut events = Vec::new(alloc);
-    for (entry, _) in entries {
-        events.push(event(alloc, *entry)?)?;
-    }
-    Ok(events)
-}
-
 /// Compares the reply to an event with the expected one; the event is at this place, counted from 1.
-fn compare(
-    rt: &impl Abort,
-    place: usize,
-    (entry, want): (Entry, Want),
-    came: Result<Reply, WorldFault>,
-) {
-    assert_eq!(rt; came, Ok(reply(want)), "event {place}, {entry:?}");
+fn compare(rt: &impl Abort, place: usize, (event, want): Entry, came: Result<Reply, WorldFault>) {
+    assert_eq!(rt; came, Ok(reply(want)), "event {place}, {event}");
 }
 
 /// Compares the replies to entries that come after this many others.
-fn compare_all(rt: &impl Abort, before: usize, entries: &[(Entry, Want)], came: &[Reply]) {
-    same_in_row(rt, before, &came.len(), &entries.len());
+fn compare_all(rt: &impl Abort, before: usize, entries: &[Entry], came: &[Reply]) {
+    same(rt, "how many replies", &came.len(), &entries.len());
     let mut place = before;
     for (entry, came) in entries.iter().zip(came) {
         place = place.saturating_add(1);
@@ -176,7 +108,7 @@ fn compare_all(rt: &impl Abort, before: usize, entries: &[(Entry, Want)], came: 
 fn compare_run(
     rt: &impl Abort,
     before: usize,
-    entries: &[(Entry, Want)],
+    entries: &[Entry],
     came: Result<Vec<Reply>, RunFault>,
 ) {
     match came {
@@ -186,7 +118,7 @@ fn compare_run(
                 let place = before.saturating_add(stop.done).saturating_add(1);
                 compare(rt, place, *entry, Err(stop.fault));
             }
-            same_in_row(rt, before, &Some(stop), &None);
+            same(rt, "the stop", &Some(stop), &None);
         }
     }
 }
@@ -222,7 +154,7 @@ fn tells<F: Fn(u16, usize) -> usize + Drop>(
 ) {
     for (cable, wanted) in row.agreements {
         let agreement = world.agreement(*cable);
-        same_in_row(rt, usize::from(*cable), &agreement, &Some(*wanted));
+        same_at(rt, "cable", usize::from(*cable), &agreement, &Some(*wanted));
     }
     for told in row.flows {
         let sent = world.sent(told.system, AggId(1), told.conv);
@@ -235,12 +167,12 @@ fn tells<F: Fn(u16, usize) -> usize + Drop>(
 /// Plays the events of a row by `step`, one by one, in a new world with cables of this limit.
 fn steps(rt: &impl Abort, alloc: Global, row: &Row, limit: Option<u16>) -> Result<(), WorldFault> {
     let entries = entries(alloc, row)?;
-    let config = world_config(alloc, row.setting)?;
+    let (config, events) = read(rt, alloc, row.setting, &entries)?;
     let lines = lines(alloc, config.cables.len(), limit)?;
     let mut world = World::new(alloc, config, modulo, modulo, lines)?;
     let mut place = 0usize;
-    for entry in &entries {
-        let came = world.step(&event(alloc, entry.0)?);
+    for (entry, event) in entries.iter().zip(&events) {
+        let came = world.step(event);
         place = place.saturating_add(1);
         compare(rt, place, *entry, came);
     }
@@ -257,8 +189,7 @@ fn runs(
     cut: usize,
 ) -> Result<(), WorldFault> {
     let entries = entries(alloc, row)?;
-    let events = events(alloc, &entries)?;
-    let config = world_config(alloc, row.setting)?;
+    let (config, events) = read(rt, alloc, row.setting, &entries)?;
     let lines = lines(alloc, config.cables.len(), limit)?;
     let mut world = World::new(alloc, config, modulo, modulo, lines)?;
     let cut = cut.min(events.len()).min(entries.len());

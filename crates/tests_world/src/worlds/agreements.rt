@@ -1,23 +1,22 @@
-use crate::worlds::Entry::{Configure, Deliver, Emit, Offer, Repeat, Sense, Tick};
-use crate::worlds::Want::{Is, Lacpdu};
+use crate::worlds::Want::{Frame, Is, Lacpdu};
 use crate::worlds::given::ONE;
 use crate::worlds::starts::{LINK_UP, NONE_DISTRIBUTING, ONE_CABLE, TICKED, TOOK};
-use crate::worlds::{Entry, F48, Flow, Row, Want, plays, runs, steps};
+use crate::worlds::{Entry, Flow, Row, plays, runs, steps};
 use lagworld::{Agreement, Reply, WorldFault};
 
-const ALONE: [(Entry, Want); 12] = [
-    (Sense(1, 1), LINK_UP),
-    (Tick(1, 9), TICKED),
-    (Emit(1, 1), Is(Reply::Nothing)),
-    (Tick(1, 1), TICKED),
-    (Emit(1, 1), Lacpdu(0xc7)),
-    (Tick(1, 20), TICKED),
-    (Emit(1, 1), Lacpdu(0x47)),
-    (Tick(1, 19), TICKED),
-    (Offer(1, 1, &F48), NONE_DISTRIBUTING),
-    (Tick(1, 1), TICKED),
-    (Offer(1, 1, &F48), Is(Reply::Port(1, 0, true))),
-    (Emit(1, 1), Lacpdu(0x7f)),
+const ALONE: [Entry; 12] = [
+    ("sense 1 1", LINK_UP),
+    ("tick 1 9", TICKED),
+    ("emit 1 1", Is(Reply::Nothing)),
+    ("tick 1 1", TICKED),
+    ("emit 1 1", Lacpdu(0xc7)),
+    ("tick 1 20", TICKED),
+    ("emit 1 1", Lacpdu(0x47)),
+    ("tick 1 19", TICKED),
+    ("offer 1 1 0200000000200200000000100800", NONE_DISTRIBUTING),
+    ("tick 1 1", TICKED),
+    ("offer 1 1 0200000000200200000000100800", Frame(1, 0)),
+    ("emit 1 1", Lacpdu(0x7f)),
 ];
 
 const ALONE_ROW: Row = Row {
@@ -67,12 +66,18 @@ const CHANGED_ROW: Row = Row {
     setting: ONE,
     first: &ONE_CABLE,
     rest: &[
-        (Tick(2, 10), TICKED),
-        (Emit(2, 1), Lacpdu(0x3f)),
-        (Configure(1, 1, 2, true), Is(Reply::Configured(true))),
-        (Configure(1, 1, 1, true), Is(Reply::Configured(true))),
-        (Deliver(1, 1), TOOK),
-        (Tick(1, 20), TICKED),
+        ("tick 2 10", TICKED),
+        ("emit 2 1", Lacpdu(0x3f)),
+        (
+            "configure 1 1 2 128 aggregatable",
+            Is(Reply::Configured(true)),
+        ),
+        (
+            "configure 1 1 1 128 aggregatable",
+            Is(Reply::Configured(true)),
+        ),
+        ("deliver 1 1", TOOK),
+        ("tick 1 20", TICKED),
     ],
     agreements: &[(1, Agreement::Changed)],
     flows: &[],
@@ -86,10 +91,10 @@ fn equal_values_are_not_enough_to_agree(rt: HostRuntime) -> Result<(), WorldFaul
 const DEFAULTS_ROW: Row = Row {
     setting: ONE,
     first: &[
-        (Sense(1, 1), LINK_UP),
-        (Sense(1, 2), LINK_UP),
-        (Tick(1, 50), TICKED),
-        (Tick(2, 50), TICKED),
+        ("sense 1 1", LINK_UP),
+        ("sense 1 2", LINK_UP),
+        ("tick 1 50", TICKED),
+        ("tick 2 50", TICKED),
     ],
     rest: &[],
     agreements: &[(1, Agreement::Defaults)],
@@ -102,33 +107,33 @@ fn both_ends_on_defaults(rt: HostRuntime) -> Result<(), WorldFault> {
 }
 
 /// One cable comes up, and each LACPDU is received twice.
-const REPEATED: [(Entry, Want); 26] = [
-    (Sense(1, 1), LINK_UP),
-    (Sense(1, 2), LINK_UP),
-    (Tick(1, 10), TICKED),
-    (Tick(2, 10), TICKED),
-    (Emit(1, 1), Lacpdu(0xc7)),
-    (Repeat(1, 2), TOOK),
-    (Deliver(1, 2), TOOK),
-    (Emit(2, 1), Lacpdu(0x07)),
-    (Repeat(1, 1), TOOK),
-    (Deliver(1, 1), TOOK),
-    (Tick(1, 10), TICKED),
-    (Tick(2, 10), TICKED),
-    (Emit(1, 1), Lacpdu(0x07)),
-    (Repeat(1, 2), TOOK),
-    (Deliver(1, 2), TOOK),
-    (Tick(1, 10), TICKED),
-    (Tick(2, 10), TICKED),
-    (Emit(1, 1), Lacpdu(0x0f)),
-    (Repeat(1, 2), TOOK),
-    (Deliver(1, 2), TOOK),
-    (Emit(2, 1), Lacpdu(0x3f)),
-    (Repeat(1, 1), TOOK),
-    (Deliver(1, 1), TOOK),
-    (Emit(1, 1), Lacpdu(0x3f)),
-    (Repeat(1, 2), TOOK),
-    (Deliver(1, 2), TOOK),
+const REPEATED: [Entry; 26] = [
+    ("sense 1 1", LINK_UP),
+    ("sense 1 2", LINK_UP),
+    ("tick 1 10", TICKED),
+    ("tick 2 10", TICKED),
+    ("emit 1 1", Lacpdu(0xc7)),
+    ("repeat 1 2", TOOK),
+    ("deliver 1 2", TOOK),
+    ("emit 2 1", Lacpdu(0x07)),
+    ("repeat 1 1", TOOK),
+    ("deliver 1 1", TOOK),
+    ("tick 1 10", TICKED),
+    ("tick 2 10", TICKED),
+    ("emit 1 1", Lacpdu(0x07)),
+    ("repeat 1 2", TOOK),
+    ("deliver 1 2", TOOK),
+    ("tick 1 10", TICKED),
+    ("tick 2 10", TICKED),
+    ("emit 1 1", Lacpdu(0x0f)),
+    ("repeat 1 2", TOOK),
+    ("deliver 1 2", TOOK),
+    ("emit 2 1", Lacpdu(0x3f)),
+    ("repeat 1 1", TOOK),
+    ("deliver 1 1", TOOK),
+    ("emit 1 1", Lacpdu(0x3f)),
+    ("repeat 1 2", TOOK),
+    ("deliver 1 2", TOOK),
 ];
 
 const REPEATED_ROW: Row = Row {

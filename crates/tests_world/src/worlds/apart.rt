@@ -1,14 +1,14 @@
-use crate::comparing::{same, same_in_row};
-use crate::worlds::Entry::{Deliver, Emit, Force, Join, Lose, Offer, Repeat, Sense, Tick};
-use crate::worlds::Want::{Is, Lacpdu};
-use crate::worlds::both_systems::BACK;
-use crate::worlds::given::{INDIVIDUAL, ONE, TWO, cable, joined, lines, modulo, world_config};
+use crate::comparing::{same, same_at};
+use crate::worlds::Want::{Frame, FrameLost, Is, Lacpdu};
+use crate::worlds::given::{
+    CABLE_1, CABLE_2, LONG_PORTS, ONE, SHORT_PORT, SYSTEM_1, SYSTEM_2, Setting, TWO, cable, events,
+    lines, modulo, read, world_config,
+};
 use crate::worlds::starts::{COMING_UP, LINK_UP, ONE_CABLE, TICKED, TOOK, UP_1};
-use crate::worlds::{Entry, F48, Flow, Row, Want, compare_run, events, plays};
+use crate::worlds::{Entry, Flow, Row, compare_run, plays};
 use cables::AnyCable;
-use lagscript::WorldConfig;
-use lagsystem::{Config, PortChange, PortConfig, SystemFault};
-use lagtypes::{AggId, Key, NoMemory, SystemId};
+use lagsystem::SystemFault;
+use lagtypes::AggId;
 use lagworld::{Agreement, Event, Reply, World, WorldFault};
 use std::alloc::Global;
 use std::process::Abort;
@@ -16,15 +16,12 @@ use std::process::Abort;
 /// Conversation 48 is forced while it has no port.
 const FORCED_EARLY_ROW: Row = Row {
     setting: TWO,
-    first: &[(Sense(1, 1), LINK_UP), (Sense(1, 2), LINK_UP)],
+    first: &[("sense 1 1", LINK_UP), ("sense 1 2", LINK_UP)],
     rest: &[
-        (
-            Force(1, 1, 48),
-            Is(Reply::Refused(SystemFault::NotAssigned)),
-        ),
-        (Tick(1, 950), TICKED),
-        (Tick(2, 950), TICKED),
-        (Offer(1, 1, &F48), Is(Reply::Port(1, 0, true))),
+        ("force 1 1 48", Is(Reply::Refused(SystemFault::NotAssigned))),
+        ("tick 1 950", TICKED),
+        ("tick 2 950", TICKED),
+        ("offer 1 1 0200000000200200000000100800", Frame(1, 0)),
     ],
     agreements: &[(1, Agreement::Defaults)],
     flows: &[Flow {
@@ -45,15 +42,15 @@ fn a_force_that_is_refused_does_not_count(rt: HostRuntime) -> Result<(), WorldFa
 const JOINED_ROW: Row = Row {
     setting: TWO,
     first: &[
-        (Sense(1, 1), LINK_UP),
-        (Sense(1, 2), LINK_UP),
-        (Tick(1, 10), TICKED),
-        (Tick(2, 10), TICKED),
+        ("sense 1 1", LINK_UP),
+        ("sense 1 2", LINK_UP),
+        ("tick 1 10", TICKED),
+        ("tick 2 10", TICKED),
     ],
     rest: &[
-        (Emit(1, 1), Lacpdu(0xc5)),
-        (Join(1), Is(Reply::Joined)),
-        (Deliver(1, 2), TOOK),
+        ("emit 1 1", Lacpdu(0xc5)),
+        ("join 1", Is(Reply::Joined)),
+        ("deliver 1 2", TOOK),
     ],
     agreements: &[(1, Agreement::NotBoth)],
     flows: &[],
@@ -64,44 +61,61 @@ fn a_cable_that_is_joined_keeps_what_is_on_it(rt: HostRuntime) -> Result<(), Wor
     plays(&rt, rt.alloc(), &JOINED_ROW)
 }
 
-/// Nothing is on a cable, and 0 ticks are none.
-const NOTHING_ROW: Row = Row {
-    setting: ONE,
-    first: &[
-        (Deliver(1, 1), Is(Reply::Empty)),
-        (Lose(1, 2), Is(Reply::Empty)),
-        (Repeat(1, 1), Is(Reply::Empty)),
-    ],
-    rest: &[
-        (Sense(1, 1), LINK_UP),
-        (Tick(1, 9), TICKED),
-        (Tick(1, 0), TICKED),
-        (Emit(1, 1), Is(Reply::Nothing)),
-        (Tick(1, 1), TICKED),
-        (Emit(1, 1), Lacpdu(0xc7)),
-        (Lose(1, 2), Is(Reply::Lost)),
-        (Deliver(1, 2), Is(Reply::Empty)),
-    ],
-    agreements: &[(1, Agreement::NotBoth)],
-    flows: &[],
-};
+/// Nothing is on a cable.
+const NOTHING: [Entry; 5] = [
+    ("deliver 1 1", Is(Reply::Empty)),
+    ("lose 1 2", Is(Reply::Empty)),
+    ("repeat 1 1", Is(Reply::Empty)),
+    ("sense 1 1", LINK_UP),
+    ("tick 1 9", TICKED),
+];
+
+/// After ten ticks the first LACPDU is due.
+const FIRST_LOST: [Entry; 5] = [
+    ("emit 1 1", Is(Reply::Nothing)),
+    ("tick 1 1", TICKED),
+    ("emit 1 1", Lacpdu(0xc7)),
+    ("lose 1 2", Is(Reply::Lost)),
+    ("deliver 1 2", Is(Reply::Empty)),
+];
+
+/// Between those events there are 0 ticks, which no script has.
+fn nothing_happens(rt: &impl Abort, alloc: Global) -> Result<(), WorldFault> {
+    let (config, nothing) = read(rt, alloc, ONE, &NOTHING)?;
+    let lines = lines(alloc, 1, None)?;
+    let mut world = World::new(alloc, config, modulo, modulo, lines)?;
+    compare_run(rt, 0, &NOTHING, world.run(&nothing));
+    same(
+        rt,
+        "0 ticks",
+        &world.step(&Event::Tick(1, 0)),
+        &Ok(Reply::Ticked),
+    );
+    let lost = events(rt, alloc, ONE, &FIRST_LOST)?;
+    compare_run(rt, 6, &FIRST_LOST, world.run(&lost));
+    same(
+        rt,
+        "agreement",
+        &world.agreement(1),
+        &Some(Agreement::NotBoth),
+    );
+    Ok(())
+}
 
 #[test]
 fn nothing_is_no_event_of_a_cable(rt: HostRuntime) -> Result<(), WorldFault> {
-    plays(&rt, rt.alloc(), &NOTHING_ROW)
+    nothing_happens(&rt, rt.alloc())
 }
 
-/// A frame of conversation 255, the last: octet 5 and octet 11 give 0x20 xor 0xdf (profile).
-const F255: [u8; 14] = [2, 0, 0, 0, 0, 0x20, 2, 0, 0, 0, 0, 0xdf, 8, 0];
-
+/// The frames are of conversation 255, the last: octets 5 and 11 give 0x20 xor 0xdf (profile).
 const LAST_ROW: Row = Row {
     setting: TWO,
     first: &COMING_UP,
     rest: &[
-        (Offer(1, 1, &F255), Is(Reply::Port(2, 0, true))),
-        (Offer(1, 1, &F255), Is(Reply::Port(2, 1, true))),
-        (Deliver(2, 2), UP_1),
-        (Deliver(2, 2), UP_1),
+        ("offer 1 1 0200000000200200000000df0800", Frame(2, 0)),
+        ("offer 1 1 0200000000200200000000df0800", Frame(2, 1)),
+        ("deliver 2 2", UP_1),
+        ("deliver 2 2", UP_1),
     ],
     agreements: &[],
     flows: &[Flow {
@@ -119,41 +133,52 @@ fn the_last_conversation_is_counted(rt: HostRuntime) -> Result<(), WorldFault> {
 }
 
 /// Cable 1 joins port 1 of system 1 and port 2 of system 2.
-const CROSSED: [(Entry, Want); 9] = [
-    (Sense(1, 1), LINK_UP),
-    (Sense(1, 2), LINK_UP),
-    (Tick(1, 10), TICKED),
-    (Tick(2, 10), TICKED),
-    (Emit(1, 1), Lacpdu(0xc5)),
-    (Deliver(1, 2), TOOK),
-    (Emit(2, 1), Is(Reply::Nothing)),
-    (Emit(2, 2), Lacpdu(0x05)),
-    (Deliver(1, 1), TOOK),
+const CROSSING: Setting = &[
+    SYSTEM_1,
+    LONG_PORTS,
+    SYSTEM_2,
+    LONG_PORTS,
+    "[[cable]]\nends = [1, 2]\n",
+];
+
+/// The ends of the cable hear each other.
+const CROSSED: [Entry; 9] = [
+    ("sense 1 1", LINK_UP),
+    ("sense 1 2", LINK_UP),
+    ("tick 1 10", TICKED),
+    ("tick 2 10", TICKED),
+    ("emit 1 1", Lacpdu(0xc5)),
+    ("deliver 1 2", TOOK),
+    ("emit 2 1", Is(Reply::Nothing)),
+    ("emit 2 2", Lacpdu(0x05)),
+    ("deliver 1 1", TOOK),
 ];
 
 /// The two ports of `CROSSED` come up: port 1 of system 1 and port 2 of system 2.
-const CROSSED_UP: [(Entry, Want); 6] = [
-    (Tick(1, 20), TICKED),
-    (Tick(2, 20), TICKED),
-    (Emit(1, 1), Lacpdu(0x0d)),
-    (Deliver(1, 2), TOOK),
-    (Emit(2, 2), Lacpdu(0x3d)),
-    (Deliver(1, 1), TOOK),
+const CROSSED_UP: [Entry; 6] = [
+    ("tick 1 20", TICKED),
+    ("tick 2 20", TICKED),
+    ("emit 1 1", Lacpdu(0x0d)),
+    ("deliver 1 2", TOOK),
+    ("emit 2 2", Lacpdu(0x3d)),
+    ("deliver 1 1", TOOK),
 ];
 
 /// Plays the events of a cable between ports of unequal numbers.
 fn crosses(rt: &impl Abort, alloc: Global) -> Result<(), WorldFault> {
-    let config = joined(alloc, 2, &[1, 2], &[1, 2], &[(1, 2)], TWO)?;
+    let config = world_config(rt, alloc, CROSSING)?;
     let lines = lines(alloc, 1, None)?;
     let mut world = World::new(alloc, config, modulo, modulo, lines)?;
-    compare_run(rt, 0, &CROSSED, world.run(&events(alloc, &CROSSED)?));
+    let heard = events(rt, alloc, CROSSING, &CROSSED)?;
+    compare_run(rt, 0, &CROSSED, world.run(&heard));
     same(
         rt,
         "agreement",
         &world.agreement(1),
         &Some(Agreement::NotBoth),
     );
-    compare_run(rt, 9, &CROSSED_UP, world.run(&events(alloc, &CROSSED_UP)?));
+    let up = events(rt, alloc, CROSSING, &CROSSED_UP)?;
+    compare_run(rt, 9, &CROSSED_UP, world.run(&up));
     same(rt, "agreement", &world.agreement(1), &Some(Agreement::Same));
     Ok(())
 }
@@ -164,12 +189,12 @@ fn a_cable_joins_ports_of_unequal_numbers(rt: HostRuntime) -> Result<(), WorldFa
 }
 
 /// The direction of a cable to system 1 holds one frame, that to system 2 two.
-const UNEQUAL: [(Entry, Want); 5] = [
-    (Offer(1, 1, &F48), Is(Reply::Port(1, 0, true))),
-    (Offer(1, 1, &F48), Is(Reply::Port(1, 1, true))),
-    (Offer(1, 1, &F48), Is(Reply::Port(1, 2, false))),
-    (Offer(2, 1, &BACK), Is(Reply::Port(1, 0, true))),
-    (Offer(2, 1, &BACK), Is(Reply::Port(1, 1, false))),
+const UNEQUAL: [Entry; 5] = [
+    ("offer 1 1 0200000000200200000000100800", Frame(1, 0)),
+    ("offer 1 1 0200000000200200000000100800", Frame(1, 1)),
+    ("offer 1 1 0200000000200200000000100800", FrameLost(1, 2)),
+    ("offer 2 1 0200000000100200000000200800", Frame(1, 0)),
+    ("offer 2 1 0200000000100200000000200800", FrameLost(1, 1)),
 ];
 
 /// Two cables, each with these limits to system 1 and to system 2.
@@ -186,10 +211,12 @@ fn unequal(alloc: Global) -> Result<Vec<(AnyCable, AnyCable)>, WorldFault> {
 }
 
 fn fills(rt: &impl Abort, alloc: Global) -> Result<(), WorldFault> {
-    let config = world_config(alloc, TWO)?;
+    let config = world_config(rt, alloc, TWO)?;
     let mut world = World::new(alloc, config, modulo, modulo, unequal(alloc)?)?;
-    compare_run(rt, 0, &COMING_UP, world.run(&events(alloc, &COMING_UP)?));
-    compare_run(rt, 24, &UNEQUAL, world.run(&events(alloc, &UNEQUAL)?));
+    let up = events(rt, alloc, TWO, &COMING_UP)?;
+    compare_run(rt, 0, &COMING_UP, world.run(&up));
+    let filling = events(rt, alloc, TWO, &UNEQUAL)?;
+    compare_run(rt, 24, &UNEQUAL, world.run(&filling));
     Ok(())
 }
 
@@ -198,44 +225,40 @@ fn the_first_direction_leads_to_system_1(rt: HostRuntime) -> Result<(), WorldFau
     fills(&rt, rt.alloc())
 }
 
-/// A port with Long Timeout whose key is its number.
-fn port(system: u8, number: u16) -> PortConfig {
-    PortConfig {
-        number,
-        priority: 128,
-        mac: [2, 0, 0, 0, 0, system],
-        key: Key(number),
-        aggregatable: true,
-        active: true,
-        short: false,
-    }
-}
+/// Two ports, each with a key of its own.
+const PORTS_APART: &str = "port = [
+    { number = 1, key = 1, short = false },
+    { number = 2, key = 2, short = false },
+]
+";
 
-/// A system with an aggregator for each of its two ports.
-fn with_two(alloc: Global, system: u8) -> Result<Config, NoMemory> {
-    Ok(Config {
-        system: SystemId {
-            priority: 32768,
-            mac: [2, 0, 0, 0, 0, system],
-        },
-        max_delay: 0,
-        first_marker: 1,
-        conversations: 256,
-        aggregators: Vec::from_slice(alloc, &[Key(1), Key(2)])?,
-        max_links: None,
-        ports: Vec::from_slice(alloc, &[port(system, 1), port(system, 2)])?,
-    })
-}
+/// Two systems with an aggregator for each of their two ports, and two cables.
+const TWO_APART: Setting = &[
+    "
+[[system]]
+mac = \"02-00-00-00-00-01\"
+aggregators = [1, 2]
+",
+    PORTS_APART,
+    "
+[[system]]
+mac = \"02-00-00-00-00-02\"
+aggregators = [1, 2]
+",
+    PORTS_APART,
+    CABLE_1,
+    CABLE_2,
+];
 
 /// Both aggregators carry conversation 48.
-const TWO_AGGREGATORS: [(Entry, Want); 7] = [
-    (Offer(1, 1, &F48), Is(Reply::Port(1, 0, true))),
-    (Offer(1, 2, &F48), Is(Reply::Port(2, 0, true))),
-    (Offer(1, 2, &F48), Is(Reply::Port(2, 1, true))),
-    (Deliver(2, 2), Is(Reply::Up(AggId(2)))),
-    (Deliver(2, 2), Is(Reply::Up(AggId(2)))),
-    (Force(1, 2, 48), Is(Reply::Forced)),
-    (Offer(2, 2, &BACK), Is(Reply::Port(2, 0, true))),
+const TWO_AGGREGATORS: [Entry; 7] = [
+    ("offer 1 1 0200000000200200000000100800", Frame(1, 0)),
+    ("offer 1 2 0200000000200200000000100800", Frame(2, 0)),
+    ("offer 1 2 0200000000200200000000100800", Frame(2, 1)),
+    ("deliver 2 2", Is(Reply::Up(AggId(2)))),
+    ("deliver 2 2", Is(Reply::Up(AggId(2)))),
+    ("force 1 2 48", Is(Reply::Forced)),
+    ("offer 2 2 0200000000100200000000200800", Frame(2, 0)),
 ];
 
 /// System and aggregator, and what conversation 48 sent and collected there, and whether it was forced.
@@ -246,35 +269,30 @@ const TOLD: [(u8, u16, &[u64], &[u64], bool); 4] = [
     (2, 2, &[0], &[], false),
 ];
 
-/// Two systems with two aggregators each, and two cables.
-fn two_apart(alloc: Global) -> Result<WorldConfig, NoMemory> {
-    Ok(WorldConfig {
-        systems: [with_two(alloc, 1)?, with_two(alloc, 2)?],
-        cables: Vec::from_slice(alloc, &[(1, 1), (2, 2)])?,
-    })
-}
-
 /// Compares what a world tells of the flows of two systems.
 fn compare_told<F: Fn(u16, usize) -> usize + Drop>(rt: &impl Abort, world: &World<AnyCable, F>) {
     for (place, (system, agg, sent, collected, forced)) in TOLD.iter().enumerate() {
         let agg = AggId(*agg);
-        same_in_row(rt, place, &world.sent(*system, agg, 48), sent);
-        same_in_row(rt, place, &world.collected(*system, agg, 48), collected);
-        same_in_row(rt, place, &world.forced(*system, agg, 48), forced);
+        same_at(rt, "row", place, &world.sent(*system, agg, 48), sent);
+        same_at(
+            rt,
+            "row",
+            place,
+            &world.collected(*system, agg, 48),
+            collected,
+        );
+        same_at(rt, "row", place, &world.forced(*system, agg, 48), forced);
     }
 }
 
 fn carries_apart(rt: &impl Abort, alloc: Global) -> Result<(), WorldFault> {
-    let config = two_apart(alloc)?;
+    let config = world_config(rt, alloc, TWO_APART)?;
     let lines = lines(alloc, 2, None)?;
     let mut world = World::new(alloc, config, modulo, modulo, lines)?;
-    compare_run(rt, 0, &COMING_UP, world.run(&events(alloc, &COMING_UP)?));
-    compare_run(
-        rt,
-        24,
-        &TWO_AGGREGATORS,
-        world.run(&events(alloc, &TWO_AGGREGATORS)?),
-    );
+    let up = events(rt, alloc, TWO_APART, &COMING_UP)?;
+    compare_run(rt, 0, &COMING_UP, world.run(&up));
+    let carrying = events(rt, alloc, TWO_APART, &TWO_AGGREGATORS)?;
+    compare_run(rt, 24, &TWO_AGGREGATORS, world.run(&carrying));
     compare_told(rt, &world);
     Ok(())
 }
@@ -284,41 +302,32 @@ fn each_aggregator_has_its_conversations(rt: HostRuntime) -> Result<(), WorldFau
     carries_apart(&rt, rt.alloc())
 }
 
-/// A port with values that no other test has.
-const ODD: PortChange = PortChange {
-    key: Key(5),
-    priority: 7,
-    aggregatable: false,
-};
+/// One cable between a port of system 1 with values that no other test has and a port of system 2.
+const ODD: Setting = &[
+    "
+[[system]]
+mac = \"02-00-00-00-00-01\"
+aggregators = [5]
+port = [{ number = 1, key = 5, priority = 7, aggregatable = false, short = true }]
+",
+    SYSTEM_2,
+    SHORT_PORT,
+    CABLE_1,
+];
 
-/// One cable between a port of system 1 with those values and a port of system 2.
-fn odd(alloc: Global) -> Result<WorldConfig, NoMemory> {
-    let port = PortConfig {
-        number: 1,
-        priority: ODD.priority,
-        mac: [2, 0, 0, 0, 0, 1],
-        key: ODD.key,
-        aggregatable: ODD.aggregatable,
-        active: true,
-        short: true,
-    };
-    let mut config = joined(alloc, 2, &[1], &[1], &[(1, 1)], INDIVIDUAL)?;
-    let [first, _] = &mut config.systems;
-    first.aggregators = Vec::from_slice(alloc, &[ODD.key])?;
-    first.ports = Vec::from_slice(alloc, &[port])?;
-    Ok(config)
-}
+/// The port gets the values that it has.
+const AS_IT_IS: [Entry; 1] = [("configure 1 1 5 7 individual", Is(Reply::Configured(false)))];
 
 /// Gives the port the values that it has. The replies before are not looked at.
 fn keeps_its_values(rt: &impl Abort, alloc: Global) -> Result<(), WorldFault> {
-    let config = odd(alloc)?;
+    let config = world_config(rt, alloc, ODD)?;
     let lines = lines(alloc, 1, None)?;
     let mut world = World::new(alloc, config, modulo, modulo, lines)?;
-    let ran = world.run(&events(alloc, &ONE_CABLE)?).is_ok();
-    same(rt, "run", &ran, &true);
+    let up = events(rt, alloc, ODD, &ONE_CABLE)?;
+    same(rt, "run", &world.run(&up).is_ok(), &true);
     same(rt, "agreement", &world.agreement(1), &Some(Agreement::Same));
-    let came = world.step(&Event::Configure(1, 1, ODD));
-    same(rt, "configure", &came, &Ok(Reply::Configured(false)));
+    let configured = events(rt, alloc, ODD, &AS_IT_IS)?;
+    compare_run(rt, 20, &AS_IT_IS, world.run(&configured));
     same(rt, "agreement", &world.agreement(1), &Some(Agreement::Same));
     Ok(())
 }

@@ -1,76 +1,70 @@
-use crate::comparing::same_in_row;
-use crate::worlds::Entry::{
-    Configure, Deliver, Emit, Force, Move, Offer, Prefer, Restart, Sense, Tick,
-};
-use crate::worlds::Want::{Is, Lacpdu};
-use crate::worlds::given::{ONE, Setting, TWO, lines, modulo, world_config};
+use crate::comparing::same_at;
+use crate::worlds::Want::{Frame, Is, Lacpdu};
+use crate::worlds::given::{ONE, TWO, TWO_SHORT, events, lines, modulo, world_config};
 use crate::worlds::starts::{
     COMING_UP, LINK_UP, MOVED, NONE_DISTRIBUTING, ONE_CABLE, TICKED, TOOK, UP_1,
 };
-use crate::worlds::{Entry, F48, F50, Flow, Row, Want, events, plays, runs};
+use crate::worlds::{Entry, Flow, Row, Want, plays, runs};
 use lagworld::{Agreement, Reply, World, WorldFault};
 use std::alloc::Global;
 use std::process::Abort;
 
-/// Two cables between ports with Short Timeout.
-const SHORT: Setting = Setting { short: true, ..TWO };
-
 /// Two cables come up between ports with Short Timeout, and each end hears the other five times (6.4.13, 6.4.15).
-const UP: [(Entry, Want); 54] = [
-    (Sense(1, 1), LINK_UP),
-    (Sense(1, 2), LINK_UP),
-    (Sense(2, 1), LINK_UP),
-    (Sense(2, 2), LINK_UP),
-    (Tick(1, 10), TICKED),
-    (Tick(2, 10), TICKED),
-    (Emit(1, 1), Lacpdu(0xc7)),
-    (Deliver(1, 2), TOOK),
-    (Emit(1, 2), Lacpdu(0xc7)),
-    (Deliver(2, 2), TOOK),
-    (Emit(2, 1), Lacpdu(0x07)),
-    (Deliver(1, 1), TOOK),
-    (Emit(2, 2), Lacpdu(0x07)),
-    (Deliver(2, 1), TOOK),
-    (Tick(1, 10), TICKED),
-    (Tick(2, 10), TICKED),
-    (Emit(1, 1), Lacpdu(0x07)),
-    (Deliver(1, 2), TOOK),
-    (Emit(1, 2), Lacpdu(0x07)),
-    (Deliver(2, 2), TOOK),
-    (Emit(2, 1), Lacpdu(0x07)),
-    (Deliver(1, 1), TOOK),
-    (Emit(2, 2), Lacpdu(0x07)),
-    (Deliver(2, 1), TOOK),
-    (Tick(1, 10), TICKED),
-    (Tick(2, 10), TICKED),
-    (Emit(1, 1), Lacpdu(0x0f)),
-    (Deliver(1, 2), TOOK),
-    (Emit(1, 2), Lacpdu(0x0f)),
-    (Deliver(2, 2), TOOK),
-    (Emit(2, 1), Lacpdu(0x3f)),
-    (Deliver(1, 1), TOOK),
-    (Emit(2, 2), Lacpdu(0x3f)),
-    (Deliver(2, 1), TOOK),
-    (Tick(1, 10), TICKED),
-    (Tick(2, 10), TICKED),
-    (Emit(1, 1), Lacpdu(0x3f)),
-    (Deliver(1, 2), TOOK),
-    (Emit(1, 2), Lacpdu(0x3f)),
-    (Deliver(2, 2), TOOK),
-    (Emit(2, 1), Lacpdu(0x3f)),
-    (Deliver(1, 1), TOOK),
-    (Emit(2, 2), Lacpdu(0x3f)),
-    (Deliver(2, 1), TOOK),
-    (Tick(1, 10), TICKED),
-    (Tick(2, 10), TICKED),
-    (Emit(1, 1), Lacpdu(0x3f)),
-    (Deliver(1, 2), TOOK),
-    (Emit(1, 2), Lacpdu(0x3f)),
-    (Deliver(2, 2), TOOK),
-    (Emit(2, 1), Lacpdu(0x3f)),
-    (Deliver(1, 1), TOOK),
-    (Emit(2, 2), Lacpdu(0x3f)),
-    (Deliver(2, 1), TOOK),
+const UP: [Entry; 54] = [
+    ("sense 1 1", LINK_UP),
+    ("sense 1 2", LINK_UP),
+    ("sense 2 1", LINK_UP),
+    ("sense 2 2", LINK_UP),
+    ("tick 1 10", TICKED),
+    ("tick 2 10", TICKED),
+    ("emit 1 1", Lacpdu(0xc7)),
+    ("deliver 1 2", TOOK),
+    ("emit 1 2", Lacpdu(0xc7)),
+    ("deliver 2 2", TOOK),
+    ("emit 2 1", Lacpdu(0x07)),
+    ("deliver 1 1", TOOK),
+    ("emit 2 2", Lacpdu(0x07)),
+    ("deliver 2 1", TOOK),
+    ("tick 1 10", TICKED),
+    ("tick 2 10", TICKED),
+    ("emit 1 1", Lacpdu(0x07)),
+    ("deliver 1 2", TOOK),
+    ("emit 1 2", Lacpdu(0x07)),
+    ("deliver 2 2", TOOK),
+    ("emit 2 1", Lacpdu(0x07)),
+    ("deliver 1 1", TOOK),
+    ("emit 2 2", Lacpdu(0x07)),
+    ("deliver 2 1", TOOK),
+    ("tick 1 10", TICKED),
+    ("tick 2 10", TICKED),
+    ("emit 1 1", Lacpdu(0x0f)),
+    ("deliver 1 2", TOOK),
+    ("emit 1 2", Lacpdu(0x0f)),
+    ("deliver 2 2", TOOK),
+    ("emit 2 1", Lacpdu(0x3f)),
+    ("deliver 1 1", TOOK),
+    ("emit 2 2", Lacpdu(0x3f)),
+    ("deliver 2 1", TOOK),
+    ("tick 1 10", TICKED),
+    ("tick 2 10", TICKED),
+    ("emit 1 1", Lacpdu(0x3f)),
+    ("deliver 1 2", TOOK),
+    ("emit 1 2", Lacpdu(0x3f)),
+    ("deliver 2 2", TOOK),
+    ("emit 2 1", Lacpdu(0x3f)),
+    ("deliver 1 1", TOOK),
+    ("emit 2 2", Lacpdu(0x3f)),
+    ("deliver 2 1", TOOK),
+    ("tick 1 10", TICKED),
+    ("tick 2 10", TICKED),
+    ("emit 1 1", Lacpdu(0x3f)),
+    ("deliver 1 2", TOOK),
+    ("emit 1 2", Lacpdu(0x3f)),
+    ("deliver 2 2", TOOK),
+    ("emit 2 1", Lacpdu(0x3f)),
+    ("deliver 1 1", TOOK),
+    ("emit 2 2", Lacpdu(0x3f)),
+    ("deliver 2 1", TOOK),
 ];
 
 const BOTH_SAME: &[(u16, Agreement)] = &[(1, Agreement::Same), (2, Agreement::Same)];
@@ -79,7 +73,7 @@ const FIRST_NOT_BOTH: &[(u16, Agreement)] = &[(1, Agreement::NotBoth), (2, Agree
 
 const CHANGED: Want = Is(Reply::Configured(true));
 
-const SENT: Want = Is(Reply::Port(1, 0, true));
+const SENT: Want = Frame(1, 0);
 
 /// Conversation 48 of system 1 sent one frame, which is not collected.
 const ONE_SENT: Flow = Flow {
@@ -111,16 +105,13 @@ const ONE_UP_BACK: Flow = Flow {
 /// Conversation 50 of system 1 sent one frame, which is collected.
 const ONE_UP_OF_50: Flow = Flow { conv: 50, ..ONE_UP };
 
-/// A frame of conversation 48 from system 2 to system 1.
-pub(crate) const BACK: [u8; 14] = [2, 0, 0, 0, 0, 0x10, 2, 0, 0, 0, 0, 0x20, 8, 0];
-
 const DROPPED_ROW: Row = Row {
-    setting: SHORT,
+    setting: TWO_SHORT,
     first: &UP,
     rest: &[
-        (Offer(1, 1, &F48), SENT),
-        (Configure(2, 1, 2, true), CHANGED),
-        (Deliver(1, 2), Is(Reply::Dropped)),
+        ("offer 1 1 0200000000200200000000100800", SENT),
+        ("configure 2 1 2 128 aggregatable", CHANGED),
+        ("deliver 1 2", Is(Reply::Dropped)),
     ],
     agreements: FIRST_NOT_BOTH,
     flows: &[ONE_SENT],
@@ -132,15 +123,15 @@ fn a_dropped_frame_is_not_collected(rt: HostRuntime) -> Result<(), WorldFault> {
 }
 
 const MOVES_BACK_ROW: Row = Row {
-    setting: SHORT,
+    setting: TWO_SHORT,
     first: &UP,
     rest: &[
-        (Offer(2, 1, &F48), SENT),
-        (Deliver(1, 1), UP_1),
-        (Move(2, 1, 48, 2), Is(Reply::Moved)),
-        (Emit(2, 1), Is(Reply::Marker(1, true))),
-        (Deliver(1, 1), Is(Reply::Responded(true))),
-        (Deliver(1, 2), Is(Reply::Released(1))),
+        ("offer 2 1 0200000000200200000000100800", SENT),
+        ("deliver 1 1", UP_1),
+        ("move 2 1 48 2", Is(Reply::Moved)),
+        ("emit 2 1", Is(Reply::Marker(1, true))),
+        ("deliver 1 1", Is(Reply::Responded(true))),
+        ("deliver 1 2", Is(Reply::Released(1))),
     ],
     agreements: BOTH_SAME,
     flows: &[ONE_UP_BACK],
@@ -152,9 +143,12 @@ fn a_conversation_of_system_2_moves(rt: HostRuntime) -> Result<(), WorldFault> {
 }
 
 const PRIORITY_ROW: Row = Row {
-    setting: SHORT,
+    setting: TWO_SHORT,
     first: &UP,
-    rest: &[(Prefer(1, 1, 129), CHANGED), (Prefer(1, 1, 128), CHANGED)],
+    rest: &[
+        ("configure 1 1 1 129 aggregatable", CHANGED),
+        ("configure 1 1 1 128 aggregatable", CHANGED),
+    ],
     agreements: FIRST_NOT_BOTH,
     flows: &[],
 };
@@ -165,18 +159,18 @@ fn another_priority_is_a_change(rt: HostRuntime) -> Result<(), WorldFault> {
 }
 
 const BOTH_RELEASED_ROW: Row = Row {
-    setting: SHORT,
+    setting: TWO_SHORT,
     first: &UP,
     rest: &[
-        (Offer(1, 1, &F48), SENT),
-        (Offer(1, 1, &F50), SENT),
+        ("offer 1 1 0200000000200200000000100800", SENT),
+        ("offer 1 1 0200000000220200000000100800", SENT),
         MOVED,
-        (Move(1, 1, 50, 2), Is(Reply::Moved)),
-        (Emit(1, 1), Is(Reply::Marker(1, true))),
-        (Deliver(1, 2), UP_1),
-        (Deliver(1, 2), UP_1),
-        (Deliver(1, 2), Is(Reply::Responded(true))),
-        (Deliver(1, 1), Is(Reply::Released(2))),
+        ("move 1 1 50 2", Is(Reply::Moved)),
+        ("emit 1 1", Is(Reply::Marker(1, true))),
+        ("deliver 1 2", UP_1),
+        ("deliver 1 2", UP_1),
+        ("deliver 1 2", Is(Reply::Responded(true))),
+        ("deliver 1 1", Is(Reply::Released(2))),
     ],
     agreements: BOTH_SAME,
     flows: &[ONE_UP, ONE_UP_OF_50],
@@ -188,16 +182,16 @@ fn one_response_releases_two_conversations(rt: HostRuntime) -> Result<(), WorldF
 }
 
 const RESPONSE_LOST_ROW: Row = Row {
-    setting: SHORT,
+    setting: TWO_SHORT,
     first: &UP,
     rest: &[
-        (Offer(1, 1, &F48), SENT),
-        (Deliver(1, 2), UP_1),
+        ("offer 1 1 0200000000200200000000100800", SENT),
+        ("deliver 1 2", UP_1),
         MOVED,
-        (Offer(2, 1, &BACK), SENT),
-        (Emit(1, 1), Is(Reply::Marker(1, true))),
-        (Deliver(1, 2), Is(Reply::Responded(false))),
-        (Deliver(1, 1), UP_1),
+        ("offer 2 1 0200000000100200000000200800", SENT),
+        ("emit 1 1", Is(Reply::Marker(1, true))),
+        ("deliver 1 2", Is(Reply::Responded(false))),
+        ("deliver 1 1", UP_1),
     ],
     agreements: BOTH_SAME,
     flows: &[ONE_UP, ONE_UP_BACK],
@@ -210,8 +204,11 @@ fn a_full_cable_hands_back_a_response(rt: HostRuntime) -> Result<(), WorldFault>
 
 /// An LACPDU of either system says which change of its port it knows of.
 const STAMPED_ROW: Row = Row {
-    setting: SHORT,
-    first: &[(Prefer(2, 1, 127), CHANGED), (Prefer(1, 2, 126), CHANGED)],
+    setting: TWO_SHORT,
+    first: &[
+        ("configure 2 1 1 127 aggregatable", CHANGED),
+        ("configure 1 2 1 126 aggregatable", CHANGED),
+    ],
     rest: &UP,
     agreements: BOTH_SAME,
     flows: &[],
@@ -226,11 +223,11 @@ const RESTARTED_ROW: Row = Row {
     setting: TWO,
     first: &COMING_UP,
     rest: &[
-        (Offer(2, 1, &BACK), SENT),
-        (Restart(2), Is(Reply::Restarted)),
-        (Deliver(1, 1), Is(Reply::Empty)),
-        (Offer(2, 1, &BACK), NONE_DISTRIBUTING),
-        (Offer(1, 1, &F48), SENT),
+        ("offer 2 1 0200000000100200000000200800", SENT),
+        ("restart 2", Is(Reply::Restarted)),
+        ("deliver 1 1", Is(Reply::Empty)),
+        ("offer 2 1 0200000000100200000000200800", NONE_DISTRIBUTING),
+        ("offer 1 1 0200000000200200000000100800", SENT),
     ],
     agreements: &[(1, Agreement::NotBoth), (2, Agreement::NotBoth)],
     flows: &[ONE_SENT_BACK, ONE_SENT],
@@ -245,10 +242,10 @@ const FORCED_TWICE_ROW: Row = Row {
     setting: TWO,
     first: &COMING_UP,
     rest: &[
-        (Offer(1, 1, &F48), SENT),
-        (Force(1, 1, 48), Is(Reply::Forced)),
-        (Offer(1, 1, &F48), Is(Reply::Port(1, 1, true))),
-        (Force(1, 1, 48), Is(Reply::Forced)),
+        ("offer 1 1 0200000000200200000000100800", SENT),
+        ("force 1 1 48", Is(Reply::Forced)),
+        ("offer 1 1 0200000000200200000000100800", Frame(1, 1)),
+        ("force 1 1 48", Is(Reply::Forced)),
     ],
     agreements: &[],
     flows: &[Flow {
@@ -268,12 +265,12 @@ const PRIORITY_CHANGED_ROW: Row = Row {
     setting: ONE,
     first: &ONE_CABLE,
     rest: &[
-        (Tick(2, 10), TICKED),
-        (Emit(2, 1), Lacpdu(0x3f)),
-        (Prefer(1, 1, 129), CHANGED),
-        (Prefer(1, 1, 128), CHANGED),
-        (Deliver(1, 1), TOOK),
-        (Tick(1, 20), TICKED),
+        ("tick 2 10", TICKED),
+        ("emit 2 1", Lacpdu(0x3f)),
+        ("configure 1 1 1 129 aggregatable", CHANGED),
+        ("configure 1 1 1 128 aggregatable", CHANGED),
+        ("deliver 1 1", TOOK),
+        ("tick 1 20", TICKED),
     ],
     agreements: &[(1, Agreement::Changed)],
     flows: &[],
@@ -282,12 +279,12 @@ const PRIORITY_CHANGED_ROW: Row = Row {
 /// It gets another Aggregation bit, and its own again.
 const AGGREGATION_CHANGED_ROW: Row = Row {
     rest: &[
-        (Tick(2, 10), TICKED),
-        (Emit(2, 1), Lacpdu(0x3f)),
-        (Configure(1, 1, 1, false), CHANGED),
-        (Configure(1, 1, 1, true), CHANGED),
-        (Deliver(1, 1), TOOK),
-        (Tick(1, 20), TICKED),
+        ("tick 2 10", TICKED),
+        ("emit 2 1", Lacpdu(0x3f)),
+        ("configure 1 1 1 128 individual", CHANGED),
+        ("configure 1 1 1 128 aggregatable", CHANGED),
+        ("deliver 1 1", TOOK),
+        ("tick 1 20", TICKED),
     ],
     ..PRIORITY_CHANGED_ROW
 };
@@ -295,12 +292,12 @@ const AGGREGATION_CHANGED_ROW: Row = Row {
 /// Port 1 of system 2 gets another key, and its own again.
 const CHANGED_BACK_ROW: Row = Row {
     rest: &[
-        (Tick(1, 10), TICKED),
-        (Emit(1, 1), Lacpdu(0x3f)),
-        (Configure(2, 1, 2, true), CHANGED),
-        (Configure(2, 1, 1, true), CHANGED),
-        (Deliver(1, 2), TOOK),
-        (Tick(2, 20), TICKED),
+        ("tick 1 10", TICKED),
+        ("emit 1 1", Lacpdu(0x3f)),
+        ("configure 2 1 2 128 aggregatable", CHANGED),
+        ("configure 2 1 1 128 aggregatable", CHANGED),
+        ("deliver 1 2", TOOK),
+        ("tick 2 20", TICKED),
     ],
     ..PRIORITY_CHANGED_ROW
 };
@@ -315,20 +312,25 @@ fn each_value_of_each_system_counts_as_a_change(rt: HostRuntime) -> Result<(), W
 /// Port 1 of system 1 is changed and agrees again as soon as its LACPDUs were received; the same values once more are no
 /// change. The replies are not looked at.
 fn agrees_again(rt: &impl Abort, alloc: Global) -> Result<(), WorldFault> {
-    let up = events(alloc, &UP)?;
-    let change = events(alloc, &[(Prefer(1, 1, 129), CHANGED)])?;
+    let up = events(rt, alloc, TWO_SHORT, &UP)?;
+    let change = events(
+        rt,
+        alloc,
+        TWO_SHORT,
+        &[("configure 1 1 1 129 aggregatable", CHANGED)],
+    )?;
     let steps = [
         (&up, Agreement::Same),
         (&change, Agreement::NotBoth),
         (&up, Agreement::Same),
         (&change, Agreement::Same),
     ];
-    let config = world_config(alloc, SHORT)?;
+    let config = world_config(rt, alloc, TWO_SHORT)?;
     let lines = lines(alloc, 2, None)?;
     let mut world = World::new(alloc, config, modulo, modulo, lines)?;
     for (place, (events, wanted)) in steps.iter().enumerate() {
-        same_in_row(rt, place, &world.run(*events).is_ok(), &true);
-        same_in_row(rt, place, &world.agreement(1), &Some(*wanted));
+        same_at(rt, "step", place, &world.run(*events).is_ok(), &true);
+        same_at(rt, "step", place, &world.agreement(1), &Some(*wanted));
     }
     Ok(())
 }

@@ -1,90 +1,86 @@
-use crate::comparing::{same, same_in_row};
-use crate::worlds::given::{lines, modulo};
+use crate::comparing::{same, same_at};
+use crate::worlds::given::{Setting, lines, modulo, read, world_config};
+use crate::worlds::starts::LINK_UP;
+use crate::worlds::{Entry, compare_run};
 use cables::AnyCable;
 use lagprogress::{play_round, play_rounds};
-use lagsystem::{Config, PortConfig};
-use lagtypes::{AggId, Key, NoMemory, SystemId};
-use lagworld::{Agreement, Event, World, WorldConfig, WorldFault};
+use lagtypes::AggId;
+use lagworld::{Agreement, World, WorldFault};
 use std::alloc::Global;
 use std::process::Abort;
 use std::test::Fail;
 
-/// A port: its number, its key, and whether it is active.
-type End = (u16, u16, bool);
+/// System 1 has as many aggregators of each key as ports.
+const SYSTEM_1: &str = "
+[[system]]
+mac = \"02-00-00-00-00-01\"
+aggregators = [7, 9, 7]
+";
 
-/// The ports of system 1 and those of system 2.
-type Ends = ([End; 3], [End; 3]);
+/// So has system 2.
+const SYSTEM_2: &str = "
+[[system]]
+mac = \"02-00-00-00-00-02\"
+aggregators = [6, 5, 5]
+";
 
 /// The cables cross: the first port of system 1 is joined with the last one of system 2.
-const CABLES: [(u16, u16); 3] = [(11, 23), (12, 22), (13, 21)];
-
-/// The keys of the aggregators of system 1 and of system 2: as many of each as ports.
-const KEYS: [[Key; 3]; 2] = [[Key(7), Key(9), Key(7)], [Key(6), Key(5), Key(5)]];
+const CROSSED: &str = "
+[[cable]]
+ends = [11, 23]
+[[cable]]
+ends = [12, 22]
+[[cable]]
+ends = [13, 21]
+";
 
 /// All ports are active.
-const ACTIVE: Ends = (
-    [(11, 7, true), (12, 9, true), (13, 7, true)],
-    [(21, 5, true), (22, 6, true), (23, 5, true)],
-);
-
-/// One end of each cable is passive.
-const HALF_PASSIVE: Ends = (
-    [(11, 7, true), (12, 9, false), (13, 7, false)],
-    [(21, 5, true), (22, 6, true), (23, 5, false)],
-);
-
-/// The link of every port is up.
-const LINKS_UP: [Event; 6] = [
-    Event::Sense(1, 1),
-    Event::Sense(1, 2),
-    Event::Sense(2, 1),
-    Event::Sense(2, 2),
-    Event::Sense(3, 1),
-    Event::Sense(3, 2),
+const ACTIVE: Setting = &[
+    SYSTEM_1,
+    "port = [
+    { number = 11, key = 7, short = false },
+    { number = 12, key = 9, short = false },
+    { number = 13, key = 7, short = false },
+]
+",
+    SYSTEM_2,
+    "port = [
+    { number = 21, key = 5, short = true },
+    { number = 22, key = 6, short = true },
+    { number = 23, key = 5, short = true },
+]
+",
+    CROSSED,
 ];
 
-fn port(system: u8, (number, key, active): End) -> PortConfig {
-    PortConfig {
-        number,
-        priority: 128,
-        mac: [2, 0, 0, 0, 0, system],
-        key: Key(key),
-        aggregatable: true,
-        active,
-        short: system == 2,
-    }
-}
+/// One end of each cable is passive.
+const HALF_PASSIVE: Setting = &[
+    SYSTEM_1,
+    "port = [
+    { number = 11, key = 7, short = false },
+    { number = 12, key = 9, active = false, short = false },
+    { number = 13, key = 7, active = false, short = false },
+]
+",
+    SYSTEM_2,
+    "port = [
+    { number = 21, key = 5, short = true },
+    { number = 22, key = 6, short = true },
+    { number = 23, key = 5, active = false, short = true },
+]
+",
+    CROSSED,
+];
 
-fn system(alloc: Global, number: u8, keys: &[Key], ends: &[End]) -> Result<Config, NoMemory> {
-    let mut ports = Vec::new(alloc);
-    for end in ends {
-        ports.push(port(number, *end))?;
-    }
-    Ok(Config {
-        system: SystemId {
-            priority: 32768,
-            mac: [2, 0, 0, 0, 0, number],
-        },
-        max_delay: 0,
-        first_marker: 1,
-        conversations: 256,
-        aggregators: Vec::from_slice(alloc, keys)?,
-        max_links: None,
-        ports,
-    })
-}
-
-/// Two systems with three cables between them.
-fn crossed(alloc: Global, ends: Ends) -> Result<WorldConfig, NoMemory> {
-    let (first, second) = ends;
-    Ok(WorldConfig {
-        systems: [
-            system(alloc, 1, &KEYS[0], &first)?,
-            system(alloc, 2, &KEYS[1], &second)?,
-        ],
-        cables: Vec::from_slice(alloc, &CABLES)?,
-    })
-}
+/// The link of every port is up.
+const LINKS_UP: [Entry; 6] = [
+    ("sense 1 1", LINK_UP),
+    ("sense 1 2", LINK_UP),
+    ("sense 2 1", LINK_UP),
+    ("sense 2 2", LINK_UP),
+    ("sense 3 1", LINK_UP),
+    ("sense 3 2", LINK_UP),
+];
 
 /// The ports of an aggregator that distribute.
 fn compare_distributing<F: Fn(u16, usize) -> usize + Drop>(
@@ -98,19 +94,31 @@ fn compare_distributing<F: Fn(u16, usize) -> usize + Drop>(
         Some(system) => system.distributing(AggId(agg)),
         None => return same(rt, "a system", &false, &true),
     };
-    same_in_row(rt, usize::from(agg), &came.as_slice(), &wanted);
+    same_at(
+        rt,
+        "aggregator",
+        usize::from(agg),
+        &came.as_slice(),
+        &wanted,
+    );
 }
 
 /// After so many healthy rounds each cable agrees. Cables 1 and 3 make one aggregation, and cable 2 another. The number is no
 /// constant here: the prover would unfold each of these rounds.
-fn agree(rt: &impl Abort, alloc: Global, ends: Ends, rounds: u16) -> Result<(), WorldFault> {
-    let config = crossed(alloc, ends)?;
+fn agree(rt: &impl Abort, alloc: Global, setting: Setting, rounds: u16) -> Result<(), WorldFault> {
+    let (config, events) = read(rt, alloc, setting, &LINKS_UP)?;
     let mut world = World::new(alloc, config, modulo, modulo, lines(alloc, 3, None)?)?;
-    assert!(rt; world.run(&LINKS_UP).is_ok(), "the links");
+    compare_run(rt, 0, &LINKS_UP, world.run(&events));
     same(rt, "the rounds", &play_rounds(&mut world, rounds), &Ok(()));
     for cable in 1..4u16 {
         let agreement = world.agreement(cable);
-        same_in_row(rt, usize::from(cable), &agreement, &Some(Agreement::Same));
+        same_at(
+            rt,
+            "cable",
+            usize::from(cable),
+            &agreement,
+            &Some(Agreement::Same),
+        );
     }
     compare_distributing(rt, &world, 1, 1, &[11, 13]);
     compare_distributing(rt, &world, 1, 2, &[12]);
@@ -136,7 +144,7 @@ fn crossed_cables_with_a_passive_end_agree_in_661(rt: HostRuntime) -> Result<(),
 /// After 12 rounds (1.2 s) each port has heard its peer: each end was asked, and what it sent arrived (6.4.12, 6.4.13).
 #[test]
 fn a_round_asks_each_end_of_each_cable(rt: HostRuntime) -> Result<(), Fail> {
-    let config = crossed(rt.alloc(), ACTIVE)?;
+    let (config, events) = read(&rt, rt.alloc(), ACTIVE, &LINKS_UP)?;
     let mut world = World::new(
         rt.alloc(),
         config,
@@ -144,7 +152,7 @@ fn a_round_asks_each_end_of_each_cable(rt: HostRuntime) -> Result<(), Fail> {
         modulo,
         lines(rt.alloc(), 3, None)?,
     )?;
-    assert!(rt; world.run(&LINKS_UP).is_ok(), "the links");
+    compare_run(&rt, 0, &LINKS_UP, world.run(&events));
     for _ in 0..12 {
         same(&rt, "the round", &play_round(&mut world), &Ok(()));
     }
@@ -154,7 +162,7 @@ fn a_round_asks_each_end_of_each_cable(rt: HostRuntime) -> Result<(), Fail> {
                 Some(system) => system.defaulted(port),
                 None => None,
             };
-            same_in_row(&rt, usize::from(port), &defaulted, &Some(false));
+            same_at(&rt, "port", usize::from(port), &defaulted, &Some(false));
         }
     }
     Ok(())
@@ -162,7 +170,7 @@ fn a_round_asks_each_end_of_each_cable(rt: HostRuntime) -> Result<(), Fail> {
 
 #[test]
 fn a_world_tells_its_cables(rt: HostRuntime) -> Result<(), Fail> {
-    let config = crossed(rt.alloc(), ACTIVE)?;
+    let config = world_config(&rt, rt.alloc(), ACTIVE)?;
     let world = World::new(
         rt.alloc(),
         config,
@@ -179,7 +187,7 @@ fn a_world_tells_its_cables(rt: HostRuntime) -> Result<(), Fail> {
         (4, None),
     ];
     for (cable, ends) in told {
-        same_in_row(&rt, usize::from(cable), &world.ends(cable), &ends);
+        same_at(&rt, "cable", usize::from(cable), &world.ends(cable), &ends);
     }
     Ok(())
 }

@@ -1,20 +1,21 @@
-use crate::worlds::Entry::{Configure, Cut, Deliver, Emit, Move, Offer, Restart, Sense, Tick};
-use crate::worlds::Want::{Is, Lacpdu};
-use crate::worlds::given::{INDIVIDUAL, Setting, TWO};
+use crate::worlds::Want::{Frame, FrameLost, Is, Lacpdu};
+use crate::worlds::given::{
+    CABLE_1, CABLE_2, INDIVIDUAL, LONG_PORTS, SYSTEM_1, SYSTEM_2, Setting, TWO,
+};
 use crate::worlds::starts::{
     COMING_UP, HELD, LINK_DOWN, LINK_UP, MOVED, NONE_DISTRIBUTING, TICKED, UP_1,
 };
-use crate::worlds::{Entry, F48, F49, F50, Flow, Row, Want, plays};
+use crate::worlds::{Entry, Flow, Row, plays};
 use lagsystem::SystemFault;
 use lagworld::{Agreement, Reply, WorldFault};
 
-const TOLD_OF_CUT: [(Entry, Want); 6] = [
-    (Offer(1, 1, &F48), Is(Reply::Port(1, 0, true))),
-    (Cut(1), Is(Reply::Cut)),
-    (Offer(1, 1, &F48), Is(Reply::Port(1, 1, false))),
-    (Sense(1, 1), LINK_DOWN),
-    (Offer(1, 1, &F48), Is(Reply::Port(2, 2, true))),
-    (Deliver(2, 2), UP_1),
+const TOLD_OF_CUT: [Entry; 6] = [
+    ("offer 1 1 0200000000200200000000100800", Frame(1, 0)),
+    ("cut 1", Is(Reply::Cut)),
+    ("offer 1 1 0200000000200200000000100800", FrameLost(1, 1)),
+    ("sense 1 1", LINK_DOWN),
+    ("offer 1 1 0200000000200200000000100800", Frame(2, 2)),
+    ("deliver 2 2", UP_1),
 ];
 
 const TOLD_OF_CUT_ROW: Row = Row {
@@ -38,16 +39,13 @@ fn a_port_that_is_told_of_the_cut_frees_its_conversations(
     plays(&rt, rt.alloc(), &TOLD_OF_CUT_ROW)
 }
 
-/// A frame of conversation 48 of system 2.
-const BACK: [u8; 14] = [2, 0, 0, 0, 0, 0x10, 2, 0, 0, 0, 0, 0x20, 8, 0];
-
-const RESTARTED: [(Entry, Want); 6] = [
-    (Offer(1, 1, &F48), Is(Reply::Port(1, 0, true))),
-    (Restart(1), Is(Reply::Restarted)),
-    (Deliver(1, 2), Is(Reply::Empty)),
-    (Offer(1, 1, &F48), NONE_DISTRIBUTING),
-    (Offer(2, 1, &BACK), Is(Reply::Port(1, 0, true))),
-    (Deliver(1, 1), Is(Reply::Disabled)),
+const RESTARTED: [Entry; 6] = [
+    ("offer 1 1 0200000000200200000000100800", Frame(1, 0)),
+    ("restart 1", Is(Reply::Restarted)),
+    ("deliver 1 2", Is(Reply::Empty)),
+    ("offer 1 1 0200000000200200000000100800", NONE_DISTRIBUTING),
+    ("offer 2 1 0200000000100200000000200800", Frame(1, 0)),
+    ("deliver 1 1", Is(Reply::Disabled)),
 ];
 
 const RESTARTED_ROW: Row = Row {
@@ -78,16 +76,19 @@ fn a_restart_empties_the_cables(rt: HostRuntime) -> Result<(), WorldFault> {
     plays(&rt, rt.alloc(), &RESTARTED_ROW)
 }
 
-const CONFIGURED: [(Entry, Want); 9] = [
-    (Sense(1, 1), LINK_UP),
-    (Sense(2, 1), LINK_UP),
-    (Tick(1, 50), TICKED),
-    (Offer(1, 1, &F48), Is(Reply::Port(1, 0, true))),
-    (Configure(1, 1, 2, false), Is(Reply::Configured(true))),
-    (Offer(1, 1, &F48), HELD),
-    (Offer(1, 1, &F49), NONE_DISTRIBUTING),
-    (Tick(1, 20), TICKED),
-    (Offer(1, 1, &F49), Is(Reply::Port(2, 0, true))),
+const CONFIGURED: [Entry; 9] = [
+    ("sense 1 1", LINK_UP),
+    ("sense 2 1", LINK_UP),
+    ("tick 1 50", TICKED),
+    ("offer 1 1 0200000000200200000000100800", Frame(1, 0)),
+    (
+        "configure 1 1 2 128 individual",
+        Is(Reply::Configured(true)),
+    ),
+    ("offer 1 1 0200000000200200000000100800", HELD),
+    ("offer 1 1 0200000000210200000000100800", NONE_DISTRIBUTING),
+    ("tick 1 20", TICKED),
+    ("offer 1 1 0200000000210200000000100800", Frame(2, 0)),
 ];
 
 const CONFIGURED_ROW: Row = Row {
@@ -119,30 +120,35 @@ fn a_configure_holds_the_conversations_of_its_port(rt: HostRuntime) -> Result<()
 }
 
 /// Two cables between ports with Long Timeout, and one marker identifier left.
-const LAST_MARKER: Setting = Setting {
-    first_marker: 4_294_967_295,
-    ..TWO
-};
+const LAST_MARKER: Setting = &[
+    SYSTEM_1,
+    "first_marker = 4294967295\n",
+    LONG_PORTS,
+    SYSTEM_2,
+    LONG_PORTS,
+    CABLE_1,
+    CABLE_2,
+];
 
-const SPENT: [(Entry, Want); 15] = [
-    (Offer(1, 1, &F48), Is(Reply::Port(1, 0, true))),
-    (Offer(1, 1, &F50), Is(Reply::Port(1, 0, true))),
+const SPENT: [Entry; 15] = [
+    ("offer 1 1 0200000000200200000000100800", Frame(1, 0)),
+    ("offer 1 1 0200000000220200000000100800", Frame(1, 0)),
     MOVED,
-    (Emit(1, 1), Lacpdu(0x3d)),
-    (Emit(1, 1), Is(Reply::Marker(4_294_967_295, true))),
+    ("emit 1 1", Lacpdu(0x3d)),
+    ("emit 1 1", Is(Reply::Marker(4_294_967_295, true))),
     (
-        Move(1, 1, 50, 2),
+        "move 1 1 50 2",
         Is(Reply::Refused(SystemFault::MarkersSpent)),
     ),
-    (Tick(1, 30), TICKED),
-    (Emit(1, 1), Is(Reply::Nothing)),
-    (Offer(1, 1, &F48), HELD),
-    (Cut(1), Is(Reply::Cut)),
-    (Sense(1, 1), LINK_DOWN),
-    (Offer(1, 1, &F48), Is(Reply::Port(2, 1, true))),
-    (Offer(1, 1, &F50), Is(Reply::Port(2, 1, true))),
-    (Deliver(2, 2), UP_1),
-    (Deliver(2, 2), UP_1),
+    ("tick 1 30", TICKED),
+    ("emit 1 1", Is(Reply::Nothing)),
+    ("offer 1 1 0200000000200200000000100800", HELD),
+    ("cut 1", Is(Reply::Cut)),
+    ("sense 1 1", LINK_DOWN),
+    ("offer 1 1 0200000000200200000000100800", Frame(2, 1)),
+    ("offer 1 1 0200000000220200000000100800", Frame(2, 1)),
+    ("deliver 2 2", UP_1),
+    ("deliver 2 2", UP_1),
 ];
 
 const SPENT_ROW: Row = Row {

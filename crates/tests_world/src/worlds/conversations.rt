@@ -1,28 +1,27 @@
-use crate::worlds::Entry::{Cut, Deliver, Emit, Force, Join, Lose, Move, Offer, Repeat, Tick};
-use crate::worlds::Want::{Is, Lacpdu, LacpduLost};
-use crate::worlds::given::{Setting, TWO};
+use crate::worlds::Want::{Frame, FrameLost, Is, Lacpdu, LacpduLost};
+use crate::worlds::given::{CABLE_1, CABLE_2, LONG_PORTS, SYSTEM_1, SYSTEM_2, Setting, TWO};
 use crate::worlds::starts::{COMING_UP, HELD, MOVED, TICKED, TOOK, UP_1};
-use crate::worlds::{Entry, F48, Flow, Row, Want, plays, runs, steps};
+use crate::worlds::{Entry, Flow, Row, Want, plays, runs, steps};
 use lagsystem::SystemFault;
 use lagworld::{Agreement, Reply, WorldFault};
 
-pub(crate) const MOVES: [(Entry, Want); 16] = [
-    (Offer(1, 1, &F48), Is(Reply::Port(1, 0, true))),
-    (Offer(1, 1, &F48), Is(Reply::Port(1, 1, true))),
-    (Offer(1, 1, &F48), Is(Reply::Port(1, 2, true))),
+pub(crate) const MOVES: [Entry; 16] = [
+    ("offer 1 1 0200000000200200000000100800", Frame(1, 0)),
+    ("offer 1 1 0200000000200200000000100800", Frame(1, 1)),
+    ("offer 1 1 0200000000200200000000100800", Frame(1, 2)),
     MOVED,
-    (Offer(1, 1, &F48), HELD),
-    (Emit(1, 1), Lacpdu(0x3d)),
-    (Emit(1, 1), Is(Reply::Marker(1, true))),
-    (Deliver(1, 2), UP_1),
-    (Deliver(1, 2), UP_1),
-    (Deliver(1, 2), UP_1),
-    (Deliver(1, 2), TOOK),
-    (Deliver(1, 2), Is(Reply::Responded(true))),
-    (Offer(1, 1, &F48), HELD),
-    (Deliver(1, 1), Is(Reply::Released(1))),
-    (Offer(1, 1, &F48), Is(Reply::Port(2, 3, true))),
-    (Deliver(2, 2), UP_1),
+    ("offer 1 1 0200000000200200000000100800", HELD),
+    ("emit 1 1", Lacpdu(0x3d)),
+    ("emit 1 1", Is(Reply::Marker(1, true))),
+    ("deliver 1 2", UP_1),
+    ("deliver 1 2", UP_1),
+    ("deliver 1 2", UP_1),
+    ("deliver 1 2", TOOK),
+    ("deliver 1 2", Is(Reply::Responded(true))),
+    ("offer 1 1 0200000000200200000000100800", HELD),
+    ("deliver 1 1", Is(Reply::Released(1))),
+    ("offer 1 1 0200000000200200000000100800", Frame(2, 3)),
+    ("deliver 2 2", UP_1),
 ];
 
 pub(crate) const MOVES_ROW: Row = Row {
@@ -52,23 +51,23 @@ fn a_conversation_moves_event_by_event(rt: HostRuntime) -> Result<(), WorldFault
     steps(&rt, rt.alloc(), &MOVES_ROW, Some(8))
 }
 
-const LATE: [(Entry, Want); 16] = [
-    (Offer(1, 1, &F48), Is(Reply::Port(1, 0, true))),
+const LATE: [Entry; 16] = [
+    ("offer 1 1 0200000000200200000000100800", Frame(1, 0)),
     MOVED,
-    (Emit(1, 1), Lacpdu(0x3d)),
-    (Emit(1, 1), Is(Reply::Marker(1, true))),
-    (Tick(1, 30), TICKED),
-    (Emit(1, 1), Is(Reply::Marker(2, true))),
-    (Deliver(1, 2), UP_1),
-    (Deliver(1, 2), TOOK),
-    (Deliver(1, 2), Is(Reply::Responded(true))),
-    (Deliver(1, 1), Is(Reply::Released(0))),
-    (Offer(1, 1, &F48), HELD),
-    (Deliver(1, 2), Is(Reply::Responded(true))),
-    (Repeat(1, 1), Is(Reply::Released(1))),
-    (Deliver(1, 1), Is(Reply::Released(0))),
-    (Offer(1, 1, &F48), Is(Reply::Port(2, 1, true))),
-    (Deliver(2, 2), UP_1),
+    ("emit 1 1", Lacpdu(0x3d)),
+    ("emit 1 1", Is(Reply::Marker(1, true))),
+    ("tick 1 30", TICKED),
+    ("emit 1 1", Is(Reply::Marker(2, true))),
+    ("deliver 1 2", UP_1),
+    ("deliver 1 2", TOOK),
+    ("deliver 1 2", Is(Reply::Responded(true))),
+    ("deliver 1 1", Is(Reply::Released(0))),
+    ("offer 1 1 0200000000200200000000100800", HELD),
+    ("deliver 1 2", Is(Reply::Responded(true))),
+    ("repeat 1 1", Is(Reply::Released(1))),
+    ("deliver 1 1", Is(Reply::Released(0))),
+    ("offer 1 1 0200000000200200000000100800", Frame(2, 1)),
+    ("deliver 2 2", UP_1),
 ];
 
 const LATE_ROW: Row = Row {
@@ -90,22 +89,22 @@ fn a_late_response_releases_nothing(rt: HostRuntime) -> Result<(), WorldFault> {
     plays(&rt, rt.alloc(), &LATE_ROW)
 }
 
-const LOST: [(Entry, Want); 15] = [
-    (Offer(1, 1, &F48), Is(Reply::Port(1, 0, true))),
-    (Cut(1), Is(Reply::Cut)),
-    (Join(1), Is(Reply::Joined)),
-    (Offer(1, 1, &F48), Is(Reply::Port(1, 1, true))),
+const LOST: [Entry; 15] = [
+    ("offer 1 1 0200000000200200000000100800", Frame(1, 0)),
+    ("cut 1", Is(Reply::Cut)),
+    ("join 1", Is(Reply::Joined)),
+    ("offer 1 1 0200000000200200000000100800", Frame(1, 1)),
     MOVED,
-    (Emit(1, 1), Lacpdu(0x3d)),
-    (Emit(1, 1), Is(Reply::Marker(1, true))),
-    (Cut(1), Is(Reply::Cut)),
-    (Join(1), Is(Reply::Joined)),
-    (Tick(1, 30), TICKED),
-    (Emit(1, 1), Is(Reply::Marker(2, true))),
-    (Deliver(1, 2), Is(Reply::Responded(true))),
-    (Deliver(1, 1), Is(Reply::Released(1))),
-    (Offer(1, 1, &F48), Is(Reply::Port(2, 2, true))),
-    (Deliver(2, 2), UP_1),
+    ("emit 1 1", Lacpdu(0x3d)),
+    ("emit 1 1", Is(Reply::Marker(1, true))),
+    ("cut 1", Is(Reply::Cut)),
+    ("join 1", Is(Reply::Joined)),
+    ("tick 1 30", TICKED),
+    ("emit 1 1", Is(Reply::Marker(2, true))),
+    ("deliver 1 2", Is(Reply::Responded(true))),
+    ("deliver 1 1", Is(Reply::Released(1))),
+    ("offer 1 1 0200000000200200000000100800", Frame(2, 2)),
+    ("deliver 2 2", UP_1),
 ];
 
 const LOST_ROW: Row = Row {
@@ -127,13 +126,13 @@ fn a_cut_loses_what_is_on_the_cable(rt: HostRuntime) -> Result<(), WorldFault> {
     plays(&rt, rt.alloc(), &LOST_ROW)
 }
 
-const FORCED: [(Entry, Want); 6] = [
-    (Offer(1, 1, &F48), Is(Reply::Port(1, 0, true))),
+const FORCED: [Entry; 6] = [
+    ("offer 1 1 0200000000200200000000100800", Frame(1, 0)),
     MOVED,
-    (Force(1, 1, 48), Is(Reply::Forced)),
-    (Offer(1, 1, &F48), Is(Reply::Port(2, 1, true))),
-    (Deliver(2, 2), UP_1),
-    (Deliver(1, 2), UP_1),
+    ("force 1 1 48", Is(Reply::Forced)),
+    ("offer 1 1 0200000000200200000000100800", Frame(2, 1)),
+    ("deliver 2 2", UP_1),
+    ("deliver 1 2", UP_1),
 ];
 
 const FORCED_ROW: Row = Row {
@@ -155,14 +154,14 @@ fn a_forced_conversation_may_overtake(rt: HostRuntime) -> Result<(), WorldFault>
     plays(&rt, rt.alloc(), &FORCED_ROW)
 }
 
-const DATA: [(Entry, Want); 7] = [
-    (Offer(1, 1, &F48), Is(Reply::Port(1, 0, true))),
-    (Offer(1, 1, &F48), Is(Reply::Port(1, 1, true))),
-    (Offer(1, 1, &F48), Is(Reply::Port(1, 2, true))),
-    (Lose(1, 2), Is(Reply::Lost)),
-    (Deliver(1, 2), UP_1),
-    (Repeat(1, 2), Is(Reply::NotControl)),
-    (Deliver(1, 2), UP_1),
+const DATA: [Entry; 7] = [
+    ("offer 1 1 0200000000200200000000100800", Frame(1, 0)),
+    ("offer 1 1 0200000000200200000000100800", Frame(1, 1)),
+    ("offer 1 1 0200000000200200000000100800", Frame(1, 2)),
+    ("lose 1 2", Is(Reply::Lost)),
+    ("deliver 1 2", UP_1),
+    ("repeat 1 2", Is(Reply::NotControl)),
+    ("deliver 1 2", UP_1),
 ];
 
 const DATA_ROW: Row = Row {
@@ -184,13 +183,13 @@ fn no_data_frame_is_repeated(rt: HostRuntime) -> Result<(), WorldFault> {
     plays(&rt, rt.alloc(), &DATA_ROW)
 }
 
-const FULL: [(Entry, Want); 6] = [
-    (Offer(1, 1, &F48), Is(Reply::Port(1, 0, true))),
-    (Offer(1, 1, &F48), Is(Reply::Port(1, 1, true))),
-    (Offer(1, 1, &F48), Is(Reply::Port(1, 2, false))),
-    (Deliver(1, 2), UP_1),
-    (Deliver(1, 2), UP_1),
-    (Deliver(1, 2), Is(Reply::Empty)),
+const FULL: [Entry; 6] = [
+    ("offer 1 1 0200000000200200000000100800", Frame(1, 0)),
+    ("offer 1 1 0200000000200200000000100800", Frame(1, 1)),
+    ("offer 1 1 0200000000200200000000100800", FrameLost(1, 2)),
+    ("deliver 1 2", UP_1),
+    ("deliver 1 2", UP_1),
+    ("deliver 1 2", Is(Reply::Empty)),
 ];
 
 pub(crate) const FULL_ROW: Row = Row {
@@ -212,19 +211,19 @@ fn what_a_full_cable_hands_back_is_lost(rt: HostRuntime) -> Result<(), WorldFaul
     runs(&rt, rt.alloc(), &FULL_ROW, Some(2), 0)
 }
 
-const NARROW: [(Entry, Want); 12] = [
-    (Offer(1, 1, &F48), Is(Reply::Port(1, 0, true))),
-    (Offer(1, 1, &F48), Is(Reply::Port(1, 1, false))),
+const NARROW: [Entry; 12] = [
+    ("offer 1 1 0200000000200200000000100800", Frame(1, 0)),
+    ("offer 1 1 0200000000200200000000100800", FrameLost(1, 1)),
     MOVED,
-    (Emit(1, 1), LacpduLost(0x3d)),
-    (Emit(1, 1), Is(Reply::Marker(1, false))),
-    (Deliver(1, 2), UP_1),
-    (Tick(1, 30), TICKED),
-    (Emit(1, 1), Is(Reply::Marker(2, true))),
-    (Deliver(1, 2), Is(Reply::Responded(true))),
-    (Deliver(1, 1), Is(Reply::Released(1))),
-    (Offer(1, 1, &F48), Is(Reply::Port(2, 2, true))),
-    (Deliver(2, 2), UP_1),
+    ("emit 1 1", LacpduLost(0x3d)),
+    ("emit 1 1", Is(Reply::Marker(1, false))),
+    ("deliver 1 2", UP_1),
+    ("tick 1 30", TICKED),
+    ("emit 1 1", Is(Reply::Marker(2, true))),
+    ("deliver 1 2", Is(Reply::Responded(true))),
+    ("deliver 1 1", Is(Reply::Released(1))),
+    ("offer 1 1 0200000000200200000000100800", Frame(2, 2)),
+    ("deliver 2 2", UP_1),
 ];
 
 pub(crate) const NARROW_ROW: Row = Row {
@@ -246,24 +245,27 @@ fn a_full_cable_hands_back_a_marker(rt: HostRuntime) -> Result<(), WorldFault> {
     runs(&rt, rt.alloc(), &NARROW_ROW, Some(1), 0)
 }
 
-/// A data frame of conversation 304 if there are 4096 of them, and of conversation 48 if there are 256.
-const F304: [u8; 14] = [2, 0, 0, 0, 1, 0x20, 2, 0, 0, 0, 0, 0x10, 8, 0];
-
 const UNKNOWN: Want = Is(Reply::Refused(SystemFault::NotAssigned));
 
 /// `TWO`, with 4096 conversations in each aggregator of system 1.
-const WIDE: Setting = Setting {
-    conversations: 4096,
-    ..TWO
-};
+const WIDE: Setting = &[
+    SYSTEM_1,
+    "conversations = 4096\n",
+    LONG_PORTS,
+    SYSTEM_2,
+    LONG_PORTS,
+    CABLE_1,
+    CABLE_2,
+];
 
-const APART: [(Entry, Want); 6] = [
-    (Offer(1, 1, &F304), Is(Reply::Port(1, 0, true))),
-    (Offer(1, 1, &F48), Is(Reply::Port(1, 0, true))),
-    (Move(1, 1, 304, 2), Is(Reply::Moved)),
-    (Offer(1, 1, &F304), HELD),
-    (Offer(1, 1, &F48), Is(Reply::Port(1, 1, true))),
-    (Move(1, 1, 4096, 2), UNKNOWN),
+/// The first frame is of conversation 304 if there are 4096 of them, and of conversation 48 if there are 256: octets 4 and 5 count.
+const APART: [Entry; 6] = [
+    ("offer 1 1 0200000001200200000000100800", Frame(1, 0)),
+    ("offer 1 1 0200000000200200000000100800", Frame(1, 0)),
+    ("move 1 1 304 2", Is(Reply::Moved)),
+    ("offer 1 1 0200000001200200000000100800", HELD),
+    ("offer 1 1 0200000000200200000000100800", Frame(1, 1)),
+    ("move 1 1 4096 2", UNKNOWN),
 ];
 
 const APART_ROW: Row = Row {
@@ -289,10 +291,10 @@ const APART_ROW: Row = Row {
     ],
 };
 
-const TOGETHER: [(Entry, Want); 3] = [
-    (Offer(1, 1, &F304), Is(Reply::Port(1, 0, true))),
-    (Offer(1, 1, &F48), Is(Reply::Port(1, 1, true))),
-    (Move(1, 1, 304, 2), UNKNOWN),
+const TOGETHER: [Entry; 3] = [
+    ("offer 1 1 0200000001200200000000100800", Frame(1, 0)),
+    ("offer 1 1 0200000000200200000000100800", Frame(1, 1)),
+    ("move 1 1 304 2", UNKNOWN),
 ];
 
 const TOGETHER_ROW: Row = Row {
@@ -309,18 +311,13 @@ const TOGETHER_ROW: Row = Row {
     }],
 };
 
-/// A data frame of the same conversation of 4096, whose octet 4 has bits above the low four.
-const F304_AGAIN: [u8; 14] = [2, 0, 0, 0, 0xf1, 0x20, 2, 0, 0, 0, 0, 0x10, 8, 0];
-
-/// A data frame from system 2 to system 1, of conversation 304 if there are 4096 of them.
-const BACK: [u8; 14] = [2, 0, 0, 0, 1, 0x10, 2, 0, 0, 0, 0, 0x20, 8, 0];
-
-/// System 2 numbers its frames by its own count.
-const OWN_COUNT: [(Entry, Want); 4] = [
-    (Offer(1, 1, &F304_AGAIN), Is(Reply::Port(1, 0, true))),
-    (Offer(2, 1, &BACK), Is(Reply::Port(1, 0, true))),
-    (Deliver(1, 1), UP_1),
-    (Move(2, 1, 304, 2), UNKNOWN),
+/// System 2 numbers its frames by its own count. The first frame is of conversation 304 too: of octet 4 the low four bits count. The
+/// second one would be, if system 2 had 4096 conversations.
+const OWN_COUNT: [Entry; 4] = [
+    ("offer 1 1 02000000f1200200000000100800", Frame(1, 0)),
+    ("offer 2 1 0200000001100200000000200800", Frame(1, 0)),
+    ("deliver 1 1", UP_1),
+    ("move 2 1 304 2", UNKNOWN),
 ];
 
 const OWN_COUNT_ROW: Row = Row {

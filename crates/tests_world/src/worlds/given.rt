@@ -1,68 +1,100 @@
 ghost use Rattle.std.specs.Prelude.{◌<◌};
 
+use crate::comparing::same;
+use crate::worlds::Entry;
 use cables::{AnyCable, ListCable, RingCable};
-use lagsystem::{Config, PortConfig};
-use lagtypes::{Key, NoMemory, SystemId};
-use lagworld::{WorldConfig, WorldFault};
+use lagscript::{ScriptFault, WorldConfig, read_script};
+use lagtypes::NoMemory;
+use lagworld::{Event, WorldFault};
 use std::alloc::Global;
+use std::process::Abort;
 
-/// How many links each aggregator of system 1 and of system 2 may have; None: any number.
-#[derive(Clone, Copy)]
-pub(crate) struct Limits {
-    pub first: Option<u16>,
-    pub second: Option<u16>,
-}
+/// The tables of a script, as pieces of text: both systems with their ports, and the cables.
+pub(crate) type Setting = &'static [&'static str];
 
-const NO_LIMITS: Limits = Limits {
-    first: None,
-    second: None,
-};
+/// System 1; its ports follow.
+pub(crate) const SYSTEM_1: &str = "
+[[system]]
+mac = \"02-00-00-00-00-01\"
+aggregators = [1]
+";
 
-/// The configuration of two systems. Cable 1 joins their ports 1.
-#[derive(Clone, Copy)]
-pub(crate) struct Setting {
-    /// Whether cable 2 joins ports 2.
-    pub two_cables: bool,
-    /// LACP_Timeout of every port: true for Short Timeout.
-    pub short: bool,
-    /// Aggregation of the ports of system 1: false for Individual.
-    pub aggregatable: bool,
-    /// The identifier of the first marker of system 1.
-    pub first_marker: u32,
-    /// How many conversations each aggregator of system 1 has.
-    pub conversations: u16,
-    pub limits: Limits,
-}
+/// System 2; its ports follow.
+pub(crate) const SYSTEM_2: &str = "
+[[system]]
+mac = \"02-00-00-00-00-02\"
+aggregators = [1]
+";
+
+/// One port with Short Timeout.
+pub(crate) const SHORT_PORT: &str = "port = [{ number = 1, key = 1, short = true }]
+";
+
+/// One port with Long Timeout.
+const LONG_PORT: &str = "port = [{ number = 1, key = 1, short = false }]
+";
+
+/// Two ports with Short Timeout.
+const SHORT_PORTS: &str = "port = [
+    { number = 1, key = 1, short = true },
+    { number = 2, key = 1, short = true },
+]
+";
+
+/// Two ports with Long Timeout.
+pub(crate) const LONG_PORTS: &str = "port = [
+    { number = 1, key = 1, short = false },
+    { number = 2, key = 1, short = false },
+]
+";
+
+/// Two ports with Short Timeout that are Individual.
+const INDIVIDUAL_PORTS: &str = "port = [
+    { number = 1, key = 1, aggregatable = false, short = true },
+    { number = 2, key = 1, aggregatable = false, short = true },
+]
+";
+
+/// A cable that joins ports 1.
+pub(crate) const CABLE_1: &str = "
+[[cable]]
+ends = [1, 1]
+";
+
+/// Then a cable that joins ports 2.
+pub(crate) const CABLE_2: &str = "
+[[cable]]
+ends = [2, 2]
+";
 
 /// One cable between ports with Short Timeout.
-pub(crate) const ONE: Setting = Setting {
-    two_cables: false,
-    short: true,
-    aggregatable: true,
-    first_marker: 1,
-    conversations: 256,
-    limits: NO_LIMITS,
-};
+pub(crate) const ONE: Setting = &[SYSTEM_1, SHORT_PORT, SYSTEM_2, SHORT_PORT, CABLE_1];
+
+/// One cable between ports with Long Timeout.
+pub(crate) const ONE_LONG: Setting = &[SYSTEM_1, LONG_PORT, SYSTEM_2, LONG_PORT, CABLE_1];
 
 /// Two cables between ports with Long Timeout.
-pub(crate) const TWO: Setting = Setting {
-    two_cables: true,
-    short: false,
-    aggregatable: true,
-    first_marker: 1,
-    conversations: 256,
-    limits: NO_LIMITS,
-};
+pub(crate) const TWO: Setting = &[SYSTEM_1, LONG_PORTS, SYSTEM_2, LONG_PORTS, CABLE_1, CABLE_2];
+
+/// Two cables between ports with Short Timeout.
+pub(crate) const TWO_SHORT: Setting = &[
+    SYSTEM_1,
+    SHORT_PORTS,
+    SYSTEM_2,
+    SHORT_PORTS,
+    CABLE_1,
+    CABLE_2,
+];
 
 /// Two cables between ports with Short Timeout; those of system 1 are Individual.
-pub(crate) const INDIVIDUAL: Setting = Setting {
-    two_cables: true,
-    short: true,
-    aggregatable: false,
-    first_marker: 1,
-    conversations: 256,
-    limits: NO_LIMITS,
-};
+pub(crate) const INDIVIDUAL: Setting = &[
+    SYSTEM_1,
+    INDIVIDUAL_PORTS,
+    SYSTEM_2,
+    SHORT_PORTS,
+    CABLE_1,
+    CABLE_2,
+];
 
 /// The distribution algorithm of both systems.
 pub(crate) fn modulo(conv: u16, count: usize) -> usize
@@ -75,80 +107,62 @@ pub(crate) fn modulo(conv: u16, count: usize) -> usize
     }
 }
 
-fn mac(system: u8) -> [u8; 6] {
-    [2, 0, 0, 0, 0, system]
-}
-
-/// A port of key 1.
-fn port(system: u8, number: u16, setting: Setting) -> PortConfig {
-    PortConfig {
-        number,
-        priority: 128,
-        mac: mac(system),
-        key: Key(1),
-        aggregatable: setting.aggregatable || system == 2,
-        active: true,
-        short: setting.short,
-    }
-}
-
-/// A system with one aggregator and these ports.
-pub(crate) fn config(
+/// The text of a script with these tables and events.
+pub(crate) fn script(
     alloc: Global,
-    system: u8,
-    numbers: &[u16],
     setting: Setting,
-) -> Result<Config, NoMemory> {
-    let mut ports = Vec::new(alloc);
-    for number in numbers {
-        ports.push(port(system, *number, setting))?;
+    entries: &[Entry],
+) -> Result<String, NoMemory> {
+    let mut text = String::new(alloc);
+    text.push_str("events = [")?;
+    for (event, _) in entries {
+        text.push_str("\"")?;
+        text.push_str(*event)?;
+        text.push_str("\", ")?;
     }
-    Ok(Config {
-        system: SystemId {
-            priority: 32768,
-            mac: mac(system),
-        },
-        max_delay: 0,
-        first_marker: if system == 1 { setting.first_marker } else { 1 },
-        conversations: if system == 1 {
-            setting.conversations
-        } else {
-            256
-        },
-        aggregators: Vec::from_slice(alloc, &[Key(1)])?,
-        max_links: if system == 1 {
-            setting.limits.first
-        } else {
-            setting.limits.second
-        },
-        ports,
-    })
+    text.push_str("]")?;
+    for piece in setting {
+        text.push_str(*piece)?;
+    }
+    Ok(text)
 }
 
-/// System 1, the system with this number, and cables between these ports of theirs.
-pub(crate) fn joined(
+/// The systems and cables of a script with these tables, and its events. Fails where the script is refused.
+pub(crate) fn read(
+    rt: &impl Abort,
     alloc: Global,
-    number: u8,
-    first: &[u16],
-    second: &[u16],
-    cables: &[(u16, u16)],
     setting: Setting,
-) -> Result<WorldConfig, NoMemory> {
-    let cables = Vec::from_slice(alloc, cables)?;
-    let one = config(alloc, 1, first, setting)?;
-    let two = config(alloc, number, second, setting)?;
-    Ok(WorldConfig {
-        systems: [one, two],
-        cables,
-    })
+    entries: &[Entry],
+) -> Result<(WorldConfig, Vec<Event>), WorldFault> {
+    let text = script(alloc, setting, entries)?;
+    match read_script(alloc, text.as_str()) {
+        Ok(read) => Ok(read),
+        Err(fault) => {
+            same(rt, "the script", &fault, &ScriptFault::NoMemory);
+            Err(WorldFault::NoMemory)
+        }
+    }
 }
 
-pub(crate) fn world_config(alloc: Global, setting: Setting) -> Result<WorldConfig, NoMemory> {
-    if setting.two_cables {
-        joined(alloc, 2, &[1, 2], &[1, 2], &[(1, 1), (2, 2)], setting)
-    } else {
-        joined(alloc, 2, &[1], &[1], &[(1, 1)], setting)
-    }
+/// The systems and cables of a script with these tables.
+pub(crate) fn world_config(
+    rt: &impl Abort,
+    alloc: Global,
+    setting: Setting,
+) -> Result<WorldConfig, WorldFault> {
+    let (config, _) = read(rt, alloc, setting, &[])?;
+    Ok(config)
+}
+
+/// The events of a script with these tables.
+pub(crate) fn events(
+    rt: &impl Abort,
+    alloc: Global,
+    setting: Setting,
+    entries: &[Entry],
+) -> Result<Vec<Event>, WorldFault> {
+    let (_, events) = read(rt, alloc, setting, entries)?;
+    Ok(events)
 }
 
 pub(crate) fn cable(alloc: Global, limit: Option<u16>) -> Result<AnyCable, WorldFault> {

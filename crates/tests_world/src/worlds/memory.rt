@@ -1,7 +1,7 @@
 use crate::comparing::same;
 use crate::worlds::conversations::MOVES_ROW;
-use crate::worlds::given::{lines, modulo, world_config};
-use crate::worlds::{Row, compare_all, compare_run, entries, events, tells};
+use crate::worlds::given::{lines, modulo, read, world_config};
+use crate::worlds::{Row, compare_all, compare_run, entries, tells};
 use cables::AnyCable;
 use lagsystem::System;
 use lagtypes::AggId;
@@ -129,8 +129,7 @@ fn same_world<F: Fn(u16, usize) -> usize + Drop>(
 /// run after them.
 fn resumes(rt: &impl Abort, alloc: Global, row: &Row) -> Result<(), WorldFault> {
     let entries = entries(alloc, row)?;
-    let events = events(alloc, &entries)?;
-    let config = world_config(alloc, row.setting)?;
+    let (config, events) = read(rt, alloc, row.setting, &entries)?;
     let ends = lines(alloc, config.cables.len(), None)?;
     let mut world = World::new(alloc, config, modulo, modulo, ends)?;
     match world.run(&events) {
@@ -138,7 +137,7 @@ fn resumes(rt: &impl Abort, alloc: Global, row: &Row) -> Result<(), WorldFault> 
         Err(stop) => {
             same(rt, "fault", &stop.fault, &WorldFault::NoMemory);
             let done = stop.done.min(events.len()).min(entries.len());
-            let config = world_config(alloc, row.setting)?;
+            let config = world_config(rt, alloc, row.setting)?;
             let ends = lines(alloc, config.cables.len(), None)?;
             let mut twin = World::new(alloc, config, modulo, modulo, ends)?;
             compare_run(rt, 0, &entries[..done], twin.run(&events[..done]));

@@ -1,16 +1,12 @@
-use crate::comparing::{same, same_in_row};
-use crate::worlds::Entry::{
-    Configure, Cut, Deliver, Emit, Force, Join, Lose, Move, Offer, Repeat, Restart, Sense, Tick,
-};
-use crate::worlds::Want::Is;
-use crate::worlds::given::{INDIVIDUAL, ONE, TWO, cable, joined, lines, modulo, world_config};
+use crate::comparing::{same, same_at};
+use crate::worlds::Want::{Frame, Is};
+use crate::worlds::given::{INDIVIDUAL, ONE, TWO, cable, lines, modulo, read, world_config};
+use crate::worlds::joined::joined;
 use crate::worlds::starts::{COMING_UP, HELD, LINK_UP, NONE_DISTRIBUTING, TICKED, UP_1};
-use crate::worlds::{
-    Entry, F48, Flow, Row, Want, compare_run, entries, event, events, plays, tells,
-};
+use crate::worlds::{Entry, Flow, Row, Want, compare_run, entries, plays, tells};
 use cables::{AnyCable, Cable, Item, Stamp};
-use lagsystem::{BadConfig, SystemFault};
-use lagtypes::AggId;
+use lagsystem::{BadConfig, PortChange, SystemFault};
+use lagtypes::{AggId, Key};
 use lagworld::{Agreement, BadWorld, Event, Reply, RunFault, World, WorldFault};
 use std::alloc::Global;
 use std::process::Abort;
@@ -95,14 +91,7 @@ const GIVEN: [Given; 7] = [
 
 /// Why no world can be made of this; None if one can.
 fn refusal(alloc: Global, given: Given) -> Result<Option<WorldFault>, WorldFault> {
-    let config = joined(
-        alloc,
-        given.number,
-        given.first,
-        given.second,
-        given.cables,
-        ONE,
-    )?;
+    let config = joined(alloc, given.number, given.first, given.second, given.cables)?;
     let lines = lines(alloc, given.lines, None)?;
     match World::new(alloc, config, modulo, modulo, lines) {
         Ok(_) => Ok(None),
@@ -112,7 +101,7 @@ fn refusal(alloc: Global, given: Given) -> Result<Option<WorldFault>, WorldFault
 
 fn refuses(rt: &impl Abort, alloc: Global, place: usize, given: &Given) -> Result<(), WorldFault> {
     let wanted = Some(WorldFault::BadConfig(given.reason));
-    same_in_row(rt, place, &refusal(alloc, *given)?, &wanted);
+    same_at(rt, "row", place, &refusal(alloc, *given)?, &wanted);
     Ok(())
 }
 
@@ -149,8 +138,12 @@ fn line(alloc: Global, full: (bool, bool)) -> Result<Vec<(AnyCable, AnyCable)>, 
 }
 
 /// Why no world can be made with this line.
-fn line_refusal(alloc: Global, full: (bool, bool)) -> Result<Option<WorldFault>, WorldFault> {
-    let config = world_config(alloc, ONE)?;
+fn line_refusal(
+    rt: &impl Abort,
+    alloc: Global,
+    full: (bool, bool),
+) -> Result<Option<WorldFault>, WorldFault> {
+    let config = world_config(rt, alloc, ONE)?;
     let lines = line(alloc, full)?;
     match World::new(alloc, config, modulo, modulo, lines) {
         Ok(_) => Ok(None),
@@ -165,7 +158,7 @@ fn is_refused(
     full: (bool, bool),
     wanted: Option<WorldFault>,
 ) -> Result<(), WorldFault> {
-    same(rt, "new", &line_refusal(alloc, full)?, &wanted);
+    same(rt, "new", &line_refusal(rt, alloc, full)?, &wanted);
     Ok(())
 }
 
@@ -177,34 +170,42 @@ fn a_line_with_an_item_is_refused(rt: HostRuntime) -> Result<(), WorldFault> {
     is_refused(&rt, rt.alloc(), (false, true), wanted)
 }
 
-const NOT_THERE: [(Entry, WorldFault); 17] = [
-    (Cut(0), WorldFault::NoCable),
-    (Join(2), WorldFault::NoCable),
-    (Deliver(2, 3), WorldFault::NoCable),
-    (Deliver(1, 3), WorldFault::NoSystem),
-    (Lose(2, 1), WorldFault::NoCable),
-    (Lose(1, 0), WorldFault::NoSystem),
-    (Repeat(0, 2), WorldFault::NoCable),
-    (Repeat(1, 3), WorldFault::NoSystem),
-    (Sense(2, 1), WorldFault::NoCable),
-    (Sense(1, 0), WorldFault::NoSystem),
-    (Tick(0, 1), WorldFault::NoSystem),
-    (Emit(3, 1), WorldFault::NoSystem),
-    (Restart(3), WorldFault::NoSystem),
-    (Configure(0, 1, 1, true), WorldFault::NoSystem),
-    (Offer(3, 1, &F48), WorldFault::NoSystem),
-    (Move(0, 1, 48, 1), WorldFault::NoSystem),
-    (Force(3, 1, 48), WorldFault::NoSystem),
-];
+/// Events of which each names a system or a cable that does not exist, and why they are refused. No script has them.
+fn events_not_there(alloc: Global) -> [(Event, WorldFault); 17] {
+    let agg = AggId(1);
+    let change = PortChange {
+        key: Key(1),
+        priority: 128,
+        aggregatable: true,
+    };
+    [
+        (Event::Cut(0), WorldFault::NoCable),
+        (Event::Join(2), WorldFault::NoCable),
+        (Event::Deliver(2, 3), WorldFault::NoCable),
+        (Event::Deliver(1, 3), WorldFault::NoSystem),
+        (Event::Lose(2, 1), WorldFault::NoCable),
+        (Event::Lose(1, 0), WorldFault::NoSystem),
+        (Event::Repeat(0, 2), WorldFault::NoCable),
+        (Event::Repeat(1, 3), WorldFault::NoSystem),
+        (Event::Sense(2, 1), WorldFault::NoCable),
+        (Event::Sense(1, 0), WorldFault::NoSystem),
+        (Event::Tick(0, 1), WorldFault::NoSystem),
+        (Event::Emit(3, 1), WorldFault::NoSystem),
+        (Event::Restart(3), WorldFault::NoSystem),
+        (Event::Configure(0, 1, change), WorldFault::NoSystem),
+        (Event::Offer(3, agg, Vec::new(alloc)), WorldFault::NoSystem),
+        (Event::Move(0, agg, 48, 1), WorldFault::NoSystem),
+        (Event::Force(3, agg, 48), WorldFault::NoSystem),
+    ]
+}
 
-/// Plays each event by `step` in one world; each names a system or a cable that does not exist.
+/// Plays each of these events by `step` in one world.
 fn not_there(rt: &impl Abort, alloc: Global) -> Result<(), WorldFault> {
-    let config = world_config(alloc, ONE)?;
+    let config = world_config(rt, alloc, ONE)?;
     let lines = lines(alloc, 1, None)?;
     let mut world = World::new(alloc, config, modulo, modulo, lines)?;
-    for (place, (entry, fault)) in NOT_THERE.iter().enumerate() {
-        let came = world.step(&event(alloc, *entry)?);
-        same_in_row(rt, place, &came, &Err(*fault));
+    for (place, (event, fault)) in events_not_there(alloc).iter().enumerate() {
+        same_at(rt, "row", place, &world.step(event), &Err(*fault));
     }
     Ok(())
 }
@@ -215,23 +216,22 @@ fn events_of_what_does_not_exist(rt: HostRuntime) -> Result<(), WorldFault> {
 }
 
 /// The third event names a cable that does not exist.
-const STOPPING: [(Entry, Want); 4] = [
-    (Tick(1, 0), TICKED),
-    (Cut(1), Is(Reply::Cut)),
-    (Cut(2), Is(Reply::Cut)),
-    (Join(1), Is(Reply::Joined)),
+const STOPPING: [Event; 4] = [
+    Event::Tick(1, 0),
+    Event::Cut(1),
+    Event::Cut(2),
+    Event::Join(1),
 ];
 
 fn stops(rt: &impl Abort, alloc: Global) -> Result<(), WorldFault> {
-    let config = world_config(alloc, ONE)?;
+    let config = world_config(rt, alloc, ONE)?;
     let lines = lines(alloc, 1, None)?;
     let mut world = World::new(alloc, config, modulo, modulo, lines)?;
-    let events = events(alloc, &STOPPING)?;
     let stop = RunFault {
         done: 2,
         fault: WorldFault::NoCable,
     };
-    same(rt, "run", &world.run(&events).err(), &Some(stop));
+    same(rt, "run", &world.run(&STOPPING).err(), &Some(stop));
     let sensed = world.step(&Event::Sense(1, 1));
     same(rt, "step", &sensed, &Ok(Reply::Sensed(false)));
     Ok(())
@@ -242,50 +242,48 @@ fn a_run_stops_at_the_first_fault(rt: HostRuntime) -> Result<(), WorldFault> {
     stops(&rt, rt.alloc())
 }
 
-/// The first 13 octets of `F48`.
-const SHORT: [u8; 13] = [2, 0, 0, 0, 0, 0x20, 2, 0, 0, 0, 0, 0x10, 8];
-
-const SLOW: [u8; 14] = [1, 0x80, 0xc2, 0, 0, 2, 2, 0, 0, 0, 0, 1, 0x88, 9];
-
-/// What a system refuses as long as no port distributes.
-const EARLY: [(Entry, Want); 10] = [
-    (Sense(1, 1), LINK_UP),
-    (Sense(2, 1), LINK_UP),
-    (Emit(1, 9), Is(Reply::Refused(SystemFault::NoPort))),
+/// What a system refuses as long as no port distributes: a frame of 13 octets and one of the slow protocols are among it.
+const EARLY: [Entry; 10] = [
+    ("sense 1 1", LINK_UP),
+    ("sense 2 1", LINK_UP),
+    ("emit 1 9", Is(Reply::Refused(SystemFault::NoPort))),
     (
-        Configure(1, 9, 1, true),
+        "configure 1 9 1 128 aggregatable",
         Is(Reply::Refused(SystemFault::NoPort)),
     ),
-    (Configure(1, 1, 1, false), Is(Reply::Configured(false))),
     (
-        Offer(1, 2, &F48),
+        "configure 1 1 1 128 individual",
+        Is(Reply::Configured(false)),
+    ),
+    (
+        "offer 1 2 0200000000200200000000100800",
         Is(Reply::Refused(SystemFault::NoAggregator)),
     ),
     (
-        Offer(1, 1, &SHORT),
+        "offer 1 1 02000000002002000000001008",
         Is(Reply::Refused(SystemFault::FrameLength)),
     ),
     (
-        Offer(1, 1, &SLOW),
+        "offer 1 1 0180c20000020200000000018809",
         Is(Reply::Refused(SystemFault::SlowFrame)),
     ),
-    (Offer(1, 1, &F48), NONE_DISTRIBUTING),
-    (
-        Force(1, 1, 48),
-        Is(Reply::Refused(SystemFault::NotAssigned)),
-    ),
+    ("offer 1 1 0200000000200200000000100800", NONE_DISTRIBUTING),
+    ("force 1 1 48", Is(Reply::Refused(SystemFault::NotAssigned))),
 ];
 
-const LATE: [(Entry, Want); 6] = [
-    (Tick(1, 50), TICKED),
-    (Offer(1, 1, &F48), Is(Reply::Port(1, 0, true))),
-    (Move(1, 1, 48, 1), Is(Reply::Refused(SystemFault::SamePort))),
+const LATE: [Entry; 6] = [
+    ("tick 1 50", TICKED),
+    ("offer 1 1 0200000000200200000000100800", Frame(1, 0)),
+    ("move 1 1 48 1", Is(Reply::Refused(SystemFault::SamePort))),
     (
-        Move(1, 1, 48, 2),
+        "move 1 1 48 2",
         Is(Reply::Refused(SystemFault::NotDistributing)),
     ),
-    (Configure(1, 1, 2, false), Is(Reply::Configured(true))),
-    (Offer(1, 1, &F48), HELD),
+    (
+        "configure 1 1 2 128 individual",
+        Is(Reply::Configured(true)),
+    ),
+    ("offer 1 1 0200000000200200000000100800", HELD),
 ];
 
 const REFUSED_ROW: Row = Row {
@@ -314,17 +312,14 @@ const NO_FLOWS: [(u8, u16, u16); 9] = [
     (2, 1, 304),
 ];
 
-/// A frame of conversation 48 of system 2.
-const BACK: [u8; 14] = [2, 0, 0, 0, 0, 0x10, 2, 0, 0, 0, 0, 0x20, 8, 0];
-
 /// Each system sends a frame of conversation 48, which the other collects, and then the conversation is forced.
-const FORCED: [(Entry, Want); 6] = [
-    (Offer(1, 1, &F48), Is(Reply::Port(1, 0, true))),
-    (Offer(2, 1, &BACK), Is(Reply::Port(1, 0, true))),
-    (Deliver(1, 1), UP_1),
-    (Deliver(1, 2), UP_1),
-    (Force(1, 1, 48), Is(Reply::Forced)),
-    (Force(2, 1, 48), Is(Reply::Forced)),
+const FORCED: [Entry; 6] = [
+    ("offer 1 1 0200000000200200000000100800", Frame(1, 0)),
+    ("offer 2 1 0200000000100200000000200800", Frame(1, 0)),
+    ("deliver 1 1", UP_1),
+    ("deliver 1 2", UP_1),
+    ("force 1 1 48", Is(Reply::Forced)),
+    ("force 2 1 48", Is(Reply::Forced)),
 ];
 
 const FORCED_ROW: Row = Row {
@@ -369,15 +364,14 @@ fn tells_no_flow<F: Fn(u16, usize) -> usize + Drop>(
 fn tells_systems<F: Fn(u16, usize) -> usize + Drop>(rt: &impl Abort, world: &World<AnyCable, F>) {
     for (place, there) in [false, true, true, false].iter().enumerate() {
         let number = place as u8;
-        same_in_row(rt, place, &world.system(number).is_some(), there);
+        same_at(rt, "system", place, &world.system(number).is_some(), there);
     }
 }
 
 /// Plays the row, and asks for what does not exist.
 fn nothing_told(rt: &impl Abort, alloc: Global) -> Result<(), WorldFault> {
     let entries = entries(alloc, &FORCED_ROW)?;
-    let events = events(alloc, &entries)?;
-    let config = world_config(alloc, TWO)?;
+    let (config, events) = read(rt, alloc, TWO, &entries)?;
     let lines = lines(alloc, 2, None)?;
     let mut world = World::new(alloc, config, modulo, modulo, lines)?;
     compare_run(rt, 0, &entries, world.run(&events));
@@ -407,7 +401,7 @@ const NUMBERS: [(WorldFault, u8); 5] = [
 #[test]
 fn each_fault_has_its_number(rt: HostRuntime) {
     for (place, (fault, number)) in NUMBERS.iter().enumerate() {
-        same_in_row(&rt, place, &fault.number(), number);
+        same_at(&rt, "row", place, &fault.number(), number);
     }
 }
 
@@ -425,6 +419,6 @@ fn refusals_of_an_event_come_in_order(rt: HostRuntime) {
     ];
     for (place, (cable, system, spent, expected)) in cases.iter().enumerate() {
         let first = WorldFault::first_of_event(*cable, *system, *spent);
-        same_in_row(&rt, place, &first, expected);
+        same_at(&rt, "row", place, &first, expected);
     }
 }

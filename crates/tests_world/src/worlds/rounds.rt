@@ -1,38 +1,31 @@
-use crate::worlds::Entry::{Cut, Emit, Join, Sense, Tick};
 use crate::worlds::Want::Lacpdu;
-use crate::worlds::given::{ONE, Setting, TWO, lines, modulo, world_config};
+use crate::worlds::given::{ONE, ONE_LONG, Setting, events, lines, modulo, world_config};
 use crate::worlds::starts::{LINK_DOWN, LINK_UP, ONE_CABLE, TICKED};
-use crate::worlds::{Entry, Want, events};
+use crate::worlds::{Entry, Want};
 use lagprogress::play_rounds;
 use lagworld::{Agreement, Reply, World, WorldFault};
 use std::alloc::Global;
 use std::process::Abort;
 use std::test::Fail;
 
-/// One cable between ports with Long Timeout.
-const LONG: Setting = Setting {
-    two_cables: false,
-    ..TWO
-};
-
 /// Both links are up, and nothing was sent.
-const STARTED: [(Entry, Want); 2] = [(Sense(1, 1), LINK_UP), (Sense(1, 2), LINK_UP)];
+const STARTED: [Entry; 2] = [("sense 1 1", LINK_UP), ("sense 1 2", LINK_UP)];
 
 /// After that both ends run on defaults, and an LACPDU is on the cable.
-const ON_DEFAULTS: [(Entry, Want); 5] = [
-    (Sense(1, 1), LINK_UP),
-    (Sense(1, 2), LINK_UP),
-    (Tick(1, 60), TICKED),
-    (Tick(2, 60), TICKED),
-    (Emit(1, 1), Lacpdu(0x47)),
+const ON_DEFAULTS: [Entry; 5] = [
+    ("sense 1 1", LINK_UP),
+    ("sense 1 2", LINK_UP),
+    ("tick 1 60", TICKED),
+    ("tick 2 60", TICKED),
+    ("emit 1 1", Lacpdu(0x47)),
 ];
 
 /// The cable is cut, of which system 1 alone is told, and is whole again.
-const MENDED: [(Entry, Want); 4] = [
-    (Cut(1), Want::Is(Reply::Cut)),
-    (Sense(1, 1), LINK_DOWN),
-    (Join(1), Want::Is(Reply::Joined)),
-    (Sense(1, 1), LINK_UP),
+const MENDED: [Entry; 4] = [
+    ("cut 1", Want::Is(Reply::Cut)),
+    ("sense 1 1", LINK_DOWN),
+    ("join 1", Want::Is(Reply::Joined)),
+    ("sense 1 1", LINK_UP),
 ];
 
 /// Both ends distribute and agree after so many healthy rounds, whatever was before them. The replies to that are not looked at.
@@ -41,14 +34,14 @@ fn comes_up(
     rt: &impl Abort,
     alloc: Global,
     setting: Setting,
-    before: [&[(Entry, Want)]; 2],
+    before: [&[Entry]; 2],
     rounds: u16,
 ) -> Result<(), WorldFault> {
-    let config = world_config(alloc, setting)?;
+    let config = world_config(rt, alloc, setting)?;
     let lines = lines(alloc, 1, None)?;
     let mut world = World::new(alloc, config, modulo, modulo, lines)?;
     for entries in before {
-        let events = events(alloc, entries)?;
+        let events = events(rt, alloc, setting, entries)?;
         assert!(rt; world.run(&events).is_ok(), "before the rounds");
     }
     assert_eq!(rt; play_rounds(&mut world, rounds), Ok(()), "the rounds");
@@ -65,7 +58,7 @@ fn comes_up(
 
 #[test]
 fn a_link_comes_up_in_352_healthy_rounds(rt: HostRuntime) -> Result<(), Fail> {
-    comes_up(&rt, rt.alloc(), LONG, [&STARTED, &[]], 352)?;
+    comes_up(&rt, rt.alloc(), ONE_LONG, [&STARTED, &[]], 352)?;
     comes_up(&rt, rt.alloc(), ONE, [&ON_DEFAULTS, &[]], 352)?;
     comes_up(&rt, rt.alloc(), ONE, [&ONE_CABLE, &MENDED], 352)?;
     Ok(())
@@ -73,7 +66,7 @@ fn a_link_comes_up_in_352_healthy_rounds(rt: HostRuntime) -> Result<(), Fail> {
 
 #[test]
 fn a_link_stays_up_in_more_healthy_rounds(rt: HostRuntime) -> Result<(), Fail> {
-    comes_up(&rt, rt.alloc(), LONG, [&STARTED, &[]], 353)?;
+    comes_up(&rt, rt.alloc(), ONE_LONG, [&STARTED, &[]], 353)?;
     comes_up(&rt, rt.alloc(), ONE, [&ONE_CABLE, &MENDED], 662)?;
     Ok(())
 }

@@ -1,88 +1,42 @@
-use crate::worlds::conversations::MOVES_ROW;
-use crate::worlds::given::world_config;
-use crate::worlds::{entries, events};
+use crate::worlds::Entry;
+use crate::worlds::Want::Is;
+use crate::worlds::given::{TWO, script};
+use crate::worlds::joined::joined;
+use crate::worlds::starts::{LINK_UP, MOVED, TICKED, UP_1};
 use lagscript::read_script;
+use lagtypes::AggId;
+use lagworld::{Event, Reply};
 use std::alloc::{AllocError, Global};
 
-/// Two cables come up, and a conversation moves.
-const MOVE: &str = r#"events = [
-    "sense 1 1",
-    "sense 1 2",
-    "sense 2 1",
-    "sense 2 2",
-    "tick 1 10",
-    "tick 2 10",
-    "emit 1 1",
-    "emit 1 2",
-    "deliver 1 2",
-    "deliver 2 2",
-    "emit 2 1",
-    "emit 2 2",
-    "deliver 1 1",
-    "deliver 2 1",
-    "tick 1 20",
-    "tick 2 20",
-    "emit 1 1",
-    "emit 1 2",
-    "deliver 1 2",
-    "deliver 2 2",
-    "emit 2 1",
-    "emit 2 2",
-    "deliver 1 1",
-    "deliver 2 1",
-    "offer 1 1 0200000000200200000000100800",
-    "offer 1 1 0200000000200200000000100800",
-    "offer 1 1 0200000000200200000000100800",
-    "move 1 1 48 2",
-    "offer 1 1 0200000000200200000000100800",
-    "emit 1 1",
-    "emit 1 1",
-    "deliver 1 2",
-    "deliver 1 2",
-    "deliver 1 2",
-    "deliver 1 2",
-    "deliver 1 2",
-    "offer 1 1 0200000000200200000000100800",
-    "deliver 1 1",
-    "offer 1 1 0200000000200200000000100800",
-    "deliver 2 2",
-]
-[[system]]
-mac = "02-00-00-00-00-01"
-aggregators = [1]
-[[system.port]]
-number = 1
-key = 1
-short = false
-[[system.port]]
-number = 2
-key = 1
-short = false
-[[system]]
-mac = "02-00-00-00-00-02"
-aggregators = [1]
-[[system.port]]
-number = 1
-key = 1
-short = false
-[[system.port]]
-number = 2
-key = 1
-short = false
-[[cable]]
-ends = [1, 1]
-[[cable]]
-ends = [2, 2]
-"#;
+const ENTRIES: [Entry; 5] = [
+    ("sense 2 1", LINK_UP),
+    ("tick 1 10", TICKED),
+    ("offer 1 1 02ff", Is(Reply::Nothing)),
+    MOVED,
+    ("deliver 1 2", UP_1),
+];
+
+/// The events of `ENTRIES` as values.
+fn events(alloc: Global) -> Result<Vec<Event>, AllocError> {
+    let mut events = Vec::new(alloc);
+    let offered = Vec::from_slice(alloc, &[2, 0xff])?;
+    events.push(Event::Sense(2, 1))?;
+    events.push(Event::Tick(1, 10))?;
+    events.push(Event::Offer(1, AggId(1), offered))?;
+    events.push(Event::Move(1, AggId(1), 48, 2))?;
+    events.push(Event::Deliver(1, 2))?;
+    Ok(events)
+}
 
 /// The text of what is read from the script, and the text of the expected configuration and events.
 fn readings(alloc: Global) -> Result<(String, String), AllocError> {
-    let came = match read_script(alloc, MOVE) {
+    let text = script(alloc, TWO, &ENTRIES)?;
+    let came = match read_script(alloc, text.as_str()) {
         Ok((config, events)) => format!(in alloc; "{config:?} {events:?}")?,
         Err(fault) => format!(in alloc; "{fault}")?,
     };
-    let config = world_config(alloc, MOVES_ROW.setting)?;
-    let events = events(alloc, &entries(alloc, &MOVES_ROW)?)?;
+    let config = joined(alloc, 2, &[1, 2], &[1, 2], &[(1, 1), (2, 2)])?;
+    let events = events(alloc)?;
     Ok((came, format!(in alloc; "{config:?} {events:?}")?))
 }
 

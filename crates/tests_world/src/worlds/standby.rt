@@ -1,9 +1,10 @@
-use crate::comparing::same_in_row;
-use crate::worlds::Entry::{Cut, Deliver, Emit, Join, Offer, Sense, Tick};
-use crate::worlds::Want::{Is, Lacpdu};
-use crate::worlds::given::{Limits, Setting, TWO, lines, modulo, world_config};
+use crate::comparing::same_at;
+use crate::worlds::Want::{Frame, Is, Lacpdu};
+use crate::worlds::given::{
+    CABLE_1, CABLE_2, LONG_PORTS, SYSTEM_1, SYSTEM_2, Setting, lines, modulo, read,
+};
 use crate::worlds::starts::{LINK_DOWN, LINK_UP, TICKED, TOOK, UP_1};
-use crate::worlds::{Entry, F48, Flow, Row, Want, compare_run, entries, events, tells};
+use crate::worlds::{Entry, Flow, Row, Want, compare_run, entries, tells};
 use cables::AnyCable;
 use lagsystem::Choice;
 use lagtypes::AggId;
@@ -19,80 +20,71 @@ const NOTHING: Want = Is(Reply::Nothing);
 
 const EMPTY: Want = Is(Reply::Empty);
 
+/// An aggregator of the system before this may have one link.
+const LIMITED: &str = "max_links = 1\n";
+
 /// Two cables between ports with Long Timeout. In both systems an aggregator may have one link.
-const BOTH_LIMITED: Setting = Setting {
-    limits: Limits {
-        first: Some(1),
-        second: Some(1),
-    },
-    ..TWO
-};
+const BOTH_LIMITED: Setting = &[
+    SYSTEM_1, LIMITED, LONG_PORTS, SYSTEM_2, LIMITED, LONG_PORTS, CABLE_1, CABLE_2,
+];
 
 /// A limit of one link in system 1 only.
-const FIRST_LIMITED: Setting = Setting {
-    limits: Limits {
-        first: Some(1),
-        second: None,
-    },
-    ..TWO
-};
+const FIRST_LIMITED: Setting = &[
+    SYSTEM_1, LIMITED, LONG_PORTS, SYSTEM_2, LONG_PORTS, CABLE_1, CABLE_2,
+];
 
 /// A limit of one link in system 2 only.
-const SECOND_LIMITED: Setting = Setting {
-    limits: Limits {
-        first: None,
-        second: Some(1),
-    },
-    ..TWO
-};
+const SECOND_LIMITED: Setting = &[
+    SYSTEM_1, LONG_PORTS, SYSTEM_2, LIMITED, LONG_PORTS, CABLE_1, CABLE_2,
+];
 
 /// Both cables come up, and each end hears the other.
-const HEARD: [(Entry, Want); 16] = [
-    (Sense(1, 1), LINK_UP),
-    (Sense(1, 2), LINK_UP),
-    (Sense(2, 1), LINK_UP),
-    (Sense(2, 2), LINK_UP),
-    (Tick(1, 10), TICKED),
-    (Tick(2, 10), TICKED),
-    (Emit(1, 1), Lacpdu(0xc5)),
-    (Emit(1, 2), Lacpdu(0xc5)),
-    (Deliver(1, 2), TOOK),
-    (Deliver(2, 2), TOOK),
-    (Emit(2, 1), Lacpdu(0x05)),
-    (Emit(2, 2), Lacpdu(0x05)),
-    (Deliver(1, 1), TOOK),
-    (Deliver(2, 1), TOOK),
-    (Tick(1, 20), TICKED),
-    (Tick(2, 20), TICKED),
+const HEARD: [Entry; 16] = [
+    ("sense 1 1", LINK_UP),
+    ("sense 1 2", LINK_UP),
+    ("sense 2 1", LINK_UP),
+    ("sense 2 2", LINK_UP),
+    ("tick 1 10", TICKED),
+    ("tick 2 10", TICKED),
+    ("emit 1 1", Lacpdu(0xc5)),
+    ("emit 1 2", Lacpdu(0xc5)),
+    ("deliver 1 2", TOOK),
+    ("deliver 2 2", TOOK),
+    ("emit 2 1", Lacpdu(0x05)),
+    ("emit 2 2", Lacpdu(0x05)),
+    ("deliver 1 1", TOOK),
+    ("deliver 2 1", TOOK),
+    ("tick 1 20", TICKED),
+    ("tick 2 20", TICKED),
 ];
 
 /// Cable 1 carries frames until it is cut, then cable 2 does; cable 1 comes back, and its ports are STANDBY.
-const BOTH: [(Entry, Want); 25] = [
-    (Emit(1, 1), Lacpdu(0x0d)),
-    (Emit(1, 2), NOTHING),
-    (Deliver(1, 2), TOOK),
-    (Deliver(2, 2), EMPTY),
-    (Emit(2, 1), Lacpdu(0x3d)),
-    (Emit(2, 2), NOTHING),
-    (Deliver(1, 1), TOOK),
-    (Deliver(2, 1), EMPTY),
-    (Offer(1, 1, &F48), Is(Reply::Port(1, 0, true))),
-    (Cut(1), Is(Reply::Cut)),
-    (Sense(1, 1), LINK_DOWN),
-    (Emit(1, 2), Lacpdu(0x0d)),
-    (Deliver(2, 2), TOOK),
-    (Sense(1, 2), LINK_DOWN),
-    (Emit(2, 2), Lacpdu(0x3d)),
-    (Deliver(2, 1), TOOK),
-    (Offer(1, 1, &F48), Is(Reply::Port(2, 1, true))),
-    (Deliver(2, 2), UP_1),
-    (Join(1), Is(Reply::Joined)),
-    (Sense(1, 1), LINK_UP),
-    (Sense(1, 2), LINK_UP),
-    (Tick(1, 10), TICKED),
-    (Emit(1, 1), Lacpdu(0x85)),
-    (Deliver(1, 2), TOOK),
-    (Emit(2, 1), Lacpdu(0x05)),
+const BOTH: [Entry; 25] = [
+    ("emit 1 1", Lacpdu(0x0d)),
+    ("emit 1 2", NOTHING),
+    ("deliver 1 2", TOOK),
+    ("deliver 2 2", EMPTY),
+    ("emit 2 1", Lacpdu(0x3d)),
+    ("emit 2 2", NOTHING),
+    ("deliver 1 1", TOOK),
+    ("deliver 2 1", EMPTY),
+    ("offer 1 1 0200000000200200000000100800", Frame(1, 0)),
+    ("cut 1", Is(Reply::Cut)),
+    ("sense 1 1", LINK_DOWN),
+    ("emit 1 2", Lacpdu(0x0d)),
+    ("deliver 2 2", TOOK),
+    ("sense 1 2", LINK_DOWN),
+    ("emit 2 2", Lacpdu(0x3d)),
+    ("deliver 2 1", TOOK),
+    ("offer 1 1 0200000000200200000000100800", Frame(2, 1)),
+    ("deliver 2 2", UP_1),
+    ("join 1", Is(Reply::Joined)),
+    ("sense 1 1", LINK_UP),
+    ("sense 1 2", LINK_UP),
+    ("tick 1 10", TICKED),
+    ("emit 1 1", Lacpdu(0x85)),
+    ("deliver 1 2", TOOK),
+    ("emit 2 1", Lacpdu(0x05)),
 ];
 
 const BOTH_ROW: Row = Row {
@@ -110,21 +102,21 @@ const BOTH_ROW: Row = Row {
 };
 
 /// Port 2 of system 1 is STANDBY; that of system 2 is in its aggregator, and says so.
-const FIRST: [(Entry, Want); 14] = [
-    (Emit(1, 1), Lacpdu(0x0d)),
-    (Emit(1, 2), NOTHING),
-    (Deliver(1, 2), TOOK),
-    (Deliver(2, 2), EMPTY),
-    (Emit(2, 1), Lacpdu(0x3d)),
-    (Emit(2, 2), Lacpdu(0x0d)),
-    (Deliver(1, 1), TOOK),
-    (Deliver(2, 1), TOOK),
-    (Offer(1, 1, &F48), Is(Reply::Port(1, 0, true))),
-    (Deliver(1, 2), UP_1),
-    (Cut(1), Is(Reply::Cut)),
-    (Sense(1, 1), LINK_DOWN),
-    (Emit(1, 2), Lacpdu(0x3d)),
-    (Offer(1, 1, &F48), Is(Reply::Port(2, 1, true))),
+const FIRST: [Entry; 14] = [
+    ("emit 1 1", Lacpdu(0x0d)),
+    ("emit 1 2", NOTHING),
+    ("deliver 1 2", TOOK),
+    ("deliver 2 2", EMPTY),
+    ("emit 2 1", Lacpdu(0x3d)),
+    ("emit 2 2", Lacpdu(0x0d)),
+    ("deliver 1 1", TOOK),
+    ("deliver 2 1", TOOK),
+    ("offer 1 1 0200000000200200000000100800", Frame(1, 0)),
+    ("deliver 1 2", UP_1),
+    ("cut 1", Is(Reply::Cut)),
+    ("sense 1 1", LINK_DOWN),
+    ("emit 1 2", Lacpdu(0x3d)),
+    ("offer 1 1 0200000000200200000000100800", Frame(2, 1)),
 ];
 
 const FIRST_ROW: Row = Row {
@@ -142,15 +134,15 @@ const FIRST_ROW: Row = Row {
 };
 
 /// Port 2 of system 2 is STANDBY; that of system 1 is in its aggregator, and says so.
-const SECOND: [(Entry, Want); 8] = [
-    (Emit(1, 1), Lacpdu(0x0d)),
-    (Emit(1, 2), Lacpdu(0x0d)),
-    (Deliver(1, 2), TOOK),
-    (Deliver(2, 2), TOOK),
-    (Emit(2, 1), Lacpdu(0x3d)),
-    (Emit(2, 2), NOTHING),
-    (Deliver(1, 1), TOOK),
-    (Deliver(2, 1), EMPTY),
+const SECOND: [Entry; 8] = [
+    ("emit 1 1", Lacpdu(0x0d)),
+    ("emit 1 2", Lacpdu(0x0d)),
+    ("deliver 1 2", TOOK),
+    ("deliver 2 2", TOOK),
+    ("emit 2 1", Lacpdu(0x3d)),
+    ("emit 2 2", NOTHING),
+    ("deliver 1 1", TOOK),
+    ("deliver 2 1", EMPTY),
 ];
 
 const SECOND_ROW: Row = Row {
@@ -176,15 +168,14 @@ fn chosen<F: Fn(u16, usize) -> usize + Drop>(
             Some(found) => found.choice(*port),
             None => None,
         };
-        same_in_row(rt, place, &choice, &Some(*wanted));
+        same_at(rt, "port", place, &choice, &Some(*wanted));
     }
 }
 
 /// Plays a row, and then compares Selected of each port.
 fn leads_to(rt: &impl Abort, alloc: Global, row: &Row, wanted: Choices) -> Result<(), WorldFault> {
     let entries = entries(alloc, row)?;
-    let events = events(alloc, &entries)?;
-    let config = world_config(alloc, row.setting)?;
+    let (config, events) = read(rt, alloc, row.setting, &entries)?;
     let lines = lines(alloc, 2, None)?;
     let mut world = World::new(alloc, config, modulo, modulo, lines)?;
     compare_run(rt, 0, &entries, world.run(&events));
