@@ -286,6 +286,7 @@ impl<C: Cable, F: Fn(u16, usize) -> usize + Drop> Inner<C, F> {
         ensures algorithm_one { self.new.one.system.algorithm ≡ self.old.one.system.algorithm }
         ensures algorithm_two { self.new.two.system.algorithm ≡ self.old.two.system.algorithm }
     {
+        // A cable and a half are borrowed at once, which `half_mut` cannot do.
         let link = &self.links[index];
         match side {
             Side::One => self.one.receive_first(&link.to_one, link.one),

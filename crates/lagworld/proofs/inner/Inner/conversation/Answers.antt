@@ -1,4 +1,4 @@
-use Rattle.lagworld.proofs.Common.{One, PortsAgree, Two, model_side}
+use Rattle.lagworld.proofs.Common.{One, Two, PortsAgree, model_side}
 use Rattle.lagworld.proofs.Sides.{of_either}
 use Rattle.lagworld.proofs.inner.Inner.conversation.Goals as goal
 

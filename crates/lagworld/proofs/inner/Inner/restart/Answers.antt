@@ -1,4 +1,4 @@
-use Rattle.lagworld.proofs.Common.{AreBelow, One, Two, model_side, most_events, world_state}
+use Rattle.lagworld.proofs.Common.{One, Two, most_events, model_side, AreBelow, world_state}
 use Rattle.lagworld.proofs.InPlace.{few_changes}
 use Rattle.lagworld.proofs.Sides.{of_either}
 use Rattle.lagworld.proofs.inner.Inner.restart.Goals as goal
