@@ -7,7 +7,7 @@ pub(crate) fn same<T: Debug + PartialEq>(rt: &impl Abort, what: &str, came: &T, 
     assert_eq!(rt; *came, *wanted, "{what}");
 }
 
-/// Fails unless the value of one of several is the expected one; the text says of what they are, and the number which it is.
+/// Fails unless a value is the expected one; the text names its kind, and the number says which one it is.
 pub(crate) fn same_at<T: Debug + PartialEq>(
     rt: &impl Abort,
     what: &str,

@@ -40,9 +40,8 @@ enum Want {
 
 /// An event, as an entry of a script has it, and its expected reply.
 ///
-/// The offered frames are of conversation 48, unless a comment says more: octets 5 and 11 of the frame
-/// 0200000000200200000000100800 give 0x20 xor 0x10 (profile). A frame of conversation 49 or 50 has 0x21 or 0x22 in octet 5, and
-/// one from system 2 has the two octets the other way round.
+/// Unless a comment says otherwise, an offered frame is of conversation 48: octets 5 and 11 of 0200000000200200000000100800 are 0x20
+/// and 0x10, and 0x20 xor 0x10 is 48 (profile). A frame of conversation 49 or 50 has 0x21 or 0x22 as octet 5.
 type Entry = (&'static str, Want);
 
 /// Events and their expected replies.

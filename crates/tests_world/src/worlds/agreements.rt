@@ -1,5 +1,5 @@
 use crate::worlds::Want::{Frame, Is, Lacpdu};
-use crate::worlds::given::ONE;
+use crate::worlds::given::ONE_SHORT;
 use crate::worlds::starts::{LINK_UP, NONE_DISTRIBUTING, ONE_CABLE, TICKED, TOOK};
 use crate::worlds::{Entry, Flow, Row, plays, runs, steps};
 use lagworld::{Agreement, Reply, WorldFault};
@@ -20,7 +20,7 @@ const ALONE: [Entry; 12] = [
 ];
 
 const ALONE_ROW: Row = Row {
-    setting: ONE,
+    setting: ONE_SHORT,
     first: &ALONE,
     rest: &[],
     agreements: &[(1, Agreement::NotBoth)],
@@ -39,7 +39,7 @@ fn a_port_on_defaults_carries_data_after_50_ticks(rt: HostRuntime) -> Result<(),
 }
 
 pub(crate) const ONE_CABLE_ROW: Row = Row {
-    setting: ONE,
+    setting: ONE_SHORT,
     first: &ONE_CABLE,
     rest: &[],
     agreements: &[(1, Agreement::Same)],
@@ -63,7 +63,7 @@ fn two_ends_agree_in_one_run_and_in_two(rt: HostRuntime) -> Result<(), WorldFaul
 }
 
 const CHANGED_ROW: Row = Row {
-    setting: ONE,
+    setting: ONE_SHORT,
     first: &ONE_CABLE,
     rest: &[
         ("tick 2 10", TICKED),
@@ -89,7 +89,7 @@ fn equal_values_are_not_enough_to_agree(rt: HostRuntime) -> Result<(), WorldFaul
 }
 
 const DEFAULTS_ROW: Row = Row {
-    setting: ONE,
+    setting: ONE_SHORT,
     first: &[
         ("sense 1 1", LINK_UP),
         ("sense 1 2", LINK_UP),
@@ -137,7 +137,7 @@ const REPEATED: [Entry; 26] = [
 ];
 
 const REPEATED_ROW: Row = Row {
-    setting: ONE,
+    setting: ONE_SHORT,
     first: &REPEATED,
     rest: &[],
     agreements: &[(1, Agreement::Same)],

@@ -1,8 +1,8 @@
 use crate::comparing::{same, same_at};
 use crate::worlds::Want::{Frame, FrameLost, Is, Lacpdu};
 use crate::worlds::given::{
-    CABLE_1, CABLE_2, LONG_PORTS, ONE, SHORT_PORT, SYSTEM_1, SYSTEM_2, Setting, TWO, cable, events,
-    lines, modulo, read, world_config,
+    CABLE_1, CABLE_2, ONE_SHORT, ONE_SHORT_PORT, SYSTEM_1, SYSTEM_2, Setting, TWO_LONG,
+    TWO_LONG_PORTS, add_line, empty_direction, events, lines, modulo, read, world_config,
 };
 use crate::worlds::starts::{COMING_UP, LINK_UP, ONE_CABLE, TICKED, TOOK, UP_1};
 use crate::worlds::{Entry, Flow, Row, compare_run, plays};
@@ -15,7 +15,7 @@ use std::process::Abort;
 
 /// Conversation 48 is forced while it has no port.
 const FORCED_EARLY_ROW: Row = Row {
-    setting: TWO,
+    setting: TWO_LONG,
     first: &[("sense 1 1", LINK_UP), ("sense 1 2", LINK_UP)],
     rest: &[
         ("force 1 1 48", Is(Reply::Refused(SystemFault::NotAssigned))),
@@ -40,7 +40,7 @@ fn a_force_that_is_refused_does_not_count(rt: HostRuntime) -> Result<(), WorldFa
 
 /// A cable that is whole is joined once more while an LACPDU is on it.
 const JOINED_ROW: Row = Row {
-    setting: TWO,
+    setting: TWO_LONG,
     first: &[
         ("sense 1 1", LINK_UP),
         ("sense 1 2", LINK_UP),
@@ -79,9 +79,9 @@ const FIRST_LOST: [Entry; 5] = [
     ("deliver 1 2", Is(Reply::Empty)),
 ];
 
-/// Between those events there are 0 ticks, which no script has.
+/// Plays `NOTHING`, 0 ticks, which no script has, and `FIRST_LOST`.
 fn nothing_happens(rt: &impl Abort, alloc: Global) -> Result<(), WorldFault> {
-    let (config, nothing) = read(rt, alloc, ONE, &NOTHING)?;
+    let (config, nothing) = read(rt, alloc, ONE_SHORT, &NOTHING)?;
     let lines = lines(alloc, 1, None)?;
     let mut world = World::new(alloc, config, modulo, modulo, lines)?;
     compare_run(rt, 0, &NOTHING, world.run(&nothing));
@@ -91,8 +91,8 @@ fn nothing_happens(rt: &impl Abort, alloc: Global) -> Result<(), WorldFault> {
         &world.step(&Event::Tick(1, 0)),
         &Ok(Reply::Ticked),
     );
-    let lost = events(rt, alloc, ONE, &FIRST_LOST)?;
-    compare_run(rt, 6, &FIRST_LOST, world.run(&lost));
+    let lost = events(rt, alloc, ONE_SHORT, &FIRST_LOST)?;
+    compare_run(rt, NOTHING.len() + 1, &FIRST_LOST, world.run(&lost));
     same(
         rt,
         "agreement",
@@ -109,7 +109,7 @@ fn nothing_is_no_event_of_a_cable(rt: HostRuntime) -> Result<(), WorldFault> {
 
 /// The frames are of conversation 255, the last: octets 5 and 11 give 0x20 xor 0xdf (profile).
 const LAST_ROW: Row = Row {
-    setting: TWO,
+    setting: TWO_LONG,
     first: &COMING_UP,
     rest: &[
         ("offer 1 1 0200000000200200000000df0800", Frame(2, 0)),
@@ -135,9 +135,9 @@ fn the_last_conversation_is_counted(rt: HostRuntime) -> Result<(), WorldFault> {
 /// Cable 1 joins port 1 of system 1 and port 2 of system 2.
 const CROSSING: Setting = &[
     SYSTEM_1,
-    LONG_PORTS,
+    TWO_LONG_PORTS,
     SYSTEM_2,
-    LONG_PORTS,
+    TWO_LONG_PORTS,
     "[[cable]]\nends = [1, 2]\n",
 ];
 
@@ -178,7 +178,7 @@ fn crosses(rt: &impl Abort, alloc: Global) -> Result<(), WorldFault> {
         &Some(Agreement::NotBoth),
     );
     let up = events(rt, alloc, CROSSING, &CROSSED_UP)?;
-    compare_run(rt, 9, &CROSSED_UP, world.run(&up));
+    compare_run(rt, CROSSED.len(), &CROSSED_UP, world.run(&up));
     same(rt, "agreement", &world.agreement(1), &Some(Agreement::Same));
     Ok(())
 }
@@ -189,7 +189,7 @@ fn a_cable_joins_ports_of_unequal_numbers(rt: HostRuntime) -> Result<(), WorldFa
 }
 
 /// The direction of a cable to system 1 holds one frame, that to system 2 two.
-const UNEQUAL: [Entry; 5] = [
+const FILLING: [Entry; 5] = [
     ("offer 1 1 0200000000200200000000100800", Frame(1, 0)),
     ("offer 1 1 0200000000200200000000100800", Frame(1, 1)),
     ("offer 1 1 0200000000200200000000100800", FrameLost(1, 2)),
@@ -197,26 +197,24 @@ const UNEQUAL: [Entry; 5] = [
     ("offer 2 1 0200000000100200000000200800", FrameLost(1, 1)),
 ];
 
-/// Two cables, each with these limits to system 1 and to system 2.
+/// Two cables. Each holds one frame towards system 1, and two towards system 2.
 fn unequal(alloc: Global) -> Result<Vec<(AnyCable, AnyCable)>, WorldFault> {
     let mut lines = Vec::new(alloc);
     for _ in 0..2 {
-        let to_one = cable(alloc, Some(1))?;
-        let to_two = cable(alloc, Some(2))?;
-        if lines.push((to_one, to_two)).is_err() {
-            return Err(WorldFault::NoMemory);
-        }
+        let to_one = empty_direction(alloc, Some(1))?;
+        let to_two = empty_direction(alloc, Some(2))?;
+        add_line(&mut lines, to_one, to_two)?;
     }
     Ok(lines)
 }
 
 fn fills(rt: &impl Abort, alloc: Global) -> Result<(), WorldFault> {
-    let config = world_config(rt, alloc, TWO)?;
+    let config = world_config(rt, alloc, TWO_LONG)?;
     let mut world = World::new(alloc, config, modulo, modulo, unequal(alloc)?)?;
-    let up = events(rt, alloc, TWO, &COMING_UP)?;
+    let up = events(rt, alloc, TWO_LONG, &COMING_UP)?;
     compare_run(rt, 0, &COMING_UP, world.run(&up));
-    let filling = events(rt, alloc, TWO, &UNEQUAL)?;
-    compare_run(rt, 24, &UNEQUAL, world.run(&filling));
+    let filling = events(rt, alloc, TWO_LONG, &FILLING)?;
+    compare_run(rt, COMING_UP.len(), &FILLING, world.run(&filling));
     Ok(())
 }
 
@@ -273,15 +271,22 @@ const TOLD: [(u8, u16, &[u64], &[u64], bool); 4] = [
 fn compare_told<F: Fn(u16, usize) -> usize + Drop>(rt: &impl Abort, world: &World<AnyCable, F>) {
     for (place, (system, agg, sent, collected, forced)) in TOLD.iter().enumerate() {
         let agg = AggId(*agg);
-        same_at(rt, "row", place, &world.sent(*system, agg, 48), sent);
+        let came = world.collected(*system, agg, 48);
         same_at(
             rt,
-            "row",
+            "sent in row",
             place,
-            &world.collected(*system, agg, 48),
-            collected,
+            &world.sent(*system, agg, 48),
+            sent,
         );
-        same_at(rt, "row", place, &world.forced(*system, agg, 48), forced);
+        same_at(rt, "collected in row", place, &came, collected);
+        same_at(
+            rt,
+            "forced in row",
+            place,
+            &world.forced(*system, agg, 48),
+            forced,
+        );
     }
 }
 
@@ -292,7 +297,7 @@ fn carries_apart(rt: &impl Abort, alloc: Global) -> Result<(), WorldFault> {
     let up = events(rt, alloc, TWO_APART, &COMING_UP)?;
     compare_run(rt, 0, &COMING_UP, world.run(&up));
     let carrying = events(rt, alloc, TWO_APART, &TWO_AGGREGATORS)?;
-    compare_run(rt, 24, &TWO_AGGREGATORS, world.run(&carrying));
+    compare_run(rt, COMING_UP.len(), &TWO_AGGREGATORS, world.run(&carrying));
     compare_told(rt, &world);
     Ok(())
 }
@@ -311,7 +316,7 @@ aggregators = [5]
 port = [{ number = 1, key = 5, priority = 7, aggregatable = false, short = true }]
 ",
     SYSTEM_2,
-    SHORT_PORT,
+    ONE_SHORT_PORT,
     CABLE_1,
 ];
 
@@ -325,10 +330,20 @@ fn keeps_its_values(rt: &impl Abort, alloc: Global) -> Result<(), WorldFault> {
     let mut world = World::new(alloc, config, modulo, modulo, lines)?;
     let up = events(rt, alloc, ODD, &ONE_CABLE)?;
     same(rt, "run", &world.run(&up).is_ok(), &true);
-    same(rt, "agreement", &world.agreement(1), &Some(Agreement::Same));
+    same(
+        rt,
+        "agreement before configure",
+        &world.agreement(1),
+        &Some(Agreement::Same),
+    );
     let configured = events(rt, alloc, ODD, &AS_IT_IS)?;
-    compare_run(rt, 20, &AS_IT_IS, world.run(&configured));
-    same(rt, "agreement", &world.agreement(1), &Some(Agreement::Same));
+    compare_run(rt, ONE_CABLE.len(), &AS_IT_IS, world.run(&configured));
+    same(
+        rt,
+        "agreement after configure",
+        &world.agreement(1),
+        &Some(Agreement::Same),
+    );
     Ok(())
 }
 

@@ -1,6 +1,6 @@
 use crate::comparing::same_at;
 use crate::worlds::Want::{Frame, Is, Lacpdu};
-use crate::worlds::given::{ONE, TWO, TWO_SHORT, events, lines, modulo, world_config};
+use crate::worlds::given::{ONE_SHORT, TWO_LONG, TWO_SHORT, events, lines, modulo, world_config};
 use crate::worlds::starts::{
     COMING_UP, LINK_UP, MOVED, NONE_DISTRIBUTING, ONE_CABLE, TICKED, TOOK, UP_1,
 };
@@ -220,7 +220,7 @@ fn an_lacpdu_has_the_change_count_of_its_own_port(rt: HostRuntime) -> Result<(),
 }
 
 const RESTARTED_ROW: Row = Row {
-    setting: TWO,
+    setting: TWO_LONG,
     first: &COMING_UP,
     rest: &[
         ("offer 2 1 0200000000100200000000200800", SENT),
@@ -239,7 +239,7 @@ fn a_restart_of_system_2_empties_the_cables(rt: HostRuntime) -> Result<(), World
 }
 
 const FORCED_TWICE_ROW: Row = Row {
-    setting: TWO,
+    setting: TWO_LONG,
     first: &COMING_UP,
     rest: &[
         ("offer 1 1 0200000000200200000000100800", SENT),
@@ -262,7 +262,7 @@ fn a_conversation_stays_forced(rt: HostRuntime) -> Result<(), WorldFault> {
 
 /// Port 1 of system 1 gets another priority, and its own again.
 const PRIORITY_CHANGED_ROW: Row = Row {
-    setting: ONE,
+    setting: ONE_SHORT,
     first: &ONE_CABLE,
     rest: &[
         ("tick 2 10", TICKED),
@@ -276,7 +276,7 @@ const PRIORITY_CHANGED_ROW: Row = Row {
     flows: &[],
 };
 
-/// It gets another Aggregation bit, and its own again.
+/// Port 1 of system 1 gets another Aggregation bit, and its own again.
 const AGGREGATION_CHANGED_ROW: Row = Row {
     rest: &[
         ("tick 2 10", TICKED),
@@ -329,8 +329,14 @@ fn agrees_again(rt: &impl Abort, alloc: Global) -> Result<(), WorldFault> {
     let lines = lines(alloc, 2, None)?;
     let mut world = World::new(alloc, config, modulo, modulo, lines)?;
     for (place, (events, wanted)) in steps.iter().enumerate() {
-        same_at(rt, "step", place, &world.run(*events).is_ok(), &true);
-        same_at(rt, "step", place, &world.agreement(1), &Some(*wanted));
+        same_at(rt, "run of step", place, &world.run(*events).is_ok(), &true);
+        same_at(
+            rt,
+            "agreement after step",
+            place,
+            &world.agreement(1),
+            &Some(*wanted),
+        );
     }
     Ok(())
 }

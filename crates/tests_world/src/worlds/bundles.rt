@@ -11,21 +11,21 @@ use std::process::Abort;
 use std::test::Fail;
 
 /// System 1 has as many aggregators of each key as ports.
-const SYSTEM_1: &str = "
+const KEYS_OF_1: &str = "
 [[system]]
 mac = \"02-00-00-00-00-01\"
 aggregators = [7, 9, 7]
 ";
 
-/// So has system 2.
-const SYSTEM_2: &str = "
+/// System 2 has as many aggregators of each key as ports.
+const KEYS_OF_2: &str = "
 [[system]]
 mac = \"02-00-00-00-00-02\"
 aggregators = [6, 5, 5]
 ";
 
 /// The cables cross: the first port of system 1 is joined with the last one of system 2.
-const CROSSED: &str = "
+const CROSSED_CABLES: &str = "
 [[cable]]
 ends = [11, 23]
 [[cable]]
@@ -36,40 +36,40 @@ ends = [13, 21]
 
 /// All ports are active.
 const ACTIVE: Setting = &[
-    SYSTEM_1,
+    KEYS_OF_1,
     "port = [
     { number = 11, key = 7, short = false },
     { number = 12, key = 9, short = false },
     { number = 13, key = 7, short = false },
 ]
 ",
-    SYSTEM_2,
+    KEYS_OF_2,
     "port = [
     { number = 21, key = 5, short = true },
     { number = 22, key = 6, short = true },
     { number = 23, key = 5, short = true },
 ]
 ",
-    CROSSED,
+    CROSSED_CABLES,
 ];
 
 /// One end of each cable is passive.
 const HALF_PASSIVE: Setting = &[
-    SYSTEM_1,
+    KEYS_OF_1,
     "port = [
     { number = 11, key = 7, short = false },
     { number = 12, key = 9, active = false, short = false },
     { number = 13, key = 7, active = false, short = false },
 ]
 ",
-    SYSTEM_2,
+    KEYS_OF_2,
     "port = [
     { number = 21, key = 5, short = true },
     { number = 22, key = 6, short = true },
     { number = 23, key = 5, active = false, short = true },
 ]
 ",
-    CROSSED,
+    CROSSED_CABLES,
 ];
 
 /// The link of every port is up.
@@ -82,7 +82,7 @@ const LINKS_UP: [Entry; 6] = [
     ("sense 3 2", LINK_UP),
 ];
 
-/// The ports of an aggregator that distribute.
+/// Compares the ports of an aggregator that distribute with the expected ones.
 fn compare_distributing<F: Fn(u16, usize) -> usize + Drop>(
     rt: &impl Abort,
     world: &World<AnyCable, F>,
@@ -94,12 +94,10 @@ fn compare_distributing<F: Fn(u16, usize) -> usize + Drop>(
         Some(system) => system.distributing(AggId(agg)),
         None => return same(rt, "a system", &false, &true),
     };
-    same_at(
-        rt,
-        "aggregator",
-        usize::from(agg),
-        &came.as_slice(),
-        &wanted,
+    assert_eq!(rt;
+        came.as_slice(),
+        wanted,
+        "aggregator {agg} of system {number}"
     );
 }
 

@@ -1,6 +1,6 @@
 use crate::worlds::Want::{Frame, FrameLost, Is, Lacpdu};
 use crate::worlds::given::{
-    CABLE_1, CABLE_2, INDIVIDUAL, LONG_PORTS, SYSTEM_1, SYSTEM_2, Setting, TWO,
+    CABLE_1, CABLE_2, INDIVIDUAL, SYSTEM_1, SYSTEM_2, Setting, TWO_LONG, TWO_LONG_PORTS,
 };
 use crate::worlds::starts::{
     COMING_UP, HELD, LINK_DOWN, LINK_UP, MOVED, NONE_DISTRIBUTING, TICKED, UP_1,
@@ -19,7 +19,7 @@ const TOLD_OF_CUT: [Entry; 6] = [
 ];
 
 const TOLD_OF_CUT_ROW: Row = Row {
-    setting: TWO,
+    setting: TWO_LONG,
     first: &COMING_UP,
     rest: &TOLD_OF_CUT,
     agreements: &[(1, Agreement::NotBoth), (2, Agreement::Same)],
@@ -49,7 +49,7 @@ const RESTARTED: [Entry; 6] = [
 ];
 
 const RESTARTED_ROW: Row = Row {
-    setting: TWO,
+    setting: TWO_LONG,
     first: &COMING_UP,
     rest: &RESTARTED,
     agreements: &[(1, Agreement::NotBoth), (2, Agreement::NotBoth)],
@@ -123,9 +123,9 @@ fn a_configure_holds_the_conversations_of_its_port(rt: HostRuntime) -> Result<()
 const LAST_MARKER: Setting = &[
     SYSTEM_1,
     "first_marker = 4294967295\n",
-    LONG_PORTS,
+    TWO_LONG_PORTS,
     SYSTEM_2,
-    LONG_PORTS,
+    TWO_LONG_PORTS,
     CABLE_1,
     CABLE_2,
 ];

@@ -1,5 +1,7 @@
 use crate::worlds::Want::{Frame, FrameLost, Is, Lacpdu, LacpduLost};
-use crate::worlds::given::{CABLE_1, CABLE_2, LONG_PORTS, SYSTEM_1, SYSTEM_2, Setting, TWO};
+use crate::worlds::given::{
+    CABLE_1, CABLE_2, SYSTEM_1, SYSTEM_2, Setting, TWO_LONG, TWO_LONG_PORTS,
+};
 use crate::worlds::starts::{COMING_UP, HELD, MOVED, TICKED, TOOK, UP_1};
 use crate::worlds::{Entry, Flow, Row, Want, plays, runs, steps};
 use lagsystem::SystemFault;
@@ -25,7 +27,7 @@ pub(crate) const MOVES: [Entry; 16] = [
 ];
 
 pub(crate) const MOVES_ROW: Row = Row {
-    setting: TWO,
+    setting: TWO_LONG,
     first: &COMING_UP,
     rest: &MOVES,
     agreements: &[(1, Agreement::Same), (2, Agreement::Same)],
@@ -71,7 +73,7 @@ const LATE: [Entry; 16] = [
 ];
 
 const LATE_ROW: Row = Row {
-    setting: TWO,
+    setting: TWO_LONG,
     first: &COMING_UP,
     rest: &LATE,
     agreements: &[],
@@ -108,7 +110,7 @@ const LOST: [Entry; 15] = [
 ];
 
 const LOST_ROW: Row = Row {
-    setting: TWO,
+    setting: TWO_LONG,
     first: &COMING_UP,
     rest: &LOST,
     agreements: &[],
@@ -136,7 +138,7 @@ const FORCED: [Entry; 6] = [
 ];
 
 const FORCED_ROW: Row = Row {
-    setting: TWO,
+    setting: TWO_LONG,
     first: &COMING_UP,
     rest: &FORCED,
     agreements: &[],
@@ -165,7 +167,7 @@ const DATA: [Entry; 7] = [
 ];
 
 const DATA_ROW: Row = Row {
-    setting: TWO,
+    setting: TWO_LONG,
     first: &COMING_UP,
     rest: &DATA,
     agreements: &[],
@@ -193,7 +195,7 @@ const FULL: [Entry; 6] = [
 ];
 
 pub(crate) const FULL_ROW: Row = Row {
-    setting: TWO,
+    setting: TWO_LONG,
     first: &COMING_UP,
     rest: &FULL,
     agreements: &[],
@@ -227,7 +229,7 @@ const NARROW: [Entry; 12] = [
 ];
 
 pub(crate) const NARROW_ROW: Row = Row {
-    setting: TWO,
+    setting: TWO_LONG,
     first: &COMING_UP,
     rest: &NARROW,
     agreements: &[],
@@ -247,13 +249,13 @@ fn a_full_cable_hands_back_a_marker(rt: HostRuntime) -> Result<(), WorldFault> {
 
 const UNKNOWN: Want = Is(Reply::Refused(SystemFault::NotAssigned));
 
-/// `TWO`, with 4096 conversations in each aggregator of system 1.
+/// `TWO_LONG`, with 4096 conversations in each aggregator of system 1.
 const WIDE: Setting = &[
     SYSTEM_1,
     "conversations = 4096\n",
-    LONG_PORTS,
+    TWO_LONG_PORTS,
     SYSTEM_2,
-    LONG_PORTS,
+    TWO_LONG_PORTS,
     CABLE_1,
     CABLE_2,
 ];
@@ -298,7 +300,7 @@ const TOGETHER: [Entry; 3] = [
 ];
 
 const TOGETHER_ROW: Row = Row {
-    setting: TWO,
+    setting: TWO_LONG,
     first: &COMING_UP,
     rest: &TOGETHER,
     agreements: &[],

@@ -27,22 +27,22 @@ aggregators = [1]
 ";
 
 /// One port with Short Timeout.
-pub(crate) const SHORT_PORT: &str = "port = [{ number = 1, key = 1, short = true }]
+pub(crate) const ONE_SHORT_PORT: &str = "port = [{ number = 1, key = 1, short = true }]
 ";
 
 /// One port with Long Timeout.
-const LONG_PORT: &str = "port = [{ number = 1, key = 1, short = false }]
+const ONE_LONG_PORT: &str = "port = [{ number = 1, key = 1, short = false }]
 ";
 
 /// Two ports with Short Timeout.
-const SHORT_PORTS: &str = "port = [
+const TWO_SHORT_PORTS: &str = "port = [
     { number = 1, key = 1, short = true },
     { number = 2, key = 1, short = true },
 ]
 ";
 
 /// Two ports with Long Timeout.
-pub(crate) const LONG_PORTS: &str = "port = [
+pub(crate) const TWO_LONG_PORTS: &str = "port = [
     { number = 1, key = 1, short = false },
     { number = 2, key = 1, short = false },
 ]
@@ -61,27 +61,40 @@ pub(crate) const CABLE_1: &str = "
 ends = [1, 1]
 ";
 
-/// Then a cable that joins ports 2.
+/// A cable that joins ports 2.
 pub(crate) const CABLE_2: &str = "
 [[cable]]
 ends = [2, 2]
 ";
 
 /// One cable between ports with Short Timeout.
-pub(crate) const ONE: Setting = &[SYSTEM_1, SHORT_PORT, SYSTEM_2, SHORT_PORT, CABLE_1];
+pub(crate) const ONE_SHORT: Setting = &[
+    SYSTEM_1,
+    ONE_SHORT_PORT,
+    SYSTEM_2,
+    ONE_SHORT_PORT,
+    CABLE_1,
+];
 
 /// One cable between ports with Long Timeout.
-pub(crate) const ONE_LONG: Setting = &[SYSTEM_1, LONG_PORT, SYSTEM_2, LONG_PORT, CABLE_1];
+pub(crate) const ONE_LONG: Setting = &[SYSTEM_1, ONE_LONG_PORT, SYSTEM_2, ONE_LONG_PORT, CABLE_1];
 
 /// Two cables between ports with Long Timeout.
-pub(crate) const TWO: Setting = &[SYSTEM_1, LONG_PORTS, SYSTEM_2, LONG_PORTS, CABLE_1, CABLE_2];
+pub(crate) const TWO_LONG: Setting = &[
+    SYSTEM_1,
+    TWO_LONG_PORTS,
+    SYSTEM_2,
+    TWO_LONG_PORTS,
+    CABLE_1,
+    CABLE_2,
+];
 
 /// Two cables between ports with Short Timeout.
 pub(crate) const TWO_SHORT: Setting = &[
     SYSTEM_1,
-    SHORT_PORTS,
+    TWO_SHORT_PORTS,
     SYSTEM_2,
-    SHORT_PORTS,
+    TWO_SHORT_PORTS,
     CABLE_1,
     CABLE_2,
 ];
@@ -91,7 +104,7 @@ pub(crate) const INDIVIDUAL: Setting = &[
     SYSTEM_1,
     INDIVIDUAL_PORTS,
     SYSTEM_2,
-    SHORT_PORTS,
+    TWO_SHORT_PORTS,
     CABLE_1,
     CABLE_2,
 ];
@@ -165,13 +178,26 @@ pub(crate) fn events(
     Ok(events)
 }
 
-pub(crate) fn cable(alloc: Global, limit: Option<u16>) -> Result<AnyCable, WorldFault> {
+/// One empty direction of a cable with this limit.
+pub(crate) fn empty_direction(alloc: Global, limit: Option<u16>) -> Result<AnyCable, WorldFault> {
     match limit {
         None => Ok(AnyCable::List(ListCable::new(alloc))),
         Some(limit) => match RingCable::new(alloc, limit) {
             Ok(ring) => Ok(AnyCable::Ring(ring)),
             Err(_) => Err(WorldFault::NoMemory),
         },
+    }
+}
+
+/// Adds a cable with these two directions.
+pub(crate) fn add_line(
+    lines: &mut Vec<(AnyCable, AnyCable)>,
+    to_one: AnyCable,
+    to_two: AnyCable,
+) -> Result<(), WorldFault> {
+    match lines.push((to_one, to_two)) {
+        Ok(()) => Ok(()),
+        Err(_) => Err(WorldFault::NoMemory),
     }
 }
 
@@ -183,11 +209,9 @@ pub(crate) fn lines(
 ) -> Result<Vec<(AnyCable, AnyCable)>, WorldFault> {
     let mut lines = Vec::new(alloc);
     for _ in 0..count {
-        let to_one = cable(alloc, limit)?;
-        let to_two = cable(alloc, limit)?;
-        if lines.push((to_one, to_two)).is_err() {
-            return Err(WorldFault::NoMemory);
-        }
+        let to_one = empty_direction(alloc, limit)?;
+        let to_two = empty_direction(alloc, limit)?;
+        add_line(&mut lines, to_one, to_two)?;
     }
     Ok(lines)
 }

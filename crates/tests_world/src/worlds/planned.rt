@@ -1,7 +1,8 @@
 use crate::worlds::agreements::ONE_CABLE_ROW;
 use crate::worlds::conversations::{FULL_ROW, MOVES_ROW, NARROW_ROW};
 use crate::worlds::given::{
-    CABLE_1, CABLE_2, LONG_PORTS, SHORT_PORT, SYSTEM_1, SYSTEM_2, Setting, cable, modulo, script,
+    CABLE_1, CABLE_2, ONE_SHORT_PORT, SYSTEM_1, SYSTEM_2, Setting, TWO_LONG_PORTS, add_line,
+    empty_direction, modulo, script,
 };
 use crate::worlds::{Row, compare_run, entries, tells};
 use cables::AnyCable;
@@ -24,16 +25,14 @@ const FOR_8: &str = "limit = 8\n";
 fn limited(alloc: Global, limits: &[Option<u16>]) -> Result<Vec<(AnyCable, AnyCable)>, WorldFault> {
     let mut lines = Vec::new(alloc);
     for limit in limits {
-        let to_one = cable(alloc, *limit)?;
-        let to_two = cable(alloc, *limit)?;
-        if lines.push((to_one, to_two)).is_err() {
-            return Err(WorldFault::NoMemory);
-        }
+        let to_one = empty_direction(alloc, *limit)?;
+        let to_two = empty_direction(alloc, *limit)?;
+        add_line(&mut lines, to_one, to_two)?;
     }
     Ok(lines)
 }
 
-/// Reads the plan of a row with these tables, and compares the replies to its events with the expected ones.
+/// Reads a plan of the events of a row with these tables in place of its own, and compares the replies with the expected ones.
 fn plays_plan(rt: &impl Abort, alloc: Global, setting: Setting, row: &Row) -> Result<(), Fail> {
     let wanted = entries(alloc, row)?;
     let plan = read_plan(alloc, script(alloc, setting, &wanted)?.as_str())?;
@@ -47,7 +46,14 @@ fn plays_plan(rt: &impl Abort, alloc: Global, setting: Setting, row: &Row) -> Re
 #[test]
 fn a_plan_of_two_cables_that_fill(rt: HostRuntime) -> Result<(), Fail> {
     let setting = &[
-        SYSTEM_1, LONG_PORTS, SYSTEM_2, LONG_PORTS, CABLE_1, FOR_2, CABLE_2, FOR_2,
+        SYSTEM_1,
+        TWO_LONG_PORTS,
+        SYSTEM_2,
+        TWO_LONG_PORTS,
+        CABLE_1,
+        FOR_2,
+        CABLE_2,
+        FOR_2,
     ];
     plays_plan(&rt, rt.alloc(), setting, &FULL_ROW)
 }
@@ -55,15 +61,28 @@ fn a_plan_of_two_cables_that_fill(rt: HostRuntime) -> Result<(), Fail> {
 #[test]
 fn a_plan_of_two_cables_for_one_frame(rt: HostRuntime) -> Result<(), Fail> {
     let setting = &[
-        SYSTEM_1, LONG_PORTS, SYSTEM_2, LONG_PORTS, CABLE_1, FOR_1, CABLE_2, FOR_1,
+        SYSTEM_1,
+        TWO_LONG_PORTS,
+        SYSTEM_2,
+        TWO_LONG_PORTS,
+        CABLE_1,
+        FOR_1,
+        CABLE_2,
+        FOR_1,
     ];
     plays_plan(&rt, rt.alloc(), setting, &NARROW_ROW)
 }
 
 #[test]
-fn a_plan_of_one_cable_that_fills(rt: HostRuntime) -> Result<(), Fail> {
+fn a_plan_where_one_of_two_cables_fills(rt: HostRuntime) -> Result<(), Fail> {
     let setting = &[
-        SYSTEM_1, LONG_PORTS, SYSTEM_2, LONG_PORTS, CABLE_1, FOR_2, CABLE_2,
+        SYSTEM_1,
+        TWO_LONG_PORTS,
+        SYSTEM_2,
+        TWO_LONG_PORTS,
+        CABLE_1,
+        FOR_2,
+        CABLE_2,
     ];
     plays_plan(&rt, rt.alloc(), setting, &FULL_ROW)
 }
@@ -71,9 +90,23 @@ fn a_plan_of_one_cable_that_fills(rt: HostRuntime) -> Result<(), Fail> {
 #[test]
 fn a_plan_of_cables_that_never_fill(rt: HostRuntime) -> Result<(), Fail> {
     let two = &[
-        SYSTEM_1, LONG_PORTS, SYSTEM_2, LONG_PORTS, CABLE_1, FOR_8, CABLE_2, FOR_8,
+        SYSTEM_1,
+        TWO_LONG_PORTS,
+        SYSTEM_2,
+        TWO_LONG_PORTS,
+        CABLE_1,
+        FOR_8,
+        CABLE_2,
+        FOR_8,
     ];
     plays_plan(&rt, rt.alloc(), two, &MOVES_ROW)?;
-    let one = &[SYSTEM_1, SHORT_PORT, SYSTEM_2, SHORT_PORT, CABLE_1, FOR_8];
+    let one = &[
+        SYSTEM_1,
+        ONE_SHORT_PORT,
+        SYSTEM_2,
+        ONE_SHORT_PORT,
+        CABLE_1,
+        FOR_8,
+    ];
     plays_plan(&rt, rt.alloc(), one, &ONE_CABLE_ROW)
 }

@@ -1,9 +1,11 @@
 use crate::comparing::{same, same_at};
 use crate::worlds::Want::{Frame, Is};
-use crate::worlds::given::{INDIVIDUAL, ONE, TWO, cable, lines, modulo, read, world_config};
+use crate::worlds::given::{
+    INDIVIDUAL, ONE_SHORT, TWO_LONG, add_line, empty_direction, lines, modulo, read, world_config,
+};
 use crate::worlds::joined::joined;
 use crate::worlds::starts::{COMING_UP, HELD, LINK_UP, NONE_DISTRIBUTING, TICKED, UP_1};
-use crate::worlds::{Entry, Flow, Row, Want, compare_run, entries, plays, tells};
+use crate::worlds::{Entry, Flow, Row, compare_run, entries, plays, tells};
 use cables::{AnyCable, Cable, Item, Stamp};
 use lagsystem::{BadConfig, PortChange, SystemFault};
 use lagtypes::{AggId, Key};
@@ -115,7 +117,7 @@ fn every_reason_to_make_no_world(rt: HostRuntime) -> Result<(), WorldFault> {
 
 /// One direction of a cable, with or without an item.
 fn direction(alloc: Global, full: bool) -> Result<AnyCable, WorldFault> {
-    let mut direction = cable(alloc, None)?;
+    let mut direction = empty_direction(alloc, None)?;
     if full {
         let bytes = Vec::new(alloc);
         let stamp = Stamp::Control(0);
@@ -131,9 +133,7 @@ fn line(alloc: Global, full: (bool, bool)) -> Result<Vec<(AnyCable, AnyCable)>, 
     let to_one = direction(alloc, full.0)?;
     let to_two = direction(alloc, full.1)?;
     let mut lines = Vec::new(alloc);
-    if lines.push((to_one, to_two)).is_err() {
-        return Err(WorldFault::NoMemory);
-    }
+    add_line(&mut lines, to_one, to_two)?;
     Ok(lines)
 }
 
@@ -143,7 +143,7 @@ fn line_refusal(
     alloc: Global,
     full: (bool, bool),
 ) -> Result<Option<WorldFault>, WorldFault> {
-    let config = world_config(rt, alloc, ONE)?;
+    let config = world_config(rt, alloc, ONE_SHORT)?;
     let lines = line(alloc, full)?;
     match World::new(alloc, config, modulo, modulo, lines) {
         Ok(_) => Ok(None),
@@ -151,23 +151,24 @@ fn line_refusal(
     }
 }
 
-/// With the items of this line a world is refused for this.
-fn is_refused(
+/// Compares why no world can be made with this line with the expected reason.
+fn compare_line_refusal(
     rt: &impl Abort,
     alloc: Global,
     full: (bool, bool),
     wanted: Option<WorldFault>,
 ) -> Result<(), WorldFault> {
-    same(rt, "new", &line_refusal(rt, alloc, full)?, &wanted);
+    let came = line_refusal(rt, alloc, full)?;
+    assert_eq!(rt; came, wanted, "a line with items {full:?}");
     Ok(())
 }
 
 #[test]
 fn a_line_with_an_item_is_refused(rt: HostRuntime) -> Result<(), WorldFault> {
     let wanted = Some(WorldFault::BadConfig(BadWorld::Lines));
-    is_refused(&rt, rt.alloc(), (false, false), None)?;
-    is_refused(&rt, rt.alloc(), (true, false), wanted)?;
-    is_refused(&rt, rt.alloc(), (false, true), wanted)
+    compare_line_refusal(&rt, rt.alloc(), (false, false), None)?;
+    compare_line_refusal(&rt, rt.alloc(), (true, false), wanted)?;
+    compare_line_refusal(&rt, rt.alloc(), (false, true), wanted)
 }
 
 /// Events of which each names a system or a cable that does not exist, and why they are refused. No script has them.
@@ -201,7 +202,7 @@ fn events_not_there(alloc: Global) -> [(Event, WorldFault); 17] {
 
 /// Plays each of these events by `step` in one world.
 fn not_there(rt: &impl Abort, alloc: Global) -> Result<(), WorldFault> {
-    let config = world_config(rt, alloc, ONE)?;
+    let config = world_config(rt, alloc, ONE_SHORT)?;
     let lines = lines(alloc, 1, None)?;
     let mut world = World::new(alloc, config, modulo, modulo, lines)?;
     for (place, (event, fault)) in events_not_there(alloc).iter().enumerate() {
@@ -224,7 +225,7 @@ const STOPPING: [Event; 4] = [
 ];
 
 fn stops(rt: &impl Abort, alloc: Global) -> Result<(), WorldFault> {
-    let config = world_config(rt, alloc, ONE)?;
+    let config = world_config(rt, alloc, ONE_SHORT)?;
     let lines = lines(alloc, 1, None)?;
     let mut world = World::new(alloc, config, modulo, modulo, lines)?;
     let stop = RunFault {
@@ -242,7 +243,7 @@ fn a_run_stops_at_the_first_fault(rt: HostRuntime) -> Result<(), WorldFault> {
     stops(&rt, rt.alloc())
 }
 
-/// What a system refuses as long as no port distributes: a frame of 13 octets and one of the slow protocols are among it.
+/// Events before any port distributes. One frame has 13 octets, another one is of the slow protocols.
 const EARLY: [Entry; 10] = [
     ("sense 1 1", LINK_UP),
     ("sense 2 1", LINK_UP),
@@ -323,7 +324,7 @@ const FORCED: [Entry; 6] = [
 ];
 
 const FORCED_ROW: Row = Row {
-    setting: TWO,
+    setting: TWO_LONG,
     first: &COMING_UP,
     rest: &FORCED,
     agreements: &[],
@@ -355,9 +356,12 @@ fn tells_no_flow<F: Fn(u16, usize) -> usize + Drop>(
     let sent = world.sent(system, AggId(agg), conv).len();
     let collected = world.collected(system, AggId(agg), conv).len();
     let forced = world.forced(system, AggId(agg), conv);
-    same(rt, "sent", &sent, &0);
-    same(rt, "collected", &collected, &0);
-    same(rt, "forced", &forced, &false);
+    let came = (sent, collected, forced);
+    assert_eq!(rt;
+        came,
+        (0, 0, false),
+        "system, aggregator and conversation {flow:?}"
+    );
 }
 
 /// Checks which systems a world has.
@@ -371,7 +375,7 @@ fn tells_systems<F: Fn(u16, usize) -> usize + Drop>(rt: &impl Abort, world: &Wor
 /// Plays the row, and asks for what does not exist.
 fn nothing_told(rt: &impl Abort, alloc: Global) -> Result<(), WorldFault> {
     let entries = entries(alloc, &FORCED_ROW)?;
-    let (config, events) = read(rt, alloc, TWO, &entries)?;
+    let (config, events) = read(rt, alloc, TWO_LONG, &entries)?;
     let lines = lines(alloc, 2, None)?;
     let mut world = World::new(alloc, config, modulo, modulo, lines)?;
     compare_run(rt, 0, &entries, world.run(&events));

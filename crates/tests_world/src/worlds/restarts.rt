@@ -1,7 +1,7 @@
 use crate::comparing::same_at;
 use crate::worlds::Want::Is;
 use crate::worlds::conversations::MOVES;
-use crate::worlds::given::{TWO, lines, modulo, read};
+use crate::worlds::given::{TWO_LONG, lines, modulo, read};
 use crate::worlds::starts::COMING_UP;
 use crate::worlds::{Entry, Want};
 use cables::AnyCable;
@@ -39,22 +39,33 @@ fn is_subsequence(part: &[u64], whole: &[u64]) -> bool {
     rest.is_empty()
 }
 
-/// Checks what must hold after each event: the ends of no cable have different groups, and what system 2 collected is
-/// in order.
+/// Checks what must hold after the event at this place, counted from 1: the ends of no cable have different groups, and what
+/// system 2 collected is in order.
 fn keeps<F: Fn(u16, usize) -> usize + Drop>(
     rt: &impl Abort,
     world: &World<AnyCable, F>,
     place: usize,
 ) {
     let differ = Some(Agreement::Differ);
-    same_at(rt, "event", place, &(world.agreement(1) == differ), &false);
-    same_at(rt, "event", place, &(world.agreement(2) == differ), &false);
+    for (cable, what) in [
+        (1, "cable 1 differs after event"),
+        (2, "cable 2 differs after event"),
+    ] {
+        same_at(rt, what, place, &(world.agreement(cable) == differ), &false);
+    }
     let sent = world.sent(1, AggId(1), 48);
     let collected = world.collected(1, AggId(1), 48);
-    same_at(rt, "event", place, &is_subsequence(collected, sent), &true);
+    let in_order = is_subsequence(collected, sent);
+    same_at(
+        rt,
+        "collected in order after event",
+        place,
+        &in_order,
+        &true,
+    );
 }
 
-/// Restarts a system before the event of the move at this index.
+/// Restarts a system before the event of the move at this index. The replies are not compared.
 fn restarts(
     rt: &impl Abort,
     alloc: Global,
@@ -62,12 +73,14 @@ fn restarts(
     place: usize,
 ) -> Result<(), WorldFault> {
     let entries = with_restart(alloc, restart, place)?;
-    let (config, events) = read(rt, alloc, TWO, &entries)?;
+    let (config, events) = read(rt, alloc, TWO_LONG, &entries)?;
     let lines = lines(alloc, config.cables.len(), None)?;
     let mut world = World::new(alloc, config, modulo, modulo, lines)?;
-    for (at, event) in events.iter().enumerate() {
+    let mut place = 0usize;
+    for event in &events {
         world.step(event)?;
-        keeps(rt, &world, at);
+        place = place.saturating_add(1);
+        keeps(rt, &world, place);
     }
     Ok(())
 }

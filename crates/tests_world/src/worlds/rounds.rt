@@ -1,5 +1,5 @@
 use crate::worlds::Want::Lacpdu;
-use crate::worlds::given::{ONE, ONE_LONG, Setting, events, lines, modulo, world_config};
+use crate::worlds::given::{ONE_LONG, ONE_SHORT, Setting, events, lines, modulo, world_config};
 use crate::worlds::starts::{LINK_DOWN, LINK_UP, ONE_CABLE, TICKED};
 use crate::worlds::{Entry, Want};
 use lagprogress::play_rounds;
@@ -20,7 +20,7 @@ const ON_DEFAULTS: [Entry; 5] = [
     ("emit 1 1", Lacpdu(0x47)),
 ];
 
-/// The cable is cut, of which system 1 alone is told, and is whole again.
+/// The cable is cut and joined again. System 1 alone learns both.
 const MENDED: [Entry; 4] = [
     ("cut 1", Want::Is(Reply::Cut)),
     ("sense 1 1", LINK_DOWN),
@@ -28,7 +28,7 @@ const MENDED: [Entry; 4] = [
     ("sense 1 1", LINK_UP),
 ];
 
-/// Both ends distribute and agree after so many healthy rounds, whatever was before them. The replies to that are not looked at.
+/// Both ends distribute and agree after so many healthy rounds, whatever events came before. Their replies are not compared.
 /// The number is no constant here: the prover would unfold each of these rounds.
 fn comes_up(
     rt: &impl Abort,
@@ -59,14 +59,14 @@ fn comes_up(
 #[test]
 fn a_link_comes_up_in_352_healthy_rounds(rt: HostRuntime) -> Result<(), Fail> {
     comes_up(&rt, rt.alloc(), ONE_LONG, [&STARTED, &[]], 352)?;
-    comes_up(&rt, rt.alloc(), ONE, [&ON_DEFAULTS, &[]], 352)?;
-    comes_up(&rt, rt.alloc(), ONE, [&ONE_CABLE, &MENDED], 352)?;
+    comes_up(&rt, rt.alloc(), ONE_SHORT, [&ON_DEFAULTS, &[]], 352)?;
+    comes_up(&rt, rt.alloc(), ONE_SHORT, [&ONE_CABLE, &MENDED], 352)?;
     Ok(())
 }
 
 #[test]
 fn a_link_stays_up_in_more_healthy_rounds(rt: HostRuntime) -> Result<(), Fail> {
     comes_up(&rt, rt.alloc(), ONE_LONG, [&STARTED, &[]], 353)?;
-    comes_up(&rt, rt.alloc(), ONE, [&ONE_CABLE, &MENDED], 662)?;
+    comes_up(&rt, rt.alloc(), ONE_SHORT, [&ONE_CABLE, &MENDED], 662)?;
     Ok(())
 }

@@ -1,6 +1,6 @@
 use crate::worlds::Entry;
 use crate::worlds::Want::Is;
-use crate::worlds::given::{TWO, script};
+use crate::worlds::given::{TWO_LONG, script};
 use crate::worlds::joined::joined;
 use crate::worlds::starts::{LINK_UP, MOVED, TICKED, UP_1};
 use lagscript::read_script;
@@ -30,7 +30,7 @@ fn events(alloc: Global) -> Result<Vec<Event>, AllocError> {
 
 /// The text of what is read from the script, and the text of the expected configuration and events.
 fn readings(alloc: Global) -> Result<(String, String), AllocError> {
-    let text = script(alloc, TWO, &ENTRIES)?;
+    let text = script(alloc, TWO_LONG, &ENTRIES)?;
     let came = match read_script(alloc, text.as_str()) {
         Ok((config, events)) => format!(in alloc; "{config:?} {events:?}")?,
         Err(fault) => format!(in alloc; "{fault}")?,

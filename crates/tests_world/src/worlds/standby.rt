@@ -1,7 +1,6 @@
-use crate::comparing::same_at;
 use crate::worlds::Want::{Frame, Is, Lacpdu};
 use crate::worlds::given::{
-    CABLE_1, CABLE_2, LONG_PORTS, SYSTEM_1, SYSTEM_2, Setting, lines, modulo, read,
+    CABLE_1, CABLE_2, SYSTEM_1, SYSTEM_2, Setting, TWO_LONG_PORTS, lines, modulo, read,
 };
 use crate::worlds::starts::{LINK_DOWN, LINK_UP, TICKED, TOOK, UP_1};
 use crate::worlds::{Entry, Flow, Row, Want, compare_run, entries, tells};
@@ -25,17 +24,36 @@ const LIMITED: &str = "max_links = 1\n";
 
 /// Two cables between ports with Long Timeout. In both systems an aggregator may have one link.
 const BOTH_LIMITED: Setting = &[
-    SYSTEM_1, LIMITED, LONG_PORTS, SYSTEM_2, LIMITED, LONG_PORTS, CABLE_1, CABLE_2,
+    SYSTEM_1,
+    LIMITED,
+    TWO_LONG_PORTS,
+    SYSTEM_2,
+    LIMITED,
+    TWO_LONG_PORTS,
+    CABLE_1,
+    CABLE_2,
 ];
 
 /// A limit of one link in system 1 only.
 const FIRST_LIMITED: Setting = &[
-    SYSTEM_1, LIMITED, LONG_PORTS, SYSTEM_2, LONG_PORTS, CABLE_1, CABLE_2,
+    SYSTEM_1,
+    LIMITED,
+    TWO_LONG_PORTS,
+    SYSTEM_2,
+    TWO_LONG_PORTS,
+    CABLE_1,
+    CABLE_2,
 ];
 
 /// A limit of one link in system 2 only.
 const SECOND_LIMITED: Setting = &[
-    SYSTEM_1, LONG_PORTS, SYSTEM_2, LIMITED, LONG_PORTS, CABLE_1, CABLE_2,
+    SYSTEM_1,
+    TWO_LONG_PORTS,
+    SYSTEM_2,
+    LIMITED,
+    TWO_LONG_PORTS,
+    CABLE_1,
+    CABLE_2,
 ];
 
 /// Both cables come up, and each end hears the other.
@@ -163,12 +181,12 @@ fn chosen<F: Fn(u16, usize) -> usize + Drop>(
     wanted: Choices,
 ) {
     let ports = [(1, 1), (1, 2), (2, 1), (2, 2)];
-    for (place, ((system, port), wanted)) in ports.iter().zip(&wanted).enumerate() {
+    for ((system, port), wanted) in ports.iter().zip(&wanted) {
         let choice = match world.system(*system) {
             Some(found) => found.choice(*port),
             None => None,
         };
-        same_at(rt, "port", place, &choice, &Some(*wanted));
+        assert_eq!(rt; choice, Some(*wanted), "port {port} of system {system}");
     }
 }
 
