@@ -1,4 +1,5 @@
-"""Each edit of the repository can be made: an old text stands once in its file, one of `everywhere:` at least once."""
+"""Each edit of the repository can be made: an old text stands once in its file, one of `everywhere:` at least once. A crate has at
+most ten in must-fail."""
 
 from __future__ import annotations
 
@@ -40,3 +41,9 @@ def test_each_edit_of_a_crate_can_be_made(crate: str) -> None:
             if why:
                 wrong[os.path.relpath(path, TOOLS)] = why
     assert not wrong
+
+
+@pytest.mark.parametrize("crate", sorted({crate for crate, _ in listed()}))
+def test_a_crate_has_at_most_ten_edits_in_must_fail(crate: str) -> None:
+    tried = [path for of, path in listed() if of == crate and os.path.basename(os.path.dirname(path)) == "must-fail"]
+    assert len(tried) <= 10

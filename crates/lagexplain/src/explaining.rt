@@ -11,7 +11,9 @@ use crate::ports::explain_port_number;
 use crate::subject_text::SubjectText;
 use crate::text_places::place_of;
 use crate::values::explain_value;
-use lagscript::{CABLE_KEYS, PORT_KEYS, PortKey, SYSTEM_KEYS, ScriptFault, SystemKey, TOP_KEYS};
+use lagscript::{
+    CABLE_KEYS, MOST_ENTRIES, PORT_KEYS, PortKey, SYSTEM_KEYS, ScriptFault, SystemKey, TOP_KEYS,
+};
 use std::alloc::{AllocError, Global};
 use toml::Table;
 
@@ -79,9 +81,10 @@ fn explain_systems(out: &mut String, top: &Table) -> Result<(), AllocError> {
 /// Says what is wrong with `events`.
 fn explain_events(out: &mut String, top: &Table) -> Result<(), AllocError> {
     match count_at(top, "events") {
-        count if count > 100_000 => {
-            write!(out, "events has {count} entries: wanted are at most 100000")
-        }
+        count if count > MOST_ENTRIES => write!(
+            out,
+            "events has {count} entries: wanted are at most {MOST_ENTRIES}"
+        ),
         _ => explain_value(out, Some(top), "events", "an array of texts"),
     }
 }

@@ -22,5 +22,5 @@ pub use fault::{EntryFault, PortKey, ScriptFault, SystemKey};
 pub use forms::{Form, WordKind};
 pub use laws::scripts_have_a_limit_of_entries;
 pub use plan::Plan;
-pub use script::{TOP_KEYS, read_plan, read_script};
+pub use script::{MOST_ENTRIES, TOP_KEYS, read_plan, read_script};
 pub use tables::{CABLE_KEYS, PORT_KEYS, SYSTEM_KEYS};

@@ -25,7 +25,7 @@ use std::alloc::{AllocError, Global};
 use toml::Table;
 
 /// The most entries that a script may have in `events`.
-const MOST_ENTRIES: usize = 100_000;
+pub const MOST_ENTRIES: usize = 100_000;
 
 /// The keys at the top of a script.
 pub const TOP_KEYS: [&str; 3] = ["system", "cable", "events"];

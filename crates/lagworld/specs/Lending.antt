@@ -23,10 +23,10 @@ abbrev pub with_direction : {C : Type 0} → CodeSide → C → Cabled C → Cab
 with_direction s d l = record l { to_one = by_side (model_side s) d l.to_one; to_two = by_side (model_side s) l.to_two d }
 
 module _ (C : RattleType) where
-  -- once the borrow ends, the direction is what it was left as
+  -- once the borrow ends, the direction is what it was left as, and nothing else of the cable changed
   abbrev pub LendsDirection : MutBor (Cabled C.Denot) → CodeSide → MutBor C.Denot → Fml
   LendsDirection l s r = Lends (link_row C) C l r (λ d. with_direction s d l.now)
 
-  -- once the borrow ends, the half is what it was left as
+  -- once the borrow ends, the half is what it was left as, and nothing else of the world changed
   abbrev pub LendsHalf : (F : RattleType) → MutBor (Inner C.Denot F.Denot) → CodeSide → MutBor (Half F.Denot) → Fml
   LendsHalf F w s r = Lends (inner_row C F) (half_row F) w r (λ h. with_half_of s h w.now)

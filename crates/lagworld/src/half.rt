@@ -1,10 +1,10 @@
-ghost use Rattle.std.specs.Prelude.{◌≡◌, ℕ, Bool};
+ghost use Rattle.std.specs.Prelude.{◌≡◌};
 ghost use Rattle.lagworld.specs.Inner.{half_state};
 ghost use Rattle.lagworld.specs.HalfCalls.{HalfTicks, HalfSenses, HalfMoves};
 
 use crate::histories::{Flow, PortHistory};
 use crate::reply::Reply;
-use lagsystem::{PortChange, System};
+use lagsystem::System;
 use lagtypes::AggId;
 
 /// One system, with the histories of its ports and the records of its conversations.

@@ -217,6 +217,6 @@ impl<C: Cable, F: Fn(u16, usize) -> usize + Drop> Inner<C, F> {
         let index = self.link_index_of(cable);
         let status = link_status(&self.links, index);
         let half = self.half_mut(side);
-        half.sense(status.port_at(side), status.whole)
+        half.sense(side.port(status.one, status.two), status.whole)
     }
 }

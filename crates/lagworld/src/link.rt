@@ -28,10 +28,7 @@ impl<C: Cable> Link<C> {
     pub(crate) fn port_at(&self, side: Side) -> u16
         ensures { result ≡ by_side (model_side side) self.now.one self.now.two }
     {
-        match side {
-            Side::One => self.one,
-            Side::Two => self.two,
-        }
+        side.port(self.one, self.two)
     }
 
     /// What is on the cable towards a system.
@@ -106,18 +103,6 @@ pub(crate) struct LinkStatus {
     pub(crate) one: u16,
     pub(crate) two: u16,
     pub(crate) whole: bool,
-}
-
-impl LinkStatus {
-    /// The port at a system's end of the cable.
-    pub(crate) fn port_at(&self, side: Side) -> u16
-        ensures { result ≡ by_side (model_side side) self.now.one self.now.two }
-    {
-        match side {
-            Side::One => self.one,
-            Side::Two => self.two,
-        }
-    }
 }
 
 /// What a system learns about the cable at an index.

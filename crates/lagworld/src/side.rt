@@ -3,6 +3,7 @@ ghost use Rattle.lagmodel.specs.World.{peer};
 ghost use Rattle.lagworld.specs.Events.{has_system};
 ghost use Rattle.lagworld.specs.Messages.{side_numbered};
 ghost use Rattle.lagworld.specs.Sides.{model_side};
+ghost use Rattle.lagworld.specs.State.{by_side};
 
 /// One of the two systems.
 #[derive(Clone, Copy, Debug, PartialEq, Eq)]
@@ -21,6 +22,16 @@ impl Side {
         match self {
             Side::One => Side::Two,
             Side::Two => Side::One,
+        }
+    }
+
+    /// The port of this system, where a cable joins these ports of system 1 and of system 2.
+    pub(crate) fn port(self, one: u16, two: u16) -> u16
+        ensures { result ≡ by_side (model_side self) one two }
+    {
+        match self {
+            Side::One => one,
+            Side::Two => two,
         }
     }
 }
