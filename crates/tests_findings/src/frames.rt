@@ -3,6 +3,7 @@ use bitflags::Flags;
 use findings::{Findings, Observed, Rule, What};
 use lagtypes::{Key, PortId, State, SystemId};
 use slowpdu::{Info, Lacpdu};
+use std::process::Abort;
 
 /// Systems, by the last octet of their MAC addresses.
 pub const A: u8 = 0xa;
@@ -111,7 +112,7 @@ fn found(frames: &[Observed], milliseconds: u64) -> ArrayVec<(u8, u64), 32> {
     found
 }
 
-/// Whether just this is found.
-pub fn shows(frames: &[Observed], milliseconds: u64, expected: &[(u8, u64)]) -> bool {
-    found(frames, milliseconds).as_slice() == expected
+/// Fails unless just this is found; the message has what is found and what was expected.
+pub fn shows(rt: &impl Abort, frames: &[Observed], milliseconds: u64, expected: &[(u8, u64)]) {
+    assert_eq!(rt; found(frames, milliseconds).as_slice(), expected);
 }

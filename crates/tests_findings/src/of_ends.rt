@@ -9,23 +9,23 @@ fn a_frame_is_not_as_the_standard_has_it(rt: HostRuntime) {
     let frame = at(0, a_to_b(FAST, FAST));
     let mut other = frame;
     other.version = 2;
-    assert!(rt; shows(&[frame, other], 1000, &[(6, 2)]));
+    shows(&rt, &[frame, other], 1000, &[(6, 2)]);
     let mut other = frame;
     other.length = 123;
-    assert!(rt; shows(&[frame, other], 1000, &[(7, 2)]));
+    shows(&rt, &[frame, other], 1000, &[(7, 2)]);
     other.length = 128;
-    assert!(rt; shows(&[frame, other], 1000, &[]));
+    shows(&rt, &[frame, other], 1000, &[]);
     let mut other = frame;
     other.reserved = true;
-    assert!(rt; shows(&[frame, other, other], 1000, &[(8, 2)]));
+    shows(&rt, &[frame, other, other], 1000, &[(8, 2)]);
     let mut other = frame;
     other.destination = Some([0x01, 0x80, 0xc2, 0, 0, 3]);
-    assert!(rt; shows(&[frame, other], 1000, &[(9, 2)]));
+    shows(&rt, &[frame, other], 1000, &[(9, 2)]);
     other.destination = None;
-    assert!(rt; shows(&[frame, other], 1000, &[]));
+    shows(&rt, &[frame, other], 1000, &[]);
     let mut other = frame;
     other.tagged = true;
-    assert!(rt; shows(&[frame, other], 1000, &[(10, 2)]));
+    shows(&rt, &[frame, other], 1000, &[(10, 2)]);
 }
 
 #[test]
@@ -66,7 +66,7 @@ fn an_end_is_named_by_what_it_sends(rt: HostRuntime) {
     assert_eq!(rt; findings.end(4), None);
     assert_eq!(rt; observed(&[refused]).end(0), Some(end(None)));
     // What a refused payload has as version and reserved octets means nothing.
-    assert!(rt; shows(&[refused], 1000, &[]));
+    shows(&rt, &[refused], 1000, &[]);
 }
 
 #[test]

@@ -14,7 +14,7 @@ fn a_healthy_link_shows_nothing(rt: HostRuntime) {
         at(2000, a_to_b(FAST, FAST)),
         at(2500, b_to_a(FAST, FAST)),
     ];
-    assert!(rt; shows(&frames, 4000, &[]));
+    shows(&rt, &frames, 4000, &[]);
 }
 
 // 6.4.16: no more than three LACPDUs in any Fast_Periodic_Time, a second.
@@ -23,10 +23,10 @@ fn a_fourth_lacpdu_in_any_second_is_found_once(rt: HostRuntime) {
     let said = a_to_b(FAST, FAST);
     // within two whole seconds, two in each
     let across = [at(600, said), at(900, said), at(1200, said), at(1500, said)];
-    assert!(rt; shows(&across, 2000, &[(1, 4)]));
+    shows(&rt, &across, 2000, &[(1, 4)]);
     // the fourth comes a second after the first
     let apart = [at(0, said), at(300, said), at(600, said), at(1000, said)];
-    assert!(rt; shows(&apart, 2000, &[]));
+    shows(&rt, &apart, 2000, &[]);
     // the fifth is one too many as well
     let more = [
         at(0, said),
@@ -35,7 +35,7 @@ fn a_fourth_lacpdu_in_any_second_is_found_once(rt: HostRuntime) {
         at(999, said),
         at(1100, said),
     ];
-    assert!(rt; shows(&more, 2000, &[(1, 4)]));
+    shows(&rt, &more, 2000, &[(1, 4)]);
 }
 
 // 6.4.9, recordPDU: the Partner is who sent the last LACPDU. B answers A, and A goes on to name another.
@@ -45,23 +45,23 @@ fn who_answers_is_not_who_is_named(rt: HostRuntime) {
     let mut said = a_to_b(FAST, FAST);
     said.partner = info(C, FAST);
     let frames = [at(0, said), answer, at(1000, said), at(2000, said)];
-    assert!(rt; shows(&frames, 3000, &[(2, 4)]));
+    shows(&rt, &frames, 3000, &[(2, 4)]);
     // The first one may have been on its way.
-    assert!(rt; shows(&frames[..3], 3000, &[]));
+    shows(&rt, &frames[..3], 3000, &[]);
     let mut said = a_to_b(FAST, FAST);
     said.partner.port.number = 2;
     let frames = [at(0, said), answer, at(1000, said), at(2000, said)];
-    assert!(rt; shows(&frames, 3000, &[(3, 4)]));
-    assert!(rt; shows(&frames[..3], 3000, &[]));
+    shows(&rt, &frames, 3000, &[(3, 4)]);
+    shows(&rt, &frames[..3], 3000, &[]);
     let mut said = a_to_b(FAST, FAST);
     said.partner.key = Key(2);
     let frames = [at(0, said), answer, at(1000, said), at(2000, said)];
-    assert!(rt; shows(&frames, 3000, &[(4, 4)]));
-    assert!(rt; shows(&frames[..3], 3000, &[]));
+    shows(&rt, &frames, 3000, &[(4, 4)]);
+    shows(&rt, &frames[..3], 3000, &[]);
     // An end that is Defaulted or Expired names a partner of former times.
     said.actor = info(A, 0x87);
     let frames = [at(0, said), answer, at(1000, said), at(2000, said)];
-    assert!(rt; shows(&frames, 3000, &[]));
+    shows(&rt, &frames, 3000, &[]);
 }
 
 // B changes its key from 1 to 2 and says so.
@@ -83,10 +83,10 @@ fn the_latest_answer_counts(rt: HostRuntime) {
             at(2000, fourth),
         ]
     };
-    assert!(rt; shows(&frames(other_said, other_said), 3000, &[]));
+    shows(&rt, &frames(other_said, other_said), 3000, &[]);
     // one LACPDU was on its way
-    assert!(rt; shows(&frames(said, other_said), 3000, &[]));
-    assert!(rt; shows(&frames(said, said), 3000, &[(4, 5)]));
+    shows(&rt, &frames(said, other_said), 3000, &[]);
+    shows(&rt, &frames(said, said), 3000, &[(4, 5)]);
 }
 
 // A is cabled to C, which answers at once.
@@ -104,7 +104,7 @@ fn a_link_that_is_cabled_anew_shows_nothing(rt: HostRuntime) {
         at(2000, said),
         at(3000, said),
     ];
-    assert!(rt; shows(&frames, 3500, &[]));
+    shows(&rt, &frames, 3500, &[]);
 }
 
 // 6.4.4: Long_Timeout_Time is 90 seconds. B answers 500 milliseconds after the beginning and is not heard any more.
@@ -123,8 +123,8 @@ fn an_answer_counts_for_90_seconds(rt: HostRuntime) {
             at(last, said),
         ]
     };
-    assert!(rt; shows(&frames(90_500), 90_500, &[(2, 6)]));
-    assert!(rt; shows(&frames(90_501), 90_500, &[]));
+    shows(&rt, &frames(90_500), 90_500, &[(2, 6)]);
+    shows(&rt, &frames(90_501), 90_500, &[]);
 }
 
 #[test]
@@ -179,18 +179,18 @@ fn two_links_in_one_capture_are_not_mixed(rt: HostRuntime) {
         at(1500, of(B, A)),
         at(1510, of(0xd, C)),
     ];
-    assert!(rt; shows(&frames, 3000, &[]));
+    shows(&rt, &frames, 3000, &[]);
 }
 
 // 6.4.13: no end sends LACPDUs periodically.
 #[test]
 fn both_ends_are_passive(rt: HostRuntime) {
     let frames = [at(0, a_to_b(0x3c, 0x3c)), at(500, b_to_a(0x3c, 0x3c))];
-    assert!(rt; shows(&frames, 200_000, &[(5, 1), (5, 2)]));
+    shows(&rt, &frames, 200_000, &[(5, 1), (5, 2)]);
     let frames = [at(0, a_to_b(0x3c, UP)), at(500, b_to_a(UP, 0x3c))];
-    assert!(rt; shows(&frames, 1000, &[]));
+    shows(&rt, &frames, 1000, &[]);
     // Of a Defaulted end's partner nothing is known.
-    assert!(rt; shows(&[at(0, a_to_b(0x44, 0x00))], 1000, &[]));
+    shows(&rt, &[at(0, a_to_b(0x44, 0x00))], 1000, &[]);
 }
 
 // 6.4.4, 6.4.13: Short_Timeout_Time is 3 seconds, Long_Timeout_Time 90.
@@ -202,13 +202,13 @@ fn silence_is_longer_than_the_timeout_that_the_partner_asks_for(rt: HostRuntime)
         at(2000, b_to_a(FAST, FAST)),
         at(3001, a_to_b(FAST, FAST)),
     ];
-    assert!(rt; shows(&short, 4000, &[(11, 4)]));
+    shows(&rt, &short, 4000, &[(11, 4)]);
     let in_time = [at(0, a_to_b(FAST, FAST)), at(3000, a_to_b(FAST, FAST))];
-    assert!(rt; shows(&in_time, 4000, &[]));
+    shows(&rt, &in_time, 4000, &[]);
     // up to the end of the capture
     let long = [at(0, a_to_b(FAST, UP)), at(500, a_to_b(FAST, UP))];
-    assert!(rt; shows(&long, 90_500, &[]));
-    assert!(rt; shows(&long, 90_501, &[(11, 2)]));
+    shows(&rt, &long, 90_500, &[]);
+    shows(&rt, &long, 90_501, &[(11, 2)]);
 }
 
 // 6.4.12: an end that hears its partner is CURRENT; without it is 3 seconds in EXPIRED, then DEFAULTED.
@@ -222,12 +222,12 @@ fn an_end_hears_nothing_for_too_long(rt: HostRuntime) {
         at(6000, said),
         at(6001, said),
     ];
-    assert!(rt; shows(&frames, 7000, &[(12, 5)]));
+    shows(&rt, &frames, 7000, &[(12, 5)]);
     let expired = a_to_b(0x87, 0x3d);
     let frames = [at(0, said), at(2000, expired), at(6001, said)];
-    assert!(rt; shows(&frames, 7000, &[(12, 3)]));
+    shows(&rt, &frames, 7000, &[(12, 3)]);
     let frames = [at(0, said), at(4000, a_to_b(0x05, 0x3d)), at(7000, said)];
-    assert!(rt; shows(&frames, 8000, &[]));
+    shows(&rt, &frames, 8000, &[]);
 }
 
 // 6.4.15: the port leaves its aggregator.
@@ -235,14 +235,13 @@ fn an_end_hears_nothing_for_too_long(rt: HostRuntime) {
 fn synchronization_is_lost(rt: HostRuntime) {
     let up = a_to_b(FAST, FAST);
     let down = a_to_b(0x07, FAST);
-    assert!(rt;
-        shows(
-            &[at(0, up), at(1000, down), at(2000, down)],
-            3000,
-            &[(13, 2)]
-        )
+    shows(
+        &rt,
+        &[at(0, up), at(1000, down), at(2000, down)],
+        3000,
+        &[(13, 2)],
     );
-    assert!(rt; shows(&[at(0, down), at(1000, up), at(2000, up)], 3000, &[]));
+    shows(&rt, &[at(0, down), at(1000, up), at(2000, up)], 3000, &[]);
 }
 
 // 6.4.15: the Mux machine of one end is in ATTACHED, and goes on to COLLECTING once the partner is synchronized.
@@ -250,18 +249,18 @@ fn synchronization_is_lost(rt: HostRuntime) {
 fn an_end_is_attached_and_its_partner_is_not_synchronized(rt: HostRuntime) {
     let said = a_to_b(0x0d, 0x05);
     let frames = [at(0, said), at(3000, said), at(6000, said), at(6001, said)];
-    assert!(rt; shows(&frames, 7000, &[(22, 4)]));
-    assert!(rt; shows(&frames[..3], 7000, &[]));
+    shows(&rt, &frames, 7000, &[(22, 4)]);
+    shows(&rt, &frames[..3], 7000, &[]);
     let between = at(3000, a_to_b(0x0d, 0x0d));
     let frames = [at(0, said), between, at(6000, said), at(12_000, said)];
-    assert!(rt; shows(&frames, 13_000, &[]));
+    shows(&rt, &frames, 13_000, &[]);
     let collects = a_to_b(0x1d, 0x05);
-    assert!(rt; shows(&[at(0, collects), at(7000, collects)], 8000, &[]));
+    shows(&rt, &[at(0, collects), at(7000, collects)], 8000, &[]);
     let apart = a_to_b(0x05, 0x05);
-    assert!(rt; shows(&[at(0, apart), at(7000, apart)], 8000, &[]));
+    shows(&rt, &[at(0, apart), at(7000, apart)], 8000, &[]);
     // Without a partner it is Defaulted for too long, and no more.
     let alone = a_to_b(0x4d, 0x00);
-    assert!(rt; shows(&[at(0, alone), at(6001, alone)], 7000, &[(12, 2)]));
+    shows(&rt, &[at(0, alone), at(6001, alone)], 7000, &[(12, 2)]);
 }
 
 // 6.4.12: current information expires for the second time.
@@ -279,17 +278,17 @@ fn an_end_is_expired_again_and_again(rt: HostRuntime) {
         at(5000, heard),
         at(6000, expired),
     ];
-    assert!(rt; shows(&frames, 7000, &[(23, 6)]));
-    assert!(rt; shows(&frames[..5], 7000, &[]));
+    shows(&rt, &frames, 7000, &[(23, 6)]);
+    shows(&rt, &frames[..5], 7000, &[]);
 }
 
 // 6.3.5: the Aggregation bit of one end is 0.
 #[test]
 fn one_end_is_individual(rt: HostRuntime) {
     let frames = [at(0, a_to_b(0x39, UP)), at(500, b_to_a(UP, 0x39))];
-    assert!(rt; shows(&frames, 1000, &[(14, 1)]));
+    shows(&rt, &frames, 1000, &[(14, 1)]);
     let frames = [at(0, a_to_b(0x39, 0x39)), at(500, b_to_a(0x39, 0x39))];
-    assert!(rt; shows(&frames, 1000, &[]));
+    shows(&rt, &frames, 1000, &[]);
 }
 
 // 6.3.6: a LAG ID has the keys of both systems.
@@ -312,20 +311,20 @@ fn keys_differ_within_a_pair_of_systems(rt: HostRuntime) {
     let third = at(2000, a_to_b(FAST, FAST));
     let (a, b, c) = (info(A, FAST), info(B, FAST), info(C, FAST));
     let frames = |other: Observed| [first, other, again, third];
-    assert!(rt; shows(&frames(second(a, b, (2, 1))), 3000, &[(15, 4)]));
-    assert!(rt; shows(&frames(second(a, b, (1, 2))), 3000, &[(15, 4)]));
-    assert!(rt; shows(&frames(second(a, b, (1, 1))), 3000, &[]));
-    assert!(rt; shows(&frames(second(a, c, (2, 2))), 3000, &[]));
+    shows(&rt, &frames(second(a, b, (2, 1))), 3000, &[(15, 4)]);
+    shows(&rt, &frames(second(a, b, (1, 2))), 3000, &[(15, 4)]);
+    shows(&rt, &frames(second(a, b, (1, 1))), 3000, &[]);
+    shows(&rt, &frames(second(a, c, (2, 2))), 3000, &[]);
     // The first LACPDU of the two may have been on its way.
-    assert!(rt; shows(&frames(second(a, b, (2, 1)))[..3], 3000, &[]));
+    shows(&rt, &frames(second(a, b, (2, 1)))[..3], 3000, &[]);
     // The other link was heard 90 seconds before, and longer ago.
     let slow = |milliseconds: u64| at(milliseconds, a_to_b(UP, UP));
     let other = second(info(A, UP), info(B, UP), (2, 1));
     let answer = at(400, b_to_a(UP, UP));
     let frames = [slow(0), answer, other, slow(90_000), slow(90_400)];
-    assert!(rt; shows(&frames, 90_400, &[(15, 5)]));
+    shows(&rt, &frames, 90_400, &[(15, 5)]);
     let frames = [slow(0), answer, other, slow(90_000), slow(90_401)];
-    assert!(rt; shows(&frames, 90_400, &[]));
+    shows(&rt, &frames, 90_400, &[]);
 }
 
 // 6.4.9: two ends record one partner, so both hear it.
@@ -334,21 +333,20 @@ fn two_actors_are_on_one_segment(rt: HostRuntime) {
     let mut rival = a_to_b(FAST, FAST);
     rival.actor = info(C, FAST);
     let said = a_to_b(FAST, FAST);
-    assert!(rt;
-        shows(
-            &[at(0, said), at(500, rival), at(1000, said)],
-            2000,
-            &[(16, 3)]
-        )
+    shows(
+        &rt,
+        &[at(0, said), at(500, rival), at(1000, said)],
+        2000,
+        &[(16, 3)],
     );
     // on another interface, or long ago
     let mut elsewhere = at(500, rival);
     elsewhere.interface = 1;
-    assert!(rt; shows(&[at(0, said), elsewhere, at(1000, said)], 2000, &[]));
+    shows(&rt, &[at(0, said), elsewhere, at(1000, said)], 2000, &[]);
     let said = a_to_b(FAST, UP);
     rival.partner = info(B, UP);
     let frames = [at(0, said), at(500, rival), at(90_501, said)];
-    assert!(rt; shows(&frames[..2], 2000, &[]));
+    shows(&rt, &frames[..2], 2000, &[]);
     let of_first = observed(&frames).finding(0, Rule::Segment, 0);
     assert!(rt; of_first.is_none());
 }
@@ -364,14 +362,14 @@ fn frames_are_distributed_that_nobody_collects(rt: HostRuntime) {
         at(3000, said),
         at(3001, said),
     ];
-    assert!(rt; shows(&frames, 4000, &[(17, 5)]));
+    shows(&rt, &frames, 4000, &[(17, 5)]);
     let frames = [
         at(0, said),
         at(1000, a_to_b(UP, UP)),
         at(2000, said),
         at(4000, said),
     ];
-    assert!(rt; shows(&frames, 5000, &[]));
+    shows(&rt, &frames, 5000, &[]);
 }
 
 #[test]
@@ -383,22 +381,22 @@ fn a_clock_that_steps_back_shows_nothing(rt: HostRuntime) {
         at(7000, said),
         at(1000, said),
     ];
-    assert!(rt; shows(&fourth, 1500, &[]));
+    shows(&rt, &fourth, 1500, &[]);
     let mut rival = a_to_b(FAST, FAST);
     rival.actor = info(C, FAST);
     let frames = [at(5000, said), at(5500, rival), at(1000, said)];
-    assert!(rt; shows(&frames, 1500, &[]));
+    shows(&rt, &frames, 1500, &[]);
 }
 
 #[test]
 fn a_frame_without_a_time_shows_no_rule_of_time(rt: HostRuntime) {
     let mut said = at(0, a_to_b(FAST, FAST));
     said.nanoseconds = 0;
-    assert!(rt; shows(&[said, said, said, said], 200_000, &[]));
+    shows(&rt, &[said, said, said, said], 200_000, &[]);
     let mut unheard = at(0, a_to_b(0x47, 0x00));
     unheard.nanoseconds = 0;
     let later = at(0, a_to_b(0x47, 0x00));
-    assert!(rt; shows(&[unheard, later], 1000, &[]));
+    shows(&rt, &[unheard, later], 1000, &[]);
 }
 
 // 6.4.12: an end that hears its partner is CURRENT; it hears nothing for the timeout that it asks for.
@@ -406,8 +404,13 @@ fn a_frame_without_a_time_shows_no_rule_of_time(rt: HostRuntime) {
 fn lacpdus_go_in_one_direction_only(rt: HostRuntime) {
     let said = a_to_b(FAST, UP);
     let alone = [at(0, said), at(1500, said), at(3001, said)];
-    assert!(rt; shows(&alone, 3400, &[(18, 3)]));
-    assert!(rt; shows(&[at(0, said), at(1500, said), at(3000, said)], 3400, &[]));
+    shows(&rt, &alone, 3400, &[(18, 3)]);
+    shows(
+        &rt,
+        &[at(0, said), at(1500, said), at(3000, said)],
+        3400,
+        &[],
+    );
     let facing = |interface: u32| {
         let mut other = b_to_a(UP, UP);
         other.partner = info(C, UP);
@@ -415,8 +418,13 @@ fn lacpdus_go_in_one_direction_only(rt: HostRuntime) {
         frame.interface = interface;
         frame
     };
-    assert!(rt; shows(&[alone[0], facing(0), alone[1], alone[2]], 3400, &[]));
-    assert!(rt; shows(&[alone[0], facing(1), alone[1], alone[2]], 3400, &[(18, 4)]));
+    shows(&rt, &[alone[0], facing(0), alone[1], alone[2]], 3400, &[]);
+    shows(
+        &rt,
+        &[alone[0], facing(1), alone[1], alone[2]],
+        3400,
+        &[(18, 4)],
+    );
 }
 
 // The partner starts 10 seconds late: LACPDUs come in both directions.
@@ -432,8 +440,8 @@ fn a_partner_that_starts_late_is_heard(rt: HostRuntime) {
         at(9000, said),
         at(10_000, facing),
     ];
-    assert!(rt; shows(&frames, 11_000, &[]));
-    assert!(rt; shows(&frames[..4], 11_000, &[(18, 3)]));
+    shows(&rt, &frames, 11_000, &[]);
+    shows(&rt, &frames[..4], 11_000, &[(18, 3)]);
 }
 
 // 6.4.12: current_while_timer runs for the timeout that the end asked for when it was started.
@@ -447,14 +455,14 @@ fn an_end_that_comes_to_ask_for_short_timeout_waits_anew(rt: HostRuntime) {
         at(23_000, short),
         at(23_001, short),
     ];
-    assert!(rt; shows(&frames, 24_000, &[(18, 4)]));
-    assert!(rt; shows(&frames[..3], 24_000, &[]));
+    shows(&rt, &frames, 24_000, &[(18, 4)]);
+    shows(&rt, &frames[..3], 24_000, &[]);
     let frames = [
         at(0, long),
         at(45_000, long),
         at(90_000, long),
         at(90_001, long),
     ];
-    assert!(rt; shows(&frames, 91_000, &[(18, 4)]));
-    assert!(rt; shows(&frames[..3], 91_000, &[]));
+    shows(&rt, &frames, 91_000, &[(18, 4)]);
+    shows(&rt, &frames[..3], 91_000, &[]);
 }

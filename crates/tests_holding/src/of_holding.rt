@@ -4,7 +4,7 @@ use std::process::Abort;
 use std::test::Fail;
 
 /// A call with its answer.
-#[derive(Clone, Copy)]
+#[derive(Clone, Copy, Debug)]
 enum Row {
     /// A handle is put into a conversation, and waits or is handed back.
     Put(u16, u32, Option<Refusal>),
@@ -24,21 +24,29 @@ fn plays(rt: &impl Abort, held: &mut Holding<u32>, place: usize, row: Row) {
                 Some(reason) => Err((reason, handle)),
                 None => Ok(()),
             };
-            assert_eq!(rt; held.put(conversation, handle), wanted, "row {place}");
+            assert_eq!(rt;
+                held.put(conversation, handle),
+                wanted,
+                "row {place}, {row:?}"
+            );
         }
         Row::Next(conversation, wanted) => {
             assert_eq!(rt;
                 held.oldest(conversation).copied(),
                 wanted,
-                "oldest of row {place}"
+                "oldest of row {place}, {row:?}"
             );
-            assert_eq!(rt; held.next(conversation), wanted, "row {place}");
+            assert_eq!(rt; held.next(conversation), wanted, "row {place}, {row:?}");
         }
         Row::DropOldest(conversation, wanted) => {
-            assert_eq!(rt; held.drop_oldest(conversation), wanted, "row {place}");
+            assert_eq!(rt;
+                held.drop_oldest(conversation),
+                wanted,
+                "row {place}, {row:?}"
+            );
         }
         Row::Clear(conversation, wanted) => {
-            assert_eq!(rt; held.clear(conversation), wanted, "row {place}");
+            assert_eq!(rt; held.clear(conversation), wanted, "row {place}, {row:?}");
         }
     }
 }

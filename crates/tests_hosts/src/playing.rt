@@ -13,7 +13,7 @@ use std::fmt::Debug;
 use std::process::Abort;
 
 /// A call, or several, with the expected result; or what a reader is expected to return.
-#[derive(Clone, Copy)]
+#[derive(Clone, Copy, Debug)]
 pub(crate) enum Row<'a> {
     Link(u16, bool),
     Ticks(u16),
@@ -47,9 +47,20 @@ pub(crate) enum Row<'a> {
     Next(Option<u32>),
 }
 
-/// Fails unless the value of a row is the expected one.
-pub(crate) fn same<T: Debug + PartialEq>(rt: &impl Abort, row: usize, came: &T, wanted: &T) {
-    assert_eq!(rt; *came, *wanted, "row {row}");
+/// Fails unless a row came out as it says; the message has the row and its place among the rows, counted from 0.
+fn compare<T: Debug + PartialEq>(
+    rt: &impl Abort,
+    place: usize,
+    row: Row<'_>,
+    came: &T,
+    wanted: &T,
+) {
+    assert_eq!(rt; *came, *wanted, "row {place}, {row:?}");
+}
+
+/// Fails unless a reader filled its lists as expected; the text says what was read.
+pub(crate) fn same<T: Debug + PartialEq>(rt: &impl Abort, what: &str, came: &T, wanted: &T) {
+    assert_eq!(rt; *came, *wanted, "{what}");
 }
 
 /// The distribution algorithm: the conversation's number modulo the count of ports.
@@ -186,7 +197,7 @@ fn comes<F: Fn(u16, usize) -> usize + Drop>(
     ensures { system.new.algorithm ≡ system.old.algorithm }
 {
     match row {
-        Row::Link(port, up) => same(rt, place, &system.set_link(port, up), &Ok(())),
+        Row::Link(port, up) => compare(rt, place, row, &system.set_link(port, up), &Ok(())),
         Row::Ticks(count) => {
             for _ in 0..count {
                 system.tick();
@@ -194,12 +205,12 @@ fn comes<F: Fn(u16, usize) -> usize + Drop>(
         }
         Row::Hears(port) => {
             let answer = system.receive(port, &heard(port));
-            same(rt, place, &answer, &Ok(Received::TookLacpdu));
+            compare(rt, place, row, &answer, &Ok(Received::TookLacpdu));
         }
         Row::Releases(port, id, count) => {
             let response = marker(2, [2, 0, 0, 0, 0, 0x43], port, id);
             let answer = system.receive(port, &response);
-            same(rt, place, &answer, &Ok(Received::Released(count)));
+            compare(rt, place, row, &answer, &Ok(Received::Released(count)));
         }
         _ => asks(rt, system, place, row),
     }
@@ -217,34 +228,43 @@ fn asks<F: Fn(u16, usize) -> usize + Drop>(
 {
     match row {
         Row::OffersConversation(agg, conv, answer) => {
-            same(
+            compare(
                 rt,
                 place,
+                row,
                 &system.offer_conversation(AggId(agg), conv),
                 &answer,
             );
         }
         Row::Offers(agg, octets, answer) => {
-            same(rt, place, &system.offer(AggId(agg), octets), &answer);
+            compare(rt, place, row, &system.offer(AggId(agg), octets), &answer);
         }
         Row::Leaves(agg, conv, answer) => {
-            same(
+            compare(
                 rt,
                 place,
+                row,
                 &system.leave_conversation(AggId(agg), conv),
                 &answer,
             );
         }
-        Row::Rests(agg, conv, answer) => same(rt, place, &system.rest(AggId(agg), conv), &answer),
+        Row::Rests(agg, conv, answer) => compare(
+            rt,
+            place,
+            row,
+            &system.rest(AggId(agg), conv),
+            &answer,
+        ),
         Row::Moves(agg, conv, port, answer) => {
-            same(
+            compare(
                 rt,
                 place,
+                row,
                 &system.move_conversation(AggId(agg), conv, port),
                 &answer,
             );
         }
-        Row::ForcesPort(port, answer) => same(rt, place, &system.force_port(port), &answer),
+        Row::ForcesPort(port, answer) => compare(rt, place, row, &system.force_port(port), &answer),
         _ => carries(rt, system, place, row),
     }
 }
@@ -262,7 +282,7 @@ fn carries<F: Fn(u16, usize) -> usize + Drop>(
     match row {
         Row::OffersInCarrier(agg, conv, answer) => {
             let came = offer_conversation_in_carrier(system, AggId(agg), conv);
-            same(rt, place, &came, &answer);
+            compare(rt, place, row, &came, &answer);
         }
         _ => sends(rt, system, place, row),
     }
@@ -278,15 +298,27 @@ fn sends<F: Fn(u16, usize) -> usize + Drop>(
     ensures { system.new.algorithm ≡ system.old.algorithm }
 {
     match row {
-        Row::Probes(port, answer) => same(rt, place, &system.probe(port), &made(1, port, answer)),
-        Row::Marks(port, id) => same(rt, place, &system.transmit(port), &made(1, port, Ok(id))),
+        Row::Probes(port, answer) => compare(
+            rt,
+            place,
+            row,
+            &system.probe(port),
+            &made(1, port, answer),
+        ),
+        Row::Marks(port, id) => compare(
+            rt,
+            place,
+            row,
+            &system.transmit(port),
+            &made(1, port, Ok(id)),
+        ),
         Row::Sends(port) => {
             // the subtype of an LACPDU is 1, that of a marker 2 (6.4.2.3, 6.5.3.3)
             let subtype = match system.transmit(port) {
                 Ok(Some(octets)) => octets[14],
                 Ok(None) | Err(_) => 0,
             };
-            same(rt, place, &subtype, &1);
+            compare(rt, place, row, &subtype, &1);
         }
         _ => tells(rt, system, place, row),
     }
@@ -300,17 +332,18 @@ fn tells<F: Fn(u16, usize) -> usize + Drop>(
     row: Row<'_>,
 ) {
     match row {
-        Row::Held(port, answer) => same(rt, place, &system.held(port), &answer),
-        Row::Due(port, is) => same(rt, place, &system.is_due(port), &Some(is)),
+        Row::Held(port, answer) => compare(rt, place, row, &system.held(port), &answer),
+        Row::Due(port, is) => compare(rt, place, row, &system.is_due(port), &Some(is)),
         Row::State(agg, conv, state) => {
-            same(
+            compare(
                 rt,
                 place,
+                row,
                 &system.conversation_state(AggId(agg), conv),
                 &Some(state),
             );
         }
-        Row::Next(id) => same(rt, place, &system.next_marker(), &id),
+        Row::Next(id) => compare(rt, place, row, &system.next_marker(), &id),
         _ => {}
     }
 }

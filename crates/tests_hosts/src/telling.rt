@@ -10,11 +10,11 @@ fn each_conversation_tells_its_port_at_once(rt: HostRuntime) -> Result<(), Syste
     let mut changed = [true; 256];
     same(
         &rt,
-        0,
+        "how many before any offer",
         &system.conversation_ports(AggId(1), &mut ports, &mut changed),
         &Ok(0),
     );
-    same(&rt, 1, &changed[255], &false);
+    same(&rt, "changed before any offer", &changed[255], &false);
     let rows = [
         Row::OffersConversation(1, 0, Ok(3)),
         Row::OffersConversation(1, 101, Ok(7)),
@@ -23,19 +23,19 @@ fn each_conversation_tells_its_port_at_once(rt: HostRuntime) -> Result<(), Syste
     play(&rt, &mut system, &rows);
     same(
         &rt,
-        2,
+        "how many after three offers",
         &system.conversation_ports(AggId(1), &mut ports, &mut changed),
         &Ok(3),
     );
     same(
         &rt,
-        3,
+        "ports after three offers",
         &(ports[0], ports[1], ports[101], ports[255]),
         &(3, 0, 7, 7),
     );
     same(
         &rt,
-        4,
+        "changed after three offers",
         &(changed[0], changed[1], changed[101], changed[255]),
         &(true, false, true, true),
     );
@@ -43,30 +43,40 @@ fn each_conversation_tells_its_port_at_once(rt: HostRuntime) -> Result<(), Syste
     play(&rt, &mut system, &[Row::Moves(1, 101, 3, Ok(()))]);
     same(
         &rt,
-        5,
+        "how many after a move",
         &system.conversation_ports(AggId(1), &mut ports, &mut changed),
         &Ok(1),
     );
-    same(&rt, 6, &(ports[0], ports[101], ports[255]), &(3, 0, 7));
     same(
         &rt,
-        7,
+        "ports after a move",
+        &(ports[0], ports[101], ports[255]),
+        &(3, 0, 7),
+    );
+    same(
+        &rt,
+        "changed after a move",
         &(changed[0], changed[101], changed[255]),
         &(false, true, false),
     );
     same(
         &rt,
-        8,
+        "how many after no call",
         &system.conversation_ports(AggId(1), &mut ports, &mut changed),
         &Ok(0),
     );
     same(
         &rt,
-        9,
+        "how many without an aggregator",
         &system.conversation_ports(AggId(3), &mut ports, &mut changed),
         &Err(SystemFault::NoAggregator),
     );
-    same(&rt, 10, &(ports[0], ports[255]), &(3, 7));
+    same(
+        &rt,
+        "ports without an aggregator",
+        &(ports[0], ports[255]),
+        &(3, 7),
+    );
     Ok(())
 }
 
@@ -84,22 +94,22 @@ fn rows_are_told_as_far_as_both_lists_go(rt: HostRuntime) -> Result<(), SystemFa
     let mut changed = [true; 3];
     same(
         &rt,
-        0,
+        "how many ports",
         &system.conversation_ports(AggId(1), &mut ports, &mut changed),
         &Ok(3),
     );
-    same(&rt, 1, &ports, &[0, 0, 3, 19]);
-    same(&rt, 2, &changed, &[true, true, true]);
+    same(&rt, "ports", &ports, &[0, 0, 3, 19]);
+    same(&rt, "changed", &changed, &[true, true, true]);
     let mut busy = [true; 2];
     let mut freed = [false; 5];
     same(
         &rt,
-        3,
+        "how many are released",
         &system.released(AggId(1), &mut busy, &mut freed),
         &Ok(2),
     );
-    same(&rt, 4, &busy, &[false, false]);
-    same(&rt, 5, &freed, &[true, true, false, false, false]);
+    same(&rt, "busy", &busy, &[false, false]);
+    same(&rt, "freed", &freed, &[true, true, false, false, false]);
     Ok(())
 }
 
@@ -121,17 +131,22 @@ fn what_a_call_sets_free_is_told(rt: HostRuntime) -> Result<(), SystemFault> {
     play(&rt, &mut system, &rows);
     same(
         &rt,
-        0,
+        "how many after moves",
         &system.released(AggId(1), &mut busy, &mut freed),
         &Ok(0),
     );
     same(
         &rt,
-        1,
+        "busy after moves",
         &(busy[40], busy[41], busy[42], busy[43], busy[45]),
         &(true, false, true, true, true),
     );
-    same(&rt, 2, &(freed[40], freed[42]), &(false, false));
+    same(
+        &rt,
+        "freed after moves",
+        &(freed[40], freed[42]),
+        &(false, false),
+    );
     // the response to the marker of port 3 frees the one that waited behind it
     play(
         &rt,
@@ -140,13 +155,13 @@ fn what_a_call_sets_free_is_told(rt: HostRuntime) -> Result<(), SystemFault> {
     );
     same(
         &rt,
-        3,
+        "how many after the response",
         &system.released(AggId(1), &mut busy, &mut freed),
         &Ok(1),
     );
     same(
         &rt,
-        4,
+        "freed after the response",
         &(freed[40], freed[42], freed[43], freed[45]),
         &(false, true, false, false),
     );
@@ -154,34 +169,34 @@ fn what_a_call_sets_free_is_told(rt: HostRuntime) -> Result<(), SystemFault> {
     play(&rt, &mut system, &[Row::Link(7, false)]);
     same(
         &rt,
-        5,
+        "how many after the link",
         &system.released(AggId(1), &mut busy, &mut freed),
         &Ok(2),
     );
     same(
         &rt,
-        6,
+        "freed after the link",
         &(freed[40], freed[42], freed[43], freed[45]),
         &(false, false, true, true),
     );
     same(
         &rt,
-        7,
+        "busy after the link",
         &(busy[40], busy[42], busy[43], busy[45]),
         &(true, false, false, false),
     );
     same(
         &rt,
-        8,
+        "how many after no call",
         &system.released(AggId(1), &mut busy, &mut freed),
         &Ok(0),
     );
     same(
         &rt,
-        9,
+        "how many without an aggregator",
         &system.released(AggId(0), &mut busy, &mut freed),
         &Err(SystemFault::NoAggregator),
     );
-    same(&rt, 10, &busy[40], &true);
+    same(&rt, "busy without an aggregator", &busy[40], &true);
     Ok(())
 }

@@ -1,0 +1,49 @@
+"""tools/library.py: what the library shows, and a command that fails."""
+
+from __future__ import annotations
+
+from pathlib import Path
+
+import pytest
+
+import loading
+from repository import Missing
+
+library = loading.module("", "library")
+
+HEADER = """\
+int32_t lagffi_tick(struct lagffi_system *system);
+uint32_t lagffi_abi(void);
+typedef int lagffi_no_function;
+"""
+
+
+def test_the_functions_of_a_header_in_the_order_of_their_names(tmp_path: Path, monkeypatch: pytest.MonkeyPatch) -> None:
+    header = tmp_path / "lag.h"
+    header.write_text(HEADER, encoding="utf-8")
+    monkeypatch.setattr(library, "HEADER", str(header))
+    assert library.exports() == ["lagffi_abi", "lagffi_tick"]
+
+
+def test_a_header_without_a_function_is_refused(tmp_path: Path, monkeypatch: pytest.MonkeyPatch) -> None:
+    header = tmp_path / "lag.h"
+    header.write_text("/* nothing */\n", encoding="utf-8")
+    monkeypatch.setattr(library, "HEADER", str(header))
+    with pytest.raises(Missing, match="declares no function"):
+        library.exports()
+
+
+def test_each_function_of_lag_h_is_shown_and_nothing_else(tmp_path: Path) -> None:
+    with open(library.version_script(str(tmp_path)), encoding="utf-8") as it:
+        lines = [line.strip() for line in it]
+    shown = [f"{name};" for name in library.exports()]
+    assert lines == [f"{library.SYMBOL_VERSION} {{", "global:", *shown, "local:", "*;", "};"]
+
+
+def test_what_a_command_prints() -> None:
+    assert library.printed("cat", given="a text\n") == "a text\n"
+
+
+def test_a_command_that_fails_is_told_with_what_it_said() -> None:
+    with pytest.raises(Missing, match="failed: no such thing"):
+        library.printed("sh", "-c", "echo no such thing >&2; exit 3")
