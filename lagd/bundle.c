@@ -19,8 +19,9 @@ static uint16_t carrying_in(uint16_t aggregator) {
 /* The aggregator that carries, where `before` carried last; 0 for none. The library takes one on defaults only where none has a partner. If
  * a partner is required, its links do not carry, and the answer is 0. */
 static uint16_t aggregator_after(uint16_t before) {
-    uint16_t aggregator = (uint16_t)number_of(niw_carrier(&own_system, before), "niw_carrier");
-    return carrying_in(aggregator) > 0 ? aggregator : 0;
+    uint64_t aggregator;
+    if (!is_told(niw_carrier(&own_system, before), "niw_carrier", &aggregator)) return 0;
+    return carrying_in((uint16_t)aggregator) > 0 ? (uint16_t)aggregator : 0;
 }
 
 /* Chooses the aggregator whose ports carry, and remembers it: while it is kept it stays among equals, whoever calls. Else, of equals, it is

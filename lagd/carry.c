@@ -35,18 +35,19 @@ uint64_t milliseconds(void) {
     return (uint64_t)now.tv_sec * 1000 + (uint64_t)now.tv_nsec / 1000000;
 }
 
-struct niw_assignment state_of(uint16_t aggregator, uint16_t number) {
-    struct niw_assignment state = niw_conversation_state(&own_system, aggregator, number);
-    check_call(state.status, "niw_conversation_state");
-    return state;
+/* Writes what a conversation of an aggregator is doing; answers whether the library told it. */
+bool ask_state(uint16_t aggregator, uint16_t number, struct niw_assignment *state) {
+    *state = niw_conversation_state(&own_system, aggregator, number);
+    return is_done(state->status, "niw_conversation_state");
 }
 
-/* Writes the port of each conversation of an aggregator: 0 where it is free or held there, or there is no aggregator. */
-void ask_ports(uint16_t aggregator, uint16_t *ports) {
+/* Writes the port of each conversation of an aggregator: 0 where it is free or held there, or there is no aggregator. Answers whether the
+ * library told them. */
+bool ask_ports(uint16_t aggregator, uint16_t *ports) {
     bool changed[CONVERSATIONS] = {false};
     memset(ports, 0, CONVERSATIONS * sizeof *ports);
-    if (aggregator != 0)
-        check_call(niw_conversation_ports(&own_system, aggregator, ports, CONVERSATIONS, changed, CONVERSATIONS).status,
+    return aggregator == 0
+        || is_done(niw_conversation_ports(&own_system, aggregator, ports, CONVERSATIONS, changed, CONVERSATIONS).status,
             "niw_conversation_ports");
 }
 
@@ -56,8 +57,9 @@ bool is_held(const struct niw_assignment *state) {
 
 /* Whether the frames of a conversation may go in the active aggregator: none of it is on its way in another one. */
 bool is_home(const struct conversation *conversation, uint16_t number) {
+    struct niw_assignment state;
     if (conversation->home == carry.active || conversation->home == 0) return true;
-    return state_of(conversation->home, number).what == NIW_CONVERSATION_FREE;
+    return ask_state(conversation->home, number, &state) && state.what == NIW_CONVERSATION_FREE;
 }
 
 /* Whether a conversation had a frame of late, in the active aggregator. */
@@ -70,10 +72,9 @@ bool is_busy(const struct conversation *conversation) {
 static void keep(uint16_t number, const uint8_t *packet, size_t length) {
     bool kept = put_held(number, packet, length);
     uint64_t waiting;
-    if (!kept && drop_held(number, QUEUE_FULL)) kept = put_held(number, packet, length);
+    if (!kept && !broken && drop_held(number, QUEUE_FULL)) kept = put_held(number, packet, length);
     carry.counts[kept ? HELD_FRAMES : QUEUE_FULL]++;
-    waiting = count_held(number);
-    if (waiting > carry.counts[LONGEST_QUEUE]) carry.counts[LONGEST_QUEUE] = waiting;
+    if (count_held(number, &waiting) && waiting > carry.counts[LONGEST_QUEUE]) carry.counts[LONGEST_QUEUE] = waiting;
 }
 
 /* What becomes of the next frame of a conversation: it waits, there is no port for it, or it goes on the port of the conversation. */
@@ -85,7 +86,7 @@ static enum offered offer(struct conversation *conversation, uint16_t number) {
     answer = niw_offer_conversation(&own_system, carry.active, number);
     if (answer.status == NIW_HELD) return WAITS;
     if (answer.status == NIW_NONE_DISTRIBUTING) return LOST;
-    check_call(answer.status, "niw_offer_conversation");
+    if (!is_done(answer.status, "niw_offer_conversation")) return WAITS;
     conversation->home = carry.active;
     conversation->port = (uint16_t)answer.number;
     conversation->since = 0;
@@ -109,7 +110,7 @@ static void take_fit(struct conversation *conversation, uint16_t number, uint8_t
     enum offered offered = LOST;
     if (carry.active != 0) {
         conversation->used = true;
-        offered = count_held(number) > 0 ? WAITS : offer(conversation, number);
+        offered = none_held(number) ? offer(conversation, number) : WAITS;
     }
     if (offered == WAITS) keep(number, packet, length);
     if (offered == GOES) send_on(conversation, packet, length);
@@ -118,20 +119,22 @@ static void take_fit(struct conversation *conversation, uint16_t number, uint8_t
 
 /* A packet came from the host. */
 static void take_from_host(uint8_t *packet, size_t length) {
-    struct niw_number number;
+    uint64_t number;
     struct conversation *conversation;
     carry.counts[FROM_HOST]++;
     if (length < head_octets() + ETH_HLEN) {
         carry.counts[UNFIT]++;
         return;
     }
-    number = conversation_of(packet + head_octets(), length - head_octets());
-    check_call(number.status, "niw_conversation");
-    conversation = &carry.conversations[number.number % CONVERSATIONS];
+    if (!is_told(conversation_of(packet + head_octets(), length - head_octets()), "niw_conversation", &number)) {
+        carry.counts[UNFIT]++;
+        return;
+    }
+    conversation = &carry.conversations[number % CONVERSATIONS];
     note_taken(conversation, count_segments(packet, length));
     if (has_segments(packet)) carry.counts[SEGMENTED]++;
     if (is_fit(packet, length))
-        take_fit(conversation, (uint16_t)number.number, packet, length);
+        take_fit(conversation, (uint16_t)number, packet, length);
     else
         carry.counts[UNFIT]++;
 }
@@ -164,7 +167,7 @@ static void forget_heard(void) {
 }
 
 /* A frame came in an aggregator that is not the active one. If no aggregator has more than that one, the peer may send there. It is looked
- * at once a millisecond, however many frames come. */
+ * at once a tick, however many frames come. */
 void doubt_aggregator(uint32_t aggregator) {
     static uint64_t looked_at;
     if (looked_at == carry.time) return;
@@ -202,16 +205,19 @@ static bool release_one(struct conversation *conversation, uint16_t number) {
     conversation->fast.touched = true;
     if (offered == LOST) return drop_held(number, NONE_CARRIES);
     packet = take_held(number, &length);
+    if (!packet) return false;
     send_on(conversation, packet, length);
     return true;
 }
 
 /* Offers again what waits, of each conversation until one is held. */
 static void release(void) {
-    uint64_t unseen = count_all_held(); /* the frames of the conversations that were not looked at yet */
+    uint64_t unseen; /* the frames of the conversations that were not looked at yet */
     bool any_left = false;
+    if (!count_all_held(&unseen)) return;
     for (uint16_t number = 0; unseen > 0 && number < CONVERSATIONS; number++) {
-        uint64_t left = count_held(number);
+        uint64_t left;
+        any_left = !count_held(number, &left) || any_left;
         unseen -= left;
         while (left > 0 && release_one(&carry.conversations[number], number)) left--;
         if (left > 0) any_left = true;
@@ -245,10 +251,10 @@ static void leave_previous(void) {
     uint16_t ports[CONVERSATIONS];
     if (carry.active == 0 || carry.active == left) return;
     previous = carry.active;
-    ask_ports(left, ports);
+    if (!ask_ports(left, ports)) return;
     for (uint16_t number = 0; number < CONVERSATIONS; number++) {
         uint32_t status = ports[number] == 0 ? NIW_OK : niw_leave_conversation(&own_system, left, number);
-        if (status != NIW_MARKERS_SPENT) check_call(status, "niw_leave_conversation");
+        if (status != NIW_MARKERS_SPENT && !is_done(status, "niw_leave_conversation")) return;
     }
     send_due();
 }
@@ -261,7 +267,7 @@ static void note_heard(void) {
 
 /* After calls that may have changed something: the active aggregator, what goes on, and the next moves. */
 void settle_carry(void) {
-    if (!carries_data() || !carry.changed) return;
+    if (!carries_data() || broken || !carry.changed) return;
     carry.changed = false;
     take_views();
     choose_active();
@@ -276,7 +282,7 @@ void settle_carry(void) {
 
 /* 100 ms passed. */
 void pass_carry_tick(void) {
-    if (!carries_data()) return;
+    if (!carries_data() || broken) return;
     carry.time = milliseconds();
     pass_fast_tick();
     note_heard();
@@ -287,7 +293,7 @@ void pass_carry_tick(void) {
 
 /* Serves what is ready: a member, or the TAP device, whose frames come after what was released. */
 void serve_data(uint32_t tag) {
-    if (!carries_data()) return;
+    if (!carries_data() || broken) return;
     if (tag >= MEMBERS && tag < TAGS) {
         take_data((uint16_t)(tag - MEMBERS + 1));
         if (carry.changed) send_due();
@@ -314,8 +320,12 @@ void open_carry(void) {
     if (!await_input(tap, HOST)) stop(REFUSED, "epoll", strerror(errno));
 }
 
-/* The daemon ends: members are as they were before, and the device goes with the program. */
+/* The daemon ends, or the library refused a call: no data goes or comes from here on. Members are as they were before, and the device goes
+ * with the program. */
 void end_carry(void) {
+    if (!carries_data()) return;
+    await_no_more(tap);
+    set_carrier(false);
     for (uint16_t i = 0; i < link_count; i++)
         if (links[i].socket >= 0) close_member(&links[i]);
     end_fast();

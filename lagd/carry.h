@@ -104,8 +104,8 @@ struct carry {
 extern struct carry carry;
 
 /* carry.c */
-struct niw_assignment state_of(uint16_t aggregator, uint16_t number);
-void ask_ports(uint16_t aggregator, uint16_t *ports);
+bool ask_state(uint16_t aggregator, uint16_t number, struct niw_assignment *state) MUST_USE;
+bool ask_ports(uint16_t aggregator, uint16_t *ports) MUST_USE;
 bool is_held(const struct niw_assignment *state);
 bool is_home(const struct conversation *conversation, uint16_t number);
 bool is_busy(const struct conversation *conversation);
@@ -212,8 +212,9 @@ uint64_t member_count(uint16_t port, enum member_count count);
 /* held.c */
 void start_held(void);
 void end_held(void);
-uint64_t count_held(uint16_t number);
-uint64_t count_all_held(void);
+bool count_held(uint16_t number, uint64_t *waiting) MUST_USE;
+bool none_held(uint16_t number);
+bool count_all_held(uint64_t *waiting) MUST_USE;
 bool oldest_held(uint16_t number, uint64_t *came);
 bool put_held(uint16_t number, const uint8_t *packet, size_t length);
 bool drop_held(uint16_t number, enum carry_count why);

@@ -70,14 +70,15 @@ static const char *way_text(void) {
 }
 
 void write_carry_text(void) {
-    if (!carries_data()) return;
+    uint64_t waiting;
+    if (!carries_data() || !count_all_held(&waiting)) return;
     take_fast_counts();
     add("  carry: %s, carrier %s, hash %s, flight %u ms, markers %s, %s\n", settings.carry, has_carrier() ? "on" : "off",
         hash_text(settings.hash), settings.flight, answering_text(), way_text());
     for (unsigned i = 0; i < CARRY_COUNTS; i++)
         add("%s %s %" PRIu64 "%s", i % 5 == 0 ? "  data:" : "", CARRY_COUNTERS[i].name, carry.counts[i],
             i % 5 == 4 || i == CARRY_COUNTS - 1 ? "\n" : "");
-    add("  waiting: %" PRIu64 ", conversations of the kernel: %u\n", count_all_held(), count_fast());
+    add("  waiting: %" PRIu64 ", conversations of the kernel: %u\n", waiting, count_fast());
 }
 
 void write_member_text(const struct link *link) {
@@ -88,13 +89,14 @@ void write_member_text(const struct link *link) {
 }
 
 void write_carry_json(void) {
-    if (!carries_data()) return;
+    uint64_t waiting;
+    if (!carries_data() || !count_all_held(&waiting)) return;
     take_fast_counts();
     add("\"carry\":{\"device\":");
     add_string(settings.carry);
     add(",\"carrier\":%s,\"aggregator\":%u,\"hash\":\"%s\",", has_carrier() ? "true" : "false", carry.active, hash_text(settings.hash));
     add("\"flight\":%u,\"markers\":\"%s\",\"way\":\"%s\",\"waiting\":%" PRIu64 ",\"fast_conversations\":%u", settings.flight, answering_text(),
-        way_text(), count_all_held(), count_fast());
+        way_text(), waiting, count_fast());
     for (unsigned i = 0; i < CARRY_COUNTS; i++) add(",\"%s\":%" PRIu64, CARRY_COUNTERS[i].name, carry.counts[i]);
     add("},");
 }
@@ -109,10 +111,11 @@ void write_member_json(const struct link *link) {
 
 void write_carry_metrics(void) {
     char name[64];
-    if (!carries_data()) return;
+    uint64_t waiting;
+    if (!carries_data() || !count_all_held(&waiting)) return;
     take_fast_counts();
     add_bundle_value("carry_carrier", "gauge", "whether the TAP device has a carrier", has_carrier());
-    add_bundle_value("carry_waiting", "gauge", "how many frames wait", count_all_held());
+    add_bundle_value("carry_waiting", "gauge", "how many frames wait", waiting);
     add_bundle_value("carry_fast_conversations", "gauge", "how many conversations the kernel passes on", count_fast());
     for (unsigned i = 0; i < CARRY_COUNTS; i++) {
         bool most = i == LONGEST_QUEUE;

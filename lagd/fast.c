@@ -135,8 +135,7 @@ void take_fast_counts(void) {
 static bool may_pass(const struct conversation *conversation, uint16_t port) {
     struct niw_assignment state;
     if (conversation->home != carry.active || carry.active == 0 || !has_fast_member(port)) return false;
-    state = state_of(carry.active, number_in(conversation));
-    return state.what == NIW_CONVERSATION_ON && state.port == port;
+    return ask_state(carry.active, number_in(conversation), &state) && state.what == NIW_CONVERSATION_ON && state.port == port;
 }
 
 /* Takes the rows back that are chosen; once that is done, all that they passed on is with the members, and counted. */
@@ -163,6 +162,13 @@ static bool is_wrong(const struct conversation *conversation, uint16_t port) {
     return carry.port_of[number_in(conversation)] != conversation->fast.port || !has_fast_member(conversation->fast.port);
 }
 
+/* Where the library refuses to tell, the kernel passes nothing on. */
+static bool is_any(const struct conversation *conversation, uint16_t port) {
+    (void)conversation;
+    (void)port;
+    return true;
+}
+
 static bool is_on(const struct conversation *conversation, uint16_t port) {
     return conversation->fast.port == port;
 }
@@ -176,8 +182,7 @@ static bool is_resting(const struct conversation *conversation, uint16_t port) {
 /* Takes back what is not, or no longer, on the port where the kernel passes it on: before a marker goes there. */
 void withdraw(void) {
     if (!is_fast()) return;
-    ask_ports(carry.active, carry.port_of);
-    take_back(is_wrong, 0);
+    take_back(ask_ports(carry.active, carry.port_of) ? is_wrong : is_any, 0);
 }
 
 /* The link of a port goes down, or its interface: before the library hears of it. */
@@ -195,8 +200,9 @@ void withdraw_port(uint16_t port) {
 void set_collecting(void) {
     for (uint16_t i = 0; is_fast() && i < link_count; i++) {
         uint16_t port = links[i].settings.number;
+        uint64_t state = 0;
         bool up = carry.active != 0 && links[i].view.aggregator == carry.active && has_fast_member(port)
-            && (number_of(niw_state(&own_system, port), "niw_state") & NIW_STATE_COLLECTING) != 0;
+            && is_told(niw_state(&own_system, port), "niw_state", &state) && (state & NIW_STATE_COLLECTING) != 0;
         __atomic_store_n(&entries[i].up_to, up ? (uint64_t)tap_at : 0, __ATOMIC_SEQ_CST);
     }
 }
@@ -225,7 +231,7 @@ void pass_on(void) {
         if (conversation->fast.taken > 0) subtract(number, conversation->fast.taken);
         if (conversation->fast.taken > 0) conversation->fast.doubted = false;
         conversation->fast.taken = 0;
-        if (conversation->port == 0 || conversation->fast.port > 0 || count_held(number) > 0) continue;
+        if (conversation->port == 0 || conversation->fast.port > 0 || !none_held(number)) continue;
         if (may_pass(conversation, conversation->port)) pass(conversation);
     }
 }

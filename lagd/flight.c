@@ -16,10 +16,10 @@ static uint64_t silent_since[NIW_MOST_PORTS]; /* the time since which a port hol
 static unsigned on_defaults[NIW_MOST_PORTS]; /* ticks for which it ran on defaults */
 static unsigned wakes_after[NIW_MOST_PORTS]; /* how many of them it may */
 
-static bool distributes(uint16_t port) {
+/* Whether the library tells that a port distributes, or that it does not. */
+static bool distributes(uint16_t port, bool wanted) {
     struct niw_truth answer = niw_distributes(&own_system, port);
-    check_call(answer.status, "niw_distributes");
-    return answer.is;
+    return is_done(answer.status, "niw_distributes") && answer.is == wanted;
 }
 
 /* A port on defaults sends an LACPDU each 30 s only, so a link that was silent for more than 6 s would be long in coming back. As one
@@ -30,12 +30,13 @@ static void wake_port(uint16_t port) {
     bool sleeps = link->up && link->view.receive_state == NIW_RECEIVE_DEFAULTED
         && (carry.active == 0 || link->view.aggregator != carry.active);
     unsigned *after = &wakes_after[port - 1];
+    uint64_t load;
     if (link->view.receive_state == NIW_RECEIVE_CURRENT || *after == 0) *after = FIRST_WAKE;
     on_defaults[port - 1] = sleeps ? on_defaults[port - 1] + 1 : 0;
-    if (on_defaults[port - 1] < *after || number_of(niw_load(&own_system, port), "niw_load") > 0) return;
+    if (on_defaults[port - 1] < *after || !is_told(niw_load(&own_system, port), "niw_load", &load) || load > 0) return;
     *after = 2 * *after < LAST_WAKE ? 2 * *after : LAST_WAKE;
-    check_call(niw_set_link(&own_system, port, false), "niw_set_link");
-    check_call(niw_set_link(&own_system, port, true), "niw_set_link");
+    if (!is_done(niw_set_link(&own_system, port, false), "niw_set_link")) return;
+    if (!is_done(niw_set_link(&own_system, port, true), "niw_set_link")) return;
     on_defaults[port - 1] = 0;
     carry.counts[WOKEN]++;
 }
@@ -47,28 +48,26 @@ void note_sent(uint16_t port) {
 
 /* Frees what is held on a port that does not distribute for longer than frames can be on their way. */
 static void watch_port(uint16_t port) {
-    bool holds = !distributes(port) && number_of(niw_held(&own_system, port), "niw_held") > 0;
-    struct niw_number freed;
-    uint64_t *since = &silent_since[port - 1];
+    uint64_t held, freed, *since = &silent_since[port - 1];
+    bool holds = distributes(port, false) && is_told(niw_held(&own_system, port), "niw_held", &held) && held > 0;
     if (!holds || *since == 0) *since = holds ? carry.time : 0;
     if (!holds || carry.time - *since < settings.flight) return;
     *since = 0;
-    freed = niw_force_port(&own_system, port);
-    check_call(freed.status, "niw_force_port");
-    carry.counts[FORCED] += freed.number;
+    if (!is_told(niw_force_port(&own_system, port), "niw_force_port", &freed)) return;
+    carry.counts[FORCED] += freed;
     (void)say(LOG_WARNING | ABOUT_DATA, "port %u %s: it carries no more, and %" PRIu64 " conversations leave it", port,
-        links[port - 1].name, freed.number);
+        links[port - 1].name, freed);
 }
 
 /* Loses what has waited for longer than a flight and a second. */
 static void drop_old(uint16_t number) {
     uint64_t came;
-    while (oldest_held(number, &came) && carry.time - came >= settings.flight + 1000u) (void)drop_held(number, HELD_TOO_LONG);
+    while (oldest_held(number, &came) && carry.time - came >= settings.flight + 1000u && drop_held(number, HELD_TOO_LONG)) continue;
 }
 
 /* Frees a conversation from the port that it is on: nothing of it was sent for a flight, so its next frame overtakes none. */
 static void rest(struct conversation *conversation, uint16_t number) {
-    check_call(niw_rest(&own_system, conversation->home, number), "niw_rest");
+    if (!is_done(niw_rest(&own_system, conversation->home, number), "niw_rest")) return;
     carry.counts[RESTED]++;
     carry.changed = true;
     conversation->since = 0;
@@ -76,8 +75,8 @@ static void rest(struct conversation *conversation, uint16_t number) {
 
 /* Frees a conversation that is held, and whose marker nobody answered: nothing of it was sent since. */
 static void force(struct conversation *conversation, uint16_t number) {
+    if (!is_done(niw_force(&own_system, conversation->home, number), "niw_force")) return;
     if (conversation->home == carry.active) doubt_partner();
-    check_call(niw_force(&own_system, conversation->home, number), "niw_force");
     carry.counts[FORCED]++;
     carry.changed = true;
     conversation->since = 0;
@@ -99,7 +98,7 @@ static void watch_held(struct conversation *conversation, uint16_t number, const
     bool answered = is_held(state) && answering() != MUTE && settings.flight < UNANSWERED;
     if (conversation->since == 0) conversation->since = carry.time;
     if (carry.time - conversation->since < (answered ? UNANSWERED : settings.flight)) return;
-    if (is_held(state) && !distributes(state->port)) return;
+    if (is_held(state) && !distributes(state->port, true)) return;
     if (is_held(state))
         force(conversation, number);
     else
@@ -113,12 +112,11 @@ static void watch_conversation(uint16_t number, uint64_t *again) {
     drop_old(number);
     if (conversation->used) conversation->last = carry.time;
     conversation->used = false;
-    if (conversation->home == 0) return;
-    state = state_of(conversation->home, number);
+    if (conversation->home == 0 || !ask_state(conversation->home, number, &state)) return;
     away = conversation->home != carry.active && carry.active != 0 && state.what == NIW_CONVERSATION_ON;
     if (state.what == NIW_CONVERSATION_FLUSHING && state.age > 0 && state.age % AGAIN_TICKS == 0)
         *again |= (uint64_t)1 << (state.port - 1);
-    if (is_held(&state) || (away && count_held(number) > 0))
+    if (is_held(&state) || (away && !none_held(number)))
         watch_held(conversation, number, &state);
     else
         watch_free(conversation, number, &state);
@@ -127,7 +125,8 @@ static void watch_conversation(uint16_t number, uint64_t *again) {
 /* 100 ms passed. */
 void pass_flight_tick(void) {
     uint64_t again = 0;
-    for (uint16_t number = 0; number < CONVERSATIONS; number++) watch_conversation(number, &again);
+    for (uint16_t number = 0; !broken && number < CONVERSATIONS; number++) watch_conversation(number, &again);
+    if (broken) return;
     pass_probe_tick();
     for (uint16_t port = 1; port <= link_count; port++) {
         watch_port(port);

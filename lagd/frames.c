@@ -81,8 +81,7 @@ static void hand_over(struct link *link, const struct arrival *arrival, const st
     uint8_t response[NIW_FRAME];
     struct niw_received received = niw_receive(&own_system, link->settings.number, arrival->frame, arrival->length, response,
         sizeof response);
-    check_call(received.status, "niw_receive");
-    if (received.status != NIW_OK) return;
+    if (!is_done(received.status, "niw_receive")) return;
     link->counts[kind_of(&received)]++;
     if (received.what == NIW_RECEIVED_TOOK_LACPDU && actor) note_actor(link, actor, arrival->frame + 6);
     if (received.what != NIW_RECEIVED_RESPOND) return;
@@ -116,17 +115,16 @@ void take_frame(struct link *link, const struct arrival *arrival) {
     hand_over(link, arrival, is_lacpdu ? &actor : NULL);
 }
 
-/* Whether the kernel took a VLAN tag from a frame. */
-static bool is_tagged(struct msghdr *message) {
+/* What the kernel tells beside a frame; zeros where it does not. */
+struct tpacket_auxdata aux_of(struct msghdr *message) {
+    struct tpacket_auxdata aux = {0};
     for (struct cmsghdr *head = CMSG_FIRSTHDR(message); head; head = CMSG_NXTHDR(message, head)) {
-        struct tpacket_auxdata aux;
         size_t room = message->msg_controllen - (size_t)((const uint8_t *)head - (const uint8_t *)message->msg_control);
-        if (head->cmsg_level != SOL_PACKET || head->cmsg_type != PACKET_AUXDATA || head->cmsg_len < CMSG_LEN(sizeof aux)) continue;
-        if (head->cmsg_len > room) return false;
-        memcpy(&aux, CMSG_DATA(head), sizeof aux);
-        if (aux.tp_status & TP_STATUS_VLAN_VALID) return true;
+        if (head->cmsg_len > room) break;
+        if (head->cmsg_level == SOL_PACKET && head->cmsg_type == PACKET_AUXDATA && head->cmsg_len >= CMSG_LEN(sizeof aux))
+            memcpy(&aux, CMSG_DATA(head), sizeof aux);
     }
-    return false;
+    return aux;
 }
 
 /* Takes the frames that wait at an interface, MOST_TAKEN of them at most. */
@@ -145,7 +143,7 @@ void take_frames(uint16_t port) {
         struct arrival arrival = {frame, (size_t)got, from.sll_pkttype, from.sll_ifindex, false};
         if (got < 0) return;
         if (from.sll_pkttype == PACKET_OUTGOING) continue; /* an old kernel shows what was sent */
-        arrival.tagged = is_tagged(&message);
+        arrival.tagged = (aux_of(&message).tp_status & TP_STATUS_VLAN_VALID) != 0;
         take_frame(link, &arrival);
     }
 }

@@ -33,6 +33,7 @@ static struct pool {
 } small, large;
 static uint32_t leaving = NONE; /* the first of those that are in use until they were sent */
 static struct niw_queue queues = NIW_EMPTY;
+static size_t octets; /* of all slots, while the queues are there */
 
 static struct pool *pool_of(uint32_t at) {
     return at & LARGE ? &large : &small;
@@ -57,12 +58,15 @@ void start_held(void) {
     small.slots = mmap(NULL, before + behind, PROT_READ | PROT_WRITE, MAP_PRIVATE | MAP_ANONYMOUS | MAP_NORESERVE, -1, 0);
     if (small.slots == MAP_FAILED) stop(REFUSED, "no room for held frames", strerror(errno));
     large.slots = small.slots + before;
-    check_call(niw_queue_new(&queues, CONVERSATIONS, MOST_WAIT, MOST_OF_ONE), "niw_queue_new");
+    if (!is_done(niw_queue_new(&queues, CONVERSATIONS, MOST_WAIT, MOST_OF_ONE), "niw_queue_new")) return;
+    octets = before + behind;
 }
 
-/* The daemon ends. */
+/* The daemon ends: once the library has no number of a slot, the memory goes back. */
 void end_held(void) {
-    if (queues.live) check_call(niw_queue_free(&queues), "niw_queue_free");
+    if (octets == 0 || !is_done(niw_queue_free(&queues), "niw_queue_free")) return;
+    (void)munmap(small.slots, octets);
+    octets = 0;
 }
 
 /* A slot that is not in use, or NONE. */
@@ -81,26 +85,28 @@ static void free_slot(uint32_t at) {
     pool->idle = at;
 }
 
-/* How many frames of a conversation wait. While no frame waits at all, the library is not asked. */
-uint64_t count_held(uint16_t number) {
-    struct niw_number waiting;
-    if (!carry.waiting) return 0;
-    waiting = niw_queue_waiting(&queues, number);
-    check_call(waiting.status, "niw_queue_waiting");
-    return waiting.number;
+/* Writes how many frames of a conversation wait; answers whether that is known. While no frame waits at all, the library is not asked. */
+bool count_held(uint16_t number, uint64_t *waiting) {
+    *waiting = 0;
+    return !carry.waiting || is_told(niw_queue_waiting(&queues, number), "niw_queue_waiting", waiting);
 }
 
-/* How many frames wait in all. */
-uint64_t count_all_held(void) {
+/* Whether it is known that no frame of a conversation waits. */
+bool none_held(uint16_t number) {
+    uint64_t waiting;
+    return count_held(number, &waiting) && waiting == 0;
+}
+
+/* Writes how many frames wait in all; answers whether that is known. */
+bool count_all_held(uint64_t *waiting) {
     struct niw_counts counts = niw_queue_counts(&queues);
-    check_call(counts.status, "niw_queue_counts");
-    return counts.waiting;
+    *waiting = counts.waiting;
+    return is_done(counts.status, "niw_queue_counts");
 }
 
 /* The slot of a frame that the library tells, or NONE where it tells none. */
 static uint32_t slot_told(const struct niw_queued *queued, const char *call) {
-    check_call(queued->status, call);
-    return queued->is ? (uint32_t)queued->frame : NONE;
+    return is_done(queued->status, call) && queued->is ? (uint32_t)queued->frame : NONE;
 }
 
 /* Writes the time at which the oldest frame of a conversation came; answers whether one waits. */
@@ -119,8 +125,7 @@ bool put_held(uint16_t number, const uint8_t *packet, size_t length) {
     uint32_t at = take_slot(length > SMALL_ROOM ? &large : &small), status;
     if (at == NONE) return false;
     status = niw_queue_put(&queues, number, at);
-    if (status != NIW_OK) {
-        if (status != NIW_CONVERSATION_FULL && status != NIW_ALL_FULL) check_call(status, "niw_queue_put");
+    if (status == NIW_CONVERSATION_FULL || status == NIW_ALL_FULL || !is_done(status, "niw_queue_put")) {
         free_slot(at);
         return false;
     }
@@ -141,10 +146,11 @@ bool drop_held(uint16_t number, enum carry_count why) {
     return true;
 }
 
-/* Takes the oldest frame of a conversation out, to be sent. One waits. Its packet stays where it is until free_left. */
+/* Takes the oldest frame of a conversation out, to be sent; answers NULL where none is told. Its packet stays where it is until free_left. */
 uint8_t *take_held(uint16_t number, size_t *length) {
     struct niw_queued queued = niw_queue_next(&queues, number);
     uint32_t at = slot_told(&queued, "niw_queue_next");
+    if (at == NONE) return NULL;
     slot_of(at)->next = leaving;
     leaving = at;
     *length = slot_of(at)->length;

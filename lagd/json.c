@@ -68,8 +68,9 @@ static void add_counts(const struct link *link) {
 
 /* One port. */
 static void add_member(const struct link *link) {
-    struct view view = view_of(link);
+    struct view view;
     char speed[40];
+    if (!view_of(link, &view)) return;
     add("{\"port\":%u,\"interface\":", link->settings.number);
     add_string(link->name);
     add(",\"link\":\"%s\",\"status\":\"%s\",\"carries\":%s,", link_name(link), status_text(view.facts.status),

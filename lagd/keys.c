@@ -130,7 +130,7 @@ static struct speed read_speed(int socket, const char *name) {
 /* Gives a port its key. */
 static void give_key(struct link *link) {
     struct niw_change change = {.key = choose_key(link), .priority = link->settings.priority, .aggregatable = link->settings.aggregatable};
-    check_call(niw_configure(&own_system, link->settings.number, &change).status, "niw_configure");
+    if (!is_done(niw_configure(&own_system, link->settings.number, &change).status, "niw_configure")) return;
     link->settings.key = change.key;
 }
 

@@ -147,6 +147,8 @@ extern uint16_t link_count;
 extern struct bundle bundle;
 extern bool has_started; /* whether the interfaces that are there were taken up */
 extern bool broken;  /* whether the library refused a call: the peers are told, and the program ends */
+/* An answer that tells whether the library refused: what depends on the call is done only where it did not. */
+#define MUST_USE __attribute__((warn_unused_result))
 
 /* names.c */
 const char *status_text(unsigned status);
@@ -179,7 +181,8 @@ enum {
     KINDS = 0xf000,
 };
 _Noreturn void stop(int status, const char *what, const char *which);
-void check_call(uint32_t status, const char *call);
+bool is_done(uint32_t status, const char *call) MUST_USE;
+bool is_told(struct niw_number answer, const char *call, uint64_t *number) MUST_USE;
 bool say(int level, const char *format, ...) __attribute__((format(printf, 2, 3)));
 void complain(const char *format, ...) __attribute__((format(printf, 1, 2)));
 size_t escape(char *text, size_t room, const char *from, size_t length, bool lines);
@@ -217,6 +220,9 @@ struct arrival {
     int index;            /* of the interface that had it */
     bool tagged;          /* whether the kernel took a VLAN tag from it */
 };
+struct msghdr;
+struct tpacket_auxdata;
+struct tpacket_auxdata aux_of(struct msghdr *message);
 void take_frame(struct link *link, const struct arrival *arrival);
 void take_frames(uint16_t port);
 void forget_partner(struct link *link);
@@ -246,10 +252,9 @@ void send_again(void);
 void pass_tick(void);
 uint64_t ticks_passed(void);
 uint64_t seconds_passed(void);
-uint64_t number_of(struct niw_number answer, const char *call);
 void tell_end(void);
 bool end_is_told(void);
-void end_system(void);
+bool end_system(void);
 
 /* ports.c */
 void take_views(void);
@@ -326,7 +331,7 @@ struct view {
     uint8_t state; /* the state octet of its own side */
     struct niw_info partner;
 };
-struct view view_of(const struct link *link);
+bool view_of(const struct link *link, struct view *view) MUST_USE;
 void write_text(void);
 void write_json(void);
 void write_json_event(const struct link *link);

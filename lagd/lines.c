@@ -80,14 +80,22 @@ _Noreturn void stop(int status, const char *what, const char *which) {
     exit(status);
 }
 
-/* Notes that the library refused a call: the loop tells the peers, and ends. Before the loop the program ends at once. */
-void check_call(uint32_t status, const char *call) {
+/* Whether the library did what it was called for. It refuses only what this program should not ask: then the loop tells the peers, and
+ * ends; before the loop the program ends at once. */
+bool is_done(uint32_t status, const char *call) {
     char why[64];
-    if (status == NIW_OK || broken) return;
+    if (status == NIW_OK || broken) return status == NIW_OK;
     snprintf(why, sizeof why, "refused with %" PRIu32, status);
     if (!has_started) stop(REFUSED, call, why);
     broken = true;
     (void)say(LOG_ERR | ABOUT_REFUSAL, "%s: %s; the peers are told, and the daemon ends", call, why);
+    return false;
+}
+
+/* Writes what a reader of the library tells; answers whether it told it. */
+bool is_told(struct niw_number answer, const char *call, uint64_t *number) {
+    *number = answer.number;
+    return is_done(answer.status, call);
 }
 
 /* Prints a text with the time, in UTC, or for the journal with its priority; watchers get it, too. Answers whether it was printed. */

@@ -154,6 +154,7 @@ static void run(int signals, int clock, const char *file) {
         struct ready ready = ready_of(events, count);
         bool ends_now = count < 0 && errno != EINTR;
         serve(events, count, ready, clock);
+        if (broken) end_carry();
         if (ready.tick && ends) end_ticks++;
         if (ready.signal) ends_now = is_end(signals, ends ? NULL : file);
         if (ends && ends_now) return;
@@ -192,8 +193,7 @@ static int run_daemon(const struct options *options) {
     notify_ready();
     run(signals, clock, options->file);
     end_carry();
-    end_system();
-    return broken ? REFUSED : DONE;
+    return end_system() ? DONE : REFUSED;
 }
 
 int main(int argc, char **argv) {

@@ -275,15 +275,6 @@ bool send_marker_again(uint16_t port) {
     return members[port - 1].has_marker && send_marker(&links[port - 1], members[port - 1].marker);
 }
 
-/* What the kernel tells beside a frame. */
-static struct tpacket_auxdata aux_of(struct msghdr *message) {
-    struct tpacket_auxdata aux = {0};
-    for (struct cmsghdr *head = CMSG_FIRSTHDR(message); head; head = CMSG_NXTHDR(message, head))
-        if (head->cmsg_level == SOL_PACKET && head->cmsg_type == PACKET_AUXDATA && head->cmsg_len >= CMSG_LEN(sizeof aux))
-            memcpy(&aux, CMSG_DATA(head), sizeof aux);
-    return aux;
-}
-
 /* Hands a frame of data to the library, and up. The library looks at no more of it than the longest frame has. */
 static void take_one(struct link *link, const uint8_t *packet, size_t length) {
     struct member *member = member_of(link);
@@ -291,8 +282,7 @@ static void take_one(struct link *link, const uint8_t *packet, size_t length) {
     size_t octets = length - head_octets() < LONGEST_TAGGED ? length - head_octets() : LONGEST_TAGGED;
     struct niw_received received = niw_receive(&own_system, link->settings.number, packet + head_octets(), octets, response,
         sizeof response);
-    check_call(received.status, "niw_receive");
-    if (received.status == NIW_OK && received.what == NIW_RECEIVED_HANDED_UP)
+    if (is_done(received.status, "niw_receive") && received.what == NIW_RECEIVED_HANDED_UP)
         hand_up(received.number, packet, length);
     else
         member->counts[UNCOLLECTED]++;

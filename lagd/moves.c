@@ -2,20 +2,22 @@
 #define _GNU_SOURCE
 #include "carry.h"
 
-/* Whether a conversation is held on a port that carries. */
-static bool any_moves(void) {
+/* Whether it is known that no conversation is held on a port that carries. */
+static bool none_moves(void) {
+    uint64_t held;
     for (uint16_t i = 0; i < carry.port_count; i++)
-        if (number_of(niw_held(&own_system, carry.ports[i]), "niw_held") > 0) return true;
-    return false;
+        if (!is_told(niw_held(&own_system, carry.ports[i]), "niw_held", &held) || held > 0) return false;
+    return true;
 }
 
 /* Moves a conversation to a port; answers whether it is on the move. */
 static bool move(uint16_t number, uint16_t port) {
-    if (niw_move_conversation(&own_system, carry.active, number, port) != NIW_OK) return false;
-    ask_ports(carry.active, carry.port_of);
+    uint32_t status = niw_move_conversation(&own_system, carry.active, number, port);
+    if (status >= NIW_HELD && status <= NIW_MARKERS_SPENT) return false;
+    if (!is_done(status, "niw_move_conversation")) return false;
     carry.conversations[number].port = port;
     carry.counts[MOVES]++;
-    return true;
+    return ask_ports(carry.active, carry.port_of);
 }
 
 /* The port behind this one. */
@@ -46,8 +48,7 @@ static bool level(void) {
         carried[number] = (struct niw_carried){carry.port_of[number], is_busy(&carry.conversations[number])};
     for (;;) {
         struct niw_move next = niw_next_move(carry.ports, carry.port_count, carried, CONVERSATIONS);
-        check_call(next.status, "niw_next_move");
-        if (!next.is || !move(next.conversation, next.port)) return any;
+        if (!is_done(next.status, "niw_next_move") || !next.is || !move(next.conversation, next.port)) return any;
         carried[next.conversation].port = next.port;
         any = true;
     }
@@ -55,8 +56,7 @@ static bool level(void) {
 
 /* Moves what has to move, once a tick, towards a peer that answers markers: one marker of a port tells of all that leave it. */
 void balance(void) {
-    if (carry.port_count < 2 || answering() != ANSWERS || any_moves()) return;
-    ask_ports(carry.active, carry.port_of);
+    if (carry.port_count < 2 || answering() != ANSWERS || !none_moves() || !ask_ports(carry.active, carry.port_of)) return;
     if (move_asked() || level()) send_due();
 }
 

@@ -49,7 +49,8 @@ static void count_change(struct link *link, const struct niw_view *now) {
 
 /* Takes what the library tells of the ports that changed. */
 void take_views(void) {
-    uint64_t changed = number_of(niw_views(&own_system, views, NIW_MOST_PORTS), "niw_views");
+    uint64_t changed;
+    if (!is_told(niw_views(&own_system, views, NIW_MOST_PORTS), "niw_views", &changed)) return;
     for (uint16_t i = 0; i < link_count; i++) {
         if (!(changed >> i & 1)) continue;
         count_change(&links[i], &views[i]);

@@ -43,8 +43,7 @@ void look_at_partner(void) {
 static void ask_peer(void) {
     uint8_t marker[NIW_FRAME];
     struct niw_sent asked = niw_probe(&own_system, carry.ports[0], marker, sizeof marker);
-    check_call(asked.status, "niw_probe");
-    if (!asked.is) return;
+    if (!is_done(asked.status, "niw_probe") || !asked.is) return;
     peer = ASKED;
     asked_on = carry.ports[0];
     asked_at = sent_at = carry.time;

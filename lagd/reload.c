@@ -39,8 +39,7 @@ static bool change_port(uint16_t port, const struct settings *wanted) {
     if (has_aggregator(next.key)) link->key = next.key;
     change.key = choose_key(link);
     answer = niw_configure(&own_system, port, &change);
-    check_call(answer.status, "niw_configure");
-    if (!answer.is) return false;
+    if (!is_done(answer.status, "niw_configure") || !answer.is) return false;
     link->settings.key = change.key;
     link->settings.priority = change.priority;
     link->settings.aggregatable = change.aggregatable;

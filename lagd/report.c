@@ -31,21 +31,20 @@ void add_string(const char *text) {
     add("\"");
 }
 
-/* What there is to tell of a port. */
-struct view view_of(const struct link *link) {
+/* Writes what there is to tell of a port; answers whether the library told it. */
+bool view_of(const struct link *link, struct view *view) {
     uint16_t port = link->settings.number;
-    struct niw_actor own = niw_party(&own_system, port);
-    struct niw_info partner = niw_partner(&own_system, port);
-    check_call(own.status, "niw_party");
-    check_call(partner.status, "niw_partner");
-    return (struct view){
-        .facts = facts_of(link),
-        .receive = number_of(niw_receive_state(&own_system, port), "niw_receive_state"),
-        .mux = number_of(niw_mux_state(&own_system, port), "niw_mux_state"),
-        .current_while = number_of(niw_current_while(&own_system, port), "niw_current_while"),
-        .wait_while = number_of(niw_wait_while(&own_system, port), "niw_wait_while"),
-        .own = own,
-        .state = (uint8_t)number_of(niw_state(&own_system, port), "niw_state"),
-        .partner = partner,
-    };
+    uint64_t state = 0;
+    bool told;
+    view->facts = facts_of(link);
+    view->own = niw_party(&own_system, port);
+    view->partner = niw_partner(&own_system, port);
+    told = is_done(view->own.status, "niw_party") && is_done(view->partner.status, "niw_partner")
+        && is_told(niw_receive_state(&own_system, port), "niw_receive_state", &view->receive)
+        && is_told(niw_mux_state(&own_system, port), "niw_mux_state", &view->mux)
+        && is_told(niw_current_while(&own_system, port), "niw_current_while", &view->current_while)
+        && is_told(niw_wait_while(&own_system, port), "niw_wait_while", &view->wait_while)
+        && is_told(niw_state(&own_system, port), "niw_state", &state);
+    view->state = (uint8_t)state;
+    return told;
 }

@@ -56,10 +56,11 @@ static void add_counts(const struct link *link) {
 }
 
 static void add_member(const struct link *link) {
-    struct view view = view_of(link);
+    struct view view;
     const struct niw_actor *own = &view.own;
     const struct niw_info *partner = &view.partner;
     char mac[32], speed[40];
+    if (!view_of(link, &view)) return;
     add("\nmember: %s: %s, %s\n", link->name, niw_receive_state_text((uint32_t)view.receive), niw_mux_state_text((uint32_t)view.mux));
     add("  status: %s\n  may_enable: %s\n", status_text(view.facts.status), carries(link) ? "true" : "false");
     if (link->trouble) add("  trouble: %s\n", strerror(link->trouble));

@@ -97,6 +97,7 @@ static void answer_caller(struct caller *caller) {
     if (strcmp(asked, "text") == 0) write_text();
     if (strcmp(asked, "json") == 0) write_json();
     if (strcmp(asked, "metrics") == 0) write_metrics();
+    if (broken) report_length = 0; /* what the library refuses to tell is not told half */
     caller->rest = report_length > 0 ? malloc(report_length) : NULL;
     caller->answer_length = report_length;
     if (caller->rest) memcpy(caller->rest, report, report_length);
@@ -161,7 +162,7 @@ void tell_watchers_of(const struct link *link) {
     if (!any) return;
     report_length = 0;
     write_json_event(link);
-    tell(report, report_length, true);
+    if (!broken) tell(report, report_length, true);
 }
 
 static void remove_socket(void) {

@@ -13,12 +13,6 @@ bool has_started;
 static uint64_t ticks;
 static struct timespec began;
 
-/* What a reader told; 0 where it is refused. */
-uint64_t number_of(struct niw_number answer, const char *call) {
-    check_call(answer.status, call);
-    return answer.number;
-}
-
 /* How many ticks passed since the start. */
 uint64_t ticks_passed(void) {
     return ticks;
@@ -49,7 +43,7 @@ void make_system(void) {
         forget_partner(&links[i]);
     }
     make_keys(keys);
-    check_call(niw_new(&own_system, &settings.config, keys, aggregator_count, ports, link_count).status, "niw_new");
+    if (!is_done(niw_new(&own_system, &settings.config, keys, aggregator_count, ports, link_count).status, "niw_new")) return;
     take_views();
 }
 
@@ -58,8 +52,7 @@ static void send_due_of(uint16_t port) {
     uint8_t frame[NIW_FRAME];
     for (;;) {
         struct niw_sent due = niw_transmit(&own_system, port, frame, sizeof frame);
-        check_call(due.status, "niw_transmit");
-        if (!due.is) return;
+        if (!is_done(due.status, "niw_transmit") || !due.is) return;
         if (due.what == NIW_SENT_MARKER)
             take_marker(&links[port - 1], frame);
         else
@@ -69,7 +62,8 @@ static void send_due_of(uint16_t port) {
 
 /* Sends what is due: after each call that may change anything, since one about a port may make a frame due on another. */
 void send_due(void) {
-    uint64_t due = number_of(niw_due(&own_system), "niw_due");
+    uint64_t due;
+    if (!is_told(niw_due(&own_system), "niw_due", &due)) return;
     for (uint16_t i = 0; i < link_count; i++)
         if (due >> i & 1) send_due_of((uint16_t)(i + 1));
 }
@@ -92,7 +86,7 @@ void set_link(uint16_t port, bool up) {
         forget_partner(link);
     }
     if (!up) lose_data(port);
-    check_call(niw_set_link(&own_system, port, up), "niw_set_link");
+    if (!is_done(niw_set_link(&own_system, port, up), "niw_set_link")) return;
     look_at_carry();
     send_due();
     take_views();
@@ -126,7 +120,7 @@ static void pass_second(void) {
 
 /* 100 ms passed. */
 void pass_tick(void) {
-    check_call(niw_tick(&own_system), "niw_tick");
+    if (!is_done(niw_tick(&own_system), "niw_tick")) return;
     for (uint16_t i = 0; i < link_count; i++) pass_tick_of(&links[i]);
     pass_carry_tick();
     if (++ticks % SECOND == 0) pass_second();
@@ -137,11 +131,11 @@ void tell_end(void) {
     struct niw_change leave = {.key = free_key(0, NULL)};
     for (uint16_t port = 1; port <= link_count; port++) {
         struct link *link = &links[port - 1];
-        link->to_tell = link->up && link->view.mux_state >= NIW_MUX_ATTACHED;
+        bool has_partner = link->up && link->view.mux_state >= NIW_MUX_ATTACHED;
         link->sent_before_end = link->counts[LACPDUS_SENT];
         leave.priority = link->settings.priority;
         leave.aggregatable = link->settings.aggregatable;
-        check_call(niw_configure(&own_system, port, &leave).status, "niw_configure");
+        link->to_tell = is_done(niw_configure(&own_system, port, &leave).status, "niw_configure") && has_partner;
     }
     send_due();
 }
@@ -153,9 +147,9 @@ bool end_is_told(void) {
     return true;
 }
 
-/* Says of each port that the daemon has ended, and frees the system. */
-void end_system(void) {
+/* Says of each port that the daemon has ended, and frees the system; answers whether the library never refused a call. */
+bool end_system(void) {
     for (uint16_t i = 0; i < link_count; i++) (void)say(LOG_NOTICE | ABOUT_END, "port %u %s: ended", i + 1, links[i].name);
     end_bundle();
-    check_call(niw_free(&own_system), "niw_free");
+    return is_done(niw_free(&own_system), "niw_free") && !broken;
 }

@@ -170,19 +170,6 @@ def odd_signals(part: Part) -> None:
         check(within(5, lambda: not (theirs.distributes("b0") or theirs.distributes("b1"))), "its peer stops both links at once")
 
 
-def refused_call(part: Part) -> None:
-    """The library refuses a call, as it never should: the peers are told, and the daemon ends with status 1."""
-    theirs = part.theirs(options=["--timeout", "long"])
-    plain, part.program = part.program, part.refusing()
-    ours = part.ours()
-    part.program = plain
-    both_up(ours, theirs, "both links distribute")
-    ours.process.send_signal(signal.SIGUSR1)
-    check(ours.status() == 1, "after a refused call the daemon ends with status 1", ours.printed())
-    check("niw_tick: refused with 13" in ours.printed(), "and says which", ours.printed())
-    check(within(5, lambda: not (theirs.distributes("b0") or theirs.distributes("b1"))), "its peer stops both links at once", theirs.text())
-
-
 def anew_while_stopped(part: Part) -> None:
     """A daemon is stopped while its interface is made anew with the same number, and so much happens that it is not told of that."""
     ours, theirs = part.ours(), part.theirs()
@@ -336,7 +323,6 @@ PARTS = {
     "many markers": many_markers,
     "SIGHUP that is ignored": ignored_hangup,
     "odd signals": odd_signals,
-    "a call that is refused": refused_call,
     "an interface that is made anew": anew_while_stopped,
     "the mode of the status socket": modes,
     "busy askers": busy_askers,

@@ -24,12 +24,30 @@ void stop(int status, const char *what, const char *which) {
     exit(status);
 }
 
-void check_call(uint32_t status, const char *call) {
+bool is_done(uint32_t status, const char *call) {
     if (status != NIW_OK) stop(1, call, niw_status_text(status));
+    return true;
+}
+
+bool is_told(struct niw_number answer, const char *call, uint64_t *number) {
+    *number = answer.number;
+    return is_done(answer.status, call);
 }
 
 size_t packet_room(void) {
     return LARGE_OCTETS;
+}
+
+/* Whether so many frames of a conversation wait. */
+static bool waits(uint16_t conversation, uint64_t wanted) {
+    uint64_t waiting;
+    return count_held(conversation, &waiting) && waiting == wanted && none_held(conversation) == (wanted == 0);
+}
+
+/* Whether so many wait in all. */
+static bool all_wait(uint64_t wanted) {
+    uint64_t waiting;
+    return count_all_held(&waiting) && waiting == wanted;
 }
 
 /* Puts a frame with this number into its first octets. */
@@ -44,8 +62,8 @@ static uint32_t take(uint16_t conversation, size_t wanted) {
     size_t length;
     const uint8_t *packet;
     uint32_t number;
-    if (count_held(conversation) == 0) return UINT32_MAX;
     packet = take_held(conversation, &length);
+    if (!packet) return UINT32_MAX;
     memcpy(&number, packet, sizeof number);
     CHECK(length == wanted);
     return number;
@@ -69,19 +87,19 @@ static uint32_t lose(uint16_t conversations) {
 /* Frames leave in their order, each with its time. */
 static void check_order(void) {
     uint64_t came = 0;
-    CHECK(!oldest_held(7, &came) && came == 0 && count_held(7) == 0 && !drop_held(7, QUEUE_FULL));
+    CHECK(!oldest_held(7, &came) && came == 0 && waits(7, 0) && !drop_held(7, QUEUE_FULL));
     for (uint32_t number = 0; number < 4; number++) {
         carry.time = 1000 + number;
-        CHECK(put(7, number, SMALL_OCTETS + number) && count_held(7) == number + 1 && count_held(8) == 0);
+        CHECK(put(7, number, SMALL_OCTETS + number) && waits(7, number + 1) && waits(8, 0));
     }
     for (uint32_t number = 0; number < 4; number++) {
-        CHECK(oldest_held(7, &came) && came == 1000 + number && count_held(7) == 4 - number && count_all_held() == 4 - number);
+        CHECK(oldest_held(7, &came) && came == 1000 + number && waits(7, 4 - number) && all_wait(4 - number));
         if (number % 2 == 0)
             CHECK(take(7, SMALL_OCTETS + number) == number);
         else
             CHECK(drop_held(7, HELD_TOO_LONG));
     }
-    CHECK(carry.counts[HELD_TOO_LONG] == 2 && count_held(7) == 0);
+    CHECK(carry.counts[HELD_TOO_LONG] == 2 && waits(7, 0));
     free_left();
 }
 
@@ -94,12 +112,12 @@ static void check_refused(bool loses) {
         kept += put(0, number, SMALL_OCTETS);
         if (loses) kept += drop_held(0, QUEUE_FULL) && put(0, number, SMALL_OCTETS);
     }
-    CHECK(kept == (loses ? MANY : 0) && count_held(0) == EACH && count_all_held() == EACH);
+    CHECK(kept == (loses ? MANY : 0) && waits(0, EACH) && all_wait(EACH));
     for (uint16_t number = 1; number < ALL / EACH; number++) others += put_many(number, EACH + 1, SMALL_OCTETS);
-    CHECK(others == ALL - EACH && count_all_held() == ALL && put_many(ALL / EACH, MANY, SMALL_OCTETS) == 0);
+    CHECK(others == ALL - EACH && all_wait(ALL) && put_many(ALL / EACH, MANY, SMALL_OCTETS) == 0);
     CHECK(take(0, SMALL_OCTETS) == (loses ? MANY : 0));
     free_left();
-    CHECK(put(0, 0, SMALL_OCTETS) && lose(CONVERSATIONS) == ALL && count_all_held() == 0);
+    CHECK(put(0, 0, SMALL_OCTETS) && lose(CONVERSATIONS) == ALL && all_wait(0));
 }
 
 /* The same of large frames, which are refused where small ones fill their conversation. */

@@ -4,6 +4,7 @@ from __future__ import annotations
 
 import glob
 import os
+import re
 import shutil
 from typing import Sequence
 
@@ -91,10 +92,25 @@ def build_minimal(folder: str, libraries: Sequence[str]) -> str:
     return build(os.path.join(folder, "minimal"), [os.path.join(EXAMPLES, "minimal.c")], libraries, *words)
 
 
-def build_refusing(folder: str, libraries: Sequence[str], words: Sequence[str] = ()) -> str:
-    """Builds a daemon whose library refuses each tick after SIGUSR1; answers its path."""
-    more = [f"{TOP}/tools/live.d/refusing.c"]
-    return build_daemon(folder, libraries, "lagd-refusing", more, ["-Wl,--wrap=lagffi_tick", *words])
+REFUSING = f"{TOP}/tools/live.d/refusing.c"
+
+
+def refusable() -> list[str]:
+    """The functions that refusing.c refuses, without their lagffi_."""
+    with open(REFUSING, encoding="utf-8") as source:
+        return re.findall(r"^REFUSING\([\w ]+, (\w+),", source.read(), re.M)
+
+
+def called() -> set[str]:
+    """The functions of the library that the daemon calls: all but the texts of the header."""
+    texts = [open(source, encoding="utf-8").read() for source in daemon_sources()]
+    return {name for text in texts for name in re.findall(r"\bniw_(\w+)\(", text) if not name.endswith("_text")}
+
+
+def build_refusing(folder: str, libraries: Sequence[str]) -> str:
+    """Builds a daemon whose library refuses a function after SIGUSR1, with ASan and UBSan; answers its path."""
+    wraps = [f"-Wl,--wrap=lagffi_{name}" for name in refusable()]
+    return build_daemon(folder, libraries, "lagd-refusing", [REFUSING], [*wraps, *SANITIZED])
 
 
 def check_header_alone(folder: str) -> None:

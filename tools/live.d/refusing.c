@@ -1,10 +1,9 @@
-/* A library that refuses each tick once SIGUSR1 came: linked into a daemon by --wrap=lagffi_tick. */
+/* A library that refuses one function, named by the variable REFUSED without its lagffi_: once SIGUSR1 came, or, with REFUSED_AT_ONCE, from
+ * the start. It is linked into a daemon by a --wrap of each function that is named here. */
 #include <signal.h>
+#include <stdlib.h>
 
 #include "lag.h"
-
-uint32_t __real_lagffi_tick(struct niw_system *handle);
-uint32_t __wrap_lagffi_tick(struct niw_system *handle);
 
 static volatile sig_atomic_t refuses;
 
@@ -13,9 +12,73 @@ static void refuse_from_now(int number) {
     refuses = 1;
 }
 
-uint32_t __wrap_lagffi_tick(struct niw_system *handle) {
-    static bool installed;
-    if (!installed) signal(SIGUSR1, refuse_from_now);
-    installed = true;
-    return refuses ? (uint32_t)NIW_NO_SYSTEM : __real_lagffi_tick(handle);
+static bool is_refused(const char *name) {
+    static const char *chosen;
+    if (!chosen) {
+        chosen = getenv("REFUSED");
+        if (!chosen) chosen = "";
+        if (getenv("REFUSED_AT_ONCE")) refuses = 1;
+        signal(SIGUSR1, refuse_from_now); /* the daemon ignored it before its first call */
+    }
+    return refuses && strcmp(name, chosen) == 0;
 }
+
+/* A function, and what it answers where it is refused: the status, which stands first, and else zeros. */
+#define REFUSING(type, name, parameters, arguments) \
+    type __real_lagffi_##name parameters; \
+    type __wrap_lagffi_##name parameters; \
+    type __wrap_lagffi_##name parameters { \
+        uint32_t status = NIW_NO_SYSTEM; \
+        type refused; \
+        if (!is_refused(#name)) return __real_lagffi_##name arguments; \
+        memset(&refused, 0, sizeof refused); \
+        memcpy(&refused, &status, sizeof status); \
+        return refused; \
+    }
+
+#define SYSTEM struct niw_system *handle
+#define QUEUE struct niw_queue *handle
+
+REFUSING(struct niw_made, new, (SYSTEM, const struct niw_config *config, const uint16_t *keys, size_t key_count, const struct niw_port *ports,
+    size_t port_count), (handle, config, keys, key_count, ports, port_count))
+REFUSING(uint32_t, free, (SYSTEM), (handle))
+REFUSING(struct niw_received, receive, (SYSTEM, uint16_t port, const uint8_t *frame, size_t length, uint8_t *response, size_t room),
+    (handle, port, frame, length, response, room))
+REFUSING(uint32_t, tick, (SYSTEM), (handle))
+REFUSING(uint32_t, set_link, (SYSTEM, uint16_t port, bool up), (handle, port, up))
+REFUSING(struct niw_truth, configure, (SYSTEM, uint16_t port, const struct niw_change *change), (handle, port, change))
+REFUSING(struct niw_sent, transmit, (SYSTEM, uint16_t port, uint8_t *frame, size_t room), (handle, port, frame, room))
+REFUSING(struct niw_number, due, (SYSTEM), (handle))
+REFUSING(struct niw_number, views, (SYSTEM, struct niw_view *views, size_t room), (handle, views, room))
+REFUSING(struct niw_number, carrier, (SYSTEM, uint16_t now), (handle, now))
+REFUSING(struct niw_actor, party, (SYSTEM, uint16_t port), (handle, port))
+REFUSING(struct niw_info, partner, (SYSTEM, uint16_t port), (handle, port))
+REFUSING(struct niw_number, receive_state, (SYSTEM, uint16_t port), (handle, port))
+REFUSING(struct niw_number, mux_state, (SYSTEM, uint16_t port), (handle, port))
+REFUSING(struct niw_number, current_while, (SYSTEM, uint16_t port), (handle, port))
+REFUSING(struct niw_number, wait_while, (SYSTEM, uint16_t port), (handle, port))
+REFUSING(struct niw_number, state, (SYSTEM, uint16_t port), (handle, port))
+REFUSING(struct niw_truth, distributes, (SYSTEM, uint16_t port), (handle, port))
+REFUSING(struct niw_number, load, (SYSTEM, uint16_t port), (handle, port))
+REFUSING(struct niw_number, held, (SYSTEM, uint16_t port), (handle, port))
+REFUSING(struct niw_number, conversation, (SYSTEM, const uint8_t *frame, size_t length), (handle, frame, length))
+REFUSING(struct niw_assignment, conversation_state, (SYSTEM, uint16_t agg, uint16_t conv), (handle, agg, conv))
+REFUSING(struct niw_number, conversation_ports, (SYSTEM, uint16_t agg, uint16_t *ports, size_t port_count, bool *changed, size_t changed_count),
+    (handle, agg, ports, port_count, changed, changed_count))
+REFUSING(struct niw_number, offer_conversation, (SYSTEM, uint16_t agg, uint16_t conv), (handle, agg, conv))
+REFUSING(uint32_t, move_conversation, (SYSTEM, uint16_t agg, uint16_t conv, uint16_t port), (handle, agg, conv, port))
+REFUSING(uint32_t, leave_conversation, (SYSTEM, uint16_t agg, uint16_t conv), (handle, agg, conv))
+REFUSING(uint32_t, rest, (SYSTEM, uint16_t agg, uint16_t conv), (handle, agg, conv))
+REFUSING(uint32_t, force, (SYSTEM, uint16_t agg, uint16_t conv), (handle, agg, conv))
+REFUSING(struct niw_number, force_port, (SYSTEM, uint16_t port), (handle, port))
+REFUSING(struct niw_sent, probe, (SYSTEM, uint16_t port, uint8_t *frame, size_t room), (handle, port, frame, room))
+REFUSING(struct niw_move, next_move, (const uint16_t *ports, size_t port_count, const struct niw_carried *carried, size_t carried_count),
+    (ports, port_count, carried, carried_count))
+REFUSING(uint32_t, queue_new, (QUEUE, uint16_t conversations, size_t in_all, size_t each), (handle, conversations, in_all, each))
+REFUSING(uint32_t, queue_free, (QUEUE), (handle))
+REFUSING(uint32_t, queue_put, (QUEUE, uint16_t conv, uint64_t frame), (handle, conv, frame))
+REFUSING(struct niw_queued, queue_next, (QUEUE, uint16_t conv), (handle, conv))
+REFUSING(struct niw_queued, queue_drop, (QUEUE, uint16_t conv), (handle, conv))
+REFUSING(struct niw_queued, queue_oldest, (QUEUE, uint16_t conv), (handle, conv))
+REFUSING(struct niw_number, queue_waiting, (QUEUE, uint16_t conv), (handle, conv))
+REFUSING(struct niw_counts, queue_counts, (QUEUE), (handle))
