@@ -2,7 +2,6 @@
 #define _GNU_SOURCE
 #include <errno.h>
 #include <string.h>
-#include <time.h>
 #include <unistd.h>
 
 #include "carry.h"
@@ -26,13 +25,6 @@ bool carries_data(void) {
 /* Something was called that may let conversations go or come. */
 void look_at_carry(void) {
     carry.changed = true;
-}
-
-/* The time now. */
-uint64_t milliseconds(void) {
-    struct timespec now;
-    clock_gettime(CLOCK_MONOTONIC, &now);
-    return (uint64_t)now.tv_sec * 1000 + (uint64_t)now.tv_nsec / 1000000;
 }
 
 /* Writes what a conversation of an aggregator is doing; answers whether the library told it. */

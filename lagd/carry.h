@@ -111,7 +111,6 @@ bool is_home(const struct conversation *conversation, uint16_t number);
 bool is_busy(const struct conversation *conversation);
 void doubt_aggregator(uint32_t aggregator);
 void hand_up(uint32_t aggregator, const uint8_t *packet, size_t length);
-uint64_t milliseconds(void);
 
 /* hash.c: FNV-1a, of words of 32 bits; and where the headers of IP have what is hashed */
 #define HASH_START 2166136261u

@@ -48,7 +48,8 @@ static bool actor_of(const struct arrival *arrival, struct system_id *actor) {
     return true;
 }
 
-/* The link went down: who speaks first next is the partner, where that holds. */
+/* The link went down, or its partner is silent for so long that the port runs on defaults: who speaks first next is the partner, where that
+ * holds. */
 void forget_partner(struct link *link) {
     link->pinned = settings.policy == PARTNER_GIVEN;
     if (link->pinned) link->partner = settings.partner;
@@ -76,7 +77,7 @@ static void note_actor(struct link *link, const struct system_id *actor, const u
     link->partner = *actor;
 }
 
-/* Hands a frame to the library, and sends the response to a marker, if there were not too many in this second. */
+/* Hands a frame to the library, and sends the response to a marker, if there were not too many within a second. */
 static void hand_over(struct link *link, const struct arrival *arrival, const struct system_id *actor) {
     uint8_t response[NIW_FRAME];
     struct niw_received received = niw_receive(&own_system, link->settings.number, arrival->frame, arrival->length, response,
@@ -85,19 +86,18 @@ static void hand_over(struct link *link, const struct arrival *arrival, const st
     link->counts[kind_of(&received)]++;
     if (received.what == NIW_RECEIVED_TOOK_LACPDU && actor) note_actor(link, actor, arrival->frame + 6);
     if (received.what != NIW_RECEIVED_RESPOND) return;
-    if (link->responses == 0) {
-        link->counts[RESPONSES_UNSENT]++;
-        return;
-    }
-    link->responses--;
-    send_frame(link, RESPONSES_SENT, response);
+    if (may_answer(link, arrival))
+        send_frame(link, RESPONSES_SENT, response);
+    else
+        note_odd_marker(link, arrival, RESPONSES_UNSENT);
 }
 
 /* Takes a frame. The slow protocols have one address, which no bridge passes on: a frame to any other one comes from anybody. Their
  * frames have no VLAN tag. The kernel calls one with a tag another host's, or shows it as a frame of the VLAN's interface. */
 void take_frame(struct link *link, const struct arrival *arrival) {
     struct system_id actor;
-    bool is_lacpdu;
+    struct niw_pdu response;
+    bool is_lacpdu, is_response;
     if (arrival->length < ETH_HLEN || memcmp(arrival->frame, GROUP, sizeof GROUP) != 0) {
         link->counts[ELSEWHERE_RECEIVED]++;
         return;
@@ -112,7 +112,13 @@ void take_frame(struct link *link, const struct arrival *arrival) {
         note_stranger(link, &actor, arrival->frame + 6);
         return;
     }
+    is_response = link->up && read_response(arrival, &response);
+    if (is_response && !is_partners_response(link, arrival, &response)) {
+        note_odd_marker(link, arrival, FOREIGN_RESPONSES);
+        return;
+    }
     hand_over(link, arrival, is_lacpdu ? &actor : NULL);
+    if (is_response) note_response(link, response.transaction_id);
 }
 
 /* What the kernel tells beside a frame; zeros where it does not. */

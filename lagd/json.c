@@ -50,6 +50,11 @@ static void add_strangers(const struct link *link) {
     char system[32];
     add(",\"pinned\":");
     add(link->pinned ? "\"%s\"" : "null", system_text(&link->partner, system));
+    add(",\"same_partner_port\":");
+    if (link->twin > 0)
+        add_string(links[link->twin - 1].name);
+    else
+        add("null");
     add(",\"other_system\":");
     if (!link->strangers.seen) {
         add("null");

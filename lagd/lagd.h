@@ -32,6 +32,7 @@ enum count {
     ELSEWHERE_RECEIVED, /* to another address than that of the slow protocols: not looked at */
     TAGGED_RECEIVED,    /* with a VLAN tag: not looked at */
     FOREIGN_RECEIVED,   /* LACPDUs of a system that is not the partner: not taken */
+    FOREIGN_RESPONSES,  /* marker responses that are not the partner's, or not to this port: not taken */
     DISABLED_RECEIVED,  /* while the link was down */
     LACPDUS_SENT,
     RESPONSES_SENT,
@@ -52,6 +53,8 @@ enum count {
 #define MOST_LINES 10
 /* The ticks of a second. */
 #define SECOND 10
+/* The most LACPDUs of a port within a second (IEEE 802.1AX-2014, 6.4.16). */
+#define MOST_LACPDUS 3
 
 /* What is printed of a port. */
 struct facts {
@@ -70,6 +73,21 @@ struct strangers {
     uint64_t told;           /* how many frames and changes of the partner a line told of */
     uint64_t tell_at;        /* the tick at which the next line may come */
     bool seen;
+};
+
+/* When markers were answered, in slots of 100 ms: those of the partner, and of others. */
+#define ANSWERED_SLOTS 11
+struct answered {
+    uint64_t slot; /* the last one */
+    uint16_t partner[ANSWERED_SLOTS], others[ANSWERED_SLOTS];
+};
+
+/* Marker PDUs that come on a link. */
+struct markers {
+    struct answered answered;
+    uint8_t source[6]; /* of the last one that was not taken, or not answered */
+    uint64_t told;     /* of how many of these a line told */
+    uint64_t tell_at;  /* the tick at which the next line may come */
 };
 
 /* How fast a link is; what the kernel does not tell is SPEED_UNKNOWN and DUPLEX_UNKNOWN of linux/ethtool.h. */
@@ -99,15 +117,18 @@ struct link {
     int trouble;            /* errno of what failed last, or 0 */
     unsigned trouble_ticks; /* how long it is still told */
     unsigned lines;         /* how many lines time and frames may still cause */
-    unsigned responses;     /* how many marker responses may still be sent in this second */
     bool pinned;            /* whether LACPDUs of `partner` alone are taken */
     struct system_id partner;
     uint8_t source[6];        /* of the last LACPDU that was taken */
     bool heard;               /* whether one was taken since the link came up; `actor` is its system */
     struct system_id actor;
     struct strangers strangers;
+    struct markers markers;
+    uint16_t twin;         /* another port, whose partner names the same port as that of this one, or 0 */
+    unsigned twin_seconds; /* for how many seconds there is one */
     bool to_tell;             /* whether its peer has to be told of the end */
     uint64_t sent_before_end; /* LACPDUs, up to then */
+    uint64_t lacpdus_at[MOST_LACPDUS]; /* the milliseconds at which the last ones went, the oldest first */
     uint64_t counts[COUNTS];
     struct niw_view view; /* as the library last told it */
     bool changed;         /* whether there may be something to print */
@@ -205,6 +226,7 @@ const char *holder_of(int index);
 bool open_link(struct link *link, int index);
 void close_link(struct link *link);
 bool is_bound(const struct link *link);
+bool may_send_lacpdu(const struct link *link);
 void send_frame(struct link *link, enum count kind, const uint8_t *frame);
 
 /* frames.c */
@@ -227,6 +249,19 @@ void take_frame(struct link *link, const struct arrival *arrival);
 void take_frames(uint16_t port);
 void forget_partner(struct link *link);
 void tell_strangers(struct link *link);
+
+/* markers.c */
+bool read_response(const struct arrival *arrival, struct niw_pdu *pdu);
+bool is_partners_response(const struct link *link, const struct arrival *arrival, const struct niw_pdu *response);
+void note_odd_marker(struct link *link, const struct arrival *arrival, enum count count);
+bool may_answer(struct link *link, const struct arrival *arrival);
+void tell_markers(struct link *link);
+
+/* twins.c */
+void look_for_twins(void);
+
+/* probe.c */
+void note_response(const struct link *link, uint32_t id);
 
 /* changes.c */
 int open_changes(void);
@@ -252,6 +287,7 @@ void send_again(void);
 void pass_tick(void);
 uint64_t ticks_passed(void);
 uint64_t seconds_passed(void);
+uint64_t milliseconds(void);
 void tell_end(void);
 bool end_is_told(void);
 bool end_system(void);

@@ -68,6 +68,18 @@ bool is_bound(const struct link *link) {
     return getsockname(link->socket, (struct sockaddr *)&address, &length) == 0 && address.sll_ifindex == link->index;
 }
 
+/* Whether a second has room for one more LACPDU. The library counts ticks, of which two may come at once where one was late. */
+bool may_send_lacpdu(const struct link *link) {
+    return link->lacpdus_at[0] == 0 || milliseconds() - link->lacpdus_at[0] > 1000;
+}
+
+/* The kernel took an LACPDU. */
+static void note_lacpdu(struct link *link) {
+    memmove(link->lacpdus_at, link->lacpdus_at + 1, sizeof link->lacpdus_at - sizeof *link->lacpdus_at);
+    link->lacpdus_at[MOST_LACPDUS - 1] = milliseconds();
+    link->unsent = false;
+}
+
 /* Sends a frame, with the address that the interface has now. An LACPDU that the kernel does not take is sent again at each tick,
  * until a newer one is due; a response is lost, as on a wire. */
 void send_frame(struct link *link, enum count kind, const uint8_t *frame) {
@@ -78,7 +90,7 @@ void send_frame(struct link *link, enum count kind, const uint8_t *frame) {
     if (kind == LACPDUS_SENT) link->tried = true;
     if (send(link->socket, sent, sizeof sent, 0) == sizeof sent) {
         link->counts[kind]++;
-        if (kind == LACPDUS_SENT) link->unsent = false;
+        if (kind == LACPDUS_SENT) note_lacpdu(link);
         return;
     }
     link->counts[FAILED_SENT]++;

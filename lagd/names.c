@@ -14,6 +14,7 @@ static const struct {
     [ELSEWHERE_RECEIVED] = {"elsewhere_received", "frames to another address than 01-80-C2-00-00-02"},
     [TAGGED_RECEIVED] = {"tagged_received", "frames with a VLAN tag"},
     [FOREIGN_RECEIVED] = {"foreign_received", "LACPDUs of a system that is not the partner"},
+    [FOREIGN_RESPONSES] = {"foreign_responses", "marker responses that are not the partner's, or not to a marker of the port"},
     [DISABLED_RECEIVED] = {"disabled_received", "frames that came while the link was down"},
     [LACPDUS_SENT] = {"lacpdus_sent", "LACPDUs that the kernel took"},
     [RESPONSES_SENT] = {"marker_responses_sent", "marker responses that the kernel took"},

@@ -42,7 +42,10 @@ struct facts facts_of(const struct link *link) {
 static void count_change(struct link *link, const struct niw_view *now) {
     const struct niw_view *before = &link->view;
     if (now->receive_state == NIW_RECEIVE_EXPIRED && before->receive_state == NIW_RECEIVE_CURRENT) link->counts[EXPIRED]++;
-    if (now->receive_state == NIW_RECEIVE_DEFAULTED && before->receive_state != NIW_RECEIVE_DEFAULTED) link->counts[DEFAULTED]++;
+    if (now->receive_state == NIW_RECEIVE_DEFAULTED && before->receive_state != NIW_RECEIVE_DEFAULTED) {
+        link->counts[DEFAULTED]++;
+        forget_partner(link);
+    }
     if (now->mux_state == NIW_MUX_COLLECTING_DISTRIBUTING && before->mux_state != NIW_MUX_COLLECTING_DISTRIBUTING)
         link->counts[DISTRIBUTED]++;
 }
@@ -112,5 +115,6 @@ void print_changes(void) {
         struct link *link = &links[i];
         if (link->changed && link->lines > 0 && print_change(link)) link->lines--;
         tell_strangers(link);
+        tell_markers(link);
     }
 }

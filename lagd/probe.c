@@ -10,8 +10,9 @@
 #define LATER 60000
 
 static enum answering peer = NOT_ASKED, told = NOT_ASKED;
-static uint16_t asked_on;          /* the port that had the marker */
-static uint64_t responses_before;  /* marker responses that came there before */
+static bool asking;                /* whether a marker waits for its response: one that answers none stays MUTE meanwhile */
+static uint16_t asked_on;          /* the port that had the last marker, or 0 */
+static uint32_t asked_id;          /* its identifier */
 static uint64_t asked_at, sent_at; /* the times when the marker went first, and last */
 static struct system_id partner;   /* of the active aggregator */
 static uint16_t partner_key;
@@ -37,17 +38,22 @@ void look_at_partner(void) {
     partner.priority = view->partner_priority;
     memcpy(partner.mac, view->partner_mac, sizeof partner.mac);
     peer = told = NOT_ASKED;
+    asking = false;
+    asked_on = 0;
 }
 
 /* Sends a marker behind the data of a port of the active aggregator. There is none while no identifier is left, or the link is down. */
 static void ask_peer(void) {
     uint8_t marker[NIW_FRAME];
     struct niw_sent asked = niw_probe(&own_system, carry.ports[0], marker, sizeof marker);
+    struct niw_pdu sent;
     if (!is_done(asked.status, "niw_probe") || !asked.is) return;
-    peer = ASKED;
+    if (!is_done(niw_decode(marker + ETH_HLEN, sizeof marker - ETH_HLEN, &sent).status, "niw_decode")) return;
+    asking = true;
+    if (peer == NOT_ASKED) peer = ASKED;
     asked_on = carry.ports[0];
+    asked_id = sent.transaction_id;
     asked_at = sent_at = carry.time;
-    responses_before = links[asked_on - 1].counts[RESPONSES_RECEIVED];
     take_marker(&links[asked_on - 1], marker);
 }
 
@@ -58,9 +64,11 @@ static void ask_again(void) {
     if (send_marker_again(asked_on)) carry.counts[MARKERS_AGAIN]++;
 }
 
-/* Says what the peer does, once. */
-static void tell_peer(void) {
-    if (peer == told || peer == NOT_ASKED) return;
+/* It is known whether the peer answers: says so, if that is new. */
+static void judge(enum answering now) {
+    asking = false;
+    peer = now;
+    if (peer == told) return;
     told = peer;
     if (peer == ANSWERS)
         (void)say(LOG_NOTICE | ABOUT_MARKERS, "carry %s: the peer answers markers", settings.carry);
@@ -69,25 +77,26 @@ static void tell_peer(void) {
             settings.carry, settings.flight);
 }
 
-/* Whether a response came since the peer was asked. */
-static bool has_answered(void) {
-    return links[asked_on - 1].counts[RESPONSES_RECEIVED] > responses_before;
+/* The partner sent a response on a link: to the last marker that asked it, however late, or to another one. */
+void note_response(const struct link *link, uint32_t id) {
+    if (asked_on != 0 && link == &links[asked_on - 1] && id == asked_id) judge(ANSWERS);
 }
 
-/* What is known of the peer now. One whose link went meanwhile is asked again. */
-static enum answering judge(void) {
-    if (has_answered()) return ANSWERS;
-    if (links[asked_on - 1].view.port_status != NIW_PORT_STATUS_DISTRIBUTING) return NOT_ASKED;
-    return carry.time - asked_at < PATIENCE ? ASKED : MUTE;
+/* No response came yet. A peer whose link went meanwhile is asked again. */
+static void go_on_asking(void) {
+    if (links[asked_on - 1].view.port_status != NIW_PORT_STATUS_DISTRIBUTING) {
+        asking = false;
+        peer = NOT_ASKED;
+    } else if (carry.time - asked_at >= PATIENCE) {
+        judge(MUTE);
+    } else {
+        ask_again();
+    }
 }
 
 /* 100 ms passed. */
 void pass_probe_tick(void) {
-    if (peer == MUTE && carry.time - asked_at >= LATER) peer = NOT_ASKED;
-    if (peer == ASKED) {
-        peer = judge();
-        if (peer == ASKED) ask_again();
-        tell_peer();
-    }
-    if (peer == NOT_ASKED && carry.port_count > 0) ask_peer();
+    if (asking) go_on_asking();
+    if (asking || carry.port_count == 0) return;
+    if (peer == NOT_ASKED || (peer == MUTE && carry.time - asked_at >= LATER)) ask_peer();
 }

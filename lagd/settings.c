@@ -242,7 +242,7 @@ const char *add_port(struct settings *settings, const char *name, size_t length)
 /* What holds where nothing else is given. */
 struct settings usual_settings(void) {
     return (struct settings){
-        .config = {.first_marker = 1, .conversations = 256},
+        .config = {.conversations = 256},
         .port_priority = 32768,
         .active = true,
         .short_timeout = true,

@@ -43,6 +43,7 @@ static void add_end(const char *whose, const uint8_t *mac, const unsigned number
 static void add_strangers(const struct link *link) {
     char system[32], source[32];
     if (link->pinned) add("  pinned to: %s\n", system_text(&link->partner, system));
+    if (link->twin > 0) add("  partner port: that of %s, too\n", links[link->twin - 1].name);
     if (!link->strangers.seen) return;
     add("  other system: %s from %s\n", system_text(&link->strangers.system, system), mac_text(link->strangers.source, source));
 }

@@ -1,6 +1,8 @@
 /* The system of the library: time and links go in, frames come out. */
 #define _GNU_SOURCE
 #include <string.h>
+#include <sys/random.h>
+#include <unistd.h>
 
 #include "lagd.h"
 
@@ -25,11 +27,30 @@ uint64_t seconds_passed(void) {
     return (uint64_t)(now.tv_sec - began.tv_sec);
 }
 
+/* The time now, in milliseconds of CLOCK_MONOTONIC. */
+uint64_t milliseconds(void) {
+    struct timespec now;
+    clock_gettime(CLOCK_MONOTONIC, &now);
+    return (uint64_t)now.tv_sec * 1000 + (uint64_t)now.tv_nsec / 1000000;
+}
+
+/* An identifier for the first marker that nobody can guess. More than two thousand million are above it, of which none comes twice. */
+static uint32_t random_marker(void) {
+    uint32_t random;
+    if (getrandom(&random, sizeof random, GRND_NONBLOCK) != sizeof random) {
+        struct timespec now; /* so soon after the start of the machine */
+        clock_gettime(CLOCK_REALTIME, &now);
+        random = (uint32_t)now.tv_nsec ^ (uint32_t)now.tv_sec ^ (uint32_t)getpid() << 16;
+    }
+    return random % INT32_MAX + 1;
+}
+
 /* Makes the system of the settings. */
 void make_system(void) {
     struct niw_port ports[NIW_MOST_PORTS];
     uint16_t keys[NIW_MOST_PORTS];
     clock_gettime(CLOCK_MONOTONIC, &began);
+    settings.config.first_marker = random_marker();
     link_count = settings.port_count;
     for (uint16_t i = 0; i < link_count; i++) {
         ports[i] = port_of(&settings, (uint16_t)(i + 1));
@@ -38,7 +59,6 @@ void make_system(void) {
         links[i].key = ports[i].key;
         links[i].socket = links[i].lock = -1;
         links[i].lines = MOST_LINES;
-        links[i].responses = settings.marker_responses;
         links[i].changed = true;
         forget_partner(&links[i]);
     }
@@ -47,10 +67,10 @@ void make_system(void) {
     take_views();
 }
 
-/* Sends what is due on a port. */
+/* Sends what is due on a port: nothing until the second has room, since what is due first may be an LACPDU. */
 static void send_due_of(uint16_t port) {
     uint8_t frame[NIW_FRAME];
-    for (;;) {
+    while (may_send_lacpdu(&links[port - 1])) {
         struct niw_sent due = niw_transmit(&own_system, port, frame, sizeof frame);
         if (!is_done(due.status, "niw_transmit") || !due.is) return;
         if (due.what == NIW_SENT_MARKER)
@@ -71,7 +91,7 @@ void send_due(void) {
 /* Sends again what the kernel did not take before this tick, if nothing newer was due since. */
 void send_again(void) {
     for (uint16_t i = 0; i < link_count; i++)
-        if (links[i].unsent && !links[i].tried) send_frame(&links[i], LACPDUS_SENT, links[i].frame);
+        if (links[i].unsent && !links[i].tried && may_send_lacpdu(&links[i])) send_frame(&links[i], LACPDUS_SENT, links[i].frame);
 }
 
 /* The link of a port is up or down now. */
@@ -111,8 +131,8 @@ static void pass_tick_of(struct link *link) {
 static void pass_second(void) {
     for (uint16_t i = 0; i < link_count; i++) {
         if (links[i].lines < MOST_LINES) links[i].lines++;
-        links[i].responses = settings.marker_responses;
     }
+    look_for_twins();
     allow_bundle_line();
     watch_changes();
     notify_alive();

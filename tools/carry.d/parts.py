@@ -11,6 +11,7 @@ from typing import Callable
 from bonds import (CACHE, COMES_BACK, COMES_UP, DEVICE, FLOWS, RIGHTS, Cables, Carry, End, Event, Programs, ask_gro, cables, check_end,
                    check_order, check_whole, every, lay_direct, move_all, pair, run_flows)
 from fast_parts import fast, fast_away, fast_ends, fast_hash, fast_overload, fast_refused, fast_troubles, kernel_hashes, offload
+from forged import PARTS as FORGED
 from models import model
 from rows import rows
 from checking import Skipped, check, within
@@ -308,3 +309,4 @@ PARTS: dict[str, Callable[[Programs], None]] = {it.__name__: it for it in
     (rows, moves, cuts, silence, switches, away, restarts, stops, overload, hashes, mute, frames, rights, open_vswitch, offload,
      kernel_hashes, model, fast, fast_hash, fast_troubles, fast_overload, fast_refused, fast_away,
      fast_ends)}
+PARTS.update(FORGED)

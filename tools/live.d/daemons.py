@@ -18,6 +18,8 @@ from daemon import ENDS, KEY, OTHER, SYSTEM, Daemon, Part
 from spaces import OURS, THEIRS, Wire, flap, inside, ip, lacpdu, losses, make_pair, marker, octets, packet_sockets, within_space
 
 STRANGER = "02:00:00:00:00:cc"
+# What Wire sends from, and another address.
+SOURCE, ELSEWHERE = "02:00:00:00:00:77", "02:00:00:00:00:78"
 # Two pairs of an LACPDU each way and one aggregate wait of 2 s; and three short periods of 1 s until a partner has gone. A loaded
 # machine takes longer: these are limits, and a sign ends each wait.
 COMES_UP, GOES_DOWN = 40, 30
@@ -196,14 +198,18 @@ def other_addresses(daemon: Daemon, wire: Wire) -> None:
 
 
 def count_frames(daemon: Daemon, wire: Wire) -> None:
-    """Frames of each kind. The ones to refuse: another subtype, a wrong length, a wrong TLV type and too few octets."""
+    """Frames of each kind. The ones to refuse: another subtype, a wrong length, a wrong TLV type and too few octets. Responses to another
+    system or port, or from another address than the LACPDUs, are foreign."""
     for _ in range(3):
         wire.send(marker(1))
-    for _ in range(2):
-        wire.send(marker(2))
+    for number in range(2):
+        wire.send(marker(2, SYSTEM, 1, number))
+    for payload, source in (marker(2, OTHER, 1), SOURCE), (marker(2, SYSTEM, 2), SOURCE), (marker(2, SYSTEM, 1), ELSEWHERE):
+        wire.send(payload, source=source)
     for payload in b"\3\1" + bytes(108), b"\1\1\1\x13" + bytes(106), marker(3), bytes(50):
         wire.send(payload)
     wanted = {"markers_received": 3, "marker_responses_sent": 3, "marker_responses_received": 2, "refused_received": 4}
+    wanted["foreign_responses"] = 3
     wanted["lacpdus_received"] = 1
     counts = lambda: daemon.port("a0")["counters"]
     check(within(ENDS, lambda: wanted.items() <= counts().items()), "frames are counted by kind", counts())

@@ -13,11 +13,9 @@ from typing import Callable
 
 from checking import Skipped, check, within
 from daemon import ENDS, OTHER, SYSTEM, Part
-from daemons import COMES_UP, GOES_DOWN, NOBODY, STRANGER, both_up
-from spaces import GROUP, OURS, SLOW_PROTOCOLS, THEIRS, Wire, flap, inside, ip, lacpdu, marker, octets, packet_socket
+from daemons import COMES_UP, ELSEWHERE, GOES_DOWN, NOBODY, SOURCE, STRANGER, both_up
+from spaces import GROUP, OURS, SLOW_PROTOCOLS, THEIRS, Wire, flap, inside, ip, lacpdu, marker, most_within, octets, packet_socket
 
-# What Wire sends from.
-SOURCE = "02:00:00:00:00:77"
 # Where SIGSTOP is given so many messages of the kernel that some are lost.
 MANY_MESSAGES = 3000
 ODD_SIGNALS = ("SIGALRM", "SIGVTALRM", "SIGPROF", "SIGIO", "SIGPWR", "SIGXCPU", "SIGSTKFLT", "SIGRTMIN")
@@ -136,16 +134,87 @@ def tags(part: Part) -> None:
     ours.ends("the daemon")
 
 
-def many_markers(part: Part, count: int = 300) -> None:
-    """More markers than the standard lets a peer send."""
+def many_markers(part: Part, count: int = 1000) -> None:
+    """More markers than the standard lets a peer send: first nobody is known, and then they come from another one than the partner."""
     ours, wire = part.ours("a0"), Wire(THEIRS, "b0")
     within(ENDS, lambda: ours.port("a0")["link"] == "up")
     for _ in range(count):
         wire.send(marker(1))
-        time.sleep(0.002)
+        time.sleep(0.003)
     check(within(ENDS, lambda: ours.count("a0", "markers_received") == count), f"{count} markers are taken", ours.text())
     sent, unsent = (ours.count("a0", f"marker_responses_{name}") for name in ("sent", "unsent"))
-    check(10 <= sent <= 40 and sent + unsent == count, "of them about ten a second are answered, and the others counted", sent, unsent)
+    times = wire.arrivals(b"\2\1\2")
+    check(most_within(times) == 10 and len(times) == sent >= 20, "any second has ten responses at most", most_within(times), times)
+    check(sent + unsent == count, "and the other markers are counted", sent, unsent)
+    told = within(ENDS, lambda: any(line.startswith(f"Marker PDUs, last from {SOURCE}: 0 responses") for line in ours.lines("a0")))
+    check(told, "a line says so", ours.printed())
+    wire.send(lacpdu(STRANGER, 1))
+    check(within(ENDS, lambda: ours.count("a0", "lacpdus_received") == 1), "once there is a partner", ours.text())
+    time.sleep(1.2)
+    begin, turns = time.monotonic(), 5
+    for _ in range(turns):
+        for _ in range(count // 10):
+            wire.send(marker(1), source=ELSEWHERE)
+            time.sleep(0.003)
+        wire.send(marker(1))
+    all_came = count + turns * (count // 10 + 1)
+    within(ENDS, lambda: ours.count("a0", "markers_received") == all_came)
+    later, most = ours.count("a0", "marker_responses_sent") - sent, turns + 2 * (time.monotonic() - begin + 1)
+    check(turns + 2 <= later <= most, "each of its markers is answered, and two a second at most of another one", later, most)
+    ours.ends("the daemon")
+
+
+def many_lacpdus(part: Part, seconds: float = 10) -> None:
+    """Each LACPDU of a partner that does not know this end wants one, while the daemon gets its processor late now and then."""
+    ours, wire = part.ours("a0"), Wire(THEIRS, "b0")
+    within(ENDS, lambda: ours.port("a0")["link"] == "up")
+    until, turn, times = time.monotonic() + seconds, 0, []
+    while time.monotonic() < until:
+        turn += 1
+        wire.send(lacpdu(STRANGER, 1))
+        ours.process.send_signal(signal.SIGSTOP)
+        time.sleep(0.01 + 0.013 * (turn % 12))
+        ours.process.send_signal(signal.SIGCONT)
+        time.sleep(0.03)
+        times += wire.arrivals(b"\1\1")
+    check(most_within(times) == 3 and len(times) > seconds, "any second has three LACPDUs at most", most_within(times), times)
+    ours.ends("the daemon")
+
+
+def silent_first(part: Part) -> None:
+    """The first partner changes its system, and its link stays up."""
+    ours, wire = part.ours("a0", options=["--partner", "first"]), Wire(THEIRS, "b0")
+    within(ENDS, lambda: ours.port("a0")["link"] == "up")
+    wire.send(lacpdu(STRANGER, 1))
+    check(within(ENDS, lambda: ours.port("a0")["pinned"] == f"32768,{STRANGER}"), "who speaks first is the partner", ours.text())
+    begin = time.monotonic()
+
+    def other() -> bool:
+        wire.send(lacpdu(OTHER, 1))
+        return bool(ours.port("a0")["partner"]["system"] == OTHER)
+
+    taken = within(ENDS, other)
+    waited = time.monotonic() - begin
+    check(taken and waited > 4, f"when it was silent until the port ran on defaults, another one is, after {waited:.1f} s", ours.text())
+    check(ours.count("a0", "foreign_received") > 3 and ours.count("a0", "defaulted") == 1, "and not before", ours.text())
+    ours.ends("the daemon")
+
+
+def same_system(part: Part) -> None:
+    """Two hosts that were given one system: both links have a partner of port 1."""
+    ours, wires = part.ours(), [Wire(THEIRS, "b0"), Wire(THEIRS, "b1")]
+    within(ENDS, lambda: ours.port("a1")["link"] == "up")
+
+    def told(port: int, other: str | None) -> bool:
+        wires[0].send(lacpdu(STRANGER, 1))
+        wires[1].send(lacpdu(STRANGER, port))
+        time.sleep(0.3)
+        return bool(ours.port("a1").get("same_partner_port") == other and ours.port("a1")["partner"]["port"] == port)
+
+    check(within(ENDS, lambda: told(1, "a0")), "the status says that both links have the same partner port", ours.text())
+    line = f"its partner is port 1 of 32768,{STRANGER}, and so is that of port 1 a0: two hosts may have this system"
+    check(line in ours.lines("a1") and "partner port: that of a1, too" in ours.text(), "so do a line and the text", ours.printed())
+    check(within(ENDS, lambda: told(2, None)), "and no longer once they have two ports", ours.text())
     ours.ends("the daemon")
 
 
@@ -320,7 +389,10 @@ PARTS = {
     "no partner": without_partner,
     "fewer links than wanted": minimum,
     "VLAN tags": tags,
+    "the first partner falls silent": silent_first,
+    "two hosts of one system": same_system,
     "many markers": many_markers,
+    "many LACPDUs": many_lacpdus,
     "SIGHUP that is ignored": ignored_hangup,
     "odd signals": odd_signals,
     "an interface that is made anew": anew_while_stopped,

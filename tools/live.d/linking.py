@@ -86,6 +86,12 @@ def build_held(folder: str, libraries: Sequence[str]) -> str:
     return build(os.path.join(folder, "held"), sources, libraries, *STRICT, f"-I{DAEMON}", *SANITIZED)
 
 
+def build_markers(folder: str, libraries: Sequence[str]) -> str:
+    """Builds what the daemon makes of Marker PDUs alone, with ASan and UBSan; answers the path of the program."""
+    sources = [*(f"{TOP}/tools/live.d/{name}.c" for name in ("markers", "checks")), *(f"{DAEMON}/{name}.c" for name in ("markers", "probe"))]
+    return build(os.path.join(folder, "markers"), sources, libraries, *STRICT, f"-I{DAEMON}", *SANITIZED, "-Wl,--wrap=lagffi_probe")
+
+
 def build_minimal(folder: str, libraries: Sequence[str]) -> str:
     """Builds the example of one port, with ASan and UBSan; answers its path."""
     words = [*STRICT, "-g", "-fsanitize=address,undefined", "-fno-sanitize-recover=all"]

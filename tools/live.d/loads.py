@@ -74,7 +74,7 @@ def whole_status(part: Part) -> None:
     ours = Filed(part, file)
     check(within(ENDS, lambda: list(ours.ports()) == names), "64 ports of long names", ours.printed())
     text = ours.text()
-    check(text.count("\nmember: ") == MOST_PORTS and "  distributed " in text.splitlines()[-1], "the status as text is whole", text[-500:])
+    check(text.count("\nmember: ") == MOST_PORTS and " distributed " in text.splitlines()[-1], "the status as text is whole", text[-500:])
     path = ours.socket()
     slow = json.loads(read_slowly(path, b"json\n"))
     check([port["interface"] for port in slow["ports"]] == names, "as JSON, for one who reads slowly", slow["ports"][-1:])

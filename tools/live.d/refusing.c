@@ -72,6 +72,7 @@ REFUSING(uint32_t, rest, (SYSTEM, uint16_t agg, uint16_t conv), (handle, agg, co
 REFUSING(uint32_t, force, (SYSTEM, uint16_t agg, uint16_t conv), (handle, agg, conv))
 REFUSING(struct niw_number, force_port, (SYSTEM, uint16_t port), (handle, port))
 REFUSING(struct niw_sent, probe, (SYSTEM, uint16_t port, uint8_t *frame, size_t room), (handle, port, frame, room))
+REFUSING(struct niw_decoded, decode, (const uint8_t *payload, size_t length, struct niw_pdu *pdu), (payload, length, pdu))
 REFUSING(struct niw_move, next_move, (const uint16_t *ports, size_t port_count, const struct niw_carried *carried, size_t carried_count),
     (ports, port_count, carried, carried_count))
 REFUSING(uint32_t, queue_new, (QUEUE, uint16_t conversations, size_t in_all, size_t each), (handle, conversations, in_all, each))

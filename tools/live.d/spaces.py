@@ -6,6 +6,7 @@ import contextlib
 import ctypes
 import os
 import socket
+import struct
 import subprocess
 from typing import Any, Iterator
 
@@ -15,6 +16,8 @@ from checking import Failed, Skipped, command
 OURS, THEIRS = f"lag-ours-{os.getpid()}", f"lag-theirs-{os.getpid()}"
 SLOW_PROTOCOLS, GROUP = 0x8809, "01:80:c2:00:00:02"
 OUTGOING, NEW_NETWORK = 4, 0x40000000
+# SO_TIMESTAMPNS of linux/socket.h.
+TIMESTAMP = 35
 PIDFD_OPEN, PIDFD_GETFD = 434, 438
 
 
@@ -117,9 +120,22 @@ class Wire:
 
     def __init__(self, space: str, name: str) -> None:
         self.socket = packet_socket(space, name, SLOW_PROTOCOLS)
+        self.socket.setsockopt(socket.SOL_SOCKET, TIMESTAMP, 1)
 
-    def send(self, payload: bytes, to: str = GROUP) -> None:
-        self.socket.send(octets(to) + octets("02:00:00:00:00:77") + SLOW_PROTOCOLS.to_bytes(2, "big") + payload)
+    def send(self, payload: bytes, to: str = GROUP, source: str = "02:00:00:00:00:77") -> None:
+        self.socket.send(octets(to) + octets(source) + SLOW_PROTOCOLS.to_bytes(2, "big") + payload)
+
+    def arrivals(self, begin: bytes) -> list[float]:
+        """When the payloads came that begin so, since the last look, in seconds of the kernel, oldest first."""
+        found: list[float] = []
+        while True:
+            try:
+                frame, more, _, address = self.socket.recvmsg(2048, 64, socket.MSG_DONTWAIT)
+            except BlockingIOError:
+                return found
+            times = [struct.unpack("=qq", text[:16]) for level, kind, text in more if (level, kind) == (socket.SOL_SOCKET, TIMESTAMP)]
+            if address[2] != OUTGOING and frame[14:].startswith(begin) and times:
+                found.append(times[0][0] + times[0][1] / 1e9)
 
     def sources(self) -> list[bytes]:
         """The source addresses of what has come since the last look, oldest first."""
@@ -140,6 +156,11 @@ def lacpdu(system: str, port: int, state: int = 0x0D) -> bytes:
     return b"\1\1" + actor + partner + b"\3\x10" + bytes(14) + bytes(52)
 
 
-def marker(kind: int) -> bytes:
-    """The payload of a marker, of kind 1, or of the response to one, of kind 2."""
-    return b"\2\1" + bytes([kind, 0x10]) + bytes(106)
+def marker(kind: int, system: str = "00:00:00:00:00:00", port: int = 0, number: int = 0) -> bytes:
+    """The payload of a marker of this system and port, of kind 1, or of the response to it, of kind 2."""
+    return b"\2\1" + bytes([kind, 0x10]) + port.to_bytes(2, "big") + octets(system) + number.to_bytes(4, "big") + bytes(94)
+
+
+def most_within(times: list[float], seconds: float = 1.0) -> int:
+    """How many of these times, which rise, are within so many seconds at most."""
+    return max((sum(first <= time < first + seconds for time in times) for first in times), default=0)

@@ -1,0 +1,216 @@
+/* What the daemon makes of Marker PDUs (lagd/markers.c, lagd/probe.c), alone, with a clock of its own: how many markers it answers, whose
+ * responses it takes, and what it says of a peer that answers late, or never.
+ *
+ * It prints a line for each check that fails, and then 'markers: N passed, M failed'; status 1 if one failed. */
+#include <net/ethernet.h>
+#include <stdio.h>
+#include <stdlib.h>
+#include <string.h>
+
+#include "carry.h"
+#include "checks.h"
+
+#define TICK 100u
+#define MINUTE 60000u
+#define FIRST_ID 0x12345678u
+
+struct carry carry;
+struct settings settings;
+struct link links[NIW_MOST_PORTS];
+struct niw_system own_system;
+bool broken;
+const char *const program = "markers";
+
+static uint64_t now = 5 * MINUTE;
+static unsigned lines; /* that were said */
+static uint32_t last_id = FIRST_ID - 1;
+static unsigned sent, again;
+
+static const uint8_t OWN[6] = {2, 0, 0, 0, 0, 0xaa}, PARTNER[6] = {2, 0, 0, 0, 0, 0xbb}, STRANGER[6] = {2, 0, 0, 0, 0, 0xcc};
+
+uint64_t milliseconds(void) {
+    return now;
+}
+
+uint64_t ticks_passed(void) {
+    return now / TICK;
+}
+
+bool is_done(uint32_t status, const char *call) {
+    if (status == NIW_OK) return true;
+    printf("markers: %s: %s\n", call, niw_status_text(status));
+    exit(1);
+}
+
+bool say(int level, const char *format, ...) {
+    (void)level;
+    (void)format;
+    lines++;
+    return true;
+}
+
+const char *mac_text(const uint8_t *mac, char room[static 32]) {
+    (void)mac;
+    return room[0] = 0, room;
+}
+
+void take_marker(struct link *link, const uint8_t *frame) {
+    (void)link;
+    (void)frame;
+    sent++;
+}
+
+bool send_marker_again(uint16_t port) {
+    (void)port;
+    return again++, true;
+}
+
+/* Writes a Marker PDU of this port behind an Ethernet header. */
+static void write_frame(uint8_t *frame, const uint8_t source[static ETH_ALEN], uint8_t kind, uint16_t port, uint32_t id) {
+    struct niw_pdu pdu = {.subtype = NIW_SUBTYPE_MARKER, .tlv_type = kind, .requester_port = port, .transaction_id = id};
+    memcpy(pdu.requester_system, OWN, sizeof OWN);
+    memset(frame, 0, NIW_FRAME);
+    for (size_t i = 0; i < ETH_ALEN; i++) frame[ETH_ALEN + i] = source[i];
+    CHECK(niw_encode(&pdu, frame + ETH_HLEN, NIW_PAYLOAD_LENGTH) == NIW_OK);
+}
+
+struct niw_sent __wrap_lagffi_probe(struct niw_system *handle, uint16_t port, uint8_t *frame, size_t room);
+struct niw_sent __wrap_lagffi_probe(struct niw_system *handle, uint16_t port, uint8_t *frame, size_t room) {
+    (void)handle;
+    (void)room;
+    write_frame(frame, OWN, NIW_MARKER_INFORMATION, port, ++last_id);
+    return (struct niw_sent){.is = true, .what = NIW_SENT_MARKER, .octets = NIW_FRAME};
+}
+
+/* A response comes on port 1; answers whether it is taken. */
+static bool respond(const uint8_t *source, uint16_t port, uint32_t id) {
+    uint8_t frame[NIW_FRAME];
+    struct arrival arrival = {.frame = frame, .length = sizeof frame};
+    struct niw_pdu response;
+    write_frame(frame, source, NIW_MARKER_RESPONSE, port, id);
+    CHECK(read_response(&arrival, &response));
+    if (!is_partners_response(&links[0], &arrival, &response)) {
+        note_odd_marker(&links[0], &arrival, FOREIGN_RESPONSES);
+        return false;
+    }
+    note_response(&links[0], response.transaction_id);
+    return true;
+}
+
+static void pass(unsigned ticks) {
+    for (; ticks > 0; ticks--) {
+        now += TICK;
+        carry.time = now;
+        pass_probe_tick();
+    }
+}
+
+/* A peer that nobody asked yet, on a link whose partner is known. */
+static void begin(void) {
+    memset(links, 0, sizeof links);
+    links[0].settings.number = 1;
+    links[0].heard = true;
+    memcpy(links[0].source, PARTNER, sizeof PARTNER);
+    carry.active = carry.port_count = carry.ports[0] = 1;
+    links[0].view.partner_key++;
+    now += MINUTE;
+    carry.time = now;
+    look_at_partner();
+    links[0].view.partner_key = (uint16_t)now;
+    look_at_partner();
+    sent = again = lines = 0;
+    CHECK(answering() == NOT_ASKED);
+}
+
+/* A peer that answers after three ticks answers markers, and nothing else is said meanwhile. */
+static void check_slow(void) {
+    begin();
+    pass(4);
+    CHECK(answering() == ASKED && lines == 0 && sent == 1 && again == 1);
+    CHECK(respond(PARTNER, 1, last_id) && answering() == ANSWERS && lines == 1);
+    pass(1200);
+    CHECK(answering() == ANSWERS && lines == 1 && sent == 1);
+}
+
+/* A peer that never answers is told of once, and is not taken for another one while it is asked again, each minute. */
+static void check_mute(void) {
+    begin();
+    pass(12);
+    CHECK(answering() == MUTE && lines == 1 && sent == 1);
+    for (unsigned tick = 0; tick < 2400; tick++) {
+        pass(1);
+        CHECK(answering() == MUTE);
+    }
+    CHECK(lines == 1 && sent == 4 + 1);
+    CHECK(respond(PARTNER, 1, last_id) && answering() == ANSWERS && lines == 2);
+}
+
+/* No response of another one, of another port or of another number makes a mute peer one that answers; a late one does. */
+static void check_forged(void) {
+    begin();
+    pass(12);
+    CHECK(!respond(STRANGER, 1, last_id) && !respond(PARTNER, 2, last_id) && !respond(STRANGER, 0, 0) && answering() == MUTE);
+    for (uint32_t id = 0; id < 1000; id++) CHECK(respond(PARTNER, 1, id) && answering() == MUTE);
+    CHECK(lines == 1 && links[0].counts[FOREIGN_RESPONSES] == 3);
+    tell_markers(&links[0]);
+    tell_markers(&links[0]);
+    CHECK(lines == 2);
+    CHECK(respond(PARTNER, 1, last_id) && answering() == ANSWERS);
+}
+
+/* Markers come each `step` milliseconds for a minute; the most that were answered within any second, and how many in all. */
+static unsigned most_answered(const uint8_t *source, unsigned step, unsigned *all) {
+    static uint64_t times[2 * MINUTE];
+    uint8_t frame[NIW_FRAME];
+    struct arrival arrival = {.frame = frame, .length = sizeof frame};
+    unsigned most = 0, count = 0;
+    write_frame(frame, source, NIW_MARKER_INFORMATION, 1, 1);
+    for (unsigned passed = 0; passed < MINUTE; passed += step) {
+        now += step;
+        if (may_answer(&links[0], &arrival)) times[count++] = now;
+    }
+    for (unsigned first = 0; first < count; first++) {
+        unsigned end = first;
+        while (end < count && times[end] - times[first] < 1000) end++;
+        if (end - first > most) most = end - first;
+    }
+    *all = count;
+    return most;
+}
+
+/* Any second has ten responses at most, and two of them for others, of whom the partner notices nothing. */
+static void check_budgets(void) {
+    static const unsigned STEPS[] = {1, 3, 7, 83, 99, 101, 130, 1000};
+    unsigned all, most;
+    uint8_t frame[NIW_FRAME];
+    struct arrival strange = {.frame = frame, .length = sizeof frame};
+    settings.marker_responses = 10;
+    for (size_t i = 0; i < sizeof STEPS / sizeof *STEPS; i++) {
+        begin();
+        most = most_answered(PARTNER, STEPS[i], &all);
+        CHECK(most <= 10 && all >= (STEPS[i] < 110 ? 540u : MINUTE / STEPS[i]));
+        most = most_answered(STRANGER, STEPS[i], &all);
+        CHECK(most <= 2);
+    }
+    begin();
+    write_frame(frame, STRANGER, NIW_MARKER_INFORMATION, 1, 1);
+    for (unsigned turn = 0; turn < 600; turn++) {
+        uint8_t marker[NIW_FRAME];
+        struct arrival arrival = {.frame = marker, .length = sizeof marker};
+        write_frame(marker, PARTNER, NIW_MARKER_INFORMATION, 1, turn);
+        for (unsigned forged = 0; forged < 30; forged++, now += 5) (void)may_answer(&links[0], &strange);
+        CHECK(may_answer(&links[0], &arrival));
+    }
+    links[0].heard = false;
+    now += MINUTE;
+    CHECK(most_answered(STRANGER, 3, &all) == 10);
+}
+
+int main(void) {
+    memcpy(settings.config.mac, OWN, sizeof OWN);
+    check_slow();
+    check_mute();
+    check_forged();
+    check_budgets();
+    return tell_checks();
+}
