@@ -1,31 +1,62 @@
-/* Locks of interfaces: an abstract socket by the number of the interface. Its name has its place in the network namespace, so that no two
- * daemons have one interface, whatever folders they have. */
+/* Locks of interfaces, so that no two daemons have one, whatever folders they have: a packet socket that takes nothing, bound to the
+ * interface with a protocol that no frame has. The kernel lists those of the network namespace, and lets nobody make one who may not
+ * make the sockets of a daemon. */
 #define _GNU_SOURCE
 #include <errno.h>
+#include <linux/if_packet.h>
+#include <netinet/in.h>
 #include <stdio.h>
-#include <string.h>
 #include <sys/socket.h>
-#include <sys/un.h>
+#include <sys/stat.h>
 #include <unistd.h>
 
 #include "lagd.h"
 
-/* The name of a lock; answers the length of the address. */
-static socklen_t name_lock(int index, struct sockaddr_un *address) {
-    int used;
-    memset(address, 0, sizeof *address);
-    address->sun_family = AF_UNIX;
-    used = snprintf(address->sun_path + 1, sizeof address->sun_path - 1, "lagd/interface/%d", index);
-    return (socklen_t)(offsetof(struct sockaddr_un, sun_path) + 1 + (size_t)used);
+/* Below 0x0600 there are lengths in a frame, and no types; the kernel has no use of its own for this one. */
+#define PROTOCOL 0x05ac
+
+/* A lock that the kernel lists. */
+struct lock {
+    unsigned long inode; /* of its socket; 0: none */
+    unsigned user;
+};
+
+static unsigned long inode_of(int fd) {
+    struct stat file;
+    return fd >= 0 && fstat(fd, &file) == 0 ? (unsigned long)file.st_ino : 0;
 }
 
-/* Takes the lock of an interface; or -1, and errno: EADDRINUSE where somebody has it. */
+/* Finds the lock of an interface that is not this socket; answers whether the kernel told. */
+static bool find_lock(int index, int but, struct lock *found) {
+    FILE *file = fopen("/proc/self/net/packet", "re");
+    unsigned long own = inode_of(but);
+    char line[256];
+    bool whole;
+    *found = (struct lock){0};
+    if (!file) return false;
+    while (fgets(line, sizeof line, file)) {
+        struct lock lock;
+        unsigned protocol;
+        int at;
+        if (sscanf(line, "%*s %*s %*s %x %d %*s %*s %u %lu", &protocol, &at, &lock.user, &lock.inode) != 4) continue;
+        if (protocol == PROTOCOL && at == index && lock.inode != own) *found = lock;
+    }
+    whole = !ferror(file);
+    fclose(file);
+    return whole;
+}
+
+/* Takes the lock of an interface; or -1, and errno: EADDRINUSE where somebody has it. Of two that take it at once one at least sees the
+ * other one, since each is bound before it looks. */
 int lock_interface(int index) {
-    struct sockaddr_un address;
-    socklen_t length = name_lock(index, &address);
-    int opened = socket(AF_UNIX, SOCK_STREAM | SOCK_NONBLOCK | SOCK_CLOEXEC, 0), fault;
+    struct sockaddr_ll address = {.sll_family = AF_PACKET, .sll_protocol = htons(PROTOCOL), .sll_ifindex = index};
+    int opened = socket(AF_PACKET, SOCK_DGRAM | SOCK_NONBLOCK | SOCK_CLOEXEC, 0), fault;
+    struct lock other;
     if (opened < 0) return -1;
-    if (bind(opened, (struct sockaddr *)&address, length) == 0 && listen(opened, 0) == 0) return opened;
+    if (bind(opened, (struct sockaddr *)&address, sizeof address) == 0 && find_lock(index, opened, &other)) {
+        if (other.inode == 0) return opened;
+        errno = EADDRINUSE;
+    }
     fault = errno;
     close(opened);
     errno = fault;
@@ -35,15 +66,10 @@ int lock_interface(int index) {
 /* Who has the lock of an interface. */
 const char *holder_of(int index) {
     static char text[64];
-    struct sockaddr_un address;
-    socklen_t length = name_lock(index, &address), room = sizeof(struct ucred);
-    struct ucred holder = {0};
-    int opened = socket(AF_UNIX, SOCK_STREAM | SOCK_NONBLOCK | SOCK_CLOEXEC, 0);
-    snprintf(text, sizeof text, "another program");
-    if (opened >= 0 && connect(opened, (struct sockaddr *)&address, length) == 0
-        && getsockopt(opened, SOL_SOCKET, SO_PEERCRED, &holder, &room) == 0)
-        snprintf(text, sizeof text, holder.pid == getpid() ? "this lagd, by another name" : "process %d of user %u", (int)holder.pid,
-            (unsigned)holder.uid);
-    if (opened >= 0) close(opened);
+    struct lock lock;
+    bool own = false;
+    if (!find_lock(index, -1, &lock) || lock.inode == 0) return "one that has left it now";
+    for (uint16_t i = 0; i < link_count; i++) own = own || inode_of(links[i].lock) == lock.inode;
+    snprintf(text, sizeof text, own ? "this lagd, by another name" : "one of user %u", lock.user);
     return text;
 }

@@ -349,7 +349,7 @@ def two_folders(part: Part) -> None:
     ours = part.ours("a0")
     within(ENDS, ours.ports)
     ended = inside(OURS, "timeout", "3", part.program, "--folder", os.path.join(part.folder, "other"), "9", f"32768,{OTHER}", "a0")
-    wanted = f"another lagd has the interface, process {ours.process.pid} of user 0: a0"
+    wanted = f"another lagd has the interface, one of user 0: a0"
     check(ended.returncode == 1 and wanted in ended.stderr, "a second daemon with another folder is refused", ended.returncode, ended.stderr)
     ours.ends("the daemon")
 
