@@ -1,6 +1,7 @@
 /* Data: on which port each frame of the host goes, which frames wait, and what is handed up. */
 #define _GNU_SOURCE
 #include <errno.h>
+#include <stdlib.h>
 #include <string.h>
 #include <unistd.h>
 
@@ -307,6 +308,7 @@ void open_carry(void) {
     start_members();
     rooms = make_rooms();
     load_guard();
+    if (atexit(put_back_members) != 0) stop(REFUSED, "no memory", "for what members had");
     tap = open_tap(settings.carry, settings.config.mac);
     if (settings.fast) start_fast();
     if (!await_input(tap, HOST)) stop(REFUSED, "epoll", strerror(errno));

@@ -112,6 +112,12 @@ bool is_busy(const struct conversation *conversation);
 void doubt_aggregator(uint32_t aggregator);
 void hand_up(uint32_t aggregator, const uint8_t *packet, size_t length);
 
+/* The groups 01-80-C2-00-00-00 to -0F, which no bridge passes on: frames to them concern the member alone, as those of 802.1X, MKA, LLDP
+ * and PTP do, but for the groups by which bridges speak with each other, a bit for each: their ports are above the aggregator. */
+#define LINK_GROUPS 0x0180c200
+#define MOST_LINK_GROUP 0x0f
+#define BRIDGE_GROUPS (1 << 0x00 | 1 << 0x08 | 1 << 0x0d)
+
 /* hash.c: FNV-1a, of words of 32 bits; and where the headers of IP have what is hashed */
 #define HASH_START 2166136261u
 #define HASH_FACTOR 16777619
@@ -168,6 +174,7 @@ struct fast_maps {
 int load_sender(const struct fast_maps *maps);
 int load_receiver(const struct fast_maps *maps, uint16_t port, int tap);
 int load_handover(const struct fast_maps *maps);
+int load_dropper(void);
 
 /* fast.c */
 bool is_fast(void);
@@ -183,21 +190,30 @@ void take_fast_counts(void);
 void pass_fast_tick(void);
 void note_read(unsigned packets, bool drained);
 
+/* kept.c */
+#define PROCESSORS_LENGTH "2399" /* of the mask of the 8192 processors that Linux knows */
+#define PROCESSORS_ROOM 2400
+struct kept {
+    bool gro, lro;                  /* what was on */
+    char steered[PROCESSORS_ROOM];  /* the processors that RPS named, or empty where that was one, or is not changed */
+    struct ethtool_channels queues; /* what there was; all 0 where there was one queue */
+};
+void keep_settings(const struct link *link, struct kept *kept);
+void forget_settings(const struct link *link);
+
 /* guard.c */
-#define PROCESSORS_ROOM 64
 struct guard {
-    int opened;    /* what keeps data from the stack of the interface, or -1 */
-    bool gro, lro; /* what was on before */
-    bool fast;     /* whether the kernel may pass on what goes and comes there */
-    char steered[PROCESSORS_ROOM]; /* the processors that RPS named before, or empty */
-    struct ethtool_channels queues; /* what there was before; all 0 where there was one queue */
+    int opened;         /* what keeps data from the stack of the interface, or -1 */
+    bool fast;          /* whether the kernel may pass on what goes and comes there */
+    struct kept before; /* what the interface had */
 };
 void load_guard(void);
-struct guard open_guard(const struct link *link);
+void open_guard(const struct link *link, struct guard *guard);
 void close_guard(const struct link *link, struct guard *guard);
 
 /* members.c */
 void start_members(void);
+void put_back_members(void);
 bool has_fast_member(uint16_t port);
 void add_fast_counts(uint16_t port, const struct fast_member *more);
 void note_passed(uint16_t port, uint64_t frames);

@@ -1,9 +1,9 @@
 /* What the kernel tells of interfaces: at the start, and each interface. */
 #define _GNU_SOURCE
 #include <errno.h>
+#include <linux/if.h>
 #include <linux/netlink.h>
 #include <linux/rtnetlink.h>
-#include <net/if.h>
 #include <net/if_arp.h>
 #include <poll.h>
 #include <stdio.h>
@@ -38,20 +38,27 @@ static uint32_t asker;   /* the number of this socket, which stands in answers *
 static bool asking;      /* whether the answer is not whole yet */
 static bool interrupted; /* whether interfaces changed while the kernel answered */
 static bool ask_again;   /* whether something was missed */
+static bool doubted;     /* whether a carrier may have gone */
 
-/* Asks for all interfaces. The answer comes as changes do. */
-static void ask(void) {
+/* Asks for an interface, or with 0 for all of them; answers whether the kernel took the question. The answer comes as changes do. */
+static bool ask_for(int index, uint32_t number) {
     struct {
         struct nlmsghdr head;
         struct ifinfomsg info;
         struct rtattr mask_head;
         uint32_t mask;
-    } question = {.head = {.nlmsg_type = RTM_GETLINK, .nlmsg_flags = NLM_F_REQUEST | NLM_F_DUMP, .nlmsg_seq = ++asked}};
+    } question = {.head = {.nlmsg_type = RTM_GETLINK, .nlmsg_flags = NLM_F_REQUEST, .nlmsg_seq = number}, .info = {.ifi_index = index}};
+    if (index == 0) question.head.nlmsg_flags |= NLM_F_DUMP;
     question.head.nlmsg_len = sizeof question;
     question.mask_head = (struct rtattr){.rta_len = sizeof question.mask_head + sizeof question.mask, .rta_type = IFLA_EXT_MASK};
     question.mask = RTEXT_FILTER_SKIP_STATS;
+    return send(route, &question, sizeof question, 0) == sizeof question;
+}
+
+/* Asks for all interfaces. */
+static void ask(void) {
     for (uint16_t i = 0; i < link_count; i++) links[i].present = false;
-    asking = send(route, &question, sizeof question, 0) == sizeof question;
+    asking = ask_for(0, ++asked);
     if (!asking && !has_started) stop(REFUSED, "the kernel takes no question", strerror(errno));
     ask_again = !asking;
     interrupted = false;
@@ -124,6 +131,7 @@ static bool take_up(struct link *link, const struct interface *interface) {
         return false;
     }
     memcpy(link->discipline, interface->discipline, sizeof link->discipline);
+    if (interface->has_mac) memcpy(link->mac, interface->mac, sizeof link->mac);
     if (!open_link(link, interface->index)) {
         if (!has_started) refuse_link(link);
         ask_again = true;
@@ -150,10 +158,10 @@ static bool follow_discipline(struct link *link, const struct interface *interfa
 }
 
 /* Follows an interface of a port. Its carrier may have gone and come back, of which the kernel tells at once: it counts how often
- * it went. */
+ * it went. IFF_RUNNING may be a second old, and IFF_LOWER_UP is the carrier itself. */
 static void follow(struct link *link, const struct interface *interface) {
     uint16_t port = link->settings.number;
-    bool up = (interface->flags & IFF_UP) && (interface->flags & IFF_RUNNING);
+    bool up = (interface->flags & IFF_UP) && (interface->flags & IFF_RUNNING) && (interface->flags & IFF_LOWER_UP);
     if (interface->has_mac) memcpy(link->mac, interface->mac, sizeof link->mac);
     if (!follow_discipline(link, interface)) return;
     follow_mtu(link, interface->mtu);
@@ -247,6 +255,22 @@ void take_changes(void) {
 /* Asks again for what was missed, or could not be taken up; once a second. */
 void watch_changes(void) {
     if (ask_again && !asking) ask();
+}
+
+/* Something could not be sent: a carrier may have gone. */
+void doubt_carriers(void) {
+    doubted = true;
+}
+
+/* Looks at carriers, at each tick and where one is doubted: the kernel counts at once that one came or went, but tells of those that go
+ * once a second, over all interfaces. It is asked then, and answers at once. */
+void watch_carriers(bool all) {
+    bool any = false;
+    if (!all && !doubted) return;
+    doubted = false;
+    for (uint16_t i = 0; i < link_count; i++)
+        if (links[i].socket >= 0 && has_new_carrier(&links[i])) any = ask_for(links[i].index, 0) || any;
+    if (any) take_changes();
 }
 
 /* Opens the changes of interfaces, and takes up those that are there. */

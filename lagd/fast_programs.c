@@ -1,5 +1,6 @@
-/* The programs that the kernel runs for frames, where it passes data on by itself: one where frames leave the TAP device, one where
- * frames come in at a member, and one where these come in at the TAP device. They are written as the kernel takes them, step by step. */
+/* The programs that the kernel runs for frames. Where it passes data on by itself: one where frames leave the TAP device, one where
+ * frames come in at a member, and one where these come in at the TAP device. Else: one that keeps data from the stack of a member. They
+ * are written as the kernel takes them, step by step. */
 #define _GNU_SOURCE
 #include <linux/bpf.h>
 #include <linux/if_packet.h>
@@ -357,6 +358,23 @@ int load_sender(const struct fast_maps *maps) {
     return load_program(code.steps, code.count);
 }
 
+/* A frame to a group of the link goes on to the stack of its member. */
+static void keep_local(struct code *code) {
+    unsigned other[4], count = 0;
+    load_octets(code, 0, 0, ETHERNET, ETH_ALEN);
+    other[count++] = jump(code, BPF_JNE, ANSWER, 0);
+    load(code, BPF_W, ARG1, STACK, ETHERNET);
+    other[count++] = jump(code, BPF_JNE, ARG1, (int32_t)htonl(LINK_GROUPS));
+    load(code, BPF_H, ARG1, STACK, ETHERNET + 4);
+    step(code, (struct bpf_insn){.code = BPF_ALU | BPF_END | BPF_TO_BE, .dst_reg = ARG1, .imm = 16});
+    other[count++] = jump(code, BPF_JGT, ARG1, MOST_LINK_GROUP);
+    set(code, ARG2, 1);
+    step(code, (struct bpf_insn){.code = BPF_ALU64 | BPF_LSH | BPF_X, .dst_reg = ARG2, .src_reg = ARG1});
+    other[count++] = jump(code, BPF_JSET, ARG2, BRIDGE_GROUPS);
+    end(code, GO_ON);
+    land_all(code, other, count);
+}
+
 /* Counts a frame in the entry of its member, which is in FOUND. */
 static void count_in(struct code *code, size_t at) {
     set(code, ARG1, 1);
@@ -425,7 +443,24 @@ int load_receiver(const struct fast_maps *maps, uint16_t port, int tap) {
     data[1] = jump(&code, BPF_JNE, ARG1, htons(ETH_P_SLOW));
     take_control(&code, port, tap);
     land_all(&code, data, 2);
+    keep_local(&code);
     take_data_up(&code, maps, port);
+    return load_program(code.steps, code.count);
+}
+
+/* Where frames come in at a member whose data the daemon takes by a socket, which is before: its stack has those of the slow protocols and
+ * those of its link alone, and so answers no ARP for our address. */
+int load_dropper(void) {
+    static struct code code;
+    unsigned slow;
+    code.count = 0;
+    move(&code, FRAME, ARG1);
+    load(&code, BPF_W, ARG1, FRAME, offsetof(struct __sk_buff, protocol));
+    slow = jump(&code, BPF_JEQ, ARG1, htons(ETH_P_SLOW));
+    keep_local(&code);
+    end(&code, LOSE);
+    land(&code, slow);
+    end(&code, GO_ON);
     return load_program(code.steps, code.count);
 }
 

@@ -1,4 +1,4 @@
-/* The folder of status sockets. */
+/* The folder of the status socket, and of what members had. */
 #define _GNU_SOURCE
 #include <errno.h>
 #include <fcntl.h>
@@ -8,6 +8,12 @@
 
 #include "lagd.h"
 
+static int opened = -1;
+
+int folder_file(void) {
+    return opened;
+}
+
 /* The network namespace that this process is in. */
 unsigned long network_namespace(void) {
     struct stat file;
@@ -16,10 +22,9 @@ unsigned long network_namespace(void) {
 
 /* Opens the folder, and makes it where it is missing. One of another user, one that others may write, and a symbolic link to one are
  * refused: whoever has it could put a link or a socket of his own in it. */
-int open_folder(const char *folder) {
+void open_folder(const char *folder) {
     struct stat found;
     bool made = mkdir(folder, 0755) == 0;
-    int opened;
     if (!made && errno != EEXIST) stop(REFUSED, folder, strerror(errno));
     opened = open(folder, O_RDONLY | O_DIRECTORY | O_NOFOLLOW | O_CLOEXEC);
     if (opened < 0 && (errno == ELOOP || errno == ENOTDIR)) stop(REFUSED, "a symbolic link, or no folder", folder);
@@ -28,5 +33,4 @@ int open_folder(const char *folder) {
     if (made) (void)fstat(opened, &found);
     if (found.st_uid != 0 && found.st_uid != geteuid()) stop(REFUSED, "the folder belongs to another user", folder);
     if (found.st_mode & (S_IWGRP | S_IWOTH)) stop(REFUSED, "other users may write the folder", folder);
-    return opened;
 }

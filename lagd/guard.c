@@ -2,11 +2,9 @@
  * and hand them to its own network stack. */
 #define _GNU_SOURCE
 #include <errno.h>
-#include <linux/bpf.h>
 #include <linux/ethtool.h>
 #include <linux/sockios.h>
 #include <net/if.h>
-#include <netinet/in.h>
 #include <stdio.h>
 #include <stdlib.h>
 #include <string.h>
@@ -16,25 +14,14 @@
 
 #include "carry.h"
 
-/* What a program of TCX answers (Linux 6.6). */
-#define TCX_DROP 2
-#define TCX_NEXT (-1)
 /* The most processors that are named for RPS. */
 #define MOST_PROCESSORS 32
 
 static int program = -1;
 
-/* A program that drops each frame but those of the slow protocols, behind the packet sockets: so the stack of a member answers no ARP
- * for our address. It is loaded once, while the daemon may. */
+/* The program that keeps data from the stack of a member is loaded once, while the daemon may. */
 void load_guard(void) {
-    const struct bpf_insn steps[] = {
-        {.code = BPF_LDX | BPF_MEM | BPF_W, .dst_reg = BPF_REG_2, .src_reg = BPF_REG_1, .off = offsetof(struct __sk_buff, protocol)},
-        {.code = BPF_ALU64 | BPF_MOV | BPF_K, .dst_reg = BPF_REG_0, .imm = TCX_NEXT},
-        {.code = BPF_JMP | BPF_JEQ | BPF_K, .dst_reg = BPF_REG_2, .off = 1, .imm = htons(ETH_P_SLOW)},
-        {.code = BPF_ALU64 | BPF_MOV | BPF_K, .dst_reg = BPF_REG_0, .imm = TCX_DROP},
-        {.code = BPF_JMP | BPF_EXIT},
-    };
-    program = load_program(steps, sizeof steps / sizeof *steps);
+    program = load_dropper();
 }
 
 /* Asks the driver of an interface something, or for something. */
@@ -83,17 +70,14 @@ static unsigned queues_of(int index, struct ethtool_channels *channels) {
     return channels->combined_count + more;
 }
 
-/* Gives an interface one queue for each direction, where its driver can; answers what it had. */
-static struct ethtool_channels join_queues(int index) {
-    struct ethtool_channels before, wanted;
-    if (queues_of(index, &before) <= 1) return (struct ethtool_channels){0};
-    wanted = before;
+/* Gives an interface one queue for each direction, where its driver can. */
+static void join_queues(int index) {
+    struct ethtool_channels wanted;
+    if (queues_of(index, &wanted) <= 1) return;
     wanted.cmd = ETHTOOL_SCHANNELS;
-    wanted.combined_count = before.combined_count > 0;
-    wanted.rx_count = wanted.tx_count = before.combined_count == 0;
+    wanted.rx_count = wanted.tx_count = wanted.combined_count == 0;
+    wanted.combined_count = wanted.combined_count > 0;
     (void)ask_driver(index, &wanted);
-    before.cmd = ETHTOOL_SCHANNELS;
-    return before;
 }
 
 /* A file in which the kernel has which processors take what an interface receives (RPS); answers whether it is of this interface. */
@@ -110,10 +94,10 @@ static bool path_of_processors(const struct link *link, char *path, size_t room)
     return atoi(index) == link->index;
 }
 
-/* Reads the processors of RPS: a mask, in hexadecimal. */
+/* Reads the processors of RPS: a mask, in hexadecimal. One that is too long is none. */
 static bool read_processors(const char *path, char *mask, size_t room) {
     FILE *file = fopen(path, "re");
-    bool done = file && fgets(mask, (int)room, file);
+    bool done = file && fgets(mask, (int)room, file) && strchr(mask, '\n');
     if (file) fclose(file);
     if (done) mask[strcspn(mask, "\n")] = 0;
     return done;
@@ -134,31 +118,39 @@ static bool is_one(const char *mask) {
 }
 
 /* Has one processor take all that an interface receives, so that it stands in one row, whatever processors it was sent from. */
-static bool steer(const struct link *link, struct guard *guard) {
+static bool steer(const struct link *link) {
     char path[128], mask[16], now[PROCESSORS_ROOM];
     long processors = sysconf(_SC_NPROCESSORS_ONLN);
     if (processors > MOST_PROCESSORS) processors = MOST_PROCESSORS;
     if (!path_of_processors(link, path, sizeof path) || !read_processors(path, now, sizeof now)) return false;
     if (is_one(now)) return true;
     snprintf(mask, sizeof mask, "%x", 1u << ((link->settings.number - 1) % (processors > 0 ? processors : 1)));
-    if (!write_processors(path, mask)) return false;
-    memcpy(guard->steered, now, sizeof guard->steered);
-    return true;
+    return write_processors(path, mask);
+}
+
+/* What an interface has that is changed while it is a member. */
+static void look_before(const struct link *link, struct kept *before) {
+    char path[128];
+    *before = (struct kept){.gro = has_gro(link->index), .lro = has_lro(link->index)};
+    if (queues_of(link->index, &before->queues) <= 1) before->queues = (struct ethtool_channels){0};
+    if (!is_fast() || !path_of_processors(link, path, sizeof path) || !read_processors(path, before->steered, sizeof before->steered)
+        || is_one(before->steered))
+        before->steered[0] = 0;
 }
 
 /* Why the kernel may not pass on what goes and comes at an interface, or NULL: a marker would overtake the data before it. */
-static const char *fault_of_fast(const struct link *link, struct guard *guard) {
+static const char *fault_of_fast(const struct link *link) {
     struct ethtool_channels queues;
     if (queues_of(link->index, &queues) > 1) return "it has several queues";
     if (strcmp(link->discipline, "noqueue") != 0 && strcmp(link->discipline, "pfifo") != 0)
         return "its queueing discipline is neither noqueue nor pfifo";
-    if (!steer(link, guard)) return "RPS cannot be set to one processor";
+    if (!steer(link)) return "RPS cannot be set to one processor";
     return NULL;
 }
 
 /* Has the kernel pass on what goes and comes at a member, where it may; a line says why not. */
 static void open_fast(const struct link *link, struct guard *guard) {
-    const char *fault = fault_of_fast(link, guard);
+    const char *fault = fault_of_fast(link);
     if (!fault) guard->opened = open_fast_receiver(link);
     guard->fast = guard->opened >= 0;
     if (!fault && !guard->fast) fault = strerror(errno);
@@ -167,30 +159,36 @@ static void open_fast(const struct link *link, struct guard *guard) {
 }
 
 /* Prepares an interface. What it cannot be kept from has a line. */
-struct guard open_guard(const struct link *link) {
-    struct guard guard = {.opened = -1, .gro = has_gro(link->index), .lro = has_lro(link->index)};
+void open_guard(const struct link *link, struct guard *guard) {
     struct ethtool_channels queues;
     uint16_t port = link->settings.number;
-    if (guard.gro) set_gro(link->index, false);
-    if (guard.lro) set_lro(link->index, false);
-    guard.queues = join_queues(link->index);
-    if (is_fast()) open_fast(link, &guard);
-    if (guard.opened < 0 && program >= 0) guard.opened = attach_program(program, link->index, false);
-    if (guard.opened < 0) (void)say(LOG_WARNING | ABOUT_DATA, "port %u %s: its own network stack has its frames, too", port, link->name);
+    guard->opened = -1;
+    guard->fast = false;
+    look_before(link, &guard->before);
+    keep_settings(link, &guard->before);
+    if (guard->before.gro) set_gro(link->index, false);
+    if (guard->before.lro) set_lro(link->index, false);
+    join_queues(link->index);
+    if (is_fast()) open_fast(link, guard);
+    if (guard->opened < 0 && program >= 0) guard->opened = attach_program(program, link->index, false);
+    if (guard->opened < 0) (void)say(LOG_WARNING | ABOUT_DATA, "port %u %s: its own network stack has its frames, too", port, link->name);
     if (has_gro(link->index) || has_lro(link->index))
         (void)say(LOG_WARNING | ABOUT_DATA, "port %u %s: GRO or LRO stays on, and markers may overtake data", port, link->name);
     if (queues_of(link->index, &queues) > 1)
         (void)say(LOG_WARNING | ABOUT_DATA, "port %u %s: it has several queues, and markers may overtake data", port, link->name);
-    return guard;
 }
 
 /* The interface is no member any more. */
 void close_guard(const struct link *link, struct guard *guard) {
+    struct kept *before = &guard->before;
     char path[128];
     if (guard->opened >= 0) close(guard->opened);
-    if (guard->gro) set_gro(link->index, true);
-    if (guard->lro) set_lro(link->index, true);
-    if (guard->queues.cmd) (void)ask_driver(link->index, &guard->queues);
-    if (guard->steered[0] && path_of_processors(link, path, sizeof path)) (void)write_processors(path, guard->steered);
-    *guard = (struct guard){.opened = -1};
+    guard->opened = -1;
+    guard->fast = false;
+    if (before->gro) set_gro(link->index, true);
+    if (before->lro) set_lro(link->index, true);
+    before->queues.cmd = ETHTOOL_SCHANNELS;
+    if (before->queues.combined_count + before->queues.rx_count + before->queues.tx_count > 0) (void)ask_driver(link->index, &before->queues);
+    if (before->steered[0] && path_of_processors(link, path, sizeof path)) (void)write_processors(path, before->steered);
+    forget_settings(link);
 }

@@ -106,6 +106,8 @@ struct link {
     int lock;   /* by which no other lagd has the interface; -1 while it is missing */
     int socket; /* -1 while the interface is missing */
     int index;  /* of the interface */
+    int carrier;       /* the file of its carrier, or -1 */
+    char carriers[24]; /* how often that came and went, as the kernel has it */
     char discipline[16]; /* its queueing discipline, as the kernel last told */
     uint8_t mac[6];
     bool present; /* whether the answer of the kernel that is being read named it */
@@ -227,6 +229,7 @@ bool open_link(struct link *link, int index);
 void close_link(struct link *link);
 bool is_bound(const struct link *link);
 bool may_send_lacpdu(const struct link *link);
+bool has_new_carrier(struct link *link);
 void send_frame(struct link *link, enum count kind, const uint8_t *frame);
 
 /* frames.c */
@@ -268,6 +271,8 @@ int open_changes(void);
 void take_changes(void);
 void take_messages(const uint8_t *messages, size_t length);
 void watch_changes(void);
+void doubt_carriers(void);
+void watch_carriers(bool all);
 
 /* keys.c */
 extern uint16_t aggregator_count;
@@ -313,11 +318,12 @@ void run_hook(const char *path, enum bundle_state before);
 void reload(const char *file);
 
 /* folder.c */
-int open_folder(const char *folder);
+void open_folder(const char *folder);
+int folder_file(void);
 unsigned long network_namespace(void);
 
 /* status.c */
-int open_status(const char *folder);
+void open_status(const char *folder);
 void take_callers(void);
 void serve_caller(uint32_t caller);
 void pass_tick_of_callers(void);

@@ -1,10 +1,14 @@
-/* Interfaces: the lock and the packet socket of each, and what is sent there. */
+/* Interfaces: the lock and the packet socket of each, its carrier, and what is sent there. */
 #define _GNU_SOURCE
 #include <errno.h>
+#include <fcntl.h>
 #include <linux/if_packet.h>
 #include <linux/pkt_sched.h>
 #include <net/ethernet.h>
+#include <net/if.h>
 #include <netinet/in.h>
+#include <stdio.h>
+#include <stdlib.h>
 #include <string.h>
 #include <sys/socket.h>
 #include <unistd.h>
@@ -32,10 +36,55 @@ static int open_socket(int index) {
     return -1;
 }
 
+/* The queueing disciplines in which a frame of control passes data that waits: by its priority, or as the rare frame of a flow of its
+ * own. */
+static const char *const PASSABLE[] = {"noqueue", "pfifo_fast", "prio", "fq_codel", "mq"};
+
+/* Has what is sent go by no queueing discipline where it would wait behind data, or be refused with them: the order of LACPDUs and data
+ * does not matter, and a marker goes by the socket of the data. No capture of this host shows what goes so. */
+static void choose_way(const struct link *link) {
+    int bypass = 1;
+    for (size_t i = 0; i < sizeof PASSABLE / sizeof *PASSABLE; i++)
+        if (strcmp(link->discipline, PASSABLE[i]) == 0) bypass = 0;
+    (void)setsockopt(link->socket, SOL_PACKET, PACKET_QDISC_BYPASS, &bypass, sizeof bypass);
+}
+
+/* Reads a file of an interface, from its beginning; answers whether there was something. */
+static bool read_text(int fd, char *text, size_t room) {
+    ssize_t length = fd < 0 ? -1 : pread(fd, text, room - 1, 0);
+    if (length > 0) text[length] = 0;
+    return length > 0;
+}
+
+/* The file in which the kernel counts how often the carrier of an interface came and went; or -1, where /sys has another network
+ * namespace. It stays the same interface's where that gets another name. */
+static int open_carrier(int index) {
+    char name[IF_NAMESIZE], path[64], text[16];
+    int folder, number, opened = -1;
+    if (!if_indextoname((unsigned)index, name)) return -1;
+    snprintf(path, sizeof path, "/sys/class/net/%s", name);
+    folder = open(path, O_PATH | O_DIRECTORY | O_CLOEXEC);
+    number = folder < 0 ? -1 : openat(folder, "ifindex", O_RDONLY | O_CLOEXEC);
+    if (read_text(number, text, sizeof text) && atoi(text) == index) opened = openat(folder, "carrier_changes", O_RDONLY | O_CLOEXEC);
+    if (number >= 0) close(number);
+    if (folder >= 0) close(folder);
+    return opened;
+}
+
+/* Whether the carrier of a link may have changed since this was asked last. */
+bool has_new_carrier(struct link *link) {
+    char now[sizeof link->carriers];
+    if (!read_text(link->carrier, now, sizeof now)) return true;
+    if (strcmp(now, link->carriers) == 0) return false;
+    memcpy(link->carriers, now, sizeof now);
+    return true;
+}
+
 static void close_files(struct link *link) {
     if (link->socket >= 0) close(link->socket);
     if (link->lock >= 0) close(link->lock);
-    link->socket = link->lock = -1;
+    if (link->carrier >= 0) close(link->carrier);
+    link->socket = link->lock = link->carrier = -1;
 }
 
 /* Takes up the interface of this number; answers whether it did, and else `trouble` has why not. */
@@ -46,6 +95,8 @@ bool open_link(struct link *link, int index) {
     link->index = index;
     taken = link->socket >= 0 && await_input(link->socket, link->settings.number) && open_member(link);
     link->trouble = taken ? 0 : errno;
+    link->carrier = open_carrier(index);
+    link->carriers[0] = 0;
     link->trouble_ticks = TROUBLE_TICKS;
     link->unsent = false;
     link->changed = true;
@@ -81,10 +132,11 @@ static void note_lacpdu(struct link *link) {
 }
 
 /* Sends a frame, with the address that the interface has now. An LACPDU that the kernel does not take is sent again at each tick,
- * until a newer one is due; a response is lost, as on a wire. */
+ * until a newer one is due; a response is lost, as on a wire. A response tells of what came before its marker, and may pass what goes. */
 void send_frame(struct link *link, enum count kind, const uint8_t *frame) {
     uint8_t sent[NIW_FRAME];
     if (link->socket < 0) return;
+    choose_way(link);
     memcpy(sent, frame, sizeof sent);
     memcpy(sent + 6, link->mac, 6);
     if (kind == LACPDUS_SENT) link->tried = true;
@@ -94,6 +146,7 @@ void send_frame(struct link *link, enum count kind, const uint8_t *frame) {
         return;
     }
     link->counts[FAILED_SENT]++;
+    doubt_carriers();
     if (errno != ENETDOWN && errno != ENXIO) { /* of a link that is down the kernel tells, too */
         link->trouble = errno;
         link->trouble_ticks = TROUBLE_TICKS;

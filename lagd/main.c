@@ -140,6 +140,7 @@ static void serve(const struct epoll_event *events, int count, struct ready read
     take_all_data(events, count);
     serve_callers(events, count);
     if (ready.caller) take_callers();
+    watch_carriers(ready.tick);
     if (ready.tick) pass_time(clock);
     settle_carry();
 }
@@ -180,9 +181,10 @@ static int run_daemon(const struct options *options) {
     waits = epoll_create1(EPOLL_CLOEXEC);
     if (waits < 0) stop(REFUSED, "epoll", strerror(errno));
     make_system();
+    open_folder(options->folder);
     open_carry();
     await_at_start(open_changes(), CHANGES);
-    (void)open_status(options->folder);
+    open_status(options->folder);
     clock = open_clock();
     await_at_start(signals, SIGNALS);
     await_at_start(clock, CLOCK);

@@ -39,16 +39,26 @@ uint64_t member_count(uint16_t port, enum member_count count) {
 }
 
 /* Lets a socket have data and markers, or all slow protocols but markers: so a marker comes in one row with the data before it, and no
- * flood of data costs an LACPDU. */
+ * flood of data costs an LACPDU. What concerns the member alone is no data. */
 static bool filter(int fd, bool data) {
+    const uint32_t taken = data ? UINT32_MAX : 0;
     struct sock_filter code[] = {
         BPF_STMT(BPF_LD | BPF_H | BPF_ABS, 2 * ETH_ALEN),
         BPF_JUMP(BPF_JMP | BPF_JEQ | BPF_K, ETH_P_SLOW, 0, 3),
         BPF_STMT(BPF_LD | BPF_B | BPF_ABS, SUBTYPE_AT),
-        BPF_JUMP(BPF_JMP | BPF_JEQ | BPF_K, SUBTYPE_MARKER, 0, 2),
-        BPF_STMT(BPF_RET | BPF_K, data ? UINT32_MAX : 0), /* a marker */
-        BPF_STMT(BPF_RET | BPF_K, data ? UINT32_MAX : 0), /* data */
-        BPF_STMT(BPF_RET | BPF_K, data ? 0 : UINT32_MAX), /* another of the slow protocols */
+        BPF_JUMP(BPF_JMP | BPF_JEQ | BPF_K, SUBTYPE_MARKER, 0, 11),
+        BPF_STMT(BPF_RET | BPF_K, taken), /* a marker */
+        BPF_STMT(BPF_LD | BPF_W | BPF_ABS, 0),
+        BPF_JUMP(BPF_JMP | BPF_JEQ | BPF_K, LINK_GROUPS, 0, 7),
+        BPF_STMT(BPF_LD | BPF_H | BPF_ABS, 4),
+        BPF_JUMP(BPF_JMP | BPF_JGT | BPF_K, MOST_LINK_GROUP, 5, 0),
+        BPF_STMT(BPF_MISC | BPF_TAX, 0),
+        BPF_STMT(BPF_LD | BPF_IMM, 1),
+        BPF_STMT(BPF_ALU | BPF_LSH | BPF_X, 0),
+        BPF_JUMP(BPF_JMP | BPF_JSET | BPF_K, BRIDGE_GROUPS, 1, 0),
+        BPF_STMT(BPF_RET | BPF_K, 0), /* of the link */
+        BPF_STMT(BPF_RET | BPF_K, taken), /* data */
+        BPF_STMT(BPF_RET | BPF_K, ~taken), /* another of the slow protocols */
     };
     struct sock_fprog wanted = {sizeof code / sizeof code[0], code};
     return setsockopt(fd, SOL_SOCKET, SO_ATTACH_FILTER, &wanted, sizeof wanted) == 0;
@@ -144,10 +154,12 @@ bool open_member(struct link *link) {
     struct member *member = member_of(link);
     if (!carries_data()) return true;
     if (!filter(link->socket, false)) return false;
-    member->guard = open_guard(link);
+    open_guard(link, &member->guard);
     if (!open_sockets(member, link)) {
+        int fault = errno;
         close_sockets(member);
         close_guard(link, &member->guard);
+        errno = fault;
         return false;
     }
     member->has_marker = false;
@@ -192,6 +204,15 @@ void close_member(struct link *link) {
     member->mtu = 0;
 }
 
+/* The program ends, by whatever it is refused: its members get what they had. */
+void put_back_members(void) {
+    for (uint16_t i = 0; i < link_count; i++) {
+        if (members[i].socket < 0) continue;
+        close_sockets(&members[i]);
+        close_guard(&links[i], &members[i].guard);
+    }
+}
+
 /* The TAP device takes what each member takes. */
 void follow_mtu(struct link *link, uint32_t mtu) {
     uint32_t least = ETH_DATA_LEN;
@@ -226,6 +247,7 @@ static void flush_member(struct member *member) {
     while (at < member->out) {
         int sent = member->socket < 0 ? -1 : sendmmsg(member->socket, member->messages + at, member->out - at, 0);
         if (sent < 0 && member->socket >= 0 && errno == EINTR) continue;
+        if (sent < 0) doubt_carriers();
         member->counts[sent > 0 ? DATA_SENT : DATA_UNSENT] += sent > 0 ? (unsigned)sent : 1;
         at += sent > 0 ? (unsigned)sent : 1;
     }

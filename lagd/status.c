@@ -30,7 +30,7 @@ struct caller {
 };
 
 static struct caller callers[MOST_CALLERS];
-static int listener = -1, folder_file = -1;
+static int listener = -1;
 static unsigned left_in_tick = MOST_IN_TICK;
 static bool listens;
 static char own_name[NAME_ROOM + 32];
@@ -166,21 +166,20 @@ void tell_watchers_of(const struct link *link) {
 }
 
 static void remove_socket(void) {
-    (void)unlinkat(folder_file, own_name, 0);
+    (void)unlinkat(folder_file(), own_name, 0);
 }
 
 /* The status socket, named for the namespace and the first interface, whose lock is ours: one that is left there is nobody's. Its user
  * and group may ask, whatever the umask is. */
-int open_status(const char *folder) {
+void open_status(const char *folder) {
     struct sockaddr_un address = {.sun_family = AF_UNIX};
     int length, fault;
     mode_t mask;
     for (unsigned i = 0; i < MOST_CALLERS; i++) callers[i].fd = -1;
-    folder_file = open_folder(folder);
     snprintf(own_name, sizeof own_name, "%lu.%s.sock", network_namespace(), links[0].name);
-    length = snprintf(address.sun_path, sizeof address.sun_path, "/proc/self/fd/%d/%s", folder_file, own_name);
+    length = snprintf(address.sun_path, sizeof address.sun_path, "/proc/self/fd/%d/%s", folder_file(), own_name);
     if (length >= (int)sizeof address.sun_path) stop(WRONG_WORD, "too long", own_name);
-    (void)unlinkat(folder_file, own_name, 0);
+    (void)unlinkat(folder_file(), own_name, 0);
     listener = socket(AF_UNIX, SOCK_STREAM | SOCK_NONBLOCK | SOCK_CLOEXEC, 0);
     mask = umask(0117);
     fault = listener < 0 || bind(listener, (struct sockaddr *)&address, sizeof address) < 0 || listen(listener, 64) < 0 ? errno : 0;
@@ -188,5 +187,4 @@ int open_status(const char *folder) {
     if (fault) stop(REFUSED, folder, strerror(fault));
     (void)atexit(remove_socket);
     listens = await_input(listener, STATUS);
-    return listener;
 }

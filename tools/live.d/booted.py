@@ -203,7 +203,7 @@ def boot(part: Part) -> None:
         check(machine.run("systemctl", "stop", "lagd@uplink").returncode == 0, "systemctl stop stops it")
         check(within(GOES_DOWN, lambda: not (theirs.distributes("b0") or theirs.distributes("b1"))), "its peer is told", theirs.text())
         check(machine.property("Result") == "success", "it ended well", machine.told())
-        check(machine.run("test", "-e", "/run/lagd/uplink").returncode != 0, "and its folder is gone")
+        check(machine.tells("find", "/run/lagd/uplink", "-not", "-type", "d") == "", "and its socket is gone")
         machine.process.send_signal(signal.SIGKILL)
     finally:
         machine.drop()

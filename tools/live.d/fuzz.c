@@ -74,7 +74,8 @@ static void make_ports(void) {
     make_system();
     if (!mkdtemp(folder) || socketpair(AF_UNIX, SOCK_DGRAM | SOCK_NONBLOCK, 0, wire) < 0) abort();
     (void)atexit(remove_folder);
-    (void)open_status(folder);
+    open_folder(folder);
+    open_status(folder);
     has_started = true;
     set_link(1, true);
     set_link(2, true);

@@ -1,0 +1,264 @@
+"""What surrounds the daemon: locks that strangers want, queues of data, carriers that go twice, and what members lose and get back."""
+
+from __future__ import annotations
+
+import datetime
+import os
+import re
+import shutil
+import socket
+import subprocess
+import sys
+import time
+
+from checking import Skipped, check, within
+from daemon import ENDS, OTHER, SYSTEM, Daemon, Part
+from daemons import COMES_UP, NOBODY, both_up
+from spaces import OURS, THEIRS, inside, ip, octets, packet_socket, within_space
+
+# A program that takes all names that a lock of one of the first interfaces may have, as a user without rights.
+SQUATTER = """import os, socket, sys, time
+os.setgroups([]); os.setgid(65534); os.setuid(65534)
+held = []
+for number in range(1, 500):
+    held.append(socket.socket(socket.AF_UNIX))
+    held[-1].bind(f"\\0lagd/interface/{number}")
+    held[-1].listen(0)
+print("held", flush=True)
+time.sleep(60)
+"""
+AS_NOBODY = ["setpriv", "--reuid", NOBODY, "--regid", NOBODY, "--clear-groups", "--inh-caps=-all,+net_raw", "--ambient-caps=-all,+net_raw"]
+# How often two links are cut, and how late the daemon may tell of the second one, in seconds.
+CUTS, LATE = 3, 0.15
+# A queue of a rate, and a child that knows no priority; how many seconds programs send more than that; and one of them.
+SLOW_QUEUE = ("root", "handle", "1:", "tbf", "rate", "10mbit", "burst", "20k", "limit", "1000k"), ("parent", "1:1", "handle", "10:", "pfifo")
+FLOODED = 10
+FLOOD = """import socket, sys, time
+out = socket.socket(socket.AF_PACKET, socket.SOCK_RAW)
+out.bind((sys.argv[1], 0))
+until = time.monotonic() + float(sys.argv[2])
+while time.monotonic() < until:
+    try:
+        out.send(bytes.fromhex("0200000000bb0200000000aa88b5") + bytes(1480))
+    except OSError:
+        time.sleep(0.0002)
+"""
+# Frames of a link: to whom they go, their type, and whether the member has them or, of a bridge, lag0.
+OF_LINK = {
+    "802.1X": ("01:80:c2:00:00:03", 0x888E, True),
+    "LLDP": ("01:80:c2:00:00:0e", 0x88CC, True),
+    "PTP": ("01:80:c2:00:00:0e", 0x88F7, True),
+    "MVRP of a provider": ("01:80:c2:00:00:0d", 0x88F5, False),
+    "a bridge": ("01:80:c2:00:00:00", 0x88B5, False),
+    "data": ("01:80:c2:00:00:10", 0x88B6, False),
+}
+
+
+def squatted_locks(part: Part) -> None:
+    """A user without rights holds what he can of locks; and no two daemons have one interface, whoever runs them, wherever their
+    folders are."""
+    squatter = subprocess.Popen(["ip", "netns", "exec", OURS, sys.executable, "-c", SQUATTER], stdout=subprocess.PIPE, text=True)
+    try:
+        assert squatter.stdout
+        check(squatter.stdout.readline() == "held\n", "a user without rights holds names")
+        ours = part.ours("a0", "a1")
+        check(within(ENDS, lambda: ours.port("a0")["link"] == "up"), "and the daemon starts", ours.printed())
+        for words in [], ["unshare", "--mount", "sh", "-c", 'mount -t tmpfs none /run && exec "$@"', "sh"], AS_NOBODY:
+            folder = os.path.join(part.folder, f"second{len(words)}")
+            os.mkdir(folder)
+            if words == AS_NOBODY:
+                os.chown(folder, int(NOBODY), int(NOBODY))
+                os.chmod(part.folder, 0o755)
+            ended = inside(OURS, *words, "timeout", "3", part.program, "--folder", folder, "9", f"32768,{OTHER}", "a1")
+            told = "another lagd has the interface, one of user 0: a1"
+            check(ended.returncode == 1 and told in ended.stderr, f"a second one is refused {words[:2]}", ended.returncode, ended.stderr)
+        ours.ends("the daemon")
+    finally:
+        squatter.kill()
+        squatter.wait()
+    folder = part.folder
+    part.folder = os.path.join(folder, "nobody")
+    os.makedirs(os.path.join(part.folder, "run"))
+    os.chown(os.path.join(part.folder, "run"), int(NOBODY), int(NOBODY))
+    theirs = part.ours("a0", before=AS_NOBODY)
+    part.folder = folder
+    check(within(ENDS, lambda: theirs.port("a0")["link"] == "up"), "a daemon of another user", theirs.printed())
+    status, line = part.refused("9", f"32768,{OTHER}", "a0")
+    check((status, line) == (1, f"lagd: another lagd has the interface, one of user {NOBODY}: a0\n"), "keeps root's from its interface", line)
+    theirs.ends("the daemon")
+
+
+def frame(to: str, kind: int) -> bytes:
+    return octets(to) + octets("02:00:00:00:00:77") + kind.to_bytes(2, "big") + bytes(60)
+
+
+def has_frame(reader: socket.socket, kind: int) -> bool:
+    """Whether a frame of this type has come."""
+    while True:
+        try:
+            got, address = reader.recvfrom(2048, socket.MSG_DONTWAIT)
+        except BlockingIOError:
+            return False
+        if got[12:14] == kind.to_bytes(2, "big") and address[2] != socket.PACKET_OUTGOING:
+            return True
+
+
+def link_groups(part: Part) -> None:
+    """Frames that concern a member alone stay with its own stack; those of bridges, and data, go up."""
+    for options in [], ["--offload"], ["--fast"]:
+        ours, theirs = part.ours(options=["--carry", "lag0", *options]), part.theirs(options=["--carry", "lag1"])
+        both_up(ours, theirs, f"both links distribute {options}")
+        ip(OURS, "link", "set", "lag0", "up")
+        wire = packet_socket(THEIRS, "b0", 0)
+        for what, (to, kind, stays) in OF_LINK.items():
+            member, bundle = packet_socket(OURS, "a0", kind), packet_socket(OURS, "lag0", kind)
+            wire.send(frame(to, kind))
+            wanted, other = (member, bundle) if stays else (bundle, member)
+            came = within(ENDS, lambda: has_frame(wanted, kind))
+            time.sleep(0.1)
+            where = "the member" if stays else "lag0"
+            check(came and not has_frame(other, kind), f"a frame of {what} goes to {where} alone {options}", ours.text())
+        for daemon, name in (ours, "the daemon"), (theirs, "the other daemon"):
+            daemon.ends(name)
+
+
+def told_at(daemon: Daemon, name: str) -> float | None:
+    """When the daemon told last that a link is down."""
+    found = re.findall(rf"^(\S+)Z port \d+ {name}: the link is down", daemon.printed(), re.M)
+    return datetime.datetime.fromisoformat(found[-1] + "+00:00").timestamp() if found else None
+
+
+def make_even_pair(place: int) -> None:
+    """A pair whose ends have one number, as if each was a card: the kernel tells of a carrier that goes there once a second."""
+    number = str(1000 + place)
+    made = inside(OURS, "ip", "link", "add", f"a{place}", "index", number, "type", "veth", "peer", "name", f"b{place}", "index", number, "netns", THEIRS)
+    if made.returncode:
+        raise Skipped(f"no veth pairs of one number: {made.stderr.strip()}")
+    ip(OURS, "link", "set", f"a{place}", "up")
+    ip(THEIRS, "link", "set", f"b{place}", "up")
+
+
+def second_cut(part: Part) -> None:
+    """Two links are cut within a second: neither is told late, after another name either."""
+    for place in 2, 3:
+        make_even_pair(place)
+    inside(OURS, "ip", "link", "property", "add", "dev", "a3", "altname", "third")
+    ours, theirs = part.ours("a2", "third"), part.theirs("b2", "b3")
+    late: list[float] = []
+    for turn in range(CUTS):
+        both = lambda: ours.distributes("a2", "third") and theirs.distributes("b2", "b3")
+        check(within(COMES_UP, both), "both links distribute", ours.text(), theirs.text())
+        time.sleep(1.5)
+        ip(THEIRS, "link", "set", "b2", "down")
+        time.sleep(0.2)
+        ip(THEIRS, "link", "set", "b3", "down")
+        cut = time.time()
+        told = lambda: (told_at(ours, "third") or 0) > cut - 0.5
+        check(within(ENDS, told), "the second cut is told", ours.printed())
+        late.append((told_at(ours, "third") or 0) - cut)
+        counts = [ours.count(name, "link_losses") for name in ("a2", "third")]
+        check(counts == [turn + 1, turn + 1], "each is counted once", counts, ours.text())
+        for name in "b2", "b3":
+            ip(THEIRS, "link", "set", name, "up")
+        inside(OURS, "ip", "link", "set", "a3" if turn == 0 else "renamed", "name", "renamed")
+    check(sorted(late)[CUTS // 2] <= LATE, f"it is told within {LATE} s, most times", late, ours.printed())
+    ours.ends("the daemon")
+
+
+def queued_data(part: Part) -> None:
+    """Other programs send more than an interface takes, whose queue knows no priority: no LACPDU waits there, and none is refused."""
+    ours, theirs = part.ours(), part.theirs()
+    both_up(ours, theirs, "both links distribute")
+    for words in SLOW_QUEUE:
+        made = inside(OURS, "tc", "qdisc", "add", "dev", "a0", *words)
+        if made.returncode:
+            raise Skipped(f"no queue of a rate: {made.stderr.strip()}")
+    ip(OURS, "link", "set", "a0", "down")
+    ip(OURS, "link", "set", "a0", "up")
+    both_up(ours, theirs, "they do so with another queueing discipline")
+    before, sent = theirs.port("b0")["counters"], ours.count("a0", "lacpdus_sent")
+    floods = [subprocess.Popen(["ip", "netns", "exec", OURS, sys.executable, "-c", FLOOD, "a0", str(FLOODED)]) for _ in range(2)]
+    for flood in floods:
+        flood.wait()
+    now, port = theirs.port("b0")["counters"], ours.port("a0")["counters"]
+    dropped = re.search(r"dropped (\d+)", inside(OURS, "tc", "-s", "qdisc", "show", "dev", "a0").stdout)
+    check(dropped and int(dropped[1]) > 100, "the queue drops data", dropped and dropped[0])
+    check(port["failed_sent"] == 0 and port["lacpdus_sent"] >= sent + FLOODED - 2, "no LACPDU is refused", port)
+    check(now["expired"] == before["expired"] and now["lacpdus_received"] >= before["lacpdus_received"] + FLOODED - 2, "and the peer hears them in time", before, now)
+    ours.ends("the daemon")
+
+
+def has(name: str, wanted: bool, queues: str = "") -> bool:
+    """Whether GRO of an interface is on, and it has so many queues to receive."""
+    gro = re.search(r"^generic-receive-offload: (on|off)", inside(OURS, "ethtool", "-k", name).stdout, re.M)
+    channels = inside(OURS, "ethtool", "-l", name).stdout.partition("Current")[2]
+    return bool(gro) and gro[1] == ("on" if wanted else "off") and (not queues or f"RX:\t\t{queues}\n" in channels)
+
+
+def kept_settings(part: Part) -> None:
+    """What members had before they have again: where the start is refused, after SIGTERM, and where a daemon before was killed."""
+    if not shutil.which("ethtool"):
+        raise Skipped("no command ethtool (Debian: ethtool)")
+    ip(OURS, "link", "del", "a0")
+    ip(OURS, "link", "add", "a0", "numrxqueues", "4", "numtxqueues", "4", "type", "veth", "peer", "name", "b0", "netns", THEIRS)
+    ip(OURS, "link", "set", "a0", "up")
+    ip(THEIRS, "link", "set", "b0", "up")
+    for words in ["-L", "a0", "rx", "3", "tx", "3"], ["-K", "a0", "gro", "on"]:
+        inside(OURS, "ethtool", *words)
+    check(has("a0", True, "3"), "an interface with GRO and three queues", inside(OURS, "ethtool", "-l", "a0").stdout)
+    files = lambda: [name for name in os.listdir(os.path.join(part.folder, "run")) if name.endswith(".member")]
+    other = part.start(OURS, OTHER, "9", "a1")
+    within(ENDS, other.ports)
+    status, line = part.refused("--carry", "lag0", "7", f"32768,{SYSTEM}", "a0", "a1")
+    check(status == 1 and "another lagd has the interface" in line, "a start is refused", line)
+    check(has("a0", True, "3") and not files(), "the interface has both again", files())
+    other.ends("the other daemon")
+    for options in [], ["--fast"]:
+        first = part.ours("a0", options=["--carry", "lag0", *options])
+        check(within(ENDS, lambda: first.ports() and has("a0", False, "1")), f"a member has neither {options}", first.printed())
+        first.process.kill()
+        first.process.wait()
+        check(has("a0", False, "1") and len(files()) == 1, "after SIGKILL neither", files())
+        second = part.ours("a0", options=["--carry", "lag0", *options])
+        check(within(ENDS, lambda: second.ports()), "the next daemon", second.printed())
+        second.ends("it")
+        check(has("a0", True, "3") and not files(), "and the interface has both again", files())
+    first = part.ours("a0", options=["--carry", "lag0"])
+    within(ENDS, first.ports)
+    first.process.kill()
+    first.process.wait()
+    number = inside(OURS, "cat", "/sys/class/net/a0/ifindex").stdout.strip()
+    ip(OURS, "link", "del", "a0")
+    ip(OURS, "link", "add", "a0", "index", number, "type", "veth", "peer", "name", "b0", "netns", THEIRS)
+    second = part.ours("a0", options=["--carry", "lag0"])
+    within(ENDS, second.ports)
+    second.ends("the next daemon")
+    check(has("a0", False), "another interface of the same number keeps what it had")
+
+
+def long_masks(part: Part) -> None:
+    """The mask of RPS of a machine with many processors is put back whole."""
+    mask = ",".join(["ffffffff"] * 64)
+    path, place = os.path.join(part.folder, "mask"), "/sys/class/net/a0/queues/rx-0/rps_cpus"
+    with open(path, "w", encoding="ascii") as out:
+        out.write(f"{mask}\n")
+    now = lambda: open(path, encoding="ascii").read().strip()
+    before = ["unshare", "--mount", "sh", "-c", f'mount --bind {path} {place} && exec "$@"', "sh"]
+    ours = part.ours("a0", options=["--carry", "lag0", "--fast"], before=before)
+    check(within(ENDS, lambda: now() == "1"), "one processor takes what a member receives", now(), ours.printed())
+    ours.process.kill()
+    ours.process.wait()
+    again = part.ours("a0", options=["--carry", "lag0", "--fast"], before=before)
+    within(ENDS, again.ports)
+    again.ends("the next daemon")
+    check(now() == mask, f"after SIGKILL and SIGTERM a mask of {len(mask)} characters is back", now(), again.printed())
+
+
+PARTS = {
+    "what members had": kept_settings,
+    "a long mask of processors": long_masks,
+    "a second cut": second_cut,
+    "a queue of data": queued_data,
+    "locks that others hold": squatted_locks,
+    "groups of a link": link_groups,
+}
