@@ -2,6 +2,7 @@
 #define _GNU_SOURCE
 #include <dirent.h>
 #include <errno.h>
+#include <fcntl.h>
 #include <poll.h>
 #include <stdio.h>
 #include <stdlib.h>
@@ -9,6 +10,7 @@
 #include <sys/socket.h>
 #include <sys/stat.h>
 #include <sys/un.h>
+#include <time.h>
 #include <unistd.h>
 
 #include "lagd.h"
@@ -22,17 +24,21 @@
 /* The daemons that are asked. */
 static struct {
     char path[512];
+    char bundle[NAME_ROOM];
     int fd;
+    bool may_ask;
     char *answer; /* whole, with a zero behind it */
 } daemons[MOST_DAEMONS];
 static unsigned count;
 static const char *denied; /* what may not be looked at, if there is something */
 
-/* Whether a file is the status socket of a daemon of this namespace. */
-static bool is_socket(const char *name) {
+/* Whether a file is the status socket of a daemon of this namespace, of which bundle. */
+static bool is_socket(const char *name, char bundle[static NAME_ROOM]) {
     char head[32];
     size_t length = (size_t)snprintf(head, sizeof head, "%lu.", network_namespace()), whole = strlen(name);
-    return strncmp(name, head, length) == 0 && whole > length + 5 && strcmp(name + whole - 5, ".sock") == 0;
+    if (strncmp(name, head, length) != 0 || whole <= length + 5 || strcmp(name + whole - 5, ".sock") != 0) return false;
+    snprintf(bundle, NAME_ROOM, "%.*s", (int)(whole - length - 5), name + length);
+    return true;
 }
 
 static int is_visible(const struct dirent *entry) {
@@ -45,37 +51,63 @@ static void find_sockets(const char *folder, bool deeper) {
     int found = scandir(folder, &entries, is_visible, alphasort);
     if (found < 0 && errno == EACCES) denied = strdup(folder);
     for (int i = 0; i < found; i++) {
-        char path[sizeof daemons->path];
+        char path[sizeof daemons->path], bundle[NAME_ROOM];
         bool fits = snprintf(path, sizeof path, "%s/%s", folder, entries[i]->d_name) < (int)sizeof path;
         struct stat file;
-        if (fits && is_socket(entries[i]->d_name) && count < MOST_DAEMONS)
-            strcpy(daemons[count++].path, path);
-        else if (fits && deeper && lstat(path, &file) == 0 && S_ISDIR(file.st_mode))
+        if (fits && count < MOST_DAEMONS && is_socket(entries[i]->d_name, bundle)) {
+            memcpy(daemons[count].bundle, bundle, sizeof bundle);
+            memcpy(daemons[count++].path, path, sizeof path);
+        } else if (fits && deeper && lstat(path, &file) == 0 && S_ISDIR(file.st_mode))
             find_sockets(path, false);
         free(entries[i]);
     }
     free(entries);
 }
 
-/* Connects with a daemon and asks it; or -1, and errno. It waits no longer than PATIENCE: one that is stopped may answer nobody. */
-static int ask(const char *path, const char *question) {
-    struct sockaddr_un to = {.sun_family = AF_UNIX};
-    struct timeval patience = {PATIENCE / 1000, 0};
-    int opened = strlen(path) < sizeof to.sun_path ? socket(AF_UNIX, SOCK_STREAM | SOCK_CLOEXEC, 0) : -1, fault;
-    if (opened < 0) return -1;
-    strcpy(to.sun_path, path);
-    (void)setsockopt(opened, SOL_SOCKET, SO_SNDTIMEO, &patience, sizeof patience);
-    if (connect(opened, (struct sockaddr *)&to, sizeof to) == 0
-        && send(opened, question, strlen(question), MSG_NOSIGNAL) == (ssize_t)strlen(question))
-        return opened;
-    fault = errno;
+/* The address of a socket, whose whole path may be longer than an address: by its folder, which is opened; answers that, or -1. */
+static int address_of(const char *path, struct sockaddr_un *to) {
+    char folder[sizeof daemons->path];
+    const char *name = strrchr(path, '/') + 1;
+    int opened;
+    snprintf(folder, sizeof folder, "%.*s", (int)(name - path), path);
+    opened = open(folder, O_PATH | O_DIRECTORY | O_CLOEXEC);
+    *to = (struct sockaddr_un){.sun_family = AF_UNIX};
+    if (opened < 0 || snprintf(to->sun_path, sizeof to->sun_path, "/proc/self/fd/%d/%s", opened, name) < (int)sizeof to->sun_path) return opened;
     close(opened);
-    errno = fault;
+    errno = ENAMETOOLONG;
     return -1;
 }
 
-/* Reads until the daemon ends the connection; NULL where it does not in time. */
-static char *read_answer(int fd) {
+static void close_keeping_errno(int fd) {
+    int fault = errno;
+    close(fd);
+    errno = fault;
+}
+
+/* Connects with a daemon and asks it; or -1, and errno. It waits no longer than PATIENCE: one that is stopped may answer nobody. */
+static int ask(const char *path, const char *question) {
+    struct sockaddr_un to;
+    struct timeval patience = {PATIENCE / 1000, 0};
+    int folder = address_of(path, &to), opened = folder < 0 ? -1 : socket(AF_UNIX, SOCK_STREAM | SOCK_CLOEXEC, 0);
+    bool asked = opened >= 0 && setsockopt(opened, SOL_SOCKET, SO_SNDTIMEO, &patience, sizeof patience) == 0
+        && connect(opened, (struct sockaddr *)&to, sizeof to) == 0;
+    /* One that refuses may have closed the connection already, and said why. */
+    if (asked) (void)send(opened, question, strlen(question), MSG_NOSIGNAL);
+    if (folder >= 0) close_keeping_errno(folder);
+    if (asked || opened < 0) return opened;
+    close_keeping_errno(opened);
+    return -1;
+}
+
+/* Whether text of a daemon is a refusal. Then it is told. */
+static bool is_refusal(const char *path, const char *text) {
+    if (strncmp(text, REFUSAL, strlen(REFUSAL)) != 0) return false;
+    complain("%s: %.*s", path, (int)strcspn(text, "\n"), text);
+    return true;
+}
+
+/* Reads until the daemon ends the connection; NULL where it does not in time, or refuses, as a line says. */
+static char *read_answer(int fd, const char *path) {
     char *whole = NULL;
     size_t size = 0, used = 0;
     ssize_t got = -1;
@@ -87,6 +119,10 @@ static char *read_answer(int fd) {
         if (got > 0) used += (size_t)got;
     } while (got > 0);
     if (whole) whole[used] = 0;
+    if (whole && is_refusal(path, whole))
+        used = 0;
+    else if (got != 0 || used == 0)
+        complain("%s: its daemon does not answer", path);
     if (got == 0 && used > 0) return whole;
     free(whole);
     return NULL;
@@ -121,16 +157,33 @@ static void print_metrics(void) {
     }
 }
 
+/* Prints which bundles have a daemon that answers, and when that was. */
+static void print_who_answers(void) {
+    report_length = 0;
+    add_head("up", "gauge", "whether the daemon of the bundle answers");
+    for (unsigned i = 0; i < count; i++)
+        if (daemons[i].may_ask) add_value_of("up", daemons[i].bundle, daemons[i].answer != NULL);
+    add_head("time_seconds", "gauge", "when this was asked");
+    add("lagd_time_seconds %llu\n", (unsigned long long)time(NULL));
+    print(report, report_length);
+}
+
 /* Ends the program where no daemon answers. */
 static _Noreturn void refuse_all(const char *folder) {
     if (denied) stop(REFUSED, "permission denied", denied);
     stop(REFUSED, "no lagd answers in", folder);
 }
 
+/* Prints what came of a daemon that is watched. */
+static void print_lines_of(unsigned daemon, char *text, size_t length) {
+    text[length] = 0;
+    if (!is_refusal(daemons[daemon].path, text)) print(text, length);
+}
+
 /* Prints what the daemons say, one after the other as each has a line, until they end. */
 static int print_changes_of_all(void) {
     struct pollfd waits[MOST_DAEMONS];
-    char text[4096];
+    char text[4096 + 1];
     unsigned left = 0;
     for (unsigned i = 0; i < count; i++) {
         waits[i] = (struct pollfd){daemons[i].fd, POLLIN, 0};
@@ -140,8 +193,8 @@ static int print_changes_of_all(void) {
         for (unsigned i = 0; i < count; i++) {
             ssize_t got;
             if (!waits[i].revents) continue;
-            got = recv(waits[i].fd, text, sizeof text, 0);
-            if (got > 0) print(text, (size_t)got);
+            got = recv(waits[i].fd, text, sizeof text - 1, 0);
+            if (got > 0) print_lines_of(i, text, (size_t)got);
             if (got <= 0) waits[i].fd = -1;
             left -= got <= 0;
         }
@@ -152,24 +205,34 @@ static int print_changes_of_all(void) {
 
 static const char *question_of(const struct options *options) {
     if (options->action == METRICS) return "metrics\n";
-    if (options->action == WATCH) return options->json ? "watch-json\n" : "watch\n";
     return options->json ? "json\n" : "text\n";
+}
+
+/* Asks a daemon, and whether it answers before it is watched. One that does not has a line. */
+static bool ask_daemon(unsigned daemon, const struct options *options) {
+    const char *path = daemons[daemon].path;
+    bool watched = options->action == WATCH;
+    int fd = ask(path, question_of(options));
+    daemons[daemon].may_ask = fd >= 0 || (errno != EACCES && errno != EPERM);
+    if (!daemons[daemon].may_ask) denied = path;
+    if (fd < 0) complain("%s: its daemon does not answer: %s", path, strerror(errno));
+    if (fd >= 0) daemons[daemon].answer = read_answer(fd, path);
+    if (fd >= 0) close(fd);
+    daemons[daemon].fd = watched && fd >= 0 ? ask(path, options->json ? "watch-json\n" : "watch\n") : -1;
+    return watched ? daemons[daemon].fd >= 0 : daemons[daemon].answer != NULL;
 }
 
 /* Asks the daemons, and prints what they answer; answers how the program ends. */
 int ask_daemons(const struct options *options) {
-    const char *question = question_of(options);
     unsigned answers = 0;
     find_sockets(options->folder, true);
-    for (unsigned i = 0; i < count; i++) {
-        daemons[i].fd = ask(daemons[i].path, question);
-        if (daemons[i].fd < 0 && (errno == EACCES || errno == EPERM)) denied = daemons[i].path;
-        if (daemons[i].fd >= 0 && options->action != WATCH) daemons[i].answer = read_answer(daemons[i].fd);
-        answers += options->action == WATCH ? daemons[i].fd >= 0 : daemons[i].answer != NULL;
-    }
-    if (answers == 0) refuse_all(options->folder);
+    for (unsigned i = 0; i < count; i++) answers += ask_daemon(i, options);
+    if (answers == 0 && (options->action != METRICS || count == 0 || denied)) refuse_all(options->folder);
     if (options->action == WATCH) return print_changes_of_all();
-    if (options->action == METRICS) print_metrics();
+    if (options->action == METRICS) {
+        print_metrics();
+        print_who_answers();
+    }
     for (unsigned i = 0; options->action == SHOW && i < count; i++)
         if (daemons[i].answer) print(daemons[i].answer, strlen(daemons[i].answer));
     return fflush(stdout) == 0 ? DONE : REFUSED;

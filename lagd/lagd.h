@@ -323,6 +323,8 @@ int folder_file(void);
 unsigned long network_namespace(void);
 
 /* status.c */
+/* How the answer begins to who has no place. */
+#define REFUSAL "refused: "
 void open_status(const char *folder);
 void take_callers(void);
 void serve_caller(uint32_t caller);
@@ -380,6 +382,7 @@ void write_json_event(const struct link *link);
 void write_metrics(void);
 void add_head(const char *name, const char *kind, const char *help);
 void add_bundle_value(const char *name, const char *kind, const char *help, uint64_t value);
+void add_value_of(const char *name, const char *bundle, uint64_t value);
 void add_port_value(const char *name, const struct link *link, uint64_t value);
 
 /* asking.c */
@@ -396,7 +399,7 @@ void notify_alive(void);
 void drop_privileges(void);
 
 /* main.c */
-#define MOST_CALLERS 32
+#define MOST_CALLERS 64
 enum {
     SIGNALS = NIW_MOST_PORTS + 1,
     CLOCK,

@@ -20,11 +20,15 @@ static void add_label(const char *name, const char *text) {
     add("\"");
 }
 
+void add_value_of(const char *name, const char *bundle, uint64_t value) {
+    add("lagd_%s{", name);
+    add_label("bundle", bundle);
+    add("} %" PRIu64 "\n", value);
+}
+
 void add_bundle_value(const char *name, const char *kind, const char *help, uint64_t value) {
     add_head(name, kind, help);
-    add("lagd_%s{", name);
-    add_label("bundle", settings.name);
-    add("} %" PRIu64 "\n", value);
+    add_value_of(name, settings.name, value);
 }
 
 void add_port_value(const char *name, const struct link *link, uint64_t value) {

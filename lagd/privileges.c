@@ -1,14 +1,11 @@
 /* What the daemon may do once its sockets are open: CAP_NET_RAW alone, for an interface that comes later, and CAP_NET_ADMIN beside it
- * where it carries data. */
+ * where it carries data. Its user stays who he was: who is root may set files of /sys back, and runs the hooks. The unit has another one. */
 #define _GNU_SOURCE
-#include <sys/prctl.h>
-#ifdef HAVE_CAP_NG
 #include <cap-ng.h>
-#endif
+#include <sys/prctl.h>
 
 #include "lagd.h"
 
-#ifdef HAVE_CAP_NG
 /* Keeps these, as far as they are there, and nothing else. A program that is started has none. */
 static void drop_capabilities(void) {
     bool known = capng_get_caps_process() == 0;
@@ -21,10 +18,6 @@ static void drop_capabilities(void) {
     if (capng_apply(CAPNG_SELECT_BOTH) != 0 && capng_apply(CAPNG_SELECT_CAPS) != 0)
         (void)say(LOG_WARNING | ABOUT_RIGHTS, "the capabilities stay as they are");
 }
-#else
-static void drop_capabilities(void) {
-}
-#endif
 
 /* Drops what is not needed from here on, for good: no program that it starts gets more. */
 void drop_privileges(void) {

@@ -11,10 +11,15 @@
 
 #include "lagd.h"
 
-/* The most connections of one user, so that none takes all of them. */
-#define MOST_OF_USER 16
+/* The most connections of one user, so that none takes all of them; how many of these may watch, so that the others can ask; and how many
+ * of all are root's alone. */
+#define MOST_OF_USER 24
+#define MOST_WATCHERS 16
+#define ROOTS_OWN 24
 /* The most connections that are taken between two ticks, so that no flood takes the processor. The others wait in their order. */
 #define MOST_IN_TICK 20
+/* How much of the name of a bundle the name of its socket has: an address has no more room. */
+#define LONGEST_NAME 64
 /* How many ticks a question may take, and how many each part of an answer may wait for whoever asked. */
 #define PATIENCE 20
 
@@ -41,22 +46,42 @@ static void close_caller(struct caller *caller) {
     *caller = (struct caller){.fd = -1};
 }
 
-/* A free place, if this user has not too many connections. */
-static struct caller *place_for(uid_t user) {
+/* How many connections a user has, or how many of them watch. */
+static unsigned count_of(uid_t user, bool watching) {
+    unsigned count = 0;
+    for (unsigned i = 0; i < MOST_CALLERS; i++)
+        count += callers[i].fd >= 0 && callers[i].user == user && (!watching || callers[i].watches);
+    return count;
+}
+
+/* A free place for a user, or NULL, and why there is none. */
+static struct caller *place_for(uid_t user, const char **why) {
     struct caller *found = NULL;
-    unsigned same = 0;
+    unsigned free_ones = 0;
     for (unsigned i = 0; i < MOST_CALLERS; i++) {
-        if (callers[i].fd < 0 && !found) found = &callers[i];
-        if (callers[i].fd >= 0 && callers[i].user == user) same++;
+        if (callers[i].fd >= 0) continue;
+        found = &callers[i];
+        free_ones++;
     }
-    return same < MOST_OF_USER ? found : NULL;
+    *why = "all connections are taken";
+    if (count_of(user, false) >= MOST_OF_USER) *why = "this user has too many connections";
+    return count_of(user, false) < MOST_OF_USER && (user == 0 || free_ones > ROOTS_OWN) ? found : NULL;
+}
+
+/* Says why somebody gets no answer. */
+static void refuse(int fd, const char *why) {
+    char text[128];
+    int length = snprintf(text, sizeof text, REFUSAL "%s\n", why);
+    (void)send(fd, text, (size_t)length, MSG_NOSIGNAL | MSG_DONTWAIT);
 }
 
 static void take_caller(int fd) {
     struct ucred who = {0};
     socklen_t length = sizeof who;
-    struct caller *place = getsockopt(fd, SOL_SOCKET, SO_PEERCRED, &who, &length) == 0 ? place_for(who.uid) : NULL;
+    const char *why = strerror(ENOMEM);
+    struct caller *place = getsockopt(fd, SOL_SOCKET, SO_PEERCRED, &who, &length) == 0 ? place_for(who.uid, &why) : NULL;
     if (!place || !await_input(fd, CALLERS + (uint32_t)(place - callers))) {
+        refuse(fd, why);
         close(fd);
         return;
     }
@@ -90,8 +115,14 @@ static void send_rest(struct caller *caller) {
 /* Answers a question, a word of one line. */
 static void answer_caller(struct caller *caller) {
     const char *asked = caller->question;
+    unsigned watching = count_of(caller->user, true);
     caller->watches = strcmp(asked, "watch") == 0 || strcmp(asked, "watch-json") == 0;
     caller->json = strcmp(asked, "watch-json") == 0;
+    if (caller->watches && watching >= MOST_WATCHERS) {
+        refuse(caller->fd, "this user watches too often");
+        close_caller(caller);
+        return;
+    }
     if (caller->watches) return;
     report_length = 0;
     if (strcmp(asked, "text") == 0) write_text();
@@ -169,16 +200,25 @@ static void remove_socket(void) {
     (void)unlinkat(folder_file(), own_name, 0);
 }
 
-/* The status socket, named for the namespace and the first interface, whose lock is ours: one that is left there is nobody's. Its user
- * and group may ask, whatever the umask is. */
+/* Whether somebody listens at an address. */
+static bool is_taken(const struct sockaddr_un *address) {
+    int asker = socket(AF_UNIX, SOCK_STREAM | SOCK_NONBLOCK | SOCK_CLOEXEC, 0);
+    bool taken = asker >= 0 && (connect(asker, (const struct sockaddr *)address, sizeof *address) == 0 || errno == EAGAIN);
+    if (asker >= 0) close(asker);
+    return taken;
+}
+
+/* The status socket, named for the namespace and the bundle: one that is left there, at which nobody listens, is nobody's. Its user and
+ * group may ask, whatever the umask is. */
 void open_status(const char *folder) {
     struct sockaddr_un address = {.sun_family = AF_UNIX};
     int length, fault;
     mode_t mask;
     for (unsigned i = 0; i < MOST_CALLERS; i++) callers[i].fd = -1;
-    snprintf(own_name, sizeof own_name, "%lu.%s.sock", network_namespace(), links[0].name);
+    snprintf(own_name, sizeof own_name, "%lu.%.*s.sock", network_namespace(), LONGEST_NAME, settings.name);
     length = snprintf(address.sun_path, sizeof address.sun_path, "/proc/self/fd/%d/%s", folder_file(), own_name);
     if (length >= (int)sizeof address.sun_path) stop(WRONG_WORD, "too long", own_name);
+    if (is_taken(&address)) stop(REFUSED, "another lagd has this bundle", settings.name);
     (void)unlinkat(folder_file(), own_name, 0);
     listener = socket(AF_UNIX, SOCK_STREAM | SOCK_NONBLOCK | SOCK_CLOEXEC, 0);
     mask = umask(0117);

@@ -48,13 +48,14 @@ def kit() -> str:
 
 
 def daemon_words() -> tuple[list[str], list[str]]:
-    """With which words the daemon is compiled, and with which it is linked: those of libinih, and of the libraries that it uses where
-    they are here."""
+    """With which words the daemon is compiled, and with which it is linked: those of libinih and libcap-ng, and of libsystemd
+    where that is here."""
     want("pkg-config")
     found = [name for name in ("inih", "libsystemd", "libcap-ng") if not subprocess.run(["pkg-config", "--exists", name]).returncode]
-    if "inih" not in found:
-        raise Missing("the daemon reads its files by libinih, and pkg-config finds none (Debian: libinih-dev)")
-    defined = {"libsystemd": "-DHAVE_SYSTEMD", "libcap-ng": "-DHAVE_CAP_NG"}
+    for name, package in ("inih", "libinih-dev"), ("libcap-ng", "libcap-ng-dev"):
+        if name not in found:
+            raise Missing(f"the daemon needs {name}, and pkg-config finds none (Debian: {package})")
+    defined = {"libsystemd": "-DHAVE_SYSTEMD"}
     told = [subprocess.run(["pkg-config", kind, *found], capture_output=True, text=True).stdout.split() for kind in ("--cflags", "--libs")]
     return [*(defined[name] for name in found if name in defined), *told[0]], told[1]
 

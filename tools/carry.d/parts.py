@@ -17,7 +17,6 @@ from rows import rows
 from checking import Skipped, check, within
 from fetching import Packages
 from openvswitch import OpenVSwitch
-from repository import daemon_words
 from spaces import OURS, THEIRS, inside, ip, packet_socket
 
 # Frames a second of an overload.
@@ -288,7 +287,7 @@ def rights(programs: Programs) -> None:
         try:
             with open(f"/proc/{ours.process.pid}/status", encoding="utf-8") as status:
                 bounds = {line.split(":")[0]: line.split()[1] for line in status if line.startswith("Cap")}
-            alone = bounds["CapEff"] == f"{1 << 12 | 1 << 13:016x}" or "-DHAVE_CAP_NG" not in daemon_words()[0]
+            alone = bounds["CapEff"] == f"{1 << 12 | 1 << 13:016x}"
             check(alone, "it has CAP_NET_RAW and CAP_NET_ADMIN alone", bounds)
             check(not ask_gro(OURS, "a0"), "GRO of a member is off", ours.printed())
             check("network stack has" not in ours.printed(), "and no member hands frames to its own network stack", ours.printed())

@@ -35,7 +35,7 @@ PATIENCE = 20
 
 
 class Unit(NamedTuple):
-    """What the unit of the daemon says."""
+    """What the unit of the daemon says; and how its file is checked."""
 
     check: list[str]
     start: list[str]
@@ -47,7 +47,8 @@ def unit(tree: str) -> Unit:
     """The unit that is installed."""
     with open(os.path.join(tree, UNIT), encoding="utf-8") as it:
         said = dict(re.findall(r"^(\w+)=(.*)$", it.read().replace("%i", BUNDLE), re.M))
-    return Unit(said["ExecStartPre"].split(), said["ExecStart"].split(), said["User"], said["CapabilityBoundingSet"])
+    start = said["ExecStart"].split()
+    return Unit([start[0], "--check", start[2]], start, said["User"], said["CapabilityBoundingSet"])
 
 
 def as_unit(it: Unit) -> list[str]:

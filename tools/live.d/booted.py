@@ -17,8 +17,12 @@ from service import BUNDLE_LINE, FILE, ids_of_lines, write
 from spaces import OURS
 
 BOOTS, ANSWERS = 30, 20
+# More often than systemd starts a unit within 10 s, if nothing else is said.
+OFTEN = 6
 TARGET = "[Unit]\nDescription=A bundle of links\nWants=systemd-journald.service dbus.service lagd@uplink.service\nAllowIsolate=yes\n"
-BUNDLE = FILE.replace("partner=first\n", "partner=first\nkey-by-speed=yes\n")
+BUNDLE = FILE.replace("partner=first\n", "partner=first\nkey-by-speed=yes\nhook=/etc/lagd/hook\n")
+# A hook that outlives the daemon.
+HOOK = '#!/bin/sh\nsleep 1\necho "$LAGD_STATE" >> /run/lagd/uplink/told\n'
 # The watchdog of the unit waits for 30 s.
 IMPATIENT = "[Service]\nWatchdogSec=2\n"
 # Units of the machine that have nothing to do here.
@@ -63,6 +67,7 @@ def lay_out(part: Part, over: str) -> None:
     put(over, "etc/systemd/system/bundle.target", TARGET)
     put(over, "etc/systemd/system/lagd@.service.d/impatient.conf", IMPATIENT)
     put(over, "etc/lagd/uplink.conf", BUNDLE)
+    put(over, "etc/lagd/hook", HOOK, 0o755)
     put(over, "etc/machine-id", "")
     for unit in MASKED:
         os.symlink("/dev/null", os.path.join(over, f"etc/systemd/system/{unit}.service"))
@@ -200,10 +205,17 @@ def boot(part: Part) -> None:
         machine.run("sh", "-c", f"printf %s '{BUNDLE}' > /etc/lagd/uplink.conf")
         comes_back(machine, theirs, "a daemon that is killed", "SIGKILL")
         comes_back(machine, theirs, "one that says nothing to the watchdog", "SIGSTOP")
+        for _ in range(OFTEN):
+            before = machine.main()
+            machine.run("systemctl", "kill", "--kill-whom=main", "--signal=SIGKILL", "lagd@uplink")
+            within(ANSWERS, lambda: machine.main() not in ("", "0", before))
+        check(within(ANSWERS, lambda: machine.property("ActiveState") == "active"), f"one that is killed {OFTEN} times as soon as it runs is, too", machine.told())
         check(machine.run("systemctl", "stop", "lagd@uplink").returncode == 0, "systemctl stop stops it")
         check(within(GOES_DOWN, lambda: not (theirs.distributes("b0") or theirs.distributes("b1"))), "its peer is told", theirs.text())
         check(machine.property("Result") == "success", "it ended well", machine.told())
-        check(machine.tells("find", "/run/lagd/uplink", "-not", "-type", "d") == "", "and its socket is gone")
+        told = lambda: machine.tells("cat", "/run/lagd/uplink/told").split()[-1:] == ["down"]
+        check(within(ANSWERS, told), "the hook of the end runs to its end", machine.told())
+        check(machine.tells("find", "/run/lagd/uplink", "-name", "*.sock") == "", "and its socket is gone")
         machine.process.send_signal(signal.SIGKILL)
     finally:
         machine.drop()

@@ -152,7 +152,7 @@ def wrong_words(part: Part) -> None:
     check(told and all("--status" in text.stdout for text in texts[:2]), "--help tells the options", texts[0].stderr)
     check(told and all(re.fullmatch(r"lagd \d+\.\d+\.\d+\n", text.stdout) for text in texts[2:]), "--version names the version")
     status, line = part.refused("--status")
-    check(status == 1 and re.fullmatch(r"lagd: no lagd answers in: .+\n", line), "--status says where no daemon runs", line)
+    check(status == 1 and re.search(r"^lagd: no lagd answers in: .+\n\Z", line, re.M), "--status says where no daemon runs", line)
 
 
 def lone_daemon(part: Part) -> None:
@@ -306,7 +306,7 @@ def full_queue(part: Part) -> None:
     except BlockingIOError:
         pass
     status, line = part.refused("--status")
-    told = (status, line[:22]) == (1, "lagd: no lagd answers ")
+    told = status == 1 and line.startswith(f"lagd: {daemon.socket()}: its daemon does not answer: ") and "\nlagd: no lagd answers in: " in line
     check(len(askers) > 1 and told, f"stopped, with {len(askers)} questions unanswered, it keeps nobody waiting", line)
     daemon.process.send_signal(signal.SIGCONT)
     check(within(ENDS, lambda: daemon.port("a0")["link"] == "up"), "it answers again", daemon.printed())

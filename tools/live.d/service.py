@@ -313,8 +313,6 @@ def journal(part: Part) -> None:
 
 def rights(part: Part) -> None:
     """Started as root, the daemon keeps CAP_NET_RAW alone, and gets nothing back; an interface that comes later is taken up."""
-    if "-DHAVE_CAP_NG" not in daemon_words()[0]:
-        raise Skipped("built without libcap-ng")
     ip(OURS, "link", "del", "a1")
     ours = part.ours()
     within(ENDS, lambda: ours.port("a0")["link"] == "up")
@@ -335,6 +333,11 @@ def unit(part: Part) -> None:
     told = command("systemd-analyze", "security", "--offline=true", UNIT).stdout
     level = re.search(r"Overall exposure level for \S+: (\S+)", told)
     check(level and float(level[1]) <= EXPOSED, f"systemd-analyze security: at most {EXPOSED}", level and level[0])
+    with open(UNIT, encoding="utf-8") as text, open(os.path.join(TOP, "lagd", "carry.conf"), encoding="utf-8") as more:
+        whole = re.sub(r"^Documentation=.*\n", "", text.read(), flags=re.M).replace("/usr/sbin/lagd", part.program)
+        write(os.path.join(part.folder, "lagd@uplink.service"), whole.replace("[Install]", more.read().replace("#ExecStartPre", "ExecStartPre") + "[Install]"))
+    verified = command("systemd-analyze", "verify", os.path.join(part.folder, "lagd@uplink.service"))
+    check((verified.returncode, verified.stderr) == (0, ""), "systemd-analyze verify has no fault to find, with carry.conf either", verified.stderr)
     if not shutil.which("setpriv"):
         raise Skipped("no command setpriv (Debian: util-linux)")
     os.chmod(part.folder, 0o755)

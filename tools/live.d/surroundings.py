@@ -6,6 +6,7 @@ import datetime
 import os
 import re
 import shutil
+import signal
 import socket
 import subprocess
 import sys
@@ -14,6 +15,7 @@ import time
 from checking import Skipped, check, within
 from daemon import ENDS, OTHER, SYSTEM, Daemon, Part
 from daemons import COMES_UP, NOBODY, both_up
+from service import Filed
 from spaces import OURS, THEIRS, inside, ip, octets, packet_socket, within_space
 
 # A program that takes all names that a lock of one of the first interfaces may have, as a user without rights.
@@ -42,6 +44,29 @@ while time.monotonic() < until:
         out.send(bytes.fromhex("0200000000bb0200000000aa88b5") + bytes(1480))
     except OSError:
         time.sleep(0.0002)
+"""
+# Who watches, so often, as this user: prints how often he was refused.
+WATCHERS = """import os, socket, sys, time
+os.setgroups([])
+if int(sys.argv[3]):
+    os.setgid(0)
+    os.setuid(int(sys.argv[3]))
+held = []
+refused = 0
+for _ in range(int(sys.argv[2])):
+    held.append(socket.socket(socket.AF_UNIX))
+    held[-1].connect(sys.argv[1])
+    try:
+        held[-1].send(b"watch\\n")
+    except OSError:
+        pass
+    held[-1].settimeout(0.1)
+    try:
+        refused += held[-1].recv(100)[:8] == b"refused:"
+    except OSError:
+        pass
+print(refused, flush=True)
+time.sleep(60)
 """
 # Frames of a link: to whom they go, their type, and whether the member has them or, of a bridge, lag0.
 OF_LINK = {
@@ -254,7 +279,83 @@ def long_masks(part: Part) -> None:
     check(now() == mask, f"after SIGKILL and SIGTERM a mask of {len(mask)} characters is back", now(), again.printed())
 
 
+def watchers_of(daemon: Daemon, count: int, user: int) -> subprocess.Popen[str]:
+    """Somebody watches as often as he can; he tells how often he was refused."""
+    words = ["ip", "netns", "exec", OURS, sys.executable, "-c", WATCHERS, daemon.socket(), str(count), str(user)]
+    return subprocess.Popen(words, stdout=subprocess.PIPE, text=True)
+
+
+def places(part: Part) -> None:
+    """Whoever watches leaves places for those who ask."""
+    os.chmod(part.folder, 0o755)
+    ours = part.ours("a0")
+    within(ENDS, ours.ports)
+    for crowd in [0], [0, 1001, 1002, 1003, 1004]:
+        running = [watchers_of(ours, 30, user) for user in crowd]
+        refused = [int(it.stdout.readline() if it.stdout else 0) for it in running]
+        check(refused[0] == 14, f"root may watch 16 times, beside {len(crowd) - 1} other users", refused)
+        for words in ["--status"], ["--status", "--json"], ["--metrics"]:
+            asked = inside(OURS, part.program, "--folder", ours.folder, *words)
+            check(asked.returncode == 0, f"root is answered beside watchers of {len(crowd)} users {words}", asked.stderr)
+        told = inside(OURS, "timeout", "3", part.program, "--folder", ours.folder, "--watch")
+        check("refused: this user watches too often" in told.stderr, "who watches too often is told so", told.stderr, told.stdout)
+        for it in running:
+            it.kill()
+            it.wait()
+        within(ENDS, lambda: inside(OURS, "timeout", "1", part.program, "--folder", ours.folder, "--watch").stderr == "")
+    ours.ends("the daemon")
+
+
+def ups(text: str) -> dict[str, int]:
+    return {name: int(value) for name, value in re.findall(r'^lagd_up\{bundle="([^"]+)"\} (\d)$', text, re.M)}
+
+
+def silent_daemons(part: Part) -> None:
+    """A daemon that was killed, and one that is stopped: who asks is told which does not answer. The path of a socket may be long."""
+    part.folder = os.path.join(part.folder, "long" * 30)
+    os.mkdir(part.folder)
+    first, second = part.ours("a0"), part.start(OURS, OTHER, "9", "a1")
+    ask = lambda *words: inside(OURS, "timeout", "9", part.program, "--folder", first.folder, *words)
+    check(within(ENDS, lambda: ups(ask("--metrics").stdout) == {"a0": 1, "a1": 1}), "two daemons in a long folder are up", ask("--metrics").stderr)
+    seconds = re.search(r"^lagd_time_seconds (\d+)$", ask("--metrics").stdout, re.M)
+    check(seconds and abs(int(seconds[1]) - time.time()) < 60, "the time is told", seconds)
+    second.process.send_signal(signal.SIGSTOP)
+    for words in ["--status"], ["--status", "--json"], ["--watch"], ["--metrics"]:
+        told = ask(*words)
+        check("a1.sock: its daemon does not answer" in told.stderr, f"of a daemon that is stopped {words} says so", told.stderr, told.returncode)
+        check(words == ["--watch"] or "a0" in told.stdout, "and the other one answers", told.stdout)
+    check(ups(told.stdout) == {"a0": 1, "a1": 0}, "its bundle is not up", told.stdout)
+    second.process.kill()
+    second.process.wait()
+    told = ask("--metrics")
+    check(ups(told.stdout) == {"a0": 1, "a1": 0} and told.returncode == 0, "nor is that of one that was killed", told.stdout, told.stderr)
+    first.process.kill()
+    first.process.wait()
+    told = ask("--metrics")
+    check(ups(told.stdout) == {"a0": 0, "a1": 0} and told.returncode == 0, "where all were killed, none is", told.stdout, told.stderr)
+    again = part.ours("a0")
+    check(within(ENDS, lambda: ups(ask("--metrics").stdout) == {"a0": 1, "a1": 0}), "and one that is started again is", again.printed())
+    again.ends("the daemon")
+    check(ups(ask("--metrics").stdout) == {"a1": 0}, "one that ended by a signal has no row", ask("--metrics").stdout)
+
+
+def one_name(part: Part) -> None:
+    """Two bundles of one name in a folder: the second one does not take the socket of the first one."""
+    for name, interface in ("one", "a0"), ("two", "a1"):
+        os.mkdir(os.path.join(part.folder, name))
+        with open(os.path.join(part.folder, name, "uplink.conf"), "w", encoding="ascii") as out:
+            out.write(f"[Bundle]\nkey=7\nsystem=1,{SYSTEM}\n[Port {interface}]\n")
+    first = Filed(part, os.path.join(part.folder, "one", "uplink.conf"))
+    check(within(ENDS, lambda: ups(inside(OURS, part.program, "--folder", first.folder, "--metrics").stdout) == {"uplink": 1}), "a bundle with a name", first.printed())
+    status, line = part.refused("--config", os.path.join(part.folder, "two", "uplink.conf"))
+    check((status, line) == (1, "lagd: another lagd has this bundle: uplink\n"), "a second one of that name is refused", line)
+    first.ends("the daemon")
+
+
 PARTS = {
+    "places for who asks": places,
+    "daemons that do not answer": silent_daemons,
+    "bundles of one name": one_name,
     "what members had": kept_settings,
     "a long mask of processors": long_masks,
     "a second cut": second_cut,
