@@ -37,6 +37,7 @@ SLOW_QUEUE = ("root", "handle", "1:", "tbf", "rate", "10mbit", "burst", "20k", "
 FLOODED = 10
 FLOOD = """import socket, sys, time
 out = socket.socket(socket.AF_PACKET, socket.SOCK_RAW)
+out.setsockopt(socket.SOL_SOCKET, 32, 1 << 24)  # SO_SNDBUFFORCE
 out.bind((sys.argv[1], 0))
 until = time.monotonic() + float(sys.argv[2])
 while time.monotonic() < until:
