@@ -174,7 +174,7 @@ def watchers(part: Part) -> None:
     check(ports in (["the link is down"], ["it distributes", "the link is down"]), "or JSON of each change of a port", events)
     check([event["state"] for event in events if event["event"] == "bundle"] == ["degraded"], "and of the bundle", events)
     text = inside(OURS, ours.program, "--folder", ours.folder, "--metrics").stdout
-    sample = r'lagd_\w+\{bundle="a0"(,\w+="[^"]*")*\} \d+'
+    sample = r'(lagd_\w+\{bundle="a0"(,\w+="[^"]*")*\}|lagd_time_seconds) \d+'
     odd = [line for line in text.splitlines() if not re.fullmatch(rf"# (HELP|TYPE) lagd_\w+ .+|{sample}", line)]
     check(text and not odd, "--metrics has the form of Prometheus", *odd)
     wanted = ['lagd_bundle_state{bundle="a0",state="degraded"} 1', 'lagd_port_carrying{bundle="a0",interface="a0",port="1"} 1']
@@ -191,7 +191,7 @@ def metrics_of_two(part: Part) -> None:
     text = inside(OURS, first.program, "--folder", first.folder, "--metrics").stdout
     heads = re.findall(r"^# TYPE (\w+) ", text, re.M)
     check(heads and len(heads) == len(set(heads)), "the metrics of two daemons have one head each", text)
-    groups = [match[1] for match in re.finditer(r"^(\w+)\{", text, re.M)]
+    groups = [match[1] for match in re.finditer(r"^(\w+)[{ ]", text, re.M)]
     starts = [name for at, name in enumerate(groups) if at == 0 or groups[at - 1] != name]
     check(len(starts) == len(set(starts)) == len(heads), "and its values stand together", starts)
     check(text.count('lagd_bundle_links{bundle="a1"} 1\n') == 1 and text.count('lagd_bundle_links{bundle="a0"} 1\n') == 1, "of both", text)

@@ -78,12 +78,12 @@ def system_call(number: int, *words: int) -> int:
 
 
 def packet_sockets(process: int) -> list[socket.socket]:
-    """The packet sockets of a process, as sockets of our own."""
+    """The packet sockets by which a process sends and takes frames, as sockets of our own; a lock is one of another type."""
     handle, found = system_call(PIDFD_OPEN, process, 0), []
     for name in os.listdir(f"/proc/{process}/fd"):
         if os.readlink(f"/proc/{process}/fd/{name}").startswith("socket:"):
             taken = socket.socket(fileno=system_call(PIDFD_GETFD, handle, int(name), 0))
-            found += [taken] if taken.family == socket.AF_PACKET else []
+            found += [taken] if (taken.family, taken.type) == (socket.AF_PACKET, socket.SOCK_RAW) else []
     os.close(handle)
     return found
 
