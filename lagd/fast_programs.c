@@ -360,7 +360,9 @@ int load_sender(const struct fast_maps *maps) {
 
 /* A frame to a group of the link goes on to the stack of its member. */
 static void keep_local(struct code *code) {
-    unsigned other[4], count = 0;
+    unsigned other[5], count = 0;
+    load(code, BPF_W, ARG1, FRAME, offsetof(struct __sk_buff, pkt_type));
+    other[count++] = jump(code, BPF_JNE, ARG1, PACKET_MULTICAST);
     load_octets(code, 0, 0, ETHERNET, ETH_ALEN);
     other[count++] = jump(code, BPF_JNE, ANSWER, 0);
     load(code, BPF_W, ARG1, STACK, ETHERNET);

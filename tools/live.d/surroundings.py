@@ -69,6 +69,11 @@ for _ in range(int(sys.argv[2])):
 print(refused, flush=True)
 time.sleep(60)
 """
+# What a second daemon is started by: with a /run of its own, and as another user.
+SECONDS: list[list[str]] = [[], ["unshare", "--mount", "sh", "-c", 'mount -t tmpfs none /run && exec "$@"', "sh"], AS_NOBODY]
+# How data is carried; and what takes /sys from a daemon.
+PLAIN_AND_FAST: list[list[str]] = [[], ["--fast"]]
+WITH_AND_WITHOUT_SYS: list[list[str]] = [[], ["unshare", "--mount", "sh", "-c", 'umount -l /sys && exec "$@"', "sh"]]
 # Frames of a link: to whom they go, their type, and whether the member has them or, of a bridge, lag0.
 OF_LINK = {
     "802.1X": ("01:80:c2:00:00:03", 0x888E, True),
@@ -89,7 +94,7 @@ def squatted_locks(part: Part) -> None:
         check(squatter.stdout.readline() == "held\n", "a user without rights holds names")
         ours = part.ours("a0", "a1")
         check(within(ENDS, lambda: ours.port("a0")["link"] == "up"), "and the daemon starts", ours.printed())
-        for words in [], ["unshare", "--mount", "sh", "-c", 'mount -t tmpfs none /run && exec "$@"', "sh"], AS_NOBODY:
+        for words in SECONDS:
             folder = os.path.join(part.folder, f"second{len(words)}")
             os.mkdir(folder)
             if words == AS_NOBODY:
@@ -131,7 +136,7 @@ def has_frame(reader: socket.socket, kind: int) -> bool:
 
 def link_groups(part: Part) -> None:
     """Frames that concern a member alone stay with its own stack; those of bridges, and data, go up."""
-    for options in [], ["--offload"], ["--fast"]:
+    for options in [*PLAIN_AND_FAST, ["--offload"]]:
         ours, theirs = part.ours(options=["--carry", "lag0", *options]), part.theirs(options=["--carry", "lag1"])
         both_up(ours, theirs, f"both links distribute {options}")
         ip(OURS, "link", "set", "lag0", "up")
@@ -165,11 +170,18 @@ def make_even_pair(place: int) -> None:
 
 
 def second_cut(part: Part) -> None:
-    """Two links are cut within a second: neither is told late, after another name either."""
+    """Two links are cut within a second: neither is told late, after another name either, and without /sys."""
     for place in 2, 3:
         make_even_pair(place)
     inside(OURS, "ip", "link", "property", "add", "dev", "a3", "altname", "third")
-    ours, theirs = part.ours("a2", "third"), part.theirs("b2", "b3")
+    theirs = part.theirs("b2", "b3")
+    for before in WITH_AND_WITHOUT_SYS:
+        ours = part.ours("a2", "third", before=before)
+        cut_twice(ours, theirs)
+        ours.ends("the daemon")
+
+
+def cut_twice(ours: Daemon, theirs: Daemon) -> None:
     late: list[float] = []
     for turn in range(CUTS):
         both = lambda: ours.distributes("a2", "third") and theirs.distributes("b2", "b3")
@@ -188,7 +200,6 @@ def second_cut(part: Part) -> None:
             ip(THEIRS, "link", "set", name, "up")
         inside(OURS, "ip", "link", "set", "a3" if turn == 0 else "renamed", "name", "renamed")
     check(sorted(late)[CUTS // 2] <= LATE, f"it is told within {LATE} s, most times", late, ours.printed())
-    ours.ends("the daemon")
 
 
 def queued_data(part: Part) -> None:
@@ -218,7 +229,7 @@ def has(name: str, wanted: bool, queues: str = "") -> bool:
     """Whether GRO of an interface is on, and it has so many queues to receive."""
     gro = re.search(r"^generic-receive-offload: (on|off)", inside(OURS, "ethtool", "-k", name).stdout, re.M)
     channels = inside(OURS, "ethtool", "-l", name).stdout.partition("Current")[2]
-    return bool(gro) and gro[1] == ("on" if wanted else "off") and (not queues or f"RX:\t\t{queues}\n" in channels)
+    return gro is not None and gro[1] == ("on" if wanted else "off") and (not queues or f"RX:\t\t{queues}\n" in channels)
 
 
 def kept_settings(part: Part) -> None:
@@ -232,14 +243,17 @@ def kept_settings(part: Part) -> None:
     for words in ["-L", "a0", "rx", "3", "tx", "3"], ["-K", "a0", "gro", "on"]:
         inside(OURS, "ethtool", *words)
     check(has("a0", True, "3"), "an interface with GRO and three queues", inside(OURS, "ethtool", "-l", "a0").stdout)
-    files = lambda: [name for name in os.listdir(os.path.join(part.folder, "run")) if name.endswith(".member")]
+
+    def files() -> list[str]:
+        return [name for name in os.listdir(os.path.join(part.folder, "run")) if name.endswith(".member")]
+
     other = part.start(OURS, OTHER, "9", "a1")
     within(ENDS, other.ports)
     status, line = part.refused("--carry", "lag0", "7", f"32768,{SYSTEM}", "a0", "a1")
     check(status == 1 and "another lagd has the interface" in line, "a start is refused", line)
     check(has("a0", True, "3") and not files(), "the interface has both again", files())
     other.ends("the other daemon")
-    for options in [], ["--fast"]:
+    for options in PLAIN_AND_FAST:
         first = part.ours("a0", options=["--carry", "lag0", *options])
         check(within(ENDS, lambda: first.ports() and has("a0", False, "1")), f"a member has neither {options}", first.printed())
         first.process.kill()
@@ -268,7 +282,11 @@ def long_masks(part: Part) -> None:
     path, place = os.path.join(part.folder, "mask"), "/sys/class/net/a0/queues/rx-0/rps_cpus"
     with open(path, "w", encoding="ascii") as out:
         out.write(f"{mask}\n")
-    now = lambda: open(path, encoding="ascii").read().strip()
+
+    def now() -> str:
+        with open(path, encoding="ascii") as it:
+            return it.read().strip()
+
     before = ["unshare", "--mount", "sh", "-c", f'mount --bind {path} {place} && exec "$@"', "sh"]
     ours = part.ours("a0", options=["--carry", "lag0", "--fast"], before=before)
     check(within(ENDS, lambda: now() == "1"), "one processor takes what a member receives", now(), ours.printed())
@@ -316,7 +334,10 @@ def silent_daemons(part: Part) -> None:
     part.folder = os.path.join(part.folder, "long" * 30)
     os.mkdir(part.folder)
     first, second = part.ours("a0"), part.start(OURS, OTHER, "9", "a1")
-    ask = lambda *words: inside(OURS, "timeout", "9", part.program, "--folder", first.folder, *words)
+
+    def ask(*words: str) -> subprocess.CompletedProcess[str]:
+        return inside(OURS, "timeout", "9", part.program, "--folder", first.folder, *words)
+
     check(within(ENDS, lambda: ups(ask("--metrics").stdout) == {"a0": 1, "a1": 1}), "two daemons in a long folder are up", ask("--metrics").stderr)
     seconds = re.search(r"^lagd_time_seconds (\d+)$", ask("--metrics").stdout, re.M)
     check(seconds and abs(int(seconds[1]) - time.time()) < 60, "the time is told", seconds)
