@@ -145,6 +145,7 @@ bool has_carrier(void);
 void set_mtu(uint32_t wanted);
 int tap_index(void);
 bool read_tap_mac(uint8_t *mac);
+bool is_tap_up(void);
 
 /* bpf.c */
 struct bpf_insn;
@@ -172,7 +173,7 @@ struct fast_maps {
     int rows, members, host;
 };
 int load_sender(const struct fast_maps *maps);
-int load_receiver(const struct fast_maps *maps, uint16_t port, int tap);
+int load_receiver(const struct fast_maps *maps, uint16_t port);
 int load_handover(const struct fast_maps *maps);
 int load_dropper(void);
 

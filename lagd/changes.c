@@ -177,6 +177,7 @@ static void follow(struct link *link, const struct interface *interface) {
 
 /* An interface is there. A port goes by its name. */
 static void take_present(const struct interface *interface) {
+    if (carries_data() && strcmp(interface->name, settings.carry) == 0) look_at_carry();
     for (uint16_t i = 0; i < link_count; i++) {
         struct link *link = &links[i];
         bool named = is_named(interface, link->name), same = link->socket >= 0 && link->index == interface->index;

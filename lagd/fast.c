@@ -61,7 +61,7 @@ void start_fast(void) {
     memcpy(&host->mac, settings.config.mac, ETH_ALEN);
     tap_at = tap_index();
     for (uint16_t i = 0; i < link_count; i++) {
-        receivers[i] = load_receiver(&maps, (uint16_t)(i + 1), tap_at);
+        receivers[i] = load_receiver(&maps, (uint16_t)(i + 1));
         need(receivers[i] >= 0, "fast: the kernel takes no program");
     }
     handover = keep_program(load_handover(&maps), false);
@@ -196,12 +196,14 @@ void withdraw_port(uint16_t port) {
     }
 }
 
-/* Frames go up by the kernel from the ports that collect in the active aggregator. */
+/* Frames go up by the kernel from the ports that collect in the active aggregator, while the TAP device is up: else the kernel would lose
+ * markers, too, which go up behind the data. */
 void set_collecting(void) {
+    bool tap_up = is_fast() && is_tap_up();
     for (uint16_t i = 0; is_fast() && i < link_count; i++) {
         uint16_t port = links[i].settings.number;
         uint64_t state = 0;
-        bool up = carry.active != 0 && links[i].view.aggregator == carry.active && has_fast_member(port)
+        bool up = tap_up && carry.active != 0 && links[i].view.aggregator == carry.active && has_fast_member(port)
             && is_told(niw_state(&own_system, port), "niw_state", &state) && (state & NIW_STATE_COLLECTING) != 0;
         __atomic_store_n(&entries[i].up_to, up ? (uint64_t)tap_at : 0, __ATOMIC_SEQ_CST);
     }

@@ -390,19 +390,24 @@ static void go_up(struct code *code) {
     step(code, (struct bpf_insn){.code = BPF_JMP | BPF_EXIT});
 }
 
-/* A frame of the slow protocols: a marker goes up behind the data, marked with the port; all else goes on. */
-static void take_control(struct code *code, uint16_t port, int tap) {
-    unsigned none, other;
+/* A frame of the slow protocols: a marker goes up behind the data, marked with the port, while data goes up. All else goes on. */
+static void take_control(struct code *code, const struct fast_maps *maps, uint16_t port) {
+    unsigned away[4];
     load_octets(code, SUBTYPE_AT, 0, KEY, 1);
-    none = jump(code, BPF_JNE, ANSWER, 0);
+    away[0] = jump(code, BPF_JNE, ANSWER, 0);
     load(code, BPF_B, ARG1, STACK, KEY);
-    other = jump(code, BPF_JNE, ARG1, SUBTYPE_MARKER);
+    away[1] = jump(code, BPF_JNE, ARG1, SUBTYPE_MARKER);
+    set(code, ARG1, port - 1);
+    store(code, BPF_W, STACK, KEY, ARG1);
+    look_up(code, maps->members);
+    away[2] = jump(code, BPF_JEQ, ANSWER, 0);
+    load(code, BPF_DW, PLACE, ANSWER, offsetof(struct fast_member, up_to));
+    away[3] = jump(code, BPF_JEQ, PLACE, 0);
     set(code, ARG1, port);
     store(code, BPF_W, FRAME, offsetof(struct __sk_buff, mark), ARG1);
-    set(code, ARG1, tap);
+    move(code, ARG1, PLACE);
     go_up(code);
-    land(code, none);
-    land(code, other);
+    land_all(code, away, 4);
     end(code, GO_ON);
 }
 
@@ -434,7 +439,7 @@ static void take_data_up(struct code *code, const struct fast_maps *maps, uint16
 }
 
 /* Where frames come in at a member. A tag of a VLAN stands beside the frame there. */
-int load_receiver(const struct fast_maps *maps, uint16_t port, int tap) {
+int load_receiver(const struct fast_maps *maps, uint16_t port) {
     static struct code code;
     unsigned data[2];
     code.count = 0;
@@ -443,7 +448,7 @@ int load_receiver(const struct fast_maps *maps, uint16_t port, int tap) {
     data[0] = jump(&code, BPF_JNE, ARG1, 0);
     load(&code, BPF_W, ARG1, FRAME, offsetof(struct __sk_buff, protocol));
     data[1] = jump(&code, BPF_JNE, ARG1, htons(ETH_P_SLOW));
-    take_control(&code, port, tap);
+    take_control(&code, maps, port);
     land_all(&code, data, 2);
     keep_local(&code);
     take_data_up(&code, maps, port);

@@ -155,6 +155,8 @@ bool open_member(struct link *link) {
     if (!carries_data()) return true;
     if (!filter(link->socket, false)) return false;
     open_guard(link, &member->guard);
+    /* Where the kernel hands up data, a marker goes up behind it, and comes to the link while none goes up. */
+    if (member->guard.fast) (void)setsockopt(link->socket, SOL_SOCKET, SO_DETACH_FILTER, &(int){0}, sizeof(int));
     if (!open_sockets(member, link)) {
         int fault = errno;
         close_sockets(member);

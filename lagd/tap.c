@@ -61,6 +61,12 @@ bool read_tap_mac(uint8_t *mac) {
     return true;
 }
 
+/* Whether the host has the device up. */
+bool is_tap_up(void) {
+    struct ifreq request = request_of(settings.carry);
+    return ioctl(asker, SIOCGIFFLAGS, &request) == 0 && (request.ifr_flags & IFF_UP) != 0;
+}
+
 /* Has the host hand over frames of several segments, and without checksums, as the head of a packet tells. */
 static void allow_segments(void) {
     unsigned long wanted = TUN_F_CSUM | TUN_F_TSO4 | TUN_F_TSO6 | TUN_F_TSO_ECN;
