@@ -95,8 +95,12 @@ def test_held_frames_that_are_closed_raise_closed() -> None:
 
 
 def test_more_memory_than_there_is_is_refused() -> None:
+    most = ctypes.c_size_t(-1).value
     with pytest.raises(NoMemory):
-        HeldFrames[int](65535, 1, ctypes.c_size_t(-1).value)
+        HeldFrames[int](65535, most, most)
+    with HeldFrames[int](65535, 1, most) as held:
+        held.put(65534, 7)
+        assert held.next(65534) == 7
 
 
 def test_held_frames_are_neither_copied_nor_called_by_another_thread() -> None:

@@ -45,6 +45,18 @@ static void check_waiting(struct niw_queue *queue, uint16_t conversation, uint64
     }
 }
 
+/* Memory is taken for no more frames of a conversation than may wait in all, and refused where those are too many. */
+static void check_queue_room(void) {
+    struct niw_queue queue = NIW_EMPTY;
+    CHECK(niw_queue_new(&queue, 4096, 2, SIZE_MAX) == NIW_OK);
+    CHECK(niw_queue_put(&queue, 4095, 31) == NIW_OK && niw_queue_put(&queue, 4095, 32) == NIW_OK);
+    CHECK(niw_queue_put(&queue, 4095, 33) == NIW_ALL_FULL && niw_queue_put(&queue, 7, 34) == NIW_ALL_FULL);
+    check_waiting(&queue, 4095, 2, 31);
+    CHECK(niw_queue_free(&queue) == NIW_OK && niw_queue_new(&queue, 65535, 0, SIZE_MAX) == NIW_OK);
+    CHECK(niw_queue_put(&queue, 65534, 35) == NIW_ALL_FULL && niw_queue_free(&queue) == NIW_OK);
+    CHECK(niw_queue_new(&queue, 3, SIZE_MAX, SIZE_MAX) == NIW_NO_MEMORY && !queue.live);
+}
+
 /* Three frames may wait, two of each conversation. The first conversation with a port and a frame goes first, its oldest frame first. */
 void check_queue(void) {
     static const uint16_t none[] = {0, 0, 0}, second[] = {0, 2, 0}, all[] = {1, 2, 1};
@@ -53,6 +65,7 @@ void check_queue(void) {
     struct niw_queued left;
     struct niw_counts counts;
     check_queue_refusals();
+    check_queue_room();
     CHECK(niw_queue_new(&queue, 3, 3, 2) == NIW_OK && queue.live && niw_queue_new(&queue, 3, 3, 2) == NIW_HAS_QUEUE);
     CHECK(niw_queue_put(&queue, 1, 11) == NIW_OK && niw_queue_put(&queue, 1, FULL) == NIW_OK);
     CHECK(niw_queue_put(&queue, 1, 13) == NIW_CONVERSATION_FULL && niw_queue_put(&queue, 3, 14) == NIW_NOT_ASSIGNED);

@@ -18,10 +18,10 @@ pub record HoldingValue (X : Type 0) : Type 0 where
   pub dropped : ℕ
   pub refused : ℕ
 
--- Memory as `Holding` has it: each ring has the capacity that was asked for and no more items than that, and the number
--- of all that wait stands beside them, within its bound.
+-- Memory as `Holding` has it: each ring has room for as many items as may wait in it, which is no more than may in all, and the
+-- number of all that wait stands beside them, within its bound.
 pub record IsHolding {X : Type 0} (rings : List (Buffer X)) (waiting most_in_all most_each : ℕ) : Type 0 where
-  pub capacity : (k : ℕ) → k < length rings → (ring_at rings k).capacity ≡ most_each
+  pub capacity : (k : ℕ) → k < length rings → (ring_at rings k).capacity ≡ min most_each most_in_all
   pub each : (k : ℕ) → k < length rings → length (ring_at rings k).items ≤ most_each
   pub number : waiting ≡ sum_by (λ ring. length ring.items) rings
   pub all : waiting ≤ most_in_all

@@ -45,8 +45,8 @@ impl<T: Drop> Model for Holding<T> {
 
 impl<T: Drop> Holding<T> {
     /// Empty queues for `conversations` conversations, numbered from 0: at most `most_in_all` handles wait in all, and at
-    /// most `most_each` in each. All memory is taken here: `most_each` places a conversation. `AllocError` if it is
-    /// refused (profile).
+    /// most `most_each` in each. All memory is taken here: a conversation has the lesser of both numbers of places.
+    /// `AllocError` if it is refused (profile).
     pub fn new(
         alloc: Global,
         conversations: u16,
@@ -55,7 +55,7 @@ impl<T: Drop> Holding<T> {
     ) -> Result<Holding<T>, AllocError>
         ensures { IfOk result (λ h. h ≡ holding_of (replicate conversations []) most_in_all most_each 0 0) }
     {
-        let rings = empty_rings(alloc, conversations, most_each)?;
+        let rings = empty_rings(alloc, conversations, most_each.min(most_in_all))?;
         Ok(Holding {
             rings,
             waiting: 0,

@@ -6,17 +6,17 @@ ghost use Rattle.holding.specs.Holding.{ring_at};
 use circular_buffer::HeapCircularBuffer;
 use std::alloc::{AllocError, Global};
 
-/// Empty rings for `most_each` handles each.
+/// Empty rings with this many places each.
 pub(crate) fn empty_rings<T: Drop>(
     alloc: Global,
     count: u16,
-    most_each: usize,
+    places: usize,
 ) -> Result<Vec<HeapCircularBuffer<T>>, AllocError>
-    ensures { IfOk result (λ rings. rings.items ≡ replicate count (buffer [] most_each)) }
+    ensures { IfOk result (λ rings. rings.items ≡ replicate count (buffer [] places)) }
 {
     let mut rings = Vec::with_capacity(alloc, usize::from(count))?;
     for _ in 0..count {
-        rings.push(HeapCircularBuffer::with_capacity(alloc, most_each)?)?;
+        rings.push(HeapCircularBuffer::with_capacity(alloc, places)?)?;
     }
     Ok(rings)
 }

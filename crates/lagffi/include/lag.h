@@ -838,7 +838,8 @@ static inline struct niw_queued niw_null_queued(void) {
 }
 
 /* Makes empty queues and puts them into an empty handle: one for each conversation, numbered from 0. At most `in_all`
- * frames wait in all, and at most `each` in each. All memory is taken here. */
+ * frames wait in all, and at most `each` in each. All memory is taken here: for each conversation 32 octets, and 8 for each frame that
+ * may wait in it, which is the lesser of `in_all` and `each`. */
 static inline uint32_t niw_queue_new(struct niw_queue *handle, uint16_t conversations, size_t in_all, size_t each) {
     return handle ? lagffi_queue_new(handle, conversations, in_all, each) : niw_null_status();
 }

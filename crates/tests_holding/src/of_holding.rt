@@ -182,3 +182,18 @@ fn all_memory_is_taken_at_the_start(rt: HostRuntime) -> Result<(), Fail> {
     assert_eq!(rt; held.next(5), Some(5));
     Ok(())
 }
+
+#[test]
+fn a_conversation_has_no_more_places_than_may_wait_in_all(rt: HostRuntime) -> Result<(), Fail> {
+    let mut held = Holding::new(rt.alloc(), 300, 3, usize::MAX)?;
+    for handle in 70..73_u32 {
+        assert_eq!(rt; held.put(299, handle), Ok(()), "handle {handle}");
+    }
+    assert_eq!(rt; held.put(299, 73), Err((Refusal::AllFull, 73)));
+    assert_eq!(rt; held.put(5, 74), Err((Refusal::AllFull, 74)));
+    assert_eq!(rt; held.next(299), Some(70));
+    assert_eq!(rt; held.put(5, 75), Ok(()));
+    let mut none: Holding<u32> = Holding::new(rt.alloc(), 300, 0, usize::MAX)?;
+    assert_eq!(rt; none.put(299, 1), Err((Refusal::AllFull, 1)));
+    Ok(())
+}
