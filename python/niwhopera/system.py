@@ -237,8 +237,8 @@ class System(Handle):
         return self._counted(self._c.held, port)
 
     def answers(self, port: int) -> Answers:
-        """Whether the peer of a port answers markers. A marker of `transmit` or `probe` asks it, and a response on the port answers. When
-        the link goes down, and after `restart`, it is as never asked."""
+        """Whether the peer of a port answers markers. A marker of `transmit` or `probe` asks it, and the response to the last one answers.
+        When the link goes down, and after `restart`, it is as never asked."""
         return Answers(self._counted(self._c.answers, port))
 
     def state(self, port: int) -> State:

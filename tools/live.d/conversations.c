@@ -38,6 +38,21 @@ static void check_plane_refusals(struct niw_system *one, uint16_t agg) {
     CHECK(niw_answers(&empty, 1).status == NIW_NO_SYSTEM && niw_answers(one, 9).status == NIW_NO_PORT);
 }
 
+/* What is no response to the marker that went out on port 2, so that its peer was asked still: each differs from the response in one field,
+ * Requester_Port, Requester_System or Requester_Transaction_ID, or comes on the other port. */
+static void check_other_responses(struct niw_system *one, const uint8_t response[NIW_FRAME]) {
+    static const size_t fields[] = {19, 25, 29};
+    uint8_t other[NIW_FRAME], none[NIW_FRAME];
+    for (size_t i = 0; i < sizeof fields / sizeof fields[0]; i++) {
+        memcpy(other, response, sizeof other);
+        other[fields[i]] ^= 0x41;
+        CHECK(niw_receive(one, 2, other, sizeof other, none, sizeof none).what == NIW_RECEIVED_RELEASED);
+        CHECK(niw_answers(one, 2).number == NIW_ANSWERS_ASKED);
+    }
+    CHECK(niw_receive(one, 1, response, NIW_FRAME, none, sizeof none).what == NIW_RECEIVED_RELEASED);
+    CHECK(niw_answers(one, 1).number == NIW_ANSWERS_NEVER_ASKED && niw_answers(one, 2).number == NIW_ANSWERS_ASKED);
+}
+
 /* Conversations go by their numbers: one leaves its port behind a marker, one rests. What changed and what was released is told once. */
 void check_plane(void) {
     struct niw_system one = NIW_EMPTY, other = NIW_EMPTY;
@@ -64,6 +79,7 @@ void check_plane(void) {
     CHECK(niw_answers(&one, 2).number == NIW_ANSWERS_NEVER_ASKED && niw_transmit(&one, 2, marker, sizeof marker).what == NIW_SENT_MARKER);
     CHECK(niw_answers(&one, 2).number == NIW_ANSWERS_ASKED && niw_answers(&one, 1).number == NIW_ANSWERS_NEVER_ASKED);
     CHECK(niw_receive(&other, 2, marker, sizeof marker, response, sizeof response).what == NIW_RECEIVED_RESPOND);
+    check_other_responses(&one, response);
     received = niw_receive(&one, 2, response, sizeof response, marker, sizeof marker);
     CHECK(received.what == NIW_RECEIVED_RELEASED && received.number == 1 && niw_held(&one, 2).number == 0);
     CHECK(niw_answers(&one, 2).number == NIW_ANSWERS_ANSWERED && niw_answers(&one, 1).number == NIW_ANSWERS_NEVER_ASKED);

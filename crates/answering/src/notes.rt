@@ -2,7 +2,8 @@ ghost use Rattle.std.specs.Prelude.{◌≡◌, ◌==◌, ◌<◌, IfSome, length
 ghost use Rattle.std.specs.List.{position};
 ghost use Rattle.lagsystem.specs.Drives.{call_of};
 ghost use Rattle.lagsystem.specs.State.{port_index};
-ghost use Rattle.answering.specs.Notes.{nobody_asked, note_of, noted, noted_asked, notes_after, notes_after_all};
+ghost use Rattle.answering.specs.Notes.{after_marker, after_response, nobody_asked, note_of, noted, notes_after, notes_after_all};
+ghost use Rattle.answering.specs.declared.note.MarkerNote.TheVariants.{NeverAsked};
 ghost use Rattle.answering.specs.Notes.{notes_after_receive, notes_after_set_link, notes_after_transmit};
 
 use crate::note::MarkerNote;
@@ -48,37 +49,49 @@ impl Answering {
         }
     }
 
-    /// Notes this for the port at this index.
-    fn note(&mut self, place: Option<usize>, what: MarkerNote)
+    /// Notes that the marker in this frame went out on the port at this index.
+    fn note_marker(&mut self, place: Option<usize>, frame: &[u8; 124])
         requires { IfSome place (λ p. p < 64) }
-        ensures { self.new ≡ noted place what self.old }
+        ensures { self.new ≡ noted place (after_marker frame.now) self.old }
     {
         if let Some(place) = place {
-            self.notes[place] = what;
+            self.notes[place] = self.notes[place].after_marker(frame);
         }
     }
 
-    /// Notes that a marker went out on the port at this index.
-    fn note_asked(&mut self, place: Option<usize>)
+    /// Notes that the response in this frame came on the port at this index.
+    fn note_response(&mut self, place: Option<usize>, frame: &[u8])
         requires { IfSome place (λ p. p < 64) }
-        ensures { self.new ≡ noted_asked place self.old }
+        ensures { self.new ≡ noted place (after_response frame.now) self.old }
     {
         if let Some(place) = place {
-            self.notes[place] = self.notes[place].after_marker();
+            self.notes[place] = self.notes[place].after_response(frame);
         }
     }
 
-    /// Updates the notes by what `System::receive` returned for a frame that came on a port: a response answers.
+    /// Forgets the note of the port at this index.
+    fn forget(&mut self, place: Option<usize>)
+        requires { IfSome place (λ p. p < 64) }
+        ensures { self.new ≡ noted place (λ note. NeverAsked) self.old }
+    {
+        if let Some(place) = place {
+            self.notes[place] = MarkerNote::NeverAsked;
+        }
+    }
+
+    /// Updates the notes by what `System::receive` returned for a frame that came on a port: a response to the last marker that went
+    /// out there answers.
     pub fn after_receive<F: Fn(u16, usize) -> usize + Drop>(
         &mut self,
         system: &System<F>,
         port: u16,
+        octets: &[u8],
         answer: &Result<Received, SystemFault>,
     )
-        ensures { self.new ≡ notes_after_receive (port_index port system.now.state.system_ports) answer.now self.old }
+        ensures { self.new ≡ notes_after_receive (port_index port system.now.state.system_ports) octets.now answer.now self.old }
     {
         if let Ok(Received::Released(_)) = answer {
-            self.note(place_of(system, port), MarkerNote::Answered);
+            self.note_response(place_of(system, port), octets);
         }
     }
 
@@ -93,7 +106,7 @@ impl Answering {
     {
         if let Ok(Some(frame)) = answer {
             if frame[14] == 2 {
-                self.note_asked(place_of(system, port));
+                self.note_marker(place_of(system, port), frame);
             }
         }
     }
@@ -109,7 +122,7 @@ impl Answering {
         ensures { self.new ≡ notes_after_set_link (port_index port system.now.state.system_ports) up answer.now self.old }
     {
         if answer.is_ok() && !up {
-            self.note(place_of(system, port), MarkerNote::NeverAsked);
+            self.forget(place_of(system, port));
         }
     }
 
@@ -123,8 +136,8 @@ impl Answering {
         ensures { self.new ≡ notes_after (call_of call.now) reply.now system.now.state.system_ports self.old }
     {
         match (call, reply) {
-            (Call::Receive(port, _), Reply::Receive(answer)) => {
-                self.after_receive(system, *port, answer);
+            (Call::Receive(port, octets), Reply::Receive(answer)) => {
+                self.after_receive(system, *port, octets, answer);
             }
             (Call::SetLink(port, up), Reply::SetLink(answer)) => {
                 self.after_set_link(system, *port, *up, answer);

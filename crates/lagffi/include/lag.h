@@ -272,8 +272,8 @@ enum {
 /* Whether the peer of a port answers markers. */
 enum {
     NIW_ANSWERS_NEVER_ASKED = 0, /* no marker went out on the port since its link was down */
-    NIW_ANSWERS_ASKED = 1,       /* one went out, and no response came */
-    NIW_ANSWERS_ANSWERED = 2     /* a response came */
+    NIW_ANSWERS_ASKED = 1,       /* one went out, and no response to the last one came */
+    NIW_ANSWERS_ANSWERED = 2     /* the response to a marker came */
 };
 
 /* What a conversation is doing. */
@@ -724,8 +724,9 @@ static inline struct niw_number niw_held(struct niw_system *handle, uint16_t por
     return handle ? lagffi_held(handle, port) : niw_null_number();
 }
 
-/* Whether the peer of a port answers markers: NIW_ANSWERS_.. A marker that niw_transmit or niw_probe wrote asks it, and a response that
- * niw_receive takes on the port answers. When the link goes down, and after niw_restart, it is as never asked. */
+/* Whether the peer of a port answers markers: NIW_ANSWERS_.. A marker that niw_transmit or niw_probe wrote asks it. A response that
+ * niw_receive takes on the port answers, if it has the port, system and identifier of the last such marker. When the link goes down, and
+ * after niw_restart, it is as never asked. */
 static inline struct niw_number niw_answers(struct niw_system *handle, uint16_t port) {
     return handle ? lagffi_answers(handle, port) : niw_null_number();
 }

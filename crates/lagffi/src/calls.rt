@@ -74,7 +74,7 @@ pub extern "C" fn lagffi_receive(
         → NotesHeldSystem (held_value lag.old.held.kept) (held_value lag.new.held.kept)
         (λ old new before after. (answer : Result Received SystemFault)
         × CallPromise by_number_gives old (Call.Receive port frame.now) (Reply.Receive answer) new
-        × (after ≡ notes_after_receive (port_index port new.system_ports) answer before)
+        × (after ≡ notes_after_receive (port_index port new.system_ports) frame.now answer before)
         × (result ≡ received_of answer) × (response.new ≡ buffer_after_receive response.old answer))
         ((result ≡ received_refused no_system) × (response.new ≡ response.old)) }
 {
@@ -85,7 +85,7 @@ pub extern "C" fn lagffi_receive(
         return LagReceived::refused(NO_SYSTEM);
     };
     let answer = system.receive(port, frame);
-    block.answering.after_receive(&system, port, &answer);
+    block.answering.after_receive(&system, port, frame, &answer);
     lag.put(system, block);
     write_reply(&answer, response);
     LagReceived::of(&answer)

@@ -175,7 +175,7 @@ impl LagNumber {
         LagNumber::octet_or_no_port(number)
     }
 
-    /// The answer of `wait_while`; or that there is no such port.
+    /// A number of one octet that a reader tells of a port; or that there is no such port.
     pub(crate) fn octet_or_no_port(answer: Option<u8>) -> LagNumber
         ensures { result ≡ number_or_refused 1 answer }
     {
