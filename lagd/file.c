@@ -24,21 +24,28 @@ struct reading {
     unsigned line; /* from 1 */
     unsigned faults;
     enum section section;
+    bool has_bundle; /* whether [Bundle] came */
     struct settings *settings;
 };
 
-static void expect(struct reading *reading, const char *expected, const char *found) {
+static void expect_at(struct reading *reading, unsigned line, const char *expected, const char *found) {
     reading->faults++;
-    complain("%s:%u: expected %s: %s", reading->path, reading->line, expected, found);
+    complain("%s:%u: expected %s: %s", reading->path, line, expected, found);
+}
+
+/* In the line that was read last. */
+static void expect(struct reading *reading, const char *expected, const char *found) {
+    expect_at(reading, reading->line, expected, found);
 }
 
 /* Takes the head of a section: `line` begins with a bracket. */
 static void take_section(struct reading *reading, const char *line) {
     const char *end = strchr(line, ']'), *fault = "[Bundle] or [Port INTERFACE]";
     reading->section = WRONG_SECTION;
-    if (end && !end[1] && strcmp(line, "[Bundle]") == 0) {
-        fault = NULL;
-        reading->section = BUNDLE_SECTION;
+    if (strcmp(line, "[Bundle]") == 0) {
+        fault = reading->has_bundle ? "one section [Bundle]" : NULL;
+        if (!fault) reading->section = BUNDLE_SECTION;
+        reading->has_bundle = true;
     } else if (end && !end[1] && strncmp(line, "[Port ", 6) == 0) {
         fault = add_port(reading->settings, line + 6, (size_t)(end - line) - 6);
         if (!fault) reading->section = PORT_SECTION;
@@ -78,12 +85,12 @@ static char *next_line(char *into, int room, void *given) {
 /* Takes a key and its value, of the section that came last. */
 static int take_pair(void *given, const char *section, const char *name, const char *value) {
     struct reading *reading = given;
-    struct settings *settings = reading->settings;
+    struct settings *wanted = reading->settings;
     const char *expected = NULL;
     (void)section; /* the library cuts long ones */
     switch (reading->section) {
-    case BUNDLE_SECTION: expected = set_bundle(settings, name, value); break;
-    case PORT_SECTION: expected = set_port(&settings->ports[settings->port_count - 1], name, value); break;
+    case BUNDLE_SECTION: expected = set_bundle(wanted, name, value, reading->line); break;
+    case PORT_SECTION: expected = set_port(&wanted->ports[wanted->port_count - 1], name, value); break;
     case WRONG_SECTION: break;
     default: expected = "[Bundle] or [Port INTERFACE] before keys"; break;
     }
@@ -96,11 +103,11 @@ static int take_pair(void *given, const char *section, const char *name, const c
 }
 
 /* Names the bundle for its file: what stands before .conf. */
-static void name_bundle(const char *path, struct settings *settings) {
+static void name_bundle(const char *path, struct settings *wanted) {
     const char *slash = strrchr(path, '/'), *name = slash ? slash + 1 : path;
     size_t length = strlen(name);
     if (length > 5 && strcmp(name + length - 5, ".conf") == 0) length -= 5;
-    snprintf(settings->name, sizeof settings->name, "%.*s", (int)length, name);
+    snprintf(wanted->name, sizeof wanted->name, "%.*s", (int)length, name);
 }
 
 /* Opens a file, if it is a regular one of no more than LONGEST_FILE octets; else NULL, and a line. */
@@ -120,19 +127,29 @@ static FILE *open_file(const char *path) {
     return file;
 }
 
+/* Looks at what only all lines say together. */
+static void look_at_all(struct reading *reading) {
+    struct lack lack = lack_of(reading->settings);
+    if (!lack.expected) return;
+    if (lack.key) {
+        expect_at(reading, line_of(reading->settings, lack.key), lack.expected, lack.key);
+    } else {
+        reading->faults++;
+        complain("%s: expected %s", reading->path, lack.expected);
+    }
+}
+
 /* Reads a file; answers whether it is right. There is a line for each fault. */
-bool read_file(const char *path, struct settings *settings) {
-    struct reading reading = {.path = path, .settings = settings};
-    const char *lack;
-    *settings = usual_settings();
-    name_bundle(path, settings);
+bool read_file(const char *path, struct settings *wanted) {
+    struct reading reading = {.path = path, .settings = wanted};
+    *wanted = usual_settings();
+    name_bundle(path, wanted);
     reading.file = open_file(path);
     if (!reading.file) return false;
     ini_allow_multiline = false;
     ini_allow_inline_comments = false;
     (void)ini_parse_stream(next_line, &reading, take_pair, &reading);
     fclose(reading.file);
-    lack = reading.faults ? NULL : lack_of(settings);
-    if (lack) complain("%s: expected %s", path, lack);
-    return reading.faults == 0 && !lack;
+    if (reading.faults == 0) look_at_all(&reading);
+    return reading.faults == 0;
 }

@@ -217,6 +217,9 @@ enum journaled tell_journal(int level, const char *text);
 /* options.c */
 struct options *read_options(int argc, char **argv);
 
+/* address.c */
+void take_own_address(void);
+
 /* signals.c */
 int open_signals(void);
 

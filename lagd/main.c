@@ -180,6 +180,7 @@ static int run_daemon(const struct options *options) {
     signals = open_signals();
     waits = epoll_create1(EPOLL_CLOEXEC);
     if (waits < 0) stop(REFUSED, "epoll", strerror(errno));
+    if (settings.system_auto) take_own_address();
     make_system();
     open_folder(options->folder);
     open_carry();

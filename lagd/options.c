@@ -64,6 +64,9 @@ static const struct option LONG[] = {
     {NULL, 0, NULL, 0},
 };
 
+/* A command line is one line. */
+enum { THE_LINE = 1 };
+
 static struct options options = {.folder = "/run/lagd"};
 static bool has_words; /* whether an option stands there that a file has, too */
 
@@ -87,7 +90,7 @@ static const char *name_of(int letter) {
 static void take_key(int letter, const char *value) {
     const char *name = name_of(letter);
     has_words = true;
-    expect(set_bundle(&options.settings, name, value), name, value);
+    expect(set_bundle(&options.settings, name, value, THE_LINE), name, value);
 }
 
 static void choose(enum action action) {
@@ -141,11 +144,13 @@ static void read_link(char *text) {
 /* KEY PRIORITY,MAC INTERFACE[:WORD,..].. */
 static void read_words(int count, char **words) {
     struct settings *given = &options.settings;
+    struct lack lack;
     if (count < 3) stop(WRONG_WORD, "usage", "lagd [OPTION..] KEY PRIORITY,MAC INTERFACE.., or lagd --config FILE; lagd --help tells more");
-    expect(set_bundle(given, "key", words[0]), "KEY", words[0]);
-    expect(set_bundle(given, "system", words[1]), "system", words[1]);
+    expect(set_bundle(given, "key", words[0], THE_LINE), "KEY", words[0]);
+    expect(set_bundle(given, "system", words[1], THE_LINE), "system", words[1]);
     for (int i = 2; i < count; i++) read_link(words[i]);
-    expect(lack_of(given), NULL, words[2]);
+    lack = lack_of(given);
+    expect(lack.expected, NULL, lack.key);
     strcpy(given->name, given->ports[0].name);
 }
 

@@ -74,12 +74,23 @@ static unsigned take(const struct settings *wanted) {
     return changed;
 }
 
+/* Reads a file; answers whether it is right. The system that an interface gave its address at the start keeps it. */
+static bool read_again(const char *file, struct settings *wanted) {
+    struct lack lack;
+    if (!read_file(file, wanted)) return false;
+    if (!wanted->system_auto || !settings.system_auto) return true;
+    memcpy(wanted->config.mac, settings.config.mac, sizeof wanted->config.mac);
+    lack = lack_of(wanted);
+    if (lack.expected) complain("%s:%u: expected %s: %s", file, line_of(wanted, lack.key), lack.expected, lack.key);
+    return !lack.expected;
+}
+
 /* Reads the file again. One that is wrong changes nothing. */
 void reload(const char *file) {
     static struct settings wanted;
     const char *rest;
     notify_reloading();
-    if (!read_file(file, &wanted)) {
+    if (!read_again(file, &wanted)) {
         complain("%s: the file is wrong, and nothing is changed", file);
     } else {
         unsigned changed = (rest = restart_for(&wanted), take(&wanted));

@@ -6,7 +6,10 @@
 #include <stdio.h>
 #include <stdlib.h>
 #include <string.h>
+#include <sys/stat.h>
+#include <unistd.h>
 
+#define EACH_KEY_ONCE "each key once"
 #define A_NUMBER "a number from 0 to 65535"
 #define A_SYSTEM "PRIORITY,MAC, as 32768,02:00:00:00:00:01, whose MAC address is neither zero nor one of a group"
 
@@ -50,14 +53,13 @@ static bool read_system(const char *text, struct system_id *into) {
 }
 
 static bool take_key(const char *text, struct settings *settings) {
-    settings->has_key = true;
     return read_number(text, 0, UINT16_MAX, &settings->key);
 }
 
 static bool take_system(const char *text, struct settings *settings) {
-    struct system_id own;
-    if (!read_system(text, &own)) return false;
-    settings->has_system = true;
+    struct system_id own = {.priority = USUAL_PRIORITY};
+    settings->system_auto = strcmp(text, "auto") == 0;
+    if (!settings->system_auto && !read_system(text, &own)) return false;
     settings->config.priority = own.priority;
     memcpy(settings->config.mac, own.mac, sizeof own.mac);
     return true;
@@ -102,7 +104,9 @@ static bool take_marker_responses(const char *text, struct settings *settings) {
 }
 
 static bool take_hook(const char *text, struct settings *settings) {
+    struct stat found;
     if (text[0] != '/' || strlen(text) >= sizeof settings->hook) return false;
+    if (stat(text, &found) < 0 || !S_ISREG(found.st_mode) || access(text, X_OK) < 0) return false;
     strcpy(settings->hook, text);
     return true;
 }
@@ -156,7 +160,7 @@ static const struct {
     bool (*take)(const char *text, struct settings *settings);
 } BUNDLE_KEYS[] = {
     {"key", A_NUMBER, take_key},
-    {"system", A_SYSTEM, take_system},
+    {"system", "auto or " A_SYSTEM, take_system},
     {"partner", "any, first or " A_SYSTEM, take_partner},
     {"partner-required", "yes or no", take_partner_required},
     {"key-by-speed", "yes or no", take_key_by_speed},
@@ -166,7 +170,7 @@ static const struct {
     {"timeout", "short or long", take_timeout},
     {"activity", "active or passive", take_activity},
     {"marker-responses", "a number from 0 to 10000", take_marker_responses},
-    {"hook", "a path that begins with /, of at most 191 characters", take_hook},
+    {"hook", "a path that begins with /, of at most 191 characters, of a program that may be run", take_hook},
     {"carry", "a name of an interface of at most 15 characters", take_carry},
     {"hash", "layer2, layer2+3 or layer3+4", take_hash},
     {"flight", "a number of milliseconds from 1 to 60000", take_flight},
@@ -175,6 +179,7 @@ static const struct {
 };
 
 enum { BUNDLE_KEY_COUNT = sizeof BUNDLE_KEYS / sizeof *BUNDLE_KEYS };
+_Static_assert(BUNDLE_KEY_COUNT <= MOST_BUNDLE_KEYS, "each key has room for its line");
 
 /* What is expected in the place of a key that a bundle does not have: the names of all its keys. */
 static const char *a_bundle_key(void) {
@@ -188,17 +193,29 @@ static const char *a_bundle_key(void) {
     return text;
 }
 
-/* Gives a key of the bundle a value; answers NULL, or what was expected. */
-const char *set_bundle(struct settings *settings, const char *name, const char *text) {
-    for (size_t i = 0; i < BUNDLE_KEY_COUNT; i++)
-        if (strcmp(name, BUNDLE_KEYS[i].name) == 0)
-            return BUNDLE_KEYS[i].take(text, settings) ? NULL : BUNDLE_KEYS[i].expected;
+/* Gives a key of the bundle a value, in a line from 1; answers NULL, or what was expected. A command line is one line: of a key that
+ * stands there twice the last value holds. */
+const char *set_bundle(struct settings *settings, const char *name, const char *text, unsigned line) {
+    for (size_t i = 0; i < BUNDLE_KEY_COUNT; i++) {
+        if (strcmp(name, BUNDLE_KEYS[i].name) != 0) continue;
+        if (settings->lines[i] && settings->lines[i] < line) return EACH_KEY_ONCE;
+        settings->lines[i] = line;
+        return BUNDLE_KEYS[i].take(text, settings) ? NULL : BUNDLE_KEYS[i].expected;
+    }
     return a_bundle_key();
+}
+
+/* The line that gives a key of the bundle, or 0. */
+unsigned line_of(const struct settings *settings, const char *name) {
+    size_t i = 0;
+    while (i < BUNDLE_KEY_COUNT && strcmp(name, BUNDLE_KEYS[i].name) != 0) i++;
+    return i < BUNDLE_KEY_COUNT ? settings->lines[i] : 0;
 }
 
 /* A number of a port. */
 static const char *take_number(const char *text, int *into) {
     uint16_t number;
+    if (*into != AS_BUNDLE) return EACH_KEY_ONCE;
     if (!read_number(text, 0, UINT16_MAX, &number)) return A_NUMBER;
     *into = number;
     return NULL;
@@ -207,6 +224,7 @@ static const char *take_number(const char *text, int *into) {
 /* One of two words of a port. */
 static const char *take_choice(const char *text, const char *first, const char *second, const char *expected, int *into) {
     bool is_first;
+    if (*into != AS_BUNDLE) return EACH_KEY_ONCE;
     if (!read_word(text, first, second, &is_first)) return expected;
     *into = is_first;
     return NULL;
@@ -214,15 +232,12 @@ static const char *take_choice(const char *text, const char *first, const char *
 
 /* Gives a key of a port a value; answers NULL, or what was expected. */
 const char *set_port(struct port_settings *port, const char *name, const char *text) {
-    int individual = 0;
-    const char *expected = "key, priority, timeout, activity or individual as a key of [Port]";
     if (strcmp(name, "key") == 0) return take_number(text, &port->key);
     if (strcmp(name, "priority") == 0) return take_number(text, &port->priority);
     if (strcmp(name, "timeout") == 0) return take_choice(text, "short", "long", "short or long", &port->short_timeout);
     if (strcmp(name, "activity") == 0) return take_choice(text, "active", "passive", "active or passive", &port->active);
-    if (strcmp(name, "individual") == 0) expected = take_choice(text, "yes", "no", "yes or no", &individual);
-    if (!expected) port->individual = individual;
-    return expected;
+    if (strcmp(name, "individual") == 0) return take_choice(text, "yes", "no", "yes or no", &port->individual);
+    return "key, priority, timeout, activity or individual as a key of [Port]";
 }
 
 /* Adds a port, by the name of its interface; answers NULL, or what was expected. */
@@ -233,7 +248,9 @@ const char *add_port(struct settings *settings, const char *name, size_t length)
         if (strlen(settings->ports[i].name) == length && memcmp(settings->ports[i].name, name, length) == 0)
             return "each interface once";
     if (settings->port_count == NIW_MOST_PORTS) return "at most 64 interfaces";
-    *port = (struct port_settings){.key = AS_BUNDLE, .priority = AS_BUNDLE, .active = AS_BUNDLE, .short_timeout = AS_BUNDLE};
+    *port = (struct port_settings){
+        .key = AS_BUNDLE, .priority = AS_BUNDLE, .active = AS_BUNDLE, .short_timeout = AS_BUNDLE, .individual = AS_BUNDLE,
+    };
     memcpy(port->name, name, length);
     settings->port_count++;
     return NULL;
@@ -243,7 +260,7 @@ const char *add_port(struct settings *settings, const char *name, size_t length)
 struct settings usual_settings(void) {
     return (struct settings){
         .config = {.conversations = 256},
-        .port_priority = 32768,
+        .port_priority = USUAL_PRIORITY,
         .active = true,
         .short_timeout = true,
         .min_links = 1,
@@ -252,16 +269,33 @@ struct settings usual_settings(void) {
     };
 }
 
-/* What has to be given and is not, or NULL. */
-const char *lack_of(const struct settings *settings) {
-    if (!settings->has_key) return "key=NUMBER in [Bundle]";
-    if (!settings->has_system) return "system=PRIORITY,MAC in [Bundle]";
-    if (settings->port_count == 0) return "a section [Port INTERFACE] for each interface, 1 to 64 of them";
+/* A key that says something of data, or NULL. */
+static const char *key_of_data(const struct settings *settings) {
+    return settings->fast ? "fast" : settings->offload ? "offload" : line_of(settings, "hash") ? "hash" : line_of(settings, "flight") ? "flight" : NULL;
+}
+
+/* Whether the bundle could never have a partner: LACPDUs of its own system are not taken. */
+static bool wants_itself(const struct settings *settings) {
+    return settings->policy == PARTNER_GIVEN && settings->partner.priority == settings->config.priority
+        && memcmp(settings->partner.mac, settings->config.mac, sizeof settings->partner.mac) == 0;
+}
+
+/* What has to be given and is not, or what contradicts itself. */
+struct lack lack_of(const struct settings *settings) {
+    const char *data = key_of_data(settings);
+    if (!line_of(settings, "key")) return (struct lack){"key=NUMBER in [Bundle]", NULL};
+    if (!line_of(settings, "system")) return (struct lack){"system=PRIORITY,MAC in [Bundle]", NULL};
+    if (settings->port_count == 0) return (struct lack){"a section [Port INTERFACE] for each interface, 1 to 64 of them", NULL};
     for (uint16_t i = 0; i < settings->port_count; i++)
-        if (strcmp(settings->ports[i].name, settings->carry) == 0) return "carry=NAME that is not the interface of a port";
-    if ((settings->offload || settings->fast) && !settings->carry[0]) return "carry=NAME where offload=yes or fast=yes stands";
-    if (settings->min_links > settings->port_count) return "min-links that is at most the number of interfaces";
-    return NULL;
+        if (strcmp(settings->ports[i].name, settings->carry) == 0)
+            return (struct lack){"carry=NAME that is not the interface of a port", "carry"};
+    if (data && !settings->carry[0]) return (struct lack){"carry=NAME beside hash, flight, offload or fast", data};
+    if (settings->min_links > settings->port_count)
+        return (struct lack){"min-links that is at most the number of interfaces", "min-links"};
+    if (settings->config.max_links && settings->min_links > settings->config.max_links)
+        return (struct lack){"min-links that is at most max-links", "min-links"};
+    if (wants_itself(settings)) return (struct lack){"a partner that is not this system", "partner"};
+    return (struct lack){NULL, NULL};
 }
 
 static int value_of(int own, int all) {
@@ -275,7 +309,7 @@ struct niw_port port_of(const struct settings *settings, uint16_t port) {
         .number = port,
         .priority = (uint16_t)value_of(own->priority, settings->port_priority),
         .key = (uint16_t)value_of(own->key, settings->key),
-        .aggregatable = !own->individual,
+        .aggregatable = value_of(own->individual, false) == 0,
         .active = value_of(own->active, settings->active) != 0,
         .short_timeout = value_of(own->short_timeout, settings->short_timeout) != 0,
     };

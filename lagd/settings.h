@@ -15,8 +15,12 @@
 /* How many marker responses a port sends in a second, if nothing else is given: as often as IEEE 802.3, annex 57A, lets one of the
  * slow protocols send. */
 #define USUAL_RESPONSES 10
+/* The priority of a system by `auto`, and of a port if nothing else is given: the one in the middle. */
+#define USUAL_PRIORITY 32768
 /* How long a frame can be on its way, in milliseconds, if nothing else is given: on a direct cable it is far less. */
 #define USUAL_FLIGHT 500
+/* The most keys of a bundle. */
+#define MOST_BUNDLE_KEYS 24
 /* The room of the name of a device that is made, with a zero: IFNAMSIZ of linux/if.h. */
 #define DEVICE_ROOM 16
 
@@ -46,13 +50,13 @@ enum { AS_BUNDLE = -1 };
 struct port_settings {
     char name[NAME_ROOM];      /* of the interface */
     int key, priority;         /* 0 to 65535, or AS_BUNDLE */
-    int active, short_timeout; /* 0 or 1, or AS_BUNDLE */
-    bool individual;
+    int active, short_timeout, individual; /* 0 or 1, or AS_BUNDLE */
 };
 
 struct settings {
     char name[NAME_ROOM]; /* of the bundle */
-    bool has_key, has_system;
+    unsigned lines[MOST_BUNDLE_KEYS]; /* those that give the keys, from 1; 0: none does */
+    bool system_auto;                 /* whether the MAC address of the system is that of the first interface */
     struct niw_config config;
     uint16_t key, port_priority;
     bool active, short_timeout;
@@ -72,15 +76,21 @@ struct settings {
     struct port_settings ports[NIW_MOST_PORTS];
 };
 
+/* What is wrong with all of it: what was expected, and the key that says otherwise; NULL where nothing is, or no key does. */
+struct lack {
+    const char *expected, *key;
+};
+
 struct settings usual_settings(void);
 const char *hash_text(enum hash hash);
-const char *set_bundle(struct settings *settings, const char *name, const char *text);
+const char *set_bundle(struct settings *settings, const char *name, const char *text, unsigned line);
+unsigned line_of(const struct settings *settings, const char *name);
 const char *set_port(struct port_settings *port, const char *name, const char *text);
 const char *add_port(struct settings *settings, const char *name, size_t length);
-const char *lack_of(const struct settings *settings);
+struct lack lack_of(const struct settings *settings);
 struct niw_port port_of(const struct settings *settings, uint16_t port);
 
 /* file.c */
-bool read_file(const char *path, struct settings *settings);
+bool read_file(const char *path, struct settings *wanted);
 
 #endif

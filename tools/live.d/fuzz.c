@@ -66,7 +66,6 @@ static void remove_folder(void) {
 /* A system of two ports, whose links are up, and its status socket. */
 static void make_ports(void) {
     settings = usual_settings();
-    settings.has_key = settings.has_system = true;
     settings.policy = PARTNER_FIRST;
     settings.config.mac[0] = 2;
     (void)add_port(&settings, "fuzz0", 5);

@@ -48,7 +48,7 @@ WRONG = {
     "[Port a/0]\n": "1: expected the name of an interface: [Port a/0]",
     "[Port a0]\ntimeout=fast\n": "2: expected short or long: timeout=fast",
     "[Port a0]\nindividual=1\n": "2: expected yes or no: individual=1",
-    "[Bundle]\nsystem=1,01:00:00:00:00:aa\n": "2: expected PRIORITY,MAC, ",
+    "[Bundle]\nsystem=1,01:00:00:00:00:aa\n": "2: expected auto or PRIORITY,MAC, ",
     "[Bundle]\npartner=last\n": "2: expected any, first or PRIORITY,MAC, ",
     "[Bundle]\nmin-links=0\n": "2: expected a number from 1 to 64: min-links=0",
     "[Bundle]\nhook=relative\n": "2: expected a path that begins with /, ",
@@ -56,16 +56,30 @@ WRONG = {
     "[Bundle]\nhash=layer4\n": "2: expected layer2, layer2+3 or layer3+4: hash=layer4",
     "[Bundle]\nflight=0\n": "2: expected a number of milliseconds from 1 to 60000: flight=0",
     "[Bundle]\noffload=on\n": "2: expected yes or no: offload=on",
-    FILE.replace("[Port a0]", "carry=a0\n[Port a0]"): " expected carry=NAME that is not the interface of a port",
-    FILE.replace("[Port a0]", "fast=yes\n[Port a0]"): " expected carry=NAME where offload=yes or fast=yes stands",
+    FILE.replace("[Port a0]", "carry=a0\n[Port a0]"): "8: expected carry=NAME that is not the interface of a port: carry",
     "[Bundle]\n key=7\n": "2: expected a line that does not begin with a space:  key=7",
     "[Bundle]\nkey=7 ; all\n": "2: expected a number from 0 to 65535: key=7 ; all",
     "[Bundle]\n" + "#" * 200 + "\n": "2: expected a line of at most 190 octets: ###",
     "[Bundle]\nkey=\x1b[31m\n": "2: expected a number from 0 to 65535: key=\\x1b[31m",
     FILE.replace("key=23\n", ""): " expected key=NUMBER in [Bundle]",
-    FILE.replace("min-links=1", "min-links=3"): " expected min-links that is at most the number of interfaces",
+    FILE.replace("min-links=1", "min-links=3"): "6: expected min-links that is at most the number of interfaces: min-links",
     FILE.partition("[Port")[0]: " expected a section [Port INTERFACE] for each interface, 1 to 64 of them",
     "".join(f"[Port a{port}]\n" for port in range(65)): "65: expected at most 64 interfaces: [Port a64]",
+}
+# What contradicts itself, in a file that is right but for it, and where that is told.
+A_HOOK = "expected a path that begins with /, of at most 191 characters, of a program that may be run: hook="
+CONTRADICTIONS = {
+    FILE.replace("min-links=1", "min-links=2\nmax-links=1"): "6: expected min-links that is at most max-links: min-links",
+    FILE.replace("[Port a0]", "key=23\n[Port a0]"): "8: expected each key once: key=23",
+    FILE + "timeout=long\npriority=100\n": "12: expected each key once: priority=100",
+    FILE + "individual=no\nindividual=no\n": "12: expected each key once: individual=no",
+    FILE + "[Bundle]\n": "11: expected one section [Bundle]: [Bundle]",
+    FILE.replace("partner=first", f"partner=32768,{SYSTEM}"): "5: expected a partner that is not this system: partner",
+    FILE.replace("min-links=1", "hook=/nowhere/hook"): f"6: {A_HOOK}/nowhere/hook",
+    FILE.replace("min-links=1", "hook=/etc/passwd"): f"6: {A_HOOK}/etc/passwd",
+    FILE.replace("min-links=1", "hook=/etc"): f"6: {A_HOOK}/etc",
+    **{FILE.replace("min-links=1", f"{key}={value}"): f"6: expected carry=NAME beside hash, flight, offload or fast: {key}"
+       for key, value in (("hash", "layer2"), ("flight", "500"), ("offload", "yes"), ("fast", "yes"))},
 }
 
 
@@ -91,13 +105,13 @@ def files(part: Part) -> None:
     """A file is checked, and a bundle runs of it."""
     path = os.path.join(part.folder, "uplink.conf")
     untold = []
-    for text, told in WRONG.items():
+    for text, told in {**WRONG, **CONTRADICTIONS}.items():
         write(path, text)
         for words in ["--check", path], ["--config", path]:
             ended = inside(OURS, "timeout", "3", part.program, *words)
             if ended.returncode != 2 or f"lagd: {path}:{told}" not in ended.stderr:
                 untold.append(f"{words[0]} {text!r}: {ended.returncode}, {ended.stderr}")
-    check(not untold, f"{len(WRONG)} wrong files are refused, with file, line and what was expected", *untold)
+    check(not untold, f"{len(WRONG)} wrong files, and {len(CONTRADICTIONS)} that contradict themselves, are refused, with file, line and what was expected", *untold)
     missing = inside(OURS, part.program, "--check", os.path.join(part.folder, "none.conf"))
     check(missing.returncode == 2 and "none.conf: No such file" in missing.stderr, "so is one that is missing", missing.stderr)
     for address in (SYSTEM, *NOTATIONS):
@@ -114,6 +128,38 @@ def files(part: Part) -> None:
     check("---- uplink ----\n" in ours.text(), "it has the name of the file", ours.text())
     check(theirs.port("b0")["partner"]["system"] == SYSTEM, f"the peer sees {NOTATIONS[-1]} as {SYSTEM}", theirs.text())
     ours.ends("the daemon")
+
+
+def own_address(part: Part) -> None:
+    """With `system=auto` the system has the address of the first interface, which has to be there at the start."""
+    path, name = os.path.join(part.folder, "uplink.conf"), "an-alternative-name-of-a0"
+    text = FILE.replace(f"32768,{SYSTEM}", "auto").replace("partner=first\n", "")
+    write(path, text)
+    ours, theirs = Filed(part, path), part.theirs()
+    both_up(ours, theirs, "a bundle with system=auto comes to distribute")
+    address = ours.port("a0")["address"]
+    partners = [port["partner"] for port in theirs.ports().values()]
+    named = [(it["system_priority"], it["system"]) for it in partners]
+    check(named == [(32768, address)] * 2, "its peer sees priority 32768 and the address of the first interface", named, address)
+    printed = len(ours.printed())
+    write(path, text.replace("min-links=1", "min-links=2"))
+    ours.process.send_signal(signal.SIGHUP)
+    check(within(ENDS, lambda: "read again" in ours.printed()[printed:]), "it reloads its file", ours.printed()[printed:])
+    check("restart" not in ours.printed()[printed:], "and has the same system still", ours.printed()[printed:])
+    write(path, text.replace("min-links=1", f"partner=32768,{address}"))
+    ours.process.send_signal(signal.SIGHUP)
+    check(within(ENDS, lambda: ":5: expected a partner that is not this system: partner" in ours.printed()), "which is no partner, says a reload", ours.printed())
+    ours.ends("the daemon")
+    ip(OURS, "link", "property", "add", "dev", "a0", "altname", name)
+    for words, status, told in (
+        (("auto", "a9", "a1"), 1, "lagd: system=auto: a9: No such device"),
+        (("auto", "a-longer-name-that-is-missing"), 1, "lagd: system=auto: a-longer-name-that-is-missing: No such device"),
+        (("auto", "lo"), 2, "lagd: not an Ethernet interface: lo"),
+        (("--partner", f"32768,{address}", "23", "auto", name), 2, "lagd: expected a partner that is not this system: partner"),
+    ):
+        found = part.refused(*(words if words[0] != "auto" else ("23", *words)))
+        check(found[0] == status and told in found[1], f"{' '.join(words)} is refused: {told}", found)
+    ip(OURS, "link", "property", "del", "dev", "a0", "altname", name)
 
 
 def reloads(part: Part) -> None:
@@ -359,6 +405,7 @@ def unit(part: Part) -> None:
 
 PARTS: dict[str, Callable[[Part], None]] = {
     "files": files,
+    "the address of an interface": own_address,
     "a reload": reloads,
     "watchers and metrics": watchers,
     "metrics of two daemons": metrics_of_two,
