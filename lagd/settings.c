@@ -284,7 +284,7 @@ static bool wants_itself(const struct settings *settings) {
 struct lack lack_of(const struct settings *settings) {
     const char *data = key_of_data(settings);
     if (!line_of(settings, "key")) return (struct lack){"key=NUMBER in [Bundle]", NULL};
-    if (!line_of(settings, "system")) return (struct lack){"system=PRIORITY,MAC in [Bundle]", NULL};
+    if (!line_of(settings, "system")) return (struct lack){"system=auto or system=PRIORITY,MAC in [Bundle]", NULL};
     if (settings->port_count == 0) return (struct lack){"a section [Port INTERFACE] for each interface, 1 to 64 of them", NULL};
     for (uint16_t i = 0; i < settings->port_count; i++)
         if (strcmp(settings->ports[i].name, settings->carry) == 0)

@@ -15,8 +15,6 @@ from repository import CRATES, RT, Missing, below, crates, say
 LASTS = "its proof goes on behind, 12 to 30 minutes on 4 processors, less after an earlier check"
 # The most jobs that rt takes for a check of its own accord.
 JOBS = 4
-# No estimate is given before this part of the work is done: the first crates say little of the others.
-KNOWN = 1 / 5
 
 
 def spoken(seconds: float) -> str:
@@ -36,7 +34,8 @@ def apart(name: str) -> tuple[list[list[str]], list[str]]:
 
 
 def size(crate: str) -> int:
-    """The octets of a crate's code, definitions and proofs, by which the time of its proof is estimated."""
+    """The octets of a crate's code, definitions and proofs, by which the longest list is found. They say nothing of minutes: the last
+    crate is small, and takes as long as many others together."""
     folders = [os.path.join(CRATES, crate, part) for part in ("src", "specs", "proofs")]
     return sum(os.path.getsize(os.path.join(at, it)) for folder in folders for at, _, files in os.walk(folder) for it in files)
 
@@ -48,10 +47,9 @@ class Proof:
         self.name, self.all = name, below(name)
         self.sizes = {crate: size(crate) for crate in self.all}
         self.log = os.path.join(CRATES, name, "out", "proof.log")
-        # Each crate that is proved, with the seconds that it took here.
-        self.proved: dict[str, float] = {}
+        self.proved: set[str] = set()
         self.running: set[subprocess.Popen[bytes]] = set()
-        self.shown, self.is_stopped = "", False
+        self.shown, self.is_stopped, self.began = "", False, time.time()
         self.jobs = min(lanes(), JOBS)
         self.lock = threading.Lock()
 
@@ -73,7 +71,6 @@ class Proof:
 
     def make(self) -> None:
         """Proves all; stops where that fails."""
-        self.began = time.time()
         lists, rest = apart(self.name)
         longest: list[str] = max(lists, key=lambda names: sum(self.sizes[it] for it in names), default=[])
         with ThreadPoolExecutor(lanes()) as pool:
@@ -90,7 +87,6 @@ class Proof:
         """Proves and builds one crate. A run without proof beside it, which is soon done, goes first."""
         if self.is_stopped:
             return
-        began = time.time()
         with open(self.log, "a", encoding="utf-8") as log:
             folder, nothing = os.path.join(CRATES, crate), subprocess.DEVNULL
             with subprocess.Popen(["nice", "-n", "10", *words], cwd=folder, stdin=nothing, stdout=log, stderr=log) as ran:
@@ -101,24 +97,15 @@ class Proof:
         if ran.returncode:
             self.stop()
             raise Missing(f"the program could not be proved: {crate} failed, and {self.log} has what rt said")
-        self.proved[crate] = time.time() - began
+        self.proved.add(crate)
         if self.shown:
             self.show(self.shown)
 
-    def left(self) -> float | None:
-        """The seconds that are left, by what the crates took so far; None before a fifth of the work was done here."""
-        here = sum(self.sizes[it] for it, took in self.proved.items() if took > 5)
-        todo = sum(self.sizes[it] for it in self.all if it not in self.proved)
-        if here < KNOWN * (here + todo):
-            return None
-        return (time.time() - self.began) * todo / here
-
     def show(self, what: str) -> None:
-        """Says how far the proof is, now and after each crate; on a terminal in one line."""
+        """Says how far the proof is, now and after each crate; on a terminal in one line. How long the others take it can't know."""
         with self.lock:
-            self.shown, left = what, self.left()
-            more = f", some {spoken(left)} more" if left else ""
-            text = f"{what}: {len(self.proved)} of {len(self.all)} crates{more}"
+            self.shown = what
+            text = f"{what}: {len(self.proved)} of {len(self.all)} crates after {spoken(time.time() - self.began)}"
             if len(self.proved) == len(self.all):
                 return
             if sys.stderr.isatty():

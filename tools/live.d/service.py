@@ -13,7 +13,7 @@ import time
 from typing import Callable, Mapping, Sequence
 
 from checking import Skipped, check, command, within
-from daemon import ENDS, OTHER, SYSTEM, Daemon, Part
+from daemon import ENDS, KEY, OTHER, SYSTEM, Daemon, Part
 from daemons import COMES_UP, GOES_DOWN, NOBODY, both_up
 from repository import TOP, daemon_words
 from spaces import OURS, THEIRS, inside, ip, make_pair
@@ -66,8 +66,8 @@ WRONG = {
     FILE.partition("[Port")[0]: " expected a section [Port INTERFACE] for each interface, 1 to 64 of them",
     "".join(f"[Port a{port}]\n" for port in range(65)): "65: expected at most 64 interfaces: [Port a64]",
 }
-# What contradicts itself, in a file that is right but for it, and where that is told.
 A_HOOK = "expected a path that begins with /, of at most 191 characters, of a program that may be run: hook="
+# What contradicts itself, in a file that is right but for it, and where that is told.
 CONTRADICTIONS = {
     FILE.replace("min-links=1", "min-links=2\nmax-links=1"): "6: expected min-links that is at most max-links: min-links",
     FILE.replace("[Port a0]", "key=23\n[Port a0]"): "8: expected each key once: key=23",
@@ -151,14 +151,14 @@ def own_address(part: Part) -> None:
     check(within(ENDS, lambda: ":5: expected a partner that is not this system: partner" in ours.printed()), "which is no partner, says a reload", ours.printed())
     ours.ends("the daemon")
     ip(OURS, "link", "property", "add", "dev", "a0", "altname", name)
-    for words, status, told in (
-        (("auto", "a9", "a1"), 1, "lagd: system=auto: a9: No such device"),
-        (("auto", "a-longer-name-that-is-missing"), 1, "lagd: system=auto: a-longer-name-that-is-missing: No such device"),
-        (("auto", "lo"), 2, "lagd: not an Ethernet interface: lo"),
-        (("--partner", f"32768,{address}", "23", "auto", name), 2, "lagd: expected a partner that is not this system: partner"),
+    for options, names, status, told in (
+        ((), ("a9", "a1"), 1, "lagd: system=auto: a9: No such device"),
+        ((), ("a-longer-name-that-is-missing",), 1, "lagd: system=auto: a-longer-name-that-is-missing: No such device"),
+        ((), ("lo",), 2, "lagd: not an Ethernet interface: lo"),
+        (("--partner", f"32768,{address}"), (name,), 2, "lagd: expected a partner that is not this system: partner"),
     ):
-        found = part.refused(*(words if words[0] != "auto" else ("23", *words)))
-        check(found[0] == status and told in found[1], f"{' '.join(words)} is refused: {told}", found)
+        found = part.refused(*options, KEY, "auto", *names)
+        check(found[0] == status and told in found[1], f"with system=auto it does not start: {told}", found)
     ip(OURS, "link", "property", "del", "dev", "a0", "altname", name)
 
 
