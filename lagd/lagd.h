@@ -113,7 +113,7 @@ struct link {
     bool present; /* whether the answer of the kernel that is being read named it */
     bool up;
     uint32_t kernel_losses; /* how often the carrier went, as the kernel last told */
-    bool unsent;            /* whether `frame` waits for the kernel to take it */
+    bool unsent;            /* whether `frame` waits for room in its second, or for the kernel to take it */
     bool tried;             /* whether it was tried since the last tick */
     uint8_t frame[NIW_FRAME];
     int trouble;            /* errno of what failed last, or 0 */
@@ -231,7 +231,6 @@ const char *holder_of(int index);
 bool open_link(struct link *link, int index);
 void close_link(struct link *link);
 bool is_bound(const struct link *link);
-bool may_send_lacpdu(const struct link *link);
 bool has_new_carrier(struct link *link);
 void send_frame(struct link *link, enum count kind, const uint8_t *frame);
 

@@ -120,7 +120,7 @@ bool is_bound(const struct link *link) {
 }
 
 /* Whether a second has room for one more LACPDU. The library counts ticks, of which two may come at once where one was late. */
-bool may_send_lacpdu(const struct link *link) {
+static bool has_room(const struct link *link) {
     return link->lacpdus_at[0] == 0 || milliseconds() - link->lacpdus_at[0] > 1000;
 }
 
@@ -131,11 +131,21 @@ static void note_lacpdu(struct link *link) {
     link->unsent = false;
 }
 
+/* An LACPDU waits for the next tick. */
+static void keep_lacpdu(struct link *link, const uint8_t *frame) {
+    memmove(link->frame, frame, sizeof link->frame);
+    link->unsent = true;
+}
+
 /* Sends a frame, with the address that the interface has now. An LACPDU that the kernel does not take is sent again at each tick,
  * until a newer one is due; a response is lost, as on a wire. A response tells of what came before its marker, and may pass what goes. */
 void send_frame(struct link *link, enum count kind, const uint8_t *frame) {
     uint8_t sent[NIW_FRAME];
     if (link->socket < 0) return;
+    if (kind == LACPDUS_SENT && !has_room(link)) {
+        keep_lacpdu(link, frame);
+        return;
+    }
     choose_way(link);
     memcpy(sent, frame, sizeof sent);
     memcpy(sent + 6, link->mac, 6);
@@ -152,7 +162,5 @@ void send_frame(struct link *link, enum count kind, const uint8_t *frame) {
         link->trouble_ticks = TROUBLE_TICKS;
         link->changed = true;
     }
-    if (kind != LACPDUS_SENT) return;
-    memmove(link->frame, frame, sizeof link->frame);
-    link->unsent = true;
+    if (kind == LACPDUS_SENT) keep_lacpdu(link, frame);
 }

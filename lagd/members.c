@@ -17,7 +17,8 @@
 
 static struct member {
     int socket;  /* -1 while the interface is missing */
-    int markers; /* the socket for markers that the kernel hands up beside the data, or -1 */
+    int markers; /* the socket for markers that the kernel hands up behind the data, or -1 */
+    int direct;  /* the one for those that come while it hands up no data, or -1 */
     struct guard guard;
     uint32_t mtu;      /* 0: not known */
     bool has_marker;   /* whether one was sent */
@@ -113,12 +114,13 @@ static int open_data(int index, bool fast) {
     return -1;
 }
 
-/* A packet socket for the markers that the kernel hands up to the TAP device, behind the data of this port; or -1, and errno. */
-static int open_markers(uint16_t port) {
-    struct sockaddr_ll address = {.sll_family = AF_PACKET, .sll_protocol = htons(ETH_P_SLOW), .sll_ifindex = tap_index()};
+/* A packet socket for the markers that the kernel hands up to the TAP device, behind the data of this port, or, with 0, for those that come
+ * to a member while no data goes up; or -1, and errno. */
+static int open_markers(int index, uint16_t port) {
+    struct sockaddr_ll address = {.sll_family = AF_PACKET, .sll_protocol = htons(ETH_P_SLOW), .sll_ifindex = index};
     int fd = socket(AF_PACKET, SOCK_RAW | SOCK_NONBLOCK | SOCK_CLOEXEC, 0);
     if (fd < 0) return -1;
-    if (filter_marked(fd, port) && setsockopt(fd, SOL_PACKET, PACKET_AUXDATA, &(int){1}, sizeof(int)) == 0
+    if ((port > 0 ? filter_marked(fd, port) : filter(fd, true)) && setsockopt(fd, SOL_PACKET, PACKET_AUXDATA, &(int){1}, sizeof(int)) == 0
         && bind(fd, (struct sockaddr *)&address, sizeof address) == 0)
         return fd;
     close_keeping_errno(fd);
@@ -129,7 +131,7 @@ static int open_markers(uint16_t port) {
 void start_members(void) {
     rooms = make_rooms();
     for (unsigned i = 0; i < NIW_MOST_PORTS; i++) {
-        members[i].socket = members[i].markers = -1;
+        members[i].socket = members[i].markers = members[i].direct = -1;
         members[i].guard.opened = -1;
     }
 }
@@ -137,7 +139,8 @@ void start_members(void) {
 static void close_sockets(struct member *member) {
     if (member->socket >= 0) close_keeping_errno(member->socket);
     if (member->markers >= 0) close_keeping_errno(member->markers);
-    member->socket = member->markers = -1;
+    if (member->direct >= 0) close_keeping_errno(member->direct);
+    member->socket = member->markers = member->direct = -1;
 }
 
 /* Opens the sockets of a member; answers whether it did. */
@@ -145,8 +148,10 @@ static bool open_sockets(struct member *member, const struct link *link) {
     bool fast = member->guard.fast;
     uint32_t tag = MEMBERS + (uint32_t)(member - members);
     member->socket = open_data(link->index, fast);
-    member->markers = fast && member->socket >= 0 ? open_markers(link->settings.number) : -1;
-    return member->socket >= 0 && (!fast || member->markers >= 0) && await_input(fast ? member->markers : member->socket, tag);
+    if (member->socket < 0 || !fast) return member->socket >= 0 && await_input(member->socket, tag);
+    member->markers = open_markers(tap_index(), link->settings.number);
+    member->direct = open_markers(link->index, 0);
+    return member->markers >= 0 && member->direct >= 0 && await_input(member->markers, tag) && await_input(member->direct, tag);
 }
 
 /* Takes up an interface for data, if data is carried; answers whether it did, and else errno tells why not. */
@@ -155,8 +160,6 @@ bool open_member(struct link *link) {
     if (!carries_data()) return true;
     if (!filter(link->socket, false)) return false;
     open_guard(link, &member->guard);
-    /* Where the kernel hands up data, a marker goes up behind it, and comes to the link while none goes up. */
-    if (member->guard.fast) (void)setsockopt(link->socket, SOL_SOCKET, SO_DETACH_FILTER, &(int){0}, sizeof(int));
     if (!open_sockets(member, link)) {
         int fault = errno;
         close_sockets(member);
@@ -351,23 +354,22 @@ static bool is_unreadable(int got) {
     return got < 0 && errno == EINVAL && head_octets() > 0;
 }
 
-/* Takes the packets that wait at a member, some at most. What the kernel tells of links comes before them: what was sent after a link
+/* Takes the packets that wait in a socket of a member, some at most. What the kernel tells of links comes before them: what was sent after a link
  * went is not handed up before it. */
-void take_data(uint16_t port) {
+static void take_packets(uint16_t port, const int *fd, bool only_markers) {
     static struct mmsghdr messages[BATCH];
     static struct iovec parts[BATCH];
     static struct sockaddr_ll from[BATCH];
     static _Alignas(struct cmsghdr) uint8_t controls[BATCH][CMSG_SPACE(sizeof(struct tpacket_auxdata))];
     struct link *link = &links[port - 1];
     struct member *member = &members[port - 1];
-    bool handed_up = member->markers >= 0;
-    for (int turn = 0, got = BATCH; turn < MOST_BATCHES && got == BATCH && member->socket >= 0; turn++) {
+    for (int turn = 0, got = BATCH; turn < MOST_BATCHES && got == BATCH && *fd >= 0; turn++) {
         for (unsigned i = 0; i < BATCH; i++) {
             parts[i] = (struct iovec){rooms + i * (packet_room() + TAG_OCTETS) + TAG_OCTETS, packet_room()};
             messages[i].msg_hdr = (struct msghdr){.msg_name = &from[i], .msg_namelen = sizeof from[i], .msg_iov = &parts[i],
                 .msg_iovlen = 1, .msg_control = controls[i], .msg_controllen = sizeof controls[i]};
         }
-        got = recvmmsg(handed_up ? member->markers : member->socket, messages, BATCH, MSG_DONTWAIT, NULL);
+        got = recvmmsg(*fd, messages, BATCH, MSG_DONTWAIT, NULL);
         if (is_unreadable(got)) {
             member->counts[DATA_RECEIVED]++;
             member->counts[WRONG_LENGTH]++;
@@ -375,6 +377,17 @@ void take_data(uint16_t port) {
             continue;
         }
         if (got > 0) take_changes();
-        for (int i = 0; i < got; i++) take_message(link, &messages[i], handed_up);
+        for (int i = 0; i < got; i++) take_message(link, &messages[i], only_markers);
     }
+}
+
+/* Takes what waits at a member. */
+void take_data(uint16_t port) {
+    struct member *member = &members[port - 1];
+    if (member->markers < 0) {
+        take_packets(port, &member->socket, false);
+        return;
+    }
+    take_packets(port, &member->markers, true);
+    take_packets(port, &member->direct, true);
 }

@@ -67,10 +67,10 @@ void make_system(void) {
     take_views();
 }
 
-/* Sends what is due on a port: nothing until the second has room, since what is due first may be an LACPDU. */
+/* Sends what is due on a port. */
 static void send_due_of(uint16_t port) {
     uint8_t frame[NIW_FRAME];
-    while (may_send_lacpdu(&links[port - 1])) {
+    for (;;) {
         struct niw_sent due = niw_transmit(&own_system, port, frame, sizeof frame);
         if (!is_done(due.status, "niw_transmit") || !due.is) return;
         if (due.what == NIW_SENT_MARKER)
@@ -88,10 +88,10 @@ void send_due(void) {
         if (due >> i & 1) send_due_of((uint16_t)(i + 1));
 }
 
-/* Sends again what the kernel did not take before this tick, if nothing newer was due since. */
+/* Sends again what did not go before this tick, if nothing newer was due since. */
 void send_again(void) {
     for (uint16_t i = 0; i < link_count; i++)
-        if (links[i].unsent && !links[i].tried && may_send_lacpdu(&links[i])) send_frame(&links[i], LACPDUS_SENT, links[i].frame);
+        if (links[i].unsent && !links[i].tried) send_frame(&links[i], LACPDUS_SENT, links[i].frame);
 }
 
 /* The link of a port is up or down now. */

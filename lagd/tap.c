@@ -61,10 +61,10 @@ bool read_tap_mac(uint8_t *mac) {
     return true;
 }
 
-/* Whether the host has the device up. */
+/* Whether the host has the device up, whatever its name is now. */
 bool is_tap_up(void) {
-    struct ifreq request = request_of(settings.carry);
-    return ioctl(asker, SIOCGIFFLAGS, &request) == 0 && (request.ifr_flags & IFF_UP) != 0;
+    struct ifreq request = request_of("");
+    return ioctl(tap, TUNGETIFF, &request) == 0 && ioctl(asker, SIOCGIFFLAGS, &request) == 0 && (request.ifr_flags & IFF_UP) != 0;
 }
 
 /* Has the host hand over frames of several segments, and without checksums, as the head of a packet tells. */
