@@ -2,6 +2,7 @@
 #define _GNU_SOURCE
 #include <errno.h>
 #include <linux/bpf.h>
+#include <stdio.h>
 #include <string.h>
 #include <sys/mman.h>
 #include <sys/syscall.h>
@@ -12,6 +13,11 @@
 /* Of Linux 6.6, and not in older headers. */
 #define TCX_INGRESS 46
 #define TCX_EGRESS 47
+/* The room of what the verifier of the kernel writes, and of the line of it that is told. */
+#define LOG_ROOM 65536
+#define REASON_ROOM 160
+
+static char reason[REASON_ROOM];
 
 static int bpf(int command, union bpf_attr *attributes) {
     return (int)syscall(SYS_bpf, command, attributes, sizeof *attributes);
@@ -33,15 +39,43 @@ void *make_map(uint32_t size, uint32_t count, int *map) {
     return at == MAP_FAILED ? NULL : at;
 }
 
-/* Loads a program for frames; answers its file, or -1, and errno. */
+/* Why the kernel did not take the last program that it did not take. */
+const char *program_fault(void) {
+    return reason;
+}
+
+/* Keeps what the verifier wrote last, but for the lines of what it did. */
+static void keep_reason(char *log) {
+    char *rest = log;
+    for (char *line; (line = strsep(&rest, "\n"));)
+        if (line[0] && strncmp(line, "processed ", 10) != 0 && strncmp(line, "verification time", 17) != 0
+            && strncmp(line, "stack depth", 11) != 0)
+            snprintf(reason, sizeof reason, "%s", line);
+}
+
+/* Loads a program for frames; answers its file, or -1, and errno, and a reason. */
 int load_program(const struct bpf_insn *steps, size_t count) {
+    static char log[LOG_ROOM];
     union bpf_attr attributes;
+    int loaded, fault;
     memset(&attributes, 0, sizeof attributes);
     attributes.prog_type = BPF_PROG_TYPE_SCHED_CLS;
     attributes.insns = (uint64_t)(uintptr_t)steps;
     attributes.insn_cnt = (uint32_t)count;
     attributes.license = (uint64_t)(uintptr_t)"GPL";
-    return bpf(BPF_PROG_LOAD, &attributes);
+    loaded = bpf(BPF_PROG_LOAD, &attributes);
+    if (loaded >= 0) return loaded;
+    fault = errno;
+    snprintf(reason, sizeof reason, "%s", strerror(fault));
+    attributes.log_level = 1;
+    attributes.log_buf = (uint64_t)(uintptr_t)log;
+    attributes.log_size = sizeof log;
+    log[0] = 0;
+    loaded = bpf(BPF_PROG_LOAD, &attributes);
+    log[sizeof log - 1] = 0;
+    if (loaded < 0) keep_reason(log);
+    errno = fault;
+    return loaded;
 }
 
 /* Has a program run for what an interface sends, or for what it receives, as long as what it answers is open; or -1, and errno. */

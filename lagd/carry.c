@@ -132,15 +132,36 @@ static void take_from_host(uint8_t *packet, size_t length) {
         carry.counts[UNFIT]++;
 }
 
+/* The TAP device is gone, or it is in another namespace, where interfaces of others have the numbers of our members: first of all nothing
+ * is passed on any more. Then the peers are told, and the daemon ends, so that whoever started it starts it again, with a new device. */
+void lose_tap(void) {
+    if (!carries_data() || broken) return;
+    broken = true;
+    end_fast();
+    forget_tap();
+    await_no_more(tap);
+    (void)say(LOG_ERR | ABOUT_CARRIER, "carry %s: the device was deleted, or moved to another namespace; the peers are told, and the daemon "
+        "ends", settings.carry);
+}
+
+/* Takes one packet of the TAP device; answers whether there was one. */
+static bool take_next(uint8_t *packet) {
+    ssize_t length;
+    if (broken) return false;
+    length = read(tap, packet, packet_room());
+    if (length < 0 && (errno == EAGAIN || errno == EINTR)) return false;
+    if (length < 0 && (errno == EBADFD || errno == EIO || errno == ENODEV)) {
+        lose_tap();
+        return false;
+    }
+    take_from_host(packet, length < 0 ? 0 : (size_t)length); /* one that cannot be read has no octets */
+    return true;
+}
+
 /* Takes the packets that wait in the TAP device, some at most. */
 static void take_host(void) {
     for (int turn = 0, got = BATCH; turn < MOST_BATCHES && got == BATCH; turn++) {
-        for (got = 0; got < BATCH; got++) {
-            uint8_t *packet = rooms + (size_t)got * packet_room();
-            ssize_t length = read(tap, packet, packet_room());
-            if (length < 0 && (errno == EAGAIN || errno == EINTR)) break;
-            take_from_host(packet, length < 0 ? 0 : (size_t)length); /* one that cannot be read has no octets */
-        }
+        for (got = 0; got < BATCH && take_next(rooms + (size_t)got * packet_room()); got++) continue;
         flush_data();
         note_read((unsigned)got, got < BATCH);
         pass_on();
@@ -182,7 +203,7 @@ void hand_up(uint32_t aggregator, const uint8_t *packet, size_t length) {
     if (aggregator != carry.active) {
         carry.counts[OTHER_AGGREGATOR]++;
         doubt_aggregator(aggregator);
-    } else if (write(tap, packet, length) == (ssize_t)length) {
+    } else if (!broken && write(tap, packet, length) == (ssize_t)length) {
         carry.counts[HANDED_UP]++;
     } else {
         carry.counts[HOST_UNTAKEN]++;
@@ -270,6 +291,7 @@ void settle_carry(void) {
     look_at_partner();
     if (carry.waiting) release();
     if (to_balance) balance();
+    if (to_balance && is_fast()) take_host(); /* also where nothing came: what was lost on its way counts no more then */
     to_balance = false;
 }
 
@@ -277,6 +299,7 @@ void settle_carry(void) {
 void pass_carry_tick(void) {
     if (!carries_data() || broken) return;
     carry.time = milliseconds();
+    pass_tap_tick();
     pass_fast_tick();
     note_heard();
     pass_flight_tick();

@@ -72,6 +72,7 @@ struct fast {
     bool touched;     /* whether it may be passed on now: frames of it came, or went */
     uint32_t taken;   /* segments that came to the daemon since the last flush */
     uint64_t counted; /* frames that the kernel had passed on when they were counted last */
+    uint64_t overflowed; /* segments that overflowed, of those that its row no longer counts as left */
     bool doubted;     /* whether its row was found with frames that do not come; it was so: */
     uint64_t doubted_word, doubted_opaque;
     uint64_t not_before; /* the time before which it does not go on, after its link went down */
@@ -142,8 +143,9 @@ uint8_t *put_tag(uint8_t *packet, uint16_t type, uint16_t tag);
 int open_tap(const char *name, const uint8_t *mac);
 void set_carrier(bool on);
 bool has_carrier(void);
-void set_mtu(uint32_t wanted);
-int tap_index(void);
+void limit_mtu(uint32_t most);
+void pass_tap_tick(void);
+void forget_tap(void);
 bool read_tap_mac(uint8_t *mac);
 bool is_tap_up(void);
 
@@ -151,14 +153,17 @@ bool is_tap_up(void);
 struct bpf_insn;
 void *make_map(uint32_t size, uint32_t count, int *map);
 int load_program(const struct bpf_insn *steps, size_t count);
+const char *program_fault(void);
 int attach_program(int program, int index, bool egress);
 
 /* fast_programs.c: what the kernel runs for frames, and what it shares with the daemon */
 #define MOST_FAST 64 /* members */
 struct row {
-    uint64_t word;   /* above: the interface that the kernel sends on, or 0; below: segments that were left to the daemon */
+    uint64_t word;   /* below: the interface that the kernel sends on, or 0; above: segments that were left to the daemon, beyond which
+                        a count runs over into nothing */
     uint64_t passed; /* frames that the kernel sent */
     uint64_t opaque; /* frames left to the daemon, of segments that nobody has counted */
+    uint64_t overflowed; /* of the segments that were left to the daemon, those that were lost since too many waited */
 };
 struct fast_member {
     uint64_t up_to; /* the interface to which frames go up, or 0 */
@@ -168,6 +173,7 @@ struct fast_host {
     int64_t left;        /* frames that were left to the daemon, and not taken yet */
     uint64_t overflowed; /* frames that were lost, since there were too many of these */
     uint64_t mac;        /* of the TAP device, as the octets stand in memory, and zeros */
+    uint64_t open_until; /* the time in nanoseconds, by CLOCK_MONOTONIC, from which on no frame of the host is taken */
 };
 struct fast_maps {
     int rows, members, host;
@@ -190,6 +196,8 @@ void set_collecting(void);
 void take_fast_counts(void);
 void pass_fast_tick(void);
 void note_read(unsigned packets, bool drained);
+void open_host(bool open);
+void follow_host_queue(const char *discipline);
 
 /* kept.c */
 #define PROCESSORS_LENGTH "2399" /* of the mask of the 8192 processors that Linux knows */

@@ -3,6 +3,7 @@
 #include <errno.h>
 #include <linux/if.h>
 #include <linux/netlink.h>
+#include <linux/pkt_sched.h>
 #include <linux/rtnetlink.h>
 #include <net/if_arp.h>
 #include <poll.h>
@@ -29,6 +30,7 @@ struct interface {
     bool has_mac, counts_losses;
     uint32_t losses;
     uint32_t mtu; /* 0: not told */
+    bool carrier;
     char discipline[16]; /* of its queues */
 };
 
@@ -39,6 +41,7 @@ static bool asking;      /* whether the answer is not whole yet */
 static bool interrupted; /* whether interfaces changed while the kernel answered */
 static bool ask_again;   /* whether something was missed */
 static bool doubted;     /* whether a carrier may have gone */
+static bool tap_named;   /* whether the answer that is being read named the TAP device */
 
 /* Asks for an interface, or with 0 for all of them; answers whether the kernel took the question. The answer comes as changes do. */
 static bool ask_for(int index, uint32_t number) {
@@ -58,6 +61,7 @@ static bool ask_for(int index, uint32_t number) {
 /* Asks for all interfaces. */
 static void ask(void) {
     for (uint16_t i = 0; i < link_count; i++) links[i].present = false;
+    tap_named = false;
     asking = ask_for(0, ++asked);
     if (!asking && !has_started) stop(REFUSED, "the kernel takes no question", strerror(errno));
     ask_again = !asking;
@@ -77,6 +81,7 @@ static void take_attribute(struct interface *interface, unsigned type, const uin
     }
     if (type == IFLA_QDISC && length <= sizeof interface->discipline) memcpy(interface->discipline, value, length);
     if (type == IFLA_MTU && length == sizeof interface->mtu) memcpy(&interface->mtu, value, length);
+    if (type == IFLA_CARRIER && length == 1) interface->carrier = *value != 0;
     if (type == IFLA_PROP_LIST) {
         interface->others = value;
         interface->others_length = length;
@@ -164,7 +169,7 @@ static void follow(struct link *link, const struct interface *interface) {
     bool up = (interface->flags & IFF_UP) && (interface->flags & IFF_RUNNING) && (interface->flags & IFF_LOWER_UP);
     if (interface->has_mac) memcpy(link->mac, interface->mac, sizeof link->mac);
     if (!follow_discipline(link, interface)) return;
-    follow_mtu(link, interface->mtu);
+    if (interface->mtu != 0) follow_mtu(link, interface->mtu);
     if (interface->counts_losses && interface->losses != link->kernel_losses) {
         uint32_t lost = losses_since(link->kernel_losses, interface->losses);
         link->kernel_losses = interface->losses;
@@ -175,9 +180,13 @@ static void follow(struct link *link, const struct interface *interface) {
     set_link(port, up);
 }
 
-/* An interface is there. A port goes by its name. */
+/* An interface is there. A port goes by its name, and the TAP device by its number. */
 static void take_present(const struct interface *interface) {
-    if (carries_data() && strcmp(interface->name, settings.carry) == 0) look_at_carry();
+    if (carries_data() && interface->index == tap_index()) {
+        tap_named = true;
+        look_at_carry();
+        follow_tap(interface->carrier, interface->discipline);
+    }
     for (uint16_t i = 0; i < link_count; i++) {
         struct link *link = &links[i];
         bool named = is_named(interface, link->name), same = link->socket >= 0 && link->index == interface->index;
@@ -189,8 +198,16 @@ static void take_present(const struct interface *interface) {
 }
 
 static void take_absent(int index) {
+    if (index == tap_index()) lose_tap();
     for (uint16_t i = 0; i < link_count; i++)
         if (links[i].socket >= 0 && links[i].index == index) lose_link(&links[i]);
+}
+
+/* Queueing disciplines came or went. Which one an interface has now is asked: of its usual one the kernel does not tell. */
+static void take_discipline(const struct tcmsg *info) {
+    bool ours = info->tcm_ifindex == tap_index();
+    for (uint16_t i = 0; i < link_count; i++) ours = ours || (links[i].socket >= 0 && links[i].index == info->tcm_ifindex);
+    if (ours && info->tcm_parent == TC_H_ROOT && !ask_for(info->tcm_ifindex, 0)) ask_again = true;
 }
 
 /* What the last message of an answer tells: 0, or an error, below 0. */
@@ -207,6 +224,7 @@ static void end_answer(int error) {
     if (error < 0 && !has_started) stop(REFUSED, "the kernel does not tell of interfaces", strerror(-error));
     asking = false;
     ask_again = ask_again || !whole;
+    if (whole && !tap_named) lose_tap();
     for (uint16_t i = 0; whole && i < link_count; i++)
         if (links[i].socket >= 0 && !links[i].present) lose_link(&links[i]);
 }
@@ -214,6 +232,7 @@ static void end_answer(int error) {
 /* Takes one message. A bridge tells of its ports in messages of its own family, which say nothing of their links. */
 static void take_message(const uint8_t *message, const struct nlmsghdr *head) {
     struct ifinfomsg info;
+    struct tcmsg discipline;
     bool answers = asking && head->nlmsg_seq == asked && head->nlmsg_pid == asker;
     if (answers && (head->nlmsg_flags & NLM_F_DUMP_INTR)) interrupted = true;
     if (answers && (head->nlmsg_type == NLMSG_DONE || head->nlmsg_type == NLMSG_ERROR)) end_answer(error_of(message, head));
@@ -222,6 +241,10 @@ static void take_message(const uint8_t *message, const struct nlmsghdr *head) {
     if (head->nlmsg_type == RTM_NEWLINK && info.ifi_family == AF_UNSPEC) {
         struct interface interface = read_interface(message, head->nlmsg_len);
         if (interface.name[0]) take_present(&interface);
+    }
+    if ((head->nlmsg_type == RTM_NEWQDISC || head->nlmsg_type == RTM_DELQDISC) && head->nlmsg_len >= NLMSG_LENGTH(sizeof discipline)) {
+        memcpy(&discipline, message + NLMSG_HDRLEN, sizeof discipline);
+        take_discipline(&discipline);
     }
     if (head->nlmsg_type == RTM_DELLINK && info.ifi_family == AF_UNSPEC) take_absent(info.ifi_index);
 }
@@ -276,7 +299,7 @@ void watch_carriers(bool all) {
 
 /* Opens the changes of interfaces, and takes up those that are there. */
 int open_changes(void) {
-    struct sockaddr_nl address = {.nl_family = AF_NETLINK, .nl_groups = RTMGRP_LINK};
+    struct sockaddr_nl address = {.nl_family = AF_NETLINK, .nl_groups = RTMGRP_LINK | (carries_data() ? RTMGRP_TC : 0)};
     socklen_t length = sizeof address;
     route = socket(AF_NETLINK, SOCK_RAW | SOCK_NONBLOCK | SOCK_CLOEXEC, NETLINK_ROUTE);
     if (route < 0 || bind(route, (struct sockaddr *)&address, sizeof address) < 0

@@ -15,6 +15,8 @@
 #define DOWN_WAIT 100
 /* With more frames left than this, while none waits, frames were lost on their way to the daemon. */
 #define MOST_BETWEEN 64
+/* For how long frames of the host are taken without a word of the daemon, in nanoseconds: as long as the peer waits for an LACPDU. */
+#define OPEN_FOR 3000000000u
 
 static struct row *rows;
 static struct fast_member *entries;
@@ -22,6 +24,7 @@ static struct fast_host *host;
 static int receivers[NIW_MOST_PORTS];     /* the programs of the members */
 static int tap_at;                        /* the index of the TAP device */
 static int sender = -1, handover = -1;    /* what keeps its programs there */
+static bool queue_holds;                  /* whether its queueing discipline may hold frames */
 static struct fast_member counted[NIW_MOST_PORTS];
 static uint64_t counted_overflows;
 
@@ -38,10 +41,14 @@ static void need(bool done, const char *what) {
     if (!done) stop(REFUSED, what, strerror(errno));
 }
 
+static int needed(int program) {
+    if (program < 0) stop(REFUSED, "fast: the kernel takes no program", program_fault());
+    return program;
+}
+
 /* Has a program run at the TAP device; answers what keeps it there. */
 static int keep_program(int program, bool egress) {
     int opened;
-    need(program >= 0, "fast: the kernel takes no program");
     opened = attach_program(program, tap_at, egress);
     need(opened >= 0, "fast: no program of an interface, which Linux has from 6.6 on");
     close(program);
@@ -60,16 +67,20 @@ void start_fast(void) {
     need(host != NULL, "fast: no table of the kernel");
     memcpy(&host->mac, settings.config.mac, ETH_ALEN);
     tap_at = tap_index();
-    for (uint16_t i = 0; i < link_count; i++) {
-        receivers[i] = load_receiver(&maps, (uint16_t)(i + 1));
-        need(receivers[i] >= 0, "fast: the kernel takes no program");
-    }
-    handover = keep_program(load_handover(&maps), false);
-    sender = keep_program(load_sender(&maps), true);
+    for (uint16_t i = 0; i < link_count; i++)
+        receivers[i] = needed(load_receiver(&maps, (uint16_t)(i + 1)));
+    handover = keep_program(needed(load_handover(&maps)), false);
+    sender = keep_program(needed(load_sender(&maps)), true);
 }
 
-/* Nothing is passed on any more. */
+/* Nothing is passed on any more, from the first line on. */
 void end_fast(void) {
+    if (!is_fast()) return;
+    open_host(false);
+    for (uint16_t number = 0; number < CONVERSATIONS; number++)
+        (void)__atomic_and_fetch(&rows[number].word, ~(uint64_t)UINT32_MAX, __ATOMIC_SEQ_CST);
+    for (uint16_t i = 0; i < link_count; i++) __atomic_store_n(&entries[i].up_to, 0, __ATOMIC_SEQ_CST);
+    tap_at = 0;
     if (sender >= 0) close(sender);
     if (handover >= 0) close(handover);
     sender = handover = -1;
@@ -93,9 +104,18 @@ static uint16_t number_in(const struct conversation *conversation) {
 static void subtract(uint16_t number, uint32_t segments) {
     uint64_t before = word_of(number), after;
     do {
-        uint64_t left = before & UINT32_MAX;
-        after = before - (left < segments ? left : segments);
+        uint64_t left = before >> 32;
+        after = before - ((left < segments ? left : segments) << 32);
     } while (!__atomic_compare_exchange_n(&rows[number].word, &before, after, false, __ATOMIC_SEQ_CST, __ATOMIC_SEQ_CST));
+}
+
+/* Takes off what overflowed. */
+static void take_overflowed(struct conversation *conversation) {
+    uint64_t overflowed = __atomic_load_n(&rows[number_in(conversation)].overflowed, __ATOMIC_ACQUIRE);
+    if (overflowed == conversation->fast.overflowed) return;
+    subtract(number_in(conversation), (uint32_t)(overflowed - conversation->fast.overflowed));
+    conversation->fast.overflowed = overflowed;
+    conversation->fast.doubted = false;
 }
 
 /* Counts what the kernel passed on of a conversation; answers whether there was something. */
@@ -134,7 +154,7 @@ void take_fast_counts(void) {
 /* Whether the kernel may pass a conversation on at a port. */
 static bool may_pass(const struct conversation *conversation, uint16_t port) {
     struct niw_assignment state;
-    if (conversation->home != carry.active || carry.active == 0 || !has_fast_member(port)) return false;
+    if (tap_at == 0 || queue_holds || conversation->home != carry.active || carry.active == 0 || !has_fast_member(port)) return false;
     return ask_state(carry.active, number_in(conversation), &state) && state.what == NIW_CONVERSATION_ON && state.port == port;
 }
 
@@ -144,10 +164,15 @@ static void take_back(bool (*is_chosen)(const struct conversation *conversation,
     for (uint16_t number = 0; number < CONVERSATIONS; number++) {
         const struct conversation *conversation = &carry.conversations[number];
         if (conversation->fast.port == 0 || !is_chosen(conversation, port)) continue;
-        (void)__atomic_and_fetch(&rows[number].word, UINT32_MAX, __ATOMIC_SEQ_CST);
+        (void)__atomic_and_fetch(&rows[number].word, ~(uint64_t)UINT32_MAX, __ATOMIC_SEQ_CST);
         taken[number] = any = true;
     }
-    if (any) need(wait_for_programs(), "fast: the kernel no longer waits for its programs");
+    if (any && !wait_for_programs()) {
+        (void)say(LOG_ERR | ABOUT_DATA, "fast: the kernel waits no longer for its programs: %s; the peers are told, and the daemon ends",
+            strerror(errno));
+        broken = true;
+        end_fast();
+    }
     for (uint16_t number = 0; any && number < CONVERSATIONS; number++) {
         struct conversation *conversation = &carry.conversations[number];
         if (!taken[number]) continue;
@@ -162,7 +187,7 @@ static bool is_wrong(const struct conversation *conversation, uint16_t port) {
     return carry.port_of[number_in(conversation)] != conversation->fast.port || !has_fast_member(conversation->fast.port);
 }
 
-/* Where the library refuses to tell, the kernel passes nothing on. */
+/* Where the library refuses to tell, or the queue of the TAP device holds frames, the kernel passes nothing on. */
 static bool is_any(const struct conversation *conversation, uint16_t port) {
     (void)conversation;
     (void)port;
@@ -196,6 +221,18 @@ void withdraw_port(uint16_t port) {
     }
 }
 
+/* The TAP device has this queueing discipline now. One that may hold frames holds them behind the program that counts them, where nobody
+ * sees them, and would not have what the kernel passes on: with it the daemon has all data. */
+void follow_host_queue(const char *discipline) {
+    bool holds = strcmp(discipline, "noqueue") != 0 && strcmp(discipline, "pfifo") != 0 && strcmp(discipline, "pfifo_fast") != 0
+        && strcmp(discipline, "noop") != 0; /* it has that one until it is up */
+    if (!is_fast() || !discipline[0] || holds == queue_holds) return;
+    queue_holds = holds;
+    if (holds) take_back(is_any, 0);
+    (void)say(LOG_WARNING | ABOUT_DATA, "carry %s: its queueing discipline is %s: its data %s", settings.carry, discipline,
+        holds ? "stays with the daemon, since that discipline may hold frames" : "may go by the kernel");
+}
+
 /* Frames go up by the kernel from the ports that collect in the active aggregator, while the TAP device is up: else the kernel would lose
  * markers, too, which go up behind the data. */
 void set_collecting(void) {
@@ -203,10 +240,20 @@ void set_collecting(void) {
     for (uint16_t i = 0; is_fast() && i < link_count; i++) {
         uint16_t port = links[i].settings.number;
         uint64_t state = 0;
-        bool up = tap_up && carry.active != 0 && links[i].view.aggregator == carry.active && has_fast_member(port)
+        bool up = tap_up && tap_at != 0 && carry.active != 0 && links[i].view.aggregator == carry.active && has_fast_member(port)
             && is_told(niw_state(&own_system, port), "niw_state", &state) && (state & NIW_STATE_COLLECTING) != 0;
         __atomic_store_n(&entries[i].up_to, up ? (uint64_t)tap_at : 0, __ATOMIC_SEQ_CST);
     }
+}
+
+/* Frames of the host are taken for a while from here on, or no longer. Where its device has no carrier, the queue behind the program loses
+ * each frame, and a row that counted it would keep it; so they are lost before they are counted. Those of a host whose daemon is stopped go
+ * nowhere once the peer may have given the links up. */
+void open_host(bool open) {
+    struct timespec now;
+    if (!is_fast()) return;
+    clock_gettime(CLOCK_MONOTONIC, &now);
+    __atomic_store_n(&host->open_until, open ? (uint64_t)now.tv_sec * 1000000000u + (uint64_t)now.tv_nsec + OPEN_FOR : 0, __ATOMIC_SEQ_CST);
 }
 
 /* A packet of a conversation came to the daemon. */
@@ -219,7 +266,7 @@ void note_taken(struct conversation *conversation, uint32_t segments) {
 static void pass(struct conversation *conversation) {
     struct row *row = &rows[number_in(conversation)];
     uint16_t port = conversation->port;
-    uint64_t none = 0, member = (uint64_t)(uint32_t)links[port - 1].index << 32;
+    uint64_t none = 0, member = (uint32_t)links[port - 1].index;
     if (__atomic_load_n(&row->opaque, __ATOMIC_SEQ_CST) != 0) return;
     if (__atomic_compare_exchange_n(&row->word, &none, member, false, __ATOMIC_SEQ_CST, __ATOMIC_SEQ_CST)) conversation->fast.port = port;
 }
@@ -230,6 +277,7 @@ void pass_on(void) {
         struct conversation *conversation = &carry.conversations[number];
         if (!conversation->fast.touched) continue;
         conversation->fast.touched = false;
+        take_overflowed(conversation);
         if (conversation->fast.taken > 0) subtract(number, conversation->fast.taken);
         if (conversation->fast.taken > 0) conversation->fast.doubted = false;
         conversation->fast.taken = 0;
@@ -238,31 +286,39 @@ void pass_on(void) {
     }
 }
 
-/* Counts no more what was lost on its way to the daemon: since it was doubted, no frame of it came and none was left, all programs
- * ended, and the TAP device had nothing more. */
+/* Counts no more what was lost on its way to the daemon: since it was doubted, no frame of it came and none was left (programs only ever
+ * raise the count of a row without a member), all programs ended, and the TAP device had nothing more. */
 static void believe(struct conversation *conversation) {
     struct row *row = &rows[number_in(conversation)];
-    uint64_t word = conversation->fast.doubted_word;
+    uint64_t word = conversation->fast.doubted_word, overflowed = __atomic_load_n(&row->overflowed, __ATOMIC_SEQ_CST);
     conversation->fast.doubted = false;
     if (__atomic_load_n(&row->opaque, __ATOMIC_SEQ_CST) != conversation->fast.doubted_opaque) return;
     if (!__atomic_compare_exchange_n(&row->word, &word, 0, false, __ATOMIC_SEQ_CST, __ATOMIC_SEQ_CST)) return;
+    conversation->fast.overflowed = overflowed;
     (void)__atomic_sub_fetch(&row->opaque, conversation->fast.doubted_opaque, __ATOMIC_SEQ_CST);
     conversation->fast.touched = true;
 }
 
-/* So many packets were read of the TAP device, in a batch that had room for more if it is drained. */
+/* So many packets were read of the TAP device, in a batch that had room for more if it is drained: nothing is on its way then but what a
+ * program counts just now. More of `left` was lost behind the program that counted it, by a queue without a carrier or without room, and
+ * no read takes it off: with MOST_LEFT of it no frame would ever come here again. What is taken off too early makes it less than 0, and is
+ * put back. It only tells how many may wait, so a frame too many is lost by the kernel, which counts it. The order rests on the rows. */
 void note_read(unsigned packets, bool drained) {
+    int64_t left;
     if (!is_fast()) return;
-    if (__atomic_sub_fetch(&host->left, packets, __ATOMIC_SEQ_CST) > MOST_BETWEEN && drained)
-        __atomic_store_n(&host->left, 0, __ATOMIC_SEQ_CST);
-    for (uint16_t number = 0; drained && number < CONVERSATIONS; number++)
+    left = __atomic_sub_fetch(&host->left, packets, __ATOMIC_SEQ_CST);
+    if (drained && (left > MOST_BETWEEN || left < 0)) (void)__atomic_sub_fetch(&host->left, left, __ATOMIC_SEQ_CST);
+    for (uint16_t number = 0; drained && !queue_holds && number < CONVERSATIONS; number++)
         if (carry.conversations[number].fast.doubted && carry.conversations[number].fast.taken == 0) believe(&carry.conversations[number]);
 }
 
 /* Doubts rows with frames that do not come: none came since the last tick. */
 static bool doubt(struct conversation *conversation) {
     struct row *row = &rows[number_in(conversation)];
-    uint64_t word = word_of(number_in(conversation)), opaque = __atomic_load_n(&row->opaque, __ATOMIC_SEQ_CST);
+    uint64_t word, opaque;
+    take_overflowed(conversation);
+    word = word_of(number_in(conversation));
+    opaque = __atomic_load_n(&row->opaque, __ATOMIC_SEQ_CST);
     if (conversation->fast.port > 0 || conversation->used || conversation->fast.doubted || (word == 0 && opaque == 0)) return false;
     conversation->fast.doubted = true;
     conversation->fast.doubted_word = word;
@@ -276,6 +332,7 @@ void pass_fast_tick(void) {
     if (!is_fast()) return;
     (void)read_tap_mac((uint8_t *)&host->mac);
     withdraw();
+    open_host(has_carrier());
     take_fast_counts();
     if (answering() == MUTE) take_back(is_resting, 0);
     for (uint16_t number = 0; number < CONVERSATIONS; number++) any = doubt(&carry.conversations[number]) || any;

@@ -2,6 +2,7 @@
  * frames come in at a member, and one where these come in at the TAP device. Else: one that keeps data from the stack of a member. They
  * are written as the kernel takes them, step by step. */
 #define _GNU_SOURCE
+#include <errno.h>
 #include <linux/bpf.h>
 #include <linux/if_packet.h>
 #include <netinet/in.h>
@@ -10,7 +11,9 @@
 
 #include "carry.h"
 
+#ifndef MOST_STEPS
 #define MOST_STEPS 512
+#endif
 /* What a program answers: the kernel goes on with the frame, or loses it. */
 #define GO_ON (-1)
 #define LOSE 2
@@ -29,8 +32,16 @@ struct code {
     unsigned count;
 };
 
+/* A program that has more steps than there is room for is not loaded. */
 static void step(struct code *code, struct bpf_insn insn) {
-    if (code->count < MOST_STEPS) code->steps[code->count++] = insn;
+    if (code->count < MOST_STEPS) code->steps[code->count] = insn;
+    code->count++;
+}
+
+static int load_code(const struct code *code) {
+    if (code->count <= MOST_STEPS) return load_program(code->steps, code->count);
+    errno = E2BIG;
+    return -1;
 }
 
 static void load(struct code *code, unsigned size, unsigned to, unsigned from, int at) {
@@ -88,7 +99,13 @@ static unsigned jump(struct code *code, unsigned condition, unsigned left, int32
 }
 
 static void land(struct code *code, unsigned from) {
-    code->steps[from].off = (int16_t)(code->count - from - 1);
+    if (from < MOST_STEPS) code->steps[from].off = (int16_t)(code->count - from - 1);
+}
+
+/* A jump where one register has as much as another one, or more. */
+static unsigned jump_unless_below(struct code *code, unsigned left, unsigned right) {
+    step(code, (struct bpf_insn){.code = BPF_JMP | BPF_JGE | BPF_X, .dst_reg = left & 15, .src_reg = right & 15});
+    return code->count - 1;
 }
 
 static void land_all(struct code *code, const unsigned *from, unsigned count) {
@@ -246,7 +263,7 @@ static void add_opaque(struct code *code) {
     land(code, none);
 }
 
-/* How many segments the frame has, in HASH and on the stack. What came from a virtual machine may have segments that nobody has counted:
+/* How many segments the frame has, in HASH and on the stack, as the word of a row has them. What came from a virtual machine may have segments that nobody has counted:
  * the row notes it before the frame counts. FOUND is the row. */
 static void count_parts(struct code *code) {
     unsigned counted, one;
@@ -262,10 +279,11 @@ static void count_parts(struct code *code) {
     set(code, PLACE, 0);
     land(code, one);
     add_opaque(code);
+    with(code, BPF_LSH, HASH, 32);
     store(code, BPF_DW, STACK, SEGMENTS, HASH);
 }
 
-/* Takes back what count_parts and the row counted. */
+/* Takes back what count_parts and the row counted, of a row that names a member. */
 static void uncount(struct code *code) {
     load(code, BPF_DW, HASH, STACK, SEGMENTS);
     with(code, BPF_NEG, HASH, 0);
@@ -274,17 +292,34 @@ static void uncount(struct code *code) {
     add_opaque(code);
 }
 
-/* Whether the frame is of the slow protocols, or too long for a member; answers the jumps of those. */
+/* A jump where a segment of the frame, with its headers, is too long for the interface in HASH. */
+static unsigned jump_unless_segments_fit(struct code *code) {
+    set(code, ARG1, 0);
+    store(code, BPF_W, STACK, PORTS, ARG1);
+    move(code, ARG1, FRAME);
+    move(code, ARG2, HASH);
+    move(code, ARG3, STACK);
+    with(code, BPF_ADD, ARG3, PORTS);
+    set(code, ARG4, 0);
+    set(code, ARG5, BPF_MTU_CHK_SEGS);
+    call(code, BPF_FUNC_check_mtu);
+    return jump(code, BPF_JNE, ANSWER, 0);
+}
+
+/* Whether the frame is of the slow protocols, or too long for the member whose interface is in HASH, or one of its segments is; answers the
+ * jumps of those. */
 static unsigned find_unfit(struct code *code, unsigned *unfit) {
-    unsigned count = 0, beside, tagged, customer, plain;
+    unsigned count = 0, beside, tagged, customer, plain, one;
     load(code, BPF_H, ARG3, STACK, ETHERNET + 2 * ETH_ALEN);
     load(code, BPF_W, ARG1, FRAME, offsetof(struct __sk_buff, vlan_present));
     beside = jump(code, BPF_JNE, ARG1, 0);
     unfit[count++] = jump(code, BPF_JEQ, ARG3, htons(ETH_P_SLOW));
     land(code, beside);
     load(code, BPF_W, ARG1, FRAME, offsetof(struct __sk_buff, gso_size));
-    unfit[count++] = jump(code, BPF_JGT, ARG1, ETH_DATA_LEN);
-    beside = jump(code, BPF_JNE, ARG1, 0);
+    one = jump(code, BPF_JEQ, ARG1, 0);
+    unfit[count++] = jump_unless_segments_fit(code);
+    beside = jump(code, BPF_JA, 0, 0);
+    land(code, one);
     load(code, BPF_W, ARG2, FRAME, offsetof(struct __sk_buff, len));
     tagged = jump(code, BPF_JEQ, ARG3, htons(ETH_P_8021Q));
     customer = jump(code, BPF_JEQ, ARG3, htons(ETH_P_8021AD));
@@ -312,12 +347,28 @@ static void send_there(struct code *code) {
     step(code, (struct bpf_insn){.code = BPF_JMP | BPF_EXIT});
 }
 
-/* The frame is left to the daemon, if that has room. */
-static void leave(struct code *code, const struct fast_maps *maps) {
-    unsigned none, full;
+/* What is kept for the host, in ANSWER; 0 if there is nothing. */
+static void find_host(struct code *code, const struct fast_maps *maps) {
     set(code, ARG1, 0);
     store(code, BPF_W, STACK, KEY, ARG1);
     look_up(code, maps->host);
+}
+
+/* Whether no frame of the host is taken now; answers the jumps of that. */
+static unsigned find_closed(struct code *code, const struct fast_maps *maps, unsigned *closed) {
+    call(code, BPF_FUNC_ktime_get_ns);
+    move(code, PLACE, ANSWER);
+    find_host(code, maps);
+    closed[0] = jump(code, BPF_JEQ, ANSWER, 0);
+    load(code, BPF_DW, ARG1, ANSWER, offsetof(struct fast_host, open_until));
+    closed[1] = jump_unless_below(code, PLACE, ARG1);
+    return 2;
+}
+
+/* The frame is left to the daemon, if that has room. */
+static void leave(struct code *code, const struct fast_maps *maps) {
+    unsigned none, full;
+    find_host(code, maps);
     none = jump(code, BPF_JEQ, ANSWER, 0);
     set(code, ARG1, 1);
     add_and_get(code, ANSWER, offsetof(struct fast_host, left), ARG1);
@@ -328,7 +379,11 @@ static void leave(struct code *code, const struct fast_maps *maps) {
     add_to(code, ANSWER, offsetof(struct fast_host, left), ARG1);
     set(code, ARG1, 1);
     add_to(code, ANSWER, offsetof(struct fast_host, overflowed), ARG1);
-    uncount(code);
+    load(code, BPF_DW, HASH, STACK, SEGMENTS);
+    with(code, BPF_RSH, HASH, 32);
+    add_to(code, FOUND, offsetof(struct row, overflowed), HASH); /* the daemon takes it off: what only rises is the same where none came */
+    with(code, BPF_NEG, PLACE, 0);
+    add_opaque(code);
     land(code, none);
     end(code, LOSE);
 }
@@ -336,26 +391,27 @@ static void leave(struct code *code, const struct fast_maps *maps) {
 /* Where frames leave the TAP device: a frame of a conversation whose row names a member goes on there, any other one to the daemon. */
 int load_sender(const struct fast_maps *maps) {
     static struct code code;
-    unsigned away[8], count = 0, nowhere[2];
+    unsigned away[8], count = 0, nowhere[4], nowhere_count;
     code.count = 0;
     move(&code, FRAME, ARG1);
+    nowhere_count = find_closed(&code, maps, nowhere);
     load_octets(&code, 0, 0, ETHERNET, ETH_HLEN);
-    nowhere[0] = jump(&code, BPF_JNE, ANSWER, 0);
+    nowhere[nowhere_count++] = jump(&code, BPF_JNE, ANSWER, 0);
     find_conversation(&code);
     look_up(&code, maps->rows);
-    nowhere[1] = jump(&code, BPF_JEQ, ANSWER, 0);
+    nowhere[nowhere_count++] = jump(&code, BPF_JEQ, ANSWER, 0);
     move(&code, FOUND, ANSWER);
     count_parts(&code);
     add_and_get(&code, FOUND, offsetof(struct row, word), HASH);
-    with(&code, BPF_RSH, HASH, 32);
+    step(&code, (struct bpf_insn){.code = BPF_ALU | BPF_MOV | BPF_X, .dst_reg = HASH, .src_reg = HASH}); /* what stands below */
     away[count++] = jump(&code, BPF_JEQ, HASH, 0);
     count += find_unfit(&code, away + count);
     send_there(&code);
     land_all(&code, away, count);
     leave(&code, maps);
-    land_all(&code, nowhere, 2);
+    land_all(&code, nowhere, nowhere_count);
     end(&code, LOSE);
-    return load_program(code.steps, code.count);
+    return load_code(&code);
 }
 
 /* A frame to a group of the link goes on to the stack of its member. */
@@ -452,7 +508,7 @@ int load_receiver(const struct fast_maps *maps, uint16_t port) {
     land_all(&code, data, 2);
     keep_local(&code);
     take_data_up(&code, maps, port);
-    return load_program(code.steps, code.count);
+    return load_code(&code);
 }
 
 /* Where frames come in at a member whose data the daemon takes by a socket, which is before: its stack has those of the slow protocols and
@@ -478,9 +534,8 @@ int load_handover(const struct fast_maps *maps) {
     code.count = 0;
     move(&code, FRAME, ARG1);
     set(&code, ARG1, 0);
-    store(&code, BPF_W, STACK, KEY, ARG1);
     store(&code, BPF_DW, STACK, NETWORK, ARG1);
-    look_up(&code, maps->host);
+    find_host(&code, maps);
     none = jump(&code, BPF_JEQ, ANSWER, 0);
     load(&code, BPF_DW, HASH, ANSWER, offsetof(struct fast_host, mac));
     load_octets(&code, 0, 0, NETWORK, ETH_ALEN);
@@ -507,5 +562,5 @@ int load_handover(const struct fast_maps *maps) {
     call(&code, BPF_FUNC_skb_change_type);
     land(&code, none);
     end(&code, GO_ON);
-    return load_program(code.steps, code.count);
+    return load_code(&code);
 }

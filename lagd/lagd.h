@@ -169,7 +169,7 @@ extern struct link links[NIW_MOST_PORTS];
 extern uint16_t link_count;
 extern struct bundle bundle;
 extern bool has_started; /* whether the interfaces that are there were taken up */
-extern bool broken;  /* whether the library refused a call: the peers are told, and the program ends */
+extern bool broken;  /* whether the program cannot go on, as where the library refused a call: the peers are told, and it ends */
 /* An answer that tells whether the library refused: what depends on the call is done only where it did not. */
 #define MUST_USE __attribute__((warn_unused_result))
 
@@ -334,7 +334,12 @@ void pass_tick_of_callers(void);
 void tell_watchers(const char *line, size_t length);
 void tell_watchers_of(const struct link *link);
 
+/* tap.c */
+int tap_index(void);
+void follow_tap(bool has_carrier, const char *discipline);
+
 /* carry.c */
+void lose_tap(void);
 void open_carry(void);
 void end_carry(void);
 bool carries_data(void);

@@ -107,6 +107,7 @@ bool open_link(struct link *link, int index) {
 /* The interface is gone. */
 void close_link(struct link *link) {
     close_member(link);
+    follow_mtu(link, 0);
     close_files(link);
     link->unsent = false;
     link->changed = true;

@@ -173,12 +173,9 @@ bool open_member(struct link *link) {
 
 /* Whether the kernel may pass on what goes on a port is seen anew; answers whether the member is still taken up. */
 bool reopen_member(struct link *link) {
-    uint32_t mtu = member_of(link)->mtu;
     if (!is_fast() || member_of(link)->socket < 0) return true;
     close_member(link);
-    if (!open_member(link)) return false;
-    member_of(link)->mtu = mtu;
-    return true;
+    return open_member(link);
 }
 
 /* Whether the kernel may pass on what goes on a port. */
@@ -206,7 +203,6 @@ void close_member(struct link *link) {
     count_loss(member);
     close_sockets(member);
     close_guard(link, &member->guard);
-    member->mtu = 0;
 }
 
 /* The program ends, by whatever it is refused: its members get what they had. */
@@ -218,14 +214,14 @@ void put_back_members(void) {
     }
 }
 
-/* The TAP device takes what each member takes. */
+/* The TAP device takes what each member takes; 0: there is no such member any more. */
 void follow_mtu(struct link *link, uint32_t mtu) {
     uint32_t least = ETH_DATA_LEN;
-    if (!carries_data() || mtu == 0 || member_of(link)->mtu == mtu) return;
+    if (!carries_data() || member_of(link)->mtu == mtu) return;
     member_of(link)->mtu = mtu;
     for (uint16_t i = 0; i < link_count; i++)
         if (members[i].mtu > 0 && members[i].mtu < least) least = members[i].mtu;
-    set_mtu(least);
+    limit_mtu(least);
 }
 
 /* What the kernel alone handed up, or lost, of what came on a port, since the last time. */

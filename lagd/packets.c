@@ -12,6 +12,10 @@
 #define PLAIN_ROOM 1536
 /* The octets of a packet of several segments, without its head: those of an IP packet, and of its header of Ethernet with two tags. */
 #define LONGEST_SEGMENTED (65536 + ETH_HLEN + 2 * TAG_OCTETS)
+/* The octets of a header of UDP, and of one of TCP without options, and where that tells how long it is. */
+#define UDP_OCTETS 8
+#define TCP_OCTETS 20
+#define TCP_LENGTH 12
 
 static size_t head;
 
@@ -50,10 +54,21 @@ bool has_segments(const uint8_t *packet) {
     return head_of(packet).gso_type != VIRTIO_NET_HDR_GSO_NONE;
 }
 
+/* The octets of a frame of several segments before their data: up to the checksum that is still to be made, which stands in the header of
+ * TCP or UDP, and that header. (`hdr_len` of the kernel may have data, too.) */
+static size_t octets_before(const uint8_t *packet, size_t length) {
+    struct virtio_net_hdr told = head_of(packet);
+    unsigned kind = told.gso_type & ~(unsigned)VIRTIO_NET_HDR_GSO_ECN;
+    size_t at = head + told.csum_start;
+    if (!(told.flags & VIRTIO_NET_HDR_F_NEEDS_CSUM) || at + TCP_OCTETS > length) return told.hdr_len;
+    if (kind != VIRTIO_NET_HDR_GSO_TCPV4 && kind != VIRTIO_NET_HDR_GSO_TCPV6) return told.csum_start + UDP_OCTETS;
+    return told.csum_start + 4 * ((size_t)packet[at + TCP_LENGTH] >> 4);
+}
+
 /* Into how many frames a packet is cut. */
 uint32_t count_segments(const uint8_t *packet, size_t length) {
     struct virtio_net_hdr told = head_of(packet);
-    size_t before = head + told.hdr_len;
+    size_t before = head + octets_before(packet, length);
     if (told.gso_type == VIRTIO_NET_HDR_GSO_NONE || told.gso_size == 0 || length <= before) return 1;
     return (uint32_t)((length - before + told.gso_size - 1) / told.gso_size);
 }
@@ -65,9 +80,10 @@ static bool is_tagged(const uint8_t *frame) {
 
 /* Whether a frame, or each segment of it, has a right length: 14 to 1514 octets, or 1518 with a tag. */
 bool has_right_length(const uint8_t *packet, size_t length) {
+    size_t octets;
     if (length < head + ETH_HLEN) return false;
-    if (has_segments(packet)) return head_of(packet).gso_size <= ETH_DATA_LEN;
-    return length - head <= (is_tagged(packet + head) ? LONGEST_TAGGED : LONGEST_PLAIN);
+    octets = has_segments(packet) ? octets_before(packet, length) + head_of(packet).gso_size : length - head;
+    return octets <= (is_tagged(packet + head) ? LONGEST_TAGGED : LONGEST_PLAIN);
 }
 
 /* Puts a tag back into the frame of a packet, which has TAG_OCTETS before it; answers where the packet begins then. */

@@ -3,6 +3,9 @@
 #include <errno.h>
 #include <fcntl.h>
 #include <linux/if_tun.h>
+#include <linux/netlink.h>
+#include <linux/pkt_sched.h>
+#include <linux/rtnetlink.h>
 #include <net/if.h>
 #include <net/if_arp.h>
 #include <string.h>
@@ -16,9 +19,17 @@
 #define TUN_F_USO4 0x20
 #define TUN_F_USO6 0x40
 
+/* For how many ticks the carrier may be another one than was set: the kernel takes up to a second to tell. */
+#define CARRIER_TICKS 15
+
 static int tap = -1, asker = -1; /* `asker`: a socket for questions about interfaces */
-static bool carrier;
-static uint32_t mtu;
+static int number;               /* of the device, its index; 0: there is none */
+static bool carrier;             /* which it is to have */
+static bool carrier_told;        /* which it had, as the kernel told last */
+static unsigned carrier_ticks;   /* for how long it had none, and was to have one */
+static uint32_t most_mtu = ETH_DATA_LEN; /* the longest payload that each member takes */
+static uint32_t less_mtu;                /* one below that which an administrator set, or 0 */
+static uint32_t set_mtu;                 /* what was set last */
 
 static struct ifreq request_of(const char *name) {
     struct ifreq request;
@@ -27,44 +38,88 @@ static struct ifreq request_of(const char *name) {
     return request;
 }
 
+/* Asks the kernel something of the device, or for something. The device goes by its index: it may have another name than it was given. */
+static bool ask_tap(unsigned long what, struct ifreq *request) {
+    struct ifreq named = {.ifr_ifindex = number};
+    if (number == 0 || ioctl(asker, SIOCGIFNAME, &named) < 0) return false;
+    memcpy(request->ifr_name, named.ifr_name, sizeof request->ifr_name);
+    return ioctl(asker, what, request) == 0;
+}
+
 /* The carrier of the device, which is on while data is carried. */
 void set_carrier(bool on) {
-    if (carrier == on) return;
+    if (carrier == on || number == 0) return;
     carrier = on;
+    carrier_ticks = 0;
+    if (!on) open_host(false);
     if (ioctl(tap, TUNSETCARRIER, &(int){on}) < 0)
         (void)say(LOG_ERR | ABOUT_CARRIER, "carry %s: no carrier: %s", settings.carry, strerror(errno));
 }
 
+/* Whether the device has a carrier: an administrator may have taken it away. */
 bool has_carrier(void) {
-    return carrier;
+    return carrier && carrier_told;
 }
 
-/* The longest payload that each member takes. */
-void set_mtu(uint32_t wanted) {
-    struct ifreq request = request_of(settings.carry);
-    if (tap < 0 || wanted == mtu) return;
-    request.ifr_mtu = (int)wanted;
-    if (ioctl(asker, SIOCSIFMTU, &request) == 0) mtu = wanted;
+/* The MTU of the device is the longest that each member takes, or a lower one that an administrator set. A higher one would lose frames. */
+static void settle_mtu(void) {
+    struct ifreq now = {0}, wanted = {0};
+    uint32_t mtu, least;
+    if (!ask_tap(SIOCGIFMTU, &now)) return;
+    mtu = (uint32_t)now.ifr_mtu;
+    if (set_mtu != 0 && mtu != set_mtu) less_mtu = mtu < most_mtu ? mtu : 0;
+    if (set_mtu != 0 && mtu != set_mtu && mtu > most_mtu)
+        (void)say(LOG_WARNING | ABOUT_CARRIER, "carry %s: its members take no MTU of %u: it has %u again", settings.carry, mtu, most_mtu);
+    least = less_mtu != 0 && less_mtu < most_mtu ? less_mtu : most_mtu;
+    wanted.ifr_mtu = (int)least;
+    if (mtu == least || ask_tap(SIOCSIFMTU, &wanted)) set_mtu = least;
+}
+
+/* The longest payload that each member takes is another one now. */
+void limit_mtu(uint32_t most) {
+    most_mtu = most;
+    settle_mtu();
+}
+
+/* The kernel told of the device. */
+void follow_tap(bool has_now, const char *discipline) {
+    carrier_told = has_now;
+    follow_host_queue(discipline);
+    if (carrier && has_now) open_host(true);
+    settle_mtu();
+}
+
+/* 100 ms passed. */
+void pass_tap_tick(void) {
+    carrier_ticks = carrier && !carrier_told ? carrier_ticks + 1 : 0;
+    if (carrier_ticks == CARRIER_TICKS)
+        (void)say(LOG_WARNING | ABOUT_CARRIER, "carry %s: it has no carrier, though links carry: who took it away may set it on again",
+            settings.carry);
 }
 
 /* The index of the device. */
 int tap_index(void) {
-    struct ifreq request = request_of(settings.carry);
-    return ioctl(asker, SIOCGIFINDEX, &request) == 0 ? request.ifr_ifindex : 0;
+    return number;
+}
+
+/* The device is there no more. */
+void forget_tap(void) {
+    number = 0;
+    carrier = false;
 }
 
 /* The MAC address that the device has now: whoever administers it may change it. */
 bool read_tap_mac(uint8_t *mac) {
-    struct ifreq request = request_of(settings.carry);
-    if (ioctl(asker, SIOCGIFHWADDR, &request) < 0) return false;
+    struct ifreq request = {0};
+    if (!ask_tap(SIOCGIFHWADDR, &request)) return false;
     memcpy(mac, request.ifr_hwaddr.sa_data, ETH_ALEN);
     return true;
 }
 
 /* Whether the host has the device up, whatever its name is now. */
 bool is_tap_up(void) {
-    struct ifreq request = request_of("");
-    return ioctl(tap, TUNGETIFF, &request) == 0 && ioctl(asker, SIOCGIFFLAGS, &request) == 0 && (request.ifr_flags & IFF_UP) != 0;
+    struct ifreq request = {0};
+    return ask_tap(SIOCGIFFLAGS, &request) && (request.ifr_flags & IFF_UP) != 0;
 }
 
 /* Has the host hand over frames of several segments, and without checksums, as the head of a packet tells. */
@@ -75,22 +130,43 @@ static void allow_segments(void) {
         stop(REFUSED, "no frames of several segments", strerror(errno));
 }
 
+/* The device gets no queueing discipline, unless an administrator gave it one: the usual one of a machine may hold frames. */
+static void set_no_queue(void) {
+    struct {
+        struct nlmsghdr head;
+        struct tcmsg info;
+        struct rtattr kind_head;
+        char kind[8];
+    } wanted = {.head = {.nlmsg_type = RTM_NEWQDISC, .nlmsg_flags = NLM_F_REQUEST | NLM_F_CREATE | NLM_F_EXCL},
+        .info = {.tcm_family = AF_UNSPEC, .tcm_ifindex = number, .tcm_parent = TC_H_ROOT}, .kind = "noqueue"};
+    int route = socket(AF_NETLINK, SOCK_RAW | SOCK_CLOEXEC, NETLINK_ROUTE);
+    wanted.head.nlmsg_len = sizeof wanted;
+    wanted.kind_head = (struct rtattr){.rta_len = sizeof wanted.kind_head + sizeof wanted.kind, .rta_type = TCA_KIND};
+    if (route < 0) return;
+    (void)send(route, &wanted, sizeof wanted, 0); /* which discipline it has then is told with all interfaces */
+    close(route);
+}
+
 /* Makes the device, without carrier, or takes one that is there and that nobody has. One that was made is gone when the daemon ends. */
 int open_tap(const char *name, const uint8_t *mac) {
-    struct ifreq device = request_of(name), address = request_of(name), queue = request_of(name);
+    struct ifreq device = request_of(name), found, address = {0}, queue = {0};
     asker = socket(AF_UNIX, SOCK_DGRAM | SOCK_CLOEXEC, 0);
     tap = open("/dev/net/tun", O_RDWR | O_NONBLOCK | O_CLOEXEC);
     if (asker < 0 || tap < 0) stop(REFUSED, "no TAP device", strerror(errno));
     device.ifr_flags = (short)(IFF_TAP | IFF_NO_PI | (head_octets() > 0 ? IFF_VNET_HDR : 0));
     if (ioctl(tap, TUNSETIFF, &device) < 0) stop(REFUSED, name, strerror(errno));
+    found = request_of(device.ifr_name);
+    if (ioctl(asker, SIOCGIFINDEX, &found) < 0) stop(REFUSED, name, strerror(errno));
+    number = found.ifr_ifindex;
     if (head_octets() > 0) allow_segments();
     carrier = true;
     set_carrier(false);
     address.ifr_hwaddr.sa_family = ARPHRD_ETHER;
     memcpy(address.ifr_hwaddr.sa_data, mac, ETH_ALEN);
-    if (ioctl(asker, SIOCSIFHWADDR, &address) < 0) stop(REFUSED, "no address of the TAP device", strerror(errno));
+    if (!ask_tap(SIOCSIFHWADDR, &address)) stop(REFUSED, "no address of the TAP device", strerror(errno));
     queue.ifr_qlen = HOST_QUEUE;
-    (void)ioctl(asker, SIOCSIFTXQLEN, &queue);
-    set_mtu(ETH_DATA_LEN);
+    (void)ask_tap(SIOCSIFTXQLEN, &queue);
+    settle_mtu();
+    if (settings.fast) set_no_queue();
     return tap;
 }

@@ -4,12 +4,15 @@
  * The host sends frames 1, 2 and on, one behind the other. Its program reads the row and counts the frame in one step; then it puts the
  * frame into the queue of the TAP device, or on the way of the member that the row names. The daemon takes frames from the queue, sends
  * them or has them wait, and gives the row a member once none is left. To move the conversation it takes the member back, waits until the
- * program that may have read the old row is done, and sends a marker behind the data. At the peer, data and markers of a link go through
- * one backlog. What a link is, is a way in which nothing overtakes; that one goes down is not in this model, since the order rests on time
- * there.
+ * program that may have read the old row is done, and sends a marker behind the data. A frame that was counted may be lost before it is in
+ * the queue: a row that counts frames which do not come is doubted, and believed to have none once each program that ran then is done, no
+ * frame came since, and the queue is empty. What a program loses for want of room it counts beside the row, and the daemon takes it off. At
+ * the peer, data and markers of a link go through one backlog. What a link is, is a way in
+ * which nothing overtakes; that one goes down is not in this model, since the order rests on time there.
  *
  * Each of these makes it wrong: NO_WAIT, MARKER_BY_ANOTHER_WAY, ANSWERED_BEFORE_THE_BACKLOG, TWO_WORDS, NO_COUNT, UNCOUNTED_LOSS,
- * OVERTAKES_THOSE_THAT_WAIT. */
+ * OVERTAKES_THOSE_THAT_WAIT, NEVER_BELIEVED, BELIEVED_AT_ONCE, A_QUEUE_THAT_HOLDS,
+ * TAKEN_OFF_BY_THE_PROGRAM. */
 #ifndef FRAMES
 #define FRAMES 5
 #endif
@@ -22,9 +25,12 @@
 
 byte member;     /* of the row: 0, or the number of a link */
 byte left;       /* of the same word: frames that are on their way to the daemon */
+byte overflowed; /* of these, what was lost for want of room, and is not taken off yet */
 bool in_program; /* whether the program of the host runs */
 byte runs;       /* how often it ended */
+bool leaked;     /* whether a frame was lost behind its count */
 chan tap = [MOST_LEFT] of {byte};
+chan queue = [MOST_LEFT] of {byte}; /* of a discipline that holds frames before that */
 chan waiting = [FRAMES] of {byte};
 chan way[2] = [ROOM] of {byte};
 chan backlog[2] = [ROOM] of {byte};
@@ -41,11 +47,20 @@ proctype Host() {
         if
         :: seen > 0 -> left--; way[seen - 1]!number
         :: seen == 0 && left > MOST_LEFT ->
+#ifdef TAKEN_OFF_BY_THE_PROGRAM
             left--;
+#else
+            overflowed++;
+#endif
 #ifndef UNCOUNTED_LOSS
             lost++
 #endif
+#ifdef A_QUEUE_THAT_HOLDS
+        :: seen == 0 && left <= MOST_LEFT -> queue!number
+#else
         :: seen == 0 && left <= MOST_LEFT -> tap!number
+#endif
+        :: seen == 0 && left <= MOST_LEFT && !leaked -> leaked = true; lost++
         fi;
         atomic { in_program = false; runs++; seen = 0; number++ }
     :: number > FRAMES -> break
@@ -87,9 +102,41 @@ inline wait_for_programs() {
     fi
 }
 
-proctype Daemon() {
-    byte number, moves, before;
+#ifdef A_QUEUE_THAT_HOLDS
+proctype Queue() {
+    byte number;
+end:
     do
+    :: queue?number -> tap!number; number = 0
+    od
+}
+#endif
+
+proctype Daemon() {
+    byte number, moves, before, doubted; /* `doubted`: how many frames a row counted that was doubted, or 0 */
+    bool again; /* it is doubted once while frames are sent, and as often as it has to be then */
+    do
+#ifndef NEVER_BELIEVED
+    :: doubted == 0 && member == 0 && left > 0 && (!again || sent_all) ->
+        doubted = left;
+        again = !sent_all;
+#ifndef BELIEVED_AT_ONCE
+        wait_for_programs();
+        before = 0
+#endif
+    :: doubted > 0 && empty(tap) ->
+        atomic {
+            if
+            :: member == 0 && left == doubted -> left = 0; overflowed = 0
+            :: else
+            fi;
+            doubted = 0
+        }
+        pass_on()
+#endif
+    :: overflowed > 0 ->
+        atomic { left = left - overflowed; overflowed = 0; doubted = 0 }
+        pass_on()
     :: tap?number ->
         if
 #ifdef OVERTAKES_THOSE_THAT_WAIT
@@ -100,6 +147,7 @@ proctype Daemon() {
         :: else -> way[port - 1]!number
         fi;
         number = 0;
+        doubted = 0;
         left--;
         pass_on()
     :: !held && empty(waiting) && moves < MOVES ->
@@ -124,7 +172,7 @@ proctype Daemon() {
         number = 0;
         pass_on()
     :: nempty(waiting) -> waiting?number; number = 0; lost++ /* it waited too long */
-    :: sent_all && empty(tap) && empty(waiting) && !held -> break
+    :: sent_all && empty(tap) && empty(queue) && empty(waiting) && !held && left == 0 -> break
     od;
     came + lost == FRAMES /* each one comes, or is counted: else this waits for ever, which is an error */
 }
@@ -165,6 +213,9 @@ end:
 init {
     atomic {
         run Host();
+#ifdef A_QUEUE_THAT_HOLDS
+        run Queue();
+#endif
         run Daemon();
         run Member(0);
         run Member(1);

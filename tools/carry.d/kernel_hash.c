@@ -87,6 +87,7 @@ int main(int argc, char **argv) {
     rows = make_map(sizeof *rows, CONVERSATIONS, &maps.rows);
     (void)make_map(sizeof(struct fast_member), MOST_FAST, &maps.members);
     host = make_map(sizeof *host, 1, &maps.host);
+    if (host) host->open_until = UINT64_MAX;
     program = rows && host ? load_sender(&maps) : -1;
     count = read_frames();
     if (program < 0 || count == 0 || !make_own_system()) return 3;

@@ -17,6 +17,7 @@ from rows import rows
 from checking import Skipped, check, within
 from fetching import Packages
 from openvswitch import OpenVSwitch
+from tap_parts import administered, fast_moved, fast_outage, fast_queues, fast_start, gone
 from spaces import OURS, THEIRS, inside, ip, packet_socket
 
 # Frames a second of an overload.
@@ -264,12 +265,6 @@ def try_frames(ours: End, theirs: End) -> None:
     check(within(3, lambda: mtu() == "1400"), f"the MTU of {DEVICE} is the least of its members", mtu())
     ip(OURS, "link", "set", "a1", "mtu", "1500")
     check(within(3, lambda: mtu() == "1500"), "and follows it", mtu())
-    before = ours.carry()["unfit"]
-    ip(OURS, "link", "set", DEVICE, "mtu", "3000")
-    long = packet_socket(OURS, DEVICE, 0x88B5)
-    long.send(plain + bytes(2000))
-    long.close()
-    check(within(3, lambda: ours.carry()["unfit"] == before + 1), "one of the host of 2014 octets is refused", ours.text())
     before = ours.data("wrong_length")
     ip(OURS, "link", "set", "a0", "mtu", "3000")
     ip(THEIRS, "link", "set", "b0", "mtu", "3000")
@@ -307,5 +302,5 @@ def rights(programs: Programs) -> None:
 PARTS: dict[str, Callable[[Programs], None]] = {it.__name__: it for it in
     (rows, moves, cuts, silence, switches, away, restarts, stops, overload, hashes, mute, frames, rights, open_vswitch, offload,
      kernel_hashes, model, fast, fast_hash, fast_troubles, fast_overload, fast_refused, fast_away,
-     fast_ends)}
+     fast_ends, fast_outage, fast_start, fast_moved, fast_queues, gone, administered)}
 PARTS.update(FORGED)

@@ -1,0 +1,210 @@
+"""What is tried of the TAP device: its host sends while it has no carrier, and an administrator deletes it, moves it, renames it, or sets it
+up in another way."""
+
+from __future__ import annotations
+
+import contextlib
+import shutil
+import signal
+import subprocess
+import time
+from typing import Iterator
+
+from bonds import (COMES_BACK, COMES_UP, DEVICE, FLOWS, MIDDLE, RATE, End, Event, Programs, cables, check_end, check_order, every, move_all, pair, run_flows)
+from checking import Failed, Skipped, check, command, within
+from fast_parts import check_fast, fast_pair
+from spaces import OURS, THEIRS, inside, ip, packet_socket
+from streams import run_stream
+
+# More frames than the daemon may be left with.
+MANY = 6000
+# Of a daemon that ends: how long it takes at most, and how long its peer does to know it.
+ENDS, KNOWN = 4, 2.5
+# After how many seconds nothing is passed on any more for a daemon that is stopped.
+STOPPED = 3.2
+# How long the daemon takes to follow what an administrator sets.
+FOLLOWS = 3
+
+
+def send_many(programs: Programs, rate: int = 5000) -> None:
+    """Has the host send more frames than wait."""
+    inside(OURS, programs.flows, "send", DEVICE, str(rate), str(FLOWS), str(MANY / rate), "macs", timeout=30)
+
+
+def set_links(*state: str) -> None:
+    for name in ("a0", "a1"):
+        ip(OURS, "link", "set", name, *state)
+
+
+def check_alive(programs: Programs, ours: End, what: str) -> None:
+    """Data comes, and the kernel passes it on."""
+    check(within(COMES_BACK, lambda: ours.links() == 2), f"{what}: both links carry", ours.text(), ours.printed())
+    run_flows(programs, 1)
+    outcome = run_flows(programs, 3)
+    share = outcome.received / max(1, outcome.sent)
+    check(share > 0.95, f"{what}: {outcome.received:,} of {outcome.sent:,} frames come", outcome, ours.text())
+    check_order(outcome, what, ours.text())
+    check_fast(ours, FLOWS // 2)
+
+
+def fast_outage(programs: Programs) -> None:
+    """The host sends while nothing carries: later frames come all the same, and go by the kernel."""
+    with fast_pair(programs, delays=()) as (_, ours, theirs):
+        set_links("down")
+        check(within(COMES_BACK, lambda: not ours.carry()["carrier"]), "with both links down there is no carrier", ours.text())
+        send_many(programs)
+        set_links("up")
+        check_alive(programs, ours, f"{MANY:,} frames were sent with both links down")
+        events: list[Event] = [(1, lambda: set_links("down")), (3, lambda: set_links("up"))]
+        run_flows(programs, 9, events)
+        check_fast(ours, FLOWS // 2)
+        check_end(ours, "the sending end")
+        restart = [(0.5, theirs.stop), (4.0, lambda: theirs.__init__(programs, THEIRS, options=["--fast"]))]  # type: ignore[misc]
+        run_flows(programs, 5, restart)
+        check_alive(programs, ours, "the peer was killed, and started again, under a load")
+
+
+def fast_start(programs: Programs) -> None:
+    """The host sends before the daemon is there."""
+    with cables(programs, ()):
+        ip(OURS, "tuntap", "add", DEVICE, "mode", "tap", "vnet_hdr")
+        ip(OURS, "link", "set", DEVICE, "up")
+        words = ["ip", "netns", "exec", OURS, programs.flows, "send", DEVICE, str(RATE), str(FLOWS), "10", "macs"]
+        sender = subprocess.Popen(words, stdout=subprocess.DEVNULL)
+        ends: list[End] = []
+        try:
+            ends += [End(programs, space, options=["--fast"]) for space in (OURS, THEIRS)]
+            if not within(COMES_UP, lambda: ends[0].links() == ends[1].links() == 2):
+                raise Failed("two links carry", ends[0].text())
+            sender.wait(30)
+            check_alive(programs, ends[0], "the daemon was started while its host sent")
+        finally:
+            sender.kill()
+            sender.wait()
+            for end in ends:
+                end.stop()
+
+
+@contextlib.contextmanager
+def foreign(space: str) -> Iterator[list[str]]:
+    """Two interfaces of another namespace, whose numbers are those of the members."""
+    names = []
+    for name in ("a0", "a1"):
+        number = inside(OURS, "cat", f"/sys/class/net/{name}/ifindex").stdout.strip()
+        names.append(f"c{name[1]}")
+        ip(space, "link", "add", names[-1], "index", number, "type", "veth", "peer", "name", f"d{name[1]}", "index", f"9{number}")
+        for end in names[-1], f"d{name[1]}":
+            ip(space, "link", "set", end, "up")
+    yield names
+
+
+def check_ends(ours: End, theirs: End, what: str) -> None:
+    """The daemon tells its peer, and ends so that it is started again."""
+    begin = time.monotonic()
+    told = within(KNOWN, lambda: not theirs.carry()["carrier"])
+    check(told, f"{what}: {time.monotonic() - begin:.1f} s later the peer sends nothing more", theirs.text())
+    with contextlib.suppress(subprocess.TimeoutExpired):
+        ours.process.wait(ENDS)
+    check(ours.process.returncode == 1, f"{what}: the daemon ends with status 1", ours.process.returncode, ours.printed()[-2000:])
+    check("the device was deleted, or moved" in ours.printed(), f"{what}: a line tells of it", ours.printed())
+
+
+def gone(programs: Programs) -> None:
+    """The TAP device is deleted, or moved to another namespace."""
+    for options in [], ["--fast"]:
+        name = options[0] if options else "plain"
+        with pair(programs, delays=(), options=options) as (_, ours, theirs):
+            run_flows(programs, 2, [(0.7, lambda: ip(OURS, "link", "del", DEVICE))])
+            check_ends(ours, theirs, f"{name}, {DEVICE} was deleted")
+        with pair(programs, delays=(), options=options) as (_, ours, theirs):
+            run_flows(programs, 1)
+            ip(OURS, "link", "set", DEVICE, "netns", MIDDLE)
+            check_ends(ours, theirs, f"{name}, {DEVICE} was moved")
+
+
+def fast_moved(programs: Programs) -> None:
+    """What is sent to a TAP device in another namespace leaves by none of its interfaces; while the daemon is stopped, after three seconds."""
+    for stopped in False, True:
+        with fast_pair(programs, delays=()) as (_, ours, theirs), foreign(MIDDLE) as names:
+            run_flows(programs, 2)
+            check_fast(ours)
+            if stopped:
+                ours.process.send_signal(signal.SIGSTOP)
+                time.sleep(STOPPED)
+            ip(OURS, "link", "set", DEVICE, "netns", MIDDLE)
+            ip(MIDDLE, "link", "set", DEVICE, "up")
+            inside(MIDDLE, programs.flows, "send", DEVICE, str(RATE), str(FLOWS), "1", "macs", timeout=30)
+            left = [int(inside(MIDDLE, "cat", f"/sys/class/net/{name}/statistics/tx_packets").stdout) for name in names]
+            check(max(left) < 100, f"with the daemon {'stopped' if stopped else 'there'}, {left} frames left by interfaces of another namespace")
+            ours.process.send_signal(signal.SIGCONT)
+
+
+def set_queue(device: str, *words: str) -> None:
+    if inside(OURS, "tc", "qdisc", "replace", "dev", device, "root", *words).returncode:
+        raise Skipped(f"tc sets no {words[0]}")
+
+
+def fast_queues(programs: Programs) -> None:
+    """The queueing disciplines of the TAP device and of a member change while data goes by the kernel."""
+    with fast_pair(programs, delays=()) as (_, ours, theirs):
+        kind = inside(OURS, "tc", "qdisc", "show", "dev", DEVICE).stdout
+        check("noqueue" in kind, f"{DEVICE} has no queueing discipline", kind)
+        run_flows(programs, 2)
+        check_fast(ours)
+        set_queue(DEVICE, "tbf", "rate", "500kbit", "burst", "3000", "limit", "1000000")
+        line = "its queueing discipline is tbf: its data stays with the daemon"
+        check(within(FOLLOWS, lambda: line in ours.printed()), "one that holds frames has a line", ours.printed())
+        outcome = run_flows(programs, 6, every(1, 5, move_all(ours)), rate=640)
+        check_order(outcome, "through a discipline that holds frames", ours.text())
+        check(ours.carry()["fast_conversations"] == 0, "the kernel passes nothing on then", ours.text())
+        set_queue(DEVICE, "pfifo")
+        check(within(FOLLOWS, lambda: "its data may go by the kernel" in ours.printed()), "one that holds none has a line", ours.printed())
+        time.sleep(1)
+        check_alive(programs, ours, "with pfifo")
+        set_queue("a1", "pfifo_fast")
+        line = "a1: its data stays with the daemon: its queueing discipline is neither noqueue nor pfifo"
+        check(within(FOLLOWS, lambda: line in ours.printed()), "a member that gets pfifo_fast is left to the daemon", ours.printed())
+        before = [port["data"]["passed_on"] for port in ours.told()["ports"]]
+        check_order(run_flows(programs, 3, [(1, move_all(ours))]), "by the kernel on one link, by the daemon on the other", ours.text())
+        passed = [port["data"]["passed_on"] - count for port, count in zip(ours.told()["ports"], before)]
+        check(passed[0] > 0 and passed[1] == 0, f"the kernel passed on {passed}", ours.text())
+        before_last = ours.printed().count("a1: its data stays")
+        inside(OURS, "tc", "qdisc", "del", "dev", "a1", "root")
+        time.sleep(1)
+        run_flows(programs, 3, [(0.5, move_all(ours)), (1.5, move_all(ours))])
+        passed_on = ours.told()["ports"][1]["data"]["passed_on"] - before[1]
+        check(passed_on > 0 and ours.printed().count("a1: its data stays") == before_last, f"with its usual one it passes on {passed_on:,} frames",
+              ours.text(), ours.printed())
+
+
+def mtu_of(device: str) -> str:
+    return inside(OURS, "cat", f"/sys/class/net/{device}/mtu").stdout.strip()
+
+
+def administered(programs: Programs) -> None:
+    """An administrator sets the MTU of the TAP device, takes its carrier away, and renames it; and a member with a low MTU goes."""
+    with pair(programs, delays=(), options=["--fast"]) as (_, ours, theirs):
+        ip(OURS, "link", "set", DEVICE, "mtu", "9000")
+        check(within(FOLLOWS, lambda: mtu_of(DEVICE) == "1500"), "an MTU that no member takes is set back", mtu_of(DEVICE))
+        check(within(1, lambda: "its members take no MTU of 9000" in ours.printed()), "a line tells of it", ours.printed())
+        if shutil.which("iperf3"):
+            stream = run_stream(1)
+            check(stream.bits > 1e6, f"a stream of {stream.bits / 1e9:.1f} Gb/s goes", ours.text())
+        for wanted, by in ("1300", DEVICE), ("1280", "a1"):
+            ip(OURS, "link", "set", by, "mtu", wanted)
+            check(within(FOLLOWS, lambda: mtu_of(DEVICE) == wanted), f"with {wanted} of {by} it has that", mtu_of(DEVICE))
+        ip(OURS, "link", "del", "a1")
+        check(within(FOLLOWS, lambda: mtu_of(DEVICE) == "1300"), "with the smallest member gone it has what was set", mtu_of(DEVICE))
+        ip(OURS, "link", "set", DEVICE, "mtu", "1500")
+        ip(OURS, "link", "set", "a0", "mtu", "1400")
+        check(within(FOLLOWS, lambda: mtu_of(DEVICE) == "1400"), "the MTU follows again", mtu_of(DEVICE))
+        ip(OURS, "link", "set", DEVICE, "carrier", "off")
+        check(within(FOLLOWS, lambda: not ours.carry()["carrier"]), "without its carrier, the status says so", ours.text())
+        check(within(FOLLOWS, lambda: "it has no carrier, though links carry" in ours.printed()), "and a line", ours.printed())
+        ip(OURS, "link", "set", DEVICE, "carrier", "on")
+        check(within(FOLLOWS, lambda: ours.carry()["carrier"]), "with its carrier, too", ours.text())
+        ip(OURS, "link", "set", DEVICE, "name", "other0")
+        ip(OURS, "link", "set", "a0", "mtu", "1500")
+        check(within(FOLLOWS, lambda: mtu_of("other0") == "1500"), "with another name it follows its members", mtu_of("other0"))
+        ip(OURS, "link", "set", "other0", "name", DEVICE)
+
