@@ -333,6 +333,7 @@ void open_carry(void) {
     load_guard();
     if (atexit(put_back_members) != 0) stop(REFUSED, "no memory", "for what members had");
     tap = open_tap(settings.carry, settings.config.mac);
+    gather(tap_index());
     if (settings.fast) start_fast();
     if (!await_input(tap, HOST)) stop(REFUSED, "epoll", strerror(errno));
 }

@@ -217,6 +217,7 @@ struct guard {
     struct kept before; /* what the interface had */
 };
 void load_guard(void);
+void gather(int index);
 void open_guard(const struct link *link, struct guard *guard);
 void close_guard(const struct link *link, struct guard *guard);
 

@@ -31,6 +31,8 @@ struct interface {
     uint32_t losses;
     uint32_t mtu; /* 0: not told */
     bool carrier;
+    int below;     /* the interface by which it sends, or 0 */
+    char kind[16]; /* of those that are made by the kernel; else empty */
     char discipline[16]; /* of its queues */
 };
 
@@ -68,6 +70,18 @@ static void ask(void) {
     interrupted = false;
 }
 
+/* Takes the kind of an interface out of what the kernel tells of those that it makes. */
+static void take_kind(struct interface *interface, const uint8_t *told, size_t length) {
+    struct rtattr head;
+    for (size_t at = 0; at + sizeof head <= length; at += RTA_ALIGN((size_t)head.rta_len)) {
+        memcpy(&head, told + at, sizeof head);
+        if (head.rta_len < sizeof head || head.rta_len > length - at) return;
+        if ((head.rta_type & (unsigned)NLA_TYPE_MASK) != IFLA_INFO_KIND || head.rta_len - sizeof head > sizeof interface->kind) continue;
+        memcpy(interface->kind, told + at + sizeof head, head.rta_len - sizeof head);
+        interface->kind[sizeof interface->kind - 1] = 0;
+    }
+}
+
 /* Takes one attribute of an interface. */
 static void take_attribute(struct interface *interface, unsigned type, const uint8_t *value, size_t length) {
     if (type == IFLA_IFNAME && length <= sizeof interface->name) memcpy(interface->name, value, length);
@@ -82,10 +96,20 @@ static void take_attribute(struct interface *interface, unsigned type, const uin
     if (type == IFLA_QDISC && length <= sizeof interface->discipline) memcpy(interface->discipline, value, length);
     if (type == IFLA_MTU && length == sizeof interface->mtu) memcpy(&interface->mtu, value, length);
     if (type == IFLA_CARRIER && length == 1) interface->carrier = *value != 0;
+    if (type == IFLA_LINK && length == sizeof interface->below) memcpy(&interface->below, value, length);
+    if (type == IFLA_LINKINFO) take_kind(interface, value, length);
     if (type == IFLA_PROP_LIST) {
         interface->others = value;
         interface->others_length = length;
     }
+}
+
+/* Whether what an interface sends goes by another one of this machine. The other end of a veth pair receives it. */
+static bool is_stacked(const struct interface *interface) {
+    static const char *const kinds[] = {"bond", "team", "bridge"};
+    for (size_t i = 0; i < sizeof kinds / sizeof *kinds; i++)
+        if (strcmp(interface->kind, kinds[i]) == 0) return true;
+    return interface->below != 0 && interface->below != interface->index && strcmp(interface->kind, "veth") != 0;
 }
 
 /* Whether an interface has a name, as its own or as one of its other names. */
@@ -137,6 +161,7 @@ static bool take_up(struct link *link, const struct interface *interface) {
     }
     memcpy(link->discipline, interface->discipline, sizeof link->discipline);
     if (interface->has_mac) memcpy(link->mac, interface->mac, sizeof link->mac);
+    link->stacked = is_stacked(interface);
     if (!open_link(link, interface->index)) {
         if (!has_started) refuse_link(link);
         ask_again = true;

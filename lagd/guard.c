@@ -1,6 +1,7 @@
 /* What an interface does not do while it is a member of a bundle that carries data: put frames together, have them in several queues,
  * and hand them to its own network stack. */
 #define _GNU_SOURCE
+#include <dirent.h>
 #include <errno.h>
 #include <linux/ethtool.h>
 #include <linux/sockios.h>
@@ -61,11 +62,38 @@ static void set_lro(int index, bool on) {
     (void)ask_driver(index, &value);
 }
 
+/* A file of an interface in /sys; answers whether it is of this interface. */
+static bool path_of(int index, const char *what, char *path, size_t room) {
+    char name[IF_NAMESIZE], number[16] = "";
+    FILE *file;
+    if (!if_indextoname((unsigned)index, name)) return false;
+    snprintf(path, room, "/sys/class/net/%s/ifindex", name);
+    file = fopen(path, "re");
+    if (!file) return false;
+    if (!fgets(number, sizeof number, file)) number[0] = 0;
+    fclose(file);
+    snprintf(path, room, "/sys/class/net/%s/queues/%s", name, what);
+    return atoi(number) == index;
+}
+
+/* How many queues the kernel has for one direction of an interface whose driver does not tell. */
+static unsigned count_queues(int index) {
+    char path[128];
+    unsigned sends = 0, receives = 1;
+    DIR *folder = path_of(index, "", path, sizeof path) ? opendir(path) : NULL;
+    for (const struct dirent *entry; folder && (entry = readdir(folder));) {
+        sends += strncmp(entry->d_name, "tx-", 3) == 0;
+        receives += strncmp(entry->d_name, "rx-", 3) == 0 && strcmp(entry->d_name, "rx-0") != 0;
+    }
+    if (folder) closedir(folder);
+    return sends > receives ? sends : receives;
+}
+
 /* How many queues an interface has for one direction, as `channels` tells in full: in several of them a marker may overtake data. */
 static unsigned queues_of(int index, struct ethtool_channels *channels) {
     uint32_t more;
     *channels = (struct ethtool_channels){.cmd = ETHTOOL_GCHANNELS};
-    if (!ask_driver(index, channels)) return 1;
+    if (!ask_driver(index, channels)) return count_queues(index);
     more = channels->rx_count > channels->tx_count ? channels->rx_count : channels->tx_count;
     return channels->combined_count + more;
 }
@@ -80,18 +108,9 @@ static void join_queues(int index) {
     (void)ask_driver(index, &wanted);
 }
 
-/* A file in which the kernel has which processors take what an interface receives (RPS); answers whether it is of this interface. */
-static bool path_of_processors(const struct link *link, char *path, size_t room) {
-    char name[IF_NAMESIZE], index[16] = "";
-    FILE *file;
-    if (!if_indextoname((unsigned)link->index, name)) return false;
-    snprintf(path, room, "/sys/class/net/%s/ifindex", name);
-    file = fopen(path, "re");
-    if (!file) return false;
-    if (!fgets(index, sizeof index, file)) index[0] = 0;
-    fclose(file);
-    snprintf(path, room, "/sys/class/net/%s/queues/rx-0/rps_cpus", name);
-    return atoi(index) == link->index;
+/* The file in which the kernel has which processors take what an interface receives (RPS). */
+static bool path_of_processors(int index, char *path, size_t room) {
+    return path_of(index, "rx-0/rps_cpus", path, room);
 }
 
 /* Reads the processors of RPS: a mask, in hexadecimal. One that is too long is none. */
@@ -122,10 +141,18 @@ static bool steer(const struct link *link) {
     char path[128], mask[16], now[PROCESSORS_ROOM];
     long processors = sysconf(_SC_NPROCESSORS_ONLN);
     if (processors > MOST_PROCESSORS) processors = MOST_PROCESSORS;
-    if (!path_of_processors(link, path, sizeof path) || !read_processors(path, now, sizeof now)) return false;
+    if (!path_of_processors(link->index, path, sizeof path) || !read_processors(path, now, sizeof now)) return false;
     if (is_one(now)) return true;
     snprintf(mask, sizeof mask, "%x", 1u << ((link->settings.number - 1) % (processors > 0 ? processors : 1)));
     return write_processors(path, mask);
+}
+
+/* What goes up is not spread over processors at the TAP device: a marker would be answered before the data that came before it went up. */
+void gather(int index) {
+    char path[128], now[PROCESSORS_ROOM];
+    if (!path_of_processors(index, path, sizeof path) || !read_processors(path, now, sizeof now)) return;
+    if (is_one(now) || strspn(now, "0,") == strlen(now) || write_processors(path, "0")) return;
+    (void)say(LOG_WARNING | ABOUT_DATA, "carry %s: RPS spreads what goes up over processors, and markers may be answered before data", settings.carry);
 }
 
 /* What an interface has that is changed while it is a member. */
@@ -133,7 +160,7 @@ static void look_before(const struct link *link, struct kept *before) {
     char path[128];
     *before = (struct kept){.gro = has_gro(link->index), .lro = has_lro(link->index)};
     if (queues_of(link->index, &before->queues) <= 1) before->queues = (struct ethtool_channels){0};
-    if (!is_fast() || !path_of_processors(link, path, sizeof path) || !read_processors(path, before->steered, sizeof before->steered)
+    if (!is_fast() || !path_of_processors(link->index, path, sizeof path) || !read_processors(path, before->steered, sizeof before->steered)
         || is_one(before->steered))
         before->steered[0] = 0;
 }
@@ -141,6 +168,7 @@ static void look_before(const struct link *link, struct kept *before) {
 /* Why the kernel may not pass on what goes and comes at an interface, or NULL: a marker would overtake the data before it. */
 static const char *fault_of_fast(const struct link *link) {
     struct ethtool_channels queues;
+    if (link->stacked) return "it stands on another interface, whose queues are not seen";
     if (queues_of(link->index, &queues) > 1) return "it has several queues";
     if (strcmp(link->discipline, "noqueue") != 0 && strcmp(link->discipline, "pfifo") != 0)
         return "its queueing discipline is neither noqueue nor pfifo";
@@ -174,6 +202,9 @@ void open_guard(const struct link *link, struct guard *guard) {
     if (guard->opened < 0) (void)say(LOG_WARNING | ABOUT_DATA, "port %u %s: its own network stack has its frames, too", port, link->name);
     if (has_gro(link->index) || has_lro(link->index))
         (void)say(LOG_WARNING | ABOUT_DATA, "port %u %s: GRO or LRO stays on, and markers may overtake data", port, link->name);
+    if (link->stacked && !is_fast())
+        (void)say(LOG_WARNING | ABOUT_DATA, "port %u %s: it stands on another interface, whose queues are not seen: markers may overtake data",
+            port, link->name);
     if (queues_of(link->index, &queues) > 1)
         (void)say(LOG_WARNING | ABOUT_DATA, "port %u %s: it has several queues, and markers may overtake data", port, link->name);
 }
@@ -189,6 +220,6 @@ void close_guard(const struct link *link, struct guard *guard) {
     if (before->lro) set_lro(link->index, true);
     before->queues.cmd = ETHTOOL_SCHANNELS;
     if (before->queues.combined_count + before->queues.rx_count + before->queues.tx_count > 0) (void)ask_driver(link->index, &before->queues);
-    if (before->steered[0] && path_of_processors(link, path, sizeof path)) (void)write_processors(path, before->steered);
+    if (before->steered[0] && path_of_processors(link->index, path, sizeof path)) (void)write_processors(path, before->steered);
     forget_settings(link);
 }

@@ -109,6 +109,7 @@ struct link {
     int carrier;       /* the file of its carrier, or -1 */
     char carriers[24]; /* how often that came and went, as the kernel has it */
     char discipline[16]; /* its queueing discipline, as the kernel last told */
+    bool stacked;        /* whether what it sends goes by another interface of this machine */
     uint8_t mac[6];
     bool present; /* whether the answer of the kernel that is being read named it */
     bool up;

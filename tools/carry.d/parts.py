@@ -17,7 +17,7 @@ from rows import rows
 from checking import Skipped, check, within
 from fetching import Packages
 from openvswitch import OpenVSwitch
-from tap_parts import administered, fast_moved, fast_outage, fast_queues, fast_start, gone
+from tap_parts import administered, fast_moved, fast_outage, fast_queues, fast_start, gone, queues, segments
 from spaces import OURS, THEIRS, inside, ip, packet_socket
 
 # Frames a second of an overload.
@@ -302,5 +302,6 @@ def rights(programs: Programs) -> None:
 PARTS: dict[str, Callable[[Programs], None]] = {it.__name__: it for it in
     (rows, moves, cuts, silence, switches, away, restarts, stops, overload, hashes, mute, frames, rights, open_vswitch, offload,
      kernel_hashes, model, fast, fast_hash, fast_troubles, fast_overload, fast_refused, fast_away,
-     fast_ends, fast_outage, fast_start, fast_moved, fast_queues, gone, administered)}
+     fast_ends, fast_outage, fast_start, fast_moved, fast_queues, gone, administered, queues,
+     segments)}
 PARTS.update(FORGED)

@@ -6,6 +6,7 @@ from __future__ import annotations
 import contextlib
 import shutil
 import signal
+import struct
 import subprocess
 import time
 from typing import Iterator
@@ -111,7 +112,8 @@ def check_ends(ours: End, theirs: End, what: str) -> None:
 
 def gone(programs: Programs) -> None:
     """The TAP device is deleted, or moved to another namespace."""
-    for options in [], ["--fast"]:
+    ways: tuple[list[str], ...] = ([], ["--fast"])
+    for options in ways:
         name = options[0] if options else "plain"
         with pair(programs, delays=(), options=options) as (_, ours, theirs):
             run_flows(programs, 2, [(0.7, lambda: ip(OURS, "link", "del", DEVICE))])
@@ -208,3 +210,42 @@ def administered(programs: Programs) -> None:
         check(within(FOLLOWS, lambda: mtu_of("other0") == "1500"), "with another name it follows its members", mtu_of("other0"))
         ip(OURS, "link", "set", "other0", "name", DEVICE)
 
+
+def queues(programs: Programs) -> None:
+    """Members with several queues of which no driver tells, and that stand on another interface; and RPS of the TAP device."""
+    lines = {"": ("q0: it has several queues, and markers may overtake data", "m0: it stands on another interface, whose queues are not seen"),
+             "--fast": ("q0: its data stays with the daemon: it has several queues", "m0: its data stays with the daemon: it stands on another")}
+    with cables(programs, ()):
+        for words in ("q0", "numtxqueues", "4", "numrxqueues", "4", "type", "ifb"), ("link", "a1", "name", "m0", "type", "macvlan"):
+            if inside(OURS, "ip", "link", "add", *words).returncode:
+                raise Skipped(f"there is no {words[-1]}")
+        for name in "q0", "m0":
+            ip(OURS, "link", "set", name, "up")
+        inside(OURS, "sysctl", "-qw", "net.core.rps_default_mask=3")
+        for option, wanted in lines.items():
+            end = End(programs, OURS, names=("q0", "m0"), options=[option] if option else [])
+            try:
+                check(within(FOLLOWS, lambda: all(line in end.printed() for line in wanted)), f"{option or 'plain'}: each has a line", end.printed())
+                mask = inside(OURS, "cat", f"/sys/class/net/{DEVICE}/queues/rx-0/rps_cpus").stdout.strip()
+                check(set(mask) <= set("0,"), f"{option or 'plain'}: RPS spreads nothing at {DEVICE}", mask)
+            finally:
+                end.stop()
+
+
+def segments(programs: Programs) -> None:
+    """Frames whose segments have, with their headers, as many octets as a frame may have, and one more."""
+    frame = bytes.fromhex("02bb00000001" "02aa00000000" "0800" "45000fc8" "00000000" "40060000" "0a630001" "0a630002" "1f901f90")
+    frame += bytes(8) + b"\x50\x10\xff\xff" + bytes(4) + bytes(4000)
+    for option in "--offload", "--fast":
+        with pair(programs, delays=(), options=[option]) as (_, ours, theirs):
+            sent = packet_socket(OURS, DEVICE, 0)
+            sent.setsockopt(263, 15, 1)  # SOL_PACKET, PACKET_VNET_HDR
+            for octets, unfit in (1460, 0), (1461, 3):
+                before = ours.carry()["from_host"]
+                for _ in range(3):
+                    sent.send(struct.pack("=BBHHHH", 1, 1, 54, octets, 34, 16) + frame)
+                    time.sleep(0.3)
+                told = ours.carry()
+                holds = told["from_host"] == before + 3 and told["unfit"] == unfit
+                check(holds, f"{option}: of three frames with segments of {octets + 54} octets {told['unfit']} are unfit", ours.text())
+            sent.close()
