@@ -52,6 +52,7 @@ class Programs:
     cables: str
     conversations: str  # a program that prints the conversations of frames
     kernel_hash: str    # one that compares them with those that a program of the kernel finds
+    kernel_short: str   # the same, where that program has too many steps
 
 
 def build_programs(folder: str, libraries: list[str], words: Sequence[str] = ()) -> Programs:
@@ -62,8 +63,9 @@ def build_programs(folder: str, libraries: list[str], words: Sequence[str] = ())
     sources = [f"{here}/conversations.c", f"{DAEMON}/hash.c"]
     hashing = build(f"{folder}/conversations", sources, libraries, *STRICT, "-fsanitize=address,undefined", f"-I{DAEMON}")
     sources = [f"{here}/kernel_hash.c", *(f"{DAEMON}/{name}.c" for name in ("hash", "bpf", "fast_programs", "settings"))]
-    kernel = build(f"{folder}/kernel_hash", sources, libraries, *STRICT, "-fsanitize=address,undefined", f"-I{DAEMON}")
-    return Programs(folder, build_daemon(folder, libraries, words=words), forcing, conversations=hashing, kernel_hash=kernel, **own)
+    kernel, short = (build(f"{folder}/kernel_{name}", sources, libraries, *STRICT, "-fsanitize=address,undefined", f"-I{DAEMON}", *more)
+                     for name, more in (("hash", ()), ("short", ("-DMOST_STEPS=100",))))
+    return Programs(folder, build_daemon(folder, libraries, words=words), forcing, conversations=hashing, kernel_hash=kernel, kernel_short=short, **own)
 
 
 class Carry(TypedDict):

@@ -51,7 +51,9 @@ def kernel_hashes(programs: Programs) -> None:
         told = command(programs.kernel_hash, name, str(HASHED), input=text)
         if told.returncode == 3:
             raise Skipped("the kernel takes no program")
-        check(told.returncode == 0, f"{name}: {told.stdout.strip()}, of rows and of changed ones", told.stdout, told.stderr)
+        check(told.returncode == 0, f"{name}: {told.stdout.strip()}, of rows and of changed ones", told.returncode, told.stdout, told.stderr)
+    told = command(programs.kernel_short, "layer3+4", "1", input=text)
+    check(told.returncode == 5, "a program with more steps than there is room for is not loaded", told.returncode, told.stderr)
 
 
 def offload(programs: Programs) -> None:

@@ -3,7 +3,9 @@
  *     kernel_hash HASH COUNT
  *
  * Reads frames in hexadecimal, one a line, and has the kernel run the program of the TAP device for each of them, whole, cut, and with
- * octets changed, COUNT times in all. Prints for how many it did, and each frame that was counted for another conversation. */
+ * octets changed, COUNT times in all. Prints for how many it did, and each frame that was counted for another conversation. The status is 3
+ * where the kernel takes no program, 4 where it tells no reason for one that it does not take, and 5 where the program of the TAP device
+ * has more steps than there is room for. */
 #define _GNU_SOURCE
 #include <errno.h>
 #include <linux/bpf.h>
@@ -48,6 +50,12 @@ static int counted_row(void) {
     return found;
 }
 
+/* Whether the kernel tells why it does not take a program, here one that ends without an answer. */
+static bool tells_why(void) {
+    const struct bpf_insn wrong = {.code = BPF_JMP | BPF_EXIT};
+    return load_program(&wrong, 1) < 0 && strstr(program_fault(), "R0") != NULL;
+}
+
 static unsigned read_frames(void) {
     static char line[4 * ROOM];
     unsigned count = 0;
@@ -89,6 +97,8 @@ int main(int argc, char **argv) {
     host = make_map(sizeof *host, 1, &maps.host);
     if (host) host->open_until = UINT64_MAX;
     program = rows && host ? load_sender(&maps) : -1;
+    if (rows && host && program < 0 && errno == E2BIG) return 5;
+    if (program >= 0 && !tells_why()) return 4;
     count = read_frames();
     if (program < 0 || count == 0 || !make_own_system()) return 3;
     srandom(1);
