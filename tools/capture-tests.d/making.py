@@ -82,14 +82,26 @@ def block(order: str, kind: int, body: bytes) -> bytes:
     return struct.pack(order + "II", kind, len(body) + 12) + body + struct.pack(order + "I", len(body) + 12)
 
 
+def records(order: str) -> list[bytes]:
+    """Blocks that hold no packet, and that Wireshark numbers: custom blocks, an entry of the journal, events of sysdig."""
+    event = struct.pack(order + "HQQIH", 1, 1_700_000_000 * 10**9, 5, 40, 3) + struct.pack(order + "I", 1) + bytes(40)
+    told = [(kind, struct.pack(order + "I", 12345) + b"told") for kind in (0xBAD, 0x40000BAD)]
+    told.append((9, b"__REALTIME_TIMESTAMP=1700000000000000\nA=b\n"))
+    told += [(kind, event) for kind in (0x204, 0x216, 0x221)]
+    return [block(order, kind, body) for kind, body in told]
+
+
 def pcapng(packets: list[Packet], order: str = "<", link: int = ETHERNET) -> bytes:
-    """A file of pcapng with one interface, times in nanoseconds, and a block of an unknown type behind each packet."""
+    """A file of pcapng with one interface, times in nanoseconds, behind each packet a block of an unknown type, and behind the first
+    the `records`."""
     out = [block(order, 0x0A0D0D0A, struct.pack(order + "IHHq", 0x1A2B3C4D, 1, 0, -1))]
     out.append(block(order, 1, struct.pack(order + "HHI", link, 0, 0) + struct.pack(order + "HHB3xHH", 9, 1, 9, 0, 0)))
     for time, octets in packets:
         head = struct.pack(order + "IIIII", 0, time >> 32, time & 0xFFFFFFFF, len(octets), len(octets))
         out.append(block(order, 6, head + octets))
         out.append(block(order, 0x00C0FFEE, b"no reader knows it"))
+        if len(out) == 4:
+            out += records(order)
     return b"".join(out)
 
 

@@ -5,7 +5,7 @@ use Rattle.captures.specs.declared.number.Order.{Order}
 use Rattle.captures.specs.Descriptions.{entry_at, timing_of, timing_from}
 use Rattle.captures.specs.Reading.{◌>>=◌}
 
-one_entry : (order : Order) (b : List ℕ) (end n : ℕ) (t : Timing) (at : ℕ)
+pub one_entry : (order : Order) (b : List ℕ) (end n : ℕ) (t : Timing) (at : ℕ)
     → timing_from order b end (suc n) t at ≡ (entry_at order b end at >>= timing_of (timing_from order b end n) t)
 unfolding timing_from
 one_entry order b end n t at = refl
@@ -18,7 +18,7 @@ next_entry order b end counter t at below =
     let one : end - counter ≡ suc (end - (counter + 1)) = omega arith in
     ap (λ n. timing_from order b end n t at) one ∙ one_entry order b end (end - (counter + 1)) t at
 
-none_left : (order : Order) (b : List ℕ) (end : ℕ) (t : Timing) (at : ℕ) → timing_from order b end 0 t at ≡ Ok t
+pub none_left : (order : Order) (b : List ℕ) (end : ℕ) (t : Timing) (at : ℕ) → timing_from order b end 0 t at ≡ Ok t
 unfolding timing_from
 none_left order b end t at = refl
 

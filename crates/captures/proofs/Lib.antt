@@ -1,1 +1,4 @@
 pub mod EntryLemmas
+pub mod StaysLemmas
+pub mod StepLemmas
+pub mod WholeLemmas

@@ -1,5 +1,5 @@
 -- The blocks of pcapng by their types (draft-ietf-opsawg-pcapng).
-use Rattle.std.specs.Prelude.{◌==◌, ℕ, true, false, List, Result, Ok, if◌then◌else◌}
+use Rattle.std.specs.Prelude.{◌==◌, ◌||◌, ℕ, Bool, true, false, List, Result, Ok, if◌then◌else◌}
 use Rattle.captures.specs.declared.fault.Stop.{Stop}
 use Rattle.captures.specs.declared.interface.Interface.{Interface}
 use Rattle.captures.specs.declared.number.Order.{Order}
@@ -16,11 +16,21 @@ abbrev pub HoldsWithin : List ℕ → Block → Type 0
 HoldsWithin b (blocks.Section order) = Unit {0}
 HoldsWithin b (blocks.Interface interface) = Unit {0}
 HoldsWithin b (blocks.Packet packet) = IsWithin b packet
+HoldsWithin b blocks.Record = Unit {0}
 HoldsWithin b blocks.Other = Unit {0}
 
 -- what was read of a block, as what the block says
 abbrev pub as_block : {A : Type 0} → (A → Block) → Result (A × ℕ) Stop → Result (Block × ℕ) Stop
 as_block of read = read >>= λ x. Ok (of x.0, x.1)
+
+-- blocks that Wireshark gives numbers as it does packets: custom blocks, entries of the journal of systemd, events of sysdig
+abbrev pub is_record : ℕ → Bool
+is_record type =
+    (type == 9) || (type == 0xbad) || (type == 0x40000bad) || (type == 0x204) || (type == 0x216) || (type == 0x221)
+
+-- what a block of this type says that holds no packet
+abbrev pub without_packet : ℕ → Block
+without_packet type = if is_record type then blocks.Record else blocks.Other
 
 -- What a block says, and its length: 0x0a0d0d0a begins a section, 1 describes an interface, 2, 3 and 6 hold a packet; every
 -- other block is skipped.
@@ -31,7 +41,7 @@ block_of_type type order interfaces b =
     else if type == 2 then as_block blocks.Packet (stamped_packet order interfaces b true)
     else if type == 3 then as_block blocks.Packet (simple_packet order interfaces b)
     else if type == 6 then as_block blocks.Packet (stamped_packet order interfaces b false)
-    else (length_in order b 12 >>= λ length. Ok (blocks.Other, length))
+    else (length_in order b 12 >>= λ length. Ok (without_packet type, length))
 
 -- the block at the beginning
 abbrev pub block_in : Order → List Interface → List ℕ → Result (Block × ℕ) Stop

@@ -10,4 +10,5 @@ pub mod Descriptions
 pub mod Blocks
 pub mod Formats
 pub mod Steps
+pub mod Whole
 pub mod Writing

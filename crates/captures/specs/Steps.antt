@@ -1,5 +1,5 @@
 -- The steps in which a capture is read.
-use Rattle.std.specs.Prelude.{◌==◌, ◌-◌, ◌++◌, ℕ, List, [], ◌∷◌, length, nat_lt, Option, Some, None, Result, Ok, Err, if◌then◌else◌}
+use Rattle.std.specs.Prelude.{◌==◌, ◌-◌, ◌++◌, ℕ, true, false, List, [], ◌∷◌, length, nat_lt, Option, Some, None, Result, Ok, Err, if◌then◌else◌}
 use Rattle.captures.specs.declared.block.Block.{Block}
 use Rattle.captures.specs.declared.block.Block.TheVariants as blocks
 use Rattle.captures.specs.declared.fault.Cause.TheVariants as causes
@@ -29,7 +29,13 @@ Stepped = Result (Step × ReaderState) Stop
 
 -- so many octets are taken, and these formats and interfaces are known behind them
 abbrev pub taking : ℕ → Option Packet → Format → List Interface → Stepped
-taking n packet format interfaces = Ok (record { taken = n; packet = packet }, record { format = format; interfaces = interfaces })
+taking n packet format interfaces =
+    Ok (record { taken = n; packet = packet; is_record = false }, record { format = format; interfaces = interfaces })
+
+-- the same of a record that holds no packet
+abbrev pub taking_record : ℕ → Format → List Interface → Stepped
+taking_record n format interfaces =
+    Ok (record { taken = n; packet = None; is_record = true }, record { format = format; interfaces = interfaces })
 
 -- the head of a file
 abbrev pub head_step : ReaderState → List ℕ → Stepped
@@ -47,6 +53,7 @@ behind_block order interfaces size (blocks.Interface interface) =
     then taking (size - 4) None (formats.SecondLength order size) (interfaces ++ interface ∷ [])
     else Err (refused 0 causes.Interfaces)
 behind_block order interfaces length (blocks.Packet packet) = taking (length - 4) (Some packet) (formats.SecondLength order length) interfaces
+behind_block order interfaces length blocks.Record = taking_record (length - 4) (formats.SecondLength order length) interfaces
 behind_block order interfaces length blocks.Other = taking (length - 4) None (formats.SecondLength order length) interfaces
 
 -- a block of pcapng, up to its second length

@@ -1,5 +1,5 @@
 ghost use Rattle.std.specs.Prelude.{◌≡◌, ◌≤◌, IfOk, IfErr};
-ghost use Rattle.captures.specs.Blocks.{block_in, HoldsWithin};
+ghost use Rattle.captures.specs.Blocks.{block_in, HoldsWithin, is_record, without_packet};
 ghost use Rattle.captures.specs.Wanted.{WantsMore};
 
 use crate::description::interface_in;
@@ -18,8 +18,29 @@ pub(crate) enum Block {
     Interface(Interface),
     /// The block holds a packet.
     Packet(Packet),
+    /// The block holds no packet, and has a number like one.
+    Record,
     /// The block is skipped.
     Other,
+}
+
+/// Whether Wireshark gives blocks of this type numbers as it does packets: custom blocks, entries of the journal, and the
+/// three events of sysdig.
+fn is_record(kind: u32) -> bool
+    ensures { result ≡ is_record kind }
+{
+    matches!(kind, 9 | 0xbad | 0x4000_0bad | 0x204 | 0x216 | 0x221)
+}
+
+/// What a block without a packet says by its type.
+fn without_packet(kind: u32) -> Block
+    ensures { result ≡ without_packet kind }
+{
+    if is_record(kind) {
+        Block::Record
+    } else {
+        Block::Other
+    }
 }
 
 /// What the block at the beginning of the octets says, and its length.
@@ -57,6 +78,6 @@ pub(crate) fn block_in(
             let (packet, length) = stamped_packet(order, interfaces, octets, false)?;
             Ok((Block::Packet(packet), length))
         }
-        _ => Ok((Block::Other, length_in(order, octets, 12)?)),
+        kind => Ok((without_packet(kind), length_in(order, octets, 12)?)),
     }
 }

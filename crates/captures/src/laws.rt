@@ -1,11 +1,14 @@
-ghost use Rattle.std.specs.Prelude.{◌≡◌, ◌≤◌, ◌<◌, ◌+◌, ◌^◌, ◌++◌, ℕ, List, [], length, slice_range, Some, None};
+ghost use Rattle.std.specs.Prelude.{◌≡◌, ◌≤◌, ◌<◌, ◌+◌, ◌^◌, ◌++◌, ℕ, List, [], length, slice_range, Some, None, Ok, Err};
+ghost use Rattle.captures.specs.declared.fault.Fault.{Fault};
+ghost use Rattle.captures.specs.declared.fault.Stop.TheVariants.{Refused};
 ghost use Rattle.captures.specs.declared.format.Format.TheVariants as formats;
 ghost use Rattle.captures.specs.declared.interface.Interface.{Interface};
 ghost use Rattle.captures.specs.declared.link.LinkType.{LinkType};
 ghost use Rattle.captures.specs.declared.number.Order.{Order};
+ghost use Rattle.captures.specs.declared.reader.Step.{Step};
 ghost use Rattle.captures.specs.declared.time.Unit.{Unit};
 ghost use Rattle.captures.specs.Pcap.{most_captured};
-ghost use Rattle.captures.specs.Steps.{step, taking};
+ghost use Rattle.captures.specs.Steps.{ReaderState, step, taking};
 ghost use Rattle.captures.specs.Times.{nanoseconds};
 ghost use Rattle.captures.specs.Writing.{file_header, packet_octets};
 
@@ -32,4 +35,11 @@ pub fn what_is_written_is_read()
         (formats.Packet order unit link) interfaces }
     ensures octets { (order : Order) (seconds fraction original : ℕ) (octets rest : List ℕ)
         → slice_range (packet_octets order seconds fraction original octets ++ rest) 16 (16 + length octets) ≡ octets }
+{}
+
+/// What stands at the beginning of octets is the same, whatever follows them: a step, or why reading stops.
+pub fn a_step_stays()
+    ensures taken { (s : ReaderState) (b more : List ℕ) (x : Step × ReaderState) → step s b ≡ Ok x → step s (b ++ more) ≡ Ok x }
+    ensures refused { (s : ReaderState) (b more : List ℕ) (fault : Fault) → step s b ≡ Err (Refused fault)
+        → step s (b ++ more) ≡ Err (Refused fault) }
 {}

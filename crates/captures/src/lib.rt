@@ -21,7 +21,7 @@ mod writing;
 pub use fault::{Cause, Fault, Stop};
 pub use format::Format;
 pub use interface::{Interface, MOST_INTERFACES, Timing};
-pub use laws::what_is_written_is_read;
+pub use laws::{a_step_stays, what_is_written_is_read};
 pub use link::LinkType;
 pub use number::Order;
 pub use packet::{MOST_CAPTURED, MOST_WANTED, Packet};

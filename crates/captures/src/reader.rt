@@ -20,6 +20,8 @@ pub struct Step {
     pub taken: usize,
     /// The packet, if it is one.
     pub packet: Option<Packet>,
+    /// Whether it is a record that holds no packet, and that Wireshark numbers as it does packets.
+    pub is_record: bool,
 }
 
 /// Whether a block's second length is the first one.
@@ -77,6 +79,7 @@ impl Reader {
         Ok(Step {
             taken,
             packet: None,
+            is_record: false,
         })
     }
 
@@ -92,6 +95,7 @@ impl Reader {
         let (block, length) = block_in(order, &self.interfaces, octets)?;
         let mut next = order;
         let mut packet = None;
+        let mut is_record = false;
         match block {
             Block::Section(order) => {
                 next = order;
@@ -103,6 +107,7 @@ impl Reader {
                 }
             }
             Block::Packet(found) => packet = Some(found),
+            Block::Record => is_record = true,
             Block::Other => {}
         }
         self.format = Format::SecondLength {
@@ -112,6 +117,7 @@ impl Reader {
         Ok(Step {
             taken: length as usize - 4,
             packet,
+            is_record,
         })
     }
 
@@ -133,6 +139,7 @@ impl Reader {
                 Ok(Step {
                     taken: packet.end,
                     packet: Some(packet),
+                    is_record: false,
                 })
             }
             Format::Block { order } => self.read_block(order, octets),
@@ -142,6 +149,7 @@ impl Reader {
                 Ok(Step {
                     taken: 4,
                     packet: None,
+                    is_record: false,
                 })
             }
         }

@@ -3,5 +3,8 @@ mod ContentLemmas
 mod EndLemmas
 mod ExplainingLemmas
 mod GapLemmas
+mod JobLemmas
 mod NoticingLemmas
+mod PrecededLemmas
 mod StrideLemmas
+mod WalkLemmas

@@ -1,98 +1,104 @@
--- The strides that were taken so far, and one more.
+-- The steps that were taken so far, and one more.
 use Rattle.lagtool_capture.proofs.Common.{Err, List, None, Ok, Option, Some, [], ap, arith, drop, inl, inr, length, length-drop, refl, subst, sym}
 use Rattle.lagtool_capture.proofs.Common.{take, ℕ, ◌++◌, ◌+◌, ◌-◌, ◌<◌, ◌∙◌, ◌∷◌, ◌≡◌, ◌≤◌, take_rest, ExplainerState, Follows, Log}
+use Rattle.std.proofs.Common.{IfSome}
+use Rattle.captures.proofs.WholeLemmas as whole
 use Rattle.captures.specs.Steps.{ReaderState, step}
+use Rattle.captures.specs.Wanted.{IsWithin}
+use Rattle.captures.specs.Whole.{Captured, ReadsTo, numbered_in}
 use Rattle.captures.specs.declared.fault.Fault.{Fault}
 use Rattle.captures.specs.declared.fault.Stop.{Stop}
 use Rattle.captures.specs.declared.fault.Stop.TheVariants.{Refused, Wants}
-use Rattle.lagtool_capture.specs.Strides.{Explains, Stops, Stride, Strides, all_logged, all_observed, at_hand, logged_if_any, observed_if_any}
-use Rattle.lagtool_capture.specs.Strides.{stopped_at}
+use Rattle.captures.specs.declared.reader.Step.{Step}
+use Rattle.lagtool_capture.specs.Explaining.{after_all}
+use Rattle.lagtool_capture.specs.Noticing.{logged_all}
+use Rattle.lagtool_capture.specs.Strides.{Explains, Stops, stopped_at}
 use Rattle.lagtool_capture.specs.declared.noticing.Noticed.{Noticed}
 use Rattle.lagtool_capture.specs.declared.strides.Taken.{Taken}
 
--- the strides so far, and what was seen in them
+-- what has a number so far, and what was seen of it
 pub record Reads (b : List ℕ) (old new : ReaderState) (before after : ExplainerState) (earlier later : Noticed) (n : ℕ) : Type 0 where
-  pub strides : List Stride
-  pub are_strides : Strides b 0 old strides n new
-  pub seen : after ≡ all_observed b 0 strides before
-  pub noticed : (l : Log) → Follows l earlier → Follows (all_logged b 0 strides l) later
+  pub found : List (Option Captured)
+  pub reads : ReadsTo b old found n new
+  pub seen : after ≡ after_all found before
+  pub noticed : (l : Log) → Follows l earlier → Follows (logged_all found l) later
 
 pub reads_none : (b : List ℕ) (r : ReaderState) (e : ExplainerState) (m : Noticed) → Reads b r r e e m m 0
-reads_none b r e m = record { strides = []; are_strides = (refl, refl); seen = refl; noticed = λ l h. h }
+reads_none b r e m = record { found = []; reads = whole.reads_none b r; seen = refl; noticed = λ l h. h }
 
-strides_more : (b : List ℕ) (x : Stride) (xs : List Stride) (at n : ℕ) (r s : ReaderState) → Strides b at r xs n s
-    → n + x.given ≤ length b → step s (at_hand b n x.given) ≡ Ok (x.step, x.next)
-    → Strides b at r (xs ++ x ∷ []) (n + x.step.taken) x.next
-strides_more b x [] at n r s h le is = (
-  subst (λ k. k + x.given ≤ length b) (sym h.0) le,
-  ap (λ k. step k (at_hand b at x.given)) h.1 ∙ ap (λ k. step s (at_hand b k x.given)) h.0 ∙ is,
-  (ap (λ k. k + x.step.taken) h.0, refl),
-)
-strides_more b x (y ∷ ys) at n r s h le is = (h.0, h.1, strides_more b x ys (at + y.step.taken) n y.next s h.2 le is)
+pub after_both : (xs ys : List (Option Captured)) (e : ExplainerState) → after_all (xs ++ ys) e ≡ after_all ys (after_all xs e)
+after_both [] ys e = refl
+after_both (None ∷ xs) ys e = after_both xs ys _
+after_both (Some c ∷ xs) ys e = after_both xs ys _
 
-observed_more : (b : List ℕ) (x : Stride) (xs : List Stride) (at n : ℕ) (r s : ReaderState) (e : ExplainerState) → Strides b at r xs n s
-    → all_observed b at (xs ++ x ∷ []) e ≡ observed_if_any x.step.packet (at_hand b n x.given) (all_observed b at xs e)
-observed_more b x [] at n r s e h = ap (λ k. observed_if_any x.step.packet (at_hand b k x.given) e) h.0
-observed_more b x (y ∷ ys) at n r s e h =
-    observed_more b x ys (at + y.step.taken) n y.next s (observed_if_any y.step.packet (at_hand b at y.given) e) h.2
+pub logged_both : (xs ys : List (Option Captured)) (l : Log) → logged_all (xs ++ ys) l ≡ logged_all ys (logged_all xs l)
+logged_both [] ys l = refl
+logged_both (None ∷ xs) ys l = logged_both xs ys _
+logged_both (Some c ∷ xs) ys l = logged_both xs ys _
 
-logged_more : (b : List ℕ) (x : Stride) (xs : List Stride) (at n : ℕ) (r s : ReaderState) (l : Log) → Strides b at r xs n s
-    → all_logged b at (xs ++ x ∷ []) l ≡ logged_if_any x.step.packet (at_hand b n x.given) (all_logged b at xs l)
-logged_more b x [] at n r s l h = ap (λ k. logged_if_any x.step.packet (at_hand b k x.given) l) h.0
-logged_more b x (y ∷ ys) at n r s l h =
-    logged_more b x ys (at + y.step.taken) n y.next s (logged_if_any y.step.packet (at_hand b at y.given) l) h.2
-
--- a stride more
-pub reads_more : (b : List ℕ) (x : Stride) (r s : ReaderState) (e f g : ExplainerState) (m o p : Noticed) (n : ℕ) → Reads b r s e f m o n
-    → n + x.given ≤ length b → step s (at_hand b n x.given) ≡ Ok (x.step, x.next)
-    → g ≡ observed_if_any x.step.packet (at_hand b n x.given) f
-    → ((l : Log) → Follows l o → Follows (logged_if_any x.step.packet (at_hand b n x.given) l) p)
-    → Reads b r x.next e g m p (n + x.step.taken)
-reads_more b x r s e f g m o p n h le is same more = record {
-  strides = h.strides ++ x ∷ [];
-  are_strides = strides_more b x h.strides 0 n r s h.are_strides le is;
-  seen = same ∙ ap (observed_if_any x.step.packet (at_hand b n x.given)) h.seen
-      ∙ sym (observed_more b x h.strides 0 n r s e h.are_strides);
-  noticed = λ l i. subst (λ k. Follows k p) (sym (logged_more b x h.strides 0 n r s l h.are_strides))
-      (more (all_logged b 0 h.strides l) (h.noticed l i));
+-- a step more, in the octets h, which are all behind the place n
+pub reads_more : (b h : List ℕ) (x : Step) (u r s : ReaderState) (e f g : ExplainerState) (m o p : Noticed) (n : ℕ) → h ≡ drop n b
+    → Reads b r s e f m o n → n < length b → 0 < x.taken → step s h ≡ Ok (x, u) → IfSome x.packet (λ k. IsWithin h k)
+    → g ≡ after_all (numbered_in x h) f → ((l : Log) → Follows l o → Follows (logged_all (numbered_in x h) l) p)
+    → Reads b r u e g m p (n + x.taken)
+reads_more b h x u r s e f g m o p n all so lt takes is within same more = record {
+  found = so.found ++ numbered_in x (drop n b);
+  reads = whole.reads_more b r s u so.found n x so.reads lt takes (ap (step s) (sym all) ∙ is)
+      (subst (λ k. IfSome x.packet (λ y. IsWithin k y)) all within);
+  seen = same ∙ ap (λ k. after_all (numbered_in x k) f) all ∙ ap (after_all (numbered_in x (drop n b))) so.seen
+      ∙ sym (after_both so.found (numbered_in x (drop n b)) e);
+  noticed = λ l i. subst (λ k. Follows k p) (sym (logged_both so.found (numbered_in x (drop n b)) l))
+      (subst (λ k. Follows (logged_all (numbered_in x k) (logged_all so.found l)) p) all (more (logged_all so.found l) (so.noticed l i)));
 }
 
 pub rest_length : (b : List ℕ) (n : ℕ) → length (take (length b - n) (drop n b)) ≡ length b - n
 rest_length b n = ap length (take_rest b n) ∙ length-drop n b
 
--- the last stride takes more octets than there are
+-- the last step takes more octets than there are
 pub ends_behind : (b : List ℕ) (r s : ReaderState) (e f : ExplainerState) (m o : Noticed) (n taken : ℕ) → Reads b r s e f m o (n + taken) → n ≤ length b
     → length (take (length b - n) (drop n b)) < taken
     → Explains b r s e f m o (record { count = length b; skip = taken - length (take (length b - n) (drop n b)); fault = None })
 ends_behind b r s e f m o n taken h le lt =
-    let sum : n + taken ≡ length b + (taken - length (take (length b - n) (drop n b))) = omega (arith, rest_length b n, le, lt) in
+    let rest = taken - length (take (length b - n) (drop n b)) in
+    let sum : n + taken ≡ length b + rest = omega (arith, rest_length b n, le, lt) in
+    let none : length b - (length b + rest) ≡ 0 = omega arith in
     record {
-      strides = h.strides;
-      are_strides = subst (λ k. Strides b 0 r h.strides k s) sum h.are_strides;
+      found = h.found;
+      reads = subst (λ k. ReadsTo b r h.found k s) sum h.reads;
       seen = h.seen;
       noticed = h.noticed;
-      stops = inl (omega arith);
+      count = omega arith;
+      skip = inr (refl, refl);
+      stops = inl (length-drop (length b + rest) b ∙ none);
     }
 
--- no stride begins behind the last
+-- no step begins behind the last
 pub ends_there : (b : List ℕ) (r s : ReaderState) (e f : ExplainerState) (m o : Noticed) (n : ℕ) (fault : Option Fault) → Reads b r s e f m o n
-    → Stops b s n fault → Explains b r s e f m o (record { count = n; skip = 0; fault = fault })
-ends_there b r s e f m o n fault h stops =
+    → n ≤ length b → Stops (drop n b) s fault → Explains b r s e f m o (record { count = n; skip = 0; fault = fault })
+ends_there b r s e f m o n fault h le stops =
     let sum : n ≡ n + 0 = omega arith in
     record {
-      strides = h.strides;
-      are_strides = subst (λ k. Strides b 0 r h.strides k s) sum h.are_strides;
+      found = h.found;
+      reads = subst (λ k. ReadsTo b r h.found k s) sum h.reads;
       seen = h.seen;
       noticed = h.noticed;
-      stops = subst (λ k. Stops b s k fault) sum stops;
+      count = le;
+      skip = inl refl;
+      stops = subst (λ k. Stops (drop k b) s fault) sum stops;
     }
 
 -- octets are wanted, or the capture is not read on
 pub stops_by : (b : List ℕ) (stop : Stop) (taken : Taken) (r s t : ReaderState) (e f : ExplainerState) (m o : Noticed) (n : ℕ) → Reads b r s e f m o n
-    → t ≡ s → step s (take (length b - n) (drop n b)) ≡ Err stop → taken ≡ stopped_at n stop → Explains b r t e f m o taken
-stops_by b stop taken r s t e f m o n h same is made =
+    → n < length b → t ≡ s → step s (take (length b - n) (drop n b)) ≡ Err stop → taken ≡ stopped_at n stop → Explains b r t e f m o taken
+stops_by b stop taken r s t e f m o n h lt same is made =
     subst (λ k. Explains b r k e f m o taken) (sym same) (subst (Explains b r s e f m o) (sym made) (by stop (ap (step s) (sym (take_rest b n)) ∙ is)))
   where
     by : (stop : Stop) → step s (drop n b) ≡ Err stop → Explains b r s e f m o (stopped_at n stop)
-    by (Wants k) is = ends_there b r s e f m o n None h (inr (k, is))
-    by (Refused fault) is = ends_there b r s e f m o n (Some fault) h is
+    by (Wants k) is = ends_there b r s e f m o n None h (omega (arith, lt)) (inr (k, is))
+    by (Refused fault) is = ends_there b r s e f m o n (Some fault) h (omega (arith, lt)) (let l = length-drop n b in omega (arith, l, lt), is)
+
+-- all octets are taken
+pub ends_whole : (b : List ℕ) (r s : ReaderState) (e f : ExplainerState) (m o : Noticed) (n : ℕ) → Reads b r s e f m o n
+    → n ≤ length b → length b ≤ n → Explains b r s e f m o (record { count = n; skip = 0; fault = None })
+ends_whole b r s e f m o n h le ge =
+    ends_there b r s e f m o n None h le (inl (let l = length-drop n b in omega (arith, l, ge)))

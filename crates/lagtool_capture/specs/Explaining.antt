@@ -2,6 +2,7 @@
 use Rattle.std.specs.Prelude.{◌==◌, ◌+◌, ◌++◌, ℕ, Bool, false, List, [], ◌∷◌, Option, Some, None, Result, Ok, Err, codes, decimal, drop, length}
 use Rattle.std.specs.Prelude.{nat_lt, if◌then◌else◌}
 use Rattle.captures.specs.declared.packet.Packet.{Packet}
+use Rattle.captures.specs.Whole.{Captured}
 use Rattle.findings.specs.declared.finding.Finding.{Finding}
 use Rattle.slowpdu.specs.declared.fault.WireFault.{WireFault}
 use Rattle.slowpdu.specs.declared.pdu.Lacpdu.{Lacpdu}
@@ -157,6 +158,16 @@ after_envelope time (Some e) b s = if e.ether_type == 0x8809 then after_slow tim
 -- after a packet with these captured octets
 unfoldable pub observed : Packet → List ℕ → ExplainerState → ExplainerState
 observed packet b s = after_envelope packet.time (envelope_of packet b) b (counted packet.time s)
+
+-- after what has a number in a capture: a packet, or a record without one, which is counted alone
+abbrev pub after : Option Captured → ExplainerState → ExplainerState
+after None s = counted None s
+after (Some c) s = observed c.packet c.octets s
+
+-- after all of these
+abbrev pub after_all : List (Option Captured) → ExplainerState → ExplainerState
+after_all [] s = s
+after_all (x ∷ xs) s = after_all xs (after x s)
 
 -- a line for each end that sent LACPDUs, a line for each finding, and the counts: as texts
 abbrev pub closing_texts : List Finding → ExplainerState → List ℕ

@@ -15,3 +15,4 @@ pub mod Json
 pub mod Frames
 pub mod Noticing
 pub mod Walks
+pub mod Reports

@@ -2,6 +2,7 @@
 use Rattle.std.specs.Prelude.{◌≡◌, ℕ, List, [], ◌∷◌, Option, Some, flat_map, option_and_then, unwrap_or}
 use Rattle.std.specs.List.{cons_option}
 use Rattle.captures.specs.declared.packet.Packet.{Packet}
+use Rattle.captures.specs.Whole.{Captured}
 use Rattle.findings.specs.declared.finding.Finding.{Finding}
 use Rattle.findings.specs.declared.observed.LinkEnd.{LinkEnd}
 use Rattle.findings.specs.declared.observed.Observed.{Observed}
@@ -31,6 +32,16 @@ logged packet b l = record {
   until = unwrap_or packet.time l.until;
   frames = cons_option (frame_in (one_more l.number) packet b) l.frames;
 }
+
+-- after what has a number in a capture: a packet, or a record without one
+abbrev pub logged_next : Option Captured → Log → Log
+logged_next None l = record l { number = one_more l.number }
+logged_next (Some c) l = logged c.packet c.octets l
+
+-- after all of these
+abbrev pub logged_all : List (Option Captured) → Log → Log
+logged_all [] l = l
+logged_all (x ∷ xs) l = logged_all xs (logged_next x l)
 
 -- what is kept is by these frames
 abbrev pub IsKnown : List Observed → Findings → Type 0

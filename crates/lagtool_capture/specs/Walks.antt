@@ -1,8 +1,8 @@
 -- A capture that is read in pieces.
-use Rattle.std.specs.Prelude.{◌≡◌, ◌<◌, ◌-◌, ◌++◌, ◌⊎◌, ℕ, Bool, true, false, List, [], Option, Some, None, Result, Ok, Err, drop, length}
+use Rattle.std.specs.Prelude.{◌≡◌, ◌≤◌, ◌<◌, ◌-◌, ◌++◌, ◌⊎◌, ℕ, Bool, true, false, List, [], Option, Some, None, Result, Ok, Err, drop, length}
 use Rattle.captures.specs.Steps.{ReaderState, end_of}
 use Rattle.captures.specs.declared.fault.Fault.{Fault}
-use Rattle.captures.specs.declared.format.Format.TheVariants.{Start}
+use Rattle.captures.specs.Whole.{at_start}
 use Rattle.lagtool_capture.specs.Counting.{sum_of}
 use Rattle.lagtool_capture.specs.Explaining.{ExplainerState, nothing_seen, with_ends}
 use Rattle.findings.specs.Knows.{ends_of}
@@ -27,7 +27,7 @@ pub record WalkState : Type 0 where
 
 -- before the beginning of a capture
 pub record IsBefore (settings : Settings) (w : WalkState) : Type 0 where
-  pub reader : w.reader ≡ record { format = Start; interfaces = [] }
+  pub reader : w.reader ≡ at_start
   pub explainer : w.explainer ≡ nothing_seen settings
   pub noticed : Follows nothing_logged w.noticed
   pub rest : w.rest ≡ []
@@ -68,7 +68,7 @@ skipped n w = record w { skip = w.skip - n; at = sum_of w.at n }
 abbrev pub Feeds : List ℕ → WalkState → WalkState → Type 0
 Feeds piece old new =
     ((length piece < old.skip) × (new ≡ skipped (length piece) old))
-    ⊎ Takes (drop old.skip piece) (skipped old.skip old) new
+    ⊎ ((old.skip ≤ length piece) × Takes (drop old.skip piece) (skipped old.skip old) new)
 
 -- why a capture may not end there; an earlier fault stands
 abbrev pub refused_end : Option ReadFault → ℕ → Result (Unit {0}) Fault → Option ReadFault

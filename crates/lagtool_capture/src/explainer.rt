@@ -82,8 +82,8 @@ impl Explainer {
         }
     }
 
-    /// Counts a packet.
-    fn count(&mut self, time: Option<u64>)
+    /// Counts a packet, or a record that holds none.
+    pub(crate) fn count(&mut self, time: Option<u64>)
         ensures { self.new ≡ counted time self.old }
     {
         self.number = self.number.saturating_add(1);

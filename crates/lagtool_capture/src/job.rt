@@ -1,5 +1,6 @@
-ghost use Rattle.std.specs.Prelude.{◌≡◌, false, IfErr};
+ghost use Rattle.std.specs.Prelude.{◌≡◌, false, IfErr, IfOk};
 ghost use Rattle.lagtool_capture.specs.Faults.{HasCause};
+ghost use Rattle.lagtool_capture.specs.Reports.{Completes};
 
 use crate::fault::CaptureFault;
 use crate::settings::Settings;
@@ -13,6 +14,7 @@ use std::io::{Read, Write};
 /// end of a link, what is found of the ends, and the counts (profile). Up to 4,096 octets are read at a time, and what they say is written before
 /// the next read. A capture that is not read on has the lines of what was read before.
 ///
+/// After `Ok` the report of all that there was to read is written, or of so much that whatever follows changes nothing.
 /// `Read` if the source failed, `Write` if the sink did, `NoMemory` if memory was refused.
 pub fn explain<R: Read, W: Write>(
     alloc: Global,
@@ -22,16 +24,16 @@ pub fn explain<R: Read, W: Write>(
 ) -> Result<Summary, CaptureFault>
     requires source { source.old.failed ≡ false }
     requires sink { sink.old.failed ≡ false }
-    ensures { IfErr result (HasCause source.new.failed sink.new.failed) }
+    ensures ok { IfOk result (Completes R.remaining W.contents settings source.old source.new sink.old sink.new) }
+    ensures cause { IfErr result (HasCause source.new.failed sink.new.failed) }
 {
     source.is_bounded();
     let mut walk = Walk::new(alloc, settings);
     let mut piece = [0; 4096];
-    while walk.is_read_on() {
+    let mut is_at_end = false;
+    while !is_at_end && walk.is_read_on() {
         let n = source.read(&mut piece)?;
-        if n == 0 {
-            break;
-        }
+        is_at_end = n == 0;
         walk.feed(&piece[..n])?;
         walk.write(sink)?;
     }

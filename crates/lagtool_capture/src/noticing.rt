@@ -1,8 +1,8 @@
-ghost use Rattle.std.specs.Prelude.{◌≡◌, ◌++◌, ◌<◌, [], List, IfOk, OnOk, slice_get};
+ghost use Rattle.std.specs.Prelude.{◌≡◌, ◌++◌, ◌<◌, [], List, None, IfOk, OnOk, slice_get};
 ghost use Rattle.std.specs.List.{cons_option};
 ghost use Rattle.findings.specs.declared.observed.Observed.{Observed};
 ghost use Rattle.findings.specs.Knows.{ends_of};
-ghost use Rattle.lagtool_capture.specs.Noticing.{Follows, IsKnown, Log, findings_by, findings_in, logged, nothing_logged};
+ghost use Rattle.lagtool_capture.specs.Noticing.{Follows, IsKnown, Log, findings_by, findings_in, logged, logged_next, nothing_logged};
 
 use crate::frames::frame_in;
 use captures::Packet;
@@ -56,6 +56,13 @@ impl Noticed {
             number: 0,
             until: 0,
         }
+    }
+
+    /// Counts a record that holds no packet.
+    pub fn count(&mut self)
+        ensures { (l : Log) → Follows l self.old → Follows (logged_next None l) self.new }
+    {
+        self.number = self.number.saturating_add(1);
     }
 
     /// Takes the next packet, with these captured octets.

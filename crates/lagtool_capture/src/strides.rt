@@ -1,11 +1,13 @@
 ghost use Rattle.std.specs.Prelude.{◌≡◌, ◌≤◌, length, IfOk, IfSome, OnOk};
 ghost use Rattle.captures.specs.Wanted.{IsWithin};
-ghost use Rattle.lagtool_capture.specs.Noticing.{Follows, Log};
-ghost use Rattle.lagtool_capture.specs.Strides.{Explains, logged_if_any, observed_if_any, stopped_at};
+ghost use Rattle.captures.specs.Whole.{numbered_in};
+ghost use Rattle.lagtool_capture.specs.Explaining.{after_all};
+ghost use Rattle.lagtool_capture.specs.Noticing.{Follows, Log, logged_all};
+ghost use Rattle.lagtool_capture.specs.Strides.{Explains, stopped_at};
 
 use crate::explainer::Explainer;
 use crate::noticing::Noticed;
-use captures::{Fault, Packet, Reader, Stop};
+use captures::{Fault, Reader, Step, Stop};
 use std::alloc::AllocError;
 
 /// How far octets were read.
@@ -20,24 +22,30 @@ pub(crate) struct Taken {
     pub fault: Option<Fault>,
 }
 
-/// Explains the packet that a stride found among these octets, if it found one.
+/// Explains the packet that a step found among these octets, and counts a record that holds none.
 fn observe_any(
     explainer: &mut Explainer,
     noticed: &mut Noticed,
-    packet: Option<Packet>,
+    step: Step,
     octets: &[u8],
 ) -> Result<(), AllocError>
-    requires { IfSome packet (λ p. IsWithin octets.now p) }
-    ensures explained { OnOk result (explainer.new ≡ observed_if_any packet octets.now explainer.old) }
-    ensures noticed { (l : Log) → Follows l noticed.old → Follows (logged_if_any packet octets.now l) noticed.new }
+    requires { IfSome step.packet (λ p. IsWithin octets.now p) }
+    ensures explained { OnOk result (explainer.new ≡ after_all (numbered_in step octets.now) explainer.old) }
+    ensures noticed { (l : Log) → Follows l noticed.old → Follows (logged_all (numbered_in step octets.now) l) noticed.new }
 {
-    match packet {
+    match step.packet {
         Some(packet) => {
             let octets = packet.octets(octets);
             noticed.observe(&packet, octets);
             explainer.observe(&packet, octets)
         }
-        None => Ok(()),
+        None => {
+            if step.is_record {
+                noticed.count();
+                explainer.count(None);
+            }
+            Ok(())
+        }
     }
 }
 
@@ -71,7 +79,7 @@ pub(crate) fn take_steps(
         let rest = &octets[count..];
         match reader.read(rest) {
             Ok(step) => {
-                observe_any(explainer, noticed, step.packet, rest)?;
+                observe_any(explainer, noticed, step, rest)?;
                 if step.taken > rest.len() {
                     return Ok(Taken {
                         count: octets.len(),

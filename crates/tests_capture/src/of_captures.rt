@@ -64,7 +64,7 @@ const BIG: [u8; 44] = [
 ];
 
 /// A file of pcapng with two sections, one of each order of octets.
-const BLOCKS: [u8; 308] = [
+pub(crate) const BLOCKS: [u8; 308] = [
     // a section, 32 octets, the most significant octet first, version 1.0, its length not told, the end of the options
     0x0a, 0x0d, 0x0d, 0x0a, 0x00, 0x00, 0x00, 0x20, 0x1a, 0x2b, 0x3c, 0x4d, 0x00, 0x01, 0x00, 0x00,
     0xff, 0xff, 0xff, 0xff, 0xff, 0xff, 0xff, 0xff, 0x00, 0x00, 0x00, 0x00, 0x00, 0x00, 0x00, 0x20,
@@ -78,7 +78,7 @@ const BLOCKS: [u8; 308] = [
     0x00, 0x00, 0x00, 0x00,
     // the second length
     0x00, 0x00, 0x00, 0x2c,
-    // a block of an unknown type
+    // a custom block, which holds no packet
     0x00, 0x00, 0x0b, 0xad, 0x00, 0x00, 0x00, 0x10, 0x01, 0x02, 0x03, 0x04, 0x00, 0x00, 0x00, 0x10,
     // an enhanced packet block: 40 octets, interface 0, upper and lower half of the time in nanoseconds, 5 octets of 124
     0x00, 0x00, 0x00, 0x06, 0x00, 0x00, 0x00, 0x28, 0x00, 0x00, 0x00, 0x00, 0x16, 0x30, 0x7f, 0xd0,
@@ -273,6 +273,44 @@ fn pcapng_is_read_section_by_section(rt: HostRuntime) -> Result<(), AllocError> 
     assert_eq!(rt; blocks.packets.as_slice(), expected.as_slice());
     assert_eq!(rt; blocks.fault, None);
     Ok(())
+}
+
+/// Whether a block of this type with 16 octets is a record without a packet.
+fn is_record(kind: u32) -> bool {
+    let mut block = [0, 0, 0, 0, 0, 0, 0, 16, 1, 2, 3, 4, 0, 0, 0, 16];
+    block[..4].copy_from_slice(&kind.to_be_bytes());
+    let mut reader = Reader::new();
+    let _ = reader.read(&BLOCKS[..32]);
+    let _ = reader.read(&BLOCKS[28..32]);
+    match reader.read(&block) {
+        Ok(step) => step.is_record && step.packet.is_none() && step.taken == 12,
+        Err(_) => false,
+    }
+}
+
+#[test]
+fn some_blocks_without_a_packet_have_a_number(rt: HostRuntime) {
+    for kind in [9, 0xbad, 0x4000_0bad, 0x204, 0x216, 0x221] {
+        assert!(rt; is_record(kind), "{kind:x}");
+    }
+    for kind in [
+        0,
+        4,
+        5,
+        7,
+        8,
+        10,
+        11,
+        0xbac,
+        0xbae,
+        0x4000_0bae,
+        0x201,
+        0x205,
+        0x208,
+        0x217,
+    ] {
+        assert!(rt; !is_record(kind), "{kind:x}");
+    }
 }
 
 #[test]

@@ -1,5 +1,6 @@
 ghost use Rattle.std.specs.Prelude.{◌≡◌, ◌<◌, false};
 
+use crate::of_captures::BLOCKS;
 use bitflags::Flags;
 use captures::{Cause, LinkType, Order, Unit, put_file_header, put_packet};
 use lagstreams::{Sink, Source};
@@ -171,6 +172,17 @@ fn a_link_that_comes_up_is_explained(rt: HostRuntime) -> Result<(), Fail> {
             let text = str::from_utf8(&outcome.text).unwrap_or("");
             assert_eq!(rt; text, COMING_UP, "{size}");
         }
+    }
+    Ok(())
+}
+
+#[test]
+fn a_record_without_a_packet_has_a_number(rt: HostRuntime) -> Result<(), Fail> {
+    // A custom block and four packets: tshark numbers them 1 to 5.
+    for size in [1, 7, 4096] {
+        let outcome = explained(rt.alloc(), CHANGES, &BLOCKS, size);
+        let text = str::from_utf8(&outcome.text).unwrap_or("");
+        assert_eq!(rt; text, "packets 5 slow 0 ends 0 findings 0\n", "{size}");
     }
     Ok(())
 }

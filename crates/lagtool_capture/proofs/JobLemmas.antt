@@ -1,0 +1,88 @@
+-- What a job has read and written so far, and at its end.
+use Rattle.lagtool_capture.proofs.Common.{Bool, List, None, Option, Some, [], ap, false, inl, inr, refl, subst, sym, true, ℕ, ◌++◌, ◌∙◌, ◌≡◌, Follows, Log}
+use Rattle.std.proofs.Common.{◌⊎◌, true≢false}
+use Rattle.std.proofs.KnownBytes.{Appends-nil, Consumes-nil, Consumes-trans}
+use Rattle.std.specs.Io.KnownBytes.{Consumes, IsAtEnd}
+use Rattle.captures.specs.Whole.{IsSettled}
+use Rattle.lagstreams.proofs.SinkLemmas.{takes_more}
+use Rattle.lagstreams.specs.Sinks.{SinkState, WritesWhole}
+use Rattle.lagstreams.specs.Sources.{Gives, SourceState}
+use Rattle.lagtool_capture.proofs.WalkLemmas.{Stands, stands_counts, stands_fed, stands_first, stands_reports, stands_settled, stands_written}
+use Rattle.lagtool_capture.specs.Reports.{Completes}
+use Rattle.lagtool_capture.specs.Walks.{Feeds, IsBefore, WalkState, ended, is_free, is_read_on, summary_of}
+use Rattle.lagtool_capture.specs.declared.fault.ReadFault.{ReadFault}
+use Rattle.lagtool_capture.specs.declared.settings.Settings.{Settings}
+use Rattle.lagtool_capture.specs.declared.summary.Summary.{Summary}
+
+module _ {R W : Type 0} (remaining : R → Option (List ℕ)) (contents : W → Option (List ℕ)) (settings : Settings) where
+  pub record Told (from mid : SourceState R) (old half : SinkState W) (w : WalkState) : Type 0 where
+    pub octets : List ℕ
+    pub read : Consumes (remaining from.reader) (remaining mid.reader) octets
+    pub failed : mid.failed ≡ from.failed
+    pub out : List ℕ
+    pub written : WritesWhole contents old half out
+    pub stands : Stands settings octets out w
+
+free_is : (o : Option ReadFault) → is_free o ≡ true → o ≡ None
+free_is None e = refl
+free_is (Some f) e = absurd (true≢false (sym e))
+
+fault_is : (o : Option ReadFault) → is_free o ≡ false → (f : ReadFault) × (o ≡ Some f)
+fault_is None e = absurd (true≢false e)
+fault_is (Some f) e = (f, refl)
+
+module _ {R W : Type 0} {remaining : R → Option (List ℕ)} {contents : W → Option (List ℕ)} {settings : Settings} where
+  pub told_first : (from : SourceState R) (old : SinkState W) (w : WalkState) → IsBefore settings w
+      → Told remaining contents settings from from old old w
+  told_first from old w before = record {
+    octets = [];
+    read = Consumes-nil (remaining from.reader);
+    failed = refl;
+    out = [];
+    written = record { written = Appends-nil (contents old.writer); failed = refl };
+    stands = stands_first settings w before;
+  }
+
+  pub told_reads : {from mid to : SourceState R} {old half : SinkState W} {w v : WalkState} {piece : List ℕ}
+      → Told remaining contents settings from mid old half w → Gives remaining mid to piece → is_read_on w ≡ true → Feeds piece w v
+      → Told remaining contents settings from to old half v
+  told_reads {from} {mid} {to} {old} {half} {w} {v} {piece} t gives on feeds = record {
+    octets = t.octets ++ piece;
+    read = Consumes-trans (remaining from.reader) (remaining mid.reader) (remaining to.reader) t.octets piece t.read gives.read;
+    failed = gives.failed ∙ t.failed;
+    out = t.out;
+    written = t.written;
+    stands = stands_fed settings t.octets t.out piece w v t.stands (free_is w.fault on) feeds;
+  }
+
+  pub told_writes : {from mid : SourceState R} {old half new : SinkState W} {w v : WalkState}
+      → Told remaining contents settings from mid old half w → WritesWhole contents half new w.explainer.to_write
+      → v ≡ record w { explainer = record w.explainer { to_write = [] } } → Told remaining contents settings from mid old new v
+  told_writes {from} {mid} {old} {half} {new} {w} {v} t writes e = record {
+    octets = t.octets;
+    read = t.read;
+    failed = t.failed;
+    out = t.out ++ w.explainer.to_write;
+    written = takes_more contents old half new t.out w.explainer.to_write t.written writes;
+    stands = stands_written settings t.octets t.out w v t.stands e;
+  }
+
+  -- the walk ends at the end of the source, or where the capture is not read on
+  pub completes : {from mid : SourceState R} {old half new : SinkState W} {w v u : WalkState} {s : Summary}
+      → Told remaining contents settings from mid old half w → ((l : Log) → Follows l w.noticed → v ≡ ended l w)
+      → WritesWhole contents half new v.explainer.to_write → u ≡ record v { explainer = record v.explainer { to_write = [] } }
+      → s ≡ summary_of u → IsAtEnd (remaining mid.reader) ⊎ (is_read_on w ≡ false)
+      → Completes remaining contents settings from mid old new s
+  completes {from} {mid} {old} {half} {new} {w} {v} {u} {s} t ends writes cleared counts stop = record {
+    octets = t.octets;
+    read = t.read;
+    unfailed = t.failed;
+    end = by stop;
+    written = subst (WritesWhole contents old new) (sym (stands_reports settings t.octets t.out w v t.stands ends))
+        (takes_more contents old half new t.out v.explainer.to_write t.written writes);
+    summary_is = counts ∙ stands_counts settings t.octets t.out w v u t.stands ends cleared;
+  }
+    where
+      by : IsAtEnd (remaining mid.reader) ⊎ (is_read_on w ≡ false) → IsAtEnd (remaining mid.reader) ⊎ IsSettled t.octets
+      by (inl end) = inl end
+      by (inr off) = let (f, e) = fault_is w.fault off in inr (stands_settled settings t.octets t.out w f t.stands e)
