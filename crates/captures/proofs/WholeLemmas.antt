@@ -34,7 +34,7 @@ reads_none b s = λ at steps more le. (steps, le, ap (λ k. capture_from steps k
     none : (at l : ℕ) → at ≡ at + min 0 l
     none at l = omega arith
 
-both_behind : (xs ys : List (Option Captured)) (c : Capture) → behind xs (behind ys c) ≡ behind (xs ++ ys) c
+pub both_behind : (xs ys : List (Option Captured)) (c : Capture) → behind xs (behind ys c) ≡ behind (xs ++ ys) c
 both_behind xs ys c = ap (λ k. record { numbered = k; fault = c.fault }) (sym (append_assoc xs ys c.numbered))
 
 place : (at n taken all rest : ℕ) → n ≤ all → rest ≡ all - n → at + min n all + min taken rest ≡ at + min (n + taken) all

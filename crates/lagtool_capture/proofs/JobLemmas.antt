@@ -1,6 +1,7 @@
 -- What a job has read and written so far, and at its end.
-use Rattle.lagtool_capture.proofs.Common.{Bool, List, None, Option, Some, [], ap, false, inl, inr, refl, subst, sym, true, ℕ, ◌++◌, ◌∙◌, ◌≡◌, Follows, Log}
-use Rattle.std.proofs.Common.{◌⊎◌, true≢false}
+use Rattle.lagtool_capture.proofs.Common.{Bool, List, None, Option, Some, [], ap, false, inl, inr, refl, subst, sym, true, ℕ, ◌++◌, ◌∙◌, ◌≡◌, ExplainerState, Follows, Log}
+use Rattle.std.proofs.Common.{◌⊎◌, ◌&&◌, true≢false, nat_lt, ltb-false, arith}
+use Rattle.std.proofs.lemmas.Bool.{and_cases, and_parts}
 use Rattle.std.proofs.KnownBytes.{Appends-nil, Consumes-nil, Consumes-trans}
 use Rattle.std.specs.Io.KnownBytes.{Consumes, IsAtEnd}
 use Rattle.captures.specs.Whole.{IsSettled}
@@ -31,10 +32,21 @@ fault_is : (o : Option ReadFault) → is_free o ≡ false → (f : ReadFault) ×
 fault_is None e = absurd (true≢false e)
 fault_is (Some f) e = (f, refl)
 
+-- what a test behind a read says of the walk and of the source
+pub goes_by : (n : ℕ) (b : Bool) → (nat_lt 0 n && b) ≡ true → b ≡ true
+goes_by n b e = (and_parts (nat_lt 0 n) b e).1
+
+pub ends_by : {P : Type 0} (n : ℕ) (b : Bool) → (n ≡ 0 → P) → (nat_lt 0 n && b) ≡ false → P ⊎ (b ≡ false)
+ends_by {P} n b end e = by (and_cases (nat_lt 0 n) b e)
+  where
+    by : (nat_lt 0 n ≡ false) ⊎ (b ≡ false) → P ⊎ (b ≡ false)
+    by (inl none) = let le = ltb-false 0 n none in inl (end (omega (arith, le)))
+    by (inr off) = inr off
+
 module _ {R W : Type 0} {remaining : R → Option (List ℕ)} {contents : W → Option (List ℕ)} {settings : Settings} where
-  pub told_first : (from : SourceState R) (old : SinkState W) (w : WalkState) → IsBefore settings w
+  told_before : (from : SourceState R) (old : SinkState W) (w : WalkState) → IsBefore settings w
       → Told remaining contents settings from from old old w
-  told_first from old w before = record {
+  told_before from old w before = record {
     octets = [];
     read = Consumes-nil (remaining from.reader);
     failed = refl;
@@ -42,6 +54,11 @@ module _ {R W : Type 0} {remaining : R → Option (List ℕ)} {contents : W → 
     written = record { written = Appends-nil (contents old.writer); failed = refl };
     stands = stands_first settings w before;
   }
+
+  pub told_first : (from : SourceState R) (old : SinkState W) (w : WalkState) → IsBefore settings w
+      → Told remaining contents w.explainer.settings from from old old w
+  told_first from old w before = subst (λ k. Told remaining contents k from from old old w)
+      (sym (ap (λ (e : ExplainerState). e.settings) before.explainer)) (told_before from old w before)
 
   pub told_reads : {from mid to : SourceState R} {old half : SinkState W} {w v : WalkState} {piece : List ℕ}
       → Told remaining contents settings from mid old half w → Gives remaining mid to piece → is_read_on w ≡ true → Feeds piece w v
@@ -68,12 +85,12 @@ module _ {R W : Type 0} {remaining : R → Option (List ℕ)} {contents : W → 
   }
 
   -- the walk ends at the end of the source, or where the capture is not read on
-  pub completes : {from mid : SourceState R} {old half new : SinkState W} {w v u : WalkState} {s : Summary}
+  completes_so : {from mid : SourceState R} {old half new : SinkState W} {w v u : WalkState} {s : Summary}
       → Told remaining contents settings from mid old half w → ((l : Log) → Follows l w.noticed → v ≡ ended l w)
       → WritesWhole contents half new v.explainer.to_write → u ≡ record v { explainer = record v.explainer { to_write = [] } }
       → s ≡ summary_of u → IsAtEnd (remaining mid.reader) ⊎ (is_read_on w ≡ false)
       → Completes remaining contents settings from mid old new s
-  completes {from} {mid} {old} {half} {new} {w} {v} {u} {s} t ends writes cleared counts stop = record {
+  completes_so {from} {mid} {old} {half} {new} {w} {v} {u} {s} t ends writes cleared counts stop = record {
     octets = t.octets;
     read = t.read;
     unfailed = t.failed;
@@ -86,3 +103,12 @@ module _ {R W : Type 0} {remaining : R → Option (List ℕ)} {contents : W → 
       by : IsAtEnd (remaining mid.reader) ⊎ (is_read_on w ≡ false) → IsAtEnd (remaining mid.reader) ⊎ IsSettled t.octets
       by (inl end) = inl end
       by (inr off) = let (f, e) = fault_is w.fault off in inr (stands_settled settings t.octets t.out w f t.stands e)
+
+  pub completes : {from mid : SourceState R} {old half new : SinkState W} {first w v u : WalkState} {s : Summary} → IsBefore settings first
+      → Told remaining contents first.explainer.settings from mid old half w → ((l : Log) → Follows l w.noticed → v ≡ ended l w)
+      → WritesWhole contents half new v.explainer.to_write → u ≡ record v { explainer = record v.explainer { to_write = [] } }
+      → s ≡ summary_of u → IsAtEnd (remaining mid.reader) ⊎ (is_read_on w ≡ false)
+      → Completes remaining contents settings from mid old new s
+  completes {from} {mid} {old} {half} {new} {first} {w} {v} {u} {s} before t ends writes cleared counts stop =
+      completes_so (subst (λ k. Told remaining contents k from mid old half w) (ap (λ (e : ExplainerState). e.settings) before.explainer) t)
+      ends writes cleared counts stop

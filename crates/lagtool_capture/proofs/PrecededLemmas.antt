@@ -1,7 +1,7 @@
 -- What is said does not depend on what is not written yet: a text in front of that stays in front.
-use Rattle.lagtool_capture.proofs.Common.{Bool, Err, List, None, Ok, Option, Result, Some, [], ap, append-nil, cond, drop, length, refl, sym, true, false, ℕ, ◌++◌, ◌+◌, ◌∙◌, ◌∷◌, ◌≡◌}
+use Rattle.lagtool_capture.proofs.Common.{Bool, Err, List, None, Ok, Option, Result, Some, [], ap, cond, drop, length, refl, sym, true, false, ℕ, ◌++◌, ◌+◌, ◌∙◌, ◌∷◌, ◌≡◌}
 use Rattle.lagtool_capture.proofs.Common.{ExplainerState, after_placed, end_place, identity_of, name_place, named, place_of, sender_of, with_end, with_line, one_more}
-use Rattle.std.proofs.Common.{append_assoc}
+use Rattle.std.proofs.Common.{append-nil, append_assoc, ◌==◌}
 use Rattle.captures.specs.Whole.{Captured}
 use Rattle.captures.specs.declared.packet.Packet.{Packet}
 use Rattle.findings.specs.declared.finding.Finding.{Finding}

@@ -1,6 +1,7 @@
 -- A walk over pieces is one over all octets, however they are cut.
-use Rattle.lagtool_capture.proofs.Common.{Bool, Err, List, None, Ok, Option, Result, Some, [], ap, arith, drop, inl, inr, length, length-drop, min, refl, subst, sym}
+use Rattle.lagtool_capture.proofs.Common.{Bool, Err, List, None, Ok, Option, Result, Some, [], ap, arith, drop, inl, inr, length, length-drop, min, refl, subst, suc, sym, zero}
 use Rattle.lagtool_capture.proofs.Common.{true, ℕ, ◌++◌, ◌+◌, ◌-◌, ◌<◌, ◌^◌, ◌∙◌, ◌≡◌, ◌≤◌, ExplainerState, Follows, Log, ends_of, findings_in}
+use Rattle.std.specs.Prelude.{⊤}
 use Rattle.std.proofs.Common.{append-nil, append_assoc, length-append, option_map, ◌⊎◌}
 use Rattle.std.proofs.lemmas.List.{drop-append-le, drop-drop}
 use Rattle.std.proofs.Math.Seq.{drop-append-add, drop-length}
@@ -103,9 +104,9 @@ fed_past piece w none free lt =
 -- octets of which some are taken already, and those behind them
 joined : (rest piece more : List ℕ) (skip : ℕ) → (skip ≡ 0) ⊎ (rest ≡ []) → skip ≤ length piece
     → drop skip (rest ++ (piece ++ more)) ≡ (rest ++ drop skip piece) ++ more
-joined rest piece more skip (inl zero) le =
-    ap (λ k. drop k (rest ++ (piece ++ more))) zero ∙ sym (append_assoc rest piece more)
-    ∙ ap (λ k. (rest ++ drop k piece) ++ more) (sym zero)
+joined rest piece more skip (inl none_skipped) le =
+    ap (λ k. drop k (rest ++ (piece ++ more))) none_skipped ∙ sym (append_assoc rest piece more)
+    ∙ ap (λ k. (rest ++ drop k piece) ++ more) (sym none_skipped)
 joined rest piece more skip (inr none) le =
     ap (λ r. drop skip (r ++ (piece ++ more))) none ∙ drop-append-le skip piece more le ∙ ap (λ r. (r ++ drop skip piece) ++ more) (sym none)
 
@@ -155,7 +156,7 @@ module _ (piece : List ℕ) (w v : WalkState) (clear : IsClear w) (le : w.skip �
   clear_still = by h.explains.skip
     where
       by : (h.taken.skip ≡ 0) ⊎ ((h.taken.count ≡ length b) × (h.taken.fault ≡ None)) → IsClear v
-      by (inl zero) = inl (h.skip ∙ zero)
+      by (inl none_skipped) = inl (h.skip ∙ none_skipped)
       by (inr (all, free)) = inr (h.rest ∙ ap (λ k. drop k b) all ∙ drop-length b)
 
   waits_so : (o : Option Fault) → h.taken.fault ≡ o → Waits v (refused_if_any v.at o)
@@ -173,10 +174,10 @@ module _ (piece : List ℕ) (w v : WalkState) (clear : IsClear w) (le : w.skip �
               is_there : Option Fault → Type 0
               is_there None = ⊥
               is_there (Some x) = ⊤
-      by (inl zero) =
-          let sum : h.taken.count + h.taken.skip ≡ h.taken.count = omega (arith, zero) in
+      by (inl none_skipped) =
+          let sum : h.taken.count + h.taken.skip ≡ h.taken.count = omega (arith, none_skipped) in
           let same : drop (h.taken.count + h.taken.skip) b ≡ v.rest = ap (λ k. drop k b) sum ∙ sym h.rest in (
-            h.skip ∙ zero,
+            h.skip ∙ none_skipped,
             (
               f,
               (
@@ -203,7 +204,7 @@ fed : (piece : List ℕ) (w v : WalkState) → IsClear w → w.fault ≡ None �
 fed piece w v clear free (inl (lt, is)) = by clear
   where
     by : IsClear w → Fed piece w v
-    by (inl zero) = absurd (omega (arith, lt, zero))
+    by (inl none_skipped) = absurd (omega (arith, lt, none_skipped))
     by (inr none) = subst (Fed piece w) (sym is) (fed_past piece w none free lt)
 fed piece w v clear free (inr (le, takes)) = fed_takes piece w v clear le takes
 
@@ -288,15 +289,15 @@ stands_written settings octets out w v s e = subst (Stands settings octets (out 
     by (Some f) h = h
 
 all_left : (w : WalkState) → IsClear w → next_octets w [] ≡ w.rest
-all_left w (inl zero) = ap (λ k. drop k (w.rest ++ [])) zero ∙ append-nil w.rest
+all_left w (inl none_skipped) = ap (λ k. drop k (w.rest ++ [])) none_skipped ∙ append-nil w.rest
 all_left w (inr none) = ap (λ r. drop w.skip (r ++ [])) none ∙ empty w.skip ∙ sym none
   where
-    empty : (k : ℕ) → drop k ([] {A = ℕ}) ≡ []
+    empty : (k : ℕ) → ◌≡◌ {A = List ℕ} (drop k []) []
     empty zero = refl
     empty (suc k) = refl
 
 no_place : (at : ℕ) (w : WalkState) → IsClear w → next_place at w [] ≡ at
-no_place at w (inl zero) = by w.skip (length (w.rest ++ [])) zero
+no_place at w (inl none_skipped) = by w.skip (length (w.rest ++ [])) none_skipped
   where
     by : (k l : ℕ) → k ≡ 0 → at + min k l ≡ at
     by k l z = omega (arith, z)
@@ -306,9 +307,9 @@ no_place at w (inr none) = by w.skip (length (w.rest ++ [])) (ap (λ r. length (
     by k l z = omega (arith, z)
 
 -- what a capture of just these octets holds
-record Closes (c : Capture) (found : List (Option Captured)) (fault : Option ReadFault) : Type 0 where
+record Closes (c : Capture) (found : List (Option Captured)) (why : Option ReadFault) : Type 0 where
   numbered : c.numbered ≡ found
-  fault : option_map (refused_at 0) c.fault ≡ fault
+  fault : option_map (refused_at 0) c.fault ≡ why
 
 placed : (at place : ℕ) (f : Fault) → at ≡ sum_of 0 place → refused_at 0 (record { at = place + f.at; cause = f.cause }) ≡ refused_at at f
 placed at place f e =
@@ -326,11 +327,11 @@ ending_none place (Err f) = refl
 -- the capture is not read on: whatever follows
 refused_ends : (settings : Settings) (octets out : List ℕ) (w : WalkState) (s : Stands settings octets out w) (f : Fault) (more : List ℕ)
     → w.skip ≡ 0 → Stops w.rest w.reader (Some f) → capture_in (octets ++ more) ≡ behind s.found (refused_from s.at f)
-refused_ends settings octets out w s f more zero (some, is) =
+refused_ends settings octets out w s f more none_skipped (some, is) =
     let (left, enough, so) = s.goes more in
-    let next : next_octets w more ≡ w.rest ++ more = ap (λ k. drop k (w.rest ++ more)) zero in
+    let next : next_octets w more ≡ w.rest ++ more = ap (λ k. drop k (w.rest ++ more)) none_skipped in
     let l = length-append w.rest more in
-    let place : next_place s.at w more ≡ s.at = by s.at w.skip (length (w.rest ++ more)) zero in
+    let place : next_place s.at w more ≡ s.at = by s.at w.skip (length (w.rest ++ more)) none_skipped in
     so ∙ ap (λ k. behind s.found (capture_from left k w.reader (next_octets w more))) place
     ∙ ap (λ k. behind s.found (capture_from left s.at w.reader k)) next
     ∙ ap (behind s.found) (ends_refused left s.at w.reader (w.rest ++ more) f (subst (λ k. length k ≤ left) next enough)
@@ -353,9 +354,9 @@ closes_by settings octets out w s None h =
       numbered = ap (λ (c : Capture). c.numbered) is ∙ ap (λ k. s.found ++ k) (ending_none s.at r) ∙ append-nil s.found;
       fault = ap (λ (c : Capture). option_map (refused_at 0) c.fault) is ∙ ending_is w.at s.at r s.at_is;
     }
-closes_by settings octets out w s (Some fault) (zero, (f, (e, stops))) =
+closes_by settings octets out w s (Some fault) (none_skipped, (f, (e, stops))) =
     let is : capture_in octets ≡ behind s.found (refused_from s.at f) =
-    ap capture_in (sym (append-nil octets)) ∙ refused_ends settings octets out w s f [] zero stops in
+    ap capture_in (sym (append-nil octets)) ∙ refused_ends settings octets out w s f [] none_skipped stops in
     record {
       numbered = ap (λ (c : Capture). c.numbered) is ∙ append-nil s.found;
       fault = ap (λ (c : Capture). option_map (refused_at 0) c.fault) is ∙ ap Some (placed w.at s.at f s.at_is ∙ sym e);
@@ -363,9 +364,9 @@ closes_by settings octets out w s (Some fault) (zero, (f, (e, stops))) =
 
 settled_by : (settings : Settings) (octets out : List ℕ) (w : WalkState) (s : Stands settings octets out w) (fault : ReadFault) → Waits w (Some fault)
     → IsSettled octets
-settled_by settings octets out w s fault (zero, (f, (e, stops))) = λ more.
-    refused_ends settings octets out w s f more zero stops
-    ∙ sym (ap capture_in (sym (append-nil octets)) ∙ refused_ends settings octets out w s f [] zero stops)
+settled_by settings octets out w s fault (none_skipped, (f, (e, stops))) = λ more.
+    refused_ends settings octets out w s f more none_skipped stops
+    ∙ sym (ap capture_in (sym (append-nil octets)) ∙ refused_ends settings octets out w s f [] none_skipped stops)
 
 -- whatever follows what was read of a capture that is not read on, it changes nothing
 pub stands_settled : (settings : Settings) (octets out : List ℕ) (w : WalkState) (fault : ReadFault) → Stands settings octets out w

@@ -1,5 +1,5 @@
 -- What is found in a capture, by its frames.
-use Rattle.std.specs.Prelude.{◌≡◌, ℕ, List, [], ◌∷◌, Option, Some, flat_map, option_and_then, unwrap_or}
+use Rattle.std.specs.Prelude.{◌≡◌, ℕ, List, [], ◌∷◌, Option, Some, None, flat_map, option_and_then, unwrap_or}
 use Rattle.std.specs.List.{cons_option}
 use Rattle.captures.specs.declared.packet.Packet.{Packet}
 use Rattle.captures.specs.Whole.{Captured}

@@ -1,6 +1,7 @@
-ghost use Rattle.std.specs.Prelude.{◌≡◌, false, IfErr, IfOk};
+ghost use Rattle.std.specs.Prelude.{◌≡◌, ◌&&◌, false, nat_lt, IfErr, IfOk};
 ghost use Rattle.lagtool_capture.specs.Faults.{HasCause};
 ghost use Rattle.lagtool_capture.specs.Reports.{Completes};
+ghost use Rattle.lagtool_capture.specs.Walks.{is_read_on};
 
 use crate::fault::CaptureFault;
 use crate::settings::Settings;
@@ -9,6 +10,13 @@ use crate::walk::Walk;
 use lagstreams::{Sink, Source};
 use std::alloc::Global;
 use std::io::{Read, Write};
+
+/// Whether a capture is read on behind a read that gave so many octets.
+fn is_read_on(walk: &Walk, n: usize) -> bool
+    ensures { result ≡ (nat_lt 0 n && is_read_on walk.now) }
+{
+    n > 0 && walk.is_read_on()
+}
 
 /// Reads a capture to its end, and writes what it says: a line for each frame of the slow protocols, then a line for each
 /// end of a link, what is found of the ends, and the counts (profile). Up to 4,096 octets are read at a time, and what they say is written before
@@ -30,12 +38,12 @@ pub fn explain<R: Read, W: Write>(
     source.is_bounded();
     let mut walk = Walk::new(alloc, settings);
     let mut piece = [0; 4096];
-    let mut is_at_end = false;
-    while !is_at_end && walk.is_read_on() {
+    let mut goes_on = true;
+    while goes_on {
         let n = source.read(&mut piece)?;
-        is_at_end = n == 0;
         walk.feed(&piece[..n])?;
         walk.write(sink)?;
+        goes_on = is_read_on(&walk, n);
     }
     walk.finish(alloc)?;
     walk.write(sink)?;
