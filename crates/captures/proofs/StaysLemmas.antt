@@ -1,16 +1,14 @@
 -- What a step answers is the same whatever follows the octets.
-use Rattle.std.proofs.Common.{◌≡◌, ◌++◌, ◌≤◌, ◌<◌, ◌+◌, ◌-◌, ◌*◌, ◌^◌, ◌%◌, ◌∙◌, ◌==◌, ◌&&◌, ◌||◌, not, ℕ, zero, suc, Bool, true, false, cond, List, length, drop, slice_index, nat_lt, Result, Ok, Err, Option, Some, None, ap, refl, sym, subst, arith, length-append, length-drop, ltb-false, ltb-true}
-use Rattle.std.proofs.lemmas.Bool.{le-ltb, or_parts}
+use Rattle.std.proofs.Common.{◌≡◌, ◌++◌, ◌≤◌, ◌<◌, ◌+◌, ◌*◌, ◌^◌, ◌%◌, ◌∙◌, ◌==◌, ◌||◌, not, ℕ, zero, suc, Bool, true, false, cond, List, length}
+use Rattle.std.proofs.Common.{drop, slice_index, nat_lt, Result, Ok, Err, ap, refl, sym, subst, arith, length-append, length-drop, ltb-false}
+use Rattle.std.proofs.lemmas.Bool.{le-ltb}
 use Rattle.std.proofs.lemmas.List.{drop-append-le}
 use Rattle.std.proofs.Math.ListN.{get_or-append}
 use Rattle.std.specs.Prelude.{⊤}
 use Rattle.byteorder.specs.Endian.{big_from, little_from}
-use Rattle.captures.specs.declared.block.Block.TheVariants as blocks
 use Rattle.captures.specs.declared.fault.Cause.TheVariants as causes
 use Rattle.captures.specs.declared.fault.Stop.{Stop}
 use Rattle.captures.specs.declared.fault.Stop.TheVariants.{Wants, Refused}
-use Rattle.captures.specs.declared.format.Format.TheVariants as formats
-use Rattle.captures.specs.declared.interface.Interface.{Interface}
 use Rattle.captures.specs.declared.link.LinkType.{LinkType}
 use Rattle.captures.specs.declared.number.Order.{Order}
 use Rattle.captures.specs.declared.number.Order.TheVariants.{Big, Little}

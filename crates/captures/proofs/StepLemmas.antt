@@ -1,5 +1,6 @@
 -- A block, a head and a step stay as they are, whatever follows the octets.
-use Rattle.std.proofs.Common.{◌≡◌, ◌++◌, ◌≤◌, ◌<◌, ◌+◌, ◌-◌, ◌*◌, ◌/◌, ◌%◌, ◌∙◌, ◌==◌, ◌&&◌, ◌||◌, not, ℕ, zero, suc, Bool, true, false, cond, List, length, slice_index, nat_lt, Result, Ok, Err, IfOk, ap, refl, sym, subst, arith, ltb-false, eqb-true, true≢false}
+use Rattle.std.proofs.Common.{◌≡◌, ◌++◌, ◌≤◌, ◌+◌, ◌-◌, ◌*◌, ◌/◌, ◌%◌, ◌∙◌, ◌==◌, ◌&&◌, ◌||◌, not, ℕ, zero, suc, Bool, true, false, cond, List}
+use Rattle.std.proofs.Common.{length, slice_index, nat_lt, Result, Ok, Err, IfOk, ap, refl, sym, subst, arith, ltb-false, eqb-true, true≢false}
 use Rattle.std.proofs.lemmas.Bool.{or_parts}
 use Rattle.captures.specs.declared.block.Block.TheVariants as blocks
 use Rattle.captures.specs.declared.description.Entry.{Entry}
@@ -7,7 +8,7 @@ use Rattle.captures.specs.declared.description.Entry.TheVariants as entries
 use Rattle.captures.specs.declared.fault.Cause.TheVariants as causes
 use Rattle.captures.specs.declared.fault.Fault.{Fault}
 use Rattle.captures.specs.declared.fault.Stop.{Stop}
-use Rattle.captures.specs.declared.fault.Stop.TheVariants.{Wants, Refused}
+use Rattle.captures.specs.declared.fault.Stop.TheVariants.{Refused}
 use Rattle.captures.specs.declared.format.Format.{Format}
 use Rattle.captures.specs.declared.format.Format.TheVariants as formats
 use Rattle.captures.specs.declared.interface.Interface.{Interface}
@@ -17,7 +18,8 @@ use Rattle.captures.specs.declared.number.Order.TheVariants.{Big, Little}
 use Rattle.captures.specs.declared.reader.Step.{Step}
 use Rattle.captures.specs.declared.time.Unit.TheVariants.{Micro, Nano}
 use Rattle.captures.specs.Blocks.{as_block, block_in, block_of_type, without_packet}
-use Rattle.captures.specs.Descriptions.{entry_at, interface_in, is_wrong_option, option_code, option_size, timing_from, timing_in, timing_of, units_at, usual_timing}
+use Rattle.captures.specs.Descriptions.{entry_at, interface_in, is_wrong_option, option_code, option_size, timing_from, timing_in, timing_of}
+use Rattle.captures.specs.Descriptions.{units_at, usual_timing}
 use Rattle.captures.specs.Faults.{refused}
 use Rattle.captures.specs.Formats.{first_section, format_in, format_of_number, packets_behind}
 use Rattle.captures.specs.Links.{link_at}
@@ -25,10 +27,11 @@ use Rattle.captures.specs.Numbers.{number_at}
 use Rattle.captures.specs.Pcap.{link_of_file, most_captured, packet_in, whole}
 use Rattle.captures.specs.Pcapng.{described, interface_number, length_in, limited, or_refused, room, section_in, simple_packet, stamped_packet}
 use Rattle.captures.specs.Reading.{◌>>=◌, with_octets}
-use Rattle.captures.specs.Steps.{ReaderState, block_step, head_step, second_length, step, step_in}
+use Rattle.captures.specs.Steps.{ReaderState, second_length, step, step_in}
 use Rattle.captures.specs.Times.{shift_of, stamp_time, units_of_resolution}
 use Rattle.captures.proofs.EntryLemmas.{none_left, one_entry}
-use Rattle.captures.proofs.StaysLemmas.{Stays, length_same, link_stays, number_same, octet_same, packet_stays, section_stays, stays_bind, stays_known, stays_octets, stays_same, whole_stays}
+use Rattle.captures.proofs.StaysLemmas.{Stays, length_same, link_stays, number_same, octet_same, packet_stays, section_stays, stays_bind, stays_known}
+use Rattle.captures.proofs.StaysLemmas.{stays_octets, stays_same, whole_stays}
 
 interface_number_same : (order : Order) (b more : List ℕ) (is_older : Bool) → 12 ≤ length b
     → interface_number order (b ++ more) is_older ≡ interface_number order b is_older

@@ -1,5 +1,6 @@
 -- A capture is read step by step, whatever follows.
-use Rattle.std.proofs.Common.{◌≡◌, ◌++◌, ◌≤◌, ◌<◌, ◌+◌, ◌-◌, ◌∙◌, ◌⊎◌, ℕ, zero, suc, Bool, List, [], ◌∷◌, length, drop, take, min, slice_range, Result, Ok, Err, Option, Some, None, IfSome, ap, refl, sym, subst, arith, inl, inr, append_assoc, length-append, length-drop}
+use Rattle.std.proofs.Common.{◌≡◌, ◌++◌, ◌≤◌, ◌<◌, ◌+◌, ◌-◌, ◌∙◌, ◌⊎◌, ℕ, zero, suc, Bool, List, [], ◌∷◌, length, drop, take, min, slice_range, Ok}
+use Rattle.std.proofs.Common.{Err, Option, Some, None, IfSome, ap, refl, sym, arith, inl, inr, append_assoc, length-append, length-drop}
 use Rattle.std.proofs.lemmas.List.{drop-append-le, drop-drop, take-append-le}
 use Rattle.captures.specs.declared.fault.Fault.{Fault}
 use Rattle.captures.specs.declared.fault.Stop.TheVariants.{Wants, Refused}

@@ -1,17 +1,38 @@
 -- The names that proofs of this crate import, passed on from one place. Declares nothing; tools/proof-imports writes it.
-pub use Rattle.std.proofs.Common.{Bool, Err, IfErr, IfOk, List, None, Ok, OnOk, Option, Result, Some, [], ap, arith, cond, drop, eqb, eqb-true, false}
-pub use Rattle.std.proofs.Common.{get_or, inl, inr, leb, length, length-drop, min, refl, replicate, set, slice_get, subst, suc, sym, take, true, zero}
-pub use Rattle.std.proofs.Common.{ℕ, ◌*◌, ◌++◌, ◌+◌, ◌-◌, ◌/◌, ◌<◌, ◌^◌, ◌∙◌, ◌∷◌, ◌≡◌, ◌≤◌}
-pub use Rattle.std.proofs.lemmas.List.{flat_map_more, length-map, take_more, take_rest}
+pub use Rattle.std.proofs.Common.{Bool, Err, IfErr, IfOk, IfSome, List, None, Ok, OnOk, Option, Result, Some, [], ap, append-nil, append_assoc, arith}
+pub use Rattle.std.proofs.Common.{cond, drop, eqb, eqb-true, false, get_or, inl, inr, leb, length, length-append, length-drop, ltb-false, min, nat_lt}
+pub use Rattle.std.proofs.Common.{option_map, refl, replicate, set, slice_get, subst, suc, sym, take, true, true≢false, zero, ℕ, ◌&&◌, ◌*◌, ◌++◌, ◌+◌}
+pub use Rattle.std.proofs.Common.{◌-◌, ◌/◌, ◌<◌, ◌==◌, ◌^◌, ◌∙◌, ◌∷◌, ◌≡◌, ◌≤◌, ◌⊎◌}
+pub use Rattle.std.proofs.lemmas.Bool.{and_cases, and_parts, eqb-false, le-leb, leb-false, leb-true, lt-leb}
+pub use Rattle.std.proofs.lemmas.List.{drop-append-le, drop-drop, flat_map_more, length-map, take_more, take_rest}
 pub use Rattle.std.specs.Fmt.{HasWritten, IsPlainFormatter}
+pub use Rattle.std.specs.Io.KnownBytes.{Consumes, IsAtEnd}
 pub use Rattle.std.specs.List.{cons_option}
-pub use Rattle.std.specs.Prelude.{flat_map, unwrap_or}
+pub use Rattle.std.specs.Prelude.{flat_map, unwrap_or, ⊤}
+pub use Rattle.slowpdu.specs.declared.fault.WireFault.{WireFault}
+pub use Rattle.slowpdu.specs.declared.pdu.Lacpdu.{Lacpdu}
+pub use Rattle.slowpdu.specs.declared.pdu.Pdu.{Pdu}
+pub use Rattle.captures.specs.declared.fault.Fault.{Fault}
+pub use Rattle.captures.specs.Steps.{ReaderState, end_of, step}
+pub use Rattle.captures.specs.Whole.{Capture, Captured, IsSettled, ReadsTo, at_start, behind, capture_from, capture_in, ending, numbered_in}
+pub use Rattle.captures.specs.Whole.{refused_from}
+pub use Rattle.findings.specs.declared.finding.Finding.{Finding}
 pub use Rattle.findings.specs.Knows.{ends_of}
-pub use Rattle.lagtool_capture.specs.declared.gaps.Gaps.{Gaps}
-pub use Rattle.lagtool_capture.specs.Counting.{one_more}
-pub use Rattle.lagtool_capture.specs.Ends.{Sent, end_of, end_place, end_place_from, gap_between, gaps_between, latest_time, named_by}
-pub use Rattle.lagtool_capture.specs.Explaining.{ExplainerState, after_placed, last_shown, name_place, named, sender_of, with_end, with_line}
+pub use Rattle.lagtool_capture.specs.declared.envelope.Envelope.{Envelope}
+pub use Rattle.lagtool_capture.specs.declared.fault.ReadFault.{ReadFault}
+pub use Rattle.lagtool_capture.specs.declared.names.Identity.{Identity}
+pub use Rattle.lagtool_capture.specs.declared.settings.Settings.{Settings}
+pub use Rattle.lagtool_capture.specs.Contents.{content_in, content_of}
+pub use Rattle.lagtool_capture.specs.Counting.{one_more, sum_of}
+pub use Rattle.lagtool_capture.specs.Ends.{Sent, end_place, end_place_from, gap_between, gaps_between, latest_time, named_by}
+pub use Rattle.lagtool_capture.specs.Explaining.{ExplainerState, after, after_all, after_content, after_envelope, after_placed, after_slow}
+pub use Rattle.lagtool_capture.specs.Explaining.{closing_records, closing_texts, counted, frame_line, is_new, lacpdu_line, last_shown, legend_line}
+pub use Rattle.lagtool_capture.specs.Explaining.{name_place, named, nothing_seen, sender_of, with_end, with_ends, with_line}
 pub use Rattle.lagtool_capture.specs.Gaps.{IsMedianOf, count_up_to, gaps_of, median, tenths_of, tenths_up_to}
 pub use Rattle.lagtool_capture.specs.Json.{ends_records, findings_records}
 pub use Rattle.lagtool_capture.specs.Names.{identity_of, place_from, place_of}
-pub use Rattle.lagtool_capture.specs.Noticing.{Follows, IsKnown, Log, all_rules, finding_by, findings_by, findings_in}
+pub use Rattle.lagtool_capture.specs.Noticing.{Follows, IsKnown, Log, all_rules, finding_by, findings_by, findings_in, logged_all, nothing_logged}
+pub use Rattle.lagtool_capture.specs.Reports.{Completes, counts_of, explained, found_in, report, summary}
+pub use Rattle.lagtool_capture.specs.Strides.{Explains, Stops, stopped_at}
+pub use Rattle.lagtool_capture.specs.Walks.{Feeds, IsBefore, Takes, WalkState, ended, is_free, is_read_on, refused_at, refused_end, refused_if_any}
+pub use Rattle.lagtool_capture.specs.Walks.{skipped, summary_of}

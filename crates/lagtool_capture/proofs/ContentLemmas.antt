@@ -1,12 +1,9 @@
 -- What `decode` answers is what the payload holds.
-use Rattle.lagtool_capture.proofs.Common.{Err, IfErr, IfOk, List, Ok, Result, Some, ap, sym, ℕ, ◌∙◌, ◌≡◌}
+use Rattle.lagtool_capture.proofs.Common.{Err, IfErr, IfOk, List, Ok, Result, Some, ap, sym, ℕ, ◌∙◌, ◌≡◌, WireFault, Pdu, content_in, content_of}
 use Rattle.slowpdu.specs.Faults.{fault_of}
 use Rattle.slowpdu.specs.Pdus.{ReadsPdu}
-use Rattle.slowpdu.specs.declared.fault.WireFault.{WireFault}
-use Rattle.slowpdu.specs.declared.pdu.Pdu.{Pdu}
 use Rattle.slowpdu.proofs.PduInLemmas.{pdu_read}
 use Rattle.slowpdu.proofs.PduLemmas.{no_fault}
-use Rattle.lagtool_capture.specs.Contents.{content_in, content_of}
 
 pub content_is : (b : List ℕ) (r : Result Pdu WireFault) → IfOk r (λ v. ReadsPdu b v) → IfErr r (λ e. fault_of b ≡ Some e)
     → r ≡ content_of b

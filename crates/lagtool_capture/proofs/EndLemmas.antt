@@ -1,6 +1,7 @@
 -- What an end keeps of the times between its LACPDUs.
 use Rattle.lagtool_capture.proofs.Common.{List, None, Option, Some, [], ap, arith, length, refl, ℕ, ◌+◌, ◌<◌, ◌^◌, ◌∙◌, ◌∷◌, ◌≡◌, ◌≤◌, cons_option}
-use Rattle.lagtool_capture.proofs.Common.{Gaps, Sent, end_of, gap_between, gaps_between, latest_time, IsMedianOf, gaps_of, median}
+use Rattle.lagtool_capture.proofs.Common.{Sent, gap_between, gaps_between, latest_time, IsMedianOf, gaps_of, median}
+use Rattle.lagtool_capture.specs.Ends.{end_of}
 use Rattle.lagtool_capture.specs.Gaps.{gaps_with}
 use Rattle.lagtool_capture.specs.declared.ends.End.{End}
 use Rattle.lagtool_capture.specs.declared.ends.Sender.{Sender}

@@ -1,11 +1,8 @@
 -- From the steps of an explanation to the whole.
-use Rattle.lagtool_capture.proofs.Common.{Err, Ok, OnOk, Option, Result, ap, ℕ, ◌∙◌, ◌≡◌, end_place, ExplainerState, after_placed, last_shown}
-use Rattle.lagtool_capture.proofs.Common.{name_place, named, sender_of, with_end, with_line, identity_of}
+use Rattle.lagtool_capture.proofs.Common.{Err, Ok, OnOk, Option, Result, ap, ℕ, ◌∙◌, ◌≡◌, Lacpdu, Envelope, Identity, end_place, ExplainerState}
+use Rattle.lagtool_capture.proofs.Common.{after_placed, last_shown, name_place, named, sender_of, with_end, with_line, identity_of}
 use Rattle.lagtool_capture.specs.Explaining.{after_lacpdu, after_named}
-use Rattle.slowpdu.specs.declared.pdu.Lacpdu.{Lacpdu}
-use Rattle.lagtool_capture.specs.declared.envelope.Envelope.{Envelope}
 use Rattle.lagtool_capture.specs.declared.lacpdu_texts.Shown.{Shown}
-use Rattle.lagtool_capture.specs.declared.names.Identity.{Identity}
 use Rattle.lagtool_capture.specs.LacpduTexts.{shown_of}
 use Rattle.lagtool_capture.specs.declared.line.WhatText.TheVariants as what
 

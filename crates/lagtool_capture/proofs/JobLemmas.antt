@@ -1,18 +1,13 @@
 -- What a job has read and written so far, and at its end.
-use Rattle.lagtool_capture.proofs.Common.{Bool, List, None, Option, Some, [], ap, false, inl, inr, refl, subst, sym, true, ℕ, ◌++◌, ◌∙◌, ◌≡◌, ExplainerState, Follows, Log}
-use Rattle.std.proofs.Common.{◌⊎◌, ◌&&◌, true≢false, nat_lt, ltb-false, arith}
-use Rattle.std.proofs.lemmas.Bool.{and_cases, and_parts}
+use Rattle.lagtool_capture.proofs.Common.{Bool, List, None, Option, Some, [], ap, arith, false, inl, inr, ltb-false, nat_lt, refl, subst, sym, true}
+use Rattle.lagtool_capture.proofs.Common.{true≢false, ℕ, ◌&&◌, ◌++◌, ◌∙◌, ◌≡◌, ◌⊎◌, and_cases, and_parts, Consumes, IsAtEnd, IsSettled, ReadFault}
+use Rattle.lagtool_capture.proofs.Common.{Settings, ExplainerState, Follows, Log, Completes, Feeds, IsBefore, WalkState, ended, is_free, is_read_on}
+use Rattle.lagtool_capture.proofs.Common.{summary_of}
 use Rattle.std.proofs.KnownBytes.{Appends-nil, Consumes-nil, Consumes-trans}
-use Rattle.std.specs.Io.KnownBytes.{Consumes, IsAtEnd}
-use Rattle.captures.specs.Whole.{IsSettled}
 use Rattle.lagstreams.proofs.SinkLemmas.{takes_more}
 use Rattle.lagstreams.specs.Sinks.{SinkState, WritesWhole}
 use Rattle.lagstreams.specs.Sources.{Gives, SourceState}
 use Rattle.lagtool_capture.proofs.WalkLemmas.{Stands, stands_counts, stands_fed, stands_first, stands_reports, stands_settled, stands_written}
-use Rattle.lagtool_capture.specs.Reports.{Completes}
-use Rattle.lagtool_capture.specs.Walks.{Feeds, IsBefore, WalkState, ended, is_free, is_read_on, summary_of}
-use Rattle.lagtool_capture.specs.declared.fault.ReadFault.{ReadFault}
-use Rattle.lagtool_capture.specs.declared.settings.Settings.{Settings}
 use Rattle.lagtool_capture.specs.declared.summary.Summary.{Summary}
 
 module _ {R W : Type 0} (remaining : R → Option (List ℕ)) (contents : W → Option (List ℕ)) (settings : Settings) where

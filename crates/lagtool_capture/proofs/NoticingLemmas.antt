@@ -1,8 +1,7 @@
 -- Findings that were added so far, and those of one element more.
 use Rattle.lagtool_capture.proofs.Common.{List, None, Some, [], ap, get_or, length, slice_get, sym, take, ℕ, ◌++◌, ◌+◌, ◌<◌, ◌∙◌, ◌≡◌, flat_map_more}
-use Rattle.lagtool_capture.proofs.Common.{take_more, flat_map, Log, all_rules, findings_by, findings_in}
+use Rattle.lagtool_capture.proofs.Common.{take_more, flat_map, Finding, Log, all_rules, findings_by, findings_in}
 use Rattle.std.proofs.lemmas.Option.{slice_get-get_or}
-use Rattle.findings.specs.declared.finding.Finding.{Finding}
 use Rattle.findings.specs.declared.observed.LinkEnd.{LinkEnd}
 
 -- what one element more adds

@@ -1,21 +1,16 @@
 -- What is said does not depend on what is not written yet: a text in front of that stays in front.
-use Rattle.lagtool_capture.proofs.Common.{Bool, Err, List, None, Ok, Option, Result, Some, [], ap, cond, drop, length, refl, sym, true, false, ℕ, ◌++◌, ◌+◌, ◌∙◌, ◌∷◌, ◌≡◌}
-use Rattle.lagtool_capture.proofs.Common.{ExplainerState, after_placed, end_place, identity_of, name_place, named, place_of, sender_of, with_end, with_line, one_more}
-use Rattle.std.proofs.Common.{append-nil, append_assoc, ◌==◌}
-use Rattle.captures.specs.Whole.{Captured}
+use Rattle.lagtool_capture.proofs.Common.{Bool, Err, List, None, Ok, Option, Result, Some, [], ap, append-nil, append_assoc, cond, drop, false}
+use Rattle.lagtool_capture.proofs.Common.{length, refl, sym, true, ℕ, ◌++◌, ◌+◌, ◌==◌, ◌∙◌, ◌∷◌, ◌≡◌, WireFault, Lacpdu, Pdu, Captured, Finding}
+use Rattle.lagtool_capture.proofs.Common.{Envelope, Identity, content_of, one_more, end_place, ExplainerState, after, after_all, after_content}
+use Rattle.lagtool_capture.proofs.Common.{after_envelope, after_slow, closing_records, closing_texts, counted, frame_line, is_new, lacpdu_line}
+use Rattle.lagtool_capture.proofs.Common.{legend_line, name_place, named, sender_of, with_end, with_ends, with_line, identity_of, place_of}
+use Rattle.lagtool_capture.specs.Explaining.{after_lacpdu, after_named}
+use Rattle.lagtool_capture.specs.Explaining.{observed}
 use Rattle.captures.specs.declared.packet.Packet.{Packet}
-use Rattle.findings.specs.declared.finding.Finding.{Finding}
-use Rattle.slowpdu.specs.declared.fault.WireFault.{WireFault}
-use Rattle.slowpdu.specs.declared.pdu.Lacpdu.{Lacpdu}
-use Rattle.slowpdu.specs.declared.pdu.Pdu.{Pdu}
 use Rattle.slowpdu.specs.declared.pdu.Pdu.TheVariants as pdu
-use Rattle.lagtool_capture.specs.Contents.{content_of}
 use Rattle.lagtool_capture.specs.Envelopes.{envelope_of}
-use Rattle.lagtool_capture.specs.Explaining.{after, after_all, after_content, after_envelope, after_lacpdu, after_named, after_slow, closing_records, closing_texts, counted, frame_line, is_new, lacpdu_line, legend_added, legend_line, observed, with_ends}
-use Rattle.lagtool_capture.specs.declared.envelope.Envelope.{Envelope}
 use Rattle.lagtool_capture.specs.declared.line.WhatText.{WhatText}
 use Rattle.lagtool_capture.specs.declared.line.WhatText.TheVariants as what
-use Rattle.lagtool_capture.specs.declared.names.Identity.{Identity}
 
 -- with this text in front of what is not written yet
 abbrev pub preceded : List ℕ → ExplainerState → ExplainerState

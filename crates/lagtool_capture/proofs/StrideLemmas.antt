@@ -1,18 +1,12 @@
 -- The steps that were taken so far, and one more.
-use Rattle.lagtool_capture.proofs.Common.{Err, List, None, Ok, Option, Some, [], ap, arith, drop, inl, inr, length, length-drop, refl, subst, sym}
-use Rattle.lagtool_capture.proofs.Common.{take, ℕ, ◌++◌, ◌+◌, ◌-◌, ◌<◌, ◌∙◌, ◌∷◌, ◌≡◌, ◌≤◌, take_rest, ExplainerState, Follows, Log}
-use Rattle.std.proofs.Common.{IfSome}
+use Rattle.lagtool_capture.proofs.Common.{Err, IfSome, List, None, Ok, Option, Some, [], ap, arith, drop, inl, inr, length, length-drop, refl, subst}
+use Rattle.lagtool_capture.proofs.Common.{sym, take, ℕ, ◌++◌, ◌+◌, ◌-◌, ◌<◌, ◌∙◌, ◌∷◌, ◌≡◌, ◌≤◌, take_rest, Fault, ReaderState, step, Captured}
+use Rattle.lagtool_capture.proofs.Common.{ReadsTo, numbered_in, ExplainerState, after_all, Follows, Log, logged_all, Explains, Stops, stopped_at}
 use Rattle.captures.proofs.WholeLemmas as whole
-use Rattle.captures.specs.Steps.{ReaderState, step}
 use Rattle.captures.specs.Wanted.{IsWithin}
-use Rattle.captures.specs.Whole.{Captured, ReadsTo, numbered_in}
-use Rattle.captures.specs.declared.fault.Fault.{Fault}
 use Rattle.captures.specs.declared.fault.Stop.{Stop}
 use Rattle.captures.specs.declared.fault.Stop.TheVariants.{Refused, Wants}
 use Rattle.captures.specs.declared.reader.Step.{Step}
-use Rattle.lagtool_capture.specs.Explaining.{after_all}
-use Rattle.lagtool_capture.specs.Noticing.{logged_all}
-use Rattle.lagtool_capture.specs.Strides.{Explains, Stops, stopped_at}
 use Rattle.lagtool_capture.specs.declared.noticing.Noticed.{Noticed}
 use Rattle.lagtool_capture.specs.declared.strides.Taken.{Taken}
 

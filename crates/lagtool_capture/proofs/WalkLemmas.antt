@@ -1,28 +1,16 @@
 -- A walk over pieces is one over all octets, however they are cut.
-use Rattle.lagtool_capture.proofs.Common.{Bool, Err, List, None, Ok, Option, Result, Some, [], ap, arith, drop, inl, inr, length, length-drop, min, refl, subst, suc, sym, zero}
-use Rattle.lagtool_capture.proofs.Common.{true, ℕ, ◌++◌, ◌+◌, ◌-◌, ◌<◌, ◌^◌, ◌∙◌, ◌≡◌, ◌≤◌, ExplainerState, Follows, Log, ends_of, findings_in}
-use Rattle.std.specs.Prelude.{⊤}
-use Rattle.std.proofs.Common.{append-nil, append_assoc, length-append, option_map, ◌⊎◌}
-use Rattle.std.proofs.lemmas.List.{drop-append-le, drop-drop}
+use Rattle.lagtool_capture.proofs.Common.{Err, List, None, Ok, Option, Result, Some, [], ap, append-nil, append_assoc, arith, drop, inl, inr, length}
+use Rattle.lagtool_capture.proofs.Common.{length-append, length-drop, min, option_map, refl, subst, suc, sym, zero, ℕ, ◌++◌, ◌+◌, ◌-◌, ◌<◌, ◌^◌, ◌∙◌}
+use Rattle.lagtool_capture.proofs.Common.{◌≡◌, ◌≤◌, ◌⊎◌, drop-append-le, drop-drop, ⊤, Fault, end_of, Capture, Captured, IsSettled, at_start, behind}
+use Rattle.lagtool_capture.proofs.Common.{capture_from, capture_in, ending, refused_from, ends_of, ReadFault, Settings, sum_of, ExplainerState}
+use Rattle.lagtool_capture.proofs.Common.{after_all, nothing_seen, with_ends, Follows, Log, findings_in, logged_all, nothing_logged, counts_of}
+use Rattle.lagtool_capture.proofs.Common.{explained, found_in, report, summary, Stops, Feeds, IsBefore, Takes, WalkState, ended, refused_at}
+use Rattle.lagtool_capture.proofs.Common.{refused_end, refused_if_any, skipped, summary_of}
 use Rattle.std.proofs.Math.Seq.{drop-append-add, drop-length}
 use Rattle.captures.proofs.StepLemmas.{step_refused}
 use Rattle.captures.proofs.WholeLemmas.{both_behind, ends_refused, ends_waiting}
-use Rattle.captures.specs.Steps.{ReaderState, end_of, step}
-use Rattle.captures.specs.Whole.{Capture, Captured, IsSettled, at_start, behind, capture_from, capture_in, ending, refused_from}
-use Rattle.captures.specs.declared.fault.Fault.{Fault}
-use Rattle.captures.specs.declared.fault.Stop.TheVariants.{Refused, Wants}
-use Rattle.findings.specs.Knows.{first_ends}
 use Rattle.lagtool_capture.proofs.PrecededLemmas.{all_preceded, ends_preceded, preceded, written_preceded}
 use Rattle.lagtool_capture.proofs.StrideLemmas.{after_both, logged_both}
-use Rattle.lagtool_capture.specs.Counting.{sum_of}
-use Rattle.lagtool_capture.specs.Explaining.{after_all, nothing_seen, with_ends}
-use Rattle.lagtool_capture.specs.Noticing.{logged_all, nothing_logged}
-use Rattle.lagtool_capture.specs.Reports.{counts_of, explained, found_in, report, summary}
-use Rattle.lagtool_capture.specs.Strides.{Stops}
-use Rattle.lagtool_capture.specs.Walks.{Feeds, IsBefore, Takes, WalkState, ended, refused_at, refused_end, refused_if_any, skipped, summary_of}
-use Rattle.lagtool_capture.specs.declared.fault.ReadFault.{ReadFault}
-use Rattle.lagtool_capture.specs.declared.settings.Settings.{Settings}
-use Rattle.lagtool_capture.specs.declared.strides.Taken.{Taken}
 
 -- the octets in which the next step is taken, if just these follow, and their place
 abbrev next_octets : WalkState → List ℕ → List ℕ

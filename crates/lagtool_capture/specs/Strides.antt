@@ -1,5 +1,5 @@
 -- How octets of a capture are read: step by step, as far as they go.
-use Rattle.std.specs.Prelude.{◌≡◌, ◌≤◌, ◌<◌, ◌⊎◌, ◌+◌, ℕ, List, Option, Some, None, Ok, Err, drop, length}
+use Rattle.std.specs.Prelude.{◌≡◌, ◌≤◌, ◌<◌, ◌⊎◌, ◌+◌, ℕ, List, Option, Some, None, Err, drop, length}
 use Rattle.captures.specs.Steps.{ReaderState, step}
 use Rattle.captures.specs.Whole.{Captured, ReadsTo}
 use Rattle.captures.specs.declared.fault.Fault.{Fault}

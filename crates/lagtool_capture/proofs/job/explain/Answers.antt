@@ -1,7 +1,5 @@
-use Rattle.lagtool_capture.proofs.Common.{ap, sym, ◌∙◌}
-use Rattle.std.proofs.Common.{true≢false}
+use Rattle.lagtool_capture.proofs.Common.{ap, sym, true≢false, ◌∙◌, is_free}
 use Rattle.lagtool_capture.proofs.JobLemmas.{completes, goes_by, ends_by, told_first, told_reads, told_writes}
-use Rattle.lagtool_capture.specs.Walks.{is_free}
 use Rattle.lagtool_capture.proofs.job.explain.Goals as goal
 
 pub loop-goes_on-init : goal.loop-goes_on-init

@@ -1,8 +1,5 @@
-use Rattle.lagtool_capture.proofs.Common.{cond, false, true, ◌+◌, ◌≡◌}
-use Rattle.std.proofs.Common.{◌⊎◌}
-use Rattle.std.specs.Io.KnownBytes.{IsAtEnd}
+use Rattle.lagtool_capture.proofs.Common.{cond, false, true, ◌+◌, ◌≡◌, ◌⊎◌, IsAtEnd, is_read_on}
 use Rattle.lagtool_capture.proofs.JobLemmas.{Told}
-use Rattle.lagtool_capture.specs.Walks.{is_read_on}
 use Rattle.lagtool_capture.proofs.job.explain.Given as goal
 
 abbrev pub invariant-loop-goes_on : goal.invariant-loop-goes_on
