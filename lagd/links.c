@@ -40,13 +40,24 @@ static int open_socket(int index) {
  * own. */
 static const char *const PASSABLE[] = {"noqueue", "pfifo_fast", "prio", "fq_codel", "mq"};
 
-/* Has what is sent go by no queueing discipline where it would wait behind data, or be refused with them: the order of LACPDUs and data
- * does not matter, and a marker goes by the socket of the data. No capture of this host shows what goes so. */
-static void choose_way(const struct link *link) {
-    int bypass = 1;
+static bool is_passable(const char *discipline) {
     for (size_t i = 0; i < sizeof PASSABLE / sizeof *PASSABLE; i++)
-        if (strcmp(link->discipline, PASSABLE[i]) == 0) bypass = 0;
-    (void)setsockopt(link->socket, SOL_PACKET, PACKET_QDISC_BYPASS, &bypass, sizeof bypass);
+        if (strcmp(discipline, PASSABLE[i]) == 0) return true;
+    return false;
+}
+
+/* Gives the kernel a frame, by its queueing discipline or by none; answers whether it took it. */
+static bool give(int fd, const uint8_t *frame, bool bypass) {
+    (void)setsockopt(fd, SOL_PACKET, PACKET_QDISC_BYPASS, &(int){bypass}, sizeof(int));
+    return send(fd, frame, NIW_FRAME, 0) == NIW_FRAME;
+}
+
+/* Gives the kernel a frame, past a discipline in which it would wait behind data, or be refused with them: the order of LACPDUs and data
+ * does not matter, and a marker goes by the socket of the data. No capture of this host shows what goes so. Where the driver has no room
+ * at once, the frame waits with the data. */
+static bool give_past_data(const struct link *link, const uint8_t *frame) {
+    bool bypass = !is_passable(link->discipline);
+    return give(link->socket, frame, bypass) || (bypass && errno == ENOBUFS && give(link->socket, frame, false));
 }
 
 /* Reads a file of an interface, from its beginning; answers whether there was something. */
@@ -147,11 +158,10 @@ void send_frame(struct link *link, enum count kind, const uint8_t *frame) {
         keep_lacpdu(link, frame);
         return;
     }
-    choose_way(link);
     memcpy(sent, frame, sizeof sent);
     memcpy(sent + 6, link->mac, 6);
     if (kind == LACPDUS_SENT) link->tried = true;
-    if (send(link->socket, sent, sizeof sent, 0) == sizeof sent) {
+    if (give_past_data(link, sent)) {
         link->counts[kind]++;
         if (kind == LACPDUS_SENT) note_lacpdu(link);
         return;

@@ -47,13 +47,14 @@ static bool find_lock(int index, int but, struct lock *found) {
 }
 
 /* Takes the lock of an interface; or -1, and errno: EADDRINUSE where somebody has it. Of two that take it at once one at least sees the
- * other one, since each is bound before it looks. */
+ * other one, since each is bound before it looks. It looks twice: of a list that changes the kernel may leave one out. */
 int lock_interface(int index) {
     struct sockaddr_ll address = {.sll_family = AF_PACKET, .sll_protocol = htons(PROTOCOL), .sll_ifindex = index};
     int opened = socket(AF_PACKET, SOCK_DGRAM | SOCK_NONBLOCK | SOCK_CLOEXEC, 0), fault;
     struct lock other;
     if (opened < 0) return -1;
-    if (bind(opened, (struct sockaddr *)&address, sizeof address) == 0 && find_lock(index, opened, &other)) {
+    if (bind(opened, (struct sockaddr *)&address, sizeof address) == 0 && find_lock(index, opened, &other)
+        && (other.inode != 0 || find_lock(index, opened, &other))) {
         if (other.inode == 0) return opened;
         errno = EADDRINUSE;
     }

@@ -67,6 +67,7 @@ static void remove_folder(void) {
 static void make_ports(void) {
     settings = usual_settings();
     settings.policy = PARTNER_FIRST;
+    strcpy(settings.name, "fuzz");
     settings.config.mac[0] = 2;
     (void)add_port(&settings, "fuzz0", 5);
     (void)add_port(&settings, "fuzz1", 5);
@@ -120,7 +121,7 @@ static void fuzz_caller(const uint8_t *octets, size_t length) {
     size_t first;
     if (length == 0) return;
     first = least(octets[0], length - 1);
-    snprintf(address.sun_path, sizeof address.sun_path, "%s/%lu.%s.sock", folder, network_namespace(), links[0].name);
+    snprintf(address.sun_path, sizeof address.sun_path, "%s/%lu.%s.sock", folder, network_namespace(), settings.name);
     if (asker < 0 || connect(asker, (struct sockaddr *)&address, sizeof address) < 0) abort();
     if (send(asker, octets + 1, first, MSG_NOSIGNAL) != (ssize_t)first) abort();
     serve_all();
