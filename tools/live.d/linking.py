@@ -83,7 +83,7 @@ def build_planes(folder: str, libraries: Sequence[str]) -> str:
 def build_held(folder: str, libraries: Sequence[str]) -> str:
     """Builds the queues of the daemon's held frames alone, with ASan and UBSan; answers the path of the program."""
     sources = [f"{TOP}/tools/live.d/held.c", f"{TOP}/tools/live.d/checks.c", f"{DAEMON}/held.c"]
-    return build(os.path.join(folder, "held"), sources, libraries, *STRICT, f"-I{DAEMON}", *SANITIZED)
+    return build(os.path.join(folder, "held-frames"), sources, libraries, *STRICT, f"-I{DAEMON}", *SANITIZED)
 
 
 def build_markers(folder: str, libraries: Sequence[str]) -> str:

@@ -59,7 +59,7 @@ def strangers(ours: Minimal, theirs: Daemon) -> None:
     """A marker; and LACPDUs of another system, to other addresses and then to the right one."""
     wire = Wire(THEIRS, "b0")
     wire.send(marker(1))
-    answered = lambda: theirs.count("b0", "marker_responses_received") == 1
+    answered = lambda: theirs.count("b0", "foreign_responses") == 1
     check(within(ENDS, answered), "it answers a marker", theirs.text())
     for to in "ff:ff:ff:ff:ff:ff", "01:80:c2:00:00:00", "01:80:c2:00:00:03":
         wire.send(lacpdu(STRANGER, 1), to)
