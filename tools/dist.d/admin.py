@@ -66,8 +66,7 @@ def folder(it: Unit) -> list[str]:
 def file() -> str:
     """The file of the bundle without data, as docs/INSTALL.md has it: the unit alone gives no right to carry data."""
     with open(os.path.join(TOP, "docs", "INSTALL.md"), encoding="utf-8") as it:
-        found = re.findall(r"^    \[Bundle\]\n(?:    \S.*\n)+", it.read(), re.M)
-    [rows] = [row for row in found if "carry=" not in row]
+        [rows] = re.findall(r"^    \[Bundle\]\n(?:    \S.*\n)+", it.read(), re.M)
     return re.sub(r"^    ", "", rows, flags=re.M)
 
 
@@ -154,7 +153,7 @@ def try_reload(count: Count, bench: Bench, daemon: subprocess.Popen[bytes]) -> N
     status = lambda: bench.run("lagd", "--status").stdout  # noqa: E731
     for text, wanted in (("min-links=2", "min_links: 2"), ("min-links=many", "min_links: 2"), ("min-links=1", "min_links: 1")):
         with open(bench.tree + FILE, "w", encoding="utf-8") as out:
-            out.write(file().replace("partner=first", f"partner=first\n{text}"))
+            out.write(file().replace("system=auto", f"system=auto\n{text}"))
         daemon.send_signal(signal.SIGHUP)
         time.sleep(1)
         told = until(status, wanted) or until(status, "status: up, 2 of 2 links carry")
