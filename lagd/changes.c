@@ -324,7 +324,7 @@ void watch_carriers(bool all) {
 
 /* Opens the changes of interfaces, and takes up those that are there. */
 int open_changes(void) {
-    struct sockaddr_nl address = {.nl_family = AF_NETLINK, .nl_groups = RTMGRP_LINK | (carries_data() ? RTMGRP_TC : 0)};
+    struct sockaddr_nl address = {.nl_family = AF_NETLINK, .nl_groups = RTMGRP_LINK | RTMGRP_TC};
     socklen_t length = sizeof address;
     route = socket(AF_NETLINK, SOCK_RAW | SOCK_NONBLOCK | SOCK_CLOEXEC, NETLINK_ROUTE);
     if (route < 0 || bind(route, (struct sockaddr *)&address, sizeof address) < 0

@@ -210,9 +210,6 @@ def queued_data(part: Part) -> None:
         made = inside(OURS, "tc", "qdisc", "add", "dev", "a0", *words)
         if made.returncode:
             raise Skipped(f"no queue of a rate: {made.stderr.strip()}")
-    ip(OURS, "link", "set", "a0", "down")
-    ip(OURS, "link", "set", "a0", "up")
-    both_up(ours, theirs, "they do so with another queueing discipline")
     before, sent = theirs.port("b0")["counters"], ours.count("a0", "lacpdus_sent")
     floods = [subprocess.Popen(["ip", "netns", "exec", OURS, sys.executable, "-c", FLOOD, "a0", str(FLOODED)]) for _ in range(2)]
     for flood in floods:
