@@ -1,9 +1,9 @@
 -- How a data frame gets a port, and how it is handed up at the other end of its cable.
-use Rattle.lagprogress.proofs.Common.{Bool, Err, List, None, Ok, Result, Some, [], ap, arith, cond, false, length, nat_le, refl, slice_get, subst}
-use Rattle.lagprogress.proofs.Common.{suc, sym, true, ℕ, ◌∙◌, ◌∷◌, ◌≡◌, and_parts, true≢false, nat_tests, none-some, same_Some, MatchOption, AggId}
+use Rattle.lagprogress.proofs.Common.{Err, List, None, Ok, Result, Some, ap, arith, refl, slice_get, subst}
+use Rattle.lagprogress.proofs.Common.{suc, sym, true, ℕ, ◌∙◌, ◌≡◌, and_parts, nat_tests, none-some, same_Some, AggId}
 use Rattle.lagprogress.proofs.Common.{One, Side, Two, value_of, Assignment, Flushing, Free, On, Wanted, Assigns, MaySend, PicksPort, is_among}
-use Rattle.lagprogress.proofs.Common.{SystemFault, Received, Up, SystemPort, Data_frame, IsFrame, Offer, ParsesWhere, Performs, ReceivesAt, Step}
-use Rattle.lagprogress.proofs.Common.{up_or_dropped, MayBeOffered, RefusesOffer, assignment_of_frame, longest_frame, collecting, distributing}
+use Rattle.lagprogress.proofs.Common.{SystemFault, Received, Up, SystemPort, Data_frame, IsFrame, Offer, ReceivesAt, Step}
+use Rattle.lagprogress.proofs.Common.{MayBeOffered, RefusesOffer, assignment_of_frame, collecting, distributing}
 use Rattle.lagprogress.proofs.Common.{number_of_conversation, IsSound, SystemState, port_index, effect_one, Reply, AfterOffer, AfterReceive}
 use Rattle.lagprogress.proofs.Common.{Algorithms, DeliversFrom, OnLink, WorldOffers, WorldReceives, offered_item, side_of, with_frame_counted}
 use Rattle.lagprogress.proofs.Common.{with_link_at, HalfState, ItemValue, LinkState, WorldState, half, port_at, towards, with_half, with_towards}
@@ -48,7 +48,7 @@ given ports (Flushing p id preferred age) port on h = absurd h
 
 -- what the world does with it
 
-same_ports : (s t : Side) (h k : HalfState) (j : WorldState) → h.state.system_ports ≡ (half s j).state.system_ports
+pub same_ports : (s t : Side) (h k : HalfState) (j : WorldState) → h.state.system_ports ≡ (half s j).state.system_ports
     → k.state.system_ports ≡ h.state.system_ports
     → (half t (with_half s k (with_half s h j))).state.system_ports ≡ (half t j).state.system_ports
 same_ports One One h k j e f = f ∙ e

@@ -1,8 +1,8 @@
 -- What is cut off does no harm: the other links come up beside it.
-use Rattle.lagprogress.proofs.Common.{Some, ap, arith, false, inl, inr, refl, slice_get, subst, sym, true, ℕ, ◌-◌, ◌==◌, ◌∙◌, ◌≡◌, cases_Bool}
+use Rattle.lagprogress.proofs.Common.{Some, ap, arith, false, inl, inr, refl, slice_get, subst, sym, true, ℕ, ◌-◌, ◌∙◌, ◌≡◌, cases_Bool}
 use Rattle.lagprogress.proofs.Common.{nat_tests, same_Some, Choice, Selected, Party, is_selected, same_system, exact_system, system-itself, Info}
-use Rattle.lagprogress.proofs.Common.{Side, peer, Current, Defaulted, Expired, Initialize, PortDisabled, Machines, mux_rows, periodic_rows}
-use Rattle.lagprogress.proofs.Common.{receive_rows, same_receive_state, RunsToRest, count_down, SystemPort, MuxIsSettled, occupied, SystemState}
+use Rattle.lagprogress.proofs.Common.{Side, peer, Defaulted, Machines, mux_rows, periodic_rows}
+use Rattle.lagprogress.proofs.Common.{receive_rows, RunsToRest, count_down, SystemPort, MuxIsSettled, occupied, SystemState}
 use Rattle.lagprogress.proofs.Common.{all-get, found_place, ports_rise, Algorithms, LinkState, WorldState, half, port_at, EnoughAggregators}
 use Rattle.lagprogress.proofs.Common.{EnoughLinks, OneIsActive, EachLinkAgreesBesideCutOffs, EachLinkComesUpBesideCutOffs, IsBundleBesideCutOffs}
 use Rattle.lagprogress.proofs.Common.{IsCutOff, NoneIsHeldBesideCutOffs, IsHealthyAt, Rounds, WantsAggregator, IsSteady, IsTimed}
@@ -17,6 +17,7 @@ use Rattle.lagprogress.proofs.Freeing.{freed_of}
 use Rattle.lagprogress.proofs.Hearing.{EnabledKeep, no, not_down, times_keep}
 use Rattle.lagprogress.proofs.OnePort.{AtPort, at_number, mux_leaves, periodic_leaves, settling_leaves}
 use Rattle.lagprogress.proofs.Selecting.{finds_aggregator}
+use Rattle.lagprogress.proofs.SharedLemmas.{enough_finds}
 use Rattle.lagprogress.proofs.Timers.{runs_keep}
 
 -- a port that hears nothing and is DEFAULTED stays as it is
@@ -153,7 +154,8 @@ module _ (gives : Algorithms) (old : WorldState) (b : IsBundleBesideCutOffs old)
     cabling = b.cabling;
     differ = b.differ;
     heard = b.heard;
-    aggregators = b.aggregators;
+    finds = λ mid h s. enough_finds s mid (rounds_steady gives 931 old mid b.steady h)
+        (still_aggregators s old mid (as_before gives 931 old mid b.steady h s) (b.aggregators s));
     links = b.links;
     never = never;
     idle = idle;

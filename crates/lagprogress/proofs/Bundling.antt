@@ -1,131 +1,35 @@
 -- How the links of a bundle come up and agree.
-use Rattle.lagprogress.proofs.Common.{Bool, IsSome, List, None, Option, Some, [], ap, arith, cond, false, filter, inl, inr, is_some, length, map}
-use Rattle.lagprogress.proofs.Common.{option_map, refl, slice_get, subst, suc, sym, true, zero, ℕ, ◌++◌, ◌+◌, ◌-◌, ◌==◌, ◌∙◌, ◌∷◌, ◌≡◌, ◌≢◌, ◌≤◌, ◌⊎◌}
-use Rattle.lagprogress.proofs.Common.{cases_Bool, nat_tests, none-some, same_Some, slice_get_cases, slice_get_within, AllByRecursion, AggId, Key}
-use Rattle.lagprogress.proofs.Common.{Choice, Selected, Standby, Party, is_selected, itself, Lacpdu, IsCabling, One, Side, Two, end_at, peer, find_at}
-use Rattle.lagprogress.proofs.Common.{Machines, receive_rows, RunsToRest, count_down, ports_that_chose, has_chosen, Table, PortConfig, SystemPort}
-use Rattle.lagprogress.proofs.Common.{configured_numbers, first_bad_port_number, or_first, refusal_of_limits, model_port_of, number_of_port}
-use Rattle.lagprogress.proofs.Common.{MuxIsSettled, occupied, IsSound, SystemState, port_numbers, with_system_ports, with_table, selection_view}
-use Rattle.lagprogress.proofs.Common.{views, all-get, are_numbered, found_place, if_then, ports_rise, Same, agreement_at, Algorithms, link_ends}
+use Rattle.lagprogress.proofs.Common.{Bool, IsSome, List, None, Option, Some, [], ap, arith, filter, inl, inr, is_some, length, map}
+use Rattle.lagprogress.proofs.Common.{refl, slice_get, subst, suc, sym, true, zero, ℕ, ◌+◌, ◌-◌, ◌==◌, ◌∙◌, ◌∷◌, ◌≡◌, ◌≢◌, ◌≤◌, ◌⊎◌}
+use Rattle.lagprogress.proofs.Common.{cases_Bool, nat_tests, same_Some, AllByRecursion, AggId, Key}
+use Rattle.lagprogress.proofs.Common.{Choice, Standby, Party, is_selected, itself, Lacpdu, IsCabling, One, Side, Two, end_at, peer}
+use Rattle.lagprogress.proofs.Common.{ports_that_chose, has_chosen, PortConfig, SystemPort}
+use Rattle.lagprogress.proofs.Common.{configured_numbers, or_first}
+use Rattle.lagprogress.proofs.Common.{MuxIsSettled, occupied, IsSound, SystemState}
+use Rattle.lagprogress.proofs.Common.{views, all-get, found_place, Same, agreement_at, Algorithms, link_ends}
 use Rattle.lagprogress.proofs.Common.{world_setup, IsWorldSound, LinkState, WorldState, half, history_at, port_at, towards, end_is, AllHeard}
 use Rattle.lagprogress.proofs.Common.{BothAreActive, EachActiveLinkAgrees, EachActiveLinkComesUp, EachLinkAgrees, EachLinkComesUp, EndsHealthyCable}
 use Rattle.lagprogress.proofs.Common.{EnoughAggregators, EnoughLinks, IsBundle, OneIsActive, SystemsDiffer, ActiveLinkComesUp, AreApart, Distributes}
-use Rattle.lagprogress.proofs.Common.{HasRoom, LinkComesUp, AtEnd, IsHealthy, IsHealthyAt, Rounds, asks_all, ticks_of_both, WantsAggregator}
+use Rattle.lagprogress.proofs.Common.{HasRoom, LinkComesUp, AtEnd, IsHealthy, IsHealthyAt, Rounds, WantsAggregator}
 use Rattle.lagprogress.proofs.Common.{aggregators_with, ports_with, IsSteady, IsTimed}
-use Rattle.lagsystem.specs.declared.fault.BadConfig.TheVariants.{MaxLinks, PortNumber}
 use Rattle.lagprogress.specs.Agreeing.{ActiveLinkAgrees, LinkAgrees}
 use Rattle.lagprogress.proofs.Climbing.{Down, Ripe, Rising, climbed, down_settles, down_takes, down_ticks, rising_first}
 use Rattle.lagprogress.proofs.ComingUp.{Climbs, EndPort, Up, active_at, agrees_now, apart_at, at_end, awake_at, climbs_first, climbs_on, comes_up}
-use Rattle.lagprogress.proofs.ComingUp.{end_here, end_with, events_keep, splits, rounds_kept, up_now, zero_on}
-use Rattle.lagprogress.proofs.Counting.{count, count_more_of, count_same, counted}
+use Rattle.lagprogress.proofs.ComingUp.{end_here, end_with, splits, rounds_kept, up_now, zero_on}
+use Rattle.lagprogress.proofs.Counting.{count, count_more_of, counted}
 use Rattle.lagprogress.proofs.EachPort.{OfEach}
-use Rattle.lagprogress.proofs.EachRound.{EachAt, RoundKeeps, own_keeps, own_ticks, round_each, rounds_join, rounds_steady, same_index}
+use Rattle.lagprogress.proofs.EachRound.{EachAt, RoundKeeps, round_each, rounds_join, rounds_steady, same_index}
 use Rattle.lagprogress.proofs.EndFacts.{Synced, activity}
-use Rattle.lagprogress.proofs.Hearing.{no}
 use Rattle.lagprogress.proofs.Linked.{many}
 use Rattle.lagprogress.proofs.OneActive.{named_at, one_meets}
-use Rattle.lagprogress.proofs.OnePort.{AtPort, at_number, same_place}
+use Rattle.lagprogress.proofs.OnePort.{AtPort}
 use Rattle.lagprogress.proofs.OneRound.{Nothing}
-use Rattle.lagprogress.proofs.Progressing.{AtIt, Ends, Fresh, active_meet, end_of, healthy_cable, knows_peer, only_cable, only_cabling, said_by}
+use Rattle.lagprogress.proofs.Progressing.{AtIt, Ends, Fresh, active_meet, healthy_cable, knows_peer, only_cable, only_cabling, said_by}
 use Rattle.lagprogress.proofs.Progressing.{starts}
-use Rattle.lagprogress.proofs.Selecting.{finds_aggregator, waits_for_room}
-
--- what stays of each port
-
--- the port has the same own parameters, and its link is up as before
-abbrev pub Alike : Machines → Machines → Type 0
-Alike x p = (p.party ≡ x.party) × (p.enabled ≡ x.enabled)
-
-pub alike_keeps : (n : ℕ) (x : Machines) → RoundKeeps (AtPort n (Alike x))
-alike_keeps n x = own_keeps (λ party up. (party ≡ x.party) × (up ≡ x.enabled)) n
-
-pub alike_ticks : (n : ℕ) (x : Machines) (m : ℕ) (p q : Machines) → RunsToRest receive_rows (count_down p) q → AtPort n (Alike x) m p
-    → AtPort n (Alike x) m q
-alike_ticks n x = own_ticks (λ party up. (party ≡ x.party) × (up ≡ x.enabled)) n
-
-pub rounds_alike : (gives : Algorithms) (n : ℕ) (old new : WorldState) → IsSteady old → Rounds gives n old new → (s : Side) (k : ℕ)
-    (x : SystemPort) → slice_get (half s old).state.system_ports k ≡ Some x → EachAt (AtPort x.number (Alike x.port)) s new
-rounds_alike gives n old new steady h s k x there =
-    let st = (half s old).state in
-    zero_on gives (λ m j. EachAt (AtPort x.number (Alike x.port)) s j) old
-    (at_number (Alike x.port) 0 st.system_ports k x (ports_rise st (steady s).0.ports) there (refl, refl))
-    (λ m i j q a. round_each (AtPort x.number (Alike x.port)) (AtPort x.number (Alike x.port)) (alike_keeps x.number x.port)
-    (alike_ticks x.number x.port) s gives i j q a) n new h
-
-module _ (X : Type 0) (g : SystemState → X)
-    (kept : (s : SystemState) (ports : List SystemPort) (t : Table) → g (with_table (with_system_ports s ports) t) ≡ g s) where
-  pub rounds_keep : (gives : Algorithms) (n : ℕ) (old new : WorldState) → Rounds gives n old new → (s : Side)
-      → g (half s new).state ≡ g (half s old).state
-  rounds_keep gives n old new h = zero_on gives (λ m j. (s : Side) → g (half s j).state ≡ g (half s old).state) old (λ s. refl)
-      (λ m i j q a s. events_keep X g kept gives (ticks_of_both ++ (asks_all i.links ++ q.delivers)) q.replies i j q.acts s ∙ a s) n new h
-
--- the system is as it was, but for its machines and its table
-pub record IsAsBefore (s : Side) (old new : WorldState) : Type 0 where
-  pub keys : (half s new).state.keys ≡ (half s old).state.keys
-  pub limit : (half s new).state.max_links ≡ (half s old).state.max_links
-  pub numbers : port_numbers (half s new).state.system_ports ≡ port_numbers (half s old).state.system_ports
-  pub alike : (k : ℕ) (x y : SystemPort) → slice_get (half s old).state.system_ports k ≡ Some x
-      → slice_get (half s new).state.system_ports k ≡ Some y → Alike x.port y.port
-
-pub as_before : (gives : Algorithms) (n : ℕ) (old new : WorldState) → IsSteady old → Rounds gives n old new → (s : Side) → IsAsBefore s old new
-as_before gives n old new steady h s =
-    let now = rounds_steady gives n old new steady h in
-    let ports = rounds_keep (List PortConfig) (λ t. t.ports) (λ t a b. refl) gives n old new h s in
-    let numbers : port_numbers (half s new).state.system_ports ≡ port_numbers (half s old).state.system_ports =
-    (now s).0.ports.same ∙ (ap configured_numbers ports ∙ sym (steady s).0.ports.same) in
-    record {
-      keys = rounds_keep (List Key) (λ t. t.keys) (λ t a b. refl) gives n old new h s;
-      limit = rounds_keep (Option ℕ) (λ t. t.max_links) (λ t a b. refl) gives n old new h s;
-      numbers = numbers;
-      alike = λ k x y e f. all-get (λ (z : SystemPort). AtPort x.number (Alike x.port) z.number z.port) (half s new).state.system_ports k y f
-          (rounds_alike gives n old new steady h s k x e)
-          (same_place (half s old).state.system_ports (half s new).state.system_ports k x y numbers e f);
-    }
-
--- the port that stood at the place
-pub old_port : (xs ys : List SystemPort) (k : ℕ) (y : SystemPort) → port_numbers ys ≡ port_numbers xs → slice_get ys k ≡ Some y
-    → (x : SystemPort) × (slice_get xs k ≡ Some x) × (y.number ≡ x.number)
-old_port xs ys k y numbers f =
-    let within = slice_get_within ys k y f in
-    let one = many xs in
-    let two = many ys in
-    let both = ap (λ (ns : List ℕ). length ns) numbers in
-    elim (slice_get_cases xs k).1 [
-      | inl c ↦ (c.0, c.2, same_place xs ys k c.0 y numbers c.2 f)
-      | inr p ↦ (let past = p.0 in absurd (omega (arith, within, one, two, both, past)))
-    ]
-
-same_ports_with : (s : Side) (old new : WorldState) → IsAsBefore s old new → (key : Key)
-    → ports_with key (half s new).state ≡ ports_with key (half s old).state
-same_ports_with s old new b key = grind (arith, nat_tests, many, counted, count_same)
-
-same_aggregators_with : (s : Side) (old new : WorldState) → IsAsBefore s old new → (key : Key)
-    → aggregators_with key (half s new).state ≡ aggregators_with key (half s old).state
-same_aggregators_with s old new b key = ap (λ (ks : List Key). length (filter (λ (k : Key). k.0 == key.0) ks)) b.keys
-
-pub still_aggregators : (s : Side) (old new : WorldState) → IsAsBefore s old new → EnoughAggregators (half s old).state
-    → EnoughAggregators (half s new).state
-still_aggregators s old new b enough k y there up =
-    let x = old_port (half s old).state.system_ports (half s new).state.system_ports k y b.numbers there in
-    subst (λ (q : Party). ports_with q.key (half s new).state ≤ aggregators_with q.key (half s new).state)
-    (sym (b.alike k x.0 y x.1 there).0)
-    (subst (λ n. n ≤ aggregators_with x.0.port.party.key (half s new).state) (sym (same_ports_with s old new b x.0.port.party.key))
-    (subst (λ n. ports_with x.0.port.party.key (half s old).state ≤ n) (sym (same_aggregators_with s old new b x.0.port.party.key))
-    (enough k x.0 x.1 (sym (b.alike k x.0 y x.1 there).1 ∙ up))))
-
-pub still_links : (s : Side) (old new : WorldState) → IsAsBefore s old new → EnoughLinks (half s old).state → EnoughLinks (half s new).state
-still_links s old new b enough k most y there limit =
-    let x = old_port (half s old).state.system_ports (half s new).state.system_ports k y b.numbers there in
-    subst (λ (q : Party). ports_with q.key (half s new).state ≤ most) (sym (b.alike k x.0 y x.1 there).0)
-    (subst (λ n. n ≤ most) (sym (same_ports_with s old new b x.0.port.party.key)) (enough k most x.0 x.1 (sym b.limit ∙ limit)))
-
--- a port whose link is up ended a healthy cable before
-pub still_heard : (Holds : LinkState → WorldState → Type 0) (s : Side) (old new : WorldState) → IsAsBefore s old new → AllHeard Holds old
-    → (k : ℕ) (z : SystemPort) → slice_get (half s new).state.system_ports k ≡ Some z → z.port.enabled ≡ true
-    → EndsHealthyCable Holds s z.number old
-still_heard Holds s old new like heard k z there up =
-    let x = old_port (half s old).state.system_ports (half s new).state.system_ports k z like.numbers there in
-    subst (λ n. EndsHealthyCable Holds s n old) (sym x.2) (heard s k x.0 x.1 (sym (like.alike k x.0 z x.1 there).1 ∙ up))
+use Rattle.lagprogress.proofs.Selecting.{waits_for_room}
+use Rattle.lagprogress.proofs.Progressing.{fresh_knows}
+use Rattle.lagprogress.proofs.SharedLemmas.{Finds, lasted, shared_finds}
+pub use Rattle.lagprogress.proofs.Lasting.{Alike, IsAsBefore, all_by_place, alike_keeps, alike_ticks, as_before, ends_at, old_port, own_system, rounds_alike, rounds_keep, still_aggregators, still_heard, still_links}
 
 -- no port stands by
 
@@ -159,10 +63,10 @@ never_stands s i x agg h enough there stands =
 
 -- a port that knows its partner is SELECTED
 
-is_chosen : (at : Side → ℕ) (w : Side → Lacpdu) (c : Side → ℕ) (s : Side) (j : WorldState) → IsSteady j
-    → EnoughAggregators (half s j).state → EnoughLinks (half s j).state → ((w (peer s)).actor.system ≢ (w s).actor.system) → 1 ≤ c s
+pub is_chosen : (at : Side → ℕ) (w : Side → Lacpdu) (c : Side → ℕ) (s : Side) (j : WorldState) → IsSteady j
+    → Finds s j → EnoughLinks (half s j).state → ((w (peer s)).actor.system ≢ (w s).actor.system) → 1 ≤ c s
     → (e : EndPort at w 1 c s j) → is_selected e.port.port.choice ≡ true
-is_chosen at w c s j steady aggregators links apart known e =
+is_chosen at w c s j steady finds links apart known e =
     let st = (half s j).state in
     let heard = (e.is.1.1 known).0 in
     let wants : WantsAggregator e.port.port = record {
@@ -170,35 +74,21 @@ is_chosen at w c s j steady aggregators links apart known e =
       known = inl heard.current;
       apart = λ h. apart (sym (ap (λ (y : Party). y.system) heard.party) ∙ (h ∙ ap (λ (y : Party). y.system) e.is.0.0));
     } in
-    elim (finds_aggregator st e.index e.port (steady s).0 e.there wants (aggregators e.index e.port e.there e.is.1.0)) [
+    elim (finds e.index e.port e.there wants) [
       | inl h ↦ h
       | inr h ↦ absurd (never_stands st e.index e.port h.0 (steady s).0 links e.there h.1)
     ]
 
--- the ports of a system name it
-
-pub own_system : (s : SystemState) (k : ℕ) (x : SystemPort) → IsSound s → slice_get s.system_ports k ≡ Some x → x.port.party.system ≡ s.system
-own_system s k x h there =
-    let found = find_at number_of_port s.system_ports k x (are_numbered 0 s.system_ports (ports_rise s h.ports)) there in
-    h.members.own x.number (model_port_of x) (ap (option_map model_port_of) found)
-
--- each place of a list
-
-pub all_by_place : (P : SystemPort → Type 0) (xs : List SystemPort) → ((k : ℕ) (x : SystemPort) → slice_get xs k ≡ Some x → P x)
-    → AllByRecursion P xs
-all_by_place P [] h = tt
-all_by_place P (x ∷ xs) h = (h zero x refl, all_by_place P xs (λ k y e. h (suc k) y e))
-
 -- ports whose links are down
 
-down_keeps : (t : ℕ) → RoundKeeps (Down t)
+pub down_keeps : (t : ℕ) → RoundKeeps (Down t)
 down_keeps t = record {
   settles = down_settles t;
   sends = λ n p a e. a e;
   takes = λ n v p q h a. down_takes t n v p q h a;
 }
 
-down_first : (s : SystemState) → IsSound s → AllByRecursion (λ (x : SystemPort). IsTimed x.port) s.system_ports → EnoughLinks s
+pub down_first : (s : SystemState) → IsSound s → AllByRecursion (λ (x : SystemPort). IsTimed x.port) s.system_ports → EnoughLinks s
     → OfEach (Down 20) s.system_ports
 down_first s h timed enough = all_by_place (λ x. Down 20 x.number x.port) s.system_ports
     (λ k x there e. (
@@ -216,9 +106,6 @@ down_rounds gives n old new steady s enough h = zero_on gives (λ m j. EachAt (D
     n new h
 
 -- a bundle
-
-pub ends_at : (i : ℕ) (l : LinkState) (j : WorldState) → IsHealthyAt i l j → Ends l j
-ends_at i l j h s = end_of (λ p. p.enabled ≡ true) (port_at s l) (half s j).state (h.up s)
 
 -- of each healthy cable it holds, since no port has two cables
 holds_there : (Holds : LinkState → WorldState → Type 0) (old : WorldState) → IsCabling (world_setup old).cables → (i : ℕ) (l : LinkState)
@@ -268,7 +155,7 @@ pub record Meets (Holds : LinkState → WorldState → Type 0) (Other : Side →
   pub differ : SystemsDiffer old
   pub heard : (s : Side) (k : ℕ) (x : SystemPort) → slice_get (half s old).state.system_ports k ≡ Some x → x.port.enabled ≡ true
       → EndsHealthyCable Holds s x.number old ⊎ Other s x.number
-  pub aggregators : (s : Side) → EnoughAggregators (half s old).state
+  pub finds : (mid : WorldState) → Rounds gives first old mid → (s : Side) → Finds s mid
   pub links : (s : Side) → EnoughLinks (half s old).state
   pub never : (s : Side) (i : ℕ) (l : LinkState) → IsHealthyAt i l old → Other s (port_at s l) → ⊥
   pub idle : (mid top : WorldState) → Rounds gives first old mid → Rounds gives 20 mid top → (s : Side) (k : ℕ) (z y : SystemPort)
@@ -326,7 +213,7 @@ module _ (Holds : LinkState → WorldState → Type 0) (Other : Side → ℕ →
         let e = end_here at w 1 g.known One Nothing mid g.link s in
         let k = as_before gives first old mid m.steady h s in
         at_end at w 1 g.known s mid e middle (λ p. is_selected p.choice ≡ true)
-        (is_chosen at w g.known s mid middle (still_aggregators s old mid k (m.aggregators s)) (still_links s old mid k (m.links s))
+        (is_chosen at w g.known s mid middle (m.finds mid h s) (still_links s old mid k (m.links s))
         (systems i l y s) (let known = knows_peer at w 1 0 0 mid g (omega arith) s in omega (arith, known)) e)
 
     climb : (i : ℕ) (l : LinkState) (y : IsHealthyAt i l old)
@@ -415,7 +302,8 @@ alone Holds first gives old b meets wakes = record {
   cabling = b.cabling;
   differ = b.differ;
   heard = λ s k x e up. inl (b.heard s k x e up);
-  aggregators = b.aggregators;
+  finds = λ mid h. shared_finds old mid b.steady (lasted gives first old mid b.steady h) Holds b.heard
+      (λ i l y s. fresh_knows l (said old i l y) mid (meets i l y (heard_holds Holds old b.cabling b.heard i l y) mid h) s) b.aggregators;
   links = b.links;
   never = λ s i l h o. o;
   idle = λ mid top h more s k z y there up o now. absurd o;
@@ -547,7 +435,7 @@ only_bundle Holds l j steady h room apart it = record {
   cabling = only_cabling l j h;
   differ = only_differ l j steady h apart;
   heard = only_heard Holds l j steady h room it;
-  aggregators = λ s. room_aggregators (half s j).state (steady s).0 (room s);
+  aggregators = λ s k x there up. inl (room_aggregators (half s j).state (steady s).0 (room s) k x there up);
   links = λ s. room_links (half s j).state (steady s).0 (room s);
 }
 

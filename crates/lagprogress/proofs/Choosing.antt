@@ -7,7 +7,7 @@ use Rattle.lagprogress.proofs.Common.{RunsToRest, count_down, is_detached, is_el
 use Rattle.lagprogress.proofs.Common.{ChoosesIn, PortsChangeBy, Settling, ready_of, IsSound, SystemState, aggregators_value, selection_view, views}
 use Rattle.lagprogress.proofs.Common.{last_slots, HasRecorded, WantsAggregator}
 use Rattle.lagprogress.proofs.Knowing.{recorded, rests_still}
-use Rattle.lagprogress.proofs.Bundling.{all_by_place}
+use Rattle.lagprogress.proofs.Lasting.{all_by_place}
 use Rattle.lagprogress.proofs.Climbing.{keeps_selected}
 use Rattle.lagprogress.proofs.EachPort.{OfEach, zip_kept}
 use Rattle.lagprogress.proofs.EndFacts.{SameActor}

@@ -240,11 +240,11 @@ active_at l j e a h = sym (own_says (e a).1.port).1
 
 -- the ends agree
 
-all_same : (d1 d2 f1 f2 s1 s2 g : Bool) → d1 ≡ true → d2 ≡ true → f1 ≡ false → f2 ≡ false → s1 ≡ true → s2 ≡ true → g ≡ true
+pub all_same : (d1 d2 f1 f2 s1 s2 g : Bool) → d1 ≡ true → d2 ≡ true → f1 ≡ false → f2 ≡ false → s1 ≡ true → s2 ≡ true → g ≡ true
     → first_agreement (not (d1 && d2)) (f1 || f2) (not (s1 && s2)) g ≡ Same
 all_same d1 d2 f1 f2 s1 s2 g a b c d e f h = rw (a, b, c, d, e, f, h) refl
 
-turned : (p q : Party) → same_group (group_of p q) (group_of q p) ≡ true
+pub turned : (p q : Party) → same_group (group_of p q) (group_of q p) ≡ true
 turned p q =
     let alone : individual p q ≡ individual q p = ap not (and_comm p.aggregatable q.aggregatable) in
     let same : group_of p q ≡ group_of q p = groups_from_pairs (pair_of p q) (pair_of q p)

@@ -39,7 +39,7 @@ pub record Delivered (d : ℕ) (at : Side → ℕ) (w : Side → Lacpdu) (c : Si
   pub flying : (t : Side) → Flying (fl t) → Flying (link.flying t) ⊎ (1 ≤ d → Heard d at w t new)
 
 -- the ports of the system after an arrival
-arrived_ports : (d : ℕ) (at : Side → ℕ) (w : Side → Lacpdu) (c : Side → ℕ) (x : Side) (Y : Machines → Type 0) (s : Side) (k : ℕ)
+pub arrived_ports : (d : ℕ) (at : Side → ℕ) (w : Side → Lacpdu) (c : Side → ℕ) (x : Side) (Y : Machines → Type 0) (s : Side) (k : ℕ)
     (z : SystemPort) (octets : List ℕ) (old new : WorldState) → Fits d w c → Along Y (w x) (w (peer x)) (c x) d
     → Link d at w c x Y old → slice_get (half s old).state.system_ports k ≡ Some z → z.number ≡ at s
     → ((v : Lacpdu) → IsFrame octets (Carries (pdu.Lacpdu v)) → Suits d (w s) (w (peer s)) v)

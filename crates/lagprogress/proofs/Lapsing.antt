@@ -286,3 +286,7 @@ pub lasting_active : (u : Lacpdu) (k : ℕ) (p q : Machines) → activity u ≡ 
 lasting_active u k p q on up h rest y =
     (either_kept (Recorded u 1) (λ r. Lapsed 30 r ⊎ Tails r) (recorded_kept u on) (either_kept (Lapsed 30) Tails (lapsed_kept 30) tails_kept)).active q
     (tick_phase u p q on up h rest y.1.1)
+
+-- and before it
+pub lasting_now : (u : Lacpdu) (k : ℕ) (p : Machines) → activity u ≡ true → Lasting u k p → (bits_of p.partner.state).activity ≡ true
+lasting_now u k p on y = (either_kept (Recorded u 1) LaterTails (recorded_kept u on) later_tails_kept).active p y.1.1

@@ -25,10 +25,19 @@ mod Telling
 mod Progressing
 mod Lapsing
 mod OneActive
+mod HostKnowing
 mod Climbing
+mod Quieting
+mod HostRound
+mod HostStamps
+mod HostTelling
+mod HostHearing
 mod ComingUp
 mod Stamps
 mod EachRound
+mod Lasting
+mod SharedLemmas
+mod HostEach
 mod Bundling
 mod Holding
 mod Answering
@@ -49,3 +58,6 @@ mod CutOffLemmas
 mod Played
 mod Reaching
 mod BesideCutOffs
+mod HostLoops
+mod HostComingUp
+mod HostBundling

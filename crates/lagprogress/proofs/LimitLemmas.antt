@@ -11,7 +11,7 @@ use Rattle.lagsystem.specs.declared.drive.Reply.TheVariants as reply
 use Rattle.lagprogress.specs.Limited.{CarriesOnAll, DownAreUnselected, EachActiveLimitedLinkAgrees, EachLimitedLinkAgrees}
 use Rattle.lagprogress.specs.Limited.{EachReachedHasDownUnselected, EndsAgreed, IsLimitedBundle, StandsByOthers}
 use Rattle.lagprogress.proofs.Bundling.{all_by_place, as_before, ends_at, never_stands, own_system, rounds_alike, rounds_keep, heard_holds}
-use Rattle.lagprogress.proofs.Bundling.{still_aggregators, still_heard, still_links, Alike}
+use Rattle.lagprogress.proofs.Bundling.{still_heard, still_links, Alike}
 use Rattle.lagprogress.proofs.ComingUp.{zero_on}
 use Rattle.lagprogress.proofs.EachPort.{KeptByCall, KeptBySettling, OfEach, Step-each, first_each, place_each, settling_each}
 use Rattle.lagprogress.proofs.EachRound.{EachAt, RoundKeeps, round_each, rounds_join, rounds_steady}
@@ -22,7 +22,7 @@ use Rattle.lagprogress.proofs.OneActive.{ends_of_each_know}
 use Rattle.lagprogress.proofs.OnePort.{AtPort, at_number, mux_leaves, periodic_leaves}
 use Rattle.lagprogress.proofs.Pairing.{active_selected_pairs_agree, selected_pairs_agree}
 use Rattle.lagprogress.proofs.Progressing.{active_ends_of_each_know, end_of, machines_there}
-use Rattle.lagprogress.proofs.Selecting.{finds_aggregator}
+use Rattle.lagprogress.proofs.SharedLemmas.{lasted, shared_finds}
 use Rattle.lagprogress.proofs.Timers.{RowsKeep, runs_keep, takes_keep}
 
 -- a port whose link is down stays UNSELECTED
@@ -175,11 +175,9 @@ module _ (Holds : LinkState → WorldState → Type 0) (t : Side) (gives : Algor
   chooses : (i : ℕ) (l : LinkState) → IsHealthyAt i l old → (s : Side) → Chooses s l
   chooses i l y s =
       let st = (half s new).state in
-      let now = rounds_steady gives n old new b.steady h in
       let e = known i l y s in
       let found = machines_there (port_at s l) st e.place e.port e.index e.there in
-      let enough = still_aggregators s old new (as_before gives n old new b.steady h s) (b.aggregators s) in
-      elim (finds_aggregator st e.place e.port (now s).0 e.there e.wants (enough e.place e.port e.there e.wants.up)) [
+      elim (shared_finds old new b.steady (lasted gives n old new b.steady h) Holds b.heard knows b.aggregators s e.place e.port e.there e.wants) [
         | inl k ↦ inl (subst (OfPort (λ p. selected p ≡ true)) (sym found) k)
         | inr k ↦ inr (subst (OfPort (StandsByFull st)) (sym found) k)
       ]

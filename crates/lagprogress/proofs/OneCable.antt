@@ -5,8 +5,8 @@ use Rattle.lagprogress.proofs.Common.{◌∷◌, ◌≡◌, ◌⊎◌, cases_Boo
 use Rattle.lagprogress.proofs.Common.{AllByRecursion, position_or_len, itself, Lacpdu, all-append, IsCabling, One, Side, Two, end_at, peer, value_of}
 use Rattle.lagprogress.proofs.Common.{Stamp, Answer, SystemFault, Received, Call, Carries, IsFrame, Receive, Step, Tick, Transmit, CallPromise}
 use Rattle.lagprogress.proofs.Common.{SystemState, PortHistory, Reply, AfterReceive, AfterTransmit, Algorithms, DeliversFrom, OnLink, WorldEmits}
-use Rattle.lagprogress.proofs.Common.{WorldReceives, WorldSteps, set_last_lacpdu, side_of, stamp_for, stamped_in, with_collected_in, with_link_at}
-use Rattle.lagprogress.proofs.Common.{with_stamp_collected, HalfTicks, payload_in, side_numbered, stamp_count, link_ends, HalfState, ItemValue}
+use Rattle.lagprogress.proofs.Common.{WorldReceives, WorldSteps, set_last_lacpdu, side_of, stamp_for, stamped_in, with_link_at}
+use Rattle.lagprogress.proofs.Common.{with_stamp_collected, HalfTicks, payload_in, stamp_count, link_ends, HalfState, ItemValue}
 use Rattle.lagprogress.proofs.Common.{LinkState, WorldState, accepts, change_count_in, change_link, half, history_at, limit_towards, link_at}
 use Rattle.lagprogress.proofs.Common.{link_index, port_at, put_on_port, sent_on, towards, with_half, with_links, with_towards, read_log, end_is}
 use Rattle.lagprogress.proofs.Common.{mapped_set, put_ends, set_elsewhere, set_here, half_there, position_there}
@@ -207,7 +207,7 @@ stamping s p logs None fl = λ m e y. y
 stamping s p logs (Some frame) fl = λ m e y. push_each (λ t. IsStamped (m t)) (peer s) (sent_item p logs frame) fl
     (λ x c. ap (λ v. stamp_count (stamp_for v (change_count_in (history_at logs p)))) (pdu_read (payload_in frame) (pdu.Lacpdu x) c.1) ∙ e) y
 
-half_logs : (s : Side) (h : HalfState) (j : WorldState) → h.histories ≡ (half s j).histories
+pub half_logs : (s : Side) (h : HalfState) (j : WorldState) → h.histories ≡ (half s j).histories
     → (t : Side) → (half t (with_half s h j)).histories ≡ (half t j).histories
 half_logs One h j e One = e
 half_logs One h j e Two = refl

@@ -2,9 +2,9 @@
 use Rattle.lagprogress.proofs.Common.{Bool, Err, List, None, Ok, Option, Result, Some, [], ap, arith, false, inl, inr, refl, slice_get, subst, suc}
 use Rattle.lagprogress.proofs.Common.{sym, true, zero, ℕ, ◌++◌, ◌-◌, ◌∙◌, ◌∷◌, ◌≡◌, ◌≤◌, ◌⊎◌, cases_Bool, nat_tests, none-some, same_Some}
 use Rattle.lagprogress.proofs.Common.{AllByRecursion, Lacpdu, One, Side, Two, peer, Machines, is_silent, periodic_rows, receive_rows, AtRest}
-use Rattle.lagprogress.proofs.Common.{RunsToRest, after_sending, count_down, is_due, pdu_of, marker_due, SystemFault, SystemPort, Step, Tick}
-use Rattle.lagprogress.proofs.Common.{Transmit, PeriodicIsSettled, IsLacpduOf, TransmitsAt, TransmitsIf, SystemState, port_index, marker_slots}
-use Rattle.lagprogress.proofs.Common.{same_slots, Event, Reply, Algorithms, WorldRuns, WorldSteps, side_of, ItemValue, LinkState, WorldState, half}
+use Rattle.lagprogress.proofs.Common.{RunsToRest, after_sending, count_down, is_due, pdu_of, SystemFault, SystemPort, Step, Tick}
+use Rattle.lagprogress.proofs.Common.{Transmit, PeriodicIsSettled, IsLacpduOf, SystemState, port_index}
+use Rattle.lagprogress.proofs.Common.{Event, Reply, Algorithms, WorldRuns, WorldSteps, side_of, ItemValue, LinkState, WorldState, half}
 use Rattle.lagprogress.proofs.Common.{port_at, IsDeliver, IsRound, NothingInFlight, asks_all, asks_ends, IsTimed}
 use Rattle.slowpdu.specs.declared.pdu.Pdu.TheVariants as pdu
 use Rattle.lagsystem.specs.declared.drive.Reply.TheVariants as answer
@@ -95,6 +95,15 @@ Midway d at w c s Z j =
     ⊎ (((l : Link d at w c s Nothing j) × Flying (l.flying (peer s)))
     ⊎ Link d at w c (peer s) (Learnt d (w (peer (peer s))) (wait_of (w (peer s)))) j)
 
+-- Z holds of the end of s, or an LACPDU of it is on the cable
+abbrev pub Asked : ℕ → (Side → ℕ) → (Side → Lacpdu) → (Side → ℕ) → Side → (Machines → Type 0) → WorldState → Type 0
+Asked d at w c s Z j = Link d at w c s Z j ⊎ ((l : Link d at w c s Nothing j) × Flying (l.flying (peer s)))
+
+midway : (d : ℕ) (at : Side → ℕ) (w : Side → Lacpdu) (c : Side → ℕ) (s : Side) (Z : Machines → Type 0) (j : WorldState)
+    → Asked d at w c s Z j → Midway d at w c s Z j
+midway d at w c s Z j (inl l) = inl l
+midway d at w c s Z j (inr l) = inr (inl l)
+
 -- Z holds of a port of which Y holds and that has no LACPDU due
 abbrev pub Asks : ℕ → (Machines → Type 0) → (Machines → Type 0) → Lacpdu → Lacpdu → ℕ → Type 0
 Asks d Y Z v u c = (p : Machines) → AtRest periodic_rows p → IsTimed p → IsEnd d v u c p → Y p → is_due p ≡ false → Z p
@@ -122,19 +131,19 @@ flies gives s n k z (Ok (Some frame)) old new fl now place there up due h w =
 
 ask_own : (gives : Algorithms) (n : ℕ) (s : Side) (d : ℕ) (at : Side → ℕ) (w : Side → Lacpdu) (c : Side → ℕ) (Y Z : Machines → Type 0)
     (r : Reply) (old new : WorldState) → Fits d w c → side_of n ≡ Some s → Asks d Y Z (w s) (w (peer s)) (c s)
-    → Link d at w c s Y old → WorldSteps gives old (event.Emit n (at s)) r new → Midway d at w c s Z new
+    → Link d at w c s Y old → WorldSteps gives old (event.Emit n (at s)) r new → Asked d at w c s Z new
 ask_own gives n s d at w c Y Z r old new fits named asks l h =
     let bare = forget d at w c s s Y old l in
     let e = emit_link gives n s d at w c s Nothing r old new fits named (nothing_along (w s) (w (peer s)) (c s) d) (λ f p y. y) bare h in
     let z = end_here at w d c s Y old l s in
     let st = (half s old).state in
     elim (cases_Bool (is_due z.port.port)) [
-      | inl due ↦ inr (inl (
+      | inl due ↦ inr (
         e.link,
         subst (λ (f : Side → List ItemValue). Flying (f (peer s))) (sym e.same)
             (flies (gives s) s (at s) z.index z.port e.asks.a st (half s new).state bare.flying e.asks.now z.place z.there z.is.1.0 due
             e.asks.promise.step e.asks.went),
-      ))
+      )
       | inr not ↦ (let same = same_ports_then (gives s) (at s) z.index z.port e.asks.a st (half s new).state z.place z.there not
           e.asks.promise.step in
           let now = of_end l s (λ p. is_due p ≡ false → EndIs d w c s Z s p)
@@ -157,15 +166,15 @@ pub one_of_both : (s t : Side) → (t ≡ s) ⊎ (t ≡ peer s)
 one_of_both s t = each_side (λ t. (t ≡ s) ⊎ (t ≡ peer s)) s (inl refl) (inr refl) t
 
 -- an Emit event where the end of s may not have been asked
-ask_which : (gives : Algorithms) (n p : ℕ) (s : Side) (d : ℕ) (at : Side → ℕ) (w : Side → Lacpdu) (c : Side → ℕ) (Y Z : Machines → Type 0)
+pub ask_which : (gives : Algorithms) (n p : ℕ) (s : Side) (d : ℕ) (at : Side → ℕ) (w : Side → Lacpdu) (c : Side → ℕ) (Y Z : Machines → Type 0)
     (r : Reply) (old new : WorldState) → Fits d w c → Along Y (w s) (w (peer s)) (c s) d → Asks d Y Z (w s) (w (peer s)) (c s)
-    → Link d at w c s Y old → WorldSteps gives old (event.Emit n p) r new → Link d at w c s Y new ⊎ Midway d at w c s Z new
+    → Link d at w c s Y old → WorldSteps gives old (event.Emit n p) r new → Link d at w c s Y new ⊎ Asked d at w c s Z new
 ask_which gives n p s d at w c Y Z r old new fits along asks l h = elim (asked_which gives n p l.index at l.flying r old new l.links h) [
   | inl (t, named, is) ↦ asked t named (subst (λ q. WorldSteps gives old (event.Emit n q) r new) is h)
   | inr b ↦ inl (beside_link gives (event.Emit n p) d at w c s Y r old new along l h b).link
 ]
   where
-    asked : (t : Side) → side_of n ≡ Some t → WorldSteps gives old (event.Emit n (at t)) r new → Link d at w c s Y new ⊎ Midway d at w c s Z new
+    asked : (t : Side) → side_of n ≡ Some t → WorldSteps gives old (event.Emit n (at t)) r new → Link d at w c s Y new ⊎ Asked d at w c s Z new
     asked t named h = elim (one_of_both s t) [
       | inl e ↦ inr (ask_own gives n s d at w c Y Z r old new fits (subst (λ u. side_of n ≡ Some u) e named) asks l
           (subst (λ u. WorldSteps gives old (event.Emit n (at u)) r new) e h))
@@ -180,7 +189,7 @@ ask_any : (gives : Algorithms) (n p : ℕ) (s : Side) (d : ℕ) (at : Side → �
 ask_any gives n p s d at w c Z r old new fits there along m h = elim m [
   | inl l ↦ elim (ask_which gives n p s d at w c Z Z r old new fits along (λ p rest timed a y not. y) l h) [
     | inl k ↦ inl k
-    | inr k ↦ k
+    | inr k ↦ midway d at w c s Z new k
   ]
   | inr k ↦ elim k [
     | inl l ↦ (let e = emit_any gives n p d at w c s Nothing r old new fits (nothing_along (w s) (w (peer s)) (c s) d) (λ q y. y) l.0 h in
@@ -201,14 +210,15 @@ ask_before : (gives : Algorithms) (n p : ℕ) (s : Side) (d : ℕ) (at : Side �
 ask_before gives n p s d at w c Y Z r old new fits there waits asks along (inr m) h =
     inr (ask_any gives n p s d at w c Z r old new fits there along m h)
 ask_before gives n p s d at w c Y Z r old new fits there waits asks along (inl l) h =
-    ask_which gives n p s d at w c Y Z r old new fits waits asks l h
+    elim (ask_which gives n p s d at w c Y Z r old new fits waits asks l h) [ inl k ↦ inl k | inr k ↦ inr (midway d at w c s Z new k) ]
 
 -- the end of s itself is asked
 ask_now : (gives : Algorithms) (n : ℕ) (s : Side) (d : ℕ) (at : Side → ℕ) (w : Side → Lacpdu) (c : Side → ℕ) (Y Z : Machines → Type 0)
     (r : Reply) (old new : WorldState) → Fits d w c → 1 ≤ d → side_of n ≡ Some s → Asks d Y Z (w s) (w (peer s)) (c s)
     → Along Z (w s) (w (peer s)) (c s) d → Before d at w c s Y Z old → WorldSteps gives old (event.Emit n (at s)) r new
     → Midway d at w c s Z new
-ask_now gives n s d at w c Y Z r old new fits there named asks along (inl l) h = ask_own gives n s d at w c Y Z r old new fits named asks l h
+ask_now gives n s d at w c Y Z r old new fits there named asks along (inl l) h =
+    midway d at w c s Z new (ask_own gives n s d at w c Y Z r old new fits named asks l h)
 ask_now gives n s d at w c Y Z r old new fits there named asks along (inr m) h =
     ask_any gives n (at s) s d at w c Z r old new fits there along m h
 
@@ -429,10 +439,10 @@ pub beside_here : (d : ℕ) (at : Side → ℕ) (w : Side → Lacpdu) (c : Side 
     → (l : Link d at w c x Y j) → Y (end_here at w d c x Y j l x).port.port
 beside_here d at w c x Y j l = end_with at w d c x j (end_here at w d c x Y j l x) Y (of_end l x Y (λ p rest timed a. a.1 refl))
 
-abbrev Later : Bool → ℕ → Machines → Type 0
+abbrev pub Later : Bool → ℕ → Machines → Type 0
 Later fast most p = (1 ≤ most) × Sounds fast most p
 
-later_along : (v u : Lacpdu) (fast : Bool) (c d most : ℕ) → CanSound v u fast c → Along (Later fast most) v u c d
+pub later_along : (v u : Lacpdu) (fast : Bool) (c d most : ℕ) → CanSound v u fast c → Along (Later fast most) v u c d
 later_along v u fast c d most can = both_along (λ p. 1 ≤ most) (Sounds fast most) v u c d (record {
   mux = λ ready p q h y. y;
   periodic = λ p q h a y. y;
@@ -440,7 +450,7 @@ later_along v u fast c d most can = both_along (λ p. 1 ≤ most) (Sounds fast m
   takes = λ x p q e awake h a y. y;
 }) (sounds_along v u fast c d most can)
 
-sounds_pass : (v u : Lacpdu) (fast : Bool) (before c d most : ℕ) → CanSound v u fast before → CanSound v u fast c
+pub sounds_pass : (v u : Lacpdu) (fast : Bool) (before c d most : ℕ) → CanSound v u fast before → CanSound v u fast c
     → Passes (Sounds fast most) (Sounds fast (most - 1)) (Sounds fast (most - 1)) (Later fast (most - 1)) v u before c d
 sounds_pass v u fast before c d most was can = record {
   ticks = λ p q r rest a y. ticks_sounds d v u fast before most p q was r rest a y;

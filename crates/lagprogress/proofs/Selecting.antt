@@ -3,12 +3,13 @@ use Rattle.lagprogress.proofs.Common.{Bool, List, None, Option, Some, [], ap, ar
 use Rattle.lagprogress.proofs.Common.{nat_le, not, option_map, refl, slice_get, subst, suc, sym, true, zero, ℕ, ◌&&◌, ◌+◌, ◌==◌, ◌||◌, ◌∙◌, ◌∷◌, ◌≡◌}
 use Rattle.lagprogress.proofs.Common.{◌≤◌, ◌⊎◌, and_parts, cases_Bool, nat_tests, none-some, same_Some, enumerate_from, list_any, AggId, Key, Choice}
 use Rattle.lagprogress.proofs.Common.{Selected, Standby, Unselected, is_selected, is_unselected, same_system, exact_system, itself, MuxState}
-use Rattle.lagprogress.proofs.Common.{Attached, CollectingDistributing, Detached, Waiting, ReceiveState, Current, Defaulted, same_mux_state}
+use Rattle.lagprogress.proofs.Common.{Attached, CollectingDistributing, Waiting, ReceiveState, Current, Defaulted, same_mux_state}
 use Rattle.lagprogress.proofs.Common.{same_receive_state, aggregator_of_entry, chosen_if_eligible, has_no_occupant, is_aggregator, lowest}
 use Rattle.lagprogress.proofs.Common.{occupants_share_group, or_else, ports_that_chose, has_room, is_below, is_detached, is_eligible, occupies}
 use Rattle.lagprogress.proofs.Common.{stands_by, NoneStandsBy, none_is_next, SystemPort, key_of, MuxIsSettled, OccupantsAgree, WithinLimit, occupied}
 use Rattle.lagprogress.proofs.Common.{IsSound, SystemState, aggregators_value, selection_view, stage_of, views, takes_is, all-get, ports_rise, IsFull}
-use Rattle.lagprogress.proofs.Common.{StandsByFull, WantsAggregator, aggregators_with, ports_with}
+use Rattle.lagprogress.proofs.Common.{StandsByFull, WantsAggregator, aggregators_with, ports_with, PortView, has_group_of, has_occupant, individual, list_all, occupants}
+use Rattle.lagprogress.specs.Shared.{SharesGroup}
 use Rattle.lagprogress.proofs.Counting.{count, counted, count_less_of, count_more_of}
 
 -- the number of the aggregator that a port occupies; aggregators are numbered from 1
@@ -145,6 +146,9 @@ pub when_is : (b : Bool) (o : Option AggId) → b ≡ true → (if b then (if b 
 when_is true o e h = h
 when_is false o e h = absurd cc
 
+first_none : (a b : Option AggId) → or_else a b ≡ None → a ≡ None
+first_none a b h = grind (arith, nat_tests)
+
 second_none : (a b : Option AggId) → or_else a b ≡ None → b ≡ None
 second_none a b h = grind (arith, nat_tests)
 
@@ -166,6 +170,15 @@ crowded m n a b = omega (arith, a, b)
 from_first : (keys : List Key) (j : ℕ) (key : Key) → slice_get keys j ≡ Some key → key_of keys (1 + j) ≡ Some key
 from_first keys j key g = grind (arith, nat_tests)
 
+-- an UNSELECTED port that wants an aggregator finds none, since the system has settled
+finds_none : (s : SystemState) (i : ℕ) (x : SystemPort) → IsSound s → slice_get s.system_ports i ≡ Some x → WantsAggregator x.port
+    → is_unselected x.port.choice ≡ true → chosen_if_eligible s.keys (views s.system_ports) (selection_view x) ≡ None
+finds_none s i x h e w u =
+    let v = selection_view x in
+    let settled = all-get (MuxIsSettled s.keys s.system_ports) s.system_ports i x e h.quiet.0 in
+    when_is (is_eligible v) (chosen_if_eligible s.keys (views s.system_ports) v) (eligible s i x h e w u)
+    (sym (takes_is s.keys s.system_ports i x (ports_rise s h.ports) e) ∙ settled.apart)
+
 never_unselected : (s : SystemState) (i : ℕ) (x : SystemPort) → IsSound s → slice_get s.system_ports i ≡ Some x
     → WantsAggregator x.port
     → ports_with x.port.party.key s ≤ aggregators_with x.port.party.key s → is_unselected x.port.choice ≡ true → ⊥
@@ -173,10 +186,7 @@ never_unselected s i x h e w many u =
     let k = x.port.party.key.0 in
     let v = selection_view x in
     let seen = views s.system_ports in
-    let settled = all-get (MuxIsSettled s.keys s.system_ports) s.system_ports i x e h.quiet.0 in
-    let none : chosen_if_eligible s.keys seen v ≡ None = when_is (is_eligible v) (chosen_if_eligible s.keys seen v) (eligible s i
-    x h e w u)
-    (sym (takes_is s.keys s.system_ports i x (ports_rise s h.ports) e) ∙ settled.apart) in
+    let none = finds_none s i x h e w u in
     let without : find (λ (row : ℕ × Key). (row.1.0 == k) && has_no_occupant seen (aggregator_of_entry row)) (enumerate_from 1
     s.keys) ≡ None =
     no_entry _ (second_none (lowest s.keys x.port.party.key (occupants_share_group seen v)) _ none) in
@@ -243,6 +253,80 @@ selected_or_stands : (s : SystemState) (i : ℕ) (x : SystemPort) (c : Choice) �
 selected_or_stands s i x Unselected e h g k = absurd (k refl)
 selected_or_stands s i x (Selected agg) e h g k = inl refl
 selected_or_stands s i x (Standby agg) e h g k = inr (agg, e, waits_for_room s i x agg h g e)
+
+-- ports that share one group find the aggregator of another
+
+existing : (k : ℕ) (keys : List Key) → 1 ≤ count (λ (key : Key). key.0 == k) keys
+    → (j : ℕ) × (key : Key) × (slice_get keys j ≡ Some key) × ((key.0 == k) ≡ true)
+existing k [] h = absurd (omega (arith, h))
+existing k (key ∷ keys) h = elim (cases_Bool (key.0 == k)) [
+  | inl t ↦ (zero, key, refl, t)
+  | inr f ↦ (let n = count (λ (y : Key). y.0 == k) keys in
+      let r = existing k keys (subst (λ b. 1 ≤ cond b (suc n) n) f h) in (suc r.0, r.1, r.2, r.3))
+]
+
+none_at : (test : ℕ × Key → Bool) (first : ℕ) (keys : List Key) → find test (enumerate_from first keys) ≡ None → (j : ℕ) (key : Key)
+    → slice_get keys j ≡ Some key → test (first + j, key) ≡ false
+none_at test first [] h j key e = absurd (none-some key e)
+none_at test first (y ∷ ys) h zero key e =
+    let both = passed (test (first, y)) (first, y) (find test (enumerate_from (first + 1) ys)) h in
+    let here : first ≡ first + 0 = omega arith in
+    subst (λ (z : Key). test (first + 0, z) ≡ false) (same_Some y key e) (subst (λ n. test (n, y) ≡ false) here both.0)
+none_at test first (y ∷ ys) h (suc j) key e =
+    let both = passed (test (first, y)) (first, y) (find test (enumerate_from (first + 1) ys)) h in
+    let there : first + 1 + j ≡ first + suc j = omega arith in
+    subst (λ n. test (n, key) ≡ false) there (none_at test (first + 1) ys both.1 j key e)
+
+kept_all : (test : PortView → Bool) (b : Bool) (w : PortView) (rest : List PortView) → (b ≡ true → test w ≡ true)
+    → list_all test rest ≡ true → list_all test (cond b (w ∷ rest) rest) ≡ true
+kept_all test true w rest h k = rw (h refl) k
+kept_all test false w rest h k = k
+
+share_all : (v : PortView) (agg : AggId) (ports : List SystemPort)
+    → ((j : ℕ) (y : SystemPort) → slice_get ports j ≡ Some y → occupies agg y.port.choice ≡ true → has_group_of v (selection_view y) ≡ true)
+    → list_all (has_group_of v) (occupants agg (views ports)) ≡ true
+share_all v agg [] h = refl
+share_all v agg (y ∷ ys) h = kept_all (has_group_of v) (occupies agg y.port.choice) (selection_view y) (occupants agg (views ys))
+    (h zero y refl) (share_all v agg ys (λ j z e. h (suc j) z e))
+
+none_share : (b alone some all : Bool) → b ≡ true → alone ≡ false → some ≡ true → all ≡ true
+    → (b && ((not alone && some) && all)) ≡ false → ⊥
+none_share b alone some all e f g h k = grind (arith, nat_tests)
+
+not_unselected : (agg : AggId) (c : Choice) → occupies agg c ≡ true → c ≡ Unselected → ⊥
+not_unselected agg c h e = grind (arith, nat_tests)
+
+always_shares : (s : SystemState) (i : ℕ) (x : SystemPort) → IsSound s → slice_get s.system_ports i ≡ Some x → WantsAggregator x.port
+    → 1 ≤ aggregators_with x.port.party.key s → SharesGroup s x → is_unselected x.port.choice ≡ true → ⊥
+always_shares s i x h e w one shares u =
+    let k = x.port.party.key.0 in
+    let v = selection_view x in
+    let seen = views s.system_ports in
+    let none = finds_none s i x h e w u in
+    let first = no_entry _ (first_none (lowest s.keys x.port.party.key (occupants_share_group seen v)) _ none) in
+    let second = no_entry _ (second_none (lowest s.keys x.port.party.key (occupants_share_group seen v)) _ none) in
+    let some = existing k s.keys (omega (arith, one, counted (λ (y : Key). y.0 == k) s.keys)) in
+    let agg : AggId = record { 0 = 1 + some.0 } in
+    let occupied_here = has_one (some.1.0 == k) (has_occupant seen agg) some.3
+    (none_at (λ (row : ℕ × Key). (row.1.0 == k) && has_no_occupant seen (aggregator_of_entry row)) 1 s.keys second some.0 some.1 some.2) in
+    let key : some.1 ≡ x.port.party.key = same_key some.1 x.port.party.key some.3 in
+    let group : (j : ℕ) (y : SystemPort) → slice_get s.system_ports j ≡ Some y → occupies agg y.port.choice ≡ true
+    → has_group_of v (selection_view y) ≡ true = λ j y f o. shares.group j y f
+    (same_Some y.port.party.key x.port.party.key (sym (h.occupants.key j agg.0 y f (occupies_is agg y.port.choice o).0)
+    ∙ (from_first s.keys some.0 some.1 some.2 ∙ ap (λ (q : Key). Some q) key)))
+    (not_unselected agg y.port.choice o) in
+    none_share (some.1.0 == k) (individual v.party v.partner) (has_occupant seen agg)
+    (list_all (has_group_of v) (occupants agg seen)) some.3 shares.together occupied_here (share_all v agg s.system_ports group)
+    (none_at (λ (row : ℕ × Key). (row.1.0 == k) && occupants_share_group seen v (aggregator_of_entry row)) 1 s.keys first some.0 some.1 some.2)
+  where
+    same_key : (a b : Key) → (a.0 == b.0) ≡ true → a ≡ b
+    same_key a b t = ap (λ n. record { 0 = n }) (eqb-true a.0 b.0 t)
+
+pub shares_aggregator : (s : SystemState) (i : ℕ) (x : SystemPort) → IsSound s → slice_get s.system_ports i ≡ Some x
+    → WantsAggregator x.port
+    → 1 ≤ aggregators_with x.port.party.key s → SharesGroup s x → (is_selected x.port.choice ≡ true) ⊎ StandsByFull s x.port
+shares_aggregator s i x h e w one shares =
+    selected_or_stands s i x x.port.choice refl h e (always_shares s i x h e w one shares)
 
 pub finds_aggregator : (s : SystemState) (i : ℕ) (x : SystemPort) → IsSound s → slice_get s.system_ports i ≡ Some x
     → WantsAggregator x.port

@@ -81,7 +81,7 @@ pub record Stamping (b : ℕ) (at k : Side → ℕ) (kept : Side → Bool) (old 
   pub took : 1 ≤ b → (t : Side) → Took at k kept t old → Took at k kept t new
   pub low : 1 ≤ b → (t : Side) (most : ℕ) → Low at most t old → Low at most t new ⊎ Took at k kept t new
 
-took_same : (at k : Side → ℕ) (kept : Side → Bool) (t : Side) (old new : WorldState) → (half t new).histories ≡ (half t old).histories → Took at k kept t old
+pub took_same : (at k : Side → ℕ) (kept : Side → Bool) (t : Side) (old new : WorldState) → (half t new).histories ≡ (half t old).histories → Took at k kept t old
     → Took at k kept t new
 took_same at k kept t old new e h there = subst (λ l. is_stamp (k (peer t)) (taken_in (history_at l (at t))) ≡ true) (sym e) (h there)
 
@@ -173,6 +173,23 @@ came_in gives at k kept s item (Ok o) old new there good h log = elim (is_took o
     unlogged : (o : Received) → (o ≡ received.TookLacpdu → ⊥) → logged (Ok o) (at s) item (half s old).histories ≡ (half s old).histories
     unlogged received.TookLacpdu n = absurd (n refl)
     unlogged o n = refl
+
+-- an LACPDU that bears the present count is taken
+pub took_in : (gives : ℕ → ℕ → ℕ → Type 0) (at k : Side → ℕ) (kept : Side → Bool) (s : Side) (item : ItemValue) (a : Result Received SystemFault)
+    (old new : WorldState) → a ≡ Ok received.TookLacpdu → is_some (history_at (half s old).histories (at s)) ≡ kept s
+    → IsStamped (k (peer s)) item
+    → CallPromise gives (half s old).state (Receive (at s) item.octets) (answer.Receive a) (half s new).state
+    → (half s new).histories ≡ logged a (at s) item (half s old).histories → Took at k kept s new
+took_in gives at k kept s item a old new e there good h log =
+    let m = (subst (λ x. CallPromise gives (half s old).state (Receive (at s) item.octets) (answer.Receive x) (half s new).state) e h).moves.3 in
+    let stamp = good m.0 m.1 in
+    let now = log ∙ ap (λ x. logged x (at s) item (half s old).histories) e in
+    λ y. ap (λ g. is_stamp (k (peer s)) (taken_in (history_at g (at s)))) now
+    ∙ (ap (is_stamp (k (peer s))) (taken_there (at s) (stamped_in item) (half s old).histories (there ∙ y))
+    ∙ same (stamp_count item.stamp) (k (peer s)) stamp)
+  where
+    same : (m n : ℕ) → m ≡ n → (m == n) ≡ true
+    same m n e = grind (arith, nat_tests)
 
 stamps_arrive : (gives : Algorithms) (s : Side) (b : ℕ) (at k : Side → ℕ) (kept : Side → Bool) (old new : WorldState) (l : Stamped b at k kept old)
     → Arrives gives s at l.flying old new → Stamping b at k kept old new

@@ -28,11 +28,11 @@ use Rattle.lagprogress.proofs.Stamps.{Late, late_ticks, not_late}
 -- what is on its way
 
 -- the item bears an LACPDU
-abbrev Bears : ItemValue → Type 0
+abbrev pub Bears : ItemValue → Type 0
 Bears item = (x : Lacpdu) × IsFrame item.octets (Carries (pdu.Lacpdu x))
 
 -- the item bears no LACPDU but one that says that its actor is synchronized
-abbrev SaysIt : Lacpdu → Lacpdu → ItemValue → Type 0
+abbrev pub SaysIt : Lacpdu → Lacpdu → ItemValue → Type 0
 SaysIt u v item = (x : Lacpdu) → IsFrame item.octets (Carries (pdu.Lacpdu x)) → SaysSynced u v x
 
 -- each LACPDU among the items says so; and if there is none, H holds
@@ -40,12 +40,12 @@ abbrev pub Tells : Lacpdu → Lacpdu → List ItemValue → Type 0 → Type 0
 Tells u v [] H = H
 Tells u v (item ∷ items) H = Tells u v items (SaysIt u v item × (H ⊎ Bears item))
 
-tells_map : (u v : Lacpdu) (xs : List ItemValue) (A B : Type 0) → (A → B) → Tells u v xs A → Tells u v xs B
+pub tells_map : (u v : Lacpdu) (xs : List ItemValue) (A B : Type 0) → (A → B) → Tells u v xs A → Tells u v xs B
 tells_map u v [] A B k h = k h
 tells_map u v (x ∷ xs) A B k h = tells_map u v xs (SaysIt u v x × (A ⊎ Bears x)) (SaysIt u v x × (B ⊎ Bears x))
     (λ a. (a.0, elim a.1 [ inl y ↦ inl (k y) | inr b ↦ inr b ])) h
 
-tells_push : (u v : Lacpdu) (xs : List ItemValue) (item : ItemValue) (H : Type 0) → SaysIt u v item → Tells u v xs H ⊎ Bears item
+pub tells_push : (u v : Lacpdu) (xs : List ItemValue) (item : ItemValue) (H : Type 0) → SaysIt u v item → Tells u v xs H ⊎ Bears item
     → Tells u v (xs ++ item ∷ []) H
 tells_push u v [] item H says h = (says, h)
 tells_push u v (x ∷ xs) item H says h = tells_push u v xs item (SaysIt u v x × (H ⊎ Bears x)) says h
@@ -121,19 +121,19 @@ back_tells u v H gives s n octets a old new fl now k h m = subst (λ (f : Side �
 module _ (gives : Algorithms) (d : ℕ) (at : Side → ℕ) (w : Side → Lacpdu) (c : Side → ℕ) (s : Side) (X : Machines → Type 0)
     (there : 1 ≤ d) (fits : Fits d w c) (keeps : KeptBySettling (AtPort (at (peer s)) X))
     (sends : (p : Machines) → X p → X (after_sending p)) (takes : (p : Machines) → partner_synchronized p ≡ true → X p) where
-  abbrev Wake : Machines → Type 0
+  abbrev pub Wake : Machines → Type 0
   Wake = Wakeful (w s) (w (peer s))
 
-  abbrev Held : WorldState → Type 0
+  abbrev pub Held : WorldState → Type 0
   Held j = Link d at w c s Wake j
 
   along : Along Wake (w s) (w (peer s)) (c s) d
   along = wakeful_along (w s) (w (peer s)) (c s) d there
 
-  abbrev OwesAt : WorldState → Type 0
+  abbrev pub OwesAt : WorldState → Type 0
   OwesAt j = OfEach (AtPort (at s) (Owes (w (peer s)))) (half s j).state.system_ports
 
-  abbrev HoldsAt : WorldState → Type 0
+  abbrev pub HoldsAt : WorldState → Type 0
   HoldsAt j = OfEach (AtPort (at (peer s)) X) (half (peer s) j).state.system_ports
 
   -- the end of s owes an LACPDU, or one that says so is on its way, or X holds of its peer
@@ -174,12 +174,12 @@ module _ (gives : Algorithms) (d : ℕ) (at : Side → ℕ) (w : Side → Lacpdu
   of_here P q j l e a = all-get (λ (y : SystemPort). AtPort (at q) P y.number y.port) (half q j).state.system_ports (l.place q).0 e.port e.found
       a e.number
 
-  owing : (j : WorldState) → Held j → OwesAt j → OfEach (AtPort (at s) (Owing d (w s) (w (peer s)) (c s))) (half s j).state.system_ports
+  pub owing : (j : WorldState) → Held j → OwesAt j → OfEach (AtPort (at s) (Owing d (w s) (w (peer s)) (c s))) (half s j).state.system_ports
   owing j l a = each_map (λ m p. AtPort (at s) (EndIs d w c s Wake s) m p × AtPort (at s) (Owes (w (peer s))) m p)
       (AtPort (at s) (Owing d (w s) (w (peer s)) (c s))) (λ m p b e. ((b.0 e).0, (b.0 e).1 refl, b.1 e)) (half s j).state.system_ports
       (each_both (AtPort (at s) (EndIs d w c s Wake s)) (AtPort (at s) (Owes (w (peer s)))) (half s j).state.system_ports (l.ports s) a)
 
-  owed : (t : SystemState) → OfEach (AtPort (at s) (Owing d (w s) (w (peer s)) (c s))) t.system_ports
+  pub owed : (t : SystemState) → OfEach (AtPort (at s) (Owing d (w s) (w (peer s)) (c s))) t.system_ports
       → OfEach (AtPort (at s) (Owes (w (peer s)))) t.system_ports
   owed t a = each_map (AtPort (at s) (Owing d (w s) (w (peer s)) (c s))) (AtPort (at s) (Owes (w (peer s)))) (λ m p b e. (b e).2) t.system_ports a
 
@@ -264,7 +264,7 @@ module _ (gives : Algorithms) (d : ℕ) (at : Side → ℕ) (w : Side → Lacpdu
     ],
   )
 
-  ask_on : (n p : ℕ) (r : Reply) (old new : WorldState) → WorldSteps gives old (event.Emit n p) r new → On old → On new
+  pub ask_on : (n p : ℕ) (r : Reply) (old new : WorldState) → WorldSteps gives old (event.Emit n p) r new → On old → On new
   ask_on n p r old new h (l, m) = elim (asked_which gives n p l.index at l.flying r old new l.links h) [
     | inl (t, named, is) ↦ each_side (λ t. side_of n ≡ Some t → WorldSteps gives old (event.Emit n (at t)) r new → On new) s
         (λ a b. ask_own n r old new a (l, m) b) (λ a b. ask_peer n r old new a (l, m) b) t named
@@ -275,7 +275,7 @@ module _ (gives : Algorithms) (d : ℕ) (at : Side → ℕ) (w : Side → Lacpdu
 
   -- an arrival
 
-  came_to : (q : Side) (old new : WorldState) (l : Held old) (k : Arrives gives q at l.flying old new)
+  pub came_to : (q : Side) (old new : WorldState) (l : Held old) (k : Arrives gives q at l.flying old new)
       → Arrived (l.place q).0 k.item.octets (half q old).state (half q new).state
   came_to q old new l k = by_answer k.a k.promise
     where
@@ -319,7 +319,7 @@ module _ (gives : Algorithms) (d : ℕ) (at : Side → ℕ) (w : Side → Lacpdu
           )) (owing_settles d (w s) (w (peer s)) (c s) z.port.number there) settles in
           owed (half s new).state (subst (λ n. OfEach (AtPort n P) (half s new).state.system_ports) z.number each)
 
-  arrive_peer : (old new : WorldState) (l : Held old) (k : Arrives gives (peer s) at l.flying old new) (i : Held new) → i.flying ≡ k.now
+  pub arrive_peer : (old new : WorldState) (l : Held old) (k : Arrives gives (peer s) at l.flying old new) (i : Held new) → i.flying ≡ k.now
       → OwesAt old ⊎ Tells (w (peer s)) (w s) (l.flying (peer s)) (HoldsAt old) → On new
   arrive_peer old new l k i same m =
       let peers : (half s new).state ≡ (half s old).state = subst (λ t. (half t new).state ≡ (half t old).state) (peer_twice s) k.peers in
@@ -349,7 +349,7 @@ module _ (gives : Algorithms) (d : ℕ) (at : Side → ℕ) (w : Side → Lacpdu
         ]
       ]
 
-  deliver_on : (cn n : ℕ) (r : Reply) (old new : WorldState) → WorldSteps gives old (event.Deliver cn n) r new → On old → On new
+  pub deliver_on : (cn n : ℕ) (r : Reply) (old new : WorldState) → WorldSteps gives old (event.Deliver cn n) r new → On old → On new
   deliver_on cn n r old new h (l, m) =
       let e = deliver_moves gives cn n d at w c s Wake r old new fits along l h in
       elim e.1 [
@@ -374,7 +374,7 @@ module _ (gives : Algorithms) (d : ℕ) (at : Side → ℕ) (w : Side → Lacpdu
 abbrev TookOrLate : ℕ → Machines → Type 0
 TookOrLate most p = PartnerInSync p ⊎ Late most p
 
-sync_settles : (n : ℕ) → KeptBySettling (AtPort n PartnerInSync)
+pub sync_settles : (n : ℕ) → KeptBySettling (AtPort n PartnerInSync)
 sync_settles n = settling_leaves (AtPort n PartnerInSync)
 
 late_settles : (n most : ℕ) → KeptBySettling (AtPort n (TookOrLate most))

@@ -19,6 +19,7 @@ use Rattle.lagprogress.specs.ComingUp.{Distributes}
 use Rattle.lagprogress.specs.Progress.{EndKnows}
 use Rattle.lagprogress.specs.Rounds.{AtEnd, IsHealthyAt, Rounds, known_if_both_active, known_if_one_is, up_if_both_active, up_if_one_is}
 use Rattle.lagprogress.specs.Selecting.{aggregators_with, ports_with}
+use Rattle.lagprogress.specs.Shared.{HasAggregators}
 use Rattle.lagprogress.specs.Steady.{IsSteady}
 
 -- one end of the cable is active
@@ -67,7 +68,7 @@ abbrev pub EnoughLinks : SystemState → Type 0
 EnoughLinks s = (k most : ℕ) (x : SystemPort) → slice_get s.system_ports k ≡ Some x → s.max_links ≡ Some most
     → ports_with x.port.party.key s ≤ most
 
--- Both systems are sound, and their timers within their bounds; they differ, and each has enough aggregators and links; no
+-- Both systems are sound, and their timers within their bounds; they differ, and each has aggregators and enough links; no
 -- port has two cables, and each port whose link is up ends a healthy cable, of which this holds. Other cables may be cut,
 -- have a limit, or end at ports whose links are down.
 pub record IsBundle (Holds : LinkState → WorldState → Type 0) (j : WorldState) : Type 0 where
@@ -75,7 +76,7 @@ pub record IsBundle (Holds : LinkState → WorldState → Type 0) (j : WorldStat
   pub cabling : IsCabling (world_setup j).cables
   pub differ : SystemsDiffer j
   pub heard : AllHeard Holds j
-  pub aggregators : (s : Side) → EnoughAggregators (half s j).state
+  pub aggregators : (s : Side) → HasAggregators s j
   pub links : (s : Side) → EnoughLinks (half s j).state
 
 -- From 352 healthy rounds on, whatever was before them, both ends of each healthy cable of a bundle distribute, if both ends
@@ -105,11 +106,11 @@ ReachedIsApart gives = (config : WorldConfig) (es : List Event) (rs : List Reply
     → world_refusal config ≡ None → AreFirst config.systems start → WorldRuns gives start es rs new → SystemsDiffer new
 
 -- A world that events lead to from one that was made is sound, and a bundle, if each port whose link is up ends a healthy
--- cable, of which this holds, and each system has enough aggregators and links.
+-- cable, of which this holds, and each system has aggregators and enough links.
 abbrev pub ReachedIsBundle : (LinkState → WorldState → Type 0) → Algorithms → Type 0
 ReachedIsBundle Holds gives = (config : WorldConfig) (es : List Event) (rs : List Reply) (start new : WorldState)
     → world_refusal config ≡ None → IsStart start → AreFirst config.systems start → WorldRuns gives start es rs new
-    → new.acted ≤ most_events → AllHeard Holds new → ((s : Side) → EnoughAggregators (half s new).state)
+    → new.acted ≤ most_events → AllHeard Holds new → ((s : Side) → HasAggregators s new)
     → ((s : Side) → EnoughLinks (half s new).state) → IsSound new × IsBundle Holds new
 
 -- However few aggregators and links there are: if each port whose link is up ends a healthy cable with both ends active, and

@@ -1,5 +1,6 @@
 pub mod Silence
 pub mod Selecting
+pub mod Shared
 pub mod Timers
 pub mod Heartbeat
 pub mod Hearing
@@ -18,3 +19,4 @@ pub mod Freed
 pub mod Arriving
 pub mod Limited
 pub mod CutOff
+pub mod HostRounds

@@ -16,9 +16,10 @@ use Rattle.lagworld.specs.Making.{AreFirst}
 use Rattle.lagworld.specs.ModelWorld.{world_setup}
 use Rattle.lagworld.specs.Sound.{IsSound, IsStart}
 use Rattle.lagworld.specs.State.{LinkState, WorldState, half}
-use Rattle.lagprogress.specs.Bundle.{AllHeard, BothAreActive, EnoughAggregators, EnoughLinks, OneIsActive, SystemsDiffer}
+use Rattle.lagprogress.specs.Bundle.{AllHeard, BothAreActive, EnoughLinks, OneIsActive, SystemsDiffer}
 use Rattle.lagprogress.specs.Rounds.{AtEnd, IsHealthyAt, Rounds, up_if_both_active, up_if_one_is}
 use Rattle.lagprogress.specs.Selecting.{IsFull}
+use Rattle.lagprogress.specs.Shared.{HasAggregators}
 use Rattle.lagprogress.specs.Steady.{IsSteady}
 
 -- port `number` of system s ends a cable whose agreement is Same
@@ -47,14 +48,14 @@ EachReachedHasDownUnselected gives = (configs : List Config) (es : List Event) (
     → IsStart start → AreFirst configs start → WorldRuns gives start es rs new → IsSome (half s new).state.max_links
     → DownAreUnselected (half s new).state
 
--- Both systems are steady and differ, each has enough aggregators, and each port whose link is up ends a healthy cable, of which
+-- Both systems are steady and differ, each has aggregators, and each port whose link is up ends a healthy cable, of which
 -- this holds. One system, t, may have any limit of links; no port of it whose link is down is SELECTED or STANDBY. The limit of
 -- the other, if it has one, is no less than the ports of one key.
 pub record IsLimitedBundle (Holds : LinkState → WorldState → Type 0) (t : Side) (j : WorldState) : Type 0 where
   pub steady : IsSteady j
   pub differ : SystemsDiffer j
   pub heard : AllHeard Holds j
-  pub aggregators : (s : Side) → EnoughAggregators (half s j).state
+  pub aggregators : (s : Side) → HasAggregators s j
   pub down : DownAreUnselected (half t j).state
   pub links : EnoughLinks (half (peer t) j).state
 

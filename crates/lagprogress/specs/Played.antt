@@ -16,10 +16,11 @@ use Rattle.lagworld.specs.Events.{Algorithms, WorldRuns, has_system, most_events
 use Rattle.lagworld.specs.Making.{IsMade, refusal_with}
 use Rattle.lagworld.specs.Sound.{IsStart}
 use Rattle.lagworld.specs.State.{LinkState, WorldState, half}
-use Rattle.lagprogress.specs.Bundle.{AllHeard, EnoughAggregators, EnoughLinks}
+use Rattle.lagprogress.specs.Bundle.{AllHeard, EnoughLinks}
 use Rattle.lagprogress.specs.ComingUp.{Distributes}
 use Rattle.lagprogress.specs.Freed.{HasIdentifierLeft, NoneIsHeld}
 use Rattle.lagprogress.specs.Rounds.{AtEnd, IsDeliver, IsHealthyAt, Rounds, asks_all, ticks_of_both}
+use Rattle.lagprogress.specs.Shared.{HasAggregators}
 
 -- all of these events act
 pub record RunsAll (gives : Algorithms) (es : List Event) (old new : WorldState) : Type 0 where
@@ -96,10 +97,10 @@ pub record IsReached {C : Type 0} (items : C → List Item) (limit : C → Optio
   pub runs : WorldRuns gives start events replies j
   pub few : j.acted ≤ most_events
 
--- each port whose link is up ends a healthy cable, of which this holds, and each system has enough aggregators and links
+-- each port whose link is up ends a healthy cable, of which this holds, and each system has aggregators and enough links
 pub record IsReady (Holds : LinkState → WorldState → Type 0) (j : WorldState) : Type 0 where
   pub heard : AllHeard Holds j
-  pub aggregators : (s : Side) → EnoughAggregators (half s j).state
+  pub aggregators : (s : Side) → HasAggregators s j
   pub links : (s : Side) → EnoughLinks (half s j).state
 
 -- both ends of each cable that is healthy in the old world distribute in the new one

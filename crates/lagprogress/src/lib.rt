@@ -8,8 +8,10 @@
 
 mod arriving;
 mod cut_off;
+mod hosting;
 mod limits;
 mod playing;
+mod sharing;
 
 ghost use Rattle.lagprogress.specs.Silence.{SilenceEnds};
 
@@ -17,8 +19,13 @@ pub use arriving::{
     disabled_ports_have_unsynchronized_partners, each_frame_arrives, frames_pass_cables,
 };
 pub use cut_off::{cut_off_ports_are_defaulted, each_link_comes_up_beside_cut_offs};
+pub use hosting::{
+    each_link_agrees_by_hosts, each_link_comes_up_by_hosts, ends_come_to_know_by_hosts,
+    hosts_play_rounds,
+};
 pub use limits::{down_ports_are_unselected, each_limited_link_agrees};
 pub use playing::{play_round, play_rounds};
+pub use sharing::ports_share_aggregators;
 
 /// An active port whose link is up is not silent for long: no run of the periodic machine raises the bound on the ticks
 /// until NTT is true; each tick lowers it by one; and at 0 NTT is true (6.4.13).
@@ -184,8 +191,8 @@ ghost use Rattle.lagprogress.specs.Bundle.{BothAreActive, OneIsActive, ReachedIs
 
 /// A world that at most 2^63 events lead to from a start of two systems whose configurations are accepted is sound, and a
 /// bundle as `each_link_comes_up`, `each_link_agrees` and `held_conversations_are_freed` want it, if each port whose link is up
-/// ends a healthy cable with both ends active, or one, and each system has enough aggregators and links. Its two systems differ
-/// in any case (profile).
+/// ends a healthy cable with both ends active, or one, and each system has aggregators and enough links as they say. Its two
+/// systems differ in any case (profile).
 pub fn reached_worlds_are_bundles<F: Fn(u16, usize) -> usize>()
     ensures apart { (one two : F) → ReachedIsApart (both_algorithms (F.post one) (F.post two)) }
     ensures both { (one two : F) → ReachedIsBundle BothAreActive (both_algorithms (F.post one) (F.post two)) }
@@ -196,9 +203,10 @@ ghost use Rattle.lagprogress.specs.Bundle.{EachActiveLinkComesUp, EachLinkComesU
 
 /// The links of a bundle come up: both ends of each healthy cable are SELECTED and distribute from 352 healthy rounds
 /// (35.2 s) on if both ends of each are active, from 661 (66.1 s) on if one end of each is, whatever was before them. Each port whose
-/// link is up ends a healthy cable; each system has as many aggregators of a port's key as ports of that key, and a limit of
-/// links, if it has one, is no less; the two systems differ, both are sound, and their timers are within their bounds. Other
-/// cables may be cut, or end at ports whose links are down (6.4.12 to 6.4.16).
+/// link is up ends a healthy cable; each system has as many aggregators of a port's key as ports of that key, or at least one,
+/// where the ports of that key lead to aggregatable ports of one key at the other system, and are aggregatable themselves; a limit
+/// of links, if it has one, is no less than the ports of one key; the two systems differ, both are sound, and their timers are
+/// within their bounds. Other cables may be cut, or end at ports whose links are down (6.3.6, 6.4.12 to 6.4.16).
 pub fn each_link_comes_up<F: Fn(u16, usize) -> usize>()
     ensures both { (one two : F) → EachActiveLinkComesUp (both_algorithms (F.post one) (F.post two)) }
     ensures one { (one two : F) → EachLinkComesUp (both_algorithms (F.post one) (F.post two)) }

@@ -15,9 +15,9 @@ ghost use Rattle.lagprogress.specs.Limited.{EachActiveLimitedLinkAgrees, EachLim
 /// of each healthy cable are active, after 661 (66.1 s) if one is, whatever was before them, the agreement of each healthy cable
 /// is `Same`, or its end at that system is STANDBY in an aggregator that has as many members as the limit, and each of these
 /// ends a cable whose agreement is `Same`. The world is sound; each port whose link is up ends a healthy cable; each system has
-/// as many aggregators of a port's key as ports of that key; the limit of the other system, if it has one, is no less than
-/// the ports of one key; the two systems differ; their timers are within their bounds; and no port of the limited system whose
-/// link is down is SELECTED or STANDBY (6.3.6, 6.4.12 to 6.4.16; profile).
+/// aggregators as `each_link_comes_up` wants them; the limit of the other system, if it has one, is no less than the ports of one
+/// key; the two systems differ; their timers are within their bounds; and no port of the limited system whose link is down is
+/// SELECTED or STANDBY (6.3.6, 6.4.12 to 6.4.16; profile).
 pub fn each_limited_link_agrees<F: Fn(u16, usize) -> usize>()
     ensures both { (one two : F) → EachActiveLimitedLinkAgrees (both_algorithms (F.post one) (F.post two)) }
     ensures one { (one two : F) → EachLimitedLinkAgrees (both_algorithms (F.post one) (F.post two)) }

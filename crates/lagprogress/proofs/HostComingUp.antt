@@ -1,0 +1,262 @@
+-- How both ends of a cable come to distribute, healthy round by healthy round of hosts.
+use Rattle.lagprogress.proofs.Common.{Bool, Some, ap, arith, inl, inr, refl, subst, sym, true, ℕ, ◌+◌, ◌-◌, ◌∙◌, ◌≡◌, ◌≤◌, ◌⊎◌, is_selected, Lacpdu, One, Side}
+use Rattle.lagprogress.proofs.Common.{peer, Machines, SystemPort, MuxIsSettled, machines_of, all-get, Algorithms, WorldState, half, Distributes}
+use Rattle.lagprogress.proofs.Common.{OfPort, IsTimed, List, false, is_some, map, option_map, slice_get, suc, unwrap_or, Party, group_of, same_group, party_of}
+use Rattle.lagprogress.proofs.Common.{Two, CollectingDistributing, same_mux_state, group_at, Same, agreement_at, agreement_of, end_facts, is_stamp, same_groups}
+use Rattle.lagprogress.proofs.Common.{ItemValue, LinkState, change_count_in, history_at, link_ends}
+use Rattle.lagscript.specs.declared.event.Event.TheVariants as event
+use Rattle.lagprogress.proofs.ComingUp.{all_same, turned}
+use Rattle.lagprogress.proofs.HostStamps.{stamped_between, stamped_tick}
+use Rattle.lagprogress.proofs.OneCable.{OnCable, cable, deliver_ends, emits, ticks}
+use Rattle.lagprogress.proofs.Quieting.{quiet_ends}
+use Rattle.lagprogress.proofs.Stamps.{Stamped}
+use Rattle.lagprogress.specs.HostRounds.{HostRounds, IsHostRound}
+use Rattle.lagprogress.proofs.Claims.{IsNamed, Owes}
+use Rattle.lagprogress.proofs.Climbing.{PartnerInSync, Rising, distributes_now, partner_along, rising_along, rising_first, ticks_partner, ticks_rising}
+use Rattle.lagprogress.proofs.EachPort.{OfEach}
+use Rattle.lagprogress.proofs.EndFacts.{Learnt, Synced, activity}
+use Rattle.lagprogress.proofs.HostEach.{hosts_on}
+use Rattle.lagprogress.proofs.HostKnowing.{FreshAt, able_fresh, awake_peer, fits_before, fits_fresh, knows_peer, stays_fresh}
+use Rattle.lagprogress.proofs.HostRound.{KeptBetween, holds_on, host_holds, host_nears, of_side}
+use Rattle.lagprogress.proofs.Linked.{Fits, at_end, each_map, end_here, end_with, peer_twice}
+use Rattle.lagprogress.proofs.OnePort.{AtPort}
+use Rattle.lagprogress.proofs.OneRound.{Nothing, join, ticked}
+use Rattle.lagprogress.proofs.Progressing.{AtIt, beside, emptied, mode}
+use Rattle.lagprogress.proofs.EndFacts.{wait_of}
+use Rattle.lagprogress.proofs.Sounding.{Sounds, all_leave}
+
+module _ (at : Side → ℕ) (w : Side → Lacpdu) (named : (t : Side) → IsNamed (w t))
+    (awake : (s : Side) → (activity (w s) ≡ true) ⊎ (activity (w (peer s)) ≡ true)) where
+  climb_first : (j : WorldState) (g : FreshAt at w 1 j) (s : Side) → AtIt at w s (λ p. is_selected p.choice ≡ true) j
+      → AtIt at w s (Rising (20 - 0)) j
+  climb_first j g s chosen =
+      let e = end_here at w 1 g.known One Nothing j g.link s in
+      let steady = g.link.steady in
+      let st = (half s j).state in
+      let mux = (all-get (MuxIsSettled st.keys st.system_ports) st.system_ports e.index e.port e.there (steady s).0.quiet.0).mux in
+      let timed = all-get (λ (y : SystemPort). IsTimed y.port) st.system_ports e.index e.port e.there (steady s).1 in
+      at_end at w 1 g.known s j e steady (Rising 20) (rising_first e.port.port mux timed
+      (end_with at w 1 g.known s j e (λ p. is_selected p.choice ≡ true) chosen))
+
+  climb_on : (s : Side) (gives : Algorithms) (n : ℕ) (old new : WorldState) (g : FreshAt at w 1 old) → IsHostRound gives old new
+      → AtIt at w s (Rising (20 - n)) old → AtIt at w s (Rising (20 - (n + 1))) new
+  climb_on s gives n old new g h rising =
+      let l = knows_peer at w 1 0 0 old g (omega arith) s in
+      subst (λ t. AtIt at w s (Rising t) new) (omega arith)
+      (beside at w 1 (ticked g.known) s (Rising (20 - n - 1)) new
+      (host_holds gives s 1 at w g.known (Rising (20 - n)) (Rising (20 - n - 1)) old new
+      (fits_before at w named awake 1 old g (omega arith)) (fits_fresh at w named awake 1 old g (omega arith))
+      (rising_along (w s) (w (peer s)) (g.known s) 1 (20 - n) (omega arith) (omega (arith, l)))
+      (rising_along (w s) (w (peer s)) (ticked g.known s) 1 (20 - n - 1) (omega arith) (omega (arith, l)))
+      (λ p q r rest a y. ticks_rising 1 (w s) (w (peer s)) (g.known s) (20 - n) p q (omega (arith, l)) r a y)
+      (λ p y. y) (λ p y. y) (join 1 at w g.known One s (Rising (20 - n)) old g.link rising) h))
+
+  -- both climb
+  pub record Climbs (n : ℕ) (j : WorldState) : Type 0 where
+    pub fresh : FreshAt at w 1 j
+    pub rising : (s : Side) → AtIt at w s (Rising (20 - n)) j
+
+  pub climbs_first : (j : WorldState) → FreshAt at w 1 j → ((s : Side) → AtIt at w s (λ p. is_selected p.choice ≡ true) j) → Climbs 0 j
+  climbs_first j g chosen = record { fresh = g; rising = λ s. climb_first j g s (chosen s) }
+
+  pub climbs_on : (gives : Algorithms) (n : ℕ) (old new : WorldState) → IsHostRound gives old new → Climbs n old → Climbs (n + 1) new
+  climbs_on gives n old new h k = record {
+    fresh = stays_fresh at w named awake gives 1 old new (omega arith) h k.fresh;
+    rising = λ s. climb_on s gives n old new k.fresh h (k.rising s);
+  }
+
+  -- Then each end hears that the other is in sync, since it is told or is owed an LACPDU.
+
+  abbrev pub Tells : Side → ℕ → WorldState → Type 0
+  Tells s n j = ((k : ℕ) × (1 ≤ k) × (n + k ≤ 11) × AtIt at w s (Sounds (mode at w s) k) j) ⊎ AtIt at w (peer s) PartnerInSync j
+
+  pub record Agrees (n : ℕ) (j : WorldState) : Type 0 where
+    pub fresh : FreshAt at w 2 j
+    pub tells : (s : Side) → Tells s n j
+
+  -- an end that owes an LACPDU sounds as soon as its transmit window lets it
+  owed : (j : WorldState) (g : FreshAt at w 2 j) (s : Side) → AtIt at w s (Owes (w (peer s))) j → AtIt at w s (Sounds (mode at w s) 11) j
+  owed j g s owes =
+      let e = end_here at w 2 g.known One Nothing j g.link s in
+      let known = (e.is.1.1 (let l = knows_peer at w 2 0 0 j g (omega arith) s in omega (arith, l))).0 in
+      let timed = all-get (λ (y : SystemPort). IsTimed y.port) (half s j).state.system_ports e.index e.port e.there (g.link.steady s).1 in
+      at_end at w 2 g.known s j e g.link.steady (Sounds (mode at w s) 11) (
+        inl (end_with at w 2 g.known s j e (Owes (w (peer s))) owes (e.is.2 (omega arith), known.party)),
+        all_leave true e.port.port.ages timed.3,
+      )
+
+  agrees_first : (j : WorldState) → Climbs 20 j → ((s : Side) → AtIt at w s (Rising 0) j → AtIt at w s Synced j) → Agrees 0 j
+  agrees_first j c ready =
+      let g = c.fresh in
+      let synced : (s : Side) → OfEach (AtPort (at s) (λ p. 2 ≤ 2 → Synced p)) (half s j).state.system_ports =
+      λ s. each_map (AtPort (at s) Synced) (AtPort (at s) (λ p. 2 ≤ 2 → Synced p)) (λ m p a f l. a f) (half s j).state.system_ports
+      (ready s (subst (λ t. AtIt at w s (Rising t) j) (omega arith) (c.rising s))) in
+      let fresh : FreshAt at w 2 j = record {
+        known = g.known;
+        next = g.next;
+        link = emptied at w 1 2 g.known One Nothing j g.empty synced g.link;
+        fits = g.fits;
+        later = g.later;
+        longer = g.longer;
+        sounds = g.sounds;
+        empty = g.empty;
+        told = g.told;
+        present = g.present;
+      } in
+      record {
+        fresh = fresh;
+        tells = λ s. elim (g.told s (let l = knows_peer at w 1 0 0 j g (omega arith) (peer s) in omega (arith, l))) [
+          | inl owes ↦ inl (11, omega arith, omega arith, owed j fresh s owes)
+          | inr heard ↦ inr heard
+        ];
+      }
+
+  agrees_on : (gives : Algorithms) (n : ℕ) (old new : WorldState) → IsHostRound gives old new → Agrees n old → Agrees (n + 1) new
+  agrees_on gives n old new h c =
+      let g = c.fresh in
+      record {
+        fresh = stays_fresh at w named awake gives 2 old new (omega arith) h g;
+        tells = λ s. tells g (fits_before at w named awake 2 old g (omega arith)) (fits_fresh at w named awake 2 old g (omega arith)) s (c.tells s);
+      }
+    where
+      tells : (g : FreshAt at w 2 old) → Fits 2 w g.known → Fits 2 w (ticked g.known) → (s : Side) → Tells s n old → Tells s (n + 1) new
+      tells g fits then s (inl (m, some, soon, y)) = let can = able_fresh at w named awake 2 old g s in
+          elim (host_nears gives s 2 at w g.known (omega arith) fits then (mode at w s) m old new can.1 can.0
+          (join 2 at w g.known One s (Sounds (mode at w s) m) old g.link y) h) [
+            | inl q ↦ (let l = q.0 in
+                inl (m - 1, l, omega (arith, soon, l), beside at w 2 (ticked g.known) s (Sounds (mode at w s) (m - 1)) new q.1))
+            | inr q ↦ inr (each_map (AtPort (at (peer s)) (Learnt 2 (w (peer (peer s))) (wait_of (w (peer s)) - 1)))
+                (AtPort (at (peer s)) PartnerInSync) (λ i p a e. (a e).1 (omega arith)) (half (peer s) new).state.system_ports
+                (beside at w 2 (ticked g.known) (peer s) (Learnt 2 (w (peer (peer s))) (wait_of (w (peer s)) - 1)) new q))
+          ]
+      tells g fits then s (inr y) =
+          let t = peer s in
+          let l = knows_peer at w 2 0 0 old g (omega arith) t in
+          inr (beside at w 2 (ticked g.known) t PartnerInSync new
+          (host_holds gives t 2 at w g.known PartnerInSync PartnerInSync old new fits then
+          (partner_along (w t) (w (peer t)) (g.known t) 2 (omega arith) (awake_peer at w named awake t))
+          (partner_along (w t) (w (peer t)) (ticked g.known t) 2 (omega arith) (awake_peer at w named awake t))
+          (λ p q r rest a z. ticks_partner 2 (w t) (w (peer t)) (g.known t) p q (omega (arith, l)) r a z)
+          (λ p z. z) (λ p z. z) (join 2 at w g.known One t PartnerInSync old g.link y) h))
+
+  told_now : (n : ℕ) (j : WorldState) → 11 ≤ n → Agrees n j → (t : Side) → AtIt at w t PartnerInSync j
+  told_now n j l c t = subst (λ u. AtIt at w u PartnerInSync j) (peer_twice t) (elim (c.tells (peer t)) [
+    | inl (m, some, soon, y) ↦ absurd (omega (arith, l, some, soon))
+    | inr y ↦ y
+  ])
+
+  -- and so both distribute
+  up_now : (n : ℕ) (j : WorldState) → 11 ≤ n → Agrees n j → (s : Side) → OfPort Distributes (machines_of (at s) (half s j).state)
+  up_now n j l c s =
+      let g = c.fresh in
+      let e = end_here at w 2 g.known One Nothing j g.link s in
+      let st = (half s j).state in
+      let mux = (all-get (MuxIsSettled st.keys st.system_ports) st.system_ports e.index e.port e.there (g.link.steady s).0.quiet.0).mux in
+      let synced = e.is.2 (omega arith) in
+      let heard = end_with at w 2 g.known s j e PartnerInSync (told_now n j l c s) in
+      subst (OfPort Distributes) (sym e.found) (distributes_now e.port.port mux synced heard, synced.0)
+
+  abbrev pub Up : WorldState → Type 0
+  Up j = (n : ℕ) × (11 ≤ n) × Agrees n j
+
+  pub distributes : (j : WorldState) → Up j → (s : Side) → OfPort Distributes (machines_of (at s) (half s j).state)
+  distributes j up = up_now up.0 j up.1 up.2
+
+  -- from a round in which both ends are SELECTED, in 20 rounds to one in which both are synchronized, and on
+  pub comes_up : (gives : Algorithms) (n : ℕ) (start mid new : WorldState) → FreshAt at w 1 start
+      → ((s : Side) → AtIt at w s (λ p. is_selected p.choice ≡ true) start)
+      → ((s : Side) → AtIt at w s (Rising 0) mid → AtIt at w s Synced mid)
+      → 11 ≤ n → HostRounds gives 20 start mid → HostRounds gives n mid new → Up new
+  comes_up gives n start mid new g chosen ready enough h more =
+      let climbed = hosts_on gives Climbs start (climbs_first start g chosen) (climbs_on gives) 20 mid h in
+      (n, enough, hosts_on gives Agrees mid (agrees_first mid climbed ready) (agrees_on gives) n new more)
+
+  -- what is compared of an end
+  record Compared (s : Side) (j : WorldState) : Type 0 where
+    distributes : (end_facts (half s j) (at s)).distributes ≡ true
+    present : (end_facts (half s j) (at s)).defaulted ≡ false
+    taken : is_stamp (end_facts (half (peer s) j) (at (peer s))).count (end_facts (half s j) (at s)).taken ≡ true
+    own : Party
+    others : Party
+    says : own ≡ party_of (w s).actor
+    knows : others ≡ party_of (w (peer s)).actor
+    group : (end_facts (half s j) (at s)).group ≡ Some (group_of own others)
+
+  compared : (j : WorldState) → ((s : Side) → is_some (history_at (half s j).histories (at s)) ≡ true) → Up j → (s : Side) → Compared s j
+  compared j kept up s =
+      let c = up.2 in
+      let g = c.fresh in
+      let e = end_here at w 2 g.known One Nothing j g.link s in
+      let st = (half s j).state in
+      let mux = (all-get (MuxIsSettled st.keys st.system_ports) st.system_ports e.index e.port e.there (g.link.steady s).0.quiet.0).mux in
+      let heard = end_with at w 2 g.known s j e PartnerInSync (told_now up.0 j up.1 c s) in
+      let now = distributes_now e.port.port mux (e.is.2 (omega arith)) heard in
+      let some : 1 ≤ g.known s = (let l = knows_peer at w 2 0 0 j g (omega arith) s in omega (arith, l)) in
+      let known = (e.is.1.1 some).0 in
+      record {
+        distributes = ap (λ o. unwrap_or (option_map (λ (x : Machines). same_mux_state CollectingDistributing x.mux) o) false) e.found
+            ∙ ap (same_mux_state CollectingDistributing) now;
+        present = ap (λ o. unwrap_or (option_map (λ (x : Machines). x.defaulted) o) false) e.found ∙ known.present;
+        taken = g.present s some (kept s);
+        own = e.port.port.party;
+        others = party_of e.port.port.partner;
+        says = e.is.0.0;
+        knows = known.party;
+        group = ap (λ o. option_map group_at o) e.found;
+      }
+
+  pub agrees_now : (i : ℕ) (j : WorldState) → ((x : ℕ) (fl : Side → List ItemValue) → OnCable x at fl j.links → x ≡ i)
+      → ((s : Side) → is_some (history_at (half s j).histories (at s)) ≡ true) → Up j → agreement_at j (suc i) ≡ Some Same
+  agrees_now i j only kept up =
+      let a = compared j kept up One in
+      let b = compared j kept up Two in
+      let links = up.2.fresh.link in
+      let groups : same_groups (end_facts j.one (at One)).group (end_facts j.two (at Two)).group ≡ true =
+      ap (λ g. same_groups g (end_facts j.two (at Two)).group) a.group ∙ (ap (same_groups (Some (group_of a.own a.others))) b.group
+      ∙ subst (λ x. same_group (group_of a.own a.others) (group_of b.own x) ≡ true) (a.says ∙ sym b.knows)
+      (subst (λ x. same_group (group_of a.own a.others) (group_of x a.own) ≡ true) (a.knows ∙ sym b.says) (turned a.own a.others))) in
+      ap (option_map (λ (l : LinkState). agreement_of (end_facts j.one l.one) (end_facts j.two l.two)))
+      (subst (λ x. slice_get j.links x ≡ Some (cable at links.flying)) (only links.index links.flying links.links) links.links.there)
+      ∙ ap Some (all_same (end_facts j.one (at One)).distributes (end_facts j.two (at Two)).distributes
+      (end_facts j.one (at One)).defaulted (end_facts j.two (at Two)).defaulted
+      (is_stamp (end_facts j.one (at One)).count (end_facts j.two (at Two)).taken)
+      (is_stamp (end_facts j.two (at Two)).count (end_facts j.one (at One)).taken)
+      (same_groups (end_facts j.one (at One)).group (end_facts j.two (at Two)).group)
+      a.distributes b.distributes a.present b.present b.taken a.taken groups)
+
+-- what no event changes
+
+joins_kept : (gives : Algorithms) (links : List LinkState) → KeptBetween gives (λ j. map link_ends j.links ≡ map link_ends links)
+joins_kept gives links (event.Emit n p) r i j b h m = (emits gives n p r i j h).2.ends ∙ m
+joins_kept gives links (event.Deliver c n) r i j b h m = deliver_ends gives c n r i j h ∙ m
+joins_kept gives links (event.Offer n agg octets) r i j b h m = quiet_ends gives (event.Offer n agg octets) r i j tt h ∙ m
+joins_kept gives links (event.Move n agg conv p) r i j b h m = quiet_ends gives (event.Move n agg conv p) r i j tt h ∙ m
+joins_kept gives links e r i j b h m = absurd b
+
+pub hosts_join : (gives : Algorithms) (n : ℕ) (old new : WorldState) → HostRounds gives n old new → map link_ends new.links ≡ map link_ends old.links
+hosts_join gives n old new h = hosts_on gives (λ m j. map link_ends j.links ≡ map link_ends old.links) old refl
+    (λ m i j q k. holds_on gives One (λ a b j. map link_ends j.links ≡ map link_ends old.links) (λ a b. joins_kept gives old.links)
+    (λ b n r i j named step m. ap (map link_ends) (ticks gives n One r i j named step).links ∙ m)
+    (λ a n r i j named step m. ap (map link_ends) (ticks gives n Two r i j named step).links ∙ m)
+    q.events q.replies i j true true (of_side One q.events q.ticks) q.acts k) n new h
+
+-- a port at an end of a cable has a history as before
+pub hosts_kept : (gives : Algorithms) (n i : ℕ) (at : Side → ℕ) (fl : Side → List ItemValue) (old new : WorldState)
+    → OnCable i at fl old.links → HostRounds gives n old new → (s : Side)
+    → is_some (history_at (half s new).histories (at s)) ≡ is_some (history_at (half s old).histories (at s))
+hosts_kept gives n i at fl old new c h s = (hosts_on gives (λ m j. Stamped 0 at k kept j) old (record {
+  flying = fl;
+  index = i;
+  links = c;
+  counts = λ t. refl;
+  there = λ t. refl;
+  items = λ l. absurd (omega (arith, l));
+}) (λ m i j q a. holds_on gives One (λ x y j. Stamped 0 at k kept j) (λ x y. stamped_between gives 0 at k kept)
+    (λ y. stamped_tick gives 0 at k kept One) (λ x. stamped_tick gives 0 at k kept Two) q.events q.replies i j true true
+    (of_side One q.events q.ticks) q.acts a) n new h).there s
+  where
+    k : Side → ℕ
+    k t = change_count_in (history_at (half t old).histories (at t))
+
+    kept : Side → Bool
+    kept t = is_some (history_at (half t old).histories (at t))

@@ -1,0 +1,258 @@
+-- Which runs are healthy rounds of hosts.
+use Rattle.lagprogress.proofs.Common.{suc, zero, Bool, Err, List, Ok, Option, Result, Some, [], ap, false, inl, inr, refl, slice_get, subst}
+use Rattle.lagprogress.proofs.Common.{sym, true, ℕ, ◌++◌, ◌∙◌, ◌∷◌, ◌≡◌, cases_Bool, none-some, same_Some, AllByRecursion, One, Side}
+use Rattle.lagprogress.proofs.Common.{Two, peer, Machines, is_due, after_sending, SystemFault, SystemPort, Step}
+use Rattle.lagprogress.proofs.Common.{Transmit, SystemState, machines_of, port_index, all-get, found_place, ports_rise, Event, Reply}
+use Rattle.lagprogress.proofs.Common.{Algorithms, WorldRuns, WorldSteps, LinkState, WorldState, half, port_at, IsDeliver, IsHealthyAt}
+use Rattle.lagprogress.proofs.Common.{OfPort, asks_all, ticks_of_both, IsSteady}
+use Rattle.lagsystem.specs.declared.drive.Reply.TheVariants as answer
+use Rattle.lagscript.specs.declared.event.Event.TheVariants as event
+use Rattle.lagprogress.specs.HostRounds.{AfterTick, AskingIsHostRound, Asks, AsksAfterTick, AsksIn, AtSome, IsBetweenTicks, IsTickOf}
+use Rattle.lagprogress.specs.HostRounds.{IsHostLoop, LoopIsHostRound, RoundIsHostRound, RoundsAreHostRounds, TickOnce}
+use Rattle.lagprogress.proofs.Bundling.{ends_at}
+use Rattle.lagprogress.proofs.EachPort.{OfEach, Tick-each}
+use Rattle.lagprogress.proofs.EachRound.{EachAt, asks_each, delivers_each, own_keeps, own_ticks, rounds_steady}
+use Rattle.lagprogress.proofs.Halves.{keeps_steady}
+use Rattle.lagprogress.proofs.HostRound.{of_side}
+use Rattle.lagprogress.proofs.Knowing.{placed}
+use Rattle.lagprogress.proofs.Linked.{each_side, found, machines_there, place_kept}
+use Rattle.lagprogress.proofs.OneCable.{Emits, emits, ticks}
+use Rattle.lagprogress.proofs.OnePort.{AtPort, at_number}
+use Rattle.lagprogress.proofs.OneRound.{IsAsk, all_ask, asks_twice, same_ports_then}
+use Rattle.lagprogress.proofs.Passing.{sends_due}
+use Rattle.lagprogress.proofs.Quieting.{quiet_ports}
+
+-- once a port whose link is up has been asked, it has no LACPDU due
+
+asked_none : (gives : ℕ → ℕ → ℕ → Type 0) (n k : ℕ) (z : SystemPort) (a : Result (Option (List ℕ)) SystemFault) (old new : SystemState)
+    → port_index n old.system_ports ≡ Some k → slice_get old.system_ports k ≡ Some z → z.port.enabled ≡ true
+    → Step gives old (Transmit n) (answer.Transmit a) new
+    → (y : SystemPort) × (slice_get new.system_ports k ≡ Some y) × (is_due y.port ≡ false)
+asked_none gives n k z a old new place there up h = elim (cases_Bool (is_due z.port)) [
+  | inl due ↦ by_answer a due h
+  | inr not ↦ (z, subst (λ ps. slice_get ps k ≡ Some z) (sym (same_ports_then gives n k z a old new place there not h)) there, not)
+]
+  where
+    by_answer : (a : Result (Option (List ℕ)) SystemFault) → is_due z.port ≡ true → Step gives old (Transmit n) (answer.Transmit a) new
+        → (y : SystemPort) × (slice_get new.system_ports k ≡ Some y) × (is_due y.port ≡ false)
+    by_answer (Err fault) due h = absurd (none-some k (sym h.cause ∙ place))
+    by_answer (Ok o) due h =
+        let sent = sends_due (port_index n old.system_ports) k z old o new place there up due h in
+        let y : SystemPort = record z { port = after_sending z.port } in (
+          y,
+          subst (λ ps. slice_get ps k ≡ Some y) (sym (ap (λ (s : SystemState). s.system_ports) sent.3)) (placed old.system_ports k z y there),
+          refl,
+        )
+
+module _ (gives : Algorithms) (s : Side) (p : ℕ) where
+  abbrev Up : Machines → Type 0
+  Up q = q.enabled ≡ true
+
+  abbrev NoneDue : WorldState → Type 0
+  NoneDue j = OfPort (λ q. is_due q ≡ false) (machines_of p (half s j).state)
+
+  -- the port is there, and its link is up
+  record Stays (j : WorldState) : Type 0 where
+    steady : IsSteady j
+    index : ℕ
+    place : port_index p (half s j).state.system_ports ≡ Some index
+    up : EachAt (AtPort p Up) s j
+
+  kept : (e : Event) (r : Reply) (i j : WorldState) → WorldSteps gives i e r j → EachAt (AtPort p Up) s j → Stays i → Stays j
+  kept e r i j h up x =
+      let steady = keeps_steady gives e r i j h x.steady in
+      record { steady = steady; index = x.index; place = place_kept gives e r i j h x.steady steady s p ∙ x.place; up = up }
+
+  between : (e : Event) (r : Reply) (i j : WorldState) → IsBetweenTicks e → WorldSteps gives i e r j → Stays i → Stays j
+  between (event.Emit n q) r i j b h x =
+      kept (event.Emit n q) r i j h (asks_each (AtPort p Up) (own_keeps (λ party up. up ≡ true) p) s gives n q r i j h x.up) x
+  between (event.Deliver c n) r i j b h x =
+      kept (event.Deliver c n) r i j h (delivers_each (AtPort p Up) (own_keeps (λ party up. up ≡ true) p) s gives c n r i j h x.up) x
+  between (event.Offer n agg octets) r i j b h x = kept (event.Offer n agg octets) r i j h
+      (subst (OfEach (AtPort p Up)) (sym (quiet_ports gives (event.Offer n agg octets) r i j tt h s)) x.up) x
+  between (event.Move n agg conv q) r i j b h x = kept (event.Move n agg conv q) r i j h
+      (subst (OfEach (AtPort p Up)) (sym (quiet_ports gives (event.Move n agg conv q) r i j tt h s)) x.up) x
+  between e r i j b h x = absurd b
+
+  ticked : (t : Side) (e : Event) (r : Reply) (i j : WorldState) → IsTickOf t e → WorldSteps gives i e r j → Stays i → Stays j
+  ticked t e r i j (n, named, is) h x =
+      let k = ticks gives n t r i j named (subst (λ f. WorldSteps gives i f r j) is h) in
+      kept e r i j h (each_side (λ u. EachAt (AtPort p Up) u i → EachAt (AtPort p Up) u j) t
+      (λ a. Tick-each (AtPort p Up) (AtPort p Up) (own_keeps (λ party up. up ≡ true) p).settles (own_ticks (λ party up. up ≡ true) p)
+      (gives t) (half t i).state answer.Tick (half t j).state k.step a)
+      (λ a. subst (λ (y : SystemState). OfEach (AtPort p Up) y.system_ports) (sym k.peers) a) s x.up) x
+
+  -- each event of a round
+  stays : (a b : Bool) (e : Event) (es : List Event) (r : Reply) (i j : WorldState) → TickOnce s a b (e ∷ es) → WorldSteps gives i e r j
+      → Stays i → Stays j
+  stays a b e es r i j (inl h) step x = ticked s e r i j h.0 step x
+  stays a b e es r i j (inr (inl h)) step x = ticked (peer s) e r i j h.0 step x
+  stays a b e es r i j (inr (inr h)) step x = between e r i j h.0 step x
+
+  rest_of : (a b : Bool) (e : Event) (es : List Event) → TickOnce s a b (e ∷ es) → (c : Bool) × (d : Bool) × TickOnce s c d es
+  rest_of a b e es (inl h) = (false, b, h.2)
+  rest_of a b e es (inr (inl h)) = (a, false, h.2)
+  rest_of a b e es (inr (inr h)) = (a, b, h.1)
+
+  asked : (e : Event) (r : Reply) (i j : WorldState) → Asks s p e → WorldSteps gives i e r j → Stays i → NoneDue j
+  asked e r i j (n, named, is) h x =
+      let m = emits gives n p r i j (subst (λ f. WorldSteps gives i f r j) is h) in
+      let t : m.0 ≡ s = same_Some m.0 s (sym m.1 ∙ named) in
+      let k = subst (λ u. Emits gives u p i j) t m.2 in
+      let st = (half s i).state in
+      let z = found p x.index st.system_ports x.place in
+      let up = all-get (λ (y : SystemPort). AtPort p Up y.number y.port) st.system_ports x.index z.0 z.1 x.up
+      (found_place p st.system_ports x.index z.0 x.place z.1) in
+      let now = asked_none (gives s) p x.index z.0 k.a st (half s j).state x.place z.1 up k.promise.step in
+      let steady = keeps_steady gives e r i j h x.steady in
+      subst (OfPort (λ q. is_due q ≡ false)) (sym (machines_there p (half s j).state x.index now.0
+      (place_kept gives e r i j h x.steady steady s p ∙ x.place) now.1)) now.2
+
+  at_first : (P : WorldState → Type 0) (es : List Event) (rs : List Reply) (i j : WorldState) (run : WorldRuns gives i es rs j) → P i
+      → AtSome P gives es rs i j run
+  at_first P [] [] i j run y = y
+  at_first P (e ∷ es) (r ∷ rs) i j run y = inl y
+  at_first P es rs i j run y = absurd run
+
+  some_on : (es : List Event) (rs : List Reply) (i j : WorldState) (a b : Bool) → TickOnce s a b es → (run : WorldRuns gives i es rs j)
+      → AsksIn s p es → Stays i → AtSome NoneDue gives es rs i j run
+  some_on [] rs i j a b h run q x = absurd q
+  some_on (e ∷ es) [] i j a b h run q x = absurd run
+  some_on (e ∷ es) (r ∷ rs) i j a b h run (inl q) x = inr (at_first NoneDue es rs run.0 j run.2 (asked e r i run.0 q run.1 x))
+  some_on (e ∷ es) (r ∷ rs) i j a b h run (inr q) x =
+      let o = rest_of a b e es h in inr (some_on es rs run.0 j o.0 o.1 o.2 run.2 q (stays a b e es r i run.0 h run.1 x))
+
+  after_on : (es : List Event) (rs : List Reply) (i j : WorldState) (a b : Bool) → TickOnce s a b es → (run : WorldRuns gives i es rs j)
+      → AsksAfterTick s p es → Stays i → AfterTick s NoneDue gives es rs i j run
+  after_on [] rs i j a b h run q x = q
+  after_on (e ∷ es) [] i j a b h run q x = absurd run
+  after_on (e ∷ es) (r ∷ rs) i j a b h run (inl q) x = let o = rest_of a b e es h in
+      inl (q.0, some_on es rs run.0 j o.0 o.1 o.2 run.2 q.1 (stays a b e es r i run.0 h run.1 x))
+  after_on (e ∷ es) (r ∷ rs) i j a b h run (inr q) x = let o = rest_of a b e es h in
+      inr (after_on es rs run.0 j o.0 o.1 o.2 run.2 q (stays a b e es r i run.0 h run.1 x))
+
+pub asking_is_host_round : (gives : Algorithms) → AskingIsHostRound gives
+asking_is_host_round gives events replies old new steady turns run asks empty = record {
+  events = events;
+  replies = replies;
+  ticks = turns;
+  acts = run;
+  asked = λ s i l y. (let e = ends_at i l old y s in
+      let st = (half s old).state in
+      after_on gives s (port_at s l) events replies old new true true (of_side s events turns) run (asks s i l y) (record {
+        steady = steady;
+        index = e.0;
+        place = e.2;
+        up = subst (λ n. OfEach (AtPort n (λ q. q.enabled ≡ true)) st.system_ports) (found_place (port_at s l) st.system_ports e.0 e.1 e.2 e.3)
+            (at_number (λ q. q.enabled ≡ true) 0 st.system_ports e.0 e.1 (ports_rise st (steady s).0.ports) e.3 e.4);
+      }));
+  empties = empty;
+}
+
+-- a healthy round is one
+
+between_all : (es : List Event) (fs : List Event) → AllByRecursion IsAsk es → AllByRecursion IsDeliver fs → TickOnce One false false (es ++ fs)
+between_all [] [] a d = (refl, refl)
+between_all [] (event.Deliver c n ∷ fs) a d = inr (inr (tt, between_all [] fs tt d.1))
+between_all [] (f ∷ fs) a d = absurd d.0
+between_all (event.Emit n p ∷ es) fs a d = inr (inr (tt, between_all es fs a.1 d))
+between_all (e ∷ es) fs a d = absurd a.0
+
+asks_behind : (s : Side) (p : ℕ) (es fs : List Event) → AsksIn s p fs → AsksIn s p (es ++ fs)
+asks_behind s p [] fs h = h
+asks_behind s p (e ∷ es) fs h = inr (asks_behind s p es fs h)
+
+asks_before : (s : Side) (p : ℕ) (es fs : List Event) → AsksIn s p es → AsksIn s p (es ++ fs)
+asks_before s p [] fs h = absurd h
+asks_before s p (e ∷ es) fs (inl h) = inl h
+asks_before s p (e ∷ es) fs (inr h) = inr (asks_before s p es fs h)
+
+pub round_is_host_round : (gives : Algorithms) → RoundIsHostRound gives
+round_is_host_round gives old new steady h =
+    asking_is_host_round gives (ticks_of_both ++ (asks_all old.links ++ h.delivers)) h.replies old new steady turns h.acts asks h.empties
+  where
+    one : IsTickOf One (event.Tick 1 1)
+    one = (1, refl, refl)
+
+    two : IsTickOf Two (event.Tick 2 1)
+    two = (2, refl, refl)
+
+    turns : TickOnce One true true (ticks_of_both ++ (asks_all old.links ++ h.delivers))
+    turns = inl (one, refl, inr (inl (two, refl, between_all (asks_all old.links) h.delivers (all_ask old.links) h.arrives)))
+
+    asks : (s : Side) (i : ℕ) (l : LinkState) → IsHealthyAt i l old
+        → AsksAfterTick s (port_at s l) (ticks_of_both ++ (asks_all old.links ++ h.delivers))
+    asks s i l y = each_side (λ t. AsksAfterTick t (port_at t l) (ticks_of_both ++ (asks_all old.links ++ h.delivers))) One
+        (inl (one, inr (there One))) (inr (inl (two, there Two))) s
+      where
+        there : (t : Side) → AsksIn t (port_at t l) (asks_all old.links ++ h.delivers)
+        there t =
+            let o = asks_twice t i old.links l y.there in
+            asks_before t (port_at t l) (asks_all old.links) h.delivers (subst (AsksIn t (port_at t l)) (sym o.is)
+            (asks_behind t (port_at t l) o.before (event.Emit o.number (port_at t l) ∷ event.Emit o.number (port_at t l) ∷ o.later)
+            (inl (o.number, o.named, refl))))
+
+pub rounds_are_host_rounds : (gives : Algorithms) → RoundsAreHostRounds gives
+rounds_are_host_rounds gives zero old new steady h = h
+rounds_are_host_rounds gives (suc n) old new steady h = (
+  h.0,
+  rounds_are_host_rounds gives n old h.0 steady h.1,
+  round_is_host_round gives h.0 new (rounds_steady gives n old h.0 steady h.1) h.2,
+)
+
+-- the loop of two hosts is one
+
+between_then : (es fs : List Event) (a b : Bool) → AllByRecursion IsBetweenTicks es → TickOnce One a b fs → TickOnce One a b (es ++ fs)
+between_then [] fs a b h k = k
+between_then (e ∷ es) fs a b h k = inr (inr (h.0, between_then es fs a b h.1 k))
+
+asks_later : (s : Side) (p : ℕ) (es fs : List Event) → AsksAfterTick s p fs → AsksAfterTick s p (es ++ fs)
+asks_later s p [] fs h = h
+asks_later s p (e ∷ es) fs h = inr (asks_later s p es fs h)
+
+none_after : TickOnce One false false []
+none_after = (refl, refl)
+
+pub loop_is_host_round : (gives : Algorithms) → LoopIsHostRound gives
+loop_is_host_round gives old new steady h = asking_is_host_round gives (event.Tick 1 1 ∷ (h.first ++ rest)) h.replies old new steady
+    (inl (
+      one,
+      refl,
+      between_then h.first rest false true h.between_first
+          (inr (inl (
+            two,
+            refl,
+            between_then h.second h.later false false h.between_second
+                (subst (TickOnce One false false) (append_nil h.later) (between_then h.later [] false false h.between_later none_after)),
+          ))),
+    ))
+    h.acts asks h.empties
+  where
+    rest : List Event
+    rest = event.Tick 2 1 ∷ (h.second ++ h.later)
+
+    one : IsTickOf One (event.Tick 1 1)
+    one = (1, refl, refl)
+
+    two : IsTickOf Two (event.Tick 2 1)
+    two = (2, refl, refl)
+
+    append_nil : (es : List Event) → es ++ [] ≡ es
+    append_nil [] = refl
+    append_nil (e ∷ es) = ap (λ xs. e ∷ xs) (append_nil es)
+
+    asks : (s : Side) (i : ℕ) (l : LinkState) → IsHealthyAt i l old → AsksAfterTick s (port_at s l) (event.Tick 1 1 ∷ (h.first ++ rest))
+    asks s i l y = each_side (λ t. AsksAfterTick t (port_at t l) (event.Tick 1 1 ∷ (h.first ++ rest))) One
+        (let e = ends_at i l old y One in
+        inl (
+          one,
+          asks_before One (port_at One l) h.first rest (subst (λ n. AsksIn One n h.first)
+              (found_place (port_at One l) old.one.state.system_ports e.0 e.1 e.2 e.3) (h.asks_one e.0 e.1 e.3)),
+        ))
+        (let e = ends_at i l old y Two in
+        inr (asks_later Two (port_at Two l) h.first rest (inl (
+          two,
+          asks_before Two (port_at Two l) h.second h.later
+              (subst (λ n. AsksIn Two n h.second) (found_place (port_at Two l) old.two.state.system_ports e.0 e.1 e.2 e.3) (h.asks_two e.0 e.1 e.3)),
+        ))))
+        s

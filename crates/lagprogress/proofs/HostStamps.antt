@@ -1,0 +1,107 @@
+-- What the ends of a cable took last bears the present change counts, in healthy rounds of hosts.
+use Rattle.lagprogress.proofs.Common.{Bool, Err, List, Ok, Result, [], ap, inl, inr, is_some, slice_get, subst, sym, ℕ, ◌++◌}
+use Rattle.lagprogress.proofs.Common.{◌∙◌, ◌∷◌, ◌≡◌, ◌≤◌, ◌⊎◌, none-some, same_Some, AllByRecursion, all-append, Lacpdu, Side, peer, SystemFault}
+use Rattle.lagprogress.proofs.Common.{Received, Carries, IsFrame, Receive, CallPromise, Event, Reply, Algorithms}
+use Rattle.lagprogress.proofs.Common.{WorldSteps, ItemValue, WorldState, change_count_in, half, history_at, towards, Machines}
+use Rattle.slowpdu.specs.declared.pdu.Pdu.TheVariants as pdu
+use Rattle.lagsystem.specs.declared.drive.Reply.TheVariants as answer
+use Rattle.lagscript.specs.declared.event.Event.TheVariants as event
+use Rattle.lagprogress.proofs.HostRound.{KeptBetween, MadeByTick}
+use Rattle.lagprogress.proofs.Linked.{Link, end_here}
+use Rattle.lagprogress.proofs.OneCable.{Arrives, IsStamped, OnCable, alone, cable, logged, port_there, ticks, towards_there}
+use Rattle.lagprogress.proofs.Passing.{receives_lacpdu}
+use Rattle.lagprogress.proofs.Quieting.{IsQuiet, quiet_cable, quiet_logs}
+use Rattle.lagprogress.proofs.Stamps.{Stamped, Took, stamps_ask, stamps_deliver, took_in, took_same}
+
+-- what is on one cable
+pub same_items : (i k : ℕ) (at : Side → ℕ) (fl now : Side → List ItemValue) (j : WorldState) → OnCable i at fl j.links → OnCable k at now j.links
+    → (t : Side) → now t ≡ fl t
+same_items i k at fl now j c e t =
+    let place : k ≡ i = alone t i k at fl j.links (cable at now) c e.there (port_there t at now) in
+    let is : cable at now ≡ cable at fl = same_Some (cable at now) (cable at fl) (sym e.there ∙ (ap (slice_get j.links) place ∙ c.there)) in
+    sym (towards_there t at now) ∙ (ap (towards t) is ∙ towards_there t at fl)
+
+module _ (gives : Algorithms) (b : ℕ) (at k : Side → ℕ) (kept : Side → Bool) where
+  abbrev St : WorldState → Type 0
+  St = Stamped b at k kept
+
+  grown : (t : Side) (fl now : Side → List ItemValue)
+      → (now t ≡ fl t) ⊎ ((item : ItemValue) × ((x : Lacpdu) → IsFrame item.octets (Carries (pdu.Lacpdu x)) → ⊥) × (now t ≡ fl t ++ item ∷ []))
+      → AllByRecursion (IsStamped (k (peer t))) (fl t) → AllByRecursion (IsStamped (k (peer t))) (now t)
+  grown t fl now (inl e) a = subst (AllByRecursion (IsStamped (k (peer t)))) (sym e) a
+  grown t fl now (inr e) a = subst (AllByRecursion (IsStamped (k (peer t)))) (sym e.2)
+      (all-append (IsStamped (k (peer t))) (fl t) (e.0 ∷ []) a ((λ x c. absurd (e.1 x c)), tt))
+
+  quiet_stamped : (e : Event) (r : Reply) (i j : WorldState) → IsQuiet e → WorldSteps gives i e r j → St i → St j
+  quiet_stamped e r i j q h l =
+      let g = quiet_cable gives e l.index at l.flying r i j q h l.links in
+      let logs = quiet_logs gives e r i j q h in
+      record {
+        flying = g.flying;
+        index = l.index;
+        links = g.on;
+        counts = λ t. ap (λ x. change_count_in (history_at x (at t))) (logs t) ∙ l.counts t;
+        there = λ t. ap (λ x. is_some (history_at x (at t))) (logs t) ∙ l.there t;
+        items = λ m t. grown t l.flying g.flying (g.grew t) (l.items m t);
+      }
+
+  pub stamped_between : KeptBetween gives St
+  stamped_between (event.Emit n p) r i j x h l = (stamps_ask gives n p b at k kept r i j l h).world
+  stamped_between (event.Deliver cn n) r i j x h l = (stamps_deliver gives cn n b at k kept r i j l h).world
+  stamped_between (event.Offer n agg octets) r i j x h l = quiet_stamped (event.Offer n agg octets) r i j tt h l
+  stamped_between (event.Move n agg conv p) r i j x h l = quiet_stamped (event.Move n agg conv p) r i j tt h l
+  stamped_between e r i j x h l = absurd x
+
+  pub stamped_tick : (s : Side) → MadeByTick gives s St St
+  stamped_tick s n r i j numbered h l =
+      let t = ticks gives n s r i j numbered h in
+      record {
+        flying = l.flying;
+        index = l.index;
+        links = subst (OnCable l.index at l.flying) (sym t.links) l.links;
+        counts = λ u. ap (λ x. change_count_in (history_at x (at u))) (t.logs u) ∙ l.counts u;
+        there = λ u. ap (λ x. is_some (history_at x (at u))) (t.logs u) ∙ l.there u;
+        items = l.items;
+      }
+
+  -- and the end of t has taken one
+  abbrev pub Took-it : Side → WorldState → Type 0
+  Took-it t j = Stamped b at k kept j × Took at k kept t j
+
+  pub took_between : 1 ≤ b → (t : Side) → KeptBetween gives (Took-it t)
+  took_between some t (event.Emit n p) r i j x h (l, y) =
+      let s = stamps_ask gives n p b at k kept r i j l h in (s.world, s.took some t y)
+  took_between some t (event.Deliver cn n) r i j x h (l, y) =
+      let s = stamps_deliver gives cn n b at k kept r i j l h in (s.world, s.took some t y)
+  took_between some t (event.Offer n agg octets) r i j x h (l, y) = (
+    quiet_stamped (event.Offer n agg octets) r i j tt h l,
+    took_same at k kept t i j (quiet_logs gives (event.Offer n agg octets) r i j tt h t) y,
+  )
+  took_between some t (event.Move n agg conv p) r i j x h (l, y) = (
+    quiet_stamped (event.Move n agg conv p) r i j tt h l,
+    took_same at k kept t i j (quiet_logs gives (event.Move n agg conv p) r i j tt h t) y,
+  )
+  took_between some t e r i j x h m = absurd x
+
+  pub took_tick : (t s : Side) → MadeByTick gives s (Took-it t) (Took-it t)
+  took_tick t s n r i j numbered h (l, y) =
+      (stamped_tick s n r i j numbered h l, took_same at k kept t i j ((ticks gives n s r i j numbered h).logs t) y)
+
+  -- an LACPDU arrives at the end of t
+  pub took_now : 1 ≤ b → (d : ℕ) (w : Side → Lacpdu) (c : Side → ℕ) (x : Side) (Y : Machines → Type 0) (t : Side) (i j : WorldState)
+      (l : Link d at w c x Y i) (a : Arrives gives t at l.flying i j) (v : Lacpdu) → IsFrame a.item.octets (Carries (pdu.Lacpdu v))
+      → St j → St i → Took-it t j
+  took_now some d w c x Y t i j l a v carries now st = (now, by_answer a.a a.promise a.log)
+    where
+      stamped : IsStamped (k (peer t)) a.item
+      stamped = (subst (AllByRecursion (IsStamped (k (peer t)))) (same_items l.index st.index at l.flying st.flying i l.links st.links t ∙ a.first)
+          (st.items some t)).0
+
+      by_answer : (o : Result Received SystemFault)
+          → CallPromise (gives t) (half t i).state (Receive (at t) a.item.octets) (answer.Receive o) (half t j).state
+          → (half t j).histories ≡ logged o (at t) a.item (half t i).histories → Took at k kept t j
+      by_answer (Err fault) p log = absurd (none-some (l.place t).0 (sym p.step.cause ∙ (l.place t).1))
+      by_answer (Ok o) p log =
+          let z = end_here at w d c x Y i l t in
+          let took = (receives_lacpdu (at t) z.index z.port a.item.octets v (half t i).state o (half t j).state z.place z.there z.is.1.0 carries p.step).0 in
+          took_in (gives t) at k kept t a.item (Ok o) i j (ap (λ q. Ok q) took) (st.there t) stamped p log

@@ -1,0 +1,601 @@
+-- In a healthy round of hosts, an end that hears the other is told when the other is synchronized, or the other owes it an LACPDU.
+use Rattle.lagprogress.proofs.Common.{Bool, List, Some, [], ap, arith, false, inl, inr, refl, slice_get, subst, sym, true, ℕ, ◌-◌, ◌∙◌, ◌∷◌, ◌≡◌}
+use Rattle.lagprogress.proofs.Common.{◌≤◌, ◌⊎◌, same_Some, AllByRecursion, Lacpdu, Side, peer, Machines, partner_synchronized, periodic_rows}
+use Rattle.lagprogress.proofs.Common.{receive_rows, AtRest, RunsToRest, count_down, is_due, Carries, IsFrame, SystemState, machines_of, Event, Reply}
+use Rattle.lagprogress.proofs.Common.{Algorithms, WorldSteps, side_of, ItemValue, WorldState, half, found_place, timeout_time, NothingInFlight, towards, SystemPort, after_sending, OfPort}
+use Rattle.slowpdu.specs.declared.pdu.Pdu.TheVariants as pdu
+use Rattle.lagsystem.specs.declared.drive.Reply.TheVariants as answer
+use Rattle.lagscript.specs.declared.event.Event.TheVariants as event
+use Rattle.lagprogress.specs.HostRounds.{AfterTick, IsBetweenTicks, IsHostRound}
+use Rattle.lagprogress.proofs.Claims.{IsNamed, Owes, Owing, Wakeful, owes_ticks, owing_settles, wakeful_along, wakeful_ticks}
+use Rattle.lagprogress.proofs.Climbing.{PartnerInSync, known_still, ticks_partner}
+use Rattle.lagprogress.proofs.Delivering.{Heard, arrived_ports, deliver_link, deliver_moves}
+use Rattle.lagprogress.proofs.EachPort.{KeptBySettling, OfEach, Tick-each}
+use Rattle.lagprogress.proofs.EndFacts.{CanSound, sounds_along, Along, IsEnd, Learnt, activity, nothing_along, short_timeout, ticks_end, wait_of}
+use Rattle.lagprogress.proofs.HostRound.{KeptBetween, MadeByTick, Stages, all_ticked, first_on, fits_in, healthy_link, holds_on, known_in, learn_less, learnt_along, left, none_ticked}
+use Rattle.lagprogress.proofs.HostRound.{of_side, tick_one, ticks_learnt, two_other, two_there}
+use Rattle.lagprogress.proofs.Knowing.{counts}
+use Rattle.lagprogress.proofs.Linked.{at_end, emit_any, found, end_with, of_end, with_ports, Arrived, EndIs, Fits, Flying, IsGood, Link, each_both, each_map, each_side, end_here, gains_has, HasLacpdu, other_side}
+use Rattle.lagprogress.proofs.Linked.{peer_twice, put_other, put_there}
+use Rattle.lagprogress.proofs.OneCable.{Arrives, alone, cable, port_there, put, response, ticks, towards_there}
+use Rattle.lagprogress.proofs.OnePort.{AtPort}
+use Rattle.lagprogress.proofs.OneRound.{Later, beside_here, sounds_pass, Nothing, Passes, ask_which, at_rest, forget, join, ticked}
+use Rattle.lagprogress.proofs.Quieting.{IsQuiet, quiet_link, quiet_ports}
+use Rattle.lagprogress.proofs.Sounding.{Sounds}
+use Rattle.lagprogress.proofs.Telling.{Bears, SaysIt, Tells, arrive_peer, ask_on, came_to, deliver_on, sync_settles, tells_map}
+use Rattle.lagprogress.proofs.Telling.{tells_push}
+
+-- what is on the cable of the same ports
+pub same_flying : (d e : ℕ) (at : Side → ℕ) (w v : Side → Lacpdu) (c b : Side → ℕ) (x y : Side) (Y Z : Machines → Type 0) (j : WorldState)
+    → (l : Link d at w c x Y j) → (k : Link e at v b y Z j) → (t : Side) → k.flying t ≡ l.flying t
+same_flying d e at w v c b x y Y Z j l k t =
+    let place : k.index ≡ l.index = alone t l.index k.index at l.flying j.links (cable at k.flying) l.links k.links.there (port_there t at k.flying) in
+    let is : cable at k.flying ≡ cable at l.flying = same_Some (cable at k.flying) (cable at l.flying)
+    (sym k.links.there ∙ (ap (slice_get j.links) place ∙ l.links.there)) in
+    sym (towards_there t at k.flying) ∙ (ap (towards t) is ∙ towards_there t at l.flying)
+
+module _ (gives : Algorithms) (d : ℕ) (at : Side → ℕ) (w : Side → Lacpdu) (s : Side) (there : 1 ≤ d)
+    (named : (activity (w s) ≡ true) ⊎ IsNamed (w (peer s))) where
+  abbrev u : Lacpdu
+  u = w (peer s)
+
+  abbrev v : Lacpdu
+  v = w s
+
+  abbrev Wakes : Machines → Type 0
+  Wakes = Wakeful (w s) (w (peer s))
+
+  abbrev pub OwesNow : WorldState → Type 0
+  OwesNow j = OfEach (AtPort (at s) (Owes (w (peer s)))) (half s j).state.system_ports
+
+  abbrev pub PeerIs : (Machines → Type 0) → WorldState → Type 0
+  PeerIs X j = OfEach (AtPort (at (peer s)) X) (half (peer s) j).state.system_ports
+
+  -- the end of s owes, or what is on its way says so, or X holds of its peer
+  abbrev pub OnWay : (Side → ℕ) → (Machines → Type 0) → WorldState → Type 0
+  OnWay c X j = (l : Link d at w c s (Wakeful (w s) (w (peer s))) j)
+      × (OwesNow j ⊎ Tells (w (peer s)) (w s) (l.flying (peer s)) (PeerIs X j))
+
+  along_wakes : (n : ℕ) → Along Wakes v u n d
+  along_wakes n = wakeful_along v u n d there
+
+  module _ (X : Machines → Type 0) (keeps : KeptBySettling (AtPort (at (peer s)) X)) (sends : (p : Machines) → X p → X (after_sending p))
+      (takes : (p : Machines) → partner_synchronized p ≡ true → X p) where
+    quiet_on : (c : Side → ℕ) (e : Event) (r : Reply) (i j : WorldState) → IsQuiet e → WorldSteps gives i e r j → OnWay c X i → OnWay c X j
+    quiet_on c e r i j b h (l, m) =
+        let k = quiet_link gives e d at w c s Wakes r i j b h l in
+        let same = quiet_ports gives e r i j b h in
+        let fl = l.flying (peer s) in (
+          k.link,
+          elim m [
+            | inl owes ↦ inl (subst (OfEach (AtPort (at s) (Owes u))) (sym (same s)) owes)
+            | inr tells ↦ (let now = tells_map u v fl (PeerIs X i) (PeerIs X j) (λ y. subst (OfEach (AtPort (at (peer s)) X)) (sym (same (peer s))) y)
+                tells in
+                inr (elim (k.grew (peer s)) [
+                  | inl e ↦ subst (λ xs. Tells u v xs (PeerIs X j)) (sym e) now
+                  | inr e ↦ subst (λ xs. Tells u v xs (PeerIs X j)) (sym e.2)
+                      (tells_push u v fl e.0 (PeerIs X j) (λ x c. absurd (e.1 x c)) (inl now))
+                ]))
+          ],
+        )
+
+    pub on_between : (c : Side → ℕ) → Fits d w c → KeptBetween gives (OnWay c X)
+    on_between c fits (event.Emit n p) r i j b h m = ask_on gives d at w c s X there fits keeps sends takes n p r i j h m
+    on_between c fits (event.Deliver cn n) r i j b h m = deliver_on gives d at w c s X there fits keeps sends takes cn n r i j h m
+    on_between c fits (event.Offer n agg octets) r i j b h m = quiet_on c (event.Offer n agg octets) r i j tt h m
+    on_between c fits (event.Move n agg conv p) r i j b h m = quiet_on c (event.Move n agg conv p) r i j tt h m
+    on_between c fits e r i j b h m = absurd b
+
+    -- the tick of s
+    pub on_own : (c b : Side → ℕ) → b s ≡ c s - 1 → b (peer s) ≡ c (peer s) → (2 ≤ d → 1 ≤ c s - 1) → MadeByTick gives s (OnWay c X) (OnWay b X)
+    on_own c b here other known n r i j numbered h (l, m) =
+        let k = tick_one gives n s d at w c b s Wakes Wakes r i j numbered here other known (along_wakes (b s))
+        (λ p q run rest a f y. wakeful_ticks v u p q named run y) (λ p f y. absurd (other_side s f)) h l in
+        let t = ticks gives n s r i j numbered h in (
+          k.link,
+          elim m [
+            | inl owes ↦ inl (each_map (AtPort (at s) (Owing d v u (c s - 1))) (AtPort (at s) (Owes u)) (λ m p a e. (a e).2)
+                (half s j).state.system_ports
+                (Tick-each (λ m p. AtPort (at s) (EndIs d w c s Wakes s) m p × AtPort (at s) (Owes u) m p)
+                (AtPort (at s) (Owing d v u (c s - 1))) (owing_settles d v u (c s - 1) (at s) there)
+                (λ m p q run a e. (
+                  ticks_end d v u (c s) p q known run (a.0 e).0,
+                  wakeful_ticks v u p q named run ((a.0 e).1 refl),
+                  owes_ticks u p q run (a.1 e),
+                )) (gives s) (half s i).state answer.Tick (half s j).state t.step
+                (each_both (AtPort (at s) (EndIs d w c s Wakes s)) (AtPort (at s) (Owes u)) (half s i).state.system_ports (l.ports s) owes)))
+            | inr tells ↦ inr (subst (λ (f : Side → List ItemValue). Tells u v (f (peer s)) (PeerIs X j)) (sym k.same)
+                (tells_map u v (l.flying (peer s)) (PeerIs X i) (PeerIs X j)
+                (λ y. subst (λ (z : SystemState). OfEach (AtPort (at (peer s)) X) z.system_ports) (sym t.peers) y) tells))
+          ],
+        )
+
+    -- the tick of the other system, which leaves X
+    pub on_other : (c b : Side → ℕ) → b (peer s) ≡ c (peer s) - 1 → b s ≡ c s → (2 ≤ d → 1 ≤ c (peer s) - 1) → (n : ℕ) (r : Reply) (i j : WorldState)
+        → side_of n ≡ Some (peer s) → WorldSteps gives i (event.Tick n 1) r j → (PeerIs X i → PeerIs X j) → OnWay c X i → OnWay b X j
+    on_other c b here own known n r i j numbered h moves (l, m) =
+        let k = tick_one gives n (peer s) d at w c b s Wakes Wakes r i j numbered here (subst (λ t. b t ≡ c t) (sym (peer_twice s)) own) known
+        (along_wakes (b s)) (λ p q run rest a f y. absurd (other_side s f)) (λ p f y. y) h l in
+        let t = ticks gives n (peer s) r i j numbered h in
+        let same : (half s j).state ≡ (half s i).state = subst (λ x. (half x j).state ≡ (half x i).state) (peer_twice s) t.peers in (
+          k.link,
+          elim m [
+            | inl owes ↦ inl (subst (λ (z : SystemState). OfEach (AtPort (at s) (Owes u)) z.system_ports) (sym same) owes)
+            | inr tells ↦ inr (subst (λ (f : Side → List ItemValue). Tells u v (f (peer s)) (PeerIs X j)) (sym k.same)
+                (tells_map u v (l.flying (peer s)) (PeerIs X i) (PeerIs X j) moves tells))
+          ],
+        )
+
+  -- nothing is asked of the peer
+
+  abbrev pub Any : Machines → Type 0
+  Any p = Unit {0}
+
+  pub any_settles : KeptBySettling (AtPort (at (peer s)) Any)
+  any_settles = record { mux = λ m ready p q h a. a; periodic = λ m p q h a. a; select = λ m choice p none may a. a }
+
+  all_any : (n : ℕ) (xs : List SystemPort) → OfEach (AtPort n Any) xs
+  all_any n [] = tt
+  all_any n (x ∷ xs) = (λ e. tt, all_any n xs)
+
+  -- what each event keeps besides, before the peer has heard an LACPDU, and after
+  pub record Extra (D E : WorldState → Type 0) : Type 0 where
+    pub first : KeptBetween gives D
+    pub second : KeptBetween gives E
+    pub ticks_first : (t : Side) → MadeByTick gives t D D
+    pub ticks_second : (t : Side) → MadeByTick gives t E E
+    pub hears : (c : Side → ℕ) (i j : WorldState) (l : Link d at w c s (Wakeful (w s) (w (peer s))) i)
+        (a : Arrives gives (peer s) at l.flying i j) (x : Lacpdu) → IsFrame a.item.octets (Carries (pdu.Lacpdu x)) → D j → D i → E j
+
+  module _ (D E : WorldState → Type 0) (x : Extra D E) where
+    -- A Deliver event: an LACPDU still flies, or the peer has heard one, and is told.
+    abbrev HasHeard : (Side → ℕ) → WorldState → Type 0
+    HasHeard c j = (((o : OnWay c Any j) × Flying (o.0.flying (peer s))) × D j) ⊎ ((Heard d at w (peer s) j × OnWay c PartnerInSync j) × E j)
+
+    hears_on : (c : Side → ℕ) → Fits d w c → (cn n : ℕ) (r : Reply) (i j : WorldState) → WorldSteps gives i (event.Deliver cn n) r j
+        → (o : OnWay c Any i) → Flying (o.0.flying (peer s)) → D i → HasHeard c j
+    hears_on c fits cn n r i j h (l, m) f da =
+        let e = deliver_moves gives cn n d at w c s Wakes r i j fits (along_wakes (c s)) l h in
+        let after : OnWay c Any j = deliver_on gives d at w c s Any there fits any_settles (λ p y. y) (λ p y. tt) cn n r i j h (l, m) in
+        let flies : Flying (e.0.link.flying (peer s)) → HasHeard c j =
+        λ g. inl ((after, subst Flying (sym (same_flying d d at w w c c s s Wakes Wakes j e.0.link after.0 (peer s))) g), db) in
+        elim e.1 [
+          | inl (q, k, same) ↦ each_side (λ t. (k : Arrives gives t at l.flying i j) → e.0.link.flying ≡ k.now → HasHeard c j) s
+              (λ k same. flies (subst (λ (g : Side → List ItemValue). Flying (g (peer s))) (sym same)
+              (gains_has s HasLacpdu (response k.a) (put s k.rest l.flying) k.now k.back (peer s)
+              (subst Flying (sym (put_other s k.rest l.flying)) f))))
+              (λ k same. came e.0.link flies k same (came_to gives d at w c s Any there fits any_settles (λ p y. y) (λ p y. tt) (peer s) i j l k)) q k same
+          | inr b ↦ flies (subst (λ (g : Side → List ItemValue). Flying (g (peer s))) (sym b.1) f)
+        ]
+      where
+        db : D j
+        db = x.first (event.Deliver cn n) r i j tt h da
+
+        came : (now : Link d at w c s Wakes j) → (Flying (now.flying (peer s)) → HasHeard c j) → (k : Arrives gives (peer s) at l.flying i j)
+            → now.flying ≡ k.now → Arrived (l.place (peer s)).0 k.item.octets (half (peer s) i).state (half (peer s) j).state → HasHeard c j
+        came now flies k same (inr none) = elim (subst Flying k.first f) [
+          | inl q ↦ absurd (none.0 q.0 q.1)
+          | inr g ↦ flies (subst (λ (y : Side → List ItemValue). Flying (y (peer s))) (sym same)
+              (gains_has (peer s) HasLacpdu (response k.a) (put (peer s) k.rest l.flying) k.now k.back (peer s)
+              (subst Flying (sym (put_there (peer s) k.rest l.flying)) g)))
+        ]
+        came now flies k same (inl (v1, carries, settles)) =
+            let place = l.place (peer s) in
+            let ports = (half (peer s) i).state.system_ports in
+            let z = found (at (peer s)) place.0 ports place.1 in
+            let number = found_place (at (peer s)) ports place.0 z.0 place.1 z.1 in
+            let good = subst (AllByRecursion (IsGood d w (peer s))) k.first (l.good (peer s)) in
+            let own = arrived_ports d at w c s Wakes (peer s) place.0 z.0 k.item.octets i j fits (along_wakes (c s)) l z.1 number good.0
+            (inl (v1, carries, settles)) in
+            inr (
+              (
+                elim own.1 [ inl not ↦ absurd (not v1 carries) | inr heard ↦ heard there ],
+                arrive_peer gives d at w c s PartnerInSync there fits (sync_settles (at (peer s))) (λ p y. y) (λ p y. y) i j l k now same
+                    (elim m [
+                      | inl owes ↦ inl owes
+                      | inr tells ↦ inr (subst (λ xs. Tells u v xs (PeerIs PartnerInSync i)) (sym k.first) (tells_map u v k.rest
+                          (SaysIt u v k.item × (PeerIs Any i ⊎ Bears k.item)) (SaysIt u v k.item × (PeerIs PartnerInSync i ⊎ Bears k.item))
+                          (λ a. (a.0, inr (v1, carries))) (subst (λ xs. Tells u v xs (PeerIs Any i)) k.first tells)))
+                    ]),
+              ),
+              x.hears c i j l k v1 carries db da,
+            )
+
+    -- the stages of a round
+
+    -- Z holds of the end of s; or an LACPDU of it is on the cable; or the other end has heard one, keeps it for so many ticks, and is told
+    abbrev pub Turn : (Side → ℕ) → ℕ → (Machines → Type 0) → WorldState → Type 0
+    Turn c most Z j = ((Link d at w c s Z j × OnWay c Any j) × D j) ⊎ ((((o : OnWay c Any j) × Flying (o.0.flying (peer s))) × D j)
+        ⊎ ((Link d at w c (peer s) (Learnt d (w (peer (peer s))) most) j × OnWay c PartnerInSync j) × E j))
+
+    any_between : (c : Side → ℕ) → Fits d w c → KeptBetween gives (OnWay c Any)
+    any_between c fits = on_between Any any_settles (λ p y. y) (λ p y. tt) c fits
+
+    sync_between : (c : Side → ℕ) → Fits d w c → KeptBetween gives (OnWay c PartnerInSync)
+    sync_between c fits = on_between PartnerInSync (sync_settles (at (peer s))) (λ p y. y) (λ p y. y) c fits
+
+    turn_between : (c : Side → ℕ) (most : ℕ) (Z : Machines → Type 0) → most ≤ wait_of (w (peer s)) → Fits d w c
+        → Along Z (w s) (w (peer s)) (c s) d → KeptBetween gives (Turn c most Z)
+    turn_between c most Z less fits along = each
+      where
+        L : Machines → Type 0
+        L p = Learnt d (w (peer (peer s))) most p
+
+        learns : Along (Learnt d (w (peer (peer s))) most) (w (peer s)) (w (peer (peer s))) (c (peer s)) d
+        learns = learnt_along (w (peer s)) (w (peer (peer s))) (c (peer s)) d most less there (fits (peer s)).3
+
+        asked : (n p : ℕ) (r : Reply) (i j : WorldState) → WorldSteps gives i (event.Emit n p) r j → Turn c most Z i → Turn c most Z j
+        asked n p r i j h (inl ((l, o), da)) =
+            let db = x.first (event.Emit n p) r i j tt h da in
+            let after = any_between c fits (event.Emit n p) r i j tt h o in
+            elim (ask_which gives n p s d at w c Z Z r i j fits along (λ q rest timed a y not. y) l h) [
+              | inl k ↦ inl ((k, after), db)
+              | inr k ↦ elim k [
+                | inl k ↦ inl ((k, after), db)
+                | inr k ↦ inr (inl ((after, subst Flying (sym (same_flying d d at w w c c s s Nothing Wakes j k.0 after.0 (peer s))) k.1), db))
+              ]
+            ]
+        asked n p r i j h (inr (inl ((o, f), da))) =
+            let db = x.first (event.Emit n p) r i j tt h da in
+            let after = any_between c fits (event.Emit n p) r i j tt h o in
+            let e = emit_any gives n p d at w c s Wakes r i j fits (along_wakes (c s)) (λ q y. y) o.0 h in
+            inr (inl ((after, subst Flying (sym (same_flying d d at w w c c s s Wakes Wakes j e.link after.0 (peer s))) (e.flying (peer s) f)), db))
+        asked n p r i j h (inr (inr ((l, o), ea))) = inr (inr (
+          (
+            (emit_any gives n p d at w c (peer s) (Learnt d (w (peer (peer s))) most) r i j fits learns (λ q y. y) l h).link,
+            sync_between c fits (event.Emit n p) r i j tt h o,
+          ),
+          x.second (event.Emit n p) r i j tt h ea,
+        ))
+
+        came : (cn n : ℕ) (r : Reply) (i j : WorldState) → WorldSteps gives i (event.Deliver cn n) r j → Turn c most Z i → Turn c most Z j
+        came cn n r i j h (inl ((l, o), da)) =
+            inl (
+              ((deliver_link gives cn n d at w c s Z r i j fits along l h).link, any_between c fits (event.Deliver cn n) r i j tt h o),
+              x.first (event.Deliver cn n) r i j tt h da,
+            )
+        came cn n r i j h (inr (inl ((o, f), da))) = elim (hears_on c fits cn n r i j h o f da) [
+          | inl k ↦ inr (inl k)
+          | inr k ↦ inr (inr (
+            (
+              learn_less gives s d at w c (wait_of (w (peer s))) most j less
+                  (join d at w c s (peer s) (Learnt d (w (peer (peer s))) (wait_of (w (peer s)))) j
+                  (forget d at w c s s Wakes j k.0.1.0) k.0.0),
+              k.0.1,
+            ),
+            k.1,
+          ))
+        ]
+        came cn n r i j h (inr (inr ((l, o), ea))) = inr (inr (
+          (
+            (deliver_link gives cn n d at w c (peer s) (Learnt d (w (peer (peer s))) most) r i j fits learns l h).link,
+            sync_between c fits (event.Deliver cn n) r i j tt h o,
+          ),
+          x.second (event.Deliver cn n) r i j tt h ea,
+        ))
+
+        quiet : (e : Event) (r : Reply) (i j : WorldState) → IsQuiet e → IsBetweenTicks e → WorldSteps gives i e r j → Turn c most Z i → Turn c most Z j
+        quiet e r i j b t h (inl ((l, o), da)) =
+            inl (((quiet_link gives e d at w c s Z r i j b h l).link, any_between c fits e r i j t h o), x.first e r i j t h da)
+        quiet e r i j b t h (inr (inl ((o, f), da))) =
+            let after = any_between c fits e r i j t h o in
+            let k = quiet_link gives e d at w c s Wakes r i j b h o.0 in
+            inr (inl (
+              (after, subst Flying (sym (same_flying d d at w w c c s s Wakes Wakes j k.link after.0 (peer s))) (k.flying (peer s) f)),
+              x.first e r i j t h da,
+            ))
+        quiet e r i j b t h (inr (inr ((l, o), ea))) = inr (inr (
+          (
+            (quiet_link gives e d at w c (peer s) (Learnt d (w (peer (peer s))) most) r i j b h l).link,
+            sync_between c fits e r i j t h o,
+          ),
+          x.second e r i j t h ea,
+        ))
+
+        each : KeptBetween gives (Turn c most Z)
+        each (event.Emit n p) r i j b h m = asked n p r i j h m
+        each (event.Deliver cn n) r i j b h m = came cn n r i j h m
+        each (event.Offer n agg octets) r i j b h m = quiet (event.Offer n agg octets) r i j tt tt h m
+        each (event.Move n agg conv p) r i j b h m = quiet (event.Move n agg conv p) r i j tt tt h m
+        each e r i j b h m = absurd b
+
+    bare : (c : Side → ℕ) (i : WorldState) (o : OnWay c Any i) → Flying (o.0.flying (peer s)) → Flying ((forget d at w c s s Wakes i o.0).flying (peer s))
+    bare c i o f =
+        subst Flying (sym (same_flying d d at w w c c s s Wakes Nothing i o.0 (forget d at w c s s Wakes i o.0) (peer s))) f
+
+    -- the tick of s
+    turn_own : (c b : Side → ℕ) (most : ℕ) (X V : Machines → Type 0) → b s ≡ c s - 1 → b (peer s) ≡ c (peer s) → (2 ≤ d → 1 ≤ c s - 1)
+        → most ≤ wait_of (w (peer s)) → Fits d w b → Along V (w s) (w (peer s)) (b s) d
+        → ((p q : Machines) → RunsToRest receive_rows (count_down p) q → AtRest periodic_rows p → IsEnd d (w s) (w (peer s)) (c s) p → X p → V q)
+        → MadeByTick gives s (Turn c most X) (Turn b most V)
+    turn_own c b most X V here other known less fits along moves n r i j numbered h (inl ((l, o), da)) = inl (
+      (
+        (tick_one gives n s d at w c b s X V r i j numbered here other known along (λ p q run rest a f y. moves p q run rest a y)
+            (λ p f y. absurd (other_side s f)) h l).link,
+        on_own Any any_settles (λ p y. y) (λ p y. tt) c b here other known n r i j numbered h o,
+      ),
+      x.ticks_first s n r i j numbered h da,
+    )
+    turn_own c b most X V here other known less fits along moves n r i j numbered h (inr (inl ((o, f), da))) =
+        let k = tick_one gives n s d at w c b s Nothing Nothing r i j numbered here other known (nothing_along (w s) (w (peer s)) (b s) d)
+        (λ p q run rest a f y. y) (λ p f y. y) h (forget d at w c s s Wakes i o.0) in
+        let after = on_own Any any_settles (λ p y. y) (λ p y. tt) c b here other known n r i j numbered h o in
+        inr (inl (
+          (
+            after,
+            subst Flying (sym (same_flying d d at w w b b s s Nothing Wakes j k.link after.0 (peer s)))
+                (subst (λ (g : Side → List ItemValue). Flying (g (peer s))) (sym k.same) (bare c i o f)),
+          ),
+          x.ticks_first s n r i j numbered h da,
+        ))
+    turn_own c b most X V here other known less fits along moves n r i j numbered h (inr (inr ((l, o), ea))) =
+        let L = Learnt d (w (peer (peer s))) most in
+        inr (inr (
+          (
+            (tick_one gives n s d at w c b (peer s) L L r i j numbered here other known
+                (learnt_along (w (peer s)) (w (peer (peer s))) (b (peer s)) d most less there (fits (peer s)).3)
+                (λ p q run rest a f y. absurd (other_side s (sym f))) (λ p f y. y) h l).link,
+            on_own PartnerInSync (sync_settles (at (peer s))) (λ p y. y) (λ p y. y) c b here other known n r i j numbered h o,
+          ),
+          x.ticks_second s n r i j numbered h ea,
+        ))
+
+    -- the tick of the other system
+    turn_other : (c b : Side → ℕ) (most : ℕ) (Y : Machines → Type 0) → b (peer s) ≡ c (peer s) - 1 → b s ≡ c s → (2 ≤ d → 1 ≤ c (peer s) - 1)
+        → 2 ≤ most → most ≤ wait_of (w (peer s)) → Fits d w b → Along Y (w s) (w (peer s)) (b s) d
+        → MadeByTick gives (peer s) (Turn c most Y) (Turn b (most - 1) Y)
+    turn_other c b most Y here own known some less fits along n r i j numbered h m = by_case m
+      where
+        back : b (peer (peer s)) ≡ c (peer (peer s))
+        back = subst (λ t. b t ≡ c t) (sym (peer_twice s)) own
+
+        loose : OnWay c Any i → OnWay b Any j
+        loose o = on_other Any any_settles (λ p y. y) (λ p y. tt) c b here own known n r i j numbered h
+            (λ y. all_any (at (peer s)) (half (peer s) j).state.system_ports) o
+
+        by_case : Turn c most Y i → Turn b (most - 1) Y j
+        by_case (inl ((l, o), da)) = inl (
+          (
+            (tick_one gives n (peer s) d at w c b s Y Y r i j numbered here back known along
+                (λ p q run rest a f y. absurd (other_side s f)) (λ p f y. y) h l).link,
+            loose o,
+          ),
+          x.ticks_first (peer s) n r i j numbered h da,
+        )
+        by_case (inr (inl ((o, f), da))) =
+            let k = tick_one gives n (peer s) d at w c b s Nothing Nothing r i j numbered here back known (nothing_along (w s) (w (peer s)) (b s) d)
+            (λ p q run rest a f y. y) (λ p f y. y) h (forget d at w c s s Wakes i o.0) in
+            let after = loose o in
+            inr (inl (
+              (
+                after,
+                subst Flying (sym (same_flying d d at w w b b s s Nothing Wakes j k.link after.0 (peer s)))
+                    (subst (λ (g : Side → List ItemValue). Flying (g (peer s))) (sym k.same) (bare c i o f)),
+              ),
+              x.ticks_first (peer s) n r i j numbered h da,
+            ))
+        by_case (inr (inr ((l, o), ea))) = let q = w (peer (peer s)) in
+            let t = ticks gives n (peer s) r i j numbered h in
+            let ports = (half (peer s) i).state.system_ports in
+            inr (inr (
+              (
+                (tick_one gives n (peer s) d at w c b (peer s) (Learnt d q most) (Learnt d q (most - 1)) r i j numbered here back known
+                    (learnt_along (w (peer s)) q (b (peer s)) d (most - 1) (omega (arith, less)) there (fits (peer s)).3)
+                    (λ p z run rest a f y. ticks_learnt d q most p z some run y) (λ p f y. absurd (other_side (peer s) f)) h l).link,
+                on_other PartnerInSync (sync_settles (at (peer s))) (λ p y. y) (λ p y. y) c b here own known n r i j numbered h
+                    (λ y. Tick-each (λ m p. AtPort (at (peer s)) (Learnt d q most) m p × AtPort (at (peer s)) PartnerInSync m p)
+                    (AtPort (at (peer s)) PartnerInSync) (sync_settles (at (peer s)))
+                    (λ m p z run a e. subst PartnerInSync (sym (known_still q (most - 1) (count_down p) z (omega (arith, some))
+                    (counts q most 0 p (a.0 e).0) run)) (a.1 e)) (gives (peer s)) (half (peer s) i).state answer.Tick (half (peer s) j).state t.step
+                    (each_both (AtPort (at (peer s)) (Learnt d q most)) (AtPort (at (peer s)) PartnerInSync) ports
+                    (of_end l (peer s) (Learnt d q most) (λ p rest timed a. a.1 refl)) y)) o,
+              ),
+              x.ticks_second (peer s) n r i j numbered h ea,
+            ))
+
+    module _ (c : Side → ℕ) (fits : Fits d w c) (then : Fits d w (ticked c)) where
+      abbrev W : ℕ
+      W = wait_of (w (peer s))
+
+      abbrev kn : Bool → Bool → Side → ℕ
+      kn = known_in c s
+
+      abbrev NoneDue : WorldState → Type 0
+      NoneDue j = OfPort (λ p. is_due p ≡ false) (machines_of (at s) (half s j).state)
+
+      own_one : (b : Bool) → kn false b s ≡ kn true b s - 1
+      own_one b = two_there s (c s - 1) (left b (c (peer s))) ∙ ap (λ n. n - 1) (sym (two_there s (c s) (left b (c (peer s)))))
+
+      own_two : (b : Bool) → kn false b (peer s) ≡ kn true b (peer s)
+      own_two b = two_other s (c s - 1) (left b (c (peer s))) ∙ sym (two_other s (c s) (left b (c (peer s))))
+
+      own_three : (b : Bool) → 2 ≤ d → 1 ≤ kn true b s - 1
+      own_three b e = subst (λ n. 1 ≤ n - 1) (sym (two_there s (c s) (left b (c (peer s))))) ((then s).2 e)
+
+      other_one : (a : Bool) → kn a false (peer s) ≡ kn a true (peer s) - 1
+      other_one a = two_other s (left a (c s)) (c (peer s) - 1) ∙ ap (λ n. n - 1) (sym (two_other s (left a (c s)) (c (peer s))))
+
+      other_two : (a : Bool) → kn a false s ≡ kn a true s
+      other_two a = two_there s (left a (c s)) (c (peer s) - 1) ∙ sym (two_there s (left a (c s)) (c (peer s)))
+
+      other_three : (a : Bool) → 2 ≤ d → 1 ≤ kn a true (peer s) - 1
+      other_three a e = subst (λ n. 1 ≤ n - 1) (sym (two_other s (left a (c s)) (c (peer s)))) ((then (peer s)).2 e)
+
+      left_less : (b : Bool) (n : ℕ) → left b n ≤ n
+      left_less true n = omega arith
+      left_less false n = omega arith
+
+      waits_long : 2 ≤ W
+      waits_long = long (short_timeout (w (peer s)))
+        where
+          long : (b : Bool) → 2 ≤ timeout_time b
+          long true = omega arith
+          long false = omega arith
+
+      -- what is left after a round in which nothing was on the cable before
+      abbrev Ended : (Machines → Type 0) → WorldState → Type 0
+      Ended X j = OwesNow j ⊎ PeerIs X j
+
+      end_on : (X : Machines → Type 0) (j : WorldState) → NothingInFlight j → (o : OnWay (kn false false) X j) → Ended X j
+      end_on X j none o = elim o.1 [
+        | inl owes ↦ inl owes
+        | inr tells ↦ inr (subst (λ xs. Tells u v xs (PeerIs X j))
+            (sym (towards_there (peer s) at o.0.flying) ∙ none (peer s) o.0.index (cable at o.0.flying) o.0.links.there) tells)
+      ]
+
+      begin_on : (X : Machines → Type 0) (x : Side) (Y : Machines → Type 0) (j : WorldState) → NothingInFlight j → Link d at w c x Y j
+          → OfEach (AtPort (at s) Wakes) (half s j).state.system_ports → Ended X j → OnWay (kn true true) X j
+      begin_on X x Y j none l wakes m =
+          let k = none_ticked d at w c s s Wakes j (join d at w c x s Wakes j (forget d at w c x x Y j l) wakes) in
+          let empty : k.flying (peer s) ≡ [] = sym (towards_there (peer s) at k.flying)
+          ∙ none (peer s) k.index (cable at k.flying) k.links.there in (
+            k,
+            elim m [
+              | inl owes ↦ inl owes
+              | inr y ↦ inr (subst (λ xs. Tells u v xs (PeerIs X j)) (sym empty) y)
+            ],
+          )
+
+      wakes_then : (X : Machines → Type 0) (j : WorldState) → OnWay (kn false false) X j → OfEach (AtPort (at s) Wakes) (half s j).state.system_ports
+      wakes_then X j o = of_end o.0 s Wakes (λ p rest timed a. a.1 refl)
+
+      module _ (X V Y Z : Machines → Type 0) (k : Passes X V Y Z (w s) (w (peer s)) (c s) (ticked c s) d)
+          (before : Along X (w s) (w (peer s)) (c s) d) where
+        abbrev A : Bool → WorldState → Type 0
+        A b = Turn (kn true b) (left b W) X
+
+        abbrev B : Bool → WorldState → Type 0
+        B b = Turn (kn false b) (left b W) Y
+
+        abbrev C : Bool → WorldState → Type 0
+        C b = Turn (kn false b) (left b W) Z
+
+        early : (b : Bool) → Along X (w s) (w (peer s)) (kn true b s) d
+        early b = subst (λ n. Along X (w s) (w (peer s)) n d) (sym (two_there s (c s) (left b (c (peer s))))) before
+
+        late : (M : Machines → Type 0) (b : Bool) → Along M (w s) (w (peer s)) (ticked c s) d → Along M (w s) (w (peer s)) (kn false b s) d
+        late M b a = subst (λ n. Along M (w s) (w (peer s)) n d) (sym (two_there s (c s - 1) (left b (c (peer s))))) a
+
+        own : (b : Bool) → MadeByTick gives s (A b) (B b)
+        own b n r i j numbered h m = elim (turn_own (kn true b) (kn false b) (left b W) X V (own_one b) (own_two b) (own_three b)
+            (left_less b W) (fits_in d w c s fits then false b) (late V b k.ticked)
+            (λ p q run rest a y. k.ticks p q run rest (subst (λ n. IsEnd d (w s) (w (peer s)) n p) (two_there s (c s) (left b (c (peer s)))) a) y)
+            n r i j numbered h m) [
+              | inl l ↦ inl (
+                (
+                  at_rest d at w (kn false b) s V Y j (λ p rest timed a y. k.rests p rest timed
+                      (subst (λ n. IsEnd d (w s) (w (peer s)) n p) (two_there s (c s - 1) (left b (c (peer s)))) a) y) l.0.0,
+                  l.0.1,
+                ),
+                l.1,
+              )
+              | inr z ↦ inr z
+            ]
+
+        others : (a : Bool) (M : Machines → Type 0) → Along M (w s) (w (peer s)) (kn a false s) d
+            → MadeByTick gives (peer s) (Turn (kn a true) (left true W) M) (Turn (kn a false) (left false W) M)
+        others a M along = turn_other (kn a true) (kn a false) W M (other_one a) (other_two a) (other_three a)
+            waits_long (omega arith) (fits_in d w c s fits then a false) along
+
+        rests : (b : Bool) (j : WorldState) → NoneDue j → B b j → C b j
+        rests b j none (inr z) = inr z
+        rests b j none (inl ((l, o), da)) =
+            let cc : Side → ℕ = kn false b in
+            let e = end_here at w d cc s Y j l s in
+            let not : is_due e.port.port ≡ false = subst (OfPort (λ p. is_due p ≡ false)) e.found none in
+            let now = of_end l s (λ p. is_due p ≡ false → EndIs d w cc s Z s p) (λ p rest timed a free. (
+              a.0,
+              λ f. k.asks p rest timed (subst (λ n. IsEnd d (w s) (w (peer s)) n p) (two_there s (c s - 1) (left b (c (peer s)))) a.0) (a.1 refl)
+                  free,
+            )) in
+            inl (
+              (
+                with_ports l (each_side (λ t. OfEach (AtPort (at t) (EndIs d w cc s Z t)) (half t j).state.system_ports) s
+                    (at_end at w d cc s j e l.steady (EndIs d w cc s Z s)
+                    (end_with at w d cc s j e (λ p. is_due p ≡ false → EndIs d w cc s Z s p) now not))
+                    (of_end l (peer s) (EndIs d w cc s Z (peer s)) (λ p rest timed a. (a.0, λ g. absurd (other_side s g))))),
+                o,
+              ),
+              da,
+            )
+
+        stages : Stages gives s A B C NoneDue
+        stages = record {
+          first = λ b. turn_between (kn true b) (left b W) X (left_less b W) (fits_in d w c s fits then true b) (early b);
+          second = λ b. turn_between (kn false b) (left b W) Y (left_less b W) (fits_in d w c s fits then false b) (late Y b k.waits);
+          third = λ b. turn_between (kn false b) (left b W) Z (left_less b W) (fits_in d w c s fits then false b) (late Z b k.asked);
+          own = own;
+          other_first = others true X (early false);
+          other_second = others false Y (late Y false k.waits);
+          other_third = others false Z (late Z false k.asked);
+          rests = rests;
+        }
+
+        -- Z holds of the end of s after the round, or the other end has heard an LACPDU of it, and is told
+        pub host_tells : (old new : WorldState) → Link d at w c s X old → OfEach (AtPort (at s) Wakes) (half s old).state.system_ports
+            → NothingInFlight old → IsHostRound gives old new → D old
+            → Link d at w (ticked c) s Z new ⊎ (Link d at w (ticked c) (peer s) (Learnt d (w (peer (peer s))) (W - 1)) new
+            × ((OfEach (AtPort (at s) Wakes) (half s new).state.system_ports × Ended PartnerInSync new) × E new))
+        host_tells old new l wakes none h da =
+            let asked = subst (λ n. AfterTick s (λ j. OfPort (λ p. is_due p ≡ false) (machines_of n (half s j).state)) gives h.events h.replies old new
+            h.acts) (port_there s at l.flying) (h.asked s l.index (cable at l.flying) (healthy_link d at w c s X old l)) in
+            let start : A true old = inl (
+              (
+                none_ticked d at w c s s X old l,
+                begin_on Any s X old none l wakes (inr (all_any (at (peer s)) (half (peer s) old).state.system_ports)),
+              ),
+              da,
+            ) in
+            landed (first_on gives s A B C NoneDue stages h.events h.replies old new true (of_side s h.events h.ticks) h.acts asked start)
+          where
+            landed : C false new → Link d at w (ticked c) s Z new ⊎ (Link d at w (ticked c) (peer s) (Learnt d (w (peer (peer s))) (W - 1)) new
+                × ((OfEach (AtPort (at s) Wakes) (half s new).state.system_ports × Ended PartnerInSync new) × E new))
+            landed (inl i) = inl (all_ticked d at w c s s Z new i.0.0)
+            landed (inr (inl i)) = let empty = h.empties (peer s) i.0.0.0.index (cable at i.0.0.0.flying) i.0.0.0.links.there in
+                absurd (subst Flying (sym (towards_there (peer s) at i.0.0.0.flying) ∙ empty) i.0.1)
+            landed (inr (inr i)) = inr (
+              all_ticked d at w c s (peer s) (Learnt d (w (peer (peer s))) (W - 1)) new i.0.0,
+              ((wakes_then PartnerInSync new i.0.1, end_on PartnerInSync new h.empties i.0.1), i.1),
+            )
+
+      -- what it was told stays
+      pub host_told : (x : Side) (Y : Machines → Type 0) (old new : WorldState) → Link d at w c x Y old
+          → OfEach (AtPort (at s) Wakes) (half s old).state.system_ports
+          → NothingInFlight old → IsHostRound gives old new → 2 ≤ c (peer s) → Ended PartnerInSync old
+          → OfEach (AtPort (at s) Wakes) (half s new).state.system_ports × Ended PartnerInSync new
+      host_told x Y old new l wakes none h known told =
+          let last = holds_on gives s (λ a b j. OnWay (kn a b) PartnerInSync j) (λ a b. sync_between (kn a b) (fits_in d w c s fits then a b))
+          (λ b. on_own PartnerInSync (sync_settles (at (peer s))) (λ p y. y) (λ p y. y) (kn true b) (kn false b) (own_one b) (own_two b) (own_three b))
+          (λ a n r i j numbered step o. on_other PartnerInSync (sync_settles (at (peer s))) (λ p y. y) (λ p y. y) (kn a true) (kn a false)
+          (other_one a) (other_two a) (other_three a) n r i j numbered step (stays a n r i j numbered step o.0) o)
+          h.events h.replies old new true true (of_side s h.events h.ticks) h.acts (begin_on PartnerInSync x Y old none l wakes told) in
+          (wakes_then PartnerInSync new last, end_on PartnerInSync new h.empties last)
+        where
+          stays : (a : Bool) (n : ℕ) (r : Reply) (i j : WorldState) → side_of n ≡ Some (peer s) → WorldSteps gives i (event.Tick n 1) r j
+              → Link d at w (kn a true) s Wakes i → PeerIs PartnerInSync i → PeerIs PartnerInSync j
+          stays a n r i j numbered step l y =
+              let t = ticks gives n (peer s) r i j numbered step in
+              let P = EndIs d w (kn a true) s Wakes (peer s) in
+              Tick-each (λ m p. AtPort (at (peer s)) P m p × AtPort (at (peer s)) PartnerInSync m p) (AtPort (at (peer s)) PartnerInSync)
+              (sync_settles (at (peer s)))
+              (λ m p q run e f. ticks_partner d (w (peer s)) (w (peer (peer s))) (c (peer s)) p q (omega (arith, known)) run
+              (subst (λ n. IsEnd d (w (peer s)) (w (peer (peer s))) n p) (two_other s (left a (c s)) (c (peer s))) (e.0 f).0) (e.1 f))
+              (gives (peer s)) (half (peer s) i).state answer.Tick (half (peer s) j).state t.step
+              (each_both (AtPort (at (peer s)) P) (AtPort (at (peer s)) PartnerInSync) (half (peer s) i).state.system_ports (l.ports (peer s)) y)
+
+      -- an LACPDU of the end of s is nearer, or the other end has heard one, and is told
+      pub host_nears_told : (fast : Bool) (most : ℕ) (old new : WorldState) → CanSound (w s) (w (peer s)) fast (ticked c s)
+          → CanSound (w s) (w (peer s)) fast (c s) → Link d at w c s (Sounds fast most) old
+          → OfEach (AtPort (at s) Wakes) (half s old).state.system_ports → NothingInFlight old → IsHostRound gives old new → D old
+          → ((1 ≤ most - 1) × Link d at w (ticked c) s (Sounds fast (most - 1)) new)
+          ⊎ (Link d at w (ticked c) (peer s) (Learnt d (w (peer (peer s))) (wait_of (w (peer s)) - 1)) new
+          × ((OfEach (AtPort (at s) Wakes) (half s new).state.system_ports × Ended PartnerInSync new) × E new))
+      host_nears_told fast most old new can was l wakes none h da = elim (host_tells (Sounds fast most) (Sounds fast (most - 1)) (Sounds fast (most - 1))
+          (Later fast (most - 1)) (sounds_pass (w s) (w (peer s)) fast (c s) (ticked c s) d most was can)
+          (sounds_along (w s) (w (peer s)) fast (c s) d most was) old new l wakes none h da) [
+            | inl z ↦ inl (
+              (beside_here d at w (ticked c) s (Later fast (most - 1)) new z).0,
+              at_rest d at w (ticked c) s (Later fast (most - 1)) (Sounds fast (most - 1)) new (λ p rest timed a y. y.1) z,
+            )
+            | inr k ↦ inr k
+          ]

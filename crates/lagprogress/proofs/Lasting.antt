@@ -1,0 +1,147 @@
+-- What healthy rounds leave of the ports and aggregators of a system.
+use Rattle.lagprogress.proofs.Common.{List, Option, Some, [], ap, arith, filter, inl, inr, length}
+use Rattle.lagprogress.proofs.Common.{option_map, refl, slice_get, subst, suc, sym, true, zero, ℕ, ◌++◌, ◌==◌, ◌∙◌, ◌∷◌, ◌≡◌, ◌≤◌}
+use Rattle.lagprogress.proofs.Common.{nat_tests, slice_get_cases, slice_get_within, AllByRecursion, Key}
+use Rattle.lagprogress.proofs.Common.{Party, Side, find_at}
+use Rattle.lagprogress.proofs.Common.{Machines, receive_rows, RunsToRest, count_down, Table, PortConfig, SystemPort}
+use Rattle.lagprogress.proofs.Common.{configured_numbers, model_port_of, number_of_port}
+use Rattle.lagprogress.proofs.Common.{IsSound, SystemState, port_numbers, with_system_ports, with_table}
+use Rattle.lagprogress.proofs.Common.{all-get, are_numbered, ports_rise, Algorithms}
+use Rattle.lagprogress.proofs.Common.{LinkState, WorldState, half, port_at, AllHeard}
+use Rattle.lagprogress.proofs.Common.{EndsHealthyCable}
+use Rattle.lagprogress.proofs.Common.{EnoughAggregators, EnoughLinks}
+use Rattle.lagprogress.proofs.Common.{IsHealthyAt, Rounds, asks_all, ticks_of_both}
+use Rattle.lagprogress.proofs.Common.{aggregators_with, ports_with, IsSteady}
+use Rattle.lagprogress.proofs.ComingUp.{events_keep, zero_on}
+use Rattle.lagprogress.proofs.Counting.{count_same, counted}
+use Rattle.lagprogress.proofs.EachRound.{EachAt, RoundKeeps, own_keeps, own_ticks, round_each, rounds_steady}
+use Rattle.lagprogress.proofs.Linked.{many}
+use Rattle.lagprogress.proofs.OnePort.{AtPort, at_number, same_place}
+use Rattle.lagprogress.proofs.Progressing.{Ends, end_of}
+
+-- what stays of each port
+
+-- the port has the same own parameters, and its link is up as before
+abbrev pub Alike : Machines → Machines → Type 0
+Alike x p = (p.party ≡ x.party) × (p.enabled ≡ x.enabled)
+
+pub alike_keeps : (n : ℕ) (x : Machines) → RoundKeeps (AtPort n (Alike x))
+alike_keeps n x = own_keeps (λ party up. (party ≡ x.party) × (up ≡ x.enabled)) n
+
+pub alike_ticks : (n : ℕ) (x : Machines) (m : ℕ) (p q : Machines) → RunsToRest receive_rows (count_down p) q → AtPort n (Alike x) m p
+    → AtPort n (Alike x) m q
+alike_ticks n x = own_ticks (λ party up. (party ≡ x.party) × (up ≡ x.enabled)) n
+
+pub rounds_alike : (gives : Algorithms) (n : ℕ) (old new : WorldState) → IsSteady old → Rounds gives n old new → (s : Side) (k : ℕ)
+    (x : SystemPort) → slice_get (half s old).state.system_ports k ≡ Some x → EachAt (AtPort x.number (Alike x.port)) s new
+rounds_alike gives n old new steady h s k x there =
+    let st = (half s old).state in
+    zero_on gives (λ m j. EachAt (AtPort x.number (Alike x.port)) s j) old
+    (at_number (Alike x.port) 0 st.system_ports k x (ports_rise st (steady s).0.ports) there (refl, refl))
+    (λ m i j q a. round_each (AtPort x.number (Alike x.port)) (AtPort x.number (Alike x.port)) (alike_keeps x.number x.port)
+    (alike_ticks x.number x.port) s gives i j q a) n new h
+
+module _ (X : Type 0) (g : SystemState → X)
+    (kept : (s : SystemState) (ports : List SystemPort) (t : Table) → g (with_table (with_system_ports s ports) t) ≡ g s) where
+  pub rounds_keep : (gives : Algorithms) (n : ℕ) (old new : WorldState) → Rounds gives n old new → (s : Side)
+      → g (half s new).state ≡ g (half s old).state
+  rounds_keep gives n old new h = zero_on gives (λ m j. (s : Side) → g (half s j).state ≡ g (half s old).state) old (λ s. refl)
+      (λ m i j q a s. events_keep X g kept gives (ticks_of_both ++ (asks_all i.links ++ q.delivers)) q.replies i j q.acts s ∙ a s) n new h
+
+-- the system is as it was, but for its machines and its table
+pub record IsAsBefore (s : Side) (old new : WorldState) : Type 0 where
+  pub keys : (half s new).state.keys ≡ (half s old).state.keys
+  pub limit : (half s new).state.max_links ≡ (half s old).state.max_links
+  pub numbers : port_numbers (half s new).state.system_ports ≡ port_numbers (half s old).state.system_ports
+  pub alike : (k : ℕ) (x y : SystemPort) → slice_get (half s old).state.system_ports k ≡ Some x
+      → slice_get (half s new).state.system_ports k ≡ Some y → Alike x.port y.port
+
+pub as_before : (gives : Algorithms) (n : ℕ) (old new : WorldState) → IsSteady old → Rounds gives n old new → (s : Side) → IsAsBefore s old new
+as_before gives n old new steady h s =
+    let now = rounds_steady gives n old new steady h in
+    let ports = rounds_keep (List PortConfig) (λ t. t.ports) (λ t a b. refl) gives n old new h s in
+    let numbers : port_numbers (half s new).state.system_ports ≡ port_numbers (half s old).state.system_ports =
+    (now s).0.ports.same ∙ (ap configured_numbers ports ∙ sym (steady s).0.ports.same) in
+    record {
+      keys = rounds_keep (List Key) (λ t. t.keys) (λ t a b. refl) gives n old new h s;
+      limit = rounds_keep (Option ℕ) (λ t. t.max_links) (λ t a b. refl) gives n old new h s;
+      numbers = numbers;
+      alike = λ k x y e f. all-get (λ (z : SystemPort). AtPort x.number (Alike x.port) z.number z.port) (half s new).state.system_ports k y f
+          (rounds_alike gives n old new steady h s k x e)
+          (same_place (half s old).state.system_ports (half s new).state.system_ports k x y numbers e f);
+    }
+
+-- the port that stood at the place
+pub old_port : (xs ys : List SystemPort) (k : ℕ) (y : SystemPort) → port_numbers ys ≡ port_numbers xs → slice_get ys k ≡ Some y
+    → (x : SystemPort) × (slice_get xs k ≡ Some x) × (y.number ≡ x.number)
+old_port xs ys k y numbers f =
+    let within = slice_get_within ys k y f in
+    let one = many xs in
+    let two = many ys in
+    let both = ap (λ (ns : List ℕ). length ns) numbers in
+    elim (slice_get_cases xs k).1 [
+      | inl c ↦ (c.0, c.2, same_place xs ys k c.0 y numbers c.2 f)
+      | inr p ↦ (let past = p.0 in absurd (omega (arith, within, one, two, both, past)))
+    ]
+
+same_ports_with : (s : Side) (old new : WorldState) → IsAsBefore s old new → (key : Key)
+    → ports_with key (half s new).state ≡ ports_with key (half s old).state
+same_ports_with s old new b key = grind (arith, nat_tests, many, counted, count_same)
+
+same_aggregators_with : (s : Side) (old new : WorldState) → IsAsBefore s old new → (key : Key)
+    → aggregators_with key (half s new).state ≡ aggregators_with key (half s old).state
+same_aggregators_with s old new b key = ap (λ (ks : List Key). length (filter (λ (k : Key). k.0 == key.0) ks)) b.keys
+
+-- of a key
+pub still_enough : (s : Side) (old new : WorldState) → IsAsBefore s old new → (key was : Key) → key ≡ was
+    → ports_with was (half s old).state ≤ aggregators_with was (half s old).state
+    → ports_with key (half s new).state ≤ aggregators_with key (half s new).state
+still_enough s old new b key was e enough =
+    subst (λ (q : Key). ports_with q (half s new).state ≤ aggregators_with q (half s new).state) (sym e)
+    (subst (λ n. n ≤ aggregators_with was (half s new).state) (sym (same_ports_with s old new b was))
+    (subst (λ n. ports_with was (half s old).state ≤ n) (sym (same_aggregators_with s old new b was)) enough))
+
+pub still_one : (s : Side) (old new : WorldState) → IsAsBefore s old new → (key was : Key) → key ≡ was
+    → 1 ≤ aggregators_with was (half s old).state → 1 ≤ aggregators_with key (half s new).state
+still_one s old new b key was e one = subst (λ (q : Key). 1 ≤ aggregators_with q (half s new).state) (sym e)
+    (subst (λ n. 1 ≤ n) (sym (same_aggregators_with s old new b was)) one)
+
+pub still_aggregators : (s : Side) (old new : WorldState) → IsAsBefore s old new → EnoughAggregators (half s old).state
+    → EnoughAggregators (half s new).state
+still_aggregators s old new b enough k y there up =
+    let x = old_port (half s old).state.system_ports (half s new).state.system_ports k y b.numbers there in
+    still_enough s old new b y.port.party.key x.0.port.party.key (ap (λ (q : Party). q.key) (b.alike k x.0 y x.1 there).0)
+    (enough k x.0 x.1 (sym (b.alike k x.0 y x.1 there).1 ∙ up))
+
+pub still_links : (s : Side) (old new : WorldState) → IsAsBefore s old new → EnoughLinks (half s old).state → EnoughLinks (half s new).state
+still_links s old new b enough k most y there limit =
+    let x = old_port (half s old).state.system_ports (half s new).state.system_ports k y b.numbers there in
+    subst (λ (q : Party). ports_with q.key (half s new).state ≤ most) (sym (b.alike k x.0 y x.1 there).0)
+    (subst (λ n. n ≤ most) (sym (same_ports_with s old new b x.0.port.party.key)) (enough k most x.0 x.1 (sym b.limit ∙ limit)))
+
+-- a port whose link is up ended a healthy cable before
+pub still_heard : (Holds : LinkState → WorldState → Type 0) (s : Side) (old new : WorldState) → IsAsBefore s old new → AllHeard Holds old
+    → (k : ℕ) (z : SystemPort) → slice_get (half s new).state.system_ports k ≡ Some z → z.port.enabled ≡ true
+    → EndsHealthyCable Holds s z.number old
+still_heard Holds s old new like heard k z there up =
+    let x = old_port (half s old).state.system_ports (half s new).state.system_ports k z like.numbers there in
+    subst (λ n. EndsHealthyCable Holds s n old) (sym x.2) (heard s k x.0 x.1 (sym (like.alike k x.0 z x.1 there).1 ∙ up))
+
+-- the ports of a system name it
+
+pub own_system : (s : SystemState) (k : ℕ) (x : SystemPort) → IsSound s → slice_get s.system_ports k ≡ Some x → x.port.party.system ≡ s.system
+own_system s k x h there =
+    let found = find_at number_of_port s.system_ports k x (are_numbered 0 s.system_ports (ports_rise s h.ports)) there in
+    h.members.own x.number (model_port_of x) (ap (option_map model_port_of) found)
+
+-- each place of a list
+
+pub all_by_place : (P : SystemPort → Type 0) (xs : List SystemPort) → ((k : ℕ) (x : SystemPort) → slice_get xs k ≡ Some x → P x)
+    → AllByRecursion P xs
+all_by_place P [] h = tt
+all_by_place P (x ∷ xs) h = (h zero x refl, all_by_place P xs (λ k y e. h (suc k) y e))
+
+-- the ends of a healthy cable
+
+pub ends_at : (i : ℕ) (l : LinkState) (j : WorldState) → IsHealthyAt i l j → Ends l j
+ends_at i l j h s = end_of (λ p. p.enabled ≡ true) (port_at s l) (half s j).state (h.up s)

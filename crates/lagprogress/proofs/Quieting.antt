@@ -1,0 +1,215 @@
+-- A frame that is offered, or a conversation that is moved, leaves the ports, and what their LACPDUs say.
+use Rattle.lagprogress.proofs.Common.{Err, List, Ok, Result, Some, [], ap, arith, inl, inr, refl, subst, sym, ℕ, ◌++◌, ◌==◌, ◌∙◌, ◌∷◌}
+use Rattle.lagprogress.proofs.Common.{◌≡◌, ◌⊎◌, cases_Bool, nat_tests, AggId, Lacpdu, One, Side, Two, peer, value_of, Machines}
+use Rattle.lagprogress.proofs.Common.{SystemFault, Carries, IsFrame, Offer, Step, system_move_result, offers_slots, becomes_slots}
+use Rattle.lagprogress.proofs.Common.{Event, Reply, AfterOffer, Algorithms, WorldSteps, offered_item, side_of, with_frame_counted}
+use Rattle.lagprogress.proofs.Common.{map, link_ends, put_ends, HalfState, ItemValue, WorldState, half, IsSteady, port_index, put_on_port, with_half, half_there}
+use Rattle.slowpdu.specs.declared.pdu.Pdu.TheVariants as pdu
+use Rattle.lagsystem.specs.declared.drive.Reply.TheVariants as answer
+use Rattle.lagscript.specs.declared.event.Event.TheVariants as event
+use Rattle.lagprogress.proofs.ArrivingLemmas.{is_data, same_ports}
+use Rattle.lagprogress.proofs.EachPort.{OfEach}
+use Rattle.lagprogress.proofs.Halves.{keeps_steady}
+use Rattle.lagprogress.proofs.Linked.{EndIs, Flying, HasLacpdu, IsGood, Link, has_on, each_side, place_kept, push_other, push_there, pushed}
+use Rattle.lagprogress.proofs.OneCable.{OnCable, half_logs, push, push_each, put_beside, puts}
+use Rattle.lagprogress.proofs.OnePort.{AtPort}
+
+-- the event offers a frame or moves a conversation
+abbrev pub IsQuiet : Event → Type 0
+IsQuiet (event.Offer n agg octets) = Unit {0}
+IsQuiet (event.Move n agg conv p) = Unit {0}
+IsQuiet _ = ⊥
+
+-- system s has sent an item on port p that bears no LACPDU
+record SendsPlain (s : Side) (old new : WorldState) : Type 0 where
+  port : ℕ
+  item : ItemValue
+  plain : (x : Lacpdu) → IsFrame item.octets (Carries (pdu.Lacpdu x)) → ⊥
+  sent : new.links ≡ put_on_port s port item old.links
+
+-- no port has changed, and nothing was sent, or that
+record Quietly (s : Side) (old new : WorldState) : Type 0 where
+  same : (t : Side) → (half t new).state.system_ports ≡ (half t old).state.system_ports
+  links : (new.links ≡ old.links) ⊎ SendsPlain s old new
+  logs : (t : Side) → (half t new).histories ≡ (half t old).histories
+
+one_half : (s t : Side) (h : HalfState) (j : WorldState) → h.state.system_ports ≡ (half s j).state.system_ports
+    → (half t (with_half s h j)).state.system_ports ≡ (half t j).state.system_ports
+one_half One One h j e = e
+one_half One Two h j e = refl
+one_half Two One h j e = refl
+one_half Two Two h j e = e
+
+half_links : (s : Side) (h : HalfState) (j : WorldState) → (with_half s h j).links ≡ j.links
+half_links One h j = refl
+half_links Two h j = refl
+
+offered : (gives : Algorithms) (s : Side) (agg : AggId) (octets : List ℕ) (a : Result ℕ SystemFault) (old new : WorldState) (mid : HalfState)
+    (r : Reply) → Step (gives s) (half s old).state (Offer agg octets) (answer.Offer a) mid.state
+    → mid.histories ≡ (half s old).histories → AfterOffer s agg octets a (with_half s mid old) r (record new { acted = old.acted }) → Quietly s old new
+offered gives s agg octets (Err fault) old new mid r h log after = record {
+  same = λ t. ap (λ (w : WorldState). (half t w).state.system_ports) after.1
+      ∙ one_half s t mid old (offers_slots (gives s) agg octets (half s old).state (Err fault) mid.state h);
+  links = inl (ap (λ (w : WorldState). w.links) after.1 ∙ half_links s mid old);
+  logs = λ t. ap (λ (w : WorldState). (half t w).histories) after.1 ∙ half_logs s mid old log t;
+}
+offered gives s agg octets (Ok port) old new mid r h log after =
+    let j = with_half s mid old in
+    record {
+      same = λ t. ap (λ (w : WorldState). (half t w).state.system_ports) after.2
+          ∙ same_ports s t mid (with_frame_counted agg octets (half s j)) old
+          (offers_slots (gives s) agg octets (half s old).state (Ok port) mid.state h)
+          (ap (λ (k : HalfState). k.state.system_ports) (half_there s mid old));
+      links = inr (record {
+        port = port;
+        item = offered_item s port agg octets (half s j);
+        plain = λ x c. (is_data octets h.0.1).1 c.0.1;
+        sent = ap (λ (w : WorldState). w.links) after.2
+            ∙ ap (put_on_port s port (offered_item s port agg octets (half s j)))
+            (half_links s (with_frame_counted agg octets (half s j)) j ∙ half_links s mid old);
+      });
+      logs = λ t. ap (λ (w : WorldState). (half t w).histories) after.2
+          ∙ (half_logs s (with_frame_counted agg octets (half s j)) j refl t ∙ half_logs s mid old log t);
+    }
+
+quietly : (gives : Algorithms) (e : Event) (r : Reply) (old new : WorldState) → IsQuiet e → WorldSteps gives old e r new
+    → (s : Side) × Quietly s old new
+quietly gives (event.Offer n agg octets) r old new q h =
+    let v = value_of (side_of n) _ h.0 in
+    let w = v.2 in (
+      v.0,
+      offered gives v.0 agg octets.items w.0 old new w.1 r w.2.answers.step
+          (ap (λ (k : HalfState). k.histories) w.2.same) w.3,
+    )
+quietly gives (event.Move n agg conv p) r old new q h =
+    let v = value_of (side_of n) _ h.0 in
+    let now = record new { acted = old.acted } in
+    let m = v.2.0 in
+    let st = (half v.0 old).state in
+    let same = becomes_slots agg conv (system_move_result st agg conv p) st m.0 (half v.0 now).state m.1.answers.step in (
+      v.0,
+      record {
+        same = λ t. ap (λ (j : WorldState). (half t j).state.system_ports) v.2.1 ∙ one_half v.0 t (half v.0 now) old same;
+        links = inl (ap (λ (j : WorldState). j.links) v.2.1 ∙ half_links v.0 (half v.0 now) old);
+        logs = λ t. ap (λ (j : WorldState). (half t j).histories) v.2.1
+            ∙ half_logs v.0 (half v.0 now) old (ap (λ (k : HalfState). k.histories) m.1.same) t;
+      },
+    )
+quietly gives e r old new q h = absurd q
+
+-- what it leaves of a cable
+
+pub record Quieted (d : ℕ) (at : Side → ℕ) (w : Side → Lacpdu) (c : Side → ℕ) (x : Side) (Y : Machines → Type 0) (fl : Side → List ItemValue)
+    (new : WorldState) : Type 0 where
+  pub link : Link d at w c x Y new
+  pub flying : (t : Side) → Flying (fl t) → Flying (link.flying t)
+  pub grew : (t : Side) → (link.flying t ≡ fl t)
+      ⊎ ((item : ItemValue) × ((x : Lacpdu) → IsFrame item.octets (Carries (pdu.Lacpdu x)) → ⊥) × (link.flying t ≡ fl t ++ item ∷ []))
+
+pub quiet_link : (gives : Algorithms) (e : Event) (d : ℕ) (at : Side → ℕ) (w : Side → Lacpdu) (c : Side → ℕ) (x : Side)
+    (Y : Machines → Type 0) (r : Reply) (old new : WorldState) → IsQuiet e → WorldSteps gives old e r new → (l : Link d at w c x Y old)
+    → Quieted d at w c x Y l.flying new
+quiet_link gives e d at w c x Y r old new q h l = by_links k.links
+  where
+    s : Side
+    s = (quietly gives e r old new q h).0
+
+    k : Quietly s old new
+    k = (quietly gives e r old new q h).1
+
+    steady : IsSteady new
+    steady = keeps_steady gives e r old new h l.steady
+
+    ports : (t : Side) → OfEach (AtPort (at t) (EndIs d w c x Y t)) (half t new).state.system_ports
+    ports t = subst (OfEach (AtPort (at t) (EndIs d w c x Y t))) (sym (k.same t)) (l.ports t)
+
+    place : (t : Side) → (i : ℕ) × (port_index (at t) (half t new).state.system_ports ≡ Some i)
+    place t = ((l.place t).0, place_kept gives e r old new h l.steady steady t (at t) ∙ (l.place t).1)
+
+    same_items : OnCable l.index at l.flying new.links → Quieted d at w c x Y l.flying new
+    same_items on = record {
+      link = record { steady = steady; flying = l.flying; index = l.index; links = on; good = l.good; place = place; ports = ports };
+      flying = λ t f. f;
+      grew = λ t. inl refl;
+    }
+
+    by_links : (new.links ≡ old.links) ⊎ SendsPlain s old new → Quieted d at w c x Y l.flying new
+    by_links (inl e) = same_items (subst (OnCable l.index at l.flying) (sym e) l.links)
+    by_links (inr m) = elim (cases_Bool (at s == m.port)) [
+      | inl t ↦ (let port : m.port ≡ at s = grind (arith, nat_tests) in record {
+        link = record {
+          steady = steady;
+          flying = push (peer s) m.item l.flying;
+          index = l.index;
+          links = subst (OnCable l.index at (push (peer s) m.item l.flying)) (sym (m.sent ∙ ap (λ p. put_on_port s p m.item old.links) port))
+              (puts s l.index at l.flying m.item old.links l.links);
+          good = push_each (λ t. IsGood d w t) (peer s) m.item l.flying (λ v c. absurd (m.plain v c)) l.good;
+          place = place;
+          ports = ports;
+        };
+        flying = λ t f. pushed (λ u xs. Flying (l.flying u) → Flying xs) (peer s) m.item l.flying
+            (λ g y. has_on HasLacpdu (l.flying (peer s)) (m.item ∷ []) (g y)) (λ u y. y) t f;
+        grew = λ t. each_side (λ u. (push (peer s) m.item l.flying u ≡ l.flying u) ⊎ ((item : ItemValue)
+            × ((x : Lacpdu) → IsFrame item.octets (Carries (pdu.Lacpdu x)) → ⊥) × (push (peer s) m.item l.flying u ≡ l.flying u ++ item ∷ []))) s
+            (inl (push_other s m.item l.flying)) (inr (m.item, m.plain, push_there (peer s) m.item l.flying)) t;
+      })
+      | inr f ↦ (let other : at s ≡ m.port → ⊥ = grind (arith, nat_tests) in
+          same_items (subst (OnCable l.index at l.flying) (sym m.sent) (put_beside s m.port l.index at l.flying m.item old.links other l.links)))
+    ]
+
+pub quiet_ports : (gives : Algorithms) (e : Event) (r : Reply) (old new : WorldState) → IsQuiet e → WorldSteps gives old e r new → (t : Side)
+    → (half t new).state.system_ports ≡ (half t old).state.system_ports
+quiet_ports gives e r old new q h = (quietly gives e r old new q h).1.same
+
+pub quiet_logs : (gives : Algorithms) (e : Event) (r : Reply) (old new : WorldState) → IsQuiet e → WorldSteps gives old e r new → (t : Side)
+    → (half t new).histories ≡ (half t old).histories
+quiet_logs gives e r old new q h = (quietly gives e r old new q h).1.logs
+
+-- what becomes of any cable
+pub record Grown (i : ℕ) (at : Side → ℕ) (fl : Side → List ItemValue) (new : WorldState) : Type 0 where
+  pub flying : Side → List ItemValue
+  pub on : OnCable i at flying new.links
+  pub grew : (t : Side) → (flying t ≡ fl t)
+      ⊎ ((item : ItemValue) × ((x : Lacpdu) → IsFrame item.octets (Carries (pdu.Lacpdu x)) → ⊥) × (flying t ≡ fl t ++ item ∷ []))
+
+pub quiet_cable : (gives : Algorithms) (e : Event) (i : ℕ) (at : Side → ℕ) (fl : Side → List ItemValue) (r : Reply) (old new : WorldState)
+    → IsQuiet e → WorldSteps gives old e r new → OnCable i at fl old.links → Grown i at fl new
+quiet_cable gives e i at fl r old new q h c = by_links k.links
+  where
+    s : Side
+    s = (quietly gives e r old new q h).0
+
+    k : Quietly s old new
+    k = (quietly gives e r old new q h).1
+
+    same_items : OnCable i at fl new.links → Grown i at fl new
+    same_items on = record { flying = fl; on = on; grew = λ t. inl refl }
+
+    by_links : (new.links ≡ old.links) ⊎ SendsPlain s old new → Grown i at fl new
+    by_links (inl e) = same_items (subst (OnCable i at fl) (sym e) c)
+    by_links (inr m) = elim (cases_Bool (at s == m.port)) [
+      | inl t ↦ (let port : m.port ≡ at s = grind (arith, nat_tests) in record {
+        flying = push (peer s) m.item fl;
+        on = subst (OnCable i at (push (peer s) m.item fl)) (sym (m.sent ∙ ap (λ p. put_on_port s p m.item old.links) port))
+            (puts s i at fl m.item old.links c);
+        grew = λ t. each_side (λ u. (push (peer s) m.item fl u ≡ fl u) ⊎ ((item : ItemValue)
+            × ((x : Lacpdu) → IsFrame item.octets (Carries (pdu.Lacpdu x)) → ⊥) × (push (peer s) m.item fl u ≡ fl u ++ item ∷ []))) s
+            (inl (push_other s m.item fl)) (inr (m.item, m.plain, push_there (peer s) m.item fl)) t;
+      })
+      | inr f ↦ (let other : at s ≡ m.port → ⊥ = grind (arith, nat_tests) in
+          same_items (subst (OnCable i at fl) (sym m.sent) (put_beside s m.port i at fl m.item old.links other c)))
+    ]
+
+pub quiet_ends : (gives : Algorithms) (e : Event) (r : Reply) (old new : WorldState) → IsQuiet e → WorldSteps gives old e r new
+    → map link_ends new.links ≡ map link_ends old.links
+quiet_ends gives e r old new q h = by_links k.links
+  where
+    s : Side
+    s = (quietly gives e r old new q h).0
+
+    k : Quietly s old new
+    k = (quietly gives e r old new q h).1
+
+    by_links : (new.links ≡ old.links) ⊎ SendsPlain s old new → map link_ends new.links ≡ map link_ends old.links
+    by_links (inl x) = ap (map link_ends) x
+    by_links (inr m) = ap (map link_ends) m.sent ∙ put_ends s m.port m.item old.links

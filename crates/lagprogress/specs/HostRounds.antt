@@ -1,0 +1,152 @@
+-- A healthy round of a world as hosts play it: in any order, each system ticks once, is asked, and is offered frames (profile).
+use Rattle.std.specs.Prelude.{◌≡◌, ◌⊎◌, ◌≤◌, ℕ, zero, suc, Bool, true, false, List, [], ◌∷◌, ◌++◌, Some, slice_get}
+use Rattle.std.specs.List.{AllByRecursion}
+use Rattle.lagsystem.specs.declared.system_ports.SystemPort.{SystemPort}
+use Rattle.lagmodel.specs.World.{IsCabling, Side, One, Two, peer}
+use Rattle.portmachines.specs.Transmit.{is_due}
+use Rattle.lagscript.specs.declared.event.Event.{Event}
+use Rattle.lagscript.specs.declared.event.Event.TheVariants as event
+use Rattle.lagworld.specs.declared.reply.Reply.{Reply}
+use Rattle.lagworld.specs.declared.agreement.Agreement.TheVariants.{Same}
+use Rattle.lagworld.specs.Agreement.{agreement_at}
+use Rattle.lagworld.specs.Sound.{IsSound}
+use Rattle.lagworld.specs.Events.{Algorithms, WorldRuns, side_of}
+use Rattle.lagworld.specs.ModelWorld.{world_setup}
+use Rattle.lagworld.specs.State.{LinkState, WorldState, port_at}
+use Rattle.lagprogress.specs.Bundle.{BothAreActive, IsBundle, OneIsActive}
+use Rattle.lagprogress.specs.ComingUp.{Distributes}
+use Rattle.lagprogress.specs.Progress.{EndKnows}
+use Rattle.lagprogress.specs.Rounds.{AtEnd, IsHealthyAt, IsRound, NothingInFlight, Rounds, known_if_both_active, known_if_one_is, up_if_both_active}
+use Rattle.lagprogress.specs.Rounds.{up_if_one_is}
+use Rattle.lagprogress.specs.Steady.{IsSteady}
+
+-- the event is one tick of system s
+abbrev pub IsTickOf : Side → Event → Type 0
+IsTickOf s e = (n : ℕ) × (side_of n ≡ Some s) × (e ≡ event.Tick n 1)
+
+-- what hosts do between ticks: a port is asked, something on a cable arrives, a frame is offered, a conversation is moved
+abbrev pub IsBetweenTicks : Event → Type 0
+IsBetweenTicks (event.Emit n p) = Unit {0}
+IsBetweenTicks (event.Deliver c n) = Unit {0}
+IsBetweenTicks (event.Offer n agg octets) = Unit {0}
+IsBetweenTicks (event.Move n agg conv p) = Unit {0}
+IsBetweenTicks _ = ⊥
+
+-- each event is a tick of system s or of its peer, or comes between ticks; and each of the two ticks once, if it has still to tick
+abbrev pub TickOnce : Side → (own other : Bool) → List Event → Type 0
+TickOnce s own other [] = (own ≡ false) × (other ≡ false)
+TickOnce s own other (e ∷ es) =
+    (IsTickOf s e × (own ≡ true) × TickOnce s false other es)
+    ⊎ ((IsTickOf (peer s) e × (other ≡ true) × TickOnce s own false es) ⊎ (IsBetweenTicks e × TickOnce s own other es))
+
+-- at some world of the run this holds
+abbrev pub AtSome : (P : WorldState → Type 0) (gives : Algorithms) (es : List Event) (rs : List Reply) (old new : WorldState)
+    → WorldRuns gives old es rs new → Type 0
+AtSome P gives [] [] old new run = P old
+AtSome P gives (e ∷ es) (r ∷ rs) old new run = P old ⊎ AtSome P gives es rs run.0 new run.2
+AtSome P gives [] (r ∷ rs) old new run = ⊥
+AtSome P gives (e ∷ es) [] old new run = ⊥
+
+-- at some world after a tick of system s
+abbrev pub AfterTick : (s : Side) (P : WorldState → Type 0) (gives : Algorithms) (es : List Event) (rs : List Reply) (old new : WorldState)
+    → WorldRuns gives old es rs new → Type 0
+AfterTick s P gives (e ∷ es) (r ∷ rs) old new run = (IsTickOf s e × AtSome P gives es rs run.0 new run.2) ⊎ AfterTick s P gives es rs run.0 new run.2
+AfterTick s P gives [] rs old new run = ⊥
+AfterTick s P gives (e ∷ es) [] old new run = ⊥
+
+-- A healthy round of hosts: these events act, each system ticks once among them, at each end of a healthy cable no LACPDU is due
+-- at some time after its system's tick, and in the end nothing is on any cable.
+pub record IsHostRound (gives : Algorithms) (old new : WorldState) : Type 0 where
+  pub events : List Event
+  pub replies : List Reply
+  pub ticks : TickOnce One true true events
+  pub acts : WorldRuns gives old events replies new
+  pub asked : (s : Side) (i : ℕ) (l : LinkState) → IsHealthyAt i l old
+      → AfterTick s (λ j. AtEnd (λ p. is_due p ≡ false) s l j) gives events replies old new acts
+  pub empties : NothingInFlight new
+
+-- so many of them lead from one world to the other
+abbrev pub HostRounds : Algorithms → ℕ → WorldState → WorldState → Type 0
+HostRounds gives zero old new = new ≡ old
+HostRounds gives (suc n) old new = (mid : WorldState) × HostRounds gives n old mid × IsHostRound gives mid new
+
+-- an Emit event asks this port of system s
+abbrev pub Asks : Side → ℕ → Event → Type 0
+Asks s p e = (n : ℕ) × (side_of n ≡ Some s) × (e ≡ event.Emit n p)
+
+-- one of the events does
+abbrev pub AsksIn : Side → ℕ → List Event → Type 0
+AsksIn s p [] = ⊥
+AsksIn s p (e ∷ es) = Asks s p e ⊎ AsksIn s p es
+
+-- one of the events after a tick of system s does
+abbrev pub AsksAfterTick : Side → ℕ → List Event → Type 0
+AsksAfterTick s p [] = ⊥
+AsksAfterTick s p (e ∷ es) = (IsTickOf s e × AsksIn s p es) ⊎ AsksAfterTick s p es
+
+-- These events are a healthy round of hosts if each end of a healthy cable is asked after its system's tick, once at least, and
+-- nothing is on any cable in the end: whatever else is asked, delivered, offered or moved, and in what order. The timers of both
+-- systems are within their bounds.
+abbrev pub AskingIsHostRound : Algorithms → Type 0
+AskingIsHostRound gives = (events : List Event) (replies : List Reply) (old new : WorldState) → IsSteady old → TickOnce One true true events
+    → WorldRuns gives old events replies new
+    → ((s : Side) (i : ℕ) (l : LinkState) → IsHealthyAt i l old → AsksAfterTick s (port_at s l) events) → NothingInFlight new
+    → IsHostRound gives old new
+
+-- The loop of two hosts: each system ticks, and then asks each of its ports, until nothing is due or once at the least; then what
+-- is on the cables arrives, and ports are asked again after each arrival, or not. Frames may be offered, conversations moved, and
+-- items arrive, at any time. In the end nothing is on any cable.
+pub record IsHostLoop (gives : Algorithms) (old new : WorldState) : Type 0 where
+  pub first : List Event
+  pub second : List Event
+  pub later : List Event
+  pub replies : List Reply
+  pub between_first : AllByRecursion IsBetweenTicks first
+  pub between_second : AllByRecursion IsBetweenTicks second
+  pub between_later : AllByRecursion IsBetweenTicks later
+  pub asks_one : (k : ℕ) (x : SystemPort) → slice_get old.one.state.system_ports k ≡ Some x → AsksIn One x.number first
+  pub asks_two : (k : ℕ) (x : SystemPort) → slice_get old.two.state.system_ports k ≡ Some x → AsksIn Two x.number second
+  pub acts : WorldRuns gives old (event.Tick 1 1 ∷ (first ++ (event.Tick 2 1 ∷ (second ++ later)))) replies new
+  pub empties : NothingInFlight new
+
+abbrev pub LoopIsHostRound : Algorithms → Type 0
+LoopIsHostRound gives = (old new : WorldState) → IsSteady old → IsHostLoop gives old new → IsHostRound gives old new
+
+-- so each healthy round is one, in which both systems tick first, and each end is asked twice before anything is delivered
+abbrev pub RoundIsHostRound : Algorithms → Type 0
+RoundIsHostRound gives = (old new : WorldState) → IsSteady old → IsRound gives old new → IsHostRound gives old new
+
+-- and so many of them are as many
+abbrev pub RoundsAreHostRounds : Algorithms → Type 0
+RoundsAreHostRounds gives = (n : ℕ) (old new : WorldState) → IsSteady old → Rounds gives n old new → HostRounds gives n old new
+
+-- From 321 of them on, whatever was before them and whatever the other cables are, each end of a healthy cable knows the other, if
+-- both are active.
+abbrev pub ActiveEndsKnowByHosts : Algorithms → Type 0
+ActiveEndsKnowByHosts gives = (n i : ℕ) (l : LinkState) (old new : WorldState) → IsCabling (world_setup old).cables → IsSteady old
+    → IsHealthyAt i l old → BothAreActive l old → known_if_both_active ≤ n → HostRounds gives n old new → (s : Side) → EndKnows s l new
+
+-- From 630 on they do, if one is active.
+abbrev pub EndsKnowByHosts : Algorithms → Type 0
+EndsKnowByHosts gives = (n i : ℕ) (l : LinkState) (old new : WorldState) → IsCabling (world_setup old).cables → IsSteady old
+    → IsHealthyAt i l old → OneIsActive l old → known_if_one_is ≤ n → HostRounds gives n old new → (s : Side) → EndKnows s l new
+
+-- From 352 of them on, whatever was before them, both ends of each healthy cable of a bundle distribute, if both ends of each are
+-- active.
+abbrev pub EachActiveLinkComesUpByHosts : Algorithms → Type 0
+EachActiveLinkComesUpByHosts gives = (n i : ℕ) (l : LinkState) (old new : WorldState) → IsBundle BothAreActive old → IsHealthyAt i l old
+    → up_if_both_active ≤ n → HostRounds gives n old new → (s : Side) → AtEnd Distributes s l new
+
+-- From 661 on they do, if one end of each is.
+abbrev pub EachLinkComesUpByHosts : Algorithms → Type 0
+EachLinkComesUpByHosts gives = (n i : ℕ) (l : LinkState) (old new : WorldState) → IsBundle OneIsActive old → IsHealthyAt i l old
+    → up_if_one_is ≤ n → HostRounds gives n old new → (s : Side) → AtEnd Distributes s l new
+
+-- And in a sound world the agreement of each healthy cable is Same, after as many.
+abbrev pub EachActiveLinkAgreesByHosts : Algorithms → Type 0
+EachActiveLinkAgreesByHosts gives = (n i : ℕ) (l : LinkState) (old new : WorldState) → IsSound old → IsBundle BothAreActive old
+    → IsHealthyAt i l old → up_if_both_active ≤ n → HostRounds gives n old new → agreement_at new (suc i) ≡ Some Same
+
+abbrev pub EachLinkAgreesByHosts : Algorithms → Type 0
+EachLinkAgreesByHosts gives = (n i : ℕ) (l : LinkState) (old new : WorldState) → IsSound old → IsBundle OneIsActive old
+    → IsHealthyAt i l old → up_if_one_is ≤ n → HostRounds gives n old new → agreement_at new (suc i) ≡ Some Same
