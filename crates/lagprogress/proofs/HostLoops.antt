@@ -7,7 +7,7 @@ use Rattle.lagprogress.proofs.Common.{Algorithms, WorldRuns, WorldSteps, LinkSta
 use Rattle.lagprogress.proofs.Common.{OfPort, asks_all, ticks_of_both, IsSteady}
 use Rattle.lagsystem.specs.declared.drive.Reply.TheVariants as answer
 use Rattle.lagscript.specs.declared.event.Event.TheVariants as event
-use Rattle.lagprogress.specs.HostRounds.{AfterTick, AskingIsHostRound, Asks, AsksAfterTick, AsksIn, AtSome, IsBetweenTicks, IsTickOf}
+use Rattle.lagprogress.specs.HostRounds.{AfterTick, AskingIsHostRound, Asks, AsksAfterTick, AsksIn, AtSomeWorld, IsBetweenTicks, IsTickOf}
 use Rattle.lagprogress.specs.HostRounds.{IsHostLoop, LoopIsHostRound, RoundIsHostRound, RoundsAreHostRounds, TickOnce}
 use Rattle.lagprogress.proofs.Bundling.{ends_at}
 use Rattle.lagprogress.proofs.EachPort.{OfEach, Tick-each}
@@ -109,13 +109,13 @@ module _ (gives : Algorithms) (s : Side) (p : ℕ) where
       (place_kept gives e r i j h x.steady steady s p ∙ x.place) now.1)) now.2
 
   at_first : (P : WorldState → Type 0) (es : List Event) (rs : List Reply) (i j : WorldState) (run : WorldRuns gives i es rs j) → P i
-      → AtSome P gives es rs i j run
+      → AtSomeWorld P gives es rs i j run
   at_first P [] [] i j run y = y
   at_first P (e ∷ es) (r ∷ rs) i j run y = inl y
   at_first P es rs i j run y = absurd run
 
   some_on : (es : List Event) (rs : List Reply) (i j : WorldState) (a b : Bool) → TickOnce s a b es → (run : WorldRuns gives i es rs j)
-      → AsksIn s p es → Stays i → AtSome NoneDue gives es rs i j run
+      → AsksIn s p es → Stays i → AtSomeWorld NoneDue gives es rs i j run
   some_on [] rs i j a b h run q x = absurd q
   some_on (e ∷ es) [] i j a b h run q x = absurd run
   some_on (e ∷ es) (r ∷ rs) i j a b h run (inl q) x = inr (at_first NoneDue es rs run.0 j run.2 (asked e r i run.0 q run.1 x))

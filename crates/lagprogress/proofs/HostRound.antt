@@ -6,7 +6,7 @@ use Rattle.lagprogress.proofs.Common.{SystemState, machines_of, Event, Reply, Al
 use Rattle.lagprogress.proofs.Common.{None, limit_towards, timeout_time, IsHealthyAt, OfPort}
 use Rattle.lagsystem.specs.declared.drive.Reply.TheVariants as answer
 use Rattle.lagscript.specs.declared.event.Event.TheVariants as event
-use Rattle.lagprogress.specs.HostRounds.{AfterTick, AtSome, IsBetweenTicks, IsHostRound, IsTickOf, TickOnce}
+use Rattle.lagprogress.specs.HostRounds.{AfterTick, AtSomeWorld, IsBetweenTicks, IsHostRound, IsTickOf, TickOnce}
 use Rattle.lagprogress.proofs.Climbing.{known_still}
 use Rattle.lagprogress.proofs.Delivering.{deliver_link}
 use Rattle.lagprogress.proofs.EachPort.{OfEach, Tick-each}
@@ -108,7 +108,7 @@ module _ (gives : Algorithms) (s : Side) (A B C : Bool → WorldState → Type 0
   third_on es rs i j b h run m = absurd run
 
   second_on : (es : List Event) (rs : List Reply) (i j : WorldState) (b : Bool) → TickOnce s false b es → (run : WorldRuns gives i es rs j)
-      → AtSome P gives es rs i j run → B b i → C false j
+      → AtSomeWorld P gives es rs i j run → B b i → C false j
   second_on [] [] i j b h run a m = third_on [] [] i j b h run (k.rests b i a m)
   second_on (e ∷ es) (r ∷ rs) i j b h run (inl a) m = third_on (e ∷ es) (r ∷ rs) i j b h run (k.rests b i a m)
   second_on (e ∷ es) (r ∷ rs) i j b (inl h) run (inr a) m = absurd (no h.1)

@@ -5,33 +5,27 @@ use Rattle.lagprogress.proofs.Common.{take_all, true, zero, ℕ, ◌&&◌, ◌++
 use Rattle.lagprogress.proofs.Common.{none-some, same_Some, slice_get-map, slice_get_within, AllByRecursion, IsErrAnd, all-append, Ends, One, Side}
 use Rattle.lagprogress.proofs.Common.{Two, WorldSetup, value_of, SystemFault, Received, Event, Reply, AfterReceive, Algorithms, DeliversFrom, OnLink}
 use Rattle.lagprogress.proofs.Common.{WorldRuns, WorldSteps, cause, cause_or_no_memory, first_event_cause, has_cable, most_events, side_of, link_ends}
-use Rattle.lagprogress.proofs.Common.{world_setup, RefusesNext, RunStops, both_algorithms, next_of, ItemValue, LinkState, WorldState}
+use Rattle.lagprogress.proofs.Common.{world_setup, RefusesNext, both_algorithms, next_of, ItemValue, LinkState, WorldState}
 use Rattle.lagprogress.proofs.Common.{element_numbered, towards, Delivers, IsOutOfMemoryOrSpent, IsRefused, NamesNoCable, PlaysPart, RunsAll}
 use Rattle.lagprogress.proofs.Common.{RunsPart, found_nothing, IsDeliver, IsRound, NothingInFlight, Rounds, asks_all, asks_ends, ticks_of_both}
-use Rattle.lagprogress.specs.Played.{most_cables}
-use Rattle.std.proofs.lemmas.List.{length-map}
+use Rattle.lagprogress.proofs.Common.{get_or, slice_get-get_or}
+use Rattle.lagprogress.specs.Played.{HasTooManyCables, RefusesDelivery, most_cables}
+use Rattle.std.proofs.lemmas.List.{length-map, take_more}
+use Rattle.lagworld.specs.Events.{may_take_memory}
 use Rattle.lagsystem.specs.declared.received.Received.TheVariants as received
 use Rattle.lagscript.specs.declared.event.Event.TheVariants as event
-use Rattle.lagworld.specs.declared.fault.RunFault.{RunFault}
 use Rattle.lagworld.specs.declared.fault.WorldFault.{WorldFault}
 use Rattle.lagworld.specs.declared.fault.WorldFault.TheVariants.{NoCable}
 use Rattle.lagworld.specs.declared.reply.Reply.TheVariants as reply
 use Rattle.lagworld.specs.Readers.{ends_of_cable}
 use Rattle.lagprogress.proofs.Linked.{each_side}
 
--- what holds of both answers holds of the one that came
-pub of_err : {T E : Type 0} (P : Type 0) (r : Result T E) → P → IfErr r (λ x. P)
-of_err P r h = grind (arith, nat_tests)
+-- of an answer
+pub if_err : {T E : Type 0} (P Q : E → Type 0) (r : Result T E) → ((x : E) → P x → Q x) → IfErr r P → IfErr r Q
+if_err P Q r k h = grind (arith, nat_tests)
 
 pub if_ok : {T E : Type 0} (P Q : T → Type 0) (r : Result T E) → ((x : T) → P x → Q x) → IfOk r P → IfOk r Q
 if_ok P Q r k h = grind (arith, nat_tests)
-
--- of an answer that is known
-pub was_ok : {T E : Type 0} (P : E → Type 0) (r : Result T E) (x : T) → r ≡ Ok x → IfErr r P
-was_ok P r x e = subst (λ k. IfErr k P) (sym e) tt
-
-pub was_err : {T E : Type 0} (P : E → Type 0) (r : Result T E) (x : E) → r ≡ Err x → P x → IfErr r P
-was_err P r x e h = subst (λ k. IfErr k P) (sym e) h
 
 -- lists of events
 
@@ -49,33 +43,53 @@ runs_both gives es fs old mid new a b = record {
 }
 
 -- a part of the second list, behind the whole first one
-pub part_behind : (gives : Algorithms) (es fs : List Event) (old mid new : WorldState) → RunsAll gives es old mid → RunsPart gives fs mid new
-    → RunsPart gives (es ++ fs) old new
-part_behind gives es fs old mid new a p = record {
+pub part_behind : (gives : Algorithms) (es fs : List Event) (fault : WorldFault) (old mid new : WorldState) → RunsAll gives es old mid
+    → RunsPart gives fs fault mid new → RunsPart gives (es ++ fs) fault old new
+part_behind gives es fs fault old mid new a p = record {
   first = es ++ p.first;
+  next = p.next;
   rest = p.rest;
-  parts = append_assoc es p.first p.rest ∙ ap (λ xs. es ++ xs) p.parts;
+  parts = append_assoc es p.first (p.next ∷ p.rest) ∙ ap (λ xs. es ++ xs) p.parts;
   acts = runs_both gives es p.first old mid new a p.acts;
+  refused = p.refused;
 }
 
 -- a part of the first list is a part of both
-pub part_before : (gives : Algorithms) (es fs : List Event) (old new : WorldState) → RunsPart gives es old new
-    → RunsPart gives (es ++ fs) old new
-part_before gives es fs old new p = record {
+pub part_before : (gives : Algorithms) (es fs : List Event) (fault : WorldFault) (old new : WorldState) → RunsPart gives es fault old new
+    → RunsPart gives (es ++ fs) fault old new
+part_before gives es fs fault old new p = record {
   first = p.first;
+  next = p.next;
   rest = p.rest ++ fs;
-  parts = sym (append_assoc p.first p.rest fs) ∙ ap (λ xs. xs ++ fs) p.parts;
+  parts = sym (append_assoc p.first (p.next ∷ p.rest) fs) ∙ ap (λ xs. xs ++ fs) p.parts;
   acts = p.acts;
+  refused = p.refused;
 }
 
-pub stopped_part : (gives : Algorithms) (es : List Event) (stop : RunFault) (old new : WorldState) → RunStops gives old es stop new
-    → RunsPart gives es old new
-stopped_part gives es stop old new h = record {
-  first = take stop.done es;
-  rest = drop stop.done es;
-  parts = take-append-drop stop.done es;
-  acts = record { replies = h.replies; acts = h.acted };
-}
+parts_at : (es : List Event) (n : ℕ) (d : Event) → n < length es → take n es ++ (get_or es n d ∷ drop (suc n) es) ≡ es
+parts_at [] n d l = absurd (omega (arith, l))
+parts_at (e ∷ es) zero d l = refl
+parts_at (e ∷ es) (suc n) d l = ap (λ xs. e ∷ xs) (parts_at es n d (omega (arith, l)))
+
+-- one event more of a list acts
+pub runs_next : (gives : Algorithms) (es : List Event) (n : ℕ) (e : Event) (r : Reply) (old mid new : WorldState) → n < length es
+    → e ≡ get_or es n e → RunsAll gives (take n es) old mid → WorldSteps gives mid e r new → RunsAll gives (take (n + 1) es) old new
+runs_next gives es n e r old mid new l is a x =
+    subst (λ xs. RunsAll gives xs old new) (ap (λ d. take n es ++ (d ∷ [])) is ∙ sym (take_more es n e l))
+    (runs_both gives (take n es) (e ∷ []) old mid new a (record { replies = r ∷ []; acts = (new, x, refl) }))
+
+-- it is refused, and nothing changes
+pub stopped_part : (gives : Algorithms) (es : List Event) (n : ℕ) (e : Event) (fault : WorldFault) (old mid new : WorldState) → n < length es
+    → e ≡ get_or es n e → RunsAll gives (take n es) old mid → new ≡ mid → fault ≡ cause_or_no_memory (cause mid e)
+    → (cause mid e ≡ None → may_take_memory e ≡ true) → RunsPart gives es fault old new
+stopped_part gives es n e fault old mid new l is a same f m = subst (λ j. RunsPart gives es fault old j) (sym same) (record {
+  first = take n es;
+  next = e;
+  rest = drop (suc n) es;
+  parts = ap (λ d. take n es ++ (d ∷ drop (suc n) es)) is ∙ parts_at es n e l;
+  acts = a;
+  refused = record { named = f; memory = m };
+})
 
 -- refusals
 
@@ -94,9 +108,13 @@ refused_next fault [] n j all h = absurd h
 refused_next fault (e ∷ es) zero j all h = refused_event fault j _ _ (ap (has_cable j) all.0.0) all.0.1 h.named
 refused_next fault (e ∷ es) (suc n) j all h = refused_next fault es n j all.1 h
 
-pub refused_run : (gives : Algorithms) (es : List Event) (stop : RunFault) (old new : WorldState) → RunStops gives old es stop new
-    → AllByRecursion NamesNoCable es → IsOutOfMemoryOrSpent stop.fault new
-refused_run gives es stop old new h all = grind (arith, nat_tests, refused_next)
+-- one of a list of events that name no cable
+pub refused_one : (fault : WorldFault) (es : List Event) (n : ℕ) (e : Event) (old new : WorldState) → n < length es → e ≡ get_or es n e
+    → new ≡ old → fault ≡ cause_or_no_memory (cause old e) → (cause old e ≡ None → may_take_memory e ≡ true)
+    → AllByRecursion NamesNoCable es → IsOutOfMemoryOrSpent fault new
+refused_one fault es n e old new l is same f m all =
+    subst (IsOutOfMemoryOrSpent fault) (sym same) (refused_next fault es n old all
+    (subst (λ o. RefusesNext old o fault) (ap Some is ∙ sym (slice_get-get_or es n e l)) (record { named = f; memory = m })))
 
 some_within : {X : Type 0} (xs : List X) (i : ℕ) → i < length xs → is_some (slice_get xs i) ≡ true
 some_within [] i h = absurd (omega (arith, h))
@@ -106,6 +124,11 @@ some_within (x ∷ xs) (suc i) h = some_within xs i (omega (arith, h))
 -- worlds with the same setup have as many cables
 pub as_many : (a b : WorldState) → world_setup a ≡ world_setup b → length a.links ≡ length b.links
 as_many a b e = sym (length-map a.links link_ends) ∙ (ap (λ (x : WorldSetup). length x.cables) e ∙ length-map b.links link_ends)
+
+pub delivery_refused : (fault : WorldFault) (c n : ℕ) (old new : WorldState) → new ≡ old
+    → fault ≡ cause_or_no_memory (cause old (event.Deliver c n)) → RefusesDelivery fault new
+delivery_refused fault c n old new same f =
+    subst (RefusesDelivery fault) (sym same) (c, n, record { named = f; memory = λ none. refl })
 
 -- a Deliver event of a cable that exists
 pub refused_delivery : (fault : WorldFault) (n i : ℕ) (s : Side) (start old new : WorldState) → side_of n ≡ Some s
@@ -178,16 +201,17 @@ asks_more gives n one two old mid new a fixed h b =
     (runs_both gives (asks_all (take n old.links)) (asks_pair (one, two)) old mid new a b)
 
 -- it is refused
-pub asks_part : (gives : Algorithms) (n one two : ℕ) (old mid new : WorldState) → RunsAll gives (asks_all (take n old.links)) old mid
-    → world_setup mid ≡ world_setup old → Some (one, two) ≡ ends_of_cable (n + 1) mid → RunsPart gives (asks_pair (one, two)) mid new
-    → RunsPart gives (asks_all old.links) old new
-asks_part gives n one two old mid new a fixed h b =
+pub asks_part : (gives : Algorithms) (n one two : ℕ) (fault : WorldFault) (old mid new : WorldState)
+    → RunsAll gives (asks_all (take n old.links)) old mid → world_setup mid ≡ world_setup old
+    → Some (one, two) ≡ ends_of_cable (n + 1) mid → RunsPart gives (asks_pair (one, two)) fault mid new
+    → RunsPart gives (asks_all old.links) fault old new
+asks_part gives n one two fault old mid new a fixed h b =
     let k = cable_at n one two old mid fixed h in
     let rest = asks_all (drop (suc n) old.links) in
-    subst (λ es. RunsPart gives es old new)
+    subst (λ es. RunsPart gives es fault old new)
     (ap (λ es. asks_all (take n old.links) ++ (es ++ rest)) (sym k.2) ∙ asks_split n old.links k.0 k.1)
-    (part_behind gives (asks_all (take n old.links)) (asks_pair (one, two) ++ rest) old mid new a
-    (part_before gives (asks_pair (one, two)) rest mid new b))
+    (part_behind gives (asks_all (take n old.links)) (asks_pair (one, two) ++ rest) fault old mid new a
+    (part_before gives (asks_pair (one, two)) rest fault mid new b))
 
 abbrev asks_by_ends : List Ends → List Event
 asks_by_ends [] = []
@@ -271,23 +295,25 @@ round_played gives old ticked asked new fixed a b d empty =
     (runs_both gives (asks_all old.links) d.delivers ticked asked new asks d.acts) in
     record { delivers = d.delivers; replies = all.replies; arrives = d.arrives; acts = all.acts; empties = empty }
 
-pub stops_delivering : (gives : Algorithms) (old ticked asked new : WorldState) → world_setup ticked ≡ world_setup old
+pub stops_delivering : (gives : Algorithms) (fault : WorldFault) (old ticked asked new : WorldState) → world_setup ticked ≡ world_setup old
     → RunsAll gives ticks_of_both old ticked → RunsAll gives (asks_all ticked.links) ticked asked → Delivers gives asked new
-    → PlaysPart gives old new
-stops_delivering gives old ticked asked new fixed a b d = inr (record {
+    → RefusesDelivery fault new → PlaysPart gives fault old new
+stops_delivering gives fault old ticked asked new fixed a b d f = inr (inl (record {
   asked = asked;
   asks = runs_both gives ticks_of_both (asks_all old.links) old ticked asked a
       (subst (λ es. RunsAll gives es ticked asked) (asks_stay ticked old fixed) b);
   delivers = d;
-})
+  refused = f;
+}))
 
-pub stops_asking : (gives : Algorithms) (old ticked new : WorldState) → world_setup ticked ≡ world_setup old
-    → RunsAll gives ticks_of_both old ticked → RunsPart gives (asks_all ticked.links) ticked new → PlaysPart gives old new
-stops_asking gives old ticked new fixed a b = inl (part_behind gives ticks_of_both (asks_all old.links) old ticked new a
-    (subst (λ es. RunsPart gives es ticked new) (asks_stay ticked old fixed) b))
+pub stops_asking : (gives : Algorithms) (fault : WorldFault) (old ticked new : WorldState) → world_setup ticked ≡ world_setup old
+    → RunsAll gives ticks_of_both old ticked → RunsPart gives (asks_all ticked.links) fault ticked new → PlaysPart gives fault old new
+stops_asking gives fault old ticked new fixed a b = inl (part_behind gives ticks_of_both (asks_all old.links) fault old ticked new a
+    (subst (λ es. RunsPart gives es fault ticked new) (asks_stay ticked old fixed) b))
 
-pub stops_ticking : (gives : Algorithms) (old new : WorldState) → RunsPart gives ticks_of_both old new → PlaysPart gives old new
-stops_ticking gives old new a = inl (part_before gives ticks_of_both (asks_all old.links) old new a)
+pub stops_ticking : (gives : Algorithms) (fault : WorldFault) (old new : WorldState) → RunsPart gives ticks_of_both fault old new
+    → PlaysPart gives fault old new
+stops_ticking gives fault old new a = inl (part_before gives ticks_of_both (asks_all old.links) fault old new a)
 
 -- rounds
 
@@ -315,5 +341,5 @@ unfolding most_cables
 over_most n m e h = omega (arith, e, h)
 
 -- there are more cables than events can name
-pub too_many : (n : ℕ) (j : WorldState) → n ≡ length j.links → (n < 65536 → ⊥) → IsRefused NoCable j j
-too_many n j e h = inr (refl, over_most n (length j.links) e h, refl)
+pub too_many : (n : ℕ) (j : WorldState) → n ≡ length j.links → (n < 65536 → ⊥) → HasTooManyCables NoCable j j
+too_many n j e h = (refl, over_most n (length j.links) e h, refl)

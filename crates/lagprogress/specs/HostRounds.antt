@@ -40,17 +40,17 @@ TickOnce s own other (e ∷ es) =
     ⊎ ((IsTickOf (peer s) e × (other ≡ true) × TickOnce s own false es) ⊎ (IsBetweenTicks e × TickOnce s own other es))
 
 -- at some world of the run this holds
-abbrev pub AtSome : (P : WorldState → Type 0) (gives : Algorithms) (es : List Event) (rs : List Reply) (old new : WorldState)
+abbrev pub AtSomeWorld : (P : WorldState → Type 0) (gives : Algorithms) (es : List Event) (rs : List Reply) (old new : WorldState)
     → WorldRuns gives old es rs new → Type 0
-AtSome P gives [] [] old new run = P old
-AtSome P gives (e ∷ es) (r ∷ rs) old new run = P old ⊎ AtSome P gives es rs run.0 new run.2
-AtSome P gives [] (r ∷ rs) old new run = ⊥
-AtSome P gives (e ∷ es) [] old new run = ⊥
+AtSomeWorld P gives [] [] old new run = P old
+AtSomeWorld P gives (e ∷ es) (r ∷ rs) old new run = P old ⊎ AtSomeWorld P gives es rs run.0 new run.2
+AtSomeWorld P gives [] (r ∷ rs) old new run = ⊥
+AtSomeWorld P gives (e ∷ es) [] old new run = ⊥
 
 -- at some world after a tick of system s
 abbrev pub AfterTick : (s : Side) (P : WorldState → Type 0) (gives : Algorithms) (es : List Event) (rs : List Reply) (old new : WorldState)
     → WorldRuns gives old es rs new → Type 0
-AfterTick s P gives (e ∷ es) (r ∷ rs) old new run = (IsTickOf s e × AtSome P gives es rs run.0 new run.2) ⊎ AfterTick s P gives es rs run.0 new run.2
+AfterTick s P gives (e ∷ es) (r ∷ rs) old new run = (IsTickOf s e × AtSomeWorld P gives es rs run.0 new run.2) ⊎ AfterTick s P gives es rs run.0 new run.2
 AfterTick s P gives [] rs old new run = ⊥
 AfterTick s P gives (e ∷ es) [] old new run = ⊥
 

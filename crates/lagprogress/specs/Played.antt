@@ -1,10 +1,11 @@
 -- Healthy rounds that are played, whole or in part, and what they lead to (profile).
-use Rattle.std.specs.Prelude.{◌≡◌, ◌≤◌, ◌⊎◌, ◌<◌, ◌++◌, ℕ, suc, Bool, false, true, List, None, Some, length, Option}
+use Rattle.std.specs.Prelude.{◌≡◌, ◌≤◌, ◌⊎◌, ◌<◌, ◌++◌, ◌∷◌, ℕ, suc, Bool, false, true, List, None, Some, length, Option}
 use Rattle.std.specs.List.{AllByRecursion}
 use Rattle.cables.specs.declared.item.Item.{Item}
 use Rattle.lagmodel.specs.World.{Side}
 use Rattle.lagscript.specs.declared.config.WorldConfig.{WorldConfig}
 use Rattle.lagscript.specs.declared.event.Event.{Event}
+use Rattle.lagscript.specs.declared.event.Event.TheVariants as event
 use Rattle.lagworld.specs.declared.agreement.Agreement.TheVariants.{Same}
 use Rattle.lagworld.specs.declared.fault.WorldFault.{WorldFault}
 use Rattle.lagworld.specs.declared.fault.WorldFault.TheVariants.{NoCable, NoMemory, Spent}
@@ -14,7 +15,7 @@ use Rattle.lagworld.specs.Agreement.{agreement_at}
 use Rattle.lagscript.specs.EventValues.{cable_named, system_named}
 use Rattle.lagworld.specs.Events.{Algorithms, WorldRuns, has_system, most_events}
 use Rattle.lagworld.specs.Making.{IsMade, refusal_with}
-use Rattle.lagworld.specs.Sound.{IsStart}
+use Rattle.lagworld.specs.Sound.{IsStart, RefusesFor}
 use Rattle.lagworld.specs.State.{LinkState, WorldState, half}
 use Rattle.lagprogress.specs.Bundle.{AllHeard, EnoughLinks}
 use Rattle.lagprogress.specs.ComingUp.{Distributes}
@@ -27,18 +28,24 @@ pub record RunsAll (gives : Algorithms) (es : List Event) (old new : WorldState)
   pub replies : List Reply
   pub acts : WorldRuns gives old es replies new
 
--- the first of these events act, and no other
-pub record RunsPart (gives : Algorithms) (es : List Event) (old new : WorldState) : Type 0 where
+-- the first of these events act, and the next one is refused with this fault, as `World::step` refuses it
+pub record RunsPart (gives : Algorithms) (es : List Event) (fault : WorldFault) (old new : WorldState) : Type 0 where
   pub first : List Event
+  pub next : Event
   pub rest : List Event
-  pub parts : first ++ rest ≡ es
+  pub parts : first ++ (next ∷ rest) ≡ es
   pub acts : RunsAll gives first old new
+  pub refused : RefusesFor new next fault
 
 -- Deliver events and no others lead from one world to the other
 pub record Delivers (gives : Algorithms) (old new : WorldState) : Type 0 where
   pub delivers : List Event
   pub arrives : AllByRecursion IsDeliver delivers
   pub acts : RunsAll gives delivers old new
+
+-- a Deliver event is refused with this fault, as `World::step` refuses it
+abbrev pub RefusesDelivery : WorldFault → WorldState → Type 0
+RefusesDelivery fault j = (cable system : ℕ) × RefusesFor j (event.Deliver cable system) fault
 
 -- a Deliver event with this reply found nothing on its cable
 abbrev pub found_nothing : Reply → Bool
@@ -57,23 +64,31 @@ IsOutOfMemoryOrSpent fault j = (fault ≡ NoMemory) ⊎ ((fault ≡ Spent) × (m
 unfoldable pub most_cables : ℕ
 most_cables = 65535
 
--- a round is refused: it began, or there are cables that no event can name
+-- there are cables that no event can name, and nothing has changed
+abbrev pub HasTooManyCables : WorldFault → WorldState → WorldState → Type 0
+HasTooManyCables fault old new = (fault ≡ NoCable) × (most_cables < length old.links) × (new ≡ old)
+
+-- a round is refused: it began, or there are too many cables
 abbrev pub IsRefused : WorldFault → WorldState → WorldState → Type 0
-IsRefused fault old new = IsOutOfMemoryOrSpent fault new ⊎ ((fault ≡ NoCable) × (most_cables < length old.links) × (new ≡ old))
+IsRefused fault old new = IsOutOfMemoryOrSpent fault new ⊎ HasTooManyCables fault old new
 
 -- the events of a round before anything is delivered
 abbrev pub events_before_delivery : WorldState → List Event
 events_before_delivery j = ticks_of_both ++ asks_all j.links
 
--- all of these act, and then Deliver events
-pub record StopsDelivering (gives : Algorithms) (old new : WorldState) : Type 0 where
+-- all of these act, and then Deliver events, until one of those is refused with this fault
+pub record StopsDelivering (gives : Algorithms) (fault : WorldFault) (old new : WorldState) : Type 0 where
   pub asked : WorldState
   pub asks : RunsAll gives (events_before_delivery old) old asked
   pub delivers : Delivers gives asked new
+  pub refused : RefusesDelivery fault new
 
--- a part of a round: the first of these events, or all of them and then Deliver events
-abbrev pub PlaysPart : Algorithms → WorldState → WorldState → Type 0
-PlaysPart gives old new = RunsPart gives (events_before_delivery old) old new ⊎ StopsDelivering gives old new
+-- A part of a round is played: the first of these events, or all of them and then Deliver events, until one is refused with this
+-- fault; or none, since there are too many cables.
+abbrev pub PlaysPart : Algorithms → WorldFault → WorldState → WorldState → Type 0
+PlaysPart gives fault old new =
+    RunsPart gives (events_before_delivery old) fault old new
+    ⊎ (StopsDelivering gives fault old new ⊎ HasTooManyCables fault old new)
 
 -- the round after `done` of them, which are fewer than `count`, is refused with this fault
 pub record StopsInRound (gives : Algorithms) (fault : WorldFault) (count : ℕ) (old new : WorldState) : Type 0 where
@@ -81,7 +96,7 @@ pub record StopsInRound (gives : Algorithms) (fault : WorldFault) (count : ℕ) 
   pub mid : WorldState
   pub within : done < count
   pub before : Rounds gives done old mid
-  pub last : PlaysPart gives mid new
+  pub last : PlaysPart gives fault mid new
   pub refused : IsRefused fault mid new
 
 -- Events lead to the world from one that `World::new` made, as its contract says.

@@ -31,10 +31,11 @@ SharesAggregator = (s : SystemState) (i : ℕ) (x : SystemPort) → IsSound s �
     → WantsAggregator x.port → 1 ≤ aggregators_with x.port.party.key s → SharesGroup s x
     → (selected x.port ≡ true) ⊎ StandsByFull s x.port
 
--- the port is aggregatable, and has recorded as its partner a port of this system that has this key and is aggregatable too
-pub record IsLinkedTo (peer : SystemId) (far : Key) (p : Machines) : Type 0 where
+-- the port is aggregatable, and has recorded as its partner a port of the system with this identifier, with the key `far`, that is
+-- aggregatable too
+pub record IsLinkedTo (identifier : SystemId) (far : Key) (p : Machines) : Type 0 where
   pub own : p.party.aggregatable ≡ true
-  pub system : p.partner.system ≡ peer
+  pub system : p.partner.system ≡ identifier
   pub key : p.partner.key ≡ far
   pub partner : (bits_of p.partner.state).aggregation ≡ true
 
@@ -44,7 +45,8 @@ LeadToKey s key far j = (i : ℕ) (l : LinkState) → IsHealthyAt i l j
     → AtEnd (λ p. p.party.key ≡ key → (p.party.aggregatable ≡ true)
     × AtEnd (λ q. (q.party.key ≡ far) × (q.party.aggregatable ≡ true)) (peer s) l j) s l j
 
--- each port of system s with this key whose link is down is UNSELECTED, or was linked to a port with the key `far`
+-- each port of system s with this key whose link is down is UNSELECTED, or was linked to a port of the other system with the key
+-- `far`
 abbrev pub DownWereLinkedTo : Side → Key → Key → WorldState → Type 0
 DownWereLinkedTo s key far j = (k : ℕ) (x : SystemPort) → slice_get (half s j).state.system_ports k ≡ Some x → x.port.enabled ≡ false
     → x.port.party.key ≡ key → (x.port.choice ≡ Unselected) ⊎ IsLinkedTo (half (peer s) j).state.system far x.port

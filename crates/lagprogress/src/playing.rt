@@ -6,7 +6,7 @@ ghost use Rattle.lagworld.specs.ModelWorld.{world_setup};
 ghost use Rattle.lagworld.specs.Sound.{both_algorithms};
 ghost use Rattle.lagprogress.specs.Bundle.{BothAreActive, OneIsActive};
 ghost use Rattle.lagprogress.specs.Played.{Delivers, EachAgrees, EachDistributes, IsOutOfMemoryOrSpent, IsRefused, LeadsTo, NamesNoCable};
-ghost use Rattle.lagprogress.specs.Played.{NothingStaysHeld, PlaysPart, RunsAll, RunsPart, StopsInRound, found_nothing};
+ghost use Rattle.lagprogress.specs.Played.{NothingStaysHeld, PlaysPart, RefusesDelivery, RunsAll, RunsPart, StopsInRound, found_nothing};
 ghost use Rattle.lagprogress.specs.Rounds.{IsRound, NothingInFlight, Rounds, asks_all, freed_if_both_active, freed_if_one_is, up_if_both_active, up_if_one_is};
 
 use cables::Cable;
@@ -22,16 +22,18 @@ fn play<C: Cable, F: Fn(u16, usize) -> usize + Drop>(
     ensures all { IfOk result (λ done. RunsAll (both_algorithms (F.post world.old.one) (F.post world.old.two)) events.now world.old.state
         world.new.state) }
     ensures part { IfErr result (λ fault. RunsPart (both_algorithms (F.post world.old.one) (F.post world.old.two)) events.now
-        world.old.state world.new.state) }
+        fault world.old.state world.new.state) }
     ensures refused { IfErr result (λ fault. AllByRecursion NamesNoCable events.now → IsOutOfMemoryOrSpent fault world.new.state) }
     ensures fixed { world_setup world.new.state ≡ world_setup world.old.state }
     ensures algorithm_one { world.new.one ≡ world.old.one }
     ensures algorithm_two { world.new.two ≡ world.old.two }
 {
-    match world.run(events) {
-        Ok(_) => Ok(()),
-        Err(stop) => Err(stop.fault),
+    let mut acted = 0;
+    while acted < events.len() {
+        world.step(&events[acted])?;
+        acted += 1;
     }
+    Ok(())
 }
 
 /// Asks both ends of each of `count` cables twice for what they have to send.
@@ -45,7 +47,7 @@ fn ask_all<C: Cable, F: Fn(u16, usize) -> usize + Drop>(
     ensures all { IfOk result (λ done. RunsAll (both_algorithms (F.post world.old.one) (F.post world.old.two))
         (asks_all world.old.state.links) world.old.state world.new.state) }
     ensures part { IfErr result (λ fault. RunsPart (both_algorithms (F.post world.old.one) (F.post world.old.two))
-        (asks_all world.old.state.links) world.old.state world.new.state) }
+        (asks_all world.old.state.links) fault world.old.state world.new.state) }
     ensures refused { IfErr result (λ fault. IsOutOfMemoryOrSpent fault world.new.state) }
     ensures fixed { world_setup world.new.state ≡ world_setup world.old.state }
     ensures algorithm_one { world.new.one ≡ world.old.one }
@@ -95,6 +97,7 @@ fn deliver_each<C: Cable, F: Fn(u16, usize) -> usize + Drop>(
     requires two { PicksIndexes (F.pre world.old.two) (F.post world.old.two) }
     requires counted { count ≡ length world.old.state.links }
     ensures delivers { Delivers (both_algorithms (F.post world.old.one) (F.post world.old.two)) world.old.state world.new.state }
+    ensures next { IfErr result (λ fault. RefusesDelivery fault world.new.state) }
     ensures empties { IfOk result (λ empty. empty ≡ true → NothingInFlight world.new.state) }
     ensures acted { IfOk result (λ empty. empty ≡ false → world.old.state.acted < world.new.state.acted) }
     ensures few { IfOk result (λ empty. empty ≡ false → world.new.state.acted ≤ most_events) }
@@ -123,6 +126,7 @@ fn deliver_all<C: Cable, F: Fn(u16, usize) -> usize + Drop>(
     requires two { PicksIndexes (F.pre world.old.two) (F.post world.old.two) }
     requires counted { count ≡ length world.old.state.links }
     ensures delivers { Delivers (both_algorithms (F.post world.old.one) (F.post world.old.two)) world.old.state world.new.state }
+    ensures next { IfErr result (λ fault. RefusesDelivery fault world.new.state) }
     ensures empties { IfOk result (λ done. NothingInFlight world.new.state) }
     ensures refused { IfErr result (λ fault. IsOutOfMemoryOrSpent fault world.new.state) }
     ensures fixed { world_setup world.new.state ≡ world_setup world.old.state }
@@ -138,9 +142,9 @@ fn deliver_all<C: Cable, F: Fn(u16, usize) -> usize + Drop>(
 
 /// Plays one healthy round of a world: both systems tick, both ends of each cable are asked twice, since an LACPDU goes before a
 /// marker, and what is on the cables is delivered until nothing is. Where it is not refused, this is a round as `each_link_agrees`
-/// wants it, from whatever state the world was in. `NoMemory` if memory was refused, `Spent` if 2^63 events have acted; then the
-/// first events of the round have been played, and no other. `NoCable`, before any event, if there are more than 65,535 cables,
-/// since no event can name the others (profile).
+/// wants it, from whatever state the world was in. `NoMemory` or `Spent` if `World::step` refuses an event of the round so; then
+/// the events before it have been played, and no other. So `NoMemory` comes after both ticks, and only where there is a cable.
+/// `NoCable`, before any event, if there are more than 65,535 cables, since no event can name the others (profile).
 pub fn play_round<C: Cable, F: Fn(u16, usize) -> usize + Drop>(
     world: &mut World<C, F>,
 ) -> Result<(), WorldFault>
@@ -148,8 +152,8 @@ pub fn play_round<C: Cable, F: Fn(u16, usize) -> usize + Drop>(
     requires two { PicksIndexes (F.pre world.old.two) (F.post world.old.two) }
     ensures round { IfOk result (λ done. IsRound (both_algorithms (F.post world.old.one) (F.post world.old.two)) world.old.state
         world.new.state) }
-    ensures part { IfErr result (λ fault. PlaysPart (both_algorithms (F.post world.old.one) (F.post world.old.two)) world.old.state
-        world.new.state) }
+    ensures part { IfErr result (λ fault. PlaysPart (both_algorithms (F.post world.old.one) (F.post world.old.two)) fault
+        world.old.state world.new.state) }
     ensures refused { IfErr result (λ fault. IsRefused fault world.old.state world.new.state) }
     ensures fixed { world_setup world.new.state ≡ world_setup world.old.state }
     ensures algorithm_one { world.new.one ≡ world.old.one }

@@ -1,5 +1,5 @@
 use Rattle.lagprogress.proofs.Common.{arith, sym, ◌∙◌}
-use Rattle.lagprogress.proofs.Played.{asks_more, asks_part, of_err}
+use Rattle.lagprogress.proofs.Played.{asks_more, asks_part, on_err}
 use Rattle.lagprogress.proofs.playing.ask_all.Goals as goal
 
 pub play-requires-clause-one : goal.play-requires-clause-one
@@ -9,8 +9,8 @@ pub play-requires-clause-two : goal.play-requires-clause-two
 play-requires-clause-two g c = rw c.loop-asked.invariant.two c.requires.two
 
 pub returns-in_err-play-clause-part : goal.returns-in_err-play-clause-part
-returns-in_err-play-clause-part g c = of_err _ c.from_residual.result
-    (asks_part _ c.loop-asked.asked c.in-Some.one c.in-Some.two _ _ _ c.loop-asked.invariant.acts c.loop-asked.invariant.fixed
+returns-in_err-play-clause-part g c = on_err _ c.in_err-play.field-0.0 c.from_residual.result c.from_residual.ensures.1
+    (asks_part _ c.loop-asked.asked c.in-Some.one c.in-Some.two _ _ _ _ c.loop-asked.invariant.acts c.loop-asked.invariant.fixed
     (sym c.in-Some.is ∙ c.ends.ensures) (rw (c.loop-asked.invariant.one, c.loop-asked.invariant.two) at c.in_err-play.ensures.part))
 
 pub loop-asked-preserved : goal.loop-asked-preserved

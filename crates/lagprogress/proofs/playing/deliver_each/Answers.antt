@@ -1,5 +1,5 @@
-use Rattle.lagprogress.proofs.Common.{arith, length, refl, ◌+◌, ◌<◌, ◌∙◌, ◌≡◌, ◌≤◌, One, Two, Algorithms, both_algorithms, IsOutOfMemoryOrSpent}
-use Rattle.lagprogress.proofs.Played.{nothing_left, on_err, one_more, quiet_more, refused_delivery}
+use Rattle.lagprogress.proofs.Common.{arith, length, refl, ◌+◌, ◌<◌, ◌∙◌, ◌≡◌, ◌≤◌, One, Two, Algorithms, both_algorithms, IsOutOfMemoryOrSpent, RefusesDelivery}
+use Rattle.lagprogress.proofs.Played.{delivery_refused, nothing_left, on_err, one_more, quiet_more, refused_delivery}
 use Rattle.lagscript.specs.declared.event.Event.TheVariants as event
 use Rattle.lagprogress.proofs.playing.deliver_each.Goals as goal
 
@@ -30,6 +30,19 @@ returns-in_err-second-clause-refused g c =
     (refused_delivery c.in_err-second.field-0.0 2 c.loop-seen.seen Two c.args.world.now.state c.step.new.self.state
     c.step-in-loop-seen.new.self.state refl within (c.step.ensures.fixed ∙ c.loop-seen.invariant.fixed) c.in_err-second.ensures.refused
     c.in_err-second.ensures.unchanged)
+
+pub returns-in_err-first-clause-next : goal.returns-in_err-first-clause-next
+returns-in_err-first-clause-next g c =
+    on_err (λ fault. RefusesDelivery fault c.step.new.self.state) c.in_err-first.field-0.0 c.from_residual.result c.from_residual.ensures.1
+    (delivery_refused c.in_err-first.field-0.0 (c.loop-seen.seen + 1) 1 c.loop-seen.world.state c.step.new.self.state
+    c.in_err-first.ensures.unchanged c.in_err-first.ensures.refused)
+
+pub returns-in_err-second-clause-next : goal.returns-in_err-second-clause-next
+returns-in_err-second-clause-next g c =
+    on_err (λ fault. RefusesDelivery fault c.step-in-loop-seen.new.self.state) c.in_err-second.field-0.0
+    c.from_residual-in_err-second.result c.from_residual-in_err-second.ensures.1
+    (delivery_refused c.in_err-second.field-0.0 (c.loop-seen.seen + 1) 2 c.step.new.self.state c.step-in-loop-seen.new.self.state
+    c.in_err-second.ensures.unchanged c.in_err-second.ensures.refused)
 
 pub returns-in_err-second-clause-delivers : goal.returns-in_err-second-clause-delivers
 returns-in_err-second-clause-delivers g c = rw c.in_err-second.ensures.unchanged
