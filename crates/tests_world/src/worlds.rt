@@ -5,6 +5,7 @@ mod bundles;
 mod changes;
 mod conversations;
 mod given;
+mod hosts;
 mod joined;
 mod memory;
 mod planned;
