@@ -99,3 +99,24 @@ def test_each_bound_is_that_of_the_kind(
     found = rounds.tried(8, 2)
     assert found == (name, 12 if known and took else 0, wrong and wrong.format(**bounds))
     assert asked == list(bounds.values())[: len(asked)]
+
+
+@pytest.mark.parametrize("seed", range(20))
+def test_in_a_round_of_hosts_each_end_is_asked_after_its_tick_and_all_arrives(seed: int) -> None:
+    made = rounds.Case(random.Random(seed))
+    played = made.round_of_hosts()
+    asked = [f"emit {system} {port}" for system in (1, 2) for port in made.numbers()]
+    passes = [f"deliver {cable} {system}" for cable in made.numbers() for system in (1, 2)]
+    kinds = {"tick": 2, "offer": 2, "move": 1}
+    assert {word: sum(it.startswith(word) for it in played) for word in kinds} == kinds
+    assert all(asking in played[played.index(f"tick {asking.split()[1]} 1") :] for asking in asked)
+    assert played[-5 * len(passes) :] == passes * 5
+
+
+@pytest.mark.parametrize("seed", range(20))
+def test_ports_that_share_an_aggregator_are_aggregatable_and_have_one_key(seed: int) -> None:
+    made = rounds.Case(random.Random(seed))
+    alike = all(port["key"] == 1 and port["aggregatable"] for ports in made.ports for port in ports)
+    changes = [event for event in made.before if event.startswith("configure")]
+    assert not made.shared or (alike and all(event.endswith("aggregatable") for event in changes))
+    assert made.script(1).count("aggregators = [1]\n") == 2 or not made.shared
