@@ -1,9 +1,9 @@
 use crate::comparing::{same, same_at};
 use crate::worlds::Want::{Frame, Is};
 use crate::worlds::given::{TWO_LONG, lines, modulo, read};
-use crate::worlds::starts::{LINK_UP, MOVED, TICKED, UP_1};
+use crate::worlds::starts::{LINK_UP, TICKED, UP_1};
 use crate::worlds::{Entry, Want, compare_run};
-use lagtypes::AggId;
+use lagsystem::SystemFault;
 use lagworld::{Agreement, Reply, World, WorldFault};
 use std::alloc::Global;
 use std::process::Abort;
@@ -28,15 +28,15 @@ const ROUND: [Entry; 34] = [
     ("tick 1 1", TICKED),
     ("emit 1 1", NOTHING),
     ("emit 1 2", NOTHING),
-    MOVED,
+    ("move 1 1 48 2", Is(Reply::Refused(SystemFault::SamePort))),
     ("deliver 2 2", UP_1),
     ("tick 2 1", TICKED),
     ("emit 2 1", NOTHING),
-    ("offer 2 1 0200000000200200000000100800", Frame(1, 0)),
+    ("offer 2 1 0200000000200200000000100800", Frame(2, 322)),
     ("emit 2 2", NOTHING),
-    ("deliver 1 1", UP_1),
+    ("deliver 1 1", EMPTY),
     ("deliver 1 2", EMPTY),
-    ("deliver 2 1", EMPTY),
+    ("deliver 2 1", UP_1),
     ("deliver 2 2", EMPTY),
     ("emit 1 1", NOTHING),
     ("emit 1 2", NOTHING),
@@ -80,7 +80,13 @@ fn share(rt: &impl Abort, alloc: Global, rounds: u16) -> Result<(), WorldFault> 
     compare_run(rt, LINKS_UP.len(), &ROUND, world.run(&round));
     for cable in [1, 2] {
         let agreement = world.agreement(cable);
-        same_at(rt, "cable", usize::from(cable), &agreement, &Some(Agreement::Same));
+        same_at(
+            rt,
+            "cable",
+            usize::from(cable),
+            &agreement,
+            &Some(Agreement::Same),
+        );
     }
     Ok(())
 }
