@@ -326,7 +326,6 @@ void lose_data(uint16_t port) {
 /* Makes the TAP device, and all room that frames ever take, where data is carried. */
 void open_carry(void) {
     if (!settings.carry[0]) return;
-    start_packets();
     start_held();
     start_members();
     rooms = make_rooms();

@@ -57,7 +57,7 @@ enum member_count {
     WRONG_LENGTH,    /* of more than 1514 octets, 1518 with a tag, or of less than 14; or unreadable */
     SOCKET_FULL,     /* lost by the kernel, and not among those received */
     RETAGGED,        /* whose VLAN tag was put back */
-    WITHOUT_SUMS,    /* whose checksums the sending host had left to a card that there is none */
+    WITHOUT_SUMS,    /* whose checksums the sending host had left to a card: so they are handed up */
     PASSED_ON,       /* of those sent, by the kernel alone */
     PASSED_UP,       /* of those received, handed up by the kernel alone */
     MEMBER_COUNTS
@@ -129,11 +129,11 @@ enum {
 };
 struct niw_number conversation_of(const uint8_t *frame, size_t length);
 
-/* packets.c: a packet is a frame, and what the kernel tells before it where frames of several segments are passed */
-void start_packets(void);
+/* packets.c: a packet is a frame, and what the kernel tells before it */
 size_t head_octets(void);
 size_t packet_room(void);
 uint8_t *make_rooms(void);
+bool passes_segments(void);
 bool has_segments(const uint8_t *packet);
 uint32_t count_segments(const uint8_t *packet, size_t length);
 bool has_right_length(const uint8_t *packet, size_t length);
@@ -199,26 +199,45 @@ void note_read(unsigned packets, bool drained);
 void open_host(bool open);
 void follow_host_queue(const char *discipline);
 
+/* features.c: what puts received frames together, a bit for each way */
+struct joins {
+    unsigned on, wanted;
+};
+struct joins read_joins(int index);
+void set_joins(int index, unsigned wanted);
+
 /* kept.c */
 #define PROCESSORS_LENGTH "2399" /* of the mask of the 8192 processors that Linux knows */
 #define PROCESSORS_ROOM 2400
 struct kept {
-    bool gro, lro;                  /* what was on */
+    unsigned joins;                 /* what of GRO and LRO was wanted, as features.c has it */
     char steered[PROCESSORS_ROOM];  /* the processors that RPS named, or empty where that was one, or is not changed */
     struct ethtool_channels queues; /* what there was; all 0 where there was one queue */
 };
 void keep_settings(const struct link *link, struct kept *kept);
 void forget_settings(const struct link *link);
 
+/* traffic.c: queueing disciplines and filters of members */
+enum filter { NO_FILTER, FILTER_ALONE, FILTER_BEHIND_OTHERS };
+bool read_discipline(int index, char name[static DISCIPLINE_ROOM]);
+bool give_fifo(int index);
+void take_fifo(int index);
+enum filter set_filter(int program, int index);
+void drop_filter(int index);
+
 /* guard.c */
 struct guard {
     int opened;         /* what keeps data from the stack of the interface, or -1 */
+    enum filter filter; /* what does so where the kernel has no TCX */
+    bool in_order;      /* whether the queueing discipline of the interface keeps the order */
     bool fast;          /* whether the kernel may pass on what goes and comes there */
     struct kept before; /* what the interface had */
 };
+bool ask_driver(int index, void *value);
 void load_guard(void);
 void gather(int index);
-void open_guard(const struct link *link, struct guard *guard);
+void open_guard(struct link *link, struct guard *guard);
+void look_at_discipline(struct link *link, struct guard *guard);
 void close_guard(const struct link *link, struct guard *guard);
 
 /* members.c */

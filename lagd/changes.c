@@ -180,7 +180,6 @@ static uint32_t losses_since(uint32_t before, uint32_t now) {
  * pass on what goes there is seen anew. Answers whether the interface is still taken up. */
 static bool follow_discipline(struct link *link, const struct interface *interface) {
     if (!interface->discipline[0] || strcmp(link->discipline, interface->discipline) == 0) return true;
-    memcpy(link->discipline, interface->discipline, sizeof link->discipline);
     if (reopen_member(link)) return true;
     ask_again = true;
     lose_link(link);

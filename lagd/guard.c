@@ -26,7 +26,7 @@ void load_guard(void) {
 }
 
 /* Asks the driver of an interface something, or for something. */
-static bool ask_driver(int index, void *value) {
+bool ask_driver(int index, void *value) {
     struct ifreq request;
     int fd = socket(AF_UNIX, SOCK_DGRAM | SOCK_CLOEXEC, 0);
     bool done;
@@ -37,29 +37,6 @@ static bool ask_driver(int index, void *value) {
     done = done && ioctl(fd, SIOCETHTOOL, &request) == 0;
     if (fd >= 0) close(fd);
     return done;
-}
-
-static bool has_gro(int index) {
-    struct ethtool_value value = {.cmd = ETHTOOL_GGRO};
-    return ask_driver(index, &value) && value.data != 0;
-}
-
-static bool has_lro(int index) {
-    struct ethtool_value value = {.cmd = ETHTOOL_GFLAGS};
-    return ask_driver(index, &value) && (value.data & ETH_FLAG_LRO) != 0;
-}
-
-static void set_gro(int index, bool on) {
-    struct ethtool_value value = {.cmd = ETHTOOL_SGRO, .data = on};
-    (void)ask_driver(index, &value);
-}
-
-static void set_lro(int index, bool on) {
-    struct ethtool_value value = {.cmd = ETHTOOL_GFLAGS};
-    if (!ask_driver(index, &value)) return;
-    value.cmd = ETHTOOL_SFLAGS;
-    value.data = on ? value.data | ETH_FLAG_LRO : value.data & ~(uint32_t)ETH_FLAG_LRO;
-    (void)ask_driver(index, &value);
 }
 
 /* A file of an interface in /sys; answers whether it is of this interface. */
@@ -158,49 +135,77 @@ void gather(int index) {
 /* What an interface has that is changed while it is a member. */
 static void look_before(const struct link *link, struct kept *before) {
     char path[128];
-    *before = (struct kept){.gro = has_gro(link->index), .lro = has_lro(link->index)};
+    *before = (struct kept){.joins = read_joins(link->index).wanted};
     if (queues_of(link->index, &before->queues) <= 1) before->queues = (struct ethtool_channels){0};
     if (!is_fast() || !path_of_processors(link->index, path, sizeof path) || !read_processors(path, before->steered, sizeof before->steered)
         || is_one(before->steered))
         before->steered[0] = 0;
 }
 
+/* Whether an interface has no queueing discipline yet: it gets one when it comes up. */
+static bool is_unqueued(const struct link *link) {
+    return strcmp(link->discipline, "noop") == 0;
+}
+
+/* Sees whether what is sent at an interface keeps its order in its queueing discipline. Frames of several segments have to go through
+ * that, since it segments them for an interface that cannot: so they get one that does. */
+void look_at_discipline(struct link *link, struct guard *guard) {
+    (void)read_discipline(link->index, link->discipline);
+    if (passes_segments() && !is_unqueued(link) && strcmp(link->discipline, "noqueue") != 0 && give_fifo(link->index))
+        (void)read_discipline(link->index, link->discipline);
+    guard->in_order = strcmp(link->discipline, "noqueue") == 0 || strcmp(link->discipline, "pfifo") == 0;
+    if (passes_segments() && !guard->in_order && !is_unqueued(link))
+        (void)say(LOG_WARNING | ABOUT_DATA, "port %u %s: its queueing discipline is neither noqueue nor pfifo: it loses frames of several "
+            "segments, if its card cannot cut them", link->settings.number, link->name);
+}
+
 /* Why the kernel may not pass on what goes and comes at an interface, or NULL: a marker would overtake the data before it. */
-static const char *fault_of_fast(const struct link *link) {
+static const char *fault_of_fast(const struct link *link, const struct guard *guard) {
     struct ethtool_channels queues;
     if (link->stacked) return "it stands on another interface, whose queues are not seen";
     if (queues_of(link->index, &queues) > 1) return "it has several queues";
-    if (strcmp(link->discipline, "noqueue") != 0 && strcmp(link->discipline, "pfifo") != 0)
-        return "its queueing discipline is neither noqueue nor pfifo";
+    if (!guard->in_order) return "its queueing discipline is neither noqueue nor pfifo";
     if (!steer(link)) return "RPS cannot be set to one processor";
     return NULL;
 }
 
 /* Has the kernel pass on what goes and comes at a member, where it may; a line says why not. */
 static void open_fast(const struct link *link, struct guard *guard) {
-    const char *fault = fault_of_fast(link);
+    const char *fault = fault_of_fast(link, guard);
     if (!fault) guard->opened = open_fast_receiver(link);
     guard->fast = guard->opened >= 0;
     if (!fault && !guard->fast) fault = strerror(errno);
-    if (fault && strcmp(link->discipline, "noop") != 0) /* it has that one until it is up, and is looked at again then */
+    if (fault && !is_unqueued(link)) /* it is looked at again then */
         (void)say(LOG_WARNING | ABOUT_DATA, "port %u %s: its data stays with the daemon: %s", link->settings.number, link->name, fault);
 }
 
+/* Keeps data from the stack of an interface: by TCX, or, where the kernel has none, by a filter. */
+static void keep_from_stack(const struct link *link, struct guard *guard) {
+    uint16_t port = link->settings.number;
+    if (program >= 0) guard->opened = attach_program(program, link->index, false);
+    if (program >= 0 && guard->opened < 0) guard->filter = set_filter(program, link->index);
+    if (guard->filter == FILTER_BEHIND_OTHERS)
+        (void)say(LOG_WARNING | ABOUT_DATA, "port %u %s: it has a clsact already: its own network stack has what filters there accept", port,
+            link->name);
+    if (guard->opened < 0 && guard->filter == NO_FILTER)
+        (void)say(LOG_WARNING | ABOUT_DATA, "port %u %s: its own network stack has its frames, too", port, link->name);
+}
+
 /* Prepares an interface. What it cannot be kept from has a line. */
-void open_guard(const struct link *link, struct guard *guard) {
+void open_guard(struct link *link, struct guard *guard) {
     struct ethtool_channels queues;
     uint16_t port = link->settings.number;
     guard->opened = -1;
+    guard->filter = NO_FILTER;
     guard->fast = false;
+    look_at_discipline(link, guard);
     look_before(link, &guard->before);
     keep_settings(link, &guard->before);
-    if (guard->before.gro) set_gro(link->index, false);
-    if (guard->before.lro) set_lro(link->index, false);
+    if (guard->before.joins != 0) set_joins(link->index, 0);
     join_queues(link->index);
     if (is_fast()) open_fast(link, guard);
-    if (guard->opened < 0 && program >= 0) guard->opened = attach_program(program, link->index, false);
-    if (guard->opened < 0) (void)say(LOG_WARNING | ABOUT_DATA, "port %u %s: its own network stack has its frames, too", port, link->name);
-    if (has_gro(link->index) || has_lro(link->index))
+    if (guard->opened < 0) keep_from_stack(link, guard);
+    if (read_joins(link->index).on != 0)
         (void)say(LOG_WARNING | ABOUT_DATA, "port %u %s: GRO or LRO stays on, and markers may overtake data", port, link->name);
     if (link->stacked && !is_fast())
         (void)say(LOG_WARNING | ABOUT_DATA, "port %u %s: it stands on another interface, whose queues are not seen: markers may overtake data",
@@ -214,12 +219,14 @@ void close_guard(const struct link *link, struct guard *guard) {
     struct kept *before = &guard->before;
     char path[128];
     if (guard->opened >= 0) close(guard->opened);
+    if (guard->filter != NO_FILTER) drop_filter(link->index);
     guard->opened = -1;
+    guard->filter = NO_FILTER;
     guard->fast = false;
-    if (before->gro) set_gro(link->index, true);
-    if (before->lro) set_lro(link->index, true);
+    if (before->joins != 0) set_joins(link->index, before->joins);
     before->queues.cmd = ETHTOOL_SCHANNELS;
     if (before->queues.combined_count + before->queues.rx_count + before->queues.tx_count > 0) (void)ask_driver(link->index, &before->queues);
+    take_fifo(link->index); /* with all its queues the kernel gives each of them what it chooses */
     if (before->steered[0] && path_of_processors(link->index, path, sizeof path)) (void)write_processors(path, before->steered);
     forget_settings(link);
 }

@@ -1,6 +1,6 @@
 /* Frames of conversations that are held. The library has a queue of each conversation, of numbers of slots: it tells which frame is next,
- * how many wait, and whether one more may. The frames are here, in the slots of one block that is taken at the start: small ones, and,
- * where packets may have several segments, large ones. */
+ * how many wait, and whether one more may. The frames are here, in the slots of one block that is taken at the start: small ones, and
+ * large ones for those of several segments. */
 #define _GNU_SOURCE
 #include <errno.h>
 #include <string.h>
@@ -54,7 +54,7 @@ static size_t size_pool(struct pool *pool, size_t room, uint32_t most) {
 /* Takes all memory. Its pages are in use once they are written. */
 void start_held(void) {
     size_t before = size_pool(&small, SMALL_ROOM, MOST_WAIT);
-    size_t behind = packet_room() > SMALL_ROOM ? size_pool(&large, packet_room(), MOST_LARGE) : 0;
+    size_t behind = size_pool(&large, packet_room(), MOST_LARGE);
     small.slots = mmap(NULL, before + behind, PROT_READ | PROT_WRITE, MAP_PRIVATE | MAP_ANONYMOUS | MAP_NORESERVE, -1, 0);
     if (small.slots == MAP_FAILED) stop(REFUSED, "no room for held frames", strerror(errno));
     large.slots = small.slots + before;

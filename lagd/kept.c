@@ -10,8 +10,8 @@
 #include "carry.h"
 
 /* What a file has: it is whole if its last line is. */
-#define FORM "boot=%s\nmac=%s\ngro=%d\nlro=%d\nqueues=%u %u %u %u\nrps=%s\nend\n"
-#define READ_FORM "boot=%63s mac=%31s gro=%d lro=%d queues=%u %u %u %u rps=%" PROCESSORS_LENGTH "s %7s"
+#define FORM "boot=%s\nmac=%s\njoins=%u\nqueues=%u %u %u %u\nrps=%s\nend\n"
+#define READ_FORM "boot=%63s mac=%31s joins=%u queues=%u %u %u %u rps=%" PROCESSORS_LENGTH "s %7s"
 
 static void name_file(const struct link *link, char room[static 64]) {
     snprintf(room, 64, "%lu.%d.member", network_namespace(), link->index);
@@ -30,19 +30,17 @@ static const char *boot_id(void) {
 static bool recall(const struct link *link, struct kept *kept) {
     char name[64], boot[64], mac[32], own[32], end[8] = "";
     struct ethtool_channels *queues = &kept->queues;
-    int gro, lro, opened, found;
+    int opened, found;
     FILE *file;
     name_file(link, name);
     opened = openat(folder_file(), name, O_RDONLY | O_NOFOLLOW | O_CLOEXEC);
     file = opened < 0 ? NULL : fdopen(opened, "r");
     if (!file) return false;
     *kept = (struct kept){0};
-    found = fscanf(file, READ_FORM, boot, mac, &gro, &lro, &queues->rx_count, &queues->tx_count, &queues->other_count,
+    found = fscanf(file, READ_FORM, boot, mac, &kept->joins, &queues->rx_count, &queues->tx_count, &queues->other_count,
         &queues->combined_count, kept->steered, end);
     fclose(file);
-    if (found != 10 || strcmp(end, "end") != 0 || strcmp(boot, boot_id()) != 0 || strcmp(mac, mac_text(link->mac, own)) != 0) return false;
-    kept->gro = gro == 1;
-    kept->lro = lro == 1;
+    if (found != 9 || strcmp(end, "end") != 0 || strcmp(boot, boot_id()) != 0 || strcmp(mac, mac_text(link->mac, own)) != 0) return false;
     if (strcmp(kept->steered, "-") == 0) kept->steered[0] = 0;
     return true;
 }
@@ -55,8 +53,7 @@ void keep_settings(const struct link *link, struct kept *kept) {
     FILE *file;
     int opened;
     if (recall(link, &first)) {
-        kept->gro |= first.gro;
-        kept->lro |= first.lro;
+        kept->joins |= first.joins;
         if (first.queues.combined_count + first.queues.rx_count + first.queues.tx_count > 0) kept->queues = first.queues;
         if (first.steered[0]) memcpy(kept->steered, first.steered, sizeof kept->steered);
     }
@@ -64,7 +61,7 @@ void keep_settings(const struct link *link, struct kept *kept) {
     opened = openat(folder_file(), name, O_WRONLY | O_CREAT | O_TRUNC | O_NOFOLLOW | O_CLOEXEC, 0600);
     file = opened < 0 ? NULL : fdopen(opened, "w");
     if (file)
-        fprintf(file, FORM, boot_id(), mac_text(link->mac, mac), kept->gro, kept->lro, queues->rx_count, queues->tx_count,
+        fprintf(file, FORM, boot_id(), mac_text(link->mac, mac), kept->joins, queues->rx_count, queues->tx_count,
             queues->other_count, queues->combined_count, kept->steered[0] ? kept->steered : "-");
     if (!file || fclose(file) != 0)
         (void)say(LOG_WARNING | ABOUT_DATA, "port %u %s: if this daemon is killed, nobody knows what the interface had: %s",

@@ -96,6 +96,9 @@ struct speed {
     uint8_t duplex;    /* DUPLEX_FULL, DUPLEX_HALF or DUPLEX_UNKNOWN */
 };
 
+/* The octets of the name of a queueing discipline. */
+#define DISCIPLINE_ROOM 16
+
 /* An interface. Link i is port i + 1 of the system. */
 struct link {
     const char *name;
@@ -108,7 +111,7 @@ struct link {
     int index;  /* of the interface */
     int carrier;       /* the file of its carrier, or -1 */
     char carriers[24]; /* how often that came and went, as the kernel has it */
-    char discipline[16]; /* its queueing discipline, as the kernel last told */
+    char discipline[DISCIPLINE_ROOM]; /* its queueing discipline, as the kernel last told */
     bool stacked;        /* whether what it sends goes by another interface of this machine */
     uint8_t mac[6];
     bool present; /* whether the answer of the kernel that is being read named it */

@@ -88,17 +88,21 @@ static void close_keeping_errno(int fd) {
     errno = fault;
 }
 
-/* How a packet is sent and taken: with a head, where frames of several segments are passed; and by no queueing discipline, where the
- * kernel passes nothing on: fq_codel has a queue for each flow, and a marker would overtake the data before it. What the kernel passes on
- * has that discipline, and so a marker has to. */
-static bool set_ways(int fd, bool fast) {
-    return (fast || setsockopt(fd, SOL_PACKET, PACKET_QDISC_BYPASS, &(int){1}, sizeof(int)) == 0)
-        && (head_octets() == 0 || setsockopt(fd, SOL_PACKET, PACKET_VNET_HDR, &(int){1}, sizeof(int)) == 0)
+/* Has what is sent go round a queueing discipline that does not keep the order: fq_codel has a queue for each flow, and a marker would
+ * overtake the data before it. */
+static bool set_bypass(int fd, bool in_order) {
+    return setsockopt(fd, SOL_PACKET, PACKET_QDISC_BYPASS, &(int){!in_order}, sizeof(int)) == 0;
+}
+
+/* How a packet is sent and taken. */
+static bool set_ways(int fd, bool in_order) {
+    return set_bypass(fd, in_order)
+        && setsockopt(fd, SOL_PACKET, PACKET_VNET_HDR, &(int){1}, sizeof(int)) == 0
         && setsockopt(fd, SOL_PACKET, PACKET_AUXDATA, &(int){1}, sizeof(int)) == 0;
 }
 
 /* A packet socket for the data of an interface, and its markers; or -1, and errno. Where the kernel hands up what comes, it only sends. */
-static int open_data(int index, bool fast) {
+static int open_data(int index, const struct guard *guard) {
     struct sockaddr_ll address = {.sll_family = AF_PACKET, .sll_protocol = htons(ETH_P_ALL), .sll_ifindex = index};
     struct packet_mreq all = {index, PACKET_MR_PROMISC, 0, {0}};
     int fd = socket(AF_PACKET, SOCK_RAW | SOCK_NONBLOCK | SOCK_CLOEXEC, 0); /* it takes nothing before it is bound */
@@ -106,7 +110,7 @@ static int open_data(int index, bool fast) {
     enlarge(fd, SO_RCVBUFFORCE, SO_RCVBUF);
     enlarge(fd, SO_SNDBUFFORCE, SO_SNDBUF);
     (void)setsockopt(fd, SOL_PACKET, PACKET_IGNORE_OUTGOING, &(int){1}, sizeof(int));
-    if ((fast ? filter_marked(fd, 0) : filter(fd, true)) && set_ways(fd, fast)
+    if ((guard->fast ? filter_marked(fd, 0) : filter(fd, true)) && set_ways(fd, guard->in_order)
         && bind(fd, (struct sockaddr *)&address, sizeof address) == 0
         && setsockopt(fd, SOL_PACKET, PACKET_ADD_MEMBERSHIP, &all, sizeof all) == 0)
         return fd;
@@ -147,7 +151,7 @@ static void close_sockets(struct member *member) {
 static bool open_sockets(struct member *member, const struct link *link) {
     bool fast = member->guard.fast;
     uint32_t tag = MEMBERS + (uint32_t)(member - members);
-    member->socket = open_data(link->index, fast);
+    member->socket = open_data(link->index, &member->guard);
     if (member->socket < 0 || !fast) return member->socket >= 0 && await_input(member->socket, tag);
     member->markers = open_markers(tap_index(), link->settings.number);
     member->direct = open_markers(link->index, 0);
@@ -171,9 +175,17 @@ bool open_member(struct link *link) {
     return true;
 }
 
-/* Whether the kernel may pass on what goes on a port is seen anew; answers whether the member is still taken up. */
+/* The interface has another queueing discipline: how data is sent is seen anew. Answers whether the member is still taken up. */
 bool reopen_member(struct link *link) {
-    if (!is_fast() || member_of(link)->socket < 0) return true;
+    struct member *member = member_of(link);
+    char before[DISCIPLINE_ROOM];
+    memcpy(before, link->discipline, sizeof before);
+    if (!read_discipline(link->index, link->discipline) || strcmp(before, link->discipline) == 0) return true;
+    if (!carries_data() || member->socket < 0) return true;
+    if (!is_fast()) {
+        look_at_discipline(link, &member->guard);
+        return set_bypass(member->socket, member->guard.in_order);
+    }
     close_member(link);
     return open_member(link);
 }
@@ -338,7 +350,7 @@ static void take_message(struct link *link, struct mmsghdr *message, bool handed
         length += TAG_OCTETS;
         member->counts[RETAGGED]++;
     }
-    if (head == 0 && aux.tp_status & TP_STATUS_CSUMNOTREADY) member->counts[WITHOUT_SUMS]++;
+    if (aux.tp_status & TP_STATUS_CSUMNOTREADY) member->counts[WITHOUT_SUMS]++;
     if (message->msg_hdr.msg_flags & MSG_TRUNC || !has_right_length(packet, length))
         member->counts[WRONG_LENGTH]++;
     else
@@ -347,7 +359,7 @@ static void take_message(struct link *link, struct mmsghdr *message, bool handed
 
 /* The kernel has a frame of segments that it cannot describe: it is lost. */
 static bool is_unreadable(int got) {
-    return got < 0 && errno == EINVAL && head_octets() > 0;
+    return got < 0 && errno == EINVAL;
 }
 
 /* Takes the packets that wait in a socket of a member, some at most. What the kernel tells of links comes before them: what was sent after a link

@@ -1,5 +1,5 @@
-/* Packets: a frame, and before it, where frames of several segments are passed, the virtio_net_hdr by which the kernel tells how it is
- * cut. */
+/* Packets: a frame, and before it the virtio_net_hdr by which the kernel tells what was left to a card: how the frame is cut into
+ * segments, and where its checksum is still to be put. */
 #define _GNU_SOURCE
 #include <errno.h>
 #include <linux/virtio_net.h>
@@ -8,8 +8,6 @@
 
 #include "carry.h"
 
-/* The octets of a packet without a head: more than a frame may have, so that one that is too long is seen to be. */
-#define PLAIN_ROOM 1536
 /* The octets of a packet of several segments, without its head: those of an IP packet, and of its header of Ethernet with two tags. */
 #define LONGEST_SEGMENTED (65536 + ETH_HLEN + 2 * TAG_OCTETS)
 /* The octets of a header of UDP, and of one of TCP without options, and where that tells how long it is. */
@@ -17,11 +15,11 @@
 #define TCP_OCTETS 20
 #define TCP_LENGTH 12
 
-static size_t head;
+static const size_t head = sizeof(struct virtio_net_hdr);
 
-/* What stands before each frame, from the settings. */
-void start_packets(void) {
-    head = settings.offload || settings.fast ? sizeof(struct virtio_net_hdr) : 0;
+/* Whether the host hands over frames of several segments. */
+bool passes_segments(void) {
+    return settings.offload || settings.fast;
 }
 
 /* The octets before each frame. */
@@ -31,7 +29,7 @@ size_t head_octets(void) {
 
 /* The room of a packet. */
 size_t packet_room(void) {
-    return head > 0 ? head + LONGEST_SEGMENTED : PLAIN_ROOM;
+    return head + LONGEST_SEGMENTED;
 }
 
 /* Room for as many packets as are taken at once, each with TAG_OCTETS before it. The pages of it are in memory once they are used. */
@@ -42,10 +40,10 @@ uint8_t *make_rooms(void) {
     return rooms;
 }
 
-/* What the kernel tells of a packet; nothing where there is no head. */
+/* What the kernel tells of a packet. */
 static struct virtio_net_hdr head_of(const uint8_t *packet) {
-    struct virtio_net_hdr told = {.gso_type = VIRTIO_NET_HDR_GSO_NONE};
-    if (head > 0) memcpy(&told, packet, sizeof told);
+    struct virtio_net_hdr told;
+    memcpy(&told, packet, sizeof told);
     return told;
 }
 
@@ -95,7 +93,6 @@ uint8_t *put_tag(uint8_t *packet, uint16_t type, uint16_t tag) {
     frame[13] = (uint8_t)type;
     frame[14] = (uint8_t)(tag >> 8);
     frame[15] = (uint8_t)tag;
-    if (head == 0) return at;
     if (told.hdr_len > 0) told.hdr_len = (uint16_t)(told.hdr_len + TAG_OCTETS);
     if (told.flags & VIRTIO_NET_HDR_F_NEEDS_CSUM) told.csum_start = (uint16_t)(told.csum_start + TAG_OCTETS);
     memcpy(at, &told, sizeof told);

@@ -18,6 +18,8 @@
 /* Of Linux 6.2, and not in older headers: datagrams of several segments. */
 #define TUN_F_USO4 0x20
 #define TUN_F_USO6 0x40
+/* Of Linux 6.0; older kernels do not look at it. */
+#define NO_CARRIER 0x40
 
 /* For how many ticks the carrier may be another one than was set: the kernel takes up to a second to tell. */
 #define CARRIER_TICKS 15
@@ -122,11 +124,12 @@ bool is_tap_up(void) {
     return ask_tap(SIOCGIFFLAGS, &request) && (request.ifr_flags & IFF_UP) != 0;
 }
 
-/* Has the host hand over frames of several segments, and without checksums, as the head of a packet tells. */
-static void allow_segments(void) {
-    unsigned long wanted = TUN_F_CSUM | TUN_F_TSO4 | TUN_F_TSO6 | TUN_F_TSO_ECN;
-    if (ioctl(tap, TUNSETVNETHDRSZ, &(int){(int)head_octets()}) < 0) stop(REFUSED, "no frames of several segments", strerror(errno));
-    if (ioctl(tap, TUNSETOFFLOAD, wanted | TUN_F_USO4 | TUN_F_USO6) < 0 && ioctl(tap, TUNSETOFFLOAD, wanted) < 0)
+/* Has the host hand over frames of several segments, and without checksums, where they are passed; each packet tells before its frame. */
+static void choose_segments(void) {
+    unsigned long wanted = passes_segments() ? TUN_F_CSUM | TUN_F_TSO4 | TUN_F_TSO6 | TUN_F_TSO_ECN : 0;
+    unsigned long more = passes_segments() ? TUN_F_USO4 | TUN_F_USO6 : 0;
+    if (ioctl(tap, TUNSETVNETHDRSZ, &(int){(int)head_octets()}) < 0
+        || (ioctl(tap, TUNSETOFFLOAD, wanted | more) < 0 && ioctl(tap, TUNSETOFFLOAD, wanted) < 0))
         stop(REFUSED, "no frames of several segments", strerror(errno));
 }
 
@@ -147,23 +150,24 @@ static void set_no_queue(void) {
     close(route);
 }
 
-/* Makes the device, without carrier, or takes one that is there and that nobody has. One that was made is gone when the daemon ends. */
+/* Makes the device, without carrier, or takes one that is there and that nobody has. One that was made is gone when the daemon ends. It gets
+ * its MAC address before anything else: whoever brings it up has a link-local address of it. */
 int open_tap(const char *name, const uint8_t *mac) {
     struct ifreq device = request_of(name), found, address = {0}, queue = {0};
     asker = socket(AF_UNIX, SOCK_DGRAM | SOCK_CLOEXEC, 0);
     tap = open("/dev/net/tun", O_RDWR | O_NONBLOCK | O_CLOEXEC);
     if (asker < 0 || tap < 0) stop(REFUSED, "no TAP device", strerror(errno));
-    device.ifr_flags = (short)(IFF_TAP | IFF_NO_PI | (head_octets() > 0 ? IFF_VNET_HDR : 0));
+    device.ifr_flags = IFF_TAP | IFF_NO_PI | IFF_VNET_HDR | NO_CARRIER;
     if (ioctl(tap, TUNSETIFF, &device) < 0) stop(REFUSED, name, strerror(errno));
     found = request_of(device.ifr_name);
     if (ioctl(asker, SIOCGIFINDEX, &found) < 0) stop(REFUSED, name, strerror(errno));
     number = found.ifr_ifindex;
-    if (head_octets() > 0) allow_segments();
-    carrier = true;
-    set_carrier(false);
     address.ifr_hwaddr.sa_family = ARPHRD_ETHER;
     memcpy(address.ifr_hwaddr.sa_data, mac, ETH_ALEN);
     if (!ask_tap(SIOCSIFHWADDR, &address)) stop(REFUSED, "no address of the TAP device", strerror(errno));
+    carrier = true;
+    set_carrier(false);
+    choose_segments();
     queue.ifr_qlen = HOST_QUEUE;
     (void)ask_tap(SIOCSIFTXQLEN, &queue);
     settle_mtu();

@@ -12,6 +12,7 @@ from bonds import (CACHE, COMES_BACK, COMES_UP, DEVICE, FLOWS, RIGHTS, Cables, C
                    check_order, check_whole, every, lay_direct, move_all, pair, run_flows)
 from fast_parts import fast, fast_away, fast_ends, fast_hash, fast_overload, fast_refused, fast_troubles, kernel_hashes, offload
 from forged import PARTS as FORGED
+from member_parts import PARTS as MEMBERS
 from models import model
 from rows import rows
 from checking import Skipped, check, within
@@ -274,16 +275,19 @@ def try_frames(ours: End, theirs: End) -> None:
     check(within(3, lambda: ours.data("wrong_length") == before + 1), "one of 2014 octets is counted, and not handed up", ours.text())
 
 
+def effective_rights(end: End) -> str:
+    with open(f"/proc/{end.process.pid}/status", encoding="utf-8") as status:
+        return next(line.split()[1] for line in status if line.startswith("CapEff"))
+
+
 def rights(programs: Programs) -> None:
     """What the daemon may do, what it changes at its members, and what it leaves."""
     with cables(programs, ()):
         ask_gro(OURS, "a0", True)
         ours = End(programs, OURS, options=["--min-links", "2"], before=RIGHTS if shutil.which("setpriv") else ())
         try:
-            with open(f"/proc/{ours.process.pid}/status", encoding="utf-8") as status:
-                bounds = {line.split(":")[0]: line.split()[1] for line in status if line.startswith("Cap")}
-            alone = bounds["CapEff"] == f"{1 << 12 | 1 << 13:016x}"
-            check(alone, "it has CAP_NET_RAW and CAP_NET_ADMIN alone", bounds)
+            alone = lambda: effective_rights(ours) == f"{1 << 12 | 1 << 13:016x}"
+            check(within(COMES_UP, alone), "it has CAP_NET_RAW and CAP_NET_ADMIN alone", effective_rights(ours))
             check(not ask_gro(OURS, "a0"), "GRO of a member is off", ours.printed())
             check("network stack has" not in ours.printed(), "and no member hands frames to its own network stack", ours.printed())
             check(not ours.carry()["carrier"], "with fewer links than min-links there is no carrier", ours.text())
@@ -305,3 +309,4 @@ PARTS: dict[str, Callable[[Programs], None]] = {it.__name__: it for it in
      fast_ends, fast_outage, fast_start, fast_moved, fast_queues, gone, administered, queues,
      segments)}
 PARTS.update(FORGED)
+PARTS.update(MEMBERS)

@@ -1,0 +1,205 @@
+"""What is tried of the members: what their own network stacks have, what is left to their cards, and what queues them."""
+
+from __future__ import annotations
+
+import functools
+import re
+import select
+import signal
+import socket
+import time
+from typing import Callable
+
+from bonds import COMES_UP, DEVICE, End, Programs, cables
+from checking import Failed, Skipped, check, within
+from daemon import SYSTEM
+from spaces import OURS, THEIRS, inside, ip, octets, packet_socket, within_space
+from streams import ADDRESSES, give_addresses, run_stream
+
+# Who asks for the address of our end.
+ASKER = "02:00:00:00:00:77"
+ARP, ANSWER = 0x0806, 2
+# Both ends of the addresses of IPv6, and how much is sent each way.
+ADDRESSES6, OCTETS = ("2001:db8::1", "2001:db8::2"), 300000
+# How the daemon's queue looks, and what a kernel gives a TAP device.
+OWN_QUEUE = "pfifo 6c61: "
+
+
+def wait_for_links(ours: End, theirs: End) -> None:
+    if not within(COMES_UP, lambda: ours.links() == theirs.links() == 2 and ours.carry()["markers"] == "answered"):
+        raise Failed("two links carry", ours.text(), ours.printed(), theirs.text())
+
+
+def answers_of_arp(seconds: float = 1.0) -> list[str]:
+    """The MAC addresses by which our end answers who has its address, in the order in which they come."""
+    with_us, with_them = (socket.inet_aton(address) for address in ADDRESSES)
+    asks = bytes.fromhex("ffffffffffff") + octets(ASKER) + ARP.to_bytes(2, "big") + bytes.fromhex("0001080006040001")
+    asks += octets(ASKER) + with_them + bytes(6) + with_us
+    found, until = [], time.monotonic() + seconds
+    with packet_socket(THEIRS, DEVICE, ARP) as wire:
+        wire.send(asks)
+        while select.select([wire], [], [], max(0.0, until - time.monotonic()))[0]:
+            frame = wire.recv(2048)
+            if frame[20:22] == ANSWER.to_bytes(2, "big") and frame[28:32] == with_us:
+                found.append(frame[22:28].hex(":"))
+    return found
+
+
+def filters(name: str) -> tuple[int, bool]:
+    """How many filters look at what an interface receives, and whether they have a place there."""
+    shown = inside(OURS, "tc", "filter", "show", "dev", name, "ingress").stdout
+    return shown.count(" handle "), "clsact" in inside(OURS, "tc", "qdisc", "show", "dev", name).stdout
+
+
+def stacks(programs: Programs) -> None:
+    """The stack of a member does not answer for the address of the bundle, on a kernel without TCX, either: a filter keeps it from that."""
+    with cables(programs, ()):
+        if inside(OURS, "tc", "qdisc", "add", "dev", "a1", "clsact").returncode:
+            raise Skipped("tc sets no clsact")
+        start = functools.partial(End, programs, OURS, program=programs.without_tcx)
+        ours, theirs = start(), End(programs, THEIRS)
+        try:
+            wait_for_links(ours, theirs)
+            give_addresses((DEVICE, DEVICE))
+            answers = answers_of_arp()
+            check(answers == [SYSTEM], f"{len(answers)} answers who has the address of {DEVICE}", answers, ours.printed())
+            check("a1: it has a clsact already" in ours.printed() and "a0: it has" not in ours.printed(),
+                  "a line tells of filters of others", ours.printed())
+            ours.process.send_signal(signal.SIGKILL)
+            ours.process.wait()
+            check(filters("a0") == filters("a1") == (1, True), "a killed daemon leaves its filters", filters("a0"), filters("a1"))
+            ours = start()
+            wait_for_links(ours, theirs)
+            check(filters("a0") == filters("a1") == (1, True), "the next one takes them over", filters("a0"), filters("a1"))
+            ours.ends("the daemon")
+            check(filters("a0") == (0, False), "and takes them away, as it ends", filters("a0"))
+            check(filters("a1") == (0, True), "but not the place that an administrator made", filters("a1"))
+        finally:
+            ours.stop()
+            theirs.stop()
+
+
+def carries_both_ways(kind: socket.SocketKind, family: socket.AddressFamily, hosts: tuple[str, str]) -> bool:
+    """Whether what the other end sends comes to ours, and comes back."""
+    payload, count = bytes(range(256)) * 5, OCTETS // 1280 if kind == socket.SOCK_STREAM else 1
+    with within_space(OURS):
+        server = socket.socket(family, kind)
+    with within_space(THEIRS):
+        client = socket.socket(family, kind)
+    with server, client:
+        server.settimeout(5)
+        client.settimeout(5)
+        server.bind((hosts[0], 7000))
+        try:
+            if kind == socket.SOCK_DGRAM:
+                client.sendto(payload, (hosts[0], 7000))
+                got, sender = server.recvfrom(2048)
+                server.sendto(got, sender)
+                return client.recv(2048) == payload
+            server.listen(1)
+            client.connect((hosts[0], 7000))
+            with server.accept()[0] as taken:
+                return passes(client, taken, payload * count) and passes(taken, client, payload * count)
+        except TimeoutError:
+            return False
+
+
+def passes(sender: socket.socket, receiver: socket.socket, payload: bytes) -> bool:
+    sender.sendall(payload)
+    receiver.settimeout(5)
+    got = b""
+    while len(got) < len(payload):
+        more = receiver.recv(1 << 20)
+        if not more:
+            return False
+        got += more
+    return got == payload
+
+
+def sums(programs: Programs) -> None:
+    """The other end leaves checksums, and segments, to cards that there are none: ours, without `offload`, hands up what comes."""
+    with cables(programs, ()):
+        ours, theirs = End(programs, OURS), End(programs, THEIRS, options=["--offload"])
+        try:
+            wait_for_links(ours, theirs)
+            give_addresses((DEVICE, DEVICE))
+            for space, address in zip((OURS, THEIRS), ADDRESSES6):
+                inside(space, "sysctl", "-qw", f"net.ipv6.conf.{DEVICE}.disable_ipv6=0")
+                ip(space, "address", "add", f"{address}/64", "dev", DEVICE, "nodad")
+            for family, hosts, version in (socket.AF_INET, ADDRESSES, 4), (socket.AF_INET6, ADDRESSES6, 6):
+                for kind, name in (socket.SOCK_DGRAM, "UDP"), (socket.SOCK_STREAM, "TCP"):
+                    check(carries_both_ways(kind, family, hosts), f"{name} over IPv{version} goes both ways", ours.text(), theirs.text())
+            check(ours.data("without_sums") > 0, f"{ours.data('without_sums')} frames came without their sums", ours.text())
+        finally:
+            ours.stop()
+            theirs.stop()
+
+
+def set_features(space: str, name: str, *words: str) -> None:
+    if inside(space, "ethtool", "-K", name, *words).returncode:
+        raise Skipped(f"no ethtool sets {' '.join(words)} of {name} (Debian: ethtool)")
+
+
+def uncut(programs: Programs) -> None:
+    """Frames of several segments, over members that cannot cut them; before the start, and while it runs."""
+    for way in "--offload", "--fast":
+        with cables(programs, ()):
+            for name in "a0", "a1":
+                set_features(OURS, name, "tso", "off", "gso", "off")
+            ours, theirs = End(programs, OURS, options=[way, "--hash", "layer3+4"]), End(programs, THEIRS, options=[way])
+            try:
+                wait_for_links(ours, theirs)
+                stream = run_stream(2)
+                unsent, cut = ours.data("data_unsent"), ours.carry()["segmented"]
+                check(unsent == 0, f"{way}: {stream.bits / 1e9:.2f} Gb/s, {unsent} of {cut:,} frames of several segments lost", ours.text())
+                check(cut > 0 or way == "--fast", f"{way}: {cut:,} frames of several segments came to the daemon", ours.text())
+                for name in "a0", "a1":
+                    set_features(OURS, name, "tso", "on", "gso", "on")
+                stream = run_stream(1)
+                check(ours.data("data_unsent") == 0, f"{way}: {stream.bits / 1e9:.2f} Gb/s once they can", ours.text())
+                for name in "a0", "a1":
+                    set_features(OURS, name, "tx", "off")
+                stream = run_stream(1)
+                check(ours.data("data_unsent") == 0, f"{way}: {stream.bits / 1e9:.2f} Gb/s where they leave the sums to the kernel, too", ours.text())
+            finally:
+                ours.stop()
+                theirs.stop()
+
+
+def discipline(name: str) -> str:
+    """The queueing discipline of an interface of ours, with its handle."""
+    found = re.search(r"qdisc (\S+ \S+: )", inside(OURS, "tc", "qdisc", "show", "dev", name, "root").stdout)
+    return found[1] if found else ""
+
+
+def disciplines(programs: Programs) -> None:
+    """A member that the kernel gave a queueing discipline gets one that keeps the order, for `offload` and `fast`, and the former one
+    back; one that an administrator gave another discipline keeps that."""
+    with cables(programs, ()):
+        for name in "t0", "t1":
+            ip(OURS, "tuntap", "add", name, "mode", "tap")
+            ip(OURS, "link", "set", name, "up")
+        usual = discipline("t0")
+        if not usual or "noqueue" in usual or inside(OURS, "tc", "qdisc", "add", "dev", "t1", "root", "handle", "7:", "tbf", "rate", "1gbit",
+                                                    "burst", "100k", "latency", "1s").returncode:
+            raise Skipped(f"tc shows no queueing discipline, or sets none: {usual}")
+        for way in "--fast", "--offload":
+            start = functools.partial(End, programs, OURS, options=[way], names=("t0", "t1"))
+            ours = start()
+            try:
+                check(within(COMES_UP, lambda: discipline("t0") == OWN_QUEUE), f"{way}: {usual} gives way to one that keeps the order", discipline("t0"))
+                check(discipline("t1") == "tbf 7: ", "what an administrator set stays", discipline("t1"), ours.printed())
+                check("t1: its queueing discipline is neither" in ours.printed() and "t0: its" not in ours.printed(), "with a line", ours.printed())
+                ours.process.send_signal(signal.SIGKILL)
+                ours.process.wait()
+                check(discipline("t0") == OWN_QUEUE, "a killed daemon leaves it", discipline("t0"))
+                ours = start()
+                check(within(COMES_UP, lambda: bool(ours.told())) and discipline("t0") == OWN_QUEUE, "the next one takes it over", discipline("t0"))
+                ours.ends("the daemon")
+                check(discipline("t0") == usual, f"and {usual} is back, as it ends", discipline("t0"))
+                check(discipline("t1") == "tbf 7: ", "what an administrator set stays", discipline("t1"))
+            finally:
+                ours.stop()
+
+
+PARTS: dict[str, Callable[[Programs], None]] = {it.__name__: it for it in (stacks, sums, uncut, disciplines)}
