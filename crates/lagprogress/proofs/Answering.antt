@@ -1,12 +1,11 @@
 -- What each event of a round leaves of the conversations that are held on a port whose cable is healthy.
 use Rattle.lagprogress.proofs.Common.{Bool, IsSome, List, None, Ok, Option, Result, Some, [], ap, arith, cond, eqb, false, filter, inl, inr, ltb, map}
 use Rattle.lagprogress.proofs.Common.{refl, slice_get, subst, suc, sym, true, zero, ℕ, ◌+◌, ◌-◌, ◌<◌, ◌==◌, ◌||◌, ◌∙◌, ◌∷◌, ◌≡◌, ◌≤◌, ◌⊎◌, and_parts}
-use Rattle.lagprogress.proofs.Common.{cases_Bool, nat_tests, none-some, same_Some, list_any, AggId, Choice, Lacpdu, Information, frame_octets, Side}
-use Rattle.lagprogress.proofs.Common.{peer, CollectingDistributing, Machines, same_mux_state, has_chosen, Assignment, On, Wanted, is_among}
-use Rattle.lagprogress.proofs.Common.{after_mark, marker_due, wants_marker, Table, assignment_of, count_conversations, next_identifier, SystemFault}
-use Rattle.lagprogress.proofs.Common.{SystemPort, Carries, IsFrame, MuxIsSettled, aggregator_numbered, distributes_in, distributing, SendsMarkerOf}
-use Rattle.lagprogress.proofs.Common.{TransmitsIf, own_marker, Settling, SystemState, ports_table, settling_parts, all-get, ItemValue, WorldState}
-use Rattle.lagprogress.proofs.Common.{half}
+use Rattle.lagprogress.proofs.Common.{cases_Bool, nat_tests, none-some, list_any, AggId, Choice, Lacpdu, Information, frame_octets, Side, peer}
+use Rattle.lagprogress.proofs.Common.{CollectingDistributing, Machines, same_mux_state, has_chosen, Assignment, On, Wanted, is_among, after_mark}
+use Rattle.lagprogress.proofs.Common.{marker_due, wants_marker, Table, assignment_of, count_conversations, next_identifier, SystemFault, SystemPort}
+use Rattle.lagprogress.proofs.Common.{Carries, IsFrame, MuxIsSettled, aggregator_numbered, distributes_in, distributing, SendsMarkerOf, TransmitsIf}
+use Rattle.lagprogress.proofs.Common.{own_marker, Settling, SystemState, ports_table, settling_parts, all-get, ItemValue, WorldState, half}
 use Rattle.distributor.specs.Conversations.{sum_below}
 use Rattle.slowpdu.specs.Layout.{IsAddress}
 use Rattle.slowpdu.specs.Markers.{WritesMarker}

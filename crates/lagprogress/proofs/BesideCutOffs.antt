@@ -1,11 +1,11 @@
 -- What is cut off does no harm: the other links come up beside it.
-use Rattle.lagprogress.proofs.Common.{Some, ap, arith, false, inl, inr, refl, slice_get, subst, sym, true, ℕ, ◌-◌, ◌∙◌, ◌≡◌, cases_Bool}
-use Rattle.lagprogress.proofs.Common.{nat_tests, same_Some, Choice, Selected, Party, is_selected, same_system, exact_system, system-itself, Info}
-use Rattle.lagprogress.proofs.Common.{Side, peer, Defaulted, Machines, mux_rows, periodic_rows}
-use Rattle.lagprogress.proofs.Common.{receive_rows, RunsToRest, count_down, SystemPort, MuxIsSettled, occupied, SystemState}
-use Rattle.lagprogress.proofs.Common.{all-get, found_place, ports_rise, Algorithms, LinkState, WorldState, half, port_at, EnoughAggregators}
-use Rattle.lagprogress.proofs.Common.{EnoughLinks, OneIsActive, EachLinkAgreesBesideCutOffs, EachLinkComesUpBesideCutOffs, IsBundleBesideCutOffs}
-use Rattle.lagprogress.proofs.Common.{IsCutOff, NoneIsHeldBesideCutOffs, IsHealthyAt, Rounds, WantsAggregator, IsSteady, IsTimed}
+use Rattle.lagprogress.proofs.Common.{Some, ap, arith, false, inl, inr, refl, slice_get, subst, sym, true, ℕ, ◌-◌, ◌∙◌, ◌≡◌, cases_Bool, nat_tests}
+use Rattle.lagprogress.proofs.Common.{same_Some, Choice, Selected, Party, is_selected, same_system, exact_system, system-itself, Info, Side, peer}
+use Rattle.lagprogress.proofs.Common.{Defaulted, Machines, mux_rows, periodic_rows, receive_rows, RunsToRest, count_down, SystemPort, MuxIsSettled}
+use Rattle.lagprogress.proofs.Common.{occupied, SystemState, all-get, found_place, ports_rise, Algorithms, LinkState, WorldState, half, port_at}
+use Rattle.lagprogress.proofs.Common.{EnoughAggregators, EnoughLinks, OneIsActive, EachLinkAgreesBesideCutOffs, EachLinkComesUpBesideCutOffs}
+use Rattle.lagprogress.proofs.Common.{IsBundleBesideCutOffs, IsCutOff, NoneIsHeldBesideCutOffs, IsHealthyAt, Rounds, WantsAggregator, IsSteady}
+use Rattle.lagprogress.proofs.Common.{IsTimed}
 use Rattle.lagprogress.proofs.Bundling.{Meets, agree_of, distribute_of, as_before, ends_at, never_stands, old_port, one_meet, one_wakes}
 use Rattle.lagprogress.proofs.Bundling.{still_aggregators, still_links}
 use Rattle.lagprogress.proofs.Climbing.{Ripe, Rising, rising_first, rising_rows, state_not}

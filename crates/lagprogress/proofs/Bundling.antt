@@ -1,17 +1,14 @@
 -- How the links of a bundle come up and agree.
-use Rattle.lagprogress.proofs.Common.{Bool, IsSome, List, None, Option, Some, [], ap, arith, filter, inl, inr, is_some, length, map}
-use Rattle.lagprogress.proofs.Common.{refl, slice_get, subst, suc, sym, true, zero, ℕ, ◌+◌, ◌-◌, ◌==◌, ◌∙◌, ◌∷◌, ◌≡◌, ◌≢◌, ◌≤◌, ◌⊎◌}
-use Rattle.lagprogress.proofs.Common.{cases_Bool, nat_tests, same_Some, AllByRecursion, AggId, Key}
-use Rattle.lagprogress.proofs.Common.{Choice, Standby, Party, is_selected, itself, Lacpdu, IsCabling, One, Side, Two, end_at, peer}
-use Rattle.lagprogress.proofs.Common.{ports_that_chose, has_chosen, PortConfig, SystemPort}
-use Rattle.lagprogress.proofs.Common.{configured_numbers, or_first}
-use Rattle.lagprogress.proofs.Common.{MuxIsSettled, occupied, IsSound, SystemState}
-use Rattle.lagprogress.proofs.Common.{views, all-get, found_place, Same, agreement_at, Algorithms, link_ends}
+use Rattle.lagprogress.proofs.Common.{Bool, IsSome, List, None, Option, Some, [], ap, arith, filter, inl, inr, is_some, length, map, refl, slice_get}
+use Rattle.lagprogress.proofs.Common.{subst, suc, sym, true, zero, ℕ, ◌+◌, ◌-◌, ◌==◌, ◌∙◌, ◌∷◌, ◌≡◌, ◌≢◌, ◌≤◌, ◌⊎◌, cases_Bool, nat_tests, same_Some}
+use Rattle.lagprogress.proofs.Common.{AllByRecursion, AggId, Key, Choice, Standby, Party, is_selected, itself, Lacpdu, IsCabling, One, Side, Two}
+use Rattle.lagprogress.proofs.Common.{end_at, peer, ports_that_chose, has_chosen, PortConfig, SystemPort, configured_numbers, or_first, MuxIsSettled}
+use Rattle.lagprogress.proofs.Common.{occupied, IsSound, SystemState, views, all-get, found_place, Same, agreement_at, Algorithms, link_ends}
 use Rattle.lagprogress.proofs.Common.{world_setup, IsWorldSound, LinkState, WorldState, half, history_at, port_at, towards, end_is, AllHeard}
 use Rattle.lagprogress.proofs.Common.{BothAreActive, EachActiveLinkAgrees, EachActiveLinkComesUp, EachLinkAgrees, EachLinkComesUp, EndsHealthyCable}
 use Rattle.lagprogress.proofs.Common.{EnoughAggregators, EnoughLinks, IsBundle, OneIsActive, SystemsDiffer, ActiveLinkComesUp, AreApart, Distributes}
-use Rattle.lagprogress.proofs.Common.{HasRoom, LinkComesUp, AtEnd, IsHealthy, IsHealthyAt, Rounds, WantsAggregator}
-use Rattle.lagprogress.proofs.Common.{aggregators_with, ports_with, IsSteady, IsTimed}
+use Rattle.lagprogress.proofs.Common.{HasRoom, LinkComesUp, AtEnd, IsHealthy, IsHealthyAt, Rounds, WantsAggregator, aggregators_with, ports_with}
+use Rattle.lagprogress.proofs.Common.{IsSteady, IsTimed}
 use Rattle.lagprogress.specs.Agreeing.{ActiveLinkAgrees, LinkAgrees}
 use Rattle.lagprogress.proofs.Climbing.{Down, Ripe, Rising, climbed, down_settles, down_takes, down_ticks, rising_first}
 use Rattle.lagprogress.proofs.ComingUp.{Climbs, EndPort, Up, active_at, agrees_now, apart_at, at_end, awake_at, climbs_first, climbs_on, comes_up}
@@ -24,10 +21,9 @@ use Rattle.lagprogress.proofs.Linked.{many}
 use Rattle.lagprogress.proofs.OneActive.{named_at, one_meets}
 use Rattle.lagprogress.proofs.OnePort.{AtPort}
 use Rattle.lagprogress.proofs.OneRound.{Nothing}
-use Rattle.lagprogress.proofs.Progressing.{AtIt, Ends, Fresh, active_meet, healthy_cable, knows_peer, only_cable, only_cabling, said_by}
-use Rattle.lagprogress.proofs.Progressing.{starts}
-use Rattle.lagprogress.proofs.Selecting.{waits_for_room}
+use Rattle.lagprogress.proofs.Progressing.{AtIt, Ends, Fresh, active_meet, healthy_cable, knows_peer, only_cable, only_cabling, said_by, starts}
 use Rattle.lagprogress.proofs.Progressing.{fresh_knows}
+use Rattle.lagprogress.proofs.Selecting.{waits_for_room}
 use Rattle.lagprogress.proofs.SharedLemmas.{Finds, lasted, shared_finds}
 pub use Rattle.lagprogress.proofs.Lasting.{Alike, IsAsBefore, all_by_place, alike_keeps, alike_ticks, as_before, ends_at, old_port, own_system, rounds_alike, rounds_keep, still_aggregators, still_heard, still_links}
 

@@ -1,17 +1,16 @@
 -- The link of each port that carries a conversation, or on which one is held, is up.
 use Rattle.lagprogress.proofs.Common.{Bool, Err, List, None, Ok, Option, Result, Some, ap, arith, cond, eqb, false, inl, inr, length, not, refl}
-use Rattle.lagprogress.proofs.Common.{subst, sym, true, ℕ, ◌&&◌, ◌==◌, ◌||◌, ◌∙◌, ◌≡◌, ◌⊎◌, and_parts, nat_tests, none-some, same_Some}
-use Rattle.lagprogress.proofs.Common.{slice_get_cases, slice_get_within, is_none, AggId, State, StateBits, bits_of, with_synchronization}
-use Rattle.lagprogress.proofs.Common.{encode_then_decode, CollectingDistributing, Setup, ReceiveState, PortDisabled, Machines, partner_synchronized}
-use Rattle.lagprogress.proofs.Common.{same_mux_state, selected, lacpdu_rows, receive_rows, same_receive_state, start_receive, Starts, before_start}
-use Rattle.lagprogress.proofs.Common.{count_down, has_chosen, Assignment, Flushing, Free, On, Wanted, force_result, is_among, move_result, after_down}
-use Rattle.lagprogress.proofs.Common.{Table, assignment_of, next_identifier, first_free, Answer, SystemFault, SystemPort, Call, Configure, Force}
-use Rattle.lagprogress.proofs.Common.{FreesIfDown, Move_conversation, Offer, Receive, Restart, Set_link, Step, Tick, Transmit, changed_party}
-use Rattle.lagprogress.proofs.Common.{choice_with_link, IsFirst, configured_numbers, none_enabled, MuxIsSettled, Offers, system_force_result}
-use Rattle.lagprogress.proofs.Common.{system_move_result, aggregator_numbered, distributing, IsSound, SystemState, port_numbers, Step-frame, rests}
-use Rattle.lagprogress.proofs.Common.{all-get, ports_rise, Step-sound, first_sound, forced_to, moved_to, Algorithms, half, EachReachedHasCarriersUp}
-use Rattle.lagprogress.proofs.Common.{HasPortUp, carrier_of, held_on, takes_down}
-use Rattle.distributor.specs.declared.fault.DistFault.TheVariants as dist
+use Rattle.lagprogress.proofs.Common.{subst, sym, true, ℕ, ◌&&◌, ◌==◌, ◌||◌, ◌∙◌, ◌≡◌, ◌⊎◌, and_parts, nat_tests, none-some, slice_get_cases}
+use Rattle.lagprogress.proofs.Common.{slice_get_within, AggId, State, StateBits, bits_of, with_synchronization, encode_then_decode}
+use Rattle.lagprogress.proofs.Common.{CollectingDistributing, Setup, ReceiveState, PortDisabled, Machines, partner_synchronized, same_mux_state}
+use Rattle.lagprogress.proofs.Common.{selected, lacpdu_rows, receive_rows, same_receive_state, start_receive, Starts, before_start, count_down}
+use Rattle.lagprogress.proofs.Common.{has_chosen, Assignment, Free, On, force_result, is_among, move_result, after_down, Table, assignment_of}
+use Rattle.lagprogress.proofs.Common.{next_identifier, first_free, Answer, SystemFault, SystemPort, Call, Configure, Force, FreesIfDown}
+use Rattle.lagprogress.proofs.Common.{Move_conversation, Offer, Receive, Restart, Set_link, Step, Tick, Transmit, changed_party, choice_with_link}
+use Rattle.lagprogress.proofs.Common.{IsFirst, configured_numbers, none_enabled, MuxIsSettled, Offers, system_force_result, system_move_result}
+use Rattle.lagprogress.proofs.Common.{aggregator_numbered, distributing, IsSound, SystemState, port_numbers, Step-frame, rests, all-get, ports_rise}
+use Rattle.lagprogress.proofs.Common.{Step-sound, first_sound, forced_to, moved_to, Algorithms, half, EachReachedHasCarriersUp, HasPortUp, carrier_of}
+use Rattle.lagprogress.proofs.Common.{held_on, takes_down}
 use Rattle.lagsystem.specs.declared.drive.Reply.TheVariants as reply
 use Rattle.lagprogress.proofs.Answering.{among_port}
 use Rattle.lagprogress.proofs.EachPort.{KeptByCall, KeptBySettling, OfEach, Step-each, first_each}

@@ -1,6 +1,6 @@
 -- How the mux machine of a SELECTED port climbs, and what a round keeps of what holds of one end.
 use Rattle.lagprogress.proofs.Common.{Bool, List, Some, [], ap, arith, cond, false, filter, if◌then◌else◌, inl, inr, not, refl, slice_get, subst, suc}
-use Rattle.lagprogress.proofs.Common.{sym, true, zero, ℕ, ◌&&◌, ◌-◌, ◌==◌, ◌||◌, ◌∙◌, ◌∷◌, ◌≡◌, ◌≤◌, ◌⊎◌, and_parts, nat_tests, none-some, same_Some}
+use Rattle.lagprogress.proofs.Common.{sym, true, zero, ℕ, ◌&&◌, ◌-◌, ◌==◌, ◌||◌, ◌∙◌, ◌∷◌, ◌≡◌, ◌≤◌, ◌⊎◌, and_parts, nat_tests, none-some}
 use Rattle.lagprogress.proofs.Common.{AllByRecursion, list_all, list_any, AggId, Key, Choice, Selected, Standby, Unselected, is_selected}
 use Rattle.lagprogress.proofs.Common.{is_unselected, same_party, itself, party_itself, Lacpdu, party_of, MuxState, Attached, CollectingDistributing}
 use Rattle.lagprogress.proofs.Common.{Detached, Waiting, ReceiveState, Machines, is_synchronized, mux_rows, partner_synchronized, same_mux_state}

@@ -1,14 +1,14 @@
 -- The names that proofs of this crate import, passed on from one place. Declares nothing; tools/proof-imports writes it.
 pub use Rattle.std.proofs.Common.{Bool, Err, IfErr, IfOk, IsSome, IsTrue, List, None, Ok, Option, Result, Some, [], ap, append_assoc, arith, bytes_eq}
 pub use Rattle.std.proofs.Common.{cond, drop, eqb, eqb-true, false, filter, find, get_or, if◌then◌else◌, inl, inr, is_some, length, ltb, map, nat_le}
-pub use Rattle.std.proofs.Common.{nat_lt, not, option_map, position, refl, slice_get, slice_set, subst, suc, sym, take, take-append-drop, take_all}
-pub use Rattle.std.proofs.Common.{true, zero, ℕ, ◌&&◌, ◌++◌, ◌+◌, ◌-◌, ◌<◌, ◌==◌, ◌^◌, ◌||◌, ◌∙◌, ◌∷◌, ◌≡◌, ◌≢◌, ◌≤◌, ◌⊎◌}
-pub use Rattle.std.proofs.lemmas.Bool.{and_parts, cases_Bool, cond_both, false≢true, ltb-true, true≢false}
+pub use Rattle.std.proofs.Common.{nat_lt, not, option_map, position, refl, slice_get, slice_set, subst, suc, sym, take, true, zero, ℕ, ◌&&◌, ◌++◌}
+pub use Rattle.std.proofs.Common.{◌+◌, ◌-◌, ◌<◌, ◌==◌, ◌^◌, ◌||◌, ◌∙◌, ◌∷◌, ◌≡◌, ◌≢◌, ◌≤◌, ◌⊎◌}
+pub use Rattle.std.proofs.lemmas.Bool.{and_parts, cases_Bool, false≢true, ltb-true, true≢false}
 pub use Rattle.std.proofs.lemmas.Bool.Decides.{nat_tests}
 pub use Rattle.std.proofs.lemmas.List.Quantifiers.{position-Some}
 pub use Rattle.std.proofs.lemmas.Option.{none-some, same_Some, slice_get-get_or, slice_get-map, slice_get_cases, slice_get_within}
 pub use Rattle.std.specs.List.{AllByRecursion, enumerate_from, list_all, list_any, position_or_len}
-pub use Rattle.std.specs.Prelude.{IsErrAnd, MatchOption, is_none, unwrap_or}
+pub use Rattle.std.specs.Prelude.{IsErrAnd, unwrap_or}
 pub use Rattle.lagtypes.specs.declared.identifiers.AggId.{AggId}
 pub use Rattle.lagtypes.specs.declared.identifiers.Key.{Key}
 pub use Rattle.lagtypes.specs.declared.identifiers.SystemId.{SystemId}
@@ -52,8 +52,8 @@ pub use Rattle.portmachines.specs.Rows.{AtRest, Fires, FiresTimes, Row, RunsToRe
 pub use Rattle.portmachines.specs.Start.{Starts, before_start}
 pub use Rattle.portmachines.specs.Transmit.{actor_of, after_sending, aged, count_down, is_due, pdu_of}
 pub use Rattle.selection.specs.declared.view.PortView.{PortView}
-pub use Rattle.selection.specs.Choice.{aggregator_of_entry, chosen_aggregator, chosen_if_eligible, has_group_of, has_no_occupant, has_occupant}
-pub use Rattle.selection.specs.Choice.{is_aggregator, lowest, occupants, occupants_share_group, or_else, ports_that_chose}
+pub use Rattle.selection.specs.Choice.{aggregator_of_entry, chosen_if_eligible, has_group_of, has_no_occupant, has_occupant, is_aggregator, lowest}
+pub use Rattle.selection.specs.Choice.{occupants, occupants_share_group, or_else, ports_that_chose}
 pub use Rattle.selection.specs.Limits.{AggregatorsValue, has_room, is_below}
 pub use Rattle.selection.specs.Views.{has_chosen, has_waited, is_detached, is_detached_or_waiting, is_eligible, occupies, stands_by}
 pub use Rattle.selection.proofs.LimitLemmas.{NoneStandsBy, is_next, none_is_next}
@@ -73,17 +73,16 @@ pub use Rattle.lagsystem.specs.declared.system_ports.SystemPort.{SystemPort}
 pub use Rattle.lagsystem.specs.Calls.{Call, Carries, ChangesParty, Configure, Data_frame, Faulty, Force, FreesIfDown, GivesEffect, IsFrame}
 pub use Rattle.lagsystem.specs.Calls.{Move_conversation, Offer, OnlyPortChangesBy, ParsesWhere, Performs, PortAtChangesBy, ProcessesLacpdu, Receive}
 pub use Rattle.lagsystem.specs.Calls.{ReceivedFrame, ReceivesAt, Releases, Restart, Runt, Set_link, SetsPortEnabled, Step, TableRun, ThenSettles}
-pub use Rattle.lagsystem.specs.Calls.{Tick, Transmit, changed_party, choice_with_link, is_own_response, up_or_dropped}
-pub use Rattle.lagsystem.specs.First.{HasJustStarted, IsFirst, config_value, configured_numbers, first_bad_port_number, or_first, refusal_of_limits}
-pub use Rattle.lagsystem.specs.First.{setup_of}
+pub use Rattle.lagsystem.specs.Calls.{Tick, Transmit, changed_party, choice_with_link, is_own_response}
+pub use Rattle.lagsystem.specs.First.{HasJustStarted, IsFirst, config_value, configured_numbers, or_first, setup_of}
 pub use Rattle.lagsystem.specs.ModelView.{IsSent, can_receive, can_receive_in, key_of, model_port_of, none_enabled, number_of_port}
 pub use Rattle.lagsystem.specs.NothingToSettle.{MuxIsSettled, PeriodicIsSettled}
 pub use Rattle.lagsystem.specs.Occupants.{OccupantsAgree, WithinLimit, occupied}
-pub use Rattle.lagsystem.specs.Offers.{GivesOrRefuses, MayBeOffered, Offers, RefusesOffer, assignment_of_frame, longest_frame, system_force_result}
+pub use Rattle.lagsystem.specs.Offers.{GivesOrRefuses, MayBeOffered, Offers, RefusesOffer, assignment_of_frame, system_force_result}
 pub use Rattle.lagsystem.specs.Offers.{system_move_result}
 pub use Rattle.lagsystem.specs.Readers.{aggregator_numbered, collecting, distributes_in, distributing, group_at, number_of_conversation}
 pub use Rattle.lagsystem.specs.Readers.{selected_aggregator}
-pub use Rattle.lagsystem.specs.Sending.{IsLacpduOf, PortTransmits, SendsLacpdu, SendsMarkerOf, TransmitsAt, TransmitsIf, own_marker}
+pub use Rattle.lagsystem.specs.Sending.{IsLacpduOf, SendsLacpdu, SendsMarkerOf, TransmitsAt, TransmitsIf, own_marker}
 pub use Rattle.lagsystem.specs.Settling.{ChoosesIn, PortsChangeBy, PromotesNext, Settling, choice_for, choice_in, held_unless_on, ready_of}
 pub use Rattle.lagsystem.specs.Settling.{with_choice}
 pub use Rattle.lagsystem.specs.Sound.{CallPromise, IsSound}
@@ -99,7 +98,7 @@ pub use Rattle.lagsystem.proofs.OneFrame.{effect_one}
 pub use Rattle.lagsystem.proofs.Performed.{ProcessesOrStays, TableChanges, processes_or_stays, table_changes}
 pub use Rattle.lagsystem.proofs.PromotionLemmas.{choices_keep, promotions_keep}
 pub use Rattle.lagsystem.proofs.Rest.{becomes_slots, can_receive_at_rest, last_slots, marker_slots, offers_slots, rests, same_slots, zip_all}
-pub use Rattle.lagsystem.proofs.Rising.{Rises, all-get, all-set, are_numbered, found_place, if_then, ports_rise}
+pub use Rattle.lagsystem.proofs.Rising.{Rises, all-get, all-set, are_numbered, found_place, ports_rise}
 pub use Rattle.lagsystem.proofs.Sound.{Step-sound, first_sound}
 pub use Rattle.lagsystem.proofs.Steps.{forced_to, moved_to}
 pub use Rattle.lagscript.specs.declared.event.Event.{Event}
@@ -108,19 +107,19 @@ pub use Rattle.lagworld.specs.declared.histories.PortHistory.{PortHistory}
 pub use Rattle.lagworld.specs.declared.reply.Reply.{Reply}
 pub use Rattle.lagworld.specs.Agreement.{agreement_at, agreement_of, end_facts, first_agreement, is_stamp, same_groups}
 pub use Rattle.lagworld.specs.Events.{AfterOffer, AfterReceive, AfterTransmit, Algorithms, DeliversFrom, InHalf, OnLink, WorldEmits, WorldOffers}
-pub use Rattle.lagworld.specs.Events.{WorldReceives, WorldRuns, WorldSteps, cause, cause_or_no_memory, first_event_cause, has_cable, most_events}
-pub use Rattle.lagworld.specs.Events.{offered_item, set_last_lacpdu, side_of, stamp_for, stamped_in, with_collected_in, with_frame_counted}
-pub use Rattle.lagworld.specs.Events.{with_link_at, with_stamp_collected}
+pub use Rattle.lagworld.specs.Events.{WorldReceives, WorldRuns, WorldSteps, cause, cause_or_no_memory, first_event_cause, has_cable, may_take_memory}
+pub use Rattle.lagworld.specs.Events.{most_events, offered_item, set_last_lacpdu, side_of, stamp_for, stamped_in, with_frame_counted, with_link_at}
+pub use Rattle.lagworld.specs.Events.{with_stamp_collected}
 pub use Rattle.lagworld.specs.HalfCalls.{HalfAnswers, HalfTicks, forced_if_accepted, set_taken}
 pub use Rattle.lagworld.specs.Making.{AreFirst}
-pub use Rattle.lagworld.specs.Messages.{payload_in, side_numbered, stamp_count}
+pub use Rattle.lagworld.specs.Messages.{payload_in, stamp_count}
 pub use Rattle.lagworld.specs.ModelWorld.{link_ends, world_setup}
-pub use Rattle.lagworld.specs.Sound.{IsStart, IsSound as IsWorldSound, RefusesNext, RunStops, both_algorithms, next_of}
+pub use Rattle.lagworld.specs.Sound.{IsStart, IsSound as IsWorldSound, RefusesNext, both_algorithms, next_of}
 pub use Rattle.lagworld.specs.State.{HalfState, ItemValue, LinkState, WorldState, accepts, accepts_at, change_count_in, change_link, element_numbered}
-pub use Rattle.lagworld.specs.State.{emptied, half, history_at, is_accepted, is_at_limit, limit_towards, link_at, link_index, port_at, put_on_port}
-pub use Rattle.lagworld.specs.State.{sent_on, taken_in, towards, with_half, with_links, with_towards}
+pub use Rattle.lagworld.specs.State.{emptied, half, history_at, is_accepted, limit_towards, link_at, link_index, port_at, put_on_port, sent_on}
+pub use Rattle.lagworld.specs.State.{taken_in, towards, with_half, with_links, with_towards}
 pub use Rattle.lagworld.proofs.Arrives.{count_heard, read_log}
-pub use Rattle.lagworld.proofs.Cables.{end_is, mapped_set, put_ends, set_elsewhere, set_here, towards_other}
+pub use Rattle.lagworld.proofs.Cables.{end_is, mapped_set, put_ends, set_elsewhere, set_here}
 pub use Rattle.lagworld.proofs.Sides.{half_there, position_there}
 pub use Rattle.lagprogress.specs.Arriving.{Arrives, DeliverHandsUp, DisabledAreUnsynchronized, EachActiveFrameArrives, EachFrameArrives}
 pub use Rattle.lagprogress.specs.Arriving.{EachReachedHasUnsynchronized, GetsPort, HandsUp, InRound, IsHandedUp, OfferGetsPort, Sometime, TakesFrame}
@@ -135,14 +134,19 @@ pub use Rattle.lagprogress.specs.Freed.{CarriersAreUp, EachReachedHasCarriersUp,
 pub use Rattle.lagprogress.specs.Freed.{NoneIsHeldOnActiveEnds, NoneIsHeldOnEnds, NoneIsHeldWhereActive, NothingIsHeld, carrier_of, held_on}
 pub use Rattle.lagprogress.specs.Hearing.{IsNoticed, LeavesUnheard, processed_on, timeout_time}
 pub use Rattle.lagprogress.specs.Heartbeat.{EachCall, IsHeard, IsSilentShortly, LeavesUpAndSilent, takes_down, tick_count}
+pub use Rattle.lagprogress.specs.HostRounds.{ActiveEndsKnowByHosts, AfterTick, AskingIsHostRound, Asks, AsksAfterTick, AsksIn, AtSomeWorld}
+pub use Rattle.lagprogress.specs.HostRounds.{EachActiveLinkAgreesByHosts, EachActiveLinkComesUpByHosts, EachLinkAgreesByHosts, EachLinkComesUpByHosts}
+pub use Rattle.lagprogress.specs.HostRounds.{EndsKnowByHosts, HostRounds, IsBetweenTicks, IsHostRound, IsTickOf, LoopIsHostRound, RoundIsHostRound}
+pub use Rattle.lagprogress.specs.HostRounds.{RoundsAreHostRounds, TickOnce}
 pub use Rattle.lagprogress.specs.Knowing.{HasRecorded, IsKnown}
 pub use Rattle.lagprogress.specs.Passing.{DeliverProcessesLacpdu, EmitSendsLacpdu, EndIsUp, IsHeardOn, IsSentOn}
-pub use Rattle.lagprogress.specs.Played.{Delivers, EachAgrees, EachDistributes, IsOutOfMemoryOrSpent, IsReached, IsReady, IsRefused, LeadsTo}
-pub use Rattle.lagprogress.specs.Played.{NamesNoCable, NothingStaysHeld, PlaysPart, RunsAll, RunsPart, found_nothing}
+pub use Rattle.lagprogress.specs.Played.{Delivers, EachAgrees, EachDistributes, HasTooManyCables, IsOutOfMemoryOrSpent, IsReached, IsReady, LeadsTo}
+pub use Rattle.lagprogress.specs.Played.{NamesNoCable, NothingStaysHeld, PlaysPart, RefusesDelivery, RunsAll, RunsPart, found_nothing}
 pub use Rattle.lagprogress.specs.Progress.{ActiveEndsComeToKnow, EndKnows, EndsComeToKnow, Knows}
 pub use Rattle.lagprogress.specs.Rounds.{AtEnd, IsDeliver, IsHealthy, IsHealthyAt, IsRound, NothingInFlight, OfPort, Rounds, asks_all, asks_ends}
 pub use Rattle.lagprogress.specs.Rounds.{freed_if_both_active, freed_if_one_is, ticks_of_both, up_if_both_active, up_if_one_is}
 pub use Rattle.lagprogress.specs.Selecting.{IsFull, StandsByFull, WantsAggregator, aggregators_with, ports_with}
+pub use Rattle.lagprogress.specs.Shared.{AreOneGroup, DownWereLinkedTo, HasAggregators, LeadToKey, SharesGroup}
 pub use Rattle.lagprogress.specs.Silence.{IsLoud, SilentFor, Speaks}
 pub use Rattle.lagprogress.specs.Steady.{GoesByCalls, IsSteady, IsSteadySystem}
 pub use Rattle.lagprogress.specs.Timers.{IsTimed, PortsAreTimed, most_current_while, most_periodic_timer}

@@ -1,16 +1,15 @@
 -- A port that is cut off hears nothing, and is DEFAULTED in the end.
-use Rattle.lagprogress.proofs.Common.{Bool, List, None, Ok, Option, Result, Some, [], ap, arith, false, if◌then◌else◌, inl, inr, length, not, refl}
-use Rattle.lagprogress.proofs.Common.{slice_get, slice_set, subst, sym, true, ℕ, ◌&&◌, ◌++◌, ◌+◌, ◌-◌, ◌==◌, ◌∙◌, ◌∷◌, ◌≡◌, ◌≤◌, ◌⊎◌, cases_Bool}
-use Rattle.lagprogress.proofs.Common.{nat_tests, none-some, same_Some, One, Side, Two, peer, value_of, ReceiveState, Current, Expired, Machines}
-use Rattle.lagprogress.proofs.Common.{receive_rows, RunsToRest, after_sending, count_down, is_due, SystemFault, Received, SystemPort, ParsesWhere}
-use Rattle.lagprogress.proofs.Common.{Performs, Receive, ReceivesAt, Step, Transmit, can_receive_in, none_enabled, TransmitsAt, TransmitsIf}
-use Rattle.lagprogress.proofs.Common.{SystemState, port_index, can_receive_at_rest, all-get, found_place, Reply, AfterTransmit, Algorithms}
-use Rattle.lagprogress.proofs.Common.{WorldSteps, side_of, HalfState, ItemValue, LinkState, WorldState, change_link, half, is_at_limit, link_at}
-use Rattle.lagprogress.proofs.Common.{link_index, port_at, put_on_port, sent_on, towards, with_half, with_towards, set_elsewhere, set_here}
-use Rattle.lagprogress.proofs.Common.{towards_other, position_there, CutOffIsDefaulted, IsCutOff, timeout_time, IsRound, Rounds, IsSteady, IsTimed}
+use Rattle.lagprogress.proofs.Common.{Bool, List, None, Ok, Option, Result, Some, [], ap, arith, false, inl, inr, not, refl, slice_get, slice_set}
+use Rattle.lagprogress.proofs.Common.{subst, sym, true, ℕ, ◌+◌, ◌-◌, ◌==◌, ◌∙◌, ◌∷◌, ◌≡◌, ◌≤◌, ◌⊎◌, cases_Bool, nat_tests, none-some, same_Some, Side}
+use Rattle.lagprogress.proofs.Common.{peer, value_of, ReceiveState, Machines, receive_rows, RunsToRest, after_sending, count_down, is_due}
+use Rattle.lagprogress.proofs.Common.{SystemFault, Received, SystemPort, ParsesWhere, Performs, Receive, ReceivesAt, Step, Transmit, can_receive_in}
+use Rattle.lagprogress.proofs.Common.{none_enabled, TransmitsAt, TransmitsIf, SystemState, port_index, can_receive_at_rest, all-get, found_place}
+use Rattle.lagprogress.proofs.Common.{Reply, AfterTransmit, Algorithms, WorldSteps, side_of, HalfState, ItemValue, LinkState, WorldState, change_link}
+use Rattle.lagprogress.proofs.Common.{half, link_at, link_index, port_at, put_on_port, sent_on, towards, with_half, with_towards, set_elsewhere}
+use Rattle.lagprogress.proofs.Common.{set_here, position_there, CutOffIsDefaulted, IsCutOff, timeout_time, IsRound, Rounds, IsSteady, IsTimed}
 use Rattle.lagprogress.proofs.OneRound.{Unrolled, one_of_both, unroll}
 use Rattle.lagprogress.proofs.RoundEvents.{asked_half, came_half, round_on, ticks_each, ticks_first}
-use Rattle.lagprogress.proofs.Hearing.{no, Unheard, Within, begins, counts, is_defaulted, receives, rested, unheard_settles, when_up}
+use Rattle.lagprogress.proofs.Hearing.{Unheard, Within, begins, counts, is_defaulted, receives, rested, unheard_settles, when_up}
 use Rattle.lagprogress.proofs.EachRound.{EachAt, RoundKeeps, asks_each, delivers_each, own_keeps, own_ticks, rounds_steady}
 use Rattle.lagsystem.specs.declared.drive.Reply.TheVariants as answer
 use Rattle.lagsystem.specs.declared.received.Received.TheVariants as received

@@ -1,17 +1,16 @@
 -- What the machines of a port keep, every call of a system keeps of each port.
-use Rattle.lagprogress.proofs.Common.{Bool, Err, List, None, Ok, Option, Result, Some, [], ap, arith, false, if◌then◌else◌, inl, inr, length, not}
-use Rattle.lagprogress.proofs.Common.{option_map, refl, slice_get, slice_set, subst, sym, true, ℕ, ◌&&◌, ◌==◌, ◌||◌, ◌∙◌, ◌∷◌, ◌≡◌, ◌⊎◌, cases_Bool}
-use Rattle.lagprogress.proofs.Common.{nat_tests, none-some, AllByRecursion, AggId, Choice, Selected, Standby, is_selected, is_unselected, same_system}
-use Rattle.lagprogress.proofs.Common.{Lacpdu, MuxState, Attached, CollectingDistributing, Detached, Waiting, Setup, Machines, is_synchronized}
-use Rattle.lagprogress.proofs.Common.{mux_rows, partner_synchronized, same_mux_state, RunsPeriodic, receive_rows, RunsToRest, Starts, before_start}
-use Rattle.lagprogress.proofs.Common.{after_sending, count_down, is_due, PortView, chosen_aggregator, AggregatorsValue, is_detached, is_eligible}
-use Rattle.lagprogress.proofs.Common.{marker_due, SystemFault, Received, TookLacpdu, SystemPort, Call, ChangesParty, Configure, Force}
-use Rattle.lagprogress.proofs.Common.{Move_conversation, Offer, PortAtChangesBy, ProcessesLacpdu, Receive, Restart, Set_link, SetsPortEnabled, Step}
-use Rattle.lagprogress.proofs.Common.{Tick, Transmit, HasJustStarted, IsFirst, setup_of, system_force_result, system_move_result, TransmitsAt}
-use Rattle.lagprogress.proofs.Common.{TransmitsIf, ChoosesIn, PortsChangeBy, PromotesNext, Settling, choice_for, choice_in, ready_of, with_choice}
-use Rattle.lagprogress.proofs.Common.{SystemState, aggregators_value, port_index, with_system_ports, selection_view, views, reply_has_lacpdu, subtype}
-use Rattle.lagprogress.proofs.Common.{next_stands, ProcessesOrStays, processes_or_stays, choices_keep, promotions_keep, becomes_slots, last_slots}
-use Rattle.lagprogress.proofs.Common.{marker_slots, offers_slots, same_slots, zip_all, all-get, all-set, found_place}
+use Rattle.lagprogress.proofs.Common.{Bool, Err, List, None, Ok, Option, Result, Some, [], ap, arith, false, inl, inr, length, not, refl, slice_get}
+use Rattle.lagprogress.proofs.Common.{slice_set, subst, sym, true, ℕ, ◌&&◌, ◌==◌, ◌||◌, ◌∙◌, ◌∷◌, ◌≡◌, ◌⊎◌, cases_Bool, nat_tests, none-some}
+use Rattle.lagprogress.proofs.Common.{AllByRecursion, AggId, Choice, Selected, Standby, is_selected, Lacpdu, MuxState, Attached}
+use Rattle.lagprogress.proofs.Common.{CollectingDistributing, Setup, Machines, is_synchronized, mux_rows, partner_synchronized, same_mux_state}
+use Rattle.lagprogress.proofs.Common.{RunsPeriodic, receive_rows, RunsToRest, Starts, before_start, after_sending, count_down, is_due, PortView}
+use Rattle.lagprogress.proofs.Common.{AggregatorsValue, is_eligible, marker_due, SystemFault, Received, TookLacpdu, SystemPort, Call, ChangesParty}
+use Rattle.lagprogress.proofs.Common.{Configure, Force, Move_conversation, Offer, PortAtChangesBy, ProcessesLacpdu, Receive, Restart, Set_link}
+use Rattle.lagprogress.proofs.Common.{SetsPortEnabled, Step, Tick, Transmit, HasJustStarted, IsFirst, setup_of, system_force_result}
+use Rattle.lagprogress.proofs.Common.{system_move_result, TransmitsAt, TransmitsIf, ChoosesIn, PortsChangeBy, PromotesNext, Settling, choice_for}
+use Rattle.lagprogress.proofs.Common.{ready_of, with_choice, SystemState, aggregators_value, port_index, with_system_ports, views, reply_has_lacpdu}
+use Rattle.lagprogress.proofs.Common.{subtype, next_stands, ProcessesOrStays, processes_or_stays, choices_keep, promotions_keep, becomes_slots}
+use Rattle.lagprogress.proofs.Common.{last_slots, marker_slots, offers_slots, same_slots, zip_all, all-get, all-set, found_place}
 use Rattle.lagsystem.proofs.Preserves.{lacpdu_subtype}
 use Rattle.lagsystem.specs.declared.drive.Reply.{Reply}
 use Rattle.lagsystem.specs.declared.drive.Reply.TheVariants as reply

@@ -1,12 +1,11 @@
 -- A port of a healthy cable is drained of the conversations that are held on it.
-use Rattle.lagprogress.proofs.Common.{Bool, Err, IsSome, List, None, Ok, Option, Result, Some, [], ap, arith, cond, false, inl, inr, length, ltb}
-use Rattle.lagprogress.proofs.Common.{refl, slice_get, slice_set, subst, sym, true, ℕ, ◌+◌, ◌-◌, ◌^◌, ◌∙◌, ◌∷◌, ◌≡◌, ◌≤◌, ◌⊎◌, cases_Bool, nat_tests}
+use Rattle.lagprogress.proofs.Common.{Err, IsSome, List, None, Ok, Option, Result, Some, [], ap, arith, cond, false, inl, inr, length, ltb, refl}
+use Rattle.lagprogress.proofs.Common.{slice_get, slice_set, subst, sym, true, ℕ, ◌+◌, ◌-◌, ◌^◌, ◌∙◌, ◌∷◌, ◌≡◌, ◌≤◌, ◌⊎◌, cases_Bool, nat_tests}
 use Rattle.lagprogress.proofs.Common.{none-some, same_Some, AllByRecursion, Choice, is_selected, Lacpdu, One, Side, Two, peer, Machines}
-use Rattle.lagprogress.proofs.Common.{after_sending, is_due, after_tick, marker_due, Table, assignment_of, next_identifier, SystemFault, SystemPort}
-use Rattle.lagprogress.proofs.Common.{Receive, Step, Tick, Transmit, SendsMarkerOf, TransmitsAt, TransmitsIf, Settling, CallPromise, SystemState}
-use Rattle.lagprogress.proofs.Common.{port_index, ports_table, settling_parts, TableChanges, table_changes, all-get, found_place, ports_rise, Event}
-use Rattle.lagprogress.proofs.Common.{Reply, Algorithms, WorldRuns, WorldSteps, side_of, ItemValue, WorldState, half, port_at, set_here, IsRound}
-use Rattle.lagprogress.proofs.Common.{NothingInFlight, Rounds, asks_all, IsSteady}
+use Rattle.lagprogress.proofs.Common.{after_sending, is_due, after_tick, Table, assignment_of, next_identifier, SystemFault, SystemPort, Receive}
+use Rattle.lagprogress.proofs.Common.{Step, Tick, Transmit, TransmitsAt, TransmitsIf, Settling, CallPromise, SystemState, ports_table, settling_parts}
+use Rattle.lagprogress.proofs.Common.{all-get, found_place, ports_rise, Event, Reply, Algorithms, WorldRuns, WorldSteps, side_of, ItemValue}
+use Rattle.lagprogress.proofs.Common.{WorldState, half, port_at, set_here, IsRound, NothingInFlight, Rounds, asks_all, IsSteady}
 use Rattle.lagprogress.proofs.EachPort.{OfEach}
 use Rattle.lagsystem.specs.declared.drive.Reply.TheVariants as answer
 use Rattle.lagscript.specs.declared.event.Event.TheVariants as event

@@ -1,12 +1,12 @@
 -- What ticks, receipts and settlings leave of a port at an end of a cable whose other end sends LACPDUs of one kind.
 use Rattle.lagprogress.proofs.Common.{Bool, Some, ap, arith, false, if◌then◌else◌, inl, inr, not, refl, slice_get, subst, sym, true, ℕ, ◌&&◌, ◌-◌}
 use Rattle.lagprogress.proofs.Common.{◌==◌, ◌||◌, ◌∙◌, ◌≡◌, ◌≤◌, ◌⊎◌, nat_tests, same_Some, Choice, Unselected, StateBits, is_selected, same_party}
-use Rattle.lagprogress.proofs.Common.{bits_of, party_itself, Lacpdu, party_of, MuxState, Attached, CollectingDistributing, Detached, Waiting, Expired}
-use Rattle.lagprogress.proofs.Common.{Machines, is_synchronized, mux_rows, partner_synchronized, same_mux_state, RunsPeriodic, periodic_rows}
-use Rattle.lagprogress.proofs.Common.{is_maintained, lacpdu_rows, receive_rows, recorded_synchronization, same_receive_state, AtRest, RunsToRest}
-use Rattle.lagprogress.proofs.Common.{count_down, SystemPort, OnlyPortChangesBy, ProcessesLacpdu, ThenSettles, can_receive, can_receive_in}
-use Rattle.lagprogress.proofs.Common.{none_enabled, IsSound, SystemState, port_numbers, keeps_place, can_receive_at_rest, Rises, all-get, ports_rise}
-use Rattle.lagprogress.proofs.Common.{timeout_time, HasRecorded}
+use Rattle.lagprogress.proofs.Common.{bits_of, party_itself, Lacpdu, party_of, MuxState, Detached, Waiting, Expired, Machines, is_synchronized}
+use Rattle.lagprogress.proofs.Common.{mux_rows, partner_synchronized, same_mux_state, RunsPeriodic, periodic_rows, is_maintained, lacpdu_rows}
+use Rattle.lagprogress.proofs.Common.{receive_rows, recorded_synchronization, same_receive_state, AtRest, RunsToRest, count_down, SystemPort}
+use Rattle.lagprogress.proofs.Common.{OnlyPortChangesBy, ProcessesLacpdu, ThenSettles, can_receive, can_receive_in, none_enabled, IsSound}
+use Rattle.lagprogress.proofs.Common.{SystemState, port_numbers, keeps_place, can_receive_at_rest, Rises, all-get, ports_rise, timeout_time}
+use Rattle.lagprogress.proofs.Common.{HasRecorded}
 use Rattle.lagprogress.proofs.EachPort.{KeptBySettling, OfEach, settling_each}
 use Rattle.lagprogress.proofs.Heartbeat.{raised}
 use Rattle.lagprogress.proofs.Hearing.{EnabledKeep, no, not_down, times_keep}

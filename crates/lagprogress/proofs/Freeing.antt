@@ -1,19 +1,18 @@
 -- No conversation stays held on a port of a healthy cable of a bundle.
-use Rattle.lagprogress.proofs.Common.{Bool, List, None, Option, Some, ap, arith, cond, eqb, false, inl, inr, length, ltb, refl, subst, sym, true, ℕ}
-use Rattle.lagprogress.proofs.Common.{◌&&◌, ◌+◌, ◌-◌, ◌<◌, ◌∙◌, ◌≡◌, ◌≤◌, ◌⊎◌, nat_tests, none-some, same_Some, One, Side, Assignment, Flushing, Free}
-use Rattle.lagprogress.proofs.Common.{On, Wanted, is_among, after_mark, after_release, after_tick, IsConversation, Table, assignment_of}
-use Rattle.lagprogress.proofs.Common.{held_unless_on, SystemState, Reply, Algorithms, WorldSteps, LinkState, WorldState, half, port_at, BothAreActive}
-use Rattle.lagprogress.proofs.Common.{IsBundle, OneIsActive, CarriersAreUp, HasIdentifierLeft, NoneIsHeld, NoneIsHeldOn, NoneIsHeldOnActiveEnds}
-use Rattle.lagprogress.proofs.Common.{NoneIsHeldOnEnds, NoneIsHeldWhereActive, NothingIsHeld, carrier_of, held_on, IsHealthyAt, IsRound, Rounds}
+use Rattle.lagprogress.proofs.Common.{List, None, Option, Some, ap, arith, inl, inr, length, refl, subst, sym, ℕ, ◌+◌, ◌-◌, ◌<◌, ◌∙◌, ◌≡◌, ◌≤◌, ◌⊎◌}
+use Rattle.lagprogress.proofs.Common.{nat_tests, none-some, same_Some, One, Side, Assignment, Flushing, On, Wanted, after_mark, after_release}
+use Rattle.lagprogress.proofs.Common.{after_tick, IsConversation, Table, assignment_of, held_unless_on, SystemState, Reply, Algorithms, WorldSteps}
+use Rattle.lagprogress.proofs.Common.{LinkState, WorldState, half, port_at, BothAreActive, IsBundle, OneIsActive, CarriersAreUp, HasIdentifierLeft}
+use Rattle.lagprogress.proofs.Common.{NoneIsHeld, NoneIsHeldOn, NoneIsHeldOnActiveEnds, NoneIsHeldOnEnds, NoneIsHeldWhereActive, NothingIsHeld}
+use Rattle.lagprogress.proofs.Common.{carrier_of, held_on, IsHealthyAt, IsRound, Rounds}
 use Rattle.lagprogress.proofs.RoundEvents.{asked_half, came_half, round_on, ticks_first}
 use Rattle.lagprogress.proofs.EachRound.{rounds_steady}
-use Rattle.lagsystem.specs.declared.drive.Reply.TheVariants as answer
 use Rattle.lagscript.specs.declared.event.Event.TheVariants as event
 use Rattle.lagprogress.proofs.Bundling.{Meets, Nowhere, awake_of, both_active, one_active, rounds_keep, said, ups_of}
 use Rattle.lagprogress.proofs.Climbing.{PartnerInSync}
 use Rattle.lagprogress.proofs.ComingUp.{Up, at_end, end_here, splits, told, zero_on}
 use Rattle.lagprogress.proofs.Emptying.{rounds_rest}
-use Rattle.lagprogress.proofs.Holding.{Fine, is_port}
+use Rattle.lagprogress.proofs.Holding.{Fine}
 use Rattle.lagprogress.proofs.Linked.{each_both, each_map}
 use Rattle.lagprogress.proofs.OnePort.{AtPort}
 use Rattle.lagprogress.proofs.TableSteps.{Turning, Turns, asks_turn, comes_turn, same_turns, ticks_turn, turns_through}

@@ -2,10 +2,10 @@
 use Rattle.lagprogress.proofs.Common.{Err, List, None, Ok, Option, Result, Some, ap, arith, inl, inr, refl, slice_get, subst, sym, true, ℕ, ◌∙◌, ◌≡◌}
 use Rattle.lagprogress.proofs.Common.{◌≤◌, cases_Bool, none-some, same_Some, AllByRecursion, Choice, Lacpdu, One, Side, peer, Machines, receive_rows}
 use Rattle.lagprogress.proofs.Common.{RunsToRest, count_down, PortConfig, SystemFault, Received, SystemPort, Carries, IsFrame, OnlyPortChangesBy}
-use Rattle.lagprogress.proofs.Common.{ProcessesLacpdu, Receive, ReceivesAt, ThenSettles, Tick, configured_numbers, none_enabled, CallPromise}
-use Rattle.lagprogress.proofs.Common.{SystemState, aggregators_value, port_index, port_numbers, processes_or_stays, rests, all-get, found_place}
-use Rattle.lagprogress.proofs.Common.{Event, Reply, Algorithms, WorldSteps, LinkState, WorldState, half, port_at, towards, AllHeard, EndsHealthyCable}
-use Rattle.lagprogress.proofs.Common.{IsHealthyAt, IsRound, Rounds, IsSteady}
+use Rattle.lagprogress.proofs.Common.{ProcessesLacpdu, Receive, ReceivesAt, ThenSettles, configured_numbers, none_enabled, CallPromise, SystemState}
+use Rattle.lagprogress.proofs.Common.{aggregators_value, port_index, port_numbers, processes_or_stays, rests, all-get, found_place, Event, Reply}
+use Rattle.lagprogress.proofs.Common.{Algorithms, WorldSteps, LinkState, WorldState, half, port_at, towards, AllHeard, EndsHealthyCable, IsHealthyAt}
+use Rattle.lagprogress.proofs.Common.{IsRound, Rounds, IsSteady}
 use Rattle.slowpdu.specs.declared.pdu.Pdu.TheVariants as pdu
 use Rattle.lagsystem.specs.declared.drive.Reply.TheVariants as answer
 use Rattle.lagscript.specs.declared.event.Event.TheVariants as event

@@ -1,13 +1,12 @@
 -- What a healthy round leaves of conversations that are held on a port whose cable is healthy: their markers are answered.
-use Rattle.lagprogress.proofs.Common.{List, None, Some, ap, arith, drop, eqb, false, inl, inr, length, ltb, sym, true, ℕ, ◌&&◌, ◌+◌, ◌<◌, ◌∙◌, ◌≡◌}
-use Rattle.lagprogress.proofs.Common.{◌≤◌, ◌⊎◌, cond_both, ltb-true, nat_tests, none-some, Marker, Information, Response, Pdu, no_fault, one_pdu}
-use Rattle.lagprogress.proofs.Common.{Side, peer, Assignment, Flushing, Free, On, Wanted, is_among, after_mark, after_release, after_tick, Carries}
-use Rattle.lagprogress.proofs.Common.{Data_frame, Faulty, IsFrame, ReceivedFrame, Runt, held_unless_on, ItemValue}
+use Rattle.lagprogress.proofs.Common.{List, Some, ap, arith, drop, eqb, false, length, sym, true, ℕ, ◌+◌, ◌<◌, ◌∙◌, ◌≡◌, ◌≤◌, ◌⊎◌, nat_tests}
+use Rattle.lagprogress.proofs.Common.{none-some, Marker, Information, Response, Pdu, no_fault, one_pdu, Side, peer, Assignment, Flushing, Free, On}
+use Rattle.lagprogress.proofs.Common.{Wanted, is_among, after_mark, after_release, after_tick, Carries, Data_frame, Faulty, IsFrame, ReceivedFrame}
+use Rattle.lagprogress.proofs.Common.{Runt, held_unless_on, ItemValue}
 use Rattle.slowpdu.specs.declared.pdu.Pdu.TheVariants as pdu
 use Rattle.slowpdu.specs.declared.fault.WireFault.{WireFault}
 use Rattle.slowpdu.specs.Faults.{fault_of}
 use Rattle.slowpdu.specs.Pdus.{ReadsPdu}
-use Rattle.lagprogress.proofs.Hearing.{no}
 pub use Rattle.lagprogress.proofs.Linked.{Has, has_last, has_on}
 
 -- the marker that port p of the system with this address sends, and its response

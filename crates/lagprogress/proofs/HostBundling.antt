@@ -1,12 +1,11 @@
 -- How the links of a bundle come up in healthy rounds of hosts.
-use Rattle.lagprogress.proofs.Common.{Some, arith, inl, inr, refl, slice_get, subst, sym, true, ℕ, ◌+◌, ◌-◌, ◌∙◌, ◌≡◌, ◌≢◌, ◌≤◌}
-use Rattle.lagprogress.proofs.Common.{cases_Bool, AllByRecursion, is_selected, One, Side, Two, peer, SystemPort, all-get, Algorithms}
-use Rattle.lagprogress.proofs.Common.{LinkState, WorldState, half, port_at, BothAreActive, IsBundle, OneIsActive, Distributes, AtEnd, IsHealthyAt}
-use Rattle.lagprogress.proofs.Common.{IsSteady, IsSome, None, Option, is_some, suc, Same, agreement_at, IsWorldSound, history_at, towards}
-use Rattle.lagprogress.specs.HostRounds.{EachActiveLinkAgreesByHosts, EachActiveLinkComesUpByHosts, EachLinkAgreesByHosts, EachLinkComesUpByHosts}
-use Rattle.lagprogress.specs.HostRounds.{HostRounds}
-use Rattle.lagprogress.proofs.Bundling.{Awake, IsAsBefore, all_by_place, both_wake, down_first, down_keeps, ends_at, heard_holds, is_chosen, old_port, one_wakes}
-use Rattle.lagprogress.proofs.Bundling.{own_system, said, still_heard, still_links}
+use Rattle.lagprogress.proofs.Common.{IsSome, None, Option, Some, arith, inl, inr, is_some, refl, slice_get, subst, suc, sym, true, ℕ, ◌+◌, ◌-◌, ◌∙◌}
+use Rattle.lagprogress.proofs.Common.{◌≡◌, ◌≢◌, ◌≤◌, cases_Bool, AllByRecursion, is_selected, One, Side, Two, peer, SystemPort, all-get, Same}
+use Rattle.lagprogress.proofs.Common.{agreement_at, Algorithms, IsWorldSound, LinkState, WorldState, half, history_at, port_at, towards}
+use Rattle.lagprogress.proofs.Common.{BothAreActive, IsBundle, OneIsActive, Distributes, EachActiveLinkAgreesByHosts, EachActiveLinkComesUpByHosts}
+use Rattle.lagprogress.proofs.Common.{EachLinkAgreesByHosts, EachLinkComesUpByHosts, HostRounds, AtEnd, IsHealthyAt, IsSteady}
+use Rattle.lagprogress.proofs.Bundling.{Awake, IsAsBefore, all_by_place, both_wake, down_first, down_keeps, ends_at, heard_holds, is_chosen, old_port}
+use Rattle.lagprogress.proofs.Bundling.{one_wakes, own_system, said, still_heard, still_links}
 use Rattle.lagprogress.proofs.Claims.{IsNamed}
 use Rattle.lagprogress.proofs.Climbing.{Down, Ripe, Rising, climbed, down_ticks}
 use Rattle.lagprogress.proofs.ComingUp.{active_at}

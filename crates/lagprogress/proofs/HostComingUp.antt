@@ -1,20 +1,21 @@
 -- How both ends of a cable come to distribute, healthy round by healthy round of hosts.
-use Rattle.lagprogress.proofs.Common.{Bool, Some, ap, arith, inl, inr, refl, subst, sym, true, ℕ, ◌+◌, ◌-◌, ◌∙◌, ◌≡◌, ◌≤◌, ◌⊎◌, is_selected, Lacpdu, One, Side}
-use Rattle.lagprogress.proofs.Common.{peer, Machines, SystemPort, MuxIsSettled, machines_of, all-get, Algorithms, WorldState, half, Distributes}
-use Rattle.lagprogress.proofs.Common.{OfPort, IsTimed, List, false, is_some, map, option_map, slice_get, suc, unwrap_or, Party, group_of, same_group, party_of}
-use Rattle.lagprogress.proofs.Common.{Two, CollectingDistributing, same_mux_state, group_at, Same, agreement_at, agreement_of, end_facts, is_stamp, same_groups}
-use Rattle.lagprogress.proofs.Common.{ItemValue, LinkState, change_count_in, history_at, link_ends}
+use Rattle.lagprogress.proofs.Common.{Bool, List, Some, ap, arith, false, inl, inr, is_some, map, option_map, refl, slice_get, subst, suc, sym, true}
+use Rattle.lagprogress.proofs.Common.{ℕ, ◌+◌, ◌-◌, ◌∙◌, ◌≡◌, ◌≤◌, ◌⊎◌, unwrap_or, Party, is_selected, group_of, same_group, Lacpdu, party_of, One}
+use Rattle.lagprogress.proofs.Common.{Side, Two, peer, CollectingDistributing, Machines, same_mux_state, SystemPort, MuxIsSettled, group_at}
+use Rattle.lagprogress.proofs.Common.{machines_of, all-get, Same, agreement_at, agreement_of, end_facts, is_stamp, same_groups, Algorithms, link_ends}
+use Rattle.lagprogress.proofs.Common.{ItemValue, LinkState, WorldState, change_count_in, half, history_at, Distributes, HostRounds, IsHostRound}
+use Rattle.lagprogress.proofs.Common.{OfPort, IsTimed}
 use Rattle.lagscript.specs.declared.event.Event.TheVariants as event
 use Rattle.lagprogress.proofs.ComingUp.{all_same, turned}
 use Rattle.lagprogress.proofs.HostStamps.{stamped_between, stamped_tick}
 use Rattle.lagprogress.proofs.OneCable.{OnCable, cable, deliver_ends, emits, ticks}
 use Rattle.lagprogress.proofs.Quieting.{quiet_ends}
 use Rattle.lagprogress.proofs.Stamps.{Stamped}
-use Rattle.lagprogress.specs.HostRounds.{HostRounds, IsHostRound}
 use Rattle.lagprogress.proofs.Claims.{IsNamed, Owes}
-use Rattle.lagprogress.proofs.Climbing.{PartnerInSync, Rising, distributes_now, partner_along, rising_along, rising_first, ticks_partner, ticks_rising}
+use Rattle.lagprogress.proofs.Climbing.{PartnerInSync, Rising, distributes_now, partner_along, rising_along, rising_first, ticks_partner}
+use Rattle.lagprogress.proofs.Climbing.{ticks_rising}
 use Rattle.lagprogress.proofs.EachPort.{OfEach}
-use Rattle.lagprogress.proofs.EndFacts.{Learnt, Synced, activity}
+use Rattle.lagprogress.proofs.EndFacts.{Learnt, Synced, activity, wait_of}
 use Rattle.lagprogress.proofs.HostEach.{hosts_on}
 use Rattle.lagprogress.proofs.HostKnowing.{FreshAt, able_fresh, awake_peer, fits_before, fits_fresh, knows_peer, stays_fresh}
 use Rattle.lagprogress.proofs.HostRound.{KeptBetween, holds_on, host_holds, host_nears, of_side}
@@ -22,7 +23,6 @@ use Rattle.lagprogress.proofs.Linked.{Fits, at_end, each_map, end_here, end_with
 use Rattle.lagprogress.proofs.OnePort.{AtPort}
 use Rattle.lagprogress.proofs.OneRound.{Nothing, join, ticked}
 use Rattle.lagprogress.proofs.Progressing.{AtIt, beside, emptied, mode}
-use Rattle.lagprogress.proofs.EndFacts.{wait_of}
 use Rattle.lagprogress.proofs.Sounding.{Sounds, all_leave}
 
 module _ (at : Side → ℕ) (w : Side → Lacpdu) (named : (t : Side) → IsNamed (w t))

@@ -1,11 +1,10 @@
 -- What healthy rounds of hosts keep of each port of a system.
-use Rattle.lagprogress.proofs.Common.{Bool, List, Option, Some, ap, arith, false, refl, slice_get, subst, suc, sym, true, zero, ℕ, ◌+◌}
-use Rattle.lagprogress.proofs.Common.{◌∙◌, ◌≡◌, nat_tests, Key, SystemId, Side, peer, Machines, receive_rows, RunsToRest, count_down, Table, PortConfig}
-use Rattle.lagprogress.proofs.Common.{SystemPort, configured_numbers, none_enabled, SystemState, port_numbers, with_system_ports, with_table, rests, all-get}
-use Rattle.lagprogress.proofs.Common.{ports_rise, Algorithms, WorldState, half, IsSteady}
+use Rattle.lagprogress.proofs.Common.{Bool, List, Option, Some, ap, arith, false, refl, slice_get, subst, suc, sym, true, zero, ℕ, ◌+◌, ◌∙◌, ◌≡◌}
+use Rattle.lagprogress.proofs.Common.{nat_tests, Key, SystemId, Side, peer, Machines, receive_rows, RunsToRest, count_down, Table, PortConfig}
+use Rattle.lagprogress.proofs.Common.{SystemPort, configured_numbers, none_enabled, SystemState, port_numbers, with_system_ports, with_table, rests}
+use Rattle.lagprogress.proofs.Common.{all-get, ports_rise, Algorithms, WorldState, half, HostRounds, IsHostRound, IsSteady}
 use Rattle.lagsystem.specs.declared.drive.Reply.TheVariants as answer
 use Rattle.lagscript.specs.declared.event.Event.TheVariants as event
-use Rattle.lagprogress.specs.HostRounds.{HostRounds, IsHostRound}
 use Rattle.lagprogress.proofs.ComingUp.{events_keep}
 use Rattle.lagprogress.proofs.EachPort.{OfEach, Tick-each}
 use Rattle.lagprogress.proofs.EachRound.{EachAt, RoundKeeps, asks_each, delivers_each}

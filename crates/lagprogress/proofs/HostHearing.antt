@@ -1,8 +1,7 @@
 -- What a healthy round of hosts leaves of a cable, with what an end has taken.
-use Rattle.lagprogress.proofs.Common.{Bool, arith, inl, inr, is_some, refl, subst, sym, true, ℕ, ◌-◌, ◌∙◌, ◌≡◌, ◌≤◌, ◌⊎◌}
-use Rattle.lagprogress.proofs.Common.{AllByRecursion, Lacpdu, One, Side, Two, peer, Machines, is_stamp, Algorithms, WorldState, change_count_in, half}
-use Rattle.lagprogress.proofs.Common.{history_at, taken_in, NothingInFlight}
-use Rattle.lagprogress.specs.HostRounds.{IsHostRound}
+use Rattle.lagprogress.proofs.Common.{Bool, arith, inl, inr, is_some, refl, subst, sym, true, ℕ, ◌-◌, ◌∙◌, ◌≡◌, ◌≤◌, ◌⊎◌, AllByRecursion, Lacpdu, One}
+use Rattle.lagprogress.proofs.Common.{Side, Two, peer, Machines, is_stamp, Algorithms, WorldState, change_count_in, half, history_at, taken_in}
+use Rattle.lagprogress.proofs.Common.{IsHostRound, NothingInFlight}
 use Rattle.lagprogress.proofs.Claims.{IsNamed, Wakeful}
 use Rattle.lagprogress.proofs.EndFacts.{Along, CanSound, Learnt, activity, wait_of}
 use Rattle.lagprogress.proofs.HostRound.{holds_on, of_side}

@@ -1,14 +1,13 @@
 -- Which runs are healthy rounds of hosts.
-use Rattle.lagprogress.proofs.Common.{suc, zero, Bool, Err, List, Ok, Option, Result, Some, [], ap, false, inl, inr, refl, slice_get, subst}
-use Rattle.lagprogress.proofs.Common.{sym, true, ℕ, ◌++◌, ◌∙◌, ◌∷◌, ◌≡◌, cases_Bool, none-some, same_Some, AllByRecursion, One, Side}
-use Rattle.lagprogress.proofs.Common.{Two, peer, Machines, is_due, after_sending, SystemFault, SystemPort, Step}
-use Rattle.lagprogress.proofs.Common.{Transmit, SystemState, machines_of, port_index, all-get, found_place, ports_rise, Event, Reply}
-use Rattle.lagprogress.proofs.Common.{Algorithms, WorldRuns, WorldSteps, LinkState, WorldState, half, port_at, IsDeliver, IsHealthyAt}
-use Rattle.lagprogress.proofs.Common.{OfPort, asks_all, ticks_of_both, IsSteady}
+use Rattle.lagprogress.proofs.Common.{Bool, Err, List, Ok, Option, Result, Some, [], ap, false, inl, inr, refl, slice_get, subst, suc, sym, true}
+use Rattle.lagprogress.proofs.Common.{zero, ℕ, ◌++◌, ◌∙◌, ◌∷◌, ◌≡◌, cases_Bool, none-some, same_Some, AllByRecursion, One, Side, Two, peer, Machines}
+use Rattle.lagprogress.proofs.Common.{after_sending, is_due, SystemFault, SystemPort, Step, Transmit, SystemState, machines_of, port_index, all-get}
+use Rattle.lagprogress.proofs.Common.{found_place, ports_rise, Event, Reply, Algorithms, WorldRuns, WorldSteps, LinkState, WorldState, half, port_at}
+use Rattle.lagprogress.proofs.Common.{AfterTick, AskingIsHostRound, Asks, AsksAfterTick, AsksIn, AtSomeWorld, IsBetweenTicks, IsTickOf}
+use Rattle.lagprogress.proofs.Common.{LoopIsHostRound, RoundIsHostRound, RoundsAreHostRounds, TickOnce, IsDeliver, IsHealthyAt, OfPort, asks_all}
+use Rattle.lagprogress.proofs.Common.{ticks_of_both, IsSteady}
 use Rattle.lagsystem.specs.declared.drive.Reply.TheVariants as answer
 use Rattle.lagscript.specs.declared.event.Event.TheVariants as event
-use Rattle.lagprogress.specs.HostRounds.{AfterTick, AskingIsHostRound, Asks, AsksAfterTick, AsksIn, AtSomeWorld, IsBetweenTicks, IsTickOf}
-use Rattle.lagprogress.specs.HostRounds.{IsHostLoop, LoopIsHostRound, RoundIsHostRound, RoundsAreHostRounds, TickOnce}
 use Rattle.lagprogress.proofs.Bundling.{ends_at}
 use Rattle.lagprogress.proofs.EachPort.{OfEach, Tick-each}
 use Rattle.lagprogress.proofs.EachRound.{EachAt, asks_each, delivers_each, own_keeps, own_ticks, rounds_steady}

@@ -1,22 +1,21 @@
 -- What a healthy round of hosts leaves of a cable: an LACPDU of an end is nearer by a tick, or was heard.
-use Rattle.lagprogress.proofs.Common.{Bool, List, Some, [], ap, arith, false, inl, inr, refl, subst, sym, true, ℕ, ◌-◌, ◌∙◌, ◌∷◌}
-use Rattle.lagprogress.proofs.Common.{◌≡◌, ◌≤◌, ◌⊎◌, nat_tests, same_Some, Lacpdu, One, Side, Two, peer}
-use Rattle.lagprogress.proofs.Common.{Machines, periodic_rows, receive_rows, AtRest, RunsToRest, after_sending, count_down, is_due}
-use Rattle.lagprogress.proofs.Common.{SystemState, machines_of, Event, Reply, Algorithms, WorldRuns, WorldSteps, side_of, ItemValue, WorldState, half}
-use Rattle.lagprogress.proofs.Common.{None, limit_towards, timeout_time, IsHealthyAt, OfPort}
+use Rattle.lagprogress.proofs.Common.{Bool, List, None, Some, [], ap, arith, false, inl, inr, refl, subst, sym, true, ℕ, ◌-◌, ◌∙◌, ◌∷◌, ◌≡◌, ◌≤◌, ◌⊎◌}
+use Rattle.lagprogress.proofs.Common.{nat_tests, same_Some, Lacpdu, One, Side, Two, peer, Machines, periodic_rows, receive_rows, AtRest, RunsToRest}
+use Rattle.lagprogress.proofs.Common.{after_sending, count_down, is_due, SystemState, machines_of, Event, Reply, Algorithms, WorldRuns, WorldSteps}
+use Rattle.lagprogress.proofs.Common.{side_of, ItemValue, WorldState, half, limit_towards, timeout_time, AfterTick, AtSomeWorld, IsBetweenTicks}
+use Rattle.lagprogress.proofs.Common.{IsHostRound, IsTickOf, TickOnce, IsHealthyAt, OfPort}
 use Rattle.lagsystem.specs.declared.drive.Reply.TheVariants as answer
 use Rattle.lagscript.specs.declared.event.Event.TheVariants as event
-use Rattle.lagprogress.specs.HostRounds.{AfterTick, AtSomeWorld, IsBetweenTicks, IsHostRound, IsTickOf, TickOnce}
 use Rattle.lagprogress.proofs.Climbing.{known_still}
 use Rattle.lagprogress.proofs.Delivering.{deliver_link}
 use Rattle.lagprogress.proofs.EachPort.{OfEach, Tick-each}
-use Rattle.lagprogress.proofs.EndFacts.{Along, CanSound, IsEnd, Learnt, nothing_along, sounds_along, takes_learnt, ticks_end}
-use Rattle.lagprogress.proofs.EndFacts.{short_timeout, wait_of, activity}
+use Rattle.lagprogress.proofs.EndFacts.{Along, CanSound, IsEnd, Learnt, nothing_along, sounds_along, takes_learnt, ticks_end, short_timeout, wait_of}
+use Rattle.lagprogress.proofs.EndFacts.{activity}
 use Rattle.lagprogress.proofs.Halves.{keeps_steady}
 use Rattle.lagprogress.proofs.Hearing.{no}
 use Rattle.lagprogress.proofs.Knowing.{counts}
-use Rattle.lagprogress.proofs.Linked.{EndIs, Fits, Flying, Left, Link, each_map, each_side, emit_any, end_kept, end_here, of_end, other_ports, other_side}
-use Rattle.lagprogress.proofs.Linked.{at_end, end_with, peer_twice, place_kept, with_ports}
+use Rattle.lagprogress.proofs.Linked.{EndIs, Fits, Flying, Left, Link, each_map, each_side, emit_any, end_kept, end_here, of_end, other_ports}
+use Rattle.lagprogress.proofs.Linked.{other_side, at_end, end_with, peer_twice, place_kept, with_ports}
 use Rattle.lagprogress.proofs.OneCable.{OnCable, cable, port_there, ticks, towards_there}
 use Rattle.lagprogress.proofs.OnePort.{AtPort, mux_leaves, periodic_leaves, with_rest}
 use Rattle.lagprogress.proofs.OneRound.{Asked, Nothing, Passes, ask_which, at_rest, beside_here, Later, join, sounds_pass, ticked}

@@ -1,29 +1,28 @@
 -- In a healthy round of hosts, an end that hears the other is told when the other is synchronized, or the other owes it an LACPDU.
-use Rattle.lagprogress.proofs.Common.{Bool, List, Some, [], ap, arith, false, inl, inr, refl, slice_get, subst, sym, true, ℕ, ◌-◌, ◌∙◌, ◌∷◌, ◌≡◌}
-use Rattle.lagprogress.proofs.Common.{◌≤◌, ◌⊎◌, same_Some, AllByRecursion, Lacpdu, Side, peer, Machines, partner_synchronized, periodic_rows}
-use Rattle.lagprogress.proofs.Common.{receive_rows, AtRest, RunsToRest, count_down, is_due, Carries, IsFrame, SystemState, machines_of, Event, Reply}
-use Rattle.lagprogress.proofs.Common.{Algorithms, WorldSteps, side_of, ItemValue, WorldState, half, found_place, timeout_time, NothingInFlight, towards, SystemPort, after_sending, OfPort}
+use Rattle.lagprogress.proofs.Common.{Bool, List, Some, [], ap, arith, false, inl, inr, refl, slice_get, subst, sym, true, ℕ, ◌-◌, ◌∙◌, ◌∷◌, ◌≡◌, ◌≤◌}
+use Rattle.lagprogress.proofs.Common.{◌⊎◌, same_Some, AllByRecursion, Lacpdu, Side, peer, Machines, partner_synchronized, periodic_rows, receive_rows}
+use Rattle.lagprogress.proofs.Common.{AtRest, RunsToRest, after_sending, count_down, is_due, SystemPort, Carries, IsFrame, SystemState, machines_of}
+use Rattle.lagprogress.proofs.Common.{found_place, Event, Reply, Algorithms, WorldSteps, side_of, ItemValue, WorldState, half, towards, timeout_time}
+use Rattle.lagprogress.proofs.Common.{AfterTick, IsBetweenTicks, IsHostRound, NothingInFlight, OfPort}
 use Rattle.slowpdu.specs.declared.pdu.Pdu.TheVariants as pdu
 use Rattle.lagsystem.specs.declared.drive.Reply.TheVariants as answer
 use Rattle.lagscript.specs.declared.event.Event.TheVariants as event
-use Rattle.lagprogress.specs.HostRounds.{AfterTick, IsBetweenTicks, IsHostRound}
 use Rattle.lagprogress.proofs.Claims.{IsNamed, Owes, Owing, Wakeful, owes_ticks, owing_settles, wakeful_along, wakeful_ticks}
 use Rattle.lagprogress.proofs.Climbing.{PartnerInSync, known_still, ticks_partner}
 use Rattle.lagprogress.proofs.Delivering.{Heard, arrived_ports, deliver_link, deliver_moves}
 use Rattle.lagprogress.proofs.EachPort.{KeptBySettling, OfEach, Tick-each}
 use Rattle.lagprogress.proofs.EndFacts.{CanSound, sounds_along, Along, IsEnd, Learnt, activity, nothing_along, short_timeout, ticks_end, wait_of}
-use Rattle.lagprogress.proofs.HostRound.{KeptBetween, MadeByTick, Stages, all_ticked, first_on, fits_in, healthy_link, holds_on, known_in, learn_less, learnt_along, left, none_ticked}
-use Rattle.lagprogress.proofs.HostRound.{of_side, tick_one, ticks_learnt, two_other, two_there}
+use Rattle.lagprogress.proofs.HostRound.{KeptBetween, MadeByTick, Stages, all_ticked, first_on, fits_in, healthy_link, holds_on, known_in, learn_less}
+use Rattle.lagprogress.proofs.HostRound.{learnt_along, left, none_ticked, of_side, tick_one, ticks_learnt, two_other, two_there}
 use Rattle.lagprogress.proofs.Knowing.{counts}
-use Rattle.lagprogress.proofs.Linked.{at_end, emit_any, found, end_with, of_end, with_ports, Arrived, EndIs, Fits, Flying, IsGood, Link, each_both, each_map, each_side, end_here, gains_has, HasLacpdu, other_side}
-use Rattle.lagprogress.proofs.Linked.{peer_twice, put_other, put_there}
+use Rattle.lagprogress.proofs.Linked.{at_end, emit_any, found, end_with, of_end, with_ports, Arrived, EndIs, Fits, Flying, IsGood, Link, each_both}
+use Rattle.lagprogress.proofs.Linked.{each_map, each_side, end_here, gains_has, HasLacpdu, other_side, peer_twice, put_other, put_there}
 use Rattle.lagprogress.proofs.OneCable.{Arrives, alone, cable, port_there, put, response, ticks, towards_there}
 use Rattle.lagprogress.proofs.OnePort.{AtPort}
 use Rattle.lagprogress.proofs.OneRound.{Later, beside_here, sounds_pass, Nothing, Passes, ask_which, at_rest, forget, join, ticked}
 use Rattle.lagprogress.proofs.Quieting.{IsQuiet, quiet_link, quiet_ports}
 use Rattle.lagprogress.proofs.Sounding.{Sounds}
-use Rattle.lagprogress.proofs.Telling.{Bears, SaysIt, Tells, arrive_peer, ask_on, came_to, deliver_on, sync_settles, tells_map}
-use Rattle.lagprogress.proofs.Telling.{tells_push}
+use Rattle.lagprogress.proofs.Telling.{Bears, SaysIt, Tells, arrive_peer, ask_on, came_to, deliver_on, sync_settles, tells_map, tells_push}
 
 -- what is on the cable of the same ports
 pub same_flying : (d e : ℕ) (at : Side → ℕ) (w v : Side → Lacpdu) (c b : Side → ℕ) (x y : Side) (Y Z : Machines → Type 0) (j : WorldState)

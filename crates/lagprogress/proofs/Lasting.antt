@@ -1,16 +1,10 @@
 -- What healthy rounds leave of the ports and aggregators of a system.
-use Rattle.lagprogress.proofs.Common.{List, Option, Some, [], ap, arith, filter, inl, inr, length}
-use Rattle.lagprogress.proofs.Common.{option_map, refl, slice_get, subst, suc, sym, true, zero, ℕ, ◌++◌, ◌==◌, ◌∙◌, ◌∷◌, ◌≡◌, ◌≤◌}
-use Rattle.lagprogress.proofs.Common.{nat_tests, slice_get_cases, slice_get_within, AllByRecursion, Key}
-use Rattle.lagprogress.proofs.Common.{Party, Side, find_at}
-use Rattle.lagprogress.proofs.Common.{Machines, receive_rows, RunsToRest, count_down, Table, PortConfig, SystemPort}
-use Rattle.lagprogress.proofs.Common.{configured_numbers, model_port_of, number_of_port}
-use Rattle.lagprogress.proofs.Common.{IsSound, SystemState, port_numbers, with_system_ports, with_table}
-use Rattle.lagprogress.proofs.Common.{all-get, are_numbered, ports_rise, Algorithms}
-use Rattle.lagprogress.proofs.Common.{LinkState, WorldState, half, port_at, AllHeard}
-use Rattle.lagprogress.proofs.Common.{EndsHealthyCable}
-use Rattle.lagprogress.proofs.Common.{EnoughAggregators, EnoughLinks}
-use Rattle.lagprogress.proofs.Common.{IsHealthyAt, Rounds, asks_all, ticks_of_both}
+use Rattle.lagprogress.proofs.Common.{List, Option, Some, [], ap, arith, filter, inl, inr, length, option_map, refl, slice_get, subst, suc, sym, true}
+use Rattle.lagprogress.proofs.Common.{zero, ℕ, ◌++◌, ◌==◌, ◌∙◌, ◌∷◌, ◌≡◌, ◌≤◌, nat_tests, slice_get_cases, slice_get_within, AllByRecursion, Key}
+use Rattle.lagprogress.proofs.Common.{Party, Side, find_at, Machines, receive_rows, RunsToRest, count_down, Table, PortConfig, SystemPort}
+use Rattle.lagprogress.proofs.Common.{configured_numbers, model_port_of, number_of_port, IsSound, SystemState, port_numbers, with_system_ports}
+use Rattle.lagprogress.proofs.Common.{with_table, all-get, are_numbered, ports_rise, Algorithms, LinkState, WorldState, half, port_at, AllHeard}
+use Rattle.lagprogress.proofs.Common.{EndsHealthyCable, EnoughAggregators, EnoughLinks, IsHealthyAt, Rounds, asks_all, ticks_of_both}
 use Rattle.lagprogress.proofs.Common.{aggregators_with, ports_with, IsSteady}
 use Rattle.lagprogress.proofs.ComingUp.{events_keep, zero_on}
 use Rattle.lagprogress.proofs.Counting.{count_same, counted}

@@ -2,13 +2,13 @@
 use Rattle.lagprogress.proofs.Common.{Bool, Err, List, None, Ok, Option, Result, Some, [], ap, arith, cond, false, inl, inr, length, nat_lt, not}
 use Rattle.lagprogress.proofs.Common.{option_map, refl, slice_get, subst, suc, sym, true, zero, ℕ, ◌++◌, ◌+◌, ◌<◌, ◌==◌, ◌∙◌, ◌∷◌, ◌≡◌, ◌≤◌, ◌⊎◌}
 use Rattle.lagprogress.proofs.Common.{cases_Bool, nat_tests, position-Some, none-some, same_Some, AllByRecursion, position_or_len, StateBits}
-use Rattle.lagprogress.proofs.Common.{encode_then_decode, Lacpdu, One, Side, Two, peer, CollectingDistributing, Machines, is_synchronized}
-use Rattle.lagprogress.proofs.Common.{same_mux_state, periodic_rows, AtRest, actor_of, after_sending, is_due, pdu_of, marker_due, Answer, SystemFault}
-use Rattle.lagprogress.proofs.Common.{Received, SystemPort, Call, Carries, IsFrame, OnlyPortChangesBy, ProcessesLacpdu, Receive, ReceivesAt, Step}
-use Rattle.lagprogress.proofs.Common.{ThenSettles, Transmit, configured_numbers, PeriodicIsSettled, IsLacpduOf, SendsMarkerOf, TransmitsAt}
-use Rattle.lagprogress.proofs.Common.{TransmitsIf, CallPromise, SystemState, machines_of, port_index, port_numbers, system_port_at, named}
-use Rattle.lagprogress.proofs.Common.{processes_or_stays, all-get, found_place, ports_rise, Event, Reply, Algorithms, WorldRuns, WorldSteps, side_of}
-use Rattle.lagprogress.proofs.Common.{ItemValue, WorldState, half, IsSteady, IsTimed}
+use Rattle.lagprogress.proofs.Common.{encode_then_decode, Lacpdu, Side, peer, CollectingDistributing, Machines, is_synchronized, same_mux_state}
+use Rattle.lagprogress.proofs.Common.{periodic_rows, AtRest, actor_of, after_sending, is_due, pdu_of, marker_due, Answer, SystemFault, Received}
+use Rattle.lagprogress.proofs.Common.{SystemPort, Call, Carries, IsFrame, OnlyPortChangesBy, ProcessesLacpdu, Receive, ReceivesAt, Step, ThenSettles}
+use Rattle.lagprogress.proofs.Common.{Transmit, configured_numbers, PeriodicIsSettled, IsLacpduOf, SendsMarkerOf, TransmitsAt, TransmitsIf}
+use Rattle.lagprogress.proofs.Common.{CallPromise, SystemState, machines_of, port_index, port_numbers, system_port_at, named, processes_or_stays}
+use Rattle.lagprogress.proofs.Common.{all-get, found_place, ports_rise, Event, Reply, Algorithms, WorldRuns, WorldSteps, side_of, ItemValue}
+use Rattle.lagprogress.proofs.Common.{WorldState, half, IsSteady, IsTimed}
 use Rattle.slowpdu.specs.declared.pdu.Pdu.TheVariants as pdu
 use Rattle.lagsystem.specs.declared.drive.Reply.TheVariants as answer
 use Rattle.lagsystem.specs.declared.received.Received.TheVariants as received

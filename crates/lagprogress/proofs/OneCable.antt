@@ -5,11 +5,11 @@ use Rattle.lagprogress.proofs.Common.{◌∷◌, ◌≡◌, ◌⊎◌, cases_Boo
 use Rattle.lagprogress.proofs.Common.{AllByRecursion, position_or_len, itself, Lacpdu, all-append, IsCabling, One, Side, Two, end_at, peer, value_of}
 use Rattle.lagprogress.proofs.Common.{Stamp, Answer, SystemFault, Received, Call, Carries, IsFrame, Receive, Step, Tick, Transmit, CallPromise}
 use Rattle.lagprogress.proofs.Common.{SystemState, PortHistory, Reply, AfterReceive, AfterTransmit, Algorithms, DeliversFrom, OnLink, WorldEmits}
-use Rattle.lagprogress.proofs.Common.{WorldReceives, WorldSteps, set_last_lacpdu, side_of, stamp_for, stamped_in, with_link_at}
-use Rattle.lagprogress.proofs.Common.{with_stamp_collected, HalfTicks, payload_in, stamp_count, link_ends, HalfState, ItemValue}
-use Rattle.lagprogress.proofs.Common.{LinkState, WorldState, accepts, change_count_in, change_link, half, history_at, limit_towards, link_at}
-use Rattle.lagprogress.proofs.Common.{link_index, port_at, put_on_port, sent_on, towards, with_half, with_links, with_towards, read_log, end_is}
-use Rattle.lagprogress.proofs.Common.{mapped_set, put_ends, set_elsewhere, set_here, half_there, position_there}
+use Rattle.lagprogress.proofs.Common.{WorldReceives, WorldSteps, set_last_lacpdu, side_of, stamp_for, stamped_in, with_link_at, with_stamp_collected}
+use Rattle.lagprogress.proofs.Common.{HalfTicks, payload_in, stamp_count, link_ends, HalfState, ItemValue, LinkState, WorldState, accepts}
+use Rattle.lagprogress.proofs.Common.{change_count_in, change_link, half, history_at, limit_towards, link_at, link_index, port_at, put_on_port}
+use Rattle.lagprogress.proofs.Common.{sent_on, towards, with_half, with_links, with_towards, read_log, end_is, mapped_set, put_ends, set_elsewhere}
+use Rattle.lagprogress.proofs.Common.{set_here, half_there, position_there}
 use Rattle.lagsystem.specs.declared.drive.Reply.TheVariants as answer
 use Rattle.lagsystem.specs.declared.received.Received.TheVariants as received
 use Rattle.lagscript.specs.declared.event.Event.TheVariants as event

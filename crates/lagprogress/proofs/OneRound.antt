@@ -2,10 +2,10 @@
 use Rattle.lagprogress.proofs.Common.{Bool, Err, List, None, Ok, Option, Result, Some, [], ap, arith, false, inl, inr, refl, slice_get, subst, suc}
 use Rattle.lagprogress.proofs.Common.{sym, true, zero, ℕ, ◌++◌, ◌-◌, ◌∙◌, ◌∷◌, ◌≡◌, ◌≤◌, ◌⊎◌, cases_Bool, nat_tests, none-some, same_Some}
 use Rattle.lagprogress.proofs.Common.{AllByRecursion, Lacpdu, One, Side, Two, peer, Machines, is_silent, periodic_rows, receive_rows, AtRest}
-use Rattle.lagprogress.proofs.Common.{RunsToRest, after_sending, count_down, is_due, pdu_of, SystemFault, SystemPort, Step, Tick}
-use Rattle.lagprogress.proofs.Common.{Transmit, PeriodicIsSettled, IsLacpduOf, SystemState, port_index}
-use Rattle.lagprogress.proofs.Common.{Event, Reply, Algorithms, WorldRuns, WorldSteps, side_of, ItemValue, LinkState, WorldState, half}
-use Rattle.lagprogress.proofs.Common.{port_at, IsDeliver, IsRound, NothingInFlight, asks_all, asks_ends, IsTimed}
+use Rattle.lagprogress.proofs.Common.{RunsToRest, after_sending, count_down, is_due, pdu_of, SystemFault, SystemPort, Step, Tick, Transmit}
+use Rattle.lagprogress.proofs.Common.{PeriodicIsSettled, IsLacpduOf, SystemState, port_index, Event, Reply, Algorithms, WorldRuns, WorldSteps}
+use Rattle.lagprogress.proofs.Common.{side_of, ItemValue, LinkState, WorldState, half, port_at, IsDeliver, IsRound, NothingInFlight, asks_all}
+use Rattle.lagprogress.proofs.Common.{asks_ends, IsTimed}
 use Rattle.slowpdu.specs.declared.pdu.Pdu.TheVariants as pdu
 use Rattle.lagsystem.specs.declared.drive.Reply.TheVariants as answer
 use Rattle.lagscript.specs.declared.event.Event.TheVariants as event

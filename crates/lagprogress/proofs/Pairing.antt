@@ -16,7 +16,7 @@ use Rattle.lagprogress.proofs.Frozen.{AllChose, AllFresh, Stands, choice_rounds,
 use Rattle.lagprogress.proofs.Hearing.{no}
 use Rattle.lagprogress.proofs.OnePort.{AtPort, at_number}
 use Rattle.lagprogress.proofs.OneRound.{Nothing}
-use Rattle.lagprogress.proofs.Progressing.{AtIt, Fresh, FreshAt, said_by, stays_fresh, starts}
+use Rattle.lagprogress.proofs.Progressing.{AtIt, Fresh, FreshAt, said_by, stays_fresh}
 
 -- one end climbs
 

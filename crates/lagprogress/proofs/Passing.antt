@@ -1,13 +1,12 @@
 -- What a system sends is what it carries; and how an LACPDU goes onto a cable and comes off it.
-use Rattle.lagprogress.proofs.Common.{Bool, Err, List, None, Ok, Option, Result, Some, [], ap, arith, drop, if◌then◌else◌, refl, slice_get, slice_set}
-use Rattle.lagprogress.proofs.Common.{subst, suc, sym, true, ℕ, ◌++◌, ◌∙◌, ◌∷◌, ◌≡◌, nat_tests, none-some, same_Some, Lacpdu, Marker, Pdu}
-use Rattle.lagprogress.proofs.Common.{written_pdu, One, Side, Two, peer, value_of, is_due, pdu_of, SystemFault, Received, TookLacpdu, SystemPort}
-use Rattle.lagprogress.proofs.Common.{Carries, IsFrame, OnlyPortChangesBy, ParsesWhere, Performs, ProcessesLacpdu, ReceivesAt, Step, ThenSettles}
-use Rattle.lagprogress.proofs.Common.{Transmit, IsSent, IsLacpduOf, PortTransmits, SendsLacpdu, TransmitsAt, TransmitsIf, SystemState, port_index}
-use Rattle.lagprogress.proofs.Common.{effect_one, Reply, AfterReceive, AfterTransmit, Algorithms, DeliversFrom, OnLink, WorldEmits, WorldReceives}
-use Rattle.lagprogress.proofs.Common.{side_of, with_link_at, HalfState, ItemValue, LinkState, WorldState, accepts, change_link, half, link_at}
-use Rattle.lagprogress.proofs.Common.{link_index, port_at, put_on_port, sent_on, towards, with_half, with_towards, half_there, DeliverProcessesLacpdu}
-use Rattle.lagprogress.proofs.Common.{EmitSendsLacpdu, EndIsUp, IsHeardOn, IsSentOn}
+use Rattle.lagprogress.proofs.Common.{Bool, Err, List, None, Ok, Option, Result, Some, [], ap, arith, drop, refl, slice_get, slice_set, subst, suc}
+use Rattle.lagprogress.proofs.Common.{sym, true, ℕ, ◌++◌, ◌∙◌, ◌∷◌, ◌≡◌, nat_tests, none-some, same_Some, Lacpdu, Marker, Pdu, written_pdu, One, Side}
+use Rattle.lagprogress.proofs.Common.{Two, peer, value_of, is_due, pdu_of, SystemFault, Received, TookLacpdu, SystemPort, Carries, IsFrame}
+use Rattle.lagprogress.proofs.Common.{OnlyPortChangesBy, ParsesWhere, Performs, ProcessesLacpdu, ReceivesAt, Step, ThenSettles, Transmit, IsSent}
+use Rattle.lagprogress.proofs.Common.{IsLacpduOf, SendsLacpdu, TransmitsAt, TransmitsIf, SystemState, port_index, effect_one, Reply, AfterReceive}
+use Rattle.lagprogress.proofs.Common.{AfterTransmit, Algorithms, DeliversFrom, OnLink, WorldEmits, WorldReceives, side_of, with_link_at, HalfState}
+use Rattle.lagprogress.proofs.Common.{ItemValue, LinkState, WorldState, accepts, half, link_index, port_at, put_on_port, towards, with_half}
+use Rattle.lagprogress.proofs.Common.{with_towards, half_there, DeliverProcessesLacpdu, EmitSendsLacpdu, EndIsUp, IsHeardOn, IsSentOn}
 use Rattle.slowpdu.specs.declared.pdu.Pdu.TheVariants as pdu
 use Rattle.slowpdu.proofs.LacpduLemmas.{one_reading}
 use Rattle.slowpdu.proofs.MarkerLemmas.{not_both}

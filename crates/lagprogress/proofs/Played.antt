@@ -1,18 +1,15 @@
 -- Healthy rounds that are played.
-use Rattle.lagprogress.proofs.Common.{Bool, Err, IfErr, IfOk, List, None, Ok, Option, Result, Some, [], ap, append_assoc, arith, drop, false, inl}
-use Rattle.lagprogress.proofs.Common.{inr, is_some, length, map, nat_le, option_map, refl, slice_get, subst, suc, sym, take, take-append-drop}
-use Rattle.lagprogress.proofs.Common.{take_all, true, zero, ℕ, ◌&&◌, ◌++◌, ◌+◌, ◌<◌, ◌==◌, ◌∙◌, ◌∷◌, ◌≡◌, ◌≤◌, ◌⊎◌, cases_Bool, false≢true, nat_tests}
-use Rattle.lagprogress.proofs.Common.{none-some, same_Some, slice_get-map, slice_get_within, AllByRecursion, IsErrAnd, all-append, Ends, One, Side}
-use Rattle.lagprogress.proofs.Common.{Two, WorldSetup, value_of, SystemFault, Received, Event, Reply, AfterReceive, Algorithms, DeliversFrom, OnLink}
-use Rattle.lagprogress.proofs.Common.{WorldRuns, WorldSteps, cause, cause_or_no_memory, first_event_cause, has_cable, most_events, side_of, link_ends}
-use Rattle.lagprogress.proofs.Common.{world_setup, RefusesNext, both_algorithms, next_of, ItemValue, LinkState, WorldState}
-use Rattle.lagprogress.proofs.Common.{element_numbered, towards, Delivers, IsOutOfMemoryOrSpent, IsRefused, NamesNoCable, PlaysPart, RunsAll}
-use Rattle.lagprogress.proofs.Common.{RunsPart, found_nothing, IsDeliver, IsRound, NothingInFlight, Rounds, asks_all, asks_ends, ticks_of_both}
-use Rattle.lagprogress.proofs.Common.{get_or, slice_get-get_or}
-use Rattle.lagprogress.specs.Played.{HasTooManyCables, RefusesDelivery, most_cables}
+use Rattle.lagprogress.proofs.Common.{Bool, IfErr, IfOk, List, None, Option, Result, Some, [], ap, append_assoc, arith, drop, get_or, inl, inr}
+use Rattle.lagprogress.proofs.Common.{is_some, length, map, nat_le, option_map, refl, slice_get, subst, suc, sym, take, true, zero, ℕ, ◌&&◌, ◌++◌}
+use Rattle.lagprogress.proofs.Common.{◌+◌, ◌<◌, ◌∙◌, ◌∷◌, ◌≡◌, ◌≤◌, ◌⊎◌, cases_Bool, false≢true, nat_tests, none-some, same_Some, slice_get-get_or}
+use Rattle.lagprogress.proofs.Common.{slice_get-map, slice_get_within, AllByRecursion, IsErrAnd, all-append, Ends, One, Side, Two, WorldSetup}
+use Rattle.lagprogress.proofs.Common.{value_of, Event, Reply, Algorithms, DeliversFrom, WorldRuns, WorldSteps, cause, cause_or_no_memory}
+use Rattle.lagprogress.proofs.Common.{first_event_cause, has_cable, may_take_memory, most_events, side_of, link_ends, world_setup, RefusesNext}
+use Rattle.lagprogress.proofs.Common.{next_of, ItemValue, LinkState, WorldState, element_numbered, towards, Delivers, HasTooManyCables}
+use Rattle.lagprogress.proofs.Common.{IsOutOfMemoryOrSpent, NamesNoCable, PlaysPart, RefusesDelivery, RunsAll, RunsPart, found_nothing, IsDeliver}
+use Rattle.lagprogress.proofs.Common.{IsRound, NothingInFlight, Rounds, asks_all, asks_ends, ticks_of_both}
+use Rattle.lagprogress.specs.Played.{most_cables}
 use Rattle.std.proofs.lemmas.List.{length-map, take_more}
-use Rattle.lagworld.specs.Events.{may_take_memory}
-use Rattle.lagsystem.specs.declared.received.Received.TheVariants as received
 use Rattle.lagscript.specs.declared.event.Event.TheVariants as event
 use Rattle.lagworld.specs.declared.fault.WorldFault.{WorldFault}
 use Rattle.lagworld.specs.declared.fault.WorldFault.TheVariants.{NoCable}

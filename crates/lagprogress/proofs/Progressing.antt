@@ -1,12 +1,11 @@
 -- How the ends of a cable come to know each other, round by round.
-use Rattle.lagprogress.proofs.Common.{Bool, List, None, Option, Some, [], ap, arith, false, inl, inr, map, option_map, refl, slice_get, subst, suc}
-use Rattle.lagprogress.proofs.Common.{sym, true, zero, ℕ, ◌+◌, ◌-◌, ◌∙◌, ◌∷◌, ◌≡◌, ◌≤◌, ◌⊎◌, cases_Bool, nat_tests, none-some, AllByRecursion}
-use Rattle.lagprogress.proofs.Common.{StateBits, encode_then_decode, Lacpdu, IsCabling, One, Side, Two, end_at, peer, CollectingDistributing}
-use Rattle.lagprogress.proofs.Common.{Machines, is_synchronized, same_mux_state, periodic_rows, receive_rows, AtRest, RunsToRest, actor_of}
-use Rattle.lagprogress.proofs.Common.{count_down, pdu_of, SystemPort, SystemState, machines_of, port_index, system_port_at, named, found_place}
-use Rattle.lagprogress.proofs.Common.{ports_rise, Algorithms, link_ends, world_setup, ItemValue, LinkState, WorldState, half, port_at, towards}
-use Rattle.lagprogress.proofs.Common.{ActiveEndsOfEachKnow, timeout_time, ActiveEndsComeToKnow, EndKnows, Knows, AtEnd, IsHealthy, IsHealthyAt}
-use Rattle.lagprogress.proofs.Common.{IsRound, NothingInFlight, OfPort, Rounds, IsSteady, IsTimed}
+use Rattle.lagprogress.proofs.Common.{Bool, List, Some, [], ap, arith, false, inl, inr, map, refl, slice_get, subst, suc, sym, true, zero, ℕ, ◌+◌}
+use Rattle.lagprogress.proofs.Common.{◌-◌, ◌∙◌, ◌∷◌, ◌≡◌, ◌≤◌, ◌⊎◌, cases_Bool, nat_tests, AllByRecursion, StateBits, encode_then_decode, Lacpdu}
+use Rattle.lagprogress.proofs.Common.{IsCabling, One, Side, Two, end_at, peer, CollectingDistributing, Machines, is_synchronized, same_mux_state}
+use Rattle.lagprogress.proofs.Common.{periodic_rows, receive_rows, AtRest, RunsToRest, actor_of, count_down, pdu_of, SystemPort, SystemState}
+use Rattle.lagprogress.proofs.Common.{machines_of, port_index, named, found_place, ports_rise, Algorithms, link_ends, world_setup, ItemValue}
+use Rattle.lagprogress.proofs.Common.{LinkState, WorldState, half, port_at, towards, ActiveEndsOfEachKnow, timeout_time, ActiveEndsComeToKnow}
+use Rattle.lagprogress.proofs.Common.{EndKnows, Knows, AtEnd, IsHealthy, IsHealthyAt, IsRound, NothingInFlight, OfPort, Rounds, IsSteady, IsTimed}
 use Rattle.lagprogress.proofs.EachPort.{OfEach}
 use Rattle.lagprogress.proofs.EndFacts.{CanSound, IsEnd, Learnt, Says, Synced, activity, calm, less_known, short_timeout, ticks_end, wait_of}
 use Rattle.lagprogress.proofs.Hearing.{no}

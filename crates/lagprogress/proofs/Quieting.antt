@@ -1,9 +1,9 @@
 -- A frame that is offered, or a conversation that is moved, leaves the ports, and what their LACPDUs say.
-use Rattle.lagprogress.proofs.Common.{Err, List, Ok, Result, Some, [], ap, arith, inl, inr, refl, subst, sym, ℕ, ◌++◌, ◌==◌, ◌∙◌, ◌∷◌}
-use Rattle.lagprogress.proofs.Common.{◌≡◌, ◌⊎◌, cases_Bool, nat_tests, AggId, Lacpdu, One, Side, Two, peer, value_of, Machines}
-use Rattle.lagprogress.proofs.Common.{SystemFault, Carries, IsFrame, Offer, Step, system_move_result, offers_slots, becomes_slots}
-use Rattle.lagprogress.proofs.Common.{Event, Reply, AfterOffer, Algorithms, WorldSteps, offered_item, side_of, with_frame_counted}
-use Rattle.lagprogress.proofs.Common.{map, link_ends, put_ends, HalfState, ItemValue, WorldState, half, IsSteady, port_index, put_on_port, with_half, half_there}
+use Rattle.lagprogress.proofs.Common.{Err, List, Ok, Result, Some, [], ap, arith, inl, inr, map, refl, subst, sym, ℕ, ◌++◌, ◌==◌, ◌∙◌, ◌∷◌, ◌≡◌, ◌⊎◌}
+use Rattle.lagprogress.proofs.Common.{cases_Bool, nat_tests, AggId, Lacpdu, One, Side, Two, peer, value_of, Machines, SystemFault, Carries, IsFrame}
+use Rattle.lagprogress.proofs.Common.{Offer, Step, system_move_result, port_index, becomes_slots, offers_slots, Event, Reply, AfterOffer, Algorithms}
+use Rattle.lagprogress.proofs.Common.{WorldSteps, offered_item, side_of, with_frame_counted, link_ends, HalfState, ItemValue, WorldState, half}
+use Rattle.lagprogress.proofs.Common.{put_on_port, with_half, put_ends, half_there, IsSteady}
 use Rattle.slowpdu.specs.declared.pdu.Pdu.TheVariants as pdu
 use Rattle.lagsystem.specs.declared.drive.Reply.TheVariants as answer
 use Rattle.lagscript.specs.declared.event.Event.TheVariants as event

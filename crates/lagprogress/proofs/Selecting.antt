@@ -1,15 +1,15 @@
 -- Where each aggregator of a key has an occupant, there are fewer of them than ports of that key.
 use Rattle.lagprogress.proofs.Common.{Bool, List, None, Option, Some, [], ap, arith, cond, eqb-true, false, find, if◌then◌else◌, inl, inr, length}
 use Rattle.lagprogress.proofs.Common.{nat_le, not, option_map, refl, slice_get, subst, suc, sym, true, zero, ℕ, ◌&&◌, ◌+◌, ◌==◌, ◌||◌, ◌∙◌, ◌∷◌, ◌≡◌}
-use Rattle.lagprogress.proofs.Common.{◌≤◌, ◌⊎◌, and_parts, cases_Bool, nat_tests, none-some, same_Some, enumerate_from, list_any, AggId, Key, Choice}
-use Rattle.lagprogress.proofs.Common.{Selected, Standby, Unselected, is_selected, is_unselected, same_system, exact_system, itself, MuxState}
-use Rattle.lagprogress.proofs.Common.{Attached, CollectingDistributing, Waiting, ReceiveState, Current, Defaulted, same_mux_state}
-use Rattle.lagprogress.proofs.Common.{same_receive_state, aggregator_of_entry, chosen_if_eligible, has_no_occupant, is_aggregator, lowest}
-use Rattle.lagprogress.proofs.Common.{occupants_share_group, or_else, ports_that_chose, has_room, is_below, is_detached, is_eligible, occupies}
-use Rattle.lagprogress.proofs.Common.{stands_by, NoneStandsBy, none_is_next, SystemPort, key_of, MuxIsSettled, OccupantsAgree, WithinLimit, occupied}
-use Rattle.lagprogress.proofs.Common.{IsSound, SystemState, aggregators_value, selection_view, stage_of, views, takes_is, all-get, ports_rise, IsFull}
-use Rattle.lagprogress.proofs.Common.{StandsByFull, WantsAggregator, aggregators_with, ports_with, PortView, has_group_of, has_occupant, individual, list_all, occupants}
-use Rattle.lagprogress.specs.Shared.{SharesGroup}
+use Rattle.lagprogress.proofs.Common.{◌≤◌, ◌⊎◌, and_parts, cases_Bool, nat_tests, none-some, same_Some, enumerate_from, list_all, list_any, AggId}
+use Rattle.lagprogress.proofs.Common.{Key, Choice, Selected, Standby, Unselected, is_selected, is_unselected, individual, same_system, exact_system}
+use Rattle.lagprogress.proofs.Common.{itself, MuxState, Attached, CollectingDistributing, Waiting, ReceiveState, Current, Defaulted, same_mux_state}
+use Rattle.lagprogress.proofs.Common.{same_receive_state, PortView, aggregator_of_entry, chosen_if_eligible, has_group_of, has_no_occupant}
+use Rattle.lagprogress.proofs.Common.{has_occupant, is_aggregator, lowest, occupants, occupants_share_group, or_else, ports_that_chose, has_room}
+use Rattle.lagprogress.proofs.Common.{is_below, is_detached, is_eligible, occupies, stands_by, NoneStandsBy, none_is_next, SystemPort, key_of}
+use Rattle.lagprogress.proofs.Common.{MuxIsSettled, OccupantsAgree, WithinLimit, occupied, IsSound, SystemState, aggregators_value, selection_view}
+use Rattle.lagprogress.proofs.Common.{stage_of, views, takes_is, all-get, ports_rise, IsFull, StandsByFull, WantsAggregator, aggregators_with}
+use Rattle.lagprogress.proofs.Common.{ports_with, SharesGroup}
 use Rattle.lagprogress.proofs.Counting.{count, counted, count_less_of, count_more_of}
 
 -- the number of the aggregator that a port occupies; aggregators are numbered from 1

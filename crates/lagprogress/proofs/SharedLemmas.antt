@@ -1,18 +1,17 @@
 -- Ports that know their partners find aggregators, also where there are fewer of them than ports of one group.
-use Rattle.lagprogress.proofs.Common.{Bool, Some, ap, arith, false, inl, inr, not, refl, slice_get, subst}
-use Rattle.lagprogress.proofs.Common.{sym, true, ℕ, ◌&&◌, ◌==◌, ◌∙◌, ◌≡◌, ◌≢◌, ◌⊎◌, cases_Bool, nat_tests, AggId, Key, SystemId, Standby}
-use Rattle.lagprogress.proofs.Common.{Unselected, Party, group_of, individual, same_group, group-itself}
-use Rattle.lagprogress.proofs.Common.{party_of, Side, peer, ReceiveState, Current, Expired, Initialize, PortDisabled, Machines, selected, receive_rows, same_receive_state, mux_rows, RunsPeriodic}
-use Rattle.lagprogress.proofs.Common.{RunsToRest, count_down, SystemPort, none_enabled, rests}
-use Rattle.lagprogress.proofs.Common.{all-get, found_place, ports_rise, Algorithms, LinkState, WorldState, half, port_at, AllHeard, EnoughAggregators}
-use Rattle.lagprogress.proofs.Common.{EndKnows, Knows, AtEnd, IsHealthyAt, OfPort, Rounds, StandsByFull, WantsAggregator}
-use Rattle.lagprogress.proofs.Common.{IsSteady}
-use Rattle.lagprogress.specs.Shared.{AreOneGroup, DownWereLinkedTo, HasAggregators, LeadToKey, SharesGroup}
+use Rattle.lagprogress.proofs.Common.{Bool, Some, ap, arith, false, inl, inr, not, refl, slice_get, subst, sym, true, ℕ, ◌&&◌, ◌==◌, ◌∙◌, ◌≡◌, ◌≢◌}
+use Rattle.lagprogress.proofs.Common.{◌⊎◌, cases_Bool, nat_tests, AggId, Key, SystemId, Standby, Unselected, Party, group_of, individual, same_group}
+use Rattle.lagprogress.proofs.Common.{group-itself, party_of, Side, peer, ReceiveState, Current, Expired, Initialize, PortDisabled, Machines}
+use Rattle.lagprogress.proofs.Common.{mux_rows, selected, RunsPeriodic, receive_rows, same_receive_state, RunsToRest, count_down, SystemPort}
+use Rattle.lagprogress.proofs.Common.{none_enabled, rests, all-get, found_place, ports_rise, Algorithms, LinkState, WorldState, half, port_at}
+use Rattle.lagprogress.proofs.Common.{AllHeard, EnoughAggregators, EndKnows, Knows, AtEnd, IsHealthyAt, OfPort, Rounds, StandsByFull, WantsAggregator}
+use Rattle.lagprogress.proofs.Common.{AreOneGroup, DownWereLinkedTo, HasAggregators, LeadToKey, SharesGroup, IsSteady}
 use Rattle.lagprogress.proofs.Choosing.{down_as_read}
 use Rattle.lagprogress.proofs.ComingUp.{zero_on}
 use Rattle.lagprogress.proofs.EachRound.{EachAt, RoundKeeps, round_each, rounds_steady}
 use Rattle.lagprogress.proofs.Hearing.{EnabledKeep, no, times_keep}
-use Rattle.lagprogress.proofs.Lasting.{IsAsBefore, as_before, ends_at, old_port, own_system, rounds_alike, rounds_keep, still_enough, still_heard, still_one, Alike}
+use Rattle.lagprogress.proofs.Lasting.{IsAsBefore, as_before, ends_at, old_port, own_system, rounds_alike, rounds_keep, still_enough, still_heard}
+use Rattle.lagprogress.proofs.Lasting.{still_one, Alike}
 use Rattle.lagprogress.proofs.OnePort.{AtPort, at_number, mux_leaves, periodic_leaves}
 use Rattle.lagprogress.proofs.Progressing.{end_of, machines_there}
 use Rattle.lagprogress.proofs.Selecting.{finds_aggregator, shares_aggregator}

@@ -1,9 +1,9 @@
 -- In how many ticks an LACPDU of a port is due that neither its own end nor its partner keeps silent.
-use Rattle.lagprogress.proofs.Common.{Bool, List, [], arith, cond, false, inl, inr, length, nat_lt, not, refl, subst, suc, sym, true, zero, ℕ, ◌&&◌}
-use Rattle.lagprogress.proofs.Common.{◌+◌, ◌-◌, ◌<◌, ◌==◌, ◌||◌, ◌∷◌, ◌≡◌, ◌≤◌, ◌⊎◌, and_parts, nat_tests, AllByRecursion, PeriodicState, Fast}
-use Rattle.lagprogress.proofs.Common.{NoPeriodic, PeriodicTx, Slow, Machines, mux_rows, RunsPeriodic, is_silent, partner_short, periodic_rows}
-use Rattle.lagprogress.proofs.Common.{periodic_table, same_periodic_state, timer_expired, AtRest, Row, in_order, aged, count_down, is_due, SilentFor}
-use Rattle.lagprogress.proofs.Common.{IsTimed, most_periodic_timer}
+use Rattle.lagprogress.proofs.Common.{Bool, List, [], arith, cond, false, inl, inr, length, nat_lt, not, refl, subst, sym, true, ℕ, ◌&&◌, ◌+◌, ◌-◌}
+use Rattle.lagprogress.proofs.Common.{◌<◌, ◌==◌, ◌||◌, ◌∷◌, ◌≡◌, ◌≤◌, ◌⊎◌, and_parts, nat_tests, AllByRecursion, PeriodicState, Fast, NoPeriodic}
+use Rattle.lagprogress.proofs.Common.{PeriodicTx, Slow, Machines, mux_rows, RunsPeriodic, is_silent, partner_short, periodic_rows, periodic_table}
+use Rattle.lagprogress.proofs.Common.{same_periodic_state, timer_expired, AtRest, Row, in_order, aged, count_down, is_due, SilentFor, IsTimed}
+use Rattle.lagprogress.proofs.Common.{most_periodic_timer}
 use Rattle.lagprogress.proofs.Hearing.{EnabledKeep, no, times_keep}
 use Rattle.lagprogress.proofs.Timers.{RowsKeep}
 use Rattle.portmachines.proofs.Windows.{periodic-ages}

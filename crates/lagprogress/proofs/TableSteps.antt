@@ -1,9 +1,8 @@
 -- What each call does to each conversation.
-use Rattle.lagprogress.proofs.Common.{Bool, Err, List, None, Ok, Option, Result, Some, ap, arith, cond, eqb, false, inl, inr, refl, subst, sym, true}
-use Rattle.lagprogress.proofs.Common.{ℕ, ◌&&◌, ◌≡◌, nat_tests, AggId, is_due, Assignment, SetsAssignment, after_mark, after_release, after_tick}
-use Rattle.lagprogress.proofs.Common.{marker_due, Table, assignment_of, SystemFault, Received, SystemPort, Receive, Step, Tick, Transmit}
-use Rattle.lagprogress.proofs.Common.{GivesOrRefuses, aggregator_numbered, distributing, SendsMarkerOf, TransmitsAt, TransmitsIf, Settling}
-use Rattle.lagprogress.proofs.Common.{held_unless_on, SystemState, port_index, ports_table, settling_parts, TableChanges, table_changes}
+use Rattle.lagprogress.proofs.Common.{Err, List, Ok, Option, Result, ap, arith, subst, sym, ℕ, ◌≡◌, nat_tests, AggId, Assignment, SetsAssignment}
+use Rattle.lagprogress.proofs.Common.{after_mark, after_release, after_tick, Table, assignment_of, SystemFault, Received, Receive, Step, Tick}
+use Rattle.lagprogress.proofs.Common.{Transmit, GivesOrRefuses, Settling, held_unless_on, SystemState, port_index, ports_table, settling_parts}
+use Rattle.lagprogress.proofs.Common.{TableChanges, table_changes}
 use Rattle.lagsystem.specs.declared.drive.Reply.TheVariants as answer
 
 -- R holds of a conversation before and after each of these changes, and of changes one after another

@@ -1,6 +1,6 @@
 -- What happens to a port leaves no timer above the ticks that it can start with.
 use Rattle.lagprogress.proofs.Common.{Bool, List, [], arith, cond, false, if◌then◌else◌, inl, inr, nat_lt, refl, subst, suc, sym, true, zero, ℕ, ◌++◌}
-use Rattle.lagprogress.proofs.Common.{◌+◌, ◌<◌, ◌∷◌, ◌≡◌, ◌≤◌, nat_tests, AllByRecursion, Lacpdu, PeriodicState, Fast, Setup, ReceiveState, Current}
+use Rattle.lagprogress.proofs.Common.{◌+◌, ◌<◌, ◌∷◌, ◌≡◌, ◌≤◌, nat_tests, AllByRecursion, Lacpdu, PeriodicState, Setup, ReceiveState, Current}
 use Rattle.lagprogress.proofs.Common.{Defaulted, Expired, Initialize, PortDisabled, Machines, mux_rows, periodic_rows, lacpdu_rows, receive_rows}
 use Rattle.lagprogress.proofs.Common.{start_receive, Fires, FiresTimes, Row, RunsToRest, Starts, before_start, aged, count_down, Call, Configure}
 use Rattle.lagprogress.proofs.Common.{ProcessesLacpdu, Receive, Restart, Set_link, Tick, Transmit, changed_party, choice_with_link, IsTimed}

@@ -1,7 +1,7 @@
 -- Bounds of the ticks that are told.
-use Rattle.lagprogress.proofs.Common.{Bool, List, None, Option, Some, [], ap, arith, false, inl, inr, refl, slice_get, subst, suc, true, zero, ℕ, ◌<◌}
-use Rattle.lagprogress.proofs.Common.{◌∷◌, ◌≡◌, ◌≤◌, nat_tests, none-some, same_Some, AllByRecursion, ReceiveState, Expired, Machines, SystemPort}
-use Rattle.lagprogress.proofs.Common.{SystemState, all-get, IsTimed, PortsAreTimed, most_current_while, IsAwaited, WaitsAreShort}
+use Rattle.lagprogress.proofs.Common.{Bool, List, None, Option, Some, [], ap, arith, inl, inr, refl, slice_get, subst, suc, zero, ℕ, ◌<◌, ◌∷◌, ◌≡◌}
+use Rattle.lagprogress.proofs.Common.{◌≤◌, nat_tests, none-some, same_Some, AllByRecursion, ReceiveState, Machines, SystemPort, SystemState, all-get}
+use Rattle.lagprogress.proofs.Common.{IsTimed, PortsAreTimed, most_current_while, IsAwaited, WaitsAreShort}
 use Rattle.lagsystem.specs.Soonest.{HappensIn, IsFirstToHappen, TimerHas, WindowHas}
 use Rattle.lagsystem.specs.Waiting.{ticks_until_due}
 use Rattle.lagsystem.proofs.Soonest.{tells_the_first}

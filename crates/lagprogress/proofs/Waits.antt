@@ -1,11 +1,10 @@
 -- No call leaves a conversation waiting for a response for 30 ticks.
-use Rattle.lagprogress.proofs.Common.{Bool, Err, List, None, Ok, Option, Result, Some, ap, arith, cond, eqb, false, length, ltb, refl, subst, sym}
-use Rattle.lagprogress.proofs.Common.{true, ℕ, ◌&&◌, ◌+◌, ◌∙◌, ◌≡◌, ltb-true, nat_tests, is_none, AggId, Assignment, Flushing, Free, On, Wanted}
-use Rattle.lagprogress.proofs.Common.{force_result, is_among, move_result, after_down, after_mark, after_release, after_tick, Table, assignment_of}
-use Rattle.lagprogress.proofs.Common.{next_identifier, first_free, SystemFault, Call, Configure, Force, FreesIfDown, Move_conversation, Offer}
-use Rattle.lagprogress.proofs.Common.{Receive, Restart, Set_link, Step, Tick, Transmit, IsFirst, Offers, system_force_result, system_move_result}
-use Rattle.lagprogress.proofs.Common.{distributing, Settling, held_unless_on, SystemState, forced_to, moved_to, IsAwaited, WaitsAreShort}
-use Rattle.distributor.specs.declared.fault.DistFault.TheVariants as dist
+use Rattle.lagprogress.proofs.Common.{Bool, Err, List, Ok, Option, Result, ap, arith, cond, false, length, ltb, refl, subst, sym, true, ℕ, ◌+◌, ◌∙◌}
+use Rattle.lagprogress.proofs.Common.{◌≡◌, ltb-true, nat_tests, AggId, Assignment, Flushing, On, Wanted, force_result, move_result, after_down}
+use Rattle.lagprogress.proofs.Common.{after_mark, after_release, after_tick, Table, assignment_of, next_identifier, first_free, SystemFault, Call}
+use Rattle.lagprogress.proofs.Common.{Configure, Force, FreesIfDown, Move_conversation, Offer, Receive, Restart, Set_link, Step, Tick, Transmit}
+use Rattle.lagprogress.proofs.Common.{IsFirst, Offers, system_force_result, system_move_result, distributing, Settling, held_unless_on, SystemState}
+use Rattle.lagprogress.proofs.Common.{forced_to, moved_to, IsAwaited, WaitsAreShort}
 use Rattle.lagsystem.specs.declared.drive.Reply.{Reply}
 use Rattle.lagsystem.specs.declared.drive.Reply.TheVariants as reply
 use Rattle.lagprogress.proofs.TableSteps.{Turning, Turns, asks_turn, comes_turn, gives_turn, same_turns, sets_turn, settles_turn, ticks_turn}

@@ -1,7 +1,6 @@
 use Rattle.lagprogress.proofs.Common.{arith, length, refl, ◌+◌, ◌<◌, ◌∙◌, ◌≡◌, ◌≤◌, One, Two, Algorithms, both_algorithms, IsOutOfMemoryOrSpent}
-use Rattle.lagprogress.specs.Played.{RefusesDelivery}
+use Rattle.lagprogress.proofs.Common.{RefusesDelivery}
 use Rattle.lagprogress.proofs.Played.{delivery_refused, nothing_left, on_err, one_more, quiet_more, refused_delivery}
-use Rattle.lagscript.specs.declared.event.Event.TheVariants as event
 use Rattle.lagprogress.proofs.playing.deliver_each.Goals as goal
 
 pub step-requires-clause-one : goal.step-requires-clause-one
