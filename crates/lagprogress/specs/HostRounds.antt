@@ -95,7 +95,7 @@ AskingIsHostRound gives = (events : List Event) (replies : List Reply) (old new 
 
 -- The loop of two hosts: each system ticks, and then asks each of its ports, until nothing is due or once at the least; then what
 -- is on the cables arrives, and ports are asked again after each arrival, or not. Frames may be offered, conversations moved, and
--- items arrive, at any time. In the end nothing is on any cable.
+-- items arrive, at any time after the first tick. In the end nothing is on any cable.
 pub record IsHostLoop (gives : Algorithms) (old new : WorldState) : Type 0 where
   pub first : List Event
   pub second : List Event

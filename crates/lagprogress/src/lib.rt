@@ -204,9 +204,10 @@ ghost use Rattle.lagprogress.specs.Bundle.{EachActiveLinkComesUp, EachLinkComesU
 /// The links of a bundle come up: both ends of each healthy cable are SELECTED and distribute from 352 healthy rounds
 /// (35.2 s) on if both ends of each are active, from 661 (66.1 s) on if one end of each is, whatever was before them. Each port whose
 /// link is up ends a healthy cable; each system has as many aggregators of a port's key as ports of that key, or at least one,
-/// where the ports of that key lead to aggregatable ports of one key at the other system, and are aggregatable themselves; a limit
-/// of links, if it has one, is no less than the ports of one key; the two systems differ, both are sound, and their timers are
-/// within their bounds. Other cables may be cut, or end at ports whose links are down (6.3.6, 6.4.12 to 6.4.16).
+/// where the ports of that key lead to aggregatable ports of one key at the other system, and are aggregatable themselves, and
+/// those whose links are down are UNSELECTED or led there; a limit of links, if it has one, is no less than the ports of one key;
+/// the two systems differ, both are sound, and their timers are within their bounds. Other cables may be cut, or end at ports
+/// whose links are down (6.3.6, 6.4.12 to 6.4.16).
 pub fn each_link_comes_up<F: Fn(u16, usize) -> usize>()
     ensures both { (one two : F) → EachActiveLinkComesUp (both_algorithms (F.post one) (F.post two)) }
     ensures one { (one two : F) → EachLinkComesUp (both_algorithms (F.post one) (F.post two)) }
