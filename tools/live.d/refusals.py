@@ -124,7 +124,7 @@ def begin(part: Part, program: str, refused: str, place: int, way: list[str]) ->
     """Starts both ends, with two links, or three for two aggregators."""
     _, own, other = steps_of(refused)
     links = 3 if refused == "leave_conversation" else 2
-    numbers, device, folder = range(place, place + links), f"lag{place}", os.path.join(part.folder, refused)
+    numbers, device, folder = range(place, place + links), f"lag{place}", os.path.join(part.folder, f"{refused}-refused{''.join(way)}")
     os.makedirs(folder, exist_ok=True)
     for number in numbers:
         make_pair(number)
