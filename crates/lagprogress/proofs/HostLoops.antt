@@ -157,11 +157,11 @@ between_all [] (f ∷ fs) a d = absurd d.0
 between_all (event.Emit n p ∷ es) fs a d = inr (inr (tt, between_all es fs a.1 d))
 between_all (e ∷ es) fs a d = absurd a.0
 
-asks_behind : (s : Side) (p : ℕ) (es fs : List Event) → AsksIn s p fs → AsksIn s p (es ++ fs)
+pub asks_behind : (s : Side) (p : ℕ) (es fs : List Event) → AsksIn s p fs → AsksIn s p (es ++ fs)
 asks_behind s p [] fs h = h
 asks_behind s p (e ∷ es) fs h = inr (asks_behind s p es fs h)
 
-asks_before : (s : Side) (p : ℕ) (es fs : List Event) → AsksIn s p es → AsksIn s p (es ++ fs)
+pub asks_before : (s : Side) (p : ℕ) (es fs : List Event) → AsksIn s p es → AsksIn s p (es ++ fs)
 asks_before s p [] fs h = absurd h
 asks_before s p (e ∷ es) fs (inl h) = inl h
 asks_before s p (e ∷ es) fs (inr h) = inr (asks_before s p es fs h)

@@ -59,5 +59,6 @@ mod Played
 mod Reaching
 mod BesideCutOffs
 mod HostLoops
+mod Looping
 mod HostComingUp
 mod HostBundling

@@ -12,7 +12,11 @@ use Rattle.lagprogress.proofs.Bundling.{each_active_link_agrees, each_active_lin
 use Rattle.lagprogress.proofs.Carrying.{each_reached_has_carriers_up}
 use Rattle.lagprogress.proofs.ComingUp.{events_keep}
 use Rattle.lagprogress.proofs.Freeing.{none_is_held_where_active, nothing_is_held}
+use Rattle.lagprogress.specs.HostRounds.{HostRounds}
+use Rattle.lagprogress.specs.Steady.{IsSteady}
 use Rattle.lagprogress.proofs.Hearing.{no}
+use Rattle.lagprogress.proofs.HostBundling.{each_active_link_agrees_by_hosts, each_active_link_comes_up_by_hosts}
+use Rattle.lagprogress.proofs.HostBundling.{each_link_agrees_by_hosts, each_link_comes_up_by_hosts}
 use Rattle.lagprogress.proofs.Reaching.{reached_steady}
 
 when_none : {X : Type 0} (b : Bool) (x : X) → (if b then Some x else None) ≡ None → b ≡ false
@@ -88,3 +92,29 @@ module _ {C : Type 0} (items : C → List Item) (limit : C → Option ℕ) where
       → LeadsTo items limit NothingStaysHeld OneIsActive freed_if_one_is gives n old new
   one_frees gives n old new h r ready enough s left =
       nothing_is_held gives n old new s (is_bundle OneIsActive gives old r ready).1 (carriers gives old r s) enough h left
+
+  -- in healthy rounds of hosts
+
+  pub hosts_distribute : (gives : Algorithms) (n : ℕ) (old new : WorldState) → (IsSteady old → HostRounds gives n old new)
+      → LeadsTo items limit EachDistributes BothAreActive up_if_both_active gives n old new
+  hosts_distribute gives n old new h r ready enough i l healthy =
+      let b = (is_bundle BothAreActive gives old r ready).1 in
+      each_active_link_comes_up_by_hosts gives n i l old new b healthy enough (h b.steady)
+
+  pub hosts_agree : (gives : Algorithms) (n : ℕ) (old new : WorldState) → (IsSteady old → HostRounds gives n old new)
+      → LeadsTo items limit EachAgrees BothAreActive up_if_both_active gives n old new
+  hosts_agree gives n old new h r ready enough i l healthy =
+      let both = is_bundle BothAreActive gives old r ready in
+      each_active_link_agrees_by_hosts gives n i l old new both.0 both.1 healthy enough (h both.1.steady)
+
+  pub one_host_distributes : (gives : Algorithms) (n : ℕ) (old new : WorldState) → (IsSteady old → HostRounds gives n old new)
+      → LeadsTo items limit EachDistributes OneIsActive up_if_one_is gives n old new
+  one_host_distributes gives n old new h r ready enough i l healthy =
+      let b = (is_bundle OneIsActive gives old r ready).1 in
+      each_link_comes_up_by_hosts gives n i l old new b healthy enough (h b.steady)
+
+  pub one_host_agrees : (gives : Algorithms) (n : ℕ) (old new : WorldState) → (IsSteady old → HostRounds gives n old new)
+      → LeadsTo items limit EachAgrees OneIsActive up_if_one_is gives n old new
+  one_host_agrees gives n old new h r ready enough i l healthy =
+      let both = is_bundle OneIsActive gives old r ready in
+      each_link_agrees_by_hosts gives n i l old new both.0 both.1 healthy enough (h both.1.steady)

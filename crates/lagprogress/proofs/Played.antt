@@ -24,6 +24,10 @@ if_err P Q r k h = grind (arith, nat_tests)
 pub if_ok : {T E : Type 0} (P Q : T → Type 0) (r : Result T E) → ((x : T) → P x → Q x) → IfOk r P → IfOk r Q
 if_ok P Q r k h = grind (arith, nat_tests)
 
+-- both hold
+pub both_ok : {T E : Type 0} (P Q : T → Type 0) (r : Result T E) → IfOk r P → IfOk r Q → IfOk r (λ x. P x × Q x)
+both_ok P Q r h k = grind (arith, nat_tests)
+
 -- lists of events
 
 pub runs_append : (gives : Algorithms) (es fs : List Event) (rs qs : List Reply) (old mid new : WorldState)
@@ -113,7 +117,7 @@ refused_one fault es n e old new l is same f m all =
     subst (IsOutOfMemoryOrSpent fault) (sym same) (refused_next fault es n old all
     (subst (λ o. RefusesNext old o fault) (ap Some is ∙ sym (slice_get-get_or es n e l)) (record { named = f; memory = m })))
 
-some_within : {X : Type 0} (xs : List X) (i : ℕ) → i < length xs → is_some (slice_get xs i) ≡ true
+pub some_within : {X : Type 0} (xs : List X) (i : ℕ) → i < length xs → is_some (slice_get xs i) ≡ true
 some_within [] i h = absurd (omega (arith, h))
 some_within (x ∷ xs) zero h = refl
 some_within (x ∷ xs) (suc i) h = some_within xs i (omega (arith, h))
@@ -167,7 +171,7 @@ asked_there : (o : Option LinkState) (one two : ℕ) → option_map ports o ≡ 
 asked_there o one two h = grind (arith, nat_tests)
 
 -- the cable at the next index of the first world, from the ports that its number joins
-cable_at : (n one two : ℕ) (old mid : WorldState) → world_setup mid ≡ world_setup old → Some (one, two) ≡ ends_of_cable (n + 1) mid
+pub cable_at : (n one two : ℕ) (old mid : WorldState) → world_setup mid ≡ world_setup old → Some (one, two) ≡ ends_of_cable (n + 1) mid
     → (l : LinkState) × (slice_get old.links n ≡ Some l) × (asks_ends l ≡ asks_pair (one, two))
 cable_at n one two old mid fixed h =
     let next : n + 1 ≡ suc n = omega arith in
@@ -258,7 +262,7 @@ pub record IsQuiet (n : ℕ) (old new : WorldState) : Type 0 where
   pub same : new.links ≡ old.links
   pub before : (s : Side) (i : ℕ) (l : LinkState) → i < n → slice_get old.links i ≡ Some l → towards s l ≡ []
 
-below_or_same : (i n : ℕ) → i < n + 1 → (i < n) ⊎ (i ≡ n)
+pub below_or_same : (i n : ℕ) → i < n + 1 → (i < n) ⊎ (i ≡ n)
 below_or_same i n h = grind (arith, nat_tests, cases_Bool)
 
 -- nor on the next one, in either direction

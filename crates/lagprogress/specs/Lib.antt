@@ -20,3 +20,4 @@ pub mod Arriving
 pub mod Limited
 pub mod CutOff
 pub mod HostRounds
+pub mod PlayedByHosts

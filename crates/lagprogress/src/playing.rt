@@ -13,7 +13,7 @@ use cables::Cable;
 use lagworld::{Event, Reply, World, WorldFault};
 
 /// Plays these events; the replies are dropped.
-fn play<C: Cable, F: Fn(u16, usize) -> usize + Drop>(
+pub(crate) fn play<C: Cable, F: Fn(u16, usize) -> usize + Drop>(
     world: &mut World<C, F>,
     events: &[Event],
 ) -> Result<(), WorldFault>
@@ -89,7 +89,7 @@ fn all_empty(so_far: bool, first: Reply, second: Reply) -> bool
 }
 
 /// Delivers the first item in each direction of each of `count` cables. Whether there was none.
-fn deliver_each<C: Cable, F: Fn(u16, usize) -> usize + Drop>(
+pub(crate) fn deliver_each<C: Cable, F: Fn(u16, usize) -> usize + Drop>(
     world: &mut World<C, F>,
     count: u16,
 ) -> Result<bool, WorldFault>

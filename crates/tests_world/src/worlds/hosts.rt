@@ -3,6 +3,8 @@ use crate::worlds::Want::{Frame, Is};
 use crate::worlds::given::{TWO_LONG, lines, modulo, read};
 use crate::worlds::starts::{LINK_UP, TICKED, UP_1};
 use crate::worlds::{Entry, Want, compare_run};
+use cables::AnyCable;
+use lagprogress::play_host_rounds;
 use lagsystem::SystemFault;
 use lagworld::{Agreement, Reply, World, WorldFault};
 use std::alloc::Global;
@@ -60,6 +62,20 @@ const ROUND: [Entry; 34] = [
     ("deliver 2 2", EMPTY),
 ];
 
+/// Both cables agree.
+fn agree<F: Fn(u16, usize) -> usize + Drop>(rt: &impl Abort, world: &World<AnyCable, F>) {
+    for cable in [1, 2] {
+        let agreement = world.agreement(cable);
+        same_at(
+            rt,
+            "cable",
+            usize::from(cable),
+            &agreement,
+            &Some(Agreement::Same),
+        );
+    }
+}
+
 /// Plays so many of these rounds between two systems with two ports and one aggregator each: nothing is left on a cable after any
 /// of them, the frames of the last one arrive, and then both cables agree.
 fn share(rt: &impl Abort, alloc: Global, rounds: u16) -> Result<(), WorldFault> {
@@ -78,21 +94,33 @@ fn share(rt: &impl Abort, alloc: Global, rounds: u16) -> Result<(), WorldFault> 
         }
     }
     compare_run(rt, LINKS_UP.len(), &ROUND, world.run(&round));
-    for cable in [1, 2] {
-        let agreement = world.agreement(cable);
-        same_at(
-            rt,
-            "cable",
-            usize::from(cable),
-            &agreement,
-            &Some(Agreement::Same),
-        );
-    }
+    agree(rt, &world);
+    Ok(())
+}
+
+/// Plays so many rounds of hosts between the same systems; then both cables agree.
+fn play(rt: &impl Abort, alloc: Global, rounds: u16) -> Result<(), WorldFault> {
+    let (config, events) = read(rt, alloc, TWO_LONG, &LINKS_UP)?;
+    let mut world = World::new(alloc, config, modulo, modulo, lines(alloc, 2, None)?)?;
+    compare_run(rt, 0, &LINKS_UP, world.run(&events));
+    same(
+        rt,
+        "the rounds",
+        &play_host_rounds(&mut world, rounds),
+        &Ok(()),
+    );
+    agree(rt, &world);
     Ok(())
 }
 
 #[test]
 fn cables_of_one_aggregator_agree_in_352_rounds_with_data(rt: HostRuntime) -> Result<(), Fail> {
     share(&rt, rt.alloc(), 352)?;
+    Ok(())
+}
+
+#[test]
+fn cables_of_one_aggregator_agree_in_352_rounds_of_hosts(rt: HostRuntime) -> Result<(), Fail> {
+    play(&rt, rt.alloc(), 352)?;
     Ok(())
 }

@@ -1,0 +1,58 @@
+use Rattle.lagprogress.proofs.Common.{arith, subst, ℕ, ◌∙◌, ◌≡◌, ◌≤◌, Algorithms, WorldState, IsSteady}
+use Rattle.lagprogress.specs.HostRounds.{HostRounds}
+use Rattle.lagprogress.proofs.Looping.{one_host_round_more}
+use Rattle.lagprogress.proofs.MadeWorlds.{hosts_agree, hosts_distribute, one_host_agrees, one_host_distributes}
+use Rattle.lagprogress.proofs.Played.{on_err}
+use Rattle.lagprogress.proofs.loops.play_host_rounds.Goals as goal
+
+pub play_host_round-requires-clause-one : goal.play_host_round-requires-clause-one
+play_host_round-requires-clause-one g c = rw c.loop-done.invariant.one c.requires.one
+
+pub play_host_round-requires-clause-two : goal.play_host_round-requires-clause-two
+play_host_round-requires-clause-two g c = rw c.loop-done.invariant.two c.requires.two
+
+pub loop-done-preserved : goal.loop-done-preserved
+loop-done-preserved g c = record {
+  within = omega (arith, c.loop-done-test.true);
+  played = one_host_round_more _ c.loop-done.done _ _ _ c.loop-done.invariant.played
+      (rw (c.loop-done.invariant.one, c.loop-done.invariant.two) at c.in_ok-play_host_round.ensures.round);
+  fixed = c.play_host_round.ensures.fixed ∙ c.loop-done.invariant.fixed;
+  one = c.play_host_round.ensures.algorithm_one ∙ c.loop-done.invariant.one;
+  two = c.play_host_round.ensures.algorithm_two ∙ c.loop-done.invariant.two;
+}
+
+pub returns-in_err-play_host_round-clause-stopped : goal.returns-in_err-play_host_round-clause-stopped
+returns-in_err-play_host_round-clause-stopped g c =
+    on_err _ c.in_err-play_host_round.field-0.0 c.from_residual.result c.from_residual.ensures.1 (record {
+      done = c.loop-done.done;
+      mid = c.loop-done.world.state;
+      within = c.loop-done-test.true;
+      before = c.loop-done.invariant.played;
+      last = rw (c.loop-done.invariant.one, c.loop-done.invariant.two) at c.in_err-play_host_round.ensures.refused;
+    })
+
+-- none is left
+all_played : (gives : Algorithms) (count done : ℕ) (old new : WorldState) → count ≤ done → done ≤ count
+    → (IsSteady old → HostRounds gives done old new) → IsSteady old → HostRounds gives count old new
+all_played gives count done old new l m h =
+    let all : done ≡ count = omega (arith, l, m) in subst (λ n. IsSteady old → HostRounds gives n old new) all h
+
+pub returns-clause-rounds : goal.returns-clause-rounds
+returns-clause-rounds g c =
+    all_played _ c.args.count c.loop-done.done _ _ c.loop-done-test.false c.loop-done.invariant.within c.loop-done.invariant.played
+
+pub returns-clause-distributes_both : goal.returns-clause-distributes_both
+returns-clause-distributes_both g c = hosts_distribute g.C.Cable.items g.C.Cable.limit _ c.args.count _ _
+    (all_played _ c.args.count c.loop-done.done _ _ c.loop-done-test.false c.loop-done.invariant.within c.loop-done.invariant.played)
+
+pub returns-clause-agrees_both : goal.returns-clause-agrees_both
+returns-clause-agrees_both g c = hosts_agree g.C.Cable.items g.C.Cable.limit _ c.args.count _ _
+    (all_played _ c.args.count c.loop-done.done _ _ c.loop-done-test.false c.loop-done.invariant.within c.loop-done.invariant.played)
+
+pub returns-clause-distributes_one : goal.returns-clause-distributes_one
+returns-clause-distributes_one g c = one_host_distributes g.C.Cable.items g.C.Cable.limit _ c.args.count _ _
+    (all_played _ c.args.count c.loop-done.done _ _ c.loop-done-test.false c.loop-done.invariant.within c.loop-done.invariant.played)
+
+pub returns-clause-agrees_one : goal.returns-clause-agrees_one
+returns-clause-agrees_one g c = one_host_agrees g.C.Cable.items g.C.Cable.limit _ c.args.count _ _
+    (all_played _ c.args.count c.loop-done.done _ _ c.loop-done-test.false c.loop-done.invariant.within c.loop-done.invariant.played)

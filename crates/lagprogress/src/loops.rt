@@ -1,0 +1,167 @@
+ghost use Rattle.std.specs.Prelude.{◌≡◌, ◌≤◌, IfErr, IfOk, length};
+ghost use Rattle.distributor.specs.Calls.{PicksIndexes};
+ghost use Rattle.lagworld.specs.Events.{most_events};
+ghost use Rattle.lagworld.specs.ModelWorld.{world_setup};
+ghost use Rattle.lagworld.specs.Sound.{both_algorithms};
+ghost use Rattle.lagprogress.specs.Bundle.{BothAreActive, OneIsActive};
+ghost use Rattle.lagprogress.specs.HostRounds.{HostRounds, IsHostRound};
+ghost use Rattle.lagprogress.specs.Played.{EachAgrees, EachDistributes, LeadsTo};
+ghost use Rattle.lagprogress.specs.PlayedByHosts.{AsksEnds, AsksPort, PlaysBetween, RefusesHostRound, StopsBetween, StopsInHostRounds};
+ghost use Rattle.lagprogress.specs.PlayedByHosts.{sent_nothing};
+ghost use Rattle.lagprogress.specs.Rounds.{NothingInFlight, up_if_both_active, up_if_one_is};
+ghost use Rattle.lagprogress.specs.Steady.{IsSteady};
+
+use crate::playing::{deliver_each, play};
+use cables::Cable;
+use lagworld::{Event, Reply, World, WorldFault};
+
+/// Whether an Emit event sent nothing.
+fn sent_nothing(reply: Reply) -> bool
+    ensures { result ≡ sent_nothing reply }
+{
+    match reply {
+        Reply::Lacpdu(_, _) => false,
+        Reply::Marker(_, _) => false,
+        _ => true,
+    }
+}
+
+/// Asks a port of a system until it sends nothing.
+fn ask_port<C: Cable, F: Fn(u16, usize) -> usize + Drop>(
+    world: &mut World<C, F>,
+    system: u8,
+    port: u16,
+) -> Result<(), WorldFault>
+    requires one { PicksIndexes (F.pre world.old.one) (F.post world.old.one) }
+    requires two { PicksIndexes (F.pre world.old.two) (F.post world.old.two) }
+    ensures asks { IfOk result (λ done. AsksPort (both_algorithms (F.post world.old.one) (F.post world.old.two)) system port
+        world.old.state world.new.state) }
+    ensures part { IfErr result (λ fault. StopsBetween (both_algorithms (F.post world.old.one) (F.post world.old.two)) fault
+        world.old.state world.new.state) }
+    ensures risen { world.old.state.acted ≤ world.new.state.acted }
+    ensures few { world.old.state.acted ≤ most_events → world.new.state.acted ≤ most_events }
+    ensures fixed { world_setup world.new.state ≡ world_setup world.old.state }
+    ensures algorithm_one { world.new.one ≡ world.old.one }
+    ensures algorithm_two { world.new.two ≡ world.old.two }
+{
+    loop {
+        let reply = world.step(&Event::Emit(system, port))?;
+        if sent_nothing(reply) {
+            return Ok(());
+        }
+    }
+}
+
+/// Asks both ends of each of `count` cables until they send nothing.
+fn ask_ends<C: Cable, F: Fn(u16, usize) -> usize + Drop>(
+    world: &mut World<C, F>,
+    count: u16,
+) -> Result<(), WorldFault>
+    requires one { PicksIndexes (F.pre world.old.one) (F.post world.old.one) }
+    requires two { PicksIndexes (F.pre world.old.two) (F.post world.old.two) }
+    requires counted { count ≡ length world.old.state.links }
+    ensures asks { IfOk result (λ done. AsksEnds (both_algorithms (F.post world.old.one) (F.post world.old.two)) count
+        world.old.state world.new.state) }
+    ensures part { IfErr result (λ fault. StopsBetween (both_algorithms (F.post world.old.one) (F.post world.old.two)) fault
+        world.old.state world.new.state) }
+    ensures risen { world.old.state.acted ≤ world.new.state.acted }
+    ensures few { world.old.state.acted ≤ most_events → world.new.state.acted ≤ most_events }
+    ensures fixed { world_setup world.new.state ≡ world_setup world.old.state }
+    ensures algorithm_one { world.new.one ≡ world.old.one }
+    ensures algorithm_two { world.new.two ≡ world.old.two }
+{
+    let mut asked = 0;
+    while asked < count {
+        // There is one, since there are `count`.
+        let Some((one, two)) = world.ends(asked + 1) else {
+            return Err(WorldFault::NoCable);
+        };
+        let first = ask_port(world, 1, one)?;
+        let second = ask_port(world, 2, two)?;
+        asked += 1;
+    }
+    Ok(())
+}
+
+/// Delivers what is on each of `count` cables, one item in each direction at a time, and asks the ends of all cables after
+/// that, until nothing is on any.
+fn deliver_and_ask<C: Cable, F: Fn(u16, usize) -> usize + Drop>(
+    world: &mut World<C, F>,
+    count: u16,
+) -> Result<(), WorldFault>
+    requires one { PicksIndexes (F.pre world.old.one) (F.post world.old.one) }
+    requires two { PicksIndexes (F.pre world.old.two) (F.post world.old.two) }
+    requires counted { count ≡ length world.old.state.links }
+    ensures plays { IfOk result (λ done. PlaysBetween (both_algorithms (F.post world.old.one) (F.post world.old.two))
+        world.old.state world.new.state) }
+    ensures empties { IfOk result (λ done. NothingInFlight world.new.state) }
+    ensures part { IfErr result (λ fault. StopsBetween (both_algorithms (F.post world.old.one) (F.post world.old.two)) fault
+        world.old.state world.new.state) }
+    ensures fixed { world_setup world.new.state ≡ world_setup world.old.state }
+    ensures algorithm_one { world.new.one ≡ world.old.one }
+    ensures algorithm_two { world.new.two ≡ world.old.two }
+{
+    loop {
+        if deliver_each(world, count)? {
+            return Ok(());
+        }
+        ask_ends(world, count)?;
+    }
+}
+
+/// Plays one healthy round of a world as two hosts do: both systems tick, the ends of all cables are asked until they send
+/// nothing, and while anything is on a cable, it is delivered and they are asked again. Where it is not refused, this is a round
+/// as `each_link_agrees_by_hosts` wants it, if the systems are sound and their timers within their bounds, as in each world that
+/// events lead to from a start. It is refused as `play_round` is (profile).
+pub fn play_host_round<C: Cable, F: Fn(u16, usize) -> usize + Drop>(
+    world: &mut World<C, F>,
+) -> Result<(), WorldFault>
+    requires one { PicksIndexes (F.pre world.old.one) (F.post world.old.one) }
+    requires two { PicksIndexes (F.pre world.old.two) (F.post world.old.two) }
+    ensures round { IfOk result (λ done. IsSteady world.old.state → IsHostRound (both_algorithms (F.post world.old.one)
+        (F.post world.old.two)) world.old.state world.new.state) }
+    ensures refused { IfErr result (λ fault. RefusesHostRound (both_algorithms (F.post world.old.one) (F.post world.old.two)) fault
+        world.old.state world.new.state) }
+    ensures fixed { world_setup world.new.state ≡ world_setup world.old.state }
+    ensures algorithm_one { world.new.one ≡ world.old.one }
+    ensures algorithm_two { world.new.two ≡ world.old.two }
+{
+    let Ok(count) = u16::try_from(world.cables()) else {
+        return Err(WorldFault::NoCable);
+    };
+    let ticks = [Event::Tick(1, 1), Event::Tick(2, 1)];
+    play(world, &ticks)?;
+    ask_ends(world, count)?;
+    deliver_and_ask(world, count)
+}
+
+/// Plays so many healthy rounds, as `play_host_round` plays one, and stops in the first that is refused.
+pub fn play_host_rounds<C: Cable, F: Fn(u16, usize) -> usize + Drop>(
+    world: &mut World<C, F>,
+    count: u16,
+) -> Result<(), WorldFault>
+    requires one { PicksIndexes (F.pre world.old.one) (F.post world.old.one) }
+    requires two { PicksIndexes (F.pre world.old.two) (F.post world.old.two) }
+    ensures rounds { IfOk result (λ done. IsSteady world.old.state → HostRounds (both_algorithms (F.post world.old.one)
+        (F.post world.old.two)) count world.old.state world.new.state) }
+    ensures distributes_both { IfOk result (λ done. LeadsTo C.items C.limit EachDistributes BothAreActive up_if_both_active
+        (both_algorithms (F.post world.old.one) (F.post world.old.two)) count world.old.state world.new.state) }
+    ensures agrees_both { IfOk result (λ done. LeadsTo C.items C.limit EachAgrees BothAreActive up_if_both_active
+        (both_algorithms (F.post world.old.one) (F.post world.old.two)) count world.old.state world.new.state) }
+    ensures distributes_one { IfOk result (λ done. LeadsTo C.items C.limit EachDistributes OneIsActive up_if_one_is
+        (both_algorithms (F.post world.old.one) (F.post world.old.two)) count world.old.state world.new.state) }
+    ensures agrees_one { IfOk result (λ done. LeadsTo C.items C.limit EachAgrees OneIsActive up_if_one_is
+        (both_algorithms (F.post world.old.one) (F.post world.old.two)) count world.old.state world.new.state) }
+    ensures stopped { IfErr result (λ fault. StopsInHostRounds (both_algorithms (F.post world.old.one) (F.post world.old.two)) fault
+        count world.old.state world.new.state) }
+    ensures fixed { world_setup world.new.state ≡ world_setup world.old.state }
+    ensures algorithm_one { world.new.one ≡ world.old.one }
+    ensures algorithm_two { world.new.two ≡ world.old.two }
+{
+    let mut done = 0;
+    while done < count {
+        play_host_round(world)?;
+        done += 1;
+    }
+    Ok(())
+}
