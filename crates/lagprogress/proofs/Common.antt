@@ -103,6 +103,7 @@ pub use Rattle.lagsystem.proofs.Sound.{Step-sound, first_sound}
 pub use Rattle.lagsystem.proofs.Steps.{forced_to, moved_to}
 pub use Rattle.lagscript.specs.declared.event.Event.{Event}
 pub use Rattle.lagworld.specs.declared.agreement.Agreement.TheVariants.{Same}
+pub use Rattle.lagworld.specs.declared.fault.WorldFault.{WorldFault}
 pub use Rattle.lagworld.specs.declared.histories.PortHistory.{PortHistory}
 pub use Rattle.lagworld.specs.declared.reply.Reply.{Reply}
 pub use Rattle.lagworld.specs.Agreement.{agreement_at, agreement_of, end_facts, first_agreement, is_stamp, same_groups}
@@ -114,6 +115,7 @@ pub use Rattle.lagworld.specs.HalfCalls.{HalfAnswers, HalfTicks, forced_if_accep
 pub use Rattle.lagworld.specs.Making.{AreFirst}
 pub use Rattle.lagworld.specs.Messages.{payload_in, stamp_count}
 pub use Rattle.lagworld.specs.ModelWorld.{link_ends, world_setup}
+pub use Rattle.lagworld.specs.Readers.{ends_of_cable, ports_joined}
 pub use Rattle.lagworld.specs.Sound.{IsStart, IsSound as IsWorldSound, RefusesNext, both_algorithms, next_of}
 pub use Rattle.lagworld.specs.State.{HalfState, ItemValue, LinkState, WorldState, accepts, accepts_at, change_count_in, change_link, element_numbered}
 pub use Rattle.lagworld.specs.State.{emptied, half, history_at, is_accepted, limit_towards, link_at, link_index, port_at, put_on_port, sent_on}
@@ -142,6 +144,7 @@ pub use Rattle.lagprogress.specs.Knowing.{HasRecorded, IsKnown}
 pub use Rattle.lagprogress.specs.Passing.{DeliverProcessesLacpdu, EmitSendsLacpdu, EndIsUp, IsHeardOn, IsSentOn}
 pub use Rattle.lagprogress.specs.Played.{Delivers, EachAgrees, EachDistributes, HasTooManyCables, IsOutOfMemoryOrSpent, IsReached, IsReady, LeadsTo}
 pub use Rattle.lagprogress.specs.Played.{NamesNoCable, NothingStaysHeld, PlaysPart, RefusesDelivery, RunsAll, RunsPart, found_nothing}
+pub use Rattle.lagprogress.specs.PlayedByHosts.{AsksEnds, AsksPort, PlaysBetween, StopsBetween, StopsInHostRound}
 pub use Rattle.lagprogress.specs.Progress.{ActiveEndsComeToKnow, EndKnows, EndsComeToKnow, Knows}
 pub use Rattle.lagprogress.specs.Rounds.{AtEnd, IsDeliver, IsHealthy, IsHealthyAt, IsRound, NothingInFlight, OfPort, Rounds, asks_all, asks_ends}
 pub use Rattle.lagprogress.specs.Rounds.{freed_if_both_active, freed_if_one_is, ticks_of_both, up_if_both_active, up_if_one_is}

@@ -1,21 +1,16 @@
 -- Healthy rounds of hosts that are played.
-use Rattle.lagprogress.proofs.Common.{List, None, Some, [], ap, arith, inl, inr, length, refl, same_Some, slice_get, slice_get_within, subst, suc, sym, true, false}
-use Rattle.lagprogress.proofs.Common.{ℕ, ◌++◌, ◌+◌, ◌<◌, ◌∙◌, ◌∷◌, ◌≡◌, ◌≤◌, AllByRecursion, all-append, One, Side, Two, WorldSetup, end_at}
-use Rattle.lagprogress.proofs.Common.{Event, Reply, Algorithms, WorldRuns, WorldSteps, cause, cause_or_no_memory, side_of, world_setup, LinkState, WorldState}
-use Rattle.lagprogress.proofs.Common.{port_at, end_is, Delivers, RunsAll, RunsPart, IsDeliver, IsHealthyAt, NothingInFlight, asks_ends, ticks_of_both, IsSteady}
+use Rattle.lagprogress.proofs.Common.{List, None, Option, Some, [], ap, arith, false, inl, inr, is_some, length, option_map, refl, slice_get, subst}
+use Rattle.lagprogress.proofs.Common.{suc, sym, true, ℕ, ◌++◌, ◌+◌, ◌<◌, ◌∙◌, ◌∷◌, ◌≡◌, ◌≤◌, false≢true, same_Some, slice_get_within, AllByRecursion}
+use Rattle.lagprogress.proofs.Common.{all-append, One, Side, Two, WorldSetup, end_at, Event, WorldFault, Reply, Algorithms, WorldSteps, cause}
+use Rattle.lagprogress.proofs.Common.{cause_or_no_memory, world_setup, ends_of_cable, ports_joined, LinkState, WorldState, port_at, end_is}
+use Rattle.lagprogress.proofs.Common.{AsksAfterTick, AsksIn, HostRounds, IsBetweenTicks, IsHostRound, IsTickOf, TickOnce, Delivers, RefusesDelivery}
+use Rattle.lagprogress.proofs.Common.{RunsAll, RunsPart, AsksEnds, AsksPort, PlaysBetween, StopsBetween, StopsInHostRound, IsDeliver, IsHealthyAt}
+use Rattle.lagprogress.proofs.Common.{NothingInFlight, ticks_of_both, IsSteady}
 use Rattle.lagscript.specs.declared.event.Event.TheVariants as event
-use Rattle.lagworld.specs.declared.fault.WorldFault.{WorldFault}
-use Rattle.lagworld.specs.Events.{may_take_memory}
-use Rattle.lagworld.specs.Readers.{ends_of_cable}
-use Rattle.lagprogress.specs.HostRounds.{AsksAfterTick, AsksIn, HostRounds, IsBetweenTicks, IsHostRound, IsTickOf, TickOnce}
-use Rattle.lagprogress.specs.Played.{RefusesDelivery}
-use Rattle.lagprogress.specs.PlayedByHosts.{AsksEnds, AsksPort, PlaysBetween, StopsBetween, StopsInHostRound}
 use Rattle.lagprogress.proofs.HostEach.{hosts_steady}
 use Rattle.lagprogress.proofs.HostLoops.{asking_is_host_round, asks_before, asks_behind}
 use Rattle.lagprogress.proofs.Linked.{each_side}
-use Rattle.lagprogress.proofs.Common.{Option, is_some, option_map, false≢true}
-use Rattle.lagworld.specs.Readers.{ports_joined}
-use Rattle.lagprogress.proofs.Played.{as_many, some_within, asks_pair, below_or_same, cable_at, runs_append, runs_both}
+use Rattle.lagprogress.proofs.Played.{as_many, some_within, below_or_same, cable_at, runs_append, runs_both}
 
 -- events between ticks
 

@@ -2,8 +2,8 @@
 use Rattle.lagprogress.proofs.Common.{Bool, List, None, Option, Some, [], ap, false, if◌then◌else◌, map, refl, sym, true, ℕ, ◌∙◌, ◌∷◌, ◌≡◌, none-some}
 use Rattle.lagprogress.proofs.Common.{SystemId, same_system, system-itself, One, Side, Two, Config, config_value, Algorithms, AreFirst, LinkState}
 use Rattle.lagprogress.proofs.Common.{WorldState, half, BothAreActive, IsBundle, OneIsActive, ReachedIsApart, ReachedIsBundle, SystemsDiffer}
-use Rattle.lagprogress.proofs.Common.{CarriersAreUp, EachAgrees, EachDistributes, IsReached, IsReady, LeadsTo, NothingStaysHeld, Rounds}
-use Rattle.lagprogress.proofs.Common.{freed_if_both_active, freed_if_one_is, up_if_both_active, up_if_one_is}
+use Rattle.lagprogress.proofs.Common.{CarriersAreUp, HostRounds, EachAgrees, EachDistributes, IsReached, IsReady, LeadsTo, NothingStaysHeld, Rounds}
+use Rattle.lagprogress.proofs.Common.{freed_if_both_active, freed_if_one_is, up_if_both_active, up_if_one_is, IsSteady}
 use Rattle.lagscript.specs.declared.config.BadWorld.TheVariants.{SameSystem}
 use Rattle.cables.specs.declared.item.Item.{Item}
 use Rattle.lagscript.specs.Configs.{refusal_of_all}
@@ -12,11 +12,9 @@ use Rattle.lagprogress.proofs.Bundling.{each_active_link_agrees, each_active_lin
 use Rattle.lagprogress.proofs.Carrying.{each_reached_has_carriers_up}
 use Rattle.lagprogress.proofs.ComingUp.{events_keep}
 use Rattle.lagprogress.proofs.Freeing.{none_is_held_where_active, nothing_is_held}
-use Rattle.lagprogress.specs.HostRounds.{HostRounds}
-use Rattle.lagprogress.specs.Steady.{IsSteady}
 use Rattle.lagprogress.proofs.Hearing.{no}
-use Rattle.lagprogress.proofs.HostBundling.{each_active_link_agrees_by_hosts, each_active_link_comes_up_by_hosts}
-use Rattle.lagprogress.proofs.HostBundling.{each_link_agrees_by_hosts, each_link_comes_up_by_hosts}
+use Rattle.lagprogress.proofs.HostBundling.{each_active_link_agrees_by_hosts, each_active_link_comes_up_by_hosts, each_link_agrees_by_hosts}
+use Rattle.lagprogress.proofs.HostBundling.{each_link_comes_up_by_hosts}
 use Rattle.lagprogress.proofs.Reaching.{reached_steady}
 
 when_none : {X : Type 0} (b : Bool) (x : X) → (if b then Some x else None) ≡ None → b ≡ false

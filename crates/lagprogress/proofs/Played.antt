@@ -3,18 +3,16 @@ use Rattle.lagprogress.proofs.Common.{Bool, IfErr, IfOk, List, None, Option, Res
 use Rattle.lagprogress.proofs.Common.{is_some, length, map, nat_le, option_map, refl, slice_get, subst, suc, sym, take, true, zero, ℕ, ◌&&◌, ◌++◌}
 use Rattle.lagprogress.proofs.Common.{◌+◌, ◌<◌, ◌∙◌, ◌∷◌, ◌≡◌, ◌≤◌, ◌⊎◌, cases_Bool, false≢true, nat_tests, none-some, same_Some, slice_get-get_or}
 use Rattle.lagprogress.proofs.Common.{slice_get-map, slice_get_within, AllByRecursion, IsErrAnd, all-append, Ends, One, Side, Two, WorldSetup}
-use Rattle.lagprogress.proofs.Common.{value_of, Event, Reply, Algorithms, DeliversFrom, WorldRuns, WorldSteps, cause, cause_or_no_memory}
-use Rattle.lagprogress.proofs.Common.{first_event_cause, has_cable, may_take_memory, most_events, side_of, link_ends, world_setup, RefusesNext}
-use Rattle.lagprogress.proofs.Common.{next_of, ItemValue, LinkState, WorldState, element_numbered, towards, Delivers, HasTooManyCables}
+use Rattle.lagprogress.proofs.Common.{value_of, Event, WorldFault, Reply, Algorithms, DeliversFrom, WorldRuns, WorldSteps, cause, cause_or_no_memory}
+use Rattle.lagprogress.proofs.Common.{first_event_cause, has_cable, may_take_memory, most_events, side_of, link_ends, world_setup, ends_of_cable}
+use Rattle.lagprogress.proofs.Common.{RefusesNext, next_of, ItemValue, LinkState, WorldState, element_numbered, towards, Delivers, HasTooManyCables}
 use Rattle.lagprogress.proofs.Common.{IsOutOfMemoryOrSpent, NamesNoCable, PlaysPart, RefusesDelivery, RunsAll, RunsPart, found_nothing, IsDeliver}
 use Rattle.lagprogress.proofs.Common.{IsRound, NothingInFlight, Rounds, asks_all, asks_ends, ticks_of_both}
 use Rattle.lagprogress.specs.Played.{most_cables}
 use Rattle.std.proofs.lemmas.List.{length-map, take_more}
 use Rattle.lagscript.specs.declared.event.Event.TheVariants as event
-use Rattle.lagworld.specs.declared.fault.WorldFault.{WorldFault}
 use Rattle.lagworld.specs.declared.fault.WorldFault.TheVariants.{NoCable}
 use Rattle.lagworld.specs.declared.reply.Reply.TheVariants as reply
-use Rattle.lagworld.specs.Readers.{ends_of_cable}
 use Rattle.lagprogress.proofs.Linked.{each_side}
 
 -- of an answer

@@ -1,5 +1,4 @@
-use Rattle.lagprogress.proofs.Common.{◌-◌, ◌≡◌, ◌≤◌, most_events, world_setup, both_algorithms}
-use Rattle.lagprogress.specs.PlayedByHosts.{AsksEnds}
+use Rattle.lagprogress.proofs.Common.{◌-◌, ◌≡◌, ◌≤◌, most_events, world_setup, both_algorithms, AsksEnds}
 use Rattle.lagprogress.proofs.loops.ask_ends.Given as goal
 
 abbrev pub invariant-loop-asked : goal.invariant-loop-asked

@@ -1,5 +1,4 @@
-use Rattle.lagprogress.proofs.Common.{◌-◌, ◌≡◌, most_events, world_setup, both_algorithms}
-use Rattle.lagprogress.specs.PlayedByHosts.{PlaysBetween}
+use Rattle.lagprogress.proofs.Common.{◌-◌, ◌≡◌, most_events, world_setup, both_algorithms, PlaysBetween}
 use Rattle.lagprogress.proofs.loops.deliver_and_ask.Given as goal
 
 abbrev pub invariant-loop-world : goal.invariant-loop-world

@@ -1,4 +1,4 @@
-use Rattle.lagprogress.proofs.Common.{arith, inl, inr, length, sym, ◌∙◌, ◌≡◌, ◌≤◌}
+use Rattle.lagprogress.proofs.Common.{arith, inl, inr}
 use Rattle.lagprogress.proofs.Looping.{host_round_played, stops_after_ticks, stops_later, stops_ticking_hosts}
 use Rattle.lagprogress.proofs.Played.{both_ok, if_err, if_ok, on_err, too_many}
 use Rattle.lagprogress.proofs.loops.play_host_round.Goals as goal

@@ -1,5 +1,4 @@
-use Rattle.lagprogress.proofs.Common.{arith, subst, ℕ, ◌∙◌, ◌≡◌, ◌≤◌, Algorithms, WorldState, IsSteady}
-use Rattle.lagprogress.specs.HostRounds.{HostRounds}
+use Rattle.lagprogress.proofs.Common.{arith, subst, ℕ, ◌∙◌, ◌≡◌, ◌≤◌, Algorithms, WorldState, HostRounds, IsSteady}
 use Rattle.lagprogress.proofs.Looping.{one_host_round_more}
 use Rattle.lagprogress.proofs.MadeWorlds.{hosts_agree, hosts_distribute, one_host_agrees, one_host_distributes}
 use Rattle.lagprogress.proofs.Played.{on_err}

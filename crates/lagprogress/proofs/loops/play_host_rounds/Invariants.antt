@@ -1,5 +1,4 @@
-use Rattle.lagprogress.proofs.Common.{◌-◌, ◌≡◌, ◌≤◌, world_setup, both_algorithms, IsSteady}
-use Rattle.lagprogress.specs.HostRounds.{HostRounds}
+use Rattle.lagprogress.proofs.Common.{◌-◌, ◌≡◌, ◌≤◌, world_setup, both_algorithms, HostRounds, IsSteady}
 use Rattle.lagprogress.proofs.loops.play_host_rounds.Given as goal
 
 abbrev pub invariant-loop-done : goal.invariant-loop-done
