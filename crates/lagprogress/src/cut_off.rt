@@ -11,10 +11,10 @@ pub fn cut_off_ports_are_defaulted<F: Fn(u16, usize) -> usize>()
 {}
 
 /// Ports that are cut off do no harm: as in `each_link_comes_up`, but beside the healthy cables, of each of which one end is
-/// active, there may be ports whose links are up and that are cut off as in `cut_off_ports_are_defaulted`. From 962 healthy rounds
-/// (96.2 s) on, whatever was before them, both ends of each healthy cable distribute, and in a sound world its agreement is `Same`;
-/// and from 992 (99.2 s) on no conversation is Wanted or Flushing on them, if an identifier for a marker is left in the end (6.2.5,
-/// 6.3.6, 6.4.12 to 6.4.16; profile).
+/// active, there may be ports whose links are up and that are cut off as in `cut_off_ports_are_defaulted`; and each system has as
+/// many aggregators of a port's key as ports of that key. From 962 healthy rounds (96.2 s) on, whatever was before them, both ends
+/// of each healthy cable distribute, and in a sound world its agreement is `Same`; and from 992 (99.2 s) on no conversation is
+/// Wanted or Flushing on them, if an identifier for a marker is left in the end (6.2.5, 6.3.6, 6.4.12 to 6.4.16; profile).
 pub fn each_link_comes_up_beside_cut_offs<F: Fn(u16, usize) -> usize>()
     ensures up { (one two : F) → EachLinkComesUpBesideCutOffs (both_algorithms (F.post one) (F.post two)) }
     ensures agrees { (one two : F) → EachLinkAgreesBesideCutOffs (both_algorithms (F.post one) (F.post two)) }
