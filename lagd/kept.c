@@ -26,15 +26,27 @@ static const char *boot_id(void) {
     return text;
 }
 
+/* Opens the file of an interface; or answers NULL, and errno tells why not. */
+static FILE *open_file(const struct link *link, int flags, const char *mode) {
+    char name[64];
+    FILE *file;
+    int opened, fault;
+    name_file(link, name);
+    opened = openat(folder_file(), name, flags | O_NOFOLLOW | O_CLOEXEC, 0600);
+    file = opened < 0 ? NULL : fdopen(opened, mode);
+    if (file || opened < 0) return file;
+    fault = errno;
+    close(opened);
+    errno = fault;
+    return NULL;
+}
+
 /* Reads what an interface had before an earlier daemon changed it; answers whether there is something. */
 static bool recall(const struct link *link, struct kept *kept) {
-    char name[64], boot[64], mac[32], own[32], end[8] = "";
+    char boot[64], mac[32], own[32], end[8] = "";
     struct ethtool_channels *queues = &kept->queues;
-    int opened, found;
-    FILE *file;
-    name_file(link, name);
-    opened = openat(folder_file(), name, O_RDONLY | O_NOFOLLOW | O_CLOEXEC);
-    file = opened < 0 ? NULL : fdopen(opened, "r");
+    int found;
+    FILE *file = open_file(link, O_RDONLY, "r");
     if (!file) return false;
     *kept = (struct kept){0};
     found = fscanf(file, READ_FORM, boot, mac, &kept->joins, &queues->rx_count, &queues->tx_count, &queues->other_count,
@@ -48,18 +60,15 @@ static bool recall(const struct link *link, struct kept *kept) {
 /* Keeps what an interface has now, before it is changed, and adds to it what it had before an earlier daemon changed it. */
 void keep_settings(const struct link *link, struct kept *kept) {
     struct kept first;
-    char name[64], mac[32];
+    char mac[32];
     const struct ethtool_channels *queues = &kept->queues;
     FILE *file;
-    int opened;
     if (recall(link, &first)) {
         kept->joins |= first.joins;
         if (first.queues.combined_count + first.queues.rx_count + first.queues.tx_count > 0) kept->queues = first.queues;
         if (first.steered[0]) memcpy(kept->steered, first.steered, sizeof kept->steered);
     }
-    name_file(link, name);
-    opened = openat(folder_file(), name, O_WRONLY | O_CREAT | O_TRUNC | O_NOFOLLOW | O_CLOEXEC, 0600);
-    file = opened < 0 ? NULL : fdopen(opened, "w");
+    file = open_file(link, O_WRONLY | O_CREAT | O_TRUNC, "w");
     if (file)
         fprintf(file, FORM, boot_id(), mac_text(link->mac, mac), kept->joins, queues->rx_count, queues->tx_count,
             queues->other_count, queues->combined_count, kept->steered[0] ? kept->steered : "-");

@@ -28,7 +28,7 @@ static int tap = -1, asker = -1; /* `asker`: a socket for questions about interf
 static int number;               /* of the device, its index; 0: there is none */
 static bool carrier;             /* which it is to have */
 static bool carrier_told;        /* which it had, as the kernel told last */
-static unsigned carrier_ticks;   /* for how long it had none, and was to have one */
+static unsigned carrier_ticks;   /* for how long it was up and had none, and was to have one */
 static uint32_t most_mtu = ETH_DATA_LEN; /* the longest payload that each member takes */
 static uint32_t less_mtu;                /* one below that which an administrator set, or 0 */
 static uint32_t set_mtu;                 /* what was set last */
@@ -91,9 +91,9 @@ void follow_tap(bool has_now, const char *discipline) {
     settle_mtu();
 }
 
-/* 100 ms passed. */
+/* 100 ms passed. Of a device that is not up the kernel tells no carrier, whoever set one. */
 void pass_tap_tick(void) {
-    carrier_ticks = carrier && !carrier_told ? carrier_ticks + 1 : 0;
+    carrier_ticks = carrier && !carrier_told && is_tap_up() ? carrier_ticks + 1 : 0;
     if (carrier_ticks == CARRIER_TICKS)
         (void)say(LOG_WARNING | ABOUT_CARRIER, "carry %s: it has no carrier, though links carry: who took it away may set it on again",
             settings.carry);
@@ -150,8 +150,8 @@ static void set_no_queue(void) {
     close(route);
 }
 
-/* Makes the device, without carrier, or takes one that is there and that nobody has. One that was made is gone when the daemon ends. It gets
- * its MAC address before anything else: whoever brings it up has a link-local address of it. */
+/* Makes the device, without carrier, or takes one that is there and that nobody has. One that was made is gone when the daemon ends. It
+ * gets its MAC address before anything else: whoever brings it up has a link-local address of it. */
 int open_tap(const char *name, const uint8_t *mac) {
     struct ifreq device = request_of(name), found, address = {0}, queue = {0};
     asker = socket(AF_UNIX, SOCK_DGRAM | SOCK_CLOEXEC, 0);
