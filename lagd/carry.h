@@ -217,18 +217,20 @@ struct kept {
 void keep_settings(const struct link *link, struct kept *kept);
 void forget_settings(const struct link *link);
 
-/* traffic.c: queueing disciplines and filters of members */
-enum filter { NO_FILTER, FILTER_ALONE, FILTER_BEHIND_OTHERS };
+/* traffic.c: queueing disciplines and classifiers of members */
+enum classifier { NO_CLASSIFIER, CLASSIFIER_ALONE, CLASSIFIER_BEHIND_OTHERS };
+bool keeps_order(const char *discipline);
 bool read_discipline(int index, char name[static DISCIPLINE_ROOM]);
-bool give_fifo(int index);
+bool give_fifo(int index, uint32_t megabits);
+void fit_fifo(int index, uint32_t megabits);
 void take_fifo(int index);
-enum filter set_filter(int program, int index);
-void drop_filter(int index);
+enum classifier set_classifier(int program, int index);
+void drop_classifier(int index);
 
 /* guard.c */
 struct guard {
-    int opened;         /* what keeps data from the stack of the interface, or -1 */
-    enum filter filter; /* what does so where the kernel has no TCX */
+    int opened;                 /* what keeps data from the stack of the interface, or -1 */
+    enum classifier classifier; /* what does so where the kernel has no TCX */
     bool in_order;      /* whether the queueing discipline of the interface keeps the order */
     bool fast;          /* whether the kernel may pass on what goes and comes there */
     struct kept before; /* what the interface had */

@@ -33,12 +33,12 @@ struct interface {
     bool carrier;
     int below;     /* the interface by which it sends, or 0 */
     char kind[16]; /* of those that are made by the kernel; else empty */
-    char discipline[16]; /* of its queues */
+    char discipline[DISCIPLINE_ROOM]; /* of its queues */
 };
 
 static int route = -1;
 static uint32_t asked;   /* the number of the last question */
-static uint32_t asker;   /* the number of this socket, which stands in answers */
+static uint32_t own_id;  /* the number of this socket, which stands in answers */
 static bool asking;      /* whether the answer is not whole yet */
 static bool interrupted; /* whether interfaces changed while the kernel answered */
 static bool ask_again;   /* whether something was missed */
@@ -200,6 +200,7 @@ static void follow(struct link *link, const struct interface *interface) {
         if (lost > 0) link->counts[LOSSES] += lost - (link->up ? 1 : 0);
         if (lost > 0) set_link(port, false);
     }
+    if (up && !link->up) fit_queue(link, interface->name);
     if (up) take_speed(link, interface->name);
     set_link(port, up);
 }
@@ -257,7 +258,7 @@ static void end_answer(int error) {
 static void take_message(const uint8_t *message, const struct nlmsghdr *head) {
     struct ifinfomsg info;
     struct tcmsg discipline;
-    bool answers = asking && head->nlmsg_seq == asked && head->nlmsg_pid == asker;
+    bool answers = asking && head->nlmsg_seq == asked && head->nlmsg_pid == own_id;
     if (answers && (head->nlmsg_flags & NLM_F_DUMP_INTR)) interrupted = true;
     if (answers && (head->nlmsg_type == NLMSG_DONE || head->nlmsg_type == NLMSG_ERROR)) end_answer(error_of(message, head));
     if (head->nlmsg_len < NLMSG_LENGTH(sizeof info)) return;
@@ -329,7 +330,7 @@ int open_changes(void) {
     if (route < 0 || bind(route, (struct sockaddr *)&address, sizeof address) < 0
         || getsockname(route, (struct sockaddr *)&address, &length) < 0)
         stop(REFUSED, "no changes of interfaces", strerror(errno));
-    asker = address.nl_pid;
+    own_id = address.nl_pid;
     for (ask(); asking || ask_again; watch_changes()) {
         if (poll(&(struct pollfd){route, POLLIN, 0}, 1, PATIENCE) != 1) stop(REFUSED, "no answer", "interfaces");
         if (asked > MOST_ASKED) stop(REFUSED, "no whole answer", "interfaces");

@@ -129,7 +129,8 @@ void gather(int index) {
     char path[128], now[PROCESSORS_ROOM];
     if (!path_of_processors(index, path, sizeof path) || !read_processors(path, now, sizeof now)) return;
     if (is_one(now) || strspn(now, "0,") == strlen(now) || write_processors(path, "0")) return;
-    (void)say(LOG_WARNING | ABOUT_DATA, "carry %s: RPS spreads what goes up over processors, and markers may be answered before data", settings.carry);
+    (void)say(LOG_WARNING | ABOUT_DATA, "carry %s: RPS spreads what goes up over processors, and markers may be answered before data",
+        settings.carry);
 }
 
 /* What an interface has that is changed while it is a member. */
@@ -151,12 +152,18 @@ static bool is_unqueued(const struct link *link) {
  * that, since it segments them for an interface that cannot: so they get one that does. */
 void look_at_discipline(struct link *link, struct guard *guard) {
     (void)read_discipline(link->index, link->discipline);
-    if (passes_segments() && !is_unqueued(link) && strcmp(link->discipline, "noqueue") != 0 && give_fifo(link->index))
+    if (passes_segments() && !is_unqueued(link) && strcmp(link->discipline, "noqueue") != 0
+        && give_fifo(link->index, read_speed(link->socket, link->name).megabits))
         (void)read_discipline(link->index, link->discipline);
-    guard->in_order = strcmp(link->discipline, "noqueue") == 0 || strcmp(link->discipline, "pfifo") == 0;
+    guard->in_order = keeps_order(link->discipline);
     if (passes_segments() && !guard->in_order && !is_unqueued(link))
-        (void)say(LOG_WARNING | ABOUT_DATA, "port %u %s: its queueing discipline is neither noqueue nor pfifo: it loses frames of several "
+        (void)say(LOG_WARNING | ABOUT_DATA, "port %u %s: its queueing discipline is neither noqueue, bfifo nor pfifo: it loses frames of several "
             "segments, if its card cannot cut them", link->settings.number, link->name);
+}
+
+/* The link comes up: the queue of its interface, if that is one of the daemon, has the length of its speed from now on. */
+void fit_queue(const struct link *link, const char *interface) {
+    if (carries_data() && passes_segments()) fit_fifo(link->index, read_speed(link->socket, interface).megabits);
 }
 
 /* Why the kernel may not pass on what goes and comes at an interface, or NULL: a marker would overtake the data before it. */
@@ -164,7 +171,7 @@ static const char *fault_of_fast(const struct link *link, const struct guard *gu
     struct ethtool_channels queues;
     if (link->stacked) return "it stands on another interface, whose queues are not seen";
     if (queues_of(link->index, &queues) > 1) return "it has several queues";
-    if (!guard->in_order) return "its queueing discipline is neither noqueue nor pfifo";
+    if (!guard->in_order) return "its queueing discipline is neither noqueue, bfifo nor pfifo";
     if (!steer(link)) return "RPS cannot be set to one processor";
     return NULL;
 }
@@ -179,15 +186,15 @@ static void open_fast(const struct link *link, struct guard *guard) {
         (void)say(LOG_WARNING | ABOUT_DATA, "port %u %s: its data stays with the daemon: %s", link->settings.number, link->name, fault);
 }
 
-/* Keeps data from the stack of an interface: by TCX, or, where the kernel has none, by a filter. */
+/* Keeps data from the stack of an interface: by TCX, or, where the kernel has none, by a classifier. */
 static void keep_from_stack(const struct link *link, struct guard *guard) {
     uint16_t port = link->settings.number;
     if (program >= 0) guard->opened = attach_program(program, link->index, false);
-    if (program >= 0 && guard->opened < 0) guard->filter = set_filter(program, link->index);
-    if (guard->filter == FILTER_BEHIND_OTHERS)
-        (void)say(LOG_WARNING | ABOUT_DATA, "port %u %s: it has a clsact already: its own network stack has what filters there accept", port,
-            link->name);
-    if (guard->opened < 0 && guard->filter == NO_FILTER)
+    if (program >= 0 && guard->opened < 0) guard->classifier = set_classifier(program, link->index);
+    if (guard->classifier == CLASSIFIER_BEHIND_OTHERS)
+        (void)say(LOG_WARNING | ABOUT_DATA, "port %u %s: it has a clsact already: its own network stack has what filters there accept",
+            port, link->name);
+    if (guard->opened < 0 && guard->classifier == NO_CLASSIFIER)
         (void)say(LOG_WARNING | ABOUT_DATA, "port %u %s: its own network stack has its frames, too", port, link->name);
 }
 
@@ -196,7 +203,7 @@ void open_guard(struct link *link, struct guard *guard) {
     struct ethtool_channels queues;
     uint16_t port = link->settings.number;
     guard->opened = -1;
-    guard->filter = NO_FILTER;
+    guard->classifier = NO_CLASSIFIER;
     guard->fast = false;
     look_at_discipline(link, guard);
     look_before(link, &guard->before);
@@ -208,8 +215,8 @@ void open_guard(struct link *link, struct guard *guard) {
     if (read_joins(link->index).on != 0)
         (void)say(LOG_WARNING | ABOUT_DATA, "port %u %s: GRO or LRO stays on, and markers may overtake data", port, link->name);
     if (link->stacked && !is_fast())
-        (void)say(LOG_WARNING | ABOUT_DATA, "port %u %s: it stands on another interface, whose queues are not seen: markers may overtake data",
-            port, link->name);
+        (void)say(LOG_WARNING | ABOUT_DATA, "port %u %s: it stands on another interface, whose queues are not seen: markers may overtake "
+            "data", port, link->name);
     if (queues_of(link->index, &queues) > 1)
         (void)say(LOG_WARNING | ABOUT_DATA, "port %u %s: it has several queues, and markers may overtake data", port, link->name);
 }
@@ -219,13 +226,14 @@ void close_guard(const struct link *link, struct guard *guard) {
     struct kept *before = &guard->before;
     char path[128];
     if (guard->opened >= 0) close(guard->opened);
-    if (guard->filter != NO_FILTER) drop_filter(link->index);
+    if (guard->classifier != NO_CLASSIFIER) drop_classifier(link->index);
     guard->opened = -1;
-    guard->filter = NO_FILTER;
+    guard->classifier = NO_CLASSIFIER;
     guard->fast = false;
     if (before->joins != 0) set_joins(link->index, before->joins);
     before->queues.cmd = ETHTOOL_SCHANNELS;
-    if (before->queues.combined_count + before->queues.rx_count + before->queues.tx_count > 0) (void)ask_driver(link->index, &before->queues);
+    if (before->queues.combined_count + before->queues.rx_count + before->queues.tx_count > 0)
+        (void)ask_driver(link->index, &before->queues);
     take_fifo(link->index); /* with all its queues the kernel gives each of them what it chooses */
     if (before->steered[0] && path_of_processors(link->index, path, sizeof path)) (void)write_processors(path, before->steered);
     forget_settings(link);

@@ -107,7 +107,7 @@ uint16_t choose_key(const struct link *link) {
 }
 
 /* Asks the kernel for the speed and duplex of an interface. What a driver does not tell is unknown, which is a speed, too. */
-static struct speed read_speed(int socket, const char *name) {
+struct speed read_speed(int socket, const char *name) {
     union {
         struct ethtool_link_settings head;
         uint32_t room[sizeof(struct ethtool_link_settings) / sizeof(uint32_t) + 3 * MOST_WORDS];

@@ -286,6 +286,7 @@ void make_keys(uint16_t keys[static NIW_MOST_PORTS]);
 bool has_aggregator(uint16_t given);
 uint16_t free_key(uint16_t behind, const struct link *but);
 uint16_t choose_key(const struct link *link);
+struct speed read_speed(int socket, const char *name);
 void take_speed(struct link *link, const char *interface);
 const char *speed_text(const struct speed *speed, char room[static 40]);
 
@@ -353,6 +354,9 @@ void settle_carry(void);
 void pass_carry_tick(void);
 void serve_data(uint32_t tag);
 void lose_data(uint16_t port);
+
+/* guard.c */
+void fit_queue(const struct link *link, const char *interface);
 
 /* members.c */
 bool open_member(struct link *link);

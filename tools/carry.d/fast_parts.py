@@ -175,7 +175,7 @@ def fast_refused(programs: Programs) -> None:
             raise Skipped("tc sets no queueing discipline")
         ours, theirs = End(programs, OURS, options=["--fast"]), End(programs, THEIRS, options=["--fast"])
         try:
-            line = "a1: its data stays with the daemon: its queueing discipline is neither noqueue nor pfifo"
+            line = "a1: its data stays with the daemon: its queueing discipline is neither noqueue, bfifo nor pfifo"
             check(within(COMES_UP, lambda: line in ours.printed()), "a member with pfifo_fast is left to the daemon", ours.printed())
             if not within(COMES_UP, lambda: ours.links() == theirs.links() == 2 and ours.carry()["markers"] == "answered"):
                 raise Failed("two links carry", ours.text())

@@ -2,11 +2,14 @@
 
 from __future__ import annotations
 
+import fcntl
 import functools
+import os
 import re
 import select
 import signal
 import socket
+import struct
 import time
 from typing import Callable
 
@@ -21,8 +24,10 @@ ASKER = "02:00:00:00:00:77"
 ARP, ANSWER = 0x0806, 2
 # Both ends of the addresses of IPv6, and how much is sent each way.
 ADDRESSES6, OCTETS = ("2001:db8::1", "2001:db8::2"), 300000
+# Of linux/if_tun.h: a request, and IFF_TAP with IFF_NO_PI.
+SET_DEVICE, TAP_PLAIN = 0x400454CA, 0x1002
 # How the daemon's queue looks, and what a kernel gives a TAP device.
-OWN_QUEUE = "pfifo 6c61: "
+OWN_QUEUE = "bfifo 6c61: "
 
 
 def wait_for_links(ours: End, theirs: End) -> None:
@@ -74,6 +79,15 @@ def stacks(programs: Programs) -> None:
             ours.ends("the daemon")
             check(filters("a0") == (0, False), "and takes them away, as it ends", filters("a0"))
             check(filters("a1") == (0, True), "but not the place that an administrator made", filters("a1"))
+            for way in "ingress", "egress":
+                ours = start()
+                check(within(COMES_UP, lambda: filters("a0") == (1, True)), "the daemon makes a place", filters("a0"))
+                inside(OURS, "tc", "filter", "add", "dev", "a0", way, "protocol", "ip", "pref", "7", "u32", "match", "u32", "0", "0")
+                ours.ends("the daemon")
+                stays = "u32" in inside(OURS, "tc", "filter", "show", "dev", "a0", way).stdout
+                check(stays, f"a filter of others stays where the daemon made the place, for {way}")
+                check(filters("a0") == (0, True), "and that of the daemon goes", filters("a0"))
+                inside(OURS, "tc", "qdisc", "del", "dev", "a0", "clsact")
         finally:
             ours.stop()
             theirs.stop()
@@ -202,4 +216,35 @@ def disciplines(programs: Programs) -> None:
                 ours.stop()
 
 
-PARTS: dict[str, Callable[[Programs], None]] = {it.__name__: it for it in (stacks, sums, uncut, disciplines)}
+def room(name: str) -> int:
+    """How many octets wait at an interface of ours at most."""
+    found = re.search(r" limit (\d+)([KM]?)b", inside(OURS, "tc", "qdisc", "show", "dev", name, "root").stdout)
+    return int(found[1]) * {"": 1, "K": 1 << 10, "M": 1 << 20}[found[2]] if found else 0
+
+
+def rooms(programs: Programs) -> None:
+    """What waits at a member has as many octets as its link sends in 50 ms: with the speed that it has as it comes up."""
+    with cables(programs, ()):
+        ip(OURS, "tuntap", "add", "t0", "mode", "tap")
+        ip(OURS, "link", "set", "t0", "up")
+        ours = End(programs, OURS, options=["--offload"], names=("t0",))
+        try:
+            check(within(COMES_UP, lambda: discipline("t0") == OWN_QUEUE), "a member gets a queue", discipline("t0"))
+            for speed, octets_queued in (10, 64 * 1514), (100, 625000), (10000, 4 << 20):
+                if inside(OURS, "ethtool", "-s", "t0", "speed", str(speed), "duplex", "full").returncode:
+                    raise Skipped("no ethtool sets the speed of a TAP device (Debian: ethtool)")
+                with within_space(OURS):
+                    device = os.open("/dev/net/tun", os.O_RDWR)
+                try:
+                    fcntl.ioctl(device, SET_DEVICE, struct.pack("16sH22x", b"t0", TAP_PLAIN))
+                    right = within(COMES_UP, lambda: abs(room("t0") - octets_queued) < 1024)
+                    check(right, f"at {speed} Mb/s {octets_queued:,} octets wait", room("t0"), ours.text())
+                finally:
+                    os.close(device)
+                check(within(COMES_UP, lambda: "NO-CARRIER" in inside(OURS, "ip", "link", "show", "t0").stdout), "its link goes down")
+                time.sleep(1.5)
+        finally:
+            ours.stop()
+
+
+PARTS: dict[str, Callable[[Programs], None]] = {it.__name__: it for it in (stacks, sums, uncut, disciplines, rooms)}

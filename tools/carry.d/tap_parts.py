@@ -164,7 +164,7 @@ def fast_queues(programs: Programs) -> None:
         time.sleep(1)
         check_alive(programs, ours, "with pfifo")
         set_queue("a1", "pfifo_fast")
-        line = "a1: its data stays with the daemon: its queueing discipline is neither noqueue nor pfifo"
+        line = "a1: its data stays with the daemon: its queueing discipline is neither noqueue, bfifo nor pfifo"
         check(within(FOLLOWS, lambda: line in ours.printed()), "a member that gets pfifo_fast is left to the daemon", ours.printed())
         before = [port["data"]["passed_on"] for port in ours.told()["ports"]]
         check_order(run_flows(programs, 3, [(1, move_all(ours))]), "by the kernel on one link, by the daemon on the other", ours.text())
