@@ -224,7 +224,7 @@ void withdraw_port(uint16_t port) {
 /* The TAP device has this queueing discipline now. One that may hold frames holds them behind the program that counts them, where nobody
  * sees them, and would not have what the kernel passes on: with it the daemon has all data. */
 void follow_host_queue(const char *discipline) {
-    bool holds = strcmp(discipline, "noqueue") != 0 && strcmp(discipline, "pfifo") != 0 && strcmp(discipline, "pfifo_fast") != 0
+    bool holds = !keeps_order(discipline) && strcmp(discipline, "pfifo_fast") != 0
         && strcmp(discipline, "noop") != 0; /* it has that one until it is up */
     if (!is_fast() || !discipline[0] || holds == queue_holds) return;
     queue_holds = holds;
