@@ -17,7 +17,7 @@
 
 /* How long a daemon may take for its answer, in milliseconds. */
 #define PATIENCE 2000
-/* The most daemons that are asked, and the most octets of their answers together. */
+/* The most daemons that are asked, and the most octets of the answer of each. */
 #define MOST_DAEMONS 256
 #define MOST_ANSWERED 8388608
 
@@ -72,7 +72,8 @@ static int address_of(const char *path, struct sockaddr_un *to) {
     snprintf(folder, sizeof folder, "%.*s", (int)(name - path), path);
     opened = open(folder, O_PATH | O_DIRECTORY | O_CLOEXEC);
     *to = (struct sockaddr_un){.sun_family = AF_UNIX};
-    if (opened < 0 || snprintf(to->sun_path, sizeof to->sun_path, "/proc/self/fd/%d/%s", opened, name) < (int)sizeof to->sun_path) return opened;
+    if (opened < 0 || snprintf(to->sun_path, sizeof to->sun_path, "/proc/self/fd/%d/%s", opened, name) < (int)sizeof to->sun_path)
+        return opened;
     close(opened);
     errno = ENAMETOOLONG;
     return -1;

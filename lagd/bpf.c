@@ -44,6 +44,13 @@ const char *program_fault(void) {
     return reason;
 }
 
+/* A program is not taken for this reason; answers -1, and errno. */
+int refuse_program(int fault) {
+    snprintf(reason, sizeof reason, "%s", strerror(fault));
+    errno = fault;
+    return -1;
+}
+
 /* Keeps what the verifier wrote last, but for the lines of what it did. */
 static void keep_reason(char *log) {
     char *rest = log;
@@ -66,7 +73,7 @@ int load_program(const struct bpf_insn *steps, size_t count) {
     loaded = bpf(BPF_PROG_LOAD, &attributes);
     if (loaded >= 0) return loaded;
     fault = errno;
-    snprintf(reason, sizeof reason, "%s", strerror(fault));
+    (void)refuse_program(fault);
     attributes.log_level = 1;
     attributes.log_buf = (uint64_t)(uintptr_t)log;
     attributes.log_size = sizeof log;

@@ -92,10 +92,11 @@ static void send_on(const struct conversation *conversation, uint8_t *packet, si
     put_data(conversation->port, packet, length);
 }
 
-/* Whether a frame of the host may go: of a right length, and none of the slow protocols. */
+/* Whether a frame of the host may go: of a right length, which each member takes, and none of the slow protocols. */
 static bool is_fit(const uint8_t *packet, size_t length) {
     const uint8_t *frame = packet + head_octets();
-    return has_right_length(packet, length) && ((unsigned)frame[12] << 8 | frame[13]) != ETH_P_SLOW;
+    return has_right_length(packet, length) && segments_fit(packet, length, longest_payload())
+        && ((unsigned)frame[12] << 8 | frame[13]) != ETH_P_SLOW;
 }
 
 /* A frame of a conversation came. It overtakes none that waits. */
@@ -140,8 +141,8 @@ void lose_tap(void) {
     end_fast();
     forget_tap();
     await_no_more(tap);
-    (void)say(LOG_ERR | ABOUT_CARRIER, "carry %s: the device was deleted, or moved to another namespace; the peers are told, and the daemon "
-        "ends", settings.carry);
+    (void)say(LOG_ERR | ABOUT_CARRIER, "carry %s: the device was deleted, or moved to another namespace; the peers are told, and the "
+        "daemon ends", settings.carry);
 }
 
 /* Takes one packet of the TAP device; answers whether there was one. */
@@ -258,8 +259,8 @@ static void choose_active(void) {
     set_carrier(carry.active != 0);
 }
 
-/* Another aggregator is active: what is on a port of the previous one leaves it, behind a marker. Its frames wait until it is free there. One
- * for which no marker is left goes on after a rest. */
+/* Another aggregator is active: what is on a port of the previous one leaves it, behind a marker. Its frames wait until it is free there.
+ * One for which no marker is left goes on after a rest. */
 static void leave_previous(void) {
     uint16_t left = previous;
     uint16_t ports[CONVERSATIONS];

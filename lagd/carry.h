@@ -137,6 +137,7 @@ bool passes_segments(void);
 bool has_segments(const uint8_t *packet);
 uint32_t count_segments(const uint8_t *packet, size_t length);
 bool has_right_length(const uint8_t *packet, size_t length);
+bool segments_fit(const uint8_t *packet, size_t length, uint32_t mtu);
 uint8_t *put_tag(uint8_t *packet, uint16_t type, uint16_t tag);
 
 /* tap.c */
@@ -144,6 +145,7 @@ int open_tap(const char *name, const uint8_t *mac);
 void set_carrier(bool on);
 bool has_carrier(void);
 void limit_mtu(uint32_t most);
+uint32_t longest_payload(void);
 void pass_tap_tick(void);
 void forget_tap(void);
 bool read_tap_mac(uint8_t *mac);
@@ -153,11 +155,11 @@ bool is_tap_up(void);
 struct bpf_insn;
 void *make_map(uint32_t size, uint32_t count, int *map);
 int load_program(const struct bpf_insn *steps, size_t count);
+int refuse_program(int fault);
 const char *program_fault(void);
 int attach_program(int program, int index, bool egress);
 
 /* fast_programs.c: what the kernel runs for frames, and what it shares with the daemon */
-#define MOST_FAST 64 /* members */
 struct row {
     uint64_t word;   /* below: the interface that the kernel sends on, or 0; above: segments that were left to the daemon, beyond which
                         a count runs over into nothing */
@@ -172,6 +174,7 @@ struct fast_member {
 struct fast_host {
     int64_t left;        /* frames that were left to the daemon, and not taken yet */
     uint64_t overflowed; /* frames that were lost, since there were too many of these */
+    uint64_t unfit;      /* frames that were lost, since they were unfit for the member of their row */
     uint64_t mac;        /* of the TAP device, as the octets stand in memory, and zeros */
     uint64_t open_until; /* the time in nanoseconds, by CLOCK_MONOTONIC, from which on no frame of the host is taken */
 };
@@ -240,6 +243,7 @@ void load_guard(void);
 void gather(int index);
 void open_guard(struct link *link, struct guard *guard);
 void look_at_discipline(struct link *link, struct guard *guard);
+void reopen_guard(struct link *link, struct guard *guard);
 void close_guard(const struct link *link, struct guard *guard);
 
 /* members.c */

@@ -26,7 +26,7 @@ static int tap_at;                        /* the index of the TAP device */
 static int sender = -1, handover = -1;    /* what keeps its programs there */
 static bool queue_holds;                  /* whether its queueing discipline may hold frames */
 static struct fast_member counted[NIW_MOST_PORTS];
-static uint64_t counted_overflows;
+static uint64_t counted_overflows, counted_unfit;
 
 bool is_fast(void) {
     return rows != NULL;
@@ -61,7 +61,7 @@ void start_fast(void) {
     need(wait_for_programs(), "fast: the kernel cannot wait for its programs (membarrier)");
     rows = make_map(sizeof *rows, CONVERSATIONS, &maps.rows);
     need(rows != NULL, "fast: no table of the kernel");
-    entries = make_map(sizeof *entries, MOST_FAST, &maps.members);
+    entries = make_map(sizeof *entries, NIW_MOST_PORTS, &maps.members);
     need(entries != NULL, "fast: no table of the kernel");
     host = make_map(sizeof *host, 1, &maps.host);
     need(host != NULL, "fast: no table of the kernel");
@@ -131,7 +131,7 @@ static bool count_passed(struct conversation *conversation) {
 
 /* Counts what the kernel did since the last time. */
 void take_fast_counts(void) {
-    uint64_t overflowed;
+    uint64_t overflowed, unfit;
     if (!is_fast()) return;
     for (uint16_t number = 0; number < CONVERSATIONS; number++) (void)count_passed(&carry.conversations[number]);
     for (uint16_t i = 0; i < link_count; i++) {
@@ -149,6 +149,10 @@ void take_fast_counts(void) {
     carry.counts[FROM_HOST] += overflowed - counted_overflows;
     carry.counts[OVERFLOWED] += overflowed - counted_overflows;
     counted_overflows = overflowed;
+    unfit = __atomic_load_n(&host->unfit, __ATOMIC_RELAXED);
+    carry.counts[FROM_HOST] += unfit - counted_unfit;
+    carry.counts[UNFIT] += unfit - counted_unfit;
+    counted_unfit = unfit;
 }
 
 /* Whether the kernel may pass a conversation on at a port. */
@@ -156,6 +160,15 @@ static bool may_pass(const struct conversation *conversation, uint16_t port) {
     struct niw_assignment state;
     if (tap_at == 0 || queue_holds || conversation->home != carry.active || carry.active == 0 || !has_fast_member(port)) return false;
     return ask_state(carry.active, number_in(conversation), &state) && state.what == NIW_CONVERSATION_ON && state.port == port;
+}
+
+/* Waits for the programs. Where the kernel does so no longer, the peers are told, and the daemon ends. */
+static void wait_or_end(void) {
+    if (wait_for_programs()) return;
+    (void)say(LOG_ERR | ABOUT_DATA, "fast: the kernel waits no longer for its programs: %s; the peers are told, and the daemon ends",
+        strerror(errno));
+    broken = true;
+    end_fast();
 }
 
 /* Takes the rows back that are chosen; once that is done, all that they passed on is with the members, and counted. */
@@ -167,12 +180,7 @@ static void take_back(bool (*is_chosen)(const struct conversation *conversation,
         (void)__atomic_and_fetch(&rows[number].word, ~(uint64_t)UINT32_MAX, __ATOMIC_SEQ_CST);
         taken[number] = any = true;
     }
-    if (any && !wait_for_programs()) {
-        (void)say(LOG_ERR | ABOUT_DATA, "fast: the kernel waits no longer for its programs: %s; the peers are told, and the daemon ends",
-            strerror(errno));
-        broken = true;
-        end_fast();
-    }
+    if (any) wait_or_end();
     for (uint16_t number = 0; any && number < CONVERSATIONS; number++) {
         struct conversation *conversation = &carry.conversations[number];
         if (!taken[number]) continue;
@@ -305,7 +313,7 @@ static void believe(struct conversation *conversation) {
  * put back. It only tells how many may wait, so a frame too many is lost by the kernel, which counts it. The order rests on the rows. */
 void note_read(unsigned packets, bool drained) {
     int64_t left;
-    if (!is_fast()) return;
+    if (!is_fast() || broken) return;
     left = __atomic_sub_fetch(&host->left, packets, __ATOMIC_SEQ_CST);
     if (drained && (left > MOST_BETWEEN || left < 0)) (void)__atomic_sub_fetch(&host->left, left, __ATOMIC_SEQ_CST);
     for (uint16_t number = 0; drained && !queue_holds && number < CONVERSATIONS; number++)
@@ -336,5 +344,5 @@ void pass_fast_tick(void) {
     take_fast_counts();
     if (answering() == MUTE) take_back(is_resting, 0);
     for (uint16_t number = 0; number < CONVERSATIONS; number++) any = doubt(&carry.conversations[number]) || any;
-    if (any) (void)wait_for_programs();
+    if (any) wait_or_end();
 }

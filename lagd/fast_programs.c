@@ -40,8 +40,7 @@ static void step(struct code *code, struct bpf_insn insn) {
 
 static int load_code(const struct code *code) {
     if (code->count <= MOST_STEPS) return load_program(code->steps, code->count);
-    errno = E2BIG;
-    return -1;
+    return refuse_program(E2BIG);
 }
 
 static void load(struct code *code, unsigned size, unsigned to, unsigned from, int at) {
@@ -263,8 +262,8 @@ static void add_opaque(struct code *code) {
     land(code, none);
 }
 
-/* How many segments the frame has, in HASH and on the stack, as the word of a row has them. What came from a virtual machine may have segments that nobody has counted:
- * the row notes it before the frame counts. FOUND is the row. */
+/* How many segments the frame has, in HASH and on the stack, as the word of a row has them. What came from a virtual machine may have
+ * segments that nobody has counted: the row notes it before the frame counts. FOUND is the row. */
 static void count_parts(struct code *code) {
     unsigned counted, one;
     load(code, BPF_W, HASH, FRAME, offsetof(struct __sk_buff, gso_segs));
@@ -388,10 +387,23 @@ static void leave(struct code *code, const struct fast_maps *maps) {
     end(code, LOSE);
 }
 
-/* Where frames leave the TAP device: a frame of a conversation whose row names a member goes on there, any other one to the daemon. */
+/* A frame that is unfit for the member that its row names is lost. The daemon might find it fit, and would send it behind later ones. */
+static void lose_unfit(struct code *code, const struct fast_maps *maps) {
+    unsigned none;
+    uncount(code);
+    find_host(code, maps);
+    none = jump(code, BPF_JEQ, ANSWER, 0);
+    set(code, ARG1, 1);
+    add_to(code, ANSWER, offsetof(struct fast_host, unfit), ARG1);
+    land(code, none);
+    end(code, LOSE);
+}
+
+/* Where frames leave the TAP device: a frame of a conversation whose row names a member goes on there or is lost, any other one goes to the
+ * daemon. */
 int load_sender(const struct fast_maps *maps) {
     static struct code code;
-    unsigned away[8], count = 0, nowhere[4], nowhere_count;
+    unsigned away, unfit[8], count, nowhere[4], nowhere_count;
     code.count = 0;
     move(&code, FRAME, ARG1);
     nowhere_count = find_closed(&code, maps, nowhere);
@@ -404,10 +416,12 @@ int load_sender(const struct fast_maps *maps) {
     count_parts(&code);
     add_and_get(&code, FOUND, offsetof(struct row, word), HASH);
     step(&code, (struct bpf_insn){.code = BPF_ALU | BPF_MOV | BPF_X, .dst_reg = HASH, .src_reg = HASH}); /* what stands below */
-    away[count++] = jump(&code, BPF_JEQ, HASH, 0);
-    count += find_unfit(&code, away + count);
+    away = jump(&code, BPF_JEQ, HASH, 0);
+    count = find_unfit(&code, unfit);
     send_there(&code);
-    land_all(&code, away, count);
+    land_all(&code, unfit, count);
+    lose_unfit(&code, maps);
+    land(&code, away);
     leave(&code, maps);
     land_all(&code, nowhere, nowhere_count);
     end(&code, LOSE);
@@ -524,7 +538,7 @@ int load_dropper(void) {
     end(&code, LOSE);
     land(&code, slow);
     end(&code, GO_ON);
-    return load_program(code.steps, code.count);
+    return load_code(&code);
 }
 
 /* Where what came up comes in at the TAP device: to whom it is addressed is seen anew, since a member has another address. */

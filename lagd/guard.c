@@ -198,20 +198,40 @@ static void keep_from_stack(const struct link *link, struct guard *guard) {
         (void)say(LOG_WARNING | ABOUT_DATA, "port %u %s: its own network stack has its frames, too", port, link->name);
 }
 
+/* Has programs run for the frames of an interface. */
+static void run_programs(const struct link *link, struct guard *guard) {
+    guard->opened = -1;
+    guard->classifier = NO_CLASSIFIER;
+    guard->fast = false;
+    if (is_fast()) open_fast(link, guard);
+    if (guard->opened < 0) keep_from_stack(link, guard);
+}
+
+static void stop_programs(const struct link *link, struct guard *guard) {
+    if (guard->opened >= 0) close(guard->opened);
+    if (guard->classifier != NO_CLASSIFIER) drop_classifier(link->index);
+    guard->opened = -1;
+    guard->classifier = NO_CLASSIFIER;
+    guard->fast = false;
+}
+
+/* An interface has another queueing discipline: its programs are chosen anew. What it had before it was a member stays kept. */
+void reopen_guard(struct link *link, struct guard *guard) {
+    stop_programs(link, guard);
+    look_at_discipline(link, guard);
+    run_programs(link, guard);
+}
+
 /* Prepares an interface. What it cannot be kept from has a line. */
 void open_guard(struct link *link, struct guard *guard) {
     struct ethtool_channels queues;
     uint16_t port = link->settings.number;
-    guard->opened = -1;
-    guard->classifier = NO_CLASSIFIER;
-    guard->fast = false;
     look_at_discipline(link, guard);
     look_before(link, &guard->before);
     keep_settings(link, &guard->before);
     if (guard->before.joins != 0) set_joins(link->index, 0);
     join_queues(link->index);
-    if (is_fast()) open_fast(link, guard);
-    if (guard->opened < 0) keep_from_stack(link, guard);
+    run_programs(link, guard);
     if (read_joins(link->index).on != 0)
         (void)say(LOG_WARNING | ABOUT_DATA, "port %u %s: GRO or LRO stays on, and markers may overtake data", port, link->name);
     if (link->stacked && !is_fast())
@@ -225,11 +245,7 @@ void open_guard(struct link *link, struct guard *guard) {
 void close_guard(const struct link *link, struct guard *guard) {
     struct kept *before = &guard->before;
     char path[128];
-    if (guard->opened >= 0) close(guard->opened);
-    if (guard->classifier != NO_CLASSIFIER) drop_classifier(link->index);
-    guard->opened = -1;
-    guard->classifier = NO_CLASSIFIER;
-    guard->fast = false;
+    stop_programs(link, guard);
     if (before->joins != 0) set_joins(link->index, before->joins);
     before->queues.cmd = ETHTOOL_SCHANNELS;
     if (before->queues.combined_count + before->queues.rx_count + before->queues.tx_count > 0)

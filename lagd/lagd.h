@@ -109,8 +109,9 @@ struct link {
     int lock;   /* by which no other lagd has the interface; -1 while it is missing */
     int socket; /* -1 while the interface is missing */
     int index;  /* of the interface */
-    int carrier;       /* the file of its carrier, or -1 */
-    char carriers[24]; /* how often that came and went, as the kernel has it */
+    bool queued; /* whether an LACPDU may wait in its queueing discipline behind data */
+    int carrier_file;         /* of its carrier, or -1 */
+    char carrier_changes[24]; /* how often that came and went, as the kernel has it */
     char discipline[DISCIPLINE_ROOM]; /* its queueing discipline, as the kernel last told */
     bool stacked;        /* whether what it sends goes by another interface of this machine */
     uint8_t mac[6];

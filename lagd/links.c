@@ -4,12 +4,14 @@
 #include <fcntl.h>
 #include <linux/if_packet.h>
 #include <linux/pkt_sched.h>
+#include <linux/sockios.h>
 #include <net/ethernet.h>
 #include <net/if.h>
 #include <netinet/in.h>
 #include <stdio.h>
 #include <stdlib.h>
 #include <string.h>
+#include <sys/ioctl.h>
 #include <sys/socket.h>
 #include <unistd.h>
 
@@ -52,12 +54,23 @@ static bool give(int fd, const uint8_t *frame, bool bypass) {
     return send(fd, frame, NIW_FRAME, 0) == NIW_FRAME;
 }
 
+/* Whether something that was sent by the socket of a link is with the kernel still. */
+static bool has_queued(const struct link *link) {
+    int octets;
+    return ioctl(link->socket, SIOCOUTQ, &octets) == 0 && octets > 0;
+}
+
 /* Gives the kernel a frame, past a discipline in which it would wait behind data, or be refused with them: the order of LACPDUs and data
  * does not matter, and a marker goes by the socket of the data. No capture of this host shows what goes so. Where the driver has no room
- * at once, the frame waits with the data. */
-static bool give_past_data(const struct link *link, const uint8_t *frame) {
+ * at once, the frame waits with the data, and those after it go the same way until it left: an LACPDU that came behind a newer one would
+ * undo that. */
+static bool give_past_data(struct link *link, const uint8_t *frame) {
     bool bypass = !is_passable(link->discipline);
-    return give(link->socket, frame, bypass) || (bypass && errno == ENOBUFS && give(link->socket, frame, false));
+    link->queued = link->queued && has_queued(link);
+    if (!bypass || link->queued) return give(link->socket, frame, false);
+    if (give(link->socket, frame, true)) return true;
+    link->queued = errno == ENOBUFS && give(link->socket, frame, false);
+    return link->queued;
 }
 
 /* Reads a file of an interface, from its beginning; answers whether there was something. */
@@ -84,18 +97,18 @@ static int open_carrier(int index) {
 
 /* Whether the carrier of a link may have changed since this was asked last. */
 bool has_new_carrier(struct link *link) {
-    char now[sizeof link->carriers];
-    if (!read_text(link->carrier, now, sizeof now)) return true;
-    if (strcmp(now, link->carriers) == 0) return false;
-    memcpy(link->carriers, now, sizeof now);
+    char now[sizeof link->carrier_changes];
+    if (!read_text(link->carrier_file, now, sizeof now)) return true;
+    if (strcmp(now, link->carrier_changes) == 0) return false;
+    memcpy(link->carrier_changes, now, sizeof now);
     return true;
 }
 
 static void close_files(struct link *link) {
     if (link->socket >= 0) close(link->socket);
     if (link->lock >= 0) close(link->lock);
-    if (link->carrier >= 0) close(link->carrier);
-    link->socket = link->lock = link->carrier = -1;
+    if (link->carrier_file >= 0) close(link->carrier_file);
+    link->socket = link->lock = link->carrier_file = -1;
 }
 
 /* Takes up the interface of this number; answers whether it did, and else `trouble` has why not. */
@@ -106,10 +119,10 @@ bool open_link(struct link *link, int index) {
     link->index = index;
     taken = link->socket >= 0 && await_input(link->socket, link->settings.number) && open_member(link);
     link->trouble = taken ? 0 : errno;
-    link->carrier = open_carrier(index);
-    link->carriers[0] = 0;
+    link->carrier_file = open_carrier(index);
+    link->carrier_changes[0] = 0;
     link->trouble_ticks = TROUBLE_TICKS;
-    link->unsent = false;
+    link->unsent = link->queued = false;
     link->changed = true;
     if (!taken) close_files(link);
     return taken;

@@ -158,21 +158,33 @@ static bool open_sockets(struct member *member, const struct link *link) {
     return member->markers >= 0 && member->direct >= 0 && await_input(member->markers, tag) && await_input(member->direct, tag);
 }
 
+/* Opens the sockets of a member whose programs run; answers whether it did. Else, it is no member any more, and errno tells why. */
+static bool open_or_close(struct member *member, const struct link *link) {
+    int fault;
+    if (open_sockets(member, link)) return true;
+    fault = errno;
+    close_sockets(member);
+    close_guard(link, &member->guard);
+    errno = fault;
+    return false;
+}
+
 /* Takes up an interface for data, if data is carried; answers whether it did, and else errno tells why not. */
 bool open_member(struct link *link) {
     struct member *member = member_of(link);
     if (!carries_data()) return true;
     if (!filter(link->socket, false)) return false;
     open_guard(link, &member->guard);
-    if (!open_sockets(member, link)) {
-        int fault = errno;
-        close_sockets(member);
-        close_guard(link, &member->guard);
-        errno = fault;
-        return false;
-    }
     member->has_marker = false;
-    return true;
+    return open_or_close(member, link);
+}
+
+/* Frames that came while the socket was full. */
+static void count_loss(struct member *member) {
+    struct tpacket_stats stats = {0};
+    socklen_t length = sizeof stats;
+    if (member->socket >= 0 && getsockopt(member->socket, SOL_PACKET, PACKET_STATISTICS, &stats, &length) == 0)
+        member->counts[SOCKET_FULL] += stats.tp_drops;
 }
 
 /* The interface has another queueing discipline: how data is sent is seen anew. Answers whether the member is still taken up. */
@@ -186,21 +198,17 @@ bool reopen_member(struct link *link) {
         look_at_discipline(link, &member->guard);
         return set_bypass(member->socket, member->guard.in_order);
     }
-    close_member(link);
-    return open_member(link);
+    withdraw_port(link->settings.number);
+    count_loss(member);
+    close_sockets(member);
+    reopen_guard(link, &member->guard);
+    look_at_carry();
+    return open_or_close(member, link);
 }
 
 /* Whether the kernel may pass on what goes on a port. */
 bool has_fast_member(uint16_t port) {
     return members[port - 1].socket >= 0 && members[port - 1].guard.fast;
-}
-
-/* Frames that came while the socket was full. */
-static void count_loss(struct member *member) {
-    struct tpacket_stats stats = {0};
-    socklen_t length = sizeof stats;
-    if (member->socket >= 0 && getsockopt(member->socket, SOL_PACKET, PACKET_STATISTICS, &stats, &length) == 0)
-        member->counts[SOCKET_FULL] += stats.tp_drops;
 }
 
 void count_losses(void) {
@@ -362,8 +370,8 @@ static bool is_unreadable(int got) {
     return got < 0 && errno == EINVAL;
 }
 
-/* Takes the packets that wait in a socket of a member, some at most. What the kernel tells of links comes before them: what was sent after a link
- * went is not handed up before it. */
+/* Takes the packets that wait in a socket of a member, some at most. What the kernel tells of links comes before them: what was sent after
+ * a link went is not handed up before it. */
 static void take_packets(uint16_t port, const int *fd, bool only_markers) {
     static struct mmsghdr messages[BATCH];
     static struct iovec parts[BATCH];

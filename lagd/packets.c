@@ -84,6 +84,14 @@ bool has_right_length(const uint8_t *packet, size_t length) {
     return octets <= (is_tagged(packet + head) ? LONGEST_TAGGED : LONGEST_PLAIN);
 }
 
+/* Whether each segment of a frame of several has a payload of so many octets at most, as the kernel measures them where it passes them on.
+ * A bridge before the TAP device looks at no segment. */
+bool segments_fit(const uint8_t *packet, size_t length, uint32_t mtu) {
+    size_t octets = octets_before(packet, length) + head_of(packet).gso_size, most = ETH_HLEN + (size_t)mtu;
+    if (is_tagged(packet + head)) most += TAG_OCTETS;
+    return !has_segments(packet) || octets <= most;
+}
+
 /* Puts a tag back into the frame of a packet, which has TAG_OCTETS before it; answers where the packet begins then. */
 uint8_t *put_tag(uint8_t *packet, uint16_t type, uint16_t tag) {
     struct virtio_net_hdr told = head_of(packet);

@@ -63,9 +63,13 @@ static struct caller *place_for(uid_t user, const char **why) {
         found = &callers[i];
         free_ones++;
     }
-    *why = "all connections are taken";
-    if (count_of(user, false) >= MOST_OF_USER) *why = "this user has too many connections";
-    return count_of(user, false) < MOST_OF_USER && (user == 0 || free_ones > ROOTS_OWN) ? found : NULL;
+    if (count_of(user, false) >= MOST_OF_USER)
+        *why = "this user has too many connections";
+    else if (!found || (user != 0 && free_ones <= ROOTS_OWN))
+        *why = "all connections are taken";
+    else
+        return found;
+    return NULL;
 }
 
 /* Says why somebody gets no answer. */
@@ -78,10 +82,10 @@ static void refuse(int fd, const char *why) {
 static void take_caller(int fd) {
     struct ucred who = {0};
     socklen_t length = sizeof who;
-    const char *why = strerror(ENOMEM);
+    const char *why = NULL;
     struct caller *place = getsockopt(fd, SOL_SOCKET, SO_PEERCRED, &who, &length) == 0 ? place_for(who.uid, &why) : NULL;
     if (!place || !await_input(fd, CALLERS + (uint32_t)(place - callers))) {
-        refuse(fd, why);
+        refuse(fd, why ? why : strerror(errno));
         close(fd);
         return;
     }

@@ -57,7 +57,7 @@ void make_system(void) {
         links[i].name = settings.ports[i].name;
         links[i].settings = ports[i];
         links[i].key = ports[i].key;
-        links[i].socket = links[i].lock = links[i].carrier = -1;
+        links[i].socket = links[i].lock = links[i].carrier_file = -1;
         links[i].lines = MOST_LINES;
         links[i].changed = true;
         forget_partner(&links[i]);

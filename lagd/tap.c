@@ -83,6 +83,10 @@ void limit_mtu(uint32_t most) {
     settle_mtu();
 }
 
+uint32_t longest_payload(void) {
+    return most_mtu;
+}
+
 /* The kernel told of the device. */
 void follow_tap(bool has_now, const char *discipline) {
     carrier_told = has_now;

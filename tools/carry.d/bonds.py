@@ -49,6 +49,7 @@ class Programs:
     daemon: str
     forcing: str  # a daemon that frees each conversation as soon as it is to move
     without_tcx: str  # one whose kernel has no TCX
+    without_wait: str  # one whose kernel waits for no program once it has started
     flows: str
     cables: str
     conversations: str  # a program that prints the conversations of frames
@@ -61,14 +62,15 @@ def build_programs(folder: str, libraries: list[str], words: Sequence[str] = ())
     here = f"{TOP}/tools/carry.d"
     forcing = build_daemon(folder, libraries, "lagd-forcing", [f"{here}/forcing.c"], ["-Wl,--wrap=lagffi_move_conversation"])
     without_tcx = build_daemon(folder, libraries, "lagd-without-tcx", [f"{here}/without_tcx.c"], ["-Wl,--wrap=attach_program"])
+    without_wait = build_daemon(folder, libraries, "lagd-without-wait", [f"{here}/without_wait.c"], ["-Wl,--wrap=syscall"])
     own = {name: build(f"{folder}/{name}", [f"{here}/{name}.c"], [], "-std=c11", *WARNINGS) for name in ("flows", "cables")}
     sources = [f"{here}/conversations.c", f"{DAEMON}/hash.c"]
     hashing = build(f"{folder}/conversations", sources, libraries, *STRICT, "-fsanitize=address,undefined", f"-I{DAEMON}")
     sources = [f"{here}/kernel_hash.c", *(f"{DAEMON}/{name}.c" for name in ("hash", "bpf", "fast_programs", "settings"))]
     kernel, short = (build(f"{folder}/kernel_{name}", sources, libraries, *STRICT, "-fsanitize=address,undefined", f"-I{DAEMON}", *more)
                      for name, more in (("hash", ()), ("short", ("-DMOST_STEPS=100",))))
-    return Programs(folder, build_daemon(folder, libraries, words=words), forcing, without_tcx, conversations=hashing, kernel_hash=kernel,
-                    kernel_short=short, **own)
+    return Programs(folder, build_daemon(folder, libraries, words=words), forcing, without_tcx, without_wait, conversations=hashing,
+                    kernel_hash=kernel, kernel_short=short, **own)
 
 
 class Carry(TypedDict):

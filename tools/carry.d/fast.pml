@@ -12,7 +12,7 @@
  *
  * Each of these makes it wrong: NO_WAIT, MARKER_BY_ANOTHER_WAY, ANSWERED_BEFORE_THE_BACKLOG, TWO_WORDS, NO_COUNT, UNCOUNTED_LOSS,
  * OVERTAKES_THOSE_THAT_WAIT, NEVER_BELIEVED, BELIEVED_AT_ONCE, A_QUEUE_THAT_HOLDS,
- * TAKEN_OFF_BY_THE_PROGRAM. */
+ * TAKEN_OFF_BY_THE_PROGRAM, UNFIT_BY_THE_DAEMON. */
 #ifndef FRAMES
 #define FRAMES 5
 #endif
@@ -29,6 +29,7 @@ byte overflowed; /* of these, what was lost for want of room, and is not taken o
 bool in_program; /* whether the program of the host runs */
 byte runs;       /* how often it ended */
 bool leaked;     /* whether a frame was lost behind its count */
+bool refused;    /* whether one was found unfit for the member of its row */
 chan tap = [MOST_LEFT] of {byte};
 chan queue = [MOST_LEFT] of {byte}; /* of a discipline that holds frames before that */
 chan waiting = [FRAMES] of {byte};
@@ -46,6 +47,11 @@ proctype Host() {
         atomic { in_program = true; seen = member; left++ }
         if
         :: seen > 0 -> left--; way[seen - 1]!number
+#ifdef UNFIT_BY_THE_DAEMON
+        :: seen > 0 && !refused -> refused = true; tap!number
+#else
+        :: seen > 0 && !refused -> refused = true; left--; lost++ /* it is unfit for the member */
+#endif
         :: seen == 0 && left > MOST_LEFT ->
 #ifdef TAKEN_OFF_BY_THE_PROGRAM
             left--;

@@ -2,6 +2,7 @@
 
 from __future__ import annotations
 
+import contextlib
 import ctypes
 import shutil
 import signal
@@ -14,7 +15,7 @@ from bonds import (COMES_BACK, COMES_UP, DEVICE, FLOWS, RIGHTS, Cables, End, Pro
                    kernel_count, lay_direct, move_all, pair, run_flows)
 from checking import Failed, Skipped, check, command, within
 from rows import ROWS
-from spaces import OURS, THEIRS, inside, ip, within_space
+from spaces import OURS, THEIRS, inside, ip, packet_socket, within_space
 from streams import run_stream
 
 # How many frames the kernel is given by each hash, to find their conversations.
@@ -25,6 +26,8 @@ FAST, PASSED = 20000, 0.1
 SEGMENTED = 1000
 # bpf(2), its BPF_PROG_QUERY, and where programs of TCX stand: as an interface receives, and as it sends.
 BPF, QUERY, TCX, ASKED_OCTETS, COUNT_AT = 321, 16, (46, 47), 64, 24
+# Of linux/if_packet.h.
+SOL_PACKET, VNET_HDR = 263, 15
 
 
 def count_programs(space: str, device: str) -> int:
@@ -187,3 +190,99 @@ def fast_refused(programs: Programs) -> None:
         finally:
             ours.stop()
             theirs.stop()
+
+
+def fast_requeued(programs: Programs) -> None:
+    """A member gets another queueing discipline, and the former one again: its other settings stay, which would cost its link."""
+    with cables(programs, ()):
+        ip(OURS, "link", "del", "a0")
+        two = ("numtxqueues", "2", "numrxqueues", "2")
+        ip(OURS, "link", "add", "a0", *two, "type", "veth", "peer", "name", "b0", "netns", THEIRS)
+        for space, name in (OURS, "a0"), (THEIRS, "b0"):
+            ip(space, "link", "set", name, "up")
+        had = inside(OURS, "ethtool", "-l", "a0").stdout
+        ours, theirs = End(programs, OURS, options=["--fast"]), End(programs, THEIRS, options=["--fast"])
+        try:
+            if not within(COMES_UP, lambda: ours.links() == theirs.links() == 2 and ours.carry()["markers"] == "answered"):
+                raise Failed("two links carry", ours.text())
+            changes = lambda: inside(OURS, "cat", "/sys/class/net/a0/carrier_changes").stdout
+            before, line = changes(), "a0: its data stays with the daemon"
+            if inside(OURS, "tc", "qdisc", "replace", "dev", "a0", "root", "pfifo_fast").returncode:
+                raise Skipped("tc sets no queueing discipline")
+            check(within(3, lambda: line in ours.printed()), "a member that gets pfifo_fast is left to the daemon", ours.printed())
+            inside(OURS, "tc", "qdisc", "del", "dev", "a0", "root")
+            time.sleep(1)
+            check(changes() == before, "its carrier stays on meanwhile", before, changes(), ours.printed())
+            outcome = run_flows(programs, 3, every(1, 2, move_all(ours)))
+            check_order(outcome, "by the kernel on both links again", ours.text())
+            passed = [port["data"]["passed_on"] for port in ours.told()["ports"]]
+            check(min(passed) > 0, f"the kernel passed on {passed}", ours.text())
+            ours.ends("the daemon")
+            check(inside(OURS, "ethtool", "-l", "a0").stdout == had, "it has the queues back that it had before the daemon", had)
+        finally:
+            ours.stop()
+            theirs.stop()
+
+
+def fast_unfit(programs: Programs) -> None:
+    """A guest sends segments that are longer than the members take, which no bridge looks at: none comes behind later frames."""
+    with fast_pair(programs, delays=()) as (_, ours, theirs):
+        for space, name in (OURS, "a0"), (OURS, "a1"), (THEIRS, "b0"), (THEIRS, "b1"):
+            ip(space, "link", "set", name, "mtu", "1400")
+        time.sleep(1)
+        sent, seen = packet_socket(OURS, DEVICE, 0), packet_socket(THEIRS, DEVICE, 3)
+        sent.setsockopt(SOL_PACKET, VNET_HDR, 1)
+        seen.settimeout(1)
+        header, plain = bytes.fromhex("0200000000070200000000dd"), bytes(10)
+        for _ in range(20):
+            sent.send(plain + header + bytes.fromhex("88b5") + bytes(46))
+            time.sleep(0.05)
+        check_fast(ours)
+        before = ours.carry()["unfit"]
+        with contextlib.suppress(OSError):  # the kernel tells who sends that it is lost
+            sent.send(segments_of(1448) + header + segmented(3000))
+        for _ in range(20):
+            sent.send(plain + header + bytes.fromhex("88b5") + bytes(46))
+        check(within(3, lambda: ours.carry()["unfit"] == before + 1), "a frame of segments that are too long is lost, and counted", ours.text())
+        kinds = [frame[12:14] for frame in all_of(seen) if frame[:12] == header]
+        check(kinds == [b"\x88\xb5"] * 40, f"{len(kinds)} frames of its conversation come, and none of those segments", kinds)
+        sent.send(segments_of(1300) + header + segmented(3000))
+        check(any(frame[12:14] == b"\x08\x00" for frame in all_of(seen)), "one of segments that fit comes", ours.text())
+        sent.close()
+        seen.close()
+
+
+def segments_of(octets: int) -> bytes:
+    """What the kernel is told of a frame of TCP over IPv4 that is cut into segments with so many octets: virtio_net_hdr."""
+    return struct.pack("=BBHHHH", 1, 1, 54, octets, 34, 16)
+
+
+def segmented(octets: int) -> bytes:
+    """A frame of TCP over IPv4, behind the addresses of Ethernet."""
+    network = struct.pack("!BBHHHBBH4s4s", 0x45, 0, 40 + octets, 1, 0, 64, 6, 0, bytes((10, 0, 0, 1)), bytes((10, 0, 0, 2)))
+    return b"\x08\x00" + network + struct.pack("!HHIIBBHHH", 1, 2, 1, 1, 0x50, 0x10, 1024, 0, 0) + bytes(octets)
+
+
+def all_of(seen: socket.socket) -> list[bytes]:
+    """The frames that come until none does for a second."""
+    found = []
+    with contextlib.suppress(TimeoutError):
+        while True:
+            found.append(seen.recv(65536))
+    return found
+
+
+def fast_unwaited(programs: Programs) -> None:
+    """Where the kernel waits for its programs no longer, a row whose frames do not come is believed no more: the daemon ends, and tells."""
+    with fast_pair(programs, delays=(), program=programs.without_wait) as (_, ours, theirs):
+        ip(OURS, "link", "set", DEVICE, "txqueuelen", "2")
+        sent = packet_socket(OURS, DEVICE, 0)
+        ours.process.send_signal(signal.SIGSTOP)
+        for _ in range(50):
+            with contextlib.suppress(OSError):  # the kernel tells who sends that it is lost
+                sent.send(bytes.fromhex("0200000000070200000000dd88b5") + bytes(46))
+        ours.process.send_signal(signal.SIGCONT)
+        sent.close()
+        check(within(4, lambda: ours.process.poll() is not None), "the daemon ends", ours.printed())
+        check("fast: the kernel waits no longer for its programs" in ours.printed(), "with a line", ours.printed())
+        check(within(2.5, lambda: not theirs.carry()["carrier"]), "and its peer is told", theirs.text())

@@ -93,11 +93,11 @@ int main(int argc, char **argv) {
     if (argc != 3) return 2;
     for (settings.hash = HASH_LAYER2; strcmp(hash_text(settings.hash), argv[1]) != 0; settings.hash++) continue;
     rows = make_map(sizeof *rows, CONVERSATIONS, &maps.rows);
-    (void)make_map(sizeof(struct fast_member), MOST_FAST, &maps.members);
+    (void)make_map(sizeof(struct fast_member), NIW_MOST_PORTS, &maps.members);
     host = make_map(sizeof *host, 1, &maps.host);
     if (host) host->open_until = UINT64_MAX;
     program = rows && host ? load_sender(&maps) : -1;
-    if (rows && host && program < 0 && errno == E2BIG) return 5;
+    if (rows && host && program < 0 && errno == E2BIG) return program_fault()[0] ? 5 : 4;
     if (program >= 0 && !tells_why()) return 4;
     count = read_frames();
     if (program < 0 || count == 0 || !make_own_system()) return 3;

@@ -26,6 +26,7 @@ WRONG = {
     "BELIEVED_AT_ONCE": "a row loses its count before the programs ended that may have counted",
     "A_QUEUE_THAT_HOLDS": "the TAP device has a queueing discipline that holds frames",
     "TAKEN_OFF_BY_THE_PROGRAM": "a program takes off what it counted, while the daemon doubts the count",
+    "UNFIT_BY_THE_DAEMON": "a frame that is unfit for the member of its row is left to the daemon, which finds it fit",
 }
 
 
