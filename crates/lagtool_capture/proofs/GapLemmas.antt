@@ -3,8 +3,8 @@ use Rattle.lagtool_capture.proofs.Common.{Bool, List, None, Option, Some, [], ap
 use Rattle.lagtool_capture.proofs.Common.{refl, replicate, set, subst, suc, sym, true, zero, ℕ, ◌*◌, ◌+◌, ◌-◌, ◌/◌, ◌<◌, ◌^◌, ◌∙◌, ◌∷◌, ◌≡◌, ◌≤◌}
 use Rattle.lagtool_capture.proofs.Common.{eqb-false, le-leb, leb-false, leb-true, lt-leb, one_more, IsMedianOf, count_up_to, gaps_of, tenths_of}
 use Rattle.lagtool_capture.proofs.Common.{tenths_up_to}
-use Rattle.lagtool_capture.specs.declared.gaps.Gaps.{Gaps}
 use Rattle.lagtool_capture.specs.Gaps.{gaps_with, median, most_tenths, no_gaps}
+use Rattle.lagtool_capture.specs.declared.gaps.Gaps.{Gaps}
 use Rattle.std.proofs.Math.Nat.{min-eq_left, min-le_right}
 use Rattle.std.proofs.lemmas.Bool.Decides.{leb_tells}
 use Rattle.std.proofs.lemmas.List.Sums.{count_by-le-length, sum_by-cons}

@@ -4,8 +4,7 @@ use Rattle.lagtool_capture.proofs.Common.{length, refl, sym, true, ℕ, ◌++◌
 use Rattle.lagtool_capture.proofs.Common.{Envelope, Identity, content_of, one_more, end_place, ExplainerState, after, after_all, after_content}
 use Rattle.lagtool_capture.proofs.Common.{after_envelope, after_slow, closing_records, closing_texts, counted, frame_line, is_new, lacpdu_line}
 use Rattle.lagtool_capture.proofs.Common.{legend_line, name_place, named, sender_of, with_end, with_ends, with_line, identity_of, place_of}
-use Rattle.lagtool_capture.specs.Explaining.{after_lacpdu, after_named}
-use Rattle.lagtool_capture.specs.Explaining.{observed}
+use Rattle.lagtool_capture.specs.Explaining.{after_lacpdu, after_named, observed}
 use Rattle.captures.specs.declared.packet.Packet.{Packet}
 use Rattle.slowpdu.specs.declared.pdu.Pdu.TheVariants as pdu
 use Rattle.lagtool_capture.specs.Envelopes.{envelope_of}
