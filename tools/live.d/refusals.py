@@ -82,8 +82,9 @@ def usual(trial: Trial) -> Iterator[float]:
 def silent_peer(trial: Trial) -> Iterator[float]:
     """A peer that answers no marker, for long."""
     trial.tell_peer(signal.SIGSTOP)
-    trial.tell(signal.SIGUSR2)
-    yield 8.0
+    for _ in range(20):
+        trial.tell(signal.SIGUSR2)
+        yield 1.0
 
 
 def still_host(trial: Trial) -> Iterator[float]:
@@ -171,7 +172,7 @@ def judge(trial: Trial) -> list[str]:
     wrong += [] if f"niw_{trial.refused}: refused with 13" in printed else ["no line names the call"]
     if trial.theirs and trial.refused not in UNTOLD:
         trial.tell_peer(signal.SIGCONT)
-        told = within(5, lambda: trial.theirs and not any(port["carries"] for port in trial.theirs.ports().values()))
+        told = within(5, lambda: trial.theirs and not any(port["status"] == "it distributes" for port in trial.theirs.ports().values()))
         wrong += [] if told else ["its peer was not told"]
     return [f"{trial.refused}: {', '.join(wrong)}\n{printed[-3000:]}"] if wrong else []
 
