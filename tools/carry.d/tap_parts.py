@@ -4,8 +4,10 @@ up in another way."""
 from __future__ import annotations
 
 import contextlib
+import errno
 import shutil
 import signal
+import socket
 import struct
 import subprocess
 import time
@@ -232,6 +234,15 @@ def queues(programs: Programs) -> None:
                 end.stop()
 
 
+def send_or_lose(sent: socket.socket, packet: bytes) -> None:
+    """Sends a packet. The kernel tells its sender of one that the program at the TAP device lost."""
+    try:
+        sent.send(packet)
+    except OSError as why:
+        if why.errno != errno.ENOBUFS:
+            raise
+
+
 def segments(programs: Programs) -> None:
     """Frames whose segments have, with their headers, as many octets as a frame may have, and one more."""
     frame = bytes.fromhex("02bb00000001" "02aa00000000" "0800" "45000fc8" "00000000" "40060000" "0a630001" "0a630002" "1f901f90")
@@ -243,7 +254,7 @@ def segments(programs: Programs) -> None:
             for octets, unfit in (1460, 0), (1461, 3):
                 before = ours.carry()["from_host"]
                 for _ in range(3):
-                    sent.send(struct.pack("=BBHHHH", 1, 1, 54, octets, 34, 16) + frame)
+                    send_or_lose(sent, struct.pack("=BBHHHH", 1, 1, 54, octets, 34, 16) + frame)
                     time.sleep(0.3)
                 told = ours.carry()
                 holds = told["from_host"] == before + 3 and told["unfit"] == unfit
