@@ -13,13 +13,6 @@ functions = loading.module("", "functions")
 manual = loading.module("dist.d", "manual")
 hints = loading.module("", "hints")
 
-SPEC = "use x.{a}\n\n-- A port that waits.\npub waits : Port → Bool\nwaits p = p.waits\n\nrecord Seen : Type where\n  count : ℕ\n"
-
-
-@pytest.mark.parametrize(("at", "name"), [("p.waits", "waits"), ("Port →", "waits"), ("count", "Seen"), ("{a}", None)])
-def test_a_place_is_in_a_definition(at: str, name: str | None) -> None:
-    assert pages.definition_at(SPEC, SPEC.index(at)) == name
-
 
 def test_rows_have_as_many_cells_as_their_head() -> None:
     text = "| a | b |\n|---|---|\n| 1 \\| 2 | 3 |\n| 4 |\n\n| c |\n|---|\n| 5 |\n"
