@@ -11,6 +11,7 @@
 
 #define EACH_KEY_ONCE "each key once"
 #define A_NUMBER "a number from 0 to 65535"
+#define YES_OR_NO "yes or no"
 #define A_SYSTEM "PRIORITY,MAC, as 32768,02:00:00:00:00:01, whose MAC address is neither zero nor one of a group"
 
 /* A number in decimal digits alone. */
@@ -23,7 +24,7 @@ static bool read_number(const char *text, unsigned long least, unsigned long mos
 }
 
 /* One of two words; `is_first` says whether it is the first one. */
-static bool read_word(const char *text, const char *first, const char *second, bool *is_first) {
+static bool read_choice(const char *text, const char *first, const char *second, bool *is_first) {
     *is_first = strcmp(text, first) == 0;
     return *is_first || strcmp(text, second) == 0;
 }
@@ -66,17 +67,17 @@ static bool take_system(const char *text, struct settings *settings) {
 }
 
 static bool take_partner(const char *text, struct settings *settings) {
-    bool any, named = !read_word(text, "any", "first", &any);
+    bool any, named = !read_choice(text, "any", "first", &any);
     settings->policy = named ? PARTNER_GIVEN : any ? PARTNER_ANY : PARTNER_FIRST;
     return !named || read_system(text, &settings->partner);
 }
 
 static bool take_partner_required(const char *text, struct settings *settings) {
-    return read_word(text, "yes", "no", &settings->partner_required);
+    return read_choice(text, "yes", "no", &settings->partner_required);
 }
 
 static bool take_key_by_speed(const char *text, struct settings *settings) {
-    return read_word(text, "yes", "no", &settings->key_by_speed);
+    return read_choice(text, "yes", "no", &settings->key_by_speed);
 }
 
 static bool take_min_links(const char *text, struct settings *settings) {
@@ -92,11 +93,11 @@ static bool take_port_priority(const char *text, struct settings *settings) {
 }
 
 static bool take_timeout(const char *text, struct settings *settings) {
-    return read_word(text, "short", "long", &settings->short_timeout);
+    return read_choice(text, "short", "long", &settings->short_timeout);
 }
 
 static bool take_activity(const char *text, struct settings *settings) {
-    return read_word(text, "active", "passive", &settings->active);
+    return read_choice(text, "active", "passive", &settings->active);
 }
 
 static bool take_marker_responses(const char *text, struct settings *settings) {
@@ -143,53 +144,87 @@ static bool take_hash(const char *text, struct settings *settings) {
 }
 
 static bool take_offload(const char *text, struct settings *settings) {
-    return read_word(text, "yes", "no", &settings->offload);
+    return read_choice(text, "yes", "no", &settings->offload);
 }
 
 static bool take_fast(const char *text, struct settings *settings) {
-    return read_word(text, "yes", "no", &settings->fast);
+    return read_choice(text, "yes", "no", &settings->fast);
 }
 
 static bool take_flight(const char *text, struct settings *settings) {
     return read_number(text, 1, 60000, &settings->flight);
 }
 
-/* The keys of a bundle: each with what is expected of its value. */
-static const struct {
-    const char *name, *expected;
-    bool (*take)(const char *text, struct settings *settings);
-} BUNDLE_KEYS[] = {
-    {"key", A_NUMBER, take_key},
-    {"system", "auto or " A_SYSTEM, take_system},
-    {"partner", "any, first or " A_SYSTEM, take_partner},
-    {"partner-required", "yes or no", take_partner_required},
-    {"key-by-speed", "yes or no", take_key_by_speed},
-    {"min-links", "a number from 1 to 64", take_min_links},
-    {"max-links", "a number from 0 to 64", take_max_links},
-    {"port-priority", A_NUMBER, take_port_priority},
-    {"timeout", "short or long", take_timeout},
-    {"activity", "active or passive", take_activity},
-    {"marker-responses", "a number from 0 to 10000", take_marker_responses},
-    {"hook", "a path that begins with /, of at most 191 characters, of a program that may be run", take_hook},
-    {"carry", "a name of an interface of at most 15 characters", take_carry},
-    {"hash", "layer2, layer2+3 or layer3+4", take_hash},
-    {"flight", "a number of milliseconds from 1 to 60000", take_flight},
-    {"offload", "yes or no", take_offload},
-    {"fast", "yes or no", take_fast},
+/* The keys of a bundle, in the order of the help. */
+static const struct bundle_key BUNDLE_KEYS[] = {
+    {"key", A_NUMBER, take_key, 0, NULL, NULL},
+    {"system", "auto or " A_SYSTEM, take_system, 0, NULL, NULL},
+    {"port-priority", A_NUMBER, take_port_priority, 'p', "N", "0 to 65535; 32768 if not given"},
+    {"timeout", "short or long", take_timeout, 't', "short|long",
+        "what is asked of the peers: an LACPDU each second, as if not given, or each 30 seconds"},
+    {"activity", "active or passive", take_activity, 'a', "active|passive", "whether it speaks first: active, if not given"},
+    {"max-links", "a number from 0 to 64", take_max_links, 'm', "N",
+        "the most links of an aggregator, 1 to 64; 0, as if not given: no limit"},
+    {"min-links", "a number from 1 to 64", take_min_links, 'n', "N",
+        "with fewer links that carry the bundle is down: 1 to 64; 1, if not given"},
+    {"partner", "any, first or " A_SYSTEM, take_partner, 'r', "any|first|PRIORITY,MAC",
+        "whose LACPDUs are taken: any, if not given; first: of whom is learnt first, until the\nlink goes down"},
+    {"partner-required", YES_OR_NO, take_partner_required, 'q', NULL, "a port without a partner does not carry"},
+    {"key-by-speed", YES_OR_NO, take_key_by_speed, 'b', NULL,
+        "links of another speed or duplex have another key, so that they share no group"},
+    {"marker-responses", "a number from 0 to 10000", take_marker_responses, 'o', "N",
+        "the most that a port sends in a second; 10 if not given"},
+    {"hook", "a path that begins with /, of at most 191 characters, of a program that may be run", take_hook, 'x', "PROGRAM",
+        "is run when the bundle becomes up, degraded or down"},
+    {"carry", "a name of an interface of at most 15 characters", take_carry, 'C', "NAME",
+        "carries the data of a TAP device of this name, which it makes, with the MAC address of the system"},
+    {"hash", "layer2, layer2+3 or layer3+4", take_hash, 'H', "layer2|layer2+3|layer3+4",
+        "what frames of one conversation have in common; layer2, if not given"},
+    {"flight", "a number of milliseconds from 1 to 60000", take_flight, 'F', "MILLISECONDS",
+        "how long a frame can be on its way; 500 if not given"},
+    {"offload", YES_OR_NO, take_offload, 'O', NULL, "passes frames of several segments, which the kernel or the card cuts"},
+    {"fast", YES_OR_NO, take_fast, 'K', NULL, "the kernel passes data on by itself (Linux 6.6), of several segments too"},
 };
 
 enum { BUNDLE_KEY_COUNT = sizeof BUNDLE_KEYS / sizeof *BUNDLE_KEYS };
 _Static_assert(BUNDLE_KEY_COUNT <= MOST_BUNDLE_KEYS, "each key has room for its line");
 
-/* What is expected in the place of a key that a bundle does not have: the names of all its keys. */
-static const char *a_bundle_key(void) {
+/* A key of the bundle, from 0 on; NULL behind the last one. */
+const struct bundle_key *bundle_key(size_t index) {
+    return index < BUNDLE_KEY_COUNT ? &BUNDLE_KEYS[index] : NULL;
+}
+
+/* The keys of a port: a number, or one of two words, the first of which stands for 1. */
+static const struct {
+    const char *name, *expected, *first, *second;
+    size_t at; /* in struct port_settings */
+} PORT_KEYS[] = {
+    {"key", A_NUMBER, NULL, NULL, offsetof(struct port_settings, key)},
+    {"priority", A_NUMBER, NULL, NULL, offsetof(struct port_settings, priority)},
+    {"timeout", "short or long", "short", "long", offsetof(struct port_settings, short_timeout)},
+    {"activity", "active or passive", "active", "passive", offsetof(struct port_settings, active)},
+    {"individual", YES_OR_NO, "yes", "no", offsetof(struct port_settings, individual)},
+};
+
+enum { PORT_KEY_COUNT = sizeof PORT_KEYS / sizeof *PORT_KEYS };
+
+static const char *name_of_bundle_key(size_t index) {
+    return BUNDLE_KEYS[index].name;
+}
+
+static const char *name_of_port_key(size_t index) {
+    return PORT_KEYS[index].name;
+}
+
+/* What is expected in the place of a key that is none: the names of all. */
+static const char *expected_keys(const char *(*name)(size_t index), size_t count, const char *end) {
     static char text[512];
     size_t length = 0;
-    for (size_t i = 0; i < BUNDLE_KEY_COUNT && length < sizeof text; i++) {
-        const char *joint = i == 0 ? "" : i + 1 < BUNDLE_KEY_COUNT ? ", " : " or ";
-        const char *end = i + 1 < BUNDLE_KEY_COUNT ? "" : " as a key of [Bundle]";
-        length += (size_t)snprintf(text + length, sizeof text - length, "%s%s%s", joint, BUNDLE_KEYS[i].name, end);
+    for (size_t i = 0; i < count && length < sizeof text; i++) {
+        const char *joint = i == 0 ? "" : i + 1 < count ? ", " : " or ";
+        length += (size_t)snprintf(text + length, sizeof text - length, "%s%s", joint, name(i));
     }
+    if (length < sizeof text) snprintf(text + length, sizeof text - length, "%s", end);
     return text;
 }
 
@@ -202,7 +237,7 @@ const char *set_bundle(struct settings *settings, const char *name, const char *
         settings->lines[i] = line;
         return BUNDLE_KEYS[i].take(text, settings) ? NULL : BUNDLE_KEYS[i].expected;
     }
-    return a_bundle_key();
+    return expected_keys(name_of_bundle_key, BUNDLE_KEY_COUNT, " as a key of [Bundle]");
 }
 
 /* The line that gives a key of the bundle, or 0. */
@@ -212,32 +247,24 @@ unsigned line_of(const struct settings *settings, const char *name) {
     return i < BUNDLE_KEY_COUNT ? settings->lines[i] : 0;
 }
 
-/* A number of a port. */
-static const char *take_number(const char *text, int *into) {
-    uint16_t number;
-    if (*into != AS_BUNDLE) return EACH_KEY_ONCE;
-    if (!read_number(text, 0, UINT16_MAX, &number)) return A_NUMBER;
-    *into = number;
-    return NULL;
-}
-
-/* One of two words of a port. */
-static const char *take_choice(const char *text, const char *first, const char *second, const char *expected, int *into) {
-    bool is_first;
-    if (*into != AS_BUNDLE) return EACH_KEY_ONCE;
-    if (!read_word(text, first, second, &is_first)) return expected;
-    *into = is_first;
-    return NULL;
-}
-
 /* Gives a key of a port a value; answers NULL, or what was expected. */
 const char *set_port(struct port_settings *port, const char *name, const char *text) {
-    if (strcmp(name, "key") == 0) return take_number(text, &port->key);
-    if (strcmp(name, "priority") == 0) return take_number(text, &port->priority);
-    if (strcmp(name, "timeout") == 0) return take_choice(text, "short", "long", "short or long", &port->short_timeout);
-    if (strcmp(name, "activity") == 0) return take_choice(text, "active", "passive", "active or passive", &port->active);
-    if (strcmp(name, "individual") == 0) return take_choice(text, "yes", "no", "yes or no", &port->individual);
-    return "key, priority, timeout, activity or individual as a key of [Port]";
+    size_t i = 0;
+    uint16_t number;
+    bool is_first;
+    int *value;
+    while (i < PORT_KEY_COUNT && strcmp(name, PORT_KEYS[i].name) != 0) i++;
+    if (i == PORT_KEY_COUNT) return expected_keys(name_of_port_key, PORT_KEY_COUNT, " as a key of [Port]");
+    value = (int *)(void *)((char *)port + PORT_KEYS[i].at);
+    if (*value != AS_BUNDLE) return EACH_KEY_ONCE;
+    if (!PORT_KEYS[i].first) {
+        if (!read_number(text, 0, UINT16_MAX, &number)) return PORT_KEYS[i].expected;
+        *value = number;
+    } else {
+        if (!read_choice(text, PORT_KEYS[i].first, PORT_KEYS[i].second, &is_first)) return PORT_KEYS[i].expected;
+        *value = is_first;
+    }
+    return NULL;
 }
 
 /* Adds a port, by the name of its interface; answers NULL, or what was expected. */
@@ -271,7 +298,10 @@ struct settings usual_settings(void) {
 
 /* A key that says something of data, or NULL. */
 static const char *key_of_data(const struct settings *settings) {
-    return settings->fast ? "fast" : settings->offload ? "offload" : line_of(settings, "hash") ? "hash" : line_of(settings, "flight") ? "flight" : NULL;
+    if (settings->fast) return "fast";
+    if (settings->offload) return "offload";
+    if (line_of(settings, "hash")) return "hash";
+    return line_of(settings, "flight") ? "flight" : NULL;
 }
 
 /* Whether the bundle could never have a partner: LACPDUs of its own system are not taken. */

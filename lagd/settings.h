@@ -76,6 +76,14 @@ struct settings {
     struct port_settings ports[NIW_MOST_PORTS];
 };
 
+/* A key of a bundle: the file and the long option have its name. */
+struct bundle_key {
+    const char *name, *expected; /* `expected`: of its value */
+    bool (*take)(const char *text, struct settings *settings); /* whether the text is a value of the key */
+    char letter;                 /* of its option; 0: the command line gives it by its place */
+    const char *value, *help;    /* in the help: the word for its value, NULL where the option alone says yes; and its lines */
+};
+
 /* What is wrong with all of it: what was expected, and the key that says otherwise; NULL where nothing is, or no key does. */
 struct lack {
     const char *expected, *key;
@@ -83,6 +91,7 @@ struct lack {
 
 struct settings usual_settings(void);
 const char *hash_text(enum hash hash);
+const struct bundle_key *bundle_key(size_t index);
 const char *set_bundle(struct settings *settings, const char *name, const char *text, unsigned line);
 unsigned line_of(const struct settings *settings, const char *name);
 const char *set_port(struct port_settings *port, const char *name, const char *text);
