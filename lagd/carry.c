@@ -13,7 +13,7 @@
 struct carry carry = {.changed = true};
 
 static int tap = -1;
-static uint8_t *rooms; /* for the packets of a batch */
+static uint8_t *packets; /* for the packets of a batch */
 static bool to_balance;       /* whether a tick passed since the last look at the loads */
 static uint16_t previous;     /* the aggregator that was active before nothing or another one was, or 0 */
 static uint64_t heard_at;     /* the time at which frames came in the active aggregator last, or 0 */
@@ -162,7 +162,7 @@ static bool take_next(uint8_t *packet) {
 /* Takes the packets that wait in the TAP device, some at most. */
 static void take_host(void) {
     for (int turn = 0, got = BATCH; turn < MOST_BATCHES && got == BATCH; turn++) {
-        for (got = 0; got < BATCH && take_next(rooms + (size_t)got * packet_room()); got++) continue;
+        for (got = 0; got < BATCH && take_next(packets + (size_t)got * packet_room()); got++) continue;
         flush_data();
         note_read((unsigned)got, got < BATCH);
         pass_on();
@@ -183,7 +183,7 @@ static void forget_heard(void) {
 
 /* A frame came in an aggregator that is not the active one. If no aggregator has more than that one, the peer may send there. It is looked
  * at once a tick, however many frames come. */
-void doubt_aggregator(uint32_t aggregator) {
+void suspect_aggregator(uint32_t aggregator) {
     static uint64_t looked_at;
     if (looked_at == carry.time) return;
     looked_at = carry.time;
@@ -203,7 +203,7 @@ bool keeps_aggregator(void) {
 void hand_up(uint32_t aggregator, const uint8_t *packet, size_t length) {
     if (aggregator != carry.active) {
         carry.counts[OTHER_AGGREGATOR]++;
-        doubt_aggregator(aggregator);
+        suspect_aggregator(aggregator);
     } else if (!broken && write(tap, packet, length) == (ssize_t)length) {
         carry.counts[HANDED_UP]++;
     } else {
@@ -329,7 +329,7 @@ void open_carry(void) {
     if (!settings.carry[0]) return;
     start_held();
     start_members();
-    rooms = make_rooms();
+    packets = make_rooms();
     load_guard();
     if (atexit(put_back_members) != 0) stop(REFUSED, "no memory", "for what members had");
     tap = open_tap(settings.carry, settings.config.mac);

@@ -73,8 +73,8 @@ struct fast {
     uint32_t taken;   /* segments that came to the daemon since the last flush */
     uint64_t counted; /* frames that the kernel had passed on when they were counted last */
     uint64_t overflowed; /* segments that overflowed, of those that its row no longer counts as left */
-    bool doubted;     /* whether its row was found with frames that do not come; it was so: */
-    uint64_t doubted_word, doubted_opaque;
+    bool suspected;     /* whether its row was found with frames that do not come; it was so: */
+    uint64_t suspected_word, suspected_opaque;
     uint64_t not_before; /* the time before which it does not go on, after its link went down */
 };
 
@@ -110,7 +110,7 @@ bool ask_ports(uint16_t aggregator, uint16_t *ports) MUST_USE;
 bool is_held(const struct niw_assignment *state);
 bool is_home(const struct conversation *conversation, uint16_t number);
 bool is_busy(const struct conversation *conversation);
-void doubt_aggregator(uint32_t aggregator);
+void suspect_aggregator(uint32_t aggregator);
 void hand_up(uint32_t aggregator, const uint8_t *packet, size_t length);
 
 /* The groups 01-80-C2-00-00-00 to -0F, which no bridge passes on: frames to them concern the member alone, as those of 802.1X, MKA, LLDP
@@ -275,10 +275,10 @@ void free_left(void);
 void balance(void);
 
 /* probe.c */
-enum answering answering(void);
+enum answering peer_answering(void);
 void look_at_partner(void);
 void pass_probe_tick(void);
-void doubt_partner(void);
+void suspect_partner(void);
 
 /* flight.c */
 void note_sent(uint16_t port);

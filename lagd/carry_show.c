@@ -47,7 +47,7 @@ static const struct {
 
 static const char *answering_text(void) {
     static const char *const texts[] = {[NOT_ASKED] = "not asked", [ASKED] = "asked", [ANSWERS] = "answered", [MUTE] = "not answered"};
-    return texts[answering()];
+    return texts[peer_answering()];
 }
 
 /* How many conversations of a port are busy. */
@@ -95,8 +95,8 @@ void write_carry_json(void) {
     add("\"carry\":{\"device\":");
     add_string(settings.carry);
     add(",\"carrier\":%s,\"aggregator\":%u,\"hash\":\"%s\",", has_carrier() ? "true" : "false", carry.active, hash_text(settings.hash));
-    add("\"flight\":%u,\"markers\":\"%s\",\"way\":\"%s\",\"waiting\":%" PRIu64 ",\"fast_conversations\":%u", settings.flight, answering_text(),
-        way_text(), waiting, count_fast());
+    add("\"flight\":%u,\"markers\":\"%s\",\"way\":\"%s\",", settings.flight, answering_text(), way_text());
+    add("\"waiting\":%" PRIu64 ",\"fast_conversations\":%u", waiting, count_fast());
     for (unsigned i = 0; i < CARRY_COUNTS; i++) add(",\"%s\":%" PRIu64, CARRY_COUNTERS[i].name, carry.counts[i]);
     add("},");
 }

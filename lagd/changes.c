@@ -42,7 +42,7 @@ static uint32_t own_id;  /* the number of this socket, which stands in answers *
 static bool asking;      /* whether the answer is not whole yet */
 static bool interrupted; /* whether interfaces changed while the kernel answered */
 static bool ask_again;   /* whether something was missed */
-static bool doubted;     /* whether a carrier may have gone */
+static bool suspected;     /* whether a carrier may have gone */
 static bool tap_named;   /* whether the answer that is being read named the TAP device */
 
 /* Asks for an interface, or with 0 for all of them; answers whether the kernel took the question. The answer comes as changes do. */
@@ -307,16 +307,16 @@ void watch_changes(void) {
 }
 
 /* Something could not be sent: a carrier may have gone. */
-void doubt_carriers(void) {
-    doubted = true;
+void suspect_carriers(void) {
+    suspected = true;
 }
 
-/* Looks at carriers, at each tick and where one is doubted: the kernel counts at once that one came or went, but tells of those that go
+/* Looks at carriers, at each tick and where one is suspected: the kernel counts at once that one came or went, but tells of those that go
  * once a second, over all interfaces. It is asked then, and answers at once. */
 void watch_carriers(bool all) {
     bool any = false;
-    if (!all && !doubted) return;
-    doubted = false;
+    if (!all && !suspected) return;
+    suspected = false;
     for (uint16_t i = 0; i < link_count; i++)
         if (links[i].socket >= 0 && has_new_carrier(&links[i])) any = ask_for(links[i].index, 0) || any;
     if (any) take_changes();

@@ -115,7 +115,7 @@ static void take_overflowed(struct conversation *conversation) {
     if (overflowed == conversation->fast.overflowed) return;
     subtract(number_in(conversation), (uint32_t)(overflowed - conversation->fast.overflowed));
     conversation->fast.overflowed = overflowed;
-    conversation->fast.doubted = false;
+    conversation->fast.suspected = false;
 }
 
 /* Counts what the kernel passed on of a conversation; answers whether there was something. */
@@ -287,23 +287,23 @@ void pass_on(void) {
         conversation->fast.touched = false;
         take_overflowed(conversation);
         if (conversation->fast.taken > 0) subtract(number, conversation->fast.taken);
-        if (conversation->fast.taken > 0) conversation->fast.doubted = false;
+        if (conversation->fast.taken > 0) conversation->fast.suspected = false;
         conversation->fast.taken = 0;
         if (conversation->port == 0 || conversation->fast.port > 0 || !none_held(number)) continue;
         if (may_pass(conversation, conversation->port)) pass(conversation);
     }
 }
 
-/* Counts no more what was lost on its way to the daemon: since it was doubted, no frame of it came and none was left (programs only ever
+/* Counts no more what was lost on its way to the daemon: since it was suspected, no frame of it came and none was left (programs only ever
  * raise the count of a row without a member), all programs ended, and the TAP device had nothing more. */
-static void believe(struct conversation *conversation) {
+static void confirm_loss(struct conversation *conversation) {
     struct row *row = &rows[number_in(conversation)];
-    uint64_t word = conversation->fast.doubted_word, overflowed = __atomic_load_n(&row->overflowed, __ATOMIC_SEQ_CST);
-    conversation->fast.doubted = false;
-    if (__atomic_load_n(&row->opaque, __ATOMIC_SEQ_CST) != conversation->fast.doubted_opaque) return;
+    uint64_t word = conversation->fast.suspected_word, overflowed = __atomic_load_n(&row->overflowed, __ATOMIC_SEQ_CST);
+    conversation->fast.suspected = false;
+    if (__atomic_load_n(&row->opaque, __ATOMIC_SEQ_CST) != conversation->fast.suspected_opaque) return;
     if (!__atomic_compare_exchange_n(&row->word, &word, 0, false, __ATOMIC_SEQ_CST, __ATOMIC_SEQ_CST)) return;
     conversation->fast.overflowed = overflowed;
-    (void)__atomic_sub_fetch(&row->opaque, conversation->fast.doubted_opaque, __ATOMIC_SEQ_CST);
+    (void)__atomic_sub_fetch(&row->opaque, conversation->fast.suspected_opaque, __ATOMIC_SEQ_CST);
     conversation->fast.touched = true;
 }
 
@@ -316,21 +316,23 @@ void note_read(unsigned packets, bool drained) {
     if (!is_fast() || broken) return;
     left = __atomic_sub_fetch(&host->left, packets, __ATOMIC_SEQ_CST);
     if (drained && (left > MOST_BETWEEN || left < 0)) (void)__atomic_sub_fetch(&host->left, left, __ATOMIC_SEQ_CST);
-    for (uint16_t number = 0; drained && !queue_holds && number < CONVERSATIONS; number++)
-        if (carry.conversations[number].fast.doubted && carry.conversations[number].fast.taken == 0) believe(&carry.conversations[number]);
+    for (uint16_t number = 0; drained && !queue_holds && number < CONVERSATIONS; number++) {
+        struct conversation *conversation = &carry.conversations[number];
+        if (conversation->fast.suspected && conversation->fast.taken == 0) confirm_loss(conversation);
+    }
 }
 
-/* Doubts rows with frames that do not come: none came since the last tick. */
-static bool doubt(struct conversation *conversation) {
+/* Suspects rows with frames that do not come: none came since the last tick. */
+static bool suspect(struct conversation *conversation) {
     struct row *row = &rows[number_in(conversation)];
     uint64_t word, opaque;
     take_overflowed(conversation);
     word = word_of(number_in(conversation));
     opaque = __atomic_load_n(&row->opaque, __ATOMIC_SEQ_CST);
-    if (conversation->fast.port > 0 || conversation->used || conversation->fast.doubted || (word == 0 && opaque == 0)) return false;
-    conversation->fast.doubted = true;
-    conversation->fast.doubted_word = word;
-    conversation->fast.doubted_opaque = opaque;
+    if (conversation->fast.port > 0 || conversation->used || conversation->fast.suspected || (word == 0 && opaque == 0)) return false;
+    conversation->fast.suspected = true;
+    conversation->fast.suspected_word = word;
+    conversation->fast.suspected_opaque = opaque;
     return true;
 }
 
@@ -342,7 +344,7 @@ void pass_fast_tick(void) {
     withdraw();
     open_host(has_carrier());
     take_fast_counts();
-    if (answering() == MUTE) take_back(is_resting, 0);
-    for (uint16_t number = 0; number < CONVERSATIONS; number++) any = doubt(&carry.conversations[number]) || any;
+    if (peer_answering() == MUTE) take_back(is_resting, 0);
+    for (uint16_t number = 0; number < CONVERSATIONS; number++) any = suspect(&carry.conversations[number]) || any;
     if (any) wait_or_end();
 }

@@ -13,7 +13,7 @@
 
 /* The most octets of a file and of a line. The library takes lines of 197 octets. */
 #define LONGEST_FILE 65536
-#define LONGEST_LINE 190
+#define LONGEST_FILE_LINE 190
 
 enum section { NO_SECTION, WRONG_SECTION, BUNDLE_SECTION, PORT_SECTION };
 
@@ -56,7 +56,7 @@ static void take_section(struct reading *reading, const char *line) {
 /* What is wrong with a line, before its key and value are looked at, or NULL. The library would cut a line that is too long, take one
  * that begins with a space as the rest of the one before, and take a colon for '='. */
 static const char *fault_of(const char *line, size_t length) {
-    if (length > LONGEST_LINE) return "a line of at most 190 octets";
+    if (length > LONGEST_FILE_LINE) return "a line of at most 190 octets";
     if (strlen(line) != length) return "no octet of zero in a line";
     if (line[0] == ' ' || line[0] == '\t') return line[strspn(line, " \t")] ? "a line that does not begin with a space" : NULL;
     if (!line[0] || strchr("[#;", line[0]) || strchr(line, '=')) return NULL;
@@ -95,7 +95,7 @@ static int take_pair(void *given, const char *section, const char *name, const c
     default: expected = "[Bundle] or [Port INTERFACE] before keys"; break;
     }
     if (expected) {
-        char found[2 * LONGEST_LINE];
+        char found[2 * LONGEST_FILE_LINE];
         snprintf(found, sizeof found, "%s=%s", name, value);
         expect(reading, expected, found);
     }

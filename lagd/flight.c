@@ -76,7 +76,7 @@ static void rest(struct conversation *conversation, uint16_t number) {
 /* Frees a conversation that is held, and whose marker nobody answered: nothing of it was sent since. */
 static void force(struct conversation *conversation, uint16_t number) {
     if (!is_done(niw_force(&own_system, conversation->home, number), "niw_force")) return;
-    if (conversation->home == carry.active) doubt_partner();
+    if (conversation->home == carry.active) suspect_partner();
     carry.counts[FORCED]++;
     carry.changed = true;
     conversation->since = 0;
@@ -86,7 +86,7 @@ static void force(struct conversation *conversation, uint16_t number) {
  * of it. */
 static void watch_free(struct conversation *conversation, uint16_t number, const struct niw_assignment *state) {
     conversation->since = 0;
-    if (answering() != MUTE || state->what != NIW_CONVERSATION_ON || conversation->fast.port != 0
+    if (peer_answering() != MUTE || state->what != NIW_CONVERSATION_ON || conversation->fast.port != 0
         || carry.time - conversation->last < settings.flight)
         return;
     rest(conversation, number);
@@ -95,7 +95,7 @@ static void watch_free(struct conversation *conversation, uint16_t number, const
 /* A conversation that is held for long goes on: nothing of it was sent since. It waits for a peer that answers markers, which may have
  * been stopped for a while, and for a flight else. What is held on a port that does not distribute is for watch_port. */
 static void watch_held(struct conversation *conversation, uint16_t number, const struct niw_assignment *state) {
-    bool answered = is_held(state) && answering() != MUTE && settings.flight < UNANSWERED;
+    bool answered = is_held(state) && peer_answering() != MUTE && settings.flight < UNANSWERED;
     if (conversation->since == 0) conversation->since = carry.time;
     if (carry.time - conversation->since < (answered ? UNANSWERED : settings.flight)) return;
     if (is_held(state) && !distributes(state->port, true)) return;

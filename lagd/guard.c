@@ -157,8 +157,8 @@ void look_at_discipline(struct link *link, struct guard *guard) {
         (void)read_discipline(link->index, link->discipline);
     guard->in_order = keeps_order(link->discipline);
     if (passes_segments() && !guard->in_order && !is_unqueued(link))
-        (void)say(LOG_WARNING | ABOUT_DATA, "port %u %s: its queueing discipline is neither noqueue, bfifo nor pfifo: it loses frames of several "
-            "segments, if its card cannot cut them", link->settings.number, link->name);
+        (void)say(LOG_WARNING | ABOUT_DATA, "port %u %s: its queueing discipline is neither noqueue, bfifo nor pfifo: it loses frames of "
+            "several segments, if its card cannot cut them", link->settings.number, link->name);
 }
 
 /* The link comes up: the queue of its interface, if that is one of the daemon, has the length of its speed from now on. */

@@ -146,7 +146,8 @@ bool drop_held(uint16_t number, enum carry_count why) {
     return true;
 }
 
-/* Takes the oldest frame of a conversation out, to be sent; answers NULL where none is told. Its packet stays where it is until free_left. */
+/* Takes the oldest frame of a conversation out, to be sent; answers NULL where none is told. Its packet stays where it is until
+ * free_left. */
 uint8_t *take_held(uint16_t number, size_t *length) {
     struct niw_queued queued = niw_queue_next(&queues, number);
     uint32_t at = slot_told(&queued, "niw_queue_next");

@@ -180,7 +180,7 @@ void send_frame(struct link *link, enum count kind, const uint8_t *frame) {
         return;
     }
     link->counts[FAILED_SENT]++;
-    doubt_carriers();
+    suspect_carriers();
     if (errno != ENETDOWN && errno != ENXIO) { /* of a link that is down the kernel tells, too */
         link->trouble = errno;
         link->trouble_ticks = TROUBLE_TICKS;

@@ -29,7 +29,7 @@ static struct member {
     struct mmsghdr messages[BATCH];
 } members[NIW_MOST_PORTS];
 
-static uint8_t *rooms; /* for the packets of a batch */
+static uint8_t *member_packets; /* for the packets of a batch */
 
 static struct member *member_of(const struct link *link) {
     return &members[link - links];
@@ -133,7 +133,7 @@ static int open_markers(int index, uint16_t port) {
 
 /* No interface is taken up yet. */
 void start_members(void) {
-    rooms = make_rooms();
+    member_packets = make_rooms();
     for (unsigned i = 0; i < NIW_MOST_PORTS; i++) {
         members[i].socket = members[i].markers = members[i].direct = -1;
         members[i].guard.opened = -1;
@@ -252,7 +252,7 @@ void add_fast_counts(uint16_t port, const struct fast_member *more) {
     counts[UNCOLLECTED] += more->uncollected;
     counts[WRONG_LENGTH] += more->wrong_length;
     carry.counts[HANDED_UP] += more->passed_up;
-    if (more->uncollected > 0) doubt_aggregator(links[port - 1].view.aggregator);
+    if (more->uncollected > 0) suspect_aggregator(links[port - 1].view.aggregator);
 }
 
 /* So many frames more were passed on by the kernel alone, on a port. */
@@ -268,7 +268,7 @@ static void flush_member(struct member *member) {
     while (at < member->out) {
         int sent = member->socket < 0 ? -1 : sendmmsg(member->socket, member->messages + at, member->out - at, 0);
         if (sent < 0 && member->socket >= 0 && errno == EINTR) continue;
-        if (sent < 0) doubt_carriers();
+        if (sent < 0) suspect_carriers();
         member->counts[sent > 0 ? DATA_SENT : DATA_UNSENT] += sent > 0 ? (unsigned)sent : 1;
         at += sent > 0 ? (unsigned)sent : 1;
     }
@@ -381,7 +381,7 @@ static void take_packets(uint16_t port, const int *fd, bool only_markers) {
     struct member *member = &members[port - 1];
     for (int turn = 0, got = BATCH; turn < MOST_BATCHES && got == BATCH && *fd >= 0; turn++) {
         for (unsigned i = 0; i < BATCH; i++) {
-            parts[i] = (struct iovec){rooms + i * (packet_room() + TAG_OCTETS) + TAG_OCTETS, packet_room()};
+            parts[i] = (struct iovec){member_packets + i * (packet_room() + TAG_OCTETS) + TAG_OCTETS, packet_room()};
             messages[i].msg_hdr = (struct msghdr){.msg_name = &from[i], .msg_namelen = sizeof from[i], .msg_iov = &parts[i],
                 .msg_iovlen = 1, .msg_control = controls[i], .msg_controllen = sizeof controls[i]};
         }

@@ -56,7 +56,7 @@ static bool level(void) {
 
 /* Moves what has to move, once a tick, towards a peer that answers markers: one marker of a port tells of all that leave it. */
 void balance(void) {
-    if (carry.port_count < 2 || answering() != ANSWERS || !none_moves() || !ask_ports(carry.active, carry.port_of)) return;
+    if (carry.port_count < 2 || peer_answering() != ANSWERS || !none_moves() || !ask_ports(carry.active, carry.port_of)) return;
     if (move_asked() || level()) send_due();
 }
 

@@ -1,5 +1,6 @@
 /* What the daemon may do once its sockets are open: CAP_NET_RAW alone, for an interface that comes later, and CAP_NET_ADMIN beside it
- * where it carries data. Its user stays who he was: who is root may set files of /sys back, and runs the hooks. The unit has another one. */
+ * where it carries data. Its user stays who he was: who is root may set files of /sys back, and runs the hooks. The unit has another
+ * one. */
 #define _GNU_SOURCE
 #include <cap-ng.h>
 #include <sys/prctl.h>

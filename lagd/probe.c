@@ -17,12 +17,12 @@ static uint64_t asked_at, sent_at; /* the times when the marker went first, and 
 static struct system_id partner;   /* of the active aggregator */
 static uint16_t partner_key;
 
-enum answering answering(void) {
+enum answering peer_answering(void) {
     return peer;
 }
 
 /* The peer did not answer a marker in time. */
-void doubt_partner(void) {
+void suspect_partner(void) {
     if (peer == ANSWERS) peer = NOT_ASKED;
 }
 

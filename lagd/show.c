@@ -67,7 +67,8 @@ static void add_member(const struct link *link) {
     if (link->trouble) add("  trouble: %s\n", strerror(link->trouble));
     add("  link: %s\n  address: %s\n", link_name(link), mac_text(link->mac, mac));
     add("  port_id: %u\n  port_priority: %u\n", own->port, own->port_priority);
-    add("  aggregator: %u\n  current_while: %" PRIu64 "\n  wait_while: %" PRIu64 "\n", view.facts.aggregator, view.current_while, view.wait_while);
+    add("  aggregator: %u\n", view.facts.aggregator);
+    add("  current_while: %" PRIu64 "\n  wait_while: %" PRIu64 "\n", view.current_while, view.wait_while);
     if (link->has_speed) add("  speed: %s\n", speed_text(&link->speed, speed));
     add_time("last change", link->changed_at);
     add_strangers(link);

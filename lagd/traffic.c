@@ -15,7 +15,8 @@
 #include "carry.h"
 
 #define ROOM 4096
-/* What waits at a member: the octets of 50 ms at the speed of its link, within these bounds; the most of them where nobody tells a speed. */
+/* What waits at a member: the octets of 50 ms at the speed of its link, within these bounds; the most of them where nobody tells a
+ * speed. */
 #define OCTETS_QUEUED(megabits) ((uint64_t)(megabits) * 125 * 50)
 #define LEAST_QUEUED (64 * LONGEST_PLAIN)
 #define MOST_QUEUED (4 << 20)

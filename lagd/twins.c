@@ -23,7 +23,8 @@ static uint16_t twin_of(const struct link *link) {
 static void tell_twin(const struct link *link) {
     struct facts facts = facts_of(link);
     char system[32];
-    (void)say(LOG_WARNING | ABOUT_STRANGER, "port %u %s: its partner is port %u of %s, and so is that of port %u %s: two hosts may have this system",
+    (void)say(LOG_WARNING | ABOUT_STRANGER,
+        "port %u %s: its partner is port %u of %s, and so is that of port %u %s: two hosts may have this system",
         link->settings.number, link->name, facts.partner_port, system_text(&facts.partner, system), link->twin, links[link->twin - 1].name);
 }
 

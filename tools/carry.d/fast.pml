@@ -5,7 +5,7 @@
  * frame into the queue of the TAP device, or on the way of the member that the row names. The daemon takes frames from the queue, sends
  * them or has them wait, and gives the row a member once none is left. To move the conversation it takes the member back, waits until the
  * program that may have read the old row is done, and sends a marker behind the data. A frame that was counted may be lost before it is in
- * the queue: a row that counts frames which do not come is doubted, and believed to have none once each program that ran then is done, no
+ * the queue: a row that counts frames which do not come is suspected, and confirmed to have none once each program that ran then is done, no
  * frame came since, and the queue is empty. What a program loses for want of room it counts beside the row, and the daemon takes it off. At
  * the peer, data and markers of a link go through one backlog. What a link is, is a way in
  * which nothing overtakes; that one goes down is not in this model, since the order rests on time there.

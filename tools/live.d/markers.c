@@ -119,43 +119,43 @@ static void begin(void) {
     links[0].view.partner_key = (uint16_t)now;
     look_at_partner();
     sent = again = lines = 0;
-    CHECK(answering() == NOT_ASKED);
+    CHECK(peer_answering() == NOT_ASKED);
 }
 
 /* A peer that answers after three ticks answers markers, and nothing else is said meanwhile. */
 static void check_slow(void) {
     begin();
     pass(4);
-    CHECK(answering() == ASKED && lines == 0 && sent == 1 && again == 1);
-    CHECK(respond(PARTNER, 1, last_id) && answering() == ANSWERS && lines == 1);
+    CHECK(peer_answering() == ASKED && lines == 0 && sent == 1 && again == 1);
+    CHECK(respond(PARTNER, 1, last_id) && peer_answering() == ANSWERS && lines == 1);
     pass(1200);
-    CHECK(answering() == ANSWERS && lines == 1 && sent == 1);
+    CHECK(peer_answering() == ANSWERS && lines == 1 && sent == 1);
 }
 
 /* A peer that never answers is told of once, and is not taken for another one while it is asked again, each minute. */
 static void check_mute(void) {
     begin();
     pass(12);
-    CHECK(answering() == MUTE && lines == 1 && sent == 1);
+    CHECK(peer_answering() == MUTE && lines == 1 && sent == 1);
     for (unsigned tick = 0; tick < 2400; tick++) {
         pass(1);
-        CHECK(answering() == MUTE);
+        CHECK(peer_answering() == MUTE);
     }
     CHECK(lines == 1 && sent == 4 + 1);
-    CHECK(respond(PARTNER, 1, last_id) && answering() == ANSWERS && lines == 2);
+    CHECK(respond(PARTNER, 1, last_id) && peer_answering() == ANSWERS && lines == 2);
 }
 
 /* No response of another one, of another port or of another number makes a mute peer one that answers; a late one does. */
 static void check_forged(void) {
     begin();
     pass(12);
-    CHECK(!respond(STRANGER, 1, last_id) && !respond(PARTNER, 2, last_id) && !respond(STRANGER, 0, 0) && answering() == MUTE);
-    for (uint32_t id = 0; id < 1000; id++) CHECK(respond(PARTNER, 1, id) && answering() == MUTE);
+    CHECK(!respond(STRANGER, 1, last_id) && !respond(PARTNER, 2, last_id) && !respond(STRANGER, 0, 0) && peer_answering() == MUTE);
+    for (uint32_t id = 0; id < 1000; id++) CHECK(respond(PARTNER, 1, id) && peer_answering() == MUTE);
     CHECK(lines == 1 && links[0].counts[FOREIGN_RESPONSES] == 3);
     tell_markers(&links[0]);
     tell_markers(&links[0]);
     CHECK(lines == 2);
-    CHECK(respond(PARTNER, 1, last_id) && answering() == ANSWERS);
+    CHECK(respond(PARTNER, 1, last_id) && peer_answering() == ANSWERS);
 }
 
 /* Markers come each `step` milliseconds for a minute; the most that were answered within any second, and how many in all. */
