@@ -22,47 +22,6 @@
 /* A conversation is busy that had a frame within so many milliseconds. */
 #define BUSY 5000
 
-/* What is counted of data. Each frame that came from the host is one of UNFIT to OVERFLOWED, waits, or was given to a member; each
- * one that a member took is one of HANDED_UP to OTHER_AGGREGATOR, or counted of the member. */
-enum carry_count {
-    FROM_HOST,
-    UNFIT,            /* too short, too long, or of the slow protocols */
-    NONE_CARRIES,     /* no port carried */
-    QUEUE_FULL,       /* lost while its conversation was held, for others that came later */
-    HELD_TOO_LONG,    /* lost after it was held for longer than a flight and a second */
-    OVERFLOWED,       /* lost by the kernel, since too many waited for the daemon */
-    HANDED_UP,
-    HOST_UNTAKEN,     /* the TAP device did not take them */
-    OTHER_AGGREGATOR, /* came in an aggregator that is not the active one */
-    HELD_FRAMES,      /* frames that waited */
-    LONGEST_QUEUE,    /* the most of one conversation at once */
-    MARKERS_SENT,
-    MARKERS_AGAIN,
-    MOVES,    /* of conversations, to another port */
-    RESTED,   /* conversations that were freed from the port that they were on, since none of their frames could be on its way */
-    FORCED,   /* conversations that were held, and were freed without a response to their marker */
-    SWITCHES, /* of the active aggregator, to another one */
-    WOKEN,    /* ports on defaults that were started again */
-    SEGMENTED, /* frames of several segments, of those that came from the host */
-    WITHDRAWN, /* conversations that were taken back from the kernel */
-    CARRY_COUNTS
-};
-
-/* What is counted of the data of a member. */
-enum member_count {
-    DATA_SENT,
-    DATA_UNSENT,     /* the kernel did not take them */
-    DATA_RECEIVED,   /* all that came */
-    UNCOLLECTED,     /* while the port did not collect */
-    WRONG_LENGTH,    /* of more than 1514 octets, 1518 with a tag, or of less than 14; or unreadable */
-    SOCKET_FULL,     /* lost by the kernel, and not among those received */
-    RETAGGED,        /* whose VLAN tag was put back */
-    WITHOUT_SUMS,    /* whose checksums the sending host had left to a card: so they are handed up */
-    PASSED_ON,       /* of those sent, by the kernel alone */
-    PASSED_UP,       /* of those received, handed up by the kernel alone */
-    MEMBER_COUNTS
-};
-
 /* Whether the peer answers markers. */
 enum answering { NOT_ASKED, ASKED, ANSWERS, MUTE };
 

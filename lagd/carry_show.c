@@ -5,45 +5,8 @@
 
 #include "carry.h"
 
-static const struct {
-    const char *name, *help;
-} CARRY_COUNTERS[CARRY_COUNTS] = {
-    [FROM_HOST] = {"from_host", "frames that came from the TAP device"},
-    [UNFIT] = {"unfit", "of these, too short, too long or of the slow protocols"},
-    [NONE_CARRIES] = {"none_carries", "of these, lost since no port carried"},
-    [QUEUE_FULL] = {"queue_full", "of these, lost since too many waited"},
-    [HELD_TOO_LONG] = {"held_too_long", "of these, lost since they waited too long"},
-    [OVERFLOWED] = {"overflowed", "of these, lost by the kernel since too many waited for the daemon"},
-    [HANDED_UP] = {"handed_up", "frames that were handed up to the TAP device"},
-    [HOST_UNTAKEN] = {"host_untaken", "frames that the TAP device did not take"},
-    [OTHER_AGGREGATOR] = {"other_aggregator", "frames that came in an aggregator that carries no data"},
-    [HELD_FRAMES] = {"held", "frames that waited"},
-    [LONGEST_QUEUE] = {"longest_queue", "the most frames of a conversation that waited at once"},
-    [MARKERS_SENT] = {"markers_sent", "markers that were sent"},
-    [MARKERS_AGAIN] = {"markers_again", "markers that were sent again"},
-    [MOVES] = {"moves", "moves of conversations"},
-    [RESTED] = {"rested", "conversations that were freed from their link after a rest"},
-    [FORCED] = {"forced", "conversations that were held, and freed without a response"},
-    [SWITCHES] = {"switches", "switches to another aggregator"},
-    [WOKEN] = {"woken", "ports on defaults that were started again"},
-    [SEGMENTED] = {"segmented", "frames of several segments that came to the daemon"},
-    [WITHDRAWN] = {"withdrawn", "conversations that were taken back from the kernel"},
-};
-
-static const struct {
-    const char *name, *help;
-} MEMBER_COUNTERS[MEMBER_COUNTS] = {
-    [DATA_SENT] = {"data_sent", "frames of data that the kernel took"},
-    [DATA_UNSENT] = {"data_unsent", "frames of data that the kernel did not take"},
-    [DATA_RECEIVED] = {"data_received", "frames of data that came"},
-    [UNCOLLECTED] = {"uncollected", "of these, lost since the port did not collect"},
-    [WRONG_LENGTH] = {"wrong_length", "of these, too short or too long"},
-    [SOCKET_FULL] = {"socket_full", "frames that the kernel lost, beside those that came"},
-    [RETAGGED] = {"retagged", "frames whose VLAN tag was put back"},
-    [WITHOUT_SUMS] = {"without_sums", "frames that came without their checksums"},
-    [PASSED_ON] = {"passed_on", "frames of data that the kernel passed on by itself"},
-    [PASSED_UP] = {"passed_up", "frames of data that the kernel handed up by itself"},
-};
+static const struct count_text CARRY_COUNTERS[] = {EACH_CARRY_COUNT(COUNT_TEXT)};
+static const struct count_text MEMBER_COUNTERS[] = {EACH_MEMBER_COUNT(COUNT_TEXT)};
 
 static const char *answering_text(void) {
     static const char *const texts[] = {[NOT_ASKED] = "not asked", [ASKED] = "asked", [ANSWERS] = "answered", [MUTE] = "not answered"};

@@ -8,6 +8,7 @@
 #include <syslog.h>
 #include <time.h>
 
+#include "counts.h"
 #include "lag.h"
 #include "settings.h"
 
@@ -22,29 +23,6 @@ enum {
 
 /* How the program ends. */
 enum { DONE = 0, REFUSED = 1, WRONG_WORD = 2 };
-
-/* What is counted of a port. */
-enum count {
-    LACPDUS_RECEIVED,
-    MARKERS_RECEIVED,
-    RESPONSES_RECEIVED, /* marker responses */
-    REFUSED_RECEIVED,   /* of the slow protocols, and neither an LACPDU nor a Marker PDU */
-    ELSEWHERE_RECEIVED, /* to another address than that of the slow protocols: not looked at */
-    TAGGED_RECEIVED,    /* with a VLAN tag: not looked at */
-    FOREIGN_RECEIVED,   /* LACPDUs of a system that is not the partner: not taken */
-    FOREIGN_RESPONSES,  /* marker responses that are not the partner's, or not to this port: not taken */
-    DISABLED_RECEIVED,  /* while the link was down */
-    LACPDUS_SENT,
-    RESPONSES_SENT,
-    RESPONSES_UNSENT, /* above marker-responses in a second */
-    FAILED_SENT,      /* the kernel did not take them */
-    LOSSES,           /* how often the link went down */
-    PARTNER_CHANGES,  /* how often an LACPDU of another system than the one before was taken */
-    EXPIRED,          /* how often no LACPDU came in time */
-    DEFAULTED,        /* how often it came to run on defaults */
-    DISTRIBUTED,      /* how often it came to distribute */
-    COUNTS
-};
 
 /* The most frames, or messages of the kernel, that are taken of a socket in a turn, so that no flood stops the clock. */
 #define MOST_TAKEN 64

@@ -4,28 +4,7 @@
 
 #include "lagd.h"
 
-static const struct {
-    const char *name, *help;
-} COUNTERS[COUNTS] = {
-    [LACPDUS_RECEIVED] = {"lacpdus_received", "LACPDUs that were taken"},
-    [MARKERS_RECEIVED] = {"markers_received", "markers that were taken"},
-    [RESPONSES_RECEIVED] = {"marker_responses_received", "marker responses that were taken"},
-    [REFUSED_RECEIVED] = {"refused_received", "frames of the slow protocols that are neither LACPDU nor Marker PDU"},
-    [ELSEWHERE_RECEIVED] = {"elsewhere_received", "frames to another address than 01-80-C2-00-00-02"},
-    [TAGGED_RECEIVED] = {"tagged_received", "frames with a VLAN tag"},
-    [FOREIGN_RECEIVED] = {"foreign_received", "LACPDUs of a system that is not the partner"},
-    [FOREIGN_RESPONSES] = {"foreign_responses", "marker responses that are not the partner's, or not to a marker of the port"},
-    [DISABLED_RECEIVED] = {"disabled_received", "frames that came while the link was down"},
-    [LACPDUS_SENT] = {"lacpdus_sent", "LACPDUs that the kernel took"},
-    [RESPONSES_SENT] = {"marker_responses_sent", "marker responses that the kernel took"},
-    [RESPONSES_UNSENT] = {"marker_responses_unsent", "markers without a response, above marker-responses in a second"},
-    [FAILED_SENT] = {"failed_sent", "frames that the kernel did not take"},
-    [LOSSES] = {"link_losses", "losses of the link"},
-    [PARTNER_CHANGES] = {"partner_changes", "LACPDUs of another system than the one before"},
-    [EXPIRED] = {"expired", "times that no LACPDU came in time"},
-    [DEFAULTED] = {"defaulted", "times that the port came to run on defaults"},
-    [DISTRIBUTED] = {"distributed", "times that the port came to distribute"},
-};
+static const struct count_text TEXTS_OF_COUNTS[] = {EACH_PORT_COUNT(COUNT_TEXT)};
 
 static const char *const BIT_NAMES[8] = {"activity", "timeout", "aggregation", "synchronization", "collecting", "distributing",
     "defaulted", "expired"};
@@ -38,11 +17,11 @@ const char *status_text(unsigned status) {
 }
 
 const char *count_name(enum count count) {
-    return COUNTERS[count].name;
+    return TEXTS_OF_COUNTS[count].name;
 }
 
 const char *count_help(enum count count) {
-    return COUNTERS[count].help;
+    return TEXTS_OF_COUNTS[count].help;
 }
 
 /* The name of a bit of a state octet, from 0 to 7. */
