@@ -10,6 +10,7 @@ import loading
 
 pages = loading.program("pages")
 functions = loading.module("", "functions")
+purposes = loading.module("", "purposes")
 manual = loading.module("dist.d", "manual")
 hints = loading.module("", "hints")
 
@@ -17,6 +18,27 @@ hints = loading.module("", "hints")
 def test_rows_have_as_many_cells_as_their_head() -> None:
     text = "| a | b |\n|---|---|\n| 1 \\| 2 | 3 |\n| 4 |\n\n| c |\n|---|\n| 5 |\n"
     assert pages.uneven({"x.md": text}) == ["x.md: a row of 1 cells, and not 2: | 4 |"]
+
+
+@pytest.mark.parametrize(
+    ("sentence", "words"),
+    [
+        ("The machines of one port: receive, mux (6.4).", "The machines of one port"),
+        ("Two systems, their cables and events, as values.", "Two systems, their cables and events"),
+        ("`lagtool`: reads LACPDUs.", "reads LACPDUs"),
+        ("Groups (6.3.6) of `Party`.", "Groups"),
+    ],
+)
+def test_a_picture_has_the_first_words_of_a_sentence(sentence: str, words: str) -> None:
+    assert purposes.brief(sentence) == words
+
+
+def test_a_page_has_a_row_for_each_crate_but_those_of_tests(monkeypatch: pytest.MonkeyPatch) -> None:
+    monkeypatch.setattr(purposes, "crates", lambda: {"a": [], "b": ["a"], "tests_b": ["b"]})
+    monkeypatch.setattr(purposes, "below", lambda *names: list(names))
+    monkeypatch.setattr(purposes, "purpose", lambda crate: f"{crate} | c.")
+    text = f"before\n\n{purposes.HEAD}| `gone` | x |\n\n| behind |\n"
+    assert purposes.with_table(text) == f"before\n\n{purposes.HEAD}| `a` | a \\| c. |\n| `b` | b \\| c. |\n\n| behind |\n"
 
 
 @pytest.mark.parametrize(

@@ -43,16 +43,18 @@ def test_a_long_arrow_passes_each_level_between() -> None:
 
 
 def test_a_box_has_room_for_its_words(monkeypatch: pytest.MonkeyPatch) -> None:
-    monkeypatch.setattr(pictures, "WORDS", {"ab": "ten and one"})
+    monkeypatch.setattr(pictures, "purpose", {"ab": "Ten and one: eleven.", "cd": "C."}.get)
     assert pictures.width("cd") == pytest.approx(42.4)
     assert pictures.width("ab") == pytest.approx(99.9)
     assert pictures.width(PASSES[0]) == 10
 
 
-def test_a_row_stands_in_the_middle() -> None:
+def test_a_row_stands_in_the_middle(monkeypatch: pytest.MonkeyPatch) -> None:
+    monkeypatch.setattr(pictures, "purpose", {"ab": "A."}.get)
     assert pictures.put_in_a_row(["ab", PASSES[1]], 100) == {"ab": pytest.approx(84.0), PASSES[1]: pytest.approx(132.2)}
 
 
 @pytest.mark.parametrize(("other", "ends"), [(200.0, 85.2), (85.0, 84.5), (10.0, 82.8)])
-def test_an_arrow_ends_on_the_side_towards_the_other(other: float, ends: float) -> None:
+def test_an_arrow_ends_on_the_side_towards_the_other(other: float, ends: float, monkeypatch: pytest.MonkeyPatch) -> None:
+    monkeypatch.setattr(pictures, "purpose", {"ab": "A."}.get)
     assert pictures.towards("ab", "o", {"ab": 84.0, "o": other}) == pytest.approx(ends)
