@@ -16,7 +16,7 @@ PARTS: dict[str, list[tuple[str, str | None, str | None]]] = {
     "lagd": [("docs/LAGD.md", None, None), ("docs/USING.md", "## The daemon `lagd`", "## All faults")],
 }
 # What stands in the documents of the repository alone.
-LEFT_OUT = {"### Before it is proved", "### Build it", "## Build it", "## How it is tested"}
+LEFT_OUT = {"### Before it is proved", "### Build it", "## Build it"}
 # How roff writes what has a meaning for it.
 ROFF = {"\\": "\\e", "-": "\\-", "'": "\\(aq", "`": "\\(ga", "^": "\\(ha", "~": "\\(ti"}
 # How many characters a line of a table has at most, and behind which of them a word of it may be broken.
