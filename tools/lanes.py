@@ -1,4 +1,4 @@
-"""How many checks run side by side: what tools/test and tools/wrong-bodies take where no number is given."""
+"""How many checks run side by side: what tools/test and tools/maintain/wrong-bodies take where no number is given."""
 
 from __future__ import annotations
 

@@ -1,7 +1,7 @@
 """Links the C library: one object for programs that are linked with it, and one for programs that load it.
 
 Both come from liblagffi.a, which `rt lib` makes, and the C part of the toolchain. They show the functions of lag.h and nothing else,
-so a program may have functions of any other name. tools/dist packs them, and tools/python-tests loads the second one.
+so a program may have functions of any other name. tools/dist packs them, and tools/maintain/python-tests loads the second one.
 """
 
 from __future__ import annotations

@@ -1,6 +1,6 @@
 """What the tools share: where the repository and the command rt are, what crates.txt says, and how a tool ends.
 
-The tools of tools/ call `run` in their last line; their other modules stand in folders NAME.d.
+The tools of tools/ and tools/maintain/ call `run` in their last line; their other modules stand in folders NAME.d.
 """
 
 from __future__ import annotations
@@ -14,6 +14,8 @@ import sys
 from typing import Callable, NoReturn
 
 TOOLS = os.path.dirname(os.path.abspath(__file__))
+# The tools of who changes the project; those that a user runs stand in tools/ itself.
+MAINTAIN = os.path.join(TOOLS, "maintain")
 TOP = os.path.dirname(TOOLS)
 CRATES = os.path.join(TOP, "crates")
 # The program, which tools/lagtool makes where it is missing.

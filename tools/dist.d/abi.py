@@ -1,7 +1,7 @@
 """Compares the binary interface of the C library with the one that is kept: functions, structs and their fields.
 
 The library has no types in it. So a stand-in is built from lag.h: each function that the header declares, with an empty body. abidw of
-libabigail writes its interface down, and abidiff compares. What tools/live compares with the sources is the header, so this speaks of
+libabigail writes its interface down, and abidiff compares. What tools/maintain/live compares with the sources is the header, so this speaks of
 the library. docs/ABI.md says what may change.
 """
 
@@ -16,9 +16,9 @@ import sys
 import library
 from counting import Count
 from library import printed
-from repository import COMPILER, TOOLS, Missing
+from repository import COMPILER, MAINTAIN, Missing
 
-sys.path.append(os.path.join(TOOLS, "live.d"))
+sys.path.append(os.path.join(MAINTAIN, "live.d"))
 
 import header
 

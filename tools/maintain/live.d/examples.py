@@ -1,0 +1,57 @@
+"""The example in C that README.md quotes, and the same in Rust: each builds without a warning and prints what README says, which quotes
+the one in C to the letter. The C of docs/USING.md stands in programs that run."""
+
+from __future__ import annotations
+
+import os
+import re
+import shutil
+
+import library
+from checking import check, command
+from linking import EXAMPLES, STRICT, build
+from repository import MAINTAIN, TOP
+
+EXAMPLE = os.path.join(EXAMPLES, "two_ends.c")
+CARGO = os.path.join(TOP, "examples", "rust", "Cargo.toml")
+PRINTS = "both ends distribute after 30 ticks of 100 ms\n"
+
+
+def quoted(page: str, begin: str) -> str:
+    """The text of the first block of code in a page that begins so, up to its end."""
+    _, _, rest = page.partition(f"```{begin}\n")
+    return rest.partition("```\n")[0]
+
+
+def check_example(folder: str, libraries: list[str]) -> None:
+    program = build(os.path.join(folder, "two_ends"), [EXAMPLE], libraries, *STRICT, "-Werror")
+    ran = command(program)
+    check(ran.returncode == 0 and ran.stdout == PRINTS, "examples/c/two_ends.c prints what README says", ran.stdout + ran.stderr)
+    with open(f"{TOP}/README.md", encoding="utf-8") as page, open(EXAMPLE, encoding="utf-8") as source:
+        text = page.read()
+        check(quoted(text, "c") == source.read(), "README quotes examples/c/two_ends.c to the letter")
+        check(PRINTS.strip() in text, "README says what it prints")
+
+
+def check_quotes() -> None:
+    """Each block of C in docs/USING.md stands in a program that is compiled and run; `...` leaves lines out."""
+    sources = [EXAMPLE, os.path.join(EXAMPLES, "minimal.c"), os.path.join(MAINTAIN, "live.d", "planes.c")]
+    texts = [open(it, encoding="utf-8").read() for it in sources]
+    with open(f"{TOP}/docs/USING.md", encoding="utf-8") as page:
+        blocks = re.findall(r"^```c\n(.*?)^```$", page.read(), re.M | re.S)
+    parts = [part for block in blocks for part in block.split("...\n")]
+    strange = [part for part in parts if not any(part in text for text in texts)]
+    check(bool(parts) and not strange, f"the {len(parts)} pieces of C in docs/USING.md stand in programs that run", *strange)
+
+
+def check_rust_example(folder: str, libraries: list[str]) -> None:
+    """Skipped, with a line, where there is no cargo."""
+    if not shutil.which("cargo"):
+        print("skipped: examples/rust: no command cargo in PATH", flush=True)
+        return
+    linked = os.path.join(folder, "linked")
+    os.makedirs(linked)
+    library.archive(linked, library.one_object(linked, libraries))
+    words = {"LAG_FOLDER": linked, "CARGO_TARGET_DIR": os.path.join(folder, "cargo"), "RUSTFLAGS": "-D warnings"}
+    ran = command("cargo", "run", "--quiet", "--offline", "--locked", "--manifest-path", CARGO, env={**os.environ, **words})
+    check(ran.returncode == 0 and ran.stdout == PRINTS, "examples/rust prints what README says", ran.stdout + ran.stderr)

@@ -1,0 +1,54 @@
+"""Fuzzes the parsers of the daemon with libFuzzer: files, frames, their auxiliary data, questions at the status socket, and messages of the
+kernel."""
+
+from __future__ import annotations
+
+import os
+import re
+import shutil
+import struct
+
+from checking import check, command
+from linking import DAEMON, INCLUDE, STRICT, daemon_sources
+from repository import MAINTAIN, TOP, daemon_words
+from spaces import GROUP, SLOW_PROTOCOLS, lacpdu, octets
+
+# A message that an interface is there, with its name, the count of its losses, and an alternative name.
+ATTRIBUTES = struct.pack("=HH6sxx", 10, 3, b"fuzz0") + struct.pack("=HHI", 8, 36, 3) + struct.pack("=HHHH8s", 16, 52 | 0x8000, 12, 53, b"fuzz1")
+MESSAGE = struct.pack("=IHHII", 32 + len(ATTRIBUTES), 16, 0, 0, 0) + struct.pack("=BBHiII", 0, 0, 1, 5, 0x11043, 0) + ATTRIBUTES
+FRAME = octets(GROUP) + octets("02:00:00:00:00:77") + SLOW_PROTOCOLS.to_bytes(2, "big") + lacpdu("02:00:00:00:00:cc", 1)
+# A control message of level SOL_PACKET and type PACKET_AUXDATA: its head, and a struct tpacket_auxdata without a VLAN tag.
+AUXILIARY = struct.pack("=QII", 36, 263, 8) + struct.pack("=IIIHHHH", 1, 124, 124, 0, 14, 0, 0) + bytes(4)
+SEEDS = [
+    b"\0[Bundle]\nkey=7\nsystem=1,02:00:00:00:00:01\npartner=first\n[Port a0]\ntimeout=long\n",
+    b"\1" + FRAME,
+    b"\2" + bytes([2, len(AUXILIARY)]) + AUXILIARY + FRAME,
+    *(b"\3" + bytes([at]) + question + b"\n" for at, question in enumerate((b"text", b"json", b"metrics", b"watch", b"watch-json"))),
+    b"\4" + MESSAGE,
+]
+
+
+def fuzz(folder: str, libraries: list[str], seconds: int) -> None:
+    """Builds the fuzzer, with ASan and UBSan, and runs it for so many seconds."""
+    if not shutil.which("clang"):
+        print("skipped: fuzzing: no command clang (Debian: clang, libclang-rt-14-dev)", flush=True)
+        return
+    compiled, linked = daemon_words()
+    sources = [path for path in daemon_sources() if path != os.path.join(DAEMON, "main.c")]
+    made, seeds = os.path.join(folder, "fuzz"), os.path.join(folder, "seeds")
+    words = ["-g", "-O1", "-fsanitize=fuzzer,address,undefined", "-fno-sanitize-recover=undefined", *STRICT, *compiled, f"-I{DAEMON}", INCLUDE]
+    built = command("clang", *words, "-Wl,--wrap=recvmsg", "-o", made, *sources, f"{MAINTAIN}/live.d/fuzz.c", *libraries, *linked)
+    if built.returncode and "libclang_rt" not in built.stderr:
+        check(False, "clang builds the fuzzer", built.stderr[-3000:])
+        return
+    if built.returncode:
+        print(f"skipped: fuzzing: clang has no libFuzzer: {built.stderr.strip()[-400:]}", flush=True)
+        return
+    os.mkdir(seeds)
+    for number, seed in enumerate(SEEDS):
+        with open(os.path.join(seeds, str(number)), "wb") as out:
+            out.write(seed)
+    words = [f"-max_total_time={seconds}", "-max_len=2048", "-print_final_stats=1", f"-artifact_prefix={folder}/", seeds]
+    ran = command(made, *words, cwd=folder)
+    times = (re.findall(r"number_of_executed_units: (\d+)", ran.stderr) or ["no"])[0]
+    check(ran.returncode == 0, f"fuzzed for {seconds} s, {times} times, the parsers of the daemon have no fault", ran.stderr[-3000:])

@@ -1,0 +1,144 @@
+"""The C library, and programs in C over it: how they are built."""
+
+from __future__ import annotations
+
+import glob
+import os
+import re
+import shutil
+from typing import Sequence
+
+from checking import Failed, check, command
+from library import FOR_EACH_PROCESSOR
+from repository import CC, COMPILER, CRATES, MAINTAIN, RT, TOP, WARNINGS, Missing, daemon_words, runtime, want
+
+CRATE = os.path.join(CRATES, "lagffi")
+INCLUDE = f"-I{CRATE}/include"
+DAEMON = os.path.join(TOP, "lagd")
+EXAMPLES = os.path.join(TOP, "examples", "c")
+STRICT = ["-std=c11", *WARNINGS]
+
+
+# How a program counts the memory of the library.
+COUNTED = [f"-Wl,--wrap={name}" for name in ("malloc", "realloc", "free")]
+
+
+def build_library() -> list[str]:
+    """Builds the library, or takes the one that LIBRARY names; answers what a program in C is linked with. A library that links alone
+    wants nothing of the toolchain, which may not be here then."""
+    given = os.environ.get("LIBRARY")
+    want(CC)
+    if given:
+        return [given, *beside()]
+    want(RT)
+    print("building the library; what is not yet proved is proved first", flush=True)
+    built = command(RT, "lib", FOR_EACH_PROCESSOR, cwd=CRATE)
+    if built.returncode:
+        raise Failed(f"{RT} lib builds the library", built.stdout + built.stderr)
+    return [f"{CRATE}/out/liblagffi.a", runtime()]
+
+
+def beside() -> list[str]:
+    """The C part of the toolchain, where that is here."""
+    try:
+        return [runtime()] if shutil.which(RT) else []
+    except Missing:
+        return []
+
+
+def build(made: str, sources: Sequence[str], libraries: Sequence[str], *words: str) -> str:
+    """Builds a program; answers its path."""
+    ended = command(*COMPILER, "-O2", INCLUDE, *words, "-o", made, *sources, *libraries)
+    if ended.returncode:
+        raise Failed(f"{CC} builds {os.path.basename(made)}", ended.stderr)
+    return made
+
+
+def build_calls(folder: str, libraries: Sequence[str]) -> str:
+    """Builds the program that calls each function; answers its path."""
+    words = ["-std=c11", "-Wall", "-Wextra", "-Werror", *COUNTED]
+    sources = [f"{MAINTAIN}/live.d/{name}.c" for name in ("calls", "checks", "conversations", "payloads", "queues", "carriers")]
+    return build(os.path.join(folder, "calls"), sources, libraries, *words)
+
+
+def daemon_sources() -> list[str]:
+    return sorted(glob.glob(f"{DAEMON}/*.c"))
+
+
+# How a daemon is built that ends at the first fault of memory, and the first behaviour that C does not define.
+SANITIZED = ["-g", "-fno-omit-frame-pointer", "-fsanitize=address,undefined", "-fno-sanitize-recover=all"]
+
+
+def build_daemon(folder: str, libraries: Sequence[str], name: str = "lagd", more: Sequence[str] = (), words: Sequence[str] = ()) -> str:
+    """Builds the daemon; answers its path."""
+    compiled, linked = daemon_words()
+    return build(os.path.join(folder, name), [*daemon_sources(), *more], [*libraries, *linked], *STRICT, *compiled, *words)
+
+
+def build_planes(folder: str, libraries: Sequence[str]) -> str:
+    """Builds the hosts that carry data; answers the path of the program."""
+    return build(os.path.join(folder, "planes"), [f"{MAINTAIN}/live.d/planes.c"], libraries, *STRICT)
+
+
+def build_held(folder: str, libraries: Sequence[str]) -> str:
+    """Builds the queues of the daemon's held frames alone, with ASan and UBSan; answers the path of the program."""
+    sources = [f"{MAINTAIN}/live.d/held.c", f"{MAINTAIN}/live.d/checks.c", f"{DAEMON}/held.c"]
+    return build(os.path.join(folder, "held-frames"), sources, libraries, *STRICT, f"-I{DAEMON}", *SANITIZED)
+
+
+def build_markers(folder: str, libraries: Sequence[str]) -> str:
+    """Builds what the daemon makes of Marker PDUs alone, with ASan and UBSan; answers the path of the program."""
+    sources = [*(f"{MAINTAIN}/live.d/{name}.c" for name in ("markers", "checks")), *(f"{DAEMON}/{name}.c" for name in ("markers", "probe"))]
+    return build(os.path.join(folder, "markers"), sources, libraries, *STRICT, f"-I{DAEMON}", *SANITIZED, "-Wl,--wrap=lagffi_probe")
+
+
+def build_minimal(folder: str, libraries: Sequence[str]) -> str:
+    """Builds the example of one port, with ASan and UBSan; answers its path."""
+    words = [*STRICT, "-g", "-fsanitize=address,undefined", "-fno-sanitize-recover=all"]
+    return build(os.path.join(folder, "minimal"), [os.path.join(EXAMPLES, "minimal.c")], libraries, *words)
+
+
+REFUSING = f"{MAINTAIN}/live.d/refusing.c"
+
+
+def refusable() -> list[str]:
+    """The functions that refusing.c refuses, without their lagffi_."""
+    with open(REFUSING, encoding="utf-8") as source:
+        return re.findall(r"^REFUSING\([\w ]+, (\w+),", source.read(), re.M)
+
+
+def called() -> set[str]:
+    """The functions of the library that the daemon calls: all but the texts of the header."""
+    texts = [open(source, encoding="utf-8").read() for source in daemon_sources()]
+    return {name for text in texts for name in re.findall(r"\bniw_(\w+)\(", text) if not name.endswith("_text")}
+
+
+def build_refusing(folder: str, libraries: Sequence[str]) -> str:
+    """Builds a daemon whose library refuses a function after SIGUSR1, with ASan and UBSan; answers its path."""
+    wraps = [f"-Wl,--wrap=lagffi_{name}" for name in refusable()]
+    return build_daemon(folder, libraries, "lagd-refusing", [REFUSING], [*wraps, *SANITIZED])
+
+
+def check_header_alone(folder: str) -> None:
+    """The header has no warning in any C and C++ of gcc and clang, where they are here."""
+    source, told, count = os.path.join(folder, "alone.c"), "", 0
+    with open(source, "w", encoding="utf-8") as out:
+        out.write('#include "lag.h"\n')
+    languages: list[tuple[str, list[str], list[str]]] = [("c", ["c99", "c11", "c17"], [])]
+    languages.append(("c++", ["c++11", "c++17", "c++20"], ["-Wold-style-cast"]))
+    for language, standards, more in languages:
+        for compiler in filter(shutil.which, ("gcc", "clang")):
+            for standard in standards:
+                words = [f"-std={standard}", *WARNINGS, "-Wsign-conversion", *more, "-x", language]
+                told += command(compiler, *words, INCLUDE, "-fsyntax-only", source).stderr
+                count += 1
+    check(not told, f"lag.h has no warning in {count} kinds of C and C++", told)
+
+
+def check_warnings() -> None:
+    """gcc and clang, where they are here, find no fault with the daemon and the examples."""
+    checked = {"files of the daemon": daemon_sources(), "examples in C": sorted(glob.glob(f"{EXAMPLES}/*.c"))}
+    for compiler in filter(shutil.which, ("gcc", "clang")):
+        for what, sources in checked.items():
+            read = command(compiler, *STRICT, "-O2", INCLUDE, *daemon_words()[0], "-fsyntax-only", *sources)
+            check(read.returncode == 0, f"{compiler} has no warning for the {len(sources)} {what}", read.stderr)

@@ -1,0 +1,75 @@
+"""tools/maintain/carry.d/bonds.py: events in time, and when the frames of a run are in order and accounted for."""
+
+from __future__ import annotations
+
+import pytest
+
+import loading
+
+# Its checks and daemons are those of live.d, which can be looked up once one of its modules is loaded.
+loading.module("live.d", "checking")
+bonds = loading.module("carry.d", "bonds")
+
+# 100 frames of the host: 3 of them were not fit, 2 wait, 90 were sent and 5 not taken. 50 came: 40 were handed up, 4 not collected.
+CARRY = {"unfit": 3, "none_carries": 0, "queue_full": 0, "held_too_long": 0, "overflowed": 0, "waiting": 2, "from_host": 100, "handed_up": 40}
+CARRY.update(host_untaken=5, other_aggregator=1)
+DATA = {"data_sent": 90, "data_unsent": 5, "data_received": 50, "uncollected": 4, "wrong_length": 0}
+
+
+class Told:
+    """An end that has a status, and no daemon."""
+
+    def __init__(self, carry: dict[str, int], data: dict[str, int]) -> None:
+        self.told, self.members = carry, data
+
+    def carry(self) -> dict[str, int]:
+        return self.told
+
+    def data(self, name: str) -> int:
+        return self.members[name]
+
+    def text(self) -> str:
+        return "the status"
+
+
+def said(printed: str) -> list[str]:
+    """Of each check, whether it passed."""
+    return [line.partition(":")[0] for line in printed.splitlines() if line.startswith(("passed", "FAILED"))]
+
+
+def test_an_event_happens_each_so_many_seconds() -> None:
+    event = lambda: None
+    assert bonds.every(1, 3, event) == [(1.0, event), (2.0, event), (3.0, event)]
+    assert bonds.every(2.5, 6, event, first=0.5) == [(0.5, event), (3.0, event), (5.5, event)]
+
+
+def test_a_frame_that_was_refused_is_not_lost() -> None:
+    assert bonds.Outcome(sent=100, refused=10, received=85).lost() == 5
+
+
+@pytest.mark.parametrize(
+    ("changed", "holds"),
+    [({}, True), ({"overtaken": 1}, False), ({"twice": 1}, False), ({"strange": 1}, False), ({"received": 25}, False), ({"received": 26}, True)],
+)
+def test_a_run_is_in_order_where_nothing_is_overtaken_or_twice(capsys: pytest.CaptureFixture[str], changed: dict[str, int], holds: bool) -> None:
+    bonds.check_order(bonds.Outcome(**{"sent": 100, "received": 100, **changed}), "a run")
+    assert said(capsys.readouterr().out) == ["passed" if holds else "FAILED"]
+
+
+@pytest.mark.parametrize("name", ["unfit", "none_carries", "queue_full", "held_too_long", "overflowed", "waiting", "from_host", "data_sent", "data_unsent"])
+def test_each_count_of_the_host_counts(capsys: pytest.CaptureFixture[str], name: str) -> None:
+    carry, data = ({key: value + (key == name) for key, value in counts.items()} for counts in (CARRY, DATA))
+    bonds.check_end(Told(carry, data), "it")
+    assert said(capsys.readouterr().out) == ["FAILED", "passed"]
+
+
+@pytest.mark.parametrize("name", ["handed_up", "host_untaken", "other_aggregator", "uncollected", "wrong_length", "data_received"])
+def test_each_count_of_the_members_counts(capsys: pytest.CaptureFixture[str], name: str) -> None:
+    carry, data = ({key: value + (key == name) for key, value in counts.items()} for counts in (CARRY, DATA))
+    bonds.check_end(Told(carry, data), "it")
+    assert said(capsys.readouterr().out) == ["passed", "FAILED"]
+
+
+def test_an_end_whose_counts_are_one_is_whole(capsys: pytest.CaptureFixture[str]) -> None:
+    bonds.check_end(Told(CARRY, DATA), "it")
+    assert said(capsys.readouterr().out) == ["passed", "passed"]

@@ -1,0 +1,84 @@
+"""The pages and man pages that tools write."""
+
+from __future__ import annotations
+
+import os
+
+import pytest
+
+import loading
+
+pages = loading.program("pages")
+functions = loading.module("", "functions")
+purposes = loading.module("", "purposes")
+manual = loading.module("dist.d", "manual")
+hints = loading.module("", "hints")
+
+
+def test_rows_have_as_many_cells_as_their_head() -> None:
+    text = "| a | b |\n|---|---|\n| 1 \\| 2 | 3 |\n| 4 |\n\n| c |\n|---|\n| 5 |\n"
+    assert pages.uneven({"x.md": text}) == ["x.md: a row of 1 cells, and not 2: | 4 |"]
+
+
+@pytest.mark.parametrize(
+    ("sentence", "words"),
+    [
+        ("The machines of one port: receive, mux (6.4).", "The machines of one port"),
+        ("Two systems, their cables and events, as values.", "Two systems, their cables and events"),
+        ("`lagtool`: reads LACPDUs.", "reads LACPDUs"),
+        ("Groups (6.3.6) of `Party`.", "Groups"),
+    ],
+)
+def test_a_picture_has_the_first_words_of_a_sentence(sentence: str, words: str) -> None:
+    assert purposes.brief(sentence) == words
+
+
+def test_a_page_has_a_row_for_each_crate_but_those_of_tests(monkeypatch: pytest.MonkeyPatch) -> None:
+    monkeypatch.setattr(purposes, "crates", lambda: {"a": [], "b": ["a"], "tests_b": ["b"]})
+    monkeypatch.setattr(purposes, "below", lambda *names: list(names))
+    monkeypatch.setattr(purposes, "purpose", lambda crate: f"{crate} | c.")
+    text = f"before\n\n{purposes.HEAD}| `gone` | x |\n\n| behind |\n"
+    assert purposes.with_table(text) == f"before\n\n{purposes.HEAD}| `a` | a \\| c. |\n| `b` | b \\| c. |\n\n| behind |\n"
+
+
+@pytest.mark.parametrize(
+    ("comment", "sentence"),
+    [
+        ("Sends it.\n * It is 3. More", "Sends it."),
+        ("Sends frame 1.5\n * of `x`. Never", "Sends frame 1.5 of `x`."),
+        ("A | B", "A \\| B"),
+    ],
+)
+def test_a_row_has_the_first_sentence_of_a_comment(comment: str, sentence: str) -> None:
+    assert functions.first_sentence(comment) == sentence
+
+
+def test_a_row_has_what_a_function_answers() -> None:
+    assert [functions.returned(it) for it in ("uint32_t ", "const char *", "struct niw_actor ", "bool ")] == ["a status", "a text", "`niw_actor`", "`bool`"]
+
+
+def test_a_table_of_a_man_page_has_cells() -> None:
+    rows = ["| a | b |", "|---|---|", "| x \\| y | z |", "| only |"]
+    assert manual.cells_of(rows) == [["a", "b"], ["x | y", "z"], ["only", ""]]
+
+
+def test_the_room_of_a_table_goes_to_the_longest_cells() -> None:
+    assert manual.widths([["a", "bb"], ["ccc dd", "e"]]) == [65, 2]
+    assert manual.widths([["abc"], ["de"]]) == [3]
+
+
+def test_lines_are_blocks_of_a_kind() -> None:
+    found = manual.blocks(["# A", "", "one", "two", "- x", "  y", "| a |", "    code"])
+    assert [kind for kind, _ in found if kind != "blank"] == ["heading", "text", "item", "table", "code"]
+    assert ["one", "two"] in [lines for _, lines in found] and ["- x", "  y"] in [lines for _, lines in found]
+
+
+def test_a_line_of_roff_is_no_request() -> None:
+    assert [manual.guarded(it) for it in (".TH", "'x", "a.b")] == ["\\&.TH", "\\&'x", "a.b"]
+    assert manual.escaped("a-b \\ é") == "a\\-b \\e \\[u00E9]"
+
+
+def test_each_module_of_a_tool_is_read_for_its_types() -> None:
+    looked_up = {folder for folders, _ in hints.groups() for folder in folders}
+    inner = [os.path.join(place, it) for place in (loading.TOOLS, loading.MAINTAIN) for it in os.listdir(place) if it.endswith(".d")]
+    assert {it for it in inner if hints.modules(it)} <= looked_up

@@ -1,0 +1,65 @@
+"""tools/maintain/peers: which peers its words name, its tables, and a trial that does not run to its end."""
+
+from __future__ import annotations
+
+import subprocess
+import sys
+
+import pytest
+
+import loading
+from repository import Missing
+
+peers = loading.program("peers")
+
+
+@pytest.fixture
+def counted(monkeypatch: pytest.MonkeyPatch) -> dict[str, int]:
+    """The counts of checks, from 0 in each test."""
+    for name in ("passed", "failed"):
+        monkeypatch.setitem(peers.counted, name, 0)
+    counts: dict[str, int] = peers.counted
+    return counts
+
+
+@pytest.mark.parametrize(("words", "names"), [([], []), (["teamd"], ["teamd"]), (["bonding", "openvswitch"], ["bonding", "openvswitch"])])
+def test_the_words_name_peers(monkeypatch: pytest.MonkeyPatch, words: list[str], names: list[str]) -> None:
+    monkeypatch.setattr(sys, "argv", ["peers", *words])
+    assert peers.read_words().peers == names
+
+
+def test_a_peer_that_there_is_not_is_refused(monkeypatch: pytest.MonkeyPatch) -> None:
+    monkeypatch.setattr(sys, "argv", ["peers", "teamd", "nobody"])
+    with pytest.raises(Missing, match="no peer nobody: openvswitch, testpmd, teamd, bonding"):
+        peers.read_words()
+
+
+def test_a_table() -> None:
+    assert peers.table(["peer", "seconds"], [["teamd", "1.5"], ["bonding", "2"]]) == (
+        "| peer | seconds |\n| --- | --- |\n| teamd | 1.5 |\n| bonding | 2 |"
+    )
+
+
+def test_a_trial_gives_its_row(counted: dict[str, int]) -> None:
+    assert peers.attempt("teamd", lambda: ["teamd", "1.5"]) == ["teamd", "1.5"]
+    assert counted == {"passed": 0, "failed": 0}
+
+
+def test_a_peer_that_cannot_be_had_is_skipped(counted: dict[str, int], capsys: pytest.CaptureFixture[str]) -> None:
+    def trial() -> list[str]:
+        raise peers.Skipped("it is not installed")
+
+    assert peers.attempt("teamd", trial) is None
+    assert capsys.readouterr().out == "skipped: teamd: it is not installed\n"
+    assert counted == {"passed": 0, "failed": 0}
+
+
+@pytest.mark.parametrize(
+    "why", [peers.Failed("its link stays down", "0 LACPDUs"), KeyError("port"), ValueError("no number"), subprocess.SubprocessError("ended")]
+)
+def test_a_trial_that_does_not_run_to_its_end_fails(counted: dict[str, int], why: Exception) -> None:
+    def trial() -> list[str]:
+        raise why
+
+    assert peers.attempt("teamd", trial) is None
+    assert counted == {"passed": 0, "failed": 1}
