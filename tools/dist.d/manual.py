@@ -13,7 +13,7 @@ from repository import TOP, Missing
 PARTS: dict[str, list[tuple[str, str | None, str | None]]] = {
     "lagtool": [("docs/COMMAND.md", "## lagtool", "## lagengine")],
     "lagengine": [("docs/COMMAND.md", "## lagengine", None)],
-    "lagd": [("docs/LAGD.md", None, None), ("docs/USING.md", "## The daemon `lagd`", "## All faults")],
+    "lagd": [("docs/LAGD.md", None, None)],
 }
 # What stands in the documents of the repository alone.
 LEFT_OUT = {"### Before it is proved", "### Build it", "## Build it"}

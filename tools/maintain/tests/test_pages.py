@@ -9,7 +9,6 @@ import pytest
 import loading
 
 pages = loading.program("pages")
-functions = loading.module("", "functions")
 purposes = loading.module("", "purposes")
 manual = loading.module("dist.d", "manual")
 hints = loading.module("", "hints")
@@ -39,22 +38,6 @@ def test_a_page_has_a_row_for_each_crate_but_those_of_tests(monkeypatch: pytest.
     monkeypatch.setattr(purposes, "purpose", lambda crate: f"{crate} | c.")
     text = f"before\n\n{purposes.HEAD}| `gone` | x |\n\n| behind |\n"
     assert purposes.with_table(text) == f"before\n\n{purposes.HEAD}| `a` | a \\| c. |\n| `b` | b \\| c. |\n\n| behind |\n"
-
-
-@pytest.mark.parametrize(
-    ("comment", "sentence"),
-    [
-        ("Sends it.\n * It is 3. More", "Sends it."),
-        ("Sends frame 1.5\n * of `x`. Never", "Sends frame 1.5 of `x`."),
-        ("A | B", "A \\| B"),
-    ],
-)
-def test_a_row_has_the_first_sentence_of_a_comment(comment: str, sentence: str) -> None:
-    assert functions.first_sentence(comment) == sentence
-
-
-def test_a_row_has_what_a_function_answers() -> None:
-    assert [functions.returned(it) for it in ("uint32_t ", "const char *", "struct niw_actor ", "bool ")] == ["a status", "a text", "`niw_actor`", "`bool`"]
 
 
 def test_a_table_of_a_man_page_has_cells() -> None:
