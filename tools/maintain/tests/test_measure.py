@@ -1,0 +1,50 @@
+"""tools/maintain/measure: what a file counts as, lines in common, chains of calls."""
+
+from __future__ import annotations
+
+import pytest
+
+import loading
+
+measure = loading.program("measure")
+
+LINES = "".join(f"let line_{it} = {it};\n" for it in range(6))
+FILES = {
+    "crates.txt": "high: low\nlow:\nlagffi staticlib: high\n",
+    "crates/lagffi/src/a.rt": 'pub extern "C" fn lagffi_go() {\n    go(1)\n}\n',
+    "crates/high/src/a.rt": "pub fn go(n: u8) {\n    self.inner.go(n); // hidden(n)\n}\n    fn go(n: u8) {\n    low_step(n)\n}\n",
+    "crates/low/src/a.rt": "pub fn low_step(n: u8) {\n    end(n)\n}\npub(crate) fn hidden(n: u8) {\n}\nfn end(n: u8) {\n}\n",
+    "lagd/a.c": "static int serve(int n,\n    int m) {\n    return niw_go(n) + m;\n}\n",
+}
+
+
+@pytest.mark.parametrize(
+    ("path", "kind"),
+    [
+        ("crates/low/src/a.rt", "code"),
+        ("crates/tests_low/specs/A.antt", "tests"),
+        ("crates/low/must-fail/a.edit", "edits"),
+        ("tools/maintain/wrong-bodies.d/low/a.edit", "edits"),
+        ("tools/maintain/live.d/a.c", "tools"),
+        ("tools/maintain/tests/test_a.py", "tests of the tools"),
+        ("docs/USING.md", None),
+    ],
+)
+def test_a_file_counts_by_its_place(path: str, kind: str | None) -> None:
+    assert measure.kind_of(path) == kind
+
+
+def test_two_files_have_lines_in_common_if_six_in_turn_are_equal() -> None:
+    assert measure.pairs_in_common({"a": LINES, "b": "use x;\n// y\n" + LINES, "c": LINES.replace("4", "5")}) == 1
+
+
+def test_a_way_goes_through_public_functions_of_lower_crates() -> None:
+    calls = measure.Calls(FILES)
+    assert calls.hops(["lagd:serve", "low:end"]) == "6"
+    assert calls.hops(["lagd:serve", "high:gone|go", "|", "high:go", "low:low_step"]) == "5"
+    assert calls.hops(["lagd:serve", "low:hidden"]) == "-"
+
+
+def test_edits_and_changes_are_not_touched() -> None:
+    files = {"docs/A.md": "`is_new`", "python/niwhopera/_numbers.py": "is_new", "CHANGELOG.md": "is_new", "crates/a/must-fail/b.edit": "is_new"}
+    assert measure.touched(files, r"\bis_new\b") == "2 / 1"
