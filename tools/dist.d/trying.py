@@ -154,10 +154,10 @@ def try_library(count: Count, root: str, pkg_config: str, given: Mapping[str, st
                 ended = built if built.returncode else ran([made], LD_LIBRARY_PATH=load)
                 count.add(f"{compiler} with {kind}", "" if ended.stdout == PRINTS else ended.stderr[:400] or f"status {ended.returncode}, {ended.stdout!r}")
                 if not built.returncode:
-                    try_processor(count, f"a program by {compiler} with {kind}", [made], {"LD_LIBRARY_PATH": load}, PRINTS)
+                    try_on_oldest(count, f"a program by {compiler} with {kind}", [made], {"LD_LIBRARY_PATH": load}, PRINTS)
 
 
-def try_processor(count: Count, what: str, words: list[str], more: Mapping[str, str], prints: str) -> None:
+def try_on_oldest(count: Count, what: str, words: list[str], more: Mapping[str, str], prints: str) -> None:
     """A program runs on the oldest processor of x86-64, or says why not."""
     if not shutil.which("qemu-x86_64"):
         return
@@ -166,12 +166,12 @@ def try_processor(count: Count, what: str, words: list[str], more: Mapping[str, 
     count.add(f"{what} on the oldest x86-64", "" if right else f"status {ended.returncode}, {ended.stderr[:200]!r}")
 
 
-def try_processors(count: Count, root: str) -> None:
+def try_programs_on_oldest(count: Count, root: str) -> None:
     """The programs on the oldest processor of x86-64."""
     if not shutil.which("qemu-x86_64"):
         print("skipped: the oldest processor: there is no command qemu-x86_64 (Debian: qemu-user)")
     for name in ("sbin/lagd", "bin/lagtool", "bin/lagengine"):
-        try_processor(count, name, [os.path.join(root, name), "--version"], {}, os.path.basename(name))
+        try_on_oldest(count, name, [os.path.join(root, name), "--version"], {}, os.path.basename(name))
 
 
 def try_exports(count: Count, root: str) -> None:
@@ -238,7 +238,7 @@ def tried(count: Count, file: str) -> None:
         try_module(count, root)
         library = os.path.join(root, "lib")
         try_library(count, root, os.path.join(library, "pkgconfig", "lag.pc"), {}, library)
-        try_processors(count, root)
+        try_programs_on_oldest(count, root)
         try_exports(count, root)
         try_manuals(count, root)
         try_completions(count, root)

@@ -180,7 +180,7 @@ def uncut(programs: Programs) -> None:
                 theirs.stop()
 
 
-def discipline(name: str) -> str:
+def discipline_of(name: str) -> str:
     """The queueing discipline of an interface of ours, with its handle."""
     found = re.search(r"qdisc (\S+ \S+: )", inside(OURS, "tc", "qdisc", "show", "dev", name, "root").stdout)
     return found[1] if found else ""
@@ -193,7 +193,7 @@ def disciplines(programs: Programs) -> None:
         for name in "t0", "t1":
             ip(OURS, "tuntap", "add", name, "mode", "tap")
             ip(OURS, "link", "set", name, "up")
-        usual = discipline("t0")
+        usual = discipline_of("t0")
         if not usual or "noqueue" in usual or inside(OURS, "tc", "qdisc", "add", "dev", "t1", "root", "handle", "7:", "tbf", "rate", "1gbit",
                                                     "burst", "100k", "latency", "1s").returncode:
             raise Skipped(f"tc shows no queueing discipline, or sets none: {usual}")
@@ -201,22 +201,22 @@ def disciplines(programs: Programs) -> None:
             start = functools.partial(End, programs, OURS, options=[way], names=("t0", "t1"))
             ours = start()
             try:
-                check(within(COMES_UP, lambda: discipline("t0") == OWN_QUEUE), f"{way}: {usual} gives way to one that keeps the order", discipline("t0"))
-                check(discipline("t1") == "tbf 7: ", "what an administrator set stays", discipline("t1"), ours.printed())
+                check(within(COMES_UP, lambda: discipline_of("t0") == OWN_QUEUE), f"{way}: {usual} gives way to one that keeps the order", discipline_of("t0"))
+                check(discipline_of("t1") == "tbf 7: ", "what an administrator set stays", discipline_of("t1"), ours.printed())
                 check("t1: its queueing discipline is neither" in ours.printed() and "t0: its" not in ours.printed(), "with a line", ours.printed())
                 ours.process.send_signal(signal.SIGKILL)
                 ours.process.wait()
-                check(discipline("t0") == OWN_QUEUE, "a killed daemon leaves it", discipline("t0"))
+                check(discipline_of("t0") == OWN_QUEUE, "a killed daemon leaves it", discipline_of("t0"))
                 ours = start()
-                check(within(COMES_UP, lambda: bool(ours.told())) and discipline("t0") == OWN_QUEUE, "the next one takes it over", discipline("t0"))
+                check(within(COMES_UP, lambda: bool(ours.told())) and discipline_of("t0") == OWN_QUEUE, "the next one takes it over", discipline_of("t0"))
                 ours.ends("the daemon")
-                check(discipline("t0") == usual, f"and {usual} is back, as it ends", discipline("t0"))
-                check(discipline("t1") == "tbf 7: ", "what an administrator set stays", discipline("t1"))
+                check(discipline_of("t0") == usual, f"and {usual} is back, as it ends", discipline_of("t0"))
+                check(discipline_of("t1") == "tbf 7: ", "what an administrator set stays", discipline_of("t1"))
             finally:
                 ours.stop()
 
 
-def room(name: str) -> int:
+def octets_of(name: str) -> int:
     """How many octets wait at an interface of ours at most."""
     found = re.search(r" limit (\d+)([KM]?)b", inside(OURS, "tc", "qdisc", "show", "dev", name, "root").stdout)
     return int(found[1]) * {"": 1, "K": 1 << 10, "M": 1 << 20}[found[2]] if found else 0
@@ -229,7 +229,7 @@ def rooms(programs: Programs) -> None:
         ip(OURS, "link", "set", "t0", "up")
         ours = End(programs, OURS, options=["--offload"], names=("t0",))
         try:
-            check(within(COMES_UP, lambda: discipline("t0") == OWN_QUEUE), "a member gets a queue", discipline("t0"))
+            check(within(COMES_UP, lambda: discipline_of("t0") == OWN_QUEUE), "a member gets a queue", discipline_of("t0"))
             for speed, octets_queued in (10, 64 * 1514), (100, 625000), (10000, 4 << 20):
                 if inside(OURS, "ethtool", "-s", "t0", "speed", str(speed), "duplex", "full").returncode:
                     raise Skipped("no ethtool sets the speed of a TAP device (Debian: ethtool)")
@@ -237,8 +237,8 @@ def rooms(programs: Programs) -> None:
                     device = os.open("/dev/net/tun", os.O_RDWR)
                 try:
                     fcntl.ioctl(device, SET_DEVICE, struct.pack("16sH22x", b"t0", TAP_PLAIN))
-                    right = within(COMES_UP, lambda: abs(room("t0") - octets_queued) < 1024)
-                    check(right, f"at {speed} Mb/s {octets_queued:,} octets wait", room("t0"), ours.text())
+                    right = within(COMES_UP, lambda: abs(octets_of("t0") - octets_queued) < 1024)
+                    check(right, f"at {speed} Mb/s {octets_queued:,} octets wait", octets_of("t0"), ours.text())
                 finally:
                     os.close(device)
                 check(within(COMES_UP, lambda: "NO-CARRIER" in inside(OURS, "ip", "link", "show", "t0").stdout), "its link goes down")

@@ -153,11 +153,11 @@ def restarts(programs: Programs) -> None:
 def stops(programs: Programs) -> None:
     """Either end is stopped for a second, while conversations move."""
     with pair(programs) as (_, ours, theirs):
-        def stop(end: End) -> list[Event]:
+        def pauses(end: End) -> list[Event]:
             begin = 2 if end is ours else 6
             return [(begin, lambda: end.process.send_signal(signal.SIGSTOP)), (begin + 1, lambda: end.process.send_signal(signal.SIGCONT))]
 
-        events = sorted([*stop(ours), *stop(theirs), *every(0.7, 10, move_all(ours))], key=lambda event: event[0])
+        events = sorted([*pauses(ours), *pauses(theirs), *every(0.7, 10, move_all(ours))], key=lambda event: event[0])
         outcome = run_flows(programs, 12, events)
         check_order(outcome, "through two stops", ours.text(), theirs.text())
         check_whole(outcome, ours, theirs, cables_lose=False)

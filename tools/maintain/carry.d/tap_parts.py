@@ -101,7 +101,7 @@ def foreign(space: str) -> Iterator[list[str]]:
     yield names
 
 
-def check_ends(ours: End, theirs: End, what: str) -> None:
+def check_deleted(ours: End, theirs: End, what: str) -> None:
     """The daemon tells its peer, and ends so that it is started again."""
     begin = time.monotonic()
     told = within(KNOWN, lambda: not theirs.carry()["carrier"])
@@ -119,11 +119,11 @@ def gone(programs: Programs) -> None:
         name = options[0] if options else "plain"
         with pair(programs, delays=(), options=options) as (_, ours, theirs):
             run_flows(programs, 2, [(0.7, lambda: ip(OURS, "link", "del", DEVICE))])
-            check_ends(ours, theirs, f"{name}, {DEVICE} was deleted")
+            check_deleted(ours, theirs, f"{name}, {DEVICE} was deleted")
         with pair(programs, delays=(), options=options) as (_, ours, theirs):
             run_flows(programs, 1)
             ip(OURS, "link", "set", DEVICE, "netns", MIDDLE)
-            check_ends(ours, theirs, f"{name}, {DEVICE} was moved")
+            check_deleted(ours, theirs, f"{name}, {DEVICE} was moved")
 
 
 def fast_moved(programs: Programs) -> None:

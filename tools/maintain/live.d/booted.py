@@ -144,7 +144,7 @@ class Machine:
                 pass
 
 
-def journaled(machine: Machine, kind: str) -> list[tuple[str | None, str | None, str]]:
+def journal_lines(machine: Machine, kind: str) -> list[tuple[str | None, str | None, str]]:
     """The lines of a kind in the journal, each with its priority and bundle."""
     told = machine.tells("journalctl", "--no-pager", "--output", "export", f"MESSAGE_ID={ids_of_lines()[kind]}")
     entries = [dict(line.partition("=")[::2] for line in entry.split("\n") if "=" in line) for entry in told.split("\n\n")]
@@ -167,11 +167,11 @@ def changed(machine: Machine) -> None:
     machine.run("sh", "-c", f"printf %s '{text}' > /etc/lagd/uplink.conf")
     reloaded = machine.run("systemctl", "reload", "lagd@uplink")
     wanted = [("5", "uplink", "/etc/lagd/uplink.conf: read again, 1 ports changed")]
-    lines = lambda: journaled(machine, "the file was read again")
+    lines = lambda: journal_lines(machine, "the file was read again")
     check(reloaded.returncode == 0 and within(ANSWERS, lambda: lines() == wanted), "systemctl reload reads the file again", reloaded.stderr, lines())
     machine.run("sh", "-c", "echo wrong >> /etc/lagd/uplink.conf")
     machine.run("systemctl", "reload", "lagd@uplink")
-    told = lambda: [line for line in journaled(machine, "the file is wrong") if line[0] == "4"]
+    told = lambda: [line for line in journal_lines(machine, "the file is wrong") if line[0] == "4"]
     check(within(ANSWERS, lambda: len(told()) == 2) and "expected KEY=VALUE: wrong" in told()[0][2], "of a wrong one the journal has what was expected", told())
     check(machine.property("ActiveState") == "active", "and the unit goes on", machine.told())
 
@@ -199,7 +199,7 @@ def boot(part: Part) -> None:
         check("---- uplink ----" in text and SYSTEM in text, "lagd --status asks it in the folder of the unit", text)
         check(text.count("  speed: 10000 Mb/s, full duplex\n") == 2, "it may ask for the speed of its links", text)
         rights(machine)
-        lines = journaled(machine, BUNDLE_LINE)
+        lines = journal_lines(machine, BUNDLE_LINE)
         check(("5", "uplink", "bundle uplink: up, 2 of 2 links carry, aggregator 1") in lines, "the journal finds lines by their message id", lines, machine.told())
         changed(machine)
         machine.run("sh", "-c", f"printf %s '{BUNDLE}' > /etc/lagd/uplink.conf")

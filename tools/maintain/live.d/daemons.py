@@ -15,7 +15,7 @@ import time
 
 from checking import Skipped, check, command, within
 from daemon import ENDS, KEY, OTHER, SYSTEM, Daemon, Part
-from spaces import OURS, THEIRS, Wire, flap, inside, ip, lacpdu, losses, make_pair, marker, octets, packet_sockets, within_space
+from spaces import OURS, THEIRS, Wire, flap, inside, ip, lacpdu, losses, make_pair, marker, octets, sockets_of, within_space
 
 STRANGER = "02:00:00:00:00:cc"
 # What Wire sends from, and another address.
@@ -434,7 +434,7 @@ def not_root(part: Part) -> None:
     part.folder = os.path.dirname(part.folder)
     theirs = part.theirs()
     both_up(ours, theirs, "not as root, both links distribute")
-    found = [it.getsockopt(socket.SOL_SOCKET, socket.SO_PRIORITY) for it in packet_sockets(ours.process.pid)]
+    found = [it.getsockopt(socket.SOL_SOCKET, socket.SO_PRIORITY) for it in sockets_of(ours.process.pid)]
     check(found == [CONTROL, CONTROL], "its frames have the priority of control frames, too", found)
     ours.ends("the daemon")
 
@@ -443,7 +443,7 @@ def before_data(part: Part) -> None:
     """Its frames have the priority of control frames, and go into the first of three queues."""
     daemon = part.ours("a0")
     check(within(ENDS, lambda: daemon.count("a0", "lacpdus_sent") > 0), "a daemon that sends", daemon.printed())
-    found = [it.getsockopt(socket.SOL_SOCKET, socket.SO_PRIORITY) for it in packet_sockets(daemon.process.pid)]
+    found = [it.getsockopt(socket.SOL_SOCKET, socket.SO_PRIORITY) for it in sockets_of(daemon.process.pid)]
     check(found == [CONTROL], "its frames have the priority of control frames", found)
     made = inside(OURS, "tc", "qdisc", "add", "dev", "a0", "root", "handle", "1:", "prio")
     if made.returncode:

@@ -77,7 +77,7 @@ def system_call(number: int, *words: int) -> int:
     return answer
 
 
-def packet_sockets(process: int) -> list[socket.socket]:
+def sockets_of(process: int) -> list[socket.socket]:
     """The packet sockets by which a process sends and takes frames, as sockets of our own; a lock is one of another type."""
     handle, found = system_call(PIDFD_OPEN, process, 0), []
     for name in os.listdir(f"/proc/{process}/fd"):
