@@ -16,13 +16,13 @@ import manual
 
 
 # A row of an option, and one of a key of [Bundle], which has the letter of its option behind it.
-OPTION = re.compile(r"^\| `(-\w)`, `(--[\w-]+)(?: [^`]*)?` \| (.+) \|$", re.M)
-KEY = re.compile(r"^\| `([\w-]+)` \| (?:`(-\w)` )?\| (.+) \| [^|]+ \|$", re.M)
+OPTION = re.compile(r"^\|`(-\w)`, `(--[\w-]+)(?: [^`]*)?`\|(.+)\|$", re.M)
+KEY = re.compile(r"^\|`([\w-]+)`\|(?:`(-\w)`)?\|(.+)\|[^|]+\|$", re.M)
 
 
 def keys_of(page: str) -> list[tuple[str, str, str]]:
     """The keys of the table of docs/LAGD.md: each with the letter of its option, or none, and what it does."""
-    return KEY.findall(page.partition("| key of `[Bundle]` |")[2].partition("\n\n")[0])
+    return KEY.findall(page.partition("|key of `[Bundle]`|")[2].partition("\n\n")[0])
 
 
 def described(page: str) -> dict[tuple[str, str], str]:
