@@ -1,6 +1,0 @@
-use Rattle.lagengine_lines.proofs.Common.{lit<, map_from_collect, YieldsList-from_str_split}
-use Rattle.lagengine_lines.proofs.words.items_of.Goals as goal
-
-pub returns : goal.returns
-returns c = map_from_collect _ c.collect.ensures.ran
-    (YieldsList-from_str_split 44 c.args.word.now (lit< tt) c.split.ensures.text c.split.ensures.has_more c.split.ensures.pattern)
