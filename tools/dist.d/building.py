@@ -38,7 +38,6 @@ BUILD = os.path.join(TOP, "out", "dist")
 # What the programs are for, as the man pages say it.
 PROGRAMS = {
     "lagtool": (1, "decode, answer and check slow protocols frames, and replay scripts of two systems"),
-    "lagengine": (1, "one end of link aggregation behind lines of text"),
     "lagd": (8, "daemon of link aggregation (LACP) for Linux"),
 }
 # The programs of tools/ that are installed, with the name that they have there, and the modules beside them.
@@ -62,10 +61,7 @@ def program(name: str) -> str:
     if given:
         return os.path.join(given, name)
     say(f"building {name}; what is not yet proved is proved first")
-    if name == "lagtool":
-        make_program()
-    else:
-        printed(RT, "run", "--", "--version", cwd=os.path.join(CRATES, name))
+    make_program()
     return os.path.join(CRATES, name, "out", name)
 
 
@@ -160,7 +156,7 @@ def parts() -> Parts:
     lag = library.one_object(BUILD, library.proved())
     shared, archive = library.shared(BUILD, lag), library.archive(BUILD, lag)
     alone, loading = (daemon(os.path.join(BUILD, name), it) for name, it in (("alone", archive), ("loading", shared)))
-    programs = {"bin/lagtool": program("lagtool"), "bin/lagengine": program("lagengine"), "sbin/lagd": alone}
+    programs = {"bin/lagtool": program("lagtool"), "sbin/lagd": alone}
     check_versions(programs)
     ask = {os.path.basename(to): printed(file, "--help") for to, file in programs.items()}
     found = [File(to, read(file), True) for to, file in programs.items()]

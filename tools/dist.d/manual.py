@@ -11,8 +11,7 @@ from repository import TOP, Missing
 
 # Of each program: the page, its first heading, and the heading that comes after its part. A page that is not there leaves the next.
 PARTS: dict[str, list[tuple[str, str | None, str | None]]] = {
-    "lagtool": [("docs/COMMAND.md", "## lagtool", "## lagengine")],
-    "lagengine": [("docs/COMMAND.md", "## lagengine", None)],
+    "lagtool": [("docs/COMMAND.md", "## lagtool", "## Lines of text")],
     "lagd": [("docs/LAGD.md", None, None)],
 }
 # What stands in the documents of the repository alone.

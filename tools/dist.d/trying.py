@@ -65,7 +65,6 @@ RUNS = [
     (["bin/lagtool", "decode", LACPDU], "", 0, "lacpdu\n"),
     (["bin/lagtool", "check", "-"], "02:00\n", 1, "1 not hex\n"),
     (["bin/lagtool", "vectors"], "", 0, "V1 ok\n"),
-    (["bin/lagengine", "--version"], "", 0, "lagengine VERSION\n"),
     (["sbin/lagd", "--version"], "", 0, "lagd VERSION\n"),
     (["bin/lagframes", "share/doc/niwhopera/examples/captures/bonding.pcap"], "", 0, "0180c2000002"),
     (["bin/lagdraw"], "1 tick 1 10 -> ticked\n", 0, "<svg "),
@@ -83,7 +82,6 @@ COMPLETED = [
     (["lagtool", "--p"], "--progress"),
     (["lagtool", "--explain", "che"], "check"),
     (["lagtool", "check", "--"], "--help"),
-    (["lagengine", "--v"], "--version"),
     (["lagd", "--json", "--fol"], "--folder"),
     (["lagd", "--timeout", "l"], "long"),
     (["lagd", "--folder", "--"], ""),
@@ -170,7 +168,7 @@ def try_programs_on_oldest(count: Count, root: str) -> None:
     """The programs on the oldest processor of x86-64."""
     if not shutil.which("qemu-x86_64"):
         print("skipped: the oldest processor: there is no command qemu-x86_64 (Debian: qemu-user)")
-    for name in ("sbin/lagd", "bin/lagtool", "bin/lagengine"):
+    for name in ("sbin/lagd", "bin/lagtool"):
         try_on_oldest(count, name, [os.path.join(root, name), "--version"], {}, os.path.basename(name))
 
 

@@ -43,8 +43,8 @@ def test_crates_and_tests_of_a_copy_have_its_number() -> None:
 
 
 def test_an_edited_crate_is_copied_where_a_named_one_stands_on_it(tmp_path: Path) -> None:
-    (tmp_path / "serving.rt").write_text("let task = lagengine_lines::asked_in(line);\n")
-    assert sorted(named.using("answering", str(tmp_path), ["serving"])) == ["answering", "lagengine_lines"]
+    (tmp_path / "serving.rt").write_text("let next = lagworld::World::step(world);\n")
+    assert sorted(named.using("lagscript", str(tmp_path), ["serving"])) == ["lagscript", "lagworld"]
     assert named.using("findings", str(tmp_path), ["serving"]) == []
 
 
