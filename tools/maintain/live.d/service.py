@@ -297,7 +297,7 @@ def managed(part: Part) -> None:
 def ids_of_lines() -> dict[str, str]:
     """The message ids of lines, by what the lines tell, as docs/LAGD.md has them."""
     with open(os.path.join(TOP, "docs", "LAGD.md"), encoding="utf-8") as page:
-        return {what: number for what, number in re.findall(r"^\| (.+) \| `([0-9a-f]{32})` \|$", page.read(), re.M)}
+        return {what: number for what, number in re.findall(r"^\| ?(.+?) ?\| ?`([0-9a-f]{32})` ?\|$", page.read(), re.M)}
 
 
 def entries(listener: socket.socket, daemon: Daemon, wanted: int) -> list[dict[str, str]]:
