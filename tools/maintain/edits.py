@@ -4,14 +4,14 @@ from __future__ import annotations
 
 import os
 import shutil
+from dataclasses import dataclass
 from itertools import takewhile
 from typing import Callable, Iterable
 
 from repository import CRATES, MAINTAIN, below, lines
 
 CASES = os.path.join(MAINTAIN, "wrong-definitions.d")
-# An edit by its crate and its name, and a replacement: the file, the old text and the new one.
-Edit = tuple[str, str]
+# A replacement: the file, the old text and the new one.
 Pair = tuple[str, str, str]
 # What of a folder with these names is not copied.
 Ignore = Callable[[str, list[str]], Iterable[str]]
@@ -48,22 +48,32 @@ def write_list(folder: str, crates: Iterable[str]) -> None:
     write(os.path.join(folder, "crates.txt"), "".join(f"{rows[name]}\n" for name in crates))
 
 
-def read_edit(crate: str, name: str) -> tuple[str, list[Pair]]:
-    """What the wrong definition says, and its replacements as (file, old, new)."""
-    return read_pairs(os.path.join(CASES, crate, name + ".edit"))
+@dataclass(frozen=True)
+class Trial:
+    """An edit as it is tried: what it says, its replacements, the tests that it names as pairs of a crate and a test of it, and
+    whether an operator made it."""
+
+    crate: str
+    name: str
+    says: str
+    pairs: tuple[Pair, ...]
+    tests: tuple[tuple[str, str], ...] = ()
+    is_made: bool = False
+
+    def fault(self) -> str | None:
+        """Why this is no wrong definition; None if it is one. One that names tests may be a body alone, of which no contract speaks."""
+        makes_wrong = any("specs/" in file or self.tests for file, _, _ in self.pairs)
+        if not self.is_made and not (self.says and makes_wrong):
+            return "the edit has no line `says:`, or makes no definition wrong"
+        return "the edit names tests of two crates" if len({crate for crate, _ in self.tests}) > 1 else None
 
 
-def read_tests(crate: str, name: str) -> list[tuple[str, str]]:
-    """The tests that the wrong definition names, as pairs of a crate and a test of it; none if it names none."""
-    lines = read(os.path.join(CASES, crate, name + ".edit")).splitlines()
-    named = [line.split()[1:] for line in lines if line.startswith("refused-by: ")]
-    return [(of, test) for of, test in named]
-
-
-def why_no_edit(says: str, pairs: list[Pair], has_tests: bool = False) -> str | None:
-    """Why this is no wrong definition; None if it is one. One that names tests may be a body alone, of which no contract speaks."""
-    makes_wrong = any(file.startswith("specs/") or has_tests for file, _, _ in pairs)
-    return None if says and makes_wrong else "the edit has no line `says:`, or makes no definition wrong"
+def read_trial(crate: str, name: str) -> Trial:
+    """The wrong definition in wrong-definitions.d/CRATE/NAME.edit."""
+    path = os.path.join(CASES, crate, name + ".edit")
+    says, pairs = read_pairs(path)
+    rows = (line.split()[1:] for line in read(path).splitlines() if line.startswith("refused-by: "))
+    return Trial(crate, name, says, tuple(pairs), tuple((of, test) for of, test in rows))
 
 
 class Everywhere(str):
@@ -78,7 +88,7 @@ def read_pairs(path: str) -> tuple[str, list[Pair]]:
         word, _, text = line.partition(": ")
         if word == "says":
             says = text
-        elif word in ("refused-by", "refused-in"):
+        elif word == "refused-by":
             continue
         elif word == "file":
             file = text
@@ -95,7 +105,7 @@ def read_pairs(path: str) -> tuple[str, list[Pair]]:
     return says, pairs
 
 
-def replaced(folder: str, pairs: list[Pair]) -> tuple[dict[str, str], dict[str, str], str | None]:
+def replaced(folder: str, pairs: Iterable[Pair]) -> tuple[dict[str, str], dict[str, str], str | None]:
     """The files of a crate that the replacements change, as they are and as they would be; and what is wrong with the edit."""
     was: dict[str, str] = {}
     now: dict[str, str] = {}
@@ -109,7 +119,7 @@ def replaced(folder: str, pairs: list[Pair]) -> tuple[dict[str, str], dict[str, 
     return was, now, None
 
 
-def apply(folder: str, pairs: list[Pair]) -> tuple[dict[str, str], str | None]:
+def apply(folder: str, pairs: Iterable[Pair]) -> tuple[dict[str, str], str | None]:
     """Makes the replacements in a crate; answers the files as they were, or what is wrong with the edit."""
     was, now, wrong = replaced(folder, pairs)
     for path, text in now.items():

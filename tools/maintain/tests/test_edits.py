@@ -12,7 +12,6 @@ import edits
 EDIT = """says: the limit is one more
 refused-by: tests_system systems::limits::a_limit_holds
 refused-by: tests_system systems::limits::none_is_none
-refused-in: the proofs
 file: specs/Limits.antt
 old: most = 64
 new: most = 65
@@ -56,21 +55,23 @@ def test_the_named_tests_are_pairs_of_crate_and_test(tmp_path: Path, monkeypatch
     (tmp_path / "lagsystem").mkdir()
     (tmp_path / "lagsystem" / "limit.edit").write_text(EDIT)
     monkeypatch.setattr(edits, "CASES", str(tmp_path))
-    named = [("tests_system", "systems::limits::a_limit_holds"), ("tests_system", "systems::limits::none_is_none")]
-    assert edits.read_tests("lagsystem", "limit") == named
+    trial = edits.read_trial("lagsystem", "limit")
+    assert trial.tests == (("tests_system", "systems::limits::a_limit_holds"), ("tests_system", "systems::limits::none_is_none"))
+    assert (trial.says, len(trial.pairs), trial.fault()) == ("the limit is one more", 3, None)
 
 
 @pytest.mark.parametrize(
-    ("says", "file", "has_tests", "is_edit"),
+    ("says", "file", "tests", "is_edit"),
     [
-        ("it is 3", "specs/A.antt", False, True),
-        ("it is 4", "src/a.rt", False, False),
-        ("it is 5", "src/a.rt", True, True),
-        ("", "specs/A.antt", True, False),
+        ("it is 3", "specs/A.antt", (), True),
+        ("it is 4", "src/a.rt", (), False),
+        ("it is 5", "src/a.rt", (("tests_system", "a::b"),), True),
+        ("", "specs/A.antt", (("tests_system", "a::b"),), False),
+        ("it is 6", "src/a.rt", (("tests_system", "a::b"), ("tests_parts", "c::d")), False),
     ],
 )
-def test_a_wrong_definition_says_something_of_a_definition(says: str, file: str, has_tests: bool, is_edit: bool) -> None:
-    assert (edits.why_no_edit(says, [(file, "1", "2")], has_tests) is None) == is_edit
+def test_a_wrong_definition_says_something_of_a_definition(says: str, file: str, tests: tuple[tuple[str, str], ...], is_edit: bool) -> None:
+    assert (edits.Trial("lagsystem", "x", says, ((file, "1", "2"),), tests).fault() is None) == is_edit
 
 
 def test_what_is_put_in_is_taken_out(crate: Path) -> None:

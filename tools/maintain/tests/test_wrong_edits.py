@@ -7,9 +7,10 @@ from pathlib import Path
 import pytest
 
 import loading
+import edits
 
 bodies = loading.program("wrong-bodies")
-named = loading.module("wrong-definitions.d", "by_named_tests")
+named = loading.module("wrong-definitions.d", "by_tests")
 prover = loading.module("wrong-definitions.d", "by_prover")
 
 TESTS = """use lagsystem::calls;
@@ -55,30 +56,38 @@ def test_a_module_comes_with_those_that_it_names(tmp_path: Path) -> None:
     assert named.with_named(str(tmp_path), ["a"]) == ["a", "b", "c"]
 
 
+PASSED, FAILED = ["test m::t ... ok", "test m_1000::t ... ok"], "test m_3::t ... FAILED"
+
+
 @pytest.mark.parametrize(
     ("lines", "right", "said"),
     [
-        (["test m::t ... ok", "test m_1000::t ... ok", "test m_3::t ... FAILED", "test result: FAILED"], True, "refused by tests_system: m::t: it is 5"),
-        (["test m::t ... ok", "test m_1000::t ... ok", "test m_3::t ... ok", "test result: ok"], False, "m::t does not refuse: it is 5"),
-        (["test m::t ... FAILED", "test m_3::t ... FAILED", "test result: FAILED"], False, "tests_system m::t does not pass without an edit"),
-        (
-            ["test m::t ... ok", "test m_1000::t ... ok", "test m_3::t ... FAILED", "  its time limit", "test result: FAILED"],
-            False,
-            "m::t does not end: it is 5",
-        ),
+        ([*PASSED, FAILED, "test result: FAILED"], True, "refused by tests_system: m::t: it is 5"),
+        ([*PASSED, "test m_3::t ... ok", "test result: ok"], False, "m::t does not refuse: it is 5"),
+        ([FAILED, "test result: FAILED"], False, "tests_system m::t does not pass without an edit"),
+        ([*PASSED, FAILED, "  its time limit", "test result: FAILED"], False, "m::t does not end: it is 5"),
         (["error: no"], False, "the tests do not build or do not end:\nerror: no"),
     ],
 )
-def test_a_named_test_fails_in_the_copy_alone(monkeypatch: pytest.MonkeyPatch, lines: list[str], right: bool, said: str) -> None:
-    monkeypatch.setattr(named, "read_edit", lambda *_: ("it is 5", [("specs/A.antt", "4", "5")]))
-    monkeypatch.setattr(named, "read_tests", lambda *_: [("tests_system", "m::t")])
-    assert named.verdict(lines, 3, 1000, "lagsystem", "five", "tests_system") == (right, said)
+def test_a_named_test_fails_in_the_copy_alone(lines: list[str], right: bool, said: str) -> None:
+    trial = edits.Trial("lagsystem", "five", "it is 5", (("specs/A.antt", "4", "5"),), (("tests_system", "m::t"),))
+    assert named.verdict(lines, 3, 1000, trial, ("tests_system", ("m::t",))) == (right, said)
 
 
-def test_an_edit_names_tests_of_one_crate(monkeypatch: pytest.MonkeyPatch) -> None:
-    monkeypatch.setattr(named, "read_edit", lambda *_: ("it is 5", [("specs/A.antt", "4", "5")]))
-    monkeypatch.setattr(named, "read_tests", lambda *_: [("tests_system", "m::t"), ("tests_parts", "n::u")])
-    assert named.verdict([], 3, 1000, "lagsystem", "five", "tests_system") == (False, "the edit names tests of more crates than tests_system")
+@pytest.mark.parametrize(("ends", "right", "said"), [("FAILED", True, "refused by tests_system: m::t: 5 for 4"), ("ok", False, "nothing refuses: 5 for 4")])
+def test_any_test_may_refuse_what_names_none(ends: str, right: bool, said: str) -> None:
+    lines = ["test m_1000::t ... ok", "test m_1000::u ... ok", f"test m_3::t ... {ends}", "test m_3::u ... ok", "test result: x"]
+    trial = edits.Trial("lagsystem", "five", "5 for 4", (("src/a.rt", "4", "5"),), is_made=True)
+    assert named.verdict(lines, 3, 1000, trial, ("tests_system", ("m::t", "m::u"))) == (right, said)
+
+
+def test_the_tests_that_look_at_a_crate() -> None:
+    made = edits.Trial("portmachines", "x", "5 for 4", ())
+    first, second = named.looks(made)
+    assert first[0] == second[0] == "tests_parts"
+    assert {it.split("::")[0] for it in first[1]} == {"of_portmachines"}
+    assert [place for place, _ in named.looks(edits.Trial("lagsystem", "x", "5 for 4", ()))][:1] == ["tests_system"]
+    assert named.looks(edits.Trial("lagsystem", "x", "it is 5", (), (("tests_world", "m::t"),))) == [("tests_world", ("m::t",))]
 
 
 PROOF = "use x.{a}\n\npub both : A → B\nboth a = b\n  where\n    inner : C\n    inner = c\nabbrev other (n : ℕ) : D\n"

@@ -13,7 +13,7 @@ import subprocess
 import sys
 from typing import Iterator
 
-from edits import Edit, apply, copy_crates, read_edit, read_tests, restore, unbuilt
+from edits import Trial, apply, copy_crates, restore, unbuilt
 from repository import MAINTAIN, RT, runtime
 
 sys.path.insert(0, os.path.join(MAINTAIN, "live.d"))
@@ -28,9 +28,9 @@ PLACE = "tools/maintain/live"
 LIMIT = 60
 
 
-def is_of(edit: Edit) -> bool:
+def is_of(trial: Trial) -> bool:
     """Whether the edit is refused so."""
-    return any(place == PLACE for place, _ in read_tests(*edit))
+    return any(place == PLACE for place, _ in trial.tests)
 
 
 def called(crate: str) -> tuple[list[str], str | None]:
@@ -53,11 +53,10 @@ def called(crate: str) -> tuple[list[str], str | None]:
     return failed, None
 
 
-def try_edit(crate: str, name: str) -> tuple[bool, str]:
-    says, pairs = read_edit(CRATE, name)
-    if not says or not any(file.startswith("specs/") for file, _, _ in pairs):
-        return False, "the edit has no line `says:`, or makes no definition wrong"
-    was, fault = apply(crate, pairs)
+def try_edit(crate: str, trial: Trial) -> tuple[bool, str]:
+    if not any(file.startswith("specs/") for file, _, _ in trial.pairs):
+        return False, "the edit makes no definition wrong"
+    was, fault = apply(crate, trial.pairs)
     if fault:
         return False, fault
     try:
@@ -66,22 +65,20 @@ def try_edit(crate: str, name: str) -> tuple[bool, str]:
         restore(was)
     if fault:
         return False, fault
-    wanted = [function for _, function in read_tests(CRATE, name)]
+    wanted = [function for _, function in trial.tests]
     missing = [function for function in wanted if function not in failed]
     if missing:
         others = ", ".join(dict.fromkeys(failed)) or "nothing"
-        return False, f"{', '.join(missing)} does not refuse, but {others}: {says}"
-    return True, f"refused by {', '.join(wanted)} of calls.c: {says}"
+        return False, f"{', '.join(missing)} does not refuse, but {others}: {trial.says}"
+    return True, f"refused by {', '.join(wanted)} of calls.c: {trial.says}"
 
 
-def try_all(folder: str, edits: list[Edit]) -> Iterator[tuple[str, bool, str]]:
-    """Tries these edits, one at a time; answers the name of each, whether it passed, and what to print."""
-    if not edits:
+def try_all(folder: str, trials: list[Trial]) -> Iterator[tuple[Trial, tuple[bool | None, str]]]:
+    """Tries these edits, one at a time; answers each, and whether it is refused and what to print."""
+    if not trials:
         return
     crate = os.path.join(copy_crates(os.path.join(folder, "calls"), [CRATE], unbuilt), CRATE)
     failed, fault = called(crate)
-    if fault or failed:
-        yield CRATE, False, f"does not pass as it stands: {fault or ', '.join(failed)}"
-        return
-    for _, name in edits:
-        yield f"{CRATE}/{name}", *try_edit(crate, name)
+    for trial in trials:
+        stands = f"does not pass as it stands: {fault or ', '.join(failed)}" if fault or failed else None
+        yield trial, (False, stands) if stands else try_edit(crate, trial)

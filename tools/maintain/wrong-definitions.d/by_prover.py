@@ -1,4 +1,4 @@
-"""The wrong definitions of the laws of two systems and of progress, which the prover refuses.
+"""The wrong definitions that the prover refuses: those of the laws of two systems and of progress, and those that operators make.
 
 What crates kept in out/ is used, and what is not kept is proved first. An edit of lagprogress may make a definition of a crate below
 wrong, with the body that meets it: that crate has to be proved still.
@@ -12,7 +12,7 @@ import shutil
 import subprocess
 from typing import Iterator
 
-from edits import CASES, Edit, apply, copy_crates, read, read_edit, restore, unbuilt, write
+from edits import CASES, Trial, apply, copy_crates, read, restore, unbuilt, write
 from repository import RT
 
 CRATES = ("lagmodel", "lagprogress")
@@ -46,35 +46,34 @@ def refusals(crate: str, output: str) -> list[tuple[str, str]]:
     return places
 
 
-def try_edit(crate: str, of: str, name: str) -> tuple[bool, str]:
-    says, pairs = read_edit(of, name)
-    was, fault = apply(crate, pairs)
+def try_edit(crate: str, trial: Trial) -> tuple[bool | None, str]:
+    """Whether the prover refuses the edit, and where; None where it cannot read it."""
+    was, fault = apply(crate, trial.pairs)
     if fault:
         return False, fault
     try:
         proved, output = check(crate)
         if proved:
-            return False, f"PROVED: {says}"
+            return False, f"nothing refuses: {trial.says}"
         below = re.search(r"the library (\w+) did not build", output)
         if below:
             return False, f"{below[1]} is not proved any more:\n{output[-2000:]}"
         places = refusals(crate, output)
-        if not places:
-            return False, "no refusal is printed:\n" + output
-        for file, declaration in places:
-            if not file.startswith("proofs/"):
-                return False, f"{file} does not read any more, at {declaration}"
-        names = ", ".join(f"{file[7:-5]}.{declaration}" for file, declaration in places)
-        return True, f"refused by {names}: {says}"
+        unread = [file for file, _ in places if not file.startswith("proofs/")]
+        if unread and not trial.is_made:
+            return False, f"{unread[0]} does not read any more"
+        if unread or not (places or "no proof" in output):
+            return None, "is no definition:\n" + output[-2000:]
+        told = [f"{file[7:-5]}.{declaration}" for file, declaration in places] + re.findall(r"^fn (\S+): no proof", output, re.M)
+        return True, f"refused by {', '.join(told[:3])}{' and more' if len(told) > 3 else ''}: {trial.says}"
     finally:
         restore(was)
 
 
-def try_counterexample(crate: str, of: str, name: str) -> tuple[bool, str]:
+def try_counterexample(crate: str, trial: Trial, path: str) -> tuple[bool, str]:
     """Proves, under the wrong definition, that the law is false. The proof takes the place of the crate's own."""
-    says, pairs = read_edit(of, name)
-    head, _, proof = read(os.path.join(CASES, of, name + ".counterexample")).partition("---\n")
-    was, fault = apply(crate, pairs)
+    head, _, proof = read(path).partition("---\n")
+    was, fault = apply(crate, trial.pairs)
     if fault:
         return False, fault
     moved = {folder: os.path.join(crate, folder) for folder in ("src", "proofs")}
@@ -86,10 +85,10 @@ def try_counterexample(crate: str, of: str, name: str) -> tuple[bool, str]:
         write(os.path.join(crate, "src", "lib.rt"), "//! A law that is false.\n#![tactic(auto)]\n\n" + uses + "\n" + body)
         write(os.path.join(crate, "proofs", "Lib.antt"), "pub mod Counterexample\n")
         write(os.path.join(crate, "proofs", "Counterexample.antt"), proof)
-        answer = f"use Rattle.{of}.proofs.Counterexample.{{refuted}}\nuse Rattle.{of}.proofs.refuted.Goals as goal\n\n"
+        answer = f"use Rattle.{trial.crate}.proofs.Counterexample.{{refuted}}\nuse Rattle.{trial.crate}.proofs.refuted.Goals as goal\n\n"
         write(os.path.join(crate, "proofs", "refuted", "Answers.antt"), answer + "pub returns : goal.returns\nreturns c = refuted\n")
         proved, output = check(crate)
-        return proved, f"refuted, {says}: the law is false of it" if proved else "the counterexample is not proved:\n" + output
+        return proved, f"refuted, {trial.says}: the law is false of it" if proved else "the counterexample is not proved:\n" + output
     finally:
         for path in moved.values():
             shutil.rmtree(path, ignore_errors=True)
@@ -97,19 +96,14 @@ def try_counterexample(crate: str, of: str, name: str) -> tuple[bool, str]:
         restore(was)
 
 
-def try_all(folder: str, edits: list[Edit]) -> Iterator[tuple[str, bool, str]]:
-    """Tries these edits, one at a time; answers the name of each, whether it passed, and what to print."""
-    for of in CRATES:
-        names = [name for crate, name in edits if crate == of]
-        if not names:
-            continue
+def try_all(folder: str, trials: list[Trial]) -> Iterator[tuple[Trial, tuple[bool | None, str]]]:
+    """Tries these edits, one at a time; answers each, and whether it is refused and what to print."""
+    for of in dict.fromkeys(trial.crate for trial in trials):
         crate = os.path.join(copy_crates(os.path.join(folder, "law"), [of], unbuilt), of)
         proved, output = check(crate)
-        if not proved:
-            yield of, False, "is not proved as it stands:\n" + output
-            continue
-        for name in names:
-            yield f"{of}/{name}", *try_edit(crate, of, name)
-            if os.path.exists(os.path.join(CASES, of, name + ".counterexample")):
-                yield f"{of}/{name}", *try_counterexample(crate, of, name)
+        for trial in (it for it in trials if it.crate == of):
+            yield trial, try_edit(crate, trial) if proved else (False, "is not proved as it stands:\n" + output)
+            path = os.path.join(CASES, of, trial.name + ".counterexample")
+            if proved and not trial.is_made and os.path.exists(path):
+                yield trial, try_counterexample(crate, trial, path)
         shutil.rmtree(os.path.join(folder, "law"))
