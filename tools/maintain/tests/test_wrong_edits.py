@@ -82,10 +82,12 @@ def test_any_test_may_refuse_what_names_none(ends: str, right: bool, said: str) 
 
 
 def test_the_tests_that_look_at_a_crate() -> None:
-    made = edits.Trial("portmachines", "x", "5 for 4", ())
-    first, second = named.looks(made)
-    assert first[0] == second[0] == "tests_parts"
-    assert {it.split("::")[0] for it in first[1]} == {"of_portmachines"}
+    def modules(crate: str) -> list[tuple[str, set[str]]]:
+        return [(place, {it.split("::")[0] for it in tests}) for place, tests in named.looks(edits.Trial(crate, "x", "5 for 4", ()))]
+
+    assert modules("portmachines") == [("tests_parts", {"of_portmachines"})]
+    first, second = modules("lagtypes")
+    assert first == ("tests_parts", {"of_lagtypes"}) and first[1] < second[1]
     assert [place for place, _ in named.looks(edits.Trial("lagsystem", "x", "5 for 4", ()))][:1] == ["tests_system"]
     assert named.looks(edits.Trial("lagsystem", "x", "it is 5", (), (("tests_world", "m::t"),))) == [("tests_world", ("m::t",))]
 

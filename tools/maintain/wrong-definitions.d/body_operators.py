@@ -168,13 +168,16 @@ def steps(it: Source, body: Span, said: Declared) -> Iterator[Change]:
     blocks = [body, *((at + 1, it.closes[at]) for at in range(*body) if it.word(at) == "{" and at in it.closes)]
     for block in blocks:
         rows = it.statements(*block)
+        plain = {span for span in rows if it.find(*span, "=") < span[1] and it.word(span[0]) not in KEPT}
         for span in rows:
             if it.word(span[0]) not in KEPT:
                 yield it.change("a step is left out", span, "")
-                yield it.change("a step is done twice", span, f"{it.cut(span)} {it.cut(span)}")
+                if span not in plain:
+                    yield it.change("a step is done twice", span, f"{it.cut(span)} {it.cut(span)}")
         for one, two in pairwise(rows):
             name = it.word(one[0] + 1 + (it.word(one[0] + 1) == "mut")) if it.word(one[0]) == "let" else ""
-            if name not in {it.word(at) for at in range(*two)} and "return" not in {it.word(one[0]), it.word(two[0])}:
+            is_free = not {one, two} <= plain and "return" not in {it.word(one[0]), it.word(two[0])}
+            if is_free and name not in {it.word(at) for at in range(*two)}:
                 yield it.swap("two steps change places", one, two)
     for at in range(*body):
         if it.word(at) == "." and [it.word(at + 1)] in said.alike["step"] and at + 2 in it.closes:
