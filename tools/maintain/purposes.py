@@ -9,7 +9,7 @@ from edits import read
 from repository import CRATES, TOP, Missing, below, crates
 
 PAGE = "docs/internals/ARCHITECTURE.md"
-HEAD = "| crate | what it is |\n|---|---|\n"
+HEAD = "|crate|what it is|\n|---|---|\n"
 # The first sentence of a text; a name before it; where a picture ends it, and where it may end behind 20 characters.
 SENTENCE = re.compile(r"(.*?[.])(?: |$)")
 NAME = re.compile(r"`\w+`: ")
@@ -42,7 +42,7 @@ def with_table(text: str) -> str:
     before, head, rest = text.partition(HEAD)
     if not head:
         raise Missing(f"{PAGE} has no table with the head {HEAD.splitlines()[0]}")
-    rows = (f"| `{crate}` | " + purpose(crate).replace("|", "\\|") + " |\n" for crate in below(*crates()) if not crate.startswith("tests_"))
+    rows = (f"|`{crate}`|" + purpose(crate).replace("|", "\\|") + "|\n" for crate in below(*crates()) if not crate.startswith("tests_"))
     return before + head + "".join(rows) + re.sub(r"\A(?:\|.*\n)*", "", rest)
 
 

@@ -37,7 +37,7 @@ def test_a_page_has_a_row_for_each_crate_but_those_of_tests(monkeypatch: pytest.
     monkeypatch.setattr(purposes, "below", lambda *names: list(names))
     monkeypatch.setattr(purposes, "purpose", lambda crate: f"{crate} | c.")
     text = f"before\n\n{purposes.HEAD}| `gone` | x |\n\n| behind |\n"
-    assert purposes.with_table(text) == f"before\n\n{purposes.HEAD}| `a` | a \\| c. |\n| `b` | b \\| c. |\n\n| behind |\n"
+    assert purposes.with_table(text) == f"before\n\n{purposes.HEAD}|`a`|a \\| c.|\n|`b`|b \\| c.|\n\n| behind |\n"
 
 
 def test_a_table_of_a_man_page_has_cells() -> None:
