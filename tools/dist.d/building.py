@@ -45,6 +45,7 @@ SCRIPTS = {
     "lagframes": ("frames", ["frames.d/captures.py"], "write the slow protocols frames of a capture as lines"),
     "lagdraw": ("draw", ["draw.d/captured.py", "draw.d/report.py"], "draw the report of lagtool replay, or a link of a capture, as a picture"),
 }
+CONFORM = "test the LACP and the Marker protocol of any device at the end of its cable"
 # Where the scripts stand, and where Debian has libraries of its processor.
 SHARE, MULTIARCH = "share/niwhopera-tools", "lib/x86_64-linux-gnu"
 
@@ -121,8 +122,10 @@ def scripts() -> list[File]:
 
 
 def module() -> list[File]:
-    """The Python module."""
-    return [File(f"lib/python3/{it.removeprefix('python/')}", read(it)) for it in texts("python/niwhopera")]
+    """The Python modules, and the program that starts the second one."""
+    found = [File(f"lib/python3/{it.removeprefix('python/')}", read(it)) for it in texts("python/niwhopera", "python/lagconform")]
+    started = read("tools/lagconform").replace(b"#!/usr/bin/env python3", b"#!/usr/bin/python3", 1)
+    return [*found, File("bin/lagconform", started, True)]
 
 
 def units() -> list[File]:
@@ -144,6 +147,8 @@ def manuals(ask: dict[str, str]) -> dict[str, str]:
     for name, (file, _, purpose) in SCRIPTS.items():
         told = documents.renamed(printed(os.path.join(TOOLS, file), "--help", env={**os.environ, "COLUMNS": "120"}))
         pages[f"share/man/man1/{name}.1"] = manual.of_help(name, 1, purpose, version(), told.replace(f"usage: {file}", f"usage: {name}"))
+    told = printed(os.path.join(TOOLS, "lagconform"), "--help", env={**os.environ, "COLUMNS": "120"})
+    pages["share/man/man1/lagconform.1"] = manual.of_help("lagconform", 1, CONFORM, version(), told)
     return pages
 
 

@@ -18,7 +18,7 @@ WANTED = {"dh": "debhelper", "dh_python3": "dh-python", "dpkg-gensymbols": "dpkg
 # Where parts stand that Debian has in another place than the archive, and what is in no package.
 PLACES = {
     "share/doc/niwhopera/": "usr/share/doc/niwhopera-tools/",
-    "lib/python3/niwhopera/": "usr/lib/python3/dist-packages/niwhopera/",
+    "lib/python3/": "usr/lib/python3/dist-packages/",
     "lib/systemd/": "lib/systemd/",
     "lib/sysusers.d/": "usr/lib/sysusers.d/",
     "lib/liblag.": f"usr/{MULTIARCH}/liblag.",

@@ -67,6 +67,7 @@ RUNS = [
     (["bin/lagtool", "vectors"], "", 0, "V1 ok\n"),
     (["sbin/lagd", "--version"], "", 0, "lagd VERSION\n"),
     (["bin/lagframes", "share/doc/niwhopera/examples/captures/bonding.pcap"], "", 0, "0180c2000002"),
+    (["bin/lagconform", "--version"], "", 0, "lagconform VERSION\n"),
     (["bin/lagdraw"], "1 tick 1 10 -> ticked\n", 0, "<svg "),
 ]
 # A processor without what x86-64-v2 adds to x86-64, as qemu has it.

@@ -1,0 +1,41 @@
+#!/usr/bin/env python3
+"""flows.py INTERFACE: sends frames of 64 flows on an interface until it is ended, each flow twice a second.
+
+They are what lagconform looks for between `data start` and `data stop`: UDP from 198.18.0.0/16 (RFC 2544), to other addresses and ports in
+each flow. The flows differ in MAC, IP and port, so that a device that hashes any of these spreads them.
+"""
+
+import socket
+import sys
+import time
+
+FLOWS = 64
+
+
+def checksum(octets: bytes) -> int:
+    """The checksum of an IPv4 header."""
+    total = sum(int.from_bytes(octets[at : at + 2], "big") for at in range(0, len(octets), 2))
+    total = (total & 0xFFFF) + (total >> 16)
+    return 0xFFFF - ((total & 0xFFFF) + (total >> 16))
+
+
+def flow(number: int) -> bytes:
+    """A frame of a flow."""
+    ends = bytes([2, 0, 0, 0, 0xF1, number, 2, 0, 0, 0, 0xF0, number * 37 % 251])
+    head = bytes.fromhex("450000260000000040110000") + bytes([198, 18, 0, number, 198, 19, 0, number])
+    head = head[:10] + checksum(head).to_bytes(2, "big") + head[12:]
+    ports = (5000 + 7 * number).to_bytes(2, "big") + (6000 + 13 * number).to_bytes(2, "big")
+    return ends + b"\x08\x00" + head + ports + bytes.fromhex("00120000") + bytes(10)
+
+
+def main() -> None:
+    out = socket.socket(socket.AF_PACKET, socket.SOCK_RAW)
+    out.bind((sys.argv[1], 0))
+    while True:
+        for number in range(FLOWS):
+            out.send(flow(number))
+            time.sleep(0.5 / FLOWS)
+
+
+if __name__ == "__main__":
+    main()

@@ -1,0 +1,36 @@
+# What the hooks of this folder have in common; each sets its own functions and reads this file.
+#
+# RUN stands before each command that is run on the device, as RUN="ssh root@device" or RUN="ip netns exec far"; without it the device
+# is this machine. LINKS are the device's ends of the links, in the order of lagconform's. CLIENT is the interface of its bond.
+# Status 0: done; 64: this hook does not know how.
+
+LINKS=${LINKS:-eth1 eth2}
+SENDER=${SENDER:-/run/lagconform-flows.pid}
+FLOWS=${FLOWS:-$(dirname "$(realpath "$0")")/flows.py}
+
+link() { echo "$LINKS" | cut -d' ' -f"$1"; }
+down() { $RUN ip link set "$(link "$1")" down; }
+up() { $RUN ip link set "$(link "$1")" up; }
+data_start() {
+    $RUN python3 - "$CLIENT" < "$FLOWS" > /dev/null 2>&1 &
+    echo $! > "$SENDER"
+}
+data_stop() {
+    [ -f "$SENDER" ] || return 0
+    pkill -P "$(cat "$SENDER")" 2> /dev/null
+    kill "$(cat "$SENDER")" 2> /dev/null
+    rm -f "$SENDER"
+}
+reset() { data_stop; }
+unknown() { echo "$0 does not know: $*"; exit 64; }
+
+hook() {
+    case "$1" in
+        reset | start | stop) "$1" ;;
+        down | up) "$1" "$2" ;;
+        data) "data_$2" ;;
+        set) set_value "$2" "$3" ;;
+        *) unknown "$@" ;;
+    esac
+}
+set_value() { unknown set "$@"; }

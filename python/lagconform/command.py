@@ -1,0 +1,214 @@
+"""The command `lagconform`."""
+
+from __future__ import annotations
+
+import argparse
+import fnmatch
+import gc
+import os
+import signal
+import sys
+import time
+from typing import Optional, Sequence
+
+from niwhopera import __version__
+
+from . import capture, known, pics, report
+from .bench import Bench
+from .groups import GROUPS, TESTS
+from .listing import as_markdown, as_text
+from .model import LONG, NOT_APPLICABLE, Result, Test
+from .page import as_html
+from .refusals import Refused, check_interfaces
+from .report import Run
+from .runner import NoDevice, meet, ordered, run_all
+from .shadow import compare
+from .sockets import Command, PacketWire
+
+TITLES = {it.name: it.title for it in GROUPS}
+ABOUT = """Tests a device which runs LACP at the far end of one or two cables, by frames alone.
+
+It prints a line for each test, and in the end the count of each verdict. The status is 0 if nothing failed but what --known has, 1 if
+something did, 2 if the bench could not run, and 130 after SIGINT. It wants CAP_NET_RAW, and the interfaces for itself: in no bond, in no
+bridge, and with no other program that speaks LACP there.
+
+The hook is a command that gets words behind it, and ends with status 0 if it did what they say:
+  stop, start            end and start LACP on the device
+  down N, up N           take the device's end of link N down and up
+  data start, data stop  have the client of the device's aggregator send frames of many flows between them: UDP from 198.18.0.0/16, to
+                         other addresses and ports in each flow
+  reset                  bring the device into the state in which it is to be tested, before the first test
+  set KEY VALUE          set something of the device, before the first test: of each --set KEY=VALUE
+Tests that want words which the hook does not know are skipped."""
+
+
+def reader() -> argparse.ArgumentParser:
+    """The words of the command line."""
+    it = argparse.ArgumentParser(prog="lagconform", description=ABOUT, formatter_class=argparse.RawDescriptionHelpFormatter)
+    it.add_argument("interfaces", nargs="*", metavar="INTERFACE", help="the interface of a link; one or two")
+    it.add_argument("--version", action="version", version=f"%(prog)s {__version__}")
+    it.add_argument("--device", default="device under test", help="its name in the reports")
+    it.add_argument("--report", metavar="FILE", help="write a page of HTML, with a time diagram of each test")
+    it.add_argument("--junit", metavar="FILE", help="write a JUnit file")
+    it.add_argument("--json", metavar="FILE", help="write a JSON file")
+    it.add_argument("--pcap", metavar="FILE", help="write the frames of the run as pcapng, whose packet numbers the reports name")
+    it.add_argument("--pics", metavar="FILE", help=f"what the device claims: lines of an item and yes or no. Items: {', '.join(pics.ITEMS)}")
+    it.add_argument("--known", metavar="FILE", help="fails that are known: lines of a test and a reason")
+    it.add_argument("--hook", metavar="COMMAND", help="a command that has the device do something, above")
+    it.add_argument("--set", metavar="KEY=VALUE", action="append", default=[], help="a setting for the hook; may be given again")
+    it.add_argument("--only", metavar="TEST", action="append", help="tests to run, as RX-02 or 'RX-*'; may be given again")
+    it.add_argument("--flap", action="store_true", help="take our own end of a link down, where the device sees that; wants CAP_NET_ADMIN")
+    it.add_argument("--long", action="store_true", help=f"run tests of more than {LONG} s, too")
+    it.add_argument("--shadow", action="store_true", help="tell where the engine would have sent another LACPDU in the device's place")
+    it.add_argument("--seed", type=int, default=1, help="the seed of random frames (1)")
+    it.add_argument("--slack", type=float, default=0.15, help="seconds that this machine and the link may be late (0.15)")
+    it.add_argument("--list", action="store_true", help="print the tests, and end")
+    it.add_argument("--markdown", action="store_true", help="with --list: as tables")
+    return it
+
+
+def selected(only: Optional[Sequence[str]], long: bool, links: int) -> list[Test]:
+    """The tests to run, in their order. A pattern that no test has is refused."""
+    for pattern in only or ():
+        if not any(fnmatch.fnmatch(it.id, pattern) for it in TESTS):
+            raise Refused(f"there is no test {pattern}: --list prints them")
+    tests = [it for it in TESTS if not only or any(fnmatch.fnmatch(it.id, pattern) for pattern in only)]
+    return ordered(it for it in tests if (long or not it.is_long) and it.links <= links)
+
+
+def read_text(path: str) -> str:
+    """The text of a file of the user's."""
+    try:
+        with open(path, encoding="utf-8") as it:
+            return it.read()
+    except OSError as why:
+        raise Refused(f"{path}: {why.strerror}") from why
+
+
+class Progress:
+    """What the terminal shows while tests run: each result, and the time that is left."""
+
+    def __init__(self, tests: Sequence[Test]) -> None:
+        self.left, self.results = list(tests), list[Result]()
+        self.terminal = sys.stderr.isatty()
+
+    def show(self) -> None:
+        """The test that runs, and how long the rest takes."""
+        if self.terminal and self.left:
+            seconds = int(sum(it.takes for it in self.left))
+            told = f"{self.left[0].id}, {len(self.left)} tests left, {seconds // 60}:{seconds % 60:02d}"
+            print(f"\r\033[K{told}", end="", file=sys.stderr, flush=True)
+
+    def add(self, it: Result) -> None:
+        """A result."""
+        if self.terminal:
+            print("\r\033[K", end="", file=sys.stderr, flush=True)
+        self.results.append(it)
+        if self.left:
+            self.left.pop(0)
+        if it.verdict != NOT_APPLICABLE or it.notes:
+            print(report.line(it), flush=True)
+        self.show()
+
+
+def about(given: argparse.Namespace, b: Bench, results: Sequence[Result]) -> dict[str, str]:
+    """What the run was."""
+    begun = time.strftime("%Y-%m-%dT%H:%M:%SZ", time.gmtime(b.wire.started))
+    late = max((it.late for it in results), default=0.0)
+    told = {"device": given.device, **report.about_device(b), "begun": begun, "slack": f"{given.slack:g} s, beside the 0.25 s of a timer (6.4.4)"}
+    told.update({"the bench was late": f"{late:.3f} s at most", "seed": str(given.seed)})
+    return {**told, "capture": os.path.basename(given.pcap)} if given.pcap else told
+
+
+def write_all(given: argparse.Namespace, run: Run) -> None:
+    """Writes the files that were asked for."""
+    b = run.bench
+    files: list[tuple[Optional[str], bytes]] = [
+        (given.json, report.as_json(run).encode()),
+        (given.junit, report.as_junit(run).encode()),
+        (given.report, as_html(run, TITLES).encode()),
+        (given.pcap, capture.octets(b.wire.started, b.wire.names, b.frames, report.comments(run.results))),
+    ]
+    for path, octets in files:
+        if path:
+            with open(path, "wb") as out:
+                out.write(octets)
+
+
+def stand(given: argparse.Namespace) -> Bench:
+    """The bench at its links, with a device that speaks."""
+    check_interfaces(given.interfaces)
+    try:
+        wire = PacketWire(given.interfaces)
+    except PermissionError as why:
+        raise Refused("packet sockets want CAP_NET_RAW: run it as root, or by `setpriv --ambient-caps +net_raw`") from why
+    b = Bench(wire, Command(given.hook) if given.hook else None, given.slack, given.seed, given.flap)
+    if given.hook:
+        prepare_device(given, b)
+    meet(b)
+    return b
+
+
+def prepare_device(given: argparse.Namespace, b: Bench) -> None:
+    """Has the hook bring the device into its state; a hook need not know how."""
+    hook = Command(given.hook)
+    for words in [["reset"], *(["set", *it.split("=", 1)] for it in given.set)]:
+        doing = hook.call(words)
+        while (answer := doing.answer()) is None:
+            b.wait(0.1)
+        if answer.status and words[0] == "set":
+            raise Refused(f"the hook does not do: {' '.join(words)}: {answer.said.strip()[-200:]}")
+
+
+def run_tests(given: argparse.Namespace, b: Bench, tests: Sequence[Test], claimed: dict[str, bool], reasons: dict[str, str]) -> int:
+    """Runs the tests and writes the reports; the status."""
+    progress, status = Progress(tests), 0
+    minutes = max(1, round(sum(it.takes for it in tests) / 60))
+    print(f"{len(tests)} tests on {len(b.links)} link{'s' if len(b.links) > 1 else ''}, some {minutes} min", flush=True)
+    progress.show()
+
+    def say(it: Result) -> None:
+        known.mark([it], reasons)
+        progress.add(it)
+
+    try:
+        run_all(b, tests, say, claimed)
+    except KeyboardInterrupt:
+        print("\nlagconform: interrupted; the reports have what was run", file=sys.stderr)
+        status = 130
+    run = Run(b, about(given, b, progress.results), progress.results, compare(b) if given.shadow else None)
+    write_all(given, run)
+    for name in known.no_longer(run.results, reasons):
+        print(f"known fail {name} did not fail")
+    print(*report.closing(run), sep="\n", flush=True)
+    return status or int(bool(known.new_fails(run.results)))
+
+
+def interrupt(*_: object) -> None:
+    """SIGTERM ends a run as SIGINT does."""
+    raise KeyboardInterrupt
+
+
+def main(words: Optional[Sequence[str]] = None) -> int:
+    """Runs the command; answers its status."""
+    given = reader().parse_args(words)
+    try:
+        if given.list:
+            tests = selected(given.only, True, 2)
+            print(as_markdown(sorted(tests, key=TESTS.index), TITLES) if given.markdown else as_text(sorted(tests, key=TESTS.index), TITLES))
+            return 0
+        tests = selected(given.only, given.long, len(given.interfaces))
+        claimed = pics.parsed(read_text(given.pics)) if given.pics else {}
+        reasons = known.parsed(read_text(given.known), (it.id for it in TESTS)) if given.known else {}
+        gc.disable()  # no pauses
+        signal.signal(signal.SIGTERM, interrupt)
+        b = stand(given)
+    except (Refused, NoDevice, pics.BadPics, known.BadKnown, ImportError, OSError) as why:
+        print(f"lagconform: {why}", file=sys.stderr)
+        return 2
+    except KeyboardInterrupt:
+        return 130
+    try:
+        return run_tests(given, b, tests, claimed, reasons)
+    finally:
+        b.close()

@@ -1,0 +1,106 @@
+"""EN: beside a proved system at its own pace, with one port at each link, its own wait_while and its own markers."""
+
+from __future__ import annotations
+
+from typing import Callable, Optional
+
+from niwhopera import Answers, Config, PortConfig, System, SystemId
+
+from ..bench import Bench
+from ..model import Group
+from ..partner import TICK
+from ..pdus import SLOW
+
+group = Group("EN", "Beside the proved engine")
+KEY = 0x11
+
+
+class Engine:
+    """A system with a port at each link: it gets each frame of the device, a tick each 100 ms, and sends what is due."""
+
+    def __init__(self, b: Bench, links: tuple[int, ...]) -> None:
+        self.b, self.links = b, links
+        b.silence()
+        ports = tuple(PortConfig(number=it, key=KEY, mac=b.wire.source(it)) for it in links)
+        self.system = System(Config(SystemId(0x8000, b.new_mac()), ports, aggregators=(KEY,) * len(ports)))
+        for it in links:
+            self.system.set_link(it, True)
+        self.done, self.due = b.mark(), b.now()
+
+    def feed(self) -> None:
+        """Hands over what came, and sends what is due."""
+        came, self.done = self.b.frames[self.done :], len(self.b.frames)
+        for frame in came:
+            if not frame.out and frame.link in self.links and frame.octets[12:14] == SLOW:
+                got = self.system.receive(frame.link, frame.octets)
+                if got.response:
+                    self.b.send_raw(frame.link, got.response)
+        while self.b.now() >= self.due:
+            self.system.tick()
+            self.due += TICK
+        for port, sent in self.system.transmissions():
+            self.b.send_raw(port, sent.frame)
+
+    def run(self, seconds: float, stop: Optional[Callable[[], bool]] = None) -> bool:
+        """Runs both ends for so long, or until `stop`."""
+        limit = self.b.now() + seconds
+        while self.b.now() < limit:
+            self.b.until(min(TICK, max(0.0, self.due - self.b.now())) + 0.001, lambda: len(self.b.frames) > self.done)
+            self.feed()
+            if stop and stop():
+                return True
+        return False
+
+
+def comes_up(b: Bench, links: tuple[int, ...]) -> None:
+    """Both ends carry on these links, and go on."""
+    engine, begin = Engine(b, links), b.now()
+    with engine.system as system:
+
+        def both() -> bool:
+            return all(system.distributes(it) and b.carries(it) for it in links)
+
+        engine.run(12, both)
+        states = ", ".join(system.port_status(it).name for it in links)
+        b.claim(both(), f"both ends carry after {b.now() - begin:.1f} s: {states}", *[b.frame(it) for it in links])
+        broken: list[bool] = []
+
+        def looks() -> bool:
+            broken.extend([] if both() else [True])
+            return False
+
+        engine.run(5, looks)
+        b.claim(not broken, "and for 5 s more")
+        if len(links) > 1:
+            one = system.group(1) == system.group(2) and system.choice(1) == system.choice(2)
+            b.claim(one, f"one group {system.group(1)}, one aggregator")
+
+
+@group.test("01", "6.4", "One link to the proved engine", "be a system of the engine on link 1",
+            rule="both ends distribute within 12 s, and for 5 s more", takes=9)  # fmt: skip
+def one_link(b: Bench) -> None:
+    """A partner that is right for every input, with its own wait_while, comes up with the device."""
+    comes_up(b, (1,))
+
+
+@group.test("02", "6.4", "Two links to the proved engine", "be one system of the engine on both links",
+            rule="both ends distribute on both links within 12 s, in one group, and for 5 s more", links=2, takes=9,
+            needs=("two-ports",))  # fmt: skip
+def two_links(b: Bench) -> None:
+    """As before, on two links of one aggregator."""
+    comes_up(b, (1, 2))
+
+
+@group.test("03", "6.5", "The engine's marker is answered", "be the engine on link 1, and probe", rule="the engine notes that the peer answers",
+            takes=7, needs=("marker-responder",), causes=("MK-01",))  # fmt: skip
+def probe(b: Bench) -> None:
+    """What the engine needs of a peer before it moves a conversation behind a marker."""
+    engine = Engine(b, (1,))
+    with engine.system as system:
+        engine.run(8, lambda: system.distributes(1))
+        engine.run(2.6)
+        sent = system.probe(1)
+        frame = b.send_raw(1, sent.frame) if sent else None
+        engine.run(1.5, lambda: system.answers(1) is Answers.ANSWERED)
+        answers = system.answers(1)
+        b.claim(answers is Answers.ANSWERED, f"the engine notes: {answers.name}", frame, *(b.markers(1, frame.number) if frame else ()))

@@ -1,0 +1,99 @@
+"""IV: what holds for every frame of the whole run. These come last and send nothing."""
+
+from __future__ import annotations
+
+from typing import Optional, Tuple
+
+from niwhopera import Info, Lacpdu, PortId, State, SystemId
+
+from ..bench import Bench
+from ..model import Frame, Group
+from ..pdus import PAYLOAD, SLOW, put, read, six
+
+group = Group("IV", "All frames of the run")
+# The first octets of the systems that the bench is.
+OURS = b"\x02\xcf"
+Six = Tuple[SystemId, int, PortId, bool]
+
+
+def lacpdus(b: Bench) -> list[tuple[Frame, Lacpdu]]:
+    """All LACPDUs of the device."""
+    return [(it, it.lacpdu) for it in b.frames if not it.out and it.lacpdu]
+
+
+def implies(info: Info, one: State, other: State) -> bool:
+    """Whether the first bit is set with the second one alone."""
+    return not info.state & one or bool(info.state & other)
+
+
+@group.test("01", "6.4.15", "Distributing implies Collecting, and that implies Synchronization", "look at all LACPDUs of the run",
+            rule="no LACPDU tells otherwise", takes=0.1)  # fmt: skip
+def implied(b: Bench) -> None:
+    """In each state of the mux machine Distributing has Collecting, and Collecting has Synchronization."""
+    found = lacpdus(b)
+    pairs = ((State.DISTRIBUTING, State.COLLECTING), (State.COLLECTING, State.SYNCHRONIZATION))
+    wrong = [it for it, pdu in found if not all(implies(pdu.actor, *pair) for pair in pairs)]
+    b.claim(not wrong, f"{len(wrong)} of {len(found)} LACPDUs", *wrong[:4])
+
+
+@group.test("02", "6.4.15, 6.4.9", "It never carries for a partner that it tells as out of sync", "look at all LACPDUs of the run",
+            rule="no LACPDU has Distributing with Partner_State.Synchronization 0", takes=0.1, causes=("MX-03",))  # fmt: skip
+def in_sync(b: Bench) -> None:
+    """COLLECTING_DISTRIBUTING is left as partner Synchronization becomes false; no LACPDU is sent between."""
+    found = lacpdus(b)
+    wrong = [it for it, pdu in found if pdu.actor.state & State.DISTRIBUTING and not pdu.partner.state & State.SYNCHRONIZATION]
+    b.claim(not wrong, f"{len(wrong)} of {len(found)} LACPDUs", *wrong[:4])
+
+
+@group.test("03", "6.4.2, 6.5.3", "The proved codec reads each frame of Slow Protocols", "look at all frames of type 8809 of the device",
+            rule="niwhopera.decode refuses none; TLV types as they have to be; 124 octets", takes=0.1)  # fmt: skip
+def whole(b: Bench) -> None:
+    """Nothing but LACPDUs and Marker PDUs of the right shape came, in the whole run."""
+    slow = [it for it in b.frames if not it.out and it.octets[12:14] == SLOW]
+    sent = {it.octets[17:30] for it in b.frames if it.out and it.octets[12:15] == SLOW + b"\2"}  # whose response may be as wrong
+
+    def is_whole(it: Frame) -> bool:
+        types = (16, 36, 56) if it.lacpdu else ()
+        right = all(it.octets[at : at + 1] == bytes([number]) for number, at in enumerate(types, 1))
+        return it.pdu is not None and right and len(it.octets) >= 124
+
+    wrong = [it for it in slow if not is_whole(it) and it.octets[17:30] not in sent]
+    b.claim(not wrong, f"{len(wrong)} of {len(slow)} frames are something else{f': {wrong[0].fault}' if wrong else ''}", *wrong[:4])
+
+
+@group.test("04", "6.4.9 (recordPDU)", "The partner that it tells is one that it was told", "look at all LACPDUs of the run whose partner is one of our systems",
+            rule="each was sent on that link before", takes=0.1)  # fmt: skip
+def known(b: Bench) -> None:
+    """A partner that is told was the actor of an LACPDU on that link: nothing is mixed between links."""
+    sent: dict[int, set[Six]] = {link: set() for link in b.links}
+    wrong = []
+    for frame in b.frames:
+        pdu = frame.lacpdu or (shown(frame) if frame.out else None)
+        if pdu and frame.out:
+            sent[frame.link].add(six(pdu.actor))
+        elif pdu and pdu.partner.system.mac[:2] == OURS and six(pdu.partner) not in sent[frame.link]:
+            wrong.append(frame)
+    b.claim(not wrong, f"{len(wrong)} LACPDUs tell a partner that was never there", *wrong[:3])
+
+
+def shown(frame: Frame) -> Optional[Lacpdu]:
+    """What a device may read in an LACPDU of ours that the codec refuses, for its lengths or its end."""
+    if frame.octets[12:15] != SLOW + b"\1" or len(frame.octets) < PAYLOAD + 30:
+        return None
+    octets = frame.octets[PAYLOAD:] + bytes(110)
+    pdu, _ = read(SLOW.rjust(PAYLOAD, b"\0") + put(put(put(octets, 3, b"\x14"), 23, b"\x14"), 43, b"\x10"))
+    return pdu if isinstance(pdu, Lacpdu) else None
+
+
+@group.test("05", "6.4.16", "At most three LACPDUs a second, in the whole run", "look at all LACPDUs of the run",
+            rule="never four in 0.75 s on a link; four in 0.98 s are told", tolerance="timers 0.25 s", takes=0.1, causes=("TX-01",))  # fmt: skip
+def rate(b: Bench) -> None:
+    """The limit of the transmit machine holds whatever the partner does."""
+    for link in b.links:
+        found = list(b.heard(link, 0))
+        spans = [found[at + 3].time - found[at].time for at in range(len(found) - 3)]
+        high = [at for at, span in enumerate(spans) if span < 0.75]
+        text = f"link {link}: four or more LACPDUs within 0.75 s, {len(high)} times of {len(found)}"
+        b.claim(not high, text, *(found[high[0] : high[0] + 4] if high else ()))
+        if not high and (near := [span for span in spans if span < 0.98]):
+            b.note(f"link {link}: four or more within 0.98 s, {len(near)} times")

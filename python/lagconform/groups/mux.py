@@ -1,0 +1,179 @@
+"""MX: the mux machine (6.4.15). Coupled and independent control are both right; what is told of a device says which it has."""
+
+from __future__ import annotations
+
+from niwhopera import Lacpdu, State
+
+from ..bench import PROMPT, TIMERS, Bench
+from ..model import Group, Stop
+from ..pdus import CARRIES, words
+from .receive import carries, does_not_carry
+
+group = Group("MX", "Mux machine (6.4.15)")
+OUT_OF_SYNC = {State.SYNCHRONIZATION: False, State.COLLECTING: False, State.DISTRIBUTING: False}
+# What explains that a device skips WAITING.
+NO_WAIT = ("RX-12b",)
+
+
+def attach(b: Bench) -> int:
+    """Beside a new partner that is not in sync, the device is ATTACHED; the mark of the start."""
+    b.begin(1, silent=True)
+    b.partner().forced.update(OUT_OF_SYNC)
+    mark = b.mark()
+    b.partner().speak()
+    if not b.first(1, mark, lambda pdu: pdu.actor.state & State.SYNCHRONIZATION and b.partner().is_named_by(pdu), 6):
+        raise Stop("the device is not synchronized after 6 s")
+    b.wait(0.4)
+    return mark
+
+
+@group.test("01", "6.4.15, 6.4.4", "wait_while: 2 s before Synchronization", "be a new partner on one link",
+            rule="Synchronization is 0 first, and 1 after 2 s", tolerance="2 s: -0.25 s, +0.75 s (timer and LACPDU)", takes=3,
+            causes=NO_WAIT)  # fmt: skip
+def waits(b: Bench) -> None:
+    """A port that is selected waits Aggregate_Wait_Time, 2 s, in WAITING before it attaches."""
+    b.begin(1, silent=True)
+    partner = b.partner()
+    partner.forced.update(OUT_OF_SYNC)
+    mark, sent = b.mark(), partner.send()
+    partner.speak()
+    first = b.first(1, mark, lambda pdu: pdu.partner.system == partner.me.system, 2)
+    told = first.lacpdu.actor.state if first and first.lacpdu else None
+    b.claim(told is not None and not told & State.SYNCHRONIZATION, "the first LACPDU that names us is not synchronized", first)
+    seen = b.first(1, mark, lambda pdu: pdu.partner.system == partner.me.system and pdu.actor.state & State.SYNCHRONIZATION, 6)
+    b.timed("it is synchronized", sent, seen, 2, 2, timer=True)
+
+
+@group.test("02", "6.4.15", "ATTACHED until the partner is in sync", "be a partner out of sync for 4 s", "then in sync, without Collecting",
+            rule="Collecting 0 before; promptly 1 after Synchronization of the partner", tolerance="prompt: 0.5 s", takes=5,
+            causes=("RX-09",))  # fmt: skip
+def collects(b: Bench) -> None:
+    """From ATTACHED the port collects as soon as the partner is synchronized; with coupled control it distributes at once, too."""
+    mark = attach(b)
+    b.wait(1.5)
+    system = b.partner().me.system
+    wrong = list(b.heard(1, mark, lambda pdu: pdu.actor.state & CARRIES and pdu.partner.system == system))
+    b.claim(not wrong, "it does not collect before", *wrong[:2])
+    mark, sent = b.mark(), b.say(sync=True)
+    seen = b.first(1, mark, lambda pdu: pdu.actor.state & State.COLLECTING, 3)
+    b.timed("it collects", sent, seen, 0, PROMPT)
+    b.wait(0.5)
+    coupled = b.bits() & State.DISTRIBUTING
+    b.note("coupled control: it distributes without Collecting of the partner" if coupled else "independent control: it waits for Collecting")
+    mark, sent = b.mark(), b.say(collecting=True, distributing=True)
+    b.first(1, mark, lambda pdu: pdu.actor.state & State.DISTRIBUTING, 1.5)
+    b.claim(b.carries(), "with Collecting of the partner it distributes", b.frame())
+
+
+@group.test("03", "6.4.15", "The partner falls out of sync", "carry", "say Synchronization 0",
+            rule="promptly Collecting and Distributing 0; Synchronization stays 1", tolerance="prompt: 0.5 s", takes=3,
+            causes=("RX-09",))  # fmt: skip
+def back_to_attached(b: Bench) -> None:
+    """From COLLECTING_DISTRIBUTING the port goes to ATTACHED, not to DETACHED, if the partner falls out of sync."""
+    b.still_up()
+    mark, sent = b.mark(), b.say(sync=False, collecting=False, distributing=False)
+    seen = b.first(1, mark, does_not_carry, 2)
+    b.timed("it neither collects nor distributes", sent, seen, 0, PROMPT)
+    b.wait(1.5)
+    wrong = list(b.heard(1, mark, lambda pdu: not pdu.actor.state & State.SYNCHRONIZATION))
+    b.claim(not wrong, "it stays synchronized: ATTACHED", *wrong[:2])
+    mark = b.mark()
+    b.partner().forced.clear()
+    sent = b.partner().send()
+    seen = b.first(1, mark, carries, 4)
+    b.timed("in sync again, it carries", sent, seen, 0, PROMPT)
+
+
+@group.test("04", "6.4.15", "The partner stops collecting", "carry", "say Collecting and Distributing 0, Synchronization 1",
+            rule="coupled: it carries on; independent: it collects alone. It stays synchronized and collects", takes=3)  # fmt: skip
+def partner_stops_collecting(b: Bench) -> None:
+    """Collecting of the partner has no part in coupled control; in independent control the port stops distributing."""
+    b.still_up()
+    mark = b.mark()
+    b.say(collecting=False, distributing=False)
+    b.wait(2.2)
+    both = State.COLLECTING | State.SYNCHRONIZATION
+    wrong = list(b.heard(1, mark, lambda pdu: pdu.actor.state & both != both))
+    b.claim(not wrong and list(b.heard(1, mark)), "it is synchronized and collects all the time", *wrong[:2])
+    b.note("it distributes on: coupled control" if b.bits() & State.DISTRIBUTING else "it stops distributing: independent control")
+
+
+@group.test("05", "6.4.15, 6.4.9", "Detached: all three bits fall", "carry", "change our key",
+            rule="the first LACPDU that names the new key has Synchronization, Collecting and Distributing 0", takes=2,
+            causes=NO_WAIT)  # fmt: skip
+def detaches(b: Bench) -> None:
+    """UNSELECTED brings DETACHED: neither synchronized nor collecting nor distributing is told together with the new partner."""
+    b.still_up()
+    b.partner().become_other("key")
+    mark = b.mark()
+    b.partner().send()
+    seen = b.first(1, mark, lambda pdu: pdu.partner.key == b.partner().me.key, 2)
+    told = seen.lacpdu.actor.state if seen and seen.lacpdu else None
+    b.claim(told is not None and not told & (State.SYNCHRONIZATION | CARRIES), f"it tells {'nothing' if told is None else words(told)}", seen)
+
+
+@group.test("06", "6.4.15 (Ready), 6.4.14", "Ports wait for each other", "be a new partner on link 1",
+            "1.5 s later the same partner on link 2",
+            rule="both attach when the later one has waited: link 1 3.5 s after it was selected, both at once",
+            tolerance="-0.25 s, +0.75 s (timer and LACPDU)", links=2, takes=12, needs=("two-ports",), causes=NO_WAIT)  # fmt: skip
+def wait_together(b: Bench) -> None:
+    """Ready is true if Ready_N is for all ports that wait to attach to the aggregator: a port that comes 1.5 s later holds the first one
+    back, so that both attach at once."""
+    b.silence()
+    b.wait(7)
+    b.begin(1, 2, silent=True)
+    mark, sent = b.mark(), b.partner(1).send()
+    b.partner(1).speak()
+    b.wait(1.5)
+    later = b.partner(2).send()
+    b.partner(2).speak()
+
+    def ours(pdu: Lacpdu) -> bool:
+        return pdu.partner.system == b.partner(1).me.system and pdu.actor.state & State.SYNCHRONIZATION != 0
+
+    one, two = b.first(1, mark, ours, 6), b.first(2, mark, ours, 4)
+    if not one or not two:
+        raise Stop(f"not both links are synchronized: {bool(one)}, {bool(two)}")
+    b.timed("link 1 is synchronized", sent, one, 3.5, 3.5, timer=True)
+    b.timed("link 2 is synchronized", later, two, 2, 2, timer=True)
+    apart = abs(one.time - two.time)
+    b.claim(apart <= TIMERS + PROMPT + b.slack, f"{apart:.2f} s lie between them", one, two)
+
+
+@group.test("07", "6.4.15, 6.4.9", "A partner that alternates in and out of sync", "carry",
+            "say Synchronization 0 and 1 in turn, each 0.7 s, six times",
+            rule="Collecting and Distributing follow each time, never told beside partner Synchronization 0", tolerance="prompt: 0.5 s",
+            takes=5, causes=("MX-03",))  # fmt: skip
+def alternates(b: Bench) -> None:
+    """Each change of partner Synchronization moves the port between ATTACHED and COLLECTING_DISTRIBUTING."""
+    b.still_up()
+    b.partner().keep_pace(1)
+    start, missed = b.mark(), []
+    for turn in range(6):
+        on = bool(turn % 2)
+        mark, sent = b.mark(), b.say(sync=on, collecting=on, distributing=on)
+        b.wait(0.7)
+        if not next(b.heard(1, mark, lambda pdu: carries(pdu) == on), None):
+            missed.append(sent)
+    b.claim(not missed, f"{6 - len(missed)} of 6 changes were followed within 0.7 s", *missed[:3])
+    wrong = list(b.heard(1, start, lambda pdu: pdu.actor.state & State.DISTRIBUTING and not pdu.partner.state & State.SYNCHRONIZATION))
+    b.claim(not wrong, "Distributing is never told beside a partner out of sync", *wrong[:3])
+
+
+@group.test("08", "6.4.15, 6.3.5", "An individual partner", "be a partner that is not aggregatable, in sync",
+            rule="the device is synchronized after 2 s and carries, or never is", tolerance="2 s: -0.25 s, +0.75 s (timer and LACPDU)",
+            takes=4, causes=NO_WAIT)  # fmt: skip
+def individual(b: Bench) -> None:
+    """A link whose partner is individual is a group of its own; the device may carry on it. It is told as it is: the partner's Aggregation
+    is 0."""
+    b.begin(1, silent=True)
+    partner = b.partner()
+    partner.become(aggregatable=False)
+    mark, sent = b.mark(), partner.send()
+    partner.speak()
+    seen = b.first(1, mark, lambda pdu: pdu.actor.state & State.SYNCHRONIZATION and pdu.partner.system == partner.me.system, 5)
+    if seen:
+        b.timed("it is synchronized", sent, seen, 2, 2, timer=True)
+    b.wait(0.7)
+    b.note("it carries on an individual link" if b.carries() else "it does not carry on an individual link")
+    b.claim(not b.device().partner.state & State.AGGREGATION, "Aggregation of the partner is told as 0", b.frame())

@@ -1,0 +1,159 @@
+"""PT: the periodic transmission machine (6.4.13)."""
+
+from __future__ import annotations
+
+from typing import Sequence
+
+from niwhopera import State
+
+from ..bench import PROMPT, TIMERS, Bench
+from ..model import DoesNotApply, Frame, Group, Stop
+from .receive import wants_active
+
+group = Group("PT", "Periodic transmission (6.4.13)")
+
+
+def gaps(found: Sequence[Frame]) -> list[float]:
+    """The seconds between frames."""
+    return [two.time - one.time for one, two in zip(found, found[1:])]
+
+
+def listed(between: Sequence[float]) -> str:
+    """Gaps as text."""
+    return ", ".join(f"{it:.2f}" for it in between) or "none"
+
+
+def calm(b: Bench, short: bool) -> None:
+    """Carrying, asked for this timeout, with a partner that answers nothing, and with nothing left to tell."""
+    b.up()
+    b.wait(1.2)
+    b.partner().become(short=short)
+    b.partner().send()
+    b.partner().keep_pace(1)
+    b.wait(1.6)
+
+
+@group.test("01", "6.4.13, 6.4.4", "Short timeouts: one LACPDU each second", "carry, and ask for short timeouts", "take LACPDUs for 8 s",
+            rule="each gap is 1 s", tolerance="timers 0.25 s", takes=14)  # fmt: skip
+def fast(b: Bench) -> None:
+    """A partner that asks for short timeouts gets an LACPDU each Fast_Periodic_Time."""
+    calm(b, True)
+    mark = b.mark()
+    b.wait(8.3)
+    found = list(b.heard(1, mark))
+    between, more = gaps(found), TIMERS + b.slack
+    if not between:
+        b.claim(False, f"{len(found)} LACPDUs in 8.3 s", *found)
+        return
+    wrong = [at for at, gap in enumerate(between) if abs(gap - 1) > more]
+    text = f"{len(between)} gaps of {min(between):.2f} to {max(between):.2f} s; has to be 1 s, within {more:.2f} s"
+    b.claim(not wrong and len(found) > 4, text, *[it for at in wrong[:2] for it in found[at : at + 2]] or found[:2])
+
+
+@group.test("02", "6.4.13", "Long timeouts: quiet", "carry, and ask for long timeouts", "take LACPDUs for 8 s", rule="at most one", takes=14)
+def slow_is_quiet(b: Bench) -> None:
+    """A partner that asks for long timeouts gets an LACPDU each Slow_Periodic_Time of 30 s: at most one in 8 s."""
+    calm(b, False)
+    mark = b.mark()
+    b.wait(8)
+    found = list(b.heard(1, mark))
+    b.claim(len(found) <= 1, f"{len(found)} LACPDUs in 8 s", *found[:4])
+
+
+@group.test("03", "6.4.13", "From long to short", "ask for long timeouts for 4 s", "ask for short ones",
+            rule="an LACPDU promptly (PERIODIC_TX), then one each second", tolerance="prompt: 0.5 s; timers 0.25 s", takes=11,
+            causes=("TX-06",))  # fmt: skip
+def to_short(b: Bench) -> None:
+    """In SLOW_PERIODIC a partner that asks for short timeouts brings PERIODIC_TX: NTT at once."""
+    calm(b, False)
+    b.wait(1.5)
+    mark = b.mark()
+    b.partner().become(short=True)
+    sent = b.partner().send()
+    seen = b.first(1, mark, lambda _: True, 2)
+    b.timed("an LACPDU comes", sent, seen, 0, PROMPT)
+    b.wait(3.3)
+    found = list(b.heard(1, mark))
+    between = gaps(found)
+    b.claim(len(between) >= 2 and max(between) <= 1 + TIMERS + b.slack, f"then gaps of {listed(between)} s", *found[:4])
+
+
+@group.test("04", "6.4.13", "From short to long", "ask for short timeouts", "ask for long ones",
+            rule="in the 6 s after 1.5 s, at most one LACPDU", takes=13)  # fmt: skip
+def to_long(b: Bench) -> None:
+    """In FAST_PERIODIC a partner that asks for long timeouts brings SLOW_PERIODIC."""
+    calm(b, True)
+    b.partner().become(short=False)
+    b.partner().send()
+    b.wait(1.5)
+    mark = b.mark()
+    b.wait(6)
+    found = list(b.heard(1, mark))
+    b.claim(len(found) <= 1, f"{len(found)} LACPDUs in 6 s", *found[:4])
+
+
+@group.test("05", "6.4.12, 6.4.13", "In EXPIRED it sends each second", "ask for long timeouts", "say nothing: the device expires after 3 s",
+            "take LACPDUs in the next 3 s", rule="at least two, each with partner Timeout short", takes=12, needs=("short-timeouts",),
+            causes=("RX-02",))  # fmt: skip
+def expired_is_fast(b: Bench) -> None:
+    """EXPIRED sets Partner_Oper_Port_State.LACP_Timeout to short: the device sends each second there, whatever the partner had asked
+    for."""
+    if not b.bits() & State.TIMEOUT:
+        raise DoesNotApply("the device asks for long timeouts: this takes 90 s (PICS: short-timeouts)")
+    calm(b, False)
+    b.partner().send()
+    b.silence()
+    mark = b.mark()
+    seen = b.first(1, mark, lambda pdu: pdu.actor.state & State.EXPIRED, 4.5)
+    if not seen:
+        raise Stop("it did not expire")
+    b.wait(2.6)
+    found = list(b.heard(1, mark, lambda pdu: pdu.actor.state & State.EXPIRED))
+    b.claim(len(found) >= 2, f"{len(found)} LACPDUs in EXPIRED", *found[:4])
+    long = [it for it in found if it.lacpdu and not it.lacpdu.partner.state & State.TIMEOUT]
+    b.claim(not long, "partner Timeout is told as short", *long[:2] or found[:2])
+
+
+@group.test("06", "6.4.13", "A passive partner gets LACPDUs of an active device", "carry, with Activity 0 of our own",
+            rule="LACPDUs each second go on", tolerance="timers 0.25 s", takes=9, needs=("active",))  # fmt: skip
+def passive_partner(b: Bench) -> None:
+    """If either end is active, LACPDUs are sent periodically."""
+    wants_active(b)
+    b.up()
+    b.partner().become(active=False)
+    b.partner().send()
+    b.partner().keep_pace(1)
+    b.wait(1.2)
+    mark = b.mark()
+    b.wait(4.3)
+    found = list(b.heard(1, mark))
+    between = gaps(found)
+    b.claim(len(between) >= 2 and max(between) <= 1 + TIMERS + b.slack, f"gaps of {listed(between)} s", *found[:3])
+
+
+@group.test("07", "6.4.13, 6.4.4", "Long timeouts: one LACPDU each 30 s", "carry, and ask for long timeouts", "take LACPDUs for 92 s",
+            rule="each gap is 30 s", tolerance="timers 0.25 s", takes=98)  # fmt: skip
+def slow(b: Bench) -> None:
+    """A partner that asks for long timeouts gets an LACPDU each Slow_Periodic_Time."""
+    calm(b, False)
+    mark = b.mark()
+    b.wait(92)
+    found = list(b.heard(1, mark))
+    between, more = gaps(found), TIMERS + b.slack
+    right = between and all(abs(it - 30) <= more for it in between)
+    b.claim(right, f"gaps of {listed(between)} s; has to be 30 s, within {more:.2f} s", *found)
+
+
+@group.test("08", "6.4.13, 6.4.12", "An active device speaks first", "say nothing until it is on defaults", "take LACPDUs for 31 s",
+            rule="at least one", takes=40, needs=("active",))  # fmt: skip
+def speaks_first(b: Bench) -> None:
+    """An active device sends LACPDUs without a partner, each 30 s at least."""
+    wants_active(b)
+    b.silence()
+    b.wait(8)
+    mark = b.mark()
+    b.wait(31)
+    found = list(b.heard(1, mark))
+    b.claim(found, f"{len(found)} LACPDUs in 31 s", *found[:3])
+    if between := gaps(found):
+        b.note(f"on defaults it sends each {min(between):.2f} to {max(between):.2f} s")

@@ -1,0 +1,221 @@
+"""RX: the receive machine (6.4.12) and its functions (6.4.9). `silence` has the tests of its timers."""
+
+from __future__ import annotations
+
+from niwhopera import Info, Lacpdu, State
+
+from ..bench import PROMPT, TIMERS, Bench
+from ..model import DoesNotApply, Group, Run, Stop
+from ..pdus import CARRIES, NOBODY, SIX, end, other, other_octet, six
+
+group = Group("RX", "Receive machine (6.4.12)")
+
+
+def wants_active(b: Bench) -> None:
+    """A passive device leaves nothing to see here."""
+    if not b.bits() & State.ACTIVITY:
+        raise DoesNotApply("the device is passive (PICS: active)")
+
+
+def does_not_carry(pdu: Lacpdu) -> bool:
+    """Whether neither Collecting nor Distributing is told."""
+    return not pdu.actor.state & CARRIES
+
+
+def carries(pdu: Lacpdu) -> bool:
+    """Whether Collecting and Distributing are told."""
+    return pdu.actor.state & CARRIES == CARRIES
+
+
+@group.test("01", "6.4.12", "An LACPDU makes the partner current", "carry", "be another system: send one LACPDU",
+            rule="the next periodic LACPDU at the latest names us, and Expired and Defaulted are 0 in it", tolerance="1 s, timers 0.25 s",
+            takes=2)  # fmt: skip
+def current(b: Bench) -> None:
+    """An LACPDU of a new partner brings CURRENT: Expired and Defaulted false, and the partner is recorded at once."""
+    b.still_up()
+    b.begin(1, silent=True)
+    mark, sent = b.mark(), b.partner().send()
+    seen = b.first(1, mark, lambda pdu: pdu.partner.system == b.partner().me.system, 3)
+    b.timed("the new partner is named", sent, seen, 0, 1 + TIMERS)
+    pdu = seen.lacpdu if seen else None
+    b.claim(pdu and not pdu.actor.state & (State.EXPIRED | State.DEFAULTED), "neither Expired nor Defaulted", seen)
+
+
+def differs(field: str) -> Run:
+    """A partner that names the device wrong in one of the six parameters."""
+
+    def run(b: Bench) -> None:
+        b.still_up()
+        partner = b.partner()
+        mark, partner.says = b.mark(), lambda info: other(info, field)
+        sent = partner.send()
+        seen = b.first(1, mark, does_not_carry, 1.6)
+        b.timed(f"with another {field} of the device it stops carrying", sent, seen, 0, PROMPT)
+        b.wait(1.3)
+        back = next(b.heard(1, seen.number, lambda pdu: pdu.actor.state & CARRIES), None) if seen else None
+        b.claim(not back, "and stays so", back)
+        mark, partner.says = b.mark(), None
+        sent = partner.send()
+        seen = b.first(1, mark, carries, 4)
+        b.claim(seen, f"named right again, it carries {f'after {seen.time - sent.time:.2f} s' if seen else 'never again'}", sent, seen)
+
+    return run
+
+
+for _place, _field in enumerate(SIX):
+    group.test(f"07{'abcdef'[_place]}", "6.4.9 (recordPDU)", f"A partner that names another {_field}", "carry",
+               f"name another {_field} of the device, and say Synchronization", "name the right one again",
+               rule="it stops carrying, and carries again", tolerance="prompt: 0.5 s", takes=3, causes=("RX-08",),
+               purpose="recordPDU takes the partner for synchronized only if the PDU's partner equals the device in all six parameters. "
+               f"One with another {_field} stops the port from carrying, though it says Synchronization.")(differs(_field))  # fmt: skip
+
+
+@group.test("07g", "6.4.9 (recordPDU)", "Each octet of the system is compared", "carry",
+            "name another system of the device, six times: each differs in one octet", rule="it stops carrying each time",
+            tolerance="1.3 s", takes=6, causes=("RX-07b", "RX-08"))  # fmt: skip
+def each_octet(b: Bench) -> None:
+    """A system that differs from the device's in any one octet is another system."""
+    b.still_up()
+    partner = b.partner()
+    for at in range(6):
+        mark, partner.says = b.mark(), lambda info, at=at: other_octet(info, at)  # type: ignore[misc]
+        sent = partner.send()
+        seen = b.first(1, mark, does_not_carry, 1.3)
+        b.claim(seen, f"octet {at}: it {'stops' if seen else 'goes on'} carrying", sent, seen)
+        mark, partner.says = b.mark(), None
+        partner.send()
+        b.first(1, mark, carries, 4)
+
+
+@group.test("08", "6.4.9 (recordPDU)", "A partner that never names the device",
+            "be an aggregatable partner in sync that collects and distributes, whose partner fields are all 0",
+            rule="for 6 s the device never collects or distributes", takes=7)  # fmt: skip
+def never_named(b: Bench) -> None:
+    """An aggregatable partner that does not name the device is not synchronized: nothing is carried towards it."""
+    b.begin(1, silent=True)
+    partner, mark = b.partner(), b.mark()
+    partner.says = lambda _: NOBODY
+    partner.forced.update({State.SYNCHRONIZATION: True, State.COLLECTING: True, State.DISTRIBUTING: True})
+    partner.keep_pace(1)
+    b.wait(6)
+    if not list(b.heard(1, mark)):
+        raise Stop("no LACPDU of the device")
+    wrong = list(b.heard(1, mark, lambda pdu: pdu.actor.state & CARRIES and pdu.partner.system == partner.me.system))
+    b.claim(not wrong, f"{len(wrong)} LACPDUs that collect or distribute", *wrong[:3])
+
+
+@group.test("09", "6.4.9 (recordPDU)", "A partner out of sync", "be a partner that names the device, without Synchronization",
+            rule="for 5 s the device is synchronized but does not carry", takes=6, causes=("MX-02",))  # fmt: skip
+def out_of_sync(b: Bench) -> None:
+    """Without Actor_State.Synchronization of the PDU the port stays in ATTACHED: Synchronization 1, Collecting and Distributing 0."""
+    b.begin(1, silent=True)
+    partner, mark = b.partner(), b.mark()
+    partner.forced.update({State.SYNCHRONIZATION: False, State.COLLECTING: False, State.DISTRIBUTING: False})
+    partner.speak()
+    b.wait(5)
+    wrong = list(b.heard(1, mark, lambda pdu: pdu.partner.system == partner.me.system and pdu.actor.state & CARRIES))
+    b.claim(not wrong, "it neither collects nor distributes", *wrong[:3])
+    b.claim(b.bits() & State.SYNCHRONIZATION, "it is synchronized itself", b.frame())
+
+
+@group.test("10", "6.4.9 (recordPDU)", "A passive partner that knows that the device is active",
+            "be a passive partner (Activity 0) that names the device with its Activity 1", rule="it carries", takes=4, needs=("active",))  # fmt: skip
+def passive(b: Bench) -> None:
+    """A link is actively maintained if both Actor_Oper_Port_State.LACP_Activity and the PDU's Partner_State.LACP_Activity are true."""
+    wants_active(b)
+    b.begin(1, silent=True)
+    b.partner().become(active=False)
+    mark = b.mark()
+    b.partner().speak()
+    seen = b.first(1, mark, lambda pdu: carries(pdu) and not pdu.partner.state & State.ACTIVITY, 6)
+    b.claim(seen, "it carries for a passive partner", seen)
+
+
+@group.test("11", "6.4.9 (recordPDU)", "A passive partner that takes the device for passive", "carry with a passive partner",
+            "tell the device's Activity as 0", rule="it stops carrying: the link is not actively maintained", tolerance="prompt: 0.5 s",
+            takes=6, needs=("active",), causes=("RX-08",))  # fmt: skip
+def not_maintained(b: Bench) -> None:
+    """If neither end is active as far as the PDU tells, the link is not actively maintained, and the partner is not synchronized."""
+    wants_active(b)
+    b.up()
+    partner = b.partner()
+    partner.become(active=False)
+    partner.send()
+    b.wait(1.2)
+    if not b.carries():
+        raise Stop("it does not carry for a passive partner")
+    mark = b.mark()
+    partner.says = lambda info: Info(info.system, info.key, info.port, info.state & ~State.ACTIVITY)
+    sent = partner.send()
+    seen = b.first(1, mark, does_not_carry, 2)
+    b.timed("it stops carrying", sent, seen, 0, PROMPT)
+
+
+def selects_anew(field: str) -> Run:
+    """A partner that changes one of its six parameters."""
+
+    def run(b: Bench) -> None:
+        b.still_up()
+        partner = b.partner()
+        partner.become_other(field)
+        mark, sent = b.mark(), partner.send()
+        seen = b.first(1, mark, lambda pdu: not pdu.actor.state & State.SYNCHRONIZATION, 1.6)
+        b.timed(f"with another {field} it is no longer synchronized", sent, seen, 0, PROMPT)
+        if seen:
+            own = six(partner.me.info)
+            sync = b.first(1, seen.number, lambda pdu: pdu.actor.state & State.SYNCHRONIZATION and six(pdu.partner) == own, 4)
+            b.timed("it is synchronized with the changed partner", sent, sync, 2, 2, timer=True)
+
+    return run
+
+
+for _place, _field in enumerate(SIX):
+    group.test(f"12{'abcdef'[_place]}", "6.4.9 (update_Selected)", f"A partner that changes its {_field}", "carry",
+               f"send LACPDUs with another {_field} of our own", rule="Synchronization is 0 promptly, and 1 after 2 s",
+               tolerance="prompt: 0.5 s; 2 s: -0.25 s, +0.75 s (timer and LACPDU)", takes=4, causes=() if _field == "system" else ("RX-12b",),
+               purpose=f"update_Selected: another {_field} of the partner makes the port UNSELECTED: it detaches (Synchronization 0), and "
+               "attaches after wait_while of 2 s.")(selects_anew(_field))  # fmt: skip
+
+
+@group.test("13", "6.4.12 (PORT_DISABLED)", "The link goes down and comes back", "carry", "take the link down for 1.5 s (--flap, or the hook)",
+            rule="the first LACPDU after it is Expired or Defaulted, and neither collects nor distributes; it carries again within 6 s",
+            takes=9, hooks=("down", "up"), causes=("RX-02",))  # fmt: skip
+def link_down(b: Bench) -> None:
+    """In PORT_DISABLED partner Synchronization is false, and the link comes back by EXPIRED."""
+    b.up()
+    b.link_goes(1, False)
+    b.wait(1.5)
+    b.silence()
+    mark = b.mark()
+    b.link_goes(1, True)
+    seen = b.first(1, mark, lambda _: True, 4)
+    if not seen or not seen.lacpdu:
+        raise Stop("no LACPDU after the link came back")
+    told = seen.lacpdu.actor
+    b.claim(not told.state & CARRIES, f"the first one does not carry: {end(told)}", seen)
+    b.claim(told.state & (State.EXPIRED | State.DEFAULTED), "and is Expired (or on defaults)", seen)
+    b.partner().speak()
+    again = b.first(1, mark, carries, 6)
+    b.claim(again, "it carries again", again)
+
+
+@group.test("15", "6.4.12 (BEGIN), 6.4.15", "The device starts anew", "carry",
+            "have the device end and start anew (hook: stop, start), and go on as its partner all the time",
+            rule="its first LACPDU, and all in the second after it, are not synchronized and carry nothing; it carries within 9 s",
+            tolerance="1 s, at least, of the 2 s of wait_while", takes=10, hooks=("stop", "start"), causes=("RX-12b",))  # fmt: skip
+def begins(b: Bench) -> None:
+    """After BEGIN the mux machine is DETACHED, and wait_while of 2 s runs before the port attaches."""
+    b.up()
+    b.hook("stop")
+    b.wait(0.3)
+    mark = b.mark()
+    b.hook("start")
+    first = b.first(1, mark, lambda _: True, 35)
+    if not first or not first.lacpdu:
+        raise Stop("no LACPDU after the start")
+    b.until(9, lambda: b.carries() and b.names_us())
+    after = [it for it in b.heard(1, mark) if it.time <= first.time + 1]
+    wrong = [it for it in after if it.lacpdu and it.lacpdu.actor.state & (State.SYNCHRONIZATION | CARRIES)]
+    told = end(first.lacpdu.actor)
+    b.claim(not wrong, f"{len(wrong)} of {len(after)} LACPDUs in its first second are synchronized or carry; the first one: {told}", first, *wrong[:3])
+    b.claim(b.carries(), "it carries again", b.frame())

@@ -1,0 +1,126 @@
+"""RB: frames that are no PDUs, and many of them. After each the device has to be as it was."""
+
+from __future__ import annotations
+
+from typing import Iterable
+
+from niwhopera import encode
+
+from ..bench import Bench, most_within
+from ..model import DEVICES, Group
+from ..partner import slow
+from ..pdus import GROUP, SLOW
+from .receive import carries
+
+group = Group("RB", "Robustness", DEVICES)
+HEAD = b"\1\1\1\x14"
+
+
+def storm(b: Bench, frames: Iterable[bytes], gap: float) -> None:
+    """Sends frames while the partner goes on; the device has to carry all the time, and to go on sending."""
+    b.still_up()
+    b.wait(1.2)
+    mark, count = b.mark(), 0
+    for octets in frames:
+        b.send_raw(1, octets)
+        count += 1
+        b.wait(gap)
+    b.wait(1.3)
+    found = list(b.heard(1, mark))
+    wrong = [it for it in found if it.lacpdu and not carries(it.lacpdu)]
+    if not found:
+        b.claim(False, "the device goes silent")
+        return
+    b.claim(not wrong, f"it carries all the time, through {count} frames", *wrong[:2])
+    b.claim(b.now() - found[-1].time < 2 + b.slack, "and it goes on sending", found[-1])
+
+
+def to_group(b: Bench) -> bytes:
+    """The addresses of a frame of ours."""
+    return GROUP + b.wire.source(1)
+
+
+@group.test("01", "802.3 3.1, 57A", "Short frames of Slow Protocols", "while it carries, send frames of type 8809 with 0 to 45 octets of payload",
+            rule="it carries all the time", takes=4)  # fmt: skip
+def runts(b: Bench) -> None:
+    """Frames that end within the header of a PDU, or before it, change nothing."""
+    storm(b, [to_group(b) + SLOW + (HEAD + bytes(60))[:size] for size in (*range(0, 8), 19, 20, 23, 24, 41, 43, 45)], 0.05)
+
+
+@group.test("02", "802.3 3.2.6", "Lengths in the place of the type", "send 802.3 frames to the group address whose length is 0, 46, 110, 1500, 1535",
+            rule="it carries all the time", takes=3)  # fmt: skip
+def lengths(b: Bench) -> None:
+    """A value below 1536 is a length, and no type."""
+    payload = HEAD + bytes(106)
+    storm(b, [to_group(b) + size.to_bytes(2, "big") + payload for size in (0, 46, 110, 1500, 1501, 1535)], 0.05)
+
+
+@group.test("03", "802.3 57A.4", "Every other subtype", "send frames of each subtype but 1 and 2, and an organization specific one",
+            rule="it carries all the time", takes=6)  # fmt: skip
+def subtypes(b: Bench) -> None:
+    """Frames of other slow protocols and of unknown subtypes change nothing."""
+    storm(b, [to_group(b) + SLOW + bytes([it]) + b"\1\1\x14" + bytes(106) for it in (0, *range(3, 256))], 0.01)
+
+
+@group.test("04", "6.4.12", "Random payloads behind a right head",
+            "send 300 frames of type 8809, subtype 1 or 2, with random octets of random length up to 60",
+            rule="it carries all the time: none is a whole PDU", takes=9)  # fmt: skip
+def noise(b: Bench) -> None:
+    """Short random PDUs change nothing, and do no harm."""
+    dice = b.dice("RB-04")
+    heads = (bytes([dice.choice((1, 2))]) + dice.randbytes(dice.randrange(0, 57)) for _ in range(300))
+    storm(b, [to_group(b) + SLOW + it for it in heads], 0.02)
+
+
+@group.test("05", "6.4.12, 6.4.16", "Random whole LACPDUs", "send 300 LACPDUs of 110 random octets in 6 s", "be a right partner again",
+            rule="at most three LACPDUs a second come all along (0.75 s: sure), and it carries again within 9 s", takes=10,
+            causes=("TX-01",))  # fmt: skip
+def wild(b: Bench) -> None:
+    """Partners that change with every LACPDU do no lasting harm."""
+    dice, mark = b.dice("RB-05"), b.mark()
+    b.silence()
+    for _ in range(300):
+        ends = HEAD + dice.randbytes(18) + b"\2\x14" + dice.randbytes(18)
+        b.send_raw(1, to_group(b) + SLOW + ends + b"\3\x10" + dice.randbytes(66))
+        b.wait(0.02)
+    found = list(b.heard(1, mark))
+    most = most_within([it.time for it in found], 0.75)
+    b.claim(most <= 3, f"{most} LACPDUs within 0.75 s", *found[:1])
+    b.up()
+    b.claim(b.carries(), "a right partner is carried for again", b.frame())
+
+
+@group.test("06", "6.4.12", "A storm of right LACPDUs", "send 2000 right LACPDUs as fast as can be, while it carries",
+            rule="it carries all the time; at most three LACPDUs in 0.75 s come", takes=4, causes=("TX-01",))  # fmt: skip
+def flood(b: Bench) -> None:
+    """LACPDUs that change nothing may come at any rate."""
+    b.still_up()
+    b.wait(1.2)
+    mark, payload = b.mark(), encode(b.partner().lacpdu())
+    for turn in range(2000):
+        b.send(1, payload)
+        if turn % 50 == 0:
+            b.wait(0.005)
+    b.wait(2)
+    found = list(b.heard(1, mark))
+    wrong = [it for it in found if it.lacpdu and not carries(it.lacpdu)]
+    b.claim(found and not wrong, "it carries all the time", *wrong[:2])
+    b.claim(most_within([it.time for it in found], 0.75) <= 3, f"{len(found)} LACPDUs come", *found[:4])
+
+
+@group.test("07", "6.2.10.1", "Sources that no port has", "send right LACPDUs from a group address, from 0, and from the device's own address",
+            rule="it carries all the time", takes=4)  # fmt: skip
+def sources(b: Bench) -> None:
+    """The source address has no part in LACP: identifiers are in the PDU. None of these makes the device stop."""
+    b.still_up()
+    own, payload = b.frame().octets[6:12], SLOW + encode(b.partner().lacpdu())
+    storm(b, [GROUP + source + payload for source in (b"\xff" * 6, GROUP, bytes(6), own)], 0.3)
+
+
+@group.test("08", "6.4.2.3", "The longest frames", "send LACPDUs and markers padded to 1514 octets", rule="it carries all the time", takes=5)
+def longest(b: Bench) -> None:
+    """A PDU may be longer than 110 octets (later versions); nothing of it is lost by its length."""
+    b.still_up()
+    source = b.wire.source(1)
+    lacpdu, marker = encode(b.partner().lacpdu()) + bytes(1390), b"\2\1\3\x10" + bytes(1496)
+    storm(b, [slow(lacpdu, source)] * 4 + [slow(marker, source)] * 4, 0.2)

@@ -1,0 +1,246 @@
+"""SL: the Selection Logic (6.4.14), on two links.
+
+LACPDUs don't tell in which aggregator a port is. Where the device carries on two links that may not share an aggregator, a hook
+(`data start`, `data stop`) has to make its one client send UDP of many flows from 198.18.0.0/16: if they come on both links, it is one
+aggregator.
+"""
+
+from __future__ import annotations
+
+from dataclasses import replace
+
+from niwhopera import Lacpdu, State
+
+from ..bench import PROMPT, Bench
+from ..model import MEMORY, Group, NotHere, Stop
+from ..pdus import CARRIES, end
+from .receive import carries, does_not_carry
+from .silence import wants_short
+
+group = Group("SL", "Selection Logic (6.4.14)", needs=("two-ports",))
+SECONDS = 2.0
+DATA = ("data",)
+
+
+def flows(b: Bench) -> dict[int, int]:
+    """How many flows of the device's client came on each link, while a hook makes it send."""
+    b.hook("data", "start")
+    try:
+        mark = b.mark()
+        b.wait(SECONDS)
+        return {link: b.data(mark, link) for link in (1, 2)}
+    finally:
+        b.hook("data", "stop")
+
+
+def apart(b: Bench, seconds: float = 8, one: bool = True) -> None:
+    """Claims that after some seconds the device does not use both links in one aggregator, whatever its LACPDUs say of each; and, if
+    `one`, that it uses one of them."""
+    b.wait(seconds)
+    frames = [b.frame(it) for it in (1, 2)]
+    if not all(b.carries(it) and b.names_us(it) for it in (1, 2)):
+        told = "; ".join(f"link {it}: {end(b.device(it).actor)}" for it in (1, 2))
+        b.claim(True, f"after {seconds:g} s it does not carry on both: {told}", *frames)
+        if one:
+            b.claim(b.carries(1) or b.carries(2), "it carries on one", *frames)
+        return
+    b.note("both links carry by their LACPDUs: in one aggregator, or in two")
+    try:
+        found = flows(b)
+    except NotHere as why:
+        raise Stop(f"both links carry; without data it cannot be seen in how many aggregators ({why})") from why
+    if not any(found.values()):
+        raise Stop("both links carry, and no data of the device came")
+    if not all(found.values()) and not b.spreads:
+        raise Stop("both links carry, and data came on one: but the device did so for one aggregator, too (SL-01)")
+    b.claim(not all(found.values()), f"flows of one client: {found[1]} on link 1, {found[2]} on link 2", *frames)
+
+
+@group.test("01", "6.4.14, 6.3.7", "Two links of one partner aggregate", "be one partner with one key on both links",
+            rule="both carry, and stay so for 4 s; on which links data comes is told alone: the distribution is the device's own", links=2,
+            takes=9, hooks=DATA)  # fmt: skip
+def aggregates(b: Bench) -> None:
+    """Links of one LAG ID share an aggregator."""
+    b.up(1, 2)
+    mark = b.mark()
+    b.wait(4)
+    wrong = [it for link in (1, 2) for it in b.heard(link, mark, lambda pdu: not carries(pdu))]
+    b.claim(not wrong, "both carry for 4 s", *wrong[:2])
+    try:
+        found = flows(b)
+        b.spreads = all(found.values())
+        b.note(f"flows of one client: {found[1]} on link 1, {found[2]} on link 2")
+    except NotHere:
+        b.note("no hook for data: that both links are one aggregator is not seen")
+
+
+@group.test("02", "6.3.2, 6.3.4, 6.3.5", "Identifiers of two ports", "carry on both links", rule="one system, one key, two port numbers",
+            links=2, takes=4)  # fmt: skip
+def identifiers(b: Bench) -> None:
+    """Ports of one aggregator have one system identifier and key, and port identifiers of their own."""
+    b.up(1, 2)
+    one, two = b.device(1).actor, b.device(2).actor
+    frames = [b.frame(it) for it in (1, 2)]
+    b.claim((one.system, one.key) == (two.system, two.key), f"system and key: {end(one)}; {end(two)}", *frames)
+    b.claim(one.port.number != two.port.number, f"port numbers {one.port.number} and {two.port.number}", *frames)
+    same = frames[0].octets[6:12] == frames[1].octets[6:12]
+    b.note("both links have one source address" if same else "each link has a source address of its own")
+
+
+@group.test("03", "6.4.14, 6.3.6", "Two partner systems", "be another system on each link", rule="not both links in one aggregator; one carries",
+            links=2, takes=11, hooks=DATA)  # fmt: skip
+def two_systems(b: Bench) -> None:
+    """Ports of two LAG IDs never share an aggregator: here the partner systems differ."""
+    b.begin(1, 2, same=False)
+    apart(b)
+
+
+def differ(b: Bench, field: str) -> None:
+    """One partner on both links but for a field."""
+    b.begin(1, 2, silent=True)
+    b.partner(2).become_other(field)
+    for link in (1, 2):
+        b.partner(link).speak()
+    apart(b)
+
+
+@group.test("04", "6.4.14, 6.3.6", "Two partner keys", "be one system with another key on each link",
+            rule="not both links in one aggregator; one carries", links=2, takes=11, hooks=DATA)  # fmt: skip
+def two_keys(b: Bench) -> None:
+    """Ports of two LAG IDs never share an aggregator: here the partner keys differ."""
+    differ(b, "key")
+
+
+@group.test("05", "6.4.14, 6.3.2", "Two system priorities", "be one MAC address with another system priority on each link",
+            rule="not both links in one aggregator; one carries", links=2, takes=11, hooks=DATA)  # fmt: skip
+def two_priorities(b: Bench) -> None:
+    """The priority is part of the system identifier: two priorities are two systems."""
+    differ(b, "priority")
+
+
+@group.test("06", "6.4.14, 6.3.6.1", "Individual links don't aggregate", "be one partner with one key on both links, not aggregatable",
+            rule="not both links in one aggregator", links=2, takes=11, hooks=DATA)  # fmt: skip
+def individual(b: Bench) -> None:
+    """An individual link is alone in its aggregator."""
+    b.begin(1, 2, silent=True)
+    for link in (1, 2):
+        b.partner(link).become(aggregatable=False)
+        b.partner(link).speak()
+    apart(b, one=False)
+
+
+@group.test("07", "6.4.14, 6.4.9", "One of two links gets another key", "carry on both links", "change our key on link 2",
+            rule="link 2 stops carrying promptly; link 1 carries on; they don't share an aggregator again", tolerance="prompt: 0.5 s", links=2,
+            takes=14, hooks=DATA, causes=("SL-04",))  # fmt: skip
+def leaves(b: Bench) -> None:
+    """A link whose partner changes its key leaves the aggregator, and the others stay."""
+    b.up(1, 2)
+    b.partner(2).become_other("key")
+    mark, sent = b.mark(), b.partner(2).send()
+    seen = b.first(2, mark, does_not_carry, 2)
+    b.timed("link 2 stops carrying", sent, seen, 0, PROMPT)
+    b.wait(1)
+    wrong = list(b.heard(1, mark, lambda pdu: not carries(pdu)))
+    b.claim(not wrong, "link 1 carries all the time", *wrong[:2])
+    apart(b, 6)
+
+
+@group.test("08", "6.4.12, 6.4.14", "One of two links falls silent", "carry on both links", "say nothing on link 2",
+            rule="link 2 stops after 3 s; link 1 carries on", tolerance="3 s: -0.25 s, +0.75 s (timer and LACPDU)", links=2, takes=8,
+            needs=("short-timeouts",), causes=("RX-02",))  # fmt: skip
+def one_silent(b: Bench) -> None:
+    """A silent link leaves, and the other one carries on."""
+    b.up(1, 2)
+    wants_short(b, 2)
+    b.wait(0.5)
+    mark, sent = b.mark(), b.partner(2).send()
+    b.partner(2).hush()
+    seen = b.first(2, mark, does_not_carry, 5)
+    b.timed("link 2 stops carrying", sent, seen, 3, 3, timer=True)
+    b.wait(1)
+    wrong = list(b.heard(1, mark, lambda pdu: not carries(pdu)))
+    b.claim(not wrong, "link 1 carries all the time", *wrong[:2])
+
+
+@group.test("09", "6.4.14, 6.4.9", "The partner becomes another system on both links", "carry on both links", "be another system on both",
+            rule="both detach (Synchronization 0), and both carry again", links=2, takes=7, causes=("RX-12b",))  # fmt: skip
+def restarts(b: Bench) -> None:
+    """A partner that restarts as another system is selected anew, on both links together."""
+    b.up(1, 2)
+    mark, new = b.mark(), b.new_mac()
+    for link in (1, 2):
+        partner = b.partner(link)
+        partner.become(system=replace(partner.me.system, mac=new))
+        partner.send()
+    for link in (1, 2):
+        seen = b.first(link, mark, lambda pdu: not pdu.actor.state & State.SYNCHRONIZATION, 2)
+        b.claim(seen, f"link {link} detaches", seen)
+    both = b.until(8, lambda: all(b.carries(it) and b.names_us(it) for it in (1, 2)))
+    b.claim(both, "both carry again", b.frame(1), b.frame(2))
+
+
+def reflect(b: Bench, across: bool, seconds: float) -> int:
+    """Sends the device's own LACPDUs back to it, on the same link or on the other one; the mark of the start."""
+    b.silence()
+    mark = done = b.mark()
+    limit = b.now() + seconds
+    links = len(b.links) if across else 1
+    while b.now() < limit:
+        b.wait(0.05)
+        came, done = b.frames[done:], len(b.frames)
+        for frame in came:
+            if not frame.out and frame.lacpdu and frame.link <= links:
+                b.send_raw(3 - frame.link if across else frame.link, frame.octets)
+    return mark
+
+
+def carries_for_itself(pdu: Lacpdu) -> bool:
+    """Whether an LACPDU carries with the device as its own partner."""
+    return pdu.partner.system == pdu.actor.system and bool(pdu.actor.state & CARRIES)
+
+
+@group.test("10", "6.4.14 (loopback)", "A link that is looped back", "send each LACPDU of the device back to it, for 7 s",
+            rule="the port never collects and distributes with itself as its partner", takes=8, basis=MEMORY)  # fmt: skip
+def looped(b: Bench) -> None:
+    """A port that hears itself is no link to a partner: it may not carry."""
+    b.still_up()
+    mark = reflect(b, False, 7)
+    found = list(b.heard(1, mark))
+    if not found:
+        raise Stop("no LACPDU of the device")
+    wrong = list(b.heard(1, mark, lambda pdu: carries_for_itself(pdu) and pdu.partner.port == pdu.actor.port))
+    b.claim(not wrong, f"{len(wrong)} LACPDUs that carry with the port itself as the partner", *wrong[:2])
+
+
+@group.test("11", "6.4.14 (loopback)", "Two ports of the device joined by a cable",
+            "send each LACPDU of link 1 back on link 2, and the other way, for 9 s", rule="not both carry with the device itself as the partner",
+            links=2, takes=14, basis=MEMORY)  # fmt: skip
+def crossed(b: Bench) -> None:
+    """Two ports of one system that are joined may not be in one aggregator."""
+    b.up(1, 2)
+    mark = reflect(b, True, 9)
+    found = {link: list(b.heard(link, mark, carries_for_itself)) for link in (1, 2)}
+    text = f"LACPDUs that carry with the own system as partner: {len(found[1])} on link 1, {len(found[2])} on link 2"
+    b.claim(not all(found.values()), text, *found[1][-1:], *found[2][-1:])
+
+
+@group.test("12", "6.4.14", "A third LAG ID does not disturb two links", "carry on both links",
+            "send single LACPDUs of another system on link 2, each second, beside ours",
+            rule="link 1 carries on; link 2 never carries for the stranger while link 1 carries for us in one aggregator", links=2, takes=9,
+            causes=("RX-12b",))  # fmt: skip
+def stranger(b: Bench) -> None:
+    """LACPDUs of a second system on one link take that link out, and not the other one."""
+    b.up(1, 2)
+    mark, partner = b.mark(), b.partner(2)
+    me = partner.me
+    for _ in range(5):
+        partner.become(system=replace(me.system, mac=b.new_mac()))
+        partner.send()
+        b.wait(0.5)
+        partner.become(system=me.system)
+        partner.send()
+        b.wait(0.5)
+    wrong = list(b.heard(1, mark, lambda pdu: not carries(pdu)))
+    b.claim(not wrong, "link 1 carries all the time", *wrong[:2])
+    wrong = list(b.heard(2, mark, lambda pdu: pdu.actor.state & CARRIES))
+    b.claim(len(wrong) <= 1, f"{len(wrong)} LACPDUs of link 2 carry while its partner changes twice a second", *wrong[:3])

@@ -1,0 +1,123 @@
+"""RX, continued: what a silent partner brings (6.4.12), by the timers of 6.4.4."""
+
+from __future__ import annotations
+
+from niwhopera import Lacpdu, State
+
+from ..bench import PROMPT, Bench
+from ..model import DoesNotApply, Frame, Stop
+from ..pdus import CARRIES
+from .receive import carries, group
+
+IS_OVER = State.EXPIRED | State.DEFAULTED
+
+
+def wants_short(b: Bench, link: int = 1) -> None:
+    """A device that asks for long timeouts notices silence after 90 s."""
+    if not b.bits(link) & State.TIMEOUT:
+        raise DoesNotApply("the device asks for long timeouts (PICS: short-timeouts)")
+
+
+def on_defaults(pdu: Lacpdu) -> bool:
+    """Whether an LACPDU is Defaulted and not Expired."""
+    return pdu.actor.state & IS_OVER == State.DEFAULTED
+
+
+def fall_silent(b: Bench) -> tuple[int, Frame]:
+    """The device carries, and the partner says nothing more; the last thing that it said."""
+    b.up()
+    wants_short(b)
+    b.wait(0.5)
+    sent = b.partner().send()
+    b.silence()
+    return b.mark(), sent
+
+
+@group.test("02", "6.4.12, 6.4.4", "Silence expires the partner", "carry", "say nothing",
+            rule="an LACPDU with Expired comes 3 s after our last one, and neither collects nor distributes",
+            tolerance="3 s: -0.25 s, +0.75 s (timer and LACPDU)", takes=7, needs=("short-timeouts",))  # fmt: skip
+def expires(b: Bench) -> None:
+    """current_while expires 3 s after the last LACPDU (short timeouts): Expired is told, and the port leaves COLLECTING_DISTRIBUTING,
+    since partner Synchronization is false."""
+    mark, sent = fall_silent(b)
+    seen = b.first(1, mark, lambda pdu: pdu.actor.state & IS_OVER or not carries(pdu), 5)
+    b.timed("the partner expires", sent, seen, 3, 3, timer=True)
+    pdu = seen.lacpdu if seen else None
+    b.claim(pdu and not pdu.actor.state & CARRIES, "neither collects nor distributes then", seen)
+    b.claim(pdu and pdu.actor.state & State.EXPIRED, "and Expired is 1", seen)
+
+
+@group.test("03", "6.4.12", "More silence brings defaults", "carry", "say nothing for 7 s",
+            rule="Defaulted is 1 and Expired 0 6 s after our last LACPDU",
+            tolerance="6 s, two timers of 0.25 s; up to 1 s more if it waits for the next periodic LACPDU", takes=10,
+            needs=("short-timeouts",), causes=("RX-02",))  # fmt: skip
+def defaults(b: Bench) -> None:
+    """In EXPIRED current_while runs 3 s, then the administrative partner is recorded: Defaulted true, Expired false, and our end is no
+    longer named."""
+    mark, sent = fall_silent(b)
+    seen = b.first(1, mark, on_defaults, 10)
+    more = b.slack + 0.5
+    passed = f"after {seen.time - sent.time:.2f} s" if seen else "never"
+    right = seen and 6 - more <= seen.time - sent.time <= 7 + more
+    b.claim(right, f"defaults are told {passed}; has to be 6 to 7 s, within {more:.2f} s", sent, seen)
+    pdu = seen.lacpdu if seen else None
+    b.claim(pdu and pdu.partner.system != b.partner().me.system, "our system is no longer named", seen)
+
+
+@group.test("04", "6.4.12", "Each LACPDU starts current_while again", "carry", "send an LACPDU every 2.5 s, four times",
+            rule="no LACPDU of the device is Expired or does not carry", takes=14)  # fmt: skip
+def again(b: Bench) -> None:
+    """LACPDUs at 2.5 s keep the partner current for 10 s, though the period is 1 s."""
+    b.up()
+    mark = b.mark()
+    b.partner().send()
+    b.partner().keep_pace(2.5)
+    b.wait(10.2)
+    wrong = list(b.heard(1, mark, lambda pdu: pdu.actor.state & IS_OVER or not carries(pdu)))
+    b.claim(not wrong and list(b.heard(1, mark)), "it carries all the time", *wrong[:3])
+
+
+@group.test("05", "6.4.12, 6.4.15", "From EXPIRED back without a wait", "carry", "say nothing until Expired", "send the same LACPDU again",
+            rule="it carries again promptly: Selected has not changed, so the mux machine is ATTACHED", tolerance="prompt: 0.5 s", takes=8,
+            needs=("short-timeouts",), causes=("RX-02",))  # fmt: skip
+def returns(b: Bench) -> None:
+    """In EXPIRED the selection stays; an LACPDU of the same partner makes the port carry at once, without wait_while."""
+    mark, _ = fall_silent(b)
+    if not b.first(1, mark, lambda pdu: pdu.actor.state & State.EXPIRED, 4):
+        raise Stop("it did not expire")
+    mark, sent = b.mark(), b.partner().send()
+    b.partner().speak()
+    seen = b.first(1, mark, carries, 4)
+    b.timed("it carries again", sent, seen, 0, PROMPT)
+
+
+@group.test("06", "6.4.12, 6.4.9 (update_Default_Selected)", "From defaults back through wait_while", "carry", "say nothing until Defaulted",
+            "be the same partner again", rule="Synchronization is 0 until 2 s after our LACPDU",
+            tolerance="2 s: -0.25 s, +0.75 s (timer and LACPDU)", takes=14, needs=("short-timeouts",), causes=("RX-12b",))  # fmt: skip
+def waits_again(b: Bench) -> None:
+    """A port that defaulted was UNSELECTED. A partner that comes then is selected anew: 2 s pass in WAITING, in which Synchronization
+    is 0."""
+    mark, _ = fall_silent(b)
+    if not b.first(1, mark, on_defaults, 9):
+        b.note("it did not tell of its defaults in 9 s")
+    b.wait(2.5)
+    mark, sent = b.mark(), b.partner().send()
+    b.partner().speak()
+    system = b.partner().me.system
+    synced = State.SYNCHRONIZATION
+    seen = b.first(1, mark, lambda pdu: pdu.partner.system == system and pdu.actor.state & (synced | State.DEFAULTED) == synced, 6)
+    b.timed("it is synchronized", sent, seen, 2, 2, timer=True)
+
+
+@group.test("14", "6.4.12, 6.4.4", "Silence of long timeouts", "the device asks for long timeouts", "carry, and say nothing",
+            rule="Expired after 90 s", tolerance="90 s: -0.25 s, +0.75 s (timer and LACPDU)", takes=96)  # fmt: skip
+def expires_long(b: Bench) -> None:
+    """current_while expires 90 s after the last LACPDU where the device asks for long timeouts."""
+    b.up()
+    if b.bits() & State.TIMEOUT:
+        raise DoesNotApply("the device asks for short timeouts")
+    b.wait(0.5)
+    sent = b.partner().send()
+    b.silence()
+    seen = b.first(1, b.mark(), lambda pdu: pdu.actor.state & IS_OVER or not carries(pdu), 95)
+    b.timed("the partner expires", sent, seen, 90, 90, timer=True)

@@ -1,0 +1,124 @@
+"""TX: the transmit machine (6.4.16) and update_NTT (6.4.9)."""
+
+from __future__ import annotations
+
+from dataclasses import replace
+from typing import Callable
+
+from niwhopera import Info, PortId, State
+
+from ..bench import PROMPT, Bench, most_within
+from ..model import Group, Run, Stop
+from ..pdus import NOBODY, SIX, other
+from .periodic import calm
+
+group = Group("TX", "Transmit machine and NTT (6.4.16, 6.4.9)")
+
+
+@group.test("01", "6.4.16, 6.4.4", "At most three LACPDUs a second",
+            "for 6 s, send an LACPDU each 50 ms whose partner is wrong, so that each asks for an answer",
+            rule="never more than three in any second. Four in 0.75 s: fail. Four in a second, but not in 0.75 s: inconclusive, the 0.25 s of a timer",
+            tolerance="window 0.98 s; timers 0.25 s", takes=6.5)  # fmt: skip
+def three(b: Bench) -> None:
+    """No more than three LACPDUs are transmitted in any Fast_Periodic_Time."""
+    b.begin(1, silent=True)
+    b.partner().says = lambda _: NOBODY
+    mark = b.mark()
+    for _ in range(120):
+        b.partner().send()
+        b.wait(0.05)
+    found = list(b.heard(1, mark))
+    times = [it.time for it in found]
+    if not times:
+        raise Stop("no LACPDU of the device")
+    most, sure = most_within(times, 0.98), most_within(times, 0.75)
+    at = next(it for it in times if sum(it <= other < it + 0.98 for other in times) == most)
+    shown = [it for it in found if at <= it.time < at + 0.98][:4]
+    if sure <= 3 < most:
+        b.note(f"{len(times)} LACPDUs in 6 s")
+        within, packets = shown[-1].time - shown[0].time, f"packets {shown[0].number} to {shown[-1].number}"
+        raise Stop(f"{most} LACPDUs within {within:.2f} s, {packets}, but 3 within 0.75 s: right only if the timer may be 0.25 s short")
+    b.claim(most <= 3, f"{most} LACPDUs within one second at most, {len(times)} in 6 s", *shown)
+
+
+def still_calm(b: Bench) -> None:
+    """Carrying and asked for long timeouts, as the test before left it, or anew."""
+    partner, frame = b.partner(), b.links[1].frame
+    quiet = partner.pace is not None and not partner.me.short and not partner.forced and partner.says is None
+    if not (quiet and frame and b.now() - frame.time < 25 and b.carries() and b.names_us() and partner.tells_carrying):
+        calm(b, False)
+        return
+    b.wait(1.2)  # the transmit machine of the device has room again
+
+
+def asks(what: str, change: Callable[[Info], Info]) -> Run:
+    """An LACPDU that tells something of the device wrong."""
+
+    def run(b: Bench) -> None:
+        still_calm(b)
+        partner = b.partner()
+        mark, partner.says = b.mark(), change
+        sent = partner.send()
+        seen = b.first(1, mark, lambda _: True, 2)
+        b.timed(f"an LACPDU that tells {what} wrong is answered", sent, seen, 0, PROMPT)
+        partner.says = None
+        partner.send()
+        b.until(2, lambda: b.carries() and b.names_us())
+
+    return run
+
+
+def add(number: str, what: str, change: Callable[[Info], Info]) -> None:
+    """A test of update_NTT."""
+    why = f"update_NTT: an LACPDU whose partner differs from the device in {what} sets NTT; the device, asked for long timeouts and quiet else, answers."
+    group.test(number, "6.4.9 (update_NTT)", f"NTT: another {what} of the device is answered", "carry, asked for long timeouts",
+               f"tell another {what}", rule="an answer", tolerance="prompt: 0.5 s", takes=2.2, purpose=why)(asks(what, change))  # fmt: skip
+
+
+for _place, _field in enumerate(SIX):
+    add(f"02{'abcdef'[_place]}", _field, lambda info, field=_field: other(info, field))  # type: ignore[misc]
+for _number, _what, _bit in (
+    ("03a", "LACP_Activity", State.ACTIVITY),
+    ("03b", "LACP_Timeout", State.TIMEOUT),
+    ("03c", "Synchronization", State.SYNCHRONIZATION),
+):
+    add(_number, _what, lambda info, bit=_bit: replace(info, state=info.state ^ bit))  # type: ignore[misc]
+
+
+@group.test("04", "6.4.9 (update_NTT), 6.4.16", "No NTT where all is right", "carry, asked for long timeouts",
+            "send six right LACPDUs in 6 s", rule="at most one LACPDU (the periodic one)", takes=8)  # fmt: skip
+def silent_if_right(b: Bench) -> None:
+    """An LACPDU that changes nothing and tells the device right sets no NTT."""
+    still_calm(b)
+    mark = b.mark()
+    b.wait(6)
+    found = list(b.heard(1, mark))
+    b.claim(len(found) <= 1, f"{len(found)} LACPDUs in 6 s", *found[:3])
+
+
+@group.test("05", "6.4.16", "What waited is told as it is when it is sent", "send seven LACPDUs in 0.7 s, each of another port number of ours",
+            "wait 1.5 s", rule="the last LACPDU of the device names the last of them", takes=2.4)  # fmt: skip
+def newest(b: Bench) -> None:
+    """If a transmission is delayed by the limit, the LACPDU has the values of the time at which it is sent."""
+    b.begin(1, silent=True)
+    mark, partner = b.mark(), b.partner()
+    for port in range(103, 110):
+        partner.become(port=PortId(0x80, port))
+        last = partner.send()
+        b.wait(0.11)
+    b.wait(1.5)
+    found = list(b.heard(1, mark))
+    named = b.device().partner.port.number
+    b.claim(found and named == 109, f"it names port {named}", last, *found[-1:])
+    times = [it.time for it in found]
+    b.claim(most_within(times, 0.75) <= 3, f"{len(found)} LACPDUs, {most_within(times, 0.98)} within a second", *found[:4])
+
+
+@group.test("06", "6.4.16, 6.4.9", "An answer tells the change", "carry, asked for long timeouts", "say Synchronization 0",
+            rule="an LACPDU promptly whose partner has Synchronization 0", tolerance="prompt: 0.5 s", takes=8)  # fmt: skip
+def tells(b: Bench) -> None:
+    """A change of the mux machine sets NTT, so that the partner learns of it without a periodic LACPDU."""
+    calm(b, False)
+    mark, sent = b.mark(), b.say(sync=False)
+    seen = b.first(1, mark, lambda pdu: not pdu.partner.state & State.SYNCHRONIZATION, 2)
+    b.timed("the change is told", sent, seen, 0, PROMPT)

@@ -1,0 +1,154 @@
+"""What a test is, and what comes of it."""
+
+from __future__ import annotations
+
+from dataclasses import dataclass, field
+from typing import TYPE_CHECKING, Callable, Optional, Sequence
+
+from niwhopera import Lacpdu, Marker, Pdu
+
+if TYPE_CHECKING:
+    from .bench import Bench
+
+PASS, FAIL, INCONCLUSIVE, SKIPPED, NOT_APPLICABLE = "pass", "fail", "inconclusive", "skipped", "not applicable"
+VERDICTS = (PASS, FAIL, INCONCLUSIVE, SKIPPED, NOT_APPLICABLE)
+# What carries the rule of a test: docs/PROFILE.md; two devices that nobody of this project wrote, which do so; or memory of the standard.
+PROFILE, DEVICES, MEMORY = "profile", "two devices", "memory"
+# A test that takes more seconds is long, and runs with --long alone.
+LONG = 25
+
+
+@dataclass(frozen=True)
+class Frame:
+    """A frame of a run: its packet number in the capture, its link, seconds since the start, and whether the bench sent it. `fault` says
+    why a payload of Slow Protocols is no PDU."""
+
+    number: int
+    link: int
+    time: float
+    out: bool
+    octets: bytes
+    pdu: Optional[Pdu]
+    fault: str = ""
+
+    @property
+    def lacpdu(self) -> Optional[Lacpdu]:
+        """Its LACPDU, if it is one."""
+        return self.pdu if isinstance(self.pdu, Lacpdu) else None
+
+    @property
+    def marker(self) -> Optional[Marker]:
+        """Its Marker PDU, if it is one."""
+        return self.pdu if isinstance(self.pdu, Marker) else None
+
+
+@dataclass(frozen=True)
+class Claim:
+    """One thing that was looked at, and the packets that show it."""
+
+    holds: bool
+    text: str
+    packets: tuple[int, ...]
+
+
+Run = Callable[["Bench"], None]
+
+
+@dataclass(frozen=True)
+class Test:
+    """A test. `basis` says what carries its rule; `needs` are items of a PICS, `hooks` words of the hook, and `causes` tests whose fail
+    explains a fail of this one."""
+
+    id: str
+    clause: str
+    title: str
+    purpose: str
+    steps: tuple[str, ...]
+    rule: str
+    tolerance: str
+    links: int
+    takes: float
+    basis: str
+    needs: tuple[str, ...]
+    hooks: tuple[str, ...]
+    causes: tuple[str, ...]
+    run: Run
+
+    @property
+    def group(self) -> str:
+        """The two letters of its group."""
+        return self.id.partition("-")[0]
+
+    @property
+    def is_long(self) -> bool:
+        """Whether it runs with --long alone."""
+        return self.takes > LONG
+
+
+@dataclass
+class Result:
+    """What came of a test: packets `first` to `last`, seconds `begin` to `end`, and how late the bench was at most."""
+
+    test: Test
+    verdict: str = PASS
+    why: str = ""
+    claims: list[Claim] = field(default_factory=list)
+    notes: list[str] = field(default_factory=list)
+    first: int = 0
+    last: int = 0
+    begin: float = 0
+    end: float = 0
+    late: float = 0
+    known: str = ""
+
+    @property
+    def packets(self) -> dict[int, bool]:
+        """The packets that claims name, and whether each of those claims holds."""
+        named: dict[int, bool] = {}
+        for claim in self.claims:
+            for number in claim.packets:
+                named[number] = named.get(number, True) and claim.holds
+        return named
+
+
+class Stop(Exception):
+    """A test ends here, without an answer."""
+
+    verdict = INCONCLUSIVE
+
+
+class NotHere(Stop):
+    """The test wants what the bench was not given, or an answer that an earlier test did not get."""
+
+    verdict = SKIPPED
+
+
+class DoesNotApply(Stop):
+    """The device is one to which the rule does not apply."""
+
+    verdict = NOT_APPLICABLE
+
+
+class Group:
+    """The tests of one file, in order. What is given here holds for each test that says nothing else."""
+
+    def __init__(self, name: str, title: str, basis: str = PROFILE, needs: Sequence[str] = ()) -> None:
+        self.name, self.title, self.basis, self.needs = name, title, basis, tuple(needs)
+        self.tests: list[Test] = []
+
+    def test(
+        self, number: str, clause: str, title: str, *steps: str, rule: str, tolerance: str = "", links: int = 1, takes: float = 6,
+        basis: str = "", needs: Sequence[str] = (), hooks: Sequence[str] = (), causes: Sequence[str] = (), purpose: str = "",
+    ) -> Callable[[Run], Run]:  # fmt: skip
+        """Puts a function among the tests. It makes claims, or raises `Stop`; its docstring is the purpose, if none is given."""
+
+        def add(run: Run) -> Run:
+            text = purpose or " ".join((run.__doc__ or "").split())
+            wants = (*self.needs, *needs)
+            name = f"{self.name}-{number}"
+            self.tests.append(
+                Test(name, clause, title, text, steps, rule, tolerance, links, takes, basis or self.basis, wants, tuple(hooks), tuple(causes), run)
+            )
+            return run
+
+        return add

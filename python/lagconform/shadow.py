@@ -1,0 +1,159 @@
+"""A system with the device's parameters that gets the same frames and predicts each of its LACPDUs.
+
+The clock of the device is not known, and the standard leaves timers 0.25 s and the time of an answer open. So an LACPDU agrees if the
+system would have told the same at some time near it. What differs is told, and is never a fail: it may be what the standard leaves open.
+"""
+
+from __future__ import annotations
+
+from bisect import bisect_left
+from dataclasses import dataclass, replace
+from typing import List, Sequence, Tuple
+
+from niwhopera import Config, Info, Lacpdu, PortConfig, State, System
+
+from .bench import LIMIT, PROMPT, TIMERS, Bench
+from .model import Frame
+from .partner import TICK
+from .pdus import end, six
+
+# How far from an LACPDU the system may have told the same, and after what time without difference it has met the device.
+BEFORE, AFTER = TIMERS + PROMPT + LIMIT, TIMERS + TICK
+MEETS = 3
+
+
+@dataclass(frozen=True)
+class Difference:
+    """An LACPDU that the system would not have sent, and what it would have."""
+
+    frame: Frame
+    expected: Lacpdu
+    what: str
+
+
+@dataclass(frozen=True)
+class Shadow:
+    """How many LACPDUs were compared, and those that differ."""
+
+    compared: int
+    differences: tuple[Difference, ...]
+
+    @property
+    def text(self) -> str:
+        """The outcome as a line."""
+        alike = self.compared - len(self.differences)
+        return f"{alike} of {self.compared} LACPDUs are such as the engine would have sent in the device's place"
+
+
+History = List[Tuple[float, Lacpdu]]
+
+
+def system_of(pdus: dict[int, Lacpdu]) -> System:
+    """A system with the parameters of the device, as its LACPDUs on each link tell them."""
+    actors = {link: it.actor for link, it in pdus.items()}
+    ports = []
+    for link, it in sorted(actors.items()):
+        bits = (bool(it.state & bit) for bit in (State.AGGREGATION, State.ACTIVITY, State.TIMEOUT))
+        ports.append(PortConfig(link, it.key, it.system.mac, it.port.priority, *bits))
+    one = actors[min(actors)]
+    return System(Config(one.system, tuple(ports), aggregators=tuple(it.key for it in ports)))
+
+
+class Replay:
+    """The frames of a run, once more, for a system in the device's place. Its port numbers are those of the links: what an LACPDU names is
+    changed on its way."""
+
+    def __init__(self, b: Bench, pdus: dict[int, Lacpdu]) -> None:
+        self.frames, self.events, self.pdus = b.frames, list(b.events), pdus
+        self.system = system_of(pdus)
+        self.links = sorted(pdus)
+        self.history: dict[int, History] = {link: [] for link in self.links}
+        self.on = True
+        for link in self.links:
+            self.system.set_link(link, True)
+
+    def run(self) -> dict[int, History]:
+        """What the system would have told on each link, and since when."""
+        with self.system as system:
+            due = self.frames[0].time if self.frames else 0.0
+            for frame in self.frames:
+                while due <= frame.time:
+                    self.happen(due)
+                    system.tick()
+                    self.note(due)
+                    due += TICK
+                if frame.out and frame.link in self.pdus and self.on:
+                    system.receive(frame.link, self.inside(frame))
+                    self.note(frame.time)
+        return self.history
+
+    def happen(self, now: float) -> None:
+        """What was done to the device until now."""
+        while self.events and self.events[0][0] <= now:
+            _, words = self.events.pop(0)
+            if words[0] in ("up", "down") and int(words[1]) in self.pdus:
+                self.system.set_link(int(words[1]), words[0] == "up")
+            elif words[0] == "start":
+                self.system.restart()
+                for link in self.links:
+                    self.system.set_link(link, True)
+            self.on = words[0] != "stop" and (self.on or words[0] == "start")
+
+    def inside(self, frame: Frame) -> bytes:
+        """A frame whose partner names the port by the number of its link, where it names the device's."""
+        number = self.pdus[frame.link].actor.port.number
+        at = slice(14 + 36, 14 + 38)
+        if frame.lacpdu and frame.octets[at] == number.to_bytes(2, "big"):
+            return frame.octets[: at.start] + frame.link.to_bytes(2, "big") + frame.octets[at.stop :]
+        return frame.octets
+
+    def note(self, now: float) -> None:
+        """Keeps what each port would tell, where that changed."""
+        for link in self.links:
+            while self.system.transmit(link):
+                pass
+            own = self.pdus[link].actor
+            told = Lacpdu(Info(own.system, own.key, own.port, self.system.state(link)), self.system.partner(link))
+            if not self.history[link] or self.history[link][-1][1] != told:
+                self.history[link].append((now, told))
+
+
+def alike(told: Lacpdu, expected: Lacpdu) -> str:
+    """What an LACPDU tells otherwise than expected; nothing where it is the same."""
+    if told.actor.state != expected.actor.state:
+        return f"own state {end(told.actor)}; expected {end(expected.actor)}"
+    if six(told.partner) != six(expected.partner):
+        return f"partner {end(told.partner)}; expected {end(expected.partner)}"
+    if told.partner.state != expected.partner.state:
+        return f"partner's state {end(told.partner)}; expected {end(expected.partner)}"
+    return ""
+
+
+def near(history: History, when: float) -> Sequence[Lacpdu]:
+    """What was told at some time near a moment."""
+    first = max(0, bisect_left(history, (when - BEFORE,)) - 1)
+    return [told for since, told in history[first:] if since <= when + AFTER]
+
+
+def compare(b: Bench) -> Shadow:
+    """Predicts each LACPDU of a run."""
+    last = {link: frame.lacpdu for link, it in b.links.items() if (frame := it.frame) and frame.lacpdu}
+    if not last:
+        return Shadow(0, ())
+    history = Replay(b, last).run()
+    compared, differences = 0, []
+    met = {link: 0 for link in last}
+    for frame in b.frames:
+        if frame.out or not frame.lacpdu or frame.link not in last:
+            continue
+        told = replace(frame.lacpdu, max_delay=0)
+        expected = near(history[frame.link], frame.time)
+        wrong = [alike(told, it) for it in expected]
+        fits = "" in wrong
+        met[frame.link] = met[frame.link] + 1 if fits or met[frame.link] >= MEETS else 0
+        if met[frame.link] < MEETS:
+            continue
+        compared += 1
+        if not fits and expected:
+            differences.append(Difference(frame, expected[-1], wrong[-1]))
+    return Shadow(compared, tuple(differences))

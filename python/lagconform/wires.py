@@ -1,0 +1,66 @@
+"""What a bench wants of its links: frames, and a clock. Packet sockets have them (`sockets`), and a device in memory has."""
+
+from __future__ import annotations
+
+from typing import NamedTuple, Optional, Protocol, Sequence
+
+from niwhopera import Mac
+
+
+class Arrival(NamedTuple):
+    """A frame that came on a link, and the second of the run at which it came."""
+
+    link: int
+    time: float
+    octets: bytes
+
+
+class Answer(NamedTuple):
+    """What a hook said: status 0 if it did what it was told to."""
+
+    status: int
+    said: str
+
+
+class Wire(Protocol):
+    """One or two links. Links go by their numbers, from 1, and times in seconds since the start of the run."""
+
+    @property
+    def names(self) -> Sequence[str]:
+        """The interfaces, in the order of their links."""
+
+    @property
+    def started(self) -> float:
+        """The second 0 of the run, in seconds since 1970."""
+
+    def now(self) -> float:
+        """The time."""
+
+    def source(self, link: int) -> Mac:
+        """The address of our interface."""
+
+    def send(self, link: int, octets: bytes) -> None:
+        """Puts a frame on a link. One that the link refuses is lost."""
+
+    def wait(self, seconds: float) -> list[Arrival]:
+        """The frames that came; waits for the first one for so long at most."""
+
+    def flap(self, link: int, up: bool) -> None:
+        """Takes our own end of a link down or up."""
+
+
+class Doing(Protocol):
+    """A hook that was called."""
+
+    def answer(self) -> Optional[Answer]:
+        """What it said, once it has ended."""
+
+    def stop(self) -> None:
+        """Ends it."""
+
+
+class Hook(Protocol):
+    """A way to have the device do something."""
+
+    def call(self, words: Sequence[str]) -> Doing:
+        """Begins to do what these words say."""

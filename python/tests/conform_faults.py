@@ -1,0 +1,643 @@
+"""Devices with one fault each, and the tests that have to find it: those of one link's frames and machines."""
+
+from __future__ import annotations
+
+from typing import Iterable, Iterator, Optional
+
+from conform_device import OWN, SLOW, Device, is_lacpdu, part, put
+from niwhopera import MuxState, ReceiveState, State
+
+SYNC, CARRIES = 8, 0x30
+# Where a field stands in the Actor TLV of a payload; in the Partner TLV it stands 20 octets behind.
+FIELDS = {"priority": (4, 2), "system": (6, 6), "key": (12, 2), "port_priority": (14, 2), "port": (16, 2), "aggregation": (18, 1)}
+AGGREGATION = 4
+
+
+def set_bits(frame: bytes, at: int, bits: int, on: bool) -> bytes:
+    """A frame with bits of an octet of its payload set or not."""
+    octet = frame[14 + at]
+    return put(frame, at, bytes([octet | bits if on else octet & ~bits]))
+
+
+class Says(Device):
+    """Changes octets of each LACPDU that it sends."""
+
+    at, octets = 0, b""
+
+    def says(self, port: int, frame: bytes) -> Iterable[bytes]:
+        yield put(frame, self.at, self.octets)
+
+
+class UnicastDestination(Device):
+    """Sends to an individual address."""
+
+    finds = "FM-01"
+
+    def says(self, port: int, frame: bytes) -> Iterable[bytes]:
+        yield b"\2" + frame[1:]
+
+
+class LongFrame(Device):
+    """Sends four octets too many."""
+
+    finds = "FM-02"
+
+    def says(self, port: int, frame: bytes) -> Iterable[bytes]:
+        yield frame + bytes(4)
+
+
+class OtherVersion(Says):
+    """Sends version 9."""
+
+    finds, at, octets = "FM-02", 1, b"\x09"
+
+
+class OtherTlvType(Says):
+    """Sends another type of the Partner TLV."""
+
+    finds, at, octets = "FM-03 IV-03", 22, b"\x07"
+
+
+class ReservedOctets(Says):
+    """Sends a reserved octet that is not 0."""
+
+    finds, at, octets = "FM-04", 39, b"\1"
+
+
+class PortZero(Device):
+    """Has port number 0."""
+
+    finds = "FM-05"
+
+    def hears(self, port: int, frame: bytes) -> Iterable[bytes]:
+        yield put(frame, 36, port.to_bytes(2, "big")) if is_lacpdu(frame) and part(frame, 36, 2) == bytes(2) else frame
+
+    def says(self, port: int, frame: bytes) -> Iterable[bytes]:
+        yield put(frame, 16, bytes(2))
+
+
+class WrongEcho(Says):
+    """Tells another port priority of the partner."""
+
+    finds, at, octets = "FM-06", 34, b"\0\0"
+
+
+class EchoesNoCollecting(Device):
+    """Tells Collecting of the partner as 1."""
+
+    finds = "FM-07"
+
+    def says(self, port: int, frame: bytes) -> Iterable[bytes]:
+        yield set_bits(frame, 38, 0x10, True)
+
+
+class FlickeringTimeout(Device):
+    """Tells another LACP_Timeout in each LACPDU."""
+
+    finds = "FM-08"
+    turn = False
+
+    def says(self, port: int, frame: bytes) -> Iterable[bytes]:
+        self.turn = not self.turn
+        yield set_bits(frame, 18, 2, self.turn)
+
+
+class FirstOneLost(Device):
+    """Takes a partner with its second LACPDU alone."""
+
+    finds = "RX-01"
+    known: frozenset[bytes] = frozenset()
+
+    def hears(self, port: int, frame: bytes) -> Iterable[bytes]:
+        if is_lacpdu(frame) and part(frame, 4, 8) not in self.known:
+            self.known |= {part(frame, 4, 8)}
+            return
+        yield frame
+
+
+class Repeats(Device):
+    """Hears the last LACPDU once more, two seconds later: current_while is 5 s."""
+
+    finds = "RX-02 RX-03 SL-08"
+
+    def __init__(self) -> None:
+        super().__init__()
+        self.last: dict[int, tuple[float, bytes]] = {}
+
+    def took(self, port: int, frame: bytes) -> None:
+        if is_lacpdu(frame):
+            self.last[port] = self.now, frame
+
+    def ticked(self) -> None:
+        for port, (when, frame) in list(self.last.items()):
+            if self.now - when >= 2:
+                del self.last[port]
+                self.on.receive(port, frame)
+
+
+class NeverDefaulted(Device):
+    """Stays in EXPIRED."""
+
+    finds = "RX-03"
+
+    def says(self, port: int, frame: bytes) -> Iterable[bytes]:
+        yield set_bits(set_bits(frame, 18, 0x40, False), 18, 0x80, True) if frame[32] & 0x40 else frame
+
+
+class ShortCurrentWhile(Device):
+    """current_while is 2.2 s."""
+
+    finds = "RX-02 RX-04"
+
+    def ticked(self) -> None:
+        if any(self.on.receive_state(port) is ReceiveState.CURRENT and self.on.current_while(port) == 8 for port in (1, 2)):
+            self.on.tick(8)
+
+
+class ReturnsSlowly(Device):
+    """Begins anew where a partner comes back in EXPIRED."""
+
+    finds = "RX-05"
+
+    def hears(self, port: int, frame: bytes) -> Iterable[bytes]:
+        if is_lacpdu(frame) and self.on.receive_state(port) is ReceiveState.EXPIRED:
+            self.restart(port)
+        yield frame
+
+
+class NoWaitAfterDefaults(Device):
+    """A partner that comes to a port on defaults is carried for at once."""
+
+    finds = "RX-06"
+
+    def hears(self, port: int, frame: bytes) -> Iterable[bytes]:
+        yield frame
+        if is_lacpdu(frame) and self.on.defaulted(port):
+            return
+
+    def took(self, port: int, frame: bytes) -> None:
+        if is_lacpdu(frame) and self.was_defaulted.get(port) and self.on.mux_state(port) is MuxState.WAITING:
+            self.on.tick(20)
+            self.on.receive(port, frame)
+        self.was_defaulted[port] = self.on.defaulted(port)
+
+    def ticked(self) -> None:
+        for port in (1, 2):
+            self.was_defaulted[port] = self.on.defaulted(port)
+
+    def __init__(self) -> None:
+        super().__init__()
+        self.was_defaulted: dict[int, bool] = {}
+
+
+class NoWait(Device):
+    """wait_while does not run: a new partner is synchronized at once."""
+
+    finds = "RX-06 RX-12a RX-12b RX-12c RX-12d RX-12e RX-12f MX-01 MX-05 MX-06 MX-08 SL-09 SL-12"
+
+    def took(self, port: int, frame: bytes) -> None:
+        if is_lacpdu(frame) and self.on.mux_state(port) is MuxState.WAITING:
+            self.on.tick(20)
+            self.on.receive(port, frame)
+
+
+class AnyNaming(Device):
+    """Takes each partner as though it named the device."""
+
+    finds = "RX-07a RX-07b RX-07c RX-07d RX-07e RX-07g RX-08 RX-11"
+
+    def hears(self, port: int, frame: bytes) -> Iterable[bytes]:
+        yield put(frame, 24, self.own(port)) if is_lacpdu(frame) else frame
+
+
+class FieldUnchecked(Device):
+    """Does not compare a field of the partner's naming."""
+
+    field = ""
+
+    def hears(self, port: int, frame: bytes) -> Iterable[bytes]:
+        if not is_lacpdu(frame):
+            yield frame
+            return
+        at, count = FIELDS[self.field]
+        own = self.own(port)[at - 4 : at - 4 + count]
+        if self.field == "aggregation":
+            yield set_bits(frame, 38, AGGREGATION, bool(own[0] & AGGREGATION))
+        else:
+            yield put(frame, 20 + at, own)
+
+
+class PriorityUnchecked(FieldUnchecked):
+    """Does not compare its system priority."""
+
+    finds, field = "RX-07a TX-02a", "priority"
+
+
+class SystemUnchecked(FieldUnchecked):
+    """Does not compare its system."""
+
+    finds, field = "RX-07b RX-07g TX-02b", "system"
+
+
+class KeyUnchecked(FieldUnchecked):
+    """Does not compare its key."""
+
+    finds, field = "RX-07c TX-02c", "key"
+
+
+class PortPriorityUnchecked(FieldUnchecked):
+    """Does not compare its port priority."""
+
+    finds, field = "RX-07d TX-02d", "port_priority"
+
+
+class PortUnchecked(FieldUnchecked):
+    """Does not compare its port number."""
+
+    finds, field = "RX-07e TX-02e", "port"
+
+
+class AggregationUnchecked(FieldUnchecked):
+    """Does not compare its Aggregation."""
+
+    finds, field = "RX-07f TX-02f", "aggregation"
+
+
+class VendorUnchecked(Device):
+    """Does not compare the first three octets of its system."""
+
+    finds = "RX-07g"
+
+    def hears(self, port: int, frame: bytes) -> Iterable[bytes]:
+        yield put(frame, 26, OWN.mac[:3]) if is_lacpdu(frame) and any(part(frame, 26, 6)) else frame
+
+
+class SyncIgnored(Device):
+    """Does not look at Synchronization of the partner."""
+
+    finds = "RX-09 MX-02 MX-03 TX-06"
+
+    def hears(self, port: int, frame: bytes) -> Iterable[bytes]:
+        yield set_bits(frame, 18, SYNC, True) if is_lacpdu(frame) else frame
+
+
+class PassiveRefused(Device):
+    """Takes no LACPDU of a passive partner."""
+
+    finds = "RX-10"
+
+    def hears(self, port: int, frame: bytes) -> Iterable[bytes]:
+        if not is_lacpdu(frame) or frame[32] & 1:
+            yield frame
+
+
+class ActivityUnchecked(Device):
+    """Does not look at its Activity as the partner tells it."""
+
+    finds = "RX-11 TX-03a"
+
+    def hears(self, port: int, frame: bytes) -> Iterable[bytes]:
+        yield set_bits(frame, 38, 1, True) if is_lacpdu(frame) else frame
+
+
+class SelectionUnchanged(Device):
+    """Does not select anew where the partner changes a field: it goes on with the old value inside, and tells the new one."""
+
+    field = ""
+
+    def __init__(self) -> None:
+        super().__init__()
+        # By port: the value that the system has, and that of the partner.
+        self.values: dict[int, tuple[bytes, bytes]] = {}
+        self.others: dict[int, bytes] = {}
+
+    def value(self, frame: bytes) -> bytes:
+        at, count = FIELDS[self.field]
+        return bytes([frame[14 + at] & AGGREGATION]) if self.field == "aggregation" else part(frame, at, count)
+
+    def changed(self, frame: bytes, at: int, value: bytes) -> bytes:
+        return set_bits(frame, at, AGGREGATION, bool(value[0])) if self.field == "aggregation" else put(frame, at, value)
+
+    def hears(self, port: int, frame: bytes) -> Iterable[bytes]:
+        if not is_lacpdu(frame):
+            yield frame
+            return
+        at, count = FIELDS[self.field]
+        rest = put(put(frame, 18, bytes([frame[32] & AGGREGATION])), at, bytes(count))[18:33]
+        old = self.values.get(port)
+        if old is None or (self.others.get(port) != rest and self.field != "system"):
+            old = self.value(frame), self.value(frame)
+        self.others[port], self.values[port] = rest, (old[0], self.value(frame))
+        yield self.changed(frame, at, old[0])
+
+    def says(self, port: int, frame: bytes) -> Iterable[bytes]:
+        at, count = FIELDS[self.field]
+        inside, outside = self.values.get(port, (b"", b""))
+        told = bytes([frame[14 + at + 20] & AGGREGATION]) if self.field == "aggregation" else part(frame, at + 20, count)
+        yield self.changed(frame, at + 20, outside) if inside and told == inside else frame
+
+
+class NewPriority(SelectionUnchanged):
+    """Does not select anew for another priority of the partner."""
+
+    finds, field = "RX-12a", "priority"
+
+
+class NewSystem(SelectionUnchanged):
+    """Does not select anew for another system of the partner."""
+
+    finds, field = "RX-12b MX-01", "system"
+
+
+class NewKey(SelectionUnchanged):
+    """Does not select anew for another key of the partner."""
+
+    finds, field = "RX-12c MX-05 SL-07", "key"
+
+
+class NewPortPriority(SelectionUnchanged):
+    """Does not select anew for another port priority of the partner."""
+
+    finds, field = "RX-12d", "port_priority"
+
+
+class NewPort(SelectionUnchanged):
+    """Does not select anew for another port number of the partner."""
+
+    finds, field = "RX-12e", "port"
+
+
+class NewAggregation(SelectionUnchanged):
+    """Does not select anew for another Aggregation of the partner."""
+
+    finds, field = "RX-12f", "aggregation"
+
+
+class LinkUnseen(Device):
+    """Does not see that a link goes down."""
+
+    finds = "RX-13"
+
+    def link(self, port: int, up: bool) -> None:
+        pass
+
+
+class StartsCarrying(Device):
+    """Does not wait after its start."""
+
+    finds = "RX-15"
+    hurries = 0.0
+
+    def start(self) -> None:
+        super().start()
+        self.hurries = self.now + 5 if self.now else 0.0
+
+    def took(self, port: int, frame: bytes) -> None:
+        if self.now < self.hurries and is_lacpdu(frame) and self.on.mux_state(port) is MuxState.WAITING:
+            self.on.tick(20)
+            self.on.receive(port, frame)
+
+
+class SlowClock(Device):
+    """Its clock is a quarter slow, and more."""
+
+    finds, tick_seconds = "PT-01 RX-02", 0.14
+
+
+class FastClock(Device):
+    """Its clock is fast."""
+
+    finds, tick_seconds = "PT-01 MX-01 RX-02", 0.055
+
+
+class AlwaysShort(Device):
+    """Sends each second, whatever the partner asks for."""
+
+    finds = "PT-02 PT-04 TX-04"
+
+    def hears(self, port: int, frame: bytes) -> Iterable[bytes]:
+        yield set_bits(frame, 18, 2, True) if is_lacpdu(frame) else frame
+
+
+class AlwaysLong(Device):
+    """Sends each 30 s, whatever the partner asks for."""
+
+    finds = "PT-01 PT-03 PT-06"
+
+    def hears(self, port: int, frame: bytes) -> Iterable[bytes]:
+        yield set_bits(frame, 18, 2, False) if is_lacpdu(frame) else frame
+
+
+class LateToShort(Device):
+    """Notices two seconds late that the partner asks for short timeouts."""
+
+    finds = "PT-03"
+    since = 0.0
+
+    def hears(self, port: int, frame: bytes) -> Iterable[bytes]:
+        if is_lacpdu(frame) and port == 1:
+            if not frame[32] & 2:
+                self.since = self.now
+            elif self.now - self.since < 2 and self.since:
+                frame = set_bits(frame, 18, 2, False)
+        yield frame
+
+
+class QuietInExpired(Device):
+    """Tells once that it is EXPIRED."""
+
+    finds = "PT-05"
+    told = False
+
+    def says(self, port: int, frame: bytes) -> Iterable[bytes]:
+        expired = bool(frame[32] & 0x80)
+        if not (expired and self.told):
+            yield frame
+        self.told = expired
+
+
+class QuietToPassive(Device):
+    """Sends nothing periodically to a passive partner."""
+
+    finds = "PT-06"
+
+    def __init__(self) -> None:
+        super().__init__()
+        self.last: dict[int, bytes] = {}
+
+    def says(self, port: int, frame: bytes) -> Iterable[bytes]:
+        told, self.last[port] = self.last.get(port), frame[:54]
+        if frame[52] & 1 or told != frame[:54]:
+            yield frame
+
+
+class CollectsAsPartner(Device):
+    """Wants Collecting of the partner to stay synchronized with it."""
+
+    finds = "MX-02 MX-04"
+
+    def hears(self, port: int, frame: bytes) -> Iterable[bytes]:
+        yield set_bits(frame, 18, SYNC, False) if is_lacpdu(frame) and self.is_on(port, State.COLLECTING) and not frame[32] & 0x10 else frame
+
+
+class TellsOldBits(Device):
+    """Tells once more that it carries when it has detached."""
+
+    finds = "MX-05"
+
+    def __init__(self) -> None:
+        super().__init__()
+        self.last: dict[int, int] = {}
+
+    def says(self, port: int, frame: bytes) -> Iterable[bytes]:
+        last, self.last[port] = self.last.get(port, 0), frame[32]
+        yield put(frame, 18, bytes([last])) if last & SYNC and not frame[32] & SYNC else frame
+
+
+class LateBits(Device):
+    """Tells Collecting and Distributing a second too long."""
+
+    finds = "MX-03 MX-07 IV-02 RX-07a RX-07e"
+
+    def __init__(self) -> None:
+        super().__init__()
+        self.since: dict[int, float] = {}
+
+    def says(self, port: int, frame: bytes) -> Iterable[bytes]:
+        if frame[32] & CARRIES:
+            self.since[port] = self.now
+        late = self.now - self.since.get(port, -9) < 1.05
+        yield set_bits(frame, 18, CARRIES | SYNC, True) if late else frame
+
+
+class AggregatesAlways(Device):
+    """Tells a partner that is individual as aggregatable."""
+
+    finds = "MX-08"
+
+    def says(self, port: int, frame: bytes) -> Iterable[bytes]:
+        yield set_bits(frame, 38, AGGREGATION, True) if any(part(frame, 26, 6)) else frame
+
+
+class CollectsAlone(Device):
+    """Tells Collecting without Synchronization."""
+
+    finds = "IV-01"
+
+    def says(self, port: int, frame: bytes) -> Iterable[bytes]:
+        yield frame if frame[32] & SYNC else set_bits(frame, 18, 0x10, True)
+
+
+class MixesLinks(Device):
+    """Tells on link 2 the partner of link 1."""
+
+    finds = "IV-04"
+    first = b""
+
+    def says(self, port: int, frame: bytes) -> Iterable[bytes]:
+        if port == 1:
+            self.first = part(frame, 24, 14)
+        yield put(frame, 24, self.first) if port == 2 and self.first else frame
+
+
+class Chatty(Device):
+    """Answers each LACPDU."""
+
+    finds = "TX-01 TX-04 TX-05 RB-05 RB-06 IV-05"
+
+    def took(self, port: int, frame: bytes) -> None:
+        if is_lacpdu(frame):
+            own, partner = self.own(port), self.on.partner(port)
+            told = partner.system.priority.to_bytes(2, "big") + partner.system.mac + partner.key.to_bytes(2, "big")
+            told += partner.port.priority.to_bytes(2, "big") + partner.port.number.to_bytes(2, "big") + bytes([int(partner.state)])
+            payload = b"\1\1\1\x14" + own + bytes(3) + b"\2\x14" + told + bytes(3) + b"\3\x10" + bytes(66)
+            self.world.emit(port, b"\x01\x80\xc2\0\0\2" + bytes([2, 0, 0, 0, 0xBB, port]) + SLOW + payload)
+
+
+class NoNtt(Device):
+    """Waits 0.9 s before it sends what is due."""
+
+    finds = "TX-02a TX-02b TX-02c TX-02d TX-02e TX-02f TX-03a TX-03b TX-03c TX-06 MX-03 MX-07"
+    due_since: Optional[float] = None
+
+    def may_send(self) -> bool:
+        if not self.on.due():
+            self.due_since = None
+            return False
+        if self.due_since is None:
+            self.due_since = self.now
+        if self.now - self.due_since < 0.9:
+            return False
+        self.due_since = None
+        return True
+
+
+class TimeoutUnchecked(Device):
+    """Does not look at its LACP_Timeout as the partner tells it."""
+
+    finds = "TX-03b"
+
+    def hears(self, port: int, frame: bytes) -> Iterable[bytes]:
+        yield set_bits(frame, 38, 2, self.is_on(port, State.TIMEOUT)) if is_lacpdu(frame) else frame
+
+
+class OwnSyncUnchecked(Device):
+    """Does not look at its Synchronization as the partner tells it."""
+
+    finds = "TX-03c"
+
+    def hears(self, port: int, frame: bytes) -> Iterable[bytes]:
+        yield set_bits(frame, 38, SYNC, self.is_on(port, State.SYNCHRONIZATION)) if is_lacpdu(frame) else frame
+
+
+class Stale(Device):
+    """What waits behind three LACPDUs is told three seconds long as it was when it began to wait."""
+
+    finds = "TX-05"
+
+    def __init__(self) -> None:
+        super().__init__()
+        self.times: list[float] = []
+        self.old, self.until = b"", 0.0
+
+    def says(self, port: int, frame: bytes) -> Iterable[bytes]:
+        self.times = [it for it in self.times if self.now - it < 1.2] + [self.now]
+        if len(self.times) == 4 and self.now >= self.until:
+            self.until = self.now + 3
+        if self.now >= self.until or port != 1:
+            self.old = frame
+        yield self.old or frame
+
+
+class LongTimer(Device):
+    """Asks for long timeouts, and waits 80 s."""
+
+    finds, short, long = "RX-14", False, True
+
+    def ticked(self) -> None:
+        if any(self.on.receive_state(port) is ReceiveState.CURRENT and self.on.current_while(port) == 100 for port in (1, 2)):
+            self.on.tick(100)
+
+
+class SlowPeriod(Device):
+    """Its clock is a twentieth slow."""
+
+    finds, tick_seconds, long = "PT-07", 0.105, True
+
+
+class SilentOnDefaults(Device):
+    """Says nothing where it has no partner."""
+
+    finds, long = "PT-08", True
+
+    def says(self, port: int, frame: bytes) -> Iterable[bytes]:
+        if not frame[32] & 0x40:
+            yield frame
+
+
+def of(*modules_classes: type[Device]) -> Iterator[type[Device]]:
+    """Each class that names the tests that find it."""
+    yield from (it for it in modules_classes if it.finds)
+
+
+FAULTS: list[type[Device]] = [it for it in list(vars().values()) if isinstance(it, type) and issubclass(it, Device) and it.finds]

@@ -1,0 +1,471 @@
+"""Devices with one fault each, and the tests that have to find it: frames of other shapes, markers, storms, and two links."""
+
+from __future__ import annotations
+
+from typing import Iterable, Iterator, Optional
+
+from conform_device import OWN, SLOW, Device, is_lacpdu, part, put
+from conform_faults import set_bits
+from niwhopera import BadPayload, State, decode
+
+
+class Drops(Device):
+    """Drops LACPDUs of some shape."""
+
+    def drops(self, frame: bytes) -> bool:
+        """Whether an LACPDU is dropped."""
+        return False
+
+    def hears(self, port: int, frame: bytes) -> Iterable[bytes]:
+        if not (is_lacpdu(frame) and self.drops(frame)):
+            yield frame
+
+
+class CollectingOnly(Drops):
+    """Takes no LACPDU of a partner that is synchronized and does not collect."""
+
+    finds = "VN-01"
+
+    def drops(self, frame: bytes) -> bool:
+        return frame[32] & 0x18 == 8
+
+
+class VersionChecked(Drops):
+    """Takes version 1 alone."""
+
+    finds = "VN-02 VN-03 VN-04 VN-05 VN-10"
+
+    def drops(self, frame: bytes) -> bool:
+        return frame[15] != 1
+
+
+class TypesChecked(Drops):
+    """Looks at the types of the Actor and Partner TLV."""
+
+    finds = "VN-07"
+
+    def drops(self, frame: bytes) -> bool:
+        return frame[16] != 1 or frame[36] != 2
+
+
+class CollectorChecked(Drops):
+    """Looks at the type of the Collector TLV."""
+
+    finds = "VN-08"
+
+    def drops(self, frame: bytes) -> bool:
+        return frame[56] != 3
+
+
+class TerminatorChecked(Drops):
+    """Looks at the Terminator."""
+
+    finds = "VN-05 VN-09"
+
+    def drops(self, frame: bytes) -> bool:
+        return frame[72] != 0
+
+
+class ReservedChecked(Drops):
+    """Looks at reserved octets."""
+
+    finds = "VN-06"
+
+    def drops(self, frame: bytes) -> bool:
+        return any(part(frame, 60, 50)) or any(part(frame, 46, 12))
+
+
+class LongerDropped(Drops):
+    """Takes LACPDUs of 110 octets alone."""
+
+    finds = "VN-10"
+
+    def drops(self, frame: bytes) -> bool:
+        return len(frame) > 124
+
+
+class Upset(Device):
+    """A port begins anew after frames of some shape."""
+
+    def upsets(self, port: int, frame: bytes) -> bool:
+        """Whether a frame does harm."""
+        return False
+
+    def took(self, port: int, frame: bytes) -> None:
+        if self.upsets(port, frame):
+            self.restart(port)
+
+
+class UpsetByLengths(Upset):
+    """A wrong length of a TLV takes the link down."""
+
+    finds = "VN-11 VN-12 VN-13"
+
+    def upsets(self, port: int, frame: bytes) -> bool:
+        return is_lacpdu(frame) and (frame[17], frame[37], frame[57]) != (20, 20, 16)
+
+
+class UpsetByTerminator(Upset):
+    """A Terminator with a length takes the link down."""
+
+    finds = "VN-13a"
+
+    def upsets(self, port: int, frame: bytes) -> bool:
+        return is_lacpdu(frame) and frame[72:73] == b"\0" and frame[73] != 0
+
+
+class UpsetByAddress(Upset):
+    """A frame to another address takes the link down."""
+
+    finds = "VN-19 MK-12"
+
+    def upsets(self, port: int, frame: bytes) -> bool:
+        return frame[12:14] == SLOW and frame[:6] != b"\x01\x80\xc2\0\0\2"
+
+
+class UpsetByTag(Upset):
+    """A tag takes the link down."""
+
+    finds = "VN-20"
+
+    def upsets(self, port: int, frame: bytes) -> bool:
+        return frame[12:14] == b"\x81\0"
+
+
+class UpsetByShort(Upset):
+    """A frame of Slow Protocols that is cut off takes the link down."""
+
+    finds = "VN-21 RB-01 RB-04"
+
+    def upsets(self, port: int, frame: bytes) -> bool:
+        return frame[12:14] == SLOW and len(frame) < 124
+
+
+class UpsetBySubtype(Upset):
+    """A frame of another subtype takes the link down."""
+
+    finds = "RB-03"
+
+    def upsets(self, port: int, frame: bytes) -> bool:
+        return frame[12:14] == SLOW and frame[14:15] not in (b"\1", b"\2")
+
+
+class UpsetBySource(Upset):
+    """An LACPDU from a group address takes the link down."""
+
+    finds = "RB-07"
+
+    def upsets(self, port: int, frame: bytes) -> bool:
+        return bool(frame[6] & 1)
+
+
+class UpsetByLongFrame(Upset):
+    """A frame of more than 1500 octets takes the link down."""
+
+    finds = "RB-08"
+
+    def upsets(self, port: int, frame: bytes) -> bool:
+        return len(frame) > 1500
+
+
+class UpsetByStorm(Upset):
+    """A hundred LACPDUs in a second take the link down."""
+
+    finds = "RB-06"
+    second, count = -1, 0
+
+    def upsets(self, port: int, frame: bytes) -> bool:
+        if int(self.now) != self.second:
+            self.second, self.count = int(self.now), 0
+        self.count += is_lacpdu(frame)
+        return self.count == 100
+
+
+class WornOut(Device):
+    """Takes no LACPDU any more after fifty partners in ten seconds."""
+
+    finds = "RB-05"
+    partners: dict[bytes, float] = {}
+
+    def hears(self, port: int, frame: bytes) -> Iterable[bytes]:
+        if is_lacpdu(frame):
+            self.partners = {it: when for it, when in self.partners.items() if self.now - when < 10}
+            self.partners[part(frame, 4, 8)] = self.now
+            if len(self.partners) > 50:
+                self.worn = True
+        if not self.worn:
+            yield frame
+
+    worn = False
+
+
+class SubtypeUnchecked(Device):
+    """Takes each slow protocol for LACP."""
+
+    finds = "VN-14 VN-15 VN-16 RB-03"
+
+    def hears(self, port: int, frame: bytes) -> Iterable[bytes]:
+        yield put(frame, 0, b"\1") if frame[12:14] == SLOW and len(frame) > 14 and frame[14] != 2 else frame
+
+
+class TypeUnchecked(Device):
+    """Does not look at the EtherType."""
+
+    finds = "VN-17 VN-18 RB-02"
+
+    def hears(self, port: int, frame: bytes) -> Iterable[bytes]:
+        yield frame[:12] + SLOW + frame[14:]
+
+
+class PadsShort(Device):
+    """Reads a frame that is cut off as though zeros stood behind it."""
+
+    finds = "VN-22 RB-01 RB-04"
+
+    def hears(self, port: int, frame: bytes) -> Iterable[bytes]:
+        whole = put(put(put(frame + bytes(124 - len(frame)), 3, b"\x14"), 23, b"\x14"), 43, b"\x10")
+        yield whole if frame[12:15] == SLOW + b"\1" and len(frame) < 124 else frame
+
+
+# Markers.
+
+
+class Responds(Device):
+    """Changes its responses."""
+
+    def says_back(self, marker: bytes, response: bytes) -> Optional[bytes]:
+        """The response that goes out, if one does."""
+        return response
+
+    def responds(self, port: int, marker: bytes, response: bytes) -> Iterator[tuple[int, bytes]]:
+        given = self.says_back(marker, response)
+        if given:
+            yield port, given
+
+
+class NoMarkers(Responds):
+    """Answers no marker."""
+
+    finds = "MK-01 EN-03"
+
+    def says_back(self, marker: bytes, response: bytes) -> Optional[bytes]:
+        return None
+
+
+class OtherId(Responds):
+    """Answers with another identifier."""
+
+    finds = "MK-01 MK-02"
+
+    def says_back(self, marker: bytes, response: bytes) -> Optional[bytes]:
+        return put(response, 15, bytes([response[29] ^ 1]))
+
+
+class OtherSystem(Responds):
+    """Answers with another system."""
+
+    finds = "MK-02"
+
+    def says_back(self, marker: bytes, response: bytes) -> Optional[bytes]:
+        return put(response, 6, OWN.mac)
+
+
+class OtherSource(Responds):
+    """Answers from another address."""
+
+    finds = "MK-03"
+
+    def says_back(self, marker: bytes, response: bytes) -> Optional[bytes]:
+        return response[:6] + b"\2\0\0\0\0\1" + response[12:]
+
+
+class MarkerVersion(Responds):
+    """Answers markers of version 1 alone."""
+
+    finds = "MK-04"
+
+    def says_back(self, marker: bytes, response: bytes) -> Optional[bytes]:
+        return response if marker[15] == 1 else None
+
+
+class MarkerSlow(Responds):
+    """Answers one marker in two seconds."""
+
+    finds = "MK-05"
+    last = -9.0
+
+    def says_back(self, marker: bytes, response: bytes) -> Optional[bytes]:
+        if self.now - self.last < 2:
+            return None
+        self.last = self.now
+        return response
+
+
+class ManyResponses(Device):
+    """Answers each marker, however many come."""
+
+    finds, most_responses = "MK-06", 10**9
+
+
+class AnswersResponses(Device):
+    """Answers responses."""
+
+    finds = "MK-07"
+
+    def took(self, port: int, frame: bytes) -> None:
+        if frame[12:17] == SLOW + b"\2\1\2" and len(frame) >= 124:
+            self.world.emit(port, frame[:6] + bytes([2, 0, 0, 0, 0xBB, port]) + frame[12:])
+
+
+class AnswersUnknown(Device):
+    """Answers Marker PDUs of each TLV type."""
+
+    finds = "MK-08"
+
+    def took(self, port: int, frame: bytes) -> None:
+        if frame[12:15] == SLOW + b"\2" and len(frame) >= 124 and frame[16] > 2:
+            self.world.emit(port, put(frame[:6] + bytes([2, 0, 0, 0, 0xBB, port]) + frame[12:], 2, b"\2"))
+
+
+class AnswersShort(Device):
+    """Sends markers back that are cut off."""
+
+    finds = "MK-09 IV-03"
+
+    def took(self, port: int, frame: bytes) -> None:
+        if frame[12:17] == SLOW + b"\2\1\1" and len(frame) < 124:
+            self.world.emit(port, put(frame[:6] + bytes([2, 0, 0, 0, 0xBB, port]) + frame[12:], 2, b"\2") + bytes(1))
+
+
+class MarkersWhenCollecting(Device):
+    """Answers on ports that collect alone."""
+
+    finds = "MK-10"
+
+    def responds(self, port: int, marker: bytes, response: bytes) -> Iterator[tuple[int, bytes]]:
+        if self.is_on(port, State.COLLECTING):
+            yield port, response
+
+
+class StrayResponses(Device):
+    """Answers on the other link, where it carries."""
+
+    finds = "MK-11"
+
+    def responds(self, port: int, marker: bytes, response: bytes) -> Iterator[tuple[int, bytes]]:
+        yield (3 - port if self.is_on(2, State.COLLECTING) and port == 1 else port), response
+
+
+# Two links, and the engine.
+
+
+class OneAggregator(Device):
+    """Its client uses each link that distributes, whatever the aggregator."""
+
+    finds = "SL-03 SL-04 SL-05 SL-06 SL-07"
+
+    def port_of(self, frame: bytes) -> Optional[int]:
+        ports = [port for port in (1, 2) if self.on.distributes(port)]
+        return ports[frame[11] % len(ports)] if ports else None
+
+
+class SecondLinkDrops(Device):
+    """Drops the second link three seconds after it carries."""
+
+    finds = "SL-01 EN-02"
+    since = 0.0
+
+    def ticked(self) -> None:
+        if not all(self.on.distributes(port) for port in (1, 2)):
+            self.since = self.now
+        elif self.now - self.since > 3:
+            self.restart(2)
+
+
+class OnePortNumber(Device):
+    """Has one port number on both links."""
+
+    finds = "SL-02"
+
+    def hears(self, port: int, frame: bytes) -> Iterable[bytes]:
+        yield put(frame, 36, b"\0\2") if is_lacpdu(frame) and port == 2 and part(frame, 36, 2) == b"\0\1" else frame
+
+    def says(self, port: int, frame: bytes) -> Iterable[bytes]:
+        yield put(frame, 16, b"\0\1")
+
+
+class BothLeave(Device):
+    """A key that changes on one link takes the other one out."""
+
+    finds = "SL-07 SL-12"
+
+    def __init__(self) -> None:
+        super().__init__()
+        self.partners: dict[int, bytes] = {}
+
+    def took(self, port: int, frame: bytes) -> None:
+        if not is_lacpdu(frame):
+            return
+        old, self.partners[port] = self.partners.get(port), part(frame, 6, 8)
+        if old and old != self.partners[port]:
+            self.restart(3 - port)
+
+
+class CarriesForItself(Device):
+    """Takes itself for another system."""
+
+    finds = "SL-10 SL-11"
+    STRANGER = b"\2\xee\0\0\0\1"
+
+    def hears(self, port: int, frame: bytes) -> Iterable[bytes]:
+        own = is_lacpdu(frame) and part(frame, 6, 6) == OWN.mac
+        yield put(frame, 6, self.STRANGER) if own else frame
+
+    def says(self, port: int, frame: bytes) -> Iterable[bytes]:
+        yield put(frame, 26, OWN.mac) if part(frame, 26, 6) == self.STRANGER else frame
+
+
+class Restless(Device):
+    """Begins anew each four seconds."""
+
+    finds = "EN-01 RX-04"
+    last = 0.0
+
+    def ticked(self) -> None:
+        if not self.on.distributes(1):
+            self.last = self.now
+        elif self.now - self.last > 4:
+            self.restart(1)
+
+
+class BadLengths(Device):
+    """Sends a wrong length of the Collector TLV once in ten LACPDUs."""
+
+    finds = "IV-03"
+    count = 0
+
+    def says(self, port: int, frame: bytes) -> Iterable[bytes]:
+        self.count += 1
+        yield put(frame, 43, b"\x0f") if self.count % 10 == 0 else frame
+
+
+class ForgetsNaming(Device):
+    """Takes a partner that names nobody for one that names it."""
+
+    finds = "RX-08"
+
+    def hears(self, port: int, frame: bytes) -> Iterable[bytes]:
+        nobody = is_lacpdu(frame) and not any(part(frame, 24, 14))
+        yield set_bits(put(frame, 24, self.own(port)), 38, 4, True) if nobody else frame
+
+
+def reads(frame: bytes) -> bool:
+    """Whether the codec reads a frame."""
+    try:
+        decode(frame[14:])
+    except BadPayload:
+        return False
+    return True
+
+
+FAULTS: list[type[Device]] = [it for it in list(vars().values()) if isinstance(it, type) and issubclass(it, Device) and it.finds]

@@ -1,0 +1,278 @@
+"""The command `lagconform`: its words, refusals and reports, beside a device in memory."""
+
+from __future__ import annotations
+
+import json
+import os
+import struct
+import xml.etree.ElementTree as xml
+from pathlib import Path
+from typing import Iterator, Type
+
+import pytest
+from conform_device import Device, World
+from conform_faults import KeyUnchecked, NoWait, SystemUnchecked
+from conform_frames import NoMarkers
+
+from lagconform import causes, command, known, listing, pics, refusals
+from lagconform.bench import Bench, most_within
+from lagconform.groups import GROUPS, TESTS
+from lagconform.model import DEVICES, FAIL, INCONCLUSIVE, MEMORY, NOT_APPLICABLE, PASS, PROFILE, SKIPPED, Claim, Result, Test
+from lagconform.runner import NoDevice, judge, meet, run_one
+from lagconform.shadow import compare
+
+BY_NAME = {it.id: it for it in TESTS}
+
+
+@pytest.fixture
+def run(monkeypatch: pytest.MonkeyPatch, tmp_path: Path) -> Iterator[object]:
+    """Runs the command beside a device; its status."""
+    made: list[Device] = []
+
+    def play(kind: Type[Device], *words: str, links: int = 2) -> int:
+        def stand(_: object) -> Bench:
+            made.append(kind())
+            world = World(made[-1], links)
+            b = Bench(world, world)
+            meet(b)
+            return b
+
+        monkeypatch.setattr(command, "stand", stand)
+        monkeypatch.chdir(tmp_path)
+        return command.main([*[f"link{it}" for it in range(1, links + 1)], *words])
+
+    yield play
+    for it in made:
+        it.stop()
+
+
+def blocks(octets: bytes) -> list[tuple[int, bytes]]:
+    """The blocks of a pcapng file."""
+    found = []
+    while octets:
+        kind, size = struct.unpack("=II", octets[:8])
+        found.append((kind, octets[8 : size - 4]))
+        octets = octets[size:]
+    return found
+
+
+def test_reports(run, tmp_path: Path, capsys: pytest.CaptureFixture[str]) -> None:  # type: ignore[no-untyped-def]
+    words = ["--only", "RX-07c", "--only", "TX-02c", "--only", "FM-01", "--shadow", "--device", "a <device>"]
+    files = ["--json", "r.json", "--junit", "r.xml", "--report", "r.html", "--pcap", "r.pcapng"]
+    assert run(KeyUnchecked, *words, *files) == 1
+    said = capsys.readouterr().out
+    assert "fail           RX-07c" in said and said.endswith("1 pass, 2 fail\n") and "shadow: " in said
+    told = json.loads((tmp_path / "r.json").read_text())
+    assert told["counts"]["fail"] == 2 and told["tests"][1]["claims"][0]["holds"] is False
+    tree = xml.parse(tmp_path / "r.xml").getroot()
+    assert tree.get("name") == "a <device>" and tree.get("failures") == "2" and len(tree.findall(".//testcase")) == 3
+    page = (tmp_path / "r.html").read_text()
+    assert "a &lt;device&gt;" in page and page.count("<svg") == 4 and "the rule is carried by profile" in page
+    found = blocks((tmp_path / "r.pcapng").read_bytes())
+    assert [kind for kind, _ in found[:3]] == [0x0A0D0D0A, 1, 1] and {kind for kind, _ in found[3:]} == {6}
+    failing = told["tests"][1]["claims"][0]["packets"][0]
+    assert b"RX-07c fails" in found[2 + failing][1]
+
+
+def test_known_fails(run, tmp_path: Path, capsys: pytest.CaptureFixture[str]) -> None:  # type: ignore[no-untyped-def]
+    (tmp_path / "known").write_text("# of the switch\nRX-07c compares no key\nFM-01 was wrong once\n")
+    words = ["--only", "RX-07c", "--only", "FM-01", "--known", str(tmp_path / "known"), "--junit", "r.xml"]
+    assert run(KeyUnchecked, *words) == 0
+    said = capsys.readouterr().out
+    assert "(known: compares no key)" in said and "known fail FM-01 did not fail" in said
+    assert xml.parse(tmp_path / "r.xml").getroot().get("failures") == "0"
+    assert run(KeyUnchecked, *words, "--only", "TX-02c") == 1
+
+
+def test_pics(run, tmp_path: Path, capsys: pytest.CaptureFixture[str]) -> None:  # type: ignore[no-untyped-def]
+    (tmp_path / "pics").write_text("marker-responder no  # none\n")
+    words = ["--pics", str(tmp_path / "pics"), "--only", "MK-01", "--only", "FM-01", "--json", "r.json"]
+    assert run(NoMarkers, *words) == 0
+    assert capsys.readouterr().out.endswith("1 pass, 0 fail, 1 not applicable\n")
+    assert "it answers markers" in json.loads((tmp_path / "r.json").read_text())["tests"][1]["why"]
+
+
+@pytest.mark.parametrize("text", ["marker-responder", "marker-responder maybe", "speed yes"])
+def test_a_bad_statement_is_refused(text: str) -> None:
+    with pytest.raises(pics.BadPics, match="line 1"):
+        pics.parsed(text)
+
+
+@pytest.mark.parametrize("text", ["FM-99 why", "FM-01", "FM-01  "])
+def test_a_bad_list_of_known_fails_is_refused(text: str) -> None:
+    with pytest.raises(known.BadKnown, match="line 1"):
+        known.parsed(text, BY_NAME)
+
+
+def test_an_interrupted_run_reports_what_ran(run, tmp_path: Path, capsys: pytest.CaptureFixture[str], monkeypatch: pytest.MonkeyPatch) -> None:  # type: ignore[no-untyped-def]
+    class Interrupts(Device):
+        def ticked(self) -> None:
+            if self.now > 8:
+                raise KeyboardInterrupt
+
+    assert run(Interrupts, "--only", "FM-*", "--json", "r.json") == 130
+    assert json.loads((tmp_path / "r.json").read_text())["counts"]["pass"] >= 1
+
+
+def test_one_link_runs_tests_of_one_link(run, capsys: pytest.CaptureFixture[str]) -> None:  # type: ignore[no-untyped-def]
+    assert run(Device, "--only", "SL-*", links=1) == 0
+    assert capsys.readouterr().out.endswith("1 pass, 0 fail\n")
+
+
+@pytest.mark.parametrize(
+    "words, why",
+    [
+        ([], "one or two interfaces"),
+        (["a", "b", "c"], "one or two interfaces"),
+        (["lo", "lo"], "named twice"),
+        (["none0"], "there is no interface none0"),
+        (["lo"], "no Ethernet interface"),
+        (["lo", "--only", "XX-*"], "there is no test XX"),
+        (["lo", "--known", "/none"], "/none: No such file"),
+    ],
+)
+def test_refusals(words: list[str], why: str, capsys: pytest.CaptureFixture[str]) -> None:
+    assert command.main(words) == 2
+    assert why in capsys.readouterr().err
+
+
+def interface(folder: Path, name: str, **files: str) -> None:
+    """An interface as /sys has it."""
+    (folder / name).mkdir(parents=True)
+    for file, text in {"type": "1", "flags": "0x1003", "carrier": "1", **files}.items():
+        (folder / name / file).write_text(text + "\n")
+
+
+@pytest.mark.parametrize("files, why", [({"flags": "0x1002"}, "is down"), ({"carrier": "0"}, "no carrier"), ({}, "held by lagd")])
+def test_an_interface_that_is_not_free(files: dict[str, str], why: str, tmp_path: Path, monkeypatch: pytest.MonkeyPatch) -> None:
+    monkeypatch.setattr(refusals, "NET", str(tmp_path))
+    monkeypatch.setattr(refusals, "lacp_speaker", lambda _: "lagd (process 7)")
+    interface(tmp_path, "eth9", **files)
+    with pytest.raises(refusals.Refused, match=why):
+        refusals.check_interface("eth9")
+
+
+@pytest.mark.parametrize("kind, why", [("bonding", "in the bond m0"), ("bridge", "in the bridge m0"), ("", "in the master m0")])
+def test_an_interface_with_a_master(kind: str, why: str, tmp_path: Path, monkeypatch: pytest.MonkeyPatch) -> None:
+    monkeypatch.setattr(refusals, "NET", str(tmp_path))
+    interface(tmp_path, "eth9")
+    interface(tmp_path, "m0")
+    if kind:
+        (tmp_path / "m0" / kind).mkdir()
+    (tmp_path / "eth9" / "master").symlink_to(tmp_path / "m0")
+    with pytest.raises(refusals.Refused, match=why):
+        refusals.check_interface("eth9")
+
+
+def test_a_silent_device_is_refused_with_the_usual_causes() -> None:
+    class Silent(Device):
+        def may_send(self) -> bool:
+            return False
+
+    device = Silent()
+    b = Bench(World(device))
+    with pytest.raises(NoDevice, match="no LACPDU came in 35 s on link1, link2. The usual causes"):
+        meet(b)
+    assert b.now() >= 35
+    b.close()
+    device.stop()
+
+
+def test_a_device_that_sends_no_lacpdus_is_refused_with_the_fault() -> None:
+    class Short(Device):
+        def says(self, port: int, frame: bytes) -> Iterator[bytes]:
+            yield frame[:100]
+
+    device = Short()
+    b = Bench(World(device))
+    with pytest.raises(NoDevice, match="is no LACPDU: SHORT: 86 octets"):
+        meet(b)
+    b.close()
+    device.stop()
+
+
+def result(name: str, verdict: str = FAIL) -> Result:
+    return Result(BY_NAME[name], verdict)
+
+
+def test_causes() -> None:
+    found = causes.grouped([result("RX-12b"), result("MX-01"), result("MX-05", PASS), result("SL-09"), result("FM-01")])
+    assert [(it.test.id, [one.test.id for one in more]) for it, more in found] == [("RX-12b", ["MX-01", "SL-09"]), ("FM-01", [])]
+    one = causes.grouped([result("RX-09"), result("MX-02"), result("MX-03")])
+    assert [(it.test.id, len(more)) for it, more in one] == [("MX-02", 2)]
+
+
+def test_each_cause_is_a_test() -> None:
+    assert {name for it in TESTS for name in it.causes} <= set(BY_NAME)
+
+
+def test_a_busy_machine_gives_no_fail() -> None:
+    device = Device()
+    b = Bench(World(device))
+    found = Result(BY_NAME["FM-01"], claims=[Claim(False, "it was seen", ())])
+    b.late = 0.3
+    judge(b, found)
+    assert found.verdict == INCONCLUSIVE and "too busy" in found.why
+    b.close()
+    device.stop()
+
+
+def test_a_test_without_its_hook_is_skipped() -> None:
+    device = Device()
+    b = Bench(World(device))
+    meet(b)
+    assert run_one(b, BY_NAME["RX-15"]).verdict == SKIPPED
+    assert run_one(b, BY_NAME["RX-14"]).verdict == NOT_APPLICABLE
+    b.close()
+    device.stop()
+
+
+def test_a_fault_of_the_bench_is_no_fail() -> None:
+    def wrong(_: Bench) -> None:
+        raise ZeroDivisionError
+
+    device = Device()
+    b = Bench(World(device))
+    one = BY_NAME["FM-01"]
+    found = run_one(b, Test(*[wrong if name == "run" else getattr(one, name) for name in one.__dataclass_fields__]))
+    assert found.verdict == INCONCLUSIVE and "ZeroDivisionError" in found.why
+    b.close()
+    device.stop()
+
+
+def test_the_list_has_each_test(capsys: pytest.CaptureFixture[str]) -> None:
+    titles = {it.name: it.title for it in GROUPS}
+    text, table = listing.as_text(TESTS, titles), listing.as_markdown(TESTS, titles)
+    assert all(f"  {name} " in text and f"\n| {name}" in table for name in BY_NAME)
+    assert command.main(["--list"]) == 0 and command.main(["--list", "--markdown", "--only", "FM-*"]) == 0
+
+
+def test_each_test_tells_what_it_does() -> None:
+    assert len(BY_NAME) == len(TESTS)
+    for it in TESTS:
+        assert it.basis in (PROFILE, DEVICES, MEMORY) and it.purpose and it.rule and it.clause and it.steps, it.id
+        assert set(it.needs) <= set(pics.ITEMS) and it.links in (1, 2)
+
+
+def test_the_shadow_agrees_with_a_right_device() -> None:
+    for kind, differs in (Device, False), (NoWait, True), (SystemUnchecked, True):
+        device = kind()
+        world = World(device)
+        b = Bench(world, world)
+        meet(b)
+        for name in "RX-01", "RX-07b", "RX-12b", "RX-02", "MX-01", "VN-01", "SL-03":
+            run_one(b, BY_NAME[name])
+        shadow = compare(b)
+        assert shadow.compared > 40 and bool(shadow.differences) == differs, shadow.text
+        b.close()
+        device.stop()
+
+
+def test_most_within() -> None:
+    assert most_within([], 1) == 0
+    assert most_within([0, 0.4, 0.9, 1.0, 1.3], 1) == 4
+
+
+def test_the_module_runs_by_its_name() -> None:
+    folder = os.path.dirname(os.path.dirname(os.path.abspath(command.__file__)))
+    assert os.path.exists(os.path.join(folder, "lagconform", "__main__.py"))

@@ -1,0 +1,74 @@
+"""The tests of `lagconform` beside a device in memory: the right one fails nothing, and each fault is found by the tests named for it.
+
+Nothing sleeps: the device's world has a clock that the bench moves.
+"""
+
+from __future__ import annotations
+
+from typing import Sequence, Type
+
+import conform_faults
+import conform_frames
+import pytest
+from conform_device import Device, World
+
+from lagconform.bench import Bench
+from lagconform.groups import TESTS
+from lagconform.model import FAIL, INCONCLUSIVE, PASS, Result, Test
+from lagconform.runner import meet, ordered, run_all
+
+FAULTS: list[Type[Device]] = [*conform_faults.FAULTS, *conform_frames.FAULTS]
+# These look at what they see alone, or wait 90 s.
+BY_NAME = {it.id: it for it in TESTS}
+
+
+def play(kind: Type[Device], tests: Sequence[Test]) -> list[Result]:
+    """Runs tests beside a device of a kind."""
+    device = kind()
+    world = World(device)
+    b = Bench(world, world)
+    try:
+        meet(b)
+        results: list[Result] = []
+        run_all(b, ordered(tests), results.append)
+        return results
+    finally:
+        b.close()
+        device.stop()
+
+
+def told(results: Sequence[Result]) -> list[str]:
+    return [f"{it.test.id} {it.verdict}: {it.why}" for it in results if it.verdict != PASS]
+
+
+class LongDevice(Device):
+    """A right device that asks for long timeouts."""
+
+    short = False
+
+
+def test_the_right_device_fails_nothing() -> None:
+    results = play(Device, [it for it in TESTS if not it.is_long or it.id in ("PT-07", "PT-08")])
+    assert not told(results)
+
+
+def test_a_right_device_of_long_timeouts_fails_nothing() -> None:
+    results = play(LongDevice, TESTS)
+    assert not [it for it in told(results) if FAIL in it or INCONCLUSIVE in it]
+
+
+def test_there_are_fifty_faults() -> None:
+    assert len(FAULTS) >= 50
+    assert len({it.__name__ for it in FAULTS}) == len(FAULTS)
+
+
+def test_each_test_has_a_fault_that_it_finds() -> None:
+    found = {name for it in FAULTS for name in it.finds.split()}
+    assert found == set(BY_NAME)
+
+
+@pytest.mark.parametrize("kind", FAULTS, ids=lambda it: it.__name__)
+def test_a_fault_is_found(kind: Type[Device]) -> None:
+    wanted = kind.finds.split()
+    results = play(kind, [BY_NAME[it] for it in wanted])
+    assert {it.test.id: it.verdict for it in results} == dict.fromkeys((it.test.id for it in results), FAIL), told(results)
