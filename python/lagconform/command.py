@@ -33,13 +33,16 @@ something did, 2 if the bench could not run, and 130 after SIGINT. It wants CAP_
 bridge, and with no other program that speaks LACP there.
 
 The hook is a command that gets words behind it, and ends with status 0 if it did what they say:
-  stop, start            end and start LACP on the device
-  down N, up N           take the device's end of link N down and up
-  data start, data stop  have the client of the device's aggregator send frames of many flows between them: UDP from 198.18.0.0/16, to
-                         other addresses and ports in each flow
-  reset                  bring the device into the state in which it is to be tested, before the first test
-  set KEY VALUE          set something of the device, before the first test: of each --set KEY=VALUE
-Tests that want words which the hook does not know are skipped."""
+
+    reset                  bring the device into the state in which it is to be tested
+    set KEY VALUE          set something of the device: for each --set KEY=VALUE
+    stop, start            end and start LACP on the device
+    down N, up N           take the device's end of link N down and up
+    data start, data stop  have the client of the device's aggregator send frames of many
+                           flows between them: UDP from 198.18.0.0/16, to other addresses
+                           and ports in each flow
+
+The first two come before the first test. Tests that want words which the hook does not know are skipped."""
 
 
 def reader() -> argparse.ArgumentParser:
@@ -52,7 +55,7 @@ def reader() -> argparse.ArgumentParser:
     it.add_argument("--junit", metavar="FILE", help="write a JUnit file")
     it.add_argument("--json", metavar="FILE", help="write a JSON file")
     it.add_argument("--pcap", metavar="FILE", help="write the frames of the run as pcapng, whose packet numbers the reports name")
-    it.add_argument("--pics", metavar="FILE", help=f"what the device claims: lines of an item and yes or no. Items: {', '.join(pics.ITEMS)}")
+    it.add_argument("--pics", metavar="FILE", help=f"what the device claims: lines of yes or no for {', '.join(pics.ITEMS)}")
     it.add_argument("--known", metavar="FILE", help="fails that are known: lines of a test and a reason")
     it.add_argument("--hook", metavar="COMMAND", help="a command that has the device do something, above")
     it.add_argument("--set", metavar="KEY=VALUE", action="append", default=[], help="a setting for the hook; may be given again")

@@ -11,7 +11,7 @@ from xml.sax.saxutils import quoteattr
 from . import causes
 from .bench import Bench
 from .model import FAIL, INCONCLUSIVE, NOT_APPLICABLE, SKIPPED, VERDICTS, Result
-from .pdus import end, mac, told
+from .pdus import end, mac
 from .shadow import Shadow
 
 
@@ -135,5 +135,5 @@ def closing(run: Run) -> list[str]:
     if run.shadow:
         out.append(f"shadow: {run.shadow.text}")
         for it in run.shadow.differences[:5]:
-            out.append(f"shadow: packet {it.frame.number}, {told(it.frame.octets)}: {it.what}")
+            out.append(f"shadow: packet {it.frame.number}: {it.what}")
     return [*out, summary(run.results)]

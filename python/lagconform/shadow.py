@@ -1,7 +1,7 @@
 """A system with the device's parameters that gets the same frames and predicts each of its LACPDUs.
 
-The clock of the device is not known, and the standard leaves timers 0.25 s and the time of an answer open. So an LACPDU agrees if the
-system would have told the same at some time near it. What differs is told, and is never a fail: it may be what the standard leaves open.
+The clock of the device is not known, and the standard leaves timers 0.25 s and the time of an answer open. So several systems run, whose
+ticks lie apart, and an LACPDU agrees if one of them would have told the same at some time near it. What differs is told, and is never a fail: it may be what the standard leaves open.
 """
 
 from __future__ import annotations
@@ -15,11 +15,13 @@ from niwhopera import Config, Info, Lacpdu, PortConfig, State, System
 from .bench import LIMIT, PROMPT, TIMERS, Bench
 from .model import Frame
 from .partner import TICK
-from .pdus import end, six
+from .pdus import end, six, words
 
-# How far from an LACPDU the system may have told the same, and after what time without difference it has met the device.
+# How far from an LACPDU a system may have told the same, and how long it takes until what the device was before is forgotten.
 BEFORE, AFTER = TIMERS + PROMPT + LIMIT, TIMERS + TICK
-MEETS = 3
+FORGETS = 5.0
+# When the first tick of each system is, after the first frame.
+PHASES = (0.0, 0.02, 0.04, 0.06, 0.08)
 
 
 @dataclass(frozen=True)
@@ -72,10 +74,10 @@ class Replay:
         for link in self.links:
             self.system.set_link(link, True)
 
-    def run(self) -> dict[int, History]:
+    def run(self, phase: float) -> dict[int, History]:
         """What the system would have told on each link, and since when."""
         with self.system as system:
-            due = self.frames[0].time if self.frames else 0.0
+            due = (self.frames[0].time if self.frames else 0.0) + phase
             for frame in self.frames:
                 while due <= frame.time:
                     self.happen(due)
@@ -118,14 +120,21 @@ class Replay:
                 self.history[link].append((now, told))
 
 
+def state(info: Info) -> str:
+    """A state octet in words."""
+    return f"{int(info.state):02x} {words(info.state)}"
+
+
 def alike(told: Lacpdu, expected: Lacpdu) -> str:
-    """What an LACPDU tells otherwise than expected; nothing where it is the same."""
+    """What an LACPDU tells otherwise than expected; nothing where it is the same. The partner on defaults is the device's own."""
     if told.actor.state != expected.actor.state:
-        return f"own state {end(told.actor)}; expected {end(expected.actor)}"
+        return f"own state {state(told.actor)}; expected {state(expected.actor)}"
+    if told.actor.state & State.DEFAULTED:
+        return ""
     if six(told.partner) != six(expected.partner):
         return f"partner {end(told.partner)}; expected {end(expected.partner)}"
     if told.partner.state != expected.partner.state:
-        return f"partner's state {end(told.partner)}; expected {end(expected.partner)}"
+        return f"partner's state {state(told.partner)}; expected {state(expected.partner)}"
     return ""
 
 
@@ -140,20 +149,15 @@ def compare(b: Bench) -> Shadow:
     last = {link: frame.lacpdu for link, it in b.links.items() if (frame := it.frame) and frame.lacpdu}
     if not last:
         return Shadow(0, ())
-    history = Replay(b, last).run()
+    histories = [Replay(b, last).run(phase) for phase in PHASES]
     compared, differences = 0, []
-    met = {link: 0 for link in last}
     for frame in b.frames:
-        if frame.out or not frame.lacpdu or frame.link not in last:
+        if frame.out or not frame.lacpdu or frame.link not in last or frame.time < FORGETS:
             continue
         told = replace(frame.lacpdu, max_delay=0)
-        expected = near(history[frame.link], frame.time)
+        expected = [it for history in histories for it in near(history[frame.link], frame.time)]
         wrong = [alike(told, it) for it in expected]
-        fits = "" in wrong
-        met[frame.link] = met[frame.link] + 1 if fits or met[frame.link] >= MEETS else 0
-        if met[frame.link] < MEETS:
-            continue
         compared += 1
-        if not fits and expected:
+        if wrong and "" not in wrong:
             differences.append(Difference(frame, expected[-1], wrong[-1]))
     return Shadow(compared, tuple(differences))

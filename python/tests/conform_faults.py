@@ -95,11 +95,11 @@ class FlickeringTimeout(Device):
     """Tells another LACP_Timeout in each LACPDU."""
 
     finds = "FM-08"
-    turn = False
+    turn = 0
 
     def says(self, port: int, frame: bytes) -> Iterable[bytes]:
-        self.turn = not self.turn
-        yield set_bits(frame, 18, 2, self.turn)
+        self.turn ^= port
+        yield set_bits(frame, 18, 2, bool(self.turn & port))
 
 
 class FirstOneLost(Device):
@@ -447,13 +447,16 @@ class QuietInExpired(Device):
     """Tells once that it is EXPIRED."""
 
     finds = "PT-05"
-    told = False
+
+    def __init__(self) -> None:
+        super().__init__()
+        self.told = {1: False, 2: False}
 
     def says(self, port: int, frame: bytes) -> Iterable[bytes]:
         expired = bool(frame[32] & 0x80)
-        if not (expired and self.told):
+        if not (expired and self.told[port]):
             yield frame
-        self.told = expired
+        self.told[port] = expired
 
 
 class QuietToPassive(Device):
@@ -472,12 +475,12 @@ class QuietToPassive(Device):
 
 
 class CollectsAsPartner(Device):
-    """Wants Collecting of the partner to stay synchronized with it."""
+    """Takes a partner that does not collect for one out of sync."""
 
     finds = "MX-02 MX-04"
 
     def hears(self, port: int, frame: bytes) -> Iterable[bytes]:
-        yield set_bits(frame, 18, SYNC, False) if is_lacpdu(frame) and self.is_on(port, State.COLLECTING) and not frame[32] & 0x10 else frame
+        yield set_bits(frame, 18, SYNC, False) if is_lacpdu(frame) and not frame[32] & 0x10 else frame
 
 
 class TellsOldBits(Device):
@@ -497,7 +500,7 @@ class TellsOldBits(Device):
 class LateBits(Device):
     """Tells Collecting and Distributing a second too long."""
 
-    finds = "MX-03 MX-07 IV-02 RX-07a RX-07e"
+    finds = "MX-03 MX-07 IV-02"
 
     def __init__(self) -> None:
         super().__init__()
@@ -557,11 +560,11 @@ class Chatty(Device):
 class NoNtt(Device):
     """Waits 0.9 s before it sends what is due."""
 
-    finds = "TX-02a TX-02b TX-02c TX-02d TX-02e TX-02f TX-03a TX-03b TX-03c TX-06 MX-03 MX-07"
+    finds = "TX-02b TX-02c TX-02d TX-02e TX-02f TX-03a TX-03b TX-03c TX-06 MX-03 MX-07"
     due_since: Optional[float] = None
 
     def may_send(self) -> bool:
-        if not self.on.due():
+        if 1 not in self.on.due():
             self.due_since = None
             return False
         if self.due_since is None:

@@ -21,13 +21,14 @@ class Drops(Device):
             yield frame
 
 
-class CollectingOnly(Drops):
-    """Takes no LACPDU of a partner that is synchronized and does not collect."""
+class CollectingOnly(Device):
+    """Takes no LACPDU of a partner that stops collecting."""
 
     finds = "VN-01"
 
-    def drops(self, frame: bytes) -> bool:
-        return frame[32] & 0x18 == 8
+    def hears(self, port: int, frame: bytes) -> Iterable[bytes]:
+        if not (is_lacpdu(frame) and self.is_on(port, State.COLLECTING) and frame[32] & 0x18 == 8):
+            yield frame
 
 
 class VersionChecked(Drops):
@@ -439,14 +440,14 @@ class Restless(Device):
 
 
 class BadLengths(Device):
-    """Sends a wrong length of the Collector TLV once in ten LACPDUs."""
+    """Sends a wrong length of the Collector TLV in each second LACPDU."""
 
     finds = "IV-03"
     count = 0
 
     def says(self, port: int, frame: bytes) -> Iterable[bytes]:
         self.count += 1
-        yield put(frame, 43, b"\x0f") if self.count % 10 == 0 else frame
+        yield put(frame, 43, b"\x0f") if self.count % 2 == 0 else frame
 
 
 class ForgetsNaming(Device):

@@ -17,7 +17,8 @@ from conform_frames import NoMarkers
 from lagconform import causes, command, known, listing, pics, refusals
 from lagconform.bench import Bench, most_within
 from lagconform.groups import GROUPS, TESTS
-from lagconform.model import DEVICES, FAIL, INCONCLUSIVE, MEMORY, NOT_APPLICABLE, PASS, PROFILE, SKIPPED, Claim, Result, Test
+from lagconform.model import DEVICES, FAIL, INCONCLUSIVE, MEMORY, NOT_APPLICABLE, PASS, PROFILE, SKIPPED, Claim, Result
+from lagconform.model import Test as Case
 from lagconform.runner import NoDevice, judge, meet, run_one
 from lagconform.shadow import compare
 
@@ -234,7 +235,7 @@ def test_a_fault_of_the_bench_is_no_fail() -> None:
     device = Device()
     b = Bench(World(device))
     one = BY_NAME["FM-01"]
-    found = run_one(b, Test(*[wrong if name == "run" else getattr(one, name) for name in one.__dataclass_fields__]))
+    found = run_one(b, Case(*[wrong if name == "run" else getattr(one, name) for name in one.__dataclass_fields__]))
     assert found.verdict == INCONCLUSIVE and "ZeroDivisionError" in found.why
     b.close()
     device.stop()
@@ -263,7 +264,7 @@ def test_the_shadow_agrees_with_a_right_device() -> None:
         for name in "RX-01", "RX-07b", "RX-12b", "RX-02", "MX-01", "VN-01", "SL-03":
             run_one(b, BY_NAME[name])
         shadow = compare(b)
-        assert shadow.compared > 40 and bool(shadow.differences) == differs, shadow.text
+        assert shadow.compared > 20 and bool(shadow.differences) == differs, shadow.text
         b.close()
         device.stop()
 
@@ -276,3 +277,9 @@ def test_most_within() -> None:
 def test_the_module_runs_by_its_name() -> None:
     folder = os.path.dirname(os.path.dirname(os.path.abspath(command.__file__)))
     assert os.path.exists(os.path.join(folder, "lagconform", "__main__.py"))
+
+
+def test_the_page_has_each_group_and_its_count() -> None:
+    page = Path(__file__).parents[2] / "docs" / "CONFORM.md"
+    text = page.read_text() if page.exists() else ""
+    assert not text or all(f"\n| {it.name} | {len(it.tests)} | " in text for it in GROUPS)

@@ -14,7 +14,8 @@ from conform_device import Device, World
 
 from lagconform.bench import Bench
 from lagconform.groups import TESTS
-from lagconform.model import FAIL, INCONCLUSIVE, PASS, Result, Test
+from lagconform.model import FAIL, INCONCLUSIVE, PASS, Result
+from lagconform.model import Test as Case
 from lagconform.runner import meet, ordered, run_all
 
 FAULTS: list[Type[Device]] = [*conform_faults.FAULTS, *conform_frames.FAULTS]
@@ -22,7 +23,7 @@ FAULTS: list[Type[Device]] = [*conform_faults.FAULTS, *conform_frames.FAULTS]
 BY_NAME = {it.id: it for it in TESTS}
 
 
-def play(kind: Type[Device], tests: Sequence[Test]) -> list[Result]:
+def play(kind: Type[Device], tests: Sequence[Case]) -> list[Result]:
     """Runs tests beside a device of a kind."""
     device = kind()
     world = World(device)

@@ -2,14 +2,16 @@
 
 from __future__ import annotations
 
+from dataclasses import replace
 from typing import Iterable
 
 from niwhopera import encode
 
 from ..bench import Bench, most_within
-from ..model import DEVICES, Group
+from ..model import DEVICES, Group, Stop
 from ..partner import slow
-from ..pdus import GROUP, SLOW
+from ..pdus import GROUP, SLOW, with_bits
+from .mux import OUT_OF_SYNC
 from .receive import carries
 
 group = Group("RB", "Robustness", DEVICES)
@@ -35,6 +37,12 @@ def storm(b: Bench, frames: Iterable[bytes], gap: float) -> None:
     b.claim(b.now() - found[-1].time < 2 + b.slack, "and it goes on sending", found[-1])
 
 
+def out_of_sync(b: Bench) -> bytes:
+    """The payload of an LACPDU that stops the link, if it is taken for one."""
+    pdu = b.partner().lacpdu()
+    return encode(replace(pdu, actor=with_bits(pdu.actor, OUT_OF_SYNC)))
+
+
 def to_group(b: Bench) -> bytes:
     """The addresses of a frame of ours."""
     return GROUP + b.wire.source(1)
@@ -51,7 +59,8 @@ def runts(b: Bench) -> None:
             rule="it carries all the time", takes=3)  # fmt: skip
 def lengths(b: Bench) -> None:
     """A value below 1536 is a length, and no type."""
-    payload = HEAD + bytes(106)
+    b.still_up()
+    payload = out_of_sync(b)
     storm(b, [to_group(b) + size.to_bytes(2, "big") + payload for size in (0, 46, 110, 1500, 1501, 1535)], 0.05)
 
 
@@ -59,7 +68,9 @@ def lengths(b: Bench) -> None:
             rule="it carries all the time", takes=6)  # fmt: skip
 def subtypes(b: Bench) -> None:
     """Frames of other slow protocols and of unknown subtypes change nothing."""
-    storm(b, [to_group(b) + SLOW + bytes([it]) + b"\1\1\x14" + bytes(106) for it in (0, *range(3, 256))], 0.01)
+    b.still_up()
+    rest = out_of_sync(b)[1:]
+    storm(b, [to_group(b) + SLOW + bytes([it]) + rest for it in (0, *range(3, 256))], 0.01)
 
 
 @group.test("04", "6.4.12", "Random payloads behind a right head",
@@ -86,8 +97,11 @@ def wild(b: Bench) -> None:
     found = list(b.heard(1, mark))
     most = most_within([it.time for it in found], 0.75)
     b.claim(most <= 3, f"{most} LACPDUs within 0.75 s", *found[:1])
-    b.up()
-    b.claim(b.carries(), "a right partner is carried for again", b.frame())
+    try:
+        b.up()
+        b.claim(True, "a right partner is carried for again", b.frame())
+    except Stop as why:
+        b.claim(False, f"a right partner is no longer carried for: {why}", b.frame())
 
 
 @group.test("06", "6.4.12", "A storm of right LACPDUs", "send 2000 right LACPDUs as fast as can be, while it carries",
