@@ -34,7 +34,7 @@ def octets(frame: Frame, at: int, count: int) -> bytes:
 
 
 @group.test("01", "6.4.2.2, 6.2.10.1", "Destination, source and type", "take LACPDUs of the device beside a right partner",
-            rule="each has the Slow Protocols address and type and an individual source", takes=6)  # fmt: skip
+            rule="each has the Slow Protocols address and type and an individual source", takes=5.5)  # fmt: skip
 def addresses(b: Bench) -> None:
     """Each LACPDU goes to 01-80-C2-00-00-02, with EtherType 8809, from the individual address of the port."""
     found = sample(b)
@@ -47,7 +47,7 @@ def addresses(b: Bench) -> None:
 
 
 @group.test("02", "6.4.2.3, 6.4.2.2", "Length, subtype and version", "take LACPDUs",
-            rule="payload of exactly 110 octets (version 1); subtype 1; version 1 or 2", takes=3)  # fmt: skip
+            rule="payload of exactly 110 octets (version 1); subtype 1; version 1 or 2", takes=3.5)  # fmt: skip
 def head(b: Bench) -> None:
     """An LACPDU has subtype 1, version 1 (or 2), and as version 1 has 110 octets of payload."""
     found = sample(b)
@@ -58,7 +58,7 @@ def head(b: Bench) -> None:
     b.claim(right, f"frames of {', '.join(map(str, sizes))} octets without FCS; version 1 has 124", found[0])
 
 
-@group.test("03", "6.4.2.3", "Types and lengths of TLVs", "take LACPDUs", rule="1/20, 2/20, 3/16, 0/0 at their offsets", takes=3)
+@group.test("03", "6.4.2.3", "Types and lengths of TLVs", "take LACPDUs", rule="1/20, 2/20, 3/16, 0/0 at their offsets", takes=3.5)
 def tlvs(b: Bench) -> None:
     """The Actor, Partner, Collector and Terminator TLVs have their types and lengths."""
     found = sample(b)
@@ -71,7 +71,7 @@ def tlvs(b: Bench) -> None:
 
 
 @group.test("04", "6.4.2.3", "Reserved octets are zero", "take LACPDUs",
-            rule="octets 19-21, 39-41, 46-57 and, in version 1, 60-109 of the payload are 0", takes=3)  # fmt: skip
+            rule="octets 19-21, 39-41, 46-57 and, in version 1, 60-109 of the payload are 0", takes=3.5)  # fmt: skip
 def reserved(b: Bench) -> None:
     """Reserved octets are sent as zero."""
     found = sample(b)
@@ -81,7 +81,7 @@ def reserved(b: Bench) -> None:
 
 
 @group.test("05", "6.3.2, 6.3.4", "Identifiers of the actor", "take LACPDUs over 3 s",
-            rule="an individual system address that is not 0; port number not 0; both stay", takes=4)  # fmt: skip
+            rule="an individual system address that is not 0; port number not 0; both stay", takes=4.5)  # fmt: skip
 def identifiers(b: Bench) -> None:
     """The system identifier has an individual MAC address, the port number is not 0, and neither changes."""
     found = sample(b, least=4)
@@ -95,7 +95,7 @@ def identifiers(b: Bench) -> None:
 
 
 @group.test("06", "6.4.9 (recordPDU)", "Each field of the partner is recorded", "send LACPDUs of an actor with unusual priorities, key and port",
-            "read the partner of the next LACPDUs", rule="the partner in the answers equals our actor, octet by octet", takes=2)  # fmt: skip
+            "read the partner of the next LACPDUs", rule="the partner in the answers equals our actor, octet by octet", takes=0.5)  # fmt: skip
 def echo(b: Bench) -> None:
     """The partner that the device tells is the actor of the last LACPDU that it got: each of its numbers, and each bit but
     Synchronization, Defaulted and Expired."""
@@ -115,7 +115,7 @@ def echo(b: Bench) -> None:
 
 @group.test("07", "6.4.2.3, 6.4.9", "State bits of the partner are recorded",
             "beside a device that carries, change Timeout, Collecting and Distributing of our state",
-            rule="the partner's state told next has these bits", takes=6)  # fmt: skip
+            rule="the partner's state told next has these bits", takes=5.5)  # fmt: skip
 def echoed_bits(b: Bench) -> None:
     """Actor_State is recorded as Partner_State: Timeout, Collecting, Distributing."""
     b.up()
@@ -127,7 +127,7 @@ def echoed_bits(b: Bench) -> None:
 
 
 @group.test("08", "6.4.2.3", "Timeout and Aggregation are told, and stay", "take LACPDUs",
-            rule="Activity, Timeout and Aggregation stay; Defaulted and Expired are 0 beside a right partner", takes=7)  # fmt: skip
+            rule="Activity, Timeout and Aggregation stay; Defaulted and Expired are 0 beside a right partner", takes=3.5)  # fmt: skip
 def steady_bits(b: Bench) -> None:
     """Beside a right partner, Defaulted and Expired are 0, and Activity, Timeout and Aggregation stay."""
     b.still_up()

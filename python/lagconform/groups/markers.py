@@ -65,7 +65,7 @@ def pause(b: Bench) -> None:
 
 
 @group.test("01", "6.5.4, 6.2.6", "A marker is answered", "carry", "send a marker, three times, 2.6 s apart",
-            rule="each gets a Marker Response within 1 s", tolerance="1 s: the standard has no number", takes=8)  # fmt: skip
+            rule="each gets a Marker Response within 1 s", tolerance="1 s: the standard has no number", takes=7.5)  # fmt: skip
 def responds(b: Bench) -> None:
     """The Marker Responder is required of every system: a Marker PDU is answered by a Marker Response PDU."""
     b.still_up()
@@ -79,7 +79,7 @@ def responds(b: Bench) -> None:
 
 
 @group.test("02", "6.5.3.3, 6.5.4.2", "The response echoes port, system and transaction", "send a marker",
-            rule="the octets of port, system and identifier are those of the marker; TLV 2 of length 16; subtype 2; 110 octets", takes=7,
+            rule="the octets of port, system and identifier are those of the marker; TLV 2 of length 16; subtype 2; 110 octets", takes=3,
             causes=("MK-01",))  # fmt: skip
 def echoes(b: Bench) -> None:
     """A response differs from its marker in the TLV type alone, as far as the fields go."""
@@ -98,7 +98,7 @@ def echoes(b: Bench) -> None:
 
 
 @group.test("03", "6.5.3.2, 6.2.10.1", "Addresses of the response", "send a marker",
-            rule="to 01-80-C2-00-00-02, from the individual address of the port: that of its LACPDUs", takes=6)  # fmt: skip
+            rule="to 01-80-C2-00-00-02, from the individual address of the port: that of its LACPDUs", takes=3)  # fmt: skip
 def addresses(b: Bench) -> None:
     """A Marker Response goes to the Slow Protocols address, from the address of the port."""
     wants_answers(b)
@@ -114,7 +114,7 @@ def addresses(b: Bench) -> None:
 
 @group.test("04", "6.5.3.3, 6.5.4.2", "Version, pad and reserved octets of the response",
             "send a marker of version 2 whose pad and reserved octets are not 0",
-            rule="it is answered; version, pad and reserved octets are those of the marker, or 1 and zeros: either is right", takes=6,
+            rule="it is answered; version, pad and reserved octets are those of the marker, or 1 and zeros: either is right", takes=3,
             basis=MEMORY)  # fmt: skip
 def pads(b: Bench) -> None:
     """The responder does not validate version, pad and reserved fields. In the response they may be those that were received, or 1 and
@@ -131,7 +131,7 @@ def pads(b: Bench) -> None:
         b.note(f"{what} {stands[:4].hex()}: {kind}")
 
 
-@group.test("05", "6.5.4.2", "Markers each second are all answered", "send ten markers, 1 s apart", rule="ten responses", takes=15)
+@group.test("05", "6.5.4.2", "Markers each second are all answered", "send ten markers, 1 s apart", rule="ten responses", takes=13)
 def each_second(b: Bench) -> None:
     """Each marker is answered; one a second is well under the limit of Slow Protocols."""
     wants_answers(b)
@@ -145,7 +145,7 @@ def each_second(b: Bench) -> None:
 
 @group.test("06", "6.5.4.1, 802.3 57A.2", "A burst of markers", "send 40 markers in 1 s", "then one more after 2.6 s",
             rule="at most 10 Marker PDUs in a second (802.3 Annex 57A, 10 of each Slow Protocol); afterwards it still answers",
-            tolerance="window 0.98 s", takes=9, basis=MEMORY)  # fmt: skip
+            tolerance="window 0.98 s", takes=5.5, basis=MEMORY)  # fmt: skip
 def burst(b: Bench) -> None:
     """Markers that come faster than responses may be sent are dropped, without harm."""
     wants_answers(b)
@@ -162,7 +162,7 @@ def burst(b: Bench) -> None:
 
 
 @group.test("07", "6.5.4.2", "A response is not answered", "send a Marker Response that nobody asked for", rule="no Marker PDU comes back",
-            takes=7)  # fmt: skip
+            takes=4.5)  # fmt: skip
 def no_answer_to_response(b: Bench) -> None:
     """A Marker Response goes to the Marker Receiver, not to the responder."""
     wants_answers(b)
@@ -174,7 +174,7 @@ def no_answer_to_response(b: Bench) -> None:
     b.claim(not wrong, f"{len(wrong)} Marker PDUs come back", sent, *wrong[:2])
 
 
-@group.test("08", "6.5.4.2, 6.2.7", "A Marker PDU of an unknown TLV", "send a Marker PDU with TLV type 3", rule="no response", takes=7)
+@group.test("08", "6.5.4.2, 6.2.7", "A Marker PDU of an unknown TLV", "send a Marker PDU with TLV type 3", rule="no response", takes=2.5)
 def unknown_tlv(b: Bench) -> None:
     """A Marker PDU that is neither a marker nor a response is not answered."""
     wants_answers(b)
@@ -188,7 +188,7 @@ def unknown_tlv(b: Bench) -> None:
 
 @group.test("09", "6.5.3.3", "Malformed markers", "send markers of 14, 20 and 45 octets of payload and one with a wrong TLV length",
             "then a right one", rule="a marker cut off in its identifier is not answered; the right one is, and the link carries; what happened to the others is told",
-            takes=16)  # fmt: skip
+            takes=12)  # fmt: skip
 def malformed(b: Bench) -> None:
     """Markers that are cut off, or whose TLV has a wrong length, do no harm. A response to one that lacks its identifier would be made
     up."""
@@ -210,7 +210,7 @@ def malformed(b: Bench) -> None:
 
 @group.test("10", "6.2.7, 6.5.4", "A port that does not collect answers, too", "be a partner out of sync: the device is ATTACHED",
             "send a marker", "say nothing until it is on defaults, and send a marker",
-            rule="both are answered: the Aggregator Parser passes markers on whatever the state of the port", takes=16)  # fmt: skip
+            rule="both are answered: the Aggregator Parser passes markers on whatever the state of the port", takes=11)  # fmt: skip
 def not_collecting(b: Bench) -> None:
     """The Aggregator Parser passes Marker PDUs to the responder without regard to Collecting, and its responses out without regard to
     Distributing."""
@@ -233,7 +233,7 @@ def not_collecting(b: Bench) -> None:
 
 
 @group.test("11", "6.5.4", "The response leaves on the link of the marker", "carry on both links", "send markers on link 1, then on link 2",
-            rule="each response comes on its own link alone", links=2, takes=10, needs=("two-ports",), causes=("MK-01",))  # fmt: skip
+            rule="each response comes on its own link alone", links=2, takes=5.5, needs=("two-ports",), causes=("MK-01",))  # fmt: skip
 def own_link(b: Bench) -> None:
     """A response goes out on the port that got the marker: else order is not what it stands for."""
     b.up(1, 2)
@@ -250,7 +250,7 @@ def own_link(b: Bench) -> None:
 
 
 @group.test("12", "6.2.9, 6.5.3.2", "A marker to the port's own address", "send a marker to the source address of the device's LACPDUs",
-            rule="told alone: the standard's markers go to the group address; the link carries", takes=6, basis=MEMORY)  # fmt: skip
+            rule="told alone: the standard's markers go to the group address; the link carries", takes=3, basis=MEMORY)  # fmt: skip
 def unicast(b: Bench) -> None:
     """Markers go to the Slow Protocols address; what a device makes of others is its own."""
     wants_answers(b)

@@ -28,7 +28,7 @@ def attach(b: Bench) -> int:
 
 
 @group.test("01", "6.4.15, 6.4.4", "wait_while: 2 s before Synchronization", "be a new partner on one link",
-            rule="Synchronization is 0 first, and 1 after 2 s", tolerance="2 s: -0.25 s, +0.75 s (timer and LACPDU)", takes=3,
+            rule="Synchronization is 0 first, and 1 after 2 s", tolerance="2 s: -0.25 s, +0.75 s (timer and LACPDU)", takes=2.5,
             causes=NO_WAIT)  # fmt: skip
 def waits(b: Bench) -> None:
     """A port that is selected waits Aggregate_Wait_Time, 2 s, in WAITING before it attaches."""
@@ -45,7 +45,7 @@ def waits(b: Bench) -> None:
 
 
 @group.test("02", "6.4.15", "ATTACHED until the partner is in sync", "be a partner out of sync for 4 s", "then in sync, without Collecting",
-            rule="Collecting 0 before; promptly 1 after Synchronization of the partner", tolerance="prompt: 0.5 s", takes=5,
+            rule="Collecting 0 before; promptly 1 after Synchronization of the partner", tolerance="prompt: 0.5 s", takes=5.5,
             causes=("RX-09",))  # fmt: skip
 def collects(b: Bench) -> None:
     """From ATTACHED the port collects as soon as the partner is synchronized; with coupled control it distributes at once, too."""
@@ -66,7 +66,7 @@ def collects(b: Bench) -> None:
 
 
 @group.test("03", "6.4.15", "The partner falls out of sync", "carry", "say Synchronization 0",
-            rule="promptly Collecting and Distributing 0; Synchronization stays 1", tolerance="prompt: 0.5 s", takes=3,
+            rule="promptly Collecting and Distributing 0; Synchronization stays 1", tolerance="prompt: 0.5 s", takes=2,
             causes=("RX-09",))  # fmt: skip
 def back_to_attached(b: Bench) -> None:
     """From COLLECTING_DISTRIBUTING the port goes to ATTACHED, not to DETACHED, if the partner falls out of sync."""
@@ -85,7 +85,7 @@ def back_to_attached(b: Bench) -> None:
 
 
 @group.test("04", "6.4.15", "The partner stops collecting", "carry", "say Collecting and Distributing 0, Synchronization 1",
-            rule="coupled: it carries on; independent: it collects alone. It stays synchronized and collects", takes=3)  # fmt: skip
+            rule="coupled: it carries on; independent: it collects alone. It stays synchronized and collects", takes=2.5)  # fmt: skip
 def partner_stops_collecting(b: Bench) -> None:
     """Collecting of the partner has no part in coupled control; in independent control the port stops distributing."""
     b.still_up()
@@ -99,7 +99,7 @@ def partner_stops_collecting(b: Bench) -> None:
 
 
 @group.test("05", "6.4.15, 6.4.9", "Detached: all three bits fall", "carry", "change our key",
-            rule="the first LACPDU that names the new key has Synchronization, Collecting and Distributing 0", takes=2,
+            rule="the first LACPDU that names the new key has Synchronization, Collecting and Distributing 0", takes=2.5,
             causes=NO_WAIT)  # fmt: skip
 def detaches(b: Bench) -> None:
     """UNSELECTED brings DETACHED: neither synchronized nor collecting nor distributing is told together with the new partner."""
@@ -115,7 +115,7 @@ def detaches(b: Bench) -> None:
 @group.test("06", "6.4.15 (Ready), 6.4.14", "Ports wait for each other", "be a new partner on link 1",
             "1.5 s later the same partner on link 2",
             rule="both attach when the later one has waited: link 1 3.5 s after it was selected, both at once",
-            tolerance="-0.25 s, +0.75 s (timer and LACPDU)", links=2, takes=12, needs=("two-ports",), causes=NO_WAIT)  # fmt: skip
+            tolerance="-0.25 s, +0.75 s (timer and LACPDU)", links=2, takes=11, needs=("two-ports",), causes=NO_WAIT)  # fmt: skip
 def wait_together(b: Bench) -> None:
     """Ready is true if Ready_N is for all ports that wait to attach to the aggregator: a port that comes 1.5 s later holds the first one
     back, so that both attach at once."""
@@ -143,7 +143,7 @@ def wait_together(b: Bench) -> None:
 @group.test("07", "6.4.15, 6.4.9", "A partner that alternates in and out of sync", "carry",
             "say Synchronization 0 and 1 in turn, each 0.7 s, six times",
             rule="Collecting and Distributing follow each time, never told beside partner Synchronization 0", tolerance="prompt: 0.5 s",
-            takes=5, causes=("MX-03",))  # fmt: skip
+            takes=6.5, causes=("MX-03",))  # fmt: skip
 def alternates(b: Bench) -> None:
     """Each change of partner Synchronization moves the port between ATTACHED and COLLECTING_DISTRIBUTING."""
     b.still_up()
@@ -162,7 +162,7 @@ def alternates(b: Bench) -> None:
 
 @group.test("08", "6.4.15, 6.3.5", "An individual partner", "be a partner that is not aggregatable, in sync",
             rule="the device is synchronized after 2 s and carries, or never is", tolerance="2 s: -0.25 s, +0.75 s (timer and LACPDU)",
-            takes=4, causes=NO_WAIT)  # fmt: skip
+            takes=3, causes=NO_WAIT)  # fmt: skip
 def individual(b: Bench) -> None:
     """A link whose partner is individual is a group of its own; the device may carry on it. It is told as it is: the partner's Aggregation
     is 0."""

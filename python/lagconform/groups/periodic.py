@@ -34,7 +34,7 @@ def calm(b: Bench, short: bool) -> None:
 
 
 @group.test("01", "6.4.13, 6.4.4", "Short timeouts: one LACPDU each second", "carry, and ask for short timeouts", "take LACPDUs for 8 s",
-            rule="each gap is 1 s", tolerance="timers 0.25 s", takes=14)  # fmt: skip
+            rule="each gap is 1 s", tolerance="timers 0.25 s", takes=13.5)  # fmt: skip
 def fast(b: Bench) -> None:
     """A partner that asks for short timeouts gets an LACPDU each Fast_Periodic_Time."""
     calm(b, True)
@@ -50,7 +50,7 @@ def fast(b: Bench) -> None:
     b.claim(not wrong and len(found) > 4, text, *[it for at in wrong[:2] for it in found[at : at + 2]] or found[:2])
 
 
-@group.test("02", "6.4.13", "Long timeouts: quiet", "carry, and ask for long timeouts", "take LACPDUs for 8 s", rule="at most one", takes=14)
+@group.test("02", "6.4.13", "Long timeouts: quiet", "carry, and ask for long timeouts", "take LACPDUs for 8 s", rule="at most one", takes=13)
 def slow_is_quiet(b: Bench) -> None:
     """A partner that asks for long timeouts gets an LACPDU each Slow_Periodic_Time of 30 s: at most one in 8 s."""
     calm(b, False)
@@ -61,7 +61,7 @@ def slow_is_quiet(b: Bench) -> None:
 
 
 @group.test("03", "6.4.13", "From long to short", "ask for long timeouts for 4 s", "ask for short ones",
-            rule="an LACPDU promptly (PERIODIC_TX), then one each second", tolerance="prompt: 0.5 s; timers 0.25 s", takes=11,
+            rule="an LACPDU promptly (PERIODIC_TX), then one each second", tolerance="prompt: 0.5 s; timers 0.25 s", takes=10,
             causes=("TX-06",))  # fmt: skip
 def to_short(b: Bench) -> None:
     """In SLOW_PERIODIC a partner that asks for short timeouts brings PERIODIC_TX: NTT at once."""
@@ -79,7 +79,7 @@ def to_short(b: Bench) -> None:
 
 
 @group.test("04", "6.4.13", "From short to long", "ask for short timeouts", "ask for long ones",
-            rule="in the 6 s after 1.5 s, at most one LACPDU", takes=13)  # fmt: skip
+            rule="in the 6 s after 1.5 s, at most one LACPDU", takes=12.5)  # fmt: skip
 def to_long(b: Bench) -> None:
     """In FAST_PERIODIC a partner that asks for long timeouts brings SLOW_PERIODIC."""
     calm(b, True)
@@ -93,7 +93,7 @@ def to_long(b: Bench) -> None:
 
 
 @group.test("05", "6.4.12, 6.4.13", "In EXPIRED it sends each second", "ask for long timeouts", "say nothing: the device expires after 3 s",
-            "take LACPDUs in the next 3 s", rule="at least two, each with partner Timeout short", takes=12, needs=("short-timeouts",),
+            "take LACPDUs in the next 3 s", rule="at least two, each with partner Timeout short", takes=11, needs=("short-timeouts",),
             causes=("RX-02",))  # fmt: skip
 def expired_is_fast(b: Bench) -> None:
     """EXPIRED sets Partner_Oper_Port_State.LACP_Timeout to short: the device sends each second there, whatever the partner had asked
@@ -115,7 +115,7 @@ def expired_is_fast(b: Bench) -> None:
 
 
 @group.test("06", "6.4.13", "A passive partner gets LACPDUs of an active device", "carry, with Activity 0 of our own",
-            rule="LACPDUs each second go on", tolerance="timers 0.25 s", takes=9, needs=("active",))  # fmt: skip
+            rule="LACPDUs each second go on", tolerance="timers 0.25 s", takes=8, needs=("active",))  # fmt: skip
 def passive_partner(b: Bench) -> None:
     """If either end is active, LACPDUs are sent periodically."""
     wants_active(b)

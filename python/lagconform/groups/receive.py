@@ -29,7 +29,7 @@ def carries(pdu: Lacpdu) -> bool:
 
 @group.test("01", "6.4.12", "An LACPDU makes the partner current", "carry", "be another system: send one LACPDU",
             rule="the next periodic LACPDU at the latest names us, and Expired and Defaulted are 0 in it", tolerance="1 s, timers 0.25 s",
-            takes=2)  # fmt: skip
+            takes=0.5)  # fmt: skip
 def current(b: Bench) -> None:
     """An LACPDU of a new partner brings CURRENT: Expired and Defaulted false, and the partner is recorded at once."""
     b.still_up()
@@ -65,7 +65,7 @@ def differs(field: str) -> Run:
 for _place, _field in enumerate(SIX):
     group.test(f"07{'abcdef'[_place]}", "6.4.9 (recordPDU)", f"A partner that names another {_field}", "carry",
                f"name another {_field} of the device, and say Synchronization", "name the right one again",
-               rule="it stops carrying, and carries again", tolerance="prompt: 0.5 s", takes=3, causes=("RX-08",),
+               rule="it stops carrying, and carries again", tolerance="prompt: 0.5 s", takes=2.5, causes=("RX-08",),
                purpose="recordPDU takes the partner for synchronized only if the PDU's partner equals the device in all six parameters. "
                f"One with another {_field} stops the port from carrying, though it says Synchronization.")(differs(_field))  # fmt: skip
 
@@ -89,7 +89,7 @@ def each_octet(b: Bench) -> None:
 
 @group.test("08", "6.4.9 (recordPDU)", "A partner that never names the device",
             "be an aggregatable partner in sync that collects and distributes, whose partner fields are all 0",
-            rule="for 6 s the device never collects or distributes", takes=7)  # fmt: skip
+            rule="for 6 s the device never collects or distributes", takes=6.5)  # fmt: skip
 def never_named(b: Bench) -> None:
     """An aggregatable partner that does not name the device is not synchronized: nothing is carried towards it."""
     b.begin(1, silent=True)
@@ -105,7 +105,7 @@ def never_named(b: Bench) -> None:
 
 
 @group.test("09", "6.4.9 (recordPDU)", "A partner out of sync", "be a partner that names the device, without Synchronization",
-            rule="for 5 s the device is synchronized but does not carry", takes=6, causes=("MX-02",))  # fmt: skip
+            rule="for 5 s the device is synchronized but does not carry", takes=5.5, causes=("MX-02",))  # fmt: skip
 def out_of_sync(b: Bench) -> None:
     """Without Actor_State.Synchronization of the PDU the port stays in ATTACHED: Synchronization 1, Collecting and Distributing 0."""
     b.begin(1, silent=True)
@@ -119,7 +119,7 @@ def out_of_sync(b: Bench) -> None:
 
 
 @group.test("10", "6.4.9 (recordPDU)", "A passive partner that knows that the device is active",
-            "be a passive partner (Activity 0) that names the device with its Activity 1", rule="it carries", takes=4, needs=("active",))  # fmt: skip
+            "be a passive partner (Activity 0) that names the device with its Activity 1", rule="it carries", takes=2.5, needs=("active",))  # fmt: skip
 def passive(b: Bench) -> None:
     """A link is actively maintained if both Actor_Oper_Port_State.LACP_Activity and the PDU's Partner_State.LACP_Activity are true."""
     wants_active(b)
@@ -133,7 +133,7 @@ def passive(b: Bench) -> None:
 
 @group.test("11", "6.4.9 (recordPDU)", "A passive partner that takes the device for passive", "carry with a passive partner",
             "tell the device's Activity as 0", rule="it stops carrying: the link is not actively maintained", tolerance="prompt: 0.5 s",
-            takes=6, needs=("active",), causes=("RX-08",))  # fmt: skip
+            takes=3.5, needs=("active",), causes=("RX-08",))  # fmt: skip
 def not_maintained(b: Bench) -> None:
     """If neither end is active as far as the PDU tells, the link is not actively maintained, and the partner is not synchronized."""
     wants_active(b)
@@ -172,14 +172,14 @@ def selects_anew(field: str) -> Run:
 for _place, _field in enumerate(SIX):
     group.test(f"12{'abcdef'[_place]}", "6.4.9 (update_Selected)", f"A partner that changes its {_field}", "carry",
                f"send LACPDUs with another {_field} of our own", rule="Synchronization is 0 promptly, and 1 after 2 s",
-               tolerance="prompt: 0.5 s; 2 s: -0.25 s, +0.75 s (timer and LACPDU)", takes=4, causes=() if _field == "system" else ("RX-12b",),
+               tolerance="prompt: 0.5 s; 2 s: -0.25 s, +0.75 s (timer and LACPDU)", takes=2.5, causes=() if _field == "system" else ("RX-12b",),
                purpose=f"update_Selected: another {_field} of the partner makes the port UNSELECTED: it detaches (Synchronization 0), and "
                "attaches after wait_while of 2 s.")(selects_anew(_field))  # fmt: skip
 
 
 @group.test("13", "6.4.12 (PORT_DISABLED)", "The link goes down and comes back", "carry", "take the link down for 1.5 s (--flap, or the hook)",
             rule="the first LACPDU after it is Expired or Defaulted, and neither collects nor distributes; it carries again within 6 s",
-            takes=9, hooks=("down", "up"), causes=("RX-02",))  # fmt: skip
+            takes=5, hooks=("down", "up"), causes=("RX-02",))  # fmt: skip
 def link_down(b: Bench) -> None:
     """In PORT_DISABLED partner Synchronization is false, and the link comes back by EXPIRED."""
     b.up()
@@ -202,7 +202,7 @@ def link_down(b: Bench) -> None:
 @group.test("15", "6.4.12 (BEGIN), 6.4.15", "The device starts anew", "carry",
             "have the device end and start anew (hook: stop, start), and go on as its partner all the time",
             rule="its first LACPDU, and all in the second after it, are not synchronized and carry nothing; it carries within 9 s",
-            tolerance="1 s, at least, of the 2 s of wait_while", takes=10, hooks=("stop", "start"), causes=("RX-12b",))  # fmt: skip
+            tolerance="1 s, at least, of the 2 s of wait_while", takes=5.5, hooks=("stop", "start"), causes=("RX-12b",))  # fmt: skip
 def begins(b: Bench) -> None:
     """After BEGIN the mux machine is DETACHED, and wait_while of 2 s runs before the port attaches."""
     b.up()

@@ -49,7 +49,7 @@ def to_group(b: Bench) -> bytes:
 
 
 @group.test("01", "802.3 3.1, 57A", "Short frames of Slow Protocols", "while it carries, send frames of type 8809 with 0 to 45 octets of payload",
-            rule="it carries all the time", takes=4)  # fmt: skip
+            rule="it carries all the time", takes=3.5)  # fmt: skip
 def runts(b: Bench) -> None:
     """Frames that end within the header of a PDU, or before it, change nothing."""
     storm(b, [to_group(b) + SLOW + (HEAD + bytes(60))[:size] for size in (*range(0, 8), 19, 20, 23, 24, 41, 43, 45)], 0.05)
@@ -65,7 +65,7 @@ def lengths(b: Bench) -> None:
 
 
 @group.test("03", "802.3 57A.4", "Every other subtype", "send frames of each subtype but 1 and 2, and an organization specific one",
-            rule="it carries all the time", takes=6)  # fmt: skip
+            rule="it carries all the time", takes=5.5)  # fmt: skip
 def subtypes(b: Bench) -> None:
     """Frames of other slow protocols and of unknown subtypes change nothing."""
     b.still_up()
@@ -84,7 +84,7 @@ def noise(b: Bench) -> None:
 
 
 @group.test("05", "6.4.12, 6.4.16", "Random whole LACPDUs", "send 300 LACPDUs of 110 random octets in 6 s", "be a right partner again",
-            rule="at most three LACPDUs a second come all along (0.75 s: sure), and it carries again within 9 s", takes=10,
+            rule="at most three LACPDUs a second come all along (0.75 s: sure), and it carries again within 9 s", takes=8.5,
             causes=("TX-01",))  # fmt: skip
 def wild(b: Bench) -> None:
     """Partners that change with every LACPDU do no lasting harm."""
@@ -131,7 +131,7 @@ def sources(b: Bench) -> None:
     storm(b, [GROUP + source + payload for source in (b"\xff" * 6, GROUP, bytes(6), own)], 0.3)
 
 
-@group.test("08", "6.4.2.3", "The longest frames", "send LACPDUs and markers padded to 1514 octets", rule="it carries all the time", takes=5)
+@group.test("08", "6.4.2.3", "The longest frames", "send LACPDUs and markers padded to 1514 octets", rule="it carries all the time", takes=4.5)
 def longest(b: Bench) -> None:
     """A PDU may be longer than 110 octets (later versions); nothing of it is lost by its length."""
     b.still_up()

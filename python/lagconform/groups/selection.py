@@ -58,7 +58,7 @@ def apart(b: Bench, seconds: float = 8, one: bool = True) -> None:
 
 @group.test("01", "6.4.14, 6.3.7", "Two links of one partner aggregate", "be one partner with one key on both links",
             rule="both carry, and stay so for 4 s; on which links data comes is told alone: the distribution is the device's own", links=2,
-            takes=9, hooks=DATA)  # fmt: skip
+            takes=8.5, hooks=DATA)  # fmt: skip
 def aggregates(b: Bench) -> None:
     """Links of one LAG ID share an aggregator."""
     b.up(1, 2)
@@ -75,7 +75,7 @@ def aggregates(b: Bench) -> None:
 
 
 @group.test("02", "6.3.2, 6.3.4, 6.3.5", "Identifiers of two ports", "carry on both links", rule="one system, one key, two port numbers",
-            links=2, takes=4)  # fmt: skip
+            links=2, takes=2.5)  # fmt: skip
 def identifiers(b: Bench) -> None:
     """Ports of one aggregator have one system identifier and key, and port identifiers of their own."""
     b.up(1, 2)
@@ -88,7 +88,7 @@ def identifiers(b: Bench) -> None:
 
 
 @group.test("03", "6.4.14, 6.3.6", "Two partner systems", "be another system on each link", rule="not both links in one aggregator; one carries",
-            links=2, takes=11, hooks=DATA)  # fmt: skip
+            links=2, takes=10.5, hooks=DATA)  # fmt: skip
 def two_systems(b: Bench) -> None:
     """Ports of two LAG IDs never share an aggregator: here the partner systems differ."""
     b.begin(1, 2, same=False)
@@ -105,21 +105,21 @@ def differ(b: Bench, field: str) -> None:
 
 
 @group.test("04", "6.4.14, 6.3.6", "Two partner keys", "be one system with another key on each link",
-            rule="not both links in one aggregator; one carries", links=2, takes=11, hooks=DATA)  # fmt: skip
+            rule="not both links in one aggregator; one carries", links=2, takes=10.5, hooks=DATA)  # fmt: skip
 def two_keys(b: Bench) -> None:
     """Ports of two LAG IDs never share an aggregator: here the partner keys differ."""
     differ(b, "key")
 
 
 @group.test("05", "6.4.14, 6.3.2", "Two system priorities", "be one MAC address with another system priority on each link",
-            rule="not both links in one aggregator; one carries", links=2, takes=11, hooks=DATA)  # fmt: skip
+            rule="not both links in one aggregator; one carries", links=2, takes=10.5, hooks=DATA)  # fmt: skip
 def two_priorities(b: Bench) -> None:
     """The priority is part of the system identifier: two priorities are two systems."""
     differ(b, "priority")
 
 
 @group.test("06", "6.4.14, 6.3.6.1", "Individual links don't aggregate", "be one partner with one key on both links, not aggregatable",
-            rule="not both links in one aggregator", links=2, takes=11, hooks=DATA)  # fmt: skip
+            rule="not both links in one aggregator", links=2, takes=10.5, hooks=DATA)  # fmt: skip
 def individual(b: Bench) -> None:
     """An individual link is alone in its aggregator."""
     b.begin(1, 2, silent=True)
@@ -131,7 +131,7 @@ def individual(b: Bench) -> None:
 
 @group.test("07", "6.4.14, 6.4.9", "One of two links gets another key", "carry on both links", "change our key on link 2",
             rule="link 2 stops carrying promptly; link 1 carries on; they don't share an aggregator again", tolerance="prompt: 0.5 s", links=2,
-            takes=14, hooks=DATA, causes=("SL-04",))  # fmt: skip
+            takes=11.5, hooks=DATA, causes=("SL-04",))  # fmt: skip
 def leaves(b: Bench) -> None:
     """A link whose partner changes its key leaves the aggregator, and the others stay."""
     b.up(1, 2)
@@ -146,7 +146,7 @@ def leaves(b: Bench) -> None:
 
 
 @group.test("08", "6.4.12, 6.4.14", "One of two links falls silent", "carry on both links", "say nothing on link 2",
-            rule="link 2 stops after 3 s; link 1 carries on", tolerance="3 s: -0.25 s, +0.75 s (timer and LACPDU)", links=2, takes=8,
+            rule="link 2 stops after 3 s; link 1 carries on", tolerance="3 s: -0.25 s, +0.75 s (timer and LACPDU)", links=2, takes=6.5,
             needs=("short-timeouts",), causes=("RX-02",))  # fmt: skip
 def one_silent(b: Bench) -> None:
     """A silent link leaves, and the other one carries on."""
@@ -163,7 +163,7 @@ def one_silent(b: Bench) -> None:
 
 
 @group.test("09", "6.4.14, 6.4.9", "The partner becomes another system on both links", "carry on both links", "be another system on both",
-            rule="both detach (Synchronization 0), and both carry again", links=2, takes=7, causes=("RX-12b",))  # fmt: skip
+            rule="both detach (Synchronization 0), and both carry again", links=2, takes=4.5, causes=("RX-12b",))  # fmt: skip
 def restarts(b: Bench) -> None:
     """A partner that restarts as another system is selected anew, on both links together."""
     b.up(1, 2)
@@ -200,7 +200,7 @@ def carries_for_itself(pdu: Lacpdu) -> bool:
 
 
 @group.test("10", "6.4.14 (loopback)", "A link that is looped back", "send each LACPDU of the device back to it, for 7 s",
-            rule="the port never collects and distributes with itself as its partner", takes=8, basis=MEMORY)  # fmt: skip
+            rule="the port never collects and distributes with itself as its partner", takes=7.5, basis=MEMORY)  # fmt: skip
 def looped(b: Bench) -> None:
     """A port that hears itself is no link to a partner: it may not carry."""
     b.still_up()
@@ -214,7 +214,7 @@ def looped(b: Bench) -> None:
 
 @group.test("11", "6.4.14 (loopback)", "Two ports of the device joined by a cable",
             "send each LACPDU of link 1 back on link 2, and the other way, for 9 s", rule="not both carry with the device itself as the partner",
-            links=2, takes=14, basis=MEMORY)  # fmt: skip
+            links=2, takes=11.5, basis=MEMORY)  # fmt: skip
 def crossed(b: Bench) -> None:
     """Two ports of one system that are joined may not be in one aggregator."""
     b.up(1, 2)
@@ -226,7 +226,7 @@ def crossed(b: Bench) -> None:
 
 @group.test("12", "6.4.14", "A third LAG ID does not disturb two links", "carry on both links",
             "send single LACPDUs of another system on link 2, each second, beside ours",
-            rule="link 1 carries on; link 2 never carries for the stranger while link 1 carries for us in one aggregator", links=2, takes=9,
+            rule="link 1 carries on; link 2 never carries for the stranger while link 1 carries for us in one aggregator", links=2, takes=7.5,
             causes=("RX-12b",))  # fmt: skip
 def stranger(b: Bench) -> None:
     """LACPDUs of a second system on one link take that link out, and not the other one."""

@@ -35,7 +35,7 @@ def fall_silent(b: Bench) -> tuple[int, Frame]:
 
 @group.test("02", "6.4.12, 6.4.4", "Silence expires the partner", "carry", "say nothing",
             rule="an LACPDU with Expired comes 3 s after our last one, and neither collects nor distributes",
-            tolerance="3 s: -0.25 s, +0.75 s (timer and LACPDU)", takes=7, needs=("short-timeouts",))  # fmt: skip
+            tolerance="3 s: -0.25 s, +0.75 s (timer and LACPDU)", takes=6, needs=("short-timeouts",))  # fmt: skip
 def expires(b: Bench) -> None:
     """current_while expires 3 s after the last LACPDU (short timeouts): Expired is told, and the port leaves COLLECTING_DISTRIBUTING,
     since partner Synchronization is false."""
@@ -49,7 +49,7 @@ def expires(b: Bench) -> None:
 
 @group.test("03", "6.4.12", "More silence brings defaults", "carry", "say nothing for 7 s",
             rule="Defaulted is 1 and Expired 0 6 s after our last LACPDU",
-            tolerance="6 s, two timers of 0.25 s; up to 1 s more if it waits for the next periodic LACPDU", takes=10,
+            tolerance="6 s, two timers of 0.25 s; up to 1 s more if it waits for the next periodic LACPDU", takes=9,
             needs=("short-timeouts",), causes=("RX-02",))  # fmt: skip
 def defaults(b: Bench) -> None:
     """In EXPIRED current_while runs 3 s, then the administrative partner is recorded: Defaulted true, Expired false, and our end is no
@@ -65,7 +65,7 @@ def defaults(b: Bench) -> None:
 
 
 @group.test("04", "6.4.12", "Each LACPDU starts current_while again", "carry", "send an LACPDU every 2.5 s, four times",
-            rule="no LACPDU of the device is Expired or does not carry", takes=14)  # fmt: skip
+            rule="no LACPDU of the device is Expired or does not carry", takes=12.5)  # fmt: skip
 def again(b: Bench) -> None:
     """LACPDUs at 2.5 s keep the partner current for 10 s, though the period is 1 s."""
     b.up()
@@ -78,7 +78,7 @@ def again(b: Bench) -> None:
 
 
 @group.test("05", "6.4.12, 6.4.15", "From EXPIRED back without a wait", "carry", "say nothing until Expired", "send the same LACPDU again",
-            rule="it carries again promptly: Selected has not changed, so the mux machine is ATTACHED", tolerance="prompt: 0.5 s", takes=8,
+            rule="it carries again promptly: Selected has not changed, so the mux machine is ATTACHED", tolerance="prompt: 0.5 s", takes=5.5,
             needs=("short-timeouts",), causes=("RX-02",))  # fmt: skip
 def returns(b: Bench) -> None:
     """In EXPIRED the selection stays; an LACPDU of the same partner makes the port carry at once, without wait_while."""
@@ -93,7 +93,7 @@ def returns(b: Bench) -> None:
 
 @group.test("06", "6.4.12, 6.4.9 (update_Default_Selected)", "From defaults back through wait_while", "carry", "say nothing until Defaulted",
             "be the same partner again", rule="Synchronization is 0 until 2 s after our LACPDU",
-            tolerance="2 s: -0.25 s, +0.75 s (timer and LACPDU)", takes=14, needs=("short-timeouts",), causes=("RX-12b",))  # fmt: skip
+            tolerance="2 s: -0.25 s, +0.75 s (timer and LACPDU)", takes=13.5, needs=("short-timeouts",), causes=("RX-12b",))  # fmt: skip
 def waits_again(b: Bench) -> None:
     """A port that defaulted was UNSELECTED. A partner that comes then is selected anew: 2 s pass in WAITING, in which Synchronization
     is 0."""

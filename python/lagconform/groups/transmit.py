@@ -72,7 +72,7 @@ def add(number: str, what: str, change: Callable[[Info], Info]) -> None:
     """A test of update_NTT."""
     why = f"update_NTT: an LACPDU whose partner differs from the device in {what} sets NTT; the device, asked for long timeouts and quiet else, answers."
     group.test(number, "6.4.9 (update_NTT)", f"NTT: another {what} of the device is answered", "carry, asked for long timeouts",
-               f"tell another {what}", rule="an answer", tolerance="prompt: 0.5 s", takes=2.2, purpose=why)(asks(what, change))  # fmt: skip
+               f"tell another {what}", rule="an answer", tolerance="prompt: 0.5 s", takes=1.6, purpose=why)(asks(what, change))  # fmt: skip
 
 
 for _place, _field in enumerate(SIX):
@@ -86,7 +86,7 @@ for _number, _what, _bit in (
 
 
 @group.test("04", "6.4.9 (update_NTT), 6.4.16", "No NTT where all is right", "carry, asked for long timeouts",
-            "send six right LACPDUs in 6 s", rule="at most one LACPDU (the periodic one)", takes=8)  # fmt: skip
+            "send six right LACPDUs in 6 s", rule="at most one LACPDU (the periodic one)", takes=7.5)  # fmt: skip
 def silent_if_right(b: Bench) -> None:
     """An LACPDU that changes nothing and tells the device right sets no NTT."""
     still_calm(b)
@@ -97,7 +97,7 @@ def silent_if_right(b: Bench) -> None:
 
 
 @group.test("05", "6.4.16", "What waited is told as it is when it is sent", "send seven LACPDUs in 0.7 s, each of another port number of ours",
-            "wait 1.5 s", rule="the last LACPDU of the device names the last of them", takes=2.4)  # fmt: skip
+            "wait 1.5 s", rule="the last LACPDU of the device names the last of them", takes=2.5)  # fmt: skip
 def newest(b: Bench) -> None:
     """If a transmission is delayed by the limit, the LACPDU has the values of the time at which it is sent."""
     b.begin(1, silent=True)
@@ -115,7 +115,7 @@ def newest(b: Bench) -> None:
 
 
 @group.test("06", "6.4.16, 6.4.9", "An answer tells the change", "carry, asked for long timeouts", "say Synchronization 0",
-            rule="an LACPDU promptly whose partner has Synchronization 0", tolerance="prompt: 0.5 s", takes=8)  # fmt: skip
+            rule="an LACPDU promptly whose partner has Synchronization 0", tolerance="prompt: 0.5 s", takes=5)  # fmt: skip
 def tells(b: Bench) -> None:
     """A change of the mux machine sets NTT, so that the partner learns of it without a periodic LACPDU."""
     calm(b, False)
