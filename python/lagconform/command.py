@@ -64,7 +64,7 @@ def reader() -> argparse.ArgumentParser:
     it.add_argument("--long", action="store_true", help=f"run tests of more than {LONG} s, too")
     it.add_argument("--shadow", action="store_true", help="tell where the engine would have sent another LACPDU in the device's place")
     it.add_argument("--seed", type=int, default=1, help="the seed of random frames (1)")
-    it.add_argument("--slack", type=float, default=0.15, help="seconds that this machine and the link may be late (0.15)")
+    it.add_argument("--slack", metavar="SECONDS", type=float, default=0.15, help="so late this machine and the link may be (0.15)")
     it.add_argument("--list", action="store_true", help="print the tests, and end")
     it.add_argument("--markdown", action="store_true", help="with --list: as tables")
     return it
@@ -144,7 +144,7 @@ def stand(given: argparse.Namespace) -> Bench:
     try:
         wire = PacketWire(given.interfaces)
     except PermissionError as why:
-        raise Refused("packet sockets want CAP_NET_RAW: run it as root, or by `setpriv --ambient-caps +net_raw`") from why
+        raise Refused("packet sockets want CAP_NET_RAW: run it as root, or with that capability") from why
     b = Bench(wire, Command(given.hook) if given.hook else None, given.slack, given.seed, given.flap)
     if given.hook:
         prepare_device(given, b)
