@@ -9,17 +9,17 @@ use Rattle.lagprogress.proofs.Common.{own_marker, Settling, SystemState, ports_t
 use Rattle.distributor.specs.Conversations.{sum_below}
 use Rattle.slowpdu.specs.Layout.{IsAddress}
 use Rattle.slowpdu.specs.Markers.{WritesMarker}
-use Rattle.slowpdu.specs.declared.pdu.Pdu.TheVariants as pdu
 use Rattle.lagprogress.proofs.Climbing.{PartnerInSync, distributes_now}
-use Rattle.lagprogress.proofs.ComingUp.{end_here, end_with}
 use Rattle.lagprogress.proofs.Hearing.{no}
 use Rattle.lagprogress.proofs.Holding.{Fine, Flights, Has, IsMarker, answering, asking, fine_map, has_last, has_on, marked_here, settled_fine}
 use Rattle.lagprogress.proofs.Holding.{is_port}
-use Rattle.lagprogress.proofs.Linked.{Link, push_there, pushed}
+use Rattle.lagprogress.proofs.Linked.{Link, push_there, pushed, end_here, end_with}
 use Rattle.lagprogress.proofs.OneCable.{Went}
 use Rattle.lagprogress.proofs.OnePort.{AtPort}
 use Rattle.lagprogress.proofs.Passing.{sent_carries}
-use Rattle.lagprogress.proofs.Progressing.{beside}
+use Rattle.lagprogress.proofs.HostKnowing.{beside}
+use Rattle.lagprogress.proofs.HostRound.{left}
+use Rattle.slowpdu.specs.declared.pdu.Pdu.TheVariants as pdu
 
 -- the ports that distribute
 

@@ -24,10 +24,6 @@ refused cause = Err cause
 no_fault : (p : ℕ) (cause : DistFault) → refused cause ≡ Ok p → ⊥
 no_fault p cause e = cc
 
-picks : (gives : ℕ → ℕ → ℕ → Type 0) (conv p : ℕ) (ports : List ℕ) (cause : DistFault) → is_among ports p ≡ true
-    → PicksPort gives conv ports (Err cause) → ⊥
-picks gives conv p ports cause e h = grind (arith, nat_tests)
-
 -- the distributor has a port for a conversation that is not held
 assigns : (gives : ℕ → ℕ → ℕ → Type 0) (conv p : ℕ) (ports : List ℕ) (a : Assignment) (cause : DistFault) → is_among ports p ≡ true
     → held_on a ≡ None → Assigns gives conv ports a (Err cause) → ⊥

@@ -3,22 +3,22 @@ use Rattle.lagprogress.proofs.Common.{Some, ap, arith, false, inl, inr, refl, sl
 use Rattle.lagprogress.proofs.Common.{same_Some, Choice, Selected, Party, is_selected, same_system, exact_system, system-itself, Info, Side, peer}
 use Rattle.lagprogress.proofs.Common.{Defaulted, Machines, mux_rows, periodic_rows, receive_rows, RunsToRest, count_down, SystemPort, MuxIsSettled}
 use Rattle.lagprogress.proofs.Common.{occupied, SystemState, all-get, found_place, ports_rise, Algorithms, LinkState, WorldState, half, port_at}
-use Rattle.lagprogress.proofs.Common.{EnoughAggregators, EnoughLinks, OneIsActive, EachLinkAgreesBesideCutOffs, EachLinkComesUpBesideCutOffs}
-use Rattle.lagprogress.proofs.Common.{IsBundleBesideCutOffs, IsCutOff, NoneIsHeldBesideCutOffs, IsHealthyAt, Rounds, WantsAggregator, IsSteady}
-use Rattle.lagprogress.proofs.Common.{IsTimed}
-use Rattle.lagprogress.proofs.Bundling.{Meets, agree_of, distribute_of, as_before, ends_at, never_stands, old_port, one_meet, one_wakes}
-use Rattle.lagprogress.proofs.Bundling.{still_aggregators, still_links}
+use Rattle.lagprogress.proofs.Common.{EnoughAggregators, EnoughLinks, OneIsActive, EachLinkAgreesBesideCutOffsByHosts}
+use Rattle.lagprogress.proofs.Common.{EachLinkComesUpBesideCutOffsByHosts, IsBundleBesideCutOffs, IsCutOff, NoneIsHeldBesideCutOffs, HostRounds}
+use Rattle.lagprogress.proofs.Common.{IsHealthyAt, WantsAggregator, IsSteady, IsTimed}
+use Rattle.lagprogress.proofs.Bundling.{Meets, agree_of, distribute_of, never_stands, one_meet, one_wakes}
 use Rattle.lagprogress.proofs.Climbing.{Ripe, Rising, rising_first, rising_rows, state_not}
-use Rattle.lagprogress.proofs.ComingUp.{zero_on}
-use Rattle.lagprogress.proofs.CutOffLemmas.{Severed, WereDown, cut_off_is_defaulted, cut_round, cut_since}
+use Rattle.lagprogress.proofs.CutOffLemmas.{Severed, WereDown, cut_round, cut_since, KeptUnheard, cut_off_is_defaulted_by_hosts}
 use Rattle.lagprogress.proofs.EachPort.{KeptBySettling}
-use Rattle.lagprogress.proofs.EachRound.{EachAt, rounds_steady}
+use Rattle.lagprogress.proofs.EachRound.{EachAt, hosts_on, hosts_steady}
 use Rattle.lagprogress.proofs.Freeing.{freed_of}
 use Rattle.lagprogress.proofs.Hearing.{EnabledKeep, no, not_down, times_keep}
 use Rattle.lagprogress.proofs.OnePort.{AtPort, at_number, mux_leaves, periodic_leaves, settling_leaves}
 use Rattle.lagprogress.proofs.Selecting.{finds_aggregator}
 use Rattle.lagprogress.proofs.SharedLemmas.{enough_finds}
 use Rattle.lagprogress.proofs.Timers.{runs_keep}
+use Rattle.lagprogress.proofs.HostRound.{left}
+use Rattle.lagprogress.proofs.Lasting.{as_before, ends_at, old_port, still_aggregators, still_links}
 
 -- a port that hears nothing and is DEFAULTED stays as it is
 
@@ -72,17 +72,23 @@ chosen_occupies c h = absurd (no h)
 module _ (gives : Algorithms) (s : Side) (k : ℕ) (x : SystemPort) (mid top : WorldState) (steady : IsSteady mid)
     (aggregators : EnoughAggregators (half s mid).state) (links : EnoughLinks (half s mid).state)
     (there : slice_get (half s mid).state.system_ports k ≡ Some x) (up : x.port.enabled ≡ true) (defaulted : x.port.receive ≡ Defaulted)
-    (M : ℕ → Type 0) (cut : Severed 1 s x.number M mid) (more : Rounds gives 20 mid top) where
+    (M : ℕ → Type 0) (cut : Severed 1 s x.number M mid) (more : HostRounds gives 20 mid top) where
   abbrev c : Info
   c = x.port.partner
 
   abbrev st : SystemState
   st = (half s mid).state
 
+  idle_keeps : KeptUnheard x.number (Idle c)
+  idle_keeps = record { settles = settling_leaves (AtPort x.number (Idle c)); sends = λ p y. y }
+
+  climbing : (t : ℕ) → KeptUnheard x.number (IdleRising c t)
+  climbing t = record { settles = climbing_settles x.number c t; sends = λ p y. y }
+
   stays : EachAt (AtPort x.number (Idle c)) s top
-  stays = (zero_on gives (λ m j. EachAt (AtPort x.number (Idle c)) s j × Severed 1 s x.number M j) mid
+  stays = (hosts_on gives (λ m j. EachAt (AtPort x.number (Idle c)) s j × Severed 1 s x.number M j) mid
       (at_number (Idle c) 0 st.system_ports k x (ports_rise st (steady s).0.ports) there (up, defaulted, refl), cut)
-      (λ m i j q a. cut_round x.number M (Idle c) (settling_leaves (AtPort x.number (Idle c))) (λ p y. y) (Idle c)
+      (λ m i j q a. cut_round x.number M (Idle c) (Idle c) idle_keeps idle_keeps
       (λ p r run y. subst (Idle c) (sym (idle_ticks c p r run y)) y) gives s i j q a) 20 top more).0
 
   climbs : is_selected x.port.choice ≡ true → EachAt (AtPort x.number (IdleRising c 0)) s top
@@ -91,10 +97,10 @@ module _ (gives : Algorithms) (s : Side) (k : ℕ) (x : SystemPort) (mid top : W
       let timed = all-get (λ (z : SystemPort). IsTimed z.port) st.system_ports k x there (steady s).1 in
       let first : EachAt (AtPort x.number (IdleRising c 20)) s mid = at_number (IdleRising c 20) 0 st.system_ports k x
       (ports_rise st (steady s).0.ports) there ((up, defaulted, refl), rising_first x.port mux timed sel) in
-      let last = zero_on gives (λ m j. EachAt (AtPort x.number (IdleRising c (20 - m))) s j × Severed 1 s x.number M j) mid
+      let last = hosts_on gives (λ m j. EachAt (AtPort x.number (IdleRising c (20 - m))) s j × Severed 1 s x.number M j) mid
       (subst (λ t. EachAt (AtPort x.number (IdleRising c t)) s mid) (omega arith) first, cut)
       (λ m i j q a. subst (λ t. EachAt (AtPort x.number (IdleRising c t)) s j × Severed 1 s x.number M j) (omega arith)
-      (cut_round x.number M (IdleRising c (20 - m - 1)) (climbing_settles x.number c (20 - m - 1)) (λ p y. y) (IdleRising c (20 - m))
+      (cut_round x.number M (IdleRising c (20 - m)) (IdleRising c (20 - m - 1)) (climbing (20 - m)) (climbing (20 - m - 1))
       (λ p r run y. climbing_ticks c (20 - m) p r run y) gives s i j q a)) 20 top more in
       subst (λ t. EachAt (AtPort x.number (IdleRising c t)) s top) (omega arith) last.0
 
@@ -105,7 +111,7 @@ module _ (gives : Algorithms) (s : Side) (k : ℕ) (x : SystemPort) (mid top : W
         let alike = (as_before gives 20 mid top steady more s).alike k x y there at in
         let same : y.port.partner.system ≡ y.port.party.system = ap (λ (i : Info). i.system) still.2
         ∙ (exact_system c.system x.port.party.system own ∙ sym (ap (λ (q : Party). q.system) alike.0)) in
-        absurd ((rounds_steady gives 20 mid top steady more s).0.occupants.apart k o.0 y at o.1 same)))
+        absurd ((hosts_steady gives 20 mid top steady more s).0.occupants.apart k o.0 y at o.1 same)))
     | inr other ↦ (λ sel. (all-get (λ (z : SystemPort). AtPort x.number (IdleRising c 0) z.number z.port) (half s top).state.system_ports k y at
         (climbs (chosen other)) number).1.1)
   ]
@@ -132,11 +138,11 @@ module _ (gives : Algorithms) (old : WorldState) (b : IsBundleBesideCutOffs old)
         no (sym (far e.0 e.1 e.3 (found_place (port_at (peer s) l) (half (peer s) old).state.system_ports e.0 e.1 e.2 e.3)) ∙ e.4))
   ]
 
-  idle : (mid top : WorldState) → Rounds gives 931 old mid → Rounds gives 20 mid top → (s : Side) (k : ℕ) (z y : SystemPort)
+  idle : (mid top : WorldState) → HostRounds gives 931 old mid → HostRounds gives 20 mid top → (s : Side) (k : ℕ) (z y : SystemPort)
       → slice_get (half s old).state.system_ports k ≡ Some z → z.port.enabled ≡ true → IsCutOff s z.number old
       → slice_get (half s top).state.system_ports k ≡ Some y → Ripe 0 y.port
   idle mid top h more s k z y there up cut now =
-      let steady = rounds_steady gives 931 old mid b.steady h in
+      let steady = hosts_steady gives 931 old mid b.steady h in
       let first = as_before gives 931 old mid b.steady h s in
       let then = as_before gives 20 mid top steady more s in
       let x = old_port (half s mid).state.system_ports (half s top).state.system_ports k y then.numbers now in
@@ -145,7 +151,7 @@ module _ (gives : Algorithms) (old : WorldState) (b : IsBundleBesideCutOffs old)
       let number : x.0.number ≡ z.number = was.2 ∙ ap (λ (q : SystemPort). q.number) same in
       ripe gives s k x.0 mid top steady (still_aggregators s old mid first (b.aggregators s)) (still_links s old mid first (b.links s)) x.1
       ((first.alike k z x.0 there x.1).1 ∙ up)
-      (cut_off_is_defaulted gives 931 k s z x.0 old mid b.steady there up cut (omega arith) h x.1)
+      (cut_off_is_defaulted_by_hosts gives 931 k s z x.0 old mid b.steady there up cut (omega arith) h x.1)
       (WereDown (peer s) old) (subst (λ n. Severed 1 s n (WereDown (peer s) old) mid) (sym number) (cut_since gives 931 k s z old mid b.steady there up cut (omega arith) h)) more y now x.2
 
   beside : Meets OneIsActive (λ s n. IsCutOff s n old) 931 gives old
@@ -154,7 +160,7 @@ module _ (gives : Algorithms) (old : WorldState) (b : IsBundleBesideCutOffs old)
     cabling = b.cabling;
     differ = b.differ;
     heard = b.heard;
-    finds = λ mid h s. enough_finds s mid (rounds_steady gives 931 old mid b.steady h)
+    finds = λ mid h s. enough_finds s mid (hosts_steady gives 931 old mid b.steady h)
         (still_aggregators s old mid (as_before gives 931 old mid b.steady h s) (b.aggregators s));
     links = b.links;
     never = never;
@@ -163,12 +169,12 @@ module _ (gives : Algorithms) (old : WorldState) (b : IsBundleBesideCutOffs old)
     wakes = one_wakes old;
   }
 
-pub each_link_comes_up_beside : (gives : Algorithms) → EachLinkComesUpBesideCutOffs gives
-each_link_comes_up_beside gives n i l old new b y enough h =
+pub each_link_comes_up_beside_by_hosts : (gives : Algorithms) → EachLinkComesUpBesideCutOffsByHosts gives
+each_link_comes_up_beside_by_hosts gives n i l old new b y enough h =
     distribute_of OneIsActive (λ s n. IsCutOff s n old) 931 gives old (beside gives old b) i l y n new (omega (arith, enough)) h
 
-pub each_link_agrees_beside : (gives : Algorithms) → EachLinkAgreesBesideCutOffs gives
-each_link_agrees_beside gives n i l old new sound b y enough h =
+pub each_link_agrees_beside_by_hosts : (gives : Algorithms) → EachLinkAgreesBesideCutOffsByHosts gives
+each_link_agrees_beside_by_hosts gives n i l old new sound b y enough h =
     agree_of OneIsActive (λ s n. IsCutOff s n old) 931 gives old (beside gives old b) sound i l y n new (omega (arith, enough)) h
 
 pub none_is_held_beside : (gives : Algorithms) → NoneIsHeldBesideCutOffs gives

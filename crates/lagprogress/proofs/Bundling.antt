@@ -1,31 +1,28 @@
 -- How the links of a bundle come up and agree.
-use Rattle.lagprogress.proofs.Common.{Bool, IsSome, List, None, Option, Some, [], ap, arith, filter, inl, inr, is_some, length, map, refl, slice_get}
-use Rattle.lagprogress.proofs.Common.{subst, suc, sym, true, zero, ℕ, ◌+◌, ◌-◌, ◌==◌, ◌∙◌, ◌∷◌, ◌≡◌, ◌≢◌, ◌≤◌, ◌⊎◌, cases_Bool, nat_tests, same_Some}
+use Rattle.lagprogress.proofs.Common.{Bool, IsSome, List, None, Option, Some, [], ap, arith, inl, inr, is_some, length, map, refl, slice_get, subst}
+use Rattle.lagprogress.proofs.Common.{suc, sym, true, ℕ, ◌+◌, ◌-◌, ◌==◌, ◌∙◌, ◌∷◌, ◌≡◌, ◌≢◌, ◌≤◌, ◌⊎◌, cases_Bool, nat_tests, same_Some}
 use Rattle.lagprogress.proofs.Common.{AllByRecursion, AggId, Key, Choice, Standby, Party, is_selected, itself, Lacpdu, IsCabling, One, Side, Two}
-use Rattle.lagprogress.proofs.Common.{end_at, peer, ports_that_chose, has_chosen, PortConfig, SystemPort, configured_numbers, or_first, MuxIsSettled}
-use Rattle.lagprogress.proofs.Common.{occupied, IsSound, SystemState, views, all-get, found_place, Same, agreement_at, Algorithms, link_ends}
-use Rattle.lagprogress.proofs.Common.{world_setup, IsWorldSound, LinkState, WorldState, half, history_at, port_at, towards, end_is, AllHeard}
-use Rattle.lagprogress.proofs.Common.{BothAreActive, EachActiveLinkAgrees, EachActiveLinkComesUp, EachLinkAgrees, EachLinkComesUp, EndsHealthyCable}
-use Rattle.lagprogress.proofs.Common.{EnoughAggregators, EnoughLinks, IsBundle, OneIsActive, SystemsDiffer, ActiveLinkComesUp, AreApart, Distributes}
-use Rattle.lagprogress.proofs.Common.{HasRoom, LinkComesUp, AtEnd, IsHealthy, IsHealthyAt, Rounds, WantsAggregator, aggregators_with, ports_with}
+use Rattle.lagprogress.proofs.Common.{end_at, peer, ports_that_chose, has_chosen, SystemPort, MuxIsSettled, occupied, IsSound, SystemState, views}
+use Rattle.lagprogress.proofs.Common.{all-get, found_place, Same, agreement_at, Algorithms, link_ends, world_setup, IsWorldSound, LinkState}
+use Rattle.lagprogress.proofs.Common.{WorldState, half, history_at, port_at, towards, end_is, AllHeard, BothAreActive, EndsHealthyCable, EnoughLinks}
+use Rattle.lagprogress.proofs.Common.{IsBundle, OneIsActive, SystemsDiffer, Distributes, EachActiveLinkAgreesByHosts, EachActiveLinkComesUpByHosts}
+use Rattle.lagprogress.proofs.Common.{EachLinkAgreesByHosts, EachLinkComesUpByHosts, HostRounds, AtEnd, IsHealthyAt, WantsAggregator, ports_with}
 use Rattle.lagprogress.proofs.Common.{IsSteady, IsTimed}
-use Rattle.lagprogress.specs.Agreeing.{ActiveLinkAgrees, LinkAgrees}
 use Rattle.lagprogress.proofs.Climbing.{Down, Ripe, Rising, climbed, down_settles, down_takes, down_ticks, rising_first}
-use Rattle.lagprogress.proofs.ComingUp.{Climbs, EndPort, Up, active_at, agrees_now, apart_at, at_end, awake_at, climbs_first, climbs_on, comes_up}
-use Rattle.lagprogress.proofs.ComingUp.{end_here, end_with, splits, rounds_kept, up_now, zero_on}
+use Rattle.lagprogress.proofs.ComingUp.{Climbs, Up, agrees_now, climbs_first, climbs_on, comes_up, distributes, hosts_kept}
+use Rattle.lagprogress.proofs.Starting.{active_at, awake_at, named_at, Ends, healthy_cable, said_by, starts}
 use Rattle.lagprogress.proofs.Counting.{count, count_more_of, counted}
 use Rattle.lagprogress.proofs.EachPort.{OfEach}
-use Rattle.lagprogress.proofs.EachRound.{EachAt, RoundKeeps, round_each, rounds_join, rounds_steady, same_index}
+use Rattle.lagprogress.proofs.EachRound.{EachAt, RoundKeeps, same_index, hosts_join, host_each, hosts_on, hosts_split, hosts_steady}
 use Rattle.lagprogress.proofs.EndFacts.{Synced, activity}
-use Rattle.lagprogress.proofs.Linked.{many}
-use Rattle.lagprogress.proofs.OneActive.{named_at, one_meets}
+use Rattle.lagprogress.proofs.Linked.{many, at_end, end_here, end_with, EndPort}
+use Rattle.lagprogress.proofs.HostKnowing.{one_meets, AtIt, Fresh, active_meet, knows_peer, fresh_knows}
 use Rattle.lagprogress.proofs.OnePort.{AtPort}
 use Rattle.lagprogress.proofs.OneRound.{Nothing}
-use Rattle.lagprogress.proofs.Progressing.{AtIt, Ends, Fresh, active_meet, healthy_cable, knows_peer, only_cable, only_cabling, said_by, starts}
-use Rattle.lagprogress.proofs.Progressing.{fresh_knows}
 use Rattle.lagprogress.proofs.Selecting.{waits_for_room}
 use Rattle.lagprogress.proofs.SharedLemmas.{Finds, lasted, shared_finds}
-pub use Rattle.lagprogress.proofs.Lasting.{Alike, IsAsBefore, all_by_place, alike_keeps, alike_ticks, as_before, ends_at, old_port, own_system, rounds_alike, rounds_keep, still_aggregators, still_heard, still_links}
+use Rattle.lagprogress.proofs.Lasting.{IsAsBefore, all_by_place, as_before, ends_at, old_port, own_system, still_links}
+use Rattle.lagprogress.proofs.Claims.{IsNamed}
 
 -- no port stands by
 
@@ -94,11 +91,11 @@ down_first s h timed enough = all_by_place (λ x. Down 20 x.number x.port) s.sys
     ))
 
 down_rounds : (gives : Algorithms) (n : ℕ) (old new : WorldState) → IsSteady old → (s : Side) → EnoughLinks (half s old).state
-    → Rounds gives n old new → EachAt (Down (20 - n)) s new
-down_rounds gives n old new steady s enough h = zero_on gives (λ m j. EachAt (Down (20 - m)) s j) old
+    → HostRounds gives n old new → EachAt (Down (20 - n)) s new
+down_rounds gives n old new steady s enough h = hosts_on gives (λ m j. EachAt (Down (20 - m)) s j) old
     (subst (λ t. EachAt (Down t) s old) (omega arith) (down_first (half s old).state (steady s).0 (steady s).1 enough))
     (λ m i j q a. subst (λ t. EachAt (Down t) s j) (omega arith)
-    (round_each (Down (20 - m)) (Down (20 - m - 1)) (down_keeps (20 - m - 1)) (λ k p r run b. down_ticks (20 - m) k p r run b) s gives i j q a))
+    (host_each (Down (20 - m)) (Down (20 - m - 1)) (down_keeps (20 - m)) (down_keeps (20 - m - 1)) (λ k p r run b. down_ticks (20 - m) k p r run b) s gives i j q a))
     n new h
 
 -- a bundle
@@ -128,13 +125,20 @@ said old i l h = said_by l old (ends_at i l old h)
 abbrev pub Awake : (old : WorldState) (i : ℕ) (l : LinkState) → IsHealthyAt i l old → Type 0
 Awake old i l h = (s : Side) → (activity (said old i l h s) ≡ true) ⊎ (activity (said old i l h (peer s)) ≡ true)
 
+-- each end names itself otherwise than the default partner
+abbrev pub Named : (old : WorldState) (i : ℕ) (l : LinkState) → IsHealthyAt i l old → Type 0
+Named old i l h = (t : Side) → IsNamed (said old i l h t)
+
+pub names : (old : WorldState) → IsSteady old → (i : ℕ) (l : LinkState) (h : IsHealthyAt i l old) → Named old i l h
+names old steady i l h = named_at l old (ends_at i l old h) steady
+
 -- ends that are up agree
-pub agree_up : (gives : Algorithms) (n : ℕ) (old new : WorldState) → IsWorldSound old → Rounds gives n old new → (i : ℕ) (l : LinkState)
-    (h : IsHealthyAt i l old) (awake : Awake old i l h) → Up (λ s. port_at s l) (said old i l h) awake new
+pub agree_up : (gives : Algorithms) (n : ℕ) (old new : WorldState) → IsWorldSound old → HostRounds gives n old new → (i : ℕ) (l : LinkState)
+    (h : IsHealthyAt i l old) (named : Named old i l h) (awake : Awake old i l h) → Up (λ s. port_at s l) (said old i l h) named awake new
     → agreement_at new (suc i) ≡ Some Same
-agree_up gives n old new sound rounds i l h awake up = agrees_now (λ s. port_at s l) (said old i l h) awake i new
-    (λ x fl c. same_index i x l fl old new h.there (rounds_join gives n old new rounds) c)
-    (λ s. rounds_kept gives n i (λ t. port_at t l) (λ t. towards t l) old new (healthy_cable i l old sound.cabling h) rounds s
+agree_up gives n old new sound rounds i l h named awake up = agrees_now (λ s. port_at s l) (said old i l h) named awake i new
+    (λ x fl c. same_index i x l fl old new h.there (hosts_join gives n old new rounds) c)
+    (λ s. hosts_kept gives n i (λ t. port_at t l) (λ t. towards t l) old new (healthy_cable i l old sound.cabling h) rounds s
     ∙ some_is (history_at (half s old).histories (port_at s l)) (sound.ends s i l h.there)) up
   where
     some_is : {X : Type 0} (o : Option X) → IsSome o → is_some o ≡ true
@@ -151,13 +155,13 @@ pub record Meets (Holds : LinkState → WorldState → Type 0) (Other : Side →
   pub differ : SystemsDiffer old
   pub heard : (s : Side) (k : ℕ) (x : SystemPort) → slice_get (half s old).state.system_ports k ≡ Some x → x.port.enabled ≡ true
       → EndsHealthyCable Holds s x.number old ⊎ Other s x.number
-  pub finds : (mid : WorldState) → Rounds gives first old mid → (s : Side) → Finds s mid
+  pub finds : (mid : WorldState) → HostRounds gives first old mid → (s : Side) → Finds s mid
   pub links : (s : Side) → EnoughLinks (half s old).state
   pub never : (s : Side) (i : ℕ) (l : LinkState) → IsHealthyAt i l old → Other s (port_at s l) → ⊥
-  pub idle : (mid top : WorldState) → Rounds gives first old mid → Rounds gives 20 mid top → (s : Side) (k : ℕ) (z y : SystemPort)
+  pub idle : (mid top : WorldState) → HostRounds gives first old mid → HostRounds gives 20 mid top → (s : Side) (k : ℕ) (z y : SystemPort)
       → slice_get (half s old).state.system_ports k ≡ Some z → z.port.enabled ≡ true → Other s z.number
       → slice_get (half s top).state.system_ports k ≡ Some y → Ripe 0 y.port
-  pub meets : (i : ℕ) (l : LinkState) (h : IsHealthyAt i l old) → Holds l old → (mid : WorldState) → Rounds gives first old mid
+  pub meets : (i : ℕ) (l : LinkState) (h : IsHealthyAt i l old) → Holds l old → (mid : WorldState) → HostRounds gives first old mid
       → Fresh (λ s. port_at s l) (said old i l h) mid
   pub wakes : (i : ℕ) (l : LinkState) (h : IsHealthyAt i l old) → Holds l old → Awake old i l h
 
@@ -176,7 +180,10 @@ module _ (Holds : LinkState → WorldState → Type 0) (Other : Side → ℕ →
   pub awake_of : (i : ℕ) (l : LinkState) (h : IsHealthyAt i l old) → Awake old i l h
   awake_of i l h = m.wakes i l h (holds_of i l h)
 
-  met : (i : ℕ) (l : LinkState) (h : IsHealthyAt i l old) (mid : WorldState) → Rounds gives first old mid → Fresh (λ s. port_at s l) (said old i l h) mid
+  pub named_of : (i : ℕ) (l : LinkState) (h : IsHealthyAt i l old) → Named old i l h
+  named_of = names old m.steady
+
+  met : (i : ℕ) (l : LinkState) (h : IsHealthyAt i l old) (mid : WorldState) → HostRounds gives first old mid → Fresh (λ s. port_at s l) (said old i l h) mid
   met i l h = m.meets i l h (holds_of i l h)
 
   systems : (i : ℕ) (l : LinkState) (h : IsHealthyAt i l old) → (s : Side)
@@ -192,12 +199,12 @@ module _ (Holds : LinkState → WorldState → Type 0) (Other : Side → ℕ →
       apart_by e own One same = m.differ (sym (own One) ∙ (sym same ∙ own Two))
       apart_by e own Two same = m.differ (sym (own One) ∙ (same ∙ own Two))
 
-  module _ (mid top : WorldState) (h : Rounds gives first old mid) (more : Rounds gives 20 mid top) where
+  module _ (mid top : WorldState) (h : HostRounds gives first old mid) (more : HostRounds gives 20 mid top) where
     middle : IsSteady mid
-    middle = rounds_steady gives first old mid m.steady h
+    middle = hosts_steady gives first old mid m.steady h
 
     above : IsSteady top
-    above = rounds_steady gives 20 mid top middle more
+    above = hosts_steady gives 20 mid top middle more
 
     -- both ends of each healthy cable are SELECTED
     chosen : (i : ℕ) (l : LinkState) (y : IsHealthyAt i l old) → (s : Side)
@@ -213,14 +220,15 @@ module _ (Holds : LinkState → WorldState → Type 0) (Other : Side → ℕ →
         (systems i l y s) (let known = knows_peer at w 1 0 0 mid g (omega arith) s in omega (arith, known)) e)
 
     climb : (i : ℕ) (l : LinkState) (y : IsHealthyAt i l old)
-        → Climbs (λ t. port_at t l) (said old i l y) (awake_of i l y) 20 top
+        → Climbs (λ t. port_at t l) (said old i l y) (named_of i l y) (awake_of i l y) 20 top
     climb i l y =
         let at : Side → ℕ = λ t. port_at t l in
         let w = said old i l y in
+        let named = named_of i l y in
         let awake = awake_of i l y in
-        zero_on gives (Climbs at w awake) mid
-        (climbs_first at w awake mid (met i l y mid h) (chosen i l y))
-        (climbs_on at w awake gives) 20 top more
+        hosts_on gives (Climbs at w named awake) mid
+        (climbs_first at w named awake mid (met i l y mid h) (chosen i l y))
+        (climbs_on at w named awake gives) 20 top more
 
     -- and have risen, as the SELECTED ports have whose links are down
     ripe : (s : Side) → AllByRecursion (λ (y : SystemPort). Ripe 0 y.port) (half s top).state.system_ports
@@ -264,25 +272,24 @@ module _ (Holds : LinkState → WorldState → Type 0) (Other : Side → ℕ →
         at_end at w 1 g.known s top e above Synced
         (climbed (half s top).state e.index e.port (above s).0 e.there (ripe s) (end_with at w 1 g.known s top e (Rising 0) a))
 
-  pub ups_of : (i : ℕ) (l : LinkState) (y : IsHealthyAt i l old) (n : ℕ) (new : WorldState) → first + 31 ≤ n → Rounds gives n old new
-      → Up (λ s. port_at s l) (said old i l y) (awake_of i l y) new
+  pub ups_of : (i : ℕ) (l : LinkState) (y : IsHealthyAt i l old) (n : ℕ) (new : WorldState) → first + 31 ≤ n → HostRounds gives n old new
+      → Up (λ s. port_at s l) (said old i l y) (named_of i l y) (awake_of i l y) new
   ups_of i l y n new enough h =
       let at : Side → ℕ = λ s. port_at s l in
       let w = said old i l y in
-      let cut = splits gives (n - first) first n old new (omega (arith, enough)) h in
-      let up = splits gives (n - first - 20) 20 (n - first) cut.0 new (omega (arith, enough)) cut.2 in
-      comes_up at w (awake_of i l y) gives (n - first - 20) cut.0 up.0 new (met i l y cut.0 cut.1)
+      let cut = hosts_split gives (n - first) first n old new (omega (arith, enough)) h in
+      let up = hosts_split gives (n - first - 20) 20 (n - first) cut.0 new (omega (arith, enough)) cut.2 in
+      comes_up at w (named_of i l y) (awake_of i l y) gives (n - first - 20) cut.0 up.0 new (met i l y cut.0 cut.1)
       (chosen cut.0 up.0 cut.1 up.1 i l y) (ready cut.0 up.0 cut.1 up.1 i l y) (omega (arith, enough)) up.1 up.2
 
-  pub distribute_of : (i : ℕ) (l : LinkState) (y : IsHealthyAt i l old) (n : ℕ) (new : WorldState) → first + 31 ≤ n → Rounds gives n old new
+  pub distribute_of : (i : ℕ) (l : LinkState) (y : IsHealthyAt i l old) (n : ℕ) (new : WorldState) → first + 31 ≤ n → HostRounds gives n old new
       → (s : Side) → AtEnd Distributes s l new
   distribute_of i l y n new enough h =
-      let up = ups_of i l y n new enough h in
-      up_now (λ s. port_at s l) (said old i l y) (awake_of i l y) up.0 new up.1 up.2
+      distributes (λ s. port_at s l) (said old i l y) (named_of i l y) (awake_of i l y) new (ups_of i l y n new enough h)
 
   pub agree_of : IsWorldSound old → (i : ℕ) (l : LinkState) (y : IsHealthyAt i l old) (n : ℕ) (new : WorldState) → first + 31 ≤ n
-      → Rounds gives n old new → agreement_at new (suc i) ≡ Some Same
-  agree_of sound i l y n new enough h = agree_up gives n old new sound h i l y (awake_of i l y) (ups_of i l y n new enough h)
+      → HostRounds gives n old new → agreement_at new (suc i) ≡ Some Same
+  agree_of sound i l y n new enough h = agree_up gives n old new sound h i l y (named_of i l y) (awake_of i l y) (ups_of i l y n new enough h)
 
 -- where there are no others
 
@@ -290,7 +297,7 @@ abbrev pub Nowhere : Side → ℕ → Type 0
 Nowhere s n = ⊥
 
 alone : (Holds : LinkState → WorldState → Type 0) (first : ℕ) (gives : Algorithms) (old : WorldState) → IsBundle Holds old
-    → ((i : ℕ) (l : LinkState) (h : IsHealthyAt i l old) → Holds l old → (mid : WorldState) → Rounds gives first old mid
+    → ((i : ℕ) (l : LinkState) (h : IsHealthyAt i l old) → Holds l old → (mid : WorldState) → HostRounds gives first old mid
     → Fresh (λ s. port_at s l) (said old i l h) mid)
     → ((i : ℕ) (l : LinkState) (h : IsHealthyAt i l old) → Holds l old → Awake old i l h) → Meets Holds Nowhere first gives old
 alone Holds first gives old b meets wakes = record {
@@ -313,7 +320,7 @@ pub one_wakes : (old : WorldState) (i : ℕ) (l : LinkState) (h : IsHealthyAt i 
 one_wakes old i l h a = awake_at (said old i l h) a.0 (active_at l old (ends_at i l old h) a.0 a.1)
 
 pub one_meet : (gives : Algorithms) (first : ℕ) (old : WorldState) → IsCabling (world_setup old).cables → IsSteady old → 630 ≤ first
-    → (i : ℕ) (l : LinkState) (h : IsHealthyAt i l old) → OneIsActive l old → (mid : WorldState) → Rounds gives first old mid
+    → (i : ℕ) (l : LinkState) (h : IsHealthyAt i l old) → OneIsActive l old → (mid : WorldState) → HostRounds gives first old mid
     → Fresh (λ s. port_at s l) (said old i l h) mid
 one_meet gives first old cabling steady many i l h a mid r =
     let e = ends_at i l old h in
@@ -329,128 +336,30 @@ pub both_wake : (old : WorldState) (i : ℕ) (l : LinkState) (h : IsHealthyAt i 
 both_wake old i l h a s = inl (active_at l old (ends_at i l old h) s (a s))
 
 pub both_meet : (gives : Algorithms) (old : WorldState) → IsCabling (world_setup old).cables → IsSteady old
-    → (i : ℕ) (l : LinkState) (h : IsHealthyAt i l old) → BothAreActive l old → (mid : WorldState) → Rounds gives 321 old mid
+    → (i : ℕ) (l : LinkState) (h : IsHealthyAt i l old) → BothAreActive l old → (mid : WorldState) → HostRounds gives 321 old mid
     → Fresh (λ s. port_at s l) (said old i l h) mid
 both_meet gives old cabling steady i l h a mid r =
     let e = ends_at i l old h in
-    active_meet gives (λ s. port_at s l) (said old i l h) 321 old mid (λ s. active_at l old e s (a s)) (omega arith)
+    active_meet gives (λ s. port_at s l) (said old i l h) 321 old mid (named_at l old e steady) (λ s. active_at l old e s (a s)) (omega arith)
     (starts i l old e steady cabling h) r
 
 pub both_active : (gives : Algorithms) (old : WorldState) → IsBundle BothAreActive old → Meets BothAreActive Nowhere 321 gives old
 both_active gives old b = alone BothAreActive 321 gives old b (both_meet gives old b.cabling b.steady) (both_wake old)
 
--- the laws of a bundle
+-- the laws of a bundle, by rounds of hosts
 
-pub each_link_comes_up : (gives : Algorithms) → EachLinkComesUp gives
-each_link_comes_up gives n i l old new b y enough h =
+pub each_link_comes_up_by_hosts : (gives : Algorithms) → EachLinkComesUpByHosts gives
+each_link_comes_up_by_hosts gives n i l old new b y enough h =
     distribute_of OneIsActive Nowhere 630 gives old (one_active gives old b) i l y n new (omega (arith, enough)) h
 
-pub each_active_link_comes_up : (gives : Algorithms) → EachActiveLinkComesUp gives
-each_active_link_comes_up gives n i l old new b y enough h =
+pub each_active_link_comes_up_by_hosts : (gives : Algorithms) → EachActiveLinkComesUpByHosts gives
+each_active_link_comes_up_by_hosts gives n i l old new b y enough h =
     distribute_of BothAreActive Nowhere 321 gives old (both_active gives old b) i l y n new (omega (arith, enough)) h
 
-pub each_link_agrees : (gives : Algorithms) → EachLinkAgrees gives
-each_link_agrees gives n i l old new sound b y enough h =
+pub each_link_agrees_by_hosts : (gives : Algorithms) → EachLinkAgreesByHosts gives
+each_link_agrees_by_hosts gives n i l old new sound b y enough h =
     agree_of OneIsActive Nowhere 630 gives old (one_active gives old b) sound i l y n new (omega (arith, enough)) h
 
-pub each_active_link_agrees : (gives : Algorithms) → EachActiveLinkAgrees gives
-each_active_link_agrees gives n i l old new sound b y enough h =
+pub each_active_link_agrees_by_hosts : (gives : Algorithms) → EachActiveLinkAgreesByHosts gives
+each_active_link_agrees_by_hosts gives n i l old new sound b y enough h =
     agree_of BothAreActive Nowhere 321 gives old (both_active gives old b) sound i l y n new (omega (arith, enough)) h
-
--- a world with one cable, and one port in each system
-
-pub first_none : {X : Type 0} (a b : Option X) → or_first a b ≡ None → (a ≡ None) × (b ≡ None)
-first_none a b e = grind (arith, nat_tests)
-
-some_most : (s : SystemState) (most : ℕ) → IsSound s → s.max_links ≡ Some most → 1 ≤ most
-some_most s most h e = grind (arith, nat_tests)
-
-one_of : (s : SystemState) (xs : List SystemPort) → s.system_ports ≡ xs → length xs ≡ 1 → (x : SystemPort) × (s.system_ports ≡ x ∷ [])
-one_of s [] e l = absurd (omega (arith, l))
-one_of s (x ∷ []) e l = (x, e)
-one_of s (x ∷ (y ∷ ys)) e l = absurd (omega (arith, l))
-
-one_port : (s : SystemState) → IsSound s → length s.ports ≡ 1 → (x : SystemPort) × (s.system_ports ≡ x ∷ [])
-one_port s h l = one_of s s.system_ports refl
-    (many s.system_ports ∙ (ap (λ (ns : List ℕ). length ns) h.ports.same ∙ (numbered s.ports ∙ l)))
-  where
-    numbered : (cs : List PortConfig) → length (configured_numbers cs) ≡ length cs
-    numbered [] = refl
-    numbered (c ∷ cs) = ap (λ n. suc n) (numbered cs)
-
-only_one : (x z : SystemPort) (k : ℕ) → slice_get (x ∷ []) k ≡ Some z → z ≡ x
-only_one x z k e = grind (arith, nat_tests)
-
-few : (test : SystemPort → Bool) (x : SystemPort) → length (filter test (x ∷ [])) ≤ 1
-few test x = grind (arith, nat_tests)
-
-few_ports : (s : SystemState) → IsSound s → HasRoom s → (key : Key) → ports_with key s ≤ 1
-few_ports s h room key =
-    let one = one_port s h room.one in
-    subst (λ (ys : List SystemPort). length (filter (λ (x : SystemPort). x.port.party.key.0 == key.0) ys) ≤ 1) (sym one.1)
-    (few (λ (x : SystemPort). x.port.party.key.0 == key.0) one.0)
-
-at_most : (m n : ℕ) → m ≤ 1 → 1 ≤ n → m ≤ n
-at_most m n a b = omega (arith, a, b)
-
-room_aggregators : (s : SystemState) → IsSound s → HasRoom s → EnoughAggregators s
-room_aggregators s h room k x there up =
-    at_most (ports_with x.port.party.key s) (aggregators_with x.port.party.key s) (few_ports s h room x.port.party.key) (room.aggregator k x there)
-
-room_links : (s : SystemState) → IsSound s → HasRoom s → EnoughLinks s
-room_links s h room k most x there limit =
-    at_most (ports_with x.port.party.key s) most (few_ports s h room x.port.party.key) (some_most s most h limit)
-
--- its only port is that at the end of the cable
-only_heard : (Holds : LinkState → WorldState → Type 0) (l : LinkState) (j : WorldState) → IsSteady j → IsHealthy l j
-    → ((s : Side) → HasRoom (half s j).state) → Holds l j → AllHeard Holds j
-only_heard Holds l j steady h room it s k x there up =
-    let st = (half s j).state in
-    let e = ends_at zero l j (only_cable l j h) s in
-    let one = one_port st (steady s).0 (room s).one in
-    let same : x ≡ one.0 = only_one one.0 x k (subst (λ ys. slice_get ys k ≡ Some x) one.1 there) in
-    let end : e.1 ≡ one.0 = only_one one.0 e.1 e.0 (subst (λ ys. slice_get ys e.0 ≡ Some e.1) one.1 e.3) in
-    record {
-      index = zero;
-      link = l;
-      healthy = only_cable l j h;
-      joins = sym (found_place (port_at s l) st.system_ports e.0 e.1 e.2 e.3) ∙ ap (λ (z : SystemPort). z.number) (end ∙ sym same);
-      holds = it;
-    }
-
-only_differ : (l : LinkState) (j : WorldState) → IsSteady j → IsHealthy l j → AreApart l j → SystemsDiffer j
-only_differ l j steady h apart same =
-    let e = ends_at zero l j (only_cable l j h) in
-    let own : (s : Side) → (e s).1.port.party.system ≡ (half s j).state.system = λ s. own_system (half s j).state (e s).0 (e s).1 (steady s).0 (e s).3 in
-    apart_at l j e apart One (own Two ∙ (sym same ∙ sym (own One)))
-
-only_bundle : (Holds : LinkState → WorldState → Type 0) (l : LinkState) (j : WorldState) → IsSteady j → IsHealthy l j
-    → ((s : Side) → HasRoom (half s j).state) → AreApart l j → Holds l j → IsBundle Holds j
-only_bundle Holds l j steady h room apart it = record {
-  steady = steady;
-  cabling = only_cabling l j h;
-  differ = only_differ l j steady h apart;
-  heard = only_heard Holds l j steady h room it;
-  aggregators = λ s k x there up. inl (room_aggregators (half s j).state (steady s).0 (room s) k x there up);
-  links = λ s. room_links (half s j).state (steady s).0 (room s);
-}
-
-pub link_comes_up : (gives : Algorithms) → LinkComesUp gives
-link_comes_up gives n l old new a steady healthy room apart active enough h =
-    each_link_comes_up gives n zero l old new (only_bundle OneIsActive l old steady healthy room apart (a, active)) (only_cable l old healthy)
-    enough h
-
-pub active_link_comes_up : (gives : Algorithms) → ActiveLinkComesUp gives
-active_link_comes_up gives n l old new steady healthy room apart active enough h =
-    each_active_link_comes_up gives n zero l old new (only_bundle BothAreActive l old steady healthy room apart active)
-    (only_cable l old healthy) enough h
-
-pub link_agrees : (gives : Algorithms) → LinkAgrees gives
-link_agrees gives n l old new a sound steady healthy room apart active enough h =
-    each_link_agrees gives n zero l old new sound (only_bundle OneIsActive l old steady healthy room apart (a, active)) (only_cable l old healthy)
-    enough h
-
-pub active_link_agrees : (gives : Algorithms) → ActiveLinkAgrees gives
-active_link_agrees gives n l old new sound steady healthy room apart active enough h =
-    each_active_link_agrees gives n zero l old new sound (only_bundle BothAreActive l old steady healthy room apart active)
-    (only_cable l old healthy) enough h

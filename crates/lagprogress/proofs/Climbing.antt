@@ -114,9 +114,6 @@ Ripe t p = is_selected p.choice ≡ true → HasRisen t p.mux p.wait_while
 
 -- each port that waits in an aggregator has waited
 
-waited : (n : ℕ) → n ≤ 0 → (n == 0) ≡ true
-waited n l = grind (arith, nat_tests)
-
 risen_waits : (m : MuxState) (n : ℕ) → HasRisen 0 m n → is_detached_or_waiting (stage_of m n) ≡ true → has_waited (stage_of m n) ≡ true
 risen_waits m n h e = grind (arith, nat_tests)
 

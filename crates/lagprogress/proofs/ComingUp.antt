@@ -1,258 +1,188 @@
 -- How both ends of a cable come to distribute, round by round.
 use Rattle.lagprogress.proofs.Common.{Bool, List, Some, ap, arith, false, inl, inr, is_some, not, option_map, refl, slice_get, subst, suc, sym, true}
-use Rattle.lagprogress.proofs.Common.{zero, ℕ, ◌&&◌, ◌+◌, ◌-◌, ◌||◌, ◌∙◌, ◌≡◌, ◌≢◌, ◌≤◌, ◌⊎◌, nat_tests, unwrap_or, Party, is_selected, group_end}
-use Rattle.lagprogress.proofs.Common.{group_of, individual, pair_of, same_group, group-itself, Lacpdu, party_of, One, Side, Two, peer}
-use Rattle.lagprogress.proofs.Common.{CollectingDistributing, Machines, same_mux_state, Table, Answer, SystemPort, Call, Step, TableRun, MuxIsSettled}
-use Rattle.lagprogress.proofs.Common.{group_at, SystemState, machines_of, with_system_ports, with_table, Step-frame, all-get, Event, Same, Reply}
-use Rattle.lagprogress.proofs.Common.{agreement_at, agreement_of, end_facts, first_agreement, is_stamp, same_groups, Algorithms, WorldRuns, ItemValue}
-use Rattle.lagprogress.proofs.Common.{LinkState, WorldState, change_count_in, half, history_at, port_at, AreApart, Distributes, AtEnd, IsRound}
-use Rattle.lagprogress.proofs.Common.{OfPort, Rounds, IsTimed}
-use Rattle.lagprogress.proofs.Stamps.{Stamped, stamped_round}
-use Rattle.lagtypes.proofs.GroupLemmas.{groups_from_pairs}
-use Rattle.lagprogress.proofs.Claims.{Owes}
+use Rattle.lagprogress.proofs.Common.{ℕ, ◌&&◌, ◌+◌, ◌-◌, ◌||◌, ◌∙◌, ◌≡◌, ◌≤◌, ◌⊎◌, unwrap_or, Party, is_selected, group_end, group_of, individual}
+use Rattle.lagprogress.proofs.Common.{pair_of, same_group, group-itself, Lacpdu, party_of, One, Side, Two, peer, CollectingDistributing, Machines}
+use Rattle.lagprogress.proofs.Common.{same_mux_state, SystemPort, MuxIsSettled, group_at, machines_of, all-get, Same, agreement_at, agreement_of}
+use Rattle.lagprogress.proofs.Common.{end_facts, first_agreement, is_stamp, same_groups, Algorithms, ItemValue, LinkState, WorldState}
+use Rattle.lagprogress.proofs.Common.{change_count_in, half, history_at, Distributes, HostRounds, IsHostRound, OfPort, IsTimed}
+use Rattle.lagprogress.proofs.HostStamps.{stamped_between, stamped_tick}
+use Rattle.lagprogress.proofs.OneCable.{OnCable, cable}
+use Rattle.lagprogress.proofs.Stamps.{Stamped}
+use Rattle.lagprogress.proofs.Claims.{IsNamed, Owes}
 use Rattle.lagprogress.proofs.Climbing.{PartnerInSync, Rising, distributes_now, partner_along, rising_along, rising_first, ticks_partner}
 use Rattle.lagprogress.proofs.Climbing.{ticks_rising}
 use Rattle.lagprogress.proofs.EachPort.{OfEach}
-use Rattle.lagprogress.proofs.OneCable.{cable, OnCable}
-use Rattle.lagprogress.proofs.EndFacts.{Learnt, Synced, activity}
-use Rattle.lagprogress.proofs.Linked.{Fits, each_map, each_side, peer_twice, events_each}
-use Rattle.lagprogress.proofs.OnePort.{AtPort, calls_each}
-use Rattle.lagprogress.proofs.OneRound.{Nothing, join, round_nears, ticked, round_holds}
-use Rattle.lagprogress.proofs.Progressing.{AtIt, Ends, FreshAt, able_fresh, beside, emptied, fits_fresh, knows_peer, machines_there, mode, own_says}
-use Rattle.lagprogress.proofs.Progressing.{said_by, stays_fresh, wait, awake_peer}
+use Rattle.lagprogress.proofs.EndFacts.{Learnt, Synced, activity, wait_of}
+use Rattle.lagprogress.proofs.EachRound.{hosts_on}
+use Rattle.lagprogress.proofs.HostKnowing.{FreshAt, able_fresh, awake_peer, fits_before, fits_fresh, knows_peer, stays_fresh, AtIt, beside, mode}
+use Rattle.lagprogress.proofs.HostRound.{holds_on, host_holds, host_nears, of_side}
+use Rattle.lagprogress.proofs.Linked.{Fits, at_end, each_map, end_here, end_with, peer_twice}
+use Rattle.lagprogress.proofs.OnePort.{AtPort}
+use Rattle.lagprogress.proofs.OneRound.{Nothing, join, ticked}
+use Rattle.lagprogress.proofs.Starting.{emptied}
 use Rattle.lagprogress.proofs.Sounding.{Sounds, all_leave}
+use Rattle.lagtypes.proofs.GroupLemmas.{groups_from_pairs}
 use Rattle.std.proofs.Math.Bool.{and_comm}
-pub use Rattle.lagprogress.proofs.Linked.{EndPort, at_end, end_here, end_with}
-
--- what no event changes
-
-module _ (X : Type 0) (g : SystemState → X)
-    (kept : (s : SystemState) (ports : List SystemPort) (t : Table) → g (with_table (with_system_ports s ports) t) ≡ g s) where
-  one : (gives : ℕ → ℕ → ℕ → Type 0) (was : X) (old new : SystemState) (call : Call) (answer : Answer) → Step gives old call answer new
-      → g old ≡ was → g new ≡ was
-  one gives was old new call answer step e = ap g (Step-frame gives old call answer new step) ∙ (kept old new.system_ports new.table ∙ e)
-
-  pub calls_keep : (gives : ℕ → ℕ → ℕ → Type 0) (old new : SystemState) (calls : List Call) (replies : List Answer)
-      → TableRun gives old calls replies new → g new ≡ g old
-  calls_keep gives old new calls replies h = calls_each gives (λ s. g s ≡ g old) (one gives (g old)) old new calls replies h refl
-
-  pub events_keep : (gives : Algorithms) (es : List Event) (rs : List Reply) (old new : WorldState) → WorldRuns gives old es rs new
-      → (s : Side) → g (half s new).state ≡ g (half s old).state
-  events_keep gives es rs old new h s = let was = g (half s old).state in
-      events_each gives s (λ t. g t ≡ was) (one (gives s) was) es rs old new h refl
-
--- runs of rounds
-
-pub zero_on : (gives : Algorithms) (S : ℕ → WorldState → Type 0) (start : WorldState) → S 0 start
-    → ((n : ℕ) (old new : WorldState) → IsRound gives old new → S n old → S (n + 1) new)
-    → (n : ℕ) (new : WorldState) → Rounds gives n start new → S n new
-zero_on gives S start first next zero new h = subst (S 0) (sym h) first
-zero_on gives S start first next (suc n) new h =
-    subst (λ m. S m new) (omega arith) (next n h.0 new h.2 (zero_on gives S start first next n h.0 h.1))
-
-pub splits : (gives : Algorithms) (k m n : ℕ) (old new : WorldState) → n ≡ k + m → Rounds gives n old new
-    → (mid : WorldState) × Rounds gives m old mid × Rounds gives k mid new
-splits gives zero m n old new e h = (new, subst (λ i. Rounds gives i old new) (omega (arith, e)) h, refl)
-splits gives (suc k) m zero old new e h = absurd (omega (arith, e))
-splits gives (suc k) m (suc n) old new e h = grind (arith, nat_tests, splits gives k m n old h.0 (omega (arith, e)) h.1)
-
--- a port at an end of a cable has a history as before
-pub rounds_kept : (gives : Algorithms) (n i : ℕ) (at : Side → ℕ) (fl : Side → List ItemValue) (old new : WorldState)
-    → OnCable i at fl old.links → Rounds gives n old new → (s : Side)
-    → is_some (history_at (half s new).histories (at s)) ≡ is_some (history_at (half s old).histories (at s))
-rounds_kept gives n i at fl old new c h s = (zero_on gives (λ m j. Stamped 0 at k kept j) old (record {
-  flying = fl;
-  index = i;
-  links = c;
-  counts = λ t. refl;
-  there = λ t. refl;
-  items = λ l. absurd (omega (arith, l));
-}) (λ m i j q a. stamped_round gives 0 at k kept i j a q) n new h).there s
-  where
-    k : Side → ℕ
-    k t = change_count_in (history_at (half t old).histories (at t))
-
-    kept : Side → Bool
-    kept t = is_some (history_at (half t old).histories (at t))
-
-module _ (at : Side → ℕ) (w : Side → Lacpdu) where
-  module _ (awake : (s : Side) → (activity (w s) ≡ true) ⊎ (activity (w (peer s)) ≡ true)) where
-    -- an end climbs
-    pub climb_first : (j : WorldState) (g : FreshAt at w 1 j) (s : Side) → AtIt at w s (λ p. is_selected p.choice ≡ true) j
-        → AtIt at w s (Rising (20 - 0)) j
-    climb_first j g s chosen =
-        let e = end_here at w 1 g.known One Nothing j g.link s in
-        let steady = g.link.steady in
-        let st = (half s j).state in
-        let mux = (all-get (MuxIsSettled st.keys st.system_ports) st.system_ports e.index e.port e.there (steady s).0.quiet.0).mux in
-        let timed = all-get (λ (y : SystemPort). IsTimed y.port) st.system_ports e.index e.port e.there (steady s).1 in
-        at_end at w 1 g.known s j e steady (Rising 20) (rising_first e.port.port mux timed
-        (end_with at w 1 g.known s j e (λ p. is_selected p.choice ≡ true) chosen))
-
-    pub climb_on : (s : Side) (gives : Algorithms) (n : ℕ) (old new : WorldState) (g : FreshAt at w 1 old) → IsRound gives old new
-        → AtIt at w s (Rising (20 - n)) old → AtIt at w s (Rising (20 - (n + 1))) new
-    climb_on s gives n old new g h rising =
-        let l = knows_peer at w 1 0 0 old g (omega arith) s in
-        subst (λ t. AtIt at w s (Rising t) new) (omega arith)
-        (beside at w 1 (ticked g.known) s (Rising (20 - n - 1)) new
-        (round_holds gives s 1 at w g.known (Rising (20 - n)) (Rising (20 - n - 1)) old new
-        (fits_fresh at w awake 1 old g (omega arith))
-        (rising_along (w s) (w (peer s)) (ticked g.known s) 1 (20 - n - 1) (omega arith) (omega (arith, l)))
-        (λ p q r rest a y. ticks_rising 1 (w s) (w (peer s)) (g.known s) (20 - n) p q (omega (arith, l)) r a y)
-        (λ p y. y) (join 1 at w g.known One s (Rising (20 - n)) old g.link rising) h))
-
-    -- both do
-    pub record Climbs (n : ℕ) (j : WorldState) : Type 0 where
-      pub fresh : FreshAt at w 1 j
-      pub rising : (s : Side) → AtIt at w s (Rising (20 - n)) j
-
-    pub climbs_first : (j : WorldState) → FreshAt at w 1 j → ((s : Side) → AtIt at w s (λ p. is_selected p.choice ≡ true) j) → Climbs 0 j
-    climbs_first j g chosen = record { fresh = g; rising = λ s. climb_first j g s (chosen s) }
-
-    pub climbs_on : (gives : Algorithms) (n : ℕ) (old new : WorldState) → IsRound gives old new → Climbs n old → Climbs (n + 1) new
-    climbs_on gives n old new h k = record {
-      fresh = stays_fresh at w awake gives 1 old new (omega arith) h k.fresh;
-      rising = λ s. climb_on s gives n old new k.fresh h (k.rising s);
-    }
-
-    -- Then each end hears that the other is in sync, since it is told or is owed an LACPDU.
-
-    abbrev pub Tells : Side → ℕ → WorldState → Type 0
-    Tells s n j = ((k : ℕ) × (1 ≤ k) × (n + k ≤ 11) × AtIt at w s (Sounds (mode at w s) k) j) ⊎ AtIt at w (peer s) PartnerInSync j
-
-    pub record Agrees (n : ℕ) (j : WorldState) : Type 0 where
-      pub fresh : FreshAt at w 2 j
-      pub tells : (s : Side) → Tells s n j
-
-    -- an end that owes an LACPDU sounds as soon as its transmit window lets it
-    owed : (j : WorldState) (g : FreshAt at w 2 j) (s : Side) → AtIt at w s (Owes (w (peer s))) j → AtIt at w s (Sounds (mode at w s) 11) j
-    owed j g s owes =
-        let e = end_here at w 2 g.known One Nothing j g.link s in
-        let known = (e.is.1.1 (let l = knows_peer at w 2 0 0 j g (omega arith) s in omega (arith, l))).0 in
-        let timed = all-get (λ (y : SystemPort). IsTimed y.port) (half s j).state.system_ports e.index e.port e.there (g.link.steady s).1 in
-        at_end at w 2 g.known s j e g.link.steady (Sounds (mode at w s) 11) (
-          inl (end_with at w 2 g.known s j e (Owes (w (peer s))) owes (e.is.2 (omega arith), known.party)),
-          all_leave true e.port.port.ages timed.3,
-        )
-
-    agrees_first : (j : WorldState) → Climbs 20 j → ((s : Side) → AtIt at w s (Rising 0) j → AtIt at w s Synced j) → Agrees 0 j
-    agrees_first j c ready =
-        let g = c.fresh in
-        let synced : (s : Side) → OfEach (AtPort (at s) (λ p. 2 ≤ 2 → Synced p)) (half s j).state.system_ports =
-        λ s. each_map (AtPort (at s) Synced) (AtPort (at s) (λ p. 2 ≤ 2 → Synced p)) (λ m p a f l. a f) (half s j).state.system_ports
-        (ready s (subst (λ t. AtIt at w s (Rising t) j) (omega arith) (c.rising s))) in
-        let fresh : FreshAt at w 2 j = record {
-          known = g.known;
-          next = g.next;
-          link = emptied at w 1 2 g.known One Nothing j g.empty synced g.link;
-          fits = g.fits;
-          later = g.later;
-          longer = g.longer;
-          sounds = g.sounds;
-          empty = g.empty;
-          told = g.told;
-          present = g.present;
-        } in
-        record {
-          fresh = fresh;
-          tells = λ s. elim (g.told s (let l = knows_peer at w 1 0 0 j g (omega arith) (peer s) in omega (arith, l))) [
-            | inl owes ↦ inl (11, omega arith, omega arith, owed j fresh s owes)
-            | inr heard ↦ inr heard
-          ];
-        }
-
-    agrees_on : (gives : Algorithms) (n : ℕ) (old new : WorldState) → IsRound gives old new → Agrees n old → Agrees (n + 1) new
-    agrees_on gives n old new h c =
-        let g = c.fresh in
-        record {
-          fresh = stays_fresh at w awake gives 2 old new (omega arith) h g;
-          tells = λ s. tells g (fits_fresh at w awake 2 old g (omega arith)) s (c.tells s);
-        }
-      where
-        tells : (g : FreshAt at w 2 old) → Fits 2 w (ticked g.known) → (s : Side) → Tells s n old → Tells s (n + 1) new
-        tells g fits s (inl (m, some, soon, y)) = let can = able_fresh at w awake 2 old g s in
-            elim (round_nears gives s 2 at w g.known (mode at w s) m old new (omega arith) fits can.1 can.0
-            (join 2 at w g.known One s (Sounds (mode at w s) m) old g.link y) h) [
-              | inl q ↦ (let l = q.0 in
-                  inl (m - 1, l, omega (arith, soon, l), beside at w 2 (ticked g.known) s (Sounds (mode at w s) (m - 1)) new q.1))
-              | inr q ↦ inr (each_map (AtPort (at (peer s)) (Learnt 2 (w (peer (peer s))) (wait at w (peer s))))
-                  (AtPort (at (peer s)) PartnerInSync) (λ i p a e. (a e).1 (omega arith)) (half (peer s) new).state.system_ports
-                  (beside at w 2 (ticked g.known) (peer s) (Learnt 2 (w (peer (peer s))) (wait at w (peer s))) new q))
-            ]
-        tells g fits s (inr y) =
-            let t = peer s in
-            let l = knows_peer at w 2 0 0 old g (omega arith) t in
-            inr (beside at w 2 (ticked g.known) t PartnerInSync new
-            (round_holds gives t 2 at w g.known PartnerInSync PartnerInSync old new fits
-            (partner_along (w t) (w (peer t)) (ticked g.known t) 2 (omega arith) (awake_peer at w awake t))
-            (λ p q r rest a z. ticks_partner 2 (w t) (w (peer t)) (g.known t) p q (omega (arith, l)) r a z)
-            (λ p z. z) (join 2 at w g.known One t PartnerInSync old g.link y) h))
-
-    pub told : (n : ℕ) (j : WorldState) → 11 ≤ n → Agrees n j → (t : Side) → AtIt at w t PartnerInSync j
-    told n j l c t = subst (λ u. AtIt at w u PartnerInSync j) (peer_twice t) (elim (c.tells (peer t)) [
-      | inl (m, some, soon, y) ↦ absurd (omega (arith, l, some, soon))
-      | inr y ↦ y
-    ])
-
-    -- and so both distribute
-    pub up_now : (n : ℕ) (j : WorldState) → 11 ≤ n → Agrees n j → (s : Side) → OfPort Distributes (machines_of (at s) (half s j).state)
-    up_now n j l c s =
-        let g = c.fresh in
-        let e = end_here at w 2 g.known One Nothing j g.link s in
-        let st = (half s j).state in
-        let mux = (all-get (MuxIsSettled st.keys st.system_ports) st.system_ports e.index e.port e.there (g.link.steady s).0.quiet.0).mux in
-        let synced = e.is.2 (omega arith) in
-        let heard = end_with at w 2 g.known s j e PartnerInSync (told n j l c s) in
-        subst (OfPort Distributes) (sym e.found) (distributes_now e.port.port mux synced heard, synced.0)
-
-    abbrev pub Up : WorldState → Type 0
-    Up j = (n : ℕ) × (11 ≤ n) × Agrees n j
-
-    -- from a round in which both ends are SELECTED, in 20 rounds to one in which both are synchronized, and on
-    pub comes_up : (gives : Algorithms) (n : ℕ) (start mid new : WorldState) → FreshAt at w 1 start
-        → ((s : Side) → AtIt at w s (λ p. is_selected p.choice ≡ true) start)
-        → ((s : Side) → AtIt at w s (Rising 0) mid → AtIt at w s Synced mid)
-        → 11 ≤ n → Rounds gives 20 start mid → Rounds gives n mid new → Up new
-    comes_up gives n start mid new g chosen ready enough h more =
-        let climbed = zero_on gives Climbs start (climbs_first start g chosen) (climbs_on gives) 20 mid h in
-        (n, enough, zero_on gives Agrees mid (agrees_first mid climbed ready) (agrees_on gives) n new more)
-
--- the world before the rounds
-
-pub apart_at : (l : LinkState) (j : WorldState) (e : Ends l j) → AreApart l j → (s : Side)
-    → (said_by l j e (peer s)).actor.system ≢ (said_by l j e s).actor.system
-apart_at l j e h = each_side (λ s. (said_by l j e (peer s)).actor.system ≢ (said_by l j e s).actor.system) One other (λ x. other (sym x))
-  where
-    there : (s : Side) → machines_of (port_at s l) (half s j).state ≡ Some (e s).1.port
-    there s = machines_there (port_at s l) (half s j).state (e s).0 (e s).1 (e s).2 (e s).3
-
-    other : (e Two).1.port.party.system ≢ (e One).1.port.party.system
-    other = subst (OfPort (λ q. q.party.system ≢ (e One).1.port.party.system)) (there Two)
-        (subst (OfPort (λ p. AtEnd (λ q. q.party.system ≢ p.party.system) Two l j)) (there One) h)
-
-pub awake_at : (w : Side → Lacpdu) (a : Side) → activity (w a) ≡ true → (s : Side) → (activity (w s) ≡ true) ⊎ (activity (w (peer s)) ≡ true)
-awake_at w a h = grind (arith, nat_tests, each_side, peer_twice)
-
-pub active_at : (l : LinkState) (j : WorldState) (e : Ends l j) (a : Side) → AtEnd (λ p. p.active ≡ true) a l j
-    → activity (said_by l j e a) ≡ true
-active_at l j e a h = sym (own_says (e a).1.port).1
-    ∙ subst (OfPort (λ p. p.active ≡ true)) (machines_there (port_at a l) (half a j).state (e a).0 (e a).1 (e a).2 (e a).3) h
 
 -- the ends agree
 
-pub all_same : (d1 d2 f1 f2 s1 s2 g : Bool) → d1 ≡ true → d2 ≡ true → f1 ≡ false → f2 ≡ false → s1 ≡ true → s2 ≡ true → g ≡ true
+all_same : (d1 d2 f1 f2 s1 s2 g : Bool) → d1 ≡ true → d2 ≡ true → f1 ≡ false → f2 ≡ false → s1 ≡ true → s2 ≡ true → g ≡ true
     → first_agreement (not (d1 && d2)) (f1 || f2) (not (s1 && s2)) g ≡ Same
 all_same d1 d2 f1 f2 s1 s2 g a b c d e f h = rw (a, b, c, d, e, f, h) refl
 
-pub turned : (p q : Party) → same_group (group_of p q) (group_of q p) ≡ true
+turned : (p q : Party) → same_group (group_of p q) (group_of q p) ≡ true
 turned p q =
     let alone : individual p q ≡ individual q p = ap not (and_comm p.aggregatable q.aggregatable) in
     let same : group_of p q ≡ group_of q p = groups_from_pairs (pair_of p q) (pair_of q p)
     (inr (ap (λ b. group_end b p) alone, ap (λ b. group_end b q) alone)) in
     subst (λ g. same_group (group_of p q) g ≡ true) same (group-itself (group_of p q))
 
-module _ (at : Side → ℕ) (w : Side → Lacpdu)
+module _ (at : Side → ℕ) (w : Side → Lacpdu) (named : (t : Side) → IsNamed (w t))
     (awake : (s : Side) → (activity (w s) ≡ true) ⊎ (activity (w (peer s)) ≡ true)) where
+  pub climb_first : (j : WorldState) (g : FreshAt at w 1 j) (s : Side) → AtIt at w s (λ p. is_selected p.choice ≡ true) j
+      → AtIt at w s (Rising (20 - 0)) j
+  climb_first j g s chosen =
+      let e = end_here at w 1 g.known One Nothing j g.link s in
+      let steady = g.link.steady in
+      let st = (half s j).state in
+      let mux = (all-get (MuxIsSettled st.keys st.system_ports) st.system_ports e.index e.port e.there (steady s).0.quiet.0).mux in
+      let timed = all-get (λ (y : SystemPort). IsTimed y.port) st.system_ports e.index e.port e.there (steady s).1 in
+      at_end at w 1 g.known s j e steady (Rising 20) (rising_first e.port.port mux timed
+      (end_with at w 1 g.known s j e (λ p. is_selected p.choice ≡ true) chosen))
+
+  pub climb_on : (s : Side) (gives : Algorithms) (n : ℕ) (old new : WorldState) (g : FreshAt at w 1 old) → IsHostRound gives old new
+      → AtIt at w s (Rising (20 - n)) old → AtIt at w s (Rising (20 - (n + 1))) new
+  climb_on s gives n old new g h rising =
+      let l = knows_peer at w 1 0 0 old g (omega arith) s in
+      subst (λ t. AtIt at w s (Rising t) new) (omega arith)
+      (beside at w 1 (ticked g.known) s (Rising (20 - n - 1)) new
+      (host_holds gives s 1 at w g.known (Rising (20 - n)) (Rising (20 - n - 1)) old new
+      (fits_before at w named awake 1 old g (omega arith)) (fits_fresh at w named awake 1 old g (omega arith))
+      (rising_along (w s) (w (peer s)) (g.known s) 1 (20 - n) (omega arith) (omega (arith, l)))
+      (rising_along (w s) (w (peer s)) (ticked g.known s) 1 (20 - n - 1) (omega arith) (omega (arith, l)))
+      (λ p q r rest a y. ticks_rising 1 (w s) (w (peer s)) (g.known s) (20 - n) p q (omega (arith, l)) r a y)
+      (λ p y. y) (λ p y. y) (join 1 at w g.known One s (Rising (20 - n)) old g.link rising) h))
+
+  -- both climb
+  pub record Climbs (n : ℕ) (j : WorldState) : Type 0 where
+    pub fresh : FreshAt at w 1 j
+    pub rising : (s : Side) → AtIt at w s (Rising (20 - n)) j
+
+  pub climbs_first : (j : WorldState) → FreshAt at w 1 j → ((s : Side) → AtIt at w s (λ p. is_selected p.choice ≡ true) j) → Climbs 0 j
+  climbs_first j g chosen = record { fresh = g; rising = λ s. climb_first j g s (chosen s) }
+
+  pub climbs_on : (gives : Algorithms) (n : ℕ) (old new : WorldState) → IsHostRound gives old new → Climbs n old → Climbs (n + 1) new
+  climbs_on gives n old new h k = record {
+    fresh = stays_fresh at w named awake gives 1 old new (omega arith) h k.fresh;
+    rising = λ s. climb_on s gives n old new k.fresh h (k.rising s);
+  }
+
+  -- Then each end hears that the other is in sync, since it is told or is owed an LACPDU.
+
+  abbrev pub Tells : Side → ℕ → WorldState → Type 0
+  Tells s n j = ((k : ℕ) × (1 ≤ k) × (n + k ≤ 11) × AtIt at w s (Sounds (mode at w s) k) j) ⊎ AtIt at w (peer s) PartnerInSync j
+
+  pub record Agrees (n : ℕ) (j : WorldState) : Type 0 where
+    pub fresh : FreshAt at w 2 j
+    pub tells : (s : Side) → Tells s n j
+
+  -- an end that owes an LACPDU sounds as soon as its transmit window lets it
+  owed : (j : WorldState) (g : FreshAt at w 2 j) (s : Side) → AtIt at w s (Owes (w (peer s))) j → AtIt at w s (Sounds (mode at w s) 11) j
+  owed j g s owes =
+      let e = end_here at w 2 g.known One Nothing j g.link s in
+      let known = (e.is.1.1 (let l = knows_peer at w 2 0 0 j g (omega arith) s in omega (arith, l))).0 in
+      let timed = all-get (λ (y : SystemPort). IsTimed y.port) (half s j).state.system_ports e.index e.port e.there (g.link.steady s).1 in
+      at_end at w 2 g.known s j e g.link.steady (Sounds (mode at w s) 11) (
+        inl (end_with at w 2 g.known s j e (Owes (w (peer s))) owes (e.is.2 (omega arith), known.party)),
+        all_leave true e.port.port.ages timed.3,
+      )
+
+  agrees_first : (j : WorldState) → Climbs 20 j → ((s : Side) → AtIt at w s (Rising 0) j → AtIt at w s Synced j) → Agrees 0 j
+  agrees_first j c ready =
+      let g = c.fresh in
+      let synced : (s : Side) → OfEach (AtPort (at s) (λ p. 2 ≤ 2 → Synced p)) (half s j).state.system_ports =
+      λ s. each_map (AtPort (at s) Synced) (AtPort (at s) (λ p. 2 ≤ 2 → Synced p)) (λ m p a f l. a f) (half s j).state.system_ports
+      (ready s (subst (λ t. AtIt at w s (Rising t) j) (omega arith) (c.rising s))) in
+      let fresh : FreshAt at w 2 j = record {
+        known = g.known;
+        next = g.next;
+        link = emptied at w 1 2 g.known One Nothing j g.empty synced g.link;
+        fits = g.fits;
+        later = g.later;
+        longer = g.longer;
+        sounds = g.sounds;
+        empty = g.empty;
+        told = g.told;
+        present = g.present;
+      } in
+      record {
+        fresh = fresh;
+        tells = λ s. elim (g.told s (let l = knows_peer at w 1 0 0 j g (omega arith) (peer s) in omega (arith, l))) [
+          | inl owes ↦ inl (11, omega arith, omega arith, owed j fresh s owes)
+          | inr heard ↦ inr heard
+        ];
+      }
+
+  agrees_on : (gives : Algorithms) (n : ℕ) (old new : WorldState) → IsHostRound gives old new → Agrees n old → Agrees (n + 1) new
+  agrees_on gives n old new h c =
+      let g = c.fresh in
+      record {
+        fresh = stays_fresh at w named awake gives 2 old new (omega arith) h g;
+        tells = λ s. tells g (fits_before at w named awake 2 old g (omega arith)) (fits_fresh at w named awake 2 old g (omega arith)) s (c.tells s);
+      }
+    where
+      tells : (g : FreshAt at w 2 old) → Fits 2 w g.known → Fits 2 w (ticked g.known) → (s : Side) → Tells s n old → Tells s (n + 1) new
+      tells g fits then s (inl (m, some, soon, y)) = let can = able_fresh at w named awake 2 old g s in
+          elim (host_nears gives s 2 at w g.known (omega arith) fits then (mode at w s) m old new can.1 can.0
+          (join 2 at w g.known One s (Sounds (mode at w s) m) old g.link y) h) [
+            | inl q ↦ (let l = q.0 in
+                inl (m - 1, l, omega (arith, soon, l), beside at w 2 (ticked g.known) s (Sounds (mode at w s) (m - 1)) new q.1))
+            | inr q ↦ inr (each_map (AtPort (at (peer s)) (Learnt 2 (w (peer (peer s))) (wait_of (w (peer s)) - 1)))
+                (AtPort (at (peer s)) PartnerInSync) (λ i p a e. (a e).1 (omega arith)) (half (peer s) new).state.system_ports
+                (beside at w 2 (ticked g.known) (peer s) (Learnt 2 (w (peer (peer s))) (wait_of (w (peer s)) - 1)) new q))
+          ]
+      tells g fits then s (inr y) =
+          let t = peer s in
+          let l = knows_peer at w 2 0 0 old g (omega arith) t in
+          inr (beside at w 2 (ticked g.known) t PartnerInSync new
+          (host_holds gives t 2 at w g.known PartnerInSync PartnerInSync old new fits then
+          (partner_along (w t) (w (peer t)) (g.known t) 2 (omega arith) (awake_peer at w named awake t))
+          (partner_along (w t) (w (peer t)) (ticked g.known t) 2 (omega arith) (awake_peer at w named awake t))
+          (λ p q r rest a z. ticks_partner 2 (w t) (w (peer t)) (g.known t) p q (omega (arith, l)) r a z)
+          (λ p z. z) (λ p z. z) (join 2 at w g.known One t PartnerInSync old g.link y) h))
+
+  pub told_now : (n : ℕ) (j : WorldState) → 11 ≤ n → Agrees n j → (t : Side) → AtIt at w t PartnerInSync j
+  told_now n j l c t = subst (λ u. AtIt at w u PartnerInSync j) (peer_twice t) (elim (c.tells (peer t)) [
+    | inl (m, some, soon, y) ↦ absurd (omega (arith, l, some, soon))
+    | inr y ↦ y
+  ])
+
+  -- and so both distribute
+  up_now : (n : ℕ) (j : WorldState) → 11 ≤ n → Agrees n j → (s : Side) → OfPort Distributes (machines_of (at s) (half s j).state)
+  up_now n j l c s =
+      let g = c.fresh in
+      let e = end_here at w 2 g.known One Nothing j g.link s in
+      let st = (half s j).state in
+      let mux = (all-get (MuxIsSettled st.keys st.system_ports) st.system_ports e.index e.port e.there (g.link.steady s).0.quiet.0).mux in
+      let synced = e.is.2 (omega arith) in
+      let heard = end_with at w 2 g.known s j e PartnerInSync (told_now n j l c s) in
+      subst (OfPort Distributes) (sym e.found) (distributes_now e.port.port mux synced heard, synced.0)
+
+  abbrev pub Up : WorldState → Type 0
+  Up j = (n : ℕ) × (11 ≤ n) × Agrees n j
+
+  pub distributes : (j : WorldState) → Up j → (s : Side) → OfPort Distributes (machines_of (at s) (half s j).state)
+  distributes j up = up_now up.0 j up.1 up.2
+
+  -- from a round in which both ends are SELECTED, in 20 rounds to one in which both are synchronized, and on
+  pub comes_up : (gives : Algorithms) (n : ℕ) (start mid new : WorldState) → FreshAt at w 1 start
+      → ((s : Side) → AtIt at w s (λ p. is_selected p.choice ≡ true) start)
+      → ((s : Side) → AtIt at w s (Rising 0) mid → AtIt at w s Synced mid)
+      → 11 ≤ n → HostRounds gives 20 start mid → HostRounds gives n mid new → Up new
+  comes_up gives n start mid new g chosen ready enough h more =
+      let climbed = hosts_on gives Climbs start (climbs_first start g chosen) (climbs_on gives) 20 mid h in
+      (n, enough, hosts_on gives Agrees mid (agrees_first mid climbed ready) (agrees_on gives) n new more)
+
   -- what is compared of an end
   record Compared (s : Side) (j : WorldState) : Type 0 where
     distributes : (end_facts (half s j) (at s)).distributes ≡ true
@@ -264,14 +194,14 @@ module _ (at : Side → ℕ) (w : Side → Lacpdu)
     knows : others ≡ party_of (w (peer s)).actor
     group : (end_facts (half s j) (at s)).group ≡ Some (group_of own others)
 
-  compared : (j : WorldState) → ((s : Side) → is_some (history_at (half s j).histories (at s)) ≡ true) → Up at w awake j → (s : Side) → Compared s j
+  compared : (j : WorldState) → ((s : Side) → is_some (history_at (half s j).histories (at s)) ≡ true) → Up j → (s : Side) → Compared s j
   compared j kept up s =
       let c = up.2 in
       let g = c.fresh in
       let e = end_here at w 2 g.known One Nothing j g.link s in
       let st = (half s j).state in
       let mux = (all-get (MuxIsSettled st.keys st.system_ports) st.system_ports e.index e.port e.there (g.link.steady s).0.quiet.0).mux in
-      let heard = end_with at w 2 g.known s j e PartnerInSync (told at w awake up.0 j up.1 c s) in
+      let heard = end_with at w 2 g.known s j e PartnerInSync (told_now up.0 j up.1 c s) in
       let now = distributes_now e.port.port mux (e.is.2 (omega arith)) heard in
       let some : 1 ≤ g.known s = (let l = knows_peer at w 2 0 0 j g (omega arith) s in omega (arith, l)) in
       let known = (e.is.1.1 some).0 in
@@ -288,7 +218,7 @@ module _ (at : Side → ℕ) (w : Side → Lacpdu)
       }
 
   pub agrees_now : (i : ℕ) (j : WorldState) → ((x : ℕ) (fl : Side → List ItemValue) → OnCable x at fl j.links → x ≡ i)
-      → ((s : Side) → is_some (history_at (half s j).histories (at s)) ≡ true) → Up at w awake j → agreement_at j (suc i) ≡ Some Same
+      → ((s : Side) → is_some (history_at (half s j).histories (at s)) ≡ true) → Up j → agreement_at j (suc i) ≡ Some Same
   agrees_now i j only kept up =
       let a = compared j kept up One in
       let b = compared j kept up Two in
@@ -305,3 +235,24 @@ module _ (at : Side → ℕ) (w : Side → Lacpdu)
       (is_stamp (end_facts j.two (at Two)).count (end_facts j.one (at One)).taken)
       (same_groups (end_facts j.one (at One)).group (end_facts j.two (at Two)).group)
       a.distributes b.distributes a.present b.present b.taken a.taken groups)
+
+-- a port at an end of a cable has a history as before
+pub hosts_kept : (gives : Algorithms) (n i : ℕ) (at : Side → ℕ) (fl : Side → List ItemValue) (old new : WorldState)
+    → OnCable i at fl old.links → HostRounds gives n old new → (s : Side)
+    → is_some (history_at (half s new).histories (at s)) ≡ is_some (history_at (half s old).histories (at s))
+hosts_kept gives n i at fl old new c h s = (hosts_on gives (λ m j. Stamped 0 at k kept j) old (record {
+  flying = fl;
+  index = i;
+  links = c;
+  counts = λ t. refl;
+  there = λ t. refl;
+  items = λ l. absurd (omega (arith, l));
+}) (λ m i j q a. holds_on gives One (λ x y j. Stamped 0 at k kept j) (λ x y. stamped_between gives 0 at k kept)
+    (λ y. stamped_tick gives 0 at k kept One) (λ x. stamped_tick gives 0 at k kept Two) q.events q.replies i j true true
+    (of_side One q.events q.ticks) q.acts a) n new h).there s
+  where
+    k : Side → ℕ
+    k t = change_count_in (history_at (half t old).histories (at t))
+
+    kept : Side → Bool
+    kept t = is_some (history_at (half t old).histories (at t))

@@ -129,6 +129,9 @@ pub use Rattle.lagprogress.specs.Bundle.{ActiveEndsOfEachKnow, ActiveSelectedPai
 pub use Rattle.lagprogress.specs.Bundle.{EachActiveLinkAgrees, EachActiveLinkComesUp, EachLinkAgrees, EachLinkComesUp, EndsHealthyCable}
 pub use Rattle.lagprogress.specs.Bundle.{EndsOfEachKnow, EnoughAggregators, EnoughLinks, IsBundle, OneIsActive, ReachedIsApart, ReachedIsBundle}
 pub use Rattle.lagprogress.specs.Bundle.{SelectedPairsAgree, SelectedPairsComeUp, SystemsDiffer}
+pub use Rattle.lagprogress.specs.ByHosts.{ActiveSelectedPairsAgreeByHosts, ActiveSelectedPairsComeUpByHosts, CutOffIsDefaultedByHosts}
+pub use Rattle.lagprogress.specs.ByHosts.{EachActiveLimitedLinkAgreesByHosts, EachLimitedLinkAgreesByHosts, EachLinkAgreesBesideCutOffsByHosts}
+pub use Rattle.lagprogress.specs.ByHosts.{EachLinkComesUpBesideCutOffsByHosts, SelectedPairsAgreeByHosts, SelectedPairsComeUpByHosts}
 pub use Rattle.lagprogress.specs.ComingUp.{ActiveLinkComesUp, AreApart, Distributes, HasRoom, LinkComesUp}
 pub use Rattle.lagprogress.specs.CutOff.{CutOffIsDefaulted, EachLinkAgreesBesideCutOffs, EachLinkComesUpBesideCutOffs, IsBundleBesideCutOffs}
 pub use Rattle.lagprogress.specs.CutOff.{IsCutOff, NoneIsHeldBesideCutOffs}
@@ -141,6 +144,8 @@ pub use Rattle.lagprogress.specs.HostRounds.{EachActiveLinkAgreesByHosts, EachAc
 pub use Rattle.lagprogress.specs.HostRounds.{EndsKnowByHosts, HostRounds, IsBetweenTicks, IsHostRound, IsTickOf, LoopIsHostRound, RoundIsHostRound}
 pub use Rattle.lagprogress.specs.HostRounds.{RoundsAreHostRounds, TickOnce}
 pub use Rattle.lagprogress.specs.Knowing.{HasRecorded, IsKnown}
+pub use Rattle.lagprogress.specs.Limited.{CarriesOnAll, DownAreUnselected, EachActiveLimitedLinkAgrees, EachLimitedLinkAgrees}
+pub use Rattle.lagprogress.specs.Limited.{EachReachedHasDownUnselected, EndsAgreed, IsLimitedBundle, StandsByOthers}
 pub use Rattle.lagprogress.specs.Passing.{DeliverProcessesLacpdu, EmitSendsLacpdu, EndIsUp, IsHeardOn, IsSentOn}
 pub use Rattle.lagprogress.specs.Played.{Delivers, EachAgrees, EachDistributes, HasTooManyCables, IsOutOfMemoryOrSpent, IsReached, IsReady, LeadsTo}
 pub use Rattle.lagprogress.specs.Played.{NamesNoCable, NothingStaysHeld, PlaysPart, RefusesDelivery, RunsAll, RunsPart, found_nothing}

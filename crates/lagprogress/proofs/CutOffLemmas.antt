@@ -1,24 +1,30 @@
 -- A port that is cut off hears nothing, and is DEFAULTED in the end.
-use Rattle.lagprogress.proofs.Common.{Bool, List, None, Ok, Option, Result, Some, [], ap, arith, false, inl, inr, not, refl, slice_get, slice_set}
-use Rattle.lagprogress.proofs.Common.{subst, sym, true, ℕ, ◌+◌, ◌-◌, ◌==◌, ◌∙◌, ◌∷◌, ◌≡◌, ◌≤◌, ◌⊎◌, cases_Bool, nat_tests, none-some, same_Some, Side}
-use Rattle.lagprogress.proofs.Common.{peer, value_of, ReceiveState, Machines, receive_rows, RunsToRest, after_sending, count_down, is_due}
-use Rattle.lagprogress.proofs.Common.{SystemFault, Received, SystemPort, ParsesWhere, Performs, Receive, ReceivesAt, Step, Transmit, can_receive_in}
-use Rattle.lagprogress.proofs.Common.{none_enabled, TransmitsAt, TransmitsIf, SystemState, port_index, can_receive_at_rest, all-get, found_place}
-use Rattle.lagprogress.proofs.Common.{Reply, AfterTransmit, Algorithms, WorldSteps, side_of, HalfState, ItemValue, LinkState, WorldState, change_link}
-use Rattle.lagprogress.proofs.Common.{half, link_at, link_index, port_at, put_on_port, sent_on, towards, with_half, with_towards, set_elsewhere}
-use Rattle.lagprogress.proofs.Common.{set_here, position_there, CutOffIsDefaulted, IsCutOff, timeout_time, IsRound, Rounds, IsSteady, IsTimed}
-use Rattle.lagprogress.proofs.OneRound.{Unrolled, one_of_both, unroll}
-use Rattle.lagprogress.proofs.RoundEvents.{asked_half, came_half, round_on, ticks_each, ticks_first}
-use Rattle.lagprogress.proofs.Hearing.{Unheard, Within, begins, counts, is_defaulted, receives, rested, unheard_settles, when_up}
-use Rattle.lagprogress.proofs.EachRound.{EachAt, RoundKeeps, asks_each, delivers_each, own_keeps, own_ticks, rounds_steady}
+use Rattle.lagprogress.proofs.Common.{Bool, List, None, Ok, Option, Result, Some, [], ap, arith, false, if◌then◌else◌, inl, inr, not, refl, slice_get}
+use Rattle.lagprogress.proofs.Common.{slice_set, subst, sym, true, ℕ, ◌&&◌, ◌++◌, ◌+◌, ◌-◌, ◌==◌, ◌∙◌, ◌∷◌, ◌≡◌, ◌≤◌, ◌⊎◌, cases_Bool, nat_tests}
+use Rattle.lagprogress.proofs.Common.{none-some, same_Some, AllByRecursion, Lacpdu, One, Side, Two, peer, value_of, ReceiveState, Machines}
+use Rattle.lagprogress.proofs.Common.{receive_rows, RunsToRest, after_sending, count_down, is_due, SystemFault, Received, TookLacpdu, SystemPort}
+use Rattle.lagprogress.proofs.Common.{Carries, IsFrame, ParsesWhere, Performs, Receive, ReceivesAt, Step, Transmit, can_receive_in, none_enabled}
+use Rattle.lagprogress.proofs.Common.{TransmitsAt, TransmitsIf, CallPromise, SystemState, port_index, can_receive_at_rest, all-get, found_place}
+use Rattle.lagprogress.proofs.Common.{Event, Reply, AfterTransmit, Algorithms, WorldSteps, side_of, HalfState, ItemValue, LinkState, WorldState}
+use Rattle.lagprogress.proofs.Common.{accepts, change_link, half, link_at, link_index, port_at, put_on_port, sent_on, towards, with_half}
+use Rattle.lagprogress.proofs.Common.{with_towards, set_elsewhere, set_here, position_there, CutOffIsDefaultedByHosts, IsCutOff, timeout_time}
+use Rattle.lagprogress.proofs.Common.{HostRounds, IsHostRound, IsSteady, IsTimed}
+use Rattle.lagprogress.proofs.OneRound.{one_of_both}
+use Rattle.lagprogress.proofs.RoundEvents.{asked_half, came_half}
+use Rattle.lagprogress.proofs.Hearing.{no, Unheard, Within, begins, counts, is_defaulted, receives, rested, unheard_settles, when_up}
+use Rattle.lagprogress.proofs.EachRound.{EachAt, RoundKeeps, asks_each, delivers_each, own_keeps, own_ticks, hosts_on, hosts_split, hosts_steady}
+use Rattle.lagprogress.proofs.EachRound.{tick_keeps, tick_leaves, tick_makes}
+use Rattle.lagprogress.proofs.EachPort.{KeptBySettling, OfEach, Step-each, asked_each}
+use Rattle.lagprogress.proofs.OneCable.{Comes, Sends, came_off, ticks}
+use Rattle.lagprogress.proofs.OnePort.{AtPort, same_place}
+use Rattle.lagprogress.proofs.HostRound.{KeptBetween, MadeByTick, holds_on, of_side}
+use Rattle.lagprogress.proofs.Quieting.{Quietly, quiet_ports, quietly, IsQuiet}
+use Rattle.lagprogress.proofs.Linked.{peer_twice}
 use Rattle.lagsystem.specs.declared.drive.Reply.TheVariants as answer
 use Rattle.lagsystem.specs.declared.received.Received.TheVariants as received
 use Rattle.lagscript.specs.declared.event.Event.TheVariants as event
-use Rattle.lagprogress.proofs.Bundling.{Alike, all_by_place, as_before, rounds_alike}
-use Rattle.lagprogress.proofs.ComingUp.{splits, zero_on}
-use Rattle.lagprogress.proofs.EachPort.{KeptBySettling, OfEach, Step-each, asked_each}
-use Rattle.lagprogress.proofs.OneCable.{Comes, Sends, came_off}
-use Rattle.lagprogress.proofs.OnePort.{AtPort, same_place}
+use Rattle.slowpdu.specs.declared.pdu.Pdu.TheVariants as pdu
+use Rattle.lagprogress.proofs.Lasting.{Alike, all_by_place, as_before, rounds_alike}
 
 -- a port that is down says nothing
 
@@ -54,24 +60,53 @@ answers_none n (Some i) octets old frame new e h a =
     differ : received.Respond frame ≡ received.Disabled → ⊥
     differ f = cc
 
--- each cable of the port is cut or ends at such a port, and nothing is on it towards the port if b is not 0
+-- the item bears no LACPDU
+abbrev BearsNone : ItemValue → Type 0
+BearsNone item = (x : Lacpdu) → IsFrame item.octets (Carries (pdu.Lacpdu x)) → ⊥
+
+abbrev Plain : List ItemValue → Type 0
+Plain = AllByRecursion BearsNone
+
+-- each cable of the port is cut or ends at such a port, and nothing on it towards the port bears an LACPDU, if b is not 0
 abbrev pub CutAt : ℕ → Side → ℕ → (ℕ → Type 0) → List LinkState → Type 0
 CutAt b s p M links = (i : ℕ) (l : LinkState) → slice_get links i ≡ Some l → port_at s l ≡ p
-    → ((l.whole ≡ false) ⊎ M (port_at (peer s) l)) × (1 ≤ b → towards s l ≡ [])
+    → ((l.whole ≡ false) ⊎ M (port_at (peer s) l)) × (1 ≤ b → Plain (towards s l))
 
 set_cut : (b : ℕ) (s : Side) (p k : ℕ) (M : ℕ → Type 0) (m new : LinkState) (links : List LinkState) → slice_get links k ≡ Some m
-    → (port_at s new ≡ p → ((new.whole ≡ false) ⊎ M (port_at (peer s) new)) × (1 ≤ b → towards s new ≡ [])) → CutAt b s p M links
+    → (port_at s new ≡ p → ((new.whole ≡ false) ⊎ M (port_at (peer s) new)) × (1 ≤ b → Plain (towards s new))) → CutAt b s p M links
     → CutAt b s p M (slice_set links k new)
 set_cut b s p k M m new links there is cut i l h e = elim (cases_Bool (i == k)) [
   | inl t ↦ (let same : i ≡ k = grind (arith, nat_tests) in
       let one : l ≡ new = same_Some l new (sym h ∙ (ap (slice_get (slice_set links k new)) same ∙ set_here links k new m there)) in
-      subst (λ x. ((x.whole ≡ false) ⊎ M (port_at (peer s) x)) × (1 ≤ b → towards s x ≡ [])) (sym one) (is (sym (ap (port_at s) one) ∙ e)))
+      subst (λ x. ((x.whole ≡ false) ⊎ M (port_at (peer s) x)) × (1 ≤ b → Plain (towards s x))) (sym one) (is (sym (ap (port_at s) one) ∙ e)))
   | inr f ↦ (let other : i ≡ k → ⊥ = grind (arith, nat_tests) in cut i l (sym (set_elsewhere links k i new other) ∙ h) e)
 ]
 
 -- a cable that is cut accepts nothing
-sent_cut : (s u : Side) (item : ItemValue) (m : LinkState) → (u ≡ peer s → m.whole ≡ false) → towards s m ≡ [] → towards s (sent_on u item m) ≡ []
-sent_cut s u item m cut none = grind (arith, nat_tests)
+
+lost : (w x : Bool) (xs ys : List ItemValue) → w ≡ false → (if w && x then ys else xs) ≡ xs
+lost true x xs ys e = absurd (no (sym e))
+lost false x xs ys e = refl
+
+sent_cut : (s u : Side) (item : ItemValue) (m : LinkState) → (u ≡ peer s → m.whole ≡ false) → towards s (sent_on u item m) ≡ towards s m
+sent_cut One One item m cut = refl
+sent_cut One Two item m cut = lost m.whole _ (towards One m) (towards One m ++ item ∷ []) (cut refl)
+sent_cut Two One item m cut = lost m.whole _ (towards Two m) (towards Two m ++ item ∷ []) (cut refl)
+sent_cut Two Two item m cut = refl
+
+plain_last : (xs : List ItemValue) (item : ItemValue) → BearsNone item → Plain xs → Plain (xs ++ item ∷ [])
+plain_last [] item none a = (none, tt)
+plain_last (x ∷ xs) item none a = (a.0, plain_last xs item none a.1)
+
+plain_if : (b : Bool) (xs : List ItemValue) (item : ItemValue) → BearsNone item → Plain xs → Plain (if b then xs ++ item ∷ [] else xs)
+plain_if true xs item none a = plain_last xs item none a
+plain_if false xs item none a = a
+
+sent_plain : (s u : Side) (item : ItemValue) (m : LinkState) → BearsNone item → Plain (towards s m) → Plain (towards s (sent_on u item m))
+sent_plain One One item m none a = a
+sent_plain One Two item m none a = plain_if (accepts Two m) (towards One m) item none a
+sent_plain Two One item m none a = plain_if (accepts One m) (towards Two m) item none a
+sent_plain Two Two item m none a = a
 
 ends_stay : (M : ℕ → Type 0) (s u : Side) (item : ItemValue) (m : LinkState) → (m.whole ≡ false) ⊎ M (port_at (peer s) m)
     → ((sent_on u item m).whole ≡ false) ⊎ M (port_at (peer s) (sent_on u item m))
@@ -80,27 +115,34 @@ ends_stay M s u item m h = grind (arith, nat_tests)
 joins_stay : (s u : Side) (item : ItemValue) (m : LinkState) → port_at s (sent_on u item m) ≡ port_at s m
 joins_stay s u item m = grind (arith, nat_tests)
 
+put_fine : (b : ℕ) (s u : Side) (p q : ℕ) (M : ℕ → Type 0) (item : ItemValue) (links : List LinkState)
+    → ((k : ℕ) (m : LinkState) → link_index u q links ≡ Some k → slice_get links k ≡ Some m → (m.whole ≡ false) ⊎ M (port_at (peer s) m)
+    → Plain (towards s m) → Plain (towards s (sent_on u item m)))
+    → CutAt b s p M links → CutAt b s p M (put_on_port u q item links)
+put_fine b s u p q M item links fine cut = by_index (link_index u q links) refl
+  where
+    by_link : (k : ℕ) (o : Option LinkState) → link_index u q links ≡ Some k → slice_get links k ≡ o
+        → CutAt b s p M (change_link (Some k) (sent_on u item) o links)
+    by_link k None e h = cut
+    by_link k (Some m) e h = set_cut b s p k M m (sent_on u item m) links h (λ f. (let c = cut k m h (sym (joins_stay s u item m) ∙ f) in (
+      ends_stay M s u item m c.0,
+      λ l. fine k m e h c.0 (c.1 l),
+    ))) cut
+
+    by_index : (o : Option ℕ) → link_index u q links ≡ o → CutAt b s p M (change_link o (sent_on u item) (link_at o links) links)
+    by_index None e = cut
+    by_index (Some k) e = by_link k (slice_get links k) e refl
+
 put_cut : (b : ℕ) (s u : Side) (p q : ℕ) (M : ℕ → Type 0) (item : ItemValue) (links : List LinkState) → (u ≡ peer s → M q → ⊥)
     → CutAt b s p M links → CutAt b s p M (put_on_port u q item links)
-put_cut b s u p q M item links not cut = by_index (link_index u q links) refl
+put_cut b s u p q M item links not cut =
+    put_fine b s u p q M item links (λ k m e h c a. subst Plain (sym (sent_cut s u item m (whole k m e h c))) a) cut
   where
     whole : (k : ℕ) (m : LinkState) → link_index u q links ≡ Some k → slice_get links k ≡ Some m
         → (m.whole ≡ false) ⊎ M (port_at (peer s) m) → u ≡ peer s → m.whole ≡ false
     whole k m e h (inl w) f = w
     whole k m e h (inr far) f =
         absurd (not f (subst M (ap (λ (t : Side). port_at t m) (sym f) ∙ position_there u q links k m e h) far))
-
-    by_link : (k : ℕ) (o : Option LinkState) → link_index u q links ≡ Some k → slice_get links k ≡ o
-        → CutAt b s p M (change_link (Some k) (sent_on u item) o links)
-    by_link k None e h = cut
-    by_link k (Some m) e h = set_cut b s p k M m (sent_on u item m) links h (λ f. (let c = cut k m h (sym (joins_stay s u item m) ∙ f) in (
-      ends_stay M s u item m c.0,
-      λ l. sent_cut s u item m (whole k m e h c.0) (c.1 l),
-    ))) cut
-
-    by_index : (o : Option ℕ) → link_index u q links ≡ o → CutAt b s p M (change_link o (sent_on u item) (link_at o links) links)
-    by_index None e = cut
-    by_index (Some k) e = by_link k (slice_get links k) e refl
 
 -- what each event leaves of it
 
@@ -136,12 +178,21 @@ sends_cut b s v p q M (Ok (received.Respond frame)) old new not h cut =
     subst (CutAt b s p M) (sym h) (put_cut b s v p q M _ old (not frame refl) cut)
 sends_cut b s v p q M a old new not h cut = subst (CutAt b s p M) (sym h) cut
 
-none_first : (xs rest : List ItemValue) (item : ItemValue) → xs ≡ [] → xs ≡ item ∷ rest → ⊥
-none_first xs rest item e f = let x : [] ≡ item ∷ rest = sym e ∙ f in cc
+same_taken : (s : Side) (rest : List ItemValue) (m : LinkState) → towards s (with_towards s rest m) ≡ rest
+same_taken One rest m = refl
+same_taken Two rest m = refl
 
-taken_cut : (b : ℕ) (s v : Side) (p : ℕ) (m : LinkState) (rest : List ItemValue) (item : ItemValue) → towards v m ≡ item ∷ rest
-    → (1 ≤ b → towards s m ≡ []) → (v ≡ s) ⊎ (v ≡ peer s) → 1 ≤ b → towards s (with_towards v rest m) ≡ []
-taken_cut b s v p m rest item first none h l = grind (arith, nat_tests)
+other_taken : (s : Side) (rest : List ItemValue) (m : LinkState) → towards s (with_towards (peer s) rest m) ≡ towards s m
+other_taken One rest m = refl
+other_taken Two rest m = refl
+
+taken_cut : (b : ℕ) (s v : Side) (m : LinkState) (rest : List ItemValue) (item : ItemValue) → towards v m ≡ item ∷ rest
+    → (1 ≤ b → Plain (towards s m)) → (v ≡ s) ⊎ (v ≡ peer s) → 1 ≤ b → Plain (towards s (with_towards v rest m))
+taken_cut b s v m rest item first none (inl same) l =
+    let xs : towards s m ≡ item ∷ rest = sym (ap (λ (t : Side). towards t m) same) ∙ first in
+    subst Plain (sym (subst (λ t. towards s (with_towards t rest m) ≡ rest) (sym same) (same_taken s rest m))) (subst Plain xs (none l)).1
+taken_cut b s v m rest item first none (inr other) l =
+    subst Plain (sym (subst (λ t. towards s (with_towards t rest m) ≡ towards s m) (sym other) (other_taken s rest m))) (none l)
 
 ends_left : (M : ℕ → Type 0) (s v : Side) (rest : List ItemValue) (m : LinkState) → (m.whole ≡ false) ⊎ M (port_at (peer s) m)
     → ((with_towards v rest m).whole ≡ false) ⊎ M (port_at (peer s) (with_towards v rest m))
@@ -163,7 +214,7 @@ comes_cut gives b s v p k M m old new there c down cut =
     (subst (λ t. DownAt t (port_at v m) old) (sym same) (down (port_at v m) dead))) c.sends
     (set_cut b s p k M m (with_towards v c.rest m) old.links there (λ f. (let was = cut k m there (sym (joins_left s v c.rest m) ∙ f) in (
       ends_left M s v c.rest m was.0,
-      taken_cut b s v p m c.rest c.item c.first was.1 (one_of_both s v),
+      taken_cut b s v m c.rest c.item c.first was.1 (one_of_both s v),
     ))) cut)
 
 deliver_cut : (gives : Algorithms) (b : ℕ) (s : Side) (p : ℕ) (M : ℕ → Type 0) (cn n : ℕ) (r : Reply) (old new : WorldState)
@@ -191,61 +242,129 @@ deliver_severed gives b s p M cn n r old new h a = (
   λ m dead. delivers_each (AtPort m Dead) (dead_keeps m) (peer s) gives cn n r old new h (a.1 m dead),
 )
 
-ticks_severed : (gives : Algorithms) (b : ℕ) (s : Side) (p : ℕ) (M : ℕ → Type 0) (old new : WorldState) (u : Unrolled gives old new)
-    → Severed b s p M old → Severed b s p M u.two
-ticks_severed gives b s p M old new u a = (
-  subst (CutAt b s p M) (sym (ticks_first gives old new u).links) a.0,
-  λ m dead. ticks_each (AtPort m Dead) (AtPort m Dead) (dead_keeps m).settles (own_ticks (λ party up. up ≡ false) m) (peer s) gives old new u
+quiet_severed : (gives : Algorithms) (b : ℕ) (s : Side) (p : ℕ) (M : ℕ → Type 0) (e : Event) (r : Reply) (old new : WorldState) → IsQuiet e
+    → WorldSteps gives old e r new → Severed b s p M old → Severed b s p M new
+quiet_severed gives b s p M e r old new q h a = (
+  elim k.1.links [
+    | inl same ↦ subst (CutAt b s p M) (sym same) a.0
+    | inr m ↦ subst (CutAt b s p M) (sym m.sent) (put_fine b s k.0 p m.port M m.item old.links
+        (λ i l f g c y. sent_plain s k.0 m.item l m.plain y) a.0)
+  ],
+  λ m dead. subst (OfEach (AtPort m Dead)) (sym (k.1.same (peer s))) (a.1 m dead),
+)
+  where
+    k : (t : Side) × Quietly t old new
+    k = quietly gives e r old new q h
+
+severed_between : (gives : Algorithms) (b : ℕ) (s : Side) (p : ℕ) (M : ℕ → Type 0) → KeptBetween gives (Severed b s p M)
+severed_between gives b s p M (event.Emit n q) r i j x h a = emit_severed gives b s p M n q r i j h a
+severed_between gives b s p M (event.Deliver cn n) r i j x h a = deliver_severed gives b s p M cn n r i j h a
+severed_between gives b s p M (event.Offer n agg octets) r i j x h a = quiet_severed gives b s p M (event.Offer n agg octets) r i j tt h a
+severed_between gives b s p M (event.Move n agg conv q) r i j x h a = quiet_severed gives b s p M (event.Move n agg conv q) r i j tt h a
+severed_between gives b s p M e r i j x h a = absurd x
+
+severed_tick : (gives : Algorithms) (b : ℕ) (s : Side) (p : ℕ) (M : ℕ → Type 0) (t : Side)
+    → MadeByTick gives t (Severed b s p M) (Severed b s p M)
+severed_tick gives b s p M t n r i j named step a = (
+  subst (CutAt b s p M) (sym (ticks gives n t r i j named step).links) a.0,
+  λ m dead. tick_keeps (AtPort m Dead) (dead_keeps m).settles (own_ticks (λ party up. up ≡ false) m) (peer s) t gives n r i j named step
       (a.1 m dead),
 )
 
-leaves_cut : (gives : Algorithms) (b : ℕ) (s : Side) (p : ℕ) (M : ℕ → Type 0) (old new : WorldState) → IsRound gives old new
+leaves_cut : (gives : Algorithms) (b : ℕ) (s : Side) (p : ℕ) (M : ℕ → Type 0) (old new : WorldState) → IsHostRound gives old new
     → Severed b s p M old → Severed b s p M new
-leaves_cut gives b s p M old new h a =
-    let u = unroll gives old new h in
-    round_on gives (Severed b s p M) (emit_severed gives b s p M) (deliver_severed gives b s p M) old new u (ticks_severed gives b s p M old new u a)
+leaves_cut gives b s p M old new h a = holds_on gives One (λ x y. Severed b s p M) (λ x y. severed_between gives b s p M)
+    (λ y. severed_tick gives b s p M One) (λ x. severed_tick gives b s p M Two) h.events h.replies old new true true (of_side One h.events h.ticks)
+    h.acts a
 
 -- the port hears nothing: what settling and sending keep of it, a round keeps
 
-module _ (p : ℕ) (M : ℕ → Type 0) (Q : Machines → Type 0) (settles : KeptBySettling (AtPort p Q)) (sends : (q : Machines) → Q q → Q (after_sending q)) where
-  abbrev Silent : Side → WorldState → Type 0
-  Silent s j = EachAt (AtPort p Q) s j × Severed 1 s p M j
+pub record KeptUnheard (p : ℕ) (Q : Machines → Type 0) : Type 0 where
+  pub settles : KeptBySettling (AtPort p Q)
+  pub sends : (q : Machines) → Q q → Q (after_sending q)
 
-  asked : (gives : Algorithms) (s : Side) (n q : ℕ) (r : Reply) (old new : WorldState) → WorldSteps gives old (event.Emit n q) r new
-      → Silent s old → Silent s new
-  asked gives s n q r old new h a = (
+abbrev Silent : ℕ → (ℕ → Type 0) → (Machines → Type 0) → Side → WorldState → Type 0
+Silent p M Q s j = EachAt (AtPort p Q) s j × Severed 1 s p M j
+
+module _ (p : ℕ) (M : ℕ → Type 0) (Q : Machines → Type 0) (keeps : KeptUnheard p Q) (gives : Algorithms) (s : Side) where
+  asked : (n q : ℕ) (r : Reply) (old new : WorldState) → WorldSteps gives old (event.Emit n q) r new → Silent p M Q s old → Silent p M Q s new
+  asked n q r old new h a = (
     elim (asked_half gives n q r old new h s) [
       | inl same ↦ subst (λ (z : SystemState). OfEach (AtPort p Q) z.system_ports) (sym same) a.0
-      | inr (b, step) ↦ asked_each (AtPort p Q) (λ m x c e. sends x (c e)) (gives s) q b (half s old).state (half s new).state step a.0
+      | inr (b, step) ↦ asked_each (AtPort p Q) (λ m x c e. keeps.sends x (c e)) (gives s) q b (half s old).state (half s new).state step a.0
     ],
     emit_severed gives 1 s p M n q r old new h a.1,
   )
 
-  delivered : (gives : Algorithms) (s : Side) (cn n : ℕ) (r : Reply) (old new : WorldState)
-      → WorldSteps gives old (event.Deliver cn n) r new → Silent s old → Silent s new
-  delivered gives s cn n r old new h a = (
+  -- what comes bears no LACPDU
+  takes_none : (l : LinkState) (k : ℕ) (old new : WorldState) → slice_get old.links k ≡ Some l → port_at s l ≡ p → (c : Comes gives s k l old new)
+      → answer.Receive c.a ≡ answer.Receive (Ok TookLacpdu) → Severed 1 s p M old → ⊥
+  takes_none l k old new there e c took a =
+      let lacpdu = (subst (λ x. CallPromise (gives s) (half s old).state (Receive (port_at s l) c.item.octets) x (half s new).state) took c.promise).moves.3 in
+      (subst Plain c.first ((a.0 k l there e).1 (omega arith))).0 lacpdu.0 lacpdu.1
+
+  delivered : (cn n : ℕ) (r : Reply) (old new : WorldState) → WorldSteps gives old (event.Deliver cn n) r new → Silent p M Q s old
+      → Silent p M Q s new
+  delivered cn n r old new h a = (
     elim (came_half gives cn n r old new h s) [
       | inl same ↦ subst (λ (z : SystemState). OfEach (AtPort p Q) z.system_ports) (sym same) a.0
-      | inr (k, l, there, c) ↦ Step-each (AtPort p Q) settles (gives s) (half s old).state (Receive (port_at s l) c.item.octets)
-          (answer.Receive c.a) (half s new).state
-          (λ v x y took does d e. absurd (none_first (towards s l) c.rest c.item ((a.1.0 k l there e).1 (omega arith)) c.first)) c.promise.step a.0
+      | inr (k, l, there, c) ↦ Step-each (AtPort p Q) keeps.settles (gives s) (half s old).state (Receive (port_at s l) c.item.octets)
+          (answer.Receive c.a) (half s new).state (λ v x y took does d e. absurd (takes_none l k old new there e c took a.1)) c.promise.step a.0
     ],
     deliver_severed gives 1 s p M cn n r old new h a.1,
   )
 
-  -- where its ticks make Q of P
-  pub cut_round : (P : Machines → Type 0) → ((x y : Machines) → RunsToRest receive_rows (count_down x) y → P x → Q y)
-      → (gives : Algorithms) (s : Side) (old new : WorldState) → IsRound gives old new → EachAt (AtPort p P) s old × Severed 1 s p M old
-      → EachAt (AtPort p Q) s new × Severed 1 s p M new
-  cut_round P counted gives s old new h a =
-      let u = unroll gives old new h in
-      round_on gives (Silent s) (asked gives s) (delivered gives s) old new u (
-        ticks_each (AtPort p P) (AtPort p Q) settles (λ m x y run c e. counted x y run (c e)) s gives old new u a.0,
-        ticks_severed gives 1 s p M old new u a.1,
-      )
+  quiet : (e : Event) (r : Reply) (old new : WorldState) → IsQuiet e → WorldSteps gives old e r new → Silent p M Q s old → Silent p M Q s new
+  quiet e r old new q h a = (
+    subst (OfEach (AtPort p Q)) (sym (quiet_ports gives e r old new q h s)) a.0,
+    quiet_severed gives 1 s p M e r old new q h a.1,
+  )
+
+  silent_between : KeptBetween gives (Silent p M Q s)
+  silent_between (event.Emit n q) r i j x h a = asked n q r i j h a
+  silent_between (event.Deliver cn n) r i j x h a = delivered cn n r i j h a
+  silent_between (event.Offer n agg octets) r i j x h a = quiet (event.Offer n agg octets) r i j tt h a
+  silent_between (event.Move n agg conv q) r i j x h a = quiet (event.Move n agg conv q) r i j tt h a
+  silent_between e r i j x h a = absurd x
+
+-- P before the tick of the system, Q after it
+abbrev NowSilent : ℕ → (ℕ → Type 0) → (P Q : Machines → Type 0) → Side → Bool → WorldState → Type 0
+NowSilent p M P Q s true = Silent p M P s
+NowSilent p M P Q s false = Silent p M Q s
+
+-- where its tick makes Q of P
+pub cut_round : (p : ℕ) (M : ℕ → Type 0) (P Q : Machines → Type 0) → KeptUnheard p P → KeptUnheard p Q
+    → ((x y : Machines) → RunsToRest receive_rows (count_down x) y → P x → Q y) → (gives : Algorithms) (s : Side) (old new : WorldState)
+    → IsHostRound gives old new → EachAt (AtPort p P) s old × Severed 1 s p M old → EachAt (AtPort p Q) s new × Severed 1 s p M new
+cut_round p M P Q kp kq counted gives s old new h a =
+    holds_on gives s (λ x y. NowSilent p M P Q s x) kept own other h.events h.replies old new true true (of_side s h.events h.ticks) h.acts a
+  where
+    kept : (x y : Bool) → KeptBetween gives (NowSilent p M P Q s x)
+    kept true y = silent_between p M P kp gives s
+    kept false y = silent_between p M Q kq gives s
+
+    own : (y : Bool) → MadeByTick gives s (Silent p M P s) (Silent p M Q s)
+    own y n r i j named step b = (
+      tick_makes (AtPort p P) (AtPort p Q) kq.settles (λ m x z run c e. counted x z run (c e)) s gives n r i j named step b.0,
+      severed_tick gives 1 s p M s n r i j named step b.1,
+    )
+
+    same : (R : Machines → Type 0) → MadeByTick gives (peer s) (Silent p M R s) (Silent p M R s)
+    same R n r i j named step b = (
+      subst (λ u. EachAt (AtPort p R) u j) (peer_twice s) (tick_leaves (AtPort p R) (peer s) gives n r i j named step
+          (subst (λ u. EachAt (AtPort p R) u i) (sym (peer_twice s)) b.0)),
+      severed_tick gives 1 s p M (peer s) n r i j named step b.1,
+    )
+
+    other : (x : Bool) → MadeByTick gives (peer s) (NowSilent p M P Q s x) (NowSilent p M P Q s x)
+    other true = same P
+    other false = same Q
 
 abbrev Deaf : ℕ → ℕ → ℕ → Machines → Type 0
 Deaf p most = AtPort p (Unheard 1 most)
+
+deaf_keeps : (p most : ℕ) → KeptUnheard p (Unheard 1 most)
+deaf_keeps p most = record { settles = unheard_settles p most 0; sends = λ q y. y }
 
 deaf_ticks : (most : ℕ) (x y : Machines) → RunsToRest receive_rows (count_down x) y → Unheard 1 most x → Unheard 1 (most - 1) y
 deaf_ticks most x y h a =
@@ -280,16 +399,16 @@ WereDown s old n = DownAt s n old
 -- after its first round nothing is on its cables towards it, and the port counts
 deaf_since : (gives : Algorithms) (n k : ℕ) (s : Side) (x : SystemPort) (old new : WorldState) → IsSteady old
     → slice_get (half s old).state.system_ports k ≡ Some x → x.port.enabled ≡ true → IsCutOff s x.number old
-    → 931 ≤ n → Rounds gives n old new
+    → 931 ≤ n → HostRounds gives n old new
     → EachAt (Deaf x.number (930 - (n - 1))) s new × Severed 1 s x.number (WereDown (peer s) old) new
 deaf_since gives n k s x old new steady there up cut enough h =
     let p = x.number in
     let M : ℕ → Type 0 = WereDown (peer s) old in
-    let parts = splits gives (n - 1) 1 n old new (omega (arith, enough)) h in
+    let parts = hosts_split gives (n - 1) 1 n old new (omega (arith, enough)) h in
     let mid = parts.0 in
     let one = parts.1 in
-    let calm = rounds_steady gives 1 old mid steady one in
-    let round = subst (λ j. IsRound gives j mid) one.1 one.2 in
+    let calm = hosts_steady gives 1 old mid steady one in
+    let round = subst (λ j. IsHostRound gives j mid) one.1 one.2 in
     let start : Severed 0 s p M old = (
       λ i l e f. (
         elim (cut i l e f) [
@@ -302,24 +421,24 @@ deaf_since gives n k s x old new steady there up cut enough h =
       λ m dead. dead,
     ) in
     let still = leaves_cut gives 0 s p M old mid round start in
-    let empty : Severed 1 s p M mid = (λ i l e f. ((still.0 i l e f).0, λ z. one.2.empties s i l e), still.1) in
+    let empty : Severed 1 s p M mid = (λ i l e f. ((still.0 i l e f).0, λ z. subst Plain (sym (one.2.empties s i l e)) tt), still.1) in
     let alike = rounds_alike gives 1 old mid steady one s k x there in
     let first : EachAt (Deaf p 930) s mid = all_by_place (λ z. Deaf p 930 z.number z.port) (half s mid).state.system_ports
     (λ i z e f. deaf_first s mid i z calm e ((all-get (λ (q : SystemPort). AtPort p (Alike x.port) q.number q.port)
     (half s mid).state.system_ports i z e alike f).1 ∙ up)) in
-    zero_on gives (λ m j. EachAt (Deaf p (930 - m)) s j × Severed 1 s p M j) mid
+    hosts_on gives (λ m j. EachAt (Deaf p (930 - m)) s j × Severed 1 s p M j) mid
     (subst (λ m. EachAt (Deaf p m) s mid) (omega arith) first, empty)
     (λ m i j q a. subst (λ w. EachAt (Deaf p w) s j × Severed 1 s p M j) (omega arith)
-    (cut_round p M (Unheard 1 (930 - m - 1)) (unheard_settles p (930 - m - 1) 0) (λ q y. y) (Unheard 1 (930 - m))
-    (λ x y run y0. deaf_ticks (930 - m) x y run y0) gives s i j q a)) (n - 1) new parts.2
+    (cut_round p M (Unheard 1 (930 - m)) (Unheard 1 (930 - m - 1)) (deaf_keeps p (930 - m)) (deaf_keeps p (930 - m - 1))
+    (λ x y run z. deaf_ticks (930 - m) x y run z) gives s i j q a)) (n - 1) new parts.2
 
 pub cut_since : (gives : Algorithms) (n k : ℕ) (s : Side) (x : SystemPort) (old new : WorldState) → IsSteady old
     → slice_get (half s old).state.system_ports k ≡ Some x → x.port.enabled ≡ true → IsCutOff s x.number old
-    → 931 ≤ n → Rounds gives n old new → Severed 1 s x.number (WereDown (peer s) old) new
+    → 931 ≤ n → HostRounds gives n old new → Severed 1 s x.number (WereDown (peer s) old) new
 cut_since gives n k s x old new steady there up cut enough h = (deaf_since gives n k s x old new steady there up cut enough h).1
 
-pub cut_off_is_defaulted : (gives : Algorithms) → CutOffIsDefaulted gives
-cut_off_is_defaulted gives n k s x y old new steady there up cut enough h now =
+pub cut_off_is_defaulted_by_hosts : (gives : Algorithms) → CutOffIsDefaultedByHosts gives
+cut_off_is_defaulted_by_hosts gives n k s x y old new steady there up cut enough h now =
     let p = x.number in
     let last = deaf_since gives n k s x old new steady there up cut enough h in
     let numbers = (as_before gives n old new steady h s).numbers in

@@ -1,18 +1,22 @@
 -- What healthy rounds keep of each port of a system, and of the cables.
-use Rattle.lagprogress.proofs.Common.{Bool, List, Some, ap, arith, inl, inr, map, refl, slice_get, subst, suc, sym, ℕ, ◌++◌, ◌∙◌, ◌≡◌, Party, Lacpdu}
-use Rattle.lagprogress.proofs.Common.{One, Side, end_at, Machines, receive_rows, RunsToRest, after_sending, count_down, ProcessesLacpdu, Receive}
-use Rattle.lagprogress.proofs.Common.{SystemState, Reply, Algorithms, WorldSteps, link_ends, ItemValue, LinkState, WorldState, half, port_at, end_is}
-use Rattle.lagprogress.proofs.Common.{IsRound, Rounds, asks_all, ticks_of_both, IsSteady}
-use Rattle.lagsystem.specs.declared.drive.Reply.TheVariants as answer
-use Rattle.lagscript.specs.declared.event.Event.TheVariants as event
-use Rattle.lagprogress.proofs.ComingUp.{zero_on}
-use Rattle.lagprogress.proofs.EachPort.{KeptBySettling, OfEach, Step-each, asked_each}
-use Rattle.lagprogress.proofs.OneCable.{OnCable, cable, deliver_ends, emits}
+use Rattle.lagprogress.proofs.Common.{Bool, List, Some, ap, arith, false, inl, inr, map, refl, slice_get, subst, suc, sym, true, zero, ℕ, ◌+◌, ◌∙◌}
+use Rattle.lagprogress.proofs.Common.{◌≡◌, nat_tests, Party, Lacpdu, One, Side, Two, end_at, peer, Machines, receive_rows, RunsToRest, after_sending}
+use Rattle.lagprogress.proofs.Common.{count_down, Table, SystemPort, ProcessesLacpdu, Receive, SystemState, with_system_ports, with_table, Reply}
+use Rattle.lagprogress.proofs.Common.{Algorithms, WorldSteps, link_ends, ItemValue, LinkState, WorldState, half, port_at, end_is, HostRounds}
+use Rattle.lagprogress.proofs.Common.{IsHostRound, IsRound, Rounds, IsSteady}
+use Rattle.lagprogress.proofs.Unchanged.{events_keep}
+use Rattle.lagprogress.proofs.EachPort.{KeptBySettling, OfEach, Step-each, asked_each, Tick-each}
+use Rattle.lagprogress.proofs.OneCable.{OnCable, cable, deliver_ends, emits, ticks}
 use Rattle.lagprogress.proofs.OnePort.{AtPort, settling_leaves}
-use Rattle.lagprogress.proofs.OneRound.{unroll}
-use Rattle.lagprogress.proofs.RoundEvents.{asked_half, came_half, round_on, ticks_each, ticks_first}
+use Rattle.lagprogress.proofs.OneRound.{ticked}
+use Rattle.lagprogress.proofs.RoundEvents.{asked_half, came_half}
 use Rattle.lagprogress.proofs.Timers.{runs_keep, takes_keep}
 use Rattle.lagprogress.proofs.Reaching.{runs_steady}
+use Rattle.lagprogress.proofs.HostRound.{KeptBetween, MadeByTick, holds_on, of_side}
+use Rattle.lagprogress.proofs.Linked.{peer_twice, each_side}
+use Rattle.lagprogress.proofs.Quieting.{quiet_ports, quiet_ends}
+use Rattle.lagsystem.specs.declared.drive.Reply.TheVariants as answer
+use Rattle.lagscript.specs.declared.event.Event.TheVariants as event
 
 -- what settling, sending and a receipt keep of each port; the number is the port's
 pub record RoundKeeps (P : ℕ → Machines → Type 0) : Type 0 where
@@ -39,14 +43,6 @@ delivers_each P k s gives c n r old new h a = elim (came_half gives c n r old ne
       (half s new).state (λ v p q took does d. k.takes (port_at s l) v p q does d) m.promise.step a
 ]
 
--- a round makes Q of P, if the tick does and the rest keeps Q
-pub round_each : (P Q : ℕ → Machines → Type 0) → RoundKeeps Q
-    → ((n : ℕ) (p q : Machines) → RunsToRest receive_rows (count_down p) q → P n p → Q n q)
-    → (s : Side) (gives : Algorithms) (old new : WorldState) → IsRound gives old new → EachAt P s old → EachAt Q s new
-round_each P Q k ticked s gives old new h a =
-    let u = unroll gives old new h in
-    round_on gives (EachAt Q s) (asks_each Q k s gives) (delivers_each Q k s gives) old new u (ticks_each P Q k.settles ticked s gives old new u a)
-
 -- the own parameters of a port, and whether its link is up: no event of a round changes them
 module _ (X : Party → Bool → Type 0) (n : ℕ) where
   pub own_keeps : RoundKeeps (AtPort n (λ p. X p.party p.enabled))
@@ -61,22 +57,6 @@ module _ (X : Party → Bool → Type 0) (n : ℕ) where
   own_ticks m p q h a e = runs_keep (λ p. X p.party p.enabled) receive_rows
       (λ p a. a, (λ p a. a, (λ p a. a, (λ p a. a, (λ p a. a, tt))))) (count_down p) q h (a e)
 
--- the ports that the cables join
-
-abbrev Joins : List LinkState → WorldState → Type 0
-Joins links j = map link_ends j.links ≡ map link_ends links
-
-round_joins : (gives : Algorithms) (old new : WorldState) → IsRound gives old new → Joins old.links new
-round_joins gives old new h =
-    let u = unroll gives old new h in
-    round_on gives (Joins old.links) (λ n p r i j step m. (emits gives n p r i j step).2.ends ∙ m)
-    (λ c n r i j step m. deliver_ends gives c n r i j step ∙ m) old new u (ap (map link_ends) (ticks_first gives old new u).links)
-
-pub rounds_join : (gives : Algorithms) (n : ℕ) (old new : WorldState) → Rounds gives n old new
-    → map link_ends new.links ≡ map link_ends old.links
-rounds_join gives n old new h =
-    zero_on gives (λ m j. Joins old.links j) old refl (λ m i j q k. round_joins gives i j q ∙ k) n new h
-
 -- so a cable stands where it stood
 pub same_index : (i x : ℕ) (l : LinkState) (fl : Side → List ItemValue) (old new : WorldState) → slice_get old.links i ≡ Some l
     → map link_ends new.links ≡ map link_ends old.links → OnCable x (λ s. port_at s l) fl new.links → x ≡ i
@@ -86,6 +66,109 @@ same_index i x l fl old new h e c =
     (end_is One old.links i l h) in
     let same : suc x ≡ suc i = c.cabling One (suc x) (suc i) l.one here there in omega (arith, same)
 
-pub rounds_steady : (gives : Algorithms) (n : ℕ) (old new : WorldState) → IsSteady old → Rounds gives n old new → IsSteady new
-rounds_steady gives n old new k h = zero_on gives (λ m j. IsSteady j) old k
-    (λ m i j q a. runs_steady gives (ticks_of_both ++ (asks_all i.links ++ q.delivers)) q.replies i j q.acts a) n new h
+-- P before the tick of the system, Q after it
+abbrev pub Pick : (ℕ → Machines → Type 0) → (ℕ → Machines → Type 0) → Bool → ℕ → Machines → Type 0
+Pick P Q true = P
+Pick P Q false = Q
+
+pub each_between : (P : ℕ → Machines → Type 0) → RoundKeeps P → (s : Side) (gives : Algorithms) → KeptBetween gives (EachAt P s)
+each_between P k s gives (event.Emit n p) r i j b h a = asks_each P k s gives n p r i j h a
+each_between P k s gives (event.Deliver c n) r i j b h a = delivers_each P k s gives c n r i j h a
+each_between P k s gives (event.Offer n agg octets) r i j b h a =
+    subst (OfEach P) (sym (quiet_ports gives (event.Offer n agg octets) r i j tt h s)) a
+each_between P k s gives (event.Move n agg conv p) r i j b h a =
+    subst (OfEach P) (sym (quiet_ports gives (event.Move n agg conv p) r i j tt h s)) a
+each_between P k s gives e r i j b h a = absurd b
+
+-- a tick of system t makes Q of P at that system, and leaves the other's ports
+pub tick_makes : (P Q : ℕ → Machines → Type 0) → KeptBySettling Q
+    → ((n : ℕ) (p q : Machines) → RunsToRest receive_rows (count_down p) q → P n p → Q n q)
+    → (t : Side) (gives : Algorithms) → MadeByTick gives t (EachAt P t) (EachAt Q t)
+tick_makes P Q k ticked t gives n r i j named step a =
+    Tick-each P Q k ticked (gives t) (half t i).state answer.Tick (half t j).state (ticks gives n t r i j named step).step a
+
+pub tick_leaves : (P : ℕ → Machines → Type 0) (t : Side) (gives : Algorithms) → MadeByTick gives t (EachAt P (peer t)) (EachAt P (peer t))
+tick_leaves P t gives n r i j named step a =
+    subst (λ (z : SystemState). OfEach P z.system_ports) (sym (ticks gives n t r i j named step).peers) a
+
+pub tick_keeps : (P : ℕ → Machines → Type 0) → KeptBySettling P
+    → ((n : ℕ) (p q : Machines) → RunsToRest receive_rows (count_down p) q → P n p → P n q)
+    → (s t : Side) (gives : Algorithms) → MadeByTick gives t (EachAt P s) (EachAt P s)
+tick_keeps P k ticked s t gives n r i j named step a = each_side (λ u. EachAt P u i → EachAt P u j) t
+    (tick_makes P P k ticked t gives n r i j named step) (tick_leaves P t gives n r i j named step) s a
+
+-- a round makes Q of P, if the tick does, and the rest keeps both
+pub host_each : (P Q : ℕ → Machines → Type 0) → RoundKeeps P → RoundKeeps Q
+    → ((n : ℕ) (p q : Machines) → RunsToRest receive_rows (count_down p) q → P n p → Q n q)
+    → (s : Side) (gives : Algorithms) (old new : WorldState) → IsHostRound gives old new → EachAt P s old → EachAt Q s new
+host_each P Q kp kq ticked s gives old new h a = holds_on gives s (λ x y j. EachAt (Pick P Q x) s j) kept own other
+    h.events h.replies old new true true (of_side s h.events h.ticks) h.acts a
+  where
+    kept : (x y : Bool) → KeptBetween gives (EachAt (Pick P Q x) s)
+    kept true y = each_between P kp s gives
+    kept false y = each_between Q kq s gives
+
+    own : (y : Bool) → MadeByTick gives s (EachAt P s) (EachAt Q s)
+    own y = tick_makes P Q kq.settles ticked s gives
+
+    same : (M : ℕ → Machines → Type 0) → MadeByTick gives (peer s) (EachAt M s) (EachAt M s)
+    same M = subst (λ x. MadeByTick gives (peer s) (EachAt M x) (EachAt M x)) (peer_twice s) (tick_leaves M (peer s) gives)
+
+    other : (x : Bool) → MadeByTick gives (peer s) (EachAt (Pick P Q x) s) (EachAt (Pick P Q x) s)
+    other true = same P
+    other false = same Q
+
+-- so many rounds
+
+pub hosts_on : (gives : Algorithms) (S : ℕ → WorldState → Type 0) (start : WorldState) → S 0 start
+    → ((n : ℕ) (old new : WorldState) → IsHostRound gives old new → S n old → S (n + 1) new)
+    → (n : ℕ) (new : WorldState) → HostRounds gives n start new → S n new
+hosts_on gives S start first next zero new h = subst (S 0) (sym h) first
+hosts_on gives S start first next (suc n) new h =
+    subst (λ m. S m new) (omega arith) (next n h.0 new h.2 (hosts_on gives S start first next n h.0 h.1))
+
+pub hosts_split : (gives : Algorithms) (k m n : ℕ) (old new : WorldState) → n ≡ k + m → HostRounds gives n old new
+    → (mid : WorldState) × HostRounds gives m old mid × HostRounds gives k mid new
+hosts_split gives zero m n old new e h = (new, subst (λ i. HostRounds gives i old new) (omega (arith, e)) h, refl)
+hosts_split gives (suc k) m zero old new e h = absurd (omega (arith, e))
+hosts_split gives (suc k) m (suc n) old new e h = grind (arith, nat_tests, hosts_split gives k m n old h.0 (omega (arith, e)) h.1)
+
+pub hosts_steady : (gives : Algorithms) (n : ℕ) (old new : WorldState) → IsSteady old → HostRounds gives n old new → IsSteady new
+hosts_steady gives n old new k h = hosts_on gives (λ m j. IsSteady j) old k
+    (λ m i j q a. runs_steady gives q.events q.replies i j q.acts a) n new h
+
+module _ (X : Type 0) (g : SystemState → X)
+    (kept : (s : SystemState) (ports : List SystemPort) (t : Table) → g (with_table (with_system_ports s ports) t) ≡ g s) where
+  pub hosts_keep : (gives : Algorithms) (n : ℕ) (old new : WorldState) → HostRounds gives n old new → (s : Side)
+      → g (half s new).state ≡ g (half s old).state
+  hosts_keep gives n old new h = hosts_on gives (λ m j. (s : Side) → g (half s j).state ≡ g (half s old).state) old (λ s. refl)
+      (λ m i j q a s. events_keep X g kept gives q.events q.replies i j q.acts s ∙ a s) n new h
+
+-- the ports that the cables join
+
+joins_kept : (gives : Algorithms) (links : List LinkState) → KeptBetween gives (λ j. map link_ends j.links ≡ map link_ends links)
+joins_kept gives links (event.Emit n p) r i j b h m = (emits gives n p r i j h).2.ends ∙ m
+joins_kept gives links (event.Deliver c n) r i j b h m = deliver_ends gives c n r i j h ∙ m
+joins_kept gives links (event.Offer n agg octets) r i j b h m = quiet_ends gives (event.Offer n agg octets) r i j tt h ∙ m
+joins_kept gives links (event.Move n agg conv p) r i j b h m = quiet_ends gives (event.Move n agg conv p) r i j tt h ∙ m
+joins_kept gives links e r i j b h m = absurd b
+
+pub hosts_join : (gives : Algorithms) (n : ℕ) (old new : WorldState) → HostRounds gives n old new → map link_ends new.links ≡ map link_ends old.links
+hosts_join gives n old new h = hosts_on gives (λ m j. map link_ends j.links ≡ map link_ends old.links) old refl
+    (λ m i j q k. holds_on gives One (λ a b j. map link_ends j.links ≡ map link_ends old.links) (λ a b. joins_kept gives old.links)
+    (λ b n r i j named step m. ap (map link_ends) (ticks gives n One r i j named step).links ∙ m)
+    (λ a n r i j named step m. ap (map link_ends) (ticks gives n Two r i j named step).links ∙ m)
+    q.events q.replies i j true true (of_side One q.events q.ticks) q.acts k) n new h
+
+pub zero_on : (gives : Algorithms) (S : ℕ → WorldState → Type 0) (start : WorldState) → S 0 start
+    → ((n : ℕ) (old new : WorldState) → IsRound gives old new → S n old → S (n + 1) new)
+    → (n : ℕ) (new : WorldState) → Rounds gives n start new → S n new
+zero_on gives S start first next zero new h = subst (S 0) (sym h) first
+zero_on gives S start first next (suc n) new h =
+    subst (λ m. S m new) (omega arith) (next n h.0 new h.2 (zero_on gives S start first next n h.0 h.1))
+
+pub splits : (gives : Algorithms) (k m n : ℕ) (old new : WorldState) → n ≡ k + m → Rounds gives n old new
+    → (mid : WorldState) × Rounds gives m old mid × Rounds gives k mid new
+splits gives zero m n old new e h = (new, subst (λ i. Rounds gives i old new) (omega (arith, e)) h, refl)
+splits gives (suc k) m zero old new e h = absurd (omega (arith, e))
+splits gives (suc k) m (suc n) old new e h = grind (arith, nat_tests, splits gives k m n old h.0 (omega (arith, e)) h.1)

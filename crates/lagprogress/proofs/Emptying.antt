@@ -1,17 +1,15 @@
 -- A port of a healthy cable is drained of the conversations that are held on it.
 use Rattle.lagprogress.proofs.Common.{Err, IsSome, List, None, Ok, Option, Result, Some, [], ap, arith, cond, false, inl, inr, length, ltb, refl}
-use Rattle.lagprogress.proofs.Common.{slice_get, slice_set, subst, sym, true, ℕ, ◌+◌, ◌-◌, ◌^◌, ◌∙◌, ◌∷◌, ◌≡◌, ◌≤◌, ◌⊎◌, cases_Bool, nat_tests}
-use Rattle.lagprogress.proofs.Common.{none-some, same_Some, AllByRecursion, Choice, is_selected, Lacpdu, One, Side, Two, peer, Machines}
+use Rattle.lagprogress.proofs.Common.{slice_get, slice_set, subst, suc, sym, true, zero, ℕ, ◌+◌, ◌-◌, ◌^◌, ◌∙◌, ◌∷◌, ◌≡◌, ◌≤◌, ◌⊎◌, cases_Bool}
+use Rattle.lagprogress.proofs.Common.{nat_tests, none-some, same_Some, AllByRecursion, Choice, is_selected, Lacpdu, One, Side, Two, peer, Machines}
 use Rattle.lagprogress.proofs.Common.{after_sending, is_due, after_tick, Table, assignment_of, next_identifier, SystemFault, SystemPort, Receive}
 use Rattle.lagprogress.proofs.Common.{Step, Tick, Transmit, TransmitsAt, TransmitsIf, Settling, CallPromise, SystemState, ports_table, settling_parts}
 use Rattle.lagprogress.proofs.Common.{all-get, found_place, ports_rise, Event, Reply, Algorithms, WorldRuns, WorldSteps, side_of, ItemValue}
 use Rattle.lagprogress.proofs.Common.{WorldState, half, port_at, set_here, IsRound, NothingInFlight, Rounds, asks_all, IsSteady}
 use Rattle.lagprogress.proofs.EachPort.{OfEach}
-use Rattle.lagsystem.specs.declared.drive.Reply.TheVariants as answer
-use Rattle.lagscript.specs.declared.event.Event.TheVariants as event
 use Rattle.lagprogress.proofs.Answering.{AllFine, Steady, all_map, each_by, marks_now, sends_fine, settles_all, stays_on, went_flights}
 use Rattle.lagprogress.proofs.Climbing.{PartnerInSync, choice_along, partner_along, ticks_choice, ticks_partner}
-use Rattle.lagprogress.proofs.ComingUp.{calls_keep}
+use Rattle.lagprogress.proofs.Unchanged.{calls_keep}
 use Rattle.lagprogress.proofs.Delivering.{deliver_link}
 use Rattle.lagprogress.proofs.Draining.{after_tick_on, comes_fine, elsewhere_fine, peer_answers}
 use Rattle.lagprogress.proofs.EndFacts.{Along, activity, both_along}
@@ -23,7 +21,12 @@ use Rattle.lagprogress.proofs.OneCable.{port_there}
 use Rattle.lagprogress.proofs.OnePort.{AtPort, at_number}
 use Rattle.lagprogress.proofs.OneRound.{IsAsk, Unrolled, all_ask, ask_all, deliver_all, join, one_of_both, tick_both, ticked, unroll, first_acts}
 use Rattle.lagprogress.proofs.OneRound.{runs_apart, AsksTwice, asks_twice}
-use Rattle.lagprogress.proofs.Progressing.{AtIt, FreshAt, beside, fits_fresh, knows_peer, stays_fresh, along_rounds, awake_peer}
+use Rattle.lagprogress.proofs.HostKnowing.{AtIt, FreshAt, beside, fits_fresh, knows_peer, stays_fresh, awake_peer}
+use Rattle.lagprogress.proofs.Claims.{IsNamed}
+use Rattle.lagprogress.proofs.HostRound.{left}
+use Rattle.lagprogress.proofs.HostLoops.{round_is_host_round}
+use Rattle.lagsystem.specs.declared.drive.Reply.TheVariants as answer
+use Rattle.lagscript.specs.declared.event.Event.TheVariants as event
 
 -- identifiers
 
@@ -72,7 +75,17 @@ deliver_next s gives c n r old new h = elim (came_off gives c n r old new h) [
     equal : (a b : ℕ) → b ≡ a → a ≤ b
     equal a b e = omega (arith, e)
 
-module _ (at : Side → ℕ) (w : Side → Lacpdu) (awake : (s : Side) → (activity (w s) ≡ true) ⊎ (activity (w (peer s)) ≡ true)) (s : Side)
+-- so many rounds
+along_rounds : (gives : Algorithms) (S : ℕ → WorldState → Type 0) (start : WorldState)
+    → ((new : WorldState) → IsRound gives start new → S 1 new)
+    → ((n : ℕ) (old new : WorldState) → IsRound gives old new → S n old → S (n + 1) new)
+    → (n : ℕ) (new : WorldState) → 1 ≤ n → Rounds gives n start new → S n new
+along_rounds gives S start first next zero new l h = absurd (omega (arith, l))
+along_rounds gives S start first next (suc zero) new l h = first new (subst (λ j. IsRound gives j new) h.1 h.2)
+along_rounds gives S start first next (suc (suc n)) new l h =
+    subst (λ m. S m new) (omega arith) (next (suc n) h.0 new h.2 (along_rounds gives S start first next (suc n) h.0 (omega arith) h.1))
+
+module _ (at : Side → ℕ) (w : Side → Lacpdu) (named : (t : Side) → IsNamed (w t)) (awake : (s : Side) → (activity (w s) ≡ true) ⊎ (activity (w (peer s)) ≡ true)) (s : Side)
     (mac : List ℕ) (aggs count : ℕ) (c : Choice) (chosen : is_selected c ≡ true) (gives : Algorithms) where
   abbrev pub Y : Machines → Type 0
   Y p = Steady at w s mac aggs count c p
@@ -82,7 +95,7 @@ module _ (at : Side → ℕ) (w : Side → Lacpdu) (awake : (s : Side) → (acti
 
   along : (kn : Side → ℕ) → 1 ≤ kn s → Along Y (w s) (w (peer s)) (kn s) 2
   along kn l = both_along PartnerInSync (λ p. p.choice ≡ c) (w s) (w (peer s)) (kn s) 2
-      (partner_along (w s) (w (peer s)) (kn s) 2 (omega arith) (awake_peer at w awake s))
+      (partner_along (w s) (w (peer s)) (kn s) 2 (omega arith) (awake_peer at w named awake s))
       (choice_along (w s) (w (peer s)) (kn s) 2 c chosen (omega arith) l)
 
   -- what is fixed of the system
@@ -358,7 +371,7 @@ module _ (at : Side → ℕ) (w : Side → Lacpdu) (awake : (s : Side) → (acti
       let end = deliver_all gives (Mid (m + 1) ⊥ kn) (λ cn n r i j step d. mid_delivers kn fits (m + 1) ⊥ cn n r i j step d)
       u.delivers u.replies u.six new u.arrives u.rest six in
       record {
-        fresh = stays_fresh at w awake gives 2 old new (omega arith) h g;
+        fresh = stays_fresh at w named awake gives 2 old new (omega arith) (round_is_host_round gives old new g.link.steady h) g;
         steady = beside at w 2 kn s Y new end.link;
         same = end.same;
         fine = all_map at w s mac aggs count (m + 1) ⊥ ⊥ (Flights s (at s) mac end.flying) (λ id. ⊥) (half s new).state.table (λ x. x)
@@ -372,7 +385,7 @@ module _ (at : Side → ℕ) (w : Side → Lacpdu) (awake : (s : Side) → (acti
       kn = ticked rests.fresh.known
 
       fits : Fits 2 w (ticked rests.fresh.known)
-      fits = fits_fresh at w awake 2 old rests.fresh (omega arith)
+      fits = fits_fresh at w named awake 2 old rests.fresh (omega arith)
 
       link : Link 2 at w rests.fresh.known s Y old
       link = join 2 at w rests.fresh.known One s Y old rests.fresh.link rests.steady

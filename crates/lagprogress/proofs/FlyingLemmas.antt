@@ -6,19 +6,18 @@ use Rattle.lagprogress.proofs.Common.{CollectingDistributing, same_mux_state, Sy
 use Rattle.lagprogress.proofs.Common.{collecting, selected_aggregator, machines_of, port_index, all-get, found_place, Event, Reply, Algorithms}
 use Rattle.lagprogress.proofs.Common.{WorldRuns, WorldSteps, side_of, link_ends, ItemValue, LinkState, WorldState, half, port_at, towards, HandsUp}
 use Rattle.lagprogress.proofs.Common.{InRound, Sometime, IsDeliver, IsRound, OfPort, asks_all}
-use Rattle.lagsystem.specs.declared.received.Received.TheVariants as received
-use Rattle.lagscript.specs.declared.event.Event.TheVariants as event
 use Rattle.lagprogress.proofs.ArrivingLemmas.{deliver_hands_up}
 use Rattle.lagprogress.proofs.Climbing.{PartnerInSync, distributes_now, partner_along, ticks_partner}
 use Rattle.lagprogress.proofs.Delivering.{deliver_link}
 use Rattle.lagprogress.proofs.EachRound.{same_index}
 use Rattle.lagprogress.proofs.EndFacts.{activity, Along}
-use Rattle.lagprogress.proofs.Linked.{EndIs, Fits, Link, asked_which, emit_any, found}
+use Rattle.lagprogress.proofs.Linked.{EndIs, Fits, Link, asked_which, emit_any, found, machines_there}
 use Rattle.lagprogress.proofs.OneCable.{came_off, Arrives, Back, Beside, Comes, OnCable, Went, arrived, asks, cable, deliver_ends, emits, passed_by}
 use Rattle.lagprogress.proofs.OneCable.{port_there, push, put, stays_beside, ticks, towards_there}
 use Rattle.lagprogress.proofs.OnePort.{AtPort}
 use Rattle.lagprogress.proofs.OneRound.{IsAsk, all_ask, one_of_both, tick_both, ticked}
-use Rattle.lagprogress.proofs.Progressing.{machines_there}
+use Rattle.lagsystem.specs.declared.received.Received.TheVariants as received
+use Rattle.lagscript.specs.declared.event.Event.TheVariants as event
 
 -- a Deliver event of this cable brings its first item; any other leaves the cable to itself
 

@@ -6,17 +6,19 @@ use Rattle.lagprogress.proofs.Common.{LinkState, WorldState, half, port_at, Both
 use Rattle.lagprogress.proofs.Common.{NoneIsHeld, NoneIsHeldOn, NoneIsHeldOnActiveEnds, NoneIsHeldOnEnds, NoneIsHeldWhereActive, NothingIsHeld}
 use Rattle.lagprogress.proofs.Common.{carrier_of, held_on, IsHealthyAt, IsRound, Rounds}
 use Rattle.lagprogress.proofs.RoundEvents.{asked_half, came_half, round_on, ticks_first}
-use Rattle.lagprogress.proofs.EachRound.{rounds_steady}
-use Rattle.lagscript.specs.declared.event.Event.TheVariants as event
-use Rattle.lagprogress.proofs.Bundling.{Meets, Nowhere, awake_of, both_active, one_active, rounds_keep, said, ups_of}
+use Rattle.lagprogress.proofs.Bundling.{Meets, Nowhere, awake_of, both_active, one_active, said, ups_of, named_of}
 use Rattle.lagprogress.proofs.Climbing.{PartnerInSync}
-use Rattle.lagprogress.proofs.ComingUp.{Up, at_end, end_here, splits, told, zero_on}
+use Rattle.lagprogress.proofs.ComingUp.{Up, told_now}
+use Rattle.lagprogress.proofs.EachRound.{splits, zero_on, hosts_keep, hosts_steady}
 use Rattle.lagprogress.proofs.Emptying.{rounds_rest}
 use Rattle.lagprogress.proofs.Holding.{Fine}
-use Rattle.lagprogress.proofs.Linked.{each_both, each_map}
+use Rattle.lagprogress.proofs.Linked.{each_both, each_map, at_end, end_here}
 use Rattle.lagprogress.proofs.OnePort.{AtPort}
 use Rattle.lagprogress.proofs.TableSteps.{Turning, Turns, asks_turn, comes_turn, same_turns, ticks_turn, turns_through}
 use Rattle.lagprogress.proofs.OneRound.{Nothing, unroll}
+use Rattle.lagprogress.proofs.HostRound.{left}
+use Rattle.lagprogress.proofs.HostLoops.{rounds_are_host_rounds}
+use Rattle.lagscript.specs.declared.event.Event.TheVariants as event
 
 -- at first a marker may be wanted, and any response may be waited for
 fine_first : (p : ℕ) (a : Assignment) → Fine p 0 (Unit {0}) (λ id. ⊥) a
@@ -41,16 +43,17 @@ module _ (Holds : LinkState → WorldState → Type 0) (Other : Side → ℕ →
   freed_of i l y n new s enough h left =
       let m = first + 31 in
       let cut = splits gives (n - m) m n old new (omega (arith, enough)) h in
-      from cut.0 (ups_of Holds Other first gives old b i l y m cut.0 (omega arith) cut.1) (n - m) (omega (arith, enough)) cut.2
+      from cut.0 (ups_of Holds Other first gives old b i l y m cut.0 (omega arith) (rounds_are_host_rounds gives m old cut.0 b.steady cut.1)) (n - m) (omega (arith, enough)) cut.2
     where
       at : Side → ℕ
       at = λ t. port_at t l
 
       from : (j : WorldState)
-          → Up (λ t. port_at t l) (said old i l y) (awake_of Holds Other first gives old b i l y) j
+          → Up (λ t. port_at t l) (said old i l y) (named_of Holds Other first gives old b i l y) (awake_of Holds Other first gives old b i l y) j
           → (k : ℕ) → 30 ≤ k → Rounds gives k j new → NoneIsHeldOn (port_at s l) (half s new).state
       from j up k late rounds =
           let w = said old i l y in
+          let named = named_of Holds Other first gives old b i l y in
           let awake = awake_of Holds Other first gives old b i l y in
           let g = up.2.fresh in
           let e = end_here (λ t. port_at t l) w 2 g.known One Nothing j g.link s in
@@ -58,11 +61,11 @@ module _ (Holds : LinkState → WorldState → Type 0) (Other : Side → ℕ →
           let chosen = (e.is.2 (omega arith)).0 in
           let st = (half s j).state in
           let choice = at_end (λ t. port_at t l) w 2 g.known s j e g.link.steady (λ p. p.choice ≡ c) refl in
-          let heard = told (λ t. port_at t l) w awake up.0 j up.1 up.2 s in
+          let heard = told_now (λ t. port_at t l) w named awake up.0 j up.1 up.2 s in
           let steady = each_map (λ q p. AtPort (port_at s l) PartnerInSync q p × AtPort (port_at s l) (λ p. p.choice ≡ c) q p)
           (AtPort (port_at s l) (λ p. PartnerInSync p × (p.choice ≡ c))) (λ q p a f. (a.0 f, a.1 f)) st.system_ports
           (each_both (AtPort (port_at s l) PartnerInSync) (AtPort (port_at s l) (λ p. p.choice ≡ c)) st.system_ports heard choice) in
-          let rests = rounds_rest (λ t. port_at t l) w awake s st.system.mac st.table.aggs st.table.conversations c chosen gives k j new
+          let rests = rounds_rest (λ t. port_at t l) w named awake s st.system.mac st.table.aggs st.table.conversations c chosen gives k j new
           (omega (arith, late)) left (record {
             fresh = g;
             steady = steady;
@@ -159,9 +162,10 @@ nothing_held Holds gives n old new s b carriers h none g k is = by_port (held_on
 
     was : IsConversation (half s old).state.table g k
     was =
-        let keys = rounds_keep ℕ (λ t. length t.keys) (λ t a b. refl) gives n old new h s in
-        let cols = rounds_keep ℕ (λ t. t.conversations) (λ t a b. refl) gives n old new h s in
-        let later = rounds_steady gives n old new b.steady h in
+        let hosts = rounds_are_host_rounds gives n old new b.steady h in
+        let keys = hosts_keep ℕ (λ t. length t.keys) (λ t a b. refl) gives n old new hosts s in
+        let cols = hosts_keep ℕ (λ t. t.conversations) (λ t a b. refl) gives n old new hosts s in
+        let later = hosts_steady gives n old new b.steady hosts in
         let rows : (half s new).state.table.aggs ≡ (half s old).state.table.aggs =
         (later s).0.aggregators ∙ (keys ∙ sym (b.steady s).0.aggregators) in
         let each : (half s new).state.table.conversations ≡ (half s old).state.table.conversations =

@@ -1,29 +1,32 @@
 -- Selected stays what it is in the rounds of a world in which each end of a healthy cable knows its partner.
-use Rattle.lagprogress.proofs.Common.{Err, List, None, Ok, Option, Result, Some, ap, arith, inl, inr, refl, slice_get, subst, sym, true, ℕ, ◌∙◌, ◌≡◌}
-use Rattle.lagprogress.proofs.Common.{◌≤◌, cases_Bool, none-some, same_Some, AllByRecursion, Choice, Lacpdu, One, Side, peer, Machines, receive_rows}
-use Rattle.lagprogress.proofs.Common.{RunsToRest, count_down, PortConfig, SystemFault, Received, SystemPort, Carries, IsFrame, OnlyPortChangesBy}
-use Rattle.lagprogress.proofs.Common.{ProcessesLacpdu, Receive, ReceivesAt, ThenSettles, configured_numbers, none_enabled, CallPromise, SystemState}
-use Rattle.lagprogress.proofs.Common.{aggregators_value, port_index, port_numbers, processes_or_stays, rests, all-get, found_place, Event, Reply}
-use Rattle.lagprogress.proofs.Common.{Algorithms, WorldSteps, LinkState, WorldState, half, port_at, towards, AllHeard, EndsHealthyCable, IsHealthyAt}
-use Rattle.lagprogress.proofs.Common.{IsRound, Rounds, IsSteady}
+use Rattle.lagprogress.proofs.Common.{Bool, Err, List, None, Ok, Option, Result, Some, ap, arith, false, inl, inr, refl, slice_get, subst, sym, true}
+use Rattle.lagprogress.proofs.Common.{ℕ, ◌-◌, ◌∙◌, ◌≡◌, ◌≤◌, cases_Bool, none-some, same_Some, AllByRecursion, Choice, Lacpdu, One, Side, Two, peer}
+use Rattle.lagprogress.proofs.Common.{Machines, receive_rows, RunsToRest, count_down, PortConfig, SystemFault, Received, SystemPort, Carries, IsFrame}
+use Rattle.lagprogress.proofs.Common.{OnlyPortChangesBy, ProcessesLacpdu, Receive, ReceivesAt, Step, ThenSettles, Tick, configured_numbers}
+use Rattle.lagprogress.proofs.Common.{none_enabled, CallPromise, SystemState, aggregators_value, port_index, port_numbers, processes_or_stays, rests}
+use Rattle.lagprogress.proofs.Common.{all-get, found_place, Event, Reply, Algorithms, WorldSteps, LinkState, WorldState, half, port_at, towards}
+use Rattle.lagprogress.proofs.Common.{AllHeard, EndsHealthyCable, HostRounds, IsHostRound, IsHealthyAt, IsSteady}
+use Rattle.lagprogress.proofs.Bundling.{Awake, said, Named, names}
+use Rattle.lagprogress.proofs.Choosing.{AllAsRead, AsRead, Chose, down_as_read, down_still, one_as_read, settles_choice, takes_as_read, zip_as_read}
+use Rattle.lagprogress.proofs.Climbing.{ticks_still}
+use Rattle.lagprogress.proofs.Unchanged.{calls_keep}
+use Rattle.lagprogress.proofs.Delivering.{deliver_link}
+use Rattle.lagprogress.proofs.EachPort.{OfEach, asked_each}
+use Rattle.lagprogress.proofs.EachRound.{EachAt, asks_each, delivers_each, hosts_on, tick_keeps}
+use Rattle.lagprogress.proofs.EndFacts.{nothing_along}
+use Rattle.lagprogress.proofs.Halves.{each_is_calls, keeps_steady}
+use Rattle.lagprogress.proofs.Linked.{EndIs, Fits, IsGood, Link, arrival, emit_any, each_side}
+use Rattle.lagprogress.proofs.OneCable.{Comes, alone, cable, towards_there, ticks}
+use Rattle.lagprogress.proofs.OnePort.{AtPort}
+use Rattle.lagprogress.proofs.OneRound.{Nothing}
+use Rattle.lagprogress.proofs.RoundEvents.{asked_half, came_half}
+use Rattle.lagprogress.proofs.HostKnowing.{Fresh, fits_fresh, knows_peer, stays_fresh, fits_before}
+use Rattle.lagprogress.proofs.HostRound.{KeptBetween, MadeByTick, fits_in, holds_on, known_in, left, none_ticked, of_side, tick_one}
+use Rattle.lagprogress.proofs.Quieting.{quiet_link, quiet_ports, IsQuiet}
 use Rattle.slowpdu.specs.declared.pdu.Pdu.TheVariants as pdu
 use Rattle.lagsystem.specs.declared.drive.Reply.TheVariants as answer
 use Rattle.lagscript.specs.declared.event.Event.TheVariants as event
-use Rattle.lagprogress.proofs.Bundling.{Alike, Awake, alike_keeps, alike_ticks, all_by_place, old_port, said}
-use Rattle.lagprogress.proofs.Choosing.{AllAsRead, AsRead, Chose, down_as_read, down_still, one_as_read, settles_choice, takes_as_read, zip_as_read}
-use Rattle.lagprogress.proofs.Climbing.{ticks_still}
-use Rattle.lagprogress.proofs.ComingUp.{calls_keep, zero_on}
-use Rattle.lagprogress.proofs.Delivering.{deliver_link}
-use Rattle.lagprogress.proofs.EachPort.{OfEach, asked_each}
-use Rattle.lagprogress.proofs.EachRound.{EachAt, asks_each, delivers_each}
-use Rattle.lagprogress.proofs.EndFacts.{nothing_along}
-use Rattle.lagprogress.proofs.Halves.{each_is_calls, keeps_steady}
-use Rattle.lagprogress.proofs.Linked.{EndIs, Fits, IsGood, Link, arrival, emit_any}
-use Rattle.lagprogress.proofs.OneCable.{Comes, alone, cable, towards_there}
-use Rattle.lagprogress.proofs.OnePort.{AtPort}
-use Rattle.lagprogress.proofs.OneRound.{Nothing, Unrolled, tick_both, ticked, unroll}
-use Rattle.lagprogress.proofs.RoundEvents.{asked_half, came_half, round_on, ticks_each, ticks_first}
-use Rattle.lagprogress.proofs.Progressing.{Fresh, fits_fresh, knows_peer, stays_fresh}
+use Rattle.lagprogress.proofs.Lasting.{Alike, alike_keeps, alike_ticks, all_by_place, old_port}
 
 module _ (Holds : LinkState → WorldState → Type 0) (gives : Algorithms) (old : WorldState) (heard : AllHeard Holds old)
     (wakes : (i : ℕ) (l : LinkState) (h : IsHealthyAt i l old) → Awake old i l h) where
@@ -42,6 +45,9 @@ module _ (Holds : LinkState → WorldState → Type 0) (gives : Algorithms) (old
 
   abbrev AllFit : Known → Type 0
   AllFit kn = OfCables (λ i l y. Fits 1 (said old i l y) (kn i l y) × ((t : Side) → 1 ≤ kn i l y t))
+
+  named : (start : IsSteady old) (i : ℕ) (l : LinkState) (h : IsHealthyAt i l old) → Named old i l h
+  named = names old
 
   -- what stays of both systems
   pub record Stands (j : WorldState) : Type 0 where
@@ -180,12 +186,31 @@ module _ (Holds : LinkState → WorldState → Type 0) (gives : Algorithms) (old
       ];
     }
 
-    -- a tick
-    tick_choice : (i j : WorldState) (u : Unrolled gives i j) (t : Side) (n : ℕ) (c : Choice) → AllFresh i → Stands i
-        → OfEach (Chose n c) (half t i).state.system_ports → OfEach (Chose n c) (half t u.two).state.system_ports
-    tick_choice i j u t n c fresh s a =
-        let h = (ticks_first gives i j u).step t in
-        settles_choice (half t i).state h.0 (half t u.two).state (s.steady t).0
+    offered : (kn : Known) (from : WorldState) (e : Event) (r : Reply) (i j : WorldState) → IsQuiet e → WorldSteps gives i e r j
+        → Mid kn from i → Mid kn from j
+    offered kn from e r i j q h d = record {
+      links = λ x l y. (quiet_link gives e 1 (λ t. port_at t l) (said old x l y) (kn x l y) One Nothing r i j q h (d.links x l y)).link;
+      stands = record {
+        steady = keeps_steady gives e r i j h d.stands.steady;
+        config = config_kept e r i j h d.stands.config;
+        alike = λ t k x there. subst (OfEach (AtPort x.number (Alike x.port))) (sym (quiet_ports gives e r i j q h t)) (d.stands.alike t k x there);
+      };
+      chose = λ t k x there. subst (OfEach (Chose x.number x.port.choice)) (sym (quiet_ports gives e r i j q h t)) (d.chose t k x there);
+    }
+
+    between : (kn : Known) (from : WorldState) → AllFit kn → KeptBetween gives (Mid kn from)
+    between kn from fits (event.Emit n p) r i j b h d = asked kn from n p r i j fits h d
+    between kn from fits (event.Deliver cn n) r i j b h d = delivered kn from cn n r i j fits h d
+    between kn from fits (event.Offer n agg octets) r i j b h d = offered kn from (event.Offer n agg octets) r i j tt h d
+    between kn from fits (event.Move n agg conv p) r i j b h d = offered kn from (event.Move n agg conv p) r i j tt h d
+    between kn from fits e r i j b h d = absurd b
+
+    -- a tick of system t
+    tick_choice : (kn : Known) (i j : WorldState) (t : Side) (n : ℕ) (c : Choice)
+        → Step (gives t) (half t i).state Tick answer.Tick (half t j).state → OfCables (λ x l y. 2 ≤ kn x l y t) → AllLinked kn i → Stands i
+        → OfEach (Chose n c) (half t i).state.system_ports → OfEach (Chose n c) (half t j).state.system_ports
+    tick_choice kn i j t n c h known links s a =
+        settles_choice (half t i).state h.0 (half t j).state (s.steady t).0
         (zip_as_read (λ p q. RunsToRest receive_rows (count_down p) q) (half t i).state.system_ports h.0.system_ports
         (all_by_place (λ x. (q : Machines) → RunsToRest receive_rows (count_down x.port) q → AsRead x.port q) (half t i).state.system_ports read)
         h.1.0) (ap aggregators_value h.1.2) h.2 n c a
@@ -199,49 +224,74 @@ module _ (Holds : LinkState → WorldState → Type 0) (gives : Algorithms) (old
           | inl up ↦ (let o = on_cable t i k x start s there up in
               let at : Side → ℕ = λ u. port_at u o.link in
               let w = said old o.index o.link o.healthy in
-              let g = fresh o.index o.link o.healthy in
-              let l = knows_peer at w 1 0 0 i g (omega arith) t in
-              let end = (all-get (λ (y : SystemPort). AtPort (at t) (EndIs 1 w g.known One Nothing t) y.number y.port)
-              (half t i).state.system_ports k x there (g.link.ports t) (sym o.joins)).0 in
-              counted x.port q (ticks_still 1 (w t) (w (peer t)) (g.known t) x.port q (omega (arith, l)) end run))
+              let c = kn o.index o.link o.healthy in
+              let end = (all-get (λ (y : SystemPort). AtPort (at t) (EndIs 1 w c One Nothing t) y.number y.port)
+              (half t i).state.system_ports k x there ((links o.index o.link o.healthy).ports t) (sym o.joins)).0 in
+              let l = known o.index o.link o.healthy in
+              counted x.port q (ticks_still 1 (w t) (w (peer t)) (c t) x.port q (omega (arith, l)) end run))
           | inr down ↦ counted x.port q (down_still x.port q down (rests receive_rows x.port
               (all-get (λ (y : SystemPort). none_enabled receive_rows y.port ≡ true) (half t i).state.system_ports k x there (s.steady t).0.rested.0)) run)
         ]
 
-    pub choice_round : (from i j : WorldState) → IsRound gives i j → AllFresh i → Stands i → AllChose from i
+    -- and what it makes of a cable: the one side knows its partner for a tick less
+    ticked_one : (kn to : Known) (from : WorldState) (t : Side) → OfCables (λ x l y. 2 ≤ kn x l y t)
+        → OfCables (λ x l y. to x l y t ≡ kn x l y t - 1) → OfCables (λ x l y. to x l y (peer t) ≡ kn x l y (peer t))
+        → MadeByTick gives t (Mid kn from) (Mid to from)
+    ticked_one kn to from t known here there n r i j named step d =
+        let k = ticks gives n t r i j named step in record {
+          links = λ x l y. (tick_one gives n t 1 (λ u. port_at u l) (said old x l y) (kn x l y) (to x l y) One Nothing Nothing r i j named
+              (here x l y) (there x l y) (λ e. absurd (omega (arith, e)))
+              (nothing_along (said old x l y One) (said old x l y (peer One)) (to x l y One) 1) (λ p q run rest a f z. z) (λ p f z. z) step
+              (d.links x l y)).link;
+          stands = record {
+            steady = keeps_steady gives (event.Tick n 1) r i j step d.stands.steady;
+            config = config_kept (event.Tick n 1) r i j step d.stands.config;
+            alike = λ u m x e. tick_keeps (AtPort x.number (Alike x.port)) (alike_keeps x.number x.port).settles (alike_ticks x.number x.port) u t
+                gives n r i j named step (d.stands.alike u m x e);
+          };
+          chose = λ u m x e. each_side (λ v. EachAt (Chose x.number x.port.choice) v i → EachAt (Chose x.number x.port.choice) v j) t
+              (λ a. tick_choice kn i j t x.number x.port.choice k.step known d.links d.stands a)
+              (λ a. subst (λ (z : SystemState). OfEach (Chose x.number x.port.choice) z.system_ports) (sym k.peers) a) u (d.chose u m x e);
+        }
+
+    choice_round : (from i j : WorldState) → IsHostRound gives i j → AllFresh i → Stands i → AllChose from i
         → Stands j × AllChose from j
     choice_round from i j h fresh s chose =
-        let u = unroll gives i j h in
-        let kn : Known = λ x l y. ticked (fresh x l y).known in
-        let fits : AllFit kn = λ x l y. (
-          fits_fresh (λ t. port_at t l) (said old x l y) (wakes x l y) 1 i (fresh x l y) (omega arith),
-          λ t. (let m = knows_peer (λ t. port_at t l) (said old x l y) 1 0 0 i (fresh x l y) (omega arith) t in omega (arith, m)),
-        ) in
-        let first = keeps_steady gives (event.Tick 1 1) u.tick_one.0 i u.one u.tick_one.1 s.steady in
-        let two : Mid kn from u.two = record {
-          links = λ x l y. (let w = said old x l y in
-              let g = fresh x l y in
-              tick_both gives 1 (λ t. port_at t l) w g.known One Nothing Nothing u.tick_one.0 u.tick_two.0 i u.one u.two (fits x l y).0
-              (nothing_along (w One) (w (peer One)) (kn x l y One) 1) (λ p q run rest a z. z) u.tick_one.1 u.tick_two.1 g.link);
-          stands = record {
-            steady = keeps_steady gives (event.Tick 2 1) u.tick_two.0 u.one u.two u.tick_two.1 first;
-            config = config_kept (event.Tick 2 1) u.tick_two.0 u.one u.two u.tick_two.1
-                (config_kept (event.Tick 1 1) u.tick_one.0 i u.one u.tick_one.1 s.config);
-            alike = λ t k x e. ticks_each (AtPort x.number (Alike x.port)) (AtPort x.number (Alike x.port)) (alike_keeps x.number x.port).settles
-                (alike_ticks x.number x.port) t gives i j u (s.alike t k x e);
-          };
-          chose = λ t k x e. tick_choice i j u t x.number x.port.choice fresh s (chose t k x e);
-        } in
-        let end = round_on gives (Mid kn from) (λ n p r a b step d. asked kn from n p r a b fits step d)
-        (λ cn n r a b step d. delivered kn from cn n r a b fits step d) i j u two in
+        let end = holds_on gives One (λ a b. Mid (kn a b) from) (λ a b. between (kn a b) from (fits a b))
+        (λ b. ticked_one (kn true b) (kn false b) from One (λ x l y. long x l y One) (λ x l y. refl) (λ x l y. refl))
+        (λ a. ticked_one (kn a true) (kn a false) from Two (λ x l y. long x l y Two) (λ x l y. refl) (λ x l y. refl))
+        h.events h.replies i j true true (of_side One h.events h.ticks) h.acts
+        (record { links = λ x l y. none_ticked 1 (λ t. port_at t l) (said old x l y) (fresh x l y).known One One Nothing i (link x l y); stands = s; chose = chose }) in
         (end.stands, end.chose)
+      where
+        kn : Bool → Bool → Known
+        kn a b x l y = known_in (fresh x l y).known One a b
+
+        link : OfCables (λ x l y. Link 1 (λ t. port_at t l) (said old x l y) (fresh x l y).known One Nothing i)
+        link x l y = (fresh x l y).link
+
+        long : OfCables (λ x l y. (t : Side) → 2 ≤ (fresh x l y).known t)
+        long x l y t = knows_peer (λ u. port_at u l) (said old x l y) 1 0 0 i (fresh x l y) (omega arith) t
+
+        some_left : (a : Bool) (n : ℕ) → 2 ≤ n → 1 ≤ left a n
+        some_left true n l = omega (arith, l)
+        some_left false n l = omega (arith, l)
+
+        fits : (a b : Bool) → AllFit (kn a b)
+        fits a b x l y = let at : Side → ℕ = λ t. port_at t l in
+            let w = said old x l y in
+            let g = fresh x l y in (
+              fits_in 1 w g.known One (fits_before at w (named start x l y) (wakes x l y) 1 i g (omega arith))
+                  (fits_fresh at w (named start x l y) (wakes x l y) 1 i g (omega arith)) a b,
+              each_side (λ t. 1 ≤ kn a b x l y t) One (some_left a (g.known One) (long x l y One)) (some_left b (g.known Two) (long x l y Two)),
+            )
 
     -- so many rounds
-    pub choice_rounds : (n : ℕ) (from j : WorldState) → AllFresh from → Stands from → AllChose from from → Rounds gives n from j
+    pub choice_rounds : (n : ℕ) (from j : WorldState) → AllFresh from → Stands from → AllChose from from → HostRounds gives n from j
         → AllFresh j × Stands j × AllChose from j
-    choice_rounds n from j fresh s chose h = zero_on gives (λ m k. AllFresh k × Stands k × AllChose from k) from (fresh, s, chose)
+    choice_rounds n from j fresh s chose h = hosts_on gives (λ m k. AllFresh k × Stands k × AllChose from k) from (fresh, s, chose)
         (λ m a b q d. (let e = choice_round from a b q d.0 d.1 d.2 in (
-          λ x l y. stays_fresh (λ t. port_at t l) (said old x l y) (wakes x l y) gives 1 a b (omega arith) q (d.0 x l y),
+          λ x l y. stays_fresh (λ t. port_at t l) (said old x l y) (named start x l y) (wakes x l y) gives 1 a b (omega arith) q (d.0 x l y),
           e.0,
           e.1,
         ))) n j h

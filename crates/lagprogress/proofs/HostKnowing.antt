@@ -10,11 +10,10 @@ use Rattle.lagprogress.proofs.Hearing.{no}
 use Rattle.lagprogress.proofs.HostRound.{host_keeps, two, two_other, two_there}
 use Rattle.lagprogress.proofs.HostHearing.{host_present, nears, passes, stays_told}
 use Rattle.lagprogress.proofs.Lapsing.{Lapsed, Lasting, Phase, Tails, begins_lasting, lasting_now, lasting_passes}
-use Rattle.lagprogress.proofs.Linked.{EndIs, Fits, Link, each_map, each_side, end_here, of_end, other_ports, peer_twice, with_ports}
+use Rattle.lagprogress.proofs.Linked.{EndIs, Fits, Link, each_map, each_side, end_here, of_end, other_ports, peer_twice, with_ports, machines_there}
 use Rattle.lagprogress.proofs.OnePort.{AtPort}
 use Rattle.lagprogress.proofs.OneRound.{Nothing, at_rest, beside_here, forget, join, ticked}
-use Rattle.lagprogress.proofs.Progressing.{Ends, emptied, end_of, machines_there, own_says, said_by, starts}
-use Rattle.lagprogress.proofs.OneActive.{named_at}
+use Rattle.lagprogress.proofs.Starting.{Ends, emptied, end_of, own_says, said_by, starts, named_at}
 use Rattle.lagprogress.proofs.Sounding.{Sounds, silence_of, sounds_first}
 use Rattle.lagprogress.proofs.Stamps.{Present}
 use Rattle.lagprogress.proofs.Telling.{Told, Wakes}
@@ -27,7 +26,7 @@ two_less Two c a b l m Two = l
 
 module _ (at : Side → ℕ) (w : Side → Lacpdu) where
   -- the port at an end has Short Timeout recorded, once it knows its partner
-  abbrev mode : Side → Bool
+  abbrev pub mode : Side → Bool
   mode s = short_timeout (w (peer s))
 
   -- what is left of current_while after the round in which an LACPDU came, at the least: it may have come before the tick
@@ -37,14 +36,14 @@ module _ (at : Side → ℕ) (w : Side → Lacpdu) where
   abbrev Linked : (Side → ℕ) → Side → (Machines → Type 0) → WorldState → Type 0
   Linked c x Y j = Link 1 at w c x Y j
 
-  abbrev AtIt : Side → (Machines → Type 0) → WorldState → Type 0
+  abbrev pub AtIt : Side → (Machines → Type 0) → WorldState → Type 0
   AtIt s P j = OfEach (AtPort (at s) P) (half s j).state.system_ports
 
   lower : (c b : Side → ℕ) (x : Side) (Y : Machines → Type 0) (j : WorldState) → ((s : Side) → b s ≤ c s) → Linked c x Y j → Linked b x Y j
   lower c b x Y j less l =
       other_ports l (λ s p rest timed a. (less_known 1 (w s) (w (peer s)) (c s) (b s) p (less s) a.0, a.1))
 
-  beside : (d : ℕ) (c : Side → ℕ) (x : Side) (Y : Machines → Type 0) (j : WorldState) → Link d at w c x Y j → AtIt x Y j
+  pub beside : (d : ℕ) (c : Side → ℕ) (x : Side) (Y : Machines → Type 0) (j : WorldState) → Link d at w c x Y j → AtIt x Y j
   beside d c x Y j l = of_end l x Y (λ p rest timed a. a.1 refl)
 
   -- the end of s knows its partner since just now

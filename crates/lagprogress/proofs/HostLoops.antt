@@ -6,11 +6,8 @@ use Rattle.lagprogress.proofs.Common.{found_place, ports_rise, Event, Reply, Alg
 use Rattle.lagprogress.proofs.Common.{AfterTick, AskingIsHostRound, Asks, AsksAfterTick, AsksIn, AtSomeWorld, IsBetweenTicks, IsTickOf}
 use Rattle.lagprogress.proofs.Common.{LoopIsHostRound, RoundIsHostRound, RoundsAreHostRounds, TickOnce, IsDeliver, IsHealthyAt, OfPort, asks_all}
 use Rattle.lagprogress.proofs.Common.{ticks_of_both, IsSteady}
-use Rattle.lagsystem.specs.declared.drive.Reply.TheVariants as answer
-use Rattle.lagscript.specs.declared.event.Event.TheVariants as event
-use Rattle.lagprogress.proofs.Bundling.{ends_at}
 use Rattle.lagprogress.proofs.EachPort.{OfEach, Tick-each}
-use Rattle.lagprogress.proofs.EachRound.{EachAt, asks_each, delivers_each, own_keeps, own_ticks, rounds_steady}
+use Rattle.lagprogress.proofs.EachRound.{EachAt, asks_each, delivers_each, own_keeps, own_ticks, hosts_steady}
 use Rattle.lagprogress.proofs.Halves.{keeps_steady}
 use Rattle.lagprogress.proofs.HostRound.{of_side}
 use Rattle.lagprogress.proofs.Knowing.{placed}
@@ -20,6 +17,9 @@ use Rattle.lagprogress.proofs.OnePort.{AtPort, at_number}
 use Rattle.lagprogress.proofs.OneRound.{IsAsk, all_ask, asks_twice, same_ports_then}
 use Rattle.lagprogress.proofs.Passing.{sends_due}
 use Rattle.lagprogress.proofs.Quieting.{quiet_ports}
+use Rattle.lagsystem.specs.declared.drive.Reply.TheVariants as answer
+use Rattle.lagscript.specs.declared.event.Event.TheVariants as event
+use Rattle.lagprogress.proofs.Lasting.{ends_at}
 
 -- once a port whose link is up has been asked, it has no LACPDU due
 
@@ -193,11 +193,9 @@ round_is_host_round gives old new steady h =
 
 pub rounds_are_host_rounds : (gives : Algorithms) → RoundsAreHostRounds gives
 rounds_are_host_rounds gives zero old new steady h = h
-rounds_are_host_rounds gives (suc n) old new steady h = (
-  h.0,
-  rounds_are_host_rounds gives n old h.0 steady h.1,
-  round_is_host_round gives h.0 new (rounds_steady gives n old h.0 steady h.1) h.2,
-)
+rounds_are_host_rounds gives (suc n) old new steady h =
+    let before = rounds_are_host_rounds gives n old h.0 steady h.1 in
+    (h.0, before, round_is_host_round gives h.0 new (hosts_steady gives n old h.0 steady before) h.2)
 
 -- the loop of two hosts is one
 

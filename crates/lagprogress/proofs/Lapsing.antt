@@ -11,6 +11,7 @@ use Rattle.lagprogress.proofs.Knowing.{Recorded}
 use Rattle.lagprogress.proofs.OneRound.{Passes, still_sounds}
 use Rattle.lagprogress.proofs.Sounding.{Calm, Sounds, counts_sounds, mux_sounds, not_gone, not_silent, periodic_runs, sounds_first}
 use Rattle.lagprogress.proofs.Timers.{runs_keep, takes_keep}
+use Rattle.lagprogress.proofs.OneCable.{ticks}
 
 -- EXPIRED for so many ticks more at the least; the partner is active, and Short Timeout stands recorded of it
 abbrev pub Lapsed : ℕ → Machines → Type 0
@@ -279,13 +280,6 @@ pub begins_lasting : (u : Lacpdu) (p : Machines) → activity u ≡ true → p.e
     → Recorded u 1 p → Lasting u 309 p
 begins_lasting u p on up rest timed r =
     (omega arith, (sounds_first false p rest timed (slow_calm (Recorded u 1) p (recorded_kept u on) up r), inl r))
-
--- after a tick it has still recorded its partner as active
-pub lasting_active : (u : Lacpdu) (k : ℕ) (p q : Machines) → activity u ≡ true → p.enabled ≡ true
-    → RunsToRest receive_rows (count_down p) q → AtRest periodic_rows p → Lasting u k p → (bits_of q.partner.state).activity ≡ true
-lasting_active u k p q on up h rest y =
-    (either_kept (Recorded u 1) (λ r. Lapsed 30 r ⊎ Tails r) (recorded_kept u on) (either_kept (Lapsed 30) Tails (lapsed_kept 30) tails_kept)).active q
-    (tick_phase u p q on up h rest y.1.1)
 
 -- and before it
 pub lasting_now : (u : Lacpdu) (k : ℕ) (p : Machines) → activity u ≡ true → Lasting u k p → (bits_of p.partner.state).activity ≡ true

@@ -1,17 +1,15 @@
 -- What healthy rounds leave of the ports and aggregators of a system.
 use Rattle.lagprogress.proofs.Common.{List, Option, Some, [], ap, arith, filter, inl, inr, length, option_map, refl, slice_get, subst, suc, sym, true}
-use Rattle.lagprogress.proofs.Common.{zero, ℕ, ◌++◌, ◌==◌, ◌∙◌, ◌∷◌, ◌≡◌, ◌≤◌, nat_tests, slice_get_cases, slice_get_within, AllByRecursion, Key}
-use Rattle.lagprogress.proofs.Common.{Party, Side, find_at, Machines, receive_rows, RunsToRest, count_down, Table, PortConfig, SystemPort}
-use Rattle.lagprogress.proofs.Common.{configured_numbers, model_port_of, number_of_port, IsSound, SystemState, port_numbers, with_system_ports}
-use Rattle.lagprogress.proofs.Common.{with_table, all-get, are_numbered, ports_rise, Algorithms, LinkState, WorldState, half, port_at, AllHeard}
-use Rattle.lagprogress.proofs.Common.{EndsHealthyCable, EnoughAggregators, EnoughLinks, IsHealthyAt, Rounds, asks_all, ticks_of_both}
-use Rattle.lagprogress.proofs.Common.{aggregators_with, ports_with, IsSteady}
-use Rattle.lagprogress.proofs.ComingUp.{events_keep, zero_on}
+use Rattle.lagprogress.proofs.Common.{zero, ℕ, ◌==◌, ◌∙◌, ◌∷◌, ◌≡◌, ◌≤◌, nat_tests, slice_get_cases, slice_get_within, AllByRecursion, Key, Party}
+use Rattle.lagprogress.proofs.Common.{Side, find_at, Machines, receive_rows, RunsToRest, count_down, PortConfig, SystemPort, configured_numbers}
+use Rattle.lagprogress.proofs.Common.{model_port_of, number_of_port, IsSound, SystemState, port_numbers, all-get, are_numbered, ports_rise}
+use Rattle.lagprogress.proofs.Common.{Algorithms, LinkState, WorldState, half, port_at, AllHeard, EndsHealthyCable, EnoughAggregators, EnoughLinks}
+use Rattle.lagprogress.proofs.Common.{HostRounds, IsHealthyAt, aggregators_with, ports_with, IsSteady}
 use Rattle.lagprogress.proofs.Counting.{count_same, counted}
-use Rattle.lagprogress.proofs.EachRound.{EachAt, RoundKeeps, own_keeps, own_ticks, round_each, rounds_steady}
+use Rattle.lagprogress.proofs.EachRound.{EachAt, RoundKeeps, own_keeps, own_ticks, host_each, hosts_keep, hosts_on, hosts_steady}
 use Rattle.lagprogress.proofs.Linked.{many}
 use Rattle.lagprogress.proofs.OnePort.{AtPort, at_number, same_place}
-use Rattle.lagprogress.proofs.Progressing.{Ends, end_of}
+use Rattle.lagprogress.proofs.Starting.{Ends, end_of}
 
 -- what stays of each port
 
@@ -26,21 +24,14 @@ pub alike_ticks : (n : ℕ) (x : Machines) (m : ℕ) (p q : Machines) → RunsTo
     → AtPort n (Alike x) m q
 alike_ticks n x = own_ticks (λ party up. (party ≡ x.party) × (up ≡ x.enabled)) n
 
-pub rounds_alike : (gives : Algorithms) (n : ℕ) (old new : WorldState) → IsSteady old → Rounds gives n old new → (s : Side) (k : ℕ)
+pub rounds_alike : (gives : Algorithms) (n : ℕ) (old new : WorldState) → IsSteady old → HostRounds gives n old new → (s : Side) (k : ℕ)
     (x : SystemPort) → slice_get (half s old).state.system_ports k ≡ Some x → EachAt (AtPort x.number (Alike x.port)) s new
 rounds_alike gives n old new steady h s k x there =
     let st = (half s old).state in
-    zero_on gives (λ m j. EachAt (AtPort x.number (Alike x.port)) s j) old
+    hosts_on gives (λ m j. EachAt (AtPort x.number (Alike x.port)) s j) old
     (at_number (Alike x.port) 0 st.system_ports k x (ports_rise st (steady s).0.ports) there (refl, refl))
-    (λ m i j q a. round_each (AtPort x.number (Alike x.port)) (AtPort x.number (Alike x.port)) (alike_keeps x.number x.port)
-    (alike_ticks x.number x.port) s gives i j q a) n new h
-
-module _ (X : Type 0) (g : SystemState → X)
-    (kept : (s : SystemState) (ports : List SystemPort) (t : Table) → g (with_table (with_system_ports s ports) t) ≡ g s) where
-  pub rounds_keep : (gives : Algorithms) (n : ℕ) (old new : WorldState) → Rounds gives n old new → (s : Side)
-      → g (half s new).state ≡ g (half s old).state
-  rounds_keep gives n old new h = zero_on gives (λ m j. (s : Side) → g (half s j).state ≡ g (half s old).state) old (λ s. refl)
-      (λ m i j q a s. events_keep X g kept gives (ticks_of_both ++ (asks_all i.links ++ q.delivers)) q.replies i j q.acts s ∙ a s) n new h
+    (λ m i j q a. host_each (AtPort x.number (Alike x.port)) (AtPort x.number (Alike x.port)) (alike_keeps x.number x.port)
+    (alike_keeps x.number x.port) (alike_ticks x.number x.port) s gives i j q a) n new h
 
 -- the system is as it was, but for its machines and its table
 pub record IsAsBefore (s : Side) (old new : WorldState) : Type 0 where
@@ -50,15 +41,15 @@ pub record IsAsBefore (s : Side) (old new : WorldState) : Type 0 where
   pub alike : (k : ℕ) (x y : SystemPort) → slice_get (half s old).state.system_ports k ≡ Some x
       → slice_get (half s new).state.system_ports k ≡ Some y → Alike x.port y.port
 
-pub as_before : (gives : Algorithms) (n : ℕ) (old new : WorldState) → IsSteady old → Rounds gives n old new → (s : Side) → IsAsBefore s old new
+pub as_before : (gives : Algorithms) (n : ℕ) (old new : WorldState) → IsSteady old → HostRounds gives n old new → (s : Side) → IsAsBefore s old new
 as_before gives n old new steady h s =
-    let now = rounds_steady gives n old new steady h in
-    let ports = rounds_keep (List PortConfig) (λ t. t.ports) (λ t a b. refl) gives n old new h s in
+    let now = hosts_steady gives n old new steady h in
+    let ports = hosts_keep (List PortConfig) (λ t. t.ports) (λ t a b. refl) gives n old new h s in
     let numbers : port_numbers (half s new).state.system_ports ≡ port_numbers (half s old).state.system_ports =
     (now s).0.ports.same ∙ (ap configured_numbers ports ∙ sym (steady s).0.ports.same) in
     record {
-      keys = rounds_keep (List Key) (λ t. t.keys) (λ t a b. refl) gives n old new h s;
-      limit = rounds_keep (Option ℕ) (λ t. t.max_links) (λ t a b. refl) gives n old new h s;
+      keys = hosts_keep (List Key) (λ t. t.keys) (λ t a b. refl) gives n old new h s;
+      limit = hosts_keep (Option ℕ) (λ t. t.max_links) (λ t a b. refl) gives n old new h s;
       numbers = numbers;
       alike = λ k x y e f. all-get (λ (z : SystemPort). AtPort x.number (Alike x.port) z.number z.port) (half s new).state.system_ports k y f
           (rounds_alike gives n old new steady h s k x e)

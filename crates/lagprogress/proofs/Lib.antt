@@ -16,15 +16,15 @@ mod Passing
 mod Sounding
 mod OneCable
 mod EndFacts
+mod Unchanged
 mod Linked
 mod Delivering
 mod OneRound
 mod RoundEvents
 mod Claims
 mod Telling
-mod Progressing
+mod Starting
 mod Lapsing
-mod OneActive
 mod HostKnowing
 mod Climbing
 mod Quieting
@@ -37,7 +37,6 @@ mod Stamps
 mod EachRound
 mod Lasting
 mod SharedLemmas
-mod HostEach
 mod Bundling
 mod Holding
 mod Answering
@@ -60,5 +59,5 @@ mod Reaching
 mod BesideCutOffs
 mod HostLoops
 mod Looping
-mod HostComingUp
-mod HostBundling
+mod OneLink
+mod PlainRounds

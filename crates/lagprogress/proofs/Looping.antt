@@ -6,11 +6,12 @@ use Rattle.lagprogress.proofs.Common.{cause_or_no_memory, world_setup, ends_of_c
 use Rattle.lagprogress.proofs.Common.{AsksAfterTick, AsksIn, HostRounds, IsBetweenTicks, IsHostRound, IsTickOf, TickOnce, Delivers, RefusesDelivery}
 use Rattle.lagprogress.proofs.Common.{RunsAll, RunsPart, AsksEnds, AsksPort, PlaysBetween, StopsBetween, StopsInHostRound, IsDeliver, IsHealthyAt}
 use Rattle.lagprogress.proofs.Common.{NothingInFlight, ticks_of_both, IsSteady}
-use Rattle.lagscript.specs.declared.event.Event.TheVariants as event
-use Rattle.lagprogress.proofs.HostEach.{hosts_steady}
+use Rattle.lagprogress.proofs.EachRound.{hosts_steady}
 use Rattle.lagprogress.proofs.HostLoops.{asking_is_host_round, asks_before, asks_behind}
 use Rattle.lagprogress.proofs.Linked.{each_side}
 use Rattle.lagprogress.proofs.Played.{as_many, some_within, below_or_same, cable_at, runs_append, runs_both}
+use Rattle.lagprogress.proofs.OneCable.{ticks}
+use Rattle.lagscript.specs.declared.event.Event.TheVariants as event
 
 -- events between ticks
 

@@ -8,14 +8,16 @@ use Rattle.lagscript.specs.declared.config.BadWorld.TheVariants.{SameSystem}
 use Rattle.cables.specs.declared.item.Item.{Item}
 use Rattle.lagscript.specs.Configs.{refusal_of_all}
 use Rattle.lagworld.specs.Sound.{IsSound}
-use Rattle.lagprogress.proofs.Bundling.{each_active_link_agrees, each_active_link_comes_up, each_link_agrees, each_link_comes_up, first_none}
+use Rattle.lagprogress.proofs.OneLink.{first_none}
 use Rattle.lagprogress.proofs.Carrying.{each_reached_has_carriers_up}
-use Rattle.lagprogress.proofs.ComingUp.{events_keep}
+use Rattle.lagprogress.proofs.Unchanged.{events_keep}
 use Rattle.lagprogress.proofs.Freeing.{none_is_held_where_active, nothing_is_held}
 use Rattle.lagprogress.proofs.Hearing.{no}
-use Rattle.lagprogress.proofs.HostBundling.{each_active_link_agrees_by_hosts, each_active_link_comes_up_by_hosts, each_link_agrees_by_hosts}
-use Rattle.lagprogress.proofs.HostBundling.{each_link_comes_up_by_hosts}
+use Rattle.lagprogress.proofs.Bundling.{each_active_link_agrees_by_hosts, each_active_link_comes_up_by_hosts, each_link_agrees_by_hosts}
+use Rattle.lagprogress.proofs.Bundling.{each_link_comes_up_by_hosts}
 use Rattle.lagprogress.proofs.Reaching.{reached_steady}
+use Rattle.lagprogress.proofs.HostRound.{left}
+use Rattle.lagprogress.proofs.HostLoops.{rounds_are_host_rounds}
 
 when_none : {X : Type 0} (b : Bool) (x : X) → (if b then Some x else None) ≡ None → b ≡ false
 when_none true x e = absurd (none-some x (sym e))
@@ -60,37 +62,6 @@ module _ {C : Type 0} (items : C → List Item) (limit : C → Option ℕ) where
   carriers : (gives : Algorithms) (j : WorldState) → IsReached items limit gives j → (s : Side) → CarriersAreUp (half s j).state
   carriers gives j r = each_reached_has_carriers_up gives r.config.systems r.events r.replies r.start j r.starts r.made.systems r.runs
 
-  pub active_distribute : (gives : Algorithms) (n : ℕ) (old new : WorldState) → Rounds gives n old new
-      → LeadsTo items limit EachDistributes BothAreActive up_if_both_active gives n old new
-  active_distribute gives n old new h r ready enough i l healthy =
-      each_active_link_comes_up gives n i l old new (is_bundle BothAreActive gives old r ready).1 healthy enough h
-
-  pub active_agree : (gives : Algorithms) (n : ℕ) (old new : WorldState) → Rounds gives n old new
-      → LeadsTo items limit EachAgrees BothAreActive up_if_both_active gives n old new
-  active_agree gives n old new h r ready enough i l healthy =
-      let both = is_bundle BothAreActive gives old r ready in
-      each_active_link_agrees gives n i l old new both.0 both.1 healthy enough h
-
-  pub active_free : (gives : Algorithms) (n : ℕ) (old new : WorldState) → Rounds gives n old new
-      → LeadsTo items limit NothingStaysHeld BothAreActive freed_if_both_active gives n old new
-  active_free gives n old new h r ready enough s left =
-      none_is_held_where_active gives n old new s (is_bundle BothAreActive gives old r ready).1 (carriers gives old r s) enough h left
-
-  pub one_distributes : (gives : Algorithms) (n : ℕ) (old new : WorldState) → Rounds gives n old new
-      → LeadsTo items limit EachDistributes OneIsActive up_if_one_is gives n old new
-  one_distributes gives n old new h r ready enough i l healthy =
-      each_link_comes_up gives n i l old new (is_bundle OneIsActive gives old r ready).1 healthy enough h
-
-  pub one_agrees : (gives : Algorithms) (n : ℕ) (old new : WorldState) → Rounds gives n old new
-      → LeadsTo items limit EachAgrees OneIsActive up_if_one_is gives n old new
-  one_agrees gives n old new h r ready enough i l healthy =
-      let both = is_bundle OneIsActive gives old r ready in each_link_agrees gives n i l old new both.0 both.1 healthy enough h
-
-  pub one_frees : (gives : Algorithms) (n : ℕ) (old new : WorldState) → Rounds gives n old new
-      → LeadsTo items limit NothingStaysHeld OneIsActive freed_if_one_is gives n old new
-  one_frees gives n old new h r ready enough s left =
-      nothing_is_held gives n old new s (is_bundle OneIsActive gives old r ready).1 (carriers gives old r s) enough h left
-
   -- in healthy rounds of hosts
 
   pub hosts_distribute : (gives : Algorithms) (n : ℕ) (old new : WorldState) → (IsSteady old → HostRounds gives n old new)
@@ -116,3 +87,27 @@ module _ {C : Type 0} (items : C → List Item) (limit : C → Option ℕ) where
   one_host_agrees gives n old new h r ready enough i l healthy =
       let both = is_bundle OneIsActive gives old r ready in
       each_link_agrees_by_hosts gives n i l old new both.0 both.1 healthy enough (h both.1.steady)
+
+  -- and in healthy rounds
+
+  pub active_distribute : (gives : Algorithms) (n : ℕ) (old new : WorldState) → Rounds gives n old new → LeadsTo items limit EachDistributes BothAreActive up_if_both_active gives n old new
+  active_distribute gives n old new h = hosts_distribute gives n old new (λ steady. rounds_are_host_rounds gives n old new steady h)
+
+  pub active_agree : (gives : Algorithms) (n : ℕ) (old new : WorldState) → Rounds gives n old new → LeadsTo items limit EachAgrees BothAreActive up_if_both_active gives n old new
+  active_agree gives n old new h = hosts_agree gives n old new (λ steady. rounds_are_host_rounds gives n old new steady h)
+
+  pub active_free : (gives : Algorithms) (n : ℕ) (old new : WorldState) → Rounds gives n old new
+      → LeadsTo items limit NothingStaysHeld BothAreActive freed_if_both_active gives n old new
+  active_free gives n old new h r ready enough s left =
+      none_is_held_where_active gives n old new s (is_bundle BothAreActive gives old r ready).1 (carriers gives old r s) enough h left
+
+  pub one_distributes : (gives : Algorithms) (n : ℕ) (old new : WorldState) → Rounds gives n old new → LeadsTo items limit EachDistributes OneIsActive up_if_one_is gives n old new
+  one_distributes gives n old new h = one_host_distributes gives n old new (λ steady. rounds_are_host_rounds gives n old new steady h)
+
+  pub one_agrees : (gives : Algorithms) (n : ℕ) (old new : WorldState) → Rounds gives n old new → LeadsTo items limit EachAgrees OneIsActive up_if_one_is gives n old new
+  one_agrees gives n old new h = one_host_agrees gives n old new (λ steady. rounds_are_host_rounds gives n old new steady h)
+
+  pub one_frees : (gives : Algorithms) (n : ℕ) (old new : WorldState) → Rounds gives n old new
+      → LeadsTo items limit NothingStaysHeld OneIsActive freed_if_one_is gives n old new
+  one_frees gives n old new h r ready enough s left =
+      nothing_is_held gives n old new s (is_bundle OneIsActive gives old r ready).1 (carriers gives old r s) enough h left

@@ -4,25 +4,27 @@ use Rattle.lagprogress.proofs.Common.{AggId, Lacpdu, One, Side, peer, Machines, 
 use Rattle.lagprogress.proofs.Common.{SystemState, all-get, Reply, Algorithms, WorldSteps, side_of, link_ends, ItemValue, LinkState, WorldState}
 use Rattle.lagprogress.proofs.Common.{accepts_at, half, is_accepted, link_at, port_at, put_on_port, put_ends, Arrives, DisabledAreUnsynchronized}
 use Rattle.lagprogress.proofs.Common.{EachActiveFrameArrives, EachFrameArrives, EachReachedHasUnsynchronized, GetsPort, TakesFrame, BothAreActive}
-use Rattle.lagprogress.proofs.Common.{EndsHealthyCable, IsBundle, OneIsActive, IsRound, NothingInFlight, Rounds}
+use Rattle.lagprogress.proofs.Common.{EndsHealthyCable, IsBundle, OneIsActive, HostRounds, IsRound, NothingInFlight, Rounds}
 use Rattle.std.specs.Global.{Vec}
-use Rattle.lagscript.specs.declared.event.Event.TheVariants as event
-use Rattle.lagworld.specs.declared.reply.Reply.TheVariants as reply
 use Rattle.lagprogress.proofs.ArrivingLemmas.{is_data, offer_gets_port}
-use Rattle.lagprogress.proofs.Bundling.{Meets, Nowhere, all_by_place, as_before, awake_of, both_active, one_active, said, still_heard, ups_of}
+use Rattle.lagprogress.proofs.Bundling.{Meets, Nowhere, awake_of, both_active, one_active, said, ups_of, named_of}
 use Rattle.lagprogress.proofs.Carrying.{Lapses, LapsesAt, distributes_up, lapse_first, lapse_kept, lapse_settles, receive_lapses}
 use Rattle.lagprogress.proofs.Climbing.{PartnerInSync}
-use Rattle.lagprogress.proofs.ComingUp.{told, zero_on}
 use Rattle.lagprogress.proofs.EachPort.{OfEach, Step-each, first_each}
-use Rattle.lagprogress.proofs.EachRound.{EachAt, RoundKeeps, round_each, rounds_join, rounds_steady, same_index}
+use Rattle.lagprogress.proofs.EachRound.{EachAt, RoundKeeps, same_index, host_each, hosts_join, hosts_on, hosts_steady}
 use Rattle.lagprogress.proofs.FlyingLemmas.{OnItsWay, in_round}
 use Rattle.lagprogress.proofs.Halves.{both_first, keeps_steady}
 use Rattle.lagprogress.proofs.Linked.{EndIs, IsGood, Link, place_kept, push_there, events_each}
 use Rattle.lagprogress.proofs.OneCable.{OnCable, cable, placed, port_there, push, push_each, puts, takes_all, towards_there}
 use Rattle.lagprogress.proofs.OnePort.{AtPort}
 use Rattle.lagprogress.proofs.OneRound.{join}
-use Rattle.lagprogress.proofs.Progressing.{fits_fresh, knows_peer}
+use Rattle.lagprogress.proofs.HostKnowing.{fits_fresh, knows_peer}
 use Rattle.lagprogress.proofs.Timers.{runs_keep, takes_keep}
+use Rattle.lagprogress.proofs.ComingUp.{distributes, told_now}
+use Rattle.lagprogress.proofs.HostLoops.{rounds_are_host_rounds}
+use Rattle.lagscript.specs.declared.event.Event.TheVariants as event
+use Rattle.lagworld.specs.declared.reply.Reply.TheVariants as reply
+use Rattle.lagprogress.proofs.Lasting.{all_by_place, as_before, still_heard}
 
 -- the partner of a port in PORT_DISABLED is not synchronized
 
@@ -36,9 +38,9 @@ lapse_round = record {
   takes = λ n v p q h a. takes_keep Lapses v (λ p a e. absurd cc, tt) p q h a;
 }
 
-lapses_on : (gives : Algorithms) (n : ℕ) (old new : WorldState) (s : Side) → Rounds gives n old new → EachAt LapsesAt s old → EachAt LapsesAt s new
-lapses_on gives n old new s h a = zero_on gives (λ m j. EachAt LapsesAt s j) old a
-    (λ m i j q b. round_each LapsesAt LapsesAt lapse_round
+lapses_on : (gives : Algorithms) (n : ℕ) (old new : WorldState) (s : Side) → HostRounds gives n old new → EachAt LapsesAt s old → EachAt LapsesAt s new
+lapses_on gives n old new s h a = hosts_on gives (λ m j. EachAt LapsesAt s j) old a
+    (λ m i j q b. host_each LapsesAt LapsesAt lapse_round lapse_round
     (λ k p r run c. runs_keep Lapses receive_rows receive_lapses (count_down p) r run c) s gives i j q b) n new h
 
 pub each_reached_has_unsynchronized : (gives : Algorithms) → EachReachedHasUnsynchronized gives
@@ -84,10 +86,10 @@ module _ (Holds : LinkState → WorldState → Type 0) (first : ℕ) (gives : Al
     (m : Meets Holds Nowhere first gives old) where
   -- the healthy cable of a port that is up
   carrier : (n : ℕ) (s : Side) (agg : AggId) (octets : List ℕ) (r : Reply) (mid sent : WorldState) → DisabledAreUnsynchronized (half s old).state
-      → Rounds gives n old mid → (g : GetsPort s agg octets mid r sent) → EndsHealthyCable Holds s g.port old
+      → HostRounds gives n old mid → (g : GetsPort s agg octets mid r sent) → EndsHealthyCable Holds s g.port old
   carrier n s agg octets r mid sent quiet h g =
       let st = (half s mid).state in
-      let now = rounds_steady gives n old mid b.steady h in
+      let now = hosts_steady gives n old mid b.steady h in
       let up = distributes_up st agg g.port (now s).0 (lapses_on gives n old mid s h (unsynchronized (half s old).state quiet)) g.distributes in
       subst (λ p. EndsHealthyCable Holds s p old) up.3
       (still_heard Holds s old mid (as_before gives n old mid b.steady h s) b.heard up.0 up.1 up.2 up.4)
@@ -98,18 +100,20 @@ module _ (Holds : LinkState → WorldState → Type 0) (first : ℕ) (gives : Al
       → WorldSteps gives mid (event.Offer number agg octets) r sent → (q : IsRound gives sent new)
       → Arrives gives s agg octets.items mid r sent new q
   frame_arrives n number s agg octets r mid sent new quiet some enough h named takes step q =
-      let now = rounds_steady gives n old mid b.steady h in
+      let hosts = rounds_are_host_rounds gives n old mid b.steady h in
+      let now = hosts_steady gives n old mid b.steady hosts in
       let g = offer_gets_port gives number s agg octets r mid sent named (now s).0 takes step in
-      let it = carrier n s agg octets.items r mid sent quiet h g in
+      let it = carrier n s agg octets.items r mid sent quiet hosts g in
       let i = it.index in
       let l = it.link in
       let y = it.healthy in
       let at : Side → ℕ = λ t. port_at t l in
       let w = said old i l y in
+      let named_ends = named_of Holds Nowhere first gives old m i l y in
       let awake = awake_of Holds Nowhere first gives old m i l y in
-      let top = ups_of Holds Nowhere first gives old m i l y n mid enough h in
+      let top = ups_of Holds Nowhere first gives old m i l y n mid enough hosts in
       let fresh = top.2.fresh in
-      let heard = told at w awake top.0 mid top.1 top.2 (peer s) in
+      let heard = told_now at w named_ends awake top.0 mid top.1 top.2 (peer s) in
       let start = join 2 at w fresh.known One (peer s) PartnerInSync mid fresh.link heard in
       let plain = subst (λ o. IsFrame o Data_frame) (sym g.frame) (is_data octets.items takes.may.1) in
       let o = offer_link gives number s 2 at w fresh.known (peer s) PartnerInSync agg octets r mid sent g (sym it.joins) plain step start in
@@ -119,7 +123,7 @@ module _ (Holds : LinkState → WorldState → Type 0) (first : ℕ) (gives : Al
       ∙ none_flies gives n old mid some h (peer s) start.index (cable at start.flying) start.links.there in
       let alone : fl (peer s) ≡ g.item ∷ [] = push_there (peer s) g.item start.flying ∙ ap (λ xs. xs ++ g.item ∷ []) empty in
       let joins : map link_ends sent.links ≡ map link_ends old.links =
-      ap (map link_ends) g.sent ∙ (put_ends s g.port g.item mid.links ∙ rounds_join gives n old mid h) in
+      ap (map link_ends) g.sent ∙ (put_ends s g.port g.item mid.links ∙ hosts_join gives n old mid hosts) in
       let same : o.0.index ≡ i = same_index i o.0.index l fl old sent y.there joins on in
       let way : OnItsWay s l g.item old sent = record { index = o.0.index; flying = fl; links = on; first = ([], alone); joins = joins } in
       record {
@@ -134,7 +138,7 @@ module _ (Holds : LinkState → WorldState → Type 0) (first : ℕ) (gives : Al
         item = g.item;
         frame = g.frame;
         flies = towards_there (peer s) at fl ∙ alone;
-        up = in_round gives s i l w fresh.known g.item old awake y.there (fits_fresh at w awake 2 mid fresh (omega arith))
+        up = in_round gives s i l w fresh.known g.item old awake y.there (fits_fresh at w named_ends awake 2 mid fresh (omega arith))
             (λ t. knows_peer at w 2 0 0 mid fresh (omega arith) t) plain sent new q o.0 way;
       }
 

@@ -2,27 +2,23 @@
 use Rattle.lagprogress.proofs.Common.{Bool, Err, List, None, Ok, Option, Result, Some, [], ap, arith, false, inl, inr, refl, slice_get, subst, suc}
 use Rattle.lagprogress.proofs.Common.{sym, true, zero, ℕ, ◌++◌, ◌-◌, ◌∙◌, ◌∷◌, ◌≡◌, ◌≤◌, ◌⊎◌, cases_Bool, nat_tests, none-some, same_Some}
 use Rattle.lagprogress.proofs.Common.{AllByRecursion, Lacpdu, One, Side, Two, peer, Machines, is_silent, periodic_rows, receive_rows, AtRest}
-use Rattle.lagprogress.proofs.Common.{RunsToRest, after_sending, count_down, is_due, pdu_of, SystemFault, SystemPort, Step, Tick, Transmit}
-use Rattle.lagprogress.proofs.Common.{PeriodicIsSettled, IsLacpduOf, SystemState, port_index, Event, Reply, Algorithms, WorldRuns, WorldSteps}
-use Rattle.lagprogress.proofs.Common.{side_of, ItemValue, LinkState, WorldState, half, port_at, IsDeliver, IsRound, NothingInFlight, asks_all}
-use Rattle.lagprogress.proofs.Common.{asks_ends, IsTimed}
-use Rattle.slowpdu.specs.declared.pdu.Pdu.TheVariants as pdu
-use Rattle.lagsystem.specs.declared.drive.Reply.TheVariants as answer
-use Rattle.lagscript.specs.declared.event.Event.TheVariants as event
+use Rattle.lagprogress.proofs.Common.{RunsToRest, count_down, is_due, pdu_of, SystemFault, SystemPort, Step, Tick, Transmit, PeriodicIsSettled}
+use Rattle.lagprogress.proofs.Common.{IsLacpduOf, SystemState, port_index, Event, Reply, Algorithms, WorldRuns, WorldSteps, side_of, ItemValue}
+use Rattle.lagprogress.proofs.Common.{LinkState, WorldState, half, port_at, IsDeliver, IsRound, asks_all, asks_ends, IsTimed}
 use Rattle.lagprogress.proofs.EachPort.{OfEach, Tick-each}
-use Rattle.lagprogress.proofs.EndFacts.{Along, CanSound, IsEnd, Learnt, both_along, calm, known_along, nothing_along, sounds_along, ticks_end}
-use Rattle.lagprogress.proofs.EndFacts.{ticks_sounds, wait_of}
+use Rattle.lagprogress.proofs.EndFacts.{Along, CanSound, IsEnd, both_along, calm, nothing_along, sounds_along, ticks_end, ticks_sounds}
 use Rattle.lagprogress.proofs.Halves.{keeps_steady}
-use Rattle.lagprogress.proofs.Delivering.{deliver_link}
 use Rattle.lagprogress.proofs.Hearing.{no}
-use Rattle.lagprogress.proofs.OneCable.{OnCable, Went, cable, port_there, ticks, towards_there}
+use Rattle.lagprogress.proofs.OneCable.{OnCable, Went, ticks}
 use Rattle.lagprogress.proofs.OnePort.{AtPort, with_rest}
 use Rattle.lagprogress.proofs.Passing.{lacpdu_is_sent, sends_due, sent_carries}
 use Rattle.lagprogress.proofs.Sounding.{Sounds, now_due}
 use Rattle.lagprogress.proofs.Linked.{EndIs, Fits, Flying, Link, each_side, emit_link, end_kept, HasLacpdu, has_last, asked_which, beside_link}
-use Rattle.lagprogress.proofs.Linked.{emit_any, other_side, place_kept, push_there, other_ports, with_ports, both_at, of_end, end_here, at_end}
-use Rattle.lagprogress.proofs.Linked.{end_with, runs_all}
-pub use Rattle.lagprogress.proofs.Linked.{timed_ends}
+use Rattle.lagprogress.proofs.Linked.{other_side, place_kept, push_there, other_ports, with_ports, both_at, of_end, end_here, at_end, end_with}
+use Rattle.lagprogress.proofs.Linked.{runs_all}
+use Rattle.slowpdu.specs.declared.pdu.Pdu.TheVariants as pdu
+use Rattle.lagsystem.specs.declared.drive.Reply.TheVariants as answer
+use Rattle.lagscript.specs.declared.event.Event.TheVariants as event
 
 abbrev pub Nothing : Machines → Type 0
 Nothing p = Unit {0}
@@ -88,21 +84,9 @@ tick_both gives d at w c x Y Z q r old mid new fits along k h i l =
 
 -- an end is asked whose LACPDU comes nearer
 
--- An LACPDU of the end of s is not due now, and Z holds of it; or one is on the cable; or the other end has heard one.
-abbrev pub Midway : ℕ → (Side → ℕ) → (Side → Lacpdu) → (Side → ℕ) → Side → (Machines → Type 0) → WorldState → Type 0
-Midway d at w c s Z j =
-    Link d at w c s Z j
-    ⊎ (((l : Link d at w c s Nothing j) × Flying (l.flying (peer s)))
-    ⊎ Link d at w c (peer s) (Learnt d (w (peer (peer s))) (wait_of (w (peer s)))) j)
-
 -- Z holds of the end of s, or an LACPDU of it is on the cable
 abbrev pub Asked : ℕ → (Side → ℕ) → (Side → Lacpdu) → (Side → ℕ) → Side → (Machines → Type 0) → WorldState → Type 0
 Asked d at w c s Z j = Link d at w c s Z j ⊎ ((l : Link d at w c s Nothing j) × Flying (l.flying (peer s)))
-
-midway : (d : ℕ) (at : Side → ℕ) (w : Side → Lacpdu) (c : Side → ℕ) (s : Side) (Z : Machines → Type 0) (j : WorldState)
-    → Asked d at w c s Z j → Midway d at w c s Z j
-midway d at w c s Z j (inl l) = inl l
-midway d at w c s Z j (inr l) = inr (inl l)
 
 -- Z holds of a port of which Y holds and that has no LACPDU due
 abbrev pub Asks : ℕ → (Machines → Type 0) → (Machines → Type 0) → Lacpdu → Lacpdu → ℕ → Type 0
@@ -181,62 +165,6 @@ ask_which gives n p s d at w c Y Z r old new fits along asks l h = elim (asked_w
       | inr e ↦ inl (ask_peer gives n s d at w c Y r old new fits (subst (λ u. side_of n ≡ Some u) e named) along l
           (subst (λ u. WorldSteps gives old (event.Emit n (at u)) r new) e h))
     ]
-
--- any Emit event leaves what is midway
-ask_any : (gives : Algorithms) (n p : ℕ) (s : Side) (d : ℕ) (at : Side → ℕ) (w : Side → Lacpdu) (c : Side → ℕ) (Z : Machines → Type 0)
-    (r : Reply) (old new : WorldState) → Fits d w c → 1 ≤ d → Along Z (w s) (w (peer s)) (c s) d
-    → Midway d at w c s Z old → WorldSteps gives old (event.Emit n p) r new → Midway d at w c s Z new
-ask_any gives n p s d at w c Z r old new fits there along m h = elim m [
-  | inl l ↦ elim (ask_which gives n p s d at w c Z Z r old new fits along (λ p rest timed a y not. y) l h) [
-    | inl k ↦ inl k
-    | inr k ↦ midway d at w c s Z new k
-  ]
-  | inr k ↦ elim k [
-    | inl l ↦ (let e = emit_any gives n p d at w c s Nothing r old new fits (nothing_along (w s) (w (peer s)) (c s) d) (λ q y. y) l.0 h in
-        inr (inl (e.link, e.flying (peer s) l.1)))
-    | inr l ↦ inr (inr (emit_any gives n p d at w c (peer s) (Learnt d (w (peer (peer s))) (wait_of (w (peer s)))) r old new fits
-        (known_along (w (peer s)) (w (peer (peer s))) (c (peer s)) d there (fits (peer s)).3) (λ q y. y) l h).link)
-  ]
-]
-
--- the end of s was not asked yet, or it was
-abbrev Before : ℕ → (Side → ℕ) → (Side → Lacpdu) → (Side → ℕ) → Side → (Machines → Type 0) → (Machines → Type 0) → WorldState → Type 0
-Before d at w c s Y Z j = Link d at w c s Y j ⊎ Midway d at w c s Z j
-
-ask_before : (gives : Algorithms) (n p : ℕ) (s : Side) (d : ℕ) (at : Side → ℕ) (w : Side → Lacpdu) (c : Side → ℕ) (Y Z : Machines → Type 0)
-    (r : Reply) (old new : WorldState) → Fits d w c → 1 ≤ d → Along Y (w s) (w (peer s)) (c s) d → Asks d Y Z (w s) (w (peer s)) (c s)
-    → Along Z (w s) (w (peer s)) (c s) d → Before d at w c s Y Z old → WorldSteps gives old (event.Emit n p) r new
-    → Before d at w c s Y Z new
-ask_before gives n p s d at w c Y Z r old new fits there waits asks along (inr m) h =
-    inr (ask_any gives n p s d at w c Z r old new fits there along m h)
-ask_before gives n p s d at w c Y Z r old new fits there waits asks along (inl l) h =
-    elim (ask_which gives n p s d at w c Y Z r old new fits waits asks l h) [ inl k ↦ inl k | inr k ↦ inr (midway d at w c s Z new k) ]
-
--- the end of s itself is asked
-ask_now : (gives : Algorithms) (n : ℕ) (s : Side) (d : ℕ) (at : Side → ℕ) (w : Side → Lacpdu) (c : Side → ℕ) (Y Z : Machines → Type 0)
-    (r : Reply) (old new : WorldState) → Fits d w c → 1 ≤ d → side_of n ≡ Some s → Asks d Y Z (w s) (w (peer s)) (c s)
-    → Along Z (w s) (w (peer s)) (c s) d → Before d at w c s Y Z old → WorldSteps gives old (event.Emit n (at s)) r new
-    → Midway d at w c s Z new
-ask_now gives n s d at w c Y Z r old new fits there named asks along (inl l) h =
-    midway d at w c s Z new (ask_own gives n s d at w c Y Z r old new fits named asks l h)
-ask_now gives n s d at w c Y Z r old new fits there named asks along (inr m) h =
-    ask_any gives n (at s) s d at w c Z r old new fits there along m h
-
-deliver_later : (gives : Algorithms) (cn n : ℕ) (s : Side) (d : ℕ) (at : Side → ℕ) (w : Side → Lacpdu) (c : Side → ℕ) (Z : Machines → Type 0)
-    (r : Reply) (old new : WorldState) → 1 ≤ d → Fits d w c → Along Z (w s) (w (peer s)) (c s) d
-    → Midway d at w c s Z old → WorldSteps gives old (event.Deliver cn n) r new → Midway d at w c s Z new
-deliver_later gives cn n s d at w c Z r old new there fits along m h = elim m [
-  | inl l ↦ inl (deliver_link gives cn n d at w c s Z r old new fits along l h).link
-  | inr k ↦ elim k [
-    | inl l ↦ (let e = deliver_link gives cn n d at w c s Nothing r old new fits (nothing_along (w s) (w (peer s)) (c s) d) l.0 h in
-        elim (e.flying (peer s) l.1) [
-          | inl f ↦ inr (inl (e.link, f))
-          | inr heard ↦ inr (inr (join d at w c s (peer s) (Learnt d (w (peer (peer s))) (wait_of (w (peer s)))) new e.link (heard there)))
-        ])
-    | inr l ↦ inr (inr (deliver_link gives cn n d at w c (peer s) (Learnt d (w (peer (peer s))) (wait_of (w (peer s)))) r old new fits
-        (known_along (w (peer s)) (w (peer (peer s))) (c (peer s)) d there (fits (peer s)).3) l h).link)
-  ]
-]
 
 -- the events of a round
 
@@ -363,24 +291,6 @@ deliver_all gives M k = runs_all gives IsDeliver M one
     one (event.Deliver cn n) r old new d step m = k cn n r old new step m
     one e r old new d step m = absurd d
 
--- the rounds
-
--- what is left after a round: Z holds of the end of s, or the other end has heard an LACPDU of it
-abbrev pub Waits : ℕ → (Side → ℕ) → (Side → Lacpdu) → (Side → ℕ) → Side → (Machines → Type 0) → WorldState → Type 0
-Waits d at w c s Z j =
-    Link d at w c s Z j ⊎ Link d at w c (peer s) (Learnt d (w (peer (peer s))) (wait_of (w (peer s)))) j
-
-landed : (d : ℕ) (at : Side → ℕ) (w : Side → Lacpdu) (c : Side → ℕ) (s : Side) (Z : Machines → Type 0) (j : WorldState)
-    → NothingInFlight j → Midway d at w c s Z j → Waits d at w c s Z j
-landed d at w c s Z j none m = elim m [
-  | inl l ↦ inl l
-  | inr k ↦ elim k [
-    | inl l ↦ (let empty = none (peer s) l.0.index (cable at l.0.flying) l.0.links.there in
-        absurd (subst Flying (sym (towards_there (peer s) at l.0.flying) ∙ empty) l.1))
-    | inr l ↦ inr l
-  ]
-]
-
 -- what holds of the end of s in a round: X before it, V after its tick, Y then at rest, Z once it is asked and nothing is due
 pub record Passes (X V Y Z : Machines → Type 0) (v u : Lacpdu) (before c d : ℕ) : Type 0 where
   pub ticks : (p q : Machines) → RunsToRest receive_rows (count_down p) q → AtRest periodic_rows p → IsEnd d v u before p → X p → V q
@@ -397,37 +307,6 @@ at_rest d at w c s V Y j k l = other_ports l (λ t p rest timed a. (
   a.0,
   λ f. k p rest timed (subst (λ t. IsEnd d (w t) (w (peer t)) (c t) p) f a.0) (a.1 f),
 ))
-
-pub round_passes : (gives : Algorithms) (s : Side) (d : ℕ) (at : Side → ℕ) (w : Side → Lacpdu) (c : Side → ℕ) (X V Y Z : Machines → Type 0)
-    (old new : WorldState) → 1 ≤ d → Fits d w (ticked c) → Passes X V Y Z (w s) (w (peer s)) (c s) (ticked c s) d
-    → Link d at w c s X old → IsRound gives old new → Waits d at w (ticked c) s Z new
-round_passes gives s d at w c X V Y Z old new there fits k l h =
-    let u = unroll gives old new h in
-    let two = at_rest d at w (ticked c) s V Y u.two k.rests
-    (tick_both gives d at w c s X V u.tick_one.0 u.tick_two.0 old u.one u.two fits k.ticked k.ticks u.tick_one.1 u.tick_two.1 l) in
-    let o : AsksTwice s (at s) (asks_all old.links) = subst (λ p. AsksTwice s p (asks_all old.links)) (port_there s at l.flying)
-    (asks_twice s l.index old.links (cable at l.flying) l.links.there) in
-    let e = event.Emit o.number (at s) in
-    let a = runs_apart gives o.before (e ∷ e ∷ o.later) u.asked u.two u.six
-    (subst (λ es. WorldRuns gives u.two es u.asked u.six) o.is u.asks) in
-    let b = first_acts gives e (e ∷ o.later) a.2 a.0 u.six a.4 in
-    let first = ask_all gives (Before d at w (ticked c) s Y Z)
-    (λ n p r i j step m. ask_before gives n p s d at w (ticked c) Y Z r i j fits there k.waits k.asks k.asked m step)
-    o.before a.1 u.two a.0 o.firsts a.3 (inl two) in
-    let now = ask_now gives o.number s d at w (ticked c) Y Z b.2.0 a.0 b.0 fits there o.named k.asks k.asked first b.2.1 in
-    let six = ask_all gives (Midway d at w (ticked c) s Z)
-    (λ n p r i j step m. ask_any gives n p s d at w (ticked c) Z r i j fits there k.asked m step)
-    (e ∷ o.later) b.1 b.0 u.six (tt, o.lasts) b.3 now in
-    landed d at w (ticked c) s Z new h.empties
-    (deliver_all gives (Midway d at w (ticked c) s Z)
-    (λ cn n r i j step mid. deliver_later gives cn n s d at w (ticked c) Z r i j there fits k.asked mid step)
-    u.delivers u.replies u.six new u.arrives u.rest six)
-
--- an LACPDU of the end of s is nearer, or the other end has heard one
-abbrev pub Nearer : ℕ → (Side → ℕ) → (Side → Lacpdu) → (Side → ℕ) → Side → Bool → ℕ → WorldState → Type 0
-Nearer d at w c s fast most j =
-    ((1 ≤ most) × Link d at w c s (Sounds fast most) j)
-    ⊎ Link d at w c (peer s) (Learnt d (w (peer (peer s))) (wait_of (w (peer s)))) j
 
 pub still_sounds : (fast : Bool) (most : ℕ) (p : Machines) → AtRest periodic_rows p → is_silent p ≡ false → is_due p ≡ false
     → Sounds fast most p → 1 ≤ most
@@ -460,38 +339,3 @@ sounds_pass v u fast before c d most was can = record {
   asks = λ p rest timed a y not. (still_sounds fast (most - 1) p rest (calm d v u fast c p can a).0 not y, y);
   asked = later_along v u fast c d (most - 1) can;
 }
-
-pub round_nears : (gives : Algorithms) (s : Side) (d : ℕ) (at : Side → ℕ) (w : Side → Lacpdu) (c : Side → ℕ) (fast : Bool) (most : ℕ)
-    (old new : WorldState) → 1 ≤ d → Fits d w (ticked c) → CanSound (w s) (w (peer s)) fast (ticked c s) → CanSound (w s) (w (peer s)) fast (c s)
-    → Link d at w c s (Sounds fast most) old → IsRound gives old new → Nearer d at w (ticked c) s fast (most - 1) new
-round_nears gives s d at w c fast most old new there fits can was l h = elim (round_passes gives s d at w c (Sounds fast most)
-    (Sounds fast (most - 1)) (Sounds fast (most - 1)) (Later fast (most - 1)) old new there fits
-    (sounds_pass (w s) (w (peer s)) fast (c s) (ticked c s) d most was can) l h) [
-      | inl z ↦ inl (
-        (beside_here d at w (ticked c) s (Later fast (most - 1)) new z).0,
-        at_rest d at w (ticked c) s (Later fast (most - 1)) (Sounds fast (most - 1)) new (λ p rest timed a y. y.1) z,
-      )
-      | inr k ↦ inr k
-    ]
-
--- a round with something beside it that each event keeps
-pub round_holds : (gives : Algorithms) (x : Side) (d : ℕ) (at : Side → ℕ) (w : Side → Lacpdu) (c : Side → ℕ) (Y Z : Machines → Type 0)
-    (old new : WorldState) → Fits d w (ticked c) → Along Z (w x) (w (peer x)) (ticked c x) d
-    → ((p q : Machines) → RunsToRest receive_rows (count_down p) q → AtRest periodic_rows p → IsEnd d (w x) (w (peer x)) (c x) p → Y p → Z q)
-    → ((p : Machines) → Z p → Z (after_sending p))
-    → Link d at w c x Y old → IsRound gives old new → Link d at w (ticked c) x Z new
-round_holds gives x d at w c Y Z old new fits along k sends l h =
-    let u = unroll gives old new h in
-    let two = tick_both gives d at w c x Y Z u.tick_one.0 u.tick_two.0 old u.one u.two fits along k u.tick_one.1 u.tick_two.1 l in
-    let six = ask_all gives (Link d at w (ticked c) x Z)
-    (λ n p r i j step m. (emit_any gives n p d at w (ticked c) x Z r i j fits along sends m step).link)
-    (asks_all old.links) u.asked u.two u.six (all_ask old.links) u.asks two in
-    deliver_all gives (Link d at w (ticked c) x Z)
-    (λ cn n r i j step m. (deliver_link gives cn n d at w (ticked c) x Z r i j fits along m step).link)
-    u.delivers u.replies u.six new u.arrives u.rest six
-
--- and with nothing beside it, even if nothing is known of what comes
-pub round_keeps : (gives : Algorithms) (x : Side) (d : ℕ) (at : Side → ℕ) (w : Side → Lacpdu) (c : Side → ℕ) (old new : WorldState)
-    → Fits d w (ticked c) → Link d at w c x Nothing old → IsRound gives old new → Link d at w (ticked c) x Nothing new
-round_keeps gives x d at w c old new fits l h = round_holds gives x d at w c Nothing Nothing old new fits
-    (nothing_along (w x) (w (peer x)) (ticked c x) d) (λ p q r rest a y. y) (λ p y. y) l h

@@ -4,15 +4,15 @@ use Rattle.lagprogress.proofs.Common.{cases_Bool, nat_tests, AggId, Lacpdu, One,
 use Rattle.lagprogress.proofs.Common.{Offer, Step, system_move_result, port_index, becomes_slots, offers_slots, Event, Reply, AfterOffer, Algorithms}
 use Rattle.lagprogress.proofs.Common.{WorldSteps, offered_item, side_of, with_frame_counted, link_ends, HalfState, ItemValue, WorldState, half}
 use Rattle.lagprogress.proofs.Common.{put_on_port, with_half, put_ends, half_there, IsSteady}
-use Rattle.slowpdu.specs.declared.pdu.Pdu.TheVariants as pdu
-use Rattle.lagsystem.specs.declared.drive.Reply.TheVariants as answer
-use Rattle.lagscript.specs.declared.event.Event.TheVariants as event
 use Rattle.lagprogress.proofs.ArrivingLemmas.{is_data, same_ports}
 use Rattle.lagprogress.proofs.EachPort.{OfEach}
 use Rattle.lagprogress.proofs.Halves.{keeps_steady}
 use Rattle.lagprogress.proofs.Linked.{EndIs, Flying, HasLacpdu, IsGood, Link, has_on, each_side, place_kept, push_other, push_there, pushed}
 use Rattle.lagprogress.proofs.OneCable.{OnCable, half_logs, push, push_each, put_beside, puts}
 use Rattle.lagprogress.proofs.OnePort.{AtPort}
+use Rattle.slowpdu.specs.declared.pdu.Pdu.TheVariants as pdu
+use Rattle.lagsystem.specs.declared.drive.Reply.TheVariants as answer
+use Rattle.lagscript.specs.declared.event.Event.TheVariants as event
 
 -- the event offers a frame or moves a conversation
 abbrev pub IsQuiet : Event → Type 0
@@ -21,17 +21,17 @@ IsQuiet (event.Move n agg conv p) = Unit {0}
 IsQuiet _ = ⊥
 
 -- system s has sent an item on port p that bears no LACPDU
-record SendsPlain (s : Side) (old new : WorldState) : Type 0 where
-  port : ℕ
-  item : ItemValue
-  plain : (x : Lacpdu) → IsFrame item.octets (Carries (pdu.Lacpdu x)) → ⊥
-  sent : new.links ≡ put_on_port s port item old.links
+pub record SendsPlain (s : Side) (old new : WorldState) : Type 0 where
+  pub port : ℕ
+  pub item : ItemValue
+  pub plain : (x : Lacpdu) → IsFrame item.octets (Carries (pdu.Lacpdu x)) → ⊥
+  pub sent : new.links ≡ put_on_port s port item old.links
 
 -- no port has changed, and nothing was sent, or that
-record Quietly (s : Side) (old new : WorldState) : Type 0 where
-  same : (t : Side) → (half t new).state.system_ports ≡ (half t old).state.system_ports
-  links : (new.links ≡ old.links) ⊎ SendsPlain s old new
-  logs : (t : Side) → (half t new).histories ≡ (half t old).histories
+pub record Quietly (s : Side) (old new : WorldState) : Type 0 where
+  pub same : (t : Side) → (half t new).state.system_ports ≡ (half t old).state.system_ports
+  pub links : (new.links ≡ old.links) ⊎ SendsPlain s old new
+  pub logs : (t : Side) → (half t new).histories ≡ (half t old).histories
 
 one_half : (s t : Side) (h : HalfState) (j : WorldState) → h.state.system_ports ≡ (half s j).state.system_ports
     → (half t (with_half s h j)).state.system_ports ≡ (half t j).state.system_ports
@@ -72,7 +72,7 @@ offered gives s agg octets (Ok port) old new mid r h log after =
           ∙ (half_logs s (with_frame_counted agg octets (half s j)) j refl t ∙ half_logs s mid old log t);
     }
 
-quietly : (gives : Algorithms) (e : Event) (r : Reply) (old new : WorldState) → IsQuiet e → WorldSteps gives old e r new
+pub quietly : (gives : Algorithms) (e : Event) (r : Reply) (old new : WorldState) → IsQuiet e → WorldSteps gives old e r new
     → (s : Side) × Quietly s old new
 quietly gives (event.Offer n agg octets) r old new q h =
     let v = value_of (side_of n) _ h.0 in

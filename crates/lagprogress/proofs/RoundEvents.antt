@@ -1,13 +1,11 @@
 -- What the events of a round are to one of the systems.
-use Rattle.lagprogress.proofs.Common.{List, Option, Result, Some, inl, inr, refl, slice_get, subst, sym, ℕ, ◌∙◌, ◌≡◌, ◌⊎◌, One, Side, Two, Machines}
-use Rattle.lagprogress.proofs.Common.{receive_rows, RunsToRest, count_down, SystemFault, Step, Tick, Transmit, Reply, Algorithms, WorldSteps}
-use Rattle.lagprogress.proofs.Common.{LinkState, WorldState, half, asks_all}
-use Rattle.lagsystem.specs.declared.drive.Reply.TheVariants as answer
-use Rattle.lagscript.specs.declared.event.Event.TheVariants as event
-use Rattle.lagprogress.proofs.EachPort.{KeptBySettling, OfEach, Tick-each}
+use Rattle.lagprogress.proofs.Common.{List, Option, Result, Some, inl, inr, refl, slice_get, subst, sym, ℕ, ◌∙◌, ◌≡◌, ◌⊎◌, One, Side, Two}
+use Rattle.lagprogress.proofs.Common.{SystemFault, Step, Tick, Transmit, Reply, Algorithms, WorldSteps, LinkState, WorldState, half, asks_all}
 use Rattle.lagprogress.proofs.Linked.{each_side}
 use Rattle.lagprogress.proofs.OneCable.{Comes, came_off, emits, ticks}
 use Rattle.lagprogress.proofs.OneRound.{Unrolled, all_ask, ask_all, deliver_all}
+use Rattle.lagsystem.specs.declared.drive.Reply.TheVariants as answer
+use Rattle.lagscript.specs.declared.event.Event.TheVariants as event
 
 -- each system ticks once, and nothing else changes
 pub record BothTick (gives : Algorithms) (old new : WorldState) : Type 0 where
@@ -26,14 +24,6 @@ ticks_first gives old new u =
       links = two.links ∙ one.links;
       logs = λ t. two.logs t ∙ one.logs t;
     }
-
--- the ticks of a round make Q of P
-pub ticks_each : (P Q : ℕ → Machines → Type 0) → KeptBySettling Q
-    → ((n : ℕ) (p q : Machines) → RunsToRest receive_rows (count_down p) q → P n p → Q n q)
-    → (s : Side) (gives : Algorithms) (old new : WorldState) (u : Unrolled gives old new) → OfEach P (half s old).state.system_ports
-    → OfEach Q (half s u.two).state.system_ports
-ticks_each P Q k ticked s gives old new u a = Tick-each P Q k ticked (gives s) (half s old).state answer.Tick (half s u.two).state
-    ((ticks_first gives old new u).step s) a
 
 -- what each later event of a round keeps, the round keeps
 pub round_on : (gives : Algorithms) (M : WorldState → Type 0)

@@ -4,17 +4,17 @@ use Rattle.lagprogress.proofs.Common.{◌⊎◌, cases_Bool, nat_tests, AggId, K
 use Rattle.lagprogress.proofs.Common.{group-itself, party_of, Side, peer, ReceiveState, Current, Expired, Initialize, PortDisabled, Machines}
 use Rattle.lagprogress.proofs.Common.{mux_rows, selected, RunsPeriodic, receive_rows, same_receive_state, RunsToRest, count_down, SystemPort}
 use Rattle.lagprogress.proofs.Common.{none_enabled, rests, all-get, found_place, ports_rise, Algorithms, LinkState, WorldState, half, port_at}
-use Rattle.lagprogress.proofs.Common.{AllHeard, EnoughAggregators, EndKnows, Knows, AtEnd, IsHealthyAt, OfPort, Rounds, StandsByFull, WantsAggregator}
-use Rattle.lagprogress.proofs.Common.{AreOneGroup, DownWereLinkedTo, HasAggregators, LeadToKey, SharesGroup, IsSteady}
+use Rattle.lagprogress.proofs.Common.{AllHeard, EnoughAggregators, HostRounds, EndKnows, Knows, AtEnd, IsHealthyAt, OfPort, StandsByFull}
+use Rattle.lagprogress.proofs.Common.{WantsAggregator, AreOneGroup, DownWereLinkedTo, HasAggregators, LeadToKey, SharesGroup, IsSteady}
 use Rattle.lagprogress.proofs.Choosing.{down_as_read}
-use Rattle.lagprogress.proofs.ComingUp.{zero_on}
-use Rattle.lagprogress.proofs.EachRound.{EachAt, RoundKeeps, round_each, rounds_steady}
+use Rattle.lagprogress.proofs.EachRound.{EachAt, RoundKeeps, host_each, hosts_keep, hosts_on, hosts_steady}
 use Rattle.lagprogress.proofs.Hearing.{EnabledKeep, no, times_keep}
-use Rattle.lagprogress.proofs.Lasting.{IsAsBefore, as_before, ends_at, old_port, own_system, rounds_alike, rounds_keep, still_enough, still_heard}
-use Rattle.lagprogress.proofs.Lasting.{still_one, Alike}
+use Rattle.lagprogress.proofs.Lasting.{IsAsBefore, as_before, ends_at, old_port, own_system, rounds_alike, still_enough, still_heard, still_one}
+use Rattle.lagprogress.proofs.Lasting.{Alike}
 use Rattle.lagprogress.proofs.OnePort.{AtPort, at_number, mux_leaves, periodic_leaves}
-use Rattle.lagprogress.proofs.Progressing.{end_of, machines_there}
+use Rattle.lagprogress.proofs.Starting.{end_of}
 use Rattle.lagprogress.proofs.Selecting.{finds_aggregator, shares_aggregator}
+use Rattle.lagprogress.proofs.Linked.{machines_there}
 
 -- each port of system s that wants an aggregator is SELECTED, or STANDBY with a full one
 abbrev pub Finds : Side → WorldState → Type 0
@@ -118,17 +118,17 @@ pub is_disabled : (r : ReceiveState) (up : Bool) → up ≡ false → (not (same
 is_disabled PortDisabled up e h = refl
 is_disabled r up e h = absurd (no (sym h ∙ ap not e))
 
-still_sleeps : (gives : Algorithms) (n : ℕ) (old new : WorldState) → IsSteady old → Rounds gives n old new → (s : Side) (k : ℕ) (x : SystemPort)
+still_sleeps : (gives : Algorithms) (n : ℕ) (old new : WorldState) → IsSteady old → HostRounds gives n old new → (s : Side) (k : ℕ) (x : SystemPort)
     → slice_get (half s old).state.system_ports k ≡ Some x → x.port.enabled ≡ false → EachAt (AtPort x.number (Sleeps x.port)) s new
 still_sleeps gives n old new steady h s k x there down =
     let st = (half s old).state in
     let rest = rests receive_rows x.port
     (all-get (λ (y : SystemPort). none_enabled receive_rows y.port ≡ true) st.system_ports k x there (steady s).0.rested.0) in
-    zero_on gives (λ m j. EachAt (AtPort x.number (Sleeps x.port)) s j) old
+    hosts_on gives (λ m j. EachAt (AtPort x.number (Sleeps x.port)) s j) old
     (at_number (Sleeps x.port) 0 st.system_ports k x (ports_rise st (steady s).0.ports) there
     (record { down = down; disabled = is_disabled x.port.receive x.port.enabled down rest.1.0; partner = refl; idle = λ e. e }))
-    (λ m i j q a. round_each (AtPort x.number (Sleeps x.port)) (AtPort x.number (Sleeps x.port)) (sleeping_round x.number x.port)
-    (sleeping_ticks x.number x.port) s gives i j q a) n new h
+    (λ m i j q a. host_each (AtPort x.number (Sleeps x.port)) (AtPort x.number (Sleeps x.port)) (sleeping_round x.number x.port)
+    (sleeping_round x.number x.port) (sleeping_ticks x.number x.port) s gives i j q a) n new h
 
 -- after the rounds
 
@@ -142,12 +142,12 @@ pub record Lasted (old new : WorldState) : Type 0 where
   pub sleeps : (s : Side) (k : ℕ) (x : SystemPort) → slice_get (half s old).state.system_ports k ≡ Some x → x.port.enabled ≡ false
       → EachAt (AtPort x.number (Sleeps x.port)) s new
 
-pub lasted : (gives : Algorithms) (n : ℕ) (old new : WorldState) → IsSteady old → Rounds gives n old new → Lasted old new
+pub lasted : (gives : Algorithms) (n : ℕ) (old new : WorldState) → IsSteady old → HostRounds gives n old new → Lasted old new
 lasted gives n old new steady h = record {
-  now = rounds_steady gives n old new steady h;
+  now = hosts_steady gives n old new steady h;
   before = as_before gives n old new steady h;
   alike = rounds_alike gives n old new steady h;
-  system = rounds_keep SystemId (λ z. z.system) (λ z ports table. refl) gives n old new h;
+  system = hosts_keep SystemId (λ z. z.system) (λ z ports table. refl) gives n old new h;
   sleeps = still_sleeps gives n old new steady h;
 }
 

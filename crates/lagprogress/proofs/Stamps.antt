@@ -1,27 +1,18 @@
 -- What the ends of a cable took last bears the present change counts.
 use Rattle.lagprogress.proofs.Common.{Bool, Err, List, Ok, Result, Some, [], ap, arith, eqb, eqb-true, false, inl, inr, is_some, refl, subst, sym}
-use Rattle.lagprogress.proofs.Common.{true, ℕ, ◌+◌, ◌==◌, ◌∙◌, ◌∷◌, ◌≡◌, ◌≤◌, ◌⊎◌, cases_Bool, true≢false, nat_tests, AllByRecursion, Lacpdu, Side}
-use Rattle.lagprogress.proofs.Common.{peer, cond_false, cond_true, ReceiveState, Current, Machines, periodic_rows, receive_rows, AtRest, RunsToRest}
-use Rattle.lagprogress.proofs.Common.{count_down, SystemFault, Received, SystemPort, Carries, IsFrame, Receive, Step, Tick, Transmit, CallPromise}
-use Rattle.lagprogress.proofs.Common.{SystemState, port_index, processes_or_stays, all-get, found_place, PortHistory, Reply, is_stamp, Algorithms}
-use Rattle.lagprogress.proofs.Common.{WorldSteps, set_last_lacpdu, side_of, stamped_in, set_taken, stamp_count, ItemValue, WorldState}
-use Rattle.lagprogress.proofs.Common.{change_count_in, half, history_at, taken_in, count_heard, read_log, timeout_time, IsRound, NothingInFlight}
-use Rattle.lagprogress.proofs.Common.{IsSteadySystem, IsTimed, most_current_while}
+use Rattle.lagprogress.proofs.Common.{true, ℕ, ◌==◌, ◌∙◌, ◌∷◌, ◌≡◌, ◌≤◌, ◌⊎◌, cases_Bool, true≢false, nat_tests, AllByRecursion, Lacpdu, Side, peer}
+use Rattle.lagprogress.proofs.Common.{cond_false, cond_true, SystemFault, Received, Carries, IsFrame, Receive, CallPromise, SystemState, port_index}
+use Rattle.lagprogress.proofs.Common.{processes_or_stays, PortHistory, Reply, is_stamp, Algorithms, WorldSteps, set_last_lacpdu, side_of, stamped_in}
+use Rattle.lagprogress.proofs.Common.{set_taken, stamp_count, ItemValue, WorldState, change_count_in, half, history_at, taken_in, count_heard}
+use Rattle.lagprogress.proofs.Common.{read_log}
+use Rattle.lagworld.specs.declared.histories.StampedLacpdu.{StampedLacpdu}
+use Rattle.lagprogress.proofs.Linked.{asked_which, each_side, is_took, peer_twice, put_other, put_there}
+use Rattle.lagprogress.proofs.OneCable.{Arrives, Back, Beside, IsStamped, OnCable, asks, delivers, logged, push_each, put}
+use Rattle.lagprogress.proofs.Passing.{marker_carries_none}
 use Rattle.slowpdu.specs.declared.pdu.Pdu.TheVariants as pdu
 use Rattle.lagsystem.specs.declared.drive.Reply.TheVariants as answer
 use Rattle.lagsystem.specs.declared.received.Received.TheVariants as received
 use Rattle.lagscript.specs.declared.event.Event.TheVariants as event
-use Rattle.lagworld.specs.declared.histories.StampedLacpdu.{StampedLacpdu}
-use Rattle.lagprogress.proofs.EachPort.{KeptBySettling, OfEach, Step-each, Tick-each}
-use Rattle.lagprogress.proofs.EndFacts.{Learnt, Says, short_timeout, wait_of}
-use Rattle.lagprogress.proofs.Lapsing.{some_wait}
-use Rattle.lagprogress.proofs.OneRound.{timed_ends, unroll}
-use Rattle.lagprogress.proofs.RoundEvents.{BothTick, round_on, ticks_first}
-use Rattle.lagprogress.proofs.Linked.{EndIs, Link, asked_which, each_side, elsewhere_each, found, is_took, peer_twice, put_other, put_there}
-use Rattle.lagprogress.proofs.OneCable.{Arrives, Back, Beside, IsStamped, OnCable, asks, cable, delivers, logged, push_each, put, towards_there}
-use Rattle.lagprogress.proofs.OnePort.{AtPort, settling_leaves}
-use Rattle.lagprogress.proofs.Passing.{marker_carries_none}
-use Rattle.lagprogress.proofs.Timers.{runs_keep}
 
 -- histories
 
@@ -64,22 +55,10 @@ pub record Stamped (b : ℕ) (at : Side → ℕ) (k : Side → ℕ) (kept : Side
 abbrev pub Took : (Side → ℕ) → (Side → ℕ) → (Side → Bool) → Side → WorldState → Type 0
 Took at k kept t j = kept t ≡ true → is_stamp (k (peer t)) (taken_in (history_at (half t j).histories (at t))) ≡ true
 
--- current_while does not start anew
-abbrev pub Late : ℕ → Machines → Type 0
-Late most p = p.receive ≡ Current → p.current_while + 1 ≤ most
-
--- so it is at the end of t
-abbrev pub Low : (Side → ℕ) → ℕ → Side → WorldState → Type 0
-Low at most t j = OfEach (AtPort (at t) (Late most)) (half t j).state.system_ports
-
-low_settles : (n most : ℕ) → KeptBySettling (AtPort n (Late most))
-low_settles n most = settling_leaves (AtPort n (Late most))
-
 -- what an event leaves
 pub record Stamping (b : ℕ) (at k : Side → ℕ) (kept : Side → Bool) (old new : WorldState) : Type 0 where
   pub world : Stamped b at k kept new
   pub took : 1 ≤ b → (t : Side) → Took at k kept t old → Took at k kept t new
-  pub low : 1 ≤ b → (t : Side) (most : ℕ) → Low at most t old → Low at most t new ⊎ Took at k kept t new
 
 pub took_same : (at k : Side → ℕ) (kept : Side → Bool) (t : Side) (old new : WorldState) → (half t new).histories ≡ (half t old).histories → Took at k kept t old
     → Took at k kept t new
@@ -100,11 +79,6 @@ stamps_emit gives n s b at k kept r old new told l h =
             (sym (peer_twice s)) (l.counts s)) (l.items i);
       };
       took = λ i t y. took_same at k kept t old new (a.logs t) y;
-      low = λ i t most y. inl (each_side (λ t. Low at most t old → Low at most t new) s
-          (λ y. Step-each (AtPort (at s) (Late most)) (low_settles (at s) most) (gives s) (half s old).state
-          (Transmit (at s)) (answer.Transmit a.a) (half s new).state (λ p told a e. a e) a.promise.step y)
-          (λ y. subst (λ (z : SystemState). OfEach (AtPort (at (peer s)) (Late most)) z.system_ports)
-          (sym a.peers) y) t y);
     }
 
 -- the event leaves the cable to itself
@@ -120,8 +94,6 @@ stamps_beside gives b at k kept old new l m = record {
     items = l.items;
   };
   took = λ i t y there. subst (λ o. is_stamp (k (peer t)) (taken_in o) ≡ true) (sym (m.logs t)) (y there);
-  low = λ i t most y. inl (elsewhere_each (Late most) (gives t) (at t) (half t old).state (half t new).state
-      (low_settles (at t) most) (m.calls t) y);
 }
 
 -- any port is asked
@@ -213,10 +185,6 @@ stamps_arrive gives s b at k kept old new l a = record {
   took = λ i t. each_side (λ t. Took at k kept t old → Took at k kept t new) s
       (λ y. elim (own i) [ inl z ↦ z | inr z ↦ took_same at k kept s old new z.1 y ])
       (λ y. took_same at k kept (peer s) old new a.peer_log y) t;
-  low = λ i t most. each_side (λ t. Low at most t old → Low at most t new ⊎ Took at k kept t new) s
-      (λ y. elim (own i) [ inl z ↦ inr z | inr z ↦ inl (subst (OfEach (AtPort (at s) (Late most))) (sym z.0) y) ])
-      (λ y. inl (subst (λ (z : SystemState). OfEach (AtPort (at (peer s)) (Late most)) z.system_ports)
-      (sym a.peers) y)) t;
 }
   where
     first : 1 ≤ b → AllByRecursion (IsStamped (k (peer s))) (a.item ∷ a.rest)
@@ -233,132 +201,7 @@ stamps_deliver gives cn n b at k kept r old new l h = elim (delivers gives cn n 
   | inr m ↦ stamps_beside gives b at k kept old new l m
 ]
 
--- ticks
-
-stamps_tick : (gives : Algorithms) (b : ℕ) (at k : Side → ℕ) (kept : Side → Bool) (old new : WorldState) → BothTick gives old new
-    → Stamped b at k kept old → Stamped b at k kept new
-stamps_tick gives b at k kept old new a l = record {
-  flying = l.flying;
-  index = l.index;
-  links = subst (OnCable l.index at l.flying) (sym a.links) l.links;
-  counts = λ t. ap (λ g. change_count_in (history_at g (at t))) (a.logs t) ∙ l.counts t;
-  there = λ t. ap (λ g. is_some (history_at g (at t))) (a.logs t) ∙ l.there t;
-  items = l.items;
-}
-
-pub most_is : (b : Bool) (r : ReceiveState) → r ≡ Current → most_current_while b r ≡ timeout_time b
-most_is b r e = grind (arith, nat_tests)
-
-pub late_ticks : (v : Lacpdu) (p q : Machines) → RunsToRest receive_rows (count_down p) q → Says v p → IsTimed p → Late (wait_of v) q
-late_ticks v p q h says timed = runs_keep (Late (wait_of v)) receive_rows
-    (λ p a e. cc, (λ p a e. cc, (λ p a e. cc, (λ p a e. cc, (λ p a e. cc, tt))))) (count_down p) q h (λ e. (let bound : p.current_while ≤ wait_of v =
-    subst (λ n. p.current_while ≤ n) (most_is p.short p.receive e ∙ ap timeout_time says.2) timed.0 in
-    let some = some_wait (short_timeout v) in omega (arith, bound, some)))
-
--- in the round in which an LACPDU comes it does
-pub not_late : (d : ℕ) (v u : Lacpdu) (p : Machines) → Learnt d u (wait_of v) p → Late (wait_of v) p → ⊥
-not_late d v u p learnt late =
-    let some = some_wait (short_timeout v) in
-    let r = learnt.0.1 some in
-    let long = r.1 in
-    let short = late r.0.current in
-    omega (arith, long, short)
-
-low_ticked : (gives : ℕ → ℕ → ℕ → Type 0) (d : ℕ) (at : Side → ℕ) (w : Side → Lacpdu) (c : Side → ℕ) (x : Side) (Y : Machines → Type 0)
-    (t : Side) (old new : SystemState) → IsSteadySystem old → OfEach (AtPort (at t) (EndIs d w c x Y t)) old.system_ports
-    → Step gives old Tick answer.Tick new → OfEach (AtPort (at t) (Late (wait_of (w t)))) new.system_ports
-low_ticked gives d at w c x Y t old new steady ports step =
-    Tick-each (λ m p. AtPort (at t) (EndIs d w c x Y t) m p × AtRest periodic_rows p × IsTimed p)
-    (AtPort (at t) (Late (wait_of (w t)))) (low_settles (at t) (wait_of (w t)))
-    (λ m p q h b e. late_ticks (w t) p q h (b.0 e).0.0 b.2)
-    gives old answer.Tick new step
-    (timed_ends (AtPort (at t) (EndIs d w c x Y t)) old.system_ports steady.0.quiet.1 steady.1 ports)
-
--- a round
-
-abbrev pub Marked : (at k : Side → ℕ) (kept : Side → Bool) → (Side → Lacpdu) → WorldState → WorldState → Type 0
-Marked at k kept w old j = Stamped 1 at k kept j × ((t : Side) → Took at k kept t old → Took at k kept t j)
-    × ((t : Side) → Low at (wait_of (w t)) t j ⊎ Took at k kept t j)
-
-marked_on : (at k : Side → ℕ) (kept : Side → Bool) (w : Side → Lacpdu) (old i j : WorldState) → Stamping 1 at k kept i j → Marked at k kept w old i → Marked at k kept w old j
-marked_on at k kept w old i j s m = (
-  s.world,
-  λ t y. s.took (omega arith) t (m.1 t y),
-  λ t. elim (m.2 t) [ inl y ↦ s.low (omega arith) t (wait_of (w t)) y | inr y ↦ inr (s.took (omega arith) t y) ],
-)
-
--- after a round each end has current_while below its start, or took an LACPDU with the present count
-pub stamp_round : (gives : Algorithms) (d : ℕ) (at k : Side → ℕ) (kept : Side → Bool) (w : Side → Lacpdu) (c : Side → ℕ) (x : Side) (Y : Machines → Type 0)
-    (old new : WorldState) → Link d at w c x Y old → Stamped 1 at k kept old → IsRound gives old new
-    → Marked at k kept w old new
-stamp_round gives d at k kept w c x Y old new l st h =
-    let u = unroll gives old new h in
-    let both = ticks_first gives old new u in
-    round_on gives (Marked at k kept w old)
-    (λ n p r i j step m. marked_on at k kept w old i j (stamps_ask gives n p 1 at k kept r i j m.0 step) m)
-    (λ cn n r i j step m. marked_on at k kept w old i j (stamps_deliver gives cn n 1 at k kept r i j m.0 step) m) old new u (
-      stamps_tick gives 1 at k kept old u.two both st,
-      λ t y. took_same at k kept t old u.two (both.logs t) y,
-      λ t. inl (low_ticked (gives t) d at w c x Y t (half t old).state (half t u.two).state (l.steady t) (l.ports t) (both.step t)),
-    )
-
--- the invariant alone
-pub stamped_round : (gives : Algorithms) (b : ℕ) (at k : Side → ℕ) (kept : Side → Bool) (old new : WorldState) → Stamped b at k kept old → IsRound gives old new
-    → Stamped b at k kept new
-stamped_round gives b at k kept old new l h =
-    let u = unroll gives old new h in
-    round_on gives (Stamped b at k kept) (λ n p r i j step m. (stamps_ask gives n p b at k kept r i j m step).world)
-    (λ cn n r i j step m. (stamps_deliver gives cn n b at k kept r i j m step).world) old new u
-    (stamps_tick gives b at k kept old u.two (ticks_first gives old new u) l)
-
 -- the LACPDU that the end of t took last bears the present change count of its sender, if the port at the end has a history
 abbrev pub Present : (Side → ℕ) → Side → WorldState → Type 0
 Present at t j = is_some (history_at (half t j).histories (at t)) ≡ true
     → is_stamp (change_count_in (history_at (half (peer t) j).histories (at (peer t)))) (taken_in (history_at (half t j).histories (at t))) ≡ true
-
-module _ (at : Side → ℕ) (old new : WorldState) where
-  abbrev counts_in : Side → ℕ
-  counts_in s = change_count_in (history_at (half s old).histories (at s))
-
-  abbrev kept_in : Side → Bool
-  kept_in s = is_some (history_at (half s old).histories (at s))
-
-  -- a round that begins with nothing on the cable
-  marked : (gives : Algorithms) (d : ℕ) (w : Side → Lacpdu) (c : Side → ℕ) (x : Side) (Y : Machines → Type 0) → Link d at w c x Y old
-      → NothingInFlight old → IsRound gives old new → Marked at counts_in kept_in w old new
-  marked gives d w c x Y l none h = stamp_round gives d at counts_in kept_in w c x Y old new l (record {
-    flying = l.flying;
-    index = l.index;
-    links = l.links;
-    counts = λ s. refl;
-    there = λ s. refl;
-    items = λ i s. subst (AllByRecursion (IsStamped (counts_in (peer s)))) (sym (sym (towards_there s at l.flying)
-        ∙ none s l.index (cable at l.flying) l.links.there)) tt;
-  }) h
-
-  present : (w : Side → Lacpdu) → Marked at counts_in kept_in w old new → (t : Side) → Took at counts_in kept_in t new → Present at t new
-  present w m t took there = subst (λ n. is_stamp n (taken_in (history_at (half t new).histories (at t))) ≡ true) (sym (m.0.counts (peer t)))
-      (took (sym (m.0.there t) ∙ there))
-
-  pub present_kept : (gives : Algorithms) (d : ℕ) (w : Side → Lacpdu) (c : Side → ℕ) (x : Side) (Y : Machines → Type 0)
-      → Link d at w c x Y old → NothingInFlight old → IsRound gives old new → (t : Side) → Present at t old → Present at t new
-  present_kept gives d w c x Y l none h t was =
-      let m = marked gives d w c x Y l none h in present w m t (m.1 t was)
-
-  -- where current_while starts anew in the round, the end took an LACPDU in it
-  pub present_heard : (gives : Algorithms) (d : ℕ) (w : Side → Lacpdu) (c : Side → ℕ) (x : Side) (Y : Machines → Type 0)
-      → Link d at w c x Y old → NothingInFlight old → IsRound gives old new → (t : Side) (e : ℕ) (b : Side → ℕ)
-      → Link e at w b t (Learnt e (w (peer t)) (wait_of (w t))) new → Present at t new
-  present_heard gives d w c x Y l none h t e b q =
-      let m = marked gives d w c x Y l none h in
-      elim (m.2 t) [
-        | inl low ↦ (let ports = (half t new).state.system_ports in
-            let place = q.place t in
-            let it = found (at t) place.0 ports place.1 in
-            let number = found_place (at t) ports place.0 it.0 place.1 it.1 in
-            let learnt = (all-get (λ (y : SystemPort). AtPort (at t) (EndIs e w b t (Learnt e (w (peer t)) (wait_of (w t))) t) y.number y.port)
-            ports place.0 it.0 it.1 (q.ports t) number).1 refl in
-            let late = all-get (λ (y : SystemPort). AtPort (at t) (Late (wait_of (w t))) y.number y.port) ports place.0 it.0 it.1 low number in
-            absurd (not_late e (w t) (w (peer t)) it.0.port learnt late))
-        | inr took ↦ present w m t took
-      ]

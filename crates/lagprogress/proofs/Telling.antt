@@ -1,29 +1,26 @@
 -- Once an end has heard the other, it is told by an LACPDU when the other is synchronized.
 use Rattle.lagprogress.proofs.Common.{Bool, Err, List, None, Ok, Option, Result, Some, [], ap, arith, false, inl, inr, refl, slice_get, subst, sym}
 use Rattle.lagprogress.proofs.Common.{true, ℕ, ◌++◌, ◌∙◌, ◌∷◌, ◌≡◌, ◌≤◌, ◌⊎◌, cases_Bool, nat_tests, none-some, same_Some, AllByRecursion, Lacpdu}
-use Rattle.lagprogress.proofs.Common.{Side, peer, Machines, partner_synchronized, periodic_rows, receive_rows, AtRest, RunsToRest, after_sending}
-use Rattle.lagprogress.proofs.Common.{count_down, is_due, pdu_of, marker_due, SystemFault, Received, SystemPort, Carries, IsFrame, OnlyPortChangesBy}
-use Rattle.lagprogress.proofs.Common.{ProcessesLacpdu, Receive, Step, ThenSettles, Transmit, IsLacpduOf, SendsMarkerOf, TransmitsAt, TransmitsIf}
-use Rattle.lagprogress.proofs.Common.{CallPromise, SystemState, port_index, all-get, found_place, ports_rise, Reply, Algorithms, WorldSteps, side_of}
-use Rattle.lagprogress.proofs.Common.{ItemValue, WorldState, half, IsRound, NothingInFlight, IsTimed}
+use Rattle.lagprogress.proofs.Common.{Side, peer, Machines, partner_synchronized, after_sending, is_due, pdu_of, marker_due, SystemFault, Received}
+use Rattle.lagprogress.proofs.Common.{SystemPort, Carries, IsFrame, OnlyPortChangesBy, ProcessesLacpdu, Receive, Step, ThenSettles, Transmit}
+use Rattle.lagprogress.proofs.Common.{IsLacpduOf, SendsMarkerOf, TransmitsAt, TransmitsIf, CallPromise, SystemState, port_index, all-get, found_place}
+use Rattle.lagprogress.proofs.Common.{ports_rise, Reply, Algorithms, WorldSteps, side_of, ItemValue, WorldState, half}
+use Rattle.lagprogress.proofs.Claims.{Claims, Owes, Owing, SaysSynced, Wakeful, claim_said, claims_or_not, owes_takes, owing_settles, takes_claim}
+use Rattle.lagprogress.proofs.Claims.{wakeful_along}
+use Rattle.lagprogress.proofs.Climbing.{PartnerInSync}
+use Rattle.lagprogress.proofs.Delivering.{deliver_moves}
+use Rattle.lagprogress.proofs.EachPort.{KeptBySettling, OfEach, asked_each}
+use Rattle.lagprogress.proofs.EndFacts.{Along, IsEnd, SameActor, takes_each, takes_end}
+use Rattle.lagprogress.proofs.Linked.{Arrived, EndIs, Fits, IsGood, Link, arrival, asked_which, beside_link, each_both, each_map, each_side}
+use Rattle.lagprogress.proofs.Linked.{elsewhere_each, emit_link, found, peer_twice, push_other, push_there, put_other, put_there}
+use Rattle.lagprogress.proofs.OneCable.{Arrives, Back, Beside, Went, push, put}
+use Rattle.lagprogress.proofs.OnePort.{AtPort, at_number, settling_leaves}
+use Rattle.lagprogress.proofs.OneRound.{same_ports_then}
+use Rattle.lagprogress.proofs.Passing.{carries_one, lacpdu_is_sent, marker_carries_none, sends_due, sent_carries}
 use Rattle.slowpdu.specs.declared.pdu.Pdu.TheVariants as pdu
 use Rattle.lagsystem.specs.declared.drive.Reply.TheVariants as answer
 use Rattle.lagsystem.specs.declared.received.Received.TheVariants as received
 use Rattle.lagscript.specs.declared.event.Event.TheVariants as event
-use Rattle.lagprogress.proofs.Claims.{Claims, Owes, Owing, SaysSynced, Wakeful, claim_said, claims_or_not, owes_takes, owes_ticks, owing_settles}
-use Rattle.lagprogress.proofs.Claims.{takes_claim, wakeful_along}
-use Rattle.lagprogress.proofs.Climbing.{PartnerInSync, ticks_partner}
-use Rattle.lagprogress.proofs.Delivering.{deliver_moves}
-use Rattle.lagprogress.proofs.EachPort.{KeptBySettling, OfEach, asked_each}
-use Rattle.lagprogress.proofs.RoundEvents.{round_on, ticks_each, ticks_first}
-use Rattle.lagprogress.proofs.EndFacts.{Along, IsEnd, Learnt, SameActor, takes_each, takes_end, ticks_end, wait_of}
-use Rattle.lagprogress.proofs.Linked.{Arrived, EndIs, Fits, IsGood, Link, arrival, asked_which, beside_link, each_both, each_map, each_side}
-use Rattle.lagprogress.proofs.Linked.{elsewhere_each, emit_link, found, peer_twice, push_other, push_there, put_other, put_there}
-use Rattle.lagprogress.proofs.OneCable.{Arrives, Back, Beside, Went, cable, push, put, towards_there}
-use Rattle.lagprogress.proofs.OnePort.{AtPort, at_number, settling_leaves}
-use Rattle.lagprogress.proofs.OneRound.{Unrolled, same_ports_then, tick_both, ticked, timed_ends, unroll}
-use Rattle.lagprogress.proofs.Passing.{carries_one, lacpdu_is_sent, marker_carries_none, sends_due, sent_carries}
-use Rattle.lagprogress.proofs.Stamps.{Late, late_ticks, not_late}
 
 -- what is on its way
 
@@ -358,29 +355,8 @@ module _ (gives : Algorithms) (d : ℕ) (at : Side → ℕ) (w : Side → Lacpdu
         | inr b ↦ left_alone old new l e.0.link b.0 b.1 m
       ]
 
-  -- from the ticks of a round to its end
-  pub told_on : (old new : WorldState) (u : Unrolled gives old new) → NothingInFlight new → On u.two → Held new × (OwesAt new ⊎ HoldsAt new)
-  told_on old new u none h =
-      let last = round_on gives On ask_on deliver_on old new u h in (
-        last.0,
-        elim last.1 [
-          | inl owes ↦ inl owes
-          | inr tells ↦ inr (subst (λ xs. Tells (w (peer s)) (w s) xs (HoldsAt new))
-              (sym (towards_there (peer s) at last.0.flying) ∙ none (peer s) last.0.index (cable at last.0.flying) last.0.links.there) tells)
-        ],
-      )
-
--- the partner is recorded as synchronized, or current_while does not start anew
-abbrev TookOrLate : ℕ → Machines → Type 0
-TookOrLate most p = PartnerInSync p ⊎ Late most p
-
 pub sync_settles : (n : ℕ) → KeptBySettling (AtPort n PartnerInSync)
 sync_settles n = settling_leaves (AtPort n PartnerInSync)
-
-late_settles : (n most : ℕ) → KeptBySettling (AtPort n (TookOrLate most))
-late_settles n most = settling_leaves (AtPort n (TookOrLate most))
-
--- a round
 
 -- the end of s owes an LACPDU, or its peer has recorded that it is synchronized
 abbrev pub Told : (Side → ℕ) → (Side → Lacpdu) → Side → WorldState → Type 0
@@ -390,83 +366,3 @@ Told at w s j = OfEach (AtPort (at s) (Owes (w (peer s)))) (half s j).state.syst
 -- the end of s is wakeful
 abbrev pub Wakes : (Side → ℕ) → (Side → Lacpdu) → Side → WorldState → Type 0
 Wakes at w s j = OfEach (AtPort (at s) (Wakeful (w s) (w (peer s)))) (half s j).state.system_ports
-
--- X holds of the end of s before the round, and by it the end is wakeful after the ticks
-module _ (gives : Algorithms) (d : ℕ) (at : Side → ℕ) (w : Side → Lacpdu) (c : Side → ℕ) (s : Side) (X : Machines → Type 0)
-    (old new : WorldState) (there : 1 ≤ d) (fits : Fits d w (ticked c))
-    (wakes : (p q : Machines) → RunsToRest receive_rows (count_down p) q → AtRest periodic_rows p → IsEnd d (w s) (w (peer s)) (c s) p → X p
-    → Wakeful (w s) (w (peer s)) q)
-    (l : Link d at w c s X old) (none : NothingInFlight old) (h : IsRound gives old new) where
-  round : Unrolled gives old new
-  round = unroll gives old new h
-
-  two : Link d at w (ticked c) s (Wakeful (w s) (w (peer s))) round.two
-  two = tick_both gives d at w c s X (Wakeful (w s) (w (peer s))) round.tick_one.0 round.tick_two.0 old round.one round.two fits
-      (wakeful_along (w s) (w (peer s)) (ticked c s) d there) wakes round.tick_one.1 round.tick_two.1 l
-
-  empty : two.flying (peer s) ≡ []
-  empty = sym (towards_there (peer s) at two.flying) ∙ none (peer s) two.index (cable at two.flying)
-      (subst (λ ls. slice_get ls two.index ≡ Some (cable at two.flying)) (ticks_first gives old new round).links two.links.there)
-
-  wakeful : Link d at w (ticked c) s (Wakeful (w s) (w (peer s))) new → Wakes at w s new
-  wakeful k = each_map (AtPort (at s) (EndIs d w (ticked c) s (Wakeful (w s) (w (peer s))) s)) (AtPort (at s) (Wakeful (w s) (w (peer s))))
-      (λ m p a e. (a e).1 refl) (half s new).state.system_ports (k.ports s)
-
-  pub told_kept : 2 ≤ c (peer s) → Told at w s old → Wakes at w s new × Told at w s new
-  told_kept known told =
-      let end = told_on gives d at w (ticked c) s PartnerInSync there fits (sync_settles (at (peer s))) (λ p y. y)
-      (λ p y. y) old new round h.empties (
-        two,
-        elim told [
-          | inl owes ↦ inl (each_map (AtPort (at s) (Owing d (w s) (w (peer s)) (ticked c s))) (AtPort (at s) (Owes (w (peer s))))
-              (λ m p b e. (b e).2) (half s round.two).state.system_ports
-              (ticks_each (λ m p. (AtPort (at s) (EndIs d w c s X s) m p × AtRest periodic_rows p × IsTimed p) × AtPort (at s) (Owes (w (peer s))) m p)
-              (AtPort (at s) (Owing d (w s) (w (peer s)) (ticked c s))) (owing_settles d (w s) (w (peer s)) (ticked c s) (at s) there)
-              (λ m p q run b e. (let was = b.0.0 e in (
-                ticks_end d (w s) (w (peer s)) (c s) p q (fits s).2 run was.0,
-                wakes p q run b.0.1 was.0 (was.1 refl),
-                owes_ticks (w (peer s)) p q run (b.1 e),
-              ))) s gives old new round
-              (each_both (λ m p. AtPort (at s) (EndIs d w c s X s) m p × AtRest periodic_rows p × IsTimed p) (AtPort (at s) (Owes (w (peer s))))
-              (half s old).state.system_ports
-              (timed_ends (AtPort (at s) (EndIs d w c s X s)) (half s old).state.system_ports (l.steady s).0.quiet.1 (l.steady s).1 (l.ports s))
-              owes)))
-          | inr y ↦ inr (subst (λ xs. Tells (w (peer s)) (w s) xs
-              (OfEach (AtPort (at (peer s)) PartnerInSync) (half (peer s) round.two).state.system_ports)) (sym empty)
-              (ticks_each (λ m p. AtPort (at (peer s)) (EndIs d w c s X (peer s)) m p × AtPort (at (peer s)) PartnerInSync m p)
-              (AtPort (at (peer s)) PartnerInSync) (sync_settles (at (peer s)))
-              (λ m p q run b e. ticks_partner d (w (peer s)) (w (peer (peer s))) (c (peer s)) p q (omega (arith, known)) run (b.0 e).0 (b.1 e))
-              (peer s) gives old new round
-              (each_both (AtPort (at (peer s)) (EndIs d w c s X (peer s))) (AtPort (at (peer s)) PartnerInSync)
-              (half (peer s) old).state.system_ports (l.ports (peer s)) y)))
-        ],
-      ) in (wakeful end.0, end.1)
-
-  -- the peer has just heard the end of s
-  pub told_heard : OfEach (AtPort (at (peer s)) (Learnt d (w (peer (peer s))) (wait_of (w (peer s))))) (half (peer s) new).state.system_ports
-      → Wakes at w s new × Told at w s new
-  told_heard heard =
-      let t = peer s in
-      let W = wait_of (w t) in
-      let end = told_on gives d at w (ticked c) s (TookOrLate W) there fits (late_settles (at t) W) (λ p y. y) (λ p y. inl y)
-      old new round h.empties (
-        two,
-        inr (subst (λ xs. Tells (w t) (w s) xs
-            (OfEach (AtPort (at t) (TookOrLate W)) (half t round.two).state.system_ports)) (sym empty)
-            (ticks_each (λ m p. AtPort (at t) (EndIs d w c s X t) m p × AtRest periodic_rows p × IsTimed p) (AtPort (at t) (TookOrLate W))
-            (late_settles (at t) W) (λ m p q run b e. inr (late_ticks (w t) p q run (b.0 e).0.0 b.2)) t gives old new round
-            (timed_ends (AtPort (at t) (EndIs d w c s X t)) (half t old).state.system_ports (l.steady t).0.quiet.1 (l.steady t).1
-            (l.ports t)))),
-      ) in (
-        wakeful end.0,
-        elim end.1 [
-          | inl owes ↦ inl owes
-          | inr y ↦ inr (each_map (λ m p. AtPort (at t) (TookOrLate W) m p × AtPort (at t) (Learnt d (w (peer t)) W) m p)
-              (AtPort (at t) PartnerInSync) (λ m p b e. in_sync p (b.0 e) (b.1 e)) (half t new).state.system_ports
-              (each_both (AtPort (at t) (TookOrLate W)) (AtPort (at t) (Learnt d (w (peer t)) W)) (half t new).state.system_ports y heard))
-        ],
-      )
-    where
-      in_sync : (p : Machines) → TookOrLate (wait_of (w (peer s))) p → Learnt d (w (peer (peer s))) (wait_of (w (peer s))) p → PartnerInSync p
-      in_sync p (inl y) learnt = y
-      in_sync p (inr late) learnt = absurd (not_late d (w (peer s)) (w (peer (peer s))) p learnt late)

@@ -20,4 +20,5 @@ pub mod Arriving
 pub mod Limited
 pub mod CutOff
 pub mod HostRounds
+pub mod ByHosts
 pub mod PlayedByHosts

@@ -41,3 +41,38 @@ pub fn each_link_agrees_by_hosts<F: Fn(u16, usize) -> usize>()
     ensures both { (one two : F) → EachActiveLinkAgreesByHosts (both_algorithms (F.post one) (F.post two)) }
     ensures one { (one two : F) → EachLinkAgreesByHosts (both_algorithms (F.post one) (F.post two)) }
 {}
+
+ghost use Rattle.lagprogress.specs.ByHosts.{ActiveSelectedPairsAgreeByHosts, ActiveSelectedPairsComeUpByHosts};
+ghost use Rattle.lagprogress.specs.ByHosts.{SelectedPairsAgreeByHosts, SelectedPairsComeUpByHosts};
+
+/// However few aggregators and links the systems have: where both ends of a healthy cable are SELECTED after 352 healthy rounds of
+/// hosts or more if both ends of each are active, after 661 if one is, both distribute, and in a sound world the agreement of that
+/// cable is `Same`, as in `selected_pairs_agree` (6.3.6, 6.4.12 to 6.4.16; profile).
+pub fn selected_pairs_agree_by_hosts<F: Fn(u16, usize) -> usize>()
+    ensures up_both { (one two : F) → ActiveSelectedPairsComeUpByHosts (both_algorithms (F.post one) (F.post two)) }
+    ensures up_one { (one two : F) → SelectedPairsComeUpByHosts (both_algorithms (F.post one) (F.post two)) }
+    ensures both { (one two : F) → ActiveSelectedPairsAgreeByHosts (both_algorithms (F.post one) (F.post two)) }
+    ensures one { (one two : F) → SelectedPairsAgreeByHosts (both_algorithms (F.post one) (F.post two)) }
+{}
+
+ghost use Rattle.lagprogress.specs.ByHosts.{EachActiveLimitedLinkAgreesByHosts, EachLimitedLinkAgreesByHosts};
+
+/// Where one system has a limit of links, as in `each_limited_link_agrees`: after 352 healthy rounds of hosts (35.2 s) or more if both
+/// ends of each healthy cable are active, after 661 (66.1 s) if one is, the agreement of each healthy cable is `Same`, or its end
+/// at the system with the limit is STANDBY in an aggregator that has as many members as the limit, each with a cable that agrees (6.4.14;
+/// profile).
+pub fn each_limited_link_agrees_by_hosts<F: Fn(u16, usize) -> usize>()
+    ensures both { (one two : F) → EachActiveLimitedLinkAgreesByHosts (both_algorithms (F.post one) (F.post two)) }
+    ensures one { (one two : F) → EachLimitedLinkAgreesByHosts (both_algorithms (F.post one) (F.post two)) }
+{}
+
+ghost use Rattle.lagprogress.specs.ByHosts.{CutOffIsDefaultedByHosts, EachLinkAgreesBesideCutOffsByHosts, EachLinkComesUpBesideCutOffsByHosts};
+
+/// Ports that are cut off, as in `cut_off_ports_are_defaulted`, are DEFAULTED after 931 healthy rounds of hosts (93.1 s) or more. Beside
+/// them, as in `each_link_comes_up_beside_cut_offs`, both ends of each healthy cable distribute from 962 (96.2 s) on, and in a sound
+/// world its agreement is `Same`, whatever was before the rounds (6.3.6, 6.4.12 to 6.4.16; profile).
+pub fn cut_offs_do_no_harm_by_hosts<F: Fn(u16, usize) -> usize>()
+    ensures defaulted { (one two : F) → CutOffIsDefaultedByHosts (both_algorithms (F.post one) (F.post two)) }
+    ensures up { (one two : F) → EachLinkComesUpBesideCutOffsByHosts (both_algorithms (F.post one) (F.post two)) }
+    ensures agrees { (one two : F) → EachLinkAgreesBesideCutOffsByHosts (both_algorithms (F.post one) (F.post two)) }
+{}

@@ -21,8 +21,9 @@ pub use arriving::{
 };
 pub use cut_off::{cut_off_ports_are_defaulted, each_link_comes_up_beside_cut_offs};
 pub use hosting::{
-    each_link_agrees_by_hosts, each_link_comes_up_by_hosts, ends_come_to_know_by_hosts,
-    hosts_play_rounds,
+    cut_offs_do_no_harm_by_hosts, each_limited_link_agrees_by_hosts, each_link_agrees_by_hosts,
+    each_link_comes_up_by_hosts, ends_come_to_know_by_hosts, hosts_play_rounds,
+    selected_pairs_agree_by_hosts,
 };
 pub use limits::{down_ports_are_unselected, each_limited_link_agrees};
 pub use loops::{play_host_round, play_host_rounds};

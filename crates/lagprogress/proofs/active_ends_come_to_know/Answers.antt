@@ -1,4 +1,4 @@
-use Rattle.lagprogress.proofs.Progressing.{active_ends_know}
+use Rattle.lagprogress.proofs.PlainRounds.{active_ends_know}
 use Rattle.lagprogress.proofs.active_ends_come_to_know.Goals as goal
 
 pub returns : goal.returns

@@ -1,4 +1,4 @@
-use Rattle.lagprogress.proofs.Bundling.{each_active_link_agrees, each_link_agrees}
+use Rattle.lagprogress.proofs.PlainRounds.{each_active_link_agrees, each_link_agrees}
 use Rattle.lagprogress.proofs.each_link_agrees.Goals as goal
 
 pub returns-clause-both : goal.returns-clause-both

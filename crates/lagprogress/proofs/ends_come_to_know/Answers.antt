@@ -1,4 +1,4 @@
-use Rattle.lagprogress.proofs.OneActive.{ends_know}
+use Rattle.lagprogress.proofs.PlainRounds.{ends_know}
 use Rattle.lagprogress.proofs.ends_come_to_know.Goals as goal
 
 pub returns : goal.returns

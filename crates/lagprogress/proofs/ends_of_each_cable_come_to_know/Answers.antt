@@ -1,5 +1,4 @@
-use Rattle.lagprogress.proofs.OneActive.{ends_of_each_know}
-use Rattle.lagprogress.proofs.Progressing.{active_ends_of_each_know}
+use Rattle.lagprogress.proofs.PlainRounds.{active_ends_of_each_know, ends_of_each_know}
 use Rattle.lagprogress.proofs.ends_of_each_cable_come_to_know.Goals as goal
 
 pub returns-clause-both : goal.returns-clause-both

@@ -1,4 +1,4 @@
-use Rattle.lagprogress.proofs.Bundling.{active_link_agrees, link_agrees}
+use Rattle.lagprogress.proofs.PlainRounds.{active_link_agrees, link_agrees}
 use Rattle.lagprogress.proofs.links_agree.Goals as goal
 
 pub returns-clause-both : goal.returns-clause-both

@@ -1,4 +1,4 @@
-use Rattle.lagprogress.proofs.Bundling.{active_link_comes_up, link_comes_up}
+use Rattle.lagprogress.proofs.PlainRounds.{active_link_comes_up, link_comes_up}
 use Rattle.lagprogress.proofs.links_come_up.Goals as goal
 
 pub returns-clause-one : goal.returns-clause-one

@@ -1,4 +1,4 @@
-use Rattle.lagprogress.proofs.Pairing.{active_selected_pairs_agree, active_selected_pairs_come_up, selected_pairs_agree, selected_pairs_come_up}
+use Rattle.lagprogress.proofs.PlainRounds.{active_selected_pairs_agree, active_selected_pairs_come_up, selected_pairs_agree, selected_pairs_come_up}
 use Rattle.lagprogress.proofs.selected_pairs_agree.Goals as goal
 
 pub returns-clause-up_both : goal.returns-clause-up_both

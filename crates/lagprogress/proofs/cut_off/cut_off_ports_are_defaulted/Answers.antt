@@ -1,4 +1,4 @@
-use Rattle.lagprogress.proofs.CutOffLemmas.{cut_off_is_defaulted}
+use Rattle.lagprogress.proofs.PlainRounds.{cut_off_is_defaulted}
 use Rattle.lagprogress.proofs.cut_off.cut_off_ports_are_defaulted.Goals as goal
 
 pub returns : goal.returns

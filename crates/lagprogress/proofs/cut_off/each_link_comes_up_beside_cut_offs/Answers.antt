@@ -1,4 +1,5 @@
-use Rattle.lagprogress.proofs.BesideCutOffs.{each_link_agrees_beside, each_link_comes_up_beside, none_is_held_beside}
+use Rattle.lagprogress.proofs.BesideCutOffs.{none_is_held_beside}
+use Rattle.lagprogress.proofs.PlainRounds.{each_link_agrees_beside, each_link_comes_up_beside}
 use Rattle.lagprogress.proofs.cut_off.each_link_comes_up_beside_cut_offs.Goals as goal
 
 pub returns-clause-up : goal.returns-clause-up

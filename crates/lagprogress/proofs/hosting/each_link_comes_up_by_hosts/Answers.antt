@@ -1,4 +1,4 @@
-use Rattle.lagprogress.proofs.HostBundling.{each_active_link_comes_up_by_hosts, each_link_comes_up_by_hosts}
+use Rattle.lagprogress.proofs.Bundling.{each_active_link_comes_up_by_hosts, each_link_comes_up_by_hosts}
 use Rattle.lagprogress.proofs.hosting.each_link_comes_up_by_hosts.Goals as goal
 
 pub returns-clause-both : goal.returns-clause-both

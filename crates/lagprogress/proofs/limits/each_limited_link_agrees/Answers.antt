@@ -1,4 +1,4 @@
-use Rattle.lagprogress.proofs.LimitLemmas.{each_active_limited_link_agrees, each_limited_link_agrees}
+use Rattle.lagprogress.proofs.PlainRounds.{each_active_limited_link_agrees, each_limited_link_agrees}
 use Rattle.lagprogress.proofs.limits.each_limited_link_agrees.Goals as goal
 
 pub returns-clause-both : goal.returns-clause-both
