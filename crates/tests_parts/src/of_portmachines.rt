@@ -250,6 +250,7 @@ fn long_timeouts(rt: HostRuntime) {
         Step::Is(Fact::Receive(ReceiveState::PortDisabled)),
         Step::Link(true),
         Step::Take(0x05),
+        Step::Select(Choice::Selected(AggId(1))),
         Step::Periodic,
         Step::Is(Fact::PeriodicIn(PeriodicState::Slow)),
         Step::Sends(Some(0x05)),
@@ -264,8 +265,10 @@ fn long_timeouts(rt: HostRuntime) {
         Step::Is(Fact::State(0x85)),
         Step::Run(29),
         Step::Is(Fact::Receive(ReceiveState::Expired)),
+        Step::Is(Fact::Chosen(Choice::Selected(AggId(1)))),
         Step::Run(1),
         Step::Is(Fact::Receive(ReceiveState::Defaulted)),
+        Step::Is(Fact::Chosen(Choice::Unselected)),
         Step::Is(Fact::State(0x45)),
     ];
     walk(&rt, port(true, false), &steps);
@@ -284,6 +287,7 @@ fn a_full_window(rt: HostRuntime) {
         Step::Sends(Some(0x07)),
         Step::Take(0x07),
         Step::Sends(None),
+        Step::Is(Fact::Ntt(true)),
         Step::Quiet(10),
         Step::Run(1),
         Step::Sends(Some(0x07)),
@@ -737,6 +741,8 @@ fn goes_down(rt: &impl Abort, actor: u8, ticks: u16, recorded: u8) {
         Step::Is(Fact::Receive(ReceiveState::PortDisabled)),
         Step::Is(Fact::PeriodicIn(PeriodicState::NoPeriodic)),
         Step::Is(Fact::Chosen(SELECTED)),
+        // its mux machine goes on, to ATTACHED
+        Step::Mux(true, 2),
     ];
     walk(rt, hearing_port(actor), &steps);
 }
