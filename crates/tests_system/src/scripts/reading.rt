@@ -266,7 +266,7 @@ fn aggregators_have_a_limit(rt: HostRuntime) -> Result<(), AllocError> {
     Ok(())
 }
 
-/// How many events are read to their end. tools/long-tests reads ten times as many, the most that a script may have,
+/// How many events are read to their end. tools/maintain/long-tests reads ten times as many, the most that a script may have,
 /// which takes too long beside other proofs.
 const EVENTS: usize = 10_000;
 
