@@ -3,7 +3,7 @@ use Rattle.lagffi.proofs.Common.{subst, sym, Option, Some, ℕ, SystemState, giv
 use Rattle.lagffi.proofs.Common.{ReadsHeldSystem, ReadsNotes}
 use mathlib.Core.Path.{◌≡◌}
 use Rattle.std.proofs.Common.{List}
-use Rattle.answering.specs.declared.note.MarkerNote.{MarkerNote}
+use Rattle.dataplane.specs.declared.answering.marker_note.MarkerNote.{MarkerNote}
 use Rattle.lagffi.specs.Holding.{HeldValue}
 
 pub called : (R : SystemState → SystemState → Type 0) (N : Type 0) {o n : Option HeldValue} {g : ℕ} {w : List MarkerNote} {k z : SystemState}

@@ -2,7 +2,7 @@
 use Rattle.std.specs.Prelude.{◌≡◌, ℕ, List, Option, None, Some}
 use Rattle.distributor.specs.Calls.{index_by_number}
 use Rattle.lagsystem.specs.State.{SystemState}
-use Rattle.answering.specs.declared.note.MarkerNote.{MarkerNote}
+use Rattle.dataplane.specs.declared.answering.marker_note.MarkerNote.{MarkerNote}
 use Rattle.lagffi.specs.Algorithms.{gives_by}
 use Rattle.lagffi.specs.Holding.{HeldValue}
 

@@ -1,6 +1,6 @@
 -- What a program in C is told of the next move (profile).
 use Rattle.std.specs.Prelude.{ℕ, true, false, Option, None, Some}
-use Rattle.balance.specs.declared.moves.Move.{Move}
+use Rattle.dataplane.specs.declared.balance.moves.Move.{Move}
 use Rattle.lagffi.specs.declared.balancing.LagMove.{LagMove}
 
 -- refused with this number; with 0, that there is no move

@@ -1,6 +1,6 @@
 -- The number of the aggregator that carries, and offers in it, as programs in C have them (profile).
 use Rattle.std.specs.Prelude.{ℕ, List, Option, None, Some, Result}
-use Rattle.carrier.specs.Offers as of_carrier
+use Rattle.dataplane.specs.Offers as of_carrier
 use Rattle.lagtypes.specs.declared.identifiers.AggId.{AggId}
 use Rattle.lagsystem.specs.Readers.{aggregator_numbered}
 use Rattle.lagsystem.specs.State.{SystemState}

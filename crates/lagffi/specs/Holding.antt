@@ -1,7 +1,7 @@
 -- The system of a handle, and what is kept beside it (profile).
 use Rattle.std.specs.Prelude.{ℕ, List, Option, None, Some}
 use Rattle.lagsystem.specs.State.{SystemState, SystemValue}
-use Rattle.answering.specs.declared.note.MarkerNote.{MarkerNote}
+use Rattle.dataplane.specs.declared.answering.marker_note.MarkerNote.{MarkerNote}
 use Rattle.lagffi.specs.declared.stored.Stored.{Stored}
 
 -- the state of the system, the number of the distribution algorithm, and whether the peers of the ports answer markers

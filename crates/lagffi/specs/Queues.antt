@@ -1,10 +1,10 @@
 -- The queues of a handle, and what a program in C is told of them (profile).
 use Rattle.std.specs.Prelude.{◌≡◌, ℕ, ◌<◌, true, false, List, [], length, Option, None, Some, slice_index}
-use Rattle.holding.specs.Calls.{after, Next}
-use Rattle.holding.specs.Holding.{HoldingValue, queue, oldest, in_all}
-use Rattle.holding.specs.declared.queues.Released.{Released}
-use Rattle.holding.specs.declared.refusal.Refusal.{Refusal}
-use Rattle.holding.specs.declared.refusal.Refusal.TheVariants.{NoConversation, ConversationFull, AllFull}
+use Rattle.dataplane.specs.QueueCalls.{after, Next}
+use Rattle.dataplane.specs.Holding.{HoldingValue, queue, oldest, in_all}
+use Rattle.dataplane.specs.declared.holding.queues.Released.{Released}
+use Rattle.dataplane.specs.declared.holding.refusal.Refusal.{Refusal}
+use Rattle.dataplane.specs.declared.holding.refusal.Refusal.TheVariants.{NoConversation, ConversationFull, AllFull}
 use Rattle.lagsystem.specs.Faults.{fault_number}
 use Rattle.lagsystem.specs.declared.fault.SystemFault.TheVariants.{NotAssigned}
 use Rattle.lagffi.specs.declared.queued.LagQueueCounts.{LagQueueCounts}

@@ -1,13 +1,13 @@
 ghost use Rattle.std.specs.Prelude.{◌≡◌, IsTrue, MatchOption, Option, length, nat_le};
 ghost use Rattle.std.specs.Bool.{IsFalse};
-ghost use Rattle.balance.specs.Moves.{IsMove};
-ghost use Rattle.balance.specs.declared.moves.Move.{Move};
+ghost use Rattle.dataplane.specs.Moves.{IsMove};
+ghost use Rattle.dataplane.specs.declared.balance.moves.Move.{Move};
 ghost use Rattle.lagffi.specs.Balancing.{move_of, move_refused};
 ghost use Rattle.lagsystem.specs.Faults.{fault_number};
 ghost use Rattle.lagsystem.specs.declared.fault.SystemFault.{SystemFault};
 
 use crate::values::{NO_CONVERSATION, OK};
-use balance::{Carried, Move, next_move};
+use dataplane::{Carried, Move, next_move};
 
 /// The most conversations that numbers of 16 bits name.
 pub(crate) const MOST_CONVERSATIONS: usize = 65_536;

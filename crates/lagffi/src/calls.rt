@@ -12,7 +12,7 @@ ghost use Rattle.lagsystem.specs.declared.fault.SystemFault.{SystemFault};
 ghost use Rattle.lagsystem.specs.Sound.{CallPromise};
 ghost use Rattle.lagsystem.specs.State.{port_index};
 ghost use Rattle.lagffi.specs.Algorithms.{gives_by};
-ghost use Rattle.answering.specs.Notes.{nobody_asked, notes_after_receive, notes_after_set_link, notes_after_transmit};
+ghost use Rattle.dataplane.specs.Notes.{nobody_asked, notes_after_receive, notes_after_set_link, notes_after_transmit};
 ghost use Rattle.lagffi.specs.Asking.{CallsHeldSystem, NotesHeldSystem, OffersToHeldSystem, by_number_gives};
 ghost use Rattle.lagffi.specs.Holding.{held_value};
 ghost use Rattle.lagffi.specs.Frames.{control_frame_length, received_of, sent_of, sent_refused, buffer_after_transmit, buffer_after_receive};
@@ -27,7 +27,7 @@ use crate::values::{
     CONTROL_FRAME_LENGTH, LagChange, LagNumber, LagReceived, LagSent, LagTruth, NO_SYSTEM, OK,
     WRONG_BUFFER_LENGTH, status,
 };
-use answering::Answering;
+use dataplane::Answering;
 use lagsystem::{AggId, Received, System, SystemFault};
 use std::alloc::Global;
 

@@ -1,5 +1,5 @@
 ghost use Rattle.std.specs.Prelude.{◌≡◌, ℕ, Option, Result};
-ghost use Rattle.carrier.specs.Choice.{Carries, aggregator_or_none};
+ghost use Rattle.dataplane.specs.Choice.{Carries, aggregator_or_none};
 ghost use Rattle.distributor.specs.Calls.{PicksIndexes};
 ghost use Rattle.lagtypes.specs.declared.identifiers.AggId.{AggId};
 ghost use Rattle.lagsystem.specs.declared.fault.SystemFault.{SystemFault};
@@ -12,7 +12,7 @@ ghost use Rattle.lagffi.specs.Numbers.{no_system, number, number_of, number_refu
 use crate::handle::Lag;
 use crate::stored::{by_first, by_number, by_sum};
 use crate::values::{LagNumber, NO_SYSTEM};
-use carrier::{aggregator_or_none, carrier, offer_conversation_in_carrier, offer_in_carrier};
+use dataplane::{aggregator_or_none, carrier, offer_conversation_in_carrier, offer_in_carrier};
 use lagsystem::{AggId, System, SystemFault};
 use std::alloc::Global;
 

@@ -6,7 +6,7 @@ mod parts;
 mod queue;
 
 use crate::stored::Stored;
-use answering::Answering;
+use dataplane::Answering;
 pub(crate) use held::Held;
 use lagsystem::System;
 pub use queue::LagQueue;

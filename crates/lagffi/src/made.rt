@@ -4,14 +4,14 @@ ghost use Rattle.lagffi.specs.Holding.{held_value};
 ghost use Rattle.lagffi.specs.Numbers.{no_system};
 ghost use Rattle.lagffi.specs.Made.{IsMadeOfLagConfig, holds_system_already, lag_key, made_refused, made_with_status, lag_port_config};
 ghost use Rattle.lagffi.specs.Algorithms.{is_algorithm};
-ghost use Rattle.answering.specs.Notes.{nobody_asked};
+ghost use Rattle.dataplane.specs.Notes.{nobody_asked};
 ghost use Rattle.lagffi.specs.Made.{lag_limit, no_algorithm, refusal_of, why_refused};
 
 use crate::handle::{Block, Held, Lag};
 use crate::refusal::refusal;
 use crate::stored::by_number;
 use crate::values::{NO_SYSTEM, OK};
-use answering::Answering;
+use dataplane::Answering;
 use lagsystem::{BadConfig, Config, Key, NoMemory, PortConfig, System, SystemFault, SystemId};
 use std::alloc::Global;
 

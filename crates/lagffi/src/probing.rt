@@ -3,7 +3,7 @@ ghost use Rattle.std.specs.Bool.{IsFalse};
 ghost use Rattle.lagsystem.specs.Probing.{Probes, ProbesLawfully};
 ghost use Rattle.lagsystem.specs.State.{port_index};
 ghost use Rattle.lagsystem.specs.declared.fault.SystemFault.{SystemFault};
-ghost use Rattle.answering.specs.Notes.{notes_after_transmit};
+ghost use Rattle.dataplane.specs.Notes.{notes_after_transmit};
 ghost use Rattle.lagffi.specs.Asking.{NotesHeldSystem};
 ghost use Rattle.lagffi.specs.Frames.{buffer_after_transmit, control_frame_length, sent_of, sent_refused};
 ghost use Rattle.lagffi.specs.Holding.{held_value};

@@ -2,7 +2,7 @@ ghost use Rattle.std.specs.Prelude.{◌≡◌};
 ghost use Rattle.lagffi.specs.Queues.{counts_of, frame_of, no_counts, no_frame, released_of, status_of_put};
 
 use crate::values::{NO_CONVERSATION, OK};
-use holding::{Holding, Refusal, Released};
+use dataplane::{Holding, Refusal, Released};
 
 /// The handle holds no queues.
 pub(crate) const NO_QUEUE: u32 = 19;

@@ -1,8 +1,8 @@
 ghost use Rattle.std.specs.Prelude.{◌≡◌, [], ℕ, IsTrue, MatchOption, None, Option, is_some, length, nat_le, replicate};
 ghost use Rattle.std.specs.Bool.{IsFalse};
-ghost use Rattle.holding.specs.Calls.{after, DropOldest, Next, Put};
-ghost use Rattle.holding.specs.Holding.{holding_of, oldest, queue, refusal};
-ghost use Rattle.holding.specs.declared.queues.Released.{Released};
+ghost use Rattle.dataplane.specs.QueueCalls.{after, DropOldest, Next, Put};
+ghost use Rattle.dataplane.specs.Holding.{holding_of, oldest, queue, refusal};
+ghost use Rattle.dataplane.specs.declared.holding.queues.Released.{Released};
 ghost use Rattle.lagffi.specs.Numbers.{number, number_refused};
 ghost use Rattle.lagffi.specs.Queues.{CallsQueue, Releases, counts_of, frame_of, holds_queue_already, no_counts, no_frame, no_queue, queue_value};
 ghost use Rattle.lagffi.specs.Queues.{released_of, status_of_put};
@@ -13,7 +13,7 @@ use crate::balancing::MOST_CONVERSATIONS;
 use crate::handle::{Held, LagQueue};
 use crate::queued::{HOLDS_QUEUE_ALREADY, LagQueueCounts, LagQueued, NO_QUEUE, status_of_put};
 use crate::values::{LagNumber, NO_CONVERSATION, NO_MEMORY, OK};
-use holding::{Holding, Refusal};
+use dataplane::{Holding, Refusal};
 use std::alloc::Global;
 
 /// Makes empty queues, and puts them into an empty handle: one for each of so many conversations, numbered from 0. At most `in_all` frames

@@ -13,7 +13,7 @@ ghost use Rattle.lagsystem.specs.PortStatus.{status_of_port};
 ghost use Rattle.lagsystem.specs.Readers.{aggregator_numbered, conversation_count, conversation_in, distributing, group_at};
 ghost use Rattle.lagsystem.specs.State.{port_numbers, port_index, machines_of};
 ghost use Rattle.lagsystem.specs.Waiting.{ticks_until_due};
-ghost use Rattle.answering.specs.Notes.{answers_number, note_of};
+ghost use Rattle.dataplane.specs.Notes.{answers_number, note_of};
 ghost use Rattle.lagffi.specs.Asking.{ReadsHeldSystem, ReadsNotes};
 ghost use Rattle.lagffi.specs.Holding.{held_value};
 ghost use Rattle.lagffi.specs.Lists.{port_list_length, put_first};

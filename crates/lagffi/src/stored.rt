@@ -2,8 +2,7 @@ ghost use Rattle.std.specs.Prelude.{◌≡◌, None, Some};
 ghost use Rattle.distributor.specs.Calls.{index_by_number};
 ghost use Rattle.lagffi.specs.Algorithms.{index_by_sum};
 
-use answering::Answering;
-use holding::Holding;
+use dataplane::{Answering, Holding};
 use lagsystem::System;
 
 /// What the block of a handle keeps, taken out while a call goes on: a system with no algorithm, so that its type names none, or the

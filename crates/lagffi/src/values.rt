@@ -1,13 +1,13 @@
 ghost use Rattle.std.specs.Prelude.{◌≡◌, ◌≤◌, length, option_map};
-ghost use Rattle.answering.specs.Notes.{answers_number};
+ghost use Rattle.dataplane.specs.Notes.{answers_number};
 ghost use Rattle.lagffi.specs.Lists.{port_list_length, put_first};
 ghost use Rattle.lagffi.specs.Frames.{received_of, sent_as, sent_of, sent_refused};
 ghost use Rattle.lagffi.specs.Numbers.{change_of, number_refused, received_refused, truth_refused, number, number_or_refused, number_of};
 ghost use Rattle.lagffi.specs.Numbers.{status_of, truth, truth_or_no_port, truth_of};
 ghost use Rattle.lagsystem.specs.declared.fault.SystemFault.{SystemFault};
 
-use answering::MarkerNote;
 use arrayvec::ArrayVec;
+use dataplane::MarkerNote;
 use lagsystem::{AggId, Key, PortChange, Received, SystemFault};
 
 /// What a function answers when it refuses nothing.

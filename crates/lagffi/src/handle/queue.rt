@@ -3,7 +3,7 @@ ghost use Rattle.lagffi.specs.Queues.{queue_value};
 
 use super::Held;
 use crate::stored::Stored;
-use holding::Holding;
+use dataplane::Holding;
 use std::alloc::Global;
 use std::mem::replace;
 

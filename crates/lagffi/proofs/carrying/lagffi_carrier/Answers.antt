@@ -1,5 +1,5 @@
 use Rattle.lagffi.proofs.Common.{ap, subst, ◌∙◌, number}
-use Rattle.carrier.specs.Choice.{Carries}
+use Rattle.dataplane.specs.Choice.{Carries}
 use Rattle.lagffi.proofs.AskingLemmas.{asked}
 use Rattle.lagffi.proofs.carrying.lagffi_carrier.Goals as goal
 

@@ -1,5 +1,5 @@
 use Rattle.lagffi.proofs.Common.{ap, ◌∙◌, option_map, number_or_refused}
-use Rattle.answering.specs.Notes.{answers_number}
+use Rattle.dataplane.specs.Notes.{answers_number}
 use Rattle.lagffi.proofs.AskingLemmas.{asked_of_notes}
 use Rattle.lagffi.proofs.readers.lagffi_answers.Goals as goal
 

@@ -1,3 +1,0 @@
-pub mod CallLemmas
-pub mod PlaceLemmas
-pub mod ResponseLemmas

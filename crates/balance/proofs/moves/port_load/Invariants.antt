@@ -1,5 +1,0 @@
-use Rattle.balance.proofs.Common.{take, ◌*◌, ◌≡◌, ◌≤◌, load_on}
-use Rattle.balance.proofs.moves.port_load.Given as goal
-
-abbrev pub invariant-loop-one : goal.invariant-loop-one
-invariant-loop-one l = (l.load ≡ load_on l.port (take l.one-index l.carried)) × (l.load ≤ l.one-index * 4294967295)

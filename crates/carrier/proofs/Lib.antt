@@ -1,6 +1,0 @@
-mod Common
-pub mod Best
-pub mod Chosen
-pub mod Kept
-pub mod Ranks
-pub mod Searched

@@ -1,5 +1,0 @@
-use Rattle.carrier.proofs.Best.{BestOf}
-use Rattle.carrier.proofs.choosing.carrier.Given as goal
-
-abbrev pub invariant-loop-number : goal.invariant-loop-number
-invariant-loop-number g l = BestOf l.now l.system.state l.number l.best

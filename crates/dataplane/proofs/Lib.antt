@@ -1,0 +1,20 @@
+pub mod Arriving
+pub mod Best
+pub mod Chosen
+mod Common
+pub mod Extremes
+pub mod Kept
+pub mod LoadedPorts
+pub mod Loads
+pub mod NotedCalls
+pub mod NotedPlaces
+pub mod NotedResponses
+pub mod QueueBounds
+pub mod QueueCounts
+pub mod QueueOrder
+pub mod QueueViews
+pub mod Ranks
+pub mod Searched
+pub mod SettlingLoads
+pub mod Staying
+pub mod Sums

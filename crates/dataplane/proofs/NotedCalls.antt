@@ -1,0 +1,18 @@
+-- Calls and their replies, one after another.
+use Rattle.std.proofs.Common.{◌≡◌, ◌⊎◌, inl, inr, List, [], ◌∷◌, map, refl}
+use Rattle.lagsystem.specs.Drives.{call_of}
+use Rattle.lagsystem.specs.declared.drive.Call.{Call}
+use Rattle.lagsystem.specs.declared.drive.Reply.{Reply}
+use Rattle.lagsystem.specs.declared.system_ports.SystemPort.{SystemPort}
+use Rattle.dataplane.specs.Notes.{notes_after_all}
+use Rattle.dataplane.specs.declared.answering.marker_note.MarkerNote.{MarkerNote}
+
+no_reply : (calls : List Call) (ports : List SystemPort) (notes : List MarkerNote) → notes_after_all (map call_of calls) [] ports notes ≡ notes
+no_reply [] ports notes = refl
+no_reply (call ∷ calls) ports notes = refl
+
+-- once the calls or the replies are through, the notes stay
+pub no_more : (calls : List Call) (replies : List Reply) (ports : List SystemPort) (notes : List MarkerNote)
+    → (calls ≡ []) ⊎ (replies ≡ []) → notes_after_all (map call_of calls) replies ports notes ≡ notes
+no_more calls replies ports notes (inl e) = rw e refl
+no_more calls replies ports notes (inr e) = rw e (no_reply calls ports notes)

@@ -1,0 +1,70 @@
+-- What the counts of a list of calls are.
+use Rattle.std.proofs.Common.{◌≡◌, ℕ, ◌+◌, ◌^◌, ◌<◌, cond, List, [], ◌∷◌, ◌++◌, map, length, Option, None, Some, refl, sym, ◌∙◌, ap, arith, is_some}
+use Rattle.std.proofs.Common.{eq-eqb}
+use Rattle.std.specs.Prelude.{is_none}
+use Rattle.std.proofs.Math.Seq.{take-length}
+use Rattle.dataplane.specs.declared.holding.refusal.Refusal.{Refusal}
+use Rattle.dataplane.specs.Holding.{HoldingValue, queue, with_queue, refusal, counted}
+use Rattle.dataplane.specs.QueueCalls.{QueueCall, Put, Next, DropOldest, Clear, Sent, Dropped, after, gone}
+use Rattle.dataplane.specs.QueueLaws.{after_all, number_dropped, conversation_of, all_dropped, handed_back, all_handed_back}
+use Rattle.dataplane.proofs.QueueViews.{counted_is}
+
+counted_nothing : (d : ℕ) → d < 2 ^ 64 → counted d 0 ≡ d
+counted_nothing d b = counted_is d 0 ∙ omega arith
+
+counted_twice : (d a b : ℕ) → counted (counted d a) b ≡ counted d (a + b)
+counted_twice d a b = rw (counted_is (counted d a) b, counted_is d a, counted_is d (a + b)) (omega arith)
+
+counted_fits : (d a : ℕ) → counted d a < 2 ^ 64
+counted_fits d a = rw counted_is (omega arith)
+
+number_sent : {X : Type 0} (xs : List X) → number_dropped (map Sent xs) ≡ 0
+number_sent [] = refl
+number_sent (x ∷ xs) = number_sent xs
+
+number_of_dropped : {X : Type 0} (xs : List X) → number_dropped (map Dropped xs) ≡ length xs
+number_of_dropped [] = refl
+number_of_dropped (x ∷ xs) = let e : number_dropped (map Dropped xs) ≡ length xs = number_of_dropped xs in omega (arith, e)
+
+one_put : {X : Type 0} (h : HoldingValue X) (c : ℕ) (x : X) (o : Option Refusal)
+    → (cond (is_none o) (with_queue h c (queue h c ++ x ∷ [])) (record h { refused = counted h.refused 1 })).dropped ≡ h.dropped
+one_put h c x None = refl
+one_put h c x (Some f) = refl
+
+one_drop : {X : Type 0} (call : QueueCall X) (h : HoldingValue X) → h.dropped < 2 ^ 64
+    → (after call h).dropped ≡ counted h.dropped (number_dropped (gone (conversation_of call) call h))
+one_drop (Put c x) h b = one_put h c x (refusal h c) ∙ sym (counted_nothing h.dropped b)
+one_drop (Next c) h b = rw (eq-eqb c c refl, number_sent) (sym (counted_nothing h.dropped b))
+one_drop (DropOldest c) h b = rw (eq-eqb c c refl, number_of_dropped) refl
+one_drop (Clear c) h b = rw (eq-eqb c c refl, number_of_dropped, take-length) refl
+
+pub dropped : {X : Type 0} (calls : List (QueueCall X)) (h : HoldingValue X) → h.dropped < 2 ^ 64
+    → (after_all calls h).dropped ≡ counted h.dropped (all_dropped calls h)
+dropped [] h b = sym (counted_nothing h.dropped b)
+dropped (call ∷ calls) h b =
+    let one : (after call h).dropped ≡ counted h.dropped (number_dropped (gone (conversation_of call) call h)) = one_drop call h b in
+    let fits : (after call h).dropped < 2 ^ 64 = rw one (counted_fits h.dropped (number_dropped (gone (conversation_of call) call h))) in
+    dropped calls (after call h) fits ∙ ap (λ d. counted d (all_dropped calls (after call h))) one
+    ∙ counted_twice h.dropped (number_dropped (gone (conversation_of call) call h)) (all_dropped calls (after call h))
+
+one_refused_put : {X : Type 0} (h : HoldingValue X) (c : ℕ) (x : X) (o : Option Refusal) → h.refused < 2 ^ 64
+    → (cond (is_none o) (with_queue h c (queue h c ++ x ∷ [])) (record h { refused = counted h.refused 1 })).refused
+    ≡ counted h.refused (cond (is_some o) 1 0)
+one_refused_put h c x None b = sym (counted_nothing h.refused b)
+one_refused_put h c x (Some f) b = refl
+
+one_refused : {X : Type 0} (call : QueueCall X) (h : HoldingValue X) → h.refused < 2 ^ 64
+    → (after call h).refused ≡ counted h.refused (handed_back call h)
+one_refused (Put c x) h b = one_refused_put h c x (refusal h c) b
+one_refused (Next c) h b = sym (counted_nothing h.refused b)
+one_refused (DropOldest c) h b = sym (counted_nothing h.refused b)
+one_refused (Clear c) h b = sym (counted_nothing h.refused b)
+
+pub refused : {X : Type 0} (calls : List (QueueCall X)) (h : HoldingValue X) → h.refused < 2 ^ 64
+    → (after_all calls h).refused ≡ counted h.refused (all_handed_back calls h)
+refused [] h b = sym (counted_nothing h.refused b)
+refused (call ∷ calls) h b =
+    let one : (after call h).refused ≡ counted h.refused (handed_back call h) = one_refused call h b in
+    let fits : (after call h).refused < 2 ^ 64 = rw one (counted_fits h.refused (handed_back call h)) in
+    refused calls (after call h) fits ∙ ap (λ d. counted d (all_handed_back calls (after call h))) one
+    ∙ counted_twice h.refused (handed_back call h) (all_handed_back calls (after call h))

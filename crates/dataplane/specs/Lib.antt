@@ -1,0 +1,11 @@
+pub mod Arrivals
+pub mod Choice
+pub mod Ends
+pub mod Holding
+pub mod Moves
+pub mod Notes
+pub mod Offers
+pub mod OneAggregator
+pub mod QueueCalls
+pub mod QueueLaws
+pub mod RunsOfMoves

@@ -1,0 +1,21 @@
+//! What a host with a data plane needs beside a system: who answers markers, which aggregator carries, which frames wait, and
+//! which conversation moves.
+//!
+//! In comments, numbers such as 6.5.3.3 are sections of IEEE 802.1AX-2014, and "profile" is docs/PROFILE.md.
+#![tactic(auto)]
+
+mod active_aggregator;
+mod answering;
+mod balance;
+mod client_order;
+mod holding;
+
+pub use active_aggregator::{
+    aggregator_or_none, both_ends_choose_alike, carrier, each_call_keeps_one_aggregator,
+    forcing_and_resting_keep_one_aggregator, leaving_and_probing_keep_one_aggregator,
+    offer_conversation_in_carrier, offer_in_carrier, the_carrier_stays,
+};
+pub use answering::{Answering, MarkerNote};
+pub use balance::{Carried, Move, every_run_of_moves, next_move};
+pub use client_order::{from_client_to_client, one_aggregator_at_a_time};
+pub use holding::{Holding, Refusal, Released, every_list_of_calls};

@@ -1,4 +1,0 @@
-pub mod Bounds
-pub mod Counts
-pub mod Order
-pub mod Views

@@ -1,6 +1,0 @@
-use Rattle.std.proofs.Common.{◌≡◌, ℕ, ◌<◌, [], get_or}
-use Rattle.holding.specs.Holding.{queue}
-use Rattle.holding.proofs.queues.Holding.first_released.Given as goal
-
-abbrev pub invariant-loop-place : goal.invariant-loop-place
-invariant-loop-place g l = (k : ℕ) → k < l.place → 0 < get_or l.ports k 0 → queue l.self k ≡ []

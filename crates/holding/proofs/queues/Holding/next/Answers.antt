@@ -1,6 +1,0 @@
-use Rattle.std.proofs.Common.{refl}
-use Rattle.holding.proofs.Views.{queue_of, queues_set, same_holding}
-use Rattle.holding.proofs.queues.Holding.next.Goals as goal
-
-pub returns-clause-after : goal.returns-clause-after
-returns-clause-after g c = rw (← c.self.view_is, queue_of, ← c.from.ensures) (same_holding _ _ _ _ _ _ _ _ (queues_set _ _ _ _ _ c.take_first.ensures.rest) refl refl)

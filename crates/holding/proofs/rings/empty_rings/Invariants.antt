@@ -1,6 +1,0 @@
-use Rattle.std.proofs.Common.{◌≡◌, [], replicate}
-use Rattle.circular_buffer.specs.Buffer.{buffer}
-use Rattle.holding.proofs.rings.empty_rings.Given as goal
-
-abbrev pub invariant-loop : goal.invariant-loop
-invariant-loop g l = l.rings.items ≡ replicate l.counter (buffer [] l.places)

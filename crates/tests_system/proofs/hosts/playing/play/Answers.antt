@@ -1,0 +1,12 @@
+use Rattle.std.proofs.Common.{sym, subst}
+use Rattle.distributor.specs.Calls.{PicksIndexes}
+use Rattle.tests_system.proofs.hosts.playing.play.Goals as goal
+
+-- the system has the algorithm that it had at first
+pub comes-requires : goal.comes-requires
+comes-requires g c =
+    record {
+      usable =
+          subst (λ f. PicksIndexes (λ conv count. g.F.Fn.pre f (conv, (count, tt)))
+          (λ conv count place. g.F.Fn.post f (conv, (count, tt)) place)) (sym c.loop-place.invariant) c.requires.usable;
+    }

@@ -1,0 +1,10 @@
+//! Calls for hosts with a data plane, of `lagsystem` and `dataplane`: rows of calls with values from docs/PROFILE.md, worked out by hand.
+mod answering;
+mod balance;
+mod carrying;
+mod holding;
+mod leaving;
+mod offering;
+mod playing;
+mod probing;
+mod telling;
