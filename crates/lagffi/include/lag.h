@@ -66,8 +66,8 @@ struct niw_queue {
 /* The milliseconds of a tick. */
 #define NIW_TICK_MILLISECONDS 100
 
-/* The names and numbers of the next three enums, and the texts of niw_status_text and niw_reason_text, are written by tools/header from
- * the enums of the sources. The comments behind the names are by hand. */
+/* The names and numbers of the next three enums, and the texts of niw_status_text and niw_reason_text, are written by
+ * tools/maintain/interface from the enums of the sources. The comments behind the names are by hand. */
 
 /* The statuses. 1 to 12 are the refusals of a system. */
 enum {
@@ -505,9 +505,9 @@ static inline uint32_t niw_tick(struct niw_system *handle) {
     return handle ? lagffi_tick(handle) : niw_null_status();
 }
 
-/* `count` times 100 ms have passed: like `count` calls of niw_tick, with nothing between them. Up to niw_ticks_until_due of them let no frame
- * wait that is due; of more, a host makes up few at once, since nothing is sent between them. The call takes as long as they all do:
- * UINT32_MAX of them take minutes. */
+/* `count` times 100 ms have passed: like `count` calls of niw_tick, with nothing between them. Up to niw_ticks_until_due of them let no
+ * frame wait that is due; of more, a host makes up few at once, since nothing is sent between them. The call takes as long as they all
+ * do: UINT32_MAX of them take minutes. */
 static inline uint32_t niw_ticks(struct niw_system *handle, uint32_t count) {
     return handle ? lagffi_ticks(handle, count) : niw_null_status();
 }
@@ -568,7 +568,8 @@ static inline uint32_t niw_leave_conversation(struct niw_system *handle, uint16_
     return handle ? lagffi_leave_conversation(handle, agg, conv) : niw_null_status();
 }
 
-/* Frees a conversation that is on a port, on the word of the program that none of its frames is on its way: else they may arrive out of order. */
+/* Frees a conversation that is on a port, on the word of the program that none of its frames is on its way: else they may arrive out of
+ * order. */
 static inline uint32_t niw_rest(struct niw_system *handle, uint16_t agg, uint16_t conv) {
     return handle ? lagffi_rest(handle, agg, conv) : niw_null_status();
 }

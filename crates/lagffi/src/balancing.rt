@@ -55,8 +55,10 @@ impl LagMove {
     }
 }
 
-/// The next move that makes the loads of these ports more alike; each conversation stands at its number in `carried`. At most 65,536
-/// conversations are looked at: a longer list is refused.
+/// The next move that makes the loads of these ports more alike: from a port with the most load to one with the least, of a conversation
+/// whose load is less than the difference. Each conversation stands at its number in `carried`, which has NIW_MOST_CONVERSATIONS or
+/// fewer: a longer list is refused with NIW_NOT_ASSIGNED. `is` is false if there is no such move.
+/// Refuses: NIW_NOT_ASSIGNED.
 #[unsafe(no_mangle)]
 pub extern "C" fn lagffi_next_move(ports: &[u16], carried: &[Carried]) -> LagMove
     ensures length { IsFalse (nat_le (length carried.now) 65536) → result ≡ move_refused (fault_number SystemFault.NotAssigned) }

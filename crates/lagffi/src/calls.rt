@@ -59,7 +59,9 @@ pub(crate) fn write_due(answer: &Result<Option<[u8; 124]>, SystemFault>, buffer:
     }
 }
 
-/// A frame comes on a port. The buffer has 124 octets or more; a response is written at its front, and nothing else.
+/// A frame comes on a port: of control frames hand over those to 01-80-C2-00-00-02 alone. `response` has NIW_FRAME octets or more, and
+/// is written only for NIW_RECEIVED_RESPOND, at its front.
+/// Refuses: NIW_BUFFER, NIW_NO_SYSTEM, NIW_NO_PORT.
 #[unsafe(no_mangle)]
 pub extern "C" fn lagffi_receive(
     alloc: Global,
@@ -91,7 +93,8 @@ pub extern "C" fn lagffi_receive(
     LagReceived::of(&answer)
 }
 
-/// One tick, 100 ms.
+/// 100 ms have passed.
+/// Refuses: NIW_NO_SYSTEM.
 #[unsafe(no_mangle)]
 pub extern "C" fn lagffi_tick(alloc: Global, lag: &mut Lag) -> u32
     ensures { CallsHeldSystem (held_value lag.old.held.kept) (held_value lag.new.held.kept)
@@ -115,7 +118,10 @@ fn tick_times<F: Fn(u16, usize) -> usize + Drop>(system: &mut System<F>, count: 
     }
 }
 
-/// Takes this many ticks of 100 ms, one after another, and nothing between them.
+/// `count` times 100 ms have passed: like `count` calls of niw_tick, with nothing between them. Up to niw_ticks_until_due of them let no
+/// frame wait that is due; of more, a host makes up few at once, since nothing is sent between them. The call takes as long as they all
+/// do: UINT32_MAX of them take minutes.
+/// Refuses: NIW_NO_SYSTEM.
 #[unsafe(no_mangle)]
 pub extern "C" fn lagffi_ticks(alloc: Global, lag: &mut Lag, count: u32) -> u32
     ensures { CallsHeldSystem (held_value lag.old.held.kept) (held_value lag.new.held.kept)
@@ -130,6 +136,7 @@ pub extern "C" fn lagffi_ticks(alloc: Global, lag: &mut Lag, count: u32) -> u32
 }
 
 /// The link of a port is up or down now.
+/// Refuses: NIW_NO_SYSTEM, NIW_NO_PORT.
 #[unsafe(no_mangle)]
 pub extern "C" fn lagffi_set_link(alloc: Global, lag: &mut Lag, port: u16, up: bool) -> u32
     ensures { NotesHeldSystem (held_value lag.old.held.kept) (held_value lag.new.held.kept)
@@ -147,7 +154,8 @@ pub extern "C" fn lagffi_set_link(alloc: Global, lag: &mut Lag, port: u16, up: b
     status(&answer)
 }
 
-/// Gives a port another key, priority or Aggregation bit, and answers whether anything differs.
+/// Gives a port another key, priority or Aggregation bit; returns whether anything differs.
+/// Refuses: NIW_NO_SYSTEM, NIW_NO_PORT.
 #[unsafe(no_mangle)]
 pub extern "C" fn lagffi_configure(
     alloc: Global,
@@ -168,7 +176,8 @@ pub extern "C" fn lagffi_configure(
     LagTruth::of(&answer)
 }
 
-/// Starts the system again as it was made.
+/// Starts the system again as niw_new left it: all links are down, and what niw_configure changed is lost.
+/// Refuses: NIW_NO_SYSTEM.
 #[unsafe(no_mangle)]
 pub extern "C" fn lagffi_restart(alloc: Global, lag: &mut Lag) -> u32
     ensures { NotesHeldSystem (held_value lag.old.held.kept) (held_value lag.new.held.kept)
@@ -185,8 +194,9 @@ pub extern "C" fn lagffi_restart(alloc: Global, lag: &mut Lag) -> u32
     OK
 }
 
-/// Whether a frame is due on a port, and which. The buffer has 124 octets or more; a due frame is written at its front, and nothing
-/// else.
+/// Whether a frame is due on a port, and which; `frame` has NIW_FRAME octets or more, and is written only then, at its front. To be
+/// called until its `is` is false.
+/// Refuses: NIW_BUFFER, NIW_NO_SYSTEM, NIW_NO_PORT.
 #[unsafe(no_mangle)]
 pub extern "C" fn lagffi_transmit(
     alloc: Global,
@@ -252,7 +262,8 @@ fn offer_with(
     offer_by(kept, by_number, agg, frame)
 }
 
-/// The port to send a frame on, in an aggregator, by the algorithm of the handle.
+/// The port to send a frame on, in an aggregator: that of its conversation, which picks one by the algorithm of the configuration.
+/// Refuses: NIW_NO_SYSTEM, NIW_NO_AGGREGATOR, NIW_FRAME_LENGTH, NIW_SLOW_FRAME, NIW_HELD, NIW_NONE_DISTRIBUTING.
 #[unsafe(no_mangle)]
 pub extern "C" fn lagffi_offer(alloc: Global, lag: &mut Lag, agg: u16, frame: &[u8]) -> LagNumber
     ensures { OffersToHeldSystem (held_value lag.old.held.kept) (held_value lag.new.held.kept)
@@ -269,7 +280,9 @@ pub extern "C" fn lagffi_offer(alloc: Global, lag: &mut Lag, agg: u16, frame: &[
     LagNumber::of(&answer)
 }
 
-/// Moves a conversation of an aggregator to a port, behind a marker.
+/// Moves a conversation to a port, behind a marker on the port that it is on.
+/// Refuses: NIW_NO_SYSTEM, NIW_NO_AGGREGATOR, NIW_NO_PORT, NIW_NOT_ASSIGNED, NIW_HELD, NIW_NOT_DISTRIBUTING, NIW_SAME_PORT,
+/// NIW_MARKERS_SPENT.
 #[unsafe(no_mangle)]
 pub extern "C" fn lagffi_move_conversation(
     alloc: Global,
@@ -292,7 +305,8 @@ pub extern "C" fn lagffi_move_conversation(
     status(&answer)
 }
 
-/// Frees a conversation of an aggregator at once.
+/// Frees a conversation at once, so that its frames may arrive out of order.
+/// Refuses: NIW_NO_SYSTEM, NIW_NO_AGGREGATOR, NIW_NOT_ASSIGNED.
 #[unsafe(no_mangle)]
 pub extern "C" fn lagffi_force(alloc: Global, lag: &mut Lag, agg: u16, conv: u16) -> u32
     ensures { CallsHeldSystem (held_value lag.old.held.kept) (held_value lag.new.held.kept)
@@ -308,7 +322,8 @@ pub extern "C" fn lagffi_force(alloc: Global, lag: &mut Lag, agg: u16, conv: u16
     status(&answer)
 }
 
-/// Frees at once each conversation that is held on a port, Wanted or Flushing there, and answers how many.
+/// Frees each conversation that is held on a port, as niw_force does; returns how many.
+/// Refuses: NIW_NO_SYSTEM, NIW_NO_PORT.
 #[unsafe(no_mangle)]
 pub extern "C" fn lagffi_force_port(alloc: Global, lag: &mut Lag, port: u16) -> LagNumber
     ensures { CallsHeldSystem (held_value lag.old.held.kept) (held_value lag.new.held.kept)

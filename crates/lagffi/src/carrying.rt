@@ -26,7 +26,11 @@ fn number_or_0(agg: Option<AggId>) -> u64
     }
 }
 
-/// The aggregator that carries the frames of a client, or 0 if no port distributes; `now` is the one that carried them before, or 0.
+/// The aggregator that carries the frames of the client, or 0 if no port distributes. `now` is the one that carried them before, or 0 for
+/// none. An aggregator with a partner is before one that runs on defaults, and of those the one with the most ports. `now` stays unless
+/// another has strictly more; of several others it is the one with the least LAG ID, then the lowest number. To be asked after each call
+/// that may change which ports distribute; its answer is `now` the next time.
+/// Refuses: NIW_NO_SYSTEM.
 #[unsafe(no_mangle)]
 pub extern "C" fn lagffi_carrier(alloc: Global, lag: &mut Lag, now: u16) -> LagNumber
     ensures { ReadsHeldSystem (held_value lag.old.held.kept) (held_value lag.new.held.kept)
@@ -74,8 +78,9 @@ fn offer_in_carrier_with(
     offer_in_carrier_by(kept, by_number, agg, frame)
 }
 
-/// The port to send a frame on, in the aggregator that carries, by the algorithm of the handle; held while the conversation of the
-/// frame is On, Wanted or Flushing in another aggregator.
+/// The port to send a frame on, in the aggregator that carries. NIW_HELD, before every other refusal, while the conversation of the frame
+/// is on a port or held in another aggregator; else what niw_offer does and returns. niw_leave_conversation takes it off its port there.
+/// Refuses: NIW_NO_SYSTEM, NIW_HELD, NIW_NO_AGGREGATOR, NIW_FRAME_LENGTH, NIW_SLOW_FRAME, NIW_HELD, NIW_NONE_DISTRIBUTING.
 #[unsafe(no_mangle)]
 pub extern "C" fn lagffi_offer_in_carrier(
     alloc: Global,
@@ -128,8 +133,8 @@ fn offer_conversation_in_carrier_with(
     offer_conversation_in_carrier_by(kept, by_number, agg, conv)
 }
 
-/// The port to send a frame of a conversation on, in the aggregator that carries, by the algorithm of the handle, whatever its octets;
-/// held while the conversation is On, Wanted or Flushing in another aggregator.
+/// As niw_offer_in_carrier, for a frame of a conversation, whatever its octets: NIW_HELD as there, else what niw_offer_conversation does.
+/// Refuses: NIW_NO_SYSTEM, NIW_HELD, NIW_NO_AGGREGATOR, NIW_NOT_ASSIGNED, NIW_HELD, NIW_NONE_DISTRIBUTING.
 #[unsafe(no_mangle)]
 pub extern "C" fn lagffi_offer_conversation_in_carrier(
     alloc: Global,

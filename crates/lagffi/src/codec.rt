@@ -15,8 +15,9 @@ use slowpdu::{Pdu, decode};
 /// The octets of a payload (6.4.2.3, 6.5.3.3).
 const PAYLOAD_LENGTH: usize = 110;
 
-/// Reads the payload of a control frame: what follows its EtherType. The numbers of the PDU are written where it has no fault, and
-/// nothing else.
+/// Reads the payload of a control frame, what follows its EtherType 0x8809, and writes its numbers into `pdu`. Octets after the first
+/// NIW_PAYLOAD_LENGTH are not looked at. A payload that is refused leaves `pdu` as it was.
+/// Refuses: NIW_BAD_PAYLOAD.
 #[unsafe(no_mangle)]
 pub extern "C" fn lagffi_decode(payload: &[u8], pdu: &mut LagPdu) -> LagDecoded
     ensures answers { (answer : Result Pdu WireFault) × IsDecoded payload.now answer × (result ≡ decoded_of answer)
@@ -41,7 +42,9 @@ fn octets_of(pdu: &Pdu) -> [u8; PAYLOAD_LENGTH]
     }
 }
 
-/// Writes the payload of a PDU at the front of a buffer of 110 octets or more, and nothing else.
+/// Writes the payload of a PDU at the front of `payload`, which has NIW_PAYLOAD_LENGTH octets or more: version 1, and 0 in each
+/// reserved octet.
+/// Refuses: NIW_BUFFER, NIW_NO_PDU.
 #[unsafe(no_mangle)]
 pub extern "C" fn lagffi_encode(pdu: &LagPdu, payload: &mut [u8]) -> u32
     ensures room { IsFalse (nat_le payload_len (length payload.old)) → (result ≡ wrong_buffer_length) × (payload.new ≡ payload.old) }

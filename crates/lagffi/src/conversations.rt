@@ -58,7 +58,9 @@ fn offer_conversation_with(
     offer_conversation_by(kept, by_number, agg, conv)
 }
 
-/// The port to send a frame of a conversation on, in an aggregator, by the algorithm of the handle, whatever its octets.
+/// The port to send a frame of a conversation on, whatever its octets: what niw_offer does and returns for a frame of it. For a program
+/// that has a hash of its own, which gives each flow one conversation for ever.
+/// Refuses: NIW_NO_SYSTEM, NIW_NO_AGGREGATOR, NIW_NOT_ASSIGNED, NIW_HELD, NIW_NONE_DISTRIBUTING.
 #[unsafe(no_mangle)]
 pub extern "C" fn lagffi_offer_conversation(
     alloc: Global,
@@ -78,7 +80,8 @@ pub extern "C" fn lagffi_offer_conversation(
     LagNumber::of(&answer)
 }
 
-/// Takes a conversation of an aggregator off its port, behind a marker, without another port to go to.
+/// Takes a conversation off its port, behind a marker, without another port to go to: it prefers none.
+/// Refuses: NIW_NO_SYSTEM, NIW_NO_AGGREGATOR, NIW_NOT_ASSIGNED, NIW_HELD, NIW_MARKERS_SPENT.
 #[unsafe(no_mangle)]
 pub extern "C" fn lagffi_leave_conversation(
     alloc: Global,
@@ -99,7 +102,9 @@ pub extern "C" fn lagffi_leave_conversation(
     status(&answer)
 }
 
-/// Frees a conversation of an aggregator that is On a port, on the caller's word that none of its frames is on its way.
+/// Frees a conversation that is on a port, on the word of the program that none of its frames is on its way: else they may arrive out of
+/// order.
+/// Refuses: NIW_NO_SYSTEM, NIW_NO_AGGREGATOR, NIW_NOT_ASSIGNED, NIW_HELD.
 #[unsafe(no_mangle)]
 pub extern "C" fn lagffi_rest(alloc: Global, lag: &mut Lag, agg: u16, conv: u16) -> u32
     ensures { CallsHeldSystem (held_value lag.old.held.kept) (held_value lag.new.held.kept)
@@ -172,8 +177,10 @@ fn tell_freed<F: Fn(u16, usize) -> usize + Drop>(
     LagNumber::of(&system.released(AggId(agg), busy, freed))
 }
 
-/// The port that each conversation of an aggregator is On, or 0; and which of them changed: whether `ports` had another number there.
-/// Both buffers have a place or more for each conversation. Answers how many changed.
+/// What changed of the conversations of an aggregator: writes into `ports`, for each of them by its number, the port that it is on, or 0
+/// if it is free or held; and into `changed` whether `ports` had another number there. Both have a place or more for each conversation.
+/// Answers how many changed. The first time, `ports` may hold zeros.
+/// Refuses: NIW_NO_SYSTEM, NIW_NO_AGGREGATOR, NIW_BUFFER.
 #[unsafe(no_mangle)]
 pub extern "C" fn lagffi_conversation_ports(
     alloc: Global,
@@ -196,9 +203,10 @@ pub extern "C" fn lagffi_conversation_ports(
     answer
 }
 
-/// Which conversations of an aggregator became free since `busy` was written: `busy` has whether each was On, Wanted or Flushing, and
-/// gets whether it is so now; `freed` gets which were and are not. Both buffers have a place or more for each conversation. Answers
-/// how many became free.
+/// What was released: `busy` is the program's own list of which conversations of an aggregator are on a port or held, at first all false.
+/// The program sets a place of it when an offer answers a port. It gets which are so now, and `freed` gets which `busy` named and are free
+/// now. Both have a place or more for each conversation. Answers how many became free.
+/// Refuses: NIW_NO_SYSTEM, NIW_NO_AGGREGATOR, NIW_BUFFER.
 #[unsafe(no_mangle)]
 pub extern "C" fn lagffi_released(
     alloc: Global,

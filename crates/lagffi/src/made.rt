@@ -198,8 +198,9 @@ fn system_of(
     Ok(system.with_algorithm(()))
 }
 
-/// Makes a system with all links down, and puts it into an empty handle. It is refused for what `System::new` refuses, and then for
-/// an algorithm that is not 0 to 2; a configuration is looked at before memory is taken.
+/// Makes a system with all links down and puts it into an empty handle. The keys are those of aggregators 1, 2 and on; the
+/// port numbers rise.
+/// Refuses: NIW_HAS_SYSTEM, NIW_BAD_CONFIG, NIW_NO_MEMORY.
 #[unsafe(no_mangle)]
 pub extern "C" fn lagffi_new(
     alloc: Global,
@@ -245,7 +246,8 @@ pub extern "C" fn lagffi_new(
     }
 }
 
-/// Frees the system of a handle, and leaves the handle empty. Answers 0, or 13 if the handle held no system.
+/// Frees the system of a handle, which is empty then.
+/// Refuses: NIW_NO_SYSTEM.
 #[unsafe(no_mangle)]
 pub extern "C" fn lagffi_free(alloc: Global, lag: &mut Lag) -> u32
     ensures left { held_value lag.new.held.kept ≡ None }

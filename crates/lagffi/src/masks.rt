@@ -51,7 +51,8 @@ fn due_on<F: Fn(u16, usize) -> usize + Drop>(
     due
 }
 
-/// The mask of the ports on which a frame is due. The lowest bit tells of the first port.
+/// A mask of the ports on which niw_transmit would return a frame now. Bit 0, of the value 1, tells of the first port.
+/// Refuses: NIW_NO_SYSTEM.
 #[unsafe(no_mangle)]
 pub extern "C" fn lagffi_due(alloc: Global, lag: &mut Lag) -> LagNumber
     ensures { ReadsHeldSystem (held_value lag.old.held.kept) (held_value lag.new.held.kept)

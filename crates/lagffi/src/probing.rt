@@ -15,8 +15,9 @@ use crate::stored::by_number;
 use crate::values::{CONTROL_FRAME_LENGTH, LagSent, NO_SYSTEM, WRONG_BUFFER_LENGTH};
 use std::alloc::Global;
 
-/// A marker that asks whether the peer of a port answers markers, to be sent now. The buffer has 124 octets or more; the marker is written
-/// at its front, and nothing else.
+/// A marker that asks whether the peer of a port answers markers, to be sent now; `frame` has NIW_FRAME octets or more, and is written
+/// only then, at its front. Its `is` is false while the link is down, and where no identifier is left.
+/// Refuses: NIW_BUFFER, NIW_NO_SYSTEM, NIW_NO_PORT.
 #[unsafe(no_mangle)]
 pub extern "C" fn lagffi_probe(alloc: Global, lag: &mut Lag, port: u16, frame: &mut [u8]) -> LagSent
     ensures room { IsFalse (nat_le control_frame_length (length frame.old)) → (result ≡ sent_refused wrong_buffer_length)

@@ -16,8 +16,10 @@ use crate::values::{LagNumber, NO_CONVERSATION, NO_MEMORY, OK};
 use dataplane::{Holding, Refusal};
 use std::alloc::Global;
 
-/// Makes empty queues, and puts them into an empty handle: one for each of so many conversations, numbered from 0. At most `in_all` frames
-/// wait in all, and at most `each` in each. All memory is taken here.
+/// Makes empty queues and puts them into an empty handle: one for each conversation, numbered from 0. At most `in_all`
+/// frames wait in all, and at most `each` in each. All memory is taken here: for each conversation 32 octets, and 8 for each frame that
+/// may wait in it, which is the lesser of `in_all` and `each`.
+/// Refuses: NIW_HAS_QUEUE, NIW_NO_MEMORY.
 #[unsafe(no_mangle)]
 pub extern "C" fn lagffi_queue_new(
     alloc: Global,
@@ -50,7 +52,8 @@ pub extern "C" fn lagffi_queue_new(
     }
 }
 
-/// Frees the queues of a handle, and leaves the handle empty. Answers 0, or 19 if the handle held none.
+/// Frees the queues of a handle, which is empty then. Of frames that still wait no more is told.
+/// Refuses: NIW_NO_QUEUE.
 #[unsafe(no_mangle)]
 pub extern "C" fn lagffi_queue_free(alloc: Global, lag: &mut LagQueue) -> u32
     ensures left { queue_value lag.new.held.kept ≡ None }
@@ -76,7 +79,9 @@ fn put_into(queue: &mut Holding<u64>, conv: u16, frame: u64) -> Option<Refusal>
     }
 }
 
-/// Puts a frame behind those that wait in its conversation. A frame that is refused is counted.
+/// Puts a frame behind those that wait in its conversation. One that is refused is counted, and not put: by NIW_NOT_ASSIGNED where there
+/// is no such conversation, NIW_CONVERSATION_FULL or NIW_ALL_FULL.
+/// Refuses: NIW_NO_QUEUE, NIW_NOT_ASSIGNED, NIW_CONVERSATION_FULL, NIW_ALL_FULL.
 #[unsafe(no_mangle)]
 pub extern "C" fn lagffi_queue_put(alloc: Global, lag: &mut LagQueue, conv: u16, frame: u64) -> u32
     ensures { CallsQueue (queue_value lag.old.held.kept) (queue_value lag.new.held.kept)
@@ -90,7 +95,8 @@ pub extern "C" fn lagffi_queue_put(alloc: Global, lag: &mut LagQueue, conv: u16,
     status_of_put(refusal)
 }
 
-/// Takes the oldest frame of a conversation out, to be sent.
+/// Takes the oldest frame of a conversation out, to be sent. `is` is false if none waits.
+/// Refuses: NIW_NO_QUEUE.
 #[unsafe(no_mangle)]
 pub extern "C" fn lagffi_queue_next(alloc: Global, lag: &mut LagQueue, conv: u16) -> LagQueued
     ensures { CallsQueue (queue_value lag.old.held.kept) (queue_value lag.new.held.kept)
@@ -104,7 +110,8 @@ pub extern "C" fn lagffi_queue_next(alloc: Global, lag: &mut LagQueue, conv: u16
     LagQueued::of(conv, answer)
 }
 
-/// Takes the oldest frame of a conversation out, not to be sent, and counts it.
+/// Takes the oldest frame of a conversation out, not to be sent, and counts it. `is` is false if none waits.
+/// Refuses: NIW_NO_QUEUE.
 #[unsafe(no_mangle)]
 pub extern "C" fn lagffi_queue_drop(alloc: Global, lag: &mut LagQueue, conv: u16) -> LagQueued
     ensures { CallsQueue (queue_value lag.old.held.kept) (queue_value lag.new.held.kept)
@@ -118,7 +125,8 @@ pub extern "C" fn lagffi_queue_drop(alloc: Global, lag: &mut LagQueue, conv: u16
     LagQueued::of(conv, answer)
 }
 
-/// The oldest frame of a conversation, the one that `lagffi_queue_next` would take out. It stays.
+/// The oldest frame of a conversation, the one that niw_queue_next would take out. It stays. `is` is false if none waits.
+/// Refuses: NIW_NO_QUEUE.
 #[unsafe(no_mangle)]
 pub extern "C" fn lagffi_queue_oldest(alloc: Global, lag: &mut LagQueue, conv: u16) -> LagQueued
     ensures { CallsQueue (queue_value lag.old.held.kept) (queue_value lag.new.held.kept)
@@ -132,8 +140,10 @@ pub extern "C" fn lagffi_queue_oldest(alloc: Global, lag: &mut LagQueue, conv: u
     LagQueued::of(conv, answer)
 }
 
-/// Takes out the oldest frame of the first conversation that is on a port and has one waiting: `ports` has the port of each conversation, 0
-/// for none. A list of more than 65,536 is refused.
+/// Takes out the oldest frame of the first conversation that is on a port and has one waiting, and tells the port. `ports` has for each
+/// conversation, by its number, the port that it is on, or 0, as niw_conversation_ports writes it. A list of more than
+/// NIW_MOST_CONVERSATIONS is refused with NIW_NOT_ASSIGNED.
+/// Refuses: NIW_NOT_ASSIGNED, NIW_NO_QUEUE.
 #[unsafe(no_mangle)]
 pub extern "C" fn lagffi_queue_next_released(
     alloc: Global,
@@ -155,7 +165,8 @@ pub extern "C" fn lagffi_queue_next_released(
     LagQueued::released(answer)
 }
 
-/// How many frames of a conversation wait.
+/// How many frames of a conversation wait; 0 if there is no such conversation.
+/// Refuses: NIW_NO_QUEUE.
 #[unsafe(no_mangle)]
 pub extern "C" fn lagffi_queue_waiting(alloc: Global, lag: &mut LagQueue, conv: u16) -> LagNumber
     ensures { CallsQueue (queue_value lag.old.held.kept) (queue_value lag.new.held.kept)
@@ -169,7 +180,8 @@ pub extern "C" fn lagffi_queue_waiting(alloc: Global, lag: &mut LagQueue, conv: 
     LagNumber::answered(answer)
 }
 
-/// How many frames wait in all, were dropped and were refused.
+/// How many frames wait, were dropped and were refused.
+/// Refuses: NIW_NO_QUEUE.
 #[unsafe(no_mangle)]
 pub extern "C" fn lagffi_queue_counts(alloc: Global, lag: &mut LagQueue) -> LagQueueCounts
     ensures { CallsQueue (queue_value lag.old.held.kept) (queue_value lag.new.held.kept)

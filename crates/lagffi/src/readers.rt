@@ -39,6 +39,7 @@ use lagsystem::AggId;
 use std::alloc::Global;
 
 /// Whether the link of a port is up.
+/// Refuses: NIW_NO_SYSTEM, NIW_NO_PORT.
 #[unsafe(no_mangle)]
 pub extern "C" fn lagffi_is_up(alloc: Global, lag: &mut Lag, port: u16) -> LagTruth
     ensures { ReadsHeldSystem (held_value lag.old.held.kept) (held_value lag.new.held.kept)
@@ -52,7 +53,8 @@ pub extern "C" fn lagffi_is_up(alloc: Global, lag: &mut Lag, port: u16) -> LagTr
     answer
 }
 
-/// Whether a frame is due on a port.
+/// Whether niw_transmit would return a frame now.
+/// Refuses: NIW_NO_SYSTEM, NIW_NO_PORT.
 #[unsafe(no_mangle)]
 pub extern "C" fn lagffi_is_due(alloc: Global, lag: &mut Lag, port: u16) -> LagTruth
     ensures { ReadsHeldSystem (held_value lag.old.held.kept) (held_value lag.new.held.kept)
@@ -66,7 +68,8 @@ pub extern "C" fn lagffi_is_due(alloc: Global, lag: &mut Lag, port: u16) -> LagT
     answer
 }
 
-/// Actor_State.Defaulted: whether recordDefault set the recorded partner of a port, and no LACPDU since (6.4.2.3).
+/// Actor_State.Defaulted: whether recordDefault set the recorded partner, and no LACPDU since.
+/// Refuses: NIW_NO_SYSTEM, NIW_NO_PORT.
 #[unsafe(no_mangle)]
 pub extern "C" fn lagffi_defaulted(alloc: Global, lag: &mut Lag, port: u16) -> LagTruth
     ensures { ReadsHeldSystem (held_value lag.old.held.kept) (held_value lag.new.held.kept)
@@ -81,6 +84,7 @@ pub extern "C" fn lagffi_defaulted(alloc: Global, lag: &mut Lag, port: u16) -> L
 }
 
 /// Whether a port distributes.
+/// Refuses: NIW_NO_SYSTEM, NIW_NO_PORT.
 #[unsafe(no_mangle)]
 pub extern "C" fn lagffi_distributes(alloc: Global, lag: &mut Lag, port: u16) -> LagTruth
     ensures { ReadsHeldSystem (held_value lag.old.held.kept) (held_value lag.new.held.kept)
@@ -96,6 +100,7 @@ pub extern "C" fn lagffi_distributes(alloc: Global, lag: &mut Lag, port: u16) ->
 }
 
 /// The state octet of a port's own side.
+/// Refuses: NIW_NO_SYSTEM, NIW_NO_PORT.
 #[unsafe(no_mangle)]
 pub extern "C" fn lagffi_state(alloc: Global, lag: &mut Lag, port: u16) -> LagNumber
     ensures { ReadsHeldSystem (held_value lag.old.held.kept) (held_value lag.new.held.kept)
@@ -110,6 +115,7 @@ pub extern "C" fn lagffi_state(alloc: Global, lag: &mut Lag, port: u16) -> LagNu
 }
 
 /// The state of the receive machine of a port.
+/// Refuses: NIW_NO_SYSTEM, NIW_NO_PORT.
 #[unsafe(no_mangle)]
 pub extern "C" fn lagffi_receive_state(alloc: Global, lag: &mut Lag, port: u16) -> LagNumber
     ensures { ReadsHeldSystem (held_value lag.old.held.kept) (held_value lag.new.held.kept)
@@ -123,7 +129,8 @@ pub extern "C" fn lagffi_receive_state(alloc: Global, lag: &mut Lag, port: u16) 
     answer
 }
 
-/// The aggregator that a port is SELECTED or STANDBY with, or 0.
+/// The aggregator that a port is given, or 0. The port is SELECTED or STANDBY with it.
+/// Refuses: NIW_NO_SYSTEM, NIW_NO_PORT.
 #[unsafe(no_mangle)]
 pub extern "C" fn lagffi_choice(alloc: Global, lag: &mut Lag, port: u16) -> LagNumber
     ensures { ReadsHeldSystem (held_value lag.old.held.kept) (held_value lag.new.held.kept)
@@ -137,7 +144,8 @@ pub extern "C" fn lagffi_choice(alloc: Global, lag: &mut Lag, port: u16) -> LagN
     answer
 }
 
-/// Whether a port is STANDBY: it has an aggregator that had no room for one more link.
+/// Whether a port is STANDBY: its aggregator had no room for one more link.
+/// Refuses: NIW_NO_SYSTEM, NIW_NO_PORT.
 #[unsafe(no_mangle)]
 pub extern "C" fn lagffi_is_standby(alloc: Global, lag: &mut Lag, port: u16) -> LagTruth
     ensures { ReadsHeldSystem (held_value lag.old.held.kept) (held_value lag.new.held.kept)
@@ -152,6 +160,7 @@ pub extern "C" fn lagffi_is_standby(alloc: Global, lag: &mut Lag, port: u16) -> 
 }
 
 /// The state of the mux machine of a port.
+/// Refuses: NIW_NO_SYSTEM, NIW_NO_PORT.
 #[unsafe(no_mangle)]
 pub extern "C" fn lagffi_mux_state(alloc: Global, lag: &mut Lag, port: u16) -> LagNumber
     ensures { ReadsHeldSystem (held_value lag.old.held.kept) (held_value lag.new.held.kept)
@@ -165,8 +174,8 @@ pub extern "C" fn lagffi_mux_state(alloc: Global, lag: &mut Lag, port: u16) -> L
     answer
 }
 
-/// Whether a port distributes, and else the first reason why not. `lagffi_wait_while` tells the ticks of Waiting, and
-/// `lagffi_choice` the aggregator of Standby.
+/// Whether a port distributes, and else the first reason why not: NIW_PORT_STATUS_..
+/// Refuses: NIW_NO_SYSTEM, NIW_NO_PORT.
 #[unsafe(no_mangle)]
 pub extern "C" fn lagffi_port_status(alloc: Global, lag: &mut Lag, port: u16) -> LagNumber
     ensures { ReadsHeldSystem (held_value lag.old.held.kept) (held_value lag.new.held.kept)
@@ -180,7 +189,8 @@ pub extern "C" fn lagffi_port_status(alloc: Global, lag: &mut Lag, port: u16) ->
     answer
 }
 
-/// How many ticks current_while of a port has left, 0 to 900 (6.4.10).
+/// How many ticks current_while of a port has left, 0 to 900.
+/// Refuses: NIW_NO_SYSTEM, NIW_NO_PORT.
 #[unsafe(no_mangle)]
 pub extern "C" fn lagffi_current_while(alloc: Global, lag: &mut Lag, port: u16) -> LagNumber
     ensures { ReadsHeldSystem (held_value lag.old.held.kept) (held_value lag.new.held.kept)
@@ -194,7 +204,8 @@ pub extern "C" fn lagffi_current_while(alloc: Global, lag: &mut Lag, port: u16) 
     answer
 }
 
-/// How many ticks wait_while of a port has left, 0 to 20 (6.4.10).
+/// How many ticks wait_while of a port has left, 0 to 20.
+/// Refuses: NIW_NO_SYSTEM, NIW_NO_PORT.
 #[unsafe(no_mangle)]
 pub extern "C" fn lagffi_wait_while(alloc: Global, lag: &mut Lag, port: u16) -> LagNumber
     ensures { ReadsHeldSystem (held_value lag.old.held.kept) (held_value lag.new.held.kept)
@@ -208,7 +219,9 @@ pub extern "C" fn lagffi_wait_while(alloc: Global, lag: &mut Lag, port: u16) -> 
     answer
 }
 
-/// NTT: whether an LACPDU is to be sent on a port (6.4.7).
+/// Whether an LACPDU is to be sent on a port. It is not due yet where three went in the last eleven ticks; niw_is_due tells of markers
+/// too.
+/// Refuses: NIW_NO_SYSTEM, NIW_NO_PORT.
 #[unsafe(no_mangle)]
 pub extern "C" fn lagffi_ntt(alloc: Global, lag: &mut Lag, port: u16) -> LagTruth
     ensures { ReadsHeldSystem (held_value lag.old.held.kept) (held_value lag.new.held.kept)
@@ -223,6 +236,7 @@ pub extern "C" fn lagffi_ntt(alloc: Global, lag: &mut Lag, port: u16) -> LagTrut
 }
 
 /// The own parameters of a port.
+/// Refuses: NIW_NO_SYSTEM, NIW_NO_PORT.
 #[unsafe(no_mangle)]
 pub extern "C" fn lagffi_party(alloc: Global, lag: &mut Lag, port: u16) -> LagParty
     ensures { ReadsHeldSystem (held_value lag.old.held.kept) (held_value lag.new.held.kept)
@@ -237,6 +251,7 @@ pub extern "C" fn lagffi_party(alloc: Global, lag: &mut Lag, port: u16) -> LagPa
 }
 
 /// The recorded partner of a port.
+/// Refuses: NIW_NO_SYSTEM, NIW_NO_PORT.
 #[unsafe(no_mangle)]
 pub extern "C" fn lagffi_partner(alloc: Global, lag: &mut Lag, port: u16) -> LagInfo
     ensures { ReadsHeldSystem (held_value lag.old.held.kept) (held_value lag.new.held.kept)
@@ -251,6 +266,7 @@ pub extern "C" fn lagffi_partner(alloc: Global, lag: &mut Lag, port: u16) -> Lag
 }
 
 /// The Link Aggregation Group of a port.
+/// Refuses: NIW_NO_SYSTEM, NIW_NO_PORT.
 #[unsafe(no_mangle)]
 pub extern "C" fn lagffi_group(alloc: Global, lag: &mut Lag, port: u16) -> LagGroup
     ensures { ReadsHeldSystem (held_value lag.old.held.kept) (held_value lag.new.held.kept)
@@ -264,7 +280,8 @@ pub extern "C" fn lagffi_group(alloc: Global, lag: &mut Lag, port: u16) -> LagGr
     answer
 }
 
-/// How many conversations are On, Wanted or Flushing on a port.
+/// How many conversations are on a port, those that are held among them.
+/// Refuses: NIW_NO_SYSTEM, NIW_NO_PORT.
 #[unsafe(no_mangle)]
 pub extern "C" fn lagffi_load(alloc: Global, lag: &mut Lag, port: u16) -> LagNumber
     ensures { ReadsHeldSystem (held_value lag.old.held.kept) (held_value lag.new.held.kept)
@@ -279,7 +296,10 @@ pub extern "C" fn lagffi_load(alloc: Global, lag: &mut Lag, port: u16) -> LagNum
     answer
 }
 
-/// Whether the peer of a port answers markers: 0 it was not asked since the link was down, 1 it was asked, 2 it answered.
+/// Whether the peer of a port answers markers: NIW_ANSWERS_.. A marker that niw_transmit or niw_probe wrote asks it. A response that
+/// niw_receive takes on the port answers, if it has the port, system and identifier of the last such marker. When the link goes down, and
+/// after niw_restart, it is as never asked.
+/// Refuses: NIW_NO_SYSTEM, NIW_NO_PORT.
 #[unsafe(no_mangle)]
 pub extern "C" fn lagffi_answers(alloc: Global, lag: &mut Lag, port: u16) -> LagNumber
     ensures { ReadsNotes (held_value lag.old.held.kept) (held_value lag.new.held.kept)
@@ -294,7 +314,8 @@ pub extern "C" fn lagffi_answers(alloc: Global, lag: &mut Lag, port: u16) -> Lag
     answer
 }
 
-/// How many conversations are Wanted or Flushing on a port.
+/// How many conversations are held on a port, wanted or flushing there; niw_load counts those that are on it, too.
+/// Refuses: NIW_NO_SYSTEM, NIW_NO_PORT.
 #[unsafe(no_mangle)]
 pub extern "C" fn lagffi_held(alloc: Global, lag: &mut Lag, port: u16) -> LagNumber
     ensures { ReadsHeldSystem (held_value lag.old.held.kept) (held_value lag.new.held.kept)
@@ -309,7 +330,8 @@ pub extern "C" fn lagffi_held(alloc: Global, lag: &mut Lag, port: u16) -> LagNum
     answer
 }
 
-/// How many aggregators there are.
+/// How many aggregators there are. They are numbered from 1.
+/// Refuses: NIW_NO_SYSTEM.
 #[unsafe(no_mangle)]
 pub extern "C" fn lagffi_aggregators(alloc: Global, lag: &mut Lag) -> LagNumber
     ensures { ReadsHeldSystem (held_value lag.old.held.kept) (held_value lag.new.held.kept)
@@ -323,7 +345,8 @@ pub extern "C" fn lagffi_aggregators(alloc: Global, lag: &mut Lag) -> LagNumber
     answer
 }
 
-/// The number of the conversation of a frame, the same in every aggregator; refused below 14 octets.
+/// The number of the conversation of a frame, the same in every aggregator.
+/// Refuses: NIW_NO_SYSTEM, NIW_FRAME_LENGTH.
 #[unsafe(no_mangle)]
 pub extern "C" fn lagffi_conversation(alloc: Global, lag: &mut Lag, frame: &[u8]) -> LagNumber
     ensures { ReadsHeldSystem (held_value lag.old.held.kept) (held_value lag.new.held.kept)
@@ -339,7 +362,8 @@ pub extern "C" fn lagffi_conversation(alloc: Global, lag: &mut Lag, frame: &[u8]
     answer
 }
 
-/// The state of a conversation of an aggregator, its port and its preferred port.
+/// What a conversation of an aggregator is doing.
+/// Refuses: NIW_NO_SYSTEM, NIW_NOT_ASSIGNED.
 #[unsafe(no_mangle)]
 pub extern "C" fn lagffi_conversation_state(
     alloc: Global,
@@ -358,7 +382,8 @@ pub extern "C" fn lagffi_conversation_state(
     answer
 }
 
-/// The identifier of the next marker that the system will send; `left` is false once 4294967295 was used.
+/// The identifier of the next marker.
+/// Refuses: NIW_NO_SYSTEM.
 #[unsafe(no_mangle)]
 pub extern "C" fn lagffi_next_marker(alloc: Global, lag: &mut Lag) -> LagMarker
     ensures { ReadsHeldSystem (held_value lag.old.held.kept) (held_value lag.new.held.kept)
@@ -372,7 +397,10 @@ pub extern "C" fn lagffi_next_marker(alloc: Global, lag: &mut Lag) -> LagMarker
     answer
 }
 
-/// In how many ticks something happens by itself; `ever` is false if nothing does without a call.
+/// In how many ticks something happens by itself: 0 if a frame is due on some port. Until then a tick only counts: a program may
+/// sleep, and make the ticks up by niw_ticks before it hands over a frame or makes another call. `ever` is false if nothing happens
+/// without another call.
+/// Refuses: NIW_NO_SYSTEM.
 #[unsafe(no_mangle)]
 pub extern "C" fn lagffi_ticks_until_due(alloc: Global, lag: &mut Lag) -> LagWait
     ensures { ReadsHeldSystem (held_value lag.old.held.kept) (held_value lag.new.held.kept)
@@ -386,7 +414,9 @@ pub extern "C" fn lagffi_ticks_until_due(alloc: Global, lag: &mut Lag) -> LagWai
     answer
 }
 
-/// How many ports there are. The buffer has 64 places or more; the port numbers are written at its front, and nothing else.
+/// How many ports there are. `numbers` has room for NIW_MOST_PORTS numbers or more, which `room` counts; those of the ports are written
+/// at its front, ascending.
+/// Refuses: NIW_BUFFER, NIW_NO_SYSTEM.
 #[unsafe(no_mangle)]
 pub extern "C" fn lagffi_ports(alloc: Global, lag: &mut Lag, buffer: &mut [u16]) -> LagNumber
     ensures room { IsFalse (nat_le port_list_length (length buffer.old)) → (result ≡ number_refused wrong_buffer_length)
@@ -408,8 +438,9 @@ pub extern "C" fn lagffi_ports(alloc: Global, lag: &mut Lag, buffer: &mut [u16])
     LagNumber::answered(put_first(&answered, buffer))
 }
 
-/// How many ports distribute in an aggregator. The buffer has 64 places or more; the numbers of these ports are written at its
-/// front, and nothing else.
+/// How many ports distribute in an aggregator; 0 if there is none. `numbers` has room for NIW_MOST_PORTS numbers or more;
+/// those of the ports are written at its front, ascending.
+/// Refuses: NIW_BUFFER, NIW_NO_SYSTEM.
 #[unsafe(no_mangle)]
 pub extern "C" fn lagffi_distributing(
     alloc: Global,

@@ -165,9 +165,10 @@ fn renew(views: &mut [LagView], now: &[LagView]) -> u64
     mask(&differ)
 }
 
-/// What there is to show of each port. The buffer has 64 places or more: the views are written at its front, in the order of
-/// the port numbers, and nothing else. Answers the mask of the ports whose view differs from what stood in its place; the lowest
-/// bit tells of the first port.
+/// What changed: writes what there is to show of each port into `views`, which has room for NIW_MOST_PORTS views or more, in the order
+/// of port numbers, and returns a mask of those that differ from what stood there. Bit 0, of the value 1, tells of the first port. The
+/// first time, `views` may hold zeros.
+/// Refuses: NIW_BUFFER, NIW_NO_SYSTEM.
 #[unsafe(no_mangle)]
 pub extern "C" fn lagffi_views(alloc: Global, lag: &mut Lag, views: &mut [LagView]) -> LagNumber
     ensures room { IsFalse (nat_le port_list_length (length views.old)) → (result ≡ number_refused wrong_buffer_length)
