@@ -38,7 +38,7 @@ def pair_of(file: str, text: str, change: Change) -> Pair:
 
 
 def trial(crate: str, file: str, text: str, change: Change) -> Trial:
-    """The edit that makes this change, with the imports that it needs; its name is what it replaces."""
+    """The edit that makes this change, with the imports that it needs; its name is where it stands and what it replaces."""
     pairs = [pair_of(file, text, change)]
     missing = definition_operators.missing(text, change) if file.endswith(".antt") else []
     use = re.search(r"^use Rattle\.std\.specs\.Prelude\.\{", text, re.M)
@@ -46,7 +46,9 @@ def trial(crate: str, file: str, text: str, change: Change) -> Trial:
         pairs.append(pair_of(file, text, Change("", use.end(), use.end(), ", ".join(missing) + ", ")))
     start, end = text.rfind("\n", 0, change.start) + 1, text.find("\n", change.end)
     line, new = text[start:end], text[start : change.start] + change.new + text[change.end : end]
-    name = f"{file}: {' '.join(line.split())} ==> {' '.join(new.split())}"
+    head = r"^ *(?:pub(?:\([^)]*\))? )?(?:fn|const) (\w+)" if file.endswith(".rt") else r"^(?!use|abbrev|--|pub data)(?:pub record )?(\w+)"
+    owner = re.findall(head, text[: change.start], re.M)[-1:]
+    name = f"{' '.join([file, *owner])}: {' '.join(line.split())} ==> {' '.join(new.split())}"
     return Trial(crate, name, change.operator, tuple(pairs), is_made=True)
 
 
