@@ -1,5 +1,5 @@
 #!/usr/bin/env python3
-"""flows.py INTERFACE: sends frames of 64 flows on an interface until it is ended, each flow twice a second.
+"""flows.py INTERFACE: sends frames of 64 flows on an interface, each flow twice a second, until it is ended or a minute has passed.
 
 They are what lagconform looks for between `data start` and `data stop`: UDP from 198.18.0.0/16 (RFC 2544), to other addresses and ports in
 each flow. The flows differ in MAC, IP and port, so that a device that hashes any of these spreads them.
@@ -10,6 +10,7 @@ import sys
 import time
 
 FLOWS = 64
+SECONDS = 60.0
 
 
 def checksum(octets: bytes) -> int:
@@ -31,7 +32,8 @@ def flow(number: int) -> bytes:
 def main() -> None:
     out = socket.socket(socket.AF_PACKET, socket.SOCK_RAW)
     out.bind((sys.argv[1], 0))
-    while True:
+    limit = time.monotonic() + SECONDS
+    while time.monotonic() < limit:
         for number in range(FLOWS):
             out.send(flow(number))
             time.sleep(0.5 / FLOWS)

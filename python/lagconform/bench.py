@@ -8,8 +8,8 @@ from typing import Callable, Iterator, Optional, Sequence, cast
 from niwhopera import Lacpdu, Mac, MarkerKind, State
 
 from .model import Claim, Frame, NotHere, Result, Stop
-from .partner import INFINITE, Partner, slow
-from .pdus import CARRIES, end, read, six
+from .partner import Partner, slow
+from .pdus import CARRIES, end, read
 from .wires import Answer, Hook, Wire
 
 # 6.4.4: each timer may be wrong by so much. What is due at once has to be seen so soon: the standard has no number for that, but its
@@ -292,11 +292,3 @@ def most_within(times: Sequence[float], window: float) -> int:
             first += 1
         most = max(most, at - first + 1)
     return most
-
-
-def same_six(frame: Frame, partner: Partner) -> bool:
-    """Whether an LACPDU of the device names the partner."""
-    return frame.lacpdu is not None and six(frame.lacpdu.partner) == six(partner.me.info)
-
-
-__all__ = ["DATA", "INFINITE", "LIMIT", "PROMPT", "QUIET", "SENDERS", "TIMERS", "Bench", "Holds", "Link", "most_within", "same_six"]

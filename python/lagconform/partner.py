@@ -20,7 +20,6 @@ if TYPE_CHECKING:
 TICK = 0.1
 # Ticks in which a system that has heard a partner passes wait_while (6.4.4).
 ATTACHES = 21
-INFINITE = float("inf")
 Change = Callable[[Info], Info]
 
 

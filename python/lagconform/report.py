@@ -33,7 +33,8 @@ def why(it: Result) -> str:
 def line(it: Result) -> str:
     """A result as one line, or two."""
     known = f" (known: {it.known})" if it.known else ""
-    return f"{it.verdict:15}{it.test.id:7} {it.test.title}{known}" + (f"\n{'':23}{why(it)}" if it.why else "")
+    rule = f"{it.test.clause}, by {it.test.basis}: " if it.verdict == FAIL else ""
+    return f"{it.verdict:15}{it.test.id:7} {it.test.title}{known}" + (f"\n{'':23}{rule}{why(it)}" if it.why else "")
 
 
 def counts(results: Sequence[Result]) -> dict[str, int]:

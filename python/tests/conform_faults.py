@@ -2,7 +2,7 @@
 
 from __future__ import annotations
 
-from typing import Iterable, Iterator, Optional
+from typing import Iterable, Optional
 
 from conform_device import OWN, SLOW, Device, is_lacpdu, part, put
 from niwhopera import MuxState, ReceiveState, State
@@ -170,10 +170,9 @@ class NoWaitAfterDefaults(Device):
 
     finds = "RX-06"
 
-    def hears(self, port: int, frame: bytes) -> Iterable[bytes]:
-        yield frame
-        if is_lacpdu(frame) and self.on.defaulted(port):
-            return
+    def __init__(self) -> None:
+        super().__init__()
+        self.was_defaulted: dict[int, bool] = {}
 
     def took(self, port: int, frame: bytes) -> None:
         if is_lacpdu(frame) and self.was_defaulted.get(port) and self.on.mux_state(port) is MuxState.WAITING:
@@ -184,10 +183,6 @@ class NoWaitAfterDefaults(Device):
     def ticked(self) -> None:
         for port in (1, 2):
             self.was_defaulted[port] = self.on.defaulted(port)
-
-    def __init__(self) -> None:
-        super().__init__()
-        self.was_defaulted: dict[int, bool] = {}
 
 
 class NoWait(Device):
@@ -636,11 +631,6 @@ class SilentOnDefaults(Device):
     def says(self, port: int, frame: bytes) -> Iterable[bytes]:
         if not frame[32] & 0x40:
             yield frame
-
-
-def of(*modules_classes: type[Device]) -> Iterator[type[Device]]:
-    """Each class that names the tests that find it."""
-    yield from (it for it in modules_classes if it.finds)
 
 
 FAULTS: list[type[Device]] = [it for it in list(vars().values()) if isinstance(it, type) and issubclass(it, Device) and it.finds]

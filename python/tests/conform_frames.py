@@ -6,7 +6,7 @@ from typing import Iterable, Iterator, Optional
 
 from conform_device import OWN, SLOW, Device, is_lacpdu, part, put
 from conform_faults import set_bits
-from niwhopera import BadPayload, State, decode
+from niwhopera import State
 
 
 class Drops(Device):
@@ -186,7 +186,11 @@ class WornOut(Device):
     """Takes no LACPDU any more after fifty partners in ten seconds."""
 
     finds = "RB-05"
-    partners: dict[bytes, float] = {}
+    worn = False
+
+    def __init__(self) -> None:
+        super().__init__()
+        self.partners: dict[bytes, float] = {}
 
     def hears(self, port: int, frame: bytes) -> Iterable[bytes]:
         if is_lacpdu(frame):
@@ -196,8 +200,6 @@ class WornOut(Device):
                 self.worn = True
         if not self.worn:
             yield frame
-
-    worn = False
 
 
 class SubtypeUnchecked(Device):
@@ -458,15 +460,6 @@ class ForgetsNaming(Device):
     def hears(self, port: int, frame: bytes) -> Iterable[bytes]:
         nobody = is_lacpdu(frame) and not any(part(frame, 24, 14))
         yield set_bits(put(frame, 24, self.own(port)), 38, 4, True) if nobody else frame
-
-
-def reads(frame: bytes) -> bool:
-    """Whether the codec reads a frame."""
-    try:
-        decode(frame[14:])
-    except BadPayload:
-        return False
-    return True
 
 
 FAULTS: list[type[Device]] = [it for it in list(vars().values()) if isinstance(it, type) and issubclass(it, Device) and it.finds]

@@ -254,20 +254,25 @@ def beside(name: str, device: Device, shared: str, reports: str, words: Sequence
     return made
 
 
+def loaded(path: str) -> Any:
+    """The run of a file."""
+    with open(path, encoding="utf-8") as it:
+        return json.load(it)
+
+
 def table(paths: Sequence[str]) -> str:
-    """The table of verdicts of runs, from their JSON, and the counts."""
-    runs = []
-    for path in paths:
-        with open(path, encoding="utf-8") as it:
-            runs.append(json.load(it))
-    names = [run["about"]["device"] for run in runs]
+    """The table of verdicts of runs, from their JSON: the counts, and a row for the tests that have the same verdicts on each device."""
+    runs = [loaded(path) for path in paths]
     verdicts = [{it["id"]: it["verdict"] for it in run["tests"]} for run in runs]
-    titles = {it["id"]: it["title"] for run in runs for it in run["tests"]}
-    lines = [["test", "", *names], ["---"] * (len(names) + 2)]
+    names = [run["about"]["device"] for run in runs]
+    lines = [["tests", *names], ["---"] * (len(names) + 1)]
     for kind in COUNTED:
-        lines.append([f"*{kind}*", "", *(str(Counter(own.values())[kind]) for own in verdicts)])
-    for name, title in titles.items():
-        own = [it.get(name, "") for it in verdicts]
-        if any(it not in ("pass", "skipped", "") for it in own):
-            lines.append([name, title, *(SIGNS.get(it, "") for it in own)])
-    return "\n".join(f"| {' | '.join(cells)} |" for cells in lines)
+        counts = [Counter(own.values())[kind] for own in verdicts]
+        lines += [[f"*{kind}*", *map(str, counts)]] if any(counts) else []
+    rows: dict[tuple[str, ...], list[str]] = {}
+    for name in dict.fromkeys(it["id"] for run in runs for it in run["tests"]):
+        rows.setdefault(tuple(own.get(name, "") for own in verdicts), []).append(name)
+    for told, tests in rows.items():
+        if any(it in ("fail", "inconclusive") for it in told):
+            lines.append([", ".join(tests), *(SIGNS.get(it, "") for it in told)])
+    return "\n".join(f"|{'|'.join(cells)}|" for cells in lines)
