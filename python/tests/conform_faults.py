@@ -570,6 +570,19 @@ class NoNtt(Device):
         return True
 
 
+class LooksOnceASecond(Device):
+    """Sends what is due once a second."""
+
+    finds = "TX-02b TX-02e TX-03b"
+    looked = 0.0
+
+    def may_send(self) -> bool:
+        if self.now - self.looked < 0.99:
+            return False
+        self.looked = self.now
+        return True
+
+
 class TimeoutUnchecked(Device):
     """Does not look at its LACP_Timeout as the partner tells it."""
 

@@ -19,7 +19,6 @@ from lagconform.model import Test as Case
 from lagconform.runner import meet, ordered, run_all
 
 FAULTS: list[Type[Device]] = [*conform_faults.FAULTS, *conform_frames.FAULTS]
-# These look at what they see alone, or wait 90 s.
 BY_NAME = {it.id: it for it in TESTS}
 
 
@@ -68,7 +67,7 @@ def test_each_test_has_a_fault_that_it_finds() -> None:
     assert found == set(BY_NAME)
 
 
-@pytest.mark.parametrize("kind", FAULTS, ids=lambda it: it.__name__)
+@pytest.mark.parametrize("kind", FAULTS, ids=[it.__name__ for it in FAULTS])
 def test_a_fault_is_found(kind: Type[Device]) -> None:
     wanted = kind.finds.split()
     results = play(kind, [BY_NAME[it] for it in wanted])
