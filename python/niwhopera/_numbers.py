@@ -1,6 +1,6 @@
 """The numbers, texts, structs and functions of lag.h.
 
-tools/maintain/python-bindings writes this file; it is not changed by hand.
+tools/maintain/interface writes this file; it is not changed by hand.
 """
 
 from __future__ import annotations

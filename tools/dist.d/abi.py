@@ -18,9 +18,9 @@ from counting import Count
 from library import printed
 from repository import COMPILER, MAINTAIN, Missing
 
-sys.path.append(os.path.join(MAINTAIN, "live.d"))
+sys.path.append(os.path.join(MAINTAIN, "interface.d"))
 
-import header
+import numbering
 
 # The interface of the releases that load as SONAME.
 KEPT = os.path.join(os.path.dirname(os.path.abspath(__file__)), "liblag.abi")
@@ -58,9 +58,9 @@ def described(folder: str) -> str:
 
 
 def numbers() -> dict[str, int]:
-    """The numbers of the header; that of the header itself rises with each change."""
-    found: dict[str, int] = header.numbers_of_header(header.text_of(library.HEADER))
-    return {name: number for name, number in found.items() if name != "NIW_VERSION"}
+    """The numbers of the header, but for that of the header itself, which rises with each change."""
+    with open(library.HEADER, encoding="utf-8") as it:
+        return numbering.of_header(it.read())
 
 
 def keep(folder: str) -> None:

@@ -1,24 +1,14 @@
-#!/usr/bin/env python3
-"""Writes python/niwhopera/_numbers.py from crates/lagffi/include/lag.h: its numbers, texts, structs and functions.
-
-The header is their one owner. With --check nothing is written: the file is compared with what would be written, and where they
-differ the status is 1. Status 2, and a line on standard error, where the header is not written as this program reads it.
-"""
+"""python/niwhopera/_numbers.py: the numbers, texts and structs of lag.h, and the exports with their types."""
 
 from __future__ import annotations
 
-import argparse
 import keyword
-import os
 import re
-import sys
 
-sys.dont_write_bytecode = True
-sys.path.insert(0, os.path.join(os.path.dirname(os.path.realpath(__file__)), ".."))
-from repository import CRATES, TOP, Missing, run, say
+import sources
+from repository import Missing
+from sources import Export
 
-HEADER = os.path.join(CRATES, "lagffi", "include", "lag.h")
-WRITTEN = os.path.join(TOP, "python", "niwhopera", "_numbers.py")
 # Each enum of the header, by its first enumerator: its name in Python, what its enumerators begin with, and what it is.
 ENUMS = {
     "NIW_OK": ("Status", "NIW_", "Whether a call was done, or why it was refused."),
@@ -40,7 +30,7 @@ FLAGS = {"State"}
 NUMBERS = {"uint8_t": "c_uint8", "uint16_t": "c_uint16", "uint32_t": "c_uint32", "uint64_t": "c_uint64", "size_t": "c_size_t"}
 HEAD = '''"""The numbers, texts, structs and functions of lag.h.
 
-tools/maintain/python-bindings writes this file; it is not changed by hand.
+tools/maintain/interface writes this file; it is not changed by hand.
 """
 
 from __future__ import annotations
@@ -69,7 +59,7 @@ def in_ctypes(kind: str) -> str:
     if kind == "bool":
         return "ctypes.c_bool"
     if kind not in NUMBERS:
-        raise Missing(f"{HEADER}: there is no type of ctypes for {kind!r}")
+        raise Missing(f"lag.h: there is no type of ctypes for {kind!r}")
     return f"ctypes.{NUMBERS[kind]}"
 
 
@@ -96,17 +86,17 @@ def enumerators(body: str) -> list[tuple[str, int]]:
     return found
 
 
-def enum(body: str) -> list[str]:
+def enum_class(body: str) -> list[str]:
     """An enum as a class of Python."""
     rows = enumerators(body)
     if rows[0][0] not in ENUMS:
-        raise Missing(f"{HEADER}: the enum that begins with {rows[0][0]} has no name in {__file__}")
+        raise Missing(f"lag.h: the enum that begins with {rows[0][0]} has no name in ENUMS of interface.d/bindings.py")
     name, begins, what = ENUMS[rows[0][0]]
     base = "IntFlag" if name in FLAGS else "IntEnum"
     return [f"class {name}({base}):", f'    """{what}"""', "", *(f"    {it.removeprefix(begins)} = {number}" for it, number in rows)]
 
 
-def struct(name: str, body: str) -> list[str]:
+def struct_class(name: str, body: str) -> list[str]:
     """A struct as a class of ctypes."""
     read = re.findall(r"([\w ]+?[ *]+)(\w+)(?:\[(\d+)\])?;", " ".join(body.split()))
     fields = [(kind, f"{field}_" if keyword.iskeyword(field) else field, many) for kind, field, many in read]
@@ -115,19 +105,14 @@ def struct(name: str, body: str) -> list[str]:
     return [f"class {class_name(name)}(ctypes.Structure):", f'    """struct {name}."""', "", *said, "    _fields_ = [", *rows, "    ]"]
 
 
-def parameters(text: str) -> list[str]:
-    """The types of the parameters of a function."""
-    return [in_ctypes(re.sub(r"\w+$", "", it.strip()).strip()) for it in " ".join(text.split()).split(",")]
-
-
-def functions(text: str) -> list[str]:
+def functions(exports: list[Export]) -> list[str]:
     """The exports as attributes of a class, each with the types of its prototype."""
     rows = ["class Functions:", '    """What the library exports, with the types of the header."""', ""]
     rows.append("    def __init__(self, library: ctypes.CDLL) -> None:")
-    for answer, name, given in re.findall(r"^((?:struct )?\w+) lagffi_(\w+)\((.*?)\);", text, re.M | re.S):
-        told = class_name(answer[7:]) if answer.startswith("struct ") else "int"
-        rows.append(f"        self.{name}: Callable[..., {told}] = _bound(")
-        rows.append(f'            library, "lagffi_{name}", {in_ctypes(answer)}, [{", ".join(parameters(given))}]')
+    for it in exports:
+        told = class_name(it.answer[7:]) if it.answer.startswith("struct ") else "int"
+        rows.append(f"        self.{it.name}: Callable[..., {told}] = _bound(")
+        rows.append(f'            library, "lagffi_{it.name}", {in_ctypes(it.answer)}, [{", ".join(in_ctypes(field.kind) for field in it.given)}]')
         rows.append("        )")
     return rows
 
@@ -148,33 +133,13 @@ def texts(text: str) -> list[list[str]]:
     return found
 
 
-def generated() -> str:
-    """The whole file."""
-    with open(HEADER, encoding="utf-8") as it:
-        text = re.sub(r"/\*.*?\*/", "", it.read(), flags=re.S)
-    enums = [enum(body) for body in re.findall(r"^enum \{(.*?)\};", text, re.M | re.S)]
-    structs = [struct(name, body) for name, body in re.findall(r"^struct (\w+) \{(.*?)^\};", text, re.M | re.S)]
+def module(text: str, exports: list[Export]) -> str:
+    """The whole file, by the text of lag.h and its exports."""
+    text = sources.plain(text)
+    enums = [enum_class(body) for body in re.findall(r"^enum \{(.*?)\};", text, re.M | re.S)]
+    structs = [struct_class(name, body) for name, body in re.findall(r"^struct (\w+) \{(.*?)^\};", text, re.M | re.S)]
     if not (enums and structs and texts(text)):
-        raise Missing(f"{HEADER}: there are no enums, structs or texts in it as this program reads them")
+        raise Missing("lag.h has no enums, structs or texts as this program reads them")
     parts = ["\n".join(it) for it in [*enums, *structs]]
     ends = ["\n".join(it) for it in texts(text)]
-    return "\n\n\n".join([HEAD + "\n" + "\n".join(defines(text)), *parts, BOUND, "\n".join(functions(text)), "\n".join(ends)]) + "\n"
-
-
-def main() -> int:
-    reader = argparse.ArgumentParser(description=__doc__, formatter_class=argparse.RawDescriptionHelpFormatter)
-    reader.add_argument("--check", action="store_true", help="compares, and writes nothing")
-    given = reader.parse_args()
-    wanted = generated()
-    if not given.check:
-        with open(WRITTEN, "w", encoding="utf-8") as it:
-            it.write(wanted)
-        return 0
-    with open(WRITTEN, encoding="utf-8") as it:
-        found = it.read()
-    if found != wanted:
-        say(f"{os.path.relpath(WRITTEN, TOP)} is not what lag.h gives: run tools/maintain/python-bindings")
-    return int(found != wanted)
-
-
-run(main)
+    return "\n\n\n".join([HEAD + "\n" + "\n".join(defines(text)), *parts, BOUND, "\n".join(functions(exports)), "\n".join(ends)]) + "\n"

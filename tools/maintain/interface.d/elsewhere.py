@@ -1,0 +1,49 @@
+"""Where else the interface of the C library stands: the list of symbols of Debian, the C program that calls each function, and docs/USING.md."""
+
+from __future__ import annotations
+
+import re
+import textwrap
+
+from lag_h import OWN_TEXTS, replaced
+from library import SYMBOL_VERSION
+from numbering import Variant
+from sources import Export
+
+def symbols(text: str, exports: list[Export], version: str) -> str:
+    """The functions of the library for dpkg-gensymbols. One that is new has the version of this release."""
+    head = [line for line in text.splitlines() if "lagffi_" not in line]
+    kept = {line.split("@")[0].strip(): line for line in text.splitlines() if line.startswith(" lagffi_")}
+    rows = [kept.get(name, f" {name}@{SYMBOL_VERSION} {version}") for name in sorted(f"lagffi_{it.name}" for it in exports)]
+    return "\n".join([*head, *rows]) + "\n"
+
+
+def called(text: str, exports: list[Export]) -> str:
+    """live.d/calls.c with the list of all exports, each of which it has to call."""
+    listed = textwrap.fill(" ".join(f"EXPORT({it.name})," for it in exports), 132, initial_indent="    ", subsequent_indent="    ")
+    return replaced(text, r"(#define EXPORT\(name\) [^\n]*\n)(.*?)(\n\};)", "the list of exports in calls.c", listed)
+
+
+def refusals(exports: list[Export]) -> str:
+    """The rows of what functions refuse, those with the same refusals in one row."""
+    rows: dict[str, list[str]] = {}
+    for it in exports:
+        rows.setdefault(", ".join(f"`{name}`" for name in it.refuses), []).append(f"`niw_{it.name}`")
+    return "".join(f"|{', '.join(names)}|{told}|\n" for told, names in rows.items())
+
+
+def using(text: str, exports: list[Export], known: dict[str, list[Variant]], defined: dict[str, int]) -> str:
+    """docs/USING.md with what each function refuses, and a row for each refusal. The cells behind the name of one stay with it."""
+    head = r"(\n\|functions\|refusals, in this order\|\n\|---\|---\|\n)"
+    text = replaced(text, head + r"((?:\|[^\n]*\n)*)(\n)", "the table of what functions refuse in docs/USING.md", refusals(exports))
+    rows = {f"`{enum}`": [(it.number, it.name, it.said) for it in known[enum]] for enum in ("WireFault", "DistFault", "SystemFault")}
+    last = known["SystemFault"][-1].number
+    rows["`lag.h`"] = sorted((defined[name], name, said) for name, said in OWN_TEXTS.items() if defined[name] > last and "REASON" not in name)
+    for kind, listed in rows.items():
+        begins = rf"\|{kind}\|1\|[^\n]*\n" if kind != "`lag.h`" else rf"\|\|{last + 1}\|`NIW[^\n]*\n"
+        pattern = rf"(\n)({begins}(?:\|\|\d+\|[^\n]*\n)*)(\|`)"
+        was = re.search(pattern, text)
+        cells = dict(re.findall(r"^\|[^|]*\|\d+\|`(\w+)`(\|.*)$", was[2] if was else "", re.M))
+        made = [f"|{number}|`{name}`{cells.get(name, f'|{said}||')}\n" for number, name, said in listed]
+        text = replaced(text, pattern, f"{kind} in docs/USING.md", ("|" if kind == "`lag.h`" else f"|{kind}") + "|".join(made))
+    return text

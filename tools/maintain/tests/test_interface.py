@@ -1,0 +1,297 @@
+"""tools/maintain/interface: exports, structs, enums and numbers of sources, and what becomes of them in C, in Python and in docs/USING.md."""
+
+from __future__ import annotations
+
+import re
+
+import pytest
+
+import loading
+
+sources = loading.module("interface.d", "sources")
+numbering = loading.module("interface.d", "numbering")
+lag_h = loading.module("interface.d", "lag_h")
+bindings = loading.module("interface.d", "bindings")
+elsewhere = loading.module("interface.d", "elsewhere")
+tool = loading.program("interface")
+
+SOURCE = """
+#[repr(C)]
+pub struct Lag {
+    live: bool,
+    pub(crate) held: Held,
+    ghost tells: { live },
+}
+#[repr(C)]
+pub struct Held {
+    kept: *mut u8,
+    alloc: Global,
+}
+#[repr(C)]
+#[derive(Clone, Copy)]
+pub struct LagEnd {
+    pub what: u8,
+    pub mac: [u8; 6],
+    pub count: u32,
+    pub port: u16,
+}
+#[repr(C)]
+pub struct LagSystemFault {
+    pub up: bool,
+    pub end: LagEnd,
+    pub at: usize,
+}
+/// Tells the end of a port,
+/// and no more.
+/// Refuses: NIW_BUFFER, NIW_NO_SYSTEM,
+/// NIW_NO_PORT.
+#[unsafe(no_mangle)]
+pub extern "C" fn lagffi_tell(alloc: Global, lag: &mut Lag, keys: &[u16], response: &mut [u8], end: &mut LagEnd, port: u16) -> LagEnd
+    ensures room { result ≡ refused wrong_buffer_length }
+    ensures answers { result ≡ refused no_system }
+{
+}
+/// One tick.
+/// Refuses: NIW_NO_SYSTEM.
+#[unsafe(no_mangle)]
+pub extern "C" fn lagffi_tick(lag: &mut Lag) -> u32
+    ensures { result ≡ no_system }
+{
+}
+"""
+STRUCTS = sources.Structs(SOURCE)
+TELL, TICK = sources.exports(SOURCE, STRUCTS)
+HEADER = """struct niw_end lagffi_tell(void);
+uint32_t lagffi_gone(void);
+
+static inline uint32_t niw_null_status(void) {
+    return NIW_NULL;
+}
+
+/* Old
+ * words. */
+static inline struct niw_end niw_tell(void) {
+    return 0;
+}
+
+/* By hand. */
+"""
+WRITTEN = """struct niw_end lagffi_tell(struct niw_system *handle, const uint16_t *keys, size_t key_count, uint8_t *response,
+    size_t room, struct niw_end *end, uint16_t port);
+uint32_t lagffi_tick(struct niw_system *handle);
+
+static inline uint32_t niw_null_status(void) {
+    return NIW_NULL;
+}
+
+/* Tells the end of a port,
+ * and no more. */
+static inline struct niw_end niw_tell(struct niw_system *handle, const uint16_t *keys, size_t key_count, uint8_t *response,
+    size_t room, struct niw_end *end, uint16_t port) {
+    struct niw_end refused;
+    if (handle && keys && response && end) return lagffi_tell(handle, keys, key_count, response, room, end, port);
+    memset(&refused, 0, sizeof refused);
+    refused.status = NIW_NULL;
+    return refused;
+}
+
+/* One tick. */
+static inline uint32_t niw_tick(struct niw_system *handle) {
+    return handle ? lagffi_tick(handle) : niw_null_status();
+}
+
+/* By hand. */
+"""
+ENUM = """/// Why.
+pub enum SystemFault {
+    /// 1: there is no road.
+    NoRoad,
+    /// 2: the bridge is shut.
+    /// It opens at noon.
+    BridgeShut,
+    /// 4: this is wrong.
+    Other(u8),
+}
+match self {
+    SystemFault::BridgeShut => 2,
+    SystemFault::NoRoad => 1,
+    SystemFault::Other(_) => 4,
+}
+match self {
+    SystemFault::NoRoad => f.write_str("no road"),
+    SystemFault::BridgeShut => {
+        f.write_str("the bridge is shut")
+    }
+    SystemFault::Other(what) => write!(f, "{what}"),
+}
+"""
+KNOWN = [
+    numbering.Variant("NoRoad", 1, "there is no road.", "no road"),
+    numbering.Variant("BridgeShut", 2, "the bridge is shut.", "the bridge is shut"),
+    numbering.Variant("Other", 4, "this is wrong.", None),
+]
+BODY = """    NIW_OK = 0,
+    NIW_OLD = 9, /* it is gone */
+    NIW_NO_ROAD = 7, /* by hand,
+                        in two lines */
+    NIW_MORE = 6 /* of C */
+"""
+WRITTEN_ENUM = """    NIW_OK = 0,
+    NIW_NO_ROAD = 1,     /* by hand,
+                            in two lines */
+    NIW_BRIDGE_SHUT = 2, /* the bridge is shut */
+    NIW_OTHER = 4,       /* this is wrong */
+    NIW_MORE = 6         /* of C */
+"""
+
+
+def test_all_that_is_written_stands_as_it_is_written() -> None:
+    made = tool.written()
+    assert made.differs == [] and [path for path, text in made.files.items() if tool.stands(path) != text] == []
+
+
+def test_an_export_has_its_sentence_its_refusals_and_its_parameters() -> None:
+    assert (TELL.said, TELL.refuses) == (["Tells the end of a port,", "and no more."], ["NIW_BUFFER", "NIW_NO_SYSTEM", "NIW_NO_PORT"])
+    assert (TICK.answer, TICK.parameters()) == ("uint32_t", "struct niw_system *handle")
+
+
+@pytest.mark.parametrize(
+    ("old", "new", "told"),
+    [
+        ("/// Refuses: NIW_NO_SYSTEM.\n", "", "has not its sentence"),
+        ("Refuses: NIW_NO_SYSTEM.", "Refuses: NIW_NO_SYSTEM, NIW_BUFFER.", "refuses NIW_BUFFER by its contract alone, or"),
+        ("    ensures { result ≡ no_system }\n", "", "refuses NIW_NO_SYSTEM by its contract alone, or"),
+        ('extern "C" fn lagffi_tick', 'extern "C" fn tick', "an export of lagffi is not written as"),
+    ],
+)
+def test_an_export_without_its_lines_is_refused(old: str, new: str, told: str) -> None:
+    assert SOURCE.count(old) == 1
+    with pytest.raises(sources.Missing, match=told):
+        sources.exports(SOURCE.replace(old, new), STRUCTS)
+
+
+def test_functions_are_written_in_their_places_and_new_ones_behind_the_one_before() -> None:
+    assert lag_h.with_functions(HEADER, [TELL, TICK]) == WRITTEN
+    assert lag_h.with_functions(WRITTEN, [TELL, TICK]) == WRITTEN
+
+
+def test_fields_lie_as_c_lays_them() -> None:
+    # 1 octet, 6 of them, then 4 at a multiple of 4, and 2: 14, rounded up to a multiple of 4.
+    assert STRUCTS.layout("niw_end") == (16, 4, {"what": 0, "mac": 1, "count": 8, "port": 12})
+    assert STRUCTS.layout("niw_system_fault") == (32, 8, {"up": 0, "end": 4, "at": 24})
+    assert '_Static_assert(offsetof(struct niw_end, count) == 8, "offset of niw_end.count");\n' in STRUCTS.assertions()
+
+
+def test_a_type_that_c_has_not_is_refused() -> None:
+    with pytest.raises(sources.Missing, match="no type of C for String"):
+        sources.Structs("#[repr(C)]\npub struct LagText {\n    pub text: String,\n}\n")
+
+
+def test_structs_and_numbers_that_differ_are_told_by_their_names() -> None:
+    structs = "".join(f"struct {name} {{ {' '.join(f'{it.declared()};' for it in body)}\n}};\n" for name, body in STRUCTS.all.items())
+    assert list(lag_h.differences(structs + "#define NIW_ROOM 24\n", STRUCTS, {"NIW_ROOM": 24})) == []
+    struct, number = lag_h.differences(structs.replace("mac[6]", "mac[5]") + "#define NIW_ROOM 24\n", STRUCTS, {"NIW_ROOM": 25})
+    assert struct.startswith("struct niw_end: ") and number == "number NIW_ROOM: the sources have 25; the header has 24"
+
+
+def test_enumerators_count_on_and_a_header_has_each_once() -> None:
+    text = "#define NIW_VERSION 8\n#define NIW_ROOM 24\nenum { NIW_FIRST, NIW_SECOND, NIW_FIFTH = 5, NIW_SIXTH };\n"
+    assert numbering.of_header(text) == {"NIW_ROOM": 24, "NIW_FIRST": 0, "NIW_SECOND": 1, "NIW_FIFTH": 5, "NIW_SIXTH": 6}
+    with pytest.raises(numbering.Missing, match="NIW_FIRST stands twice in the header"):
+        numbering.of_header(text + "enum { NIW_FIRST };\n")
+
+
+def test_variants_have_the_numbers_behind_their_arrows_and_constants_their_names() -> None:
+    text = "MuxState::CollectingDistributing => 3,\nAssignment::Flushing { port, .. } => told(3, port),\nReceived::Up(aggregator) => (6, aggregator),\n"
+    assert dict(numbering.told(text)) == {"NIW_MUX_COLLECTING_DISTRIBUTING": 3, "NIW_CONVERSATION_FLUSHING": 3, "NIW_RECEIVED_HANDED_UP": 6}
+    found = numbering.of_sources("const NOT_HERE: u32 = 7;\nconst WRONG_BUFFER_LENGTH: u32 = 15;", {})
+    assert (found["NIW_NOT_HERE"], found["NIW_BUFFER"]) == (7, 15)
+    with pytest.raises(numbering.Missing, match="NIW_NOT_HERE has two numbers in the sources"):
+        numbering.of_sources("const NOT_HERE: u32 = 7;\nconst NOT_HERE: u32 = 8;", {})
+
+
+def test_variants_have_numbers_lines_and_texts() -> None:
+    assert numbering.variants(ENUM, "SystemFault") == KNOWN
+    source = ENUM.replace('Other(what) => write!(f, "{what}")', 'Other(_) => f.write_str("something else")')
+    assert numbering.variants(source, "SystemFault")[2].text == "something else"
+
+
+@pytest.mark.parametrize(("old", "new"), [("NoRoad => 1", "NoRoad => 2"), ("::Other(_) => 4,", ""), ("    /// 4: this is wrong.\n", "")])
+def test_an_enum_that_is_read_in_part_is_refused(old: str, new: str) -> None:
+    with pytest.raises(numbering.Missing):
+        numbering.variants(ENUM.replace(old, new), "SystemFault")
+
+
+def test_an_enum_keeps_the_comments_behind_its_names(monkeypatch: pytest.MonkeyPatch) -> None:
+    monkeypatch.setitem(lag_h.MORE, "SystemFault", ["NIW_OK", "NIW_MORE"])
+    named = lag_h.enumerators("SystemFault", KNOWN, BODY)
+    said = {"NIW_NO_ROAD": "there is no road", "NIW_BRIDGE_SHUT": "the bridge is shut", "NIW_OTHER": "this is wrong"}
+    assert lag_h.written_enum(BODY, named, said) == WRITTEN_ENUM
+    assert lag_h.written_enum(WRITTEN_ENUM, named, said) == WRITTEN_ENUM
+
+
+@pytest.mark.parametrize("body", ["NIW_MORE = 4", "NIW_OK = 0"])
+def test_two_names_of_one_number_and_a_missing_one_are_refused(monkeypatch: pytest.MonkeyPatch, body: str) -> None:
+    monkeypatch.setitem(lag_h.MORE, "SystemFault", ["NIW_MORE"])
+    with pytest.raises(lag_h.Missing):
+        lag_h.enumerators("SystemFault", KNOWN, body)
+
+
+def test_each_number_has_its_text() -> None:
+    texts = {"NIW_OK": "done", "NIW_NO_ROAD": "no road", "NIW_OTHER": "other"}
+    wanted = '        "done",\n        "no road",\n        "unknown",\n        "other"'
+    assert lag_h.written_texts({"NIW_OK": 0, "NIW_NO_ROAD": 1, "NIW_OTHER": 3}, texts) == wanted
+    with pytest.raises(lag_h.Missing, match="no text of NIW_NEW"):
+        lag_h.written_texts({"NIW_OK": 0, "NIW_NEW": 1}, texts)
+
+
+def test_a_refusal_keeps_its_cells_and_a_new_one_says_its_line(monkeypatch: pytest.MonkeyPatch) -> None:
+    monkeypatch.setattr(elsewhere, "OWN_TEXTS", {"NIW_NULL": "a pointer is null"})
+    wire, shut = [numbering.Variant("Short", 1, "short.", None)], "||3|`BridgeShut`|shut, by hand|`go`|\n"
+    begins = "\n|functions|refusals, in this order|\n|---|---|\n|old||\n\n"
+    text = f"{begins}|`WireFault`|1|`Short`|a|b|\n|`DistFault`|1|`Short`|c||\n|`SystemFault`|1|`NoRoad`|d||\n{shut}"
+    behind = "|`lag.h`|1 to 4|\n||5|`NIW_NULL`|by hand||\n|`More`|\n"
+    made = elsewhere.using(text + behind, [TELL, TICK], {"WireFault": wire, "DistFault": wire, "SystemFault": KNOWN}, {"NIW_NULL": 5})
+    rows = "|`SystemFault`|1|`NoRoad`|d||\n||2|`BridgeShut`|shut, by hand|`go`|\n||4|`Other`|this is wrong.||\n"
+    refuses = "|`niw_tell`|`NIW_BUFFER`, `NIW_NO_SYSTEM`, `NIW_NO_PORT`|\n|`niw_tick`|`NIW_NO_SYSTEM`|\n"
+    assert made == text.replace("|old||\n", refuses)[: -len(f"|`SystemFault`|1|`NoRoad`|d||\n{shut}")] + rows + behind
+
+
+def test_a_symbol_keeps_its_version_and_a_new_one_has_that_of_the_release() -> None:
+    old = "liblag.so.0 liblag0\n LAG_0@LAG_0 0.1.0\n lagffi_gone@LAG_0 0.1.0\n lagffi_tick@LAG_0 0.1.0\n"
+    made = elsewhere.symbols(old, [TELL, TICK], "0.2.0")
+    assert made == "liblag.so.0 liblag0\n LAG_0@LAG_0 0.1.0\n lagffi_tell@LAG_0 0.2.0\n lagffi_tick@LAG_0 0.1.0\n"
+
+
+def test_the_c_program_lists_each_export() -> None:
+    made = elsewhere.called("{\n#define EXPORT(name) {#name}\n    EXPORT(old),\n};\n", [TELL, TICK])
+    assert made == "{\n#define EXPORT(name) {#name}\n    EXPORT(tell), EXPORT(tick),\n};\n"
+
+
+def test_an_enum_is_a_class_without_its_prefix() -> None:
+    rows = bindings.enum_class("NIW_SENT_NOTHING, NIW_SENT_LACPDU = 1")
+    assert rows[0] == "class SentKind(IntEnum):" and rows[-2:] == ["    NOTHING = 0", "    LACPDU = 1"]
+    assert bindings.enum_class("NIW_STATE_ACTIVITY = 1")[0] == "class State(IntFlag):"
+    with pytest.raises(bindings.Missing):
+        bindings.enum_class("NIW_NEW = 1")
+
+
+def test_a_struct_has_its_fields_in_order() -> None:
+    rows = bindings.struct_class("niw_group_id", "uint8_t mac[6];\n bool is;\n struct niw_end lower;\n uint16_t from;")
+    assert rows[0] == "class NiwGroupId(ctypes.Structure):"
+    fields = ['("mac", ctypes.c_uint8 * 6)', '("is_", ctypes.c_bool)', '("lower", NiwEnd)', '("from_", ctypes.c_uint16)']
+    assert rows[-6:] == ["    _fields_ = [", *(f"        {it}," for it in fields), "    ]"]
+
+
+def test_parameters_have_the_types_of_ctypes() -> None:
+    [line] = [it for it in bindings.functions([TELL]) if "lagffi_tell" in it]
+    types = re.findall(r"ctypes\.\w+(?:\(\w+(?:\.\w+)?\))?", line)
+    assert types == ["ctypes.POINTER(NiwSystem)", "ctypes.POINTER(ctypes.c_uint16)", "ctypes.c_size_t", "ctypes.POINTER(ctypes.c_uint8)",
+                     "ctypes.c_size_t", "ctypes.POINTER(NiwEnd)", "ctypes.c_uint16"]
+    with pytest.raises(bindings.Missing):
+        bindings.in_ctypes("long double")
+
+
+def test_only_numbers_and_texts_are_written() -> None:
+    text = '#define NIW_FRAME 124\n#define NIW_NAME "lag"\n#define NIW_EMPTY {0}\n#define OTHER 5\n'
+    assert bindings.defines(text) == ["FRAME: Final = 124", 'NAME: Final = "lag"']
