@@ -63,7 +63,7 @@ def try_edit(crate: str, trial: Trial) -> tuple[bool | None, str]:
         if unread and not trial.is_made:
             return False, f"{unread[0]} does not read any more"
         if unread or not (places or "no proof" in output):
-            return None, "is no definition:\n" + output[-2000:]
+            return None, "is no definition: " + next((line for line in output.splitlines() if ": error" in line), "")
         told = [f"{file[7:-5]}.{declaration}" for file, declaration in places] + re.findall(r"^fn (\S+): no proof", output, re.M)
         return True, f"refused by {', '.join(told[:3])}{' and more' if len(told) > 3 else ''}: {trial.says}"
     finally:

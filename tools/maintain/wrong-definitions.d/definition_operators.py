@@ -45,6 +45,10 @@ class Definitions(Text):
                 if sign + 1 < end:
                     yield self.word(start), (sign + 1, end)
 
+    def is_end(self, at: int, ends: tuple[str, ...]) -> bool:
+        """An operand begins behind the variable of a function, too: `x.` behind λ."""
+        return self.word(at) in ends or (self.word(at).endswith(".") and self.word(at - 1) in ("λ", ")"))
+
     def parts(self, at: int, side: Span, ends: tuple[str, ...]) -> tuple[Span, Span]:
         """What stands before a sign of a side and behind it."""
         left, right = self.operands(at, ends)

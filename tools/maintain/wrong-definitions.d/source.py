@@ -113,9 +113,13 @@ class Text:
     def operands(self, at: int, ends: tuple[str, ...]) -> tuple[Span, Span]:
         """What stands before a sign and behind it, up to the next of these signs or the bracket around."""
         around = self.around[at]
-        marks = [place for place in self.over(around + 1, at) if self.word(place) in ends]
+        marks = [place for place in self.over(around + 1, at) if self.is_end(place, ends)]
         close = self.closes.get(around, len(self.tokens)) if around >= 0 else len(self.tokens)
-        return (marks[-1] + 1 if marks else around + 1, at), (at + 1, self.find(at + 1, close, *ends))
+        end = next((place for place in self.over(at + 1, close) if self.is_end(place, ends)), close)
+        return (marks[-1] + 1 if marks else around + 1, at), (at + 1, end)
+
+    def is_end(self, at: int, ends: tuple[str, ...]) -> bool:
+        return self.word(at) in ends
 
 
 class Source(Text):
