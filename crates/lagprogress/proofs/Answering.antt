@@ -75,7 +75,7 @@ no_bit : (b : Bool) (n : ℕ) → n ≡ cond b 1 0 → n ≡ 0 → b ≡ false
 no_bit b n f e = grind (arith, nat_tests)
 
 -- if none is counted, no conversation is Wanted on the port
-none_wanted : (p : ℕ) (t : Table) → count_conversations (wants_marker p) t ≡ 0 → (g k : ℕ) → 0 < g → g ≤ t.aggs → k < t.conversations
+pub none_wanted : (p : ℕ) (t : Table) → count_conversations (wants_marker p) t ≡ 0 → (g k : ℕ) → 0 < g → g ≤ t.aggs → k < t.conversations
     → wants_marker p (assignment_of t g k) ≡ false
 none_wanted p t none g k l m n =
     let row = none_below (λ a. sum_below (λ c. cond (wants_marker p (assignment_of t (a + 1) c)) 1 0) t.conversations) t.aggs (g - 1)
@@ -84,7 +84,7 @@ none_wanted p t none g k l m n =
     let here : g - 1 + 1 ≡ g = omega (arith, l) in
     subst (λ x. wants_marker p (assignment_of t x k) ≡ false) here (no_bit (wants_marker p (assignment_of t (g - 1 + 1) k)) _ refl bit)
 
-not_wanted : (p m : ℕ) (W : Type 0) (F : ℕ → Type 0) (a : Assignment) → wants_marker p a ≡ false → Fine p m W F a → Fine p m ⊥ F a
+pub not_wanted : (p m : ℕ) (W : Type 0) (F : ℕ → Type 0) (a : Assignment) → wants_marker p a ≡ false → Fine p m W F a → Fine p m ⊥ F a
 not_wanted p m W F (Wanted q preferred) e h = λ f. apart f
   where
     apart : q ≡ p → ⊥
@@ -161,7 +161,7 @@ module _ (at : Side → ℕ) (w : Side → Lacpdu) (s : Side) (mac : List ℕ) (
       ]
 
   -- no marker is due: no conversation is Wanted there, if an identifier is left
-  none_due : (t : Table) → IsSome (next_identifier t) → marker_due t (at s) ≡ None → count_conversations (wants_marker (at s)) t ≡ 0
+  pub none_due : (t : Table) → IsSome (next_identifier t) → marker_due t (at s) ≡ None → count_conversations (wants_marker (at s)) t ≡ 0
   none_due t left e = by_test (ltb 0 (count_conversations (wants_marker (at s)) t)) refl (next_identifier t) left e
     where
       by_test : (b : Bool) → ltb 0 (count_conversations (wants_marker (at s)) t) ≡ b → (o : Option ℕ) → IsSome o → cond b o None ≡ None
@@ -172,23 +172,6 @@ module _ (at : Side → ℕ) (w : Side → Lacpdu) (s : Side) (mac : List ℕ) (
         where
           is_none : (n : ℕ) → ltb 0 n ≡ false → n ≡ 0
           is_none n g = grind (arith, nat_tests)
-
-  -- a port at which no LACPDU is due sends the marker
-  pub marks_now : (due : Bool) (i : ℕ) (z : SystemPort) (old : SystemState) (a : Option (List ℕ)) (new : SystemState)
-      (fl now : Side → List ItemValue) (m : ℕ) (W : Type 0) → z.number ≡ at s → old.system.mac ≡ mac → old.table.aggs ≡ aggs
-      → old.table.conversations ≡ count → IsSome (next_identifier old.table) → due ≡ false → TransmitsIf true due i z old a new
-      → Went s (Ok a) fl now → AllFine m W (Flights s (at s) mac fl) old.table → AllFine m ⊥ (Flights s (at s) mac now) new.table
-  marks_now true i z old a new fl now m W number own rows cols left e h went fine = absurd (no (sym e))
-  marks_now false i z old a new fl now m W number own rows cols left e h went fine =
-      elim (sends_marker (marker_due old.table z.number) z old a new fl now m W number own h went fine) [
-        | inl n ↦ (let none = none_due old.table left (sym (ap (marker_due old.table) number) ∙ n.0) in
-            subst (AllFine m ⊥ (Flights s (at s) mac now)) (sym (ap (λ (t : SystemState). t.table) n.1))
-            (λ g k l o q. not_wanted (at s) m W (Flights s (at s) mac now) (assignment_of old.table g k)
-            (none_wanted (at s) old.table none g k l (subst (λ x. g ≤ x) (sym rows) o) (subst (λ x. k < x) (sym cols) q))
-            (fine_map (at s) m W W (Flights s (at s) mac fl) (Flights s (at s) mac now) (λ x. x) (went_flights s (Ok a) fl now went)
-            (assignment_of old.table g k) (fine g k l o q))))
-        | inr f ↦ f
-      ]
 
   -- a settling
 

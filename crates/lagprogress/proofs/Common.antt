@@ -7,6 +7,7 @@ pub use Rattle.std.proofs.lemmas.Bool.{and_parts, cases_Bool, false≢true, ltb-
 pub use Rattle.std.proofs.lemmas.Bool.Decides.{nat_tests}
 pub use Rattle.std.proofs.lemmas.List.Quantifiers.{position-Some}
 pub use Rattle.std.proofs.lemmas.Option.{none-some, same_Some, slice_get-get_or, slice_get-map, slice_get_cases, slice_get_within}
+pub use Rattle.std.specs.Global.{Vec}
 pub use Rattle.std.specs.List.{AllByRecursion, enumerate_from, list_all, list_any, position_or_len}
 pub use Rattle.std.specs.Prelude.{IsErrAnd, unwrap_or}
 pub use Rattle.lagtypes.specs.declared.identifiers.AggId.{AggId}
@@ -59,7 +60,7 @@ pub use Rattle.selection.specs.Views.{has_chosen, has_waited, is_detached, is_de
 pub use Rattle.selection.proofs.LimitLemmas.{NoneStandsBy, is_next, none_is_next}
 pub use Rattle.distributor.specs.declared.assignment.Assignment.{Assignment}
 pub use Rattle.distributor.specs.declared.assignment.Assignment.TheVariants.{Flushing, Free, On, Wanted}
-pub use Rattle.distributor.specs.Calls.{Assigns, MaySend, PicksPort, force_result, is_among, move_result}
+pub use Rattle.distributor.specs.Calls.{Assigns, MaySend, force_result, is_among, move_result}
 pub use Rattle.distributor.specs.Changes.{SetsAssignment, after_down, after_mark, after_release, after_tick, marker_due, wants_marker}
 pub use Rattle.distributor.specs.Conversations.{IsConversation, Table, assignment_of, count_conversations, next_identifier}
 pub use Rattle.distributor.proofs.TableLemmas.{first_free}
@@ -124,7 +125,7 @@ pub use Rattle.lagworld.proofs.Arrives.{count_heard, read_log}
 pub use Rattle.lagworld.proofs.Cables.{end_is, mapped_set, put_ends, set_elsewhere, set_here}
 pub use Rattle.lagworld.proofs.Sides.{half_there, position_there}
 pub use Rattle.lagprogress.specs.Arriving.{Arrives, DeliverHandsUp, DisabledAreUnsynchronized, EachActiveFrameArrives, EachFrameArrives}
-pub use Rattle.lagprogress.specs.Arriving.{EachReachedHasUnsynchronized, GetsPort, HandsUp, InRound, IsHandedUp, OfferGetsPort, Sometime, TakesFrame}
+pub use Rattle.lagprogress.specs.Arriving.{EachReachedHasUnsynchronized, GetsPort, HandsUp, IsHandedUp, OfferGetsPort, Sometime, TakesFrame}
 pub use Rattle.lagprogress.specs.Bundle.{ActiveEndsOfEachKnow, ActiveSelectedPairsAgree, ActiveSelectedPairsComeUp, AllHeard, BothAreActive}
 pub use Rattle.lagprogress.specs.Bundle.{EachActiveLinkAgrees, EachActiveLinkComesUp, EachLinkAgrees, EachLinkComesUp, EndsHealthyCable}
 pub use Rattle.lagprogress.specs.Bundle.{EndsOfEachKnow, EnoughAggregators, EnoughLinks, IsBundle, OneIsActive, ReachedIsApart, ReachedIsBundle}
@@ -139,6 +140,8 @@ pub use Rattle.lagprogress.specs.Freed.{CarriersAreUp, EachReachedHasCarriersUp,
 pub use Rattle.lagprogress.specs.Freed.{NoneIsHeldOnActiveEnds, NoneIsHeldOnEnds, NoneIsHeldWhereActive, NothingIsHeld, carrier_of, held_on}
 pub use Rattle.lagprogress.specs.Hearing.{IsNoticed, LeavesUnheard, processed_on, timeout_time}
 pub use Rattle.lagprogress.specs.Heartbeat.{EachCall, IsHeard, IsSilentShortly, LeavesUpAndSilent, takes_down, tick_count}
+pub use Rattle.lagprogress.specs.HostFreed.{DrainingRounds, IsDrainingRound, MovesNone, NoneIsHeldOnActiveEndsByHosts, NoneIsHeldOnEndsByHosts}
+pub use Rattle.lagprogress.specs.HostFreed.{NothingIsDue, RoundIsDraining}
 pub use Rattle.lagprogress.specs.HostRounds.{ActiveEndsKnowByHosts, AfterTick, AskingIsHostRound, Asks, AsksAfterTick, AsksIn, AtSomeWorld}
 pub use Rattle.lagprogress.specs.HostRounds.{EachActiveLinkAgreesByHosts, EachActiveLinkComesUpByHosts, EachLinkAgreesByHosts, EachLinkComesUpByHosts}
 pub use Rattle.lagprogress.specs.HostRounds.{EndsKnowByHosts, HostRounds, IsBetweenTicks, IsHostRound, IsTickOf, LoopIsHostRound, RoundIsHostRound}

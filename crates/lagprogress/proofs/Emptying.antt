@@ -1,31 +1,31 @@
 -- A port of a healthy cable is drained of the conversations that are held on it.
-use Rattle.lagprogress.proofs.Common.{Err, IsSome, List, None, Ok, Option, Result, Some, [], ap, arith, cond, false, inl, inr, length, ltb, refl}
-use Rattle.lagprogress.proofs.Common.{slice_get, slice_set, subst, suc, sym, true, zero, ℕ, ◌+◌, ◌-◌, ◌^◌, ◌∙◌, ◌∷◌, ◌≡◌, ◌≤◌, ◌⊎◌, cases_Bool}
-use Rattle.lagprogress.proofs.Common.{nat_tests, none-some, same_Some, AllByRecursion, Choice, is_selected, Lacpdu, One, Side, Two, peer, Machines}
-use Rattle.lagprogress.proofs.Common.{after_sending, is_due, after_tick, Table, assignment_of, next_identifier, SystemFault, SystemPort, Receive}
-use Rattle.lagprogress.proofs.Common.{Step, Tick, Transmit, TransmitsAt, TransmitsIf, Settling, CallPromise, SystemState, ports_table, settling_parts}
-use Rattle.lagprogress.proofs.Common.{all-get, found_place, ports_rise, Event, Reply, Algorithms, WorldRuns, WorldSteps, side_of, ItemValue}
-use Rattle.lagprogress.proofs.Common.{WorldState, half, port_at, set_here, IsRound, NothingInFlight, Rounds, asks_all, IsSteady}
-use Rattle.lagprogress.proofs.EachPort.{OfEach}
-use Rattle.lagprogress.proofs.Answering.{AllFine, Steady, all_map, each_by, marks_now, sends_fine, settles_all, stays_on, went_flights}
+use Rattle.lagprogress.proofs.Common.{Bool, Err, IsSome, List, None, Ok, Option, Result, Some, [], ap, arith, cond, eqb, false, inl, inr, length, ltb}
+use Rattle.lagprogress.proofs.Common.{refl, subst, suc, sym, true, zero, ℕ, ◌&&◌, ◌+◌, ◌<◌, ◌^◌, ◌∙◌, ◌∷◌, ◌≡◌, ◌≤◌, ◌⊎◌, nat_tests, none-some, Vec}
+use Rattle.lagprogress.proofs.Common.{AllByRecursion, AggId, Choice, is_selected, Lacpdu, One, Side, peer, Machines, is_due, after_tick, marker_due}
+use Rattle.lagprogress.proofs.Common.{Table, assignment_of, next_identifier, SystemFault, Offer, Receive, Step, Tick, Transmit}
+use Rattle.lagprogress.proofs.Common.{number_of_conversation, TransmitsAt, Settling, CallPromise, SystemState, machines_of, ports_table}
+use Rattle.lagprogress.proofs.Common.{settling_parts, found_place, Event, Reply, Algorithms, WorldRuns, WorldSteps, side_of, ItemValue, WorldState}
+use Rattle.lagprogress.proofs.Common.{half, port_at, DrainingRounds, IsDrainingRound, MovesNone, AfterTick, AtSomeWorld, IsBetweenTicks, IsHostRound}
+use Rattle.lagprogress.proofs.Common.{TickOnce, NothingInFlight, OfPort, IsSteady}
+use Rattle.lagprogress.proofs.Answering.{AllFine, Steady, all_map, each_by, sends_fine, settles_all, stays_on, went_flights, none_wanted, not_wanted}
+use Rattle.lagprogress.proofs.Answering.{none_due}
 use Rattle.lagprogress.proofs.Climbing.{PartnerInSync, choice_along, partner_along, ticks_choice, ticks_partner}
 use Rattle.lagprogress.proofs.Unchanged.{calls_keep}
 use Rattle.lagprogress.proofs.Delivering.{deliver_link}
 use Rattle.lagprogress.proofs.Draining.{after_tick_on, comes_fine, elsewhere_fine, peer_answers}
 use Rattle.lagprogress.proofs.EndFacts.{Along, activity, both_along}
 use Rattle.lagprogress.proofs.Halves.{each_is_calls, keeps_steady}
-use Rattle.lagprogress.proofs.Holding.{Fine, Flights, Has, ticked_fine, IsMarker, asking, answering}
+use Rattle.lagprogress.proofs.Holding.{Fine, Flights, Has, ticked_fine, IsMarker, asking, answering, has_on, offered_fine}
 use Rattle.lagprogress.proofs.Linked.{Fits, Link, asked_which, each_side, emit_any, peer_twice, EndPort, end_here}
 use Rattle.lagprogress.proofs.OneCable.{Arrives, Asks, OnCable, Went, asks, cable, came_off, delivers, emits, ticks, towards_there, Beside}
 use Rattle.lagprogress.proofs.OneCable.{port_there}
-use Rattle.lagprogress.proofs.OnePort.{AtPort, at_number}
-use Rattle.lagprogress.proofs.OneRound.{IsAsk, Unrolled, all_ask, ask_all, deliver_all, join, one_of_both, tick_both, ticked, unroll, first_acts}
-use Rattle.lagprogress.proofs.OneRound.{runs_apart, AsksTwice, asks_twice}
-use Rattle.lagprogress.proofs.HostKnowing.{AtIt, FreshAt, beside, fits_fresh, knows_peer, stays_fresh, awake_peer}
+use Rattle.lagprogress.proofs.OneRound.{join, one_of_both, ticked, Nothing}
+use Rattle.lagprogress.proofs.HostKnowing.{AtIt, FreshAt, beside, fits_fresh, knows_peer, stays_fresh, awake_peer, fits_before}
 use Rattle.lagprogress.proofs.Claims.{IsNamed}
-use Rattle.lagprogress.proofs.HostRound.{left}
-use Rattle.lagprogress.proofs.HostLoops.{round_is_host_round}
+use Rattle.lagprogress.proofs.HostRound.{left, fits_in, known_in, peer_holds, own_holds, none_ticked, Stages, of_side, MadeByTick, first_on}
+use Rattle.lagprogress.proofs.HostRound.{healthy_link, KeptWhere}
 use Rattle.lagsystem.specs.declared.drive.Reply.TheVariants as answer
+use Rattle.lagprogress.proofs.Quieting.{quiet_cable, quiet_link, offered_half, Grown}
 use Rattle.lagscript.specs.declared.event.Event.TheVariants as event
 
 -- identifiers
@@ -75,15 +75,88 @@ deliver_next s gives c n r old new h = elim (came_off gives c n r old new h) [
     equal : (a b : ℕ) → b ≡ a → a ≤ b
     equal a b e = omega (arith, e)
 
--- so many rounds
-along_rounds : (gives : Algorithms) (S : ℕ → WorldState → Type 0) (start : WorldState)
-    → ((new : WorldState) → IsRound gives start new → S 1 new)
-    → ((n : ℕ) (old new : WorldState) → IsRound gives old new → S n old → S (n + 1) new)
-    → (n : ℕ) (new : WorldState) → 1 ≤ n → Rounds gives n start new → S n new
-along_rounds gives S start first next zero new l h = absurd (omega (arith, l))
-along_rounds gives S start first next (suc zero) new l h = first new (subst (λ j. IsRound gives j new) h.1 h.2)
-along_rounds gives S start first next (suc (suc n)) new l h =
-    subst (λ m. S m new) (omega arith) (next (suc n) h.0 new h.2 (along_rounds gives S start first next (suc n) h.0 (omega arith) h.1))
+pub offers_next : (gives : ℕ → ℕ → ℕ → Type 0) (agg : AggId) (octets : List ℕ) (a : Result ℕ SystemFault) (old new : SystemState)
+    → Step gives old (Offer agg octets) (answer.Offer a) new → old.table.next ≤ new.table.next
+offers_next gives agg octets a old new h = grind (arith, nat_tests)
+
+offer_next : (s : Side) (gives : Algorithms) (n : ℕ) (agg : AggId) (octets : Vec ℕ) (r : Reply) (old new : WorldState)
+    → WorldSteps gives old (event.Offer n agg octets) r new → Rising s old new
+offer_next s gives n agg octets r old new h = elim (offered_half gives n agg octets r old new h s) [
+  | inl same ↦ same_next s old new same
+  | inr (a, step) ↦ offers_next (gives s) agg octets.items a (half s old).state (half s new).state step
+]
+
+ticked_next : (gives : ℕ → ℕ → ℕ → Type 0) (old new : SystemState) → Step gives old Tick answer.Tick new → new.table.next ≡ old.table.next
+ticked_next gives old new h = settles_next h.0 new h.2 ∙ h.1.1.next
+
+tick_next : (s t : Side) (gives : Algorithms) (n : ℕ) (r : Reply) (old new : WorldState) → side_of n ≡ Some t
+    → WorldSteps gives old (event.Tick n 1) r new → Rising s old new
+tick_next s t gives n r old new named h =
+    let k = ticks gives n t r old new named h in
+    each_side (λ u. Rising u old new) t
+    (same_number (half t old).state.table.next (half t new).state.table.next (ticked_next (gives t) (half t old).state (half t new).state k.step))
+    (same_next (peer t) old new k.peers) s
+  where
+    same_number : (a b : ℕ) → b ≡ a → a ≤ b
+    same_number a b e = omega (arith, e)
+
+-- the events of a round that moves no conversation
+between_next : (s : Side) (gives : Algorithms) (e : Event) (r : Reply) (old new : WorldState) → MovesNone e → IsBetweenTicks e
+    → WorldSteps gives old e r new → Rising s old new
+between_next s gives (event.Emit n p) r old new still b h = emit_next s gives n p r old new h
+between_next s gives (event.Deliver c n) r old new still b h = deliver_next s gives c n r old new h
+between_next s gives (event.Offer n agg octets) r old new still b h = offer_next s gives n agg octets r old new h
+between_next s gives (event.Move n agg conv p) r old new still b h = absurd still
+between_next s gives e r old new still b h = absurd b
+
+one_next : (s t : Side) (gives : Algorithms) (a b : Bool) (e : Event) (es : List Event) (r : Reply) (old new : WorldState)
+    → TickOnce t a b (e ∷ es) → MovesNone e → WorldSteps gives old e r new → Rising s old new
+one_next s t gives a b e es r old new (inl (k, due, more)) still h =
+    tick_next s t gives k.0 r old new k.1 (subst (λ f. WorldSteps gives old f r new) k.2 h)
+one_next s t gives a b e es r old new (inr (inl (k, due, more))) still h =
+    tick_next s (peer t) gives k.0 r old new k.1 (subst (λ f. WorldSteps gives old f r new) k.2 h)
+one_next s t gives a b e es r old new (inr (inr k)) still h = between_next s gives e r old new still k.0 h
+
+rest_ticks : (t : Side) (a b : Bool) (e : Event) (es : List Event) → TickOnce t a b (e ∷ es) → (c : Bool) × (d : Bool) × TickOnce t c d es
+rest_ticks t a b e es (inl h) = (false, b, h.2)
+rest_ticks t a b e es (inr (inl h)) = (a, false, h.2)
+rest_ticks t a b e es (inr (inr h)) = (a, b, h.1)
+
+run_next : (s t : Side) (gives : Algorithms) (a b : Bool) (es : List Event) (rs : List Reply) (old new : WorldState) → TickOnce t a b es
+    → AllByRecursion MovesNone es → WorldRuns gives old es rs new → Rising s old new
+run_next s t gives a b [] [] old new h still run = same_next s old new (ap (λ (j : WorldState). (half s j).state) run)
+run_next s t gives a b (e ∷ es) (r ∷ rs) old new h still run =
+    let o = rest_ticks t a b e es h in
+    let one = one_next s t gives a b e es r old run.0 h still.0 run.1 in
+    let more = run_next s t gives o.0 o.1 es rs run.0 new o.2 still.1 run.2 in
+    omega (arith, one, more)
+run_next s t gives a b es rs old new h still run = absurd run
+
+-- an identifier is left while nothing is due, if one is in the end
+
+-- an identifier is left at system s
+abbrev HasLeft : Side → WorldState → Type 0
+HasLeft s j = IsSome (next_identifier (half s j).state.table)
+
+some_left : (s t : Side) (P : WorldState → Type 0) (gives : Algorithms) (a b : Bool) (es : List Event) (rs : List Reply) (old new : WorldState)
+    → TickOnce t a b es → AllByRecursion MovesNone es → (run : WorldRuns gives old es rs new) → HasLeft s new
+    → AtSomeWorld P gives es rs old new run → AtSomeWorld (λ j. P j × HasLeft s j) gives es rs old new run
+some_left s t P gives a b [] [] old new h still run left y = (y, subst (HasLeft s) run left)
+some_left s t P gives a b (e ∷ es) (r ∷ rs) old new h still run left (inl y) =
+    inl (y, left_before (half s old).state.table (half s new).state.table (run_next s t gives a b (e ∷ es) (r ∷ rs) old new h still run) left)
+some_left s t P gives a b (e ∷ es) (r ∷ rs) old new h still run left (inr y) =
+    let o = rest_ticks t a b e es h in inr (some_left s t P gives o.0 o.1 es rs run.0 new o.2 still.1 run.2 left y)
+some_left s t P gives a b es rs old new h still run left y = absurd run
+
+after_left : (s t : Side) (P : WorldState → Type 0) (gives : Algorithms) (a b : Bool) (es : List Event) (rs : List Reply) (old new : WorldState)
+    → TickOnce t a b es → AllByRecursion MovesNone es → (run : WorldRuns gives old es rs new) → HasLeft s new
+    → AfterTick s P gives es rs old new run → AfterTick s (λ j. P j × HasLeft s j) gives es rs old new run
+after_left s t P gives a b [] rs old new h still run left y = y
+after_left s t P gives a b (e ∷ es) [] old new h still run left y = y
+after_left s t P gives a b (e ∷ es) (r ∷ rs) old new h still run left (inl y) =
+    let o = rest_ticks t a b e es h in inl (y.0, some_left s t P gives o.0 o.1 es rs run.0 new o.2 still.1 run.2 left y.1)
+after_left s t P gives a b (e ∷ es) (r ∷ rs) old new h still run left (inr y) =
+    let o = rest_ticks t a b e es h in inr (after_left s t P gives o.0 o.1 es rs run.0 new o.2 still.1 run.2 left y)
 
 module _ (at : Side → ℕ) (w : Side → Lacpdu) (named : (t : Side) → IsNamed (w t)) (awake : (s : Side) → (activity (w s) ≡ true) ⊎ (activity (w (peer s)) ≡ true)) (s : Side)
     (mac : List ℕ) (aggs count : ℕ) (c : Choice) (chosen : is_selected c ≡ true) (gives : Algorithms) where
@@ -220,84 +293,93 @@ module _ (at : Side → ℕ) (w : Side → Lacpdu) (named : (t : Side) → IsNam
               (λ x. x) (peer_answers at w s mac aggs count gives d.flying old new z.index z.port z.place z.there z.is.1.0 o) d.fine)))
         ]
 
-    -- the port itself is asked: a marker goes out if no LACPDU does, and no LACPDU is due after one went
+    offered_all : (m : ℕ) (W : Type 0) (F : ℕ → Type 0) (agg : AggId) (octets : List ℕ) (a : Result ℕ SystemFault) (old new : SystemState)
+        → Step (gives s) old (Offer agg octets) (answer.Offer a) new → Fines m W F old.table → Fines m W F new.table
+    offered_all m W F agg octets (Err fault) old new h fine = subst (λ (t : SystemState). Fines m W F t.table) (sym h.1) fine
+    offered_all m W F agg octets (Ok port) old new h fine = λ g k l n o. subst (Fine (at s) m W F) (sym (h.2.0.states g k))
+        (offered_fine (at s) m port W F (eqb agg.0 g && eqb (number_of_conversation old octets) k) (assignment_of old.table g k) (fine g k l n o))
 
-    abbrev NotDue : Machines → Type 0
-    NotDue p = is_due p ≡ false
-
-    marked : (m : ℕ) (W : Type 0) (n : ℕ) (r : Reply) (old new : WorldState) → side_of n ≡ Some s
-        → WorldSteps gives old (event.Emit n (at s)) r new → (d : Mid m W kn old) → IsSome (next_identifier (half s old).state.table)
-        → is_due (placed kn old d.link s).port.port ≡ false → Mid m ⊥ kn new
-    marked m W n r old new told h d left not =
-        let o = asks gives n s d.index at d.flying r old new told d.links h in
-        made ⊥ (event.Emit n (at s)) r h d (asked_link n (at s) r old new h d.link) o.now o.index o.links
-        (by_answer o.a o.now o.promise o.went)
+    mid_offered : (m : ℕ) (W : Type 0) (n : ℕ) (agg : AggId) (octets : Vec ℕ) (r : Reply) (old new : WorldState)
+        → WorldSteps gives old (event.Offer n agg octets) r new → Mid m W kn old → Mid m W kn new
+    mid_offered m W n agg octets r old new h d =
+        made W (event.Offer n agg octets) r h d (quiet_link gives (event.Offer n agg octets) 2 at w kn s Y r old new tt h d.link).link g.flying d.index g.on
+        (elim (offered_half gives n agg octets r old new h s) [
+          | inl same ↦ subst (λ (y : SystemState). Fines m W (Flights s (at s) mac g.flying) y.table) (sym same) grown
+          | inr (a, step) ↦ offered_all m W (Flights s (at s) mac g.flying) agg octets.items a (half s old).state (half s new).state step grown
+        ])
       where
-        z : EndPort at w 2 kn s old
-        z = placed kn old d.link s
+        g : Grown d.index at d.flying new
+        g = quiet_cable gives (event.Offer n agg octets) d.index at d.flying r old new tt h d.links
 
-        by_answer : (a : Result (Option (List ℕ)) SystemFault) (now : Side → List ItemValue)
-            → CallPromise (gives s) (half s old).state (Transmit (at s)) (answer.Transmit a) (half s new).state → Went s a d.flying now
-            → Fines m ⊥ (Flights s (at s) mac now) (half s new).state.table
-        by_answer (Err fault) now p went = absurd (none-some z.index (sym p.step.cause ∙ z.place))
-        by_answer (Ok a) now p went =
-            let t = subst (λ i. TransmitsAt i (half s old).state a (half s new).state) z.place p.step in
-            let is : t.0 ≡ z.port = same_Some t.0 z.port (sym t.1 ∙ z.there) in
-            let number : t.0.number ≡ at s = ap (λ (y : SystemPort). y.number) is ∙ z.number in
-            let sent = subst (λ b. TransmitsIf b (is_due t.0.port) z.index t.0 (half s old).state a (half s new).state)
-            (ap (λ (y : SystemPort). y.port.enabled) is ∙ z.is.1.0) t.2 in
-            marks_now at w s mac aggs count (is_due t.0.port) z.index t.0 (half s old).state a (half s new).state d.flying now m W number
-            d.same.own d.same.rows d.same.cols left (ap (λ (y : SystemPort). is_due y.port) is ∙ not) sent went d.fine
-
-    silenced : (m : ℕ) (W : Type 0) (n : ℕ) (r : Reply) (old new : WorldState) → side_of n ≡ Some s
-        → WorldSteps gives old (event.Emit n (at s)) r new → (d : Mid m W kn old)
-        → is_due (placed kn old d.link s).port.port ≡ true → AtIt at w s NotDue new
-    silenced m W n r old new told h d due =
-        let o = asks gives n s d.index at d.flying r old new told d.links h in by_answer o.a o.promise
-      where
-        z : EndPort at w 2 kn s old
-        z = placed kn old d.link s
-
-        steady : IsSteady new
-        steady = (asked_link n (at s) r old new h d.link).steady
-
-        by_answer : (a : Result (Option (List ℕ)) SystemFault)
-            → CallPromise (gives s) (half s old).state (Transmit (at s)) (answer.Transmit a) (half s new).state → AtIt at w s NotDue new
-        by_answer (Err fault) p = absurd (none-some z.index (sym p.step.cause ∙ z.place))
-        by_answer (Ok a) p =
-            let t = subst (λ i. TransmitsAt i (half s old).state a (half s new).state) z.place p.step in
-            let is : t.0 ≡ z.port = same_Some t.0 z.port (sym t.1 ∙ z.there) in
-            let up = subst (λ b. TransmitsIf b (is_due t.0.port) z.index t.0 (half s old).state a (half s new).state)
-            (ap (λ (y : SystemPort). y.port.enabled) is ∙ z.is.1.0) t.2 in
-            let sent = subst (λ b. TransmitsIf true b z.index t.0 (half s old).state a (half s new).state)
-            (ap (λ (y : SystemPort). is_due y.port) is ∙ due) up in
-            let after : SystemPort = record t.0 { port = after_sending t.0.port } in
-            let ports : (half s new).state.system_ports ≡ slice_set (half s old).state.system_ports z.index after =
-            ap (λ (y : SystemState). y.system_ports) sent.3 in
-            let there : slice_get (half s new).state.system_ports z.index ≡ Some after =
-            subst (λ xs. slice_get xs z.index ≡ Some after) (sym ports) (set_here (half s old).state.system_ports z.index after t.0 t.1) in
-            subst (λ q. OfEach (AtPort q NotDue) (half s new).state.system_ports) (ap (λ (y : SystemPort). y.number) is ∙ z.number)
-            (at_number NotDue 0 (half s new).state.system_ports z.index after (ports_rise (half s new).state (steady s).0.ports) there refl)
-
-    asked_once : (m : ℕ) (W : Type 0) (n : ℕ) (r : Reply) (old new : WorldState) → side_of n ≡ Some s
-        → WorldSteps gives old (event.Emit n (at s)) r new → IsSome (next_identifier (half s old).state.table) → Mid m W kn old
-        → Mid m ⊥ kn new ⊎ (Mid m W kn new × AtIt at w s NotDue new)
-    asked_once m W n r old new told h left d = elim (cases_Bool (is_due (placed kn old d.link s).port.port)) [
-      | inl due ↦ inr (mid_asked m W n (at s) r old new h d, silenced m W n r old new told h d due)
-      | inr not ↦ inl (marked m W n r old new told h d left not)
-    ]
-
-    asked_twice : (m : ℕ) (W : Type 0) (n : ℕ) (q r : Reply) (old mid new : WorldState) → side_of n ≡ Some s
-        → WorldSteps gives old (event.Emit n (at s)) q mid → WorldSteps gives mid (event.Emit n (at s)) r new
-        → IsSome (next_identifier (half s mid).state.table) → Mid m W kn old → Mid m ⊥ kn new
-    asked_twice m W n q r old mid new told h g left d =
-        elim (asked_once m W n q old mid told h (left_before (half s old).state.table (half s mid).state.table
-        (emit_next s gives n (at s) q old mid h) left) d) [
-          | inl y ↦ mid_asked m ⊥ n (at s) r mid new g y
-          | inr y ↦ (let z = placed kn mid y.0.link s in
-              marked m W n r mid new told g y.0 left
-              (all-get (λ (x : SystemPort). AtPort (at s) NotDue x.number x.port) (half s mid).state.system_ports z.index z.port z.there y.1 z.number))
+        has : (P : ItemValue → Type 0) (t : Side) → Has P (d.flying t) → Has P (g.flying t)
+        has P t y = elim (g.grew t) [
+          | inl e ↦ subst (Has P) (sym e) y
+          | inr x ↦ subst (Has P) (sym x.2) (has_on P (d.flying t) (x.0 ∷ []) y)
         ]
+
+        flights : (id : ℕ) → Flights s (at s) mac d.flying id → Flights s (at s) mac g.flying id
+        flights id (inl y) = inl (has (IsMarker (asking (at s) mac id)) (peer s) y)
+        flights id (inr y) = inr (has (IsMarker (answering (at s) mac id)) s y)
+
+        grown : Fines m W (Flights s (at s) mac g.flying) (half s old).state.table
+        grown = all_map at w s mac aggs count m W W (Flights s (at s) mac d.flying) (Flights s (at s) mac g.flying) (half s old).state.table (λ x. x)
+            flights d.fine
+
+    mid_between : (m : ℕ) (W : Type 0) → KeptWhere gives MovesNone (Mid m W kn)
+    mid_between m W (event.Emit n p) r i j still b h d = mid_asked m W n p r i j h d
+    mid_between m W (event.Deliver cn n) r i j still b h d = mid_delivers m W cn n r i j h d
+    mid_between m W (event.Offer n agg octets) r i j still b h d = mid_offered m W n agg octets r i j h d
+    mid_between m W (event.Move n agg conv p) r i j still b h d = absurd still
+    mid_between m W e r i j still b h d = absurd b
+
+    -- where no marker is due and an identifier is left, none is Wanted
+    mid_drained : (m : ℕ) (W : Type 0) (j : WorldState) → marker_due (half s j).state.table (at s) ≡ None → HasLeft s j → Mid m W kn j → Mid m ⊥ kn j
+    mid_drained m W j none left d =
+        let t = (half s j).state.table in
+        let zero_wanted = none_due at w s mac aggs count t left none in
+        record {
+          link = d.link;
+          flying = d.flying;
+          index = d.index;
+          links = d.links;
+          same = d.same;
+          fine = λ g k l n o. not_wanted (at s) m W (Flights s (at s) mac d.flying) (assignment_of t g k)
+              (none_wanted (at s) t zero_wanted g k l (subst (λ x. g ≤ x) (sym d.same.rows) n) (subst (λ x. k < x) (sym d.same.cols) o))
+              (d.fine g k l n o);
+        }
+
+  -- ticks
+
+  own_ticked : (kn to : Side → ℕ) (m : ℕ) (W : Type 0) (n : ℕ) (r : Reply) (i j : WorldState) → side_of n ≡ Some s
+      → WorldSteps gives i (event.Tick n 1) r j → (d : Mid m W kn i) → Link 2 at w to s Y j → Mid (m + 1) (Unit {0}) to j
+  own_ticked kn to m W n r i j told step d link =
+      let k = ticks gives n s r i j told step in
+      record {
+        link = link;
+        flying = d.flying;
+        index = d.index;
+        links = subst (OnCable d.index at d.flying) (sym k.links) d.links;
+        same = fixed (event.Tick n 1) r i j step d.link.steady d.same;
+        fine = settles_all at w s mac aggs count (m + 1) (Unit {0}) (Flights s (at s) mac d.flying) k.step.0 (half s j).state k.step.2
+            (λ g x y. stays_on at w s mac aggs count c kn to i j d.link link g x
+            (after_tick_on (at s) (assignment_of (half s i).state.table g x) (sym (k.step.1.1.states g x) ∙ y)))
+            (each_by aggs count (Fine (at s) m W (Flights s (at s) mac d.flying)) (Fine (at s) (m + 1) (Unit {0}) (Flights s (at s) mac d.flying))
+            after_tick (half s i).state.table k.step.0.table k.step.1.1.states (ticked_fine (at s) m W (Flights s (at s) mac d.flying)) d.fine);
+      }
+
+  peer_ticked : (kn to : Side → ℕ) (m : ℕ) (W : Type 0) (n : ℕ) (r : Reply) (i j : WorldState) → side_of n ≡ Some (peer s)
+      → WorldSteps gives i (event.Tick n 1) r j → (d : Mid m W kn i) → Link 2 at w to s Y j → Mid m W to j
+  peer_ticked kn to m W n r i j told step d link =
+      let k = ticks gives n (peer s) r i j told step in
+      let still : (half s j).state ≡ (half s i).state = subst (λ u. (half u j).state ≡ (half u i).state) (peer_twice s) k.peers in
+      record {
+        link = link;
+        flying = d.flying;
+        index = d.index;
+        links = subst (OnCable d.index at d.flying) (sym k.links) d.links;
+        same = fixed (event.Tick n 1) r i j step d.link.steady d.same;
+        fine = subst (λ (y : SystemState). Fines m W (Flights s (at s) mac d.flying) y.table) (sym still) d.fine;
+      }
 
   -- at the end of a round
   pub record Rests (m : ℕ) (W : Type 0) (j : WorldState) : Type 0 where
@@ -305,9 +387,6 @@ module _ (at : Side → ℕ) (w : Side → Lacpdu) (named : (t : Side) → IsNam
     pub steady : AtIt at w s Y j
     pub same : IsFixed j
     pub fine : Fines m W (λ id. ⊥) (half s j).state.table
-
-  ticked_known : (old : WorldState) (g : FreshAt at w 2 old) → 1 ≤ g.known s - 1
-  ticked_known old g = let l = knows_peer at w 2 0 0 old g (omega arith) s in omega (arith, l)
 
   none_flies : (j : WorldState) (i : ℕ) (fl : Side → List ItemValue) → NothingInFlight j → OnCable i at fl j.links → (id : ℕ)
       → Flights s (at s) mac fl id → ⊥
@@ -320,110 +399,104 @@ module _ (at : Side → ℕ) (w : Side → Lacpdu) (named : (t : Side) → IsNam
       empty : (t : Side) → fl t ≡ []
       empty t = sym (towards_there t at fl) ∙ none t i (cable at fl) links.there
 
-  tick_next : (old new : SystemState) → Step (gives s) old Tick answer.Tick new → new.table.next ≡ old.table.next
-  tick_next old new h = settles_next h.0 new h.2 ∙ h.1.1.next
+  -- nothing is due there
+  abbrev NoneDue : WorldState → Type 0
+  NoneDue j = OfPort (λ p. is_due p ≡ false) (machines_of (at s) (half s j).state) × (marker_due (half s j).state.table (at s) ≡ None)
 
-  both_tick : (old new : WorldState) (u : Unrolled gives old new) → Step (gives s) (half s old).state Tick answer.Tick (half s u.two).state
-  both_tick old new u =
-      let one = ticks gives 1 One u.tick_one.0 old u.one refl u.tick_one.1 in
-      let two = ticks gives 2 Two u.tick_two.0 u.one u.two refl u.tick_two.1 in
-      each_side (λ t. Step (gives t) (half t old).state Tick answer.Tick (half t u.two).state) One
-      (subst (λ z. Step (gives One) old.one.state Tick answer.Tick z) (sym two.peers) one.step)
-      (subst (λ z. Step (gives Two) z Tick answer.Tick u.two.two.state) one.peers two.step) s
-
-  abbrev From : WorldState → WorldState → Type 0
-  From i j = (half s i).state.table.next ≤ (half s j).state.table.next
-
-  on : (i j k : WorldState) → From j k → From i j → From i k
-  on i j k a b = omega (arith, a, b)
-
-  rest_next : (old new : WorldState) (u : Unrolled gives old new) (i : WorldState) (es : List Event) (rs : List Reply) → AllByRecursion IsAsk es
-      → WorldRuns gives i es rs u.six → From i new
-  rest_next old new u i es rs asks runs =
-      let six = ask_all gives (From i) (λ n p r j k step l. on i j k (emit_next s gives n p r j k step) l) es rs i u.six asks runs (omega arith) in
-      deliver_all gives (From i) (λ cn n r j k step l. on i j k (deliver_next s gives cn n r j k step) l)
-      u.delivers u.replies u.six new u.arrives u.rest six
-
-  round_next : (old new : WorldState) → IsRound gives old new → From old new
-  round_next old new h =
-      let u = unroll gives old new h in
-      let tick = tick_next (half s old).state (half s u.two).state (both_tick old new u) in
-      let rest = rest_next old new u u.two (asks_all old.links) u.asked (all_ask old.links) u.asks in
-      omega (arith, tick, rest)
+  -- and an identifier is left
+  abbrev Drained : WorldState → Type 0
+  Drained j = NoneDue j × HasLeft s j
 
   -- a round: what was Wanted is freed, and what waited for a response waits a tick more, or is freed
-  round_rests : (m : ℕ) (W : Type 0) (old new : WorldState) → IsRound gives old new → IsSome (next_identifier (half s new).state.table)
+  round_rests : (m : ℕ) (W : Type 0) (old new : WorldState) → IsDrainingRound gives old new → IsSome (next_identifier (half s new).state.table)
       → Rests m W old → Rests (m + 1) ⊥ new
-  round_rests m W old new h left rests =
-      let u = unroll gives old new h in
-      let e = event.Emit o.number (at s) in
-      let a = runs_apart gives o.before (e ∷ e ∷ o.later) u.asked u.two u.six
-      (subst (λ es. WorldRuns gives u.two es u.asked u.six) o.is u.asks) in
-      let b = first_acts gives e (e ∷ o.later) a.2 a.0 u.six a.4 in
-      let f = first_acts gives e o.later b.1 b.0 u.six b.3 in
-      let first = ask_all gives (Mid (m + 1) (Unit {0}) kn) (λ n p r i j step d. mid_asked kn fits (m + 1) (Unit {0}) n p r i j step d)
-      o.before a.1 u.two a.0 o.firsts a.3 (after_ticks u) in
-      let still = left_before (half s b.0).state.table (half s new).state.table
-      (on b.0 f.0 new (rest_next old new u f.0 o.later f.1 o.lasts f.3) (emit_next s gives o.number (at s) f.2.0 b.0 f.0 f.2.1)) left in
-      let now = asked_twice kn fits (m + 1) (Unit {0}) o.number b.2.0 f.2.0 a.0 b.0 f.0 o.named b.2.1 f.2.1 still first in
-      let six = ask_all gives (Mid (m + 1) ⊥ kn) (λ n p r i j step d. mid_asked kn fits (m + 1) ⊥ n p r i j step d)
-      o.later f.1 f.0 u.six o.lasts f.3 now in
-      let end = deliver_all gives (Mid (m + 1) ⊥ kn) (λ cn n r i j step d. mid_delivers kn fits (m + 1) ⊥ cn n r i j step d)
-      u.delivers u.replies u.six new u.arrives u.rest six in
-      record {
-        fresh = stays_fresh at w named awake gives 2 old new (omega arith) (round_is_host_round gives old new g.link.steady h) g;
-        steady = beside at w 2 kn s Y new end.link;
-        same = end.same;
-        fine = all_map at w s mac aggs count (m + 1) ⊥ ⊥ (Flights s (at s) mac end.flying) (λ id. ⊥) (half s new).state.table (λ x. x)
-            (none_flies new end.index end.flying h.empties end.links) end.fine;
-      }
+  round_rests m W old new q one_left rests = record {
+    fresh = stays_fresh at w named awake gives 2 old new (omega arith) h g;
+    steady = beside at w 2 (kn false false) s Y new end.link;
+    same = end.same;
+    fine = all_map at w s mac aggs count (m + 1) ⊥ ⊥ (Flights s (at s) mac end.flying) (λ id. ⊥) (half s new).state.table (λ x. x)
+        (none_flies new end.index end.flying h.empties end.links) end.fine;
+  }
     where
+      h : IsHostRound gives old new
+      h = q.round
+
       g : FreshAt at w 2 old
       g = rests.fresh
 
-      kn : Side → ℕ
-      kn = ticked rests.fresh.known
+      kn : Bool → Bool → Side → ℕ
+      kn = known_in g.known s
 
-      fits : Fits 2 w (ticked rests.fresh.known)
-      fits = fits_fresh at w named awake 2 old rests.fresh (omega arith)
+      long : (t : Side) → 2 ≤ g.known t
+      long t = knows_peer at w 2 0 0 old g (omega arith) t
 
-      link : Link 2 at w rests.fresh.known s Y old
-      link = join 2 at w rests.fresh.known One s Y old rests.fresh.link rests.steady
+      fits : (a b : Bool) → Fits 2 w (kn a b)
+      fits = fits_in 2 w g.known s (fits_before at w named awake 2 old g (omega arith)) (fits_fresh at w named awake 2 old g (omega arith))
 
-      o : AsksTwice s (at s) (asks_all old.links)
-      o = subst (λ p. AsksTwice s p (asks_all old.links)) (port_there s at rests.fresh.link.flying)
-          (asks_twice s rests.fresh.link.index old.links (cable at rests.fresh.link.flying) rests.fresh.link.links.there)
+      then : Fits 2 w (ticked g.known)
+      then = fits_fresh at w named awake 2 old g (omega arith)
 
-      after_ticks : (u : Unrolled gives old new) → Mid (m + 1) (Unit {0}) (ticked rests.fresh.known) u.two
-      after_ticks u =
-          let known = ticked_known old rests.fresh in
-          let two = tick_both gives 2 at w rests.fresh.known s Y Y u.tick_one.0 u.tick_two.0 old u.one u.two fits
-          (along (ticked rests.fresh.known) known)
-          (λ p q run rest a y. (
-            ticks_partner 2 (w s) (w (peer s)) (rests.fresh.known s) p q known run a y.0,
-            ticks_choice 2 (w s) (w (peer s)) (rests.fresh.known s) p q c known run a y.1,
-          )) u.tick_one.1 u.tick_two.1 link in
-          let tick = both_tick old new u in
-          let steady = keeps_steady gives (event.Tick 1 1) u.tick_one.0 old u.one u.tick_one.1 rests.fresh.link.steady in
-          let mid = each_by aggs count (Fine (at s) m W (λ id. ⊥)) (Fine (at s) (m + 1) (Unit {0}) (Flights s (at s) mac two.flying)) after_tick
-          (half s old).state.table tick.0.table tick.1.1.states (ticked_fine (at s) m W (Flights s (at s) mac two.flying)) rests.fine in
-          record {
-            link = two;
-            flying = two.flying;
-            index = two.index;
-            links = two.links;
-            same = fixed (event.Tick 2 1) u.tick_two.0 u.one u.two u.tick_two.1 steady
-                (fixed (event.Tick 1 1) u.tick_one.0 old u.one u.tick_one.1 rests.fresh.link.steady rests.same);
-            fine = settles_all at w s mac aggs count (m + 1) (Unit {0}) (Flights s (at s) mac two.flying) tick.0 (half s u.two).state tick.2
-                (λ g k x. stays_on at w s mac aggs count c rests.fresh.known (ticked rests.fresh.known) old u.two link two g k
-                (after_tick_on (at s) (assignment_of (half s old).state.table g k) (sym (tick.1.1.states g k) ∙ x))) mid;
-          }
+      some : (a : Bool) (n : ℕ) → 2 ≤ n → 1 ≤ left a n
+      some true n l = omega (arith, l)
+      some false n l = omega (arith, l)
+
+      along_left : (a : Bool) → Along Y (w s) (w (peer s)) (left a (g.known s)) 2
+      along_left a = along (λ t. left a (g.known t)) (some a (g.known s) (long s))
+
+      own : (b : Bool) → MadeByTick gives s (Mid m W (kn true b)) (Mid (m + 1) (Unit {0}) (kn false b))
+      own b n r i j told step d = own_ticked (kn true b) (kn false b) m W n r i j told step d
+          (own_holds gives s 2 at w g.known Y Y then (along_left false) (λ p q run rest a y. (
+            ticks_partner 2 (w s) (w (peer s)) (g.known s) p q (some false (g.known s) (long s)) run a y.0,
+            ticks_choice 2 (w s) (w (peer s)) (g.known s) p q c (some false (g.known s) (long s)) run a y.1,
+          )) b n r i j told step d.link)
+
+      other : (a : Bool) (k : ℕ) (V : Type 0) → MadeByTick gives (peer s) (Mid k V (kn a true)) (Mid k V (kn a false))
+      other a k V n r i j told step d = peer_ticked (kn a true) (kn a false) k V n r i j told step d
+          (peer_holds gives s 2 at w g.known Y then a (along_left a) n r i j told step d.link)
+
+      stages : Stages gives MovesNone s (λ b. Mid m W (kn true b)) (λ b. Mid (m + 1) (Unit {0}) (kn false b)) (λ b. Mid (m + 1) ⊥ (kn false b)) Drained
+      stages = record {
+        first = λ b. mid_between (kn true b) (fits true b) m W;
+        second = λ b. mid_between (kn false b) (fits false b) (m + 1) (Unit {0});
+        third = λ b. mid_between (kn false b) (fits false b) (m + 1) ⊥;
+        own = own;
+        other_first = other true m W;
+        other_second = other false (m + 1) (Unit {0});
+        other_third = other false (m + 1) ⊥;
+        rests = λ b j p d. mid_drained (kn false b) (fits false b) (m + 1) (Unit {0}) j p.0.1 p.1 d;
+      }
+
+      link : Link 2 at w g.known s Y old
+      link = join 2 at w g.known One s Y old g.link rests.steady
+
+      start : Mid m W (kn true true) old
+      start = record {
+        link = none_ticked 2 at w g.known s s Y old link;
+        flying = g.link.flying;
+        index = g.link.index;
+        links = g.link.links;
+        same = rests.same;
+        fine = all_map at w s mac aggs count m W W (λ id. ⊥) (Flights s (at s) mac g.link.flying) (half s old).state.table (λ x. x)
+            (λ id x. absurd x) rests.fine;
+      }
+
+      drains : AfterTick s NoneDue gives h.events h.replies old new h.acts
+      drains = subst (λ n. AfterTick s (λ j. OfPort (λ p. is_due p ≡ false) (machines_of n (half s j).state)
+          × (marker_due (half s j).state.table n ≡ None)) gives h.events h.replies old new h.acts) (port_there s at g.link.flying)
+          (q.drained s g.link.index (cable at g.link.flying) (healthy_link 2 at w g.known One Nothing old g.link))
+
+      end : Mid (m + 1) ⊥ (kn false false) new
+      end = first_on gives MovesNone s (λ b. Mid m W (kn true b)) (λ b. Mid (m + 1) (Unit {0}) (kn false b)) (λ b. Mid (m + 1) ⊥ (kn false b)) Drained
+          stages h.events h.replies old new true q.still (of_side s h.events h.ticks) h.acts
+          (after_left s One NoneDue gives true true h.events h.replies old new h.ticks q.still h.acts one_left drains) start
 
   -- so many rounds on
   pub rounds_rest : (n : ℕ) (start new : WorldState) → 1 ≤ n → IsSome (next_identifier (half s new).state.table) → Rests 0 (Unit {0}) start
-      → Rounds gives n start new → Rests n ⊥ new
-  rounds_rest n start new some left rests h =
-      along_rounds gives (λ m j. IsSome (next_identifier (half s j).state.table) → Rests m ⊥ j) start
-      (λ j r l. round_rests 0 (Unit {0}) start j r l rests)
-      (λ m i j r k l. round_rests m ⊥ i j r l (k (left_before (half s i).state.table (half s j).state.table (round_next i j r) l)))
-      n new some h left
+      → DrainingRounds gives n start new → Rests n ⊥ new
+  rounds_rest zero start new l left rests h = absurd (omega (arith, l))
+  rounds_rest (suc zero) start new l left rests h =
+      round_rests 0 (Unit {0}) start new (subst (λ j. IsDrainingRound gives j new) h.1 h.2) left rests
+  rounds_rest (suc (suc n)) start new l left rests h =
+      let before = left_before (half s h.0).state.table (half s new).state.table
+      (run_next s One gives true true h.2.round.events h.2.round.replies h.0 new h.2.round.ticks h.2.still h.2.round.acts) left in
+      subst (λ k. Rests k ⊥ new) (omega arith) (round_rests (suc n) ⊥ h.0 new h.2 left (rounds_rest (suc n) start h.0 (omega arith) before rests h.1))

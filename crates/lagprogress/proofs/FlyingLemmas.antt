@@ -1,22 +1,23 @@
 -- How a frame that was sent on a healthy cable stays first on it through a round, until it is handed up.
-use Rattle.lagprogress.proofs.Common.{List, None, Ok, Option, Result, Some, [], ap, arith, if◌then◌else◌, inl, inr, map, refl, slice_get, subst, suc}
-use Rattle.lagprogress.proofs.Common.{sym, true, ℕ, ◌++◌, ◌==◌, ◌∙◌, ◌∷◌, ◌≡◌, ◌≤◌, ◌⊎◌, cases_Bool, true≢false, nat_tests, same_Some, AllByRecursion}
-use Rattle.lagprogress.proofs.Common.{AggId, Choice, Selected, is_selected, Lacpdu, all-append, One, Side, Two, peer, MuxState}
-use Rattle.lagprogress.proofs.Common.{CollectingDistributing, same_mux_state, SystemFault, Received, SystemPort, Data_frame, IsFrame, MuxIsSettled}
-use Rattle.lagprogress.proofs.Common.{collecting, selected_aggregator, machines_of, port_index, all-get, found_place, Event, Reply, Algorithms}
-use Rattle.lagprogress.proofs.Common.{WorldRuns, WorldSteps, side_of, link_ends, ItemValue, LinkState, WorldState, half, port_at, towards, HandsUp}
-use Rattle.lagprogress.proofs.Common.{InRound, Sometime, IsDeliver, IsRound, OfPort, asks_all}
+use Rattle.lagprogress.proofs.Common.{Bool, List, None, Ok, Option, Result, Some, [], ap, arith, false, if◌then◌else◌, inl, inr, map, refl, slice_get}
+use Rattle.lagprogress.proofs.Common.{subst, suc, sym, true, ℕ, ◌++◌, ◌==◌, ◌∙◌, ◌∷◌, ◌≡◌, ◌⊎◌, cases_Bool, true≢false, nat_tests, same_Some, AggId}
+use Rattle.lagprogress.proofs.Common.{Choice, Selected, is_selected, Lacpdu, One, Side, Two, peer, MuxState, CollectingDistributing, same_mux_state}
+use Rattle.lagprogress.proofs.Common.{SystemFault, Received, SystemPort, Data_frame, IsFrame, MuxIsSettled, collecting, selected_aggregator}
+use Rattle.lagprogress.proofs.Common.{machines_of, port_index, all-get, found_place, Event, Reply, Algorithms, WorldRuns, WorldSteps, side_of}
+use Rattle.lagprogress.proofs.Common.{link_ends, ItemValue, LinkState, WorldState, half, port_at, towards, HandsUp, Sometime, IsBetweenTicks}
+use Rattle.lagprogress.proofs.Common.{TickOnce, NothingInFlight, OfPort}
 use Rattle.lagprogress.proofs.ArrivingLemmas.{deliver_hands_up}
 use Rattle.lagprogress.proofs.Climbing.{PartnerInSync, distributes_now, partner_along, ticks_partner}
-use Rattle.lagprogress.proofs.Delivering.{deliver_link}
 use Rattle.lagprogress.proofs.EachRound.{same_index}
 use Rattle.lagprogress.proofs.EndFacts.{activity, Along}
-use Rattle.lagprogress.proofs.Linked.{EndIs, Fits, Link, asked_which, emit_any, found, machines_there}
+use Rattle.lagprogress.proofs.Linked.{EndIs, Fits, Link, asked_which, found, machines_there}
 use Rattle.lagprogress.proofs.OneCable.{came_off, Arrives, Back, Beside, Comes, OnCable, Went, arrived, asks, cable, deliver_ends, emits, passed_by}
 use Rattle.lagprogress.proofs.OneCable.{port_there, push, put, stays_beside, ticks, towards_there}
 use Rattle.lagprogress.proofs.OnePort.{AtPort}
-use Rattle.lagprogress.proofs.OneRound.{IsAsk, all_ask, one_of_both, tick_both, ticked}
+use Rattle.lagprogress.proofs.OneRound.{one_of_both, ticked}
 use Rattle.lagsystem.specs.declared.received.Received.TheVariants as received
+use Rattle.lagprogress.proofs.HostRound.{between, left, own_holds, none_ticked, fits_in, peer_holds, KeptBetween, MadeByTick, known_in, of_side}
+use Rattle.lagprogress.proofs.Quieting.{quiet_cable, IsQuiet, Grown, quiet_ends}
 use Rattle.lagscript.specs.declared.event.Event.TheVariants as event
 
 -- a Deliver event of this cable brings its first item; any other leaves the cable to itself
@@ -67,30 +68,32 @@ collects_in : (m : MuxState) (c : Choice) → m ≡ CollectingDistributing → i
 collects_in m (Selected agg) e h = (agg, ap (λ (n : MuxState). if same_mux_state CollectingDistributing n then Some agg else None) e)
 collects_in m c e h = absurd (true≢false (sym h))
 
--- at some event of a run
+-- at some event of a run of ticks and what comes between, or not yet
 
-until : (gives : Algorithms) (P : WorldState → Event → Reply → Type 0) (I : WorldState → Type 0) (Is : Event → Type 0)
-    → ((e : Event) (r : Reply) (i j : WorldState) → Is e → WorldSteps gives i e r j → I i → P i e r ⊎ I j)
-    → (es : List Event) (rs : List Reply) (old new : WorldState) → AllByRecursion Is es → (run : WorldRuns gives old es rs new)
-    → I old → Sometime P gives es rs old new run ⊎ I new
-until gives P I Is k [] [] old new a run m = inr (subst I (sym run) m)
-until gives P I Is k (e ∷ es) (r ∷ rs) old new a run m = elim (k e r old run.0 a.0 run.1 m) [
+until : (gives : Algorithms) (t : Side) (P : WorldState → Event → Reply → Type 0) (I : Bool → Bool → WorldState → Type 0)
+    → ((a b : Bool) (e : Event) (r : Reply) (i j : WorldState) → IsBetweenTicks e → WorldSteps gives i e r j → I a b i → P i e r ⊎ I a b j)
+    → ((b : Bool) → MadeByTick gives t (I true b) (I false b)) → ((a : Bool) → MadeByTick gives (peer t) (I a true) (I a false))
+    → (es : List Event) (rs : List Reply) (i j : WorldState) (a b : Bool) → TickOnce t a b es → (run : WorldRuns gives i es rs j) → I a b i
+    → Sometime P gives es rs i j run ⊎ I false false j
+until gives t P I between own other [] [] i j a b h run m =
+    inr (subst (λ x. I false false x) (sym run) (subst (λ x. I false x i) h.1 (subst (λ x. I x b i) h.0 m)))
+until gives t P I between own other (e ∷ es) (r ∷ rs) i j a b (inl (k, due, h)) run m =
+    elim (until gives t P I between own other es rs run.0 j false b h run.2
+    (own b k.0 r i run.0 k.1 (subst (λ x. WorldSteps gives i x r run.0) k.2 run.1) (subst (λ x. I x b i) due m))) [
+      | inl p ↦ inl (inr p)
+      | inr n ↦ inr n
+    ]
+until gives t P I between own other (e ∷ es) (r ∷ rs) i j a b (inr (inl (k, due, h))) run m =
+    elim (until gives t P I between own other es rs run.0 j a false h run.2
+    (other a k.0 r i run.0 k.1 (subst (λ x. WorldSteps gives i x r run.0) k.2 run.1) (subst (λ x. I a x i) due m))) [
+      | inl p ↦ inl (inr p)
+      | inr n ↦ inr n
+    ]
+until gives t P I between own other (e ∷ es) (r ∷ rs) i j a b (inr (inr h)) run m = elim (between a b e r i run.0 h.0 run.1 m) [
   | inl p ↦ inl (inl p)
-  | inr i ↦ elim (until gives P I Is k es rs run.0 new a.1 run.2 i) [ inl p ↦ inl (inr p) | inr n ↦ inr n ]
+  | inr k ↦ elim (until gives t P I between own other es rs run.0 j a b h.1 run.2 k) [ inl p ↦ inl (inr p) | inr n ↦ inr n ]
 ]
-until gives P I Is k es rs old new a run m = absurd run
-
--- the event asks a port, or brings an item
-abbrev AsksOrDelivers : Event → Type 0
-AsksOrDelivers e = IsAsk e ⊎ IsDeliver e
-
-asks_or : (es : List Event) → AllByRecursion IsAsk es → AllByRecursion AsksOrDelivers es
-asks_or [] a = tt
-asks_or (e ∷ es) a = (inl a.0, asks_or es a.1)
-
-or_delivers : (es : List Event) → AllByRecursion IsDeliver es → AllByRecursion AsksOrDelivers es
-or_delivers [] a = tt
-or_delivers (e ∷ es) a = (inr a.0, or_delivers es a.1)
+until gives t P I between own other es rs i j a b h run m = absurd run
 
 -- the item is the first from system s on the cable of these ports; the ports that the cables join are those of the start
 pub record OnItsWay (s : Side) (l : LinkState) (item : ItemValue) (start j : WorldState) : Type 0 where
@@ -102,71 +105,102 @@ pub record OnItsWay (s : Side) (l : LinkState) (item : ItemValue) (start j : Wor
 
 module _ (gives : Algorithms) (s : Side) (i : ℕ) (l : LinkState) (w : Side → Lacpdu) (c : Side → ℕ) (item : ItemValue) (start : WorldState)
     (awake : (t : Side) → (activity (w t) ≡ true) ⊎ (activity (w (peer t)) ≡ true)) (there : slice_get start.links i ≡ Some l)
-    (fits : Fits 2 w (ticked c)) (some : (t : Side) → 2 ≤ c t) (plain : IsFrame item.octets Data_frame) where
+    (fits : Fits 2 w c) (later : Fits 2 w (ticked c)) (plain : IsFrame item.octets Data_frame) where
   -- the port that the cable joins at system t
-  abbrev at : Side → ℕ
+  abbrev pub at : Side → ℕ
   at t = port_at t l
 
   abbrev Ends : (Side → ℕ) → WorldState → Type 0
   Ends k j = Link 2 at w k (peer s) PartnerInSync j
 
-  abbrev Flies : WorldState → Type 0
-  Flies j = Ends (ticked c) j × OnItsWay s l item start j
+  abbrev kn : Bool → Bool → Side → ℕ
+  kn = known_in c (peer s)
 
-  along : Along PartnerInSync (w (peer s)) (w (peer (peer s))) (ticked c (peer s)) 2
-  along = partner_along (w (peer s)) (w (peer (peer s))) (ticked c (peer s)) 2 (omega arith) (either (awake (peer s)))
+  abbrev Flies : Bool → Bool → WorldState → Type 0
+  Flies a b j = Ends (kn a b) j × OnItsWay s l item start j
+
+  along : (n : ℕ) → Along PartnerInSync (w (peer s)) (w (peer (peer s))) n 2
+  along n = partner_along (w (peer s)) (w (peer (peer s))) n 2 (omega arith) (either (awake (peer s)))
     where
       either : (activity (w (peer s)) ≡ true) ⊎ (activity (w (peer (peer s))) ≡ true)
           → (activity (w (peer (peer s))) ≡ true) ⊎ (activity (w (peer s)) ≡ true)
       either (inl a) = inr a
       either (inr a) = inl a
 
-  ticks_on : (q r : Reply) (old mid new : WorldState) → WorldSteps gives old (event.Tick 1 1) q mid → WorldSteps gives mid (event.Tick 2 1) r new
-      → Ends c old → OnItsWay s l item start old → Flies new
-  ticks_on q r old mid new h k e f =
-      let same = (ticks gives 2 Two r mid new refl k).links ∙ (ticks gives 1 One q old mid refl h).links in (
-        tick_both gives 2 at w c (peer s) PartnerInSync PartnerInSync q r old mid new fits along
-            (λ p z run rest a y. ticks_partner 2 (w (peer s)) (w (peer (peer s))) (c (peer s)) p z (let m = some (peer s) in omega (arith, m)) run a y)
-            h k e,
-        record {
-          index = f.index;
-          flying = f.flying;
-          links = subst (OnCable f.index at f.flying) (sym same) f.links;
-          first = f.first;
-          joins = ap (map link_ends) same ∙ f.joins;
-        },
-      )
+  ends_on : (a b : Bool) → KeptBetween gives (Ends (kn a b))
+  ends_on a b = between gives 2 at w (kn a b) (peer s) PartnerInSync (fits_in 2 w c (peer s) fits later a b) (along (kn a b (peer s))) (λ q y. y)
 
-  asks_on : (n p : ℕ) (r : Reply) (old new : WorldState) → WorldSteps gives old (event.Emit n p) r new → Flies old → Flies new
-  asks_on n p r old new h (e, f) = (
-    (emit_any gives n p 2 at w (ticked c) (peer s) PartnerInSync r old new fits along (λ q y. y) e h).link,
-    elim (asked_which gives n p f.index at f.flying r old new f.links h) [
-      | inl (t, told, is) ↦ (let a = asks gives n t f.index at f.flying r old new told f.links
-          (subst (λ q. WorldSteps gives old (event.Emit n q) r new) is h) in
-          record {
-            index = a.index;
-            flying = a.now;
-            links = a.links;
-            first = went_first t (peer s) a.a item f.flying a.now a.went f.first;
-            joins = joined;
-          })
-      | inr b ↦ record { index = b.index; flying = f.flying; links = b.links; first = f.first; joins = joined }
-    ],
+  -- a tick leaves the cables
+  ticked_way : (t : Side) (n : ℕ) (r : Reply) (old new : WorldState) → side_of n ≡ Some t → WorldSteps gives old (event.Tick n 1) r new
+      → OnItsWay s l item start old → OnItsWay s l item start new
+  ticked_way t n r old new told h f =
+      let same = (ticks gives n t r old new told h).links in
+      record {
+        index = f.index;
+        flying = f.flying;
+        links = subst (OnCable f.index at f.flying) (sym same) f.links;
+        first = f.first;
+        joins = ap (map link_ends) same ∙ f.joins;
+      }
+
+  own : (b : Bool) → MadeByTick gives (peer s) (Flies true b) (Flies false b)
+  own b n r old new told h (e, f) = (
+    own_holds gives (peer s) 2 at w c PartnerInSync PartnerInSync later (along (ticked c (peer s)))
+        (λ p z run rest a y. ticks_partner 2 (w (peer s)) (w (peer (peer s))) (c (peer s)) p z ((later (peer s)).2 (omega arith)) run a y)
+        b n r old new told h e,
+    ticked_way (peer s) n r old new told h f,
   )
+
+  other : (a : Bool) → MadeByTick gives (peer (peer s)) (Flies a true) (Flies a false)
+  other a n r old new told h (e, f) = (
+    peer_holds gives (peer s) 2 at w c PartnerInSync later a (along (left a (c (peer s)))) n r old new told h e,
+    ticked_way (peer (peer s)) n r old new told h f,
+  )
+
+  asks_on : (n p : ℕ) (r : Reply) (old new : WorldState) → WorldSteps gives old (event.Emit n p) r new → OnItsWay s l item start old
+      → OnItsWay s l item start new
+  asks_on n p r old new h f = elim (asked_which gives n p f.index at f.flying r old new f.links h) [
+    | inl (t, told, is) ↦ (let a = asks gives n t f.index at f.flying r old new told f.links
+        (subst (λ q. WorldSteps gives old (event.Emit n q) r new) is h) in
+        record {
+          index = a.index;
+          flying = a.now;
+          links = a.links;
+          first = went_first t (peer s) a.a item f.flying a.now a.went f.first;
+          joins = joined;
+        })
+    | inr b ↦ record { index = b.index; flying = f.flying; links = b.links; first = f.first; joins = joined }
+  ]
     where
       joined : map link_ends new.links ≡ map link_ends start.links
       joined = (emits gives n p r old new h).2.ends ∙ f.joins
 
+  quiet_on : (e : Event) (r : Reply) (old new : WorldState) → IsQuiet e → WorldSteps gives old e r new → OnItsWay s l item start old
+      → OnItsWay s l item start new
+  quiet_on e r old new q h f = record {
+    index = f.index;
+    flying = g.flying;
+    links = g.on;
+    first = elim (g.grew (peer s)) [
+      | inl same ↦ subst (λ xs. (rest : List ItemValue) × (xs ≡ item ∷ rest)) (sym same) f.first
+      | inr x ↦ (f.first.0 ++ x.0 ∷ [], x.2 ∙ ap (λ xs. xs ++ x.0 ∷ []) f.first.1)
+    ];
+    joins = quiet_ends gives e r old new q h ∙ f.joins;
+  }
+    where
+      g : Grown f.index at f.flying new
+      g = quiet_cable gives e f.index at f.flying r old new q h f.links
+
   -- the port there collects
-  hands_up : (n : ℕ) (r : Reply) (old new : WorldState) → side_of n ≡ Some (peer s) → Ends (ticked c) old → (f : OnItsWay s l item start old)
+  hands_up : (k : Side → ℕ) (n : ℕ) (r : Reply) (old new : WorldState) → side_of n ≡ Some (peer s) → Ends k old → (f : OnItsWay s l item start old)
       → WorldSteps gives old (event.Deliver (suc f.index) n) r new → HandsUp (peer s) i item old (event.Deliver (suc f.index) n) r
-  hands_up n r old new named e f h =
+  hands_up k n r old new named e f h =
       let t = peer s in
       let st = (half t old).state in
       let fl = f.flying in
       let place = e.place t in
       let z = found (at t) place.0 st.system_ports place.1 in
-      let is = all-get (λ (y : SystemPort). AtPort (at t) (EndIs 2 w (ticked c) t PartnerInSync t) y.number y.port) st.system_ports place.0 z.0
+      let is = all-get (λ (y : SystemPort). AtPort (at t) (EndIs 2 w k t PartnerInSync t) y.number y.port) st.system_ports place.0 z.0
       z.1 (e.ports t) (found_place (at t) st.system_ports place.0 z.0 place.1 z.1) in
       let mux = (all-get (MuxIsSettled st.keys st.system_ports) st.system_ports place.0 z.0 z.1 (e.steady t).0.quiet.0).mux in
       let synced = is.0.2 (omega arith) in
@@ -194,61 +228,53 @@ module _ (gives : Algorithms) (s : Side) (i : ℕ) (l : LinkState) (w : Side →
         up = up.up;
       }
 
-  delivers_on : (k n : ℕ) (r : Reply) (old new : WorldState) → WorldSteps gives old (event.Deliver k n) r new → Flies old
-      → HandsUp (peer s) i item old (event.Deliver k n) r ⊎ Flies new
-  delivers_on k n r old new h (e, f) = elim (delivers_at gives k n f.index at f.flying r old new f.links h) [
-    | inl (v, named, is, a) ↦ by_side v named is a (one_of_both s v)
-    | inr b ↦ inr (
-      ends,
-      record { index = b.index; flying = f.flying; links = b.links; first = f.first; joins = joined },
+  delivers_on : (a b : Bool) (k n : ℕ) (r : Reply) (old new : WorldState) → WorldSteps gives old (event.Deliver k n) r new → Flies a b old
+      → HandsUp (peer s) i item old (event.Deliver k n) r ⊎ Flies a b new
+  delivers_on a b k n r old new h (e, f) = elim (delivers_at gives k n f.index at f.flying r old new f.links h) [
+    | inl (v, named, is, x) ↦ by_side v named is x (one_of_both s v)
+    | inr x ↦ inr (
+      ends_on a b (event.Deliver k n) r old new tt h e,
+      record { index = x.index; flying = f.flying; links = x.links; first = f.first; joins = joined },
     )
   ]
     where
       joined : map link_ends new.links ≡ map link_ends start.links
       joined = deliver_ends gives k n r old new h ∙ f.joins
 
-      ends : Ends (ticked c) new
-      ends = (deliver_link gives k n 2 at w (ticked c) (peer s) PartnerInSync r old new fits along e h).link
-
       by_side : (v : Side) → side_of n ≡ Some v → k ≡ suc f.index → Arrives gives v at f.flying old new → (v ≡ s) ⊎ (v ≡ peer s)
-          → HandsUp (peer s) i item old (event.Deliver k n) r ⊎ Flies new
-      by_side v named is a (inl back) = inr (
-        ends,
+          → HandsUp (peer s) i item old (event.Deliver k n) r ⊎ Flies a b new
+      by_side v named is x (inl back) = inr (
+        ends_on a b (event.Deliver k n) r old new tt h e,
         record {
-          index = a.index;
-          flying = a.now;
-          links = a.links;
-          first = back_first v (peer s) a.a item (put v a.rest f.flying) a.now a.back
-              (subst (λ u. First (peer s) item (put u a.rest f.flying)) (sym back) (put_first s a.rest item f.flying f.first));
+          index = x.index;
+          flying = x.now;
+          links = x.links;
+          first = back_first v (peer s) x.a item (put v x.rest f.flying) x.now x.back
+              (subst (λ u. First (peer s) item (put u x.rest f.flying)) (sym back) (put_first s x.rest item f.flying f.first));
           joins = joined;
         },
       )
-      by_side v named is a (inr there) = inl (subst (λ m. HandsUp (peer s) i item old (event.Deliver m n) r) (sym is)
-          (hands_up n r old new (named ∙ ap (λ (t : Side). Some t) there) e f (subst (λ m. WorldSteps gives old (event.Deliver m n) r new) is h)))
+      by_side v named is x (inr far) = inl (subst (λ m. HandsUp (peer s) i item old (event.Deliver m n) r) (sym is)
+          (hands_up (kn a b) n r old new (named ∙ ap (λ (t : Side). Some t) far) e f (subst (λ m. WorldSteps gives old (event.Deliver m n) r new) is h)))
 
-  on : (e : Event) (r : Reply) (old new : WorldState) → AsksOrDelivers e → WorldSteps gives old e r new → Flies old
-      → HandsUp (peer s) i item old e r ⊎ Flies new
-  on (event.Emit n p) r old new is h m = inr (asks_on n p r old new h m)
-  on (event.Deliver k n) r old new is h m = delivers_on k n r old new h m
-  on e r old new (inl is) h m = absurd is
-  on e r old new (inr is) h m = absurd is
+  between_on : (a b : Bool) (e : Event) (r : Reply) (old new : WorldState) → IsBetweenTicks e → WorldSteps gives old e r new → Flies a b old
+      → HandsUp (peer s) i item old e r ⊎ Flies a b new
+  between_on a b (event.Emit n p) r old new is h m =
+      inr (ends_on a b (event.Emit n p) r old new tt h m.0, asks_on n p r old new h m.1)
+  between_on a b (event.Deliver k n) r old new is h m = delivers_on a b k n r old new h m
+  between_on a b (event.Offer n agg octets) r old new is h m =
+      inr (ends_on a b (event.Offer n agg octets) r old new tt h m.0, quiet_on (event.Offer n agg octets) r old new tt h m.1)
+  between_on a b (event.Move n agg conv p) r old new is h m =
+      inr (ends_on a b (event.Move n agg conv p) r old new tt h m.0, quiet_on (event.Move n agg conv p) r old new tt h m.1)
+  between_on a b e r old new is h m = absurd is
 
-  ticks_first : (es : List Event) (rs : List Reply) (old new : WorldState) → AllByRecursion AsksOrDelivers es
-      → (run : WorldRuns gives old (event.Tick 1 1 ∷ event.Tick 2 1 ∷ es) rs new) → Ends c old → OnItsWay s l item start old
-      → Sometime (HandsUp (peer s) i item) gives (event.Tick 1 1 ∷ event.Tick 2 1 ∷ es) rs old new run ⊎ Flies new
-  ticks_first es [] old new a run e f = absurd run
-  ticks_first es (q ∷ []) old new a run e f = absurd run.2
-  ticks_first es (q ∷ r ∷ rs) old new a run e f =
-      elim (until gives (HandsUp (peer s) i item) Flies AsksOrDelivers on es rs run.2.0 new a run.2.2
-      (ticks_on q r old run.0 run.2.0 run.1 run.2.1 e f)) [ inl p ↦ inl (inr (inr p)) | inr n ↦ inr n ]
-
-  -- a round hands it up
-  pub in_round : (old new : WorldState) (q : IsRound gives old new) → Ends c old → OnItsWay s l item start old → InRound (HandsUp (peer s) i item) gives old new q
-  in_round old new q e f = elim (ticks_first (asks_all old.links ++ q.delivers) q.replies old new
-      (all-append AsksOrDelivers (asks_all old.links) q.delivers (asks_or (asks_all old.links) (all_ask old.links))
-      (or_delivers q.delivers q.arrives)) q.acts e f) [
+  -- a run in which each system ticks once and that leaves nothing on the cables hands it up
+  pub in_run : (es : List Event) (rs : List Reply) (old new : WorldState) → TickOnce One true true es → (run : WorldRuns gives old es rs new)
+      → NothingInFlight new → Ends c old → OnItsWay s l item start old → Sometime (HandsUp (peer s) i item) gives es rs old new run
+  in_run es rs old new turns run none e f = elim (until gives (peer s) (HandsUp (peer s) i item) Flies between_on own other es rs old new true true
+      (of_side (peer s) es turns) run (none_ticked 2 at w c (peer s) (peer s) PartnerInSync old e, f)) [
         | inl p ↦ p
-        | inr (k, g) ↦ (let empty = q.empties (peer s) g.index (cable at g.flying) g.links.there in
+        | inr (k, g) ↦ (let empty = none (peer s) g.index (cable at g.flying) g.links.there in
             absurd (nothing (g.flying (peer s)) (sym (towards_there (peer s) at g.flying) ∙ empty) g.first))
       ]
     where

@@ -1,23 +1,26 @@
 -- No conversation stays held on a port of a healthy cable of a bundle.
-use Rattle.lagprogress.proofs.Common.{List, None, Option, Some, ap, arith, inl, inr, length, refl, subst, sym, ℕ, ◌+◌, ◌-◌, ◌<◌, ◌∙◌, ◌≡◌, ◌≤◌, ◌⊎◌}
-use Rattle.lagprogress.proofs.Common.{nat_tests, none-some, same_Some, One, Side, Assignment, Flushing, On, Wanted, after_mark, after_release}
-use Rattle.lagprogress.proofs.Common.{after_tick, IsConversation, Table, assignment_of, held_unless_on, SystemState, Reply, Algorithms, WorldSteps}
-use Rattle.lagprogress.proofs.Common.{LinkState, WorldState, half, port_at, BothAreActive, IsBundle, OneIsActive, CarriersAreUp, HasIdentifierLeft}
-use Rattle.lagprogress.proofs.Common.{NoneIsHeld, NoneIsHeldOn, NoneIsHeldOnActiveEnds, NoneIsHeldOnEnds, NoneIsHeldWhereActive, NothingIsHeld}
-use Rattle.lagprogress.proofs.Common.{carrier_of, held_on, IsHealthyAt, IsRound, Rounds}
-use Rattle.lagprogress.proofs.RoundEvents.{asked_half, came_half, round_on, ticks_first}
+use Rattle.lagprogress.proofs.Common.{List, None, Option, Some, [], ap, arith, inl, inr, length, refl, subst, sym, ℕ, ◌++◌, ◌+◌, ◌-◌, ◌<◌, ◌∙◌, ◌∷◌}
+use Rattle.lagprogress.proofs.Common.{◌≡◌, ◌≤◌, ◌⊎◌, nat_tests, none-some, same_Some, AllByRecursion, all-append, One, Side, peer, value_of}
+use Rattle.lagprogress.proofs.Common.{Assignment, Flushing, On, Wanted, after_mark, after_release, after_tick, IsConversation, Table, assignment_of}
+use Rattle.lagprogress.proofs.Common.{held_unless_on, SystemState, Event, Reply, Algorithms, WorldSteps, side_of, LinkState, WorldState, half}
+use Rattle.lagprogress.proofs.Common.{port_at, BothAreActive, IsBundle, OneIsActive, CarriersAreUp, HasIdentifierLeft, NoneIsHeld, NoneIsHeldOn}
+use Rattle.lagprogress.proofs.Common.{NoneIsHeldOnActiveEnds, NoneIsHeldOnEnds, NoneIsHeldWhereActive, NothingIsHeld, carrier_of, held_on}
+use Rattle.lagprogress.proofs.Common.{DrainingRounds, NoneIsHeldOnActiveEndsByHosts, NoneIsHeldOnEndsByHosts, HostRounds, IsDeliver, IsHealthyAt}
+use Rattle.lagprogress.proofs.Common.{IsRound, Rounds, asks_all, ticks_of_both}
+use Rattle.lagprogress.proofs.OneCable.{ticks}
+use Rattle.lagprogress.proofs.RoundEvents.{asked_half, came_half}
 use Rattle.lagprogress.proofs.Bundling.{Meets, Nowhere, awake_of, both_active, one_active, said, ups_of, named_of}
 use Rattle.lagprogress.proofs.Climbing.{PartnerInSync}
 use Rattle.lagprogress.proofs.ComingUp.{Up, told_now}
 use Rattle.lagprogress.proofs.EachRound.{splits, zero_on, hosts_keep, hosts_steady}
 use Rattle.lagprogress.proofs.Emptying.{rounds_rest}
 use Rattle.lagprogress.proofs.Holding.{Fine}
-use Rattle.lagprogress.proofs.Linked.{each_both, each_map, at_end, end_here}
+use Rattle.lagprogress.proofs.Linked.{each_both, each_map, at_end, end_here, runs_all, each_side}
 use Rattle.lagprogress.proofs.OnePort.{AtPort}
 use Rattle.lagprogress.proofs.TableSteps.{Turning, Turns, asks_turn, comes_turn, same_turns, ticks_turn, turns_through}
-use Rattle.lagprogress.proofs.OneRound.{Nothing, unroll}
+use Rattle.lagprogress.proofs.OneRound.{Nothing}
 use Rattle.lagprogress.proofs.HostRound.{left}
-use Rattle.lagprogress.proofs.HostLoops.{rounds_are_host_rounds}
+use Rattle.lagprogress.proofs.HostLoops.{rounds_are_host_rounds, rounds_are_draining}
 use Rattle.lagscript.specs.declared.event.Event.TheVariants as event
 
 -- at first a marker may be wanted, and any response may be waited for
@@ -38,19 +41,17 @@ fine_last p m l a h e = none-some p e
 
 module _ (Holds : LinkState → WorldState → Type 0) (Other : Side → ℕ → Type 0) (first : ℕ) (gives : Algorithms) (old : WorldState)
     (b : Meets Holds Other first gives old) where
-  pub freed_of : (i : ℕ) (l : LinkState) (y : IsHealthyAt i l old) (n : ℕ) (new : WorldState) (s : Side) → first + 61 ≤ n
-      → Rounds gives n old new → HasIdentifierLeft (half s new).state → NoneIsHeldOn (port_at s l) (half s new).state
-  freed_of i l y n new s enough h left =
-      let m = first + 31 in
-      let cut = splits gives (n - m) m n old new (omega (arith, enough)) h in
-      from cut.0 (ups_of Holds Other first gives old b i l y m cut.0 (omega arith) (rounds_are_host_rounds gives m old cut.0 b.steady cut.1)) (n - m) (omega (arith, enough)) cut.2
+  pub freed_by : (i : ℕ) (l : LinkState) (y : IsHealthyAt i l old) (n m : ℕ) (mid new : WorldState) (s : Side) → first + 31 ≤ n
+      → HostRounds gives n old mid → 30 ≤ m → DrainingRounds gives m mid new → HasIdentifierLeft (half s new).state
+      → NoneIsHeldOn (port_at s l) (half s new).state
+  freed_by i l y n m mid new s enough h late more left = from mid (ups_of Holds Other first gives old b i l y n mid enough h) m late more
     where
       at : Side → ℕ
       at = λ t. port_at t l
 
       from : (j : WorldState)
           → Up (λ t. port_at t l) (said old i l y) (named_of Holds Other first gives old b i l y) (awake_of Holds Other first gives old b i l y) j
-          → (k : ℕ) → 30 ≤ k → Rounds gives k j new → NoneIsHeldOn (port_at s l) (half s new).state
+          → (k : ℕ) → 30 ≤ k → DrainingRounds gives k j new → NoneIsHeldOn (port_at s l) (half s new).state
       from j up k late rounds =
           let w = said old i l y in
           let named = named_of Holds Other first gives old b i l y in
@@ -74,6 +75,24 @@ module _ (Holds : LinkState → WorldState → Type 0) (Other : Side → ℕ →
           }) rounds in
           λ q r is held. fine_last (port_at s l) k late (assignment_of (half s new).state.table q r)
           (rests.fine q r is.0 (subst (λ x. q ≤ x) rests.same.rows is.1) (subst (λ x. r < x) rests.same.cols is.2)) held
+
+  -- and in healthy rounds
+  pub freed_of : (i : ℕ) (l : LinkState) (y : IsHealthyAt i l old) (n : ℕ) (new : WorldState) (s : Side) → first + 61 ≤ n
+      → Rounds gives n old new → HasIdentifierLeft (half s new).state → NoneIsHeldOn (port_at s l) (half s new).state
+  freed_of i l y n new s enough h left =
+      let m = first + 31 in
+      let cut = splits gives (n - m) m n old new (omega (arith, enough)) h in
+      let hosts = rounds_are_host_rounds gives m old cut.0 b.steady cut.1 in
+      freed_by i l y m (n - m) cut.0 new s (omega arith) hosts (omega (arith, enough))
+      (rounds_are_draining gives (n - m) cut.0 new (hosts_steady gives m old cut.0 b.steady hosts) cut.2) left
+
+pub none_is_held_on_ends_by_hosts : (gives : Algorithms) → NoneIsHeldOnEndsByHosts gives
+none_is_held_on_ends_by_hosts gives n m i l old mid new s b y enough h late more left =
+    freed_by OneIsActive Nowhere 630 gives old (one_active gives old b) i l y n m mid new s (omega (arith, enough)) h late more left
+
+pub none_is_held_on_active_ends_by_hosts : (gives : Algorithms) → NoneIsHeldOnActiveEndsByHosts gives
+none_is_held_on_active_ends_by_hosts gives n m i l old mid new s b y enough h late more left =
+    freed_by BothAreActive Nowhere 321 gives old (both_active gives old b) i l y n m mid new s (omega (arith, enough)) h late more left
 
 pub none_is_held_on_ends : (gives : Algorithms) → NoneIsHeldOnEnds gives
 none_is_held_on_ends gives n i l old new s b y enough h left =
@@ -123,13 +142,34 @@ world_same s i j e = same_turns Stays stays (half s i).state (half s j).state (a
 world_through : (s : Side) (i j k : WorldState) → WorldStays s i j → WorldStays s j k → WorldStays s i k
 world_through s i j k a b = turns_through Stays stays (half s i).state.table (half s j).state.table (half s k).state.table a b
 
+-- the events of a healthy round
+abbrev IsOfRound : Event → Type 0
+IsOfRound (event.Tick n count) = count ≡ 1
+IsOfRound (event.Emit n p) = Unit {0}
+IsOfRound (event.Deliver c n) = Unit {0}
+IsOfRound e = ⊥
+
+asks_of : (links : List LinkState) → AllByRecursion IsOfRound (asks_all links)
+asks_of [] = tt
+asks_of (l ∷ links) = (tt, (tt, (tt, (tt, asks_of links))))
+
+delivers_of : (es : List Event) → AllByRecursion IsDeliver es → AllByRecursion IsOfRound es
+delivers_of [] h = tt
+delivers_of (event.Deliver c n ∷ es) h = (tt, delivers_of es h.1)
+delivers_of (e ∷ es) h = absurd h.0
+
 round_stays : (s : Side) (gives : Algorithms) (old new : WorldState) → IsRound gives old new → WorldStays s old new
-round_stays s gives old new h =
-    let u = unroll gives old new h in
-    round_on gives (WorldStays s old) (λ n p r i j step k. world_through s old i j k (asked n p r i j step))
-    (λ c n r i j step k. world_through s old i j k (delivered c n r i j step)) old new u
-    (ticks_turn Stays stays (gives s) (half s old).state (half s u.two).state ((ticks_first gives old new u).step s))
+round_stays s gives old new h = runs_all gives IsOfRound (WorldStays s old) one (ticks_of_both ++ (asks_all old.links ++ h.delivers)) h.replies old new
+    (refl, (refl, all-append IsOfRound (asks_all old.links) h.delivers (asks_of old.links) (delivers_of h.delivers h.arrives))) h.acts
+    (world_same s old old refl)
   where
+    ticked : (n : ℕ) (r : Reply) (i j : WorldState) → WorldSteps gives i (event.Tick n 1) r j → WorldStays s i j
+    ticked n r i j h =
+        let v = value_of (side_of n) _ h.0 in
+        let k = ticks gives n v.0 r i j v.1 h in
+        each_side (λ t. WorldStays t i j) v.0 (ticks_turn Stays stays (gives v.0) (half v.0 i).state (half v.0 j).state k.step)
+        (world_same (peer v.0) i j k.peers) s
+
     asked : (n p : ℕ) (r : Reply) (i j : WorldState) → WorldSteps gives i (event.Emit n p) r j → WorldStays s i j
     asked n p r i j h = elim (asked_half gives n p r i j h s) [
       | inl same ↦ world_same s i j same
@@ -141,6 +181,13 @@ round_stays s gives old new h =
       | inl same ↦ world_same s i j same
       | inr (k, l, there, m) ↦ comes_turn Stays stays (gives s) (port_at s l) m.item.octets m.a (half s i).state (half s j).state m.promise.step
     ]
+
+    one : (e : Event) (r : Reply) (i j : WorldState) → IsOfRound e → WorldSteps gives i e r j → WorldStays s old i → WorldStays s old j
+    one (event.Tick n count) r i j is h m =
+        world_through s old i j m (ticked n r i j (subst (λ k. WorldSteps gives i (event.Tick n k) r j) is h))
+    one (event.Emit n p) r i j is h m = world_through s old i j m (asked n p r i j h)
+    one (event.Deliver c n) r i j is h m = world_through s old i j m (delivered c n r i j h)
+    one e r i j is h m = absurd is
 
 rounds_stay : (s : Side) (gives : Algorithms) (n : ℕ) (old new : WorldState) → Rounds gives n old new → WorldStays s old new
 rounds_stay s gives n old new h = zero_on gives (λ m j. WorldStays s old j) old (world_same s old old refl)

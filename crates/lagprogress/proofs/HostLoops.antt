@@ -1,15 +1,19 @@
 -- Which runs are healthy rounds of hosts.
-use Rattle.lagprogress.proofs.Common.{Bool, Err, List, Ok, Option, Result, Some, [], ap, false, inl, inr, refl, slice_get, subst, suc, sym, true}
-use Rattle.lagprogress.proofs.Common.{zero, ℕ, ◌++◌, ◌∙◌, ◌∷◌, ◌≡◌, cases_Bool, none-some, same_Some, AllByRecursion, One, Side, Two, peer, Machines}
-use Rattle.lagprogress.proofs.Common.{after_sending, is_due, SystemFault, SystemPort, Step, Transmit, SystemState, machines_of, port_index, all-get}
-use Rattle.lagprogress.proofs.Common.{found_place, ports_rise, Event, Reply, Algorithms, WorldRuns, WorldSteps, LinkState, WorldState, half, port_at}
+use Rattle.lagprogress.proofs.Common.{Bool, Err, List, None, Ok, Option, Result, Some, [], ap, append_assoc, arith, cond, eqb, false, inl, inr, ltb}
+use Rattle.lagprogress.proofs.Common.{refl, slice_get, subst, suc, sym, true, zero, ℕ, ◌++◌, ◌+◌, ◌∙◌, ◌∷◌, ◌≡◌, cases_Bool, nat_tests, none-some}
+use Rattle.lagprogress.proofs.Common.{same_Some, AllByRecursion, all-append, One, Side, Two, peer, Machines, after_sending, is_due, Assignment}
+use Rattle.lagprogress.proofs.Common.{Flushing, Wanted, after_mark, marker_due, wants_marker, Table, assignment_of, count_conversations}
+use Rattle.lagprogress.proofs.Common.{next_identifier, SystemFault, SystemPort, Step, Transmit, SendsMarkerOf, TransmitsAt, TransmitsIf, SystemState}
+use Rattle.lagprogress.proofs.Common.{machines_of, port_index, all-get, found_place, ports_rise, Event, Reply, Algorithms, WorldRuns, WorldSteps}
+use Rattle.lagprogress.proofs.Common.{side_of, LinkState, WorldState, half, port_at, DrainingRounds, MovesNone, NothingIsDue, RoundIsDraining}
 use Rattle.lagprogress.proofs.Common.{AfterTick, AskingIsHostRound, Asks, AsksAfterTick, AsksIn, AtSomeWorld, IsBetweenTicks, IsTickOf}
-use Rattle.lagprogress.proofs.Common.{LoopIsHostRound, RoundIsHostRound, RoundsAreHostRounds, TickOnce, IsDeliver, IsHealthyAt, OfPort, asks_all}
-use Rattle.lagprogress.proofs.Common.{ticks_of_both, IsSteady}
+use Rattle.lagprogress.proofs.Common.{LoopIsHostRound, RoundIsHostRound, RoundsAreHostRounds, TickOnce, AtEnd, IsDeliver, IsHealthyAt, OfPort, Rounds}
+use Rattle.lagprogress.proofs.Common.{asks_all, ticks_of_both, IsSteady}
+use Rattle.distributor.specs.Conversations.{sum_below}
 use Rattle.lagprogress.proofs.EachPort.{OfEach, Tick-each}
 use Rattle.lagprogress.proofs.EachRound.{EachAt, asks_each, delivers_each, own_keeps, own_ticks, hosts_steady}
 use Rattle.lagprogress.proofs.Halves.{keeps_steady}
-use Rattle.lagprogress.proofs.HostRound.{of_side}
+use Rattle.lagprogress.proofs.HostRound.{of_side, turned}
 use Rattle.lagprogress.proofs.Knowing.{placed}
 use Rattle.lagprogress.proofs.Linked.{each_side, found, machines_there, place_kept}
 use Rattle.lagprogress.proofs.OneCable.{Emits, emits, ticks}
@@ -42,6 +46,49 @@ asked_none gives n k z a old new place there up h = elim (cases_Bool (is_due z.p
           subst (λ ps. slice_get ps k ≡ Some y) (sym (ap (λ (s : SystemState). s.system_ports) sent.3)) (placed old.system_ports k z y there),
           refl,
         )
+
+-- and if none was, it has no marker due: it sent the one that was
+
+no_sum : (f : ℕ → ℕ) (n : ℕ) → ((k : ℕ) → f k ≡ 0) → sum_below f n ≡ 0
+unfolding sum_below
+no_sum f zero h = refl
+no_sum f (suc n) h = let a = no_sum f n h in let b = h n in omega (arith, a, b)
+
+no_count : (b : Bool) (n : ℕ) → n ≡ cond b 1 0 → b ≡ false → n ≡ 0
+no_count b n e f = grind (arith, nat_tests)
+
+no_marker_due : (p : ℕ) (t : Table) → ((g k : ℕ) → wants_marker p (assignment_of t g k) ≡ false) → marker_due t p ≡ None
+no_marker_due p t h =
+    let none : count_conversations (wants_marker p) t ≡ 0 =
+    no_sum (λ a. sum_below (λ c. cond (wants_marker p (assignment_of t (a + 1) c)) 1 0) t.conversations) t.aggs
+    (λ a. no_sum (λ c. cond (wants_marker p (assignment_of t (a + 1) c)) 1 0) t.conversations
+    (λ c. no_count (wants_marker p (assignment_of t (a + 1) c)) _ refl (h (a + 1) c))) in
+    ap (λ n. cond (ltb 0 n) (next_identifier t) None) none
+
+marked_wants : (p id : ℕ) (a : Assignment) → wants_marker p (after_mark p id a) ≡ false
+marked_wants p id (Wanted q preferred) = by_test (eqb q p) refl
+  where
+    by_test : (b : Bool) → eqb q p ≡ b → wants_marker p (cond b (Flushing p id preferred 0) (Wanted q preferred)) ≡ false
+    by_test true e = refl
+    by_test false e = e
+marked_wants p id a = refl
+
+asked_marks : (gives : ℕ → ℕ → ℕ → Type 0) (n k : ℕ) (z : SystemPort) (a : Result (Option (List ℕ)) SystemFault) (old new : SystemState)
+    → port_index n old.system_ports ≡ Some k → slice_get old.system_ports k ≡ Some z → z.port.enabled ≡ true → is_due z.port ≡ false
+    → Step gives old (Transmit n) (answer.Transmit a) new → marker_due new.table n ≡ None
+asked_marks gives n k z (Err fault) old new place there up not h = absurd (none-some k (sym h.cause ∙ place))
+asked_marks gives n k z (Ok o) old new place there up not h =
+    let t = subst (λ i. TransmitsAt i old o new) place h in
+    let is : t.0 ≡ z = same_Some t.0 z (sym t.1 ∙ there) in
+    let due = subst (λ b. TransmitsIf b (is_due t.0.port) k t.0 old o new) (ap (λ (y : SystemPort). y.port.enabled) is ∙ up) t.2 in
+    let sent = subst (λ b. TransmitsIf true b k t.0 old o new) (ap (λ (y : SystemPort). is_due y.port) is ∙ not) due in
+    by_marker (marker_due old.table n) refl t.0.mac
+    (subst (λ m. SendsMarkerOf (marker_due old.table m) m t.0.mac old o new) (found_place n old.system_ports k t.0 place t.1) sent)
+  where
+    by_marker : (x : Option ℕ) → marker_due old.table n ≡ x → (mac : List ℕ) → SendsMarkerOf x n mac old o new → marker_due new.table n ≡ None
+    by_marker None e mac m = ap (λ (y : SystemState). marker_due y.table n) m.1 ∙ e
+    by_marker (Some id) e mac m = no_marker_due n new.table (λ g c. subst (λ x. wants_marker n x ≡ false) (sym (m.4.states g c))
+        (marked_wants n id (assignment_of old.table g c)))
 
 module _ (gives : Algorithms) (s : Side) (p : ℕ) where
   abbrev Up : Machines → Type 0
@@ -107,6 +154,22 @@ module _ (gives : Algorithms) (s : Side) (p : ℕ) where
       subst (OfPort (λ q. is_due q ≡ false)) (sym (machines_there p (half s j).state x.index now.0
       (place_kept gives e r i j h x.steady steady s p ∙ x.place) now.1)) now.2
 
+  -- neither an LACPDU nor a marker
+  abbrev Drained : WorldState → Type 0
+  Drained j = NoneDue j × (marker_due (half s j).state.table p ≡ None)
+
+  drained_now : (e : Event) (r : Reply) (i j : WorldState) → Asks s p e → WorldSteps gives i e r j → Stays i → NoneDue i → Drained j
+  drained_now e r i j (n, named, is) h x none =
+      let m = emits gives n p r i j (subst (λ f. WorldSteps gives i f r j) is h) in
+      let t : m.0 ≡ s = same_Some m.0 s (sym m.1 ∙ named) in
+      let k = subst (λ u. Emits gives u p i j) t m.2 in
+      let st = (half s i).state in
+      let z = found p x.index st.system_ports x.place in
+      let up = all-get (λ (y : SystemPort). AtPort p Up y.number y.port) st.system_ports x.index z.0 z.1 x.up
+      (found_place p st.system_ports x.index z.0 x.place z.1) in
+      let not : is_due z.0.port ≡ false = subst (OfPort (λ q. is_due q ≡ false)) (machines_there p st x.index z.0 x.place z.1) none in
+      (asked e r i j (n, named, is) h x, asked_marks (gives s) p x.index z.0 k.a st (half s j).state x.place z.1 up not k.promise.step)
+
   at_first : (P : WorldState → Type 0) (es : List Event) (rs : List Reply) (i j : WorldState) (run : WorldRuns gives i es rs j) → P i
       → AtSomeWorld P gives es rs i j run
   at_first P [] [] i j run y = y
@@ -130,21 +193,53 @@ module _ (gives : Algorithms) (s : Side) (p : ℕ) where
   after_on (e ∷ es) (r ∷ rs) i j a b h run (inr q) x = let o = rest_of a b e es h in
       inr (after_on es rs run.0 j o.0 o.1 o.2 run.2 q (stays a b e es r i run.0 h run.1 x))
 
+  -- if it is asked twice in turn
+  twice_on : (n : ℕ) → side_of n ≡ Some s → (before later : List Event) (rs : List Reply) (i j : WorldState) (a b : Bool)
+      → TickOnce s a b (before ++ (event.Emit n p ∷ event.Emit n p ∷ later))
+      → (run : WorldRuns gives i (before ++ (event.Emit n p ∷ event.Emit n p ∷ later)) rs j) → Stays i
+      → AtSomeWorld Drained gives (before ++ (event.Emit n p ∷ event.Emit n p ∷ later)) rs i j run
+  twice_on n named [] later [] i j a b h run x = absurd run
+  twice_on n named [] later (r ∷ []) i j a b h run x = absurd run.2
+  twice_on n named [] later (r ∷ q ∷ rs) i j a b h run x =
+      let e = event.Emit n p in
+      let o = rest_of a b e (e ∷ later) h in
+      let then = stays a b e (e ∷ later) r i run.0 h run.1 x in
+      inr (inr (at_first Drained later rs run.2.0 j run.2.2
+      (drained_now e q run.0 run.2.0 (n, named, refl) run.2.1 then (asked e r i run.0 (n, named, refl) run.1 x))))
+  twice_on n named (f ∷ before) later [] i j a b h run x = absurd run
+  twice_on n named (f ∷ before) later (r ∷ rs) i j a b h run x =
+      let es = before ++ (event.Emit n p ∷ event.Emit n p ∷ later) in
+      let o = rest_of a b f es h in
+      inr (twice_on n named before later rs run.0 j o.0 o.1 o.2 run.2 (stays a b f es r i run.0 h run.1 x))
+
+  twice_in : (n : ℕ) → side_of n ≡ Some s → (before later es : List Event) → es ≡ before ++ (event.Emit n p ∷ event.Emit n p ∷ later)
+      → (rs : List Reply) (i j : WorldState) (a b : Bool) → TickOnce s a b es → (run : WorldRuns gives i es rs j) → Stays i
+      → AtSomeWorld Drained gives es rs i j run
+  twice_in n named before later es e = subst (λ fs. (rs : List Reply) (i j : WorldState) (a b : Bool) → TickOnce s a b fs
+      → (run : WorldRuns gives i fs rs j) → Stays i → AtSomeWorld Drained gives fs rs i j run) (sym e) (twice_on n named before later)
+
+-- the port at an end of a healthy cable is there, and its link is up
+stays_first : (gives : Algorithms) (s : Side) (i : ℕ) (l : LinkState) (old : WorldState) → IsSteady old → IsHealthyAt i l old
+    → Stays gives s (port_at s l) old
+stays_first gives s i l old steady y =
+    let e = ends_at i l old y s in
+    let st = (half s old).state in
+    record {
+      steady = steady;
+      index = e.0;
+      place = e.2;
+      up = subst (λ n. OfEach (AtPort n (λ q. q.enabled ≡ true)) st.system_ports) (found_place (port_at s l) st.system_ports e.0 e.1 e.2 e.3)
+          (at_number (λ q. q.enabled ≡ true) 0 st.system_ports e.0 e.1 (ports_rise st (steady s).0.ports) e.3 e.4);
+    }
+
 pub asking_is_host_round : (gives : Algorithms) → AskingIsHostRound gives
 asking_is_host_round gives events replies old new steady turns run asks empty = record {
   events = events;
   replies = replies;
   ticks = turns;
   acts = run;
-  asked = λ s i l y. (let e = ends_at i l old y s in
-      let st = (half s old).state in
-      after_on gives s (port_at s l) events replies old new true true (of_side s events turns) run (asks s i l y) (record {
-        steady = steady;
-        index = e.0;
-        place = e.2;
-        up = subst (λ n. OfEach (AtPort n (λ q. q.enabled ≡ true)) st.system_ports) (found_place (port_at s l) st.system_ports e.0 e.1 e.2 e.3)
-            (at_number (λ q. q.enabled ≡ true) 0 st.system_ports e.0 e.1 (ports_rise st (steady s).0.ports) e.3 e.4);
-      }));
+  asked = λ s i l y. after_on gives s (port_at s l) events replies old new true true (of_side s events turns) run (asks s i l y)
+      (stays_first gives s i l old steady y);
   empties = empty;
 }
 
@@ -157,6 +252,15 @@ between_all [] (f ∷ fs) a d = absurd d.0
 between_all (event.Emit n p ∷ es) fs a d = inr (inr (tt, between_all es fs a.1 d))
 between_all (e ∷ es) fs a d = absurd a.0
 
+pub round_ticks : (links : List LinkState) (delivers : List Event) → AllByRecursion IsDeliver delivers
+    → TickOnce One true true (ticks_of_both ++ (asks_all links ++ delivers))
+round_ticks links delivers arrives =
+    inl ((1, refl, refl), refl, inr (inl ((2, refl, refl), refl, between_all (asks_all links) delivers (all_ask links) arrives)))
+
+of_side_after : (s : Side) (es : List Event) → TickOnce One false false es → TickOnce s false false es
+of_side_after One es h = h
+of_side_after Two es h = turned es false false h
+
 pub asks_behind : (s : Side) (p : ℕ) (es fs : List Event) → AsksIn s p fs → AsksIn s p (es ++ fs)
 asks_behind s p [] fs h = h
 asks_behind s p (e ∷ es) fs h = inr (asks_behind s p es fs h)
@@ -168,16 +272,14 @@ asks_before s p (e ∷ es) fs (inr h) = inr (asks_before s p es fs h)
 
 pub round_is_host_round : (gives : Algorithms) → RoundIsHostRound gives
 round_is_host_round gives old new steady h =
-    asking_is_host_round gives (ticks_of_both ++ (asks_all old.links ++ h.delivers)) h.replies old new steady turns h.acts asks h.empties
+    asking_is_host_round gives (ticks_of_both ++ (asks_all old.links ++ h.delivers)) h.replies old new steady
+    (round_ticks old.links h.delivers h.arrives) h.acts asks h.empties
   where
     one : IsTickOf One (event.Tick 1 1)
     one = (1, refl, refl)
 
     two : IsTickOf Two (event.Tick 2 1)
     two = (2, refl, refl)
-
-    turns : TickOnce One true true (ticks_of_both ++ (asks_all old.links ++ h.delivers))
-    turns = inl (one, refl, inr (inl (two, refl, between_all (asks_all old.links) h.delivers (all_ask old.links) h.arrives)))
 
     asks : (s : Side) (i : ℕ) (l : LinkState) → IsHealthyAt i l old
         → AsksAfterTick s (port_at s l) (ticks_of_both ++ (asks_all old.links ++ h.delivers))
@@ -191,11 +293,91 @@ round_is_host_round gives old new steady h =
             (asks_behind t (port_at t l) o.before (event.Emit o.number (port_at t l) ∷ event.Emit o.number (port_at t l) ∷ o.later)
             (inl (o.number, o.named, refl))))
 
+-- and each end has nothing due once it is asked twice
+
+at_map : (P Q : WorldState → Type 0) (gives : Algorithms) → ((j : WorldState) → P j → Q j) → (es : List Event) (rs : List Reply) (i j : WorldState)
+    (run : WorldRuns gives i es rs j) → AtSomeWorld P gives es rs i j run → AtSomeWorld Q gives es rs i j run
+at_map P Q gives k [] [] i j run y = k i y
+at_map P Q gives k (e ∷ es) (r ∷ rs) i j run (inl y) = inl (k i y)
+at_map P Q gives k (e ∷ es) (r ∷ rs) i j run (inr y) = inr (at_map P Q gives k es rs run.0 j run.2 y)
+at_map P Q gives k es rs i j run y = absurd run
+
+after_map : (s : Side) (P Q : WorldState → Type 0) (gives : Algorithms) → ((j : WorldState) → P j → Q j) → (es : List Event) (rs : List Reply)
+    (i j : WorldState) (run : WorldRuns gives i es rs j) → AfterTick s P gives es rs i j run → AfterTick s Q gives es rs i j run
+after_map s P Q gives k [] rs i j run y = y
+after_map s P Q gives k (e ∷ es) [] i j run y = y
+after_map s P Q gives k (e ∷ es) (r ∷ rs) i j run (inl y) = inl (y.0, at_map P Q gives k es rs run.0 j run.2 y.1)
+after_map s P Q gives k (e ∷ es) (r ∷ rs) i j run (inr y) = inr (after_map s P Q gives k es rs run.0 j run.2 y)
+
+asks_still : (links : List LinkState) → AllByRecursion MovesNone (asks_all links)
+asks_still [] = tt
+asks_still (l ∷ links) = (tt, (tt, (tt, (tt, asks_still links))))
+
+delivers_still : (es : List Event) → AllByRecursion IsDeliver es → AllByRecursion MovesNone es
+delivers_still [] h = tt
+delivers_still (event.Deliver c n ∷ es) h = (tt, delivers_still es h.1)
+delivers_still (e ∷ es) h = absurd h.0
+
+pub round_is_draining : (gives : Algorithms) → RoundIsDraining gives
+round_is_draining gives old new steady h = record {
+  round = record {
+    events = ticks_of_both ++ (asks_all old.links ++ h.delivers);
+    replies = h.replies;
+    ticks = round_ticks old.links h.delivers h.arrives;
+    acts = h.acts;
+    asked = λ s i l y. after_map s (NothingIsDue s l) (λ j. AtEnd (λ p. is_due p ≡ false) s l j) gives (λ j z. z.0)
+        (ticks_of_both ++ (asks_all old.links ++ h.delivers)) h.replies old new h.acts (drained s i l y);
+    empties = h.empties;
+  };
+  still = (tt, (tt, all-append MovesNone (asks_all old.links) h.delivers (asks_still old.links) (delivers_still h.delivers h.arrives)));
+  drained = drained;
+}
+  where
+    -- at some world of the run after both ticks
+    at_some : (s : Side) (i : ℕ) (l : LinkState) → IsHealthyAt i l old → (rs : List Reply) (mid : WorldState)
+        → (run : WorldRuns gives mid (asks_all old.links ++ h.delivers) rs new) → Stays gives s (port_at s l) mid
+        → AtSomeWorld (NothingIsDue s l) gives (asks_all old.links ++ h.delivers) rs mid new run
+    at_some s i l y rs mid run x =
+        let o = asks_twice s i old.links l y.there in
+        let e = event.Emit o.number (port_at s l) in
+        twice_in gives s (port_at s l) o.number o.named o.before (o.later ++ h.delivers) (asks_all old.links ++ h.delivers)
+        (ap (λ es. es ++ h.delivers) o.is ∙ append_assoc o.before (e ∷ e ∷ o.later) h.delivers) rs mid new false false
+        (of_side_after s (asks_all old.links ++ h.delivers) (between_all (asks_all old.links) h.delivers (all_ask old.links) h.arrives)) run x
+
+    after : (s : Side) (i : ℕ) (l : LinkState) → IsHealthyAt i l old → (rs : List Reply)
+        → (run : WorldRuns gives old (ticks_of_both ++ (asks_all old.links ++ h.delivers)) rs new)
+        → AfterTick s (NothingIsDue s l) gives (ticks_of_both ++ (asks_all old.links ++ h.delivers)) rs old new run
+    after s i l y [] run = absurd run
+    after s i l y (r ∷ []) run = absurd run.2
+    after s i l y (r ∷ q ∷ rs) run =
+        let es = asks_all old.links ++ h.delivers in
+        let turns = of_side s (ticks_of_both ++ es) (round_ticks old.links h.delivers h.arrives) in
+        let first = stays gives s (port_at s l) true true (event.Tick 1 1) (event.Tick 2 1 ∷ es) r old run.0 turns run.1 (stays_first gives s i l old steady y) in
+        let more = rest_of gives s (port_at s l) true true (event.Tick 1 1) (event.Tick 2 1 ∷ es) turns in
+        let second = stays gives s (port_at s l) more.0 more.1 (event.Tick 2 1) es q run.0 run.2.0 more.2 run.2.1 first in
+        by_side s (at_some s i l y rs run.2.0 run.2.2 second)
+      where
+        by_side : (s : Side) → AtSomeWorld (NothingIsDue s l) gives (asks_all old.links ++ h.delivers) rs run.2.0 new run.2.2
+            → AfterTick s (NothingIsDue s l) gives (ticks_of_both ++ (asks_all old.links ++ h.delivers)) (r ∷ q ∷ rs) old new run
+        by_side One z = inl ((1, refl, refl), inr z)
+        by_side Two z = inr (inl ((2, refl, refl), z))
+
+    drained : (s : Side) (i : ℕ) (l : LinkState) → IsHealthyAt i l old
+        → AfterTick s (NothingIsDue s l) gives (ticks_of_both ++ (asks_all old.links ++ h.delivers)) h.replies old new h.acts
+    drained s i l y = after s i l y h.replies h.acts
+
 pub rounds_are_host_rounds : (gives : Algorithms) → RoundsAreHostRounds gives
 rounds_are_host_rounds gives zero old new steady h = h
 rounds_are_host_rounds gives (suc n) old new steady h =
     let before = rounds_are_host_rounds gives n old h.0 steady h.1 in
     (h.0, before, round_is_host_round gives h.0 new (hosts_steady gives n old h.0 steady before) h.2)
+
+pub rounds_are_draining : (gives : Algorithms) (n : ℕ) (old new : WorldState) → IsSteady old → Rounds gives n old new
+    → DrainingRounds gives n old new
+rounds_are_draining gives zero old new steady h = h
+rounds_are_draining gives (suc n) old new steady h =
+    let before = rounds_are_host_rounds gives n old h.0 steady h.1 in
+    (h.0, rounds_are_draining gives n old h.0 steady h.1, round_is_draining gives h.0 new (hosts_steady gives n old h.0 steady before) h.2)
 
 -- the loop of two hosts is one
 

@@ -1,9 +1,9 @@
 -- What a healthy round of hosts leaves of a cable: an LACPDU of an end is nearer by a tick, or was heard.
 use Rattle.lagprogress.proofs.Common.{Bool, List, None, Some, [], ap, arith, false, inl, inr, refl, subst, sym, true, ℕ, ◌-◌, ◌∙◌, ◌∷◌, ◌≡◌, ◌≤◌, ◌⊎◌}
-use Rattle.lagprogress.proofs.Common.{nat_tests, same_Some, Lacpdu, One, Side, Two, peer, Machines, periodic_rows, receive_rows, AtRest, RunsToRest}
-use Rattle.lagprogress.proofs.Common.{after_sending, count_down, is_due, SystemState, machines_of, Event, Reply, Algorithms, WorldRuns, WorldSteps}
-use Rattle.lagprogress.proofs.Common.{side_of, ItemValue, WorldState, half, limit_towards, timeout_time, AfterTick, AtSomeWorld, IsBetweenTicks}
-use Rattle.lagprogress.proofs.Common.{IsHostRound, IsTickOf, TickOnce, IsHealthyAt, OfPort}
+use Rattle.lagprogress.proofs.Common.{nat_tests, same_Some, AllByRecursion, Lacpdu, One, Side, Two, peer, Machines, periodic_rows, receive_rows}
+use Rattle.lagprogress.proofs.Common.{AtRest, RunsToRest, after_sending, count_down, is_due, SystemState, machines_of, Event, Reply, Algorithms}
+use Rattle.lagprogress.proofs.Common.{WorldRuns, WorldSteps, side_of, ItemValue, WorldState, half, limit_towards, timeout_time, AfterTick}
+use Rattle.lagprogress.proofs.Common.{AtSomeWorld, IsBetweenTicks, IsHostRound, IsTickOf, TickOnce, IsHealthyAt, OfPort}
 use Rattle.lagsystem.specs.declared.drive.Reply.TheVariants as answer
 use Rattle.lagscript.specs.declared.event.Event.TheVariants as event
 use Rattle.lagprogress.proofs.Climbing.{known_still}
@@ -76,57 +76,69 @@ ticked_once s P gives b (e ∷ es) (r ∷ rs) old new run (inr (inr h)) (inr a) 
 abbrev pub KeptBetween : Algorithms → (WorldState → Type 0) → Type 0
 KeptBetween gives M = (e : Event) (r : Reply) (i j : WorldState) → IsBetweenTicks e → WorldSteps gives i e r j → M i → M j
 
+-- what each event between ticks keeps that is so
+abbrev pub KeptWhere : Algorithms → (Event → Type 0) → (WorldState → Type 0) → Type 0
+KeptWhere gives Is M = (e : Event) (r : Reply) (i j : WorldState) → Is e → IsBetweenTicks e → WorldSteps gives i e r j → M i → M j
+
+abbrev pub Whatever : Event → Type 0
+Whatever e = Unit {0}
+
+pub all_whatever : (es : List Event) → AllByRecursion Whatever es
+all_whatever [] = tt
+all_whatever (e ∷ es) = (tt, all_whatever es)
+
 -- what a tick of system s makes of it
 abbrev pub MadeByTick : Algorithms → Side → (WorldState → Type 0) → (WorldState → Type 0) → Type 0
 MadeByTick gives s M N = (n : ℕ) (r : Reply) (i j : WorldState) → side_of n ≡ Some s → WorldSteps gives i (event.Tick n 1) r j → M i → N j
 
 -- A before the tick of s, B after it, and C once P held; each of them before the tick of the other system, if that has still to
 -- tick, or after it
-pub record Stages (gives : Algorithms) (s : Side) (A B C : Bool → WorldState → Type 0) (P : WorldState → Type 0) : Type 0 where
-  pub first : (b : Bool) → KeptBetween gives (A b)
-  pub second : (b : Bool) → KeptBetween gives (B b)
-  pub third : (b : Bool) → KeptBetween gives (C b)
+pub record Stages (gives : Algorithms) (Is : Event → Type 0) (s : Side) (A B C : Bool → WorldState → Type 0) (P : WorldState → Type 0) : Type 0 where
+  pub first : (b : Bool) → KeptWhere gives Is (A b)
+  pub second : (b : Bool) → KeptWhere gives Is (B b)
+  pub third : (b : Bool) → KeptWhere gives Is (C b)
   pub own : (b : Bool) → MadeByTick gives s (A b) (B b)
   pub other_first : MadeByTick gives (peer s) (A true) (A false)
   pub other_second : MadeByTick gives (peer s) (B true) (B false)
   pub other_third : MadeByTick gives (peer s) (C true) (C false)
   pub rests : (b : Bool) (j : WorldState) → P j → B b j → C b j
 
-module _ (gives : Algorithms) (s : Side) (A B C : Bool → WorldState → Type 0) (P : WorldState → Type 0) (k : Stages gives s A B C P) where
+module _ (gives : Algorithms) (Is : Event → Type 0) (s : Side) (A B C : Bool → WorldState → Type 0) (P : WorldState → Type 0)
+    (k : Stages gives Is s A B C P) where
   tick_of : (t : Side) (M N : WorldState → Type 0) → MadeByTick gives t M N → (e : Event) (r : Reply) (i j : WorldState) → IsTickOf t e
       → WorldSteps gives i e r j → M i → N j
   tick_of t M N f e r i j (n, named, is) h m = f n r i j named (subst (λ x. WorldSteps gives i x r j) is h) m
 
-  third_on : (es : List Event) (rs : List Reply) (i j : WorldState) (b : Bool) → TickOnce s false b es → WorldRuns gives i es rs j → C b i
+  third_on : (es : List Event) (rs : List Reply) (i j : WorldState) (b : Bool) → AllByRecursion Is es → TickOnce s false b es → WorldRuns gives i es rs j → C b i
       → C false j
-  third_on [] [] i j b h run m = subst (λ x. C false x) (sym run) (subst (λ x. C x i) h.1 m)
-  third_on (e ∷ es) (r ∷ rs) i j b (inl h) run m = absurd (no h.1)
-  third_on (e ∷ es) (r ∷ rs) i j b (inr (inl h)) run m = third_on es rs run.0 j false h.2 run.2
+  third_on [] [] i j b all h run m = subst (λ x. C false x) (sym run) (subst (λ x. C x i) h.1 m)
+  third_on (e ∷ es) (r ∷ rs) i j b all (inl h) run m = absurd (no h.1)
+  third_on (e ∷ es) (r ∷ rs) i j b all (inr (inl h)) run m = third_on es rs run.0 j false all.1 h.2 run.2
       (tick_of (peer s) (C true) (C false) k.other_third e r i run.0 h.0 run.1 (subst (λ x. C x i) h.1 m))
-  third_on (e ∷ es) (r ∷ rs) i j b (inr (inr h)) run m = third_on es rs run.0 j b h.1 run.2 (k.third b e r i run.0 h.0 run.1 m)
-  third_on es rs i j b h run m = absurd run
+  third_on (e ∷ es) (r ∷ rs) i j b all (inr (inr h)) run m = third_on es rs run.0 j b all.1 h.1 run.2 (k.third b e r i run.0 all.0 h.0 run.1 m)
+  third_on es rs i j b all h run m = absurd run
 
-  second_on : (es : List Event) (rs : List Reply) (i j : WorldState) (b : Bool) → TickOnce s false b es → (run : WorldRuns gives i es rs j)
+  second_on : (es : List Event) (rs : List Reply) (i j : WorldState) (b : Bool) → AllByRecursion Is es → TickOnce s false b es → (run : WorldRuns gives i es rs j)
       → AtSomeWorld P gives es rs i j run → B b i → C false j
-  second_on [] [] i j b h run a m = third_on [] [] i j b h run (k.rests b i a m)
-  second_on (e ∷ es) (r ∷ rs) i j b h run (inl a) m = third_on (e ∷ es) (r ∷ rs) i j b h run (k.rests b i a m)
-  second_on (e ∷ es) (r ∷ rs) i j b (inl h) run (inr a) m = absurd (no h.1)
-  second_on (e ∷ es) (r ∷ rs) i j b (inr (inl h)) run (inr a) m = second_on es rs run.0 j false h.2 run.2 a
+  second_on [] [] i j b all h run a m = third_on [] [] i j b all h run (k.rests b i a m)
+  second_on (e ∷ es) (r ∷ rs) i j b all h run (inl a) m = third_on (e ∷ es) (r ∷ rs) i j b all h run (k.rests b i a m)
+  second_on (e ∷ es) (r ∷ rs) i j b all (inl h) run (inr a) m = absurd (no h.1)
+  second_on (e ∷ es) (r ∷ rs) i j b all (inr (inl h)) run (inr a) m = second_on es rs run.0 j false all.1 h.2 run.2 a
       (tick_of (peer s) (B true) (B false) k.other_second e r i run.0 h.0 run.1 (subst (λ x. B x i) h.1 m))
-  second_on (e ∷ es) (r ∷ rs) i j b (inr (inr h)) run (inr a) m = second_on es rs run.0 j b h.1 run.2 a (k.second b e r i run.0 h.0 run.1 m)
-  second_on es rs i j b h run a m = absurd run
+  second_on (e ∷ es) (r ∷ rs) i j b all (inr (inr h)) run (inr a) m = second_on es rs run.0 j b all.1 h.1 run.2 a (k.second b e r i run.0 all.0 h.0 run.1 m)
+  second_on es rs i j b all h run a m = absurd run
 
-  pub first_on : (es : List Event) (rs : List Reply) (i j : WorldState) (b : Bool) → TickOnce s true b es → (run : WorldRuns gives i es rs j)
+  pub first_on : (es : List Event) (rs : List Reply) (i j : WorldState) (b : Bool) → AllByRecursion Is es → TickOnce s true b es → (run : WorldRuns gives i es rs j)
       → AfterTick s P gives es rs i j run → A b i → C false j
-  first_on [] rs i j b h run a m = absurd a
-  first_on (e ∷ es) [] i j b h run a m = absurd a
-  first_on (e ∷ es) (r ∷ rs) i j b (inl h) run (inl a) m = second_on es rs run.0 j b h.2 run.2 a.1 (tick_of s (A b) (B b) (k.own b) e r i run.0 h.0 run.1 m)
-  first_on (e ∷ es) (r ∷ rs) i j b (inl h) run (inr a) m = absurd (ticked_once s P gives b es rs run.0 j run.2 h.2 a)
-  first_on (e ∷ es) (r ∷ rs) i j b (inr (inl h)) run (inl a) m = absurd (one_of s e a.0 h.0)
-  first_on (e ∷ es) (r ∷ rs) i j b (inr (inl h)) run (inr a) m = first_on es rs run.0 j false h.2 run.2 a
+  first_on [] rs i j b all h run a m = absurd a
+  first_on (e ∷ es) [] i j b all h run a m = absurd a
+  first_on (e ∷ es) (r ∷ rs) i j b all (inl h) run (inl a) m = second_on es rs run.0 j b all.1 h.2 run.2 a.1 (tick_of s (A b) (B b) (k.own b) e r i run.0 h.0 run.1 m)
+  first_on (e ∷ es) (r ∷ rs) i j b all (inl h) run (inr a) m = absurd (ticked_once s P gives b es rs run.0 j run.2 h.2 a)
+  first_on (e ∷ es) (r ∷ rs) i j b all (inr (inl h)) run (inl a) m = absurd (one_of s e a.0 h.0)
+  first_on (e ∷ es) (r ∷ rs) i j b all (inr (inl h)) run (inr a) m = first_on es rs run.0 j false all.1 h.2 run.2 a
       (tick_of (peer s) (A true) (A false) k.other_first e r i run.0 h.0 run.1 (subst (λ x. A x i) h.1 m))
-  first_on (e ∷ es) (r ∷ rs) i j b (inr (inr h)) run (inl a) m = absurd (not_tick s e a.0 h.0)
-  first_on (e ∷ es) (r ∷ rs) i j b (inr (inr h)) run (inr a) m = first_on es rs run.0 j b h.1 run.2 a (k.first b e r i run.0 h.0 run.1 m)
+  first_on (e ∷ es) (r ∷ rs) i j b all (inr (inr h)) run (inl a) m = absurd (not_tick s e a.0 h.0)
+  first_on (e ∷ es) (r ∷ rs) i j b all (inr (inr h)) run (inr a) m = first_on es rs run.0 j b all.1 h.1 run.2 a (k.first b e r i run.0 all.0 h.0 run.1 m)
 
 -- what holds through a round, without the question what was due
 pub holds_on : (gives : Algorithms) (s : Side) (A : Bool → Bool → WorldState → Type 0) → ((a b : Bool) → KeptBetween gives (A a b))
@@ -435,13 +447,14 @@ module _ (gives : Algorithms) (s : Side) (d : ℕ) (at : Side → ℕ) (w : Side
         (end_with at w d cc s j e (λ p. is_due p ≡ false → EndIs d w cc s Z s p) now not))
         (of_end l (peer s) (EndIs d w cc s Z (peer s)) (λ p rest timed a. (a.0, λ g. absurd (other_side s g))))))
 
-    stages : Stages gives s A B C NoneDue
+    stages : Stages gives Whatever s A B C NoneDue
     stages = record {
-      first = λ b. midst_between gives s d at w (kn true b) (left b W) X there (left_less b W) (fits_in d w c s fits then true b) (early b);
-      second = λ b. midst_between gives s d at w (kn false b) (left b W) Y there (left_less b W) (fits_in d w c s fits then false b)
-          (late Y b k.waits);
-      third = λ b. midst_between gives s d at w (kn false b) (left b W) Z there (left_less b W) (fits_in d w c s fits then false b)
-          (late Z b k.asked);
+      first = λ b e r i j x. midst_between gives s d at w (kn true b) (left b W) X there (left_less b W) (fits_in d w c s fits then true b) (early b) e
+          r i j;
+      second = λ b e r i j x. midst_between gives s d at w (kn false b) (left b W) Y there (left_less b W) (fits_in d w c s fits then false b)
+          (late Y b k.waits) e r i j;
+      third = λ b e r i j x. midst_between gives s d at w (kn false b) (left b W) Z there (left_less b W) (fits_in d w c s fits then false b)
+          (late Z b k.asked) e r i j;
       own = own;
       other_first = others true X (early false);
       other_second = others false Y (late Y false k.waits);
@@ -455,7 +468,7 @@ module _ (gives : Algorithms) (s : Side) (d : ℕ) (at : Side → ℕ) (w : Side
     host_passes old new l h =
         let asked = subst (λ n. AfterTick s (λ j. OfPort (λ p. is_due p ≡ false) (machines_of n (half s j).state)) gives h.events h.replies old new
         h.acts) (port_there s at l.flying) (h.asked s l.index (cable at l.flying) (healthy_link d at w c s X old l)) in
-        let end = first_on gives s A B C NoneDue stages h.events h.replies old new true (of_side s h.events h.ticks) h.acts asked
+        let end = first_on gives Whatever s A B C NoneDue stages h.events h.replies old new true (all_whatever h.events) (of_side s h.events h.ticks) h.acts asked
         (inl (none_ticked d at w c s s X old l)) in
         landed end
       where
@@ -479,6 +492,31 @@ module _ (gives : Algorithms) (s : Side) (d : ℕ) (at : Side → ℕ) (w : Side
         )
         | inr k ↦ inr k
       ]
+
+-- what a tick makes of a cable, with something beside it: the tick of x, and that of its peer
+
+pub own_holds : (gives : Algorithms) (x : Side) (d : ℕ) (at : Side → ℕ) (w : Side → Lacpdu) (c : Side → ℕ) (Y Z : Machines → Type 0)
+    → Fits d w (ticked c) → Along Z (w x) (w (peer x)) (ticked c x) d
+    → ((p q : Machines) → RunsToRest receive_rows (count_down p) q → AtRest periodic_rows p → IsEnd d (w x) (w (peer x)) (c x) p → Y p → Z q)
+    → (b : Bool) → MadeByTick gives x (Link d at w (known_in c x true b) x Y) (Link d at w (known_in c x false b) x Z)
+own_holds gives x d at w c Y Z then last moves b n r i j named step l = (tick_one gives n x d at w (known_in c x true b) (known_in c x false b) x Y Z
+    r i j named (two_there x (c x - 1) (left b (c (peer x))) ∙ ap (λ n. n - 1) (sym (two_there x (c x) (left b (c (peer x))))))
+    (two_other x (c x - 1) (left b (c (peer x))) ∙ sym (two_other x (c x) (left b (c (peer x)))))
+    (λ e. subst (λ n. 1 ≤ n - 1) (sym (two_there x (c x) (left b (c (peer x))))) ((then x).2 e))
+    (subst (λ n. Along Z (w x) (w (peer x)) n d) (sym (two_there x (c x - 1) (left b (c (peer x))))) last)
+    (λ p q run rest a f y. moves p q run rest (subst (λ n. IsEnd d (w x) (w (peer x)) n p) (two_there x (c x) (left b (c (peer x)))) a) y)
+    (λ p f y. absurd (other_side x f)) step l).link
+
+pub peer_holds : (gives : Algorithms) (x : Side) (d : ℕ) (at : Side → ℕ) (w : Side → Lacpdu) (c : Side → ℕ) (N : Machines → Type 0)
+    → Fits d w (ticked c) → (a : Bool) → Along N (w x) (w (peer x)) (left a (c x)) d
+    → MadeByTick gives (peer x) (Link d at w (known_in c x a true) x N) (Link d at w (known_in c x a false) x N)
+peer_holds gives x d at w c N then a along n r i j named step l = (tick_one gives n (peer x) d at w (known_in c x a true) (known_in c x a false) x N N
+    r i j named (two_other x (left a (c x)) (c (peer x) - 1) ∙ ap (λ n. n - 1) (sym (two_other x (left a (c x)) (c (peer x)))))
+    (subst (λ t. known_in c x a false t ≡ known_in c x a true t) (sym (peer_twice x))
+    (two_there x (left a (c x)) (c (peer x) - 1) ∙ sym (two_there x (left a (c x)) (c (peer x)))))
+    (λ e. subst (λ n. 1 ≤ n - 1) (sym (two_other x (left a (c x)) (c (peer x)))) ((then (peer x)).2 e))
+    (subst (λ n. Along N (w x) (w (peer x)) n d) (sym (two_there x (left a (c x)) (c (peer x) - 1))) along)
+    (λ p q run rest a f y. absurd (other_side x f)) (λ p f y. y) step l).link
 
 -- Y holds beside it before the tick of x, Z after it
 abbrev pub HeldIn : ℕ → (Side → ℕ) → (Side → Lacpdu) → (Side → ℕ) → Side → (Machines → Type 0) → (Machines → Type 0) → Bool → Bool → WorldState
@@ -507,26 +545,11 @@ host_holds gives x d at w c Y Z old new fits then first last moves sends later l
     kept false b = between gives d at w (known_in c x false b) x Z (fits_in d w c x fits then false b) (late b) later
 
     own : (b : Bool) → MadeByTick gives x (Link d at w (known_in c x true b) x Y) (Link d at w (known_in c x false b) x Z)
-    own b n r i j named step l = (tick_one gives n x d at w (known_in c x true b) (known_in c x false b) x Y Z r i j named
-        (two_there x (c x - 1) (left b (c (peer x))) ∙ ap (λ n. n - 1) (sym (two_there x (c x) (left b (c (peer x))))))
-        (two_other x (c x - 1) (left b (c (peer x))) ∙ sym (two_other x (c x) (left b (c (peer x)))))
-        (λ e. subst (λ n. 1 ≤ n - 1) (sym (two_there x (c x) (left b (c (peer x))))) ((then x).2 e))
-        (late b)
-        (λ p q run rest a f y. moves p q run rest (subst (λ n. IsEnd d (w x) (w (peer x)) n p) (two_there x (c x) (left b (c (peer x)))) a) y)
-        (λ p f y. absurd (other_side x f)) step l).link
-
-    stays : (a : Bool) (N : Machines → Type 0) → Along N (w x) (w (peer x)) (known_in c x a false x) d
-        → MadeByTick gives (peer x) (Link d at w (known_in c x a true) x N) (Link d at w (known_in c x a false) x N)
-    stays a N along n r i j named step l = (tick_one gives n (peer x) d at w (known_in c x a true) (known_in c x a false) x N N r i j named
-        (two_other x (left a (c x)) (c (peer x) - 1) ∙ ap (λ n. n - 1) (sym (two_other x (left a (c x)) (c (peer x)))))
-        (subst (λ t. known_in c x a false t ≡ known_in c x a true t) (sym (peer_twice x))
-        (two_there x (left a (c x)) (c (peer x) - 1) ∙ sym (two_there x (left a (c x)) (c (peer x)))))
-        (λ e. subst (λ n. 1 ≤ n - 1) (sym (two_other x (left a (c x)) (c (peer x)))) ((then (peer x)).2 e))
-        along (λ p q run rest a f y. absurd (other_side x f)) (λ p f y. y) step l).link
+    own = own_holds gives x d at w c Y Z then last moves
 
     other : (a : Bool) → MadeByTick gives (peer x) (λ j. HeldIn d at w c x Y Z a true j) (λ j. HeldIn d at w c x Y Z a false j)
-    other true = stays true Y (early false)
-    other false = stays false Z (late false)
+    other true = peer_holds gives x d at w c Y then true first
+    other false = peer_holds gives x d at w c Z then false last
 
 -- and with nothing beside it, even if nothing is known of what comes
 pub host_keeps : (gives : Algorithms) (x : Side) (d : ℕ) (at : Side → ℕ) (w : Side → Lacpdu) (c : Side → ℕ) (old new : WorldState)

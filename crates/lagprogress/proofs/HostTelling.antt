@@ -13,7 +13,8 @@ use Rattle.lagprogress.proofs.Delivering.{Heard, arrived_ports, deliver_link, de
 use Rattle.lagprogress.proofs.EachPort.{KeptBySettling, OfEach, Tick-each}
 use Rattle.lagprogress.proofs.EndFacts.{CanSound, sounds_along, Along, IsEnd, Learnt, activity, nothing_along, short_timeout, ticks_end, wait_of}
 use Rattle.lagprogress.proofs.HostRound.{KeptBetween, MadeByTick, Stages, all_ticked, first_on, fits_in, healthy_link, holds_on, known_in, learn_less}
-use Rattle.lagprogress.proofs.HostRound.{learnt_along, left, none_ticked, of_side, tick_one, ticks_learnt, two_other, two_there}
+use Rattle.lagprogress.proofs.HostRound.{Whatever, all_whatever, learnt_along, left, none_ticked, of_side, tick_one, ticks_learnt, two_other}
+use Rattle.lagprogress.proofs.HostRound.{two_there}
 use Rattle.lagprogress.proofs.Knowing.{counts}
 use Rattle.lagprogress.proofs.Linked.{at_end, emit_any, found, end_with, of_end, with_ports, Arrived, EndIs, Fits, Flying, IsGood, Link, each_both}
 use Rattle.lagprogress.proofs.Linked.{each_map, each_side, end_here, gains_has, HasLacpdu, other_side, peer_twice, put_other, put_there}
@@ -518,11 +519,11 @@ module _ (gives : Algorithms) (d : ℕ) (at : Side → ℕ) (w : Side → Lacpdu
               da,
             )
 
-        stages : Stages gives s A B C NoneDue
+        stages : Stages gives Whatever s A B C NoneDue
         stages = record {
-          first = λ b. turn_between (kn true b) (left b W) X (left_less b W) (fits_in d w c s fits then true b) (early b);
-          second = λ b. turn_between (kn false b) (left b W) Y (left_less b W) (fits_in d w c s fits then false b) (late Y b k.waits);
-          third = λ b. turn_between (kn false b) (left b W) Z (left_less b W) (fits_in d w c s fits then false b) (late Z b k.asked);
+          first = λ b e r i j x. turn_between (kn true b) (left b W) X (left_less b W) (fits_in d w c s fits then true b) (early b) e r i j;
+          second = λ b e r i j x. turn_between (kn false b) (left b W) Y (left_less b W) (fits_in d w c s fits then false b) (late Y b k.waits) e r i j;
+          third = λ b e r i j x. turn_between (kn false b) (left b W) Z (left_less b W) (fits_in d w c s fits then false b) (late Z b k.asked) e r i j;
           own = own;
           other_first = others true X (early false);
           other_second = others false Y (late Y false k.waits);
@@ -545,7 +546,7 @@ module _ (gives : Algorithms) (d : ℕ) (at : Side → ℕ) (w : Side → Lacpdu
               ),
               da,
             ) in
-            landed (first_on gives s A B C NoneDue stages h.events h.replies old new true (of_side s h.events h.ticks) h.acts asked start)
+            landed (first_on gives Whatever s A B C NoneDue stages h.events h.replies old new true (all_whatever h.events) (of_side s h.events h.ticks) h.acts asked start)
           where
             landed : C false new → Link d at w (ticked c) s Z new ⊎ (Link d at w (ticked c) (peer s) (Learnt d (w (peer (peer s))) (W - 1)) new
                 × ((OfEach (AtPort (at s) Wakes) (half s new).state.system_ports × Ended PartnerInSync new) × E new))

@@ -11,7 +11,6 @@ use Rattle.lagprogress.proofs.Knowing.{Recorded}
 use Rattle.lagprogress.proofs.OneRound.{Passes, still_sounds}
 use Rattle.lagprogress.proofs.Sounding.{Calm, Sounds, counts_sounds, mux_sounds, not_gone, not_silent, periodic_runs, sounds_first}
 use Rattle.lagprogress.proofs.Timers.{runs_keep, takes_keep}
-use Rattle.lagprogress.proofs.OneCable.{ticks}
 
 -- EXPIRED for so many ticks more at the least; the partner is active, and Short Timeout stands recorded of it
 abbrev pub Lapsed : ℕ → Machines → Type 0

@@ -10,7 +10,6 @@ use Rattle.lagprogress.proofs.EachRound.{hosts_steady}
 use Rattle.lagprogress.proofs.HostLoops.{asking_is_host_round, asks_before, asks_behind}
 use Rattle.lagprogress.proofs.Linked.{each_side}
 use Rattle.lagprogress.proofs.Played.{as_many, some_within, below_or_same, cable_at, runs_append, runs_both}
-use Rattle.lagprogress.proofs.OneCable.{ticks}
 use Rattle.lagscript.specs.declared.event.Event.TheVariants as event
 
 -- events between ticks

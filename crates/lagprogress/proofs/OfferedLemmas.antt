@@ -1,29 +1,30 @@
 -- A frame that a bundle is offered after its links came up arrives within one round.
 use Rattle.lagprogress.proofs.Common.{List, Some, [], ap, arith, map, refl, slice_get, subst, suc, sym, true, zero, ℕ, ◌++◌, ◌+◌, ◌∙◌, ◌∷◌, ◌≡◌, ◌≤◌}
-use Rattle.lagprogress.proofs.Common.{AggId, Lacpdu, One, Side, peer, Machines, receive_rows, count_down, SystemPort, Data_frame, IsFrame}
-use Rattle.lagprogress.proofs.Common.{SystemState, all-get, Reply, Algorithms, WorldSteps, side_of, link_ends, ItemValue, LinkState, WorldState}
-use Rattle.lagprogress.proofs.Common.{accepts_at, half, is_accepted, link_at, port_at, put_on_port, put_ends, Arrives, DisabledAreUnsynchronized}
-use Rattle.lagprogress.proofs.Common.{EachActiveFrameArrives, EachFrameArrives, EachReachedHasUnsynchronized, GetsPort, TakesFrame, BothAreActive}
-use Rattle.lagprogress.proofs.Common.{EndsHealthyCable, IsBundle, OneIsActive, HostRounds, IsRound, NothingInFlight, Rounds}
-use Rattle.std.specs.Global.{Vec}
+use Rattle.lagprogress.proofs.Common.{Vec, AggId, Lacpdu, One, Side, peer, Machines, receive_rows, count_down, SystemPort, Data_frame, IsFrame}
+use Rattle.lagprogress.proofs.Common.{SystemState, all-get, Event, Reply, Algorithms, WorldRuns, WorldSteps, side_of, link_ends, ItemValue, LinkState}
+use Rattle.lagprogress.proofs.Common.{WorldState, accepts_at, half, is_accepted, link_at, port_at, put_on_port, towards, put_ends, Arrives}
+use Rattle.lagprogress.proofs.Common.{DisabledAreUnsynchronized, EachActiveFrameArrives, EachFrameArrives, EachReachedHasUnsynchronized, GetsPort}
+use Rattle.lagprogress.proofs.Common.{HandsUp, Sometime, TakesFrame, BothAreActive, EndsHealthyCable, IsBundle, OneIsActive, HostRounds, IsHostRound}
+use Rattle.lagprogress.proofs.Common.{TickOnce, IsRound, NothingInFlight, asks_all, ticks_of_both}
 use Rattle.lagprogress.proofs.ArrivingLemmas.{is_data, offer_gets_port}
 use Rattle.lagprogress.proofs.Bundling.{Meets, Nowhere, awake_of, both_active, one_active, said, ups_of, named_of}
 use Rattle.lagprogress.proofs.Carrying.{Lapses, LapsesAt, distributes_up, lapse_first, lapse_kept, lapse_settles, receive_lapses}
 use Rattle.lagprogress.proofs.Climbing.{PartnerInSync}
 use Rattle.lagprogress.proofs.EachPort.{OfEach, Step-each, first_each}
 use Rattle.lagprogress.proofs.EachRound.{EachAt, RoundKeeps, same_index, host_each, hosts_join, hosts_on, hosts_steady}
-use Rattle.lagprogress.proofs.FlyingLemmas.{OnItsWay, in_round}
+use Rattle.lagprogress.proofs.FlyingLemmas.{OnItsWay, in_run}
 use Rattle.lagprogress.proofs.Halves.{both_first, keeps_steady}
 use Rattle.lagprogress.proofs.Linked.{EndIs, IsGood, Link, place_kept, push_there, events_each}
 use Rattle.lagprogress.proofs.OneCable.{OnCable, cable, placed, port_there, push, push_each, puts, takes_all, towards_there}
 use Rattle.lagprogress.proofs.OnePort.{AtPort}
 use Rattle.lagprogress.proofs.OneRound.{join}
-use Rattle.lagprogress.proofs.HostKnowing.{fits_fresh, knows_peer}
+use Rattle.lagprogress.proofs.HostKnowing.{fits_fresh, fits_before}
 use Rattle.lagprogress.proofs.Timers.{runs_keep, takes_keep}
-use Rattle.lagprogress.proofs.ComingUp.{distributes, told_now}
-use Rattle.lagprogress.proofs.HostLoops.{rounds_are_host_rounds}
+use Rattle.lagprogress.proofs.ComingUp.{told_now}
+use Rattle.lagprogress.proofs.HostLoops.{rounds_are_host_rounds, round_ticks}
 use Rattle.lagscript.specs.declared.event.Event.TheVariants as event
 use Rattle.lagworld.specs.declared.reply.Reply.TheVariants as reply
+use Rattle.lagprogress.specs.HostArriving.{ArrivesByHosts, EachActiveFrameArrivesByHosts, EachFrameArrivesByHosts}
 use Rattle.lagprogress.proofs.Lasting.{all_by_place, as_before, still_heard}
 
 -- the partner of a port in PORT_DISABLED is not synchronized
@@ -78,7 +79,7 @@ accepted s p i at fl links c e = ap (λ q. is_accepted s q links) (sym e) ∙ (a
     ∙ (ap (accepts_at s) c.there ∙ takes_all s at fl))
 
 -- after a round nothing flies
-none_flies : (gives : Algorithms) (n : ℕ) (old new : WorldState) → 1 ≤ n → Rounds gives n old new → NothingInFlight new
+none_flies : (gives : Algorithms) (n : ℕ) (old new : WorldState) → 1 ≤ n → HostRounds gives n old new → NothingInFlight new
 none_flies gives zero old new l h = absurd (omega (arith, l))
 none_flies gives (suc n) old new l h = h.2.empties
 
@@ -94,26 +95,36 @@ module _ (Holds : LinkState → WorldState → Type 0) (first : ℕ) (gives : Al
       subst (λ p. EndsHealthyCable Holds s p old) up.3
       (still_heard Holds s old mid (as_before gives n old mid b.steady h s) b.heard up.0 up.1 up.2 up.4)
 
-  pub frame_arrives : (n number : ℕ) (s : Side) (agg : AggId) (octets : Vec ℕ) (r : Reply) (mid sent new : WorldState)
-      → DisabledAreUnsynchronized (half s old).state → 1 ≤ n → first + 31 ≤ n → Rounds gives n old mid
+  -- what is known of a frame that is offered then
+  pub record Sent (s : Side) (agg : AggId) (octets : List ℕ) (mid : WorldState) (r : Reply) (sent : WorldState) : Type 0 where
+    pub got : GetsPort s agg octets mid r sent
+    pub replied : r ≡ reply.Port got.port got.serial true
+    pub index : ℕ
+    pub link : LinkState
+    pub there : slice_get sent.links index ≡ Some link
+    pub joins : port_at s link ≡ got.port
+    pub flies : towards (peer s) link ≡ got.item ∷ []
+    pub arrives : (es : List Event) (rs : List Reply) (new : WorldState) → TickOnce One true true es → (run : WorldRuns gives sent es rs new)
+        → NothingInFlight new → Sometime (HandsUp (peer s) index got.item) gives es rs sent new run
+
+  pub frame_sent : (n number : ℕ) (s : Side) (agg : AggId) (octets : Vec ℕ) (r : Reply) (mid sent : WorldState)
+      → DisabledAreUnsynchronized (half s old).state → 1 ≤ n → first + 31 ≤ n → HostRounds gives n old mid
       → side_of number ≡ Some s → TakesFrame agg octets.items (half s mid).state
-      → WorldSteps gives mid (event.Offer number agg octets) r sent → (q : IsRound gives sent new)
-      → Arrives gives s agg octets.items mid r sent new q
-  frame_arrives n number s agg octets r mid sent new quiet some enough h named takes step q =
-      let hosts = rounds_are_host_rounds gives n old mid b.steady h in
-      let now = hosts_steady gives n old mid b.steady hosts in
-      let g = offer_gets_port gives number s agg octets r mid sent named (now s).0 takes step in
-      let it = carrier n s agg octets.items r mid sent quiet hosts g in
+      → WorldSteps gives mid (event.Offer number agg octets) r sent → Sent s agg octets.items mid r sent
+  frame_sent n number s agg octets r mid sent quiet some enough h told takes step =
+      let now = hosts_steady gives n old mid b.steady h in
+      let g = offer_gets_port gives number s agg octets r mid sent told (now s).0 takes step in
+      let it = carrier n s agg octets.items r mid sent quiet h g in
       let i = it.index in
       let l = it.link in
       let y = it.healthy in
       let at : Side → ℕ = λ t. port_at t l in
       let w = said old i l y in
-      let named_ends = named_of Holds Nowhere first gives old m i l y in
+      let named = named_of Holds Nowhere first gives old m i l y in
       let awake = awake_of Holds Nowhere first gives old m i l y in
-      let top = ups_of Holds Nowhere first gives old m i l y n mid enough hosts in
+      let top = ups_of Holds Nowhere first gives old m i l y n mid enough h in
       let fresh = top.2.fresh in
-      let heard = told_now at w named_ends awake top.0 mid top.1 top.2 (peer s) in
+      let heard = told_now at w named awake top.0 mid top.1 top.2 (peer s) in
       let start = join 2 at w fresh.known One (peer s) PartnerInSync mid fresh.link heard in
       let plain = subst (λ o. IsFrame o Data_frame) (sym g.frame) (is_data octets.items takes.may.1) in
       let o = offer_link gives number s 2 at w fresh.known (peer s) PartnerInSync agg octets r mid sent g (sym it.joins) plain step start in
@@ -123,29 +134,76 @@ module _ (Holds : LinkState → WorldState → Type 0) (first : ℕ) (gives : Al
       ∙ none_flies gives n old mid some h (peer s) start.index (cable at start.flying) start.links.there in
       let alone : fl (peer s) ≡ g.item ∷ [] = push_there (peer s) g.item start.flying ∙ ap (λ xs. xs ++ g.item ∷ []) empty in
       let joins : map link_ends sent.links ≡ map link_ends old.links =
-      ap (map link_ends) g.sent ∙ (put_ends s g.port g.item mid.links ∙ hosts_join gives n old mid hosts) in
+      ap (map link_ends) g.sent ∙ (put_ends s g.port g.item mid.links ∙ hosts_join gives n old mid h) in
       let same : o.0.index ≡ i = same_index i o.0.index l fl old sent y.there joins on in
       let way : OnItsWay s l g.item old sent = record { index = o.0.index; flying = fl; links = on; first = ([], alone); joins = joins } in
       record {
-        port = g.port;
-        serial = g.serial;
-        distributes = g.distributes;
+        got = g;
         replied = g.replied ∙ ap (reply.Port g.port g.serial) (accepted s g.port start.index at start.flying mid.links start.links it.joins);
         index = i;
         link = cable at fl;
         there = subst (λ k. slice_get sent.links k ≡ Some (cable at fl)) same on.there;
         joins = port_there s at fl ∙ it.joins;
-        item = g.item;
-        frame = g.frame;
         flies = towards_there (peer s) at fl ∙ alone;
-        up = in_round gives s i l w fresh.known g.item old awake y.there (fits_fresh at w named_ends awake 2 mid fresh (omega arith))
-            (λ t. knows_peer at w 2 0 0 mid fresh (omega arith) t) plain sent new q o.0 way;
+        arrives = λ es rs new turns run none. in_run gives s i l w fresh.known g.item old awake y.there
+            (fits_before at w named awake 2 mid fresh (omega arith)) (fits_fresh at w named awake 2 mid fresh (omega arith)) plain
+            es rs sent new turns run none o.0 way;
       }
+
+  frame_arrives : (s : Side) (agg : AggId) (octets : List ℕ) (mid : WorldState) (r : Reply) (sent new : WorldState) → Sent s agg octets mid r sent
+      → (q : IsRound gives sent new) → Arrives gives s agg octets mid r sent new q
+  frame_arrives s agg octets mid r sent new x q = record {
+    port = x.got.port;
+    serial = x.got.serial;
+    distributes = x.got.distributes;
+    replied = x.replied;
+    index = x.index;
+    link = x.link;
+    there = x.there;
+    joins = x.joins;
+    item = x.got.item;
+    frame = x.got.frame;
+    flies = x.flies;
+    up = x.arrives (ticks_of_both ++ (asks_all sent.links ++ q.delivers)) q.replies new (round_ticks sent.links q.delivers q.arrives) q.acts q.empties;
+  }
+
+  frame_arrives_by_hosts : (s : Side) (agg : AggId) (octets : List ℕ) (mid : WorldState) (r : Reply) (sent new : WorldState)
+      → Sent s agg octets mid r sent → (q : IsHostRound gives sent new) → ArrivesByHosts gives s agg octets mid r sent new q
+  frame_arrives_by_hosts s agg octets mid r sent new x q = record {
+    port = x.got.port;
+    serial = x.got.serial;
+    distributes = x.got.distributes;
+    replied = x.replied;
+    index = x.index;
+    link = x.link;
+    there = x.there;
+    joins = x.joins;
+    item = x.got.item;
+    frame = x.got.frame;
+    flies = x.flies;
+    up = x.arrives q.events q.replies new q.ticks q.acts q.empties;
+  }
+
+pub each_frame_arrives_by_hosts : (gives : Algorithms) → EachFrameArrivesByHosts gives
+each_frame_arrives_by_hosts gives n number s agg octets r old mid sent new b quiet enough h named takes step q =
+    let m = one_active gives old b in
+    frame_arrives_by_hosts OneIsActive 630 gives old b m s agg octets.items mid r sent new
+    (frame_sent OneIsActive 630 gives old b m n number s agg octets r mid sent quiet (omega (arith, enough)) (omega (arith, enough)) h named takes step) q
+
+pub each_active_frame_arrives_by_hosts : (gives : Algorithms) → EachActiveFrameArrivesByHosts gives
+each_active_frame_arrives_by_hosts gives n number s agg octets r old mid sent new b quiet enough h named takes step q =
+    let m = both_active gives old b in
+    frame_arrives_by_hosts BothAreActive 321 gives old b m s agg octets.items mid r sent new
+    (frame_sent BothAreActive 321 gives old b m n number s agg octets r mid sent quiet (omega (arith, enough)) (omega (arith, enough)) h named takes step) q
 
 pub each_frame_arrives : (gives : Algorithms) → EachFrameArrives gives
 each_frame_arrives gives n number s agg octets r old mid sent new b quiet enough h named takes step q =
-    frame_arrives OneIsActive 630 gives old b (one_active gives old b) n number s agg octets r mid sent new quiet (omega (arith, enough)) (omega (arith, enough)) h named takes step q
+    let m = one_active gives old b in
+    frame_arrives OneIsActive 630 gives old b m s agg octets.items mid r sent new (frame_sent OneIsActive 630 gives old b m n number s agg octets r
+    mid sent quiet (omega (arith, enough)) (omega (arith, enough)) (rounds_are_host_rounds gives n old mid b.steady h) named takes step) q
 
 pub each_active_frame_arrives : (gives : Algorithms) → EachActiveFrameArrives gives
 each_active_frame_arrives gives n number s agg octets r old mid sent new b quiet enough h named takes step q =
-    frame_arrives BothAreActive 321 gives old b (both_active gives old b) n number s agg octets r mid sent new quiet (omega (arith, enough)) (omega (arith, enough)) h named takes step q
+    let m = both_active gives old b in
+    frame_arrives BothAreActive 321 gives old b m s agg octets.items mid r sent new (frame_sent BothAreActive 321 gives old b m n number s agg octets r
+    mid sent quiet (omega (arith, enough)) (omega (arith, enough)) (rounds_are_host_rounds gives n old mid b.steady h) named takes step) q

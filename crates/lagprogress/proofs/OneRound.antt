@@ -2,20 +2,18 @@
 use Rattle.lagprogress.proofs.Common.{Bool, Err, List, None, Ok, Option, Result, Some, [], ap, arith, false, inl, inr, refl, slice_get, subst, suc}
 use Rattle.lagprogress.proofs.Common.{sym, true, zero, ℕ, ◌++◌, ◌-◌, ◌∙◌, ◌∷◌, ◌≡◌, ◌≤◌, ◌⊎◌, cases_Bool, nat_tests, none-some, same_Some}
 use Rattle.lagprogress.proofs.Common.{AllByRecursion, Lacpdu, One, Side, Two, peer, Machines, is_silent, periodic_rows, receive_rows, AtRest}
-use Rattle.lagprogress.proofs.Common.{RunsToRest, count_down, is_due, pdu_of, SystemFault, SystemPort, Step, Tick, Transmit, PeriodicIsSettled}
-use Rattle.lagprogress.proofs.Common.{IsLacpduOf, SystemState, port_index, Event, Reply, Algorithms, WorldRuns, WorldSteps, side_of, ItemValue}
-use Rattle.lagprogress.proofs.Common.{LinkState, WorldState, half, port_at, IsDeliver, IsRound, asks_all, asks_ends, IsTimed}
-use Rattle.lagprogress.proofs.EachPort.{OfEach, Tick-each}
-use Rattle.lagprogress.proofs.EndFacts.{Along, CanSound, IsEnd, both_along, calm, nothing_along, sounds_along, ticks_end, ticks_sounds}
-use Rattle.lagprogress.proofs.Halves.{keeps_steady}
+use Rattle.lagprogress.proofs.Common.{RunsToRest, count_down, is_due, pdu_of, SystemFault, SystemPort, Step, Transmit, IsLacpduOf, SystemState}
+use Rattle.lagprogress.proofs.Common.{port_index, Event, Reply, Algorithms, WorldSteps, side_of, ItemValue, LinkState, WorldState, half, port_at}
+use Rattle.lagprogress.proofs.Common.{asks_all, asks_ends, IsTimed}
+use Rattle.lagprogress.proofs.EachPort.{OfEach}
+use Rattle.lagprogress.proofs.EndFacts.{Along, CanSound, IsEnd, both_along, calm, nothing_along, sounds_along, ticks_sounds}
 use Rattle.lagprogress.proofs.Hearing.{no}
-use Rattle.lagprogress.proofs.OneCable.{OnCable, Went, ticks}
-use Rattle.lagprogress.proofs.OnePort.{AtPort, with_rest}
+use Rattle.lagprogress.proofs.OneCable.{Went}
+use Rattle.lagprogress.proofs.OnePort.{AtPort}
 use Rattle.lagprogress.proofs.Passing.{lacpdu_is_sent, sends_due, sent_carries}
 use Rattle.lagprogress.proofs.Sounding.{Sounds, now_due}
-use Rattle.lagprogress.proofs.Linked.{EndIs, Fits, Flying, Link, each_side, emit_link, end_kept, HasLacpdu, has_last, asked_which, beside_link}
-use Rattle.lagprogress.proofs.Linked.{other_side, place_kept, push_there, other_ports, with_ports, both_at, of_end, end_here, at_end, end_with}
-use Rattle.lagprogress.proofs.Linked.{runs_all}
+use Rattle.lagprogress.proofs.Linked.{EndIs, Fits, Flying, Link, each_side, emit_link, HasLacpdu, has_last, asked_which, beside_link, other_side}
+use Rattle.lagprogress.proofs.Linked.{push_there, other_ports, with_ports, both_at, of_end, end_here, at_end, end_with}
 use Rattle.slowpdu.specs.declared.pdu.Pdu.TheVariants as pdu
 use Rattle.lagsystem.specs.declared.drive.Reply.TheVariants as answer
 use Rattle.lagscript.specs.declared.event.Event.TheVariants as event
@@ -40,47 +38,6 @@ join d at w c x y Y j l h = with_ports l (each_side (λ s. OfEach (AtPort (at s)
 -- one tick less
 abbrev pub ticked : (Side → ℕ) → Side → ℕ
 ticked c s = c s - 1
-
-tick_ports : (d : ℕ) (at : Side → ℕ) (w : Side → Lacpdu) (c : Side → ℕ) (x : Side) (Y Z : Machines → Type 0) (s : Side)
-    (gives : ℕ → ℕ → ℕ → Type 0) (old new : SystemState) → (2 ≤ d → 1 ≤ ticked c s) → Along Z (w x) (w (peer x)) (ticked c x) d
-    → ((p q : Machines) → RunsToRest receive_rows (count_down p) q → AtRest periodic_rows p → IsEnd d (w x) (w (peer x)) (c x) p → Y p → Z q)
-    → AllByRecursion PeriodicIsSettled old.system_ports → Step gives old Tick answer.Tick new
-    → OfEach (AtPort (at s) (EndIs d w c x Y s)) old.system_ports → OfEach (AtPort (at s) (EndIs d w (ticked c) x Z s)) new.system_ports
-tick_ports d at w c x Y Z s gives old new known along k quiet step ports =
-    Tick-each (λ m p. AtPort (at s) (EndIs d w c x Y s) m p × AtRest periodic_rows p) (AtPort (at s) (EndIs d w (ticked c) x Z s))
-    (end_kept w (ticked c) d x Z along s (at s))
-    (λ m p q h b e. (
-      ticks_end d (w s) (w (peer s)) (c s) p q known h (b.0 e).0,
-      λ f. k p q h b.1 (subst (λ t. IsEnd d (w t) (w (peer t)) (c t) p) f (b.0 e).0) ((b.0 e).1 f),
-    )) gives old answer.Tick new step (with_rest (AtPort (at s) (EndIs d w c x Y s)) old.system_ports ports quiet)
-
-pub tick_both : (gives : Algorithms) (d : ℕ) (at : Side → ℕ) (w : Side → Lacpdu) (c : Side → ℕ) (x : Side) (Y Z : Machines → Type 0)
-    (q r : Reply) (old mid new : WorldState) → Fits d w (ticked c) → Along Z (w x) (w (peer x)) (ticked c x) d
-    → ((p q : Machines) → RunsToRest receive_rows (count_down p) q → AtRest periodic_rows p → IsEnd d (w x) (w (peer x)) (c x) p → Y p → Z q)
-    → WorldSteps gives old (event.Tick 1 1) q mid → WorldSteps gives mid (event.Tick 2 1) r new → Link d at w c x Y old
-    → Link d at w (ticked c) x Z new
-tick_both gives d at w c x Y Z q r old mid new fits along k h i l =
-    let one = ticks gives 1 One q old mid refl h in
-    let two = ticks gives 2 Two r mid new refl i in
-    let steady = keeps_steady gives (event.Tick 1 1) q old mid h l.steady in
-    let last = keeps_steady gives (event.Tick 2 1) r mid new i steady in
-    let first = tick_ports d at w c x Y Z One (gives One) old.one.state mid.one.state (fits One).2 along k (l.steady One).0.quiet.1 one.step (l.ports One) in
-    let second = tick_ports d at w c x Y Z Two (gives Two) mid.two.state new.two.state (fits Two).2 along k (steady Two).0.quiet.1 two.step
-    (subst (λ (y : SystemState). OfEach (AtPort (at Two) (EndIs d w c x Y Two)) y.system_ports) (sym one.peers) (l.ports Two)) in
-    record {
-      steady = last;
-      flying = l.flying;
-      index = l.index;
-      links = subst (OnCable l.index at l.flying) (sym (two.links ∙ one.links)) l.links;
-      good = l.good;
-      place = λ t. (
-        (l.place t).0,
-        place_kept gives (event.Tick 2 1) r mid new i steady last t (at t)
-            ∙ (place_kept gives (event.Tick 1 1) q old mid h l.steady steady t (at t) ∙ (l.place t).1),
-      );
-      ports = each_side (λ t. OfEach (AtPort (at t) (EndIs d w (ticked c) x Z t)) (half t new).state.system_ports) One
-          (subst (λ (y : SystemState). OfEach (AtPort (at One) (EndIs d w (ticked c) x Z One)) y.system_ports) (sym two.peers) first) second;
-    }
 
 -- an end is asked whose LACPDU comes nearer
 
@@ -168,68 +125,10 @@ ask_which gives n p s d at w c Y Z r old new fits along asks l h = elim (asked_w
 
 -- the events of a round
 
-abbrev pub Acted : Algorithms → Event → WorldState → WorldState → Type 0
-Acted gives e old new = (r : Reply) × WorldSteps gives old e r new
-
-pub first_acts : (gives : Algorithms) (e : Event) (es : List Event) (rs : List Reply) (old new : WorldState)
-    → WorldRuns gives old (e ∷ es) rs new → (mid : WorldState) × (rest : List Reply) × Acted gives e old mid × WorldRuns gives mid es rest new
-first_acts gives e es [] old new h = absurd h
-first_acts gives e es (r ∷ rs) old new h = (h.0, rs, (r, h.1), h.2)
-
-pub runs_apart : (gives : Algorithms) (es fs : List Event) (rs : List Reply) (old new : WorldState) → WorldRuns gives old (es ++ fs) rs new
-    → (mid : WorldState) × (firsts : List Reply) × (rest : List Reply) × WorldRuns gives old es firsts mid × WorldRuns gives mid fs rest new
-runs_apart gives [] fs rs old new h = (old, [], rs, refl, h)
-runs_apart gives (e ∷ es) fs [] old new h = absurd h
-runs_apart gives (e ∷ es) fs (r ∷ rs) old new h =
-    let k = runs_apart gives es fs rs h.0 new h.2 in (k.0, r ∷ k.1, k.2, (h.0, h.1, k.3), k.4)
-
 -- the event is that a port is asked for a frame
 abbrev pub IsAsk : Event → Type 0
 IsAsk (event.Emit n p) = Unit {0}
 IsAsk _ = ⊥
-
-pub record Unrolled (gives : Algorithms) (old new : WorldState) : Type 0 where
-  pub one : WorldState
-  pub two : WorldState
-  pub six : WorldState
-  pub asked : List Reply
-  pub delivers : List Event
-  pub replies : List Reply
-  pub arrives : AllByRecursion IsDeliver delivers
-  pub tick_one : Acted gives (event.Tick 1 1) old one
-  pub tick_two : Acted gives (event.Tick 2 1) one two
-  pub asks : WorldRuns gives two (asks_all old.links) asked six
-  pub rest : WorldRuns gives six delivers replies new
-
-pub unroll : (gives : Algorithms) (old new : WorldState) → IsRound gives old new → Unrolled gives old new
-unroll gives old new h =
-    let a = first_acts gives (event.Tick 1 1) (event.Tick 2 1 ∷ (asks_all old.links ++ h.delivers)) h.replies old new h.acts in
-    let b = first_acts gives (event.Tick 2 1) (asks_all old.links ++ h.delivers) a.1 a.0 new a.3 in
-    let c = runs_apart gives (asks_all old.links) h.delivers b.1 b.0 new b.3 in
-    record {
-      one = a.0;
-      two = b.0;
-      six = c.0;
-      asked = c.1;
-      delivers = h.delivers;
-      replies = c.2;
-      arrives = h.arrives;
-      tick_one = a.2;
-      tick_two = b.2;
-      asks = c.3;
-      rest = c.4;
-    }
-
--- what each event that asks keeps, a list of them keeps
-pub ask_all : (gives : Algorithms) (M : WorldState → Type 0)
-    → ((n p : ℕ) (r : Reply) (old new : WorldState) → WorldSteps gives old (event.Emit n p) r new → M old → M new)
-    → (es : List Event) (rs : List Reply) (old new : WorldState) → AllByRecursion IsAsk es → WorldRuns gives old es rs new
-    → M old → M new
-ask_all gives M k = runs_all gives IsAsk M one
-  where
-    one : (e : Event) (r : Reply) (old new : WorldState) → IsAsk e → WorldSteps gives old e r new → M old → M new
-    one (event.Emit n p) r old new d step m = k n p r old new step m
-    one e r old new d step m = absurd d
 
 pub all_ask : (links : List LinkState) → AllByRecursion IsAsk (asks_all links)
 all_ask [] = tt
@@ -242,8 +141,6 @@ pub record AsksTwice (s : Side) (p : ℕ) (events : List Event) : Type 0 where
   pub before : List Event
   pub later : List Event
   pub is : events ≡ before ++ (event.Emit number p ∷ event.Emit number p ∷ later)
-  pub firsts : AllByRecursion IsAsk before
-  pub lasts : AllByRecursion IsAsk later
 
 pub asks_twice : (s : Side) (i : ℕ) (links : List LinkState) (l : LinkState) → slice_get links i ≡ Some l → AsksTwice s (port_at s l) (asks_all links)
 asks_twice s i [] l e = absurd (none-some l e)
@@ -256,8 +153,6 @@ asks_twice s zero (m ∷ links) l e = subst (λ k. AsksTwice s (port_at s k) (as
       before = [];
       later = event.Emit 2 m.two ∷ event.Emit 2 m.two ∷ asks_all links;
       is = refl;
-      firsts = tt;
-      lasts = (tt, (tt, all_ask links));
     }
     first Two = record {
       number = 2;
@@ -265,8 +160,6 @@ asks_twice s zero (m ∷ links) l e = subst (λ k. AsksTwice s (port_at s k) (as
       before = event.Emit 1 m.one ∷ event.Emit 1 m.one ∷ [];
       later = asks_all links;
       is = refl;
-      firsts = (tt, (tt, tt));
-      lasts = all_ask links;
     }
 asks_twice s (suc i) (m ∷ links) l e =
     let k = asks_twice s i links l e in
@@ -276,20 +169,7 @@ asks_twice s (suc i) (m ∷ links) l e =
       before = asks_ends m ++ k.before;
       later = k.later;
       is = ap (λ es. asks_ends m ++ es) k.is;
-      firsts = (tt, (tt, (tt, (tt, k.firsts))));
-      lasts = k.lasts;
     }
-
--- what each Deliver event keeps, a list of them keeps
-pub deliver_all : (gives : Algorithms) (M : WorldState → Type 0)
-    → ((cn n : ℕ) (r : Reply) (old new : WorldState) → WorldSteps gives old (event.Deliver cn n) r new → M old → M new)
-    → (es : List Event) (rs : List Reply) (old new : WorldState) → AllByRecursion IsDeliver es → WorldRuns gives old es rs new
-    → M old → M new
-deliver_all gives M k = runs_all gives IsDeliver M one
-  where
-    one : (e : Event) (r : Reply) (old new : WorldState) → IsDeliver e → WorldSteps gives old e r new → M old → M new
-    one (event.Deliver cn n) r old new d step m = k cn n r old new step m
-    one e r old new d step m = absurd d
 
 -- what holds of the end of s in a round: X before it, V after its tick, Y then at rest, Z once it is asked and nothing is due
 pub record Passes (X V Y Z : Machines → Type 0) (v u : Lacpdu) (before c d : ℕ) : Type 0 where

@@ -16,7 +16,7 @@ use Rattle.lagprogress.proofs.Hearing.{no}
 use Rattle.lagprogress.proofs.OnePort.{AtPort, at_number}
 use Rattle.lagprogress.proofs.OneRound.{Nothing}
 use Rattle.lagprogress.proofs.HostKnowing.{AtIt, Fresh, FreshAt, stays_fresh}
-use Rattle.lagprogress.proofs.Starting.{said_by, starts}
+use Rattle.lagprogress.proofs.Starting.{said_by}
 use Rattle.lagprogress.proofs.Claims.{IsNamed}
 use Rattle.lagprogress.proofs.Linked.{at_end, end_here, end_with}
 use Rattle.lagprogress.proofs.Lasting.{all_by_place, as_before, ends_at, old_port, rounds_alike}

@@ -1,9 +1,9 @@
 -- A frame that is offered, or a conversation that is moved, leaves the ports, and what their LACPDUs say.
 use Rattle.lagprogress.proofs.Common.{Err, List, Ok, Result, Some, [], ap, arith, inl, inr, map, refl, subst, sym, ℕ, ◌++◌, ◌==◌, ◌∙◌, ◌∷◌, ◌≡◌, ◌⊎◌}
-use Rattle.lagprogress.proofs.Common.{cases_Bool, nat_tests, AggId, Lacpdu, One, Side, Two, peer, value_of, Machines, SystemFault, Carries, IsFrame}
-use Rattle.lagprogress.proofs.Common.{Offer, Step, system_move_result, port_index, becomes_slots, offers_slots, Event, Reply, AfterOffer, Algorithms}
-use Rattle.lagprogress.proofs.Common.{WorldSteps, offered_item, side_of, with_frame_counted, link_ends, HalfState, ItemValue, WorldState, half}
-use Rattle.lagprogress.proofs.Common.{put_on_port, with_half, put_ends, half_there, IsSteady}
+use Rattle.lagprogress.proofs.Common.{cases_Bool, nat_tests, Vec, AggId, Lacpdu, One, Side, Two, peer, value_of, Machines, SystemFault, Carries}
+use Rattle.lagprogress.proofs.Common.{IsFrame, Offer, Step, system_move_result, SystemState, port_index, becomes_slots, offers_slots, Event, Reply}
+use Rattle.lagprogress.proofs.Common.{AfterOffer, Algorithms, WorldSteps, offered_item, side_of, with_frame_counted, link_ends, HalfState, ItemValue}
+use Rattle.lagprogress.proofs.Common.{WorldState, half, put_on_port, with_half, put_ends, half_there, IsSteady}
 use Rattle.lagprogress.proofs.ArrivingLemmas.{is_data, same_ports}
 use Rattle.lagprogress.proofs.EachPort.{OfEach}
 use Rattle.lagprogress.proofs.Halves.{keeps_steady}
@@ -213,3 +213,46 @@ quiet_ends gives e r old new q h = by_links k.links
     by_links : (new.links ≡ old.links) ⊎ SendsPlain s old new → map link_ends new.links ≡ map link_ends old.links
     by_links (inl x) = ap (map link_ends) x
     by_links (inr m) = ap (map link_ends) m.sent ∙ put_ends s m.port m.item old.links
+
+-- an Offer event leaves a system to itself, or offers it the frame
+
+own_two : (s : Side) (h k : HalfState) (j : WorldState) → (half s (with_half s k (with_half s h j))).state ≡ k.state
+own_two One h k j = refl
+own_two Two h k j = refl
+
+peer_two : (s : Side) (h k : HalfState) (j : WorldState) → (half (peer s) (with_half s k (with_half s h j))).state ≡ (half (peer s) j).state
+peer_two One h k j = refl
+peer_two Two h k j = refl
+
+peer_one : (s : Side) (h : HalfState) (j : WorldState) → (half (peer s) (with_half s h j)).state ≡ (half (peer s) j).state
+peer_one One h j = refl
+peer_one Two h j = refl
+
+own_state : (s : Side) (agg : AggId) (octets : List ℕ) (a : Result ℕ SystemFault) (old new : WorldState) (mid : HalfState) (r : Reply)
+    → AfterOffer s agg octets a (with_half s mid old) r (record new { acted = old.acted }) → (half s new).state ≡ mid.state
+own_state s agg octets (Err fault) old new mid r h =
+    ap (λ (w : WorldState). (half s w).state) h.1 ∙ ap (λ (k : HalfState). k.state) (half_there s mid old)
+own_state s agg octets (Ok port) old new mid r h =
+    ap (λ (w : WorldState). (half s w).state) h.2 ∙ (own_two s mid (with_frame_counted agg octets (half s (with_half s mid old))) old
+    ∙ ap (λ (k : HalfState). k.state) (half_there s mid old))
+
+peer_state : (s : Side) (agg : AggId) (octets : List ℕ) (a : Result ℕ SystemFault) (old new : WorldState) (mid : HalfState) (r : Reply)
+    → AfterOffer s agg octets a (with_half s mid old) r (record new { acted = old.acted }) → (half (peer s) new).state ≡ (half (peer s) old).state
+peer_state s agg octets (Err fault) old new mid r h = ap (λ (w : WorldState). (half (peer s) w).state) h.1 ∙ peer_one s mid old
+peer_state s agg octets (Ok port) old new mid r h = ap (λ (w : WorldState). (half (peer s) w).state) h.2
+    ∙ peer_two s mid (with_frame_counted agg octets (half s (with_half s mid old))) old
+
+pub offered_half : (gives : Algorithms) (n : ℕ) (agg : AggId) (octets : Vec ℕ) (r : Reply) (old new : WorldState)
+    → WorldSteps gives old (event.Offer n agg octets) r new → (t : Side)
+    → ((half t new).state ≡ (half t old).state) ⊎ ((a : Result ℕ SystemFault)
+    × Step (gives t) (half t old).state (Offer agg octets.items) (answer.Offer a) (half t new).state)
+offered_half gives n agg octets r old new h =
+    let v = value_of (side_of n) _ h.0 in
+    let w = v.2 in
+    each_side (λ t. ((half t new).state ≡ (half t old).state) ⊎ ((a : Result ℕ SystemFault)
+    × Step (gives t) (half t old).state (Offer agg octets.items) (answer.Offer a) (half t new).state)) v.0
+    (inr (
+      w.0,
+      subst (λ (z : SystemState). Step (gives v.0) (half v.0 old).state (Offer agg octets.items) (answer.Offer w.0) z)
+          (sym (own_state v.0 agg octets.items w.0 old new w.1 r w.3)) w.2.answers.step,
+    )) (inl (peer_state v.0 agg octets.items w.0 old new w.1 r w.3))

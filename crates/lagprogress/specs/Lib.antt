@@ -21,4 +21,6 @@ pub mod Limited
 pub mod CutOff
 pub mod HostRounds
 pub mod ByHosts
+pub mod HostFreed
+pub mod HostArriving
 pub mod PlayedByHosts

@@ -76,3 +76,26 @@ pub fn cut_offs_do_no_harm_by_hosts<F: Fn(u16, usize) -> usize>()
     ensures up { (one two : F) → EachLinkComesUpBesideCutOffsByHosts (both_algorithms (F.post one) (F.post two)) }
     ensures agrees { (one two : F) → EachLinkAgreesBesideCutOffsByHosts (both_algorithms (F.post one) (F.post two)) }
 {}
+
+ghost use Rattle.lagprogress.specs.HostFreed.{NoneIsHeldOnActiveEndsByHosts, NoneIsHeldOnEndsByHosts, RoundIsDraining};
+
+/// Conversations that are held in a bundle as in `each_link_comes_up` are freed in healthy rounds of hosts that ask until nothing is
+/// due: after 352 healthy rounds of hosts (35.2 s) or more if both ends of each healthy cable are active, after 661 (66.1 s) if one is,
+/// and 30 more (3 s) in which each end has neither an LACPDU nor a marker due at some time after its system's tick, and no
+/// conversation is moved, none is Wanted or Flushing on an end of a healthy cable, if an identifier for a marker is left in the end.
+/// Frames may be offered in all of them. Each healthy round is such a one (6.2.5; profile).
+pub fn held_conversations_are_freed_by_hosts<F: Fn(u16, usize) -> usize>()
+    ensures ends_both { (one two : F) → NoneIsHeldOnActiveEndsByHosts (both_algorithms (F.post one) (F.post two)) }
+    ensures ends_one { (one two : F) → NoneIsHeldOnEndsByHosts (both_algorithms (F.post one) (F.post two)) }
+    ensures round { (one two : F) → RoundIsDraining (both_algorithms (F.post one) (F.post two)) }
+{}
+
+ghost use Rattle.lagprogress.specs.HostArriving.{EachActiveFrameArrivesByHosts, EachFrameArrivesByHosts};
+
+/// A data frame that a bundle is offered after 352 healthy rounds of hosts (35.2 s) or more if both ends of each healthy cable are
+/// active, after 661 (66.1 s) if one is, arrives within one healthy round of hosts, as in `each_frame_arrives`, whatever else is offered
+/// or moved in it (6.2.3, 6.2.4; profile).
+pub fn each_frame_arrives_by_hosts<F: Fn(u16, usize) -> usize>()
+    ensures both { (one two : F) → EachActiveFrameArrivesByHosts (both_algorithms (F.post one) (F.post two)) }
+    ensures one { (one two : F) → EachFrameArrivesByHosts (both_algorithms (F.post one) (F.post two)) }
+{}

@@ -21,9 +21,9 @@ pub use arriving::{
 };
 pub use cut_off::{cut_off_ports_are_defaulted, each_link_comes_up_beside_cut_offs};
 pub use hosting::{
-    cut_offs_do_no_harm_by_hosts, each_limited_link_agrees_by_hosts, each_link_agrees_by_hosts,
-    each_link_comes_up_by_hosts, ends_come_to_know_by_hosts, hosts_play_rounds,
-    selected_pairs_agree_by_hosts,
+    cut_offs_do_no_harm_by_hosts, each_frame_arrives_by_hosts, each_limited_link_agrees_by_hosts,
+    each_link_agrees_by_hosts, each_link_comes_up_by_hosts, ends_come_to_know_by_hosts,
+    held_conversations_are_freed_by_hosts, hosts_play_rounds, selected_pairs_agree_by_hosts,
 };
 pub use limits::{down_ports_are_unselected, each_limited_link_agrees};
 pub use loops::{play_host_round, play_host_rounds};

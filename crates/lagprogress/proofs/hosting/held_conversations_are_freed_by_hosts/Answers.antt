@@ -1,0 +1,12 @@
+use Rattle.lagprogress.proofs.Freeing.{none_is_held_on_active_ends_by_hosts, none_is_held_on_ends_by_hosts}
+use Rattle.lagprogress.proofs.HostLoops.{round_is_draining}
+use Rattle.lagprogress.proofs.hosting.held_conversations_are_freed_by_hosts.Goals as goal
+
+pub returns-clause-ends_both : goal.returns-clause-ends_both
+returns-clause-ends_both g c = λ one two. none_is_held_on_active_ends_by_hosts _
+
+pub returns-clause-ends_one : goal.returns-clause-ends_one
+returns-clause-ends_one g c = λ one two. none_is_held_on_ends_by_hosts _
+
+pub returns-clause-round : goal.returns-clause-round
+returns-clause-round g c = λ one two. round_is_draining _
