@@ -55,7 +55,7 @@ def comes_up(ours: Minimal, theirs: Daemon) -> None:
     check(named == [32768, mac, 1, 1], "the daemon names its system, key and port", partner)
 
 
-def strangers(ours: Minimal, theirs: Daemon) -> None:
+def meets_strangers(ours: Minimal, theirs: Daemon) -> None:
     """A marker; and LACPDUs of another system, to other addresses and then to the right one."""
     wire = Wire(THEIRS, "b0")
     wire.send(marker(1))
@@ -70,7 +70,7 @@ def strangers(ours: Minimal, theirs: Daemon) -> None:
     check(holds, "after one of another system to the right address it waits, and distributes again", ours.printed())
 
 
-def stalls(ours: Minimal, theirs: Daemon) -> None:
+def misses_ticks(ours: Minimal, theirs: Daemon) -> None:
     """It is stopped for longer than three short periods, while LACPDUs wait in its socket."""
     before, sent = ours.printed(), theirs.count("b0", "lacpdus_sent")
     ours.process.send_signal(signal.SIGSTOP)
@@ -86,8 +86,8 @@ def minimal(part: Part) -> None:
     wrong_words(program)
     ours, theirs = Minimal(part, program), part.theirs("b0", options=["--timeout", "long"])
     comes_up(ours, theirs)
-    strangers(ours, theirs)
-    stalls(ours, theirs)
+    meets_strangers(ours, theirs)
+    misses_ticks(ours, theirs)
     lines = [UP, WAITS, UP]
     for word, line in ("down", DOWN), ("up", UP):
         ip(THEIRS, "link", "set", "b0", word)
