@@ -226,7 +226,7 @@ class PadsShort(Device):
     finds = "VN-22 RB-01 RB-04"
 
     def hears(self, port: int, frame: bytes) -> Iterable[bytes]:
-        whole = put(put(put(frame + bytes(124 - len(frame)), 3, b"\x14"), 23, b"\x14"), 43, b"\x10")
+        whole = put(put(put(frame.ljust(124, b"\0"), 3, b"\x14"), 23, b"\x14"), 43, b"\x10")
         yield whole if frame[12:15] == SLOW + b"\1" and len(frame) < 124 else frame
 
 

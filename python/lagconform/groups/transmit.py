@@ -96,7 +96,7 @@ def silent_if_right(b: Bench) -> None:
 
 
 @group.test("05", "6.4.16", "What waited is told as it is when it is sent", "send seven LACPDUs in 0.7 s, each of another port number of ours",
-            "wait 1.5 s", rule="the last LACPDU of the device names the last of them", takes=2.5)  # fmt: skip
+            "wait 1.5 s", rule="the last LACPDU of the device names the last of them", takes=2.5, causes=("TX-01",))  # fmt: skip
 def newest(b: Bench) -> None:
     """If a transmission is delayed by the limit, the LACPDU has the values of the time at which it is sent."""
     b.begin(1, silent=True)
