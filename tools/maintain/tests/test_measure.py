@@ -47,4 +47,4 @@ def test_a_way_goes_through_public_functions_of_lower_crates() -> None:
 
 def test_edits_and_changes_are_not_touched() -> None:
     files = {"docs/A.md": "`is_new`", "python/niwhopera/_numbers.py": "is_new", "CHANGELOG.md": "is_new", "crates/a/must-fail/b.edit": "is_new"}
-    assert measure.touched(files, r"\bis_new\b") == "2 / 1"
+    assert measure.counted(measure.touched(files, r"\bis_new\b")) == "2 / 1"
