@@ -264,6 +264,10 @@ class Bench:
         self.result.claims.append(Claim(bool(holds), text, tuple(it.number for it in frames if it)))
         return bool(holds)
 
+    def holds(self, holds: object, statement: str, *frames: Optional[Frame]) -> bool:
+        """Claims a statement, as these frames show; it is denied where it does not hold."""
+        return self.claim(holds, statement if holds else f"not so: {statement}", *frames)
+
     def note(self, text: str) -> None:
         """Tells something that is right either way."""
         assert self.result

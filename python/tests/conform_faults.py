@@ -394,9 +394,9 @@ class StartsCarrying(Device):
 
 
 class SlowClock(Device):
-    """Its clock is a quarter slow, and more."""
+    """Its clock is slow: a second has 1.45 s."""
 
-    finds, tick_seconds = "PT-01 RX-02", 0.14
+    finds, tick_seconds = "PT-01 RX-02", 0.145
 
 
 class FastClock(Device):

@@ -70,7 +70,7 @@ def comes_up(b: Bench, links: tuple[int, ...]) -> None:
             return False
 
         engine.run(5, looks)
-        b.claim(not broken, "and for 5 s more")
+        b.holds(not broken, "and for 5 s more")
         if len(links) > 1:
             one = system.group(1) == system.group(2) and system.choice(1) == system.choice(2)
             b.claim(one, f"one group {system.group(1)}, one aggregator")

@@ -39,11 +39,11 @@ def addresses(b: Bench) -> None:
     """Each LACPDU goes to 01-80-C2-00-00-02, with EtherType 8809, from the individual address of the port."""
     found = sample(b)
     wrong = [it for it in found if it.octets[:6] != GROUP]
-    b.claim(not wrong, f"destination is {mac(GROUP)}", *wrong[:3] or found[:1])
-    b.claim(all(it.octets[12:14] == SLOW for it in found), "EtherType is 8809", found[0])
+    b.holds(not wrong, f"destination is {mac(GROUP)}", *wrong[:3] or found[:1])
+    b.holds(all(it.octets[12:14] == SLOW for it in found), "EtherType is 8809", found[0])
     sources = {it.octets[6:12] for it in found}
     one = min(sources)
-    b.claim(len(sources) == 1 and not one[0] & 1 and any(one), f"one individual source address: {', '.join(map(mac, sources))}", found[0])
+    b.holds(len(sources) == 1 and not one[0] & 1 and any(one), f"one individual source address: {', '.join(map(mac, sources))}", found[0])
 
 
 @group.test("02", "6.4.2.3, 6.4.2.2", "Length, subtype and version", "take LACPDUs",
@@ -89,7 +89,7 @@ def identifiers(b: Bench) -> None:
     system, port = actors[0].system, actors[0].port
     b.claim(any(system.mac) and not system.mac[0] & 1, f"system {system}", found[0])
     b.claim(port.number, f"port number {port.number}", found[0])
-    b.claim(len({(it.system, it.key, it.port) for it in actors}) == 1, "identifiers and key stay", found[0], found[-1])
+    b.holds(len({(it.system, it.key, it.port) for it in actors}) == 1, "identifiers and key stay", found[0], found[-1])
     if not actors[0].key:
         b.note("the key is 0")
 
@@ -110,7 +110,7 @@ def echo(b: Bench) -> None:
         same = told and replace(told, state=own.state) == own
         b.claim(same, f"the partner told is {end(told) if told else 'none'}", seen)
         alike = told and not (told.state ^ own.state) & (State.ACTIVITY | State.TIMEOUT | State.AGGREGATION)
-        b.claim(alike, "Activity, Timeout and Aggregation of it are right", seen)
+        b.holds(alike, "Activity, Timeout and Aggregation of it are right", seen)
 
 
 @group.test("07", "6.4.2.3, 6.4.9", "State bits of the partner are recorded",
@@ -123,7 +123,7 @@ def echoed_bits(b: Bench) -> None:
         mark, sent = b.mark(), b.say(**bits)
         want = b.partner().lacpdu().actor.state & ECHOED
         seen = b.first(1, mark, lambda pdu: pdu.partner.state & ECHOED == want, 2)
-        b.claim(seen, f"after {bits} the partner's state is told with {words(want)}", sent, seen)
+        b.holds(seen, f"after {bits} the partner's state is told with {words(want)}", sent, seen)
 
 
 @group.test("08", "6.4.2.3", "Timeout and Aggregation are told, and stay", "take LACPDUs",
@@ -134,6 +134,6 @@ def steady_bits(b: Bench) -> None:
     b.wait(0.5)
     found = sample(b)
     states = [it.lacpdu.actor.state for it in found if it.lacpdu]
-    b.claim(not any(it & (State.DEFAULTED | State.EXPIRED) for it in states), "neither Defaulted nor Expired", *found[:2])
-    b.claim(len({it & 7 for it in states}) == 1, f"Activity, Timeout, Aggregation stay: {words(states[0] & 7)}", *found[:2])
-    b.claim(states[0] & State.AGGREGATION and states[0] & State.SYNCHRONIZATION, "aggregatable, and synchronized", found[0])
+    b.holds(not any(it & (State.DEFAULTED | State.EXPIRED) for it in states), "neither Defaulted nor Expired", *found[:2])
+    b.holds(len({it & 7 for it in states}) == 1, f"Activity, Timeout, Aggregation stay: {words(states[0] & 7)}", *found[:2])
+    b.holds(states[0] & State.AGGREGATION and states[0] & State.SYNCHRONIZATION, "aggregatable, and synchronized", found[0])

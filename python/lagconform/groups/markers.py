@@ -92,7 +92,7 @@ def echoes(b: Bench) -> None:
     seen = next(iter(b.markers(1, mark)), None)
     if not seen:
         raise NotHere("no response came (MK-01)")
-    b.claim(seen.octets[18:30] == sent.octets[18:30], "port, system and identifier are the same", sent, seen)
+    b.holds(seen.octets[18:30] == sent.octets[18:30], "port, system and identifier are the same", sent, seen)
     b.claim(seen.octets[14] == 2 and seen.octets[16:18] == b"\2\x10", f"subtype, TLV type and length are 02, 02 10: {seen.octets[14:18].hex(' ')}", seen)
     b.claim(seen.octets[32:34] == b"\0\0" and len(seen.octets) == 124, f"Terminator 0/0, frame of 124 octets: {len(seen.octets)}", seen)
 
@@ -107,9 +107,9 @@ def addresses(b: Bench) -> None:
         raise Stop("no answer this time")
     b.claim(seen.octets[:6] == GROUP, f"destination {mac(seen.octets[:6])}", seen)
     individual = not seen.octets[6] & 1 and seen.octets[6:12] != sent.octets[6:12]
-    b.claim(individual, f"source {mac(seen.octets[6:12])} is individual, and not ours", seen)
+    b.holds(individual, f"source {mac(seen.octets[6:12])} is individual, and not ours", seen)
     own = b.frame()
-    b.claim(seen.octets[6:12] == own.octets[6:12], "and is that of its LACPDUs", own, seen)
+    b.holds(seen.octets[6:12] == own.octets[6:12], "and is that of its LACPDUs", own, seen)
 
 
 @group.test("04", "6.5.3.3, 6.5.4.2", "Version, pad and reserved octets of the response",
@@ -122,7 +122,7 @@ def pads(b: Bench) -> None:
     wants_answers(b)
     odd = put(put(put(marker(b), 1, b"\2"), 16, b"\xa5\x5a"), 20, b"\xa5" * 90)
     sent, seen = ask(b, odd, tries=3)
-    b.claim(seen, "it is answered", sent, seen)
+    b.holds(seen, "it is answered", sent, seen)
     if not seen:
         return
     for what, at, count, new in ("version", 1, 1, b"\1"), ("pad", 16, 2, bytes(2)), ("reserved octets", 20, 90, bytes(90)):
@@ -158,7 +158,7 @@ def burst(b: Bench) -> None:
     most = most_within([it.time for it in found], 0.98)
     text = f"{most} Marker PDUs within one second; {len(b.markers(1, mark))} of 40 markers were answered"
     b.claim(most <= 10, text, *found[:2], *found[-2:])
-    b.claim(ask(b, marker(b), tries=3)[1], "afterwards a marker is answered")
+    b.holds(ask(b, marker(b), tries=3)[1], "afterwards a marker is answered")
 
 
 @group.test("07", "6.5.4.2", "A response is not answered", "send a Marker Response that nobody asked for", rule="no Marker PDU comes back",
@@ -201,11 +201,11 @@ def malformed(b: Bench) -> None:
         back = pdus(b, mark)
         told.append(f"{what}: {'answered' if back else 'not answered'}")
         if len(payload) == 14:
-            b.claim(not back, "a marker that lacks half of its identifier is not answered", sent, *back[:1])
+            b.holds(not back, "a marker that lacks half of its identifier is not answered", sent, *back[:1])
     b.note("; ".join(told))
     sent, seen = ask(b, marker(b), tries=3)
-    b.claim(seen, "afterwards a right marker is answered", sent, seen)
-    b.claim(b.carries(), "and the link carries", b.frame())
+    b.holds(seen, "afterwards a right marker is answered", sent, seen)
+    b.holds(b.carries(), "and the link carries", b.frame())
 
 
 @group.test("10", "6.2.7, 6.5.4", "A port that does not collect answers, too", "be a partner out of sync: the device is ATTACHED",
@@ -223,13 +223,13 @@ def not_collecting(b: Bench) -> None:
     if not attached or b.bits() & State.COLLECTING:
         raise Stop("it is not ATTACHED")
     sent, seen = ask(b, marker(b), tries=3)
-    b.claim(seen, "in ATTACHED a marker is answered", sent, seen)
+    b.holds(seen, "in ATTACHED a marker is answered", sent, seen)
     b.silence()
     if not b.first(1, b.mark(), on_defaults, 9):
         b.note("it is not on defaults after 9 s")
         return
     sent, seen = ask(b, marker(b), tries=3)
-    b.claim(seen, "on defaults a marker is answered", sent, seen)
+    b.holds(seen, "on defaults a marker is answered", sent, seen)
 
 
 @group.test("11", "6.5.4", "The response leaves on the link of the marker", "carry on both links", "send markers on link 1, then on link 2",
@@ -256,4 +256,4 @@ def unicast(b: Bench) -> None:
     wants_answers(b)
     sent, seen = ask(b, marker(b), to=b.frame().octets[6:12])
     b.note(f"it is {'answered' if seen else 'not answered'}")
-    b.claim(b.carries(), "the link carries", sent, seen)
+    b.holds(b.carries(), "the link carries", sent, seen)

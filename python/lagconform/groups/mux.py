@@ -39,7 +39,7 @@ def waits(b: Bench) -> None:
     partner.speak()
     first = b.first(1, mark, lambda pdu: pdu.partner.system == partner.me.system, 2)
     told = first.lacpdu.actor.state if first and first.lacpdu else None
-    b.claim(told is not None and not told & State.SYNCHRONIZATION, "the first LACPDU that names us is not synchronized", first)
+    b.holds(told is not None and not told & State.SYNCHRONIZATION, "the first LACPDU that names us is not synchronized", first)
     seen = b.first(1, mark, lambda pdu: pdu.partner.system == partner.me.system and pdu.actor.state & State.SYNCHRONIZATION, 6)
     b.timed("it is synchronized", sent, seen, 2, 2, timer=True)
 
@@ -53,7 +53,7 @@ def collects(b: Bench) -> None:
     b.wait(1.5)
     system = b.partner().me.system
     wrong = list(b.heard(1, mark, lambda pdu: pdu.actor.state & CARRIES and pdu.partner.system == system))
-    b.claim(not wrong, "it does not collect before", *wrong[:2])
+    b.holds(not wrong, "it does not collect before", *wrong[:2])
     mark, sent = b.mark(), b.say(sync=True)
     seen = b.first(1, mark, lambda pdu: pdu.actor.state & State.COLLECTING, 3)
     b.timed("it collects", sent, seen, 0, PROMPT)
@@ -62,7 +62,7 @@ def collects(b: Bench) -> None:
     b.note("coupled control: it distributes without Collecting of the partner" if coupled else "independent control: it waits for Collecting")
     mark, sent = b.mark(), b.say(collecting=True, distributing=True)
     b.first(1, mark, lambda pdu: pdu.actor.state & State.DISTRIBUTING, 1.5)
-    b.claim(b.carries(), "with Collecting of the partner it distributes", b.frame())
+    b.holds(b.carries(), "with Collecting of the partner it distributes", b.frame())
 
 
 @group.test("03", "6.4.15", "The partner falls out of sync", "carry", "say Synchronization 0",
@@ -76,7 +76,7 @@ def back_to_attached(b: Bench) -> None:
     b.timed("it neither collects nor distributes", sent, seen, 0, PROMPT)
     b.wait(1.5)
     wrong = list(b.heard(1, mark, lambda pdu: not pdu.actor.state & State.SYNCHRONIZATION))
-    b.claim(not wrong, "it stays synchronized: ATTACHED", *wrong[:2])
+    b.holds(not wrong, "it stays synchronized: ATTACHED", *wrong[:2])
     mark = b.mark()
     b.partner().forced.clear()
     sent = b.partner().send()
@@ -94,7 +94,7 @@ def partner_stops_collecting(b: Bench) -> None:
     b.wait(2.2)
     both = State.COLLECTING | State.SYNCHRONIZATION
     wrong = list(b.heard(1, mark, lambda pdu: pdu.actor.state & both != both))
-    b.claim(not wrong and list(b.heard(1, mark)), "it is synchronized and collects all the time", *wrong[:2])
+    b.holds(not wrong and list(b.heard(1, mark)), "it is synchronized and collects all the time", *wrong[:2])
     b.note("it distributes on: coupled control" if b.bits() & State.DISTRIBUTING else "it stops distributing: independent control")
 
 
@@ -157,7 +157,7 @@ def alternates(b: Bench) -> None:
             missed.append(sent)
     b.claim(not missed, f"{6 - len(missed)} of 6 changes were followed within 0.7 s", *missed[:3])
     wrong = list(b.heard(1, start, lambda pdu: pdu.actor.state & State.DISTRIBUTING and not pdu.partner.state & State.SYNCHRONIZATION))
-    b.claim(not wrong, "Distributing is never told beside a partner out of sync", *wrong[:3])
+    b.holds(not wrong, "Distributing is never told beside a partner out of sync", *wrong[:3])
 
 
 @group.test("08", "6.4.15, 6.3.5", "An individual partner", "be a partner that is not aggregatable, in sync",
@@ -176,4 +176,4 @@ def individual(b: Bench) -> None:
         b.timed("it is synchronized", sent, seen, 2, 2, timer=True)
     b.wait(0.7)
     b.note("it carries on an individual link" if b.carries() else "it does not carry on an individual link")
-    b.claim(not b.device().partner.state & State.AGGREGATION, "Aggregation of the partner is told as 0", b.frame())
+    b.holds(not b.device().partner.state & State.AGGREGATION, "Aggregation of the partner is told as 0", b.frame())

@@ -111,7 +111,7 @@ def expired_is_fast(b: Bench) -> None:
     found = list(b.heard(1, mark, lambda pdu: pdu.actor.state & State.EXPIRED))
     b.claim(len(found) >= 2, f"{len(found)} LACPDUs in EXPIRED", *found[:4])
     long = [it for it in found if it.lacpdu and not it.lacpdu.partner.state & State.TIMEOUT]
-    b.claim(not long, "partner Timeout is told as short", *long[:2] or found[:2])
+    b.holds(not long, "partner Timeout is told as short", *long[:2] or found[:2])
 
 
 @group.test("06", "6.4.13", "A passive partner gets LACPDUs of an active device", "carry, with Activity 0 of our own",

@@ -38,7 +38,7 @@ def current(b: Bench) -> None:
     seen = b.first(1, mark, lambda pdu: pdu.partner.system == b.partner().me.system, 3)
     b.timed("the new partner is named", sent, seen, 0, 1 + TIMERS)
     pdu = seen.lacpdu if seen else None
-    b.claim(pdu and not pdu.actor.state & (State.EXPIRED | State.DEFAULTED), "neither Expired nor Defaulted", seen)
+    b.holds(pdu and not pdu.actor.state & (State.EXPIRED | State.DEFAULTED), "neither Expired nor Defaulted", seen)
 
 
 def differs(field: str) -> Run:
@@ -53,7 +53,7 @@ def differs(field: str) -> Run:
         b.timed(f"with another {field} of the device it stops carrying", sent, seen, 0, PROMPT)
         b.wait(1.3)
         back = next(b.heard(1, seen.number, lambda pdu: pdu.actor.state & CARRIES), None) if seen else None
-        b.claim(not back, "and stays so", back)
+        b.holds(not back, "and stays so", back)
         mark, partner.says = b.mark(), None
         sent = partner.send()
         seen = b.first(1, mark, carries, 4)
@@ -114,7 +114,7 @@ def out_of_sync(b: Bench) -> None:
     partner.speak()
     b.wait(5)
     wrong = list(b.heard(1, mark, lambda pdu: pdu.partner.system == partner.me.system and pdu.actor.state & CARRIES))
-    b.claim(not wrong, "it neither collects nor distributes", *wrong[:3])
+    b.holds(not wrong, "it neither collects nor distributes", *wrong[:3])
     b.claim(b.bits() & State.SYNCHRONIZATION, "it is synchronized itself", b.frame())
 
 
@@ -128,7 +128,7 @@ def passive(b: Bench) -> None:
     mark = b.mark()
     b.partner().speak()
     seen = b.first(1, mark, lambda pdu: carries(pdu) and not pdu.partner.state & State.ACTIVITY, 6)
-    b.claim(seen, "it carries for a passive partner", seen)
+    b.holds(seen, "it carries for a passive partner", seen)
 
 
 @group.test("11", "6.4.9 (recordPDU)", "A passive partner that takes the device for passive", "carry with a passive partner",
@@ -192,11 +192,11 @@ def link_down(b: Bench) -> None:
     if not seen or not seen.lacpdu:
         raise Stop("no LACPDU after the link came back")
     told = seen.lacpdu.actor
-    b.claim(not told.state & CARRIES, f"the first one does not carry: {end(told)}", seen)
-    b.claim(told.state & (State.EXPIRED | State.DEFAULTED), "and is Expired (or on defaults)", seen)
+    b.holds(not told.state & CARRIES, f"the first one does not carry: {end(told)}", seen)
+    b.holds(told.state & (State.EXPIRED | State.DEFAULTED), "and is Expired (or on defaults)", seen)
     b.partner().speak()
     again = b.first(1, mark, carries, 6)
-    b.claim(again, "it carries again", again)
+    b.holds(again, "it carries again", again)
 
 
 @group.test("15", "6.4.12 (BEGIN), 6.4.15", "The device starts anew", "carry",
@@ -218,4 +218,4 @@ def begins(b: Bench) -> None:
     wrong = [it for it in after if it.lacpdu and it.lacpdu.actor.state & (State.SYNCHRONIZATION | CARRIES)]
     told = end(first.lacpdu.actor)
     b.claim(not wrong, f"{len(wrong)} of {len(after)} LACPDUs in its first second are synchronized or carry; the first one: {told}", first, *wrong[:3])
-    b.claim(b.carries(), "it carries again", b.frame())
+    b.holds(b.carries(), "it carries again", b.frame())

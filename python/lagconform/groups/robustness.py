@@ -33,8 +33,8 @@ def storm(b: Bench, frames: Iterable[bytes], gap: float) -> None:
     if not found:
         b.claim(False, "the device goes silent")
         return
-    b.claim(not wrong, f"it carries all the time, through {count} frames", *wrong[:2])
-    b.claim(b.now() - found[-1].time < 2 + b.slack, "and it goes on sending", found[-1])
+    b.holds(not wrong, f"it carries all the time, through {count} frames", *wrong[:2])
+    b.holds(b.now() - found[-1].time < 2 + b.slack, "and it goes on sending", found[-1])
 
 
 def out_of_sync(b: Bench) -> bytes:
@@ -118,7 +118,7 @@ def flood(b: Bench) -> None:
     b.wait(2)
     found = list(b.heard(1, mark))
     wrong = [it for it in found if it.lacpdu and not carries(it.lacpdu)]
-    b.claim(found and not wrong, "it carries all the time", *wrong[:2])
+    b.holds(found and not wrong, "it carries all the time", *wrong[:2])
     b.claim(most_within([it.time for it in found], 0.75) <= 3, f"{len(found)} LACPDUs come", *found[:4])
 
 

@@ -42,7 +42,7 @@ def apart(b: Bench, seconds: float = 8, one: bool = True) -> None:
         told = "; ".join(f"link {it}: {end(b.device(it).actor)}" for it in (1, 2))
         b.claim(True, f"after {seconds:g} s it does not carry on both: {told}", *frames)
         if one:
-            b.claim(b.carries(1) or b.carries(2), "it carries on one", *frames)
+            b.holds(b.carries(1) or b.carries(2), "it carries on one", *frames)
         return
     b.note("both links carry by their LACPDUs: in one aggregator, or in two")
     try:
@@ -65,7 +65,7 @@ def aggregates(b: Bench) -> None:
     mark = b.mark()
     b.wait(4)
     wrong = [it for link in (1, 2) for it in b.heard(link, mark, lambda pdu: not carries(pdu))]
-    b.claim(not wrong, "both carry for 4 s", *wrong[:2])
+    b.holds(not wrong, "both carry for 4 s", *wrong[:2])
     try:
         found = flows(b)
         b.spreads = all(found.values())
@@ -141,7 +141,7 @@ def leaves(b: Bench) -> None:
     b.timed("link 2 stops carrying", sent, seen, 0, PROMPT)
     b.wait(1)
     wrong = list(b.heard(1, mark, lambda pdu: not carries(pdu)))
-    b.claim(not wrong, "link 1 carries all the time", *wrong[:2])
+    b.holds(not wrong, "link 1 carries all the time", *wrong[:2])
     apart(b, 6)
 
 
@@ -159,7 +159,7 @@ def one_silent(b: Bench) -> None:
     b.timed("link 2 stops carrying", sent, seen, 3, 3, timer=True)
     b.wait(1)
     wrong = list(b.heard(1, mark, lambda pdu: not carries(pdu)))
-    b.claim(not wrong, "link 1 carries all the time", *wrong[:2])
+    b.holds(not wrong, "link 1 carries all the time", *wrong[:2])
 
 
 @group.test("09", "6.4.14, 6.4.9", "The partner becomes another system on both links", "carry on both links", "be another system on both",
@@ -174,9 +174,9 @@ def restarts(b: Bench) -> None:
         partner.send()
     for link in (1, 2):
         seen = b.first(link, mark, lambda pdu: not pdu.actor.state & State.SYNCHRONIZATION, 2)
-        b.claim(seen, f"link {link} detaches", seen)
+        b.holds(seen, f"link {link} detaches", seen)
     both = b.until(8, lambda: all(b.carries(it) and b.names_us(it) for it in (1, 2)))
-    b.claim(both, "both carry again", b.frame(1), b.frame(2))
+    b.holds(both, "both carry again", b.frame(1), b.frame(2))
 
 
 def reflect(b: Bench, across: bool, seconds: float) -> int:
@@ -241,6 +241,6 @@ def stranger(b: Bench) -> None:
         partner.send()
         b.wait(0.5)
     wrong = list(b.heard(1, mark, lambda pdu: not carries(pdu)))
-    b.claim(not wrong, "link 1 carries all the time", *wrong[:2])
+    b.holds(not wrong, "link 1 carries all the time", *wrong[:2])
     wrong = list(b.heard(2, mark, lambda pdu: pdu.actor.state & CARRIES))
     b.claim(len(wrong) <= 1, f"{len(wrong)} LACPDUs of link 2 carry while its partner changes twice a second", *wrong[:3])

@@ -43,8 +43,8 @@ def expires(b: Bench) -> None:
     seen = b.first(1, mark, lambda pdu: pdu.actor.state & IS_OVER or not carries(pdu), 5)
     b.timed("the partner expires", sent, seen, 3, 3, timer=True)
     pdu = seen.lacpdu if seen else None
-    b.claim(pdu and not pdu.actor.state & CARRIES, "neither collects nor distributes then", seen)
-    b.claim(pdu and pdu.actor.state & State.EXPIRED, "and Expired is 1", seen)
+    b.holds(pdu and not pdu.actor.state & CARRIES, "neither collects nor distributes then", seen)
+    b.holds(pdu and pdu.actor.state & State.EXPIRED, "and Expired is 1", seen)
 
 
 @group.test("03", "6.4.12", "More silence brings defaults", "carry", "say nothing for 7 s",
@@ -61,7 +61,7 @@ def defaults(b: Bench) -> None:
     right = seen and 6 - more <= seen.time - sent.time <= 7 + more
     b.claim(right, f"defaults are told {passed}; has to be 6 to 7 s, within {more:.2f} s", sent, seen)
     pdu = seen.lacpdu if seen else None
-    b.claim(pdu and pdu.partner.system != b.partner().me.system, "our system is no longer named", seen)
+    b.holds(pdu and pdu.partner.system != b.partner().me.system, "our system is no longer named", seen)
 
 
 @group.test("04", "6.4.12", "Each LACPDU starts current_while again", "carry", "send an LACPDU every 2.5 s, four times",
@@ -74,7 +74,7 @@ def again(b: Bench) -> None:
     b.partner().keep_pace(2.5)
     b.wait(10.2)
     wrong = list(b.heard(1, mark, lambda pdu: pdu.actor.state & IS_OVER or not carries(pdu)))
-    b.claim(not wrong and list(b.heard(1, mark)), "it carries all the time", *wrong[:3])
+    b.holds(not wrong and list(b.heard(1, mark)), "it carries all the time", *wrong[:3])
 
 
 @group.test("05", "6.4.12, 6.4.15", "From EXPIRED back without a wait", "carry", "say nothing until Expired", "send the same LACPDU again",

@@ -74,7 +74,7 @@ def refuses(number: str, title: str, why: str, clause: str, change: Change = lam
         else:
             b.note(f"it is {'taken' if seen else 'not taken'}: both are right")
         wrong = list(b.heard(1, sent.number, lambda pdu: pdu.actor.state & STAYS != STAYS))
-        b.claim(not wrong and b.carries(), "the link stays as it was", sent, *wrong[:2])
+        b.holds(not wrong and b.carries(), "the link stays as it was", sent, *wrong[:2])
 
     rule = "not taken, and the link stays as it was" if must else "either is right; the link stays as it was"
     step = "send one such frame, which as an LACPDU says Collecting and Distributing 0"
