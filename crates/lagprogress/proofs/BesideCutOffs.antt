@@ -4,14 +4,14 @@ use Rattle.lagprogress.proofs.Common.{same_Some, Choice, Selected, Party, is_sel
 use Rattle.lagprogress.proofs.Common.{Defaulted, Machines, mux_rows, periodic_rows, receive_rows, RunsToRest, count_down, SystemPort, MuxIsSettled}
 use Rattle.lagprogress.proofs.Common.{occupied, SystemState, all-get, found_place, ports_rise, Algorithms, LinkState, WorldState, half, port_at}
 use Rattle.lagprogress.proofs.Common.{EnoughAggregators, EnoughLinks, OneIsActive, EachLinkAgreesBesideCutOffsByHosts}
-use Rattle.lagprogress.proofs.Common.{EachLinkComesUpBesideCutOffsByHosts, IsBundleBesideCutOffs, IsCutOff, NoneIsHeldBesideCutOffs, HostRounds}
-use Rattle.lagprogress.proofs.Common.{IsHealthyAt, WantsAggregator, IsSteady, IsTimed}
+use Rattle.lagprogress.proofs.Common.{EachLinkComesUpBesideCutOffsByHosts, IsBundleBesideCutOffs, IsCutOff, NoneIsHeldBesideCutOffs}
+use Rattle.lagprogress.proofs.Common.{NoneIsHeldBesideCutOffsByHosts, HostRounds, IsHealthyAt, WantsAggregator, IsSteady, IsTimed}
 use Rattle.lagprogress.proofs.Bundling.{Meets, agree_of, distribute_of, never_stands, one_meet, one_wakes}
 use Rattle.lagprogress.proofs.Climbing.{Ripe, Rising, rising_first, rising_rows, state_not}
 use Rattle.lagprogress.proofs.CutOffLemmas.{Severed, WereDown, cut_round, cut_since, KeptUnheard, cut_off_is_defaulted_by_hosts}
 use Rattle.lagprogress.proofs.EachPort.{KeptBySettling}
 use Rattle.lagprogress.proofs.EachRound.{EachAt, hosts_on, hosts_steady}
-use Rattle.lagprogress.proofs.Freeing.{freed_of}
+use Rattle.lagprogress.proofs.Freeing.{freed_by, freed_of}
 use Rattle.lagprogress.proofs.Hearing.{EnabledKeep, no, not_down, times_keep}
 use Rattle.lagprogress.proofs.OnePort.{AtPort, at_number, mux_leaves, periodic_leaves, settling_leaves}
 use Rattle.lagprogress.proofs.Selecting.{finds_aggregator}
@@ -180,3 +180,7 @@ each_link_agrees_beside_by_hosts gives n i l old new sound b y enough h =
 pub none_is_held_beside : (gives : Algorithms) → NoneIsHeldBesideCutOffs gives
 none_is_held_beside gives n i l old new s b y enough h left =
     freed_of OneIsActive (λ s n. IsCutOff s n old) 931 gives old (beside gives old b) i l y n new s (omega (arith, enough)) h left
+
+pub none_is_held_beside_by_hosts : (gives : Algorithms) → NoneIsHeldBesideCutOffsByHosts gives
+none_is_held_beside_by_hosts gives n m i l old mid new s b y enough h late more left =
+    freed_by OneIsActive (λ s n. IsCutOff s n old) 931 gives old (beside gives old b) i l y n m mid new s (omega (arith, enough)) h late more left

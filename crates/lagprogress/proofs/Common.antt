@@ -140,8 +140,9 @@ pub use Rattle.lagprogress.specs.Freed.{CarriersAreUp, EachReachedHasCarriersUp,
 pub use Rattle.lagprogress.specs.Freed.{NoneIsHeldOnActiveEnds, NoneIsHeldOnEnds, NoneIsHeldWhereActive, NothingIsHeld, carrier_of, held_on}
 pub use Rattle.lagprogress.specs.Hearing.{IsNoticed, LeavesUnheard, processed_on, timeout_time}
 pub use Rattle.lagprogress.specs.Heartbeat.{EachCall, IsHeard, IsSilentShortly, LeavesUpAndSilent, takes_down, tick_count}
-pub use Rattle.lagprogress.specs.HostFreed.{DrainingRounds, IsDrainingRound, MovesNone, NoneIsHeldOnActiveEndsByHosts, NoneIsHeldOnEndsByHosts}
-pub use Rattle.lagprogress.specs.HostFreed.{NothingIsDue, RoundIsDraining}
+pub use Rattle.lagprogress.specs.HostFreed.{DrainingRounds, IsDrainingRound, MovesNone, NoneIsHeldBesideCutOffsByHosts, NoneIsHeldOnActiveEndsByHosts}
+pub use Rattle.lagprogress.specs.HostFreed.{NoneIsHeldOnEndsByHosts, NoneIsHeldWhereActiveByHosts, NothingIsDue, NothingIsHeldByHosts}
+pub use Rattle.lagprogress.specs.HostFreed.{RoundIsDraining}
 pub use Rattle.lagprogress.specs.HostRounds.{ActiveEndsKnowByHosts, AfterTick, AskingIsHostRound, Asks, AsksAfterTick, AsksIn, AtSomeWorld}
 pub use Rattle.lagprogress.specs.HostRounds.{EachActiveLinkAgreesByHosts, EachActiveLinkComesUpByHosts, EachLinkAgreesByHosts, EachLinkComesUpByHosts}
 pub use Rattle.lagprogress.specs.HostRounds.{EndsKnowByHosts, HostRounds, IsBetweenTicks, IsHostRound, IsTickOf, LoopIsHostRound, RoundIsHostRound}

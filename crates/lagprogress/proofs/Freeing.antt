@@ -1,12 +1,12 @@
 -- No conversation stays held on a port of a healthy cable of a bundle.
-use Rattle.lagprogress.proofs.Common.{List, None, Option, Some, [], ap, arith, inl, inr, length, refl, subst, sym, ℕ, ◌++◌, ◌+◌, ◌-◌, ◌<◌, ◌∙◌, ◌∷◌}
-use Rattle.lagprogress.proofs.Common.{◌≡◌, ◌≤◌, ◌⊎◌, nat_tests, none-some, same_Some, AllByRecursion, all-append, One, Side, peer, value_of}
+use Rattle.lagprogress.proofs.Common.{List, None, Option, Some, [], ap, arith, inl, inr, length, refl, subst, suc, sym, zero, ℕ, ◌++◌, ◌+◌, ◌-◌, ◌<◌}
+use Rattle.lagprogress.proofs.Common.{◌∙◌, ◌∷◌, ◌≡◌, ◌≤◌, ◌⊎◌, nat_tests, none-some, same_Some, AllByRecursion, all-append, One, Side, peer, value_of}
 use Rattle.lagprogress.proofs.Common.{Assignment, Flushing, On, Wanted, after_mark, after_release, after_tick, IsConversation, Table, assignment_of}
 use Rattle.lagprogress.proofs.Common.{held_unless_on, SystemState, Event, Reply, Algorithms, WorldSteps, side_of, LinkState, WorldState, half}
 use Rattle.lagprogress.proofs.Common.{port_at, BothAreActive, IsBundle, OneIsActive, CarriersAreUp, HasIdentifierLeft, NoneIsHeld, NoneIsHeldOn}
 use Rattle.lagprogress.proofs.Common.{NoneIsHeldOnActiveEnds, NoneIsHeldOnEnds, NoneIsHeldWhereActive, NothingIsHeld, carrier_of, held_on}
-use Rattle.lagprogress.proofs.Common.{DrainingRounds, NoneIsHeldOnActiveEndsByHosts, NoneIsHeldOnEndsByHosts, HostRounds, IsDeliver, IsHealthyAt}
-use Rattle.lagprogress.proofs.Common.{IsRound, Rounds, asks_all, ticks_of_both}
+use Rattle.lagprogress.proofs.Common.{DrainingRounds, NoneIsHeldOnActiveEndsByHosts, NoneIsHeldOnEndsByHosts, NoneIsHeldWhereActiveByHosts}
+use Rattle.lagprogress.proofs.Common.{NothingIsHeldByHosts, HostRounds, IsDeliver, IsHealthyAt, IsRound, Rounds, asks_all, ticks_of_both}
 use Rattle.lagprogress.proofs.OneCable.{ticks}
 use Rattle.lagprogress.proofs.RoundEvents.{asked_half, came_half}
 use Rattle.lagprogress.proofs.Bundling.{Meets, Nowhere, awake_of, both_active, one_active, said, ups_of, named_of}
@@ -22,6 +22,7 @@ use Rattle.lagprogress.proofs.OneRound.{Nothing}
 use Rattle.lagprogress.proofs.HostRound.{left}
 use Rattle.lagprogress.proofs.HostLoops.{rounds_are_host_rounds, rounds_are_draining}
 use Rattle.lagscript.specs.declared.event.Event.TheVariants as event
+use Rattle.lagprogress.proofs.Lasting.{as_before, still_heard}
 
 -- at first a marker may be wanted, and any response may be waited for
 fine_first : (p : ℕ) (a : Assignment) → Fine p 0 (Unit {0}) (λ id. ⊥) a
@@ -241,3 +242,39 @@ nothing_is_held gives n old new s b carriers enough h left = nothing_held OneIsA
 pub none_is_held_where_active : (gives : Algorithms) → NoneIsHeldWhereActive gives
 none_is_held_where_active gives n old new s b carriers enough h left = nothing_held BothAreActive gives n old new s b carriers h
     (λ i l y. none_is_held_on_active_ends gives n i l old new s b y enough h left)
+
+-- so it is by rounds of hosts
+
+draining_are_host : (gives : Algorithms) (n : ℕ) (old new : WorldState) → DrainingRounds gives n old new → HostRounds gives n old new
+draining_are_host gives zero old new h = h
+draining_are_host gives (suc n) old new h = (h.0, draining_are_host gives n old h.0 h.1, h.2.round)
+
+hosts_then : (gives : Algorithms) (n m : ℕ) (old mid new : WorldState) → HostRounds gives n old mid → HostRounds gives m mid new
+    → (k : ℕ) × HostRounds gives k old new
+hosts_then gives n zero old mid new h more = (n, subst (HostRounds gives n old) (sym more) h)
+hosts_then gives n (suc m) old mid new h more = let r = hosts_then gives n m old mid more.0 h more.1 in (suc r.0, (more.0, r.1, more.2))
+
+nothing_held_by_hosts : (Holds : LinkState → WorldState → Type 0) (gives : Algorithms) (n : ℕ) (old new : WorldState) (s : Side) → IsBundle Holds old
+    → HostRounds gives n old new → CarriersAreUp (half s new).state
+    → ((i : ℕ) (l : LinkState) → IsHealthyAt i l old → NoneIsHeldOn (port_at s l) (half s new).state) → NoneIsHeld (half s new).state
+nothing_held_by_hosts Holds gives n old new s b h carriers none g k is = by_port (held_on (assignment_of (half s new).state.table g k)) refl
+  where
+    by_port : (o : Option ℕ) → held_on (assignment_of (half s new).state.table g k) ≡ o → held_on (assignment_of (half s new).state.table g k) ≡ None
+    by_port None e = e
+    by_port (Some p) e =
+        let up = carriers g k p is (held_carries (assignment_of (half s new).state.table g k) p e) in
+        let it = still_heard Holds s old new (as_before gives n old new b.steady h s) b.heard up.0 up.1 up.2 up.4 in
+        let number : port_at s it.link ≡ p = it.joins ∙ up.3 in
+        absurd (none it.index it.link it.healthy g k is (e ∙ ap (λ (q : ℕ). Some q) (sym number)))
+
+pub nothing_is_held_by_hosts : (gives : Algorithms) → NothingIsHeldByHosts gives
+nothing_is_held_by_hosts gives n m old mid new s b enough h late more left carriers =
+    let all = hosts_then gives n m old mid new h (draining_are_host gives m mid new more) in
+    nothing_held_by_hosts OneIsActive gives all.0 old new s b all.1 carriers
+    (λ i l y. none_is_held_on_ends_by_hosts gives n m i l old mid new s b y enough h late more left)
+
+pub none_is_held_where_active_by_hosts : (gives : Algorithms) → NoneIsHeldWhereActiveByHosts gives
+none_is_held_where_active_by_hosts gives n m old mid new s b enough h late more left carriers =
+    let all = hosts_then gives n m old mid new h (draining_are_host gives m mid new more) in
+    nothing_held_by_hosts BothAreActive gives all.0 old new s b all.1 carriers
+    (λ i l y. none_is_held_on_active_ends_by_hosts gives n m i l old mid new s b y enough h late more left)

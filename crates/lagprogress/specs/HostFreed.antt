@@ -9,7 +9,8 @@ use Rattle.lagscript.specs.declared.event.Event.TheVariants as event
 use Rattle.lagworld.specs.Events.{Algorithms}
 use Rattle.lagworld.specs.State.{LinkState, WorldState, half, port_at}
 use Rattle.lagprogress.specs.Bundle.{BothAreActive, IsBundle, OneIsActive}
-use Rattle.lagprogress.specs.Freed.{HasIdentifierLeft, NoneIsHeldOn}
+use Rattle.lagprogress.specs.CutOff.{IsBundleBesideCutOffs}
+use Rattle.lagprogress.specs.Freed.{CarriersAreUp, HasIdentifierLeft, NoneIsHeld, NoneIsHeldOn}
 use Rattle.lagprogress.specs.HostRounds.{AfterTick, HostRounds, IsHostRound}
 use Rattle.lagprogress.specs.Rounds.{AtEnd, IsHealthyAt, IsRound, up_if_both_active, up_if_one_is}
 use Rattle.lagprogress.specs.Steady.{IsSteady}
@@ -47,6 +48,24 @@ NoneIsHeldOnActiveEndsByHosts gives = (n m i : ℕ) (l : LinkState) (old mid new
 abbrev pub NoneIsHeldOnEndsByHosts : Algorithms → Type 0
 NoneIsHeldOnEndsByHosts gives = (n m i : ℕ) (l : LinkState) (old mid new : WorldState) (s : Side) → IsBundle OneIsActive old
     → IsHealthyAt i l old → up_if_one_is ≤ n → HostRounds gives n old mid → 30 ≤ m → DrainingRounds gives m mid new
+    → HasIdentifierLeft (half s new).state → NoneIsHeldOn (port_at s l) (half s new).state
+
+-- And no conversation of a system is held at all, if in the end the links of the ports are up that carry one, or on which one is held.
+abbrev pub NoneIsHeldWhereActiveByHosts : Algorithms → Type 0
+NoneIsHeldWhereActiveByHosts gives = (n m : ℕ) (old mid new : WorldState) (s : Side) → IsBundle BothAreActive old → up_if_both_active ≤ n
+    → HostRounds gives n old mid → 30 ≤ m → DrainingRounds gives m mid new → HasIdentifierLeft (half s new).state
+    → CarriersAreUp (half s new).state → NoneIsHeld (half s new).state
+
+abbrev pub NothingIsHeldByHosts : Algorithms → Type 0
+NothingIsHeldByHosts gives = (n m : ℕ) (old mid new : WorldState) (s : Side) → IsBundle OneIsActive old → up_if_one_is ≤ n
+    → HostRounds gives n old mid → 30 ≤ m → DrainingRounds gives m mid new → HasIdentifierLeft (half s new).state
+    → CarriersAreUp (half s new).state → NoneIsHeld (half s new).state
+
+-- Beside ports that are cut off: after 962 and 30 no conversation is held on an end of a healthy cable, if its system has an identifier
+-- left in the end.
+abbrev pub NoneIsHeldBesideCutOffsByHosts : Algorithms → Type 0
+NoneIsHeldBesideCutOffsByHosts gives = (n m i : ℕ) (l : LinkState) (old mid new : WorldState) (s : Side) → IsBundleBesideCutOffs old
+    → IsHealthyAt i l old → 962 ≤ n → HostRounds gives n old mid → 30 ≤ m → DrainingRounds gives m mid new
     → HasIdentifierLeft (half s new).state → NoneIsHeldOn (port_at s l) (half s new).state
 
 -- each healthy round is one

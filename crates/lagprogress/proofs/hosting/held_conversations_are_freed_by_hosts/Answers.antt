@@ -1,4 +1,6 @@
-use Rattle.lagprogress.proofs.Freeing.{none_is_held_on_active_ends_by_hosts, none_is_held_on_ends_by_hosts}
+use Rattle.lagprogress.proofs.BesideCutOffs.{none_is_held_beside_by_hosts}
+use Rattle.lagprogress.proofs.Freeing.{none_is_held_on_active_ends_by_hosts, none_is_held_on_ends_by_hosts, none_is_held_where_active_by_hosts}
+use Rattle.lagprogress.proofs.Freeing.{nothing_is_held_by_hosts}
 use Rattle.lagprogress.proofs.HostLoops.{round_is_draining}
 use Rattle.lagprogress.proofs.hosting.held_conversations_are_freed_by_hosts.Goals as goal
 
@@ -10,3 +12,12 @@ returns-clause-ends_one g c = λ one two. none_is_held_on_ends_by_hosts _
 
 pub returns-clause-round : goal.returns-clause-round
 returns-clause-round g c = λ one two. round_is_draining _
+
+pub returns-clause-all_both : goal.returns-clause-all_both
+returns-clause-all_both g c = λ one two. none_is_held_where_active_by_hosts _
+
+pub returns-clause-all_one : goal.returns-clause-all_one
+returns-clause-all_one g c = λ one two. nothing_is_held_by_hosts _
+
+pub returns-clause-beside : goal.returns-clause-beside
+returns-clause-beside g c = λ one two. none_is_held_beside_by_hosts _
