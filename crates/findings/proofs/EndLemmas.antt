@@ -4,7 +4,7 @@ use Rattle.std.specs.Option.{option_eq}
 use Rattle.std.proofs.lemmas.Bool.{and_parts}
 use Rattle.std.proofs.lemmas.Bool.Decides.{Decides-eqb, nat_tests}
 use Rattle.std.proofs.lemmas.Slice.Eq.{bytes_eq-Decides}
-use Rattle.findings.specs.declared.observed.LinkEnd.{LinkEnd}
+use Rattle.findings.specs.declared.slow_frame.LinkEnd.{LinkEnd}
 use Rattle.findings.specs.Ends.{same_end}
 
 pub exact_number : (m n : ℕ) → (m == n) ≡ true → m ≡ n

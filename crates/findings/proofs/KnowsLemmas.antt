@@ -6,30 +6,30 @@ use Rattle.std.proofs.Math.Seq.{take-append_seam}
 use Rattle.std.proofs.lemmas.List.{length-map, length-take, take-append-le}
 use Rattle.std.proofs.lemmas.List.Folds.{list_any-append}
 use Rattle.std.specs.List.{AllByRecursion, AllZip, refill}
-use Rattle.findings.specs.declared.observed.LinkEnd.{LinkEnd}
-use Rattle.findings.specs.declared.observed.Observed.{Observed}
-use Rattle.findings.specs.declared.watch.Watch.{Watch}
+use Rattle.findings.specs.declared.slow_frame.LinkEnd.{LinkEnd}
+use Rattle.findings.specs.declared.slow_frame.SlowFrame.{SlowFrame}
+use Rattle.findings.specs.declared.kept_end.KeptEnd.{KeptEnd}
 use Rattle.findings.specs.Counts.{counted}
 use Rattle.findings.specs.Ends.{Unsent, end_of, same_end}
-use Rattle.findings.specs.Watches.{watched}
+use Rattle.findings.specs.KeptEnds.{kept_end}
 use Rattle.findings.specs.Knows.{IsExact, Knows, Takes, ends_of, first_ends, firsts, frames_beyond, has_end, is_among, with_end}
 use Rattle.findings.proofs.EndLemmas.{exact_end, itself}
-use Rattle.findings.proofs.WatchLemmas.{before_first}
+use Rattle.findings.proofs.KeptEndLemmas.{before_first}
 
-pub still_exact : (now : Observed) (h : List Observed) (olds news : List Watch) → AllZip (Takes now) olds news → AllByRecursion (IsExact h) olds
+pub still_exact : (now : SlowFrame) (h : List SlowFrame) (olds news : List KeptEnd) → AllZip (Takes now) olds news → AllByRecursion (IsExact h) olds
     → AllByRecursion (IsExact (now ∷ h)) news
 still_exact now h [] [] t e = tt
 still_exact now h [] (n ∷ ns) t e = absurd t
 still_exact now h (o ∷ os) [] t e = absurd t
 still_exact now h (o ∷ os) (n ∷ ns) t e = (t.0.exact h e.0, still_exact now h os ns t.1 e.1)
 
-pub same_ends : (now : Observed) (olds news : List Watch) → AllZip (Takes now) olds news → ends_of news ≡ ends_of olds
+pub same_ends : (now : SlowFrame) (olds news : List KeptEnd) → AllZip (Takes now) olds news → ends_of news ≡ ends_of olds
 same_ends now [] [] t = refl
 same_ends now [] (n ∷ ns) t = absurd t
 same_ends now (o ∷ os) [] t = absurd t
 same_ends now (o ∷ os) (n ∷ ns) t = λ i. t.0.end i ∷ same_ends now os ns t.1 i
 
-pub same_length : (now : Observed) (olds news : List Watch) → AllZip (Takes now) olds news → length news ≡ length olds
+pub same_length : (now : SlowFrame) (olds news : List KeptEnd) → AllZip (Takes now) olds news → length news ≡ length olds
 same_length now [] [] t = refl
 same_length now [] (n ∷ ns) t = absurd t
 same_length now (o ∷ os) [] t = absurd t
@@ -40,10 +40,10 @@ decided true h = h refl
 decided false h = refl
 
 -- each frame is of one of these ends
-Covered : List LinkEnd → List Observed → Type 0
+Covered : List LinkEnd → List SlowFrame → Type 0
 Covered es = AllByRecursion (λ o. is_among (end_of o) es ≡ true)
 
-among_ends : (e : LinkEnd) (ws : List Watch) → has_end e ws ≡ is_among e (ends_of ws)
+among_ends : (e : LinkEnd) (ws : List KeptEnd) → has_end e ws ≡ is_among e (ends_of ws)
 among_ends e [] = refl
 among_ends e (w ∷ ws) = ap (λ b. same_end w.end e || b) (among_ends e ws)
 
@@ -60,25 +60,25 @@ with_known e es h = rw h refl
 with_new : (e : LinkEnd) (es : List LinkEnd) → is_among e es ≡ false → with_end e es ≡ es ++ e ∷ []
 with_new e es h = rw h refl
 
-still_covered : (es fs : List LinkEnd) (h : List Observed) → Covered es h → Covered (es ++ fs) h
+still_covered : (es fs : List LinkEnd) (h : List SlowFrame) → Covered es h → Covered (es ++ fs) h
 unfolding Covered
 still_covered es fs [] c = tt
 still_covered es fs (o ∷ h) c = (among_more (end_of o) es fs c.0, still_covered es fs h c.1)
 
-covered_one : (o : Observed) (h : List Observed) (es : List LinkEnd) → Covered es h → (b : Bool) → is_among (end_of o) es ≡ b
+covered_one : (o : SlowFrame) (h : List SlowFrame) (es : List LinkEnd) → Covered es h → (b : Bool) → is_among (end_of o) es ≡ b
     → Covered (with_end (end_of o) es) (o ∷ h)
 unfolding Covered
 covered_one o h es c true known = subst (λ fs. Covered fs (o ∷ h)) (sym (with_known (end_of o) es known)) (known, c)
 covered_one o h es c false new =
     subst (λ fs. Covered fs (o ∷ h)) (sym (with_new (end_of o) es new)) (among_last (end_of o) es, still_covered es (end_of o ∷ []) h c)
 
-covered : (h : List Observed) → Covered (firsts h) h
+covered : (h : List SlowFrame) → Covered (firsts h) h
 unfolding Covered
 covered [] = tt
 covered (o ∷ h) = covered_one o h (firsts h) (covered h) (is_among (end_of o) (firsts h)) refl
 
 -- an end that is not among those of the frames has sent none
-unsent : (e : LinkEnd) (es : List LinkEnd) (h : List Observed) → Covered es h → is_among e es ≡ false → Unsent e h
+unsent : (e : LinkEnd) (es : List LinkEnd) (h : List SlowFrame) → Covered es h → is_among e es ≡ false → Unsent e h
 unfolding Covered
 unsent e es [] c new = tt
 unsent e es (o ∷ h) c new = (
@@ -87,7 +87,7 @@ unsent e es (o ∷ h) c new = (
   unsent e es h c.1 new,
 )
 
-none_beyond : (es : List LinkEnd) (h : List Observed) → Covered es h → frames_beyond es h ≡ []
+none_beyond : (es : List LinkEnd) (h : List SlowFrame) → Covered es h → frames_beyond es h ≡ []
 unfolding Covered
 none_beyond es [] c = refl
 none_beyond es (o ∷ h) c = rw (c.0, none_beyond es h c.1) refl
@@ -112,10 +112,10 @@ kept_new : (e : LinkEnd) (es : List LinkEnd) → length (take 64 es) < 64 → is
 kept_new e es room new =
     ap (λ fs. take 64 fs) (with_new e es new) ∙ take_all 64 (es ++ e ∷ []) (omega (arith, few es room, length-append es (e ∷ [])))
 
-beyond_known : (es : List LinkEnd) (o : Observed) (h : List Observed) → is_among (end_of o) es ≡ true → frames_beyond es (o ∷ h) ≡ frames_beyond es h
+beyond_known : (es : List LinkEnd) (o : SlowFrame) (h : List SlowFrame) → is_among (end_of o) es ≡ true → frames_beyond es (o ∷ h) ≡ frames_beyond es h
 beyond_known es o h known = rw known refl
 
-beyond_new : (es : List LinkEnd) (o : Observed) (h : List Observed) → is_among (end_of o) es ≡ false
+beyond_new : (es : List LinkEnd) (o : SlowFrame) (h : List SlowFrame) → is_among (end_of o) es ≡ false
     → frames_beyond es (o ∷ h) ≡ o ∷ frames_beyond es h
 beyond_new es o h new = rw new refl
 
@@ -126,13 +126,13 @@ counted_one left n more before after = one_of left n more (2 ^ 64 - 1) before af
     one_of : (left n more most : ℕ) → left ≡ min n most → more ≡ min (left + 1) most → more ≡ min (suc n) most
     one_of left n more most before after = omega arith
 
-among_first : (now : Observed) (h : List Observed) (olds news : List Watch) (left : ℕ) (b : Bool) → AllZip (Takes now) olds news
+among_first : (now : SlowFrame) (h : List SlowFrame) (olds news : List KeptEnd) (left : ℕ) (b : Bool) → AllZip (Takes now) olds news
     → has_end (end_of now) news ≡ b → Knows h olds left → is_among (end_of now) (first_ends h) ≡ b
 among_first now h olds news left b t known k =
     ap (λ es. is_among (end_of now) es) (sym (same_ends now olds news t ∙ k.ends)) ∙ (sym (among_ends (end_of now) news) ∙ known)
 
 -- the frame is one of an end that is kept
-pub known_end : (now : Observed) (h : List Observed) (olds news : List Watch) (left : ℕ) → AllZip (Takes now) olds news
+pub known_end : (now : SlowFrame) (h : List SlowFrame) (olds news : List KeptEnd) (left : ℕ) → AllZip (Takes now) olds news
     → has_end (end_of now) news ≡ true → Knows h olds left → Knows (now ∷ h) news left
 known_end now h olds news left t known k =
     let among = among_first now h olds news left true t known k in
@@ -145,12 +145,12 @@ known_end now h olds news left t known k =
     }
 
 -- the frame is left out, since as many ends are kept as may be
-pub left_out : (now : Observed) (h : List Observed) (olds news : List Watch) (left more : ℕ) → AllZip (Takes now) olds news
+pub left_out : (now : SlowFrame) (h : List SlowFrame) (olds news : List KeptEnd) (left more : ℕ) → AllZip (Takes now) olds news
     → has_end (end_of now) news ≡ false → length news ≡ 64 → more ≡ min (left + 1) (2 ^ 64 - 1) → Knows h olds left → Knows (now ∷ h) news more
 left_out now h olds news left more t unknown full one k =
     let among = among_first now h olds news left false t unknown k in
     let many : length (first_ends h) ≡ 64
-    = ap length (sym (same_ends now olds news t ∙ k.ends)) ∙ (length-map news (λ (w : Watch). w.end) ∙ full) in
+    = ap length (sym (same_ends now olds news t ∙ k.ends)) ∙ (length-map news (λ (w : KeptEnd). w.end) ∙ full) in
     let same : first_ends (now ∷ h) ≡ first_ends h = kept_full (end_of now) (firsts h) many (is_among (end_of now) (firsts h)) refl in
     record {
       exact = still_exact now h olds news t k.exact;
@@ -163,17 +163,17 @@ pub push_all : {A : Type 0} (P : A → Type 0) (xs : List A) (x : A) → AllByRe
 push_all P [] x all one = (one, tt)
 push_all P (y ∷ ys) x all one = (all.0, push_all P ys x all.1 one)
 
-pushed_ends : (ws : List Watch) (w : Watch) → ends_of (ws ++ w ∷ []) ≡ ends_of ws ++ w.end ∷ []
+pushed_ends : (ws : List KeptEnd) (w : KeptEnd) → ends_of (ws ++ w ∷ []) ≡ ends_of ws ++ w.end ∷ []
 pushed_ends [] w = refl
 pushed_ends (v ∷ ws) w = ap (λ es. v.end ∷ es) (pushed_ends ws w)
 
 -- the frame is the first of its end
-pub new_end : (now : Observed) (h : List Observed) (olds news : List Watch) (w : Watch) (left : ℕ) → AllZip (Takes now) olds news
-    → has_end (end_of now) news ≡ false → length news < 64 → Takes now (watched (end_of now) []) w → Knows h olds left
+pub new_end : (now : SlowFrame) (h : List SlowFrame) (olds news : List KeptEnd) (w : KeptEnd) (left : ℕ) → AllZip (Takes now) olds news
+    → has_end (end_of now) news ≡ false → length news < 64 → Takes now (kept_end (end_of now) []) w → Knows h olds left
     → Knows (now ∷ h) (news ++ w ∷ []) left
 new_end now h olds news w left t unknown room first k =
     let kept : ends_of news ≡ first_ends h = same_ends now olds news t ∙ k.ends in
-    let fewer : length (first_ends h) < 64 = subst (λ n. n < 64) (sym (length-map news (λ (w : Watch). w.end)) ∙ ap length kept) room in
+    let fewer : length (first_ends h) < 64 = subst (λ n. n < 64) (sym (length-map news (λ (w : KeptEnd). w.end)) ∙ ap length kept) room in
     let all : first_ends h ≡ firsts h = take_all 64 (firsts h) (omega (arith, few (firsts h) fewer)) in
     let new : is_among (end_of now) (firsts h) ≡ false
     = subst (λ es. is_among (end_of now) es ≡ false) all (among_first now h olds news left false t unknown k) in
@@ -195,5 +195,5 @@ unfolding counted
 nothing_known = record { exact = tt; ends = refl; counts = refl }
 
 -- a list that takes the place of one as long
-pub refill_same : (olds news : List Watch) → length news ≡ length olds → refill (length olds) olds news ≡ news
+pub refill_same : (olds news : List KeptEnd) → length news ≡ length olds → refill (length olds) olds news ≡ news
 refill_same olds news e = subst (λ n. take n (news ++ drop (length news) olds) ≡ news) e (take-append_seam news (drop (length news) olds))

@@ -1,4 +1,4 @@
 pub mod FirstLemmas
 pub mod EndLemmas
 pub mod KnowsLemmas
-pub mod WatchLemmas
+pub mod KeptEndLemmas

@@ -10,10 +10,10 @@ use Rattle.slowpdu.specs.declared.pdu.MarkerKind.TheVariants as kinds
 use Rattle.findings.specs.declared.others.Other.{Other}
 use Rattle.findings.specs.declared.others.Others.{Others}
 use Rattle.findings.specs.declared.recent.Heard.{Heard}
-use Rattle.findings.specs.declared.observed.LinkEnd.{LinkEnd}
-use Rattle.findings.specs.declared.observed.Observed.{Observed}
-use Rattle.findings.specs.declared.observed.What.{What}
-use Rattle.findings.specs.declared.observed.What.TheVariants as variants
+use Rattle.findings.specs.declared.slow_frame.LinkEnd.{LinkEnd}
+use Rattle.findings.specs.declared.slow_frame.SlowFrame.{SlowFrame}
+use Rattle.findings.specs.declared.slow_frame.What.{What}
+use Rattle.findings.specs.declared.slow_frame.What.TheVariants as variants
 
 -- the port of a marker's sender; a response names the port of the marker's sender and not its own
 abbrev pub marker_port : MarkerKind → ℕ → Option ℕ
@@ -27,7 +27,7 @@ port_of (variants.Marker m) = marker_port m.kind m.port
 port_of (variants.Refused e) = None
 
 -- the end that sent a frame
-abbrev pub end_of : Observed → LinkEnd
+abbrev pub end_of : SlowFrame → LinkEnd
 end_of o = record { interface = o.interface; source = o.source; port = port_of o.what }
 
 -- equal interfaces, source addresses and ports
@@ -35,11 +35,11 @@ abbrev pub same_end : LinkEnd → LinkEnd → Bool
 same_end e f = (e.interface == f.interface) && bytes_eq e.source f.source && option_eq ◌==◌ e.port f.port
 
 -- the frames of an end
-abbrev pub frames_of : LinkEnd → List Observed → List Observed
+abbrev pub frames_of : LinkEnd → List SlowFrame → List SlowFrame
 frames_of e = filter (λ o. same_end (end_of o) e)
 
 -- no frame is of this end
-abbrev pub Unsent : LinkEnd → List Observed → Type 0
+abbrev pub Unsent : LinkEnd → List SlowFrame → Type 0
 Unsent e = AllByRecursion (λ o. same_end (end_of o) e ≡ false)
 
 -- the LACPDU in a payload
@@ -49,23 +49,23 @@ lacpdu_in (variants.Marker m) = None
 lacpdu_in (variants.Refused e) = None
 
 -- the latest LACPDU of an end
-abbrev pub said : LinkEnd → List Observed → Option Lacpdu
+abbrev pub said : LinkEnd → List SlowFrame → Option Lacpdu
 said e [] = None
 said e (o ∷ h) = option_or (if same_end (end_of o) e then lacpdu_in o.what else None) (said e h)
 
 -- how an LACPDU of another end is related to this end, by what this end said last, the other frame and its LACPDU
 abbrev pub Relation : Type 0
-Relation = LinkEnd → Lacpdu → Observed → Lacpdu → Bool
+Relation = LinkEnd → Lacpdu → SlowFrame → Lacpdu → Bool
 
 -- the other end, if its LACPDU is related to this end
-abbrev pub related : Relation → LinkEnd → Observed → Option Lacpdu → Option Lacpdu → Option Other
+abbrev pub related : Relation → LinkEnd → SlowFrame → Option Lacpdu → Option Lacpdu → Option Other
 related relation e o None theirs = None
 related relation e o (Some own) None = None
 related relation e o (Some own) (Some v) =
     if relation e own o v then Some (record { end = end_of o; nanoseconds = o.nanoseconds; pdu = v }) else None
 
 -- the latest LACPDU of another end that is related to this end
-abbrev pub latest : Relation → LinkEnd → List Observed → Option Other
+abbrev pub latest : Relation → LinkEnd → List SlowFrame → Option Other
 latest relation e [] = None
 latest relation e (o ∷ h) =
     option_or (if same_end (end_of o) e then None else related relation e o (said e h) (lacpdu_in o.what)) (latest relation e h)
@@ -89,7 +89,7 @@ abbrev pub faces : Relation
 faces e own o v = o.interface == e.interface
 
 -- what is known of other ends
-abbrev pub others : LinkEnd → List Observed → Others
+abbrev pub others : LinkEnd → List SlowFrame → Others
 others e h = record {
   answer = latest answers e h;
   rival = latest rivals e h;
@@ -98,11 +98,11 @@ others e h = record {
 }
 
 -- an LACPDU that is heard, with what is known then of other ends
-abbrev pub heard : Others → Observed → Option Lacpdu → Option Heard
+abbrev pub heard : Others → SlowFrame → Option Lacpdu → Option Heard
 heard others o None = None
 heard others o (Some v) = Some (record { number = o.number; nanoseconds = o.nanoseconds; pdu = v; others = others })
 
 -- the LACPDUs of an end
-abbrev pub lacpdus : LinkEnd → List Observed → List Heard
+abbrev pub lacpdus : LinkEnd → List SlowFrame → List Heard
 lacpdus e [] = []
 lacpdus e (o ∷ h) = cons_option (if same_end (end_of o) e then heard (others e h) o (lacpdu_in o.what) else None) (lacpdus e h)

@@ -4,8 +4,8 @@ use Rattle.std.specs.Option.{option_or}
 use Rattle.findings.specs.declared.finding.Finding.{Finding}
 use Rattle.findings.specs.declared.finding.Shown.{Shown}
 use Rattle.findings.specs.declared.recent.Heard.{Heard}
-use Rattle.findings.specs.declared.observed.LinkEnd.{LinkEnd}
-use Rattle.findings.specs.declared.observed.Observed.{Observed}
+use Rattle.findings.specs.declared.slow_frame.LinkEnd.{LinkEnd}
+use Rattle.findings.specs.declared.slow_frame.SlowFrame.{SlowFrame}
 use Rattle.findings.specs.declared.others.Other.{Other}
 use Rattle.findings.specs.declared.rule.Rule.{Rule}
 use Rattle.findings.specs.declared.rule.Rule.TheVariants as variants
@@ -31,7 +31,7 @@ abbrev pub shown_heard : Heard → Shown
 shown_heard a = record { number = a.number; nanoseconds = a.nanoseconds; partner = option_map (λ x. x.end) a.others.answer }
 
 -- a frame that shows a rule
-abbrev pub shown_frame : Observed → Shown
+abbrev pub shown_frame : SlowFrame → Shown
 shown_frame o = record { number = o.number; nanoseconds = o.nanoseconds; partner = None }
 
 -- the latest LACPDU, if none comes behind it in time
@@ -40,15 +40,15 @@ last_silent until None = None
 last_silent until (Some a) = if is_silent until a then Some (shown_heard a) else None
 
 -- the first LACPDU of an end that shows a rule
-abbrev pub first_heard : (Heard → List Heard → Bool) → LinkEnd → List Observed → Option Shown
+abbrev pub first_heard : (Heard → List Heard → Bool) → LinkEnd → List SlowFrame → Option Shown
 first_heard holds e h = first shown_heard holds (lacpdus e h)
 
 -- the first frame of an end that shows a rule
-abbrev pub first_frame : (Observed → List Observed → Bool) → LinkEnd → List Observed → Option Shown
+abbrev pub first_frame : (SlowFrame → List SlowFrame → Bool) → LinkEnd → List SlowFrame → Option Shown
 first_frame holds e h = first shown_frame holds (frames_of e h)
 
 -- the first LACPDU of an end behind which there is silence, up to this time
-abbrev pub first_silent : ℕ → LinkEnd → List Observed → Option Shown
+abbrev pub first_silent : ℕ → LinkEnd → List SlowFrame → Option Shown
 first_silent until e h = option_or (first_heard is_late e h) (last_silent until (slice_get (lacpdus e h) 0))
 
 -- a finding, unless an LACPDU of another end has come on the interface
@@ -58,11 +58,11 @@ unless_faced (Some x) shown = None
 
 -- The first LACPDU of an end that shows that LACPDUs go in one direction only, unless the partner's come later: one that
 -- starts late, or begins behind the capture, is heard then.
-abbrev pub first_one_way : LinkEnd → List Observed → Option Shown
+abbrev pub first_one_way : LinkEnd → List SlowFrame → Option Shown
 first_one_way e h = unless_faced (latest faces e h) (first_heard is_one_way e h)
 
 -- the first frame of an end that shows a rule, where the capture goes up to this time
-abbrev pub first_of : Rule → ℕ → LinkEnd → List Observed → Option Shown
+abbrev pub first_of : Rule → ℕ → LinkEnd → List SlowFrame → Option Shown
 first_of variants.Rate until = first_heard is_rushed
 first_of variants.System until = first_heard (twice has_other_system)
 first_of variants.Port until = first_heard (twice has_other_port)
@@ -93,5 +93,5 @@ finding_of rule end None = None
 finding_of rule end (Some s) = Some (record { rule = rule; end = end; shown = s })
 
 -- what is found of an end by a rule, behind these frames of a capture that goes up to this time
-abbrev pub found : Rule → ℕ → LinkEnd → List Observed → Option Finding
+abbrev pub found : Rule → ℕ → LinkEnd → List SlowFrame → Option Finding
 found rule until end h = finding_of rule end (first_of rule until end h)

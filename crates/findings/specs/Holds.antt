@@ -6,9 +6,9 @@ use Rattle.lagtypes.specs.Same.{same_port, same_system}
 use Rattle.lagtypes.specs.States.{bits_of}
 use Rattle.findings.specs.declared.recent.Heard.{Heard}
 use Rattle.findings.specs.declared.others.Other.{Other}
-use Rattle.findings.specs.declared.observed.Observed.{Observed}
-use Rattle.findings.specs.declared.observed.What.{What}
-use Rattle.findings.specs.declared.observed.What.TheVariants.{Lacpdu, Marker, Refused}
+use Rattle.findings.specs.declared.slow_frame.SlowFrame.{SlowFrame}
+use Rattle.findings.specs.declared.slow_frame.What.{What}
+use Rattle.findings.specs.declared.slow_frame.What.TheVariants.{Lacpdu, Marker, Refused}
 
 -- the nanoseconds of so many seconds
 abbrev pub seconds : ℕ → ℕ
@@ -172,15 +172,15 @@ is_read (Marker m) = true
 is_read (Refused e) = false
 
 -- A version other than 1 (6.4.2.3, 6.5.3.3).
-abbrev pub has_other_version : Observed → List Observed → Bool
+abbrev pub has_other_version : SlowFrame → List SlowFrame → Bool
 has_other_version o before = is_read o.what && not (o.version == 1)
 
 -- A length other than that of a header and 110 octets, with or without the frame check sequence (6.4.2.3, 6.5.3.3).
-abbrev pub has_other_length : Observed → List Observed → Bool
+abbrev pub has_other_length : SlowFrame → List SlowFrame → Bool
 has_other_length o before = not ((o.length == 124) || (o.length == 128))
 
 -- A reserved octet that is not zero (6.4.2.3, 6.5.3.3).
-abbrev pub has_reserved : Observed → List Observed → Bool
+abbrev pub has_reserved : SlowFrame → List SlowFrame → Bool
 has_reserved o before = is_read o.what && o.reserved
 
 -- the Slow_Protocols_Multicast address, 01-80-C2-00-00-02 (6.4.2.2)
@@ -188,12 +188,12 @@ abbrev pub slow_protocols : List ℕ
 slow_protocols = 1 ∷ 128 ∷ 194 ∷ 0 ∷ 0 ∷ 2 ∷ []
 
 -- A destination other than the Slow_Protocols_Multicast address (6.4.2.2, 6.5.3.2).
-abbrev pub has_other_destination : Observed → List Observed → Bool
+abbrev pub has_other_destination : SlowFrame → List SlowFrame → Bool
 has_other_destination o before = and_if (λ d. not (bytes_eq d slow_protocols)) o.destination
 
 -- A tag (6.4.2.2, 6.5.3.2).
-abbrev pub has_tag : Observed → List Observed → Bool
-has_tag o before = o.tagged
+abbrev pub has_tag : SlowFrame → List SlowFrame → Bool
+has_tag o before = nat_lt 0 o.tags
 
 -- Silence up to this time, behind the latest LACPDU: longer than the timeout that the partner asks for (6.4.4, 6.4.13).
 abbrev pub is_silent : ℕ → Heard → Bool

@@ -5,5 +5,5 @@ pub mod Counts
 pub mod Markers
 pub mod Responses
 pub mod Firsts
-pub mod Watches
+pub mod KeptEnds
 pub mod Knows

@@ -8,10 +8,10 @@ use Rattle.slowpdu.specs.declared.pdu.MarkerKind.TheVariants as kinds
 use Rattle.findings.specs.declared.asking.Asked.{Asked}
 use Rattle.findings.specs.declared.asking.Asking.{Asking}
 use Rattle.findings.specs.declared.finding.Shown.{Shown}
-use Rattle.findings.specs.declared.observed.LinkEnd.{LinkEnd}
-use Rattle.findings.specs.declared.observed.Observed.{Observed}
-use Rattle.findings.specs.declared.observed.What.{What}
-use Rattle.findings.specs.declared.observed.What.TheVariants as variants
+use Rattle.findings.specs.declared.slow_frame.LinkEnd.{LinkEnd}
+use Rattle.findings.specs.declared.slow_frame.SlowFrame.{SlowFrame}
+use Rattle.findings.specs.declared.slow_frame.What.{What}
+use Rattle.findings.specs.declared.slow_frame.What.TheVariants as variants
 use Rattle.findings.specs.Ends.{end_of, same_end}
 use Rattle.findings.specs.Holds.{is_over, seconds}
 
@@ -38,7 +38,7 @@ response_in (variants.Marker m) = if_response m.kind m
 response_in (variants.Refused e) = None
 
 -- a frame, if a marker is in it
-abbrev pub asked_in : Observed → Option Marker → Option Asked
+abbrev pub asked_in : SlowFrame → Option Marker → Option Asked
 asked_in o None = None
 asked_in o (Some m) = Some (record { number = o.number; nanoseconds = o.nanoseconds; marker = m })
 
@@ -47,13 +47,13 @@ abbrev pub is_response_to : Marker → Marker → Bool
 is_response_to m r = (r.port == m.port) && (bytes_eq r.system m.system && (r.id == m.id))
 
 -- the marker, unless a frame on its interface is the response to it
-abbrev pub unless_answered : LinkEnd → Observed → Option Marker → Option Asked → Option Asked
+abbrev pub unless_answered : LinkEnd → SlowFrame → Option Marker → Option Asked → Option Asked
 unless_answered e o None asked = asked
 unless_answered e o (Some r) None = None
 unless_answered e o (Some r) (Some m) = if (o.interface == e.interface) && is_response_to m.marker r then None else Some m
 
 -- the latest marker of an end, if no other end has responded to it
-abbrev pub open_marker : LinkEnd → List Observed → Option Asked
+abbrev pub open_marker : LinkEnd → List SlowFrame → Option Asked
 open_marker e [] = None
 open_marker e (o ∷ h) =
     if same_end (end_of o) e then option_or (asked_in o (marker_in o.what)) (open_marker e h)
@@ -66,14 +66,14 @@ overdue time (Some m) =
     if is_over (seconds 3) m.nanoseconds time then Some (record { number = m.number; nanoseconds = m.nanoseconds; partner = None }) else None
 
 -- the first marker of an end that had waited for longer than 3 seconds when a frame came
-abbrev pub first_overdue : LinkEnd → List Observed → Option Shown
+abbrev pub first_overdue : LinkEnd → List SlowFrame → Option Shown
 first_overdue e [] = None
 first_overdue e (o ∷ h) = option_or (first_overdue e h) (overdue o.nanoseconds (open_marker e h))
 
 -- the first marker of an end without a response within 3 seconds, in a capture that goes up to this time
-abbrev pub first_unanswered : ℕ → LinkEnd → List Observed → Option Shown
+abbrev pub first_unanswered : ℕ → LinkEnd → List SlowFrame → Option Shown
 first_unanswered until e h = option_or (first_overdue e h) (overdue until (open_marker e h))
 
 -- what is kept of an end's markers
-abbrev pub asking : LinkEnd → List Observed → Asking
+abbrev pub asking : LinkEnd → List SlowFrame → Asking
 asking e h = record { waiting = open_marker e h; overdue = first_overdue e h }

@@ -7,27 +7,27 @@ use Rattle.slowpdu.specs.declared.pdu.Marker.{Marker}
 use Rattle.findings.specs.declared.asking.Asked.{Asked}
 use Rattle.findings.specs.declared.responding.Responding.{Responding}
 use Rattle.findings.specs.declared.finding.Shown.{Shown}
-use Rattle.findings.specs.declared.observed.LinkEnd.{LinkEnd}
-use Rattle.findings.specs.declared.observed.Observed.{Observed}
+use Rattle.findings.specs.declared.slow_frame.LinkEnd.{LinkEnd}
+use Rattle.findings.specs.declared.slow_frame.SlowFrame.{SlowFrame}
 use Rattle.findings.specs.Ends.{end_of, said, same_end}
 use Rattle.findings.specs.Holds.{and_if, is_over, seconds}
 use Rattle.findings.specs.Counts.{counted}
 use Rattle.findings.specs.Markers.{asked_in, is_response_to, marker_in, response_in}
 
 -- the marker that a frame asks an end with: one on its interface from another source address
-abbrev pub asks : LinkEnd → Observed → Option Asked
+abbrev pub asks : LinkEnd → SlowFrame → Option Asked
 asks e o = if (o.interface == e.interface) && not (bytes_eq o.source e.source) then asked_in o (marker_in o.what) else None
 
 -- the response of an end in a frame: one on its interface from its source address
-abbrev pub responds : LinkEnd → Observed → Option Marker
+abbrev pub responds : LinkEnd → SlowFrame → Option Marker
 responds e o = if (o.interface == e.interface) && bytes_eq o.source e.source then response_in o.what else None
 
 -- the end has sent an LACPDU before this frame, and this is none of its LACPDUs and markers
-abbrev pub comes_later : LinkEnd → Observed → List Observed → Bool
+abbrev pub comes_later : LinkEnd → SlowFrame → List SlowFrame → Bool
 comes_later e o h = not (same_end (end_of o) e) && is_some (said e h)
 
 -- the latest marker that an end is asked with
-abbrev pub request : LinkEnd → List Observed → Option Asked
+abbrev pub request : LinkEnd → List SlowFrame → Option Asked
 request e [] = None
 request e (o ∷ h) = option_or (if comes_later e o h then asks e o else None) (request e h)
 
@@ -38,7 +38,7 @@ owed_with None (Some r) n = n - 1
 owed_with None None n = n
 
 -- how many markers an end has been asked with more than it has responded to
-abbrev pub owed : LinkEnd → List Observed → ℕ
+abbrev pub owed : LinkEnd → List SlowFrame → ℕ
 owed e [] = 0
 owed e (o ∷ h) = if comes_later e o h then owed_with (asks e o) (responds e o) (owed e h) else owed e h
 
@@ -56,26 +56,26 @@ abbrev pub is_overdue : ℕ → Option Asked → Marker → Bool
 is_overdue time m r = and_if (λ q. is_response_to q.marker r && is_over (seconds 3) q.nanoseconds time) m
 
 -- a frame, if there is a response in it with a property
-abbrev pub if_response_is : (Marker → Bool) → Observed → Option Marker → Option Shown
+abbrev pub if_response_is : (Marker → Bool) → SlowFrame → Option Marker → Option Shown
 if_response_is holds o None = None
 if_response_is holds o (Some r) =
     if holds r then Some (record { number = o.number; nanoseconds = o.nanoseconds; partner = None }) else None
 
 -- the first response of an end with a property, by how many markers wait, the latest marker and the time
-abbrev pub first_response : (ℕ → Option Asked → ℕ → Marker → Bool) → LinkEnd → List Observed → Option Shown
+abbrev pub first_response : (ℕ → Option Asked → ℕ → Marker → Bool) → LinkEnd → List SlowFrame → Option Shown
 first_response holds e [] = None
 first_response holds e (o ∷ h) =
     option_or (first_response holds e h)
     (if comes_later e o h then if_response_is (holds (owed e h) (request e h) o.nanoseconds) o (responds e o) else None)
 
 -- the first response of an end that nobody asked for
-abbrev pub first_unasked : LinkEnd → List Observed → Option Shown
+abbrev pub first_unasked : LinkEnd → List SlowFrame → Option Shown
 first_unasked = first_response (λ n m time. is_unasked n m)
 
 -- the first response of an end that comes late
-abbrev pub first_late : LinkEnd → List Observed → Option Shown
+abbrev pub first_late : LinkEnd → List SlowFrame → Option Shown
 first_late = first_response (λ n m time. is_overdue time m)
 
 -- what is kept of an end's responses
-abbrev pub responding : LinkEnd → List Observed → Responding
+abbrev pub responding : LinkEnd → List SlowFrame → Responding
 responding e h = record { request = request e h; owed = owed e h; unasked = first_unasked e h; late = first_late e h }

@@ -1,108 +1,82 @@
--- The rules by number, name, section of IEEE 802.1AX-2014 and advice.
-use Rattle.std.specs.Prelude.{ℕ, List, codes}
+-- The rules by number, name, section of IEEE 802.1AX-2014 and advice: a row for each.
+use Rattle.std.specs.Prelude.{ℕ, List, [], ◌∷◌, codes}
 use Rattle.findings.specs.declared.rule.Rule.{Rule}
 use Rattle.findings.specs.declared.rule.Rule.TheVariants as variants
 
--- the number of a rule, from 1
+-- the number of a rule, from 1; what is found; the section that has the rule; what to do
+pub record RuleRow : Type 0 where
+  pub number : ℕ
+  pub name : List ℕ
+  pub clause : List ℕ
+  pub advice : List ℕ
+
+abbrev row : ℕ → List ℕ → List ℕ → List ℕ → RuleRow
+row number name clause advice = record { number = number; name = name; clause = clause; advice = advice }
+
+abbrev pub row_of : Rule → RuleRow
+row_of variants.Rate = row 1 (codes "more than three LACPDUs in a second") (codes "6.4.16")
+    (codes "Look for what changes the port again and again; an LACP implementation limits its LACPDUs.")
+row_of variants.System = row 2 (codes "the partner's system is not the one that answers") (codes "6.4.9")
+    (codes "Look whether the LACPDUs of the system that answers reach this end: it names another one.")
+row_of variants.Port = row 3 (codes "the partner's port is not the one that answers") (codes "6.4.9")
+    (codes "Look for crossed cables: this end names another port of the system.")
+row_of variants.Key = row 4 (codes "the partner's key is not the one that answers") (codes "6.4.9")
+    (codes "Look whether the latest LACPDUs of the partner reach this end: it names a key that the partner has no more.")
+row_of variants.Passive = row 5 (codes "both ends are passive") (codes "6.4.13")
+    (codes "Set LACP to active at one end at least.")
+row_of variants.Version = row 6 (codes "a version other than 1") (codes "6.4.2.3")
+    (codes "None is needed: a receiver of version 1 reads the fields that version 1 has.")
+row_of variants.Length = row 7 (codes "a frame of another length") (codes "6.4.2.3")
+    (codes "Compare the frames at the other end of the cable: a device between may pad or cut them.")
+row_of variants.Reserved = row 8 (codes "a reserved octet is not zero") (codes "6.4.2.3")
+    (codes "None is needed: a receiver ignores these octets.")
+row_of variants.Destination = row 9 (codes "a frame to another destination") (codes "6.4.2.2")
+    (codes "Set the destination address of LACPDUs to 01-80-c2-00-00-02 at both ends.")
+row_of variants.Tag = row 10 (codes "a frame with a tag") (codes "6.4.2.2")
+    (codes "Send LACPDUs without a tag: a switch forwards or drops those that have one.")
+row_of variants.Silence = row 11 (codes "no LACPDU for longer than the partner's timeout") (codes "6.4.13")
+    (codes "Look for lost frames, and whether the sender follows the timeout that the partner asks for.")
+row_of variants.Unheard = row 12 (codes "defaulted or expired for longer than 6 seconds") (codes "6.4.12")
+    (codes "Look whether the partner sends LACPDUs and whether they reach this end.")
+row_of variants.Desynchronized = row 13 (codes "synchronization lost") (codes "6.4.15")
+    (codes "Look at the frames before it: a party has changed, or the port left its aggregator.")
+row_of variants.Individual = row 14 (codes "one end is Individual") (codes "6.3.5")
+    (codes "Look at this end's speed, duplex and key: its port may not be aggregated with others.")
+row_of variants.Keys = row 15 (codes "keys differ within one pair of systems") (codes "6.3.6")
+    (codes "Give the ports that are to aggregate one key at each system: these are two groups.")
+row_of variants.Segment = row 16 (codes "two actors on one segment") (codes "6.4.9")
+    (codes "Look for a hub, or for a switch between the ends that passes the slow protocols on.")
+row_of variants.Discarded = row 17 (codes "distributing while the partner is not collecting") (codes "6.4.15")
+    (codes "Look why the partner does not collect: frames that this end sends are lost there.")
+row_of variants.OneWay = row 18 (codes "LACPDUs in one direction only") (codes "6.4.12")
+    (codes "Look whether the other end sends LACPDUs, and whether the capture has both directions.")
+row_of variants.Unanswered = row 19 (codes "a marker without a response within 3 seconds") (codes "6.5.4")
+    (codes "Look whether the marker reaches the partner: each system responds to markers.")
+row_of variants.Unasked = row 20 (codes "a marker response that nobody asked for") (codes "6.5.4")
+    (codes "Compare port, system and number of the response with those of the marker: a responder copies them.")
+row_of variants.Late = row 21 (codes "a marker response after more than 3 seconds") (codes "6.5.4")
+    (codes "Look what delays the responses: whoever waits for one may have given up by then.")
+row_of variants.Attached = row 22 (codes "attached for longer than 6 seconds while the partner is not synchronized") (codes "6.4.15")
+    (codes "Look why the partner does not attach this link: it may have chosen another aggregator or have too many links.")
+row_of variants.Relapsing = row 23 (codes "defaulted or expired again and again") (codes "6.4.12")
+    (codes "Look for a link that loses frames, and for a partner that sends LACPDUs less often than it is asked to.")
+
 abbrev pub rule_number : Rule → ℕ
-rule_number variants.Rate = 1
-rule_number variants.System = 2
-rule_number variants.Port = 3
-rule_number variants.Key = 4
-rule_number variants.Passive = 5
-rule_number variants.Version = 6
-rule_number variants.Length = 7
-rule_number variants.Reserved = 8
-rule_number variants.Destination = 9
-rule_number variants.Tag = 10
-rule_number variants.Silence = 11
-rule_number variants.Unheard = 12
-rule_number variants.Desynchronized = 13
-rule_number variants.Individual = 14
-rule_number variants.Keys = 15
-rule_number variants.Segment = 16
-rule_number variants.Discarded = 17
-rule_number variants.OneWay = 18
-rule_number variants.Unanswered = 19
-rule_number variants.Unasked = 20
-rule_number variants.Late = 21
-rule_number variants.Attached = 22
-rule_number variants.Relapsing = 23
+rule_number rule = (row_of rule).number
 
--- what is found
 abbrev pub rule_name : Rule → List ℕ
-rule_name variants.Rate = codes "more than three LACPDUs in a second"
-rule_name variants.System = codes "the partner's system is not the one that answers"
-rule_name variants.Port = codes "the partner's port is not the one that answers"
-rule_name variants.Key = codes "the partner's key is not the one that answers"
-rule_name variants.Passive = codes "both ends are passive"
-rule_name variants.Version = codes "a version other than 1"
-rule_name variants.Length = codes "a frame of another length"
-rule_name variants.Reserved = codes "a reserved octet is not zero"
-rule_name variants.Destination = codes "a frame to another destination"
-rule_name variants.Tag = codes "a frame with a tag"
-rule_name variants.Silence = codes "no LACPDU for longer than the partner's timeout"
-rule_name variants.Unheard = codes "defaulted or expired for longer than 6 seconds"
-rule_name variants.Desynchronized = codes "synchronization lost"
-rule_name variants.Individual = codes "one end is Individual"
-rule_name variants.Keys = codes "keys differ within one pair of systems"
-rule_name variants.Segment = codes "two actors on one segment"
-rule_name variants.Discarded = codes "distributing while the partner is not collecting"
-rule_name variants.OneWay = codes "LACPDUs in one direction only"
-rule_name variants.Unanswered = codes "a marker without a response within 3 seconds"
-rule_name variants.Unasked = codes "a marker response that nobody asked for"
-rule_name variants.Late = codes "a marker response after more than 3 seconds"
-rule_name variants.Attached = codes "attached for longer than 6 seconds while the partner is not synchronized"
-rule_name variants.Relapsing = codes "defaulted or expired again and again"
+rule_name rule = (row_of rule).name
 
--- the section that has the rule
 abbrev pub rule_clause : Rule → List ℕ
-rule_clause variants.Rate = codes "6.4.16"
-rule_clause variants.System = codes "6.4.9"
-rule_clause variants.Port = codes "6.4.9"
-rule_clause variants.Key = codes "6.4.9"
-rule_clause variants.Passive = codes "6.4.13"
-rule_clause variants.Version = codes "6.4.2.3"
-rule_clause variants.Length = codes "6.4.2.3"
-rule_clause variants.Reserved = codes "6.4.2.3"
-rule_clause variants.Destination = codes "6.4.2.2"
-rule_clause variants.Tag = codes "6.4.2.2"
-rule_clause variants.Silence = codes "6.4.13"
-rule_clause variants.Unheard = codes "6.4.12"
-rule_clause variants.Desynchronized = codes "6.4.15"
-rule_clause variants.Individual = codes "6.3.5"
-rule_clause variants.Keys = codes "6.3.6"
-rule_clause variants.Segment = codes "6.4.9"
-rule_clause variants.Discarded = codes "6.4.15"
-rule_clause variants.OneWay = codes "6.4.12"
-rule_clause variants.Unanswered = codes "6.5.4"
-rule_clause variants.Unasked = codes "6.5.4"
-rule_clause variants.Late = codes "6.5.4"
-rule_clause variants.Attached = codes "6.4.15"
-rule_clause variants.Relapsing = codes "6.4.12"
+rule_clause rule = (row_of rule).clause
 
--- what to do
 abbrev pub rule_advice : Rule → List ℕ
-rule_advice variants.Rate = codes "Look for what changes the port again and again; an LACP implementation limits its LACPDUs."
-rule_advice variants.System = codes "Look whether the LACPDUs of the system that answers reach this end: it names another one."
-rule_advice variants.Port = codes "Look for crossed cables: this end names another port of the system."
-rule_advice variants.Key = codes "Look whether the latest LACPDUs of the partner reach this end: it names a key that the partner has no more."
-rule_advice variants.Passive = codes "Set LACP to active at one end at least."
-rule_advice variants.Version = codes "None is needed: a receiver of version 1 reads the fields that version 1 has."
-rule_advice variants.Length = codes "Compare the frames at the other end of the cable: a device between may pad or cut them."
-rule_advice variants.Reserved = codes "None is needed: a receiver ignores these octets."
-rule_advice variants.Destination = codes "Set the destination address of LACPDUs to 01-80-c2-00-00-02 at both ends."
-rule_advice variants.Tag = codes "Send LACPDUs without a tag: a switch forwards or drops those that have one."
-rule_advice variants.Silence = codes "Look for lost frames, and whether the sender follows the timeout that the partner asks for."
-rule_advice variants.Unheard = codes "Look whether the partner sends LACPDUs and whether they reach this end."
-rule_advice variants.Desynchronized = codes "Look at the frames before it: a party has changed, or the port left its aggregator."
-rule_advice variants.Individual = codes "Look at this end's speed, duplex and key: its port may not be aggregated with others."
-rule_advice variants.Keys = codes "Give the ports that are to aggregate one key at each system: these are two groups."
-rule_advice variants.Segment = codes "Look for a hub, or for a switch between the ends that passes the slow protocols on."
-rule_advice variants.Discarded = codes "Look why the partner does not collect: frames that this end sends are lost there."
-rule_advice variants.OneWay = codes "Look whether the other end sends LACPDUs, and whether the capture has both directions."
-rule_advice variants.Unanswered = codes "Look whether the marker reaches the partner: each system responds to markers."
-rule_advice variants.Unasked = codes "Compare port, system and number of the response with those of the marker: a responder copies them."
-rule_advice variants.Late = codes "Look what delays the responses: whoever waits for one may have given up by then."
-rule_advice variants.Attached = codes "Look why the partner does not attach this link: it may have chosen another aggregator or have too many links."
-rule_advice variants.Relapsing = codes "Look for a link that loses frames, and for a partner that sends LACPDUs less often than it is asked to."
+rule_advice rule = (row_of rule).advice
+
+-- all rules, in the order of their numbers
+abbrev pub all_rules : List Rule
+all_rules =
+    variants.Rate ∷ variants.System ∷ variants.Port ∷ variants.Key ∷ variants.Passive ∷ variants.Version ∷ variants.Length
+    ∷ variants.Reserved ∷ variants.Destination ∷ variants.Tag ∷ variants.Silence ∷ variants.Unheard ∷ variants.Desynchronized
+    ∷ variants.Individual ∷ variants.Keys ∷ variants.Segment ∷ variants.Discarded ∷ variants.OneWay ∷ variants.Unanswered
+    ∷ variants.Unasked ∷ variants.Late ∷ variants.Attached ∷ variants.Relapsing ∷ []

@@ -1,12 +1,12 @@
 ghost use Rattle.std.specs.Prelude.{◌≡◌, ◌∷◌, List};
 ghost use Rattle.std.specs.Option.{option_or};
-ghost use Rattle.findings.specs.declared.observed.Observed.{Observed};
+ghost use Rattle.findings.specs.declared.slow_frame.SlowFrame.{SlowFrame};
 ghost use Rattle.findings.specs.Ends.{end_of, same_end};
 ghost use Rattle.findings.specs.Markers.{asked_in, asking, is_response_to, marker_in, overdue, response_in, unless_answered};
 
 use crate::finding::Shown;
-use crate::observed::{LinkEnd, Observed, What};
 use crate::recent::{SHORT_TIMEOUT, is_over};
+use crate::slow_frame::{LinkEnd, SlowFrame, What};
 use slowpdu::{Marker, MarkerKind};
 
 /// A marker, and when it was captured.
@@ -69,7 +69,7 @@ impl Asked {
 }
 
 /// The marker in a frame.
-pub(crate) fn question(now: &Observed) -> Option<Asked>
+pub(crate) fn question(now: &SlowFrame) -> Option<Asked>
     ensures { result ≡ asked_in now.now (marker_in now.now.what) }
 {
     match now.what.marker() {
@@ -83,7 +83,7 @@ pub(crate) fn question(now: &Observed) -> Option<Asked>
 }
 
 /// The marker, unless the frame of another end is the response to it.
-fn unless_answered(end: &LinkEnd, now: &Observed, waiting: Option<Asked>) -> Option<Asked>
+fn unless_answered(end: &LinkEnd, now: &SlowFrame, waiting: Option<Asked>) -> Option<Asked>
     ensures { result ≡ unless_answered end.now now.now (response_in now.now.what) waiting }
 {
     match (now.what.response(), waiting) {
@@ -120,8 +120,8 @@ impl Asking {
     }
 
     /// What is known of the markers of this end after one more frame, of this end or another.
-    pub(crate) fn with(&self, end: &LinkEnd, is_own: bool, now: &Observed) -> Asking
-        ensures { (h : List Observed) → same_end (end_of now.now) end.now ≡ is_own → self.now ≡ asking end.now h
+    pub(crate) fn with(&self, end: &LinkEnd, is_own: bool, now: &SlowFrame) -> Asking
+        ensures { (h : List SlowFrame) → same_end (end_of now.now) end.now ≡ is_own → self.now ≡ asking end.now h
             → result ≡ asking end.now (now.now ∷ h) }
     {
         let waiting = if is_own {

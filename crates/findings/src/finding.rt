@@ -1,8 +1,8 @@
 ghost use Rattle.std.specs.Prelude.{◌≡◌};
 ghost use Rattle.findings.specs.Firsts.{earlier_or, finding_of};
 
-use crate::observed::LinkEnd;
 use crate::rule::Rule;
+use crate::slow_frame::LinkEnd;
 
 /// The first frame that shows a rule of an end.
 #[derive(Clone, Copy, Debug, Default, PartialEq, Eq)]

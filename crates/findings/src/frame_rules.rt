@@ -1,11 +1,11 @@
 ghost use Rattle.std.specs.Prelude.{◌≡◌, ◌∷◌, List};
-ghost use Rattle.findings.specs.declared.observed.Observed.{Observed};
+ghost use Rattle.findings.specs.declared.slow_frame.SlowFrame.{SlowFrame};
 ghost use Rattle.findings.specs.Firsts.{shown_frame};
 ghost use Rattle.findings.specs.Holds.{has_other_destination, has_other_length, has_other_version, has_reserved, is_read};
-ghost use Rattle.findings.specs.Watches.{frame_rules};
+ghost use Rattle.findings.specs.KeptEnds.{frame_rules};
 
 use crate::finding::{Shown, earlier_or};
-use crate::observed::{Observed, What};
+use crate::slow_frame::{SlowFrame, What};
 
 /// The Slow_Protocols_Multicast address (6.4.2.2).
 const SLOW_PROTOCOLS: [u8; 6] = [0x01, 0x80, 0xc2, 0x00, 0x00, 0x02];
@@ -23,7 +23,7 @@ pub(crate) struct FrameRules {
     pub(crate) tag: Option<Shown>,
 }
 
-impl Observed {
+impl SlowFrame {
     fn shown(&self) -> Shown
         ensures { result ≡ shown_frame self.now }
     {
@@ -46,28 +46,28 @@ impl Observed {
 
     /// Whether the version is another one.
     fn has_other_version(&self) -> bool
-        ensures { (l : List Observed) → result ≡ has_other_version self.now l }
+        ensures { (l : List SlowFrame) → result ≡ has_other_version self.now l }
     {
         self.is_read() && self.version != 1
     }
 
     /// Whether a reserved octet is not zero.
     fn has_reserved(&self) -> bool
-        ensures { (l : List Observed) → result ≡ has_reserved self.now l }
+        ensures { (l : List SlowFrame) → result ≡ has_reserved self.now l }
     {
         self.is_read() && self.reserved
     }
 
     /// Whether the length is neither 124 nor 128 octets.
     fn has_other_length(&self) -> bool
-        ensures { (l : List Observed) → result ≡ has_other_length self.now l }
+        ensures { (l : List SlowFrame) → result ≡ has_other_length self.now l }
     {
         self.length != LENGTHS[0] && self.length != LENGTHS[1]
     }
 
     /// Whether the destination is known and another one.
     fn has_other_destination(&self) -> bool
-        ensures { (l : List Observed) → result ≡ has_other_destination self.now l }
+        ensures { (l : List SlowFrame) → result ≡ has_other_destination self.now l }
     {
         match self.destination {
             Some(destination) => destination != SLOW_PROTOCOLS,
@@ -78,8 +78,8 @@ impl Observed {
 
 impl FrameRules {
     /// The first frame that shows each rule, after one more frame.
-    pub(crate) fn with(&self, now: &Observed) -> FrameRules
-        ensures { (l : List Observed) → self.now ≡ frame_rules l → result ≡ frame_rules (now.now ∷ l) }
+    pub(crate) fn with(&self, now: &SlowFrame) -> FrameRules
+        ensures { (l : List SlowFrame) → self.now ≡ frame_rules l → result ≡ frame_rules (now.now ∷ l) }
     {
         let shown = now.shown();
         FrameRules {
@@ -87,7 +87,7 @@ impl FrameRules {
             length: earlier_or(self.length, now.has_other_length(), shown),
             reserved: earlier_or(self.reserved, now.has_reserved(), shown),
             destination: earlier_or(self.destination, now.has_other_destination(), shown),
-            tag: earlier_or(self.tag, now.tagged, shown),
+            tag: earlier_or(self.tag, now.tags > 0, shown),
         }
     }
 }

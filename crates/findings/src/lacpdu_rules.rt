@@ -1,6 +1,6 @@
 ghost use Rattle.std.specs.Prelude.{◌≡◌, ◌∷◌, List};
 ghost use Rattle.findings.specs.declared.recent.Heard.{Heard};
-ghost use Rattle.findings.specs.Watches.{recent_of, lacpdu_rules};
+ghost use Rattle.findings.specs.KeptEnds.{recent_of, lacpdu_rules};
 
 use crate::finding::{Shown, earlier_or};
 use crate::recent::{Heard, Recent};

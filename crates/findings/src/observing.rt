@@ -1,13 +1,13 @@
 ghost use Rattle.std.specs.Prelude.{◌≡◌, ◌∷◌, [], List, length, option_and_then, slice_get};
 ghost use Rattle.std.specs.List.{AllZip};
-ghost use Rattle.findings.specs.declared.observed.Observed.{Observed};
+ghost use Rattle.findings.specs.declared.slow_frame.SlowFrame.{SlowFrame};
 ghost use Rattle.findings.specs.Firsts.{found};
 ghost use Rattle.findings.specs.Knows.{Knows, Takes, ends_of, has_end};
 
 use crate::finding::{Finding, finding_of};
-use crate::observed::{LinkEnd, Observed};
+use crate::kept_end::KeptEnd;
 use crate::rule::Rule;
-use crate::watch::Watch;
+use crate::slow_frame::{LinkEnd, SlowFrame};
 use arrayvec::ArrayVec;
 
 /// The most ends that are kept.
@@ -16,60 +16,60 @@ pub const MOST_ENDS: usize = 64;
 /// What is found of each end, by the frames so far.
 #[derive(Drop)]
 pub struct Findings {
-    watches: ArrayVec<Watch, MOST_ENDS>,
+    kept: ArrayVec<KeptEnd, MOST_ENDS>,
     left_out: u64,
 }
 
 /// Whether the end is one of them.
-fn has_end(watches: &[Watch], end: &LinkEnd) -> bool
-    ensures { result ≡ has_end end.now watches.now }
+fn has_end(ends: &[KeptEnd], end: &LinkEnd) -> bool
+    ensures { result ≡ has_end end.now ends.now }
 {
-    watches.iter().any(|watch| watch.end.is(end))
+    ends.iter().any(|kept| kept.end.is(end))
 }
 
 /// Takes one frame at each end.
-fn see_each(watches: &mut [Watch], now: &Observed)
-    ensures { AllZip (Takes now.now) watches.old watches.new }
+fn see_each(ends: &mut [KeptEnd], now: &SlowFrame)
+    ensures { AllZip (Takes now.now) ends.old ends.new }
 {
-    for watch in watches.iter_mut() {
-        watch.see(now);
+    for end in ends.iter_mut() {
+        end.see(now);
     }
 }
 
 impl Findings {
     /// What is found before the first frame: nothing.
     pub fn new() -> Findings
-        ensures { Knows [] result.watches.items result.left_out }
+        ensures { Knows [] result.kept.items result.left_out }
     {
         Findings {
-            watches: ArrayVec::new(),
+            kept: ArrayVec::new(),
             left_out: 0,
         }
     }
 
     /// Takes the next frame. A frame of an end that comes after 64 others is left out, and counted.
-    pub fn observe(&mut self, now: &Observed)
-        ensures { (h : List Observed) → Knows h self.old.watches.items self.old.left_out → Knows (now.now ∷ h) self.new.watches.items self.new.left_out }
+    pub fn observe(&mut self, now: &SlowFrame)
+        ensures { (h : List SlowFrame) → Knows h self.old.kept.items self.old.left_out → Knows (now.now ∷ h) self.new.kept.items self.new.left_out }
     {
-        see_each(self.watches.as_mut_slice(), now);
+        see_each(self.kept.as_mut_slice(), now);
         let end = now.end();
-        if has_end(&self.watches, &end) {
+        if has_end(&self.kept, &end) {
             return;
         }
-        if self.watches.is_full() {
+        if self.kept.is_full() {
             self.left_out = self.left_out.saturating_add(1);
             return;
         }
-        let mut watch = Watch::new(end);
-        watch.see(now);
-        self.watches.push(watch);
+        let mut kept = KeptEnd::new(end);
+        kept.see(now);
+        self.kept.push(kept);
     }
 
     /// How many ends are kept, at most 64.
     pub fn count(&self) -> usize
-        ensures { result ≡ length self.now.watches.items }
+        ensures { result ≡ length self.now.kept.items }
     {
-        self.watches.len()
+        self.kept.len()
     }
 
     /// How many frames were left out, since they came from ends after the first 64; at most 2^64 - 1.
@@ -81,10 +81,10 @@ impl Findings {
 
     /// The end with this index, in the order of their first frames; None if there are fewer.
     pub fn end(&self, index: usize) -> Option<LinkEnd>
-        ensures { result ≡ slice_get (ends_of self.now.watches.items) index }
+        ensures { result ≡ slice_get (ends_of self.now.kept.items) index }
     {
-        match self.watches.get(index) {
-            Some(watch) => Some(watch.end),
+        match self.kept.get(index) {
+            Some(kept) => Some(kept.end),
             None => None,
         }
     }
@@ -93,11 +93,11 @@ impl Findings {
     /// if there are fewer ends. `until` is the time of the capture's last packet of any kind, in nanoseconds since the
     /// beginning of 1970: an end can be silent up to then.
     pub fn finding(&self, index: usize, rule: Rule, until: u64) -> Option<Finding>
-        ensures { (h : List Observed) → Knows h self.now.watches.items self.now.left_out
-            → result ≡ option_and_then (λ e. found rule until e h) (slice_get (ends_of self.now.watches.items) index) }
+        ensures { (h : List SlowFrame) → Knows h self.now.kept.items self.now.left_out
+            → result ≡ option_and_then (λ e. found rule until e h) (slice_get (ends_of self.now.kept.items) index) }
     {
-        match self.watches.get(index) {
-            Some(watch) => finding_of(rule, watch.end, watch.first(rule, until)),
+        match self.kept.get(index) {
+            Some(kept) => finding_of(rule, kept.end, kept.first(rule, until)),
             None => None,
         }
     }

@@ -2,7 +2,7 @@ ghost use Rattle.std.specs.Prelude.{◌≡◌, Some, None, if◌then◌else◌};
 ghost use Rattle.std.specs.Option.{option_or};
 ghost use Rattle.findings.specs.Ends.{answers, faces, is_sibling, related, rivals};
 
-use crate::observed::{LinkEnd, Observed};
+use crate::slow_frame::{LinkEnd, SlowFrame};
 use slowpdu::Lacpdu;
 
 /// An LACPDU of another end.
@@ -30,7 +30,7 @@ pub(crate) struct Others {
 }
 
 /// Whether the LACPDU of another end has this end as its Partner.
-fn answers(end: &LinkEnd, own: &Lacpdu, now: &Observed, pdu: &Lacpdu) -> bool
+fn answers(end: &LinkEnd, own: &Lacpdu, now: &SlowFrame, pdu: &Lacpdu) -> bool
     ensures { result ≡ answers end.now own.now now.now pdu.now }
 {
     now.interface == end.interface
@@ -39,7 +39,7 @@ fn answers(end: &LinkEnd, own: &Lacpdu, now: &Observed, pdu: &Lacpdu) -> bool
 }
 
 /// Whether the LACPDU of another end has the same Partner.
-fn rivals(end: &LinkEnd, own: &Lacpdu, now: &Observed, pdu: &Lacpdu) -> bool
+fn rivals(end: &LinkEnd, own: &Lacpdu, now: &SlowFrame, pdu: &Lacpdu) -> bool
     ensures { result ≡ rivals end.now own.now now.now pdu.now }
 {
     now.interface == end.interface
@@ -48,7 +48,7 @@ fn rivals(end: &LinkEnd, own: &Lacpdu, now: &Observed, pdu: &Lacpdu) -> bool
 }
 
 /// Whether the LACPDU of another end is of the same pair of systems.
-fn is_sibling(end: &LinkEnd, own: &Lacpdu, now: &Observed, pdu: &Lacpdu) -> bool
+fn is_sibling(end: &LinkEnd, own: &Lacpdu, now: &SlowFrame, pdu: &Lacpdu) -> bool
     ensures { result ≡ is_sibling end.now own.now now.now pdu.now }
 {
     pdu.actor.system == own.actor.system && pdu.partner.system == own.partner.system
@@ -63,7 +63,7 @@ fn latest(is_related: bool, now: Other, before: Option<Other>) -> Option<Other>
 
 impl Others {
     /// The latest ones behind one more LACPDU of another end.
-    pub(crate) fn with(&self, end: &LinkEnd, own: &Lacpdu, now: &Observed, pdu: &Lacpdu) -> Others
+    pub(crate) fn with(&self, end: &LinkEnd, own: &Lacpdu, now: &SlowFrame, pdu: &Lacpdu) -> Others
         ensures answer { result.answer ≡ option_or (related answers end.now now.now (Some own.now) (Some pdu.now)) self.now.answer }
         ensures rival { result.rival ≡ option_or (related rivals end.now now.now (Some own.now) (Some pdu.now)) self.now.rival }
         ensures facing { result.facing ≡ option_or (related faces end.now now.now (Some own.now) (Some pdu.now)) self.now.facing }

@@ -1,5 +1,5 @@
 ghost use Rattle.std.specs.Prelude.{◌≡◌, ◌∷◌, ◌+◌, List, Some, None, is_some, if◌then◌else◌};
-ghost use Rattle.findings.specs.declared.observed.Observed.{Observed};
+ghost use Rattle.findings.specs.declared.slow_frame.SlowFrame.{SlowFrame};
 ghost use Rattle.findings.specs.Ends.{end_of, said, same_end};
 ghost use Rattle.findings.specs.Counts.{counted};
 ghost use Rattle.findings.specs.Responses.{asks, is_of_requester, is_overdue, is_unasked, if_response_is, owed_with, responding, responds};
@@ -7,8 +7,8 @@ ghost use Rattle.std.specs.Prelude.{false, true};
 
 use crate::asking::{Asked, question};
 use crate::finding::Shown;
-use crate::observed::{LinkEnd, Observed};
 use crate::recent::{SHORT_TIMEOUT, is_over};
+use crate::slow_frame::{LinkEnd, SlowFrame};
 use slowpdu::Marker;
 
 /// What an end was asked by markers, and how it responds.
@@ -25,7 +25,7 @@ pub(crate) struct Responding {
 }
 
 /// The marker that a frame asks an end with.
-fn asks(end: &LinkEnd, now: &Observed) -> Option<Asked>
+fn asks(end: &LinkEnd, now: &SlowFrame) -> Option<Asked>
     ensures { result ≡ asks end.now now.now }
 {
     if now.interface == end.interface && now.source != end.source {
@@ -36,7 +36,7 @@ fn asks(end: &LinkEnd, now: &Observed) -> Option<Asked>
 }
 
 /// The response of an end in a frame.
-fn responds(end: &LinkEnd, now: &Observed) -> Option<Marker>
+fn responds(end: &LinkEnd, now: &SlowFrame) -> Option<Marker>
     ensures { result ≡ responds end.now now.now }
 {
     if now.interface == end.interface && now.source == end.source {
@@ -75,7 +75,7 @@ fn owed_with(request: Option<Asked>, response: Option<Marker>, owed: u64) -> u64
 }
 
 /// The frame, if there is a response in it and it is to be shown.
-fn shown_if(is_shown: bool, now: &Observed) -> Option<Shown>
+fn shown_if(is_shown: bool, now: &SlowFrame) -> Option<Shown>
     ensures { result ≡ (if is_shown then Some (record { number = now.now.number; nanoseconds = now.now.nanoseconds; partner = None }) else None) }
 {
     if is_shown {
@@ -114,7 +114,7 @@ impl Responding {
     }
 
     /// The frame, if nobody asked for the response in it.
-    fn unasked_in(&self, now: &Observed, response: Option<Marker>) -> Option<Shown>
+    fn unasked_in(&self, now: &SlowFrame, response: Option<Marker>) -> Option<Shown>
         ensures { result ≡ if_response_is (is_unasked self.now.owed self.now.request) now.now response }
     {
         match response {
@@ -124,7 +124,7 @@ impl Responding {
     }
 
     /// The frame, if the response in it comes late.
-    fn late_in(&self, now: &Observed, response: Option<Marker>) -> Option<Shown>
+    fn late_in(&self, now: &SlowFrame, response: Option<Marker>) -> Option<Shown>
         ensures { result ≡ if_response_is (is_overdue now.now.nanoseconds self.now.request) now.now response }
     {
         match response {
@@ -135,8 +135,8 @@ impl Responding {
 
     /// What is known of the responses of this end after one more frame. The end has sent an LACPDU before, and the frame is
     /// none of its LACPDUs and markers.
-    pub(crate) fn with(&self, end: &LinkEnd, now: &Observed) -> Responding
-        ensures { (h : List Observed) → same_end (end_of now.now) end.now ≡ false → is_some (said end.now h) ≡ true → self.now ≡ responding end.now h
+    pub(crate) fn with(&self, end: &LinkEnd, now: &SlowFrame) -> Responding
+        ensures { (h : List SlowFrame) → same_end (end_of now.now) end.now ≡ false → is_some (said end.now h) ≡ true → self.now ≡ responding end.now h
             → result ≡ responding end.now (now.now ∷ h) }
     {
         let request = asks(end, now);

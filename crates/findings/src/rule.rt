@@ -1,5 +1,5 @@
 ghost use Rattle.std.specs.Prelude.{◌≡◌, Some};
-ghost use Rattle.findings.specs.Rules.{rule_number, rule_name, rule_clause, rule_advice};
+ghost use Rattle.findings.specs.Rules.{row_of, rule_number, rule_name, rule_clause, rule_advice};
 
 use std::fmt;
 
@@ -55,6 +55,15 @@ pub enum Rule {
     Relapsing,
 }
 
+/// What is said of a rule: its number, what is found, the section that has it, and what to do.
+#[derive(Clone, Copy)]
+struct RuleRow {
+    number: u8,
+    name: &'static str,
+    clause: &'static str,
+    advice: &'static str,
+}
+
 impl Rule {
     /// All rules, in the order of their numbers.
     pub const ALL: [Rule; 23] = [
@@ -83,149 +92,181 @@ impl Rule {
         Rule::Relapsing,
     ];
 
+    /// The row of the rule.
+    fn row(&self) -> RuleRow
+        ensures number { result.number ≡ (row_of self.now).number }
+        ensures name { result.name.now ≡ (row_of self.now).name }
+        ensures clause { result.clause.now ≡ (row_of self.now).clause }
+        ensures advice { result.advice.now ≡ (row_of self.now).advice }
+    {
+        match self {
+            Rule::Rate => RuleRow {
+                number: 1,
+                name: "more than three LACPDUs in a second",
+                clause: "6.4.16",
+                advice: "Look for what changes the port again and again; an LACP implementation limits its LACPDUs.",
+            },
+            Rule::System => RuleRow {
+                number: 2,
+                name: "the partner's system is not the one that answers",
+                clause: "6.4.9",
+                advice: "Look whether the LACPDUs of the system that answers reach this end: it names another one.",
+            },
+            Rule::Port => RuleRow {
+                number: 3,
+                name: "the partner's port is not the one that answers",
+                clause: "6.4.9",
+                advice: "Look for crossed cables: this end names another port of the system.",
+            },
+            Rule::Key => RuleRow {
+                number: 4,
+                name: "the partner's key is not the one that answers",
+                clause: "6.4.9",
+                advice: "Look whether the latest LACPDUs of the partner reach this end: it names a key that the partner has no more.",
+            },
+            Rule::Passive => RuleRow {
+                number: 5,
+                name: "both ends are passive",
+                clause: "6.4.13",
+                advice: "Set LACP to active at one end at least.",
+            },
+            Rule::Version => RuleRow {
+                number: 6,
+                name: "a version other than 1",
+                clause: "6.4.2.3",
+                advice: "None is needed: a receiver of version 1 reads the fields that version 1 has.",
+            },
+            Rule::Length => RuleRow {
+                number: 7,
+                name: "a frame of another length",
+                clause: "6.4.2.3",
+                advice: "Compare the frames at the other end of the cable: a device between may pad or cut them.",
+            },
+            Rule::Reserved => RuleRow {
+                number: 8,
+                name: "a reserved octet is not zero",
+                clause: "6.4.2.3",
+                advice: "None is needed: a receiver ignores these octets.",
+            },
+            Rule::Destination => RuleRow {
+                number: 9,
+                name: "a frame to another destination",
+                clause: "6.4.2.2",
+                advice: "Set the destination address of LACPDUs to 01-80-c2-00-00-02 at both ends.",
+            },
+            Rule::Tag => RuleRow {
+                number: 10,
+                name: "a frame with a tag",
+                clause: "6.4.2.2",
+                advice: "Send LACPDUs without a tag: a switch forwards or drops those that have one.",
+            },
+            Rule::Silence => RuleRow {
+                number: 11,
+                name: "no LACPDU for longer than the partner's timeout",
+                clause: "6.4.13",
+                advice: "Look for lost frames, and whether the sender follows the timeout that the partner asks for.",
+            },
+            Rule::Unheard => RuleRow {
+                number: 12,
+                name: "defaulted or expired for longer than 6 seconds",
+                clause: "6.4.12",
+                advice: "Look whether the partner sends LACPDUs and whether they reach this end.",
+            },
+            Rule::Desynchronized => RuleRow {
+                number: 13,
+                name: "synchronization lost",
+                clause: "6.4.15",
+                advice: "Look at the frames before it: a party has changed, or the port left its aggregator.",
+            },
+            Rule::Individual => RuleRow {
+                number: 14,
+                name: "one end is Individual",
+                clause: "6.3.5",
+                advice: "Look at this end's speed, duplex and key: its port may not be aggregated with others.",
+            },
+            Rule::Keys => RuleRow {
+                number: 15,
+                name: "keys differ within one pair of systems",
+                clause: "6.3.6",
+                advice: "Give the ports that are to aggregate one key at each system: these are two groups.",
+            },
+            Rule::Segment => RuleRow {
+                number: 16,
+                name: "two actors on one segment",
+                clause: "6.4.9",
+                advice: "Look for a hub, or for a switch between the ends that passes the slow protocols on.",
+            },
+            Rule::Discarded => RuleRow {
+                number: 17,
+                name: "distributing while the partner is not collecting",
+                clause: "6.4.15",
+                advice: "Look why the partner does not collect: frames that this end sends are lost there.",
+            },
+            Rule::OneWay => RuleRow {
+                number: 18,
+                name: "LACPDUs in one direction only",
+                clause: "6.4.12",
+                advice: "Look whether the other end sends LACPDUs, and whether the capture has both directions.",
+            },
+            Rule::Unanswered => RuleRow {
+                number: 19,
+                name: "a marker without a response within 3 seconds",
+                clause: "6.5.4",
+                advice: "Look whether the marker reaches the partner: each system responds to markers.",
+            },
+            Rule::Unasked => RuleRow {
+                number: 20,
+                name: "a marker response that nobody asked for",
+                clause: "6.5.4",
+                advice: "Compare port, system and number of the response with those of the marker: a responder copies them.",
+            },
+            Rule::Late => RuleRow {
+                number: 21,
+                name: "a marker response after more than 3 seconds",
+                clause: "6.5.4",
+                advice: "Look what delays the responses: whoever waits for one may have given up by then.",
+            },
+            Rule::Attached => RuleRow {
+                number: 22,
+                name: "attached for longer than 6 seconds while the partner is not synchronized",
+                clause: "6.4.15",
+                advice: "Look why the partner does not attach this link: it may have chosen another aggregator or have too many links.",
+            },
+            Rule::Relapsing => RuleRow {
+                number: 23,
+                name: "defaulted or expired again and again",
+                clause: "6.4.12",
+                advice: "Look for a link that loses frames, and for a partner that sends LACPDUs less often than it is asked to.",
+            },
+        }
+    }
+
     /// The number of the rule, from 1.
     pub fn number(&self) -> u8
         ensures { result ≡ rule_number self.now }
     {
-        match self {
-            Rule::Rate => 1,
-            Rule::System => 2,
-            Rule::Port => 3,
-            Rule::Key => 4,
-            Rule::Passive => 5,
-            Rule::Version => 6,
-            Rule::Length => 7,
-            Rule::Reserved => 8,
-            Rule::Destination => 9,
-            Rule::Tag => 10,
-            Rule::Silence => 11,
-            Rule::Unheard => 12,
-            Rule::Desynchronized => 13,
-            Rule::Individual => 14,
-            Rule::Keys => 15,
-            Rule::Segment => 16,
-            Rule::Discarded => 17,
-            Rule::OneWay => 18,
-            Rule::Unanswered => 19,
-            Rule::Unasked => 20,
-            Rule::Late => 21,
-            Rule::Attached => 22,
-            Rule::Relapsing => 23,
-        }
+        self.row().number
     }
 
     /// What is found, in a few words.
     pub fn name(&self) -> &'static str
         ensures { result.now ≡ rule_name self.now }
     {
-        match self {
-            Rule::Rate => "more than three LACPDUs in a second",
-            Rule::System => "the partner's system is not the one that answers",
-            Rule::Port => "the partner's port is not the one that answers",
-            Rule::Key => "the partner's key is not the one that answers",
-            Rule::Passive => "both ends are passive",
-            Rule::Version => "a version other than 1",
-            Rule::Length => "a frame of another length",
-            Rule::Reserved => "a reserved octet is not zero",
-            Rule::Destination => "a frame to another destination",
-            Rule::Tag => "a frame with a tag",
-            Rule::Silence => "no LACPDU for longer than the partner's timeout",
-            Rule::Unheard => "defaulted or expired for longer than 6 seconds",
-            Rule::Desynchronized => "synchronization lost",
-            Rule::Individual => "one end is Individual",
-            Rule::Keys => "keys differ within one pair of systems",
-            Rule::Segment => "two actors on one segment",
-            Rule::Discarded => "distributing while the partner is not collecting",
-            Rule::OneWay => "LACPDUs in one direction only",
-            Rule::Unanswered => "a marker without a response within 3 seconds",
-            Rule::Unasked => "a marker response that nobody asked for",
-            Rule::Late => "a marker response after more than 3 seconds",
-            Rule::Attached =>
-                "attached for longer than 6 seconds while the partner is not synchronized",
-            Rule::Relapsing => "defaulted or expired again and again",
-        }
+        self.row().name
     }
 
     /// The section of IEEE 802.1AX-2014 that has the rule.
     pub fn clause(&self) -> &'static str
         ensures { result.now ≡ rule_clause self.now }
     {
-        match self {
-            Rule::Rate => "6.4.16",
-            Rule::System => "6.4.9",
-            Rule::Port => "6.4.9",
-            Rule::Key => "6.4.9",
-            Rule::Passive => "6.4.13",
-            Rule::Version => "6.4.2.3",
-            Rule::Length => "6.4.2.3",
-            Rule::Reserved => "6.4.2.3",
-            Rule::Destination => "6.4.2.2",
-            Rule::Tag => "6.4.2.2",
-            Rule::Silence => "6.4.13",
-            Rule::Unheard => "6.4.12",
-            Rule::Desynchronized => "6.4.15",
-            Rule::Individual => "6.3.5",
-            Rule::Keys => "6.3.6",
-            Rule::Segment => "6.4.9",
-            Rule::Discarded => "6.4.15",
-            Rule::OneWay => "6.4.12",
-            Rule::Unanswered => "6.5.4",
-            Rule::Unasked => "6.5.4",
-            Rule::Late => "6.5.4",
-            Rule::Attached => "6.4.15",
-            Rule::Relapsing => "6.4.12",
-        }
+        self.row().clause
     }
 
     /// What to do, in one sentence.
     pub fn advice(&self) -> &'static str
         ensures { result.now ≡ rule_advice self.now }
     {
-        match self {
-            Rule::Rate =>
-                "Look for what changes the port again and again; an LACP implementation limits its LACPDUs.",
-            Rule::System =>
-                "Look whether the LACPDUs of the system that answers reach this end: it names another one.",
-            Rule::Port => "Look for crossed cables: this end names another port of the system.",
-            Rule::Key =>
-                "Look whether the latest LACPDUs of the partner reach this end: it names a key that the partner has no more.",
-            Rule::Passive => "Set LACP to active at one end at least.",
-            Rule::Version =>
-                "None is needed: a receiver of version 1 reads the fields that version 1 has.",
-            Rule::Length =>
-                "Compare the frames at the other end of the cable: a device between may pad or cut them.",
-            Rule::Reserved => "None is needed: a receiver ignores these octets.",
-            Rule::Destination =>
-                "Set the destination address of LACPDUs to 01-80-c2-00-00-02 at both ends.",
-            Rule::Tag =>
-                "Send LACPDUs without a tag: a switch forwards or drops those that have one.",
-            Rule::Silence =>
-                "Look for lost frames, and whether the sender follows the timeout that the partner asks for.",
-            Rule::Unheard =>
-                "Look whether the partner sends LACPDUs and whether they reach this end.",
-            Rule::Desynchronized =>
-                "Look at the frames before it: a party has changed, or the port left its aggregator.",
-            Rule::Individual =>
-                "Look at this end's speed, duplex and key: its port may not be aggregated with others.",
-            Rule::Keys =>
-                "Give the ports that are to aggregate one key at each system: these are two groups.",
-            Rule::Segment =>
-                "Look for a hub, or for a switch between the ends that passes the slow protocols on.",
-            Rule::Discarded =>
-                "Look why the partner does not collect: frames that this end sends are lost there.",
-            Rule::OneWay =>
-                "Look whether the other end sends LACPDUs, and whether the capture has both directions.",
-            Rule::Unanswered =>
-                "Look whether the marker reaches the partner: each system responds to markers.",
-            Rule::Unasked =>
-                "Compare port, system and number of the response with those of the marker: a responder copies them.",
-            Rule::Late =>
-                "Look what delays the responses: whoever waits for one may have given up by then.",
-            Rule::Attached =>
-                "Look why the partner does not attach this link: it may have chosen another aggregator or have too many links.",
-            Rule::Relapsing =>
-                "Look for a link that loses frames, and for a partner that sends LACPDUs less often than it is asked to.",
-        }
+        self.row().advice
     }
 }
 

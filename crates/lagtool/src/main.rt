@@ -8,7 +8,7 @@ ghost use Rattle.std.specs.Prelude.{◌≡◌, ◌<◌};
 ghost use Rattle.distributor.specs.Calls.{index_by_number};
 
 use lagstreams::{Sink, Source};
-use lagtool_capture::{CaptureFault, Settings, Summary, explain};
+use lagtool_capture::{CaptureFault, Settings, CaptureSummary, report_capture};
 use lagtool_jobs::{
     FaultText, Progress, ToolFault, Watch, check_watched, digits_text, replay_watched, reply,
     script_text, show, status_of, unread_text, utf8_text, vectors,
@@ -38,7 +38,7 @@ fn could_not_do<D: Display + Drop>(rt: &impl Eprint, why: D) -> ExitCode {
 }
 
 /// Prints the text for a command line that asks for no job; returns its exit status.
-fn explained(rt: &(impl Print + Eprint), fault: LineFault) -> ExitCode {
+fn without_job(rt: &(impl Print + Eprint), fault: LineFault) -> ExitCode {
     match fault {
         LineFault::Help(text) => match text.print(rt) {
             Ok(()) => ExitCode::SUCCESS,
@@ -68,6 +68,21 @@ fn say_more(rt: &impl Eprint, line: Result<String, AllocError>) {
     }
 }
 
+/// The exit status for the result of a job with a file; standard error says why one could not be done, and with `--report_capture` what
+/// is wrong with a file that cannot be read.
+fn ended_with_file(
+    rt: &(impl Eprint + Files + AllocGlobal),
+    options: Options,
+    file: &str,
+    accepted: Result<bool, ToolFault>,
+) -> ExitCode {
+    let status = ended(rt, file, accepted);
+    if options.report_capture && accepted == Err(ToolFault::Read) {
+        say_more(rt, unread_text(rt.alloc(), rt, file));
+    }
+    status
+}
+
 /// Checks a file, or standard input for `-`; returns whether no line is a fault. The watch is shown how many have ended.
 fn check_file<R: Print + Files + Input + AllocGlobal, P: Watch>(
     rt: &R,
@@ -95,11 +110,7 @@ fn status_of_check<R: Print + Eprint + Files + Input + Clock + AllocGlobal>(
     let progress = Progress::new(rt, options.progress, "line");
     let checked = check_file(rt, file, &progress);
     progress.clear();
-    let status = ended(rt, file, checked);
-    if options.explain && checked == Err(ToolFault::Read) {
-        say_more(rt, unread_text(rt.alloc(), rt, file));
-    }
-    status
+    ended_with_file(rt, options, file, checked)
 }
 
 /// Explains a capture, or standard input for `-`.
@@ -107,10 +118,10 @@ fn capture_file<R: Print + Files + Input + AllocGlobal>(
     rt: &R,
     settings: Settings,
     file: &str,
-) -> Result<Summary, CaptureFault> {
+) -> Result<CaptureSummary, CaptureFault> {
     let mut sink = Sink::new(io::writer(rt));
     if file == "-" {
-        explain(
+        report_capture(
             rt.alloc(),
             settings,
             &mut Source::new(rt.reader()),
@@ -118,7 +129,7 @@ fn capture_file<R: Print + Files + Input + AllocGlobal>(
         )
     } else {
         match File::open(rt, file) {
-            Ok(opened) => explain(rt.alloc(), settings, &mut Source::new(opened), &mut sink),
+            Ok(opened) => report_capture(rt.alloc(), settings, &mut Source::new(opened), &mut sink),
             Err(_) => Err(CaptureFault::Read),
         }
     }
@@ -146,7 +157,7 @@ fn status_of_capture<R: Print + Eprint + Files + Input + AllocGlobal>(
     };
     match capture_file(rt, settings, file) {
         Ok(
-            Summary {
+            CaptureSummary {
                 fault: Some(fault),
                 ..
             },
@@ -155,14 +166,7 @@ fn status_of_capture<R: Print + Eprint + Files + Input + AllocGlobal>(
             ExitCode::from(2)
         }
         Ok(summary) => ended(rt, file, Ok(summary.findings == 0)),
-        Err(fault) => {
-            let fault = tool_fault(fault);
-            let status = ended(rt, file, Err(fault));
-            if options.explain && fault == ToolFault::Read {
-                say_more(rt, unread_text(rt.alloc(), rt, file));
-            }
-            status
-        }
+        Err(fault) => ended_with_file(rt, options, file, Err(tool_fault(fault))),
     }
 }
 
@@ -200,7 +204,7 @@ fn status_of_script<R: Print + Eprint + Clock + AllocGlobal>(
         Err(fault) => {
             let status = ended(rt, file, Err(fault));
             if let ToolFault::Script(fault) = fault
-                && options.explain
+                && options.report_capture
             {
                 say_more(rt, script_text(rt.alloc(), file, text, fault));
             }
@@ -217,19 +221,13 @@ fn status_of_replay<R: Print + Eprint + Files + Input + Clock + AllocGlobal>(
 ) -> ExitCode {
     let octets = match read_octets(rt, file) {
         Ok(octets) => octets,
-        Err(fault) => {
-            let status = ended(rt, file, Err(fault));
-            if options.explain && fault == ToolFault::Read {
-                say_more(rt, unread_text(rt.alloc(), rt, file));
-            }
-            return status;
-        }
+        Err(fault) => return ended_with_file(rt, options, file, Err(fault)),
     };
     match str::from_utf8(&octets) {
         Ok(text) => status_of_script(rt, options, file, text),
         Err(error) => {
             let status = ended(rt, file, Err(ToolFault::Read));
-            if options.explain {
+            if options.report_capture {
                 let before = octets.get(..error.valid_up_to()).unwrap_or(&[]);
                 say_more(rt, utf8_text(rt.alloc(), file, before));
             }
@@ -247,7 +245,7 @@ fn ended_with_words(
     accepted: Result<bool, ToolFault>,
 ) -> ExitCode {
     let status = ended(rt, "", accepted);
-    if options.explain {
+    if options.report_capture {
         let alloc = rt.alloc();
         match accepted {
             Err(ToolFault::NotHex) => {
@@ -287,7 +285,7 @@ fn status<R: Print + Eprint + Files + Input + Clock + AllocGlobal>(
         Ok(Job::Capture { file }) => status_of_capture(rt, options, file),
         Ok(Job::Replay { script }) => status_of_replay(rt, options, script),
         Ok(Job::Vectors) => ended(rt, "", run_vectors(rt)),
-        Err(fault) => explained(rt, fault),
+        Err(fault) => without_job(rt, fault),
     }
 }
 

@@ -18,21 +18,21 @@ pub use Rattle.captures.specs.Whole.{Capture, Captured, IsSettled, ReadsTo, at_s
 pub use Rattle.captures.specs.Whole.{refused_from}
 pub use Rattle.findings.specs.declared.finding.Finding.{Finding}
 pub use Rattle.findings.specs.Knows.{ends_of}
-pub use Rattle.lagtool_capture.specs.declared.envelope.Envelope.{Envelope}
+pub use Rattle.findings.specs.declared.slow_frame.SlowFrame.{SlowFrame}
 pub use Rattle.lagtool_capture.specs.declared.fault.ReadFault.{ReadFault}
 pub use Rattle.lagtool_capture.specs.declared.names.Identity.{Identity}
 pub use Rattle.lagtool_capture.specs.declared.settings.Settings.{Settings}
 pub use Rattle.lagtool_capture.specs.Contents.{content_in, content_of}
 pub use Rattle.lagtool_capture.specs.Counting.{one_more, sum_of}
-pub use Rattle.lagtool_capture.specs.Ends.{Sent, end_place, end_place_from, gap_between, gaps_between, latest_time, named_by}
-pub use Rattle.lagtool_capture.specs.Explaining.{ExplainerState, after, after_all, after_content, after_envelope, after_placed, after_slow}
-pub use Rattle.lagtool_capture.specs.Explaining.{closing_records, closing_texts, counted, frame_line, is_new, lacpdu_line, last_shown, legend_line}
-pub use Rattle.lagtool_capture.specs.Explaining.{name_place, named, nothing_seen, sender_of, with_end, with_ends, with_line}
+pub use Rattle.lagtool_capture.specs.Ends.{Sent, end_index, end_index_from, gap_between, gaps_between, latest_time, named_by}
+pub use Rattle.lagtool_capture.specs.Reporting.{ReportState, after, after_all, after_any, after_indexed, after_what}
+pub use Rattle.lagtool_capture.specs.Reporting.{closing_records, closing_texts, counted, frame_line, is_new, lacpdu_line, last_shown, legend_line}
+pub use Rattle.lagtool_capture.specs.Reporting.{name_number, named, nothing_seen, with_end, with_ends, with_line}
 pub use Rattle.lagtool_capture.specs.Gaps.{IsMedianOf, count_up_to, gaps_of, median, tenths_of, tenths_up_to}
 pub use Rattle.lagtool_capture.specs.Json.{ends_records, findings_records}
-pub use Rattle.lagtool_capture.specs.Names.{identity_of, place_from, place_of}
-pub use Rattle.lagtool_capture.specs.Noticing.{Follows, IsKnown, Log, all_rules, finding_by, findings_by, findings_in, logged_all, nothing_logged}
-pub use Rattle.lagtool_capture.specs.Reports.{Completes, counts_of, explained, found_in, report, summary}
-pub use Rattle.lagtool_capture.specs.Strides.{Explains, Stops, stopped_at}
-pub use Rattle.lagtool_capture.specs.Walks.{Feeds, IsBefore, Takes, WalkState, ended, is_free, is_read_on, refused_at, refused_end, refused_if_any}
-pub use Rattle.lagtool_capture.specs.Walks.{skipped, summary_of}
+pub use Rattle.lagtool_capture.specs.Names.{identity_of, number_from, number_of}
+pub use Rattle.lagtool_capture.specs.Noticing.{Agrees, Follows, IsKnown, Log, finding_by, findings_by, findings_in, logged_all, nothing_logged}
+pub use Rattle.lagtool_capture.specs.Reports.{Completes, counts_of, reported, found_in, report, summary}
+pub use Rattle.lagtool_capture.specs.Taking.{StepsThrough, Stops, stopped_at}
+pub use Rattle.lagtool_capture.specs.CaptureReadings.{Feeds, IsBefore, Takes, ReadingState, ended, is_free, is_read_on, refused_at, refused_end, refused_if_any}
+pub use Rattle.lagtool_capture.specs.CaptureReadings.{skipped, summary_of}

@@ -3,11 +3,11 @@ use Rattle.lagtool_capture.proofs.Common.{List, None, Option, Some, [], ap, arit
 use Rattle.lagtool_capture.proofs.Common.{Sent, gap_between, gaps_between, latest_time, IsMedianOf, gaps_of, median}
 use Rattle.lagtool_capture.specs.Ends.{end_of}
 use Rattle.lagtool_capture.specs.Gaps.{gaps_with}
-use Rattle.lagtool_capture.specs.declared.ends.End.{End}
-use Rattle.lagtool_capture.specs.declared.ends.Sender.{Sender}
+use Rattle.lagtool_capture.specs.declared.ends.LacpduSender.{LacpduSender}
+use Rattle.findings.specs.declared.slow_frame.LinkEnd.{LinkEnd}
 use Rattle.lagtool_capture.proofs.GapLemmas.{median_is}
 
-latest_is : (s : Sender) (first : Sent) (later : List Sent) → (end_of s first later).latest ≡ latest_time first later
+latest_is : (s : LinkEnd) (first : Sent) (later : List Sent) → (end_of s first later).latest ≡ latest_time first later
 latest_is s first [] = refl
 latest_is s first (x ∷ later) = refl
 
@@ -17,7 +17,7 @@ unfolding gaps_with
 one_more_of None gaps = refl
 one_more_of (Some gap) gaps = refl
 
-gaps_are : (s : Sender) (first : Sent) (later : List Sent) → (end_of s first later).gaps ≡ gaps_of (gaps_between first later)
+gaps_are : (s : LinkEnd) (first : Sent) (later : List Sent) → (end_of s first later).gaps ≡ gaps_of (gaps_between first later)
 gaps_are s first [] = refl
 gaps_are s first (x ∷ later) =
     ap (λ t. gaps_with (gap_between t x.time) (end_of s first later).gaps) (latest_is s first later)
@@ -35,7 +35,7 @@ no_longer first (x ∷ later) =
     omega (arith, h, l)
 
 -- the median of the times between the LACPDUs of an end
-pub end_median : (e : End) (s : Sender) (first : Sent) (later : List Sent) → length later < 2 ^ 64 → e ≡ end_of s first later
+pub end_median : (e : LacpduSender) (s : LinkEnd) (first : Sent) (later : List Sent) → length later < 2 ^ 64 → e ≡ end_of s first later
     → IsMedianOf (gaps_between first later) (median e.gaps)
 end_median e s first later lt same =
     let l = no_longer first later in

@@ -1,17 +1,17 @@
 -- What a job has read and written so far, and at its end.
 use Rattle.lagtool_capture.proofs.Common.{Bool, List, None, Option, Some, [], ap, arith, false, inl, inr, ltb-false, nat_lt, refl, subst, sym, true}
 use Rattle.lagtool_capture.proofs.Common.{true≢false, ℕ, ◌&&◌, ◌++◌, ◌∙◌, ◌≡◌, ◌⊎◌, and_cases, and_parts, Consumes, IsAtEnd, IsSettled, ReadFault}
-use Rattle.lagtool_capture.proofs.Common.{Settings, ExplainerState, Follows, Log, Completes, Feeds, IsBefore, WalkState, ended, is_free, is_read_on}
+use Rattle.lagtool_capture.proofs.Common.{Settings, ReportState, Follows, Log, Completes, Feeds, IsBefore, ReadingState, ended, is_free, is_read_on}
 use Rattle.lagtool_capture.proofs.Common.{summary_of}
 use Rattle.std.proofs.KnownBytes.{Appends-nil, Consumes-nil, Consumes-trans}
 use Rattle.lagstreams.proofs.SinkLemmas.{takes_more}
 use Rattle.lagstreams.specs.Sinks.{SinkState, WritesWhole}
 use Rattle.lagstreams.specs.Sources.{Gives, SourceState}
-use Rattle.lagtool_capture.proofs.WalkLemmas.{Stands, stands_counts, stands_fed, stands_first, stands_reports, stands_settled, stands_written}
-use Rattle.lagtool_capture.specs.declared.summary.Summary.{Summary}
+use Rattle.lagtool_capture.proofs.ReadingLemmas.{Stands, stands_counts, stands_fed, stands_first, stands_reports, stands_settled, stands_written}
+use Rattle.lagtool_capture.specs.declared.summary.CaptureSummary.{CaptureSummary}
 
 module _ {R W : Type 0} (remaining : R → Option (List ℕ)) (contents : W → Option (List ℕ)) (settings : Settings) where
-  pub record Told (from mid : SourceState R) (old half : SinkState W) (w : WalkState) : Type 0 where
+  pub record Told (from mid : SourceState R) (old half : SinkState W) (w : ReadingState) : Type 0 where
     pub octets : List ℕ
     pub read : Consumes (remaining from.reader) (remaining mid.reader) octets
     pub failed : mid.failed ≡ from.failed
@@ -27,7 +27,7 @@ fault_is : (o : Option ReadFault) → is_free o ≡ false → (f : ReadFault) ×
 fault_is None e = absurd (true≢false e)
 fault_is (Some f) e = (f, refl)
 
--- what a test behind a read says of the walk and of the source
+-- what a test behind a read says of the reading and of the source
 pub goes_by : (n : ℕ) (b : Bool) → (nat_lt 0 n && b) ≡ true → b ≡ true
 goes_by n b e = (and_parts (nat_lt 0 n) b e).1
 
@@ -39,7 +39,7 @@ ends_by {P} n b end e = by (and_cases (nat_lt 0 n) b e)
     by (inr off) = inr off
 
 module _ {R W : Type 0} {remaining : R → Option (List ℕ)} {contents : W → Option (List ℕ)} {settings : Settings} where
-  told_before : (from : SourceState R) (old : SinkState W) (w : WalkState) → IsBefore settings w
+  told_before : (from : SourceState R) (old : SinkState W) (w : ReadingState) → IsBefore settings w
       → Told remaining contents settings from from old old w
   told_before from old w before = record {
     octets = [];
@@ -50,12 +50,12 @@ module _ {R W : Type 0} {remaining : R → Option (List ℕ)} {contents : W → 
     stands = stands_first settings w before;
   }
 
-  pub told_first : (from : SourceState R) (old : SinkState W) (w : WalkState) → IsBefore settings w
-      → Told remaining contents w.explainer.settings from from old old w
+  pub told_first : (from : SourceState R) (old : SinkState W) (w : ReadingState) → IsBefore settings w
+      → Told remaining contents w.report.settings from from old old w
   told_first from old w before = subst (λ k. Told remaining contents k from from old old w)
-      (sym (ap (λ (e : ExplainerState). e.settings) before.explainer)) (told_before from old w before)
+      (sym (ap (λ (e : ReportState). e.settings) before.report)) (told_before from old w before)
 
-  pub told_reads : {from mid to : SourceState R} {old half : SinkState W} {w v : WalkState} {piece : List ℕ}
+  pub told_reads : {from mid to : SourceState R} {old half : SinkState W} {w v : ReadingState} {piece : List ℕ}
       → Told remaining contents settings from mid old half w → Gives remaining mid to piece → is_read_on w ≡ true → Feeds piece w v
       → Told remaining contents settings from to old half v
   told_reads {from} {mid} {to} {old} {half} {w} {v} {piece} t gives on feeds = record {
@@ -67,22 +67,22 @@ module _ {R W : Type 0} {remaining : R → Option (List ℕ)} {contents : W → 
     stands = stands_fed settings t.octets t.out piece w v t.stands (free_is w.fault on) feeds;
   }
 
-  pub told_writes : {from mid : SourceState R} {old half new : SinkState W} {w v : WalkState}
-      → Told remaining contents settings from mid old half w → WritesWhole contents half new w.explainer.to_write
-      → v ≡ record w { explainer = record w.explainer { to_write = [] } } → Told remaining contents settings from mid old new v
+  pub told_writes : {from mid : SourceState R} {old half new : SinkState W} {w v : ReadingState}
+      → Told remaining contents settings from mid old half w → WritesWhole contents half new w.report.to_write
+      → v ≡ record w { report = record w.report { to_write = [] } } → Told remaining contents settings from mid old new v
   told_writes {from} {mid} {old} {half} {new} {w} {v} t writes e = record {
     octets = t.octets;
     read = t.read;
     failed = t.failed;
-    out = t.out ++ w.explainer.to_write;
-    written = takes_more contents old half new t.out w.explainer.to_write t.written writes;
+    out = t.out ++ w.report.to_write;
+    written = takes_more contents old half new t.out w.report.to_write t.written writes;
     stands = stands_written settings t.octets t.out w v t.stands e;
   }
 
-  -- the walk ends at the end of the source, or where the capture is not read on
-  completes_so : {from mid : SourceState R} {old half new : SinkState W} {w v u : WalkState} {s : Summary}
+  -- the reading ends at the end of the source, or where the capture is not read on
+  completes_so : {from mid : SourceState R} {old half new : SinkState W} {w v u : ReadingState} {s : CaptureSummary}
       → Told remaining contents settings from mid old half w → ((l : Log) → Follows l w.noticed → v ≡ ended l w)
-      → WritesWhole contents half new v.explainer.to_write → u ≡ record v { explainer = record v.explainer { to_write = [] } }
+      → WritesWhole contents half new v.report.to_write → u ≡ record v { report = record v.report { to_write = [] } }
       → s ≡ summary_of u → IsAtEnd (remaining mid.reader) ⊎ (is_read_on w ≡ false)
       → Completes remaining contents settings from mid old new s
   completes_so {from} {mid} {old} {half} {new} {w} {v} {u} {s} t ends writes cleared counts stop = record {
@@ -91,7 +91,7 @@ module _ {R W : Type 0} {remaining : R → Option (List ℕ)} {contents : W → 
     unfailed = t.failed;
     end = by stop;
     written = subst (WritesWhole contents old new) (sym (stands_reports settings t.octets t.out w v t.stands ends))
-        (takes_more contents old half new t.out v.explainer.to_write t.written writes);
+        (takes_more contents old half new t.out v.report.to_write t.written writes);
     summary_is = counts ∙ stands_counts settings t.octets t.out w v u t.stands ends cleared;
   }
     where
@@ -99,11 +99,11 @@ module _ {R W : Type 0} {remaining : R → Option (List ℕ)} {contents : W → 
       by (inl end) = inl end
       by (inr off) = let (f, e) = fault_is w.fault off in inr (stands_settled settings t.octets t.out w f t.stands e)
 
-  pub completes : {from mid : SourceState R} {old half new : SinkState W} {first w v u : WalkState} {s : Summary} → IsBefore settings first
-      → Told remaining contents first.explainer.settings from mid old half w → ((l : Log) → Follows l w.noticed → v ≡ ended l w)
-      → WritesWhole contents half new v.explainer.to_write → u ≡ record v { explainer = record v.explainer { to_write = [] } }
+  pub completes : {from mid : SourceState R} {old half new : SinkState W} {first w v u : ReadingState} {s : CaptureSummary} → IsBefore settings first
+      → Told remaining contents first.report.settings from mid old half w → ((l : Log) → Follows l w.noticed → v ≡ ended l w)
+      → WritesWhole contents half new v.report.to_write → u ≡ record v { report = record v.report { to_write = [] } }
       → s ≡ summary_of u → IsAtEnd (remaining mid.reader) ⊎ (is_read_on w ≡ false)
       → Completes remaining contents settings from mid old new s
   completes {from} {mid} {old} {half} {new} {first} {w} {v} {u} {s} before t ends writes cleared counts stop =
-      completes_so (subst (λ k. Told remaining contents k from mid old half w) (ap (λ (e : ExplainerState). e.settings) before.explainer) t)
+      completes_so (subst (λ k. Told remaining contents k from mid old half w) (ap (λ (e : ReportState). e.settings) before.report) t)
       ends writes cleared counts stop

@@ -1,10 +1,11 @@
 mod Common
 mod ContentLemmas
 mod EndLemmas
-mod ExplainingLemmas
+mod ReportingLemmas
+mod FrameLemmas
 mod GapLemmas
 mod JobLemmas
 mod NoticingLemmas
 mod PrecededLemmas
-mod StrideLemmas
-mod WalkLemmas
+mod TakingLemmas
+mod ReadingLemmas

@@ -1,15 +1,14 @@
 -- What is said of the ends of links, and the counts.
 use Rattle.std.specs.Prelude.{◌==◌, ◌++◌, ◌/◌, ◌%◌, ℕ, List, [], ◌∷◌, Option, Some, None, codes, decimal, flat_map, if◌then◌else◌}
-use Rattle.findings.specs.declared.observed.LinkEnd.{LinkEnd}
-use Rattle.lagtypes.specs.Texts.{mac_text}
-use Rattle.lagtool_capture.specs.declared.ends.End.{End}
+use Rattle.findings.specs.declared.slow_frame.LinkEnd.{LinkEnd}
+use Rattle.lagtool_capture.specs.declared.ends.LacpduSender.{LacpduSender}
 use Rattle.lagtool_capture.specs.declared.ends.Phase.{Phase}
 use Rattle.lagtool_capture.specs.declared.names.Identity.{Identity}
 use Rattle.lagtool_capture.specs.Ends.{named_by}
 use Rattle.lagtool_capture.specs.FindingTexts.{end_text}
 use Rattle.lagtool_capture.specs.Gaps.{median}
-use Rattle.lagtool_capture.specs.LineTexts.{interface_part, seconds_text, since_text}
-use Rattle.lagtool_capture.specs.Names.{identity_of, name_text, place_of}
+use Rattle.lagtool_capture.specs.LineTexts.{seconds_text, since_text}
+use Rattle.lagtool_capture.specs.Names.{identity_of, name_text, number_of}
 
 -- the shortest and the longest time between two LACPDUs, if they are known
 abbrev pub gaps_part : Option ℕ → Option ℕ → List ℕ
@@ -27,8 +26,8 @@ median_part (Some tenths) = codes " median " ++ tenths_text tenths
 median_part None = []
 
 -- the end that it named last, by its short name
-unfoldable pub names_part : List Identity → End → List ℕ
-names_part names e = codes " names " ++ name_text (place_of names (identity_of e.last.partner)) (identity_of e.last.partner)
+unfoldable pub names_part : List Identity → LacpduSender → List ℕ
+names_part names e = codes " names " ++ name_text (number_of names (identity_of e.last.partner)) (identity_of e.last.partner)
 
 -- the end that names it, if there is one
 abbrev pub named_by_part : Option LinkEnd → List ℕ
@@ -46,13 +45,12 @@ abbrev pub phase_part : List ℕ → Option ℕ → Phase → List ℕ
 phase_part word first phase = phase_text word first phase.began phase.ended
 
 -- who it is, who it names and who names it, among all ends, which have these short names
-unfoldable pub who_text : List Identity → List End → End → List ℕ
+unfoldable pub who_text : List Identity → List LacpduSender → LacpduSender → List ℕ
 who_text names all e =
-    mac_text e.sender.source ++ (interface_part e.sender.interface ++ (codes " port " ++ (decimal e.sender.port
-    ++ (names_part names e ++ named_by_part (named_by all e)))))
+    end_text e.sender ++ (names_part names e ++ named_by_part (named_by all e))
 
 -- the line of an end among all ends, with times from the first of the capture
-unfoldable pub end_line : Option ℕ → List Identity → List End → End → List ℕ
+unfoldable pub end_line : Option ℕ → List Identity → List LacpduSender → LacpduSender → List ℕ
 end_line first names all e =
     codes "end " ++ (who_text names all e
     ++ (codes " lacpdus " ++ (decimal e.count ++ (codes " first " ++ (since_text first e.first ++ (codes " last "
@@ -61,7 +59,7 @@ end_line first names all e =
     ++ (phase_part (codes "distributing") first e.distributing ++ codes "\n"))))))))))))
 
 -- the lines of ends among all ends
-abbrev pub ends_text : Option ℕ → List Identity → List End → List End → List ℕ
+abbrev pub ends_text : Option ℕ → List Identity → List LacpduSender → List LacpduSender → List ℕ
 ends_text first names all ends = flat_map (end_line first names all) ends
 
 -- how many LACPDUs are of no end that is told of, if there is one

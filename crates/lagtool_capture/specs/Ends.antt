@@ -1,31 +1,27 @@
 -- The ends of links, by the source address and the actor's port of the LACPDUs that they sent.
 use Rattle.std.specs.Prelude.{◌==◌, ◌&&◌, ◌+◌, ◌-◌, ◌++◌, ℕ, Bool, false, not, List, [], ◌∷◌, Option, Some, None, length, nat_le, nat_lt, option_map, slice_get, slice_set, if◌then◌else◌}
 use Rattle.std.specs.List.{cons_option}
-use Rattle.std.specs.Str.{bytes_eq}
 use Rattle.slowpdu.specs.declared.pdu.Lacpdu.{Lacpdu}
-use Rattle.findings.specs.declared.observed.LinkEnd.{LinkEnd}
+use Rattle.findings.specs.declared.slow_frame.LinkEnd.{LinkEnd}
+use Rattle.findings.specs.Ends.{same_end}
 use Rattle.lagtypes.specs.Same.{same_port, same_system}
 use Rattle.lagtypes.specs.States.{bits_of}
-use Rattle.lagtool_capture.specs.declared.ends.End.{End}
+use Rattle.lagtool_capture.specs.declared.ends.LacpduSender.{LacpduSender}
 use Rattle.lagtool_capture.specs.declared.ends.Phase.{Phase}
-use Rattle.lagtool_capture.specs.declared.ends.Sender.{Sender}
 use Rattle.lagtool_capture.specs.Counting.{one_more}
 use Rattle.lagtool_capture.specs.Gaps.{gaps_with, no_gaps}
 
-abbrev pub is_end : Sender → End → Bool
-is_end s e = (e.sender.interface == s.interface) && bytes_eq e.sender.source s.source && (e.sender.port == s.port)
+-- the index of an end among these, the first of which has the index n
+abbrev pub end_index_from : ℕ → List LacpduSender → LinkEnd → Option ℕ
+end_index_from n [] s = None
+end_index_from n (e ∷ es) s = if same_end e.sender s then Some n else end_index_from (n + 1) es s
 
--- the place of a sender's end among these, the first of which has the place n
-abbrev pub end_place_from : ℕ → List End → Sender → Option ℕ
-end_place_from n [] s = None
-end_place_from n (e ∷ es) s = if is_end s e then Some n else end_place_from (n + 1) es s
+-- the index of an end, from 0
+abbrev pub end_index : List LacpduSender → LinkEnd → Option ℕ
+end_index es s = end_index_from 0 es s
 
--- the place of a sender's end, from 0
-abbrev pub end_place : List End → Sender → Option ℕ
-end_place es s = end_place_from 0 es s
-
--- the last LACPDU of the end at this place
-abbrev pub last_of : List End → Option ℕ → Option Lacpdu
+-- the last LACPDU of the end with this index
+abbrev pub last_of : List LacpduSender → Option ℕ → Option Lacpdu
 last_of es None = None
 last_of es (Some n) = option_map (λ e. e.last) (slice_get es n)
 
@@ -59,7 +55,7 @@ longer (Some one) None = Some one
 longer None other = other
 
 -- the end whose first LACPDU is this one
-abbrev pub first_seen : Sender → Option ℕ → Lacpdu → End
+abbrev pub first_seen : LinkEnd → Option ℕ → Lacpdu → LacpduSender
 first_seen s time v = record {
   sender = s;
   count = 1;
@@ -75,7 +71,7 @@ first_seen s time v = record {
 }
 
 -- the end after one LACPDU more
-abbrev pub seen_again : Option ℕ → Lacpdu → End → End
+abbrev pub seen_again : Option ℕ → Lacpdu → LacpduSender → LacpduSender
 seen_again time v e = record {
   sender = e.sender;
   count = one_more e.count;
@@ -96,7 +92,7 @@ pub record Sent : Type 0 where
   pub lacpdu : Lacpdu
 
 -- the end that sent these LACPDUs: the first of them, and the later ones, the latest first
-abbrev pub end_of : Sender → Sent → List Sent → End
+abbrev pub end_of : LinkEnd → Sent → List Sent → LacpduSender
 end_of s first [] = first_seen s first.time first.lacpdu
 end_of s first (x ∷ later) = seen_again x.time x.lacpdu (end_of s first later)
 
@@ -114,32 +110,28 @@ gaps_between first (x ∷ later) = cons_option (gap_between (latest_time first l
 abbrev pub most_ends : ℕ
 most_ends = 64
 
--- the ends, if the one at this place is this one and it sends one LACPDU more
-abbrev pub with_again : List End → ℕ → Option ℕ → Lacpdu → Option End → List End
+-- the ends, if the one with this index is this one and it sends one LACPDU more
+abbrev pub with_again : List LacpduSender → ℕ → Option ℕ → Lacpdu → Option LacpduSender → List LacpduSender
 with_again es n time v None = es
 with_again es n time v (Some e) = slice_set es n (seen_again time v e)
 
--- the ends after one LACPDU more of the sender whose end has this place; None if it has none yet
-abbrev pub ends_after : List End → Option ℕ → Sender → Option ℕ → Lacpdu → List End
+-- the ends after one LACPDU more of the sender whose end has this index; None if it has none yet
+abbrev pub ends_after : List LacpduSender → Option ℕ → LinkEnd → Option ℕ → Lacpdu → List LacpduSender
 ends_after es None s time v = if nat_lt (length es) most_ends then es ++ first_seen s time v ∷ [] else es
 ends_after es (Some n) s time v = with_again es n time v (slice_get es n)
 
 -- the LACPDU is of no end that is told of
-abbrev pub is_beyond : List End → Option ℕ → Bool
+abbrev pub is_beyond : List LacpduSender → Option ℕ → Bool
 is_beyond es None = nat_le most_ends (length es)
 is_beyond es (Some n) = false
 
--- a sender as an end of a link
-abbrev pub link_end : Sender → LinkEnd
-link_end s = record { interface = s.interface; source = s.source; port = Some s.port }
-
 -- an end (second one) names this one (6.4.2.3): on the same interface, its last Partner is this end's Actor, a system and its port
-abbrev pub is_named_by : End → End → Bool
+abbrev pub is_named_by : LacpduSender → LacpduSender → Bool
 is_named_by e x =
     (x.sender.interface == e.sender.interface)
     && (same_system x.last.partner.system e.last.actor.system && same_port x.last.partner.port e.last.actor.port)
 
 -- the first of these ends that names this one
-abbrev pub named_by : List End → End → Option LinkEnd
+abbrev pub named_by : List LacpduSender → LacpduSender → Option LinkEnd
 named_by [] e = None
-named_by (x ∷ xs) e = if is_named_by e x then Some (link_end x.sender) else named_by xs e
+named_by (x ∷ xs) e = if is_named_by e x then Some x.sender else named_by xs e

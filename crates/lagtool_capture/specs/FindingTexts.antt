@@ -2,7 +2,7 @@
 use Rattle.std.specs.Prelude.{◌++◌, ℕ, List, [], ◌∷◌, Option, Some, None, codes, decimal, flat_map}
 use Rattle.findings.specs.declared.finding.Finding.{Finding}
 use Rattle.findings.specs.declared.finding.Shown.{Shown}
-use Rattle.findings.specs.declared.observed.LinkEnd.{LinkEnd}
+use Rattle.findings.specs.declared.slow_frame.LinkEnd.{LinkEnd}
 use Rattle.findings.specs.declared.rule.Rule.{Rule}
 use Rattle.findings.specs.Rules.{rule_advice, rule_clause, rule_name, rule_number}
 use Rattle.lagtypes.specs.Texts.{mac_text}

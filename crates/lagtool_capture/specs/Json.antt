@@ -3,16 +3,16 @@
 use Rattle.std.specs.Prelude.{◌++◌, ℕ, List, [], ◌∷◌, Option, Some, None, codes, decimal, flat_map}
 use Rattle.findings.specs.declared.finding.Finding.{Finding}
 use Rattle.findings.specs.declared.finding.Shown.{Shown}
-use Rattle.findings.specs.declared.observed.LinkEnd.{LinkEnd}
+use Rattle.findings.specs.declared.slow_frame.LinkEnd.{LinkEnd}
 use Rattle.findings.specs.declared.rule.Rule.{Rule}
 use Rattle.findings.specs.Rules.{rule_advice, rule_clause, rule_name}
 use Rattle.lagtypes.specs.Octet.{octet}
 use Rattle.lagtypes.specs.Texts.{mac_text, port_text, system_text}
 use Rattle.slowpdu.specs.declared.pdu.Info.{Info}
 use Rattle.slowpdu.specs.Texts.{fault_text}
-use Rattle.lagtool_capture.specs.declared.ends.End.{End}
+use Rattle.lagtool_capture.specs.declared.ends.LacpduSender.{LacpduSender}
 use Rattle.lagtool_capture.specs.declared.ends.Phase.{Phase}
-use Rattle.lagtool_capture.specs.declared.envelope.Envelope.{Envelope}
+use Rattle.findings.specs.declared.slow_frame.SlowFrame.{SlowFrame}
 use Rattle.lagtool_capture.specs.declared.line.WhatText.{WhatText}
 use Rattle.lagtool_capture.specs.declared.line.WhatText.TheVariants as what
 use Rattle.lagtool_capture.specs.declared.names.Identity.{Identity}
@@ -83,28 +83,28 @@ what_members (what.Marker m) =
 what_members (what.Refused e) =
     member (codes "kind") (quoted (codes "refused")) ∷ member (codes "fault") (quoted (fault_text e)) ∷ []
 
--- what the record of a frame says of the frame: its number in the capture, its time, and its envelope
-abbrev pub head_members : ℕ → Option ℕ → Option ℕ → Envelope → List (List ℕ)
-head_members number first time e =
-    member (codes "record") (quoted (codes "frame")) ∷ member (codes "packet") (decimal number)
+-- what the record of a frame says of the frame: its number in the capture, its time, and its header
+abbrev pub head_members : Option ℕ → Option ℕ → SlowFrame → List (List ℕ)
+head_members first time e =
+    member (codes "record") (quoted (codes "frame")) ∷ member (codes "packet") (decimal e.number)
     ∷ member (codes "seconds") (since_value first time) ∷ member (codes "interface") (decimal e.interface)
     ∷ member (codes "source") (mac_value e.source) ∷ member (codes "destination") (destination_value e.destination)
     ∷ member (codes "tags") (decimal e.tags) ∷ []
 
 -- the record of a frame
-unfoldable pub frame_record : ℕ → Option ℕ → Option ℕ → Envelope → WhatText → List ℕ
-frame_record number first time e t =
-    123 ∷ (members (head_members number first time e) ++ 44 ∷ (members (what_members t) ++ codes "}\n"))
+unfoldable pub frame_record : Option ℕ → Option ℕ → SlowFrame → WhatText → List ℕ
+frame_record first time e t =
+    123 ∷ (members (head_members first time e) ++ 44 ∷ (members (what_members t) ++ codes "}\n"))
 
 -- when a bit began and ended to be 1
 unfoldable pub phase_value : Option ℕ → Phase → List ℕ
 phase_value first p = object (member (codes "began") (since_value first p.began) ∷ member (codes "ended") (since_value first p.ended) ∷ [])
 
 -- what the record of an end says of its sender, and how many LACPDUs there are
-unfoldable pub sender_part : End → List ℕ
+unfoldable pub sender_part : LacpduSender → List ℕ
 sender_part e =
     members (member (codes "record") (quoted (codes "end")) ∷ member (codes "interface") (decimal e.sender.interface)
-    ∷ member (codes "source") (mac_value e.sender.source) ∷ member (codes "port") (decimal e.sender.port)
+    ∷ member (codes "source") (mac_value e.sender.source) ∷ member (codes "port") (port_value e.sender.port)
     ∷ member (codes "lacpdus") (decimal e.count) ∷ [])
 
 -- the identifiers by which an LACPDU names an end
@@ -125,7 +125,7 @@ partner_value (Some e) = link_end_value e
 partner_value None = codes "null"
 
 -- what it says of the end that it named last, and of the one that names it, among all ends
-unfoldable pub parties_part : List End → End → List ℕ
+unfoldable pub parties_part : List LacpduSender → LacpduSender → List ℕ
 parties_part all e =
     members (member (codes "names") (identity_value (identity_of e.last.partner))
     ∷ member (codes "named_by") (partner_value (named_by all e)) ∷ [])
@@ -136,26 +136,26 @@ median_value (Some tenths) = tenths_text tenths
 median_value None = codes "null"
 
 -- what it says of their times
-unfoldable pub times_part : Option ℕ → End → List ℕ
+unfoldable pub times_part : Option ℕ → LacpduSender → List ℕ
 times_part first e =
     members (member (codes "first") (since_value first e.first) ∷ member (codes "last") (since_value first e.latest)
     ∷ member (codes "shortest") (gap_value e.shortest) ∷ member (codes "longest") (gap_value e.longest)
     ∷ member (codes "median") (median_value (median e.gaps)) ∷ [])
 
 -- what it says of the bits of the actor's state
-unfoldable pub phases_part : Option ℕ → End → List ℕ
+unfoldable pub phases_part : Option ℕ → LacpduSender → List ℕ
 phases_part first e =
     members (member (codes "synchronized") (phase_value first e.synchronized)
     ∷ member (codes "collecting") (phase_value first e.collecting)
     ∷ member (codes "distributing") (phase_value first e.distributing) ∷ [])
 
 -- the record of an end that sent LACPDUs, among all ends
-unfoldable pub end_record : Option ℕ → List End → End → List ℕ
+unfoldable pub end_record : Option ℕ → List LacpduSender → LacpduSender → List ℕ
 end_record first all e =
     123 ∷ (sender_part e ++ 44 ∷ (parties_part all e ++ 44 ∷ (times_part first e ++ 44 ∷ (phases_part first e ++ codes "}\n"))))
 
 -- the records of ends among all ends
-abbrev pub ends_records : Option ℕ → List End → List End → List ℕ
+abbrev pub ends_records : Option ℕ → List LacpduSender → List LacpduSender → List ℕ
 ends_records first all ends = flat_map (end_record first all) ends
 
 -- what the record of a finding says of its rule: its number and its name

@@ -5,7 +5,7 @@ use Rattle.lagtypes.specs.Texts.{state_text}
 use Rattle.lagtypes.specs.declared.state.State.{State}
 use Rattle.slowpdu.specs.declared.pdu.Info.{Info}
 use Rattle.slowpdu.specs.declared.pdu.Lacpdu.{Lacpdu}
-use Rattle.lagtool_capture.specs.declared.lacpdu_texts.Shown.{Shown}
+use Rattle.lagtool_capture.specs.declared.lacpdu_texts.ShownFields.{ShownFields}
 use Rattle.lagtool_capture.specs.declared.names.Identity.{Identity}
 use Rattle.lagtool_capture.specs.Names.{identity_of, name_text, same_identity}
 
@@ -18,7 +18,7 @@ abbrev pub is_changed : Info → Info → Bool
 is_changed last info = not (octet last.state == octet info.state)
 
 -- the fields that differ from those of the last LACPDU; all fields if there is none
-abbrev pub shown_of : Option Lacpdu → Lacpdu → Shown
+abbrev pub shown_of : Option Lacpdu → Lacpdu → ShownFields
 shown_of None v = record { actor = true; actor_state = true; partner = true; partner_state = true; max_delay = true }
 shown_of (Some last) v = record {
   actor = is_renamed last.actor v.actor;
@@ -29,7 +29,7 @@ shown_of (Some last) v = record {
 }
 
 -- no field is shown
-abbrev pub is_nothing : Shown → Bool
+abbrev pub is_nothing : ShownFields → Bool
 is_nothing s = not (s.actor || s.actor_state || s.partner || s.partner_state || s.max_delay)
 
 -- a text, if it is shown
@@ -38,7 +38,7 @@ part is_shown text = if is_shown then text else []
 
 -- a blank, a word, a blank and the name of an end
 abbrev pub name_part : Bool → List ℕ → Option ℕ → Identity → List ℕ
-name_part is_shown word place identity = part is_shown (32 ∷ (word ++ 32 ∷ name_text place identity))
+name_part is_shown word number identity = part is_shown (32 ∷ (word ++ 32 ∷ name_text number identity))
 
 -- a blank, a word, a blank and a state
 abbrev pub state_part : Bool → List ℕ → State → List ℕ
@@ -53,7 +53,7 @@ abbrev pub same_part : Bool → List ℕ
 same_part nothing = part nothing (codes " same")
 
 -- lacpdu, and the fields that are shown; the ends have short names with these numbers
-abbrev pub lacpdu_text : Shown → Option ℕ → Option ℕ → Lacpdu → List ℕ
+abbrev pub lacpdu_text : ShownFields → Option ℕ → Option ℕ → Lacpdu → List ℕ
 lacpdu_text s actor partner v =
     codes "lacpdu" ++ (name_part s.actor (codes "actor") actor (identity_of v.actor)
     ++ (state_part s.actor_state (codes "state") v.actor.state

@@ -1,4 +1,4 @@
-pub mod Envelopes
+pub mod Headers
 pub mod Contents
 pub mod Counting
 pub mod Names
@@ -6,13 +6,13 @@ pub mod LacpduTexts
 pub mod LineTexts
 pub mod Gaps
 pub mod Ends
-pub mod Explaining
+pub mod Reporting
 pub mod Faults
-pub mod Strides
+pub mod Taking
 pub mod EndTexts
 pub mod FindingTexts
 pub mod Json
-pub mod Frames
+pub mod SlowFrames
 pub mod Noticing
-pub mod Walks
+pub mod CaptureReadings
 pub mod Reports

@@ -7,7 +7,7 @@ use Rattle.slowpdu.specs.declared.pdu.Marker.{Marker}
 use Rattle.slowpdu.specs.declared.pdu.MarkerKind.{MarkerKind}
 use Rattle.slowpdu.specs.declared.pdu.MarkerKind.TheVariants.{Information, Response}
 use Rattle.slowpdu.specs.Texts.{fault_text}
-use Rattle.lagtool_capture.specs.declared.envelope.Envelope.{Envelope}
+use Rattle.findings.specs.declared.slow_frame.SlowFrame.{SlowFrame}
 use Rattle.lagtool_capture.specs.declared.line.WhatText.{WhatText}
 use Rattle.lagtool_capture.specs.declared.line.WhatText.TheVariants as what
 use Rattle.lagtool_capture.specs.LacpduTexts.{lacpdu_text}
@@ -46,9 +46,9 @@ abbrev pub tags_part : ℕ → List ℕ
 tags_part n = if n == 0 then [] else codes " tags " ++ decimal n
 
 -- NUMBER SECONDS SOURCE, with interface, destination and tags where they are told, and a blank
-abbrev pub head_text : ℕ → Option ℕ → Option ℕ → Envelope → List ℕ
-head_text number first time e =
-    decimal number ++ 32 ∷ (since_text first time ++ (interface_part e.interface ++ 32 ∷ (mac_text e.source
+abbrev pub head_text : Option ℕ → Option ℕ → SlowFrame → List ℕ
+head_text first time e =
+    decimal e.number ++ 32 ∷ (since_text first time ++ (interface_part e.interface ++ 32 ∷ (mac_text e.source
     ++ (destination_part e.destination ++ (tags_part e.tags ++ codes " ")))))
 
 abbrev pub marker_word : MarkerKind → List ℕ
@@ -68,5 +68,5 @@ what_text (what.Marker m) = marker_text m
 what_text (what.Refused e) = codes "refused " ++ fault_text e
 
 -- the line of a frame
-abbrev pub line_text : ℕ → Option ℕ → Option ℕ → Envelope → WhatText → List ℕ
-line_text number first time e t = head_text number first time e ++ (what_text t ++ codes "\n")
+abbrev pub line_text : Option ℕ → Option ℕ → SlowFrame → WhatText → List ℕ
+line_text first time e t = head_text first time e ++ (what_text t ++ codes "\n")

@@ -18,13 +18,13 @@ abbrev pub identity_text : Identity → List ℕ
 identity_text a = system_text a.system ++ (codes " key " ++ (decimal a.key.0 ++ (codes " port " ++ port_text a.port)))
 
 -- the number of an end among these, the first of which has the number n + 1
-abbrev pub place_from : ℕ → List Identity → Identity → Option ℕ
-place_from n [] a = None
-place_from n (x ∷ xs) a = if same_identity x a then Some (n + 1) else place_from (n + 1) xs a
+abbrev pub number_from : ℕ → List Identity → Identity → Option ℕ
+number_from n [] a = None
+number_from n (x ∷ xs) a = if same_identity x a then Some (n + 1) else number_from (n + 1) xs a
 
 -- the number of an end among those that have short names, from 1
-abbrev pub place_of : List Identity → Identity → Option ℕ
-place_of names a = place_from 0 names a
+abbrev pub number_of : List Identity → Identity → Option ℕ
+number_of names a = number_from 0 names a
 
 -- P and the number; the identifiers of an end without a short name
 abbrev pub name_text : Option ℕ → Identity → List ℕ

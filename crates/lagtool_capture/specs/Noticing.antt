@@ -4,33 +4,40 @@ use Rattle.std.specs.List.{cons_option}
 use Rattle.captures.specs.declared.packet.Packet.{Packet}
 use Rattle.captures.specs.Whole.{Captured}
 use Rattle.findings.specs.declared.finding.Finding.{Finding}
-use Rattle.findings.specs.declared.observed.LinkEnd.{LinkEnd}
-use Rattle.findings.specs.declared.observed.Observed.{Observed}
+use Rattle.findings.specs.declared.slow_frame.LinkEnd.{LinkEnd}
+use Rattle.findings.specs.declared.slow_frame.SlowFrame.{SlowFrame}
 use Rattle.findings.specs.declared.observing.Findings.{Findings}
 use Rattle.findings.specs.declared.rule.Rule.{Rule}
-use Rattle.findings.specs.declared.rule.Rule.TheVariants as rules
 use Rattle.findings.specs.Firsts.{found}
 use Rattle.findings.specs.Knows.{Knows}
+use Rattle.findings.specs.Rules.{all_rules}
 use Rattle.lagtool_capture.specs.Counting.{one_more}
-use Rattle.lagtool_capture.specs.Frames.{frame_in}
+use Rattle.lagtool_capture.specs.SlowFrames.{frame_in}
 use Rattle.lagtool_capture.specs.declared.noticing.Noticed.{Noticed}
 
--- how many packets there were, the time of the last one that has one, and the frames of the slow protocols, the latest first
+-- how many packets there were, the time of the last one that has one, and the frames of the slow protocols that have one, the
+-- latest first
 pub record Log : Type 0 where
   pub number : ℕ
   pub until : ℕ
-  pub frames : List Observed
+  pub frames : List SlowFrame
 
 -- before the first packet
 abbrev pub nothing_logged : Log
 nothing_logged = record { number = 0; until = 0; frames = [] }
+
+-- a frame, if it has a time
+abbrev pub if_timed : Option SlowFrame → Option ℕ → Option SlowFrame
+if_timed None time = None
+if_timed (Some frame) None = None
+if_timed (Some frame) (Some time) = Some frame
 
 -- after a packet with these captured octets
 abbrev pub logged : Packet → List ℕ → Log → Log
 logged packet b l = record {
   number = one_more l.number;
   until = unwrap_or packet.time l.until;
-  frames = cons_option (frame_in (one_more l.number) packet b) l.frames;
+  frames = cons_option (if_timed (frame_in (one_more l.number) packet b) packet.time) l.frames;
 }
 
 -- after what has a number in a capture: a packet, or a record without one
@@ -44,28 +51,25 @@ logged_all [] l = l
 logged_all (x ∷ xs) l = logged_all xs (logged_next x l)
 
 -- what is kept is by these frames
-abbrev pub IsKnown : List Observed → Findings → Type 0
-IsKnown h x = Knows h x.watches.items x.left_out
+abbrev pub IsKnown : List SlowFrame → Findings → Type 0
+IsKnown h x = Knows h x.kept.items x.left_out
 
 -- what is kept is by what is logged
 pub record Follows (l : Log) (x : Noticed) : Type 0 where
-  pub number : x.number ≡ l.number
   pub until : x.until ≡ l.until
   pub frames : IsKnown l.frames x.findings
 
--- all rules, in the order of their numbers
-abbrev pub all_rules : List Rule
-all_rules =
-    rules.Rate ∷ rules.System ∷ rules.Port ∷ rules.Key ∷ rules.Passive ∷ rules.Version ∷ rules.Length ∷ rules.Reserved
-    ∷ rules.Destination ∷ rules.Tag ∷ rules.Silence ∷ rules.Unheard ∷ rules.Desynchronized ∷ rules.Individual ∷ rules.Keys
-    ∷ rules.Segment ∷ rules.Discarded ∷ rules.OneWay ∷ rules.Unanswered ∷ rules.Unasked ∷ rules.Late ∷ rules.Attached ∷ rules.Relapsing ∷ []
+-- and so many packets were counted
+pub record Agrees (l : Log) (number : ℕ) (x : Noticed) : Type 0 where
+  pub number_is : number ≡ l.number
+  pub follows : Follows l x
 
 -- what is found of an end by a rule; nothing where there is no end
-abbrev pub finding_by : ℕ → List Observed → Option LinkEnd → Rule → List Finding
+abbrev pub finding_by : ℕ → List SlowFrame → Option LinkEnd → Rule → List Finding
 finding_by until h end rule = cons_option (option_and_then (λ e. found rule until e h) end) []
 
 -- what is found of an end by these rules
-abbrev pub findings_by : ℕ → List Observed → List Rule → Option LinkEnd → List Finding
+abbrev pub findings_by : ℕ → List SlowFrame → List Rule → Option LinkEnd → List Finding
 findings_by until h rules end = flat_map (finding_by until h end) rules
 
 -- what is found of these ends, end by end, and of each rule by rule

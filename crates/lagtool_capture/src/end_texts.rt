@@ -3,12 +3,11 @@ ghost use Rattle.lagtool_capture.specs.Ends.{named_by};
 ghost use Rattle.lagtool_capture.specs.EndTexts.{counts_text, end_line, ends_text, gaps_part, median_part, named_by_part, names_part, phase_part, tenths_text, who_text};
 ghost use Rattle.lagtool_capture.specs.Gaps.{median};
 
-use crate::ends::{End, Phase, named_by};
+use crate::ends::{LacpduSender, Phase, named_by};
 use crate::finding_texts::EndText;
-use crate::line::{InterfacePart, SecondsText, SinceText};
-use crate::names::{Identity, NameText, place_of};
+use crate::line::{SecondsText, SinceText};
+use crate::names::{Identity, NameText, number_of};
 use findings::LinkEnd;
-use lagtypes::MacText;
 use std::fmt;
 
 /// The shortest and the longest time between two LACPDUs, if they are known.
@@ -67,7 +66,7 @@ impl fmt::Display for MedianPart {
 #[derive(Clone, Copy)]
 struct NamesPart<'a> {
     names: &'a [Identity],
-    end: &'a End,
+    end: &'a LacpduSender,
 }
 
 impl fmt::Display for NamesPart<'_> {
@@ -76,8 +75,8 @@ impl fmt::Display for NamesPart<'_> {
     #[tactic(auto, unfolding(crate::specs::EndTexts::names_part))]
     fn fmt<W: fmt::Write>(&self, f: &mut fmt::Formatter<W>) -> fmt::Result {
         let identity = Identity::of(&self.end.last.partner);
-        let place = place_of(self.names, &identity);
-        let name = NameText { place, identity };
+        let number = number_of(self.names, &identity);
+        let name = NameText { number, identity };
         write!(f, " names {name}")
     }
 }
@@ -101,8 +100,8 @@ impl fmt::Display for NamedByPart {
 #[derive(Clone, Copy)]
 struct WhoText<'a> {
     names: &'a [Identity],
-    all: &'a [End],
-    end: &'a End,
+    all: &'a [LacpduSender],
+    end: &'a LacpduSender,
 }
 
 impl fmt::Display for WhoText<'_> {
@@ -110,19 +109,13 @@ impl fmt::Display for WhoText<'_> {
 
     #[tactic(auto, unfolding(crate::specs::EndTexts::who_text))]
     fn fmt<W: fmt::Write>(&self, f: &mut fmt::Formatter<W>) -> fmt::Result {
-        let sender = self.end.sender;
-        let interface = InterfacePart(sender.interface);
+        let end = EndText(self.end.sender);
         let names = NamesPart {
             names: self.names,
             end: self.end,
         };
         let named = NamedByPart(named_by(self.all, self.end));
-        write!(
-            f,
-            "{}{interface} port {}{names}{named}",
-            MacText(&sender.source),
-            sender.port
-        )
+        write!(f, "{end}{names}{named}")
     }
 }
 
@@ -160,8 +153,8 @@ impl fmt::Display for PhasePart<'_> {
 struct EndLine<'a> {
     first: Option<u64>,
     names: &'a [Identity],
-    all: &'a [End],
-    end: &'a End,
+    all: &'a [LacpduSender],
+    end: &'a LacpduSender,
 }
 
 impl fmt::Display for EndLine<'_> {
@@ -217,7 +210,7 @@ impl fmt::Display for EndLine<'_> {
 pub(crate) struct EndsText<'a> {
     pub first: Option<u64>,
     pub names: &'a [Identity],
-    pub ends: &'a [End],
+    pub ends: &'a [LacpduSender],
 }
 
 impl fmt::Display for EndsText<'_> {

@@ -1,34 +1,10 @@
 ghost use Rattle.std.specs.Prelude.{◌≡◌, ◌<◌, ◌^◌, List, length, IfSome};
-ghost use Rattle.lagtool_capture.specs.Ends.{Sent, end_of, end_place, first_phase, first_seen, gap_between, gaps_between, is_end, is_named_by, last_of, link_end, longer, named_by, next_phase, seen_again, shorter};
+ghost use Rattle.lagtool_capture.specs.Ends.{Sent, end_of, end_index, first_phase, first_seen, gap_between, gaps_between, is_named_by, last_of, longer, named_by, next_phase, seen_again, shorter};
 ghost use Rattle.lagtool_capture.specs.Gaps.{IsMedianOf, median};
 
 use crate::gaps::Gaps;
 use findings::LinkEnd;
 use slowpdu::Lacpdu;
-
-/// Where an LACPDU came from: an end of a link as a capture shows it.
-#[derive(Clone, Copy, Debug, PartialEq, Eq)]
-pub struct Sender {
-    /// The interface of the capture.
-    pub interface: u32,
-    /// The source address of the frame.
-    pub source: [u8; 6],
-    /// The number of the actor's port.
-    pub port: u16,
-}
-
-impl Sender {
-    /// The sender as an end of a link.
-    fn link_end(&self) -> LinkEnd
-        ensures { result ≡ link_end self.now }
-    {
-        LinkEnd {
-            interface: self.interface,
-            source: self.source,
-            port: Some(self.port),
-        }
-    }
-}
 
 /// When a bit of a state octet began and ended to be 1.
 #[derive(Clone, Copy, Debug, PartialEq, Eq)]
@@ -93,11 +69,11 @@ fn longer(one: Option<u64>, other: Option<u64>) -> Option<u64>
     }
 }
 
-/// What LACPDUs of one sender said so far.
+/// An end that sent LACPDUs, and what they said so far.
 #[derive(Debug, Drop, PartialEq, Eq)]
-pub struct End {
-    /// The sender.
-    pub sender: Sender,
+pub struct LacpduSender {
+    /// The end.
+    pub sender: LinkEnd,
     /// How many LACPDUs there are.
     pub count: u64,
     /// The time of the first, in nanoseconds.
@@ -120,22 +96,13 @@ pub struct End {
     pub last: Lacpdu,
 }
 
-/// Whether an end has this sender.
-fn is_end(end: &End, sender: &Sender) -> bool
-    ensures { result ≡ is_end sender.now end.now }
-{
-    end.sender.interface == sender.interface
-        && end.sender.source == sender.source
-        && end.sender.port == sender.port
-}
-
-/// The place of the end with this sender, from 0.
-pub(crate) fn end_place(ends: &[End], sender: &Sender) -> Option<usize>
-    ensures place { result ≡ end_place ends.now sender.now }
+/// The index of the end with this sender, from 0.
+pub(crate) fn end_index(ends: &[LacpduSender], sender: &LinkEnd) -> Option<usize>
+    ensures index { result ≡ end_index ends.now sender.now }
     ensures among { IfSome result (λ n. n < length ends.now) }
 {
     for (index, end) in ends.iter().enumerate() {
-        if is_end(end, sender) {
+        if end.sender.is(sender) {
             return Some(index);
         }
     }
@@ -144,7 +111,7 @@ pub(crate) fn end_place(ends: &[End], sender: &Sender) -> Option<usize>
 
 /// Whether the other end names this one: on the same interface, its last Partner is this end's last Actor, a system and
 /// its port.
-fn is_named_by(end: &End, other: &End) -> bool
+fn is_named_by(end: &LacpduSender, other: &LacpduSender) -> bool
     ensures { result ≡ is_named_by end.now other.now }
 {
     other.sender.interface == end.sender.interface
@@ -153,34 +120,34 @@ fn is_named_by(end: &End, other: &End) -> bool
 }
 
 /// The first of these ends that names this one.
-pub(crate) fn named_by(ends: &[End], end: &End) -> Option<LinkEnd>
+pub(crate) fn named_by(ends: &[LacpduSender], end: &LacpduSender) -> Option<LinkEnd>
     ensures { result ≡ named_by ends.now end.now }
 {
     for other in ends {
         if is_named_by(end, other) {
-            return Some(other.sender.link_end());
+            return Some(other.sender);
         }
     }
     None
 }
 
-/// The last LACPDU of the end at this place, if there is one.
-pub(crate) fn last_of(ends: &[End], place: Option<usize>) -> Option<Lacpdu>
-    ensures { result ≡ last_of ends.now place }
+/// The last LACPDU of the end with this index, if there is one.
+pub(crate) fn last_of(ends: &[LacpduSender], index: Option<usize>) -> Option<Lacpdu>
+    ensures { result ≡ last_of ends.now index }
 {
-    match ends.get(place?) {
+    match ends.get(index?) {
         Some(end) => Some(end.last),
         None => None,
     }
 }
 
-impl End {
+impl LacpduSender {
     /// The end whose first LACPDU is this one.
-    pub(crate) fn first_seen(sender: Sender, time: Option<u64>, lacpdu: Lacpdu) -> End
+    pub(crate) fn first_seen(sender: LinkEnd, time: Option<u64>, lacpdu: Lacpdu) -> LacpduSender
         ensures { result ≡ first_seen sender time lacpdu }
     {
         let state = lacpdu.actor.state;
-        End {
+        LacpduSender {
             sender,
             count: 1,
             first: time,
@@ -199,7 +166,7 @@ impl End {
     /// the lower of the two in the middle. 1000 stands for 100 seconds and more; None if none of these times is known.
     pub fn median(&self) -> Option<usize>
         ensures by_counts { result ≡ median self.now.gaps }
-        ensures of_times { (s : Sender) (first : Sent) (later : List Sent) → length later < 2 ^ 64 → self.now ≡ end_of s first later
+        ensures of_times { (s : LinkEnd) (first : Sent) (later : List Sent) → length later < 2 ^ 64 → self.now ≡ end_of s first later
             → IsMedianOf (gaps_between first later) result }
     {
         self.gaps.median()

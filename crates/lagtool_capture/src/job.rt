@@ -1,21 +1,21 @@
 ghost use Rattle.std.specs.Prelude.{◌≡◌, ◌&&◌, false, nat_lt, IfErr, IfOk};
 ghost use Rattle.lagtool_capture.specs.Faults.{HasCause};
 ghost use Rattle.lagtool_capture.specs.Reports.{Completes};
-ghost use Rattle.lagtool_capture.specs.Walks.{is_read_on};
+ghost use Rattle.lagtool_capture.specs.CaptureReadings.{is_read_on};
 
 use crate::fault::CaptureFault;
+use crate::reading::Reading;
 use crate::settings::Settings;
-use crate::summary::Summary;
-use crate::walk::Walk;
+use crate::summary::CaptureSummary;
 use lagstreams::{Sink, Source};
 use std::alloc::Global;
 use std::io::{Read, Write};
 
 /// Whether a capture is read on behind a read that gave so many octets.
-fn is_read_on(walk: &Walk, n: usize) -> bool
-    ensures { result ≡ (nat_lt 0 n && is_read_on walk.now) }
+fn is_read_on(reading: &Reading, n: usize) -> bool
+    ensures { result ≡ (nat_lt 0 n && is_read_on reading.now) }
 {
-    n > 0 && walk.is_read_on()
+    n > 0 && reading.is_read_on()
 }
 
 /// Reads a capture to its end, and writes what it says: a line for each frame of the slow protocols, then a line for each
@@ -24,28 +24,28 @@ fn is_read_on(walk: &Walk, n: usize) -> bool
 ///
 /// After `Ok` the report of all that there was to read is written, or of so much that whatever follows changes nothing.
 /// `Read` if the source failed, `Write` if the sink did, `NoMemory` if memory was refused.
-pub fn explain<R: Read, W: Write>(
+pub fn report_capture<R: Read, W: Write>(
     alloc: Global,
     settings: Settings,
     source: &mut Source<R>,
     sink: &mut Sink<W>,
-) -> Result<Summary, CaptureFault>
+) -> Result<CaptureSummary, CaptureFault>
     requires source { source.old.failed ≡ false }
     requires sink { sink.old.failed ≡ false }
     ensures ok { IfOk result (Completes R.remaining W.contents settings source.old source.new sink.old sink.new) }
     ensures cause { IfErr result (HasCause source.new.failed sink.new.failed) }
 {
     source.is_bounded();
-    let mut walk = Walk::new(alloc, settings);
+    let mut reading = Reading::new(alloc, settings);
     let mut piece = [0; 4096];
     let mut goes_on = true;
     while goes_on {
         let n = source.read(&mut piece)?;
-        walk.feed(&piece[..n])?;
-        walk.write(sink)?;
-        goes_on = is_read_on(&walk, n);
+        reading.feed(&piece[..n])?;
+        reading.write(sink)?;
+        goes_on = is_read_on(&reading, n);
     }
-    walk.finish(alloc)?;
-    walk.write(sink)?;
-    Ok(walk.summary())
+    reading.finish(alloc)?;
+    reading.write(sink)?;
+    Ok(reading.summary())
 }

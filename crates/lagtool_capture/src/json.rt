@@ -160,31 +160,31 @@ impl fmt::Display for WhatMembers {
 
 /// The record of a frame.
 #[derive(Clone, Copy)]
-pub(crate) struct FrameRecord {
-    pub head: HeadText,
+pub(crate) struct FrameRecord<'a> {
+    pub head: HeadText<'a>,
     pub what: WhatText,
 }
 
-impl fmt::Display for FrameRecord {
-    ghost output = { λ t. Some (frame_record t.head.number t.head.since.first t.head.since.time t.head.envelope t.what) };
+impl fmt::Display for FrameRecord<'_> {
+    ghost output = { λ t. Some (frame_record t.head.since.first t.head.since.time t.head.frame.now t.what) };
 
     #[tactic(auto, unfolding(crate::specs::Json::frame_record))]
     fn fmt<W: fmt::Write>(&self, f: &mut fmt::Formatter<W>) -> fmt::Result {
         let head = self.head;
-        let envelope = head.envelope;
+        let frame = head.frame;
         let seconds = SinceValue {
             first: head.since.first,
             time: head.since.time,
         };
-        let destination = DestinationValue(envelope.destination);
+        let destination = DestinationValue(frame.destination);
         let what = WhatMembers(self.what);
         write!(
             f,
             "{{\"record\":\"frame\",\"packet\":{},\"seconds\":{seconds},\"interface\":{},\"source\":\"{}\",\"destination\":{destination},\"tags\":{},{what}}}\n",
-            head.number,
-            envelope.interface,
-            MacText(&envelope.source),
-            envelope.tags
+            frame.number,
+            frame.interface,
+            MacText(&frame.source),
+            frame.tags
         )
     }
 }

@@ -2,7 +2,7 @@ ghost use Rattle.std.specs.Prelude.{Some};
 ghost use Rattle.lagtool_capture.specs.Json.{advice_part, counts_record, end_record, ends_records, finding_record, findings_records, identity_value, link_end_value, median_value, packets_part, parties_part, partner_value, phases_part, rule_part, sender_part, shown_part, times_part, told_part};
 
 use crate::end_texts::{CountsText, TenthsText};
-use crate::ends::{End, named_by};
+use crate::ends::{LacpduSender, named_by};
 use crate::finding_texts::{AdviceText, ClauseText, NumberText};
 use crate::json::{GapValue, PhaseValue, PortValue, SinceValue};
 use crate::names::Identity;
@@ -13,7 +13,7 @@ use std::fmt;
 /// What the record of an end says of its sender.
 #[derive(Clone, Copy)]
 struct SenderPart<'a> {
-    end: &'a End,
+    end: &'a LacpduSender,
 }
 
 impl fmt::Display for SenderPart<'_> {
@@ -27,7 +27,7 @@ impl fmt::Display for SenderPart<'_> {
             "\"record\":\"end\",\"interface\":{},\"source\":\"{}\",\"port\":{},\"lacpdus\":{}",
             end.sender.interface,
             MacText(&end.sender.source),
-            end.sender.port,
+            PortValue(end.sender.port),
             end.count
         )
     }
@@ -54,8 +54,8 @@ impl fmt::Display for IdentityValue {
 /// The fields of an end for the partner that it named last, and for the end, among all, that names it.
 #[derive(Clone, Copy)]
 struct PartiesPart<'a> {
-    all: &'a [End],
-    end: &'a End,
+    all: &'a [LacpduSender],
+    end: &'a LacpduSender,
 }
 
 impl fmt::Display for PartiesPart<'_> {
@@ -88,7 +88,7 @@ impl fmt::Display for MedianValue {
 #[derive(Clone, Copy)]
 struct TimesPart<'a> {
     first: Option<u64>,
-    end: &'a End,
+    end: &'a LacpduSender,
 }
 
 impl fmt::Display for TimesPart<'_> {
@@ -120,7 +120,7 @@ impl fmt::Display for TimesPart<'_> {
 #[derive(Clone, Copy)]
 struct PhasesPart<'a> {
     first: Option<u64>,
-    end: &'a End,
+    end: &'a LacpduSender,
 }
 
 impl fmt::Display for PhasesPart<'_> {
@@ -153,8 +153,8 @@ impl fmt::Display for PhasesPart<'_> {
 #[derive(Clone, Copy)]
 struct EndRecord<'a> {
     first: Option<u64>,
-    all: &'a [End],
-    end: &'a End,
+    all: &'a [LacpduSender],
+    end: &'a LacpduSender,
 }
 
 impl fmt::Display for EndRecord<'_> {
@@ -176,7 +176,7 @@ impl fmt::Display for EndRecord<'_> {
 #[derive(Clone, Copy)]
 pub(crate) struct EndsRecords<'a> {
     pub first: Option<u64>,
-    pub ends: &'a [End],
+    pub ends: &'a [LacpduSender],
 }
 
 impl fmt::Display for EndsRecords<'_> {

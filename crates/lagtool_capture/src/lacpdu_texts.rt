@@ -8,7 +8,7 @@ use std::fmt;
 
 /// Which fields of an LACPDU its line shows.
 #[derive(Clone, Copy, Debug, PartialEq, Eq)]
-pub(crate) struct Shown {
+pub(crate) struct ShownFields {
     pub actor: bool,
     pub actor_state: bool,
     pub partner: bool,
@@ -23,20 +23,20 @@ fn is_renamed(last: &Info, info: &Info) -> bool
     !Identity::of(last).is(&Identity::of(info))
 }
 
-impl Shown {
+impl ShownFields {
     /// The fields that differ from those of the last LACPDU; all fields if there is none.
-    pub fn of(last: Option<Lacpdu>, lacpdu: &Lacpdu) -> Shown
+    pub fn of(last: Option<Lacpdu>, lacpdu: &Lacpdu) -> ShownFields
         ensures { result ≡ shown_of last lacpdu.now }
     {
         match last {
-            Some(last) => Shown {
+            Some(last) => ShownFields {
                 actor: is_renamed(&last.actor, &lacpdu.actor),
                 actor_state: last.actor.state != lacpdu.actor.state,
                 partner: is_renamed(&last.partner, &lacpdu.partner),
                 partner_state: last.partner.state != lacpdu.partner.state,
                 max_delay: last.max_delay != lacpdu.max_delay,
             },
-            None => Shown {
+            None => ShownFields {
                 actor: true,
                 actor_state: true,
                 partner: true,
@@ -63,7 +63,7 @@ struct NamePart<'a> {
 }
 
 impl fmt::Display for NamePart<'_> {
-    ghost output = { λ t. Some (name_part t.is_shown t.word.now t.name.place t.name.identity) };
+    ghost output = { λ t. Some (name_part t.is_shown t.word.now t.name.number t.name.identity) };
 
     fn fmt<W: fmt::Write>(&self, f: &mut fmt::Formatter<W>) -> fmt::Result {
         if self.is_shown {
@@ -127,16 +127,16 @@ impl fmt::Display for SamePart {
 
 /// What the line of a frame says of its LACPDU.
 #[derive(Clone, Copy)]
-pub(crate) struct LacpduText {
+pub(crate) struct LacpduLine {
     pub lacpdu: Lacpdu,
-    pub shown: Shown,
+    pub shown: ShownFields,
     /// The number of the actor's short name.
     pub actor: Option<usize>,
     /// The number of the partner's short name.
     pub partner: Option<usize>,
 }
 
-impl fmt::Display for LacpduText {
+impl fmt::Display for LacpduLine {
     ghost output = { λ t. Some (lacpdu_text t.shown t.actor t.partner t.lacpdu) };
 
     fn fmt<W: fmt::Write>(&self, f: &mut fmt::Formatter<W>) -> fmt::Result {
@@ -146,7 +146,7 @@ impl fmt::Display for LacpduText {
             is_shown: shown.actor,
             word: "actor",
             name: NameText {
-                place: self.actor,
+                number: self.actor,
                 identity: Identity::of(&lacpdu.actor),
             },
         };
@@ -159,7 +159,7 @@ impl fmt::Display for LacpduText {
             is_shown: shown.partner,
             word: "partner",
             name: NameText {
-                place: self.partner,
+                number: self.partner,
                 identity: Identity::of(&lacpdu.partner),
             },
         };

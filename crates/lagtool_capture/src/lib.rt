@@ -5,15 +5,13 @@
 //! In comments, numbers such as 6.4.2.3 are sections of IEEE 802.1AX-2014, and "profile" is docs/PROFILE.md.
 #![tactic(auto)]
 
-mod content;
+mod capture_report;
 mod end_texts;
 mod ends;
-mod envelope;
-mod explainer;
 mod fault;
 mod finding_texts;
-mod frames;
 mod gaps;
+mod header;
 mod job;
 mod json;
 mod json_ends;
@@ -21,18 +19,16 @@ mod lacpdu_texts;
 mod line;
 mod names;
 mod noticing;
+mod reading;
 mod settings;
-mod strides;
+mod slow_frames;
 mod summary;
-mod walk;
+mod taking;
 
-pub use content::content_of;
-pub use ends::{End, Phase, Sender};
-pub use envelope::{Envelope, envelope_of};
-pub use explainer::Explainer;
+pub use capture_report::CaptureReport;
 pub use fault::{CaptureFault, ReadFault};
 pub use gaps::Gaps;
-pub use job::explain;
-pub use names::Identity;
+pub use job::report_capture;
 pub use settings::Settings;
-pub use summary::Summary;
+pub use slow_frames::frame_in;
+pub use summary::CaptureSummary;

@@ -1,8 +1,8 @@
 ghost use Rattle.std.specs.Prelude.{◌≡◌, Some};
 ghost use Rattle.lagtool_capture.specs.LineTexts.{destination_part, head_text, interface_part, marker_text, seconds_text, since_text, six_digits, tags_part, what_text};
 
-use crate::envelope::Envelope;
-use crate::lacpdu_texts::LacpduText;
+use crate::lacpdu_texts::LacpduLine;
+use findings::SlowFrame;
 use lagtypes::MacText;
 use slowpdu::{Marker, MarkerKind, WireFault};
 use std::fmt;
@@ -124,26 +124,25 @@ impl fmt::Display for TagsPart {
 
 /// The head of the line of a frame: number, seconds, interface, source, destination and tags, and a blank.
 #[derive(Clone, Copy)]
-pub(crate) struct HeadText {
-    pub number: u64,
+pub(crate) struct HeadText<'a> {
     pub since: SinceText,
-    pub envelope: Envelope,
+    pub frame: &'a SlowFrame,
 }
 
-impl fmt::Display for HeadText {
-    ghost output = { λ t. Some (head_text t.number t.since.first t.since.time t.envelope) };
+impl fmt::Display for HeadText<'_> {
+    ghost output = { λ t. Some (head_text t.since.first t.since.time t.frame.now) };
 
     fn fmt<W: fmt::Write>(&self, f: &mut fmt::Formatter<W>) -> fmt::Result {
-        let envelope = self.envelope;
-        let interface = InterfacePart(envelope.interface);
-        let destination = DestinationPart(envelope.destination);
-        let tags = TagsPart(envelope.tags);
+        let frame = self.frame;
+        let interface = InterfacePart(frame.interface);
+        let destination = DestinationPart(frame.destination);
+        let tags = TagsPart(frame.tags);
         write!(
             f,
             "{} {}{interface} {}{destination}{tags} ",
-            self.number,
+            frame.number,
             self.since,
-            MacText(&envelope.source)
+            MacText(&frame.source)
         )
     }
 }
@@ -175,7 +174,7 @@ impl fmt::Display for MarkerText {
 #[derive(Clone, Copy)]
 pub(crate) enum WhatText {
     /// The frame holds an LACPDU.
-    Lacpdu(LacpduText),
+    Lacpdu(LacpduLine),
     /// The frame holds a Marker PDU.
     Marker(Marker),
     /// The frame is refused.

@@ -1,5 +1,5 @@
 ghost use Rattle.std.specs.Prelude.{◌≡◌, ◌≤◌, length, Some, IfSome};
-ghost use Rattle.lagtool_capture.specs.Names.{identity_of, identity_text, name_text, place_of, same_identity};
+ghost use Rattle.lagtool_capture.specs.Names.{identity_of, identity_text, name_text, number_of, same_identity};
 
 use lagtypes::{Key, PortId, SystemId};
 use slowpdu::Info;
@@ -49,8 +49,8 @@ impl fmt::Display for Identity {
 }
 
 /// The number of an end among those that have short names, from 1; None if it has none.
-pub(crate) fn place_of(names: &[Identity], identity: &Identity) -> Option<usize>
-    ensures place { result ≡ place_of names.now identity.now }
+pub(crate) fn number_of(names: &[Identity], identity: &Identity) -> Option<usize>
+    ensures number { result ≡ number_of names.now identity.now }
     ensures among { IfSome result (λ n. n ≤ length names.now) }
 {
     for (index, name) in names.iter().enumerate() {
@@ -64,16 +64,16 @@ pub(crate) fn place_of(names: &[Identity], identity: &Identity) -> Option<usize>
 /// The short name of an end; its identifiers if it has none.
 #[derive(Clone, Copy)]
 pub(crate) struct NameText {
-    pub place: Option<usize>,
+    pub number: Option<usize>,
     pub identity: Identity,
 }
 
 impl fmt::Display for NameText {
-    ghost output = { λ t. Some (name_text t.place t.identity) };
+    ghost output = { λ t. Some (name_text t.number t.identity) };
 
     fn fmt<W: fmt::Write>(&self, f: &mut fmt::Formatter<W>) -> fmt::Result {
-        match self.place {
-            Some(place) => write!(f, "P{place}"),
+        match self.number {
+            Some(number) => write!(f, "P{number}"),
             None => write!(f, "{}", self.identity),
         }
     }

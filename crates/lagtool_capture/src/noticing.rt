@@ -1,20 +1,16 @@
-ghost use Rattle.std.specs.Prelude.{◌≡◌, ◌++◌, ◌<◌, [], List, None, IfOk, OnOk, slice_get};
+ghost use Rattle.std.specs.Prelude.{◌≡◌, ◌++◌, ◌<◌, [], List, Some, IfOk, OnOk, slice_get, unwrap_or};
 ghost use Rattle.std.specs.List.{cons_option};
-ghost use Rattle.findings.specs.declared.observed.Observed.{Observed};
+ghost use Rattle.findings.specs.declared.slow_frame.SlowFrame.{SlowFrame};
 ghost use Rattle.findings.specs.Knows.{ends_of};
-ghost use Rattle.lagtool_capture.specs.Noticing.{Follows, IsKnown, Log, findings_by, findings_in, logged, logged_next, nothing_logged};
+ghost use Rattle.lagtool_capture.specs.Noticing.{Follows, IsKnown, Log, findings_by, findings_in, if_timed, nothing_logged};
 
-use crate::frames::frame_in;
-use captures::Packet;
-use findings::{Finding, Findings, Rule};
+use findings::{Finding, Findings, Rule, SlowFrame};
 use std::alloc::{AllocError, Global};
 
 /// What the frames of a capture show of each end.
 #[derive(Drop)]
 pub(crate) struct Noticed {
     findings: Findings,
-    /// How many packets there were.
-    number: u64,
     /// The time of the last packet that has one, in nanoseconds; 0 before there is one.
     until: u64,
 }
@@ -37,8 +33,8 @@ fn put_findings(
     rules: &[Rule],
     until: u64,
 ) -> Result<(), AllocError>
-    ensures { OnOk result ((h : List Observed) → IsKnown h findings.now
-        → out.new.items ≡ out.old.items ++ findings_by until h rules.now (slice_get (ends_of findings.now.watches.items) index)) }
+    ensures { OnOk result ((h : List SlowFrame) → IsKnown h findings.now
+        → out.new.items ≡ out.old.items ++ findings_by until h rules.now (slice_get (ends_of findings.now.kept.items) index)) }
 {
     for rule in rules {
         put(out, findings.finding(index, *rule, until))?;
@@ -53,33 +49,31 @@ impl Noticed {
     {
         Noticed {
             findings: Findings::new(),
-            number: 0,
             until: 0,
         }
     }
 
-    /// Counts a record that holds no packet.
-    pub fn count(&mut self)
-        ensures { (l : Log) → Follows l self.old → Follows (logged_next None l) self.new }
+    /// Notes the time of a packet.
+    pub fn note_time(&mut self, time: Option<u64>)
+        ensures { self.new ≡ record self.old { until = unwrap_or time self.old.until } }
     {
-        self.number = self.number.saturating_add(1);
+        self.until = time.unwrap_or(self.until);
     }
 
-    /// Takes the next packet, with these captured octets.
-    pub fn observe(&mut self, packet: &Packet, octets: &[u8])
-        ensures { (l : Log) → Follows l self.old → Follows (logged packet.now octets.now l) self.new }
+    /// Takes a frame of the slow protocols in a packet with this time; nothing is found of a frame without a time.
+    pub fn observe(&mut self, time: Option<u64>, frame: &SlowFrame)
+        ensures until { self.new.until ≡ self.old.until }
+        ensures frames { (h : List SlowFrame) → IsKnown h self.old.findings → IsKnown (cons_option (if_timed (Some frame.now) time) h) self.new.findings }
     {
-        self.number = self.number.saturating_add(1);
-        self.until = packet.time.unwrap_or(self.until);
-        if let Some(frame) = frame_in(self.number, packet, octets) {
-            self.findings.observe(&frame);
+        if time.is_some() {
+            self.findings.observe(frame);
         }
     }
 
     /// What is found, end by end in the order of their first frames, and of each end rule by rule. `AllocError` if memory
     /// is refused.
     pub fn findings(&self, alloc: Global) -> Result<Vec<Finding>, AllocError>
-        ensures { IfOk result (λ found. (l : Log) → Follows l self.now → found.items ≡ findings_in l (ends_of self.now.findings.watches.items)) }
+        ensures { IfOk result (λ found. (l : Log) → Follows l self.now → found.items ≡ findings_in l (ends_of self.now.findings.kept.items)) }
     {
         let mut found = Vec::new(alloc);
         for index in 0..self.findings.count() {

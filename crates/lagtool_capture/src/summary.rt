@@ -2,7 +2,7 @@ use crate::fault::ReadFault;
 
 /// What was read of a capture.
 #[derive(Clone, Copy, Debug, PartialEq, Eq)]
-pub struct Summary {
+pub struct CaptureSummary {
     /// How many packets there were.
     pub packets: u64,
     /// How many of them are frames of the slow protocols.

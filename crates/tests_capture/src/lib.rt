@@ -1,8 +1,10 @@
-//! Tests of `captures` and `lagtool_capture`: they read captures that are written by hand from the descriptions of the formats, and
-//! explain captures that `captures` writes. They are a crate of their own, so that neither need be proved again together with
-//! its tests.
+//! Tests of `captures`, `findings` and `lagtool_capture`: they read captures that are written by hand from the descriptions of the
+//! formats, explain captures that `captures` writes, and find by frames of two links what the sections of IEEE 802.1AX-2014 say.
+//! They are a crate of their own, so that none of these need be proved again together with its tests.
 #![tactic(auto)]
 
+#[cfg(test)]
+mod links;
 #[cfg(test)]
 mod of_captures;
 #[cfg(test)]

@@ -1,6 +1,6 @@
 use bitflags::Flags;
 use lagstreams::{Sink, Source};
-use lagtool_capture::{Gaps, Settings, explain};
+use lagtool_capture::{Gaps, Settings, report_capture};
 use lagtypes::{Key, PortId, State, SystemId};
 use slowpdu::{Info, Lacpdu, frame};
 use std::alloc::{AllocError, Global};
@@ -117,7 +117,7 @@ fn tells(alloc: Global, told: &[Told], texts: &[&str]) -> Result<bool, AllocErro
     };
     let mut source = Source::new(octets.as_slice());
     let mut sink = Sink::new(Vec::new(alloc));
-    let answer = explain(alloc, settings, &mut source, &mut sink);
+    let answer = report_capture(alloc, settings, &mut source, &mut sink);
     let written = sink.into_inner();
     let said = str::from_utf8(&written).unwrap_or("");
     let mut has_all = answer.is_ok();

@@ -4,7 +4,7 @@ use crate::of_captures::BLOCKS;
 use bitflags::Flags;
 use captures::{Cause, LinkType, Order, Unit, put_file_header, put_packet};
 use lagstreams::{Sink, Source};
-use lagtool_capture::{CaptureFault, ReadFault, Settings, Summary, explain};
+use lagtool_capture::{CaptureFault, CaptureSummary, ReadFault, Settings, report_capture};
 use lagtypes::{Key, PortId, State, SystemId};
 use slowpdu::{Info, Lacpdu, Marker, MarkerKind, frame};
 use std::alloc::{AllocError, Global};
@@ -133,7 +133,7 @@ const RECORDS: &str = "\
 /// The outcome of an explanation, and what was written.
 #[derive(Debug, Drop, PartialEq)]
 struct Outcome {
-    answer: Result<Summary, CaptureFault>,
+    answer: Result<CaptureSummary, CaptureFault>,
     text: Vec<u8>,
 }
 
@@ -141,7 +141,7 @@ struct Outcome {
 fn explained(alloc: Global, settings: Settings, octets: &[u8], size: usize) -> Outcome {
     let mut source = Source::new(Pieces { rest: octets, size });
     let mut sink = Sink::new(Vec::new(alloc));
-    let answer = explain(alloc, settings, &mut source, &mut sink);
+    let answer = report_capture(alloc, settings, &mut source, &mut sink);
     Outcome {
         answer,
         text: sink.into_inner(),
@@ -158,7 +158,7 @@ const CHANGES: Settings = Settings {
 #[test]
 fn a_link_that_comes_up_is_explained(rt: HostRuntime) -> Result<(), Fail> {
     let alloc = rt.alloc();
-    let wanted = Ok(Summary {
+    let wanted = Ok(CaptureSummary {
         packets: 8,
         slow: 7,
         findings: 1,
@@ -276,7 +276,7 @@ fn what_is_no_capture_is_refused(rt: HostRuntime) -> Result<(), Fail> {
     ];
     for (octets, cause) in rows {
         let outcome = explained(alloc, CHANGES, octets, 4096);
-        let wanted = Ok(Summary {
+        let wanted = Ok(CaptureSummary {
             packets: 0,
             slow: 0,
             findings: 0,

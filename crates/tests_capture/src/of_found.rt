@@ -1,7 +1,7 @@
 use bitflags::Flags;
 use captures::{LinkType, Order, Unit, put_file_header, put_packet};
 use lagstreams::{Sink, Source};
-use lagtool_capture::{CaptureFault, Settings, Summary, explain};
+use lagtool_capture::{CaptureFault, CaptureSummary, Settings, report_capture};
 use lagtypes::{Key, PortId, State, SystemId};
 use slowpdu::{Info, Lacpdu, frame};
 use std::alloc::{AllocError, Global};
@@ -54,7 +54,7 @@ fn capture(alloc: Global, frames: &[(u32, u32, [u8; 124])]) -> Result<Vec<u8>, A
 }
 
 /// What is said of a capture, without lines for its frames.
-fn said(alloc: Global, octets: &[u8]) -> (Result<Summary, CaptureFault>, Vec<u8>) {
+fn said(alloc: Global, octets: &[u8]) -> (Result<CaptureSummary, CaptureFault>, Vec<u8>) {
     let settings = Settings {
         all: false,
         frames: false,
@@ -62,7 +62,7 @@ fn said(alloc: Global, octets: &[u8]) -> (Result<Summary, CaptureFault>, Vec<u8>
     };
     let mut source = Source::new(octets);
     let mut sink = Sink::new(Vec::new(alloc));
-    let answer = explain(alloc, settings, &mut source, &mut sink);
+    let answer = report_capture(alloc, settings, &mut source, &mut sink);
     (answer, sink.into_inner())
 }
 

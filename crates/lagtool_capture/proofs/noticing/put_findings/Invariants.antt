@@ -1,8 +1,8 @@
 use Rattle.lagtool_capture.proofs.Common.{List, slice_get, take, ◌++◌, ◌≡◌, ends_of, IsKnown, findings_by}
-use Rattle.findings.specs.declared.observed.Observed.{Observed}
+use Rattle.findings.specs.declared.slow_frame.SlowFrame.{SlowFrame}
 use Rattle.lagtool_capture.proofs.noticing.put_findings.Given as goal
 
 abbrev pub invariant-loop-rule : goal.invariant-loop-rule
 invariant-loop-rule l =
-    (h : List Observed) → IsKnown h l.findings
-    → l.out.items ≡ l.initial.out.items ++ findings_by l.until h (take l.rule-index l.rules) (slice_get (ends_of l.findings.watches.items) l.index)
+    (h : List SlowFrame) → IsKnown h l.findings
+    → l.out.items ≡ l.initial.out.items ++ findings_by l.until h (take l.rule-index l.rules) (slice_get (ends_of l.findings.kept.items) l.index)

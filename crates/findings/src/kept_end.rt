@@ -1,0 +1,166 @@
+ghost use Rattle.std.specs.Prelude.{◌≡◌, ◌∷◌, [], true, false, List};
+ghost use Rattle.findings.specs.declared.slow_frame.SlowFrame.{SlowFrame};
+ghost use Rattle.findings.specs.Ends.{end_of, others, same_end};
+ghost use Rattle.findings.specs.Firsts.{first_of, unless_faced};
+ghost use Rattle.findings.specs.Knows.{Takes};
+ghost use Rattle.findings.specs.Responses.{responding};
+ghost use Rattle.findings.specs.KeptEnds.{kept_end};
+
+use crate::asking::Asking;
+use crate::finding::Shown;
+use crate::frame_rules::FrameRules;
+use crate::lacpdu_rules::LacpduRules;
+use crate::others::Others;
+use crate::recent::{Heard, Recent};
+use crate::responding::Responding;
+use crate::rule::Rule;
+use crate::slow_frame::{LinkEnd, SlowFrame};
+use slowpdu::Lacpdu;
+
+/// What is kept of one end.
+#[derive(Clone, Copy, Debug, Default, PartialEq, Eq)]
+pub(crate) struct KeptEnd {
+    pub(crate) end: LinkEnd,
+    /// The latest LACPDU that the end sent.
+    pub(crate) said: Option<Lacpdu>,
+    /// What is known of the markers that the end sent.
+    pub(crate) asking: Asking,
+    /// The markers that ask the end, and the Marker Responses that it sent.
+    pub(crate) responding: Responding,
+    pub(crate) others: Others,
+    pub(crate) recent: Recent,
+    pub(crate) lacpdus: LacpduRules,
+    pub(crate) frames: FrameRules,
+}
+
+impl KeptEnd {
+    /// What is kept of an end before its first frame.
+    pub(crate) fn new(end: LinkEnd) -> KeptEnd
+        ensures { result ≡ kept_end end [] }
+    {
+        KeptEnd {
+            end,
+            said: None,
+            asking: Asking::default(),
+            responding: Responding::default(),
+            others: Others::default(),
+            recent: Recent::default(),
+            lacpdus: LacpduRules::default(),
+            frames: FrameRules::default(),
+        }
+    }
+
+    /// What is known of this end after one more frame that it sent.
+    fn with_own(&self, now: &SlowFrame) -> KeptEnd
+        ensures end { result.end ≡ self.now.end }
+        ensures exact { (h : List SlowFrame) → same_end (end_of now.now) self.now.end ≡ true → self.now ≡ kept_end self.now.end h
+            → result ≡ kept_end self.now.end (now.now ∷ h) }
+    {
+        let frames = self.frames.with(now);
+        let asking = self.asking.with(&self.end, true, now);
+        match now.what.lacpdu() {
+            Some(pdu) => {
+                let heard = Heard {
+                    number: now.number,
+                    nanoseconds: now.nanoseconds,
+                    pdu,
+                    others: self.others,
+                };
+                KeptEnd {
+                    end: self.end,
+                    said: Some(pdu),
+                    asking,
+                    responding: self.responding,
+                    others: self.others,
+                    recent: self.recent.with(&heard),
+                    lacpdus: self.lacpdus.with(&self.recent, &heard),
+                    frames,
+                }
+            }
+            None => KeptEnd {
+                asking,
+                frames,
+                ..*self
+            },
+        }
+    }
+
+    /// What is known of other ends behind one more frame of another end.
+    fn others_with(&self, now: &SlowFrame) -> Others
+        ensures { (h : List SlowFrame) → same_end (end_of now.now) self.now.end ≡ false → self.now ≡ kept_end self.now.end h
+            → result ≡ others self.now.end (now.now ∷ h) }
+    {
+        match (self.said, now.what.lacpdu()) {
+            (Some(own), Some(pdu)) => self.others.with(&self.end, &own, now, &pdu),
+            _ => self.others,
+        }
+    }
+
+    /// What is known of the responses of this end after one more frame of another end.
+    fn responding_with(&self, now: &SlowFrame) -> Responding
+        ensures { (h : List SlowFrame) → same_end (end_of now.now) self.now.end ≡ false → self.now ≡ kept_end self.now.end h
+            → result ≡ responding self.now.end (now.now ∷ h) }
+    {
+        match self.said {
+            Some(_) => self.responding.with(&self.end, now),
+            None => self.responding,
+        }
+    }
+
+    /// Takes one frame, of this end or another.
+    pub(crate) fn see(&mut self, now: &SlowFrame)
+        ensures { Takes now.now self.old self.new }
+    {
+        if now.end().is(&self.end) {
+            *self = self.with_own(now);
+        } else {
+            let asking = self.asking.with(&self.end, false, now);
+            let others = self.others_with(now);
+            let responding = self.responding_with(now);
+            self.asking = asking;
+            self.responding = responding;
+            self.others = others;
+        }
+    }
+
+    /// The first LACPDU that shows that LACPDUs go in one direction only, unless one of another end came later.
+    fn one_way(&self) -> Option<Shown>
+        ensures { result ≡ unless_faced self.now.others.facing self.now.lacpdus.one_way }
+    {
+        match self.others.facing {
+            Some(_) => None,
+            None => self.lacpdus.one_way,
+        }
+    }
+
+    /// The first frame that shows the rule, where the capture goes up to this time.
+    pub(crate) fn first(&self, rule: Rule, until: u64) -> Option<Shown>
+        ensures { (h : List SlowFrame) → self.now ≡ kept_end self.now.end h → result ≡ first_of rule until self.now.end h }
+    {
+        match rule {
+            Rule::Rate => self.lacpdus.rate,
+            Rule::System => self.lacpdus.system,
+            Rule::Port => self.lacpdus.port,
+            Rule::Key => self.lacpdus.key,
+            Rule::Passive => self.lacpdus.passive,
+            Rule::Version => self.frames.version,
+            Rule::Length => self.frames.length,
+            Rule::Reserved => self.frames.reserved,
+            Rule::Destination => self.frames.destination,
+            Rule::Tag => self.frames.tag,
+            Rule::Silence => self.lacpdus.silence.or(self.recent.silent(until)),
+            Rule::Unheard => self.lacpdus.unheard,
+            Rule::Desynchronized => self.lacpdus.desynchronized,
+            Rule::Individual => self.lacpdus.individual,
+            Rule::Keys => self.lacpdus.keys,
+            Rule::Segment => self.lacpdus.segment,
+            Rule::Discarded => self.lacpdus.discarded,
+            Rule::OneWay => self.one_way(),
+            Rule::Unanswered => self.asking.first(until),
+            Rule::Unasked => self.responding.unasked,
+            Rule::Late => self.responding.late,
+            Rule::Attached => self.lacpdus.attached,
+            Rule::Relapsing => self.lacpdus.relapsing,
+        }
+    }
+}

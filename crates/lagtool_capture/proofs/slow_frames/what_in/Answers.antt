@@ -1,0 +1,7 @@
+use Rattle.lagtool_capture.proofs.Common.{ap, ◌∙◌}
+use Rattle.lagtool_capture.proofs.ContentLemmas.{content_is}
+use Rattle.lagtool_capture.specs.SlowFrames.{what_of}
+use Rattle.lagtool_capture.proofs.slow_frames.what_in.Goals as goal
+
+pub returns : goal.returns
+returns c = c.what_of.ensures ∙ ap what_of (content_is c.args.payload.now c.decode.result c.decode.ensures.found c.decode.ensures.fault)

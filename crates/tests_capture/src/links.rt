@@ -1,0 +1,4 @@
+mod frames;
+mod of_ends;
+mod of_findings;
+mod of_markers;

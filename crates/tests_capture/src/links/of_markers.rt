@@ -1,0 +1,105 @@
+use crate::links::frames::{A, B, FAST, UP, a_to_b, at, b_to_a, shows};
+use findings::{SlowFrame, What};
+use slowpdu::{Marker, MarkerKind};
+
+/// A frame of a system with a marker of port 1 of system A, or the response to it.
+fn marker(milliseconds: u64, kind: MarkerKind, from: u8, id: u32) -> SlowFrame {
+    let mut frame = at(milliseconds, a_to_b(FAST, FAST));
+    let source = [2, 0, 0, 0, 0, from];
+    let system = [2, 0, 0, 0, 0, A];
+    frame.source = source;
+    frame.what = What::Marker(Marker {
+        kind,
+        port: 1,
+        system,
+        id,
+    });
+    frame
+}
+
+fn asked(milliseconds: u64, id: u32) -> SlowFrame {
+    marker(milliseconds, MarkerKind::Information, A, id)
+}
+
+fn answered(milliseconds: u64, id: u32) -> SlowFrame {
+    marker(milliseconds, MarkerKind::Response, B, id)
+}
+
+// 6.5.4: a response has the port, the system and the transaction of the marker.
+#[test]
+fn a_marker_waits_for_its_response(rt: HostRuntime) {
+    shows(&rt, &[asked(0, 7), answered(100, 7)], 10_000, &[]);
+    shows(&rt, &[asked(0, 7), answered(3000, 7)], 10_000, &[]);
+    shows(&rt, &[asked(0, 7), answered(3001, 7)], 10_000, &[(19, 1)]);
+    shows(&rt, &[asked(0, 7)], 3000, &[]);
+    shows(&rt, &[asked(0, 7)], 3001, &[(19, 1)]);
+    shows(&rt, &[asked(0, 7), answered(100, 8)], 10_000, &[(19, 1)]);
+    let mut elsewhere = answered(100, 7);
+    elsewhere.interface = 1;
+    shows(&rt, &[asked(0, 7), elsewhere], 10_000, &[(19, 1)]);
+}
+
+#[test]
+fn the_first_marker_that_waits_too_long_is_found(rt: HostRuntime) {
+    let frames = [
+        asked(0, 1),
+        answered(1, 1),
+        asked(1000, 2),
+        asked(5000, 3),
+        answered(5001, 3),
+    ];
+    shows(&rt, &frames, 20_000, &[(19, 3)]);
+    let frames = [asked(0, 1), asked(4000, 2), asked(8000, 3)];
+    shows(&rt, &frames, 20_000, &[(19, 1)]);
+}
+
+/// An LACPDU of B, behind which it responds.
+fn b_says() -> SlowFrame {
+    at(0, b_to_a(UP, UP))
+}
+
+// 6.5.4: a response goes to the sender of a marker, one for each.
+#[test]
+fn a_response_that_nobody_asked_for_is_found(rt: HostRuntime) {
+    let says = b_says();
+    let (first, second) = (asked(100, 7), asked(110, 8));
+    let (to_first, to_second) = (answered(200, 7), answered(210, 8));
+    shows(&rt, &[says, first, second, to_first, to_second], 1000, &[]);
+    shows(&rt, &[says, to_first], 1000, &[(20, 2)]);
+    shows(&rt, &[says, to_first, to_second], 1000, &[(20, 2)]);
+    shows(&rt, &[says, first, to_first, to_second], 1000, &[(20, 4)]);
+    let mut other = to_first;
+    other.what = What::Marker(Marker {
+        kind: MarkerKind::Response,
+        port: 2,
+        system: [2, 0, 0, 0, 0, A],
+        id: 7,
+    });
+    shows(&rt, &[says, first, other], 1000, &[(20, 3)]);
+    let mut other = to_first;
+    other.what = What::Marker(Marker {
+        kind: MarkerKind::Response,
+        port: 1,
+        system: [2, 0, 0, 0, 0, B],
+        id: 7,
+    });
+    shows(&rt, &[says, first, other], 1000, &[(20, 3)]);
+    // A marker on another interface asks nobody here.
+    let mut elsewhere = first;
+    elsewhere.interface = 1;
+    shows(&rt, &[says, elsewhere, to_first], 1000, &[(20, 3)]);
+    // Nor does a marker of B itself, to which A may respond.
+    let own = marker(100, MarkerKind::Information, B, 7);
+    shows(&rt, &[says, own, to_first], 1000, &[(20, 3)]);
+}
+
+#[test]
+fn a_response_that_comes_late_is_found(rt: HostRuntime) {
+    let says = b_says();
+    shows(&rt, &[says, asked(100, 7), answered(3100, 7)], 4000, &[]);
+    // The marker has waited for too long, and its response is late.
+    let frames = [says, asked(100, 7), answered(3101, 7)];
+    shows(&rt, &frames, 4000, &[(21, 3), (19, 2)]);
+    let frames = [says, asked(100, 7), asked(200, 8), answered(3150, 8)];
+    shows(&rt, &frames, 3150, &[]);
+}
