@@ -84,8 +84,8 @@ ghost use Rattle.lagprogress.specs.HostFreed.{NoneIsHeldWhereActiveByHosts, Noth
 /// due: after 352 healthy rounds of hosts (35.2 s) or more if both ends of each healthy cable are active, after 661 (66.1 s) if one is,
 /// and 30 more (3 s) in which each end has neither an LACPDU nor a marker due at some time after its system's tick, and no
 /// conversation is moved, none is Wanted or Flushing on an end of a healthy cable, if an identifier for a marker is left in the end;
-/// and none at all, if the links of the ports are up then that carry a conversation, or hold one, as `carriers_are_up` has it. Beside ports that are cut off it takes 962 and 30. Frames may be offered in all of them. Each healthy round is such a one
-/// (6.2.5; profile).
+/// and none at all, if the links of the ports are up then that carry a conversation, or hold one, as `carriers_are_up` has it. Beside
+/// ports that are cut off it takes 962 and 30. Frames may be offered in all of them. Each healthy round is such a one (6.2.5; profile).
 pub fn held_conversations_are_freed_by_hosts<F: Fn(u16, usize) -> usize>()
     ensures ends_both { (one two : F) → NoneIsHeldOnActiveEndsByHosts (both_algorithms (F.post one) (F.post two)) }
     ensures ends_one { (one two : F) → NoneIsHeldOnEndsByHosts (both_algorithms (F.post one) (F.post two)) }
