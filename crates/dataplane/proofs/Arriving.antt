@@ -1,12 +1,7 @@
 -- Subsequences, and the elements at places.
-use Rattle.std.proofs.Common.{◌≡◌, ℕ, zero, suc, ◌+◌, ◌<◌, inl, inr, List, [], ◌∷◌, ◌++◌, length, slice_index, Option, None, Some, refl, sym, ◌∙◌, ap}
-use Rattle.std.proofs.Common.{arith, append_assoc, subst, slice_get}
-use Rattle.std.specs.Prelude.{option_to_list}
-use Rattle.std.proofs.lemmas.Option.{none-some, same_Some}
-use Rattle.std.proofs.lemmas.Grind.{common_steps}
-use Rattle.dataplane.specs.QueueLaws.{IsSubsequence}
-use Rattle.lagmodel.specs.Law.{IsSubsequence as IsSubsequenceOfSerials}
-use Rattle.dataplane.specs.Arrivals.{at_places}
+use Rattle.dataplane.proofs.Common.{List, None, Option, Some, [], ap, append_assoc, arith, inl, inr, length, refl, slice_get, slice_index, subst, suc}
+use Rattle.dataplane.proofs.Common.{sym, zero, ℕ, ◌++◌, ◌+◌, ◌<◌, ◌∙◌, ◌∷◌, ◌≡◌, common_steps, none-some, same_Some, option_to_list}
+use Rattle.dataplane.proofs.Common.{IsSubsequenceOfSerials, at_places, IsSubsequence}
 
 one_more : {X : Type 0} (xs ys : List X) (y : X) → IsSubsequence xs ys → IsSubsequence xs (y ∷ ys)
 one_more [] ys y h = tt

@@ -1,22 +1,44 @@
 -- The names that proofs of this crate import, passed on from one place. Declares nothing; tools/proof-imports writes it.
-pub use Rattle.std.proofs.Common.{Bool, Err, IfOk, List, None, Ok, Option, Result, Some, [], ap, arith, cond, eq-eqb, eqb, eqb-true, false, get_or}
-pub use Rattle.std.proofs.Common.{if◌then◌else◌, inl, inr, length, nat_le, nat_lt, not, option_map, refl, rules, slice_get, slice_set, subst, suc}
-pub use Rattle.std.proofs.Common.{sym, take, true, zero, ℕ, ◌*◌, ◌+◌, ◌-◌, ◌/◌, ◌<◌, ◌==◌, ◌^◌, ◌∙◌, ◌∷◌, ◌≡◌, ◌≢◌, ◌≤◌, ◌⊎◌}
+pub use Rattle.std.proofs.Common.{Bool, Err, IfOk, List, None, Ok, Option, Result, Some, [], ap, append-nil, append_assoc, arith, cond, drop, eq-eqb}
+pub use Rattle.std.proofs.Common.{eqb, eqb-true, false, get_or, if◌then◌else◌, inl, inr, is_some, length, map, min, nat_le, nat_lt, not, option_map}
+pub use Rattle.std.proofs.Common.{position, refl, replicate, rules, slice_get, slice_index, slice_set, subst, suc, sym, take, true, zero, ℕ, ◌&&◌}
+pub use Rattle.std.proofs.Common.{◌*◌, ◌++◌, ◌+◌, ◌-◌, ◌/◌, ◌<◌, ◌==◌, ◌^◌, ◌∙◌, ◌∷◌, ◌≡◌, ◌≢◌, ◌≤◌, ◌⊎◌}
+pub use Rattle.std.proofs.Math.Seq.{drop-length, set_out, take-length}
 pub use Rattle.std.proofs.lemmas.Bool.{and_parts, cases_Bool, cases_lt, eqb-false, false≢true}
+pub use Rattle.std.proofs.lemmas.Bool.Decides.{eqb_tells, nat_tests}
+pub use Rattle.std.proofs.lemmas.Grind.{common_steps, get_or_default_zero}
+pub use Rattle.std.proofs.lemmas.List.{get_or-set_other, get_or-set_same, length-drop, length-map, length-take, map-append, map-set}
+pub use Rattle.std.proofs.lemmas.List.Sums.{sum-map, sum_by-cons, sum_by-le-sum_by, sum_by-set}
 pub use Rattle.std.proofs.lemmas.Option.{none-some, same_Some}
+pub use Rattle.std.specs.Prelude.{Contains, is_none, option_to_list, sum, sum_by}
+pub use Rattle.circular_buffer.specs.Buffer.{Buffer, buffer}
 pub use Rattle.lagtypes.specs.declared.identifiers.AggId.{AggId}
-pub use Rattle.lagmodel.specs.View.{Conversation, Flushing, Free, ModelCall, On, SystemSetup, View, Wanted}
+pub use Rattle.lagmodel.specs.Law.{IsSubsequence as IsSubsequenceOfSerials, OnItsCable, serials}
+pub use Rattle.lagmodel.specs.Move.{Act, AllAllowed, ConversationMove, ConversationMoveAllowed, Distributes, DistributorMove, DistributorMoveAllowed}
+pub use Rattle.lagmodel.specs.Move.{Flow, LawfulMoves, Port, Restart, Sends, Sends_frame, Took, act, act_of_port, acts, conversation_after}
+pub use Rattle.lagmodel.specs.Move.{distributor_act, distributor_after, flushed, view_after, view_after_all}
+pub use Rattle.lagmodel.specs.View.{Conversation, DistributorFacts, Flushing, Free, ModelCall, On, SystemSetup, View, Wanted, at_conversation}
+pub use Rattle.lagmodel.specs.View.{conversation_port, first_view}
+pub use Rattle.lagmodel.specs.World.{Side, World, WorldSetup, end_at, peer}
+pub use Rattle.lagsystem.specs.declared.drive.Reply.{Reply}
+pub use Rattle.lagsystem.specs.declared.system_ports.SystemPort.{SystemPort}
+pub use Rattle.lagsystem.specs.Drives.{call_of}
 pub use Rattle.lagsystem.specs.ModelView.{EffectsSeenAs, JoinedByLawfulMoves, model_setup, model_view}
 pub use Rattle.lagsystem.specs.Readers.{aggregator_numbered, conversation_count, conversation_in, distributing, group_at, number_of_conversation}
-pub use Rattle.lagsystem.specs.State.{SystemState, machines_of}
+pub use Rattle.lagsystem.specs.State.{SystemState, machines_of, port_index, port_numbers}
 pub use Rattle.dataplane.specs.declared.active_aggregator.choosing.Rank.{Rank}
-pub use Rattle.dataplane.specs.Choice.{Carries, IsAggregator, better, group_cmp, is_before, is_other, lesser, rank_by, rank_cmp, rank_in}
-pub use Rattle.dataplane.specs.Ends.{Alike, HasMore, ShowTheSame}
-pub use Rattle.dataplane.specs.Offers.{IsElsewhere, IsHeldElsewhere, IsInOneAggregator, IsNoOffer, IsNumberElsewhere}
-pub use Rattle.std.proofs.lemmas.Bool.Decides.{eqb_tells}
-pub use Rattle.std.proofs.lemmas.List.Sums.{sum_by-cons, sum_by-le-sum_by, sum_by-set}
-pub use Rattle.std.specs.Prelude.{Contains, sum_by}
 pub use Rattle.dataplane.specs.declared.balance.moves.Carried.{Carried}
 pub use Rattle.dataplane.specs.declared.balance.moves.Move.{Move}
-pub use Rattle.dataplane.specs.RunsOfMoves.{AllDiffer, CountsOne, IsNew, IsRunOfMoves, moved, squares}
+pub use Rattle.dataplane.specs.declared.holding.refusal.Refusal.{Refusal}
+pub use Rattle.dataplane.specs.Arrivals.{at_places}
+pub use Rattle.dataplane.specs.Choice.{Carries, IsAggregator, better, group_cmp, is_before, is_other, lesser, rank_by, rank_cmp, rank_in}
+pub use Rattle.dataplane.specs.Ends.{Alike, HasMore, ShowTheSame}
+pub use Rattle.dataplane.specs.Holding.{HoldingValue, IsHolding, counted, holding_of, in_all, queue, refusal, ring_at, ring_queues, with_queue}
 pub use Rattle.dataplane.specs.Moves.{IsMove, conversation_at, load_on}
+pub use Rattle.dataplane.specs.Notes.{is_to_marker, notes_after_all, requester}
+pub use Rattle.dataplane.specs.Offers.{IsElsewhere, IsHeldElsewhere, IsInOneAggregator, IsNoOffer, IsNumberElsewhere}
+pub use Rattle.dataplane.specs.OneAggregator.{FreeElsewhere, InOneAggregator, NoneOnItsWayElsewhere, SendsNoFrame}
+pub use Rattle.dataplane.specs.QueueCalls.{Clear, DropOldest, Dropped, Gone, Next, Put, QueueCall, Sent, accepted, after, gone}
+pub use Rattle.dataplane.specs.QueueLaws.{IsSubsequence, IsWithin, after_all, all_accepted, all_dropped, all_gone, all_handed_back, all_sent}
+pub use Rattle.dataplane.specs.QueueLaws.{conversation_of, handed_back, handle_of, number_dropped}
+pub use Rattle.dataplane.specs.RunsOfMoves.{AllDiffer, CountsOne, IsNew, IsRunOfMoves, moved, squares}

@@ -1,6 +1,6 @@
 -- Where each conversation counts one and no move is left, the loads are alike; and where they are alike there is no move.
 use Rattle.dataplane.proofs.Common.{List, [], ap, arith, cond, eqb, inl, inr, length, refl, suc, sym, zero, ℕ, ◌+◌, ◌<◌, ◌∷◌, ◌≡◌, ◌≤◌, cases_lt}
-use Rattle.dataplane.proofs.Common.{eqb_tells, sum_by-cons, Contains, Carried, Move, CountsOne, IsMove, conversation_at, load_on}
+use Rattle.dataplane.proofs.Common.{eqb_tells, sum_by-cons, Contains, Carried, Move, IsMove, conversation_at, load_on, CountsOne}
 use Rattle.dataplane.proofs.Sums.{IsAmong, among}
 
 pub contained : (ports : List ℕ) (p : ℕ) → IsAmong p ports → Contains ports p

@@ -1,7 +1,6 @@
 -- When no move is left.
-use Rattle.dataplane.proofs.Common.{List, arith, get_or, length, sym, ℕ, ◌-◌, ◌<◌, ◌∙◌, ◌≡◌, ◌≤◌, Contains, Carried, Move, IsMove, conversation_at}
-use Rattle.dataplane.proofs.Common.{load_on}
-use Rattle.std.proofs.lemmas.Grind.{get_or_default_zero}
+use Rattle.dataplane.proofs.Common.{List, arith, get_or, length, sym, ℕ, ◌-◌, ◌<◌, ◌∙◌, ◌≡◌, ◌≤◌, get_or_default_zero, Contains, Carried, Move}
+use Rattle.dataplane.proofs.Common.{IsMove, conversation_at, load_on}
 
 pub no_move : (ports : List ℕ) (carried : List Carried) (most least : ℕ) (best : ℕ)
     → Contains ports best → most ≡ load_on best carried

@@ -1,6 +1,7 @@
 -- The loads of ports, where conversations move.
 use Rattle.dataplane.proofs.Common.{List, ap, arith, cond, eq-eqb, eqb, inl, inr, length, refl, slice_set, suc, sym, zero, ℕ, ◌*◌, ◌+◌, ◌-◌, ◌<◌, ◌∙◌}
-use Rattle.dataplane.proofs.Common.{◌≡◌, ◌≢◌, eqb_tells, sum_by-set, sum_by, Carried, Move, AllDiffer, moved, squares, IsMove, conversation_at, load_on}
+use Rattle.dataplane.proofs.Common.{◌≡◌, ◌≢◌, eqb_tells, sum_by-set, sum_by, Carried, Move, IsMove, conversation_at, load_on, AllDiffer, moved}
+use Rattle.dataplane.proofs.Common.{squares}
 use Rattle.dataplane.proofs.Sums.{among, two_differ}
 
 pub hits : (a p w : ℕ) → a ≡ p → cond (eqb a p) w 0 ≡ w

@@ -1,10 +1,6 @@
 -- Calls and their replies, one after another.
-use Rattle.std.proofs.Common.{◌≡◌, ◌⊎◌, inl, inr, List, [], ◌∷◌, map, refl}
-use Rattle.lagsystem.specs.Drives.{call_of}
+use Rattle.dataplane.proofs.Common.{List, [], inl, inr, map, refl, ◌∷◌, ◌≡◌, ◌⊎◌, Reply, SystemPort, call_of, notes_after_all}
 use Rattle.lagsystem.specs.declared.drive.Call.{Call}
-use Rattle.lagsystem.specs.declared.drive.Reply.{Reply}
-use Rattle.lagsystem.specs.declared.system_ports.SystemPort.{SystemPort}
-use Rattle.dataplane.specs.Notes.{notes_after_all}
 use Rattle.dataplane.specs.declared.answering.marker_note.MarkerNote.{MarkerNote}
 
 no_reply : (calls : List Call) (ports : List SystemPort) (notes : List MarkerNote) → notes_after_all (map call_of calls) [] ports notes ≡ notes

@@ -1,10 +1,8 @@
 -- A frame that ends before the fields of a marker.
-use Rattle.std.proofs.Common.{◌≡◌, ◌<◌, ◌∙◌, ℕ, Bool, true, false, List, length, refl, ap, arith}
-use Rattle.std.proofs.lemmas.Grind.{common_steps}
-use Rattle.std.proofs.lemmas.List.{length-take, length-drop}
+use Rattle.dataplane.proofs.Common.{Bool, List, ap, arith, false, length, refl, true, ℕ, ◌<◌, ◌∙◌, ◌≡◌, common_steps, length-drop, length-take}
+use Rattle.dataplane.proofs.Common.{is_to_marker, requester}
 use Rattle.std.proofs.lemmas.Slice.Eq.{bytes_eq-Decides}
 use Rattle.std.specs.Prelude.{drop, nat_le}
-use Rattle.dataplane.specs.Notes.{is_to_marker, requester}
 
 not_true : (b : Bool) → (b ≡ true → ⊥) → false ≡ b
 not_true true n = absurd (n refl)

@@ -1,18 +1,9 @@
 -- No call passes a bound.
-use Rattle.std.proofs.Common.{◌≡◌, ◌≢◌, ℕ, ◌+◌, ◌<◌, ◌≤◌, cond, List, [], ◌∷◌, ◌++◌, drop, length, get_or, slice_set, inl, inr, Option, None, Some}
-use Rattle.std.proofs.Common.{refl, sym, arith}
-use Rattle.std.specs.Prelude.{sum_by, is_none}
-use Rattle.std.proofs.lemmas.List.{get_or-set_other}
-use Rattle.std.proofs.lemmas.List.Sums.{sum_by-set}
-use Rattle.std.proofs.lemmas.Bool.Decides.{eqb_tells}
-use Rattle.std.proofs.Math.Seq.{set_out}
-use Rattle.std.proofs.lemmas.Bool.{cases_lt}
-use Rattle.std.proofs.lemmas.Grind.{common_steps}
-use Rattle.dataplane.specs.declared.holding.refusal.Refusal.{Refusal}
-use Rattle.dataplane.specs.Holding.{HoldingValue, queue, in_all, with_queue, refusal, counted}
-use Rattle.dataplane.specs.QueueCalls.{QueueCall, Put, Next, DropOldest, Clear, after}
+use Rattle.dataplane.proofs.Common.{List, None, Option, Some, [], arith, cond, drop, get_or, inl, inr, length, refl, slice_set, sym, ℕ, ◌++◌, ◌+◌}
+use Rattle.dataplane.proofs.Common.{◌<◌, ◌∷◌, ◌≡◌, ◌≢◌, ◌≤◌, set_out, cases_lt, eqb_tells, common_steps, get_or-set_other, sum_by-set, is_none}
+use Rattle.dataplane.proofs.Common.{sum_by, Refusal, HoldingValue, counted, in_all, queue, refusal, with_queue, Clear, DropOldest, Next, Put}
+use Rattle.dataplane.proofs.Common.{QueueCall, after, IsWithin, after_all}
 use Rattle.dataplane.proofs.QueueOrder.{queue_loses, queue_grows}
-use Rattle.dataplane.specs.QueueLaws.{after_all, IsWithin}
 
 -- a queue in the place of another
 queue_is : {X : Type 0} (qs : List (List X)) (c k most : ℕ) (q : List X) → length (get_or (slice_set qs c q) c []) ≤ most

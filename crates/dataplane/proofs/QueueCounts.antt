@@ -1,12 +1,8 @@
 -- What the counts of a list of calls are.
-use Rattle.std.proofs.Common.{◌≡◌, ℕ, ◌+◌, ◌^◌, ◌<◌, cond, List, [], ◌∷◌, ◌++◌, map, length, Option, None, Some, refl, sym, ◌∙◌, ap, arith, is_some}
-use Rattle.std.proofs.Common.{eq-eqb}
-use Rattle.std.specs.Prelude.{is_none}
-use Rattle.std.proofs.Math.Seq.{take-length}
-use Rattle.dataplane.specs.declared.holding.refusal.Refusal.{Refusal}
-use Rattle.dataplane.specs.Holding.{HoldingValue, queue, with_queue, refusal, counted}
-use Rattle.dataplane.specs.QueueCalls.{QueueCall, Put, Next, DropOldest, Clear, Sent, Dropped, after, gone}
-use Rattle.dataplane.specs.QueueLaws.{after_all, number_dropped, conversation_of, all_dropped, handed_back, all_handed_back}
+use Rattle.dataplane.proofs.Common.{List, None, Option, Some, [], ap, arith, cond, eq-eqb, is_some, length, map, refl, sym, ℕ, ◌++◌, ◌+◌, ◌<◌, ◌^◌}
+use Rattle.dataplane.proofs.Common.{◌∙◌, ◌∷◌, ◌≡◌, take-length, is_none, Refusal, HoldingValue, counted, queue, refusal, with_queue, Clear}
+use Rattle.dataplane.proofs.Common.{DropOldest, Dropped, Next, Put, QueueCall, Sent, after, gone, after_all, all_dropped, all_handed_back}
+use Rattle.dataplane.proofs.Common.{conversation_of, handed_back, number_dropped}
 use Rattle.dataplane.proofs.QueueViews.{counted_is}
 
 counted_nothing : (d : ℕ) → d < 2 ^ 64 → counted d 0 ≡ d

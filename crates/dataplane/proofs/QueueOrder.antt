@@ -1,15 +1,9 @@
 -- What every list of calls keeps.
-use Rattle.std.proofs.Common.{◌≡◌, ◌≢◌, ℕ, zero, suc, ◌<◌, Bool, true, false, eqb, cond, ◌&&◌, inl, inr, List, [], ◌∷◌, ◌++◌, map, take, drop, length}
-use Rattle.std.proofs.Common.{get_or, slice_set, Option, None, Some, refl, sym, ◌∙◌, ap, arith, append_assoc, append-nil, eqb-true}
-use Rattle.std.specs.Prelude.{is_none}
-use Rattle.std.proofs.lemmas.List.{map-append, get_or-set_same, get_or-set_other}
-use Rattle.std.proofs.lemmas.Bool.{eqb-false}
-use Rattle.std.proofs.lemmas.Grind.{common_steps}
-use Rattle.std.proofs.Math.Seq.{take-length}
-use Rattle.dataplane.specs.declared.holding.refusal.Refusal.{Refusal}
-use Rattle.dataplane.specs.Holding.{HoldingValue, queue, with_queue, refusal, counted}
-use Rattle.dataplane.specs.QueueCalls.{QueueCall, Put, Next, DropOldest, Clear, Gone, Sent, Dropped, after, accepted, gone}
-use Rattle.dataplane.specs.QueueLaws.{after_all, all_accepted, all_gone, handle_of, all_sent, IsSubsequence}
+use Rattle.dataplane.proofs.Common.{Bool, List, None, Option, Some, [], ap, append-nil, append_assoc, arith, cond, drop, eqb, eqb-true, false, get_or}
+use Rattle.dataplane.proofs.Common.{inl, inr, length, map, refl, slice_set, suc, sym, take, true, zero, ℕ, ◌&&◌, ◌++◌, ◌<◌, ◌∙◌, ◌∷◌, ◌≡◌, ◌≢◌}
+use Rattle.dataplane.proofs.Common.{take-length, eqb-false, common_steps, get_or-set_other, get_or-set_same, map-append, is_none, Refusal}
+use Rattle.dataplane.proofs.Common.{HoldingValue, counted, queue, refusal, with_queue, Clear, DropOldest, Dropped, Gone, Next, Put, QueueCall, Sent}
+use Rattle.dataplane.proofs.Common.{accepted, after, gone, IsSubsequence, after_all, all_accepted, all_gone, all_sent, handle_of}
 
 -- a queue that loses its first n handles
 pub queue_loses : {X : Type 0} (qs : List (List X)) (c n : ℕ) → get_or (slice_set qs c (drop n (get_or qs c []))) c [] ≡ drop n (get_or qs c [])

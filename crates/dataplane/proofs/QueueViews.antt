@@ -1,16 +1,10 @@
 -- What a contract sees of rings that changed.
-use Rattle.std.proofs.Common.{◌≡◌, ℕ, zero, suc, ◌+◌, ◌^◌, ◌-◌, ◌<◌, min, List, [], ◌∷◌, ◌++◌, take, replicate, length, get_or, slice_get, slice_set}
-use Rattle.std.proofs.Common.{Option, None, Some, refl, sym, ◌∙◌, ap, arith, cond}
-use Rattle.std.specs.Prelude.{sum, sum_by, is_none}
-use Rattle.std.proofs.lemmas.List.{map-set}
+use Rattle.dataplane.proofs.Common.{List, None, Option, Some, [], ap, arith, cond, get_or, length, min, refl, replicate, slice_get, slice_set, suc}
+use Rattle.dataplane.proofs.Common.{sym, take, zero, ℕ, ◌++◌, ◌+◌, ◌-◌, ◌<◌, ◌^◌, ◌∙◌, ◌∷◌, ◌≡◌, drop-length, take-length, common_steps, map-set}
+use Rattle.dataplane.proofs.Common.{sum-map, sum_by-set, is_none, sum, sum_by, Buffer, buffer, Refusal, HoldingValue, IsHolding, holding_of, in_all}
+use Rattle.dataplane.proofs.Common.{queue, refusal, ring_at, ring_queues, with_queue, Clear, Put, after}
 use Rattle.std.proofs.lemmas.Simd.{map-map}
-use Rattle.std.proofs.lemmas.List.Sums.{sum_by-set, sum-map}
-use Rattle.std.proofs.lemmas.Grind.{common_steps}
-use Rattle.std.proofs.Math.Seq.{take-length, drop-length}
-use Rattle.circular_buffer.specs.Buffer.{Buffer, buffer}
-use Rattle.dataplane.specs.declared.holding.refusal.Refusal.{Refusal}
-use Rattle.dataplane.specs.QueueCalls.{after, Put, Clear}
-use Rattle.dataplane.specs.Holding.{with_queue, HoldingValue, holding_of, ring_at, ring_queues, counted, IsHolding, refusal, queue, in_all}
+use Rattle.dataplane.specs.Holding.{counted}
 
 pub queue_of : {X : Type 0} (rings : List (Buffer X)) (place : ℕ) → get_or (ring_queues rings) place [] ≡ (ring_at rings place).items
 queue_of [] place = refl

@@ -1,7 +1,6 @@
 -- The order of ranks.
-use Rattle.dataplane.proofs.Common.{Bool, ap, arith, false, if◌then◌else◌, inl, inr, refl, rules, sym, true, ℕ, ◌<◌, ◌∙◌, ◌≡◌, ◌≢◌, false≢true, Rank}
-use Rattle.dataplane.proofs.Common.{group_cmp, is_before, rank_cmp, HasMore}
-use Rattle.std.proofs.lemmas.Grind.{common_steps}
+use Rattle.dataplane.proofs.Common.{Bool, ap, arith, false, if◌then◌else◌, inl, inr, refl, rules, sym, true, ℕ, ◌<◌, ◌∙◌, ◌≡◌, ◌≢◌, false≢true}
+use Rattle.dataplane.proofs.Common.{common_steps, Rank, group_cmp, is_before, rank_cmp, HasMore}
 use Rattle.std.specs.declared.cmp.Ordering.{Ordering}
 use Rattle.std.specs.declared.cmp.Ordering.TheVariants.{Less, Equal, Greater}
 use Rattle.std.specs.Ordering.{is_lt, nat_cmp, bool_cmp, on, ordering_then, ordering_reverse}

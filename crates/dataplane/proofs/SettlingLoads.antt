@@ -1,7 +1,7 @@
 -- A run of moves is no longer than there are conversations, where each counts one.
-use Rattle.dataplane.proofs.Common.{List, [], ap, arith, cond, eqb, inl, inr, length, refl, slice_set, suc, zero, ℕ, ◌*◌, ◌+◌, ◌-◌, ◌/◌, ◌<◌, ◌∙◌, ◌∷◌}
-use Rattle.dataplane.proofs.Common.{◌≡◌, ◌≤◌, cases_lt, eqb_tells, sum_by-cons, sum_by-le-sum_by, sum_by, Carried, Move, AllDiffer, CountsOne, IsNew}
-use Rattle.dataplane.proofs.Common.{IsRunOfMoves, moved, IsMove, conversation_at, load_on}
+use Rattle.dataplane.proofs.Common.{List, [], ap, arith, cond, eqb, inl, inr, length, refl, slice_set, suc, zero, ℕ, ◌*◌, ◌+◌, ◌-◌, ◌/◌, ◌<◌, ◌∙◌}
+use Rattle.dataplane.proofs.Common.{◌∷◌, ◌≡◌, ◌≤◌, cases_lt, eqb_tells, sum_by-cons, sum_by-le-sum_by, sum_by, Carried, Move, IsMove, conversation_at}
+use Rattle.dataplane.proofs.Common.{load_on, AllDiffer, CountsOne, IsNew, IsRunOfMoves, moved}
 use Rattle.std.proofs.Math.Nat.{mul-div-le, lt-div-mul-add}
 use Rattle.dataplane.proofs.Sums.{IsAmong, among, two_differ, same_sum}
 use Rattle.dataplane.proofs.Loads.{Shift, shift_of, hits, misses}

@@ -1,18 +1,13 @@
 -- What is Free stays Free where no frame is sent of it.
-use Rattle.std.proofs.Common.{◌≡◌, ◌≢◌, ◌⊎◌, ℕ, true, false, Bool, inl, inr, List, [], ◌∷◌, ◌++◌, eqb, eqb-true, Option, None, Some, refl, sym, ◌∙◌}
-use Rattle.std.proofs.Common.{ap, subst}
-use Rattle.std.specs.Prelude.{option_to_list}
-use Rattle.std.proofs.lemmas.Bool.{cases_Bool, eqb-false}
-use Rattle.std.proofs.lemmas.Option.{none-some}
-use Rattle.lagmodel.specs.View.{Conversation, Free, On, Wanted, Flushing, conversation_port, View, SystemSetup, ModelCall, DistributorFacts}
-use Rattle.lagmodel.specs.View.{first_view, at_conversation}
-use Rattle.lagmodel.specs.Move.{Act, Sends, Sends_frame, Took, Move, Port, Flow, Restart, DistributorMove, DistributorMoveAllowed, ConversationMove}
-use Rattle.lagmodel.specs.Move.{conversation_after, ConversationMoveAllowed, flushed, distributor_after, distributor_act, act, act_of_port, acts}
-use Rattle.lagmodel.specs.Move.{AllAllowed, view_after, view_after_all, LawfulMoves, Distributes}
-use Rattle.lagmodel.specs.World.{Side, peer, World, WorldSetup, end_at}
-use Rattle.lagmodel.specs.Law.{OnItsCable, serials}
+use Rattle.dataplane.proofs.Common.{Bool, List, None, Option, Some, [], ap, eqb, eqb-true, false, inl, inr, refl, subst, sym, true, ℕ, ◌++◌, ◌∙◌, ◌∷◌}
+use Rattle.dataplane.proofs.Common.{◌≡◌, ◌≢◌, ◌⊎◌, cases_Bool, eqb-false, none-some, option_to_list, OnItsCable, serials, Act, AllAllowed}
+use Rattle.dataplane.proofs.Common.{ConversationMove, ConversationMoveAllowed, Distributes, DistributorMove, DistributorMoveAllowed, Flow}
+use Rattle.dataplane.proofs.Common.{LawfulMoves, Port, Restart, Sends, Sends_frame, Took, act, act_of_port, acts, conversation_after, distributor_act}
+use Rattle.dataplane.proofs.Common.{distributor_after, flushed, view_after, view_after_all, Conversation, DistributorFacts, Flushing, Free, ModelCall}
+use Rattle.dataplane.proofs.Common.{On, SystemSetup, View, Wanted, at_conversation, conversation_port, first_view, Side, World, WorldSetup, end_at}
+use Rattle.dataplane.proofs.Common.{peer, FreeElsewhere, InOneAggregator, NoneOnItsWayElsewhere, SendsNoFrame}
+use Rattle.lagmodel.specs.Move.{Move}
 use Rattle.lagmodel.proofs.Lanes.{conversation_cases}
-use Rattle.dataplane.specs.OneAggregator.{InOneAggregator, FreeElsewhere, SendsNoFrame, NoneOnItsWayElsewhere}
 
 -- no frame of conversation j of aggregator h is sent
 abbrev pub NotSent : ℕ → ℕ → List Act → Type 0

@@ -1,6 +1,6 @@
 -- Sums over ports that differ.
-use Rattle.dataplane.proofs.Common.{List, [], ap, arith, cond, eq-eqb, eqb, get_or, inl, inr, length, refl, suc, sym, zero, ℕ, ◌+◌, ◌<◌, ◌∙◌, ◌∷◌, ◌≡◌}
-use Rattle.dataplane.proofs.Common.{◌≢◌, ◌⊎◌, eqb_tells, sum_by-cons, Contains, sum_by, AllDiffer, IsNew}
+use Rattle.dataplane.proofs.Common.{List, [], ap, arith, cond, eq-eqb, eqb, get_or, inl, inr, length, refl, suc, sym, zero, ℕ, ◌+◌, ◌<◌, ◌∙◌, ◌∷◌}
+use Rattle.dataplane.proofs.Common.{◌≡◌, ◌≢◌, ◌⊎◌, eqb_tells, sum_by-cons, Contains, sum_by, AllDiffer, IsNew}
 
 -- a port is one of these
 abbrev pub IsAmong : ℕ → List ℕ → Type 0

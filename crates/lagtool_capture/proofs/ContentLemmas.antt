@@ -1,5 +1,8 @@
 -- What `decode` answers is what the payload holds.
-use Rattle.lagtool_capture.proofs.Common.{Err, IfErr, IfOk, List, Ok, Result, Some, ap, sym, ℕ, ◌∙◌, ◌≡◌, WireFault, Pdu, content_in, content_of}
+use Rattle.lagtool_capture.proofs.Common.{Err, IfErr, IfOk, List, Ok, Result, Some, ap, sym, ℕ, ◌∙◌, ◌≡◌}
+use Rattle.slowpdu.specs.declared.fault.WireFault.{WireFault}
+use Rattle.slowpdu.specs.declared.pdu.Pdu.{Pdu}
+use Rattle.lagtool_capture.specs.Contents.{content_in, content_of}
 use Rattle.slowpdu.specs.Faults.{fault_of}
 use Rattle.slowpdu.specs.Pdus.{ReadsPdu}
 use Rattle.slowpdu.proofs.PduInLemmas.{pdu_read}

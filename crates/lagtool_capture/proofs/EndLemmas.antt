@@ -1,10 +1,9 @@
 -- What an end keeps of the times between its LACPDUs.
 use Rattle.lagtool_capture.proofs.Common.{List, None, Option, Some, [], ap, arith, length, refl, ℕ, ◌+◌, ◌<◌, ◌^◌, ◌∙◌, ◌∷◌, ◌≡◌, ◌≤◌, cons_option}
-use Rattle.lagtool_capture.proofs.Common.{Sent, gap_between, gaps_between, latest_time, IsMedianOf, gaps_of, median}
+use Rattle.lagtool_capture.proofs.Common.{LinkEnd, Sent, gap_between, gaps_between, latest_time, IsMedianOf, gaps_of, median}
 use Rattle.lagtool_capture.specs.Ends.{end_of}
 use Rattle.lagtool_capture.specs.Gaps.{gaps_with}
 use Rattle.lagtool_capture.specs.declared.ends.LacpduSender.{LacpduSender}
-use Rattle.findings.specs.declared.slow_frame.LinkEnd.{LinkEnd}
 use Rattle.lagtool_capture.proofs.GapLemmas.{median_is}
 
 latest_is : (s : LinkEnd) (first : Sent) (later : List Sent) → (end_of s first later).latest ≡ latest_time first later

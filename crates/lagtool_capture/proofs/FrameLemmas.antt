@@ -1,14 +1,10 @@
 -- What a packet more adds, by the frame of the slow protocols in it.
-use Rattle.lagtool_capture.proofs.Common.{List, None, OnOk, Option, Result, Some, ap, refl, subst, sym, ℕ, ◌∙◌, ◌≡◌, cons_option, unwrap_or, SlowFrame}
-use Rattle.lagtool_capture.proofs.Common.{one_more, ReportState, after_any, after_what, counted, Agrees, IsKnown, Log}
-use Rattle.captures.specs.declared.packet.Packet.{Packet}
-use Rattle.findings.specs.declared.slow_frame.What.{What}
+use Rattle.lagtool_capture.proofs.Common.{List, None, OnOk, Option, Result, Some, ap, refl, subst, sym, ℕ, ◌∙◌, ◌≡◌, cons_option, unwrap_or, Packet}
+use Rattle.lagtool_capture.proofs.Common.{SlowFrame, What, Noticed, one_more, Agrees, IsKnown, Log, if_timed, logged, logged_next, ReportState}
+use Rattle.lagtool_capture.proofs.Common.{after_any, after_what, counted, frame_in}
+use Rattle.lagtool_capture.specs.Reporting.{after_frame, after_lacpdu, after_named, observed}
 use Rattle.findings.specs.declared.slow_frame.What.TheVariants.{Lacpdu, Marker, Refused}
 use Rattle.lagtool_capture.proofs.ReportingLemmas.{on_ok-map}
-use Rattle.lagtool_capture.specs.Reporting.{after_frame, after_lacpdu, after_named, observed}
-use Rattle.lagtool_capture.specs.Noticing.{if_timed, logged, logged_next}
-use Rattle.lagtool_capture.specs.SlowFrames.{frame_in}
-use Rattle.lagtool_capture.specs.declared.noticing.Noticed.{Noticed}
 
 -- there is a frame in it, which is explained
 pub observed_some : {T E : Type 0} (r : Result T E) (p : Packet) (b : List ℕ) (n : ℕ) (o : Option SlowFrame) (f : SlowFrame) (s t w : ReportState)

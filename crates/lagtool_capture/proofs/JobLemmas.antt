@@ -1,8 +1,8 @@
 -- What a job has read and written so far, and at its end.
 use Rattle.lagtool_capture.proofs.Common.{Bool, List, None, Option, Some, [], ap, arith, false, inl, inr, ltb-false, nat_lt, refl, subst, sym, true}
 use Rattle.lagtool_capture.proofs.Common.{true≢false, ℕ, ◌&&◌, ◌++◌, ◌∙◌, ◌≡◌, ◌⊎◌, and_cases, and_parts, Consumes, IsAtEnd, IsSettled, ReadFault}
-use Rattle.lagtool_capture.proofs.Common.{Settings, ReportState, Follows, Log, Completes, Feeds, IsBefore, ReadingState, ended, is_free, is_read_on}
-use Rattle.lagtool_capture.proofs.Common.{summary_of}
+use Rattle.lagtool_capture.proofs.Common.{Settings, Feeds, IsBefore, ReadingState, ended, is_free, is_read_on, summary_of, Follows, Log, ReportState}
+use Rattle.lagtool_capture.proofs.Common.{Completes}
 use Rattle.std.proofs.KnownBytes.{Appends-nil, Consumes-nil, Consumes-trans}
 use Rattle.lagstreams.proofs.SinkLemmas.{takes_more}
 use Rattle.lagstreams.specs.Sinks.{SinkState, WritesWhole}

@@ -1,8 +1,7 @@
 -- Findings that were added so far, and those of one element more.
 use Rattle.lagtool_capture.proofs.Common.{List, None, Some, [], ap, get_or, length, slice_get, sym, take, ℕ, ◌++◌, ◌+◌, ◌<◌, ◌∙◌, ◌≡◌, flat_map_more}
-use Rattle.lagtool_capture.proofs.Common.{take_more, flat_map, Finding, Log, findings_by, findings_in}
+use Rattle.lagtool_capture.proofs.Common.{take_more, flat_map, Finding, LinkEnd, Log, findings_by, findings_in}
 use Rattle.std.proofs.lemmas.Option.{slice_get-get_or}
-use Rattle.findings.specs.declared.slow_frame.LinkEnd.{LinkEnd}
 use Rattle.findings.specs.Rules.{all_rules}
 
 -- what one element more adds

@@ -1,11 +1,12 @@
 -- A reading over pieces is one over all octets, however they are cut.
 use Rattle.lagtool_capture.proofs.Common.{Err, List, None, Ok, Option, Result, Some, [], ap, append-nil, append_assoc, arith, drop, inl, inr, length}
 use Rattle.lagtool_capture.proofs.Common.{length-append, length-drop, min, option_map, refl, subst, suc, sym, zero, ℕ, ◌++◌, ◌+◌, ◌-◌, ◌<◌, ◌^◌, ◌∙◌}
-use Rattle.lagtool_capture.proofs.Common.{◌≡◌, ◌≤◌, ◌⊎◌, drop-append-le, drop-drop, ⊤, Fault, end_of, Capture, Captured, IsSettled, at_start, behind}
-use Rattle.lagtool_capture.proofs.Common.{capture_from, capture_in, ending, refused_from, ends_of, ReadFault, Settings, sum_of, ReportState}
-use Rattle.lagtool_capture.proofs.Common.{after_all, nothing_seen, with_ends, Agrees, Follows, Log, findings_in, logged_all, nothing_logged, counts_of}
-use Rattle.lagtool_capture.proofs.Common.{reported, found_in, report, summary, Stops, Feeds, IsBefore, Takes, ReadingState, ended, refused_at}
-use Rattle.lagtool_capture.proofs.Common.{refused_end, refused_if_any, skipped, summary_of}
+use Rattle.lagtool_capture.proofs.Common.{◌≡◌, ◌≤◌, ◌⊎◌, drop-append-le, drop-drop, ⊤, Fault, Capture, Captured, IsSettled, at_start, behind}
+use Rattle.lagtool_capture.proofs.Common.{capture_from, capture_in, ending, refused_from, ends_of, ReadFault, Settings, Feeds, IsBefore, ReadingState}
+use Rattle.lagtool_capture.proofs.Common.{Takes, ended, refused_at, refused_end, refused_if_any, skipped, summary_of, sum_of, Agrees, Follows, Log}
+use Rattle.lagtool_capture.proofs.Common.{findings_in, logged_all, nothing_logged, ReportState, after_all, nothing_seen, with_ends, counts_of}
+use Rattle.lagtool_capture.proofs.Common.{found_in, report, reported, summary, Stops}
+use Rattle.captures.specs.Steps.{end_of}
 use Rattle.std.proofs.Math.Seq.{drop-append-add, drop-length}
 use Rattle.captures.proofs.StepLemmas.{step_refused}
 use Rattle.captures.proofs.WholeLemmas.{both_behind, ends_refused, ends_waiting}

@@ -1,9 +1,8 @@
 -- From the steps of an explanation to the whole.
-use Rattle.lagtool_capture.proofs.Common.{Err, Ok, OnOk, Option, Result, ap, ℕ, ◌∙◌, ◌≡◌, Lacpdu, Identity, SlowFrame, end_index, ReportState}
-use Rattle.lagtool_capture.proofs.Common.{after_indexed, last_shown, name_number, named, with_end, with_line, identity_of}
-use Rattle.findings.specs.declared.slow_frame.LinkEnd.{LinkEnd}
-use Rattle.findings.specs.Ends.{end_of}
-use Rattle.lagtool_capture.specs.Reporting.{after_lacpdu, after_named}
+use Rattle.lagtool_capture.proofs.Common.{Err, Ok, OnOk, Option, Result, ap, ℕ, ◌∙◌, ◌≡◌, Lacpdu, LinkEnd, SlowFrame, end_of, Identity, end_index}
+use Rattle.lagtool_capture.proofs.Common.{identity_of, ReportState, after_indexed, last_shown, name_number, named, with_end, with_line}
+use Rattle.lagtool_capture.specs.Reporting.{after_lacpdu}
+use Rattle.lagtool_capture.specs.Reporting.{after_named}
 use Rattle.lagtool_capture.specs.declared.lacpdu_texts.ShownFields.{ShownFields}
 use Rattle.lagtool_capture.specs.LacpduTexts.{shown_of}
 use Rattle.lagtool_capture.specs.declared.line.WhatText.TheVariants as what

@@ -1,13 +1,13 @@
 -- The steps that were taken so far, and one more.
 use Rattle.lagtool_capture.proofs.Common.{Err, IfSome, List, None, Ok, Option, Some, [], ap, arith, drop, inl, inr, length, length-drop, refl, subst}
 use Rattle.lagtool_capture.proofs.Common.{sym, take, ℕ, ◌++◌, ◌+◌, ◌-◌, ◌<◌, ◌∙◌, ◌∷◌, ◌≡◌, ◌≤◌, take_rest, Fault, ReaderState, step, Captured}
-use Rattle.lagtool_capture.proofs.Common.{ReadsTo, numbered_in, ReportState, after_all, Agrees, Log, logged_all, StepsThrough, Stops, stopped_at}
+use Rattle.lagtool_capture.proofs.Common.{ReadsTo, numbered_in, Noticed, Agrees, Log, logged_all, ReportState, after_all, StepsThrough, Stops}
+use Rattle.lagtool_capture.proofs.Common.{stopped_at}
 use Rattle.captures.proofs.WholeLemmas as whole
 use Rattle.captures.specs.Wanted.{IsWithin}
 use Rattle.captures.specs.declared.fault.Stop.{Stop}
 use Rattle.captures.specs.declared.fault.Stop.TheVariants.{Refused, Wants}
 use Rattle.captures.specs.declared.reader.Step.{Step}
-use Rattle.lagtool_capture.specs.declared.noticing.Noticed.{Noticed}
 use Rattle.lagtool_capture.specs.declared.taking.Taken.{Taken}
 
 -- what has a number so far, and what was seen of it

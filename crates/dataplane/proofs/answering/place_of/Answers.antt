@@ -1,5 +1,5 @@
+use Rattle.dataplane.proofs.Common.{position, ◌==◌}
 use mathlib.Core.Path.{◌∙◌, ap}
-use Rattle.std.proofs.Common.{◌==◌, position}
 use Rattle.dataplane.proofs.NotedPlaces.{place_of_number}
 use Rattle.dataplane.proofs.answering.place_of.Goals as goal
 

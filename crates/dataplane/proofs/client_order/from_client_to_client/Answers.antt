@@ -1,8 +1,6 @@
-use Rattle.std.proofs.Common.{◌≡◌, ℕ, ◌+◌, ◌<◌, ◌∙◌, ◌++◌, List, [], length, sym, ap, subst, arith, slice_index}
-use Rattle.dataplane.specs.QueueLaws.{IsSubsequence, all_gone, all_sent, all_accepted}
-use Rattle.dataplane.specs.Holding.{queue}
+use Rattle.dataplane.proofs.Common.{List, [], ap, arith, length, slice_index, subst, sym, ℕ, ◌++◌, ◌+◌, ◌<◌, ◌∙◌, ◌≡◌, at_places, queue}
+use Rattle.dataplane.proofs.Common.{IsSubsequence, all_accepted, all_gone, all_sent}
 use Rattle.dataplane.proofs.QueueOrder.{subsequence}
-use Rattle.dataplane.specs.Arrivals.{at_places}
 use Rattle.dataplane.proofs.Arriving.{all_places, each_place, fewer_places, in_turn}
 use Rattle.dataplane.proofs.client_order.from_client_to_client.Goals as goal
 

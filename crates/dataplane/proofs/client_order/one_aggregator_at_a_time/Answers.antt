@@ -1,4 +1,4 @@
-use Rattle.std.proofs.Common.{refl}
+use Rattle.dataplane.proofs.Common.{refl}
 use Rattle.dataplane.proofs.Staying.{kept, sent, behind}
 use Rattle.dataplane.proofs.client_order.one_aggregator_at_a_time.Goals as goal
 

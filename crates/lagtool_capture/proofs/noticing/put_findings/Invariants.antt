@@ -1,5 +1,4 @@
-use Rattle.lagtool_capture.proofs.Common.{List, slice_get, take, ◌++◌, ◌≡◌, ends_of, IsKnown, findings_by}
-use Rattle.findings.specs.declared.slow_frame.SlowFrame.{SlowFrame}
+use Rattle.lagtool_capture.proofs.Common.{List, slice_get, take, ◌++◌, ◌≡◌, SlowFrame, ends_of, IsKnown, findings_by}
 use Rattle.lagtool_capture.proofs.noticing.put_findings.Given as goal
 
 abbrev pub invariant-loop-rule : goal.invariant-loop-rule

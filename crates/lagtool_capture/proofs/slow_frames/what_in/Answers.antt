@@ -1,6 +1,5 @@
-use Rattle.lagtool_capture.proofs.Common.{ap, ◌∙◌}
+use Rattle.lagtool_capture.proofs.Common.{ap, ◌∙◌, what_of}
 use Rattle.lagtool_capture.proofs.ContentLemmas.{content_is}
-use Rattle.lagtool_capture.specs.SlowFrames.{what_of}
 use Rattle.lagtool_capture.proofs.slow_frames.what_in.Goals as goal
 
 pub returns : goal.returns

@@ -1,7 +1,8 @@
 use Rattle.dataplane.proofs.Common.{arith, refl, sym, true, ◌+◌, ◌∙◌, ◌≤◌, false≢true, aggregator_numbered}
 use Rattle.dataplane.proofs.Searched.{none_more}
 use Rattle.dataplane.proofs.active_aggregator.offering.is_elsewhere.Goals as goal
-use Rattle.dataplane.proofs.active_aggregator.offering.is_elsewhere.Goals.{else-other-agg-via-then-other-agg+else-is_busy, else-other-agg-via-else-other-agg}
+use Rattle.dataplane.proofs.active_aggregator.offering.is_elsewhere.Goals.{else-other-agg-via-then-other-agg+else-is_busy}
+use Rattle.dataplane.proofs.active_aggregator.offering.is_elsewhere.Goals.{else-other-agg-via-else-other-agg}
 
 pub returns-then-is_busy : goal.returns-then-is_busy
 returns-then-is_busy g c =

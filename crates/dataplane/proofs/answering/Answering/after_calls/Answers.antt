@@ -1,4 +1,4 @@
-use Rattle.std.proofs.Common.{◌∙◌, sym}
+use Rattle.dataplane.proofs.Common.{sym, ◌∙◌}
 use Rattle.std.proofs.lemmas.Slice.Zip.{either_empty_from_Zip}
 use Rattle.dataplane.proofs.NotedCalls.{no_more}
 use Rattle.dataplane.proofs.answering.Answering.after_calls.Goals as goal

@@ -1,6 +1,4 @@
-use Rattle.std.proofs.Common.{◌≡◌, map}
-use Rattle.lagsystem.specs.Drives.{call_of}
-use Rattle.dataplane.specs.Notes.{notes_after_all}
+use Rattle.dataplane.proofs.Common.{map, ◌≡◌, call_of, notes_after_all}
 use Rattle.dataplane.proofs.answering.Answering.after_calls.Given as goal
 
 abbrev pub invariant-loop-call : goal.invariant-loop-call

@@ -1,5 +1,4 @@
-use Rattle.std.proofs.Common.{◌≡◌, [], replicate}
-use Rattle.circular_buffer.specs.Buffer.{buffer}
+use Rattle.dataplane.proofs.Common.{[], replicate, ◌≡◌, buffer}
 use Rattle.dataplane.proofs.holding.rings.empty_rings.Given as goal
 
 abbrev pub invariant-loop : goal.invariant-loop

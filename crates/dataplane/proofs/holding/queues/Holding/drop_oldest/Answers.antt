@@ -1,4 +1,4 @@
-use Rattle.std.proofs.Common.{refl, ◌∙◌, sym, arith}
+use Rattle.dataplane.proofs.Common.{arith, refl, sym, ◌∙◌}
 use Rattle.dataplane.proofs.QueueViews.{queue_of, queues_set, same_holding, counted_one, counted_none}
 use Rattle.dataplane.proofs.holding.queues.Holding.drop_oldest.Goals as goal
 

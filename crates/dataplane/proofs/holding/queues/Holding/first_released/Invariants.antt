@@ -1,5 +1,4 @@
-use Rattle.std.proofs.Common.{◌≡◌, ℕ, ◌<◌, [], get_or}
-use Rattle.dataplane.specs.Holding.{queue}
+use Rattle.dataplane.proofs.Common.{[], get_or, ℕ, ◌<◌, ◌≡◌, queue}
 use Rattle.dataplane.proofs.holding.queues.Holding.first_released.Given as goal
 
 abbrev pub invariant-loop-place : goal.invariant-loop-place

@@ -1,5 +1,4 @@
-use Rattle.std.proofs.Common.{ap, ◌∙◌, refl}
-use Rattle.dataplane.specs.Holding.{ring_queues}
+use Rattle.dataplane.proofs.Common.{ap, refl, ◌∙◌, ring_queues}
 use Rattle.dataplane.proofs.QueueViews.{queues_empty, same_holding}
 use Rattle.dataplane.proofs.holding.queues.Holding.new.Goals as goal
 

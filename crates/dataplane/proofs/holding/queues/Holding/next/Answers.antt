@@ -1,4 +1,4 @@
-use Rattle.std.proofs.Common.{refl}
+use Rattle.dataplane.proofs.Common.{refl}
 use Rattle.dataplane.proofs.QueueViews.{queue_of, queues_set, same_holding}
 use Rattle.dataplane.proofs.holding.queues.Holding.next.Goals as goal
 

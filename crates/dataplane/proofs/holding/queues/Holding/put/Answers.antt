@@ -1,5 +1,4 @@
-use Rattle.std.proofs.Common.{◌∙◌, sym, arith}
-use Rattle.std.proofs.lemmas.Grind.{common_steps}
+use Rattle.dataplane.proofs.Common.{arith, sym, ◌∙◌, common_steps}
 use Rattle.dataplane.proofs.QueueViews.{put_waits, put_refuses, put_keeps, room_in_all, in_all_of}
 use Rattle.dataplane.proofs.holding.queues.Holding.put.Goals as goal
 
