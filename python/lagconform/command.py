@@ -146,9 +146,13 @@ def stand(given: argparse.Namespace) -> Bench:
     except PermissionError as why:
         raise Refused("packet sockets want CAP_NET_RAW: run it as root, or with that capability") from why
     b = Bench(wire, Command(given.hook) if given.hook else None, given.slack, given.seed, given.flap)
-    if given.hook:
-        prepare_device(given, b)
-    meet(b)
+    try:
+        if given.hook:
+            prepare_device(given, b)
+        meet(b)
+    except BaseException:
+        b.close()
+        raise
     return b
 
 
