@@ -31,6 +31,7 @@ pub use Rattle.slowpdu.specs.declared.pdu.MarkerKind.TheVariants.{Information, R
 pub use Rattle.slowpdu.specs.declared.pdu.Pdu.{Pdu}
 pub use Rattle.slowpdu.specs.Frames.{frame_octets}
 pub use Rattle.slowpdu.specs.Parties.{party_of}
+pub use Rattle.slowpdu.specs.Readings.{pdu_in}
 pub use Rattle.slowpdu.proofs.LayoutLemmas.{all-append}
 pub use Rattle.slowpdu.proofs.PduLemmas.{no_fault, one_pdu, written_pdu}
 pub use Rattle.lagmodel.specs.World.{Ends, IsCabling, One, Side, Two, WorldSetup, end_at, peer}
@@ -110,8 +111,8 @@ pub use Rattle.lagworld.specs.declared.reply.Reply.{Reply}
 pub use Rattle.lagworld.specs.Agreement.{agreement_at, agreement_of, end_facts, first_agreement, is_stamp, same_groups}
 pub use Rattle.lagworld.specs.Events.{AfterOffer, AfterReceive, AfterTransmit, Algorithms, DeliversFrom, InHalf, OnLink, WorldEmits, WorldOffers}
 pub use Rattle.lagworld.specs.Events.{WorldReceives, WorldRuns, WorldSteps, cause, cause_or_no_memory, first_event_cause, has_cable, may_take_memory}
-pub use Rattle.lagworld.specs.Events.{most_events, offered_item, set_last_lacpdu, side_of, stamp_for, stamped_in, with_frame_counted, with_link_at}
-pub use Rattle.lagworld.specs.Events.{with_stamp_collected}
+pub use Rattle.lagworld.specs.Events.{most_events, offered_item, sent_reply, set_last_lacpdu, side_of, stamp_for, stamped_in, with_frame_counted}
+pub use Rattle.lagworld.specs.Events.{with_link_at, with_stamp_collected}
 pub use Rattle.lagworld.specs.HalfCalls.{HalfAnswers, HalfTicks, forced_if_accepted, set_taken}
 pub use Rattle.lagworld.specs.Making.{AreFirst}
 pub use Rattle.lagworld.specs.Messages.{payload_in, stamp_count}
@@ -153,7 +154,7 @@ pub use Rattle.lagprogress.specs.Limited.{EachReachedHasDownUnselected, EndsAgre
 pub use Rattle.lagprogress.specs.Passing.{DeliverProcessesLacpdu, EmitSendsLacpdu, EndIsUp, IsHeardOn, IsSentOn}
 pub use Rattle.lagprogress.specs.Played.{Delivers, EachAgrees, EachDistributes, HasTooManyCables, IsOutOfMemoryOrSpent, IsReached, IsReady, LeadsTo}
 pub use Rattle.lagprogress.specs.Played.{NamesNoCable, NothingStaysHeld, PlaysPart, RefusesDelivery, RunsAll, RunsPart, found_nothing}
-pub use Rattle.lagprogress.specs.PlayedByHosts.{AsksEnds, AsksPort, PlaysBetween, StopsBetween, StopsInHostRound}
+pub use Rattle.lagprogress.specs.PlayedByHosts.{AsksEnds, AsksInVain, AsksPort, PlaysBetween, StopsBetween, StopsInHostRound, sent_nothing}
 pub use Rattle.lagprogress.specs.Progress.{ActiveEndsComeToKnow, EndKnows, EndsComeToKnow, Knows}
 pub use Rattle.lagprogress.specs.Rounds.{AtEnd, IsDeliver, IsHealthy, IsHealthyAt, IsRound, NothingInFlight, OfPort, Rounds, asks_all, asks_ends}
 pub use Rattle.lagprogress.specs.Rounds.{freed_if_both_active, freed_if_one_is, ticks_of_both, up_if_both_active, up_if_one_is}

@@ -20,7 +20,7 @@ use Rattle.lagprogress.proofs.OnePort.{AtPort}
 use Rattle.lagprogress.proofs.TableSteps.{Turning, Turns, asks_turn, comes_turn, same_turns, ticks_turn, turns_through}
 use Rattle.lagprogress.proofs.OneRound.{Nothing}
 use Rattle.lagprogress.proofs.HostRound.{left}
-use Rattle.lagprogress.proofs.HostLoops.{rounds_are_host_rounds, rounds_are_draining}
+use Rattle.lagprogress.proofs.HostLoops.{draining_are_host, rounds_are_host_rounds, rounds_are_draining}
 use Rattle.lagscript.specs.declared.event.Event.TheVariants as event
 use Rattle.lagprogress.proofs.Lasting.{as_before, still_heard}
 
@@ -244,10 +244,6 @@ none_is_held_where_active gives n old new s b carriers enough h left = nothing_h
     (λ i l y. none_is_held_on_active_ends gives n i l old new s b y enough h left)
 
 -- so it is by rounds of hosts
-
-draining_are_host : (gives : Algorithms) (n : ℕ) (old new : WorldState) → DrainingRounds gives n old new → HostRounds gives n old new
-draining_are_host gives zero old new h = h
-draining_are_host gives (suc n) old new h = (h.0, draining_are_host gives n old h.0 h.1, h.2.round)
 
 hosts_then : (gives : Algorithms) (n m : ℕ) (old mid new : WorldState) → HostRounds gives n old mid → HostRounds gives m mid new
     → (k : ℕ) × HostRounds gives k old new

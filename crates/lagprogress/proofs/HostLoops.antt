@@ -1,14 +1,16 @@
 -- Which runs are healthy rounds of hosts.
 use Rattle.lagprogress.proofs.Common.{Bool, Err, List, None, Ok, Option, Result, Some, [], ap, append_assoc, arith, cond, eqb, false, inl, inr, ltb}
-use Rattle.lagprogress.proofs.Common.{refl, slice_get, subst, suc, sym, true, zero, ℕ, ◌++◌, ◌+◌, ◌∙◌, ◌∷◌, ◌≡◌, cases_Bool, nat_tests, none-some}
-use Rattle.lagprogress.proofs.Common.{same_Some, AllByRecursion, all-append, One, Side, Two, peer, Machines, after_sending, is_due, Assignment}
-use Rattle.lagprogress.proofs.Common.{Flushing, Wanted, after_mark, marker_due, wants_marker, Table, assignment_of, count_conversations}
-use Rattle.lagprogress.proofs.Common.{next_identifier, SystemFault, SystemPort, Step, Transmit, SendsMarkerOf, TransmitsAt, TransmitsIf, SystemState}
-use Rattle.lagprogress.proofs.Common.{machines_of, port_index, all-get, found_place, ports_rise, Event, Reply, Algorithms, WorldRuns, WorldSteps}
-use Rattle.lagprogress.proofs.Common.{side_of, LinkState, WorldState, half, port_at, DrainingRounds, MovesNone, NothingIsDue, RoundIsDraining}
-use Rattle.lagprogress.proofs.Common.{AfterTick, AskingIsHostRound, Asks, AsksAfterTick, AsksIn, AtSomeWorld, IsBetweenTicks, IsTickOf}
-use Rattle.lagprogress.proofs.Common.{LoopIsHostRound, RoundIsHostRound, RoundsAreHostRounds, TickOnce, AtEnd, IsDeliver, IsHealthyAt, OfPort, Rounds}
-use Rattle.lagprogress.proofs.Common.{asks_all, ticks_of_both, IsSteady}
+use Rattle.lagprogress.proofs.Common.{refl, slice_get, subst, suc, sym, true, zero, ℕ, ◌++◌, ◌+◌, ◌∙◌, ◌∷◌, ◌≡◌, cases_Bool, false≢true, nat_tests}
+use Rattle.lagprogress.proofs.Common.{none-some, same_Some, AllByRecursion, Pdu, pdu_in, all-append, One, Side, Two, peer, value_of, Machines}
+use Rattle.lagprogress.proofs.Common.{after_sending, is_due, Assignment, Flushing, Wanted, after_mark, marker_due, wants_marker, Table, assignment_of}
+use Rattle.lagprogress.proofs.Common.{count_conversations, next_identifier, SystemFault, SystemPort, Step, Transmit, SendsMarkerOf, TransmitsAt}
+use Rattle.lagprogress.proofs.Common.{TransmitsIf, SystemState, machines_of, port_index, all-get, found_place, ports_rise, Event, Reply}
+use Rattle.lagprogress.proofs.Common.{AfterTransmit, Algorithms, WorldEmits, WorldRuns, WorldSteps, sent_reply, side_of, payload_in, HalfState}
+use Rattle.lagprogress.proofs.Common.{LinkState, WorldState, half, is_accepted, port_at, with_half, half_there, DrainingRounds, IsDrainingRound}
+use Rattle.lagprogress.proofs.Common.{MovesNone, NothingIsDue, RoundIsDraining, AfterTick, AskingIsHostRound, Asks, AsksAfterTick, AsksIn}
+use Rattle.lagprogress.proofs.Common.{AtSomeWorld, HostRounds, IsBetweenTicks, IsTickOf, LoopIsHostRound, RoundIsHostRound, RoundsAreHostRounds}
+use Rattle.lagprogress.proofs.Common.{TickOnce, AsksInVain, sent_nothing, AtEnd, IsDeliver, IsHealthyAt, NothingInFlight, OfPort, Rounds, asks_all}
+use Rattle.lagprogress.proofs.Common.{ticks_of_both, IsSteady}
 use Rattle.distributor.specs.Conversations.{sum_below}
 use Rattle.lagprogress.proofs.EachPort.{OfEach, Tick-each}
 use Rattle.lagprogress.proofs.EachRound.{EachAt, asks_each, delivers_each, own_keeps, own_ticks, hosts_steady}
@@ -24,6 +26,7 @@ use Rattle.lagprogress.proofs.Quieting.{quiet_ports}
 use Rattle.lagsystem.specs.declared.drive.Reply.TheVariants as answer
 use Rattle.lagscript.specs.declared.event.Event.TheVariants as event
 use Rattle.lagprogress.proofs.Lasting.{ends_at}
+use Rattle.slowpdu.specs.declared.pdu.Pdu.TheVariants as pdu
 
 -- once a port whose link is up has been asked, it has no LACPDU due
 
@@ -170,6 +173,57 @@ module _ (gives : Algorithms) (s : Side) (p : ℕ) where
       let not : is_due z.0.port ≡ false = subst (OfPort (λ q. is_due q ≡ false)) (machines_there p st x.index z.0 x.place z.1) none in
       (asked e r i j (n, named, is) h x, asked_marks (gives s) p x.index z.0 k.a st (half s j).state x.place z.1 up not k.promise.step)
 
+  -- where nothing is sent, nothing is due
+
+  by_due : (up : Bool) (due : Bool) (k : ℕ) (z : SystemPort) (old new : SystemState) → up ≡ true → TransmitsIf up due k z old None new
+      → (due ≡ false) × (marker_due old.table z.number ≡ None) × (new ≡ old)
+  by_due up true k z old new e h =
+      let sent = subst (λ b. TransmitsIf b true k z old None new) e h in absurd (none-some sent.0 sent.2)
+  by_due up false k z old new e h =
+      by_marker (marker_due old.table z.number) refl (subst (λ b. TransmitsIf b false k z old None new) e h)
+    where
+      by_marker : (x : Option ℕ) → marker_due old.table z.number ≡ x → SendsMarkerOf x z.number z.mac old None new
+          → (false ≡ false) × (marker_due old.table z.number ≡ None) × (new ≡ old)
+      by_marker None m y = (refl, m, y.1)
+      by_marker (Some id) m y = absurd (none-some _ y.3)
+
+  own_left : (t : Side) (mid : HalfState) (j : WorldState) → (half t (with_half t mid j)).state ≡ mid.state
+  own_left t mid j = ap (λ (k : HalfState). k.state) (half_there t mid j)
+
+  no_reply : (v : Pdu) (b : Bool) → sent_nothing (sent_reply v b) ≡ false
+  no_reply (pdu.Lacpdu v) b = refl
+  no_reply (pdu.Marker m) b = refl
+
+  vain_by : (a : Result (Option (List ℕ)) SystemFault) (mid : HalfState) (r : Reply) (i j : WorldState)
+      → Step (gives s) (half s i).state (Transmit p) (answer.Transmit a) mid.state
+      → AfterTransmit s p a (with_half s mid i) r (record j { acted = i.acted }) → sent_nothing r ≡ true → Stays i → Drained j
+  vain_by (Err fault) mid r i j h after vain x = absurd (none-some x.index (sym h.cause ∙ x.place))
+  vain_by (Ok (Some frame)) mid r i j h after vain x =
+      absurd (false≢true (sym (no_reply (pdu_in (payload_in frame)) (is_accepted s p (with_half s mid i).links)) ∙ (ap sent_nothing (sym after.0) ∙ vain)))
+  vain_by (Ok None) mid r i j h after vain x =
+      let st = (half s i).state in
+      let z = found p x.index st.system_ports x.place in
+      let number = found_place p st.system_ports x.index z.0 x.place z.1 in
+      let up = all-get (λ (y : SystemPort). AtPort p Up y.number y.port) st.system_ports x.index z.0 z.1 x.up number in
+      let t = subst (λ k. TransmitsAt k st None mid.state) x.place h in
+      let is : t.0 ≡ z.0 = same_Some t.0 z.0 (sym t.1 ∙ z.1) in
+      let d = by_due t.0.port.enabled (is_due t.0.port) x.index t.0 st mid.state (ap (λ (y : SystemPort). y.port.enabled) is ∙ up) t.2 in
+      let now : (half s j).state ≡ st = ap (λ (w : WorldState). (half s w).state) after.1 ∙ (own_left s mid i ∙ d.2) in
+      let due : is_due z.0.port ≡ false = subst (λ (y : SystemPort). is_due y.port ≡ false) is d.0 in (
+        subst (λ (y : SystemState). OfPort (λ q. is_due q ≡ false) (machines_of p y)) (sym now)
+            (subst (OfPort (λ q. is_due q ≡ false)) (sym (machines_there p st x.index z.0 x.place z.1)) due),
+        ap (λ (y : SystemState). marker_due y.table p) now
+            ∙ (ap (marker_due st.table) (sym number ∙ ap (λ (y : SystemPort). y.number) (sym is)) ∙ d.1),
+      )
+
+  vain_now : (e : Event) (r : Reply) (i j : WorldState) → Asks s p e → sent_nothing r ≡ true → WorldSteps gives i e r j → Stays i → Drained j
+  vain_now e r i j (n, named, is) vain h x =
+      let step = subst (λ f. WorldSteps gives i f r j) is h in
+      let v = value_of (side_of n) _ step.0 in
+      let same : v.0 ≡ s = same_Some v.0 s (sym v.1 ∙ named) in
+      let w = subst (λ t. WorldEmits gives t p i r (record j { acted = i.acted })) same v.2 in
+      vain_by w.0 w.1 r i j w.2.answers.step w.3 vain x
+
   at_first : (P : WorldState → Type 0) (es : List Event) (rs : List Reply) (i j : WorldState) (run : WorldRuns gives i es rs j) → P i
       → AtSomeWorld P gives es rs i j run
   at_first P [] [] i j run y = y
@@ -192,6 +246,15 @@ module _ (gives : Algorithms) (s : Side) (p : ℕ) where
       inl (q.0, some_on es rs run.0 j o.0 o.1 o.2 run.2 q.1 (stays a b e es r i run.0 h run.1 x))
   after_on (e ∷ es) (r ∷ rs) i j a b h run (inr q) x = let o = rest_of a b e es h in
       inr (after_on es rs run.0 j o.0 o.1 o.2 run.2 q (stays a b e es r i run.0 h run.1 x))
+
+  -- if it is asked until it sends nothing
+  vain_on : (es : List Event) (rs : List Reply) (i j : WorldState) (a b : Bool) → TickOnce s a b es → (run : WorldRuns gives i es rs j)
+      → AsksInVain s p es rs → Stays i → AtSomeWorld Drained gives es rs i j run
+  vain_on [] rs i j a b h run q x = absurd q
+  vain_on (e ∷ es) [] i j a b h run q x = absurd q
+  vain_on (e ∷ es) (r ∷ rs) i j a b h run (inl q) x = inr (at_first Drained es rs run.0 j run.2 (vain_now e r i run.0 q.0 q.1 run.1 x))
+  vain_on (e ∷ es) (r ∷ rs) i j a b h run (inr q) x =
+      let o = rest_of a b e es h in inr (vain_on es rs run.0 j o.0 o.1 o.2 run.2 q (stays a b e es r i run.0 h run.1 x))
 
   -- if it is asked twice in turn
   twice_on : (n : ℕ) → side_of n ≡ Some s → (before later : List Event) (rs : List Reply) (i j : WorldState) (a b : Bool)
@@ -379,6 +442,57 @@ rounds_are_draining gives (suc n) old new steady h =
     let before = rounds_are_host_rounds gives n old h.0 steady h.1 in
     (h.0, rounds_are_draining gives n old h.0 steady h.1, round_is_draining gives h.0 new (hosts_steady gives n old h.0 steady before) h.2)
 
+-- so is a round in which both systems tick, and then each end is asked until it sends nothing
+
+all_between : (es : List Event) → AllByRecursion IsBetweenTicks es → TickOnce One false false es
+all_between [] h = (refl, refl)
+all_between (e ∷ es) h = inr (inr (h.0, all_between es h.1))
+
+pub both_tick : (es : List Event) → AllByRecursion IsBetweenTicks es → TickOnce One true true (ticks_of_both ++ es)
+both_tick es h = inl ((1, refl, refl), refl, inr (inl ((2, refl, refl), refl, all_between es h)))
+
+pub ticks_then_drains : (gives : Algorithms) (old ticked new : WorldState) (ts : List Reply) (es : List Event) (rs : List Reply) → IsSteady old
+    → WorldRuns gives old ticks_of_both ts ticked → WorldRuns gives ticked es rs new → AllByRecursion IsBetweenTicks es
+    → AllByRecursion MovesNone es
+    → ((s : Side) (i : ℕ) (l : LinkState) → IsHealthyAt i l old → AsksInVain s (port_at s l) es rs) → NothingInFlight new
+    → IsDrainingRound gives old new
+ticks_then_drains gives old ticked new [] es rs steady t run between still asks empty = absurd t
+ticks_then_drains gives old ticked new (r ∷ []) es rs steady t run between still asks empty = absurd t.2
+ticks_then_drains gives old ticked new (r ∷ q ∷ []) es rs steady t run between still asks empty = record {
+  round = record {
+    events = ticks_of_both ++ es;
+    replies = r ∷ q ∷ rs;
+    ticks = both_tick es between;
+    acts = acts;
+    asked = λ s i l y. after_map s (NothingIsDue s l) (λ j. AtEnd (λ p. is_due p ≡ false) s l j) gives (λ j z. z.0)
+        (ticks_of_both ++ es) (r ∷ q ∷ rs) old new acts (drained s i l y);
+    empties = empty;
+  };
+  still = (tt, (tt, still));
+  drained = drained;
+}
+  where
+    tail : WorldRuns gives t.2.0 es rs new
+    tail = subst (λ j. WorldRuns gives j es rs new) t.2.2 run
+
+    acts : WorldRuns gives old (ticks_of_both ++ es) (r ∷ q ∷ rs) new
+    acts = (t.0, t.1, (t.2.0, t.2.1, tail))
+
+    drained : (s : Side) (i : ℕ) (l : LinkState) → IsHealthyAt i l old
+        → AfterTick s (NothingIsDue s l) gives (ticks_of_both ++ es) (r ∷ q ∷ rs) old new acts
+    drained s i l y =
+        let turns = of_side s (ticks_of_both ++ es) (both_tick es between) in
+        let first = stays gives s (port_at s l) true true (event.Tick 1 1) (event.Tick 2 1 ∷ es) r old t.0 turns t.1 (stays_first gives s i l old steady y) in
+        let more = rest_of gives s (port_at s l) true true (event.Tick 1 1) (event.Tick 2 1 ∷ es) turns in
+        let second = stays gives s (port_at s l) more.0 more.1 (event.Tick 2 1) es q t.0 t.2.0 more.2 t.2.1 first in
+        by_side s (vain_on gives s (port_at s l) es rs t.2.0 new false false (of_side_after s es (all_between es between)) tail (asks s i l y) second)
+      where
+        by_side : (s : Side) → AtSomeWorld (NothingIsDue s l) gives es rs t.2.0 new tail
+            → AfterTick s (NothingIsDue s l) gives (ticks_of_both ++ es) (r ∷ q ∷ rs) old new acts
+        by_side One z = inl ((1, refl, refl), inr z)
+        by_side Two z = inr (inl ((2, refl, refl), z))
+ticks_then_drains gives old ticked new (r ∷ q ∷ x ∷ ts) es rs steady t run between still asks empty = absurd t.2.2
+
 -- the loop of two hosts is one
 
 between_then : (es fs : List Event) (a b : Bool) → AllByRecursion IsBetweenTicks es → TickOnce One a b fs → TickOnce One a b (es ++ fs)
@@ -435,3 +549,9 @@ loop_is_host_round gives old new steady h = asking_is_host_round gives (event.Ti
               (subst (λ n. AsksIn Two n h.second) (found_place (port_at Two l) old.two.state.system_ports e.0 e.1 e.2 e.3) (h.asks_two e.0 e.1 e.3)),
         ))))
         s
+
+-- draining rounds are rounds of hosts
+
+pub draining_are_host : (gives : Algorithms) (n : ℕ) (old new : WorldState) → DrainingRounds gives n old new → HostRounds gives n old new
+draining_are_host gives zero old new h = h
+draining_are_host gives (suc n) old new h = (h.0, draining_are_host gives n old h.0 h.1, h.2.round)

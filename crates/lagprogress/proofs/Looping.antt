@@ -1,21 +1,21 @@
 -- Healthy rounds of hosts that are played.
 use Rattle.lagprogress.proofs.Common.{List, None, Option, Some, [], ap, arith, false, inl, inr, is_some, length, option_map, refl, slice_get, subst}
 use Rattle.lagprogress.proofs.Common.{suc, sym, true, ℕ, ◌++◌, ◌+◌, ◌<◌, ◌∙◌, ◌∷◌, ◌≡◌, ◌≤◌, false≢true, same_Some, slice_get_within, AllByRecursion}
-use Rattle.lagprogress.proofs.Common.{all-append, One, Side, Two, WorldSetup, end_at, Event, WorldFault, Reply, Algorithms, WorldSteps, cause}
-use Rattle.lagprogress.proofs.Common.{cause_or_no_memory, world_setup, ends_of_cable, ports_joined, LinkState, WorldState, port_at, end_is}
-use Rattle.lagprogress.proofs.Common.{AsksAfterTick, AsksIn, HostRounds, IsBetweenTicks, IsHostRound, IsTickOf, TickOnce, Delivers, RefusesDelivery}
-use Rattle.lagprogress.proofs.Common.{RunsAll, RunsPart, AsksEnds, AsksPort, PlaysBetween, StopsBetween, StopsInHostRound, IsDeliver, IsHealthyAt}
-use Rattle.lagprogress.proofs.Common.{NothingInFlight, ticks_of_both, IsSteady}
+use Rattle.lagprogress.proofs.Common.{all-append, One, Side, Two, WorldSetup, end_at, Event, WorldFault, Reply, Algorithms, WorldRuns, WorldSteps}
+use Rattle.lagprogress.proofs.Common.{cause, cause_or_no_memory, world_setup, ends_of_cable, ports_joined, LinkState, WorldState, port_at, end_is}
+use Rattle.lagprogress.proofs.Common.{DrainingRounds, IsDrainingRound, MovesNone, AsksAfterTick, AsksIn, HostRounds, IsBetweenTicks, IsHostRound}
+use Rattle.lagprogress.proofs.Common.{IsTickOf, TickOnce, Delivers, RefusesDelivery, RunsAll, RunsPart, AsksEnds, AsksInVain, AsksPort, PlaysBetween}
+use Rattle.lagprogress.proofs.Common.{StopsBetween, StopsInHostRound, sent_nothing, IsDeliver, IsHealthyAt, NothingInFlight, ticks_of_both, IsSteady}
 use Rattle.lagprogress.proofs.EachRound.{hosts_steady}
-use Rattle.lagprogress.proofs.HostLoops.{asking_is_host_round, asks_before, asks_behind}
 use Rattle.lagprogress.proofs.Linked.{each_side}
 use Rattle.lagprogress.proofs.Played.{as_many, some_within, below_or_same, cable_at, runs_append, runs_both}
 use Rattle.lagscript.specs.declared.event.Event.TheVariants as event
+use Rattle.lagprogress.proofs.HostLoops.{ticks_then_drains, both_tick, draining_are_host}
 
 -- events between ticks
 
 pub plays_nothing : (gives : Algorithms) (j : WorldState) → PlaysBetween gives j j
-plays_nothing gives j = record { events = []; replies = []; between = tt; acts = refl }
+plays_nothing gives j = record { events = []; replies = []; between = tt; still = tt; acts = refl }
 
 pub plays_both : (gives : Algorithms) (old mid new : WorldState) → PlaysBetween gives old mid → PlaysBetween gives mid new
     → PlaysBetween gives old new
@@ -23,6 +23,7 @@ plays_both gives old mid new a b = record {
   events = a.events ++ b.events;
   replies = a.replies ++ b.replies;
   between = all-append IsBetweenTicks a.events b.events a.between b.between;
+  still = all-append MovesNone a.events b.events a.still b.still;
   acts = runs_append gives a.events b.events a.replies b.replies old mid new a.acts b.acts;
 }
 
@@ -31,22 +32,50 @@ delivers_between [] h = tt
 delivers_between (event.Deliver c n ∷ es) h = (tt, delivers_between es h.1)
 delivers_between (e ∷ es) h = absurd h.0
 
+delivers_still : (es : List Event) → AllByRecursion IsDeliver es → AllByRecursion MovesNone es
+delivers_still [] h = tt
+delivers_still (event.Deliver c n ∷ es) h = (tt, delivers_still es h.1)
+delivers_still (e ∷ es) h = absurd h.0
+
 pub plays_delivers : (gives : Algorithms) (old new : WorldState) → Delivers gives old new → PlaysBetween gives old new
 plays_delivers gives old new d = record {
   events = d.delivers;
   replies = d.acts.replies;
   between = delivers_between d.delivers d.arrives;
+  still = delivers_still d.delivers d.arrives;
   acts = d.acts.acts;
 }
 
 -- a port is asked once more
+
+asked_once : (gives : Algorithms) (number p : ℕ) (r : Reply) (mid new : WorldState) → WorldSteps gives mid (event.Emit number p) r new
+    → PlaysBetween gives mid new
+asked_once gives number p r mid new x =
+    record { events = event.Emit number p ∷ []; replies = r ∷ []; between = (tt, tt); still = (tt, tt); acts = (new, x, refl) }
+
+pub asks_more : (gives : Algorithms) (number p : ℕ) (r : Reply) (old mid new : WorldState) → PlaysBetween gives old mid
+    → WorldSteps gives mid (event.Emit number p) r new → PlaysBetween gives old new
+asks_more gives number p r old mid new a x = plays_both gives old mid new a (asked_once gives number p r mid new x)
+
+vain_behind : (gives : Algorithms) (s : Side) (p : ℕ) (es fs : List Event) (rs qs : List Reply) (i j : WorldState) → WorldRuns gives i es rs j
+    → AsksInVain s p fs qs → AsksInVain s p (es ++ fs) (rs ++ qs)
+vain_behind gives s p [] fs [] qs i j run h = h
+vain_behind gives s p (e ∷ es) fs (r ∷ rs) qs i j run h = inr (vain_behind gives s p es fs rs qs run.0 j run.2 h)
+vain_behind gives s p es fs rs qs i j run h = absurd run
+
+vain_before : (s : Side) (p : ℕ) (es fs : List Event) (rs qs : List Reply) → AsksInVain s p es rs → AsksInVain s p (es ++ fs) (rs ++ qs)
+vain_before s p [] fs rs qs h = absurd h
+vain_before s p (e ∷ es) fs [] qs h = absurd h
+vain_before s p (e ∷ es) fs (r ∷ rs) qs (inl h) = inl h
+vain_before s p (e ∷ es) fs (r ∷ rs) qs (inr h) = inr (vain_before s p es fs rs qs h)
+
+-- and sends nothing
 pub asks_port : (gives : Algorithms) (number p : ℕ) (r : Reply) (old mid new : WorldState) → PlaysBetween gives old mid
-    → WorldSteps gives mid (event.Emit number p) r new → AsksPort gives number p old new
-unfolding plays_both
-asks_port gives number p r old mid new a x = record {
-  played = plays_both gives old mid new a
-      (record { events = event.Emit number p ∷ []; replies = r ∷ []; between = (tt, tt); acts = (new, x, refl) });
-  asks = λ s named. asks_behind s p a.events (event.Emit number p ∷ []) (inl (number, named, refl));
+    → WorldSteps gives mid (event.Emit number p) r new → sent_nothing r ≡ true → AsksPort gives number p old new
+unfolding plays_both asked_once
+asks_port gives number p r old mid new a x vain = record {
+  played = plays_both gives old mid new a (asked_once gives number p r mid new x);
+  asks = λ s named. vain_behind gives s p a.events (event.Emit number p ∷ []) a.replies (r ∷ []) old mid a.acts (inl ((number, named, refl), vain));
 }
 
 -- one event more is refused
@@ -91,9 +120,9 @@ unfolding plays_both
 asks_one_more gives n one two old mid between new a fixed h b c = record {
   played = plays_both gives old mid new a.played (plays_both gives mid between new b.played c.played);
   asks = λ s i p l e. elim (below_or_same i n l) [
-    | inl less ↦ asks_before s p a.played.events later (a.asks s i p less e)
-    | inr same ↦ asks_behind s p a.played.events later
-        (each_side (λ t. (q : ℕ) → end_at (world_setup old).cables t (suc n) ≡ Some q → AsksIn t q later) One first second s p
+    | inl less ↦ vain_before s p a.played.events later a.played.replies replies (a.asks s i p less e)
+    | inr same ↦ vain_behind gives s p a.played.events later a.played.replies replies old mid a.played.acts
+        (each_side (λ t. (q : ℕ) → end_at (world_setup old).cables t (suc n) ≡ Some q → AsksInVain t q later replies) One first second s p
         (subst (λ k. end_at (world_setup old).cables s (suc k) ≡ Some p) same e))
   ];
 }
@@ -101,17 +130,22 @@ asks_one_more gives n one two old mid between new a fixed h b c = record {
     later : List Event
     later = b.played.events ++ c.played.events
 
-    first : (q : ℕ) → end_at (world_setup old).cables One (suc n) ≡ Some q → AsksIn One q later
+    replies : List Reply
+    replies = b.played.replies ++ c.played.replies
+
+    first : (q : ℕ) → end_at (world_setup old).cables One (suc n) ≡ Some q → AsksInVain One q later replies
     first q e =
         let k = cable_at n one two old mid fixed h in
         let at : one ≡ q = sym (ap first_port k.2) ∙ same_Some k.0.one q (sym (end_is One old.links n k.0 k.1) ∙ e) in
-        subst (λ m. AsksIn One m later) at (asks_before One one b.played.events c.played.events (b.asks One refl))
+        subst (λ m. AsksInVain One m later replies) at (vain_before One one b.played.events c.played.events b.played.replies c.played.replies
+        (b.asks One refl))
 
-    second : (q : ℕ) → end_at (world_setup old).cables Two (suc n) ≡ Some q → AsksIn Two q later
+    second : (q : ℕ) → end_at (world_setup old).cables Two (suc n) ≡ Some q → AsksInVain Two q later replies
     second q e =
         let k = cable_at n one two old mid fixed h in
         let at : two ≡ q = sym (ap third_port k.2) ∙ same_Some k.0.two q (sym (end_is Two old.links n k.0 k.1) ∙ e) in
-        subst (λ m. AsksIn Two m later) at (asks_behind Two two b.played.events c.played.events (c.asks Two refl))
+        subst (λ m. AsksInVain Two m later replies) at (vain_behind gives Two two b.played.events c.played.events b.played.replies c.played.replies
+        mid between b.played.acts (c.asks Two refl))
 
 -- so they are, whatever the count is
 pub asks_all_ends : (gives : Algorithms) (m n : ℕ) (old new : WorldState) → m ≤ n → n ≤ m → AsksEnds gives m old new → AsksEnds gives n old new
@@ -140,41 +174,17 @@ stops_second gives n one fault old mid between new a b c =
 
 -- a round
 
-one_ticks : IsTickOf One (event.Tick 1 1)
-one_ticks = (1, refl, refl)
-
-two_ticks : IsTickOf Two (event.Tick 2 1)
-two_ticks = (2, refl, refl)
-
-all_between : (es : List Event) → AllByRecursion IsBetweenTicks es → TickOnce One false false es
-all_between [] h = (refl, refl)
-all_between (e ∷ es) h = inr (inr (h.0, all_between es h.1))
-
-both_tick : (es : List Event) → AllByRecursion IsBetweenTicks es → TickOnce One true true (ticks_of_both ++ es)
-both_tick es h = inl (one_ticks, refl, inr (inl (two_ticks, refl, all_between es h)))
-
-pub host_round_played : (gives : Algorithms) (n : ℕ) (old ticked asked new : WorldState) → world_setup ticked ≡ world_setup old
+pub host_round_drains : (gives : Algorithms) (n : ℕ) (old ticked asked new : WorldState) → world_setup ticked ≡ world_setup old
     → length old.links ≤ n → RunsAll gives ticks_of_both old ticked → AsksEnds gives n ticked asked → PlaysBetween gives asked new
-    → NothingInFlight new → IsSteady old → IsHostRound gives old new
-host_round_played gives n old ticked asked new fixed all t a b empty steady =
-    asking_is_host_round gives (ticks_of_both ++ (a.played.events ++ b.events)) runs.replies old new steady
-    (both_tick (a.played.events ++ b.events) (all-append IsBetweenTicks a.played.events b.events a.played.between b.between)) runs.acts asks empty
-  where
-    runs : RunsAll gives (ticks_of_both ++ (a.played.events ++ b.events)) old new
-    runs = runs_both gives ticks_of_both (a.played.events ++ b.events) old ticked new t (record {
-      replies = a.played.replies ++ b.replies;
-      acts = runs_append gives a.played.events b.events a.played.replies b.replies ticked asked new a.played.acts b.acts;
-    })
-
-    there : (i : ℕ) (l : LinkState) → IsHealthyAt i l old → (s : Side) → AsksIn s (port_at s l) (a.played.events ++ b.events)
-    there i l h s = asks_before s (port_at s l) a.played.events b.events (a.asks s i (port_at s l)
-        (let within = slice_get_within old.links i l h.there in omega (arith, all, within))
-        (ap (λ (x : WorldSetup). end_at x.cables s (suc i)) fixed ∙ end_is s old.links i l h.there))
-
-    asks : (s : Side) (i : ℕ) (l : LinkState) → IsHealthyAt i l old
-        → AsksAfterTick s (port_at s l) (ticks_of_both ++ (a.played.events ++ b.events))
-    asks s i l h = each_side (λ t. AsksAfterTick t (port_at t l) (ticks_of_both ++ (a.played.events ++ b.events))) One
-        (inl (one_ticks, inr (there i l h One))) (inr (inl (two_ticks, there i l h Two))) s
+    → NothingInFlight new → IsSteady old → IsDrainingRound gives old new
+host_round_drains gives n old ticked asked new fixed all t a b empty steady =
+    ticks_then_drains gives old ticked new t.replies (a.played.events ++ b.events) (a.played.replies ++ b.replies) steady t.acts
+    (runs_append gives a.played.events b.events a.played.replies b.replies ticked asked new a.played.acts b.acts)
+    (all-append IsBetweenTicks a.played.events b.events a.played.between b.between)
+    (all-append MovesNone a.played.events b.events a.played.still b.still)
+    (λ s i l h. vain_before s (port_at s l) a.played.events b.events a.played.replies b.replies (a.asks s i (port_at s l)
+    (let within = slice_get_within old.links i l h.there in omega (arith, all, within))
+    (ap (λ (x : WorldSetup). end_at x.cables s (suc i)) fixed ∙ end_is s old.links i l h.there))) empty
 
 -- it is refused
 
@@ -203,8 +213,9 @@ stops_after_ticks gives fault old ticked new t b = record {
 
 -- rounds
 
-pub one_host_round_more : (gives : Algorithms) (n : ℕ) (old mid new : WorldState) → (IsSteady old → HostRounds gives n old mid)
-    → (IsSteady mid → IsHostRound gives mid new) → IsSteady old → HostRounds gives (n + 1) old new
-one_host_round_more gives n old mid new h x steady =
+pub one_draining_round_more : (gives : Algorithms) (n : ℕ) (old mid new : WorldState) → (IsSteady old → DrainingRounds gives n old mid)
+    → (IsSteady mid → IsDrainingRound gives mid new) → IsSteady old → DrainingRounds gives (n + 1) old new
+one_draining_round_more gives n old mid new h x steady =
     let e : suc n ≡ n + 1 = omega arith in
-    subst (λ k. HostRounds gives k old new) e (mid, h steady, x (hosts_steady gives n old mid steady (h steady)))
+    subst (λ k. DrainingRounds gives k old new) e
+    (mid, h steady, x (hosts_steady gives n old mid steady (draining_are_host gives n old mid (h steady))))

@@ -1,8 +1,9 @@
 -- A world that events lead to from one that was made is a bundle, if its links are up as it wants them.
-use Rattle.lagprogress.proofs.Common.{Bool, List, None, Option, Some, [], ap, false, if◌then◌else◌, map, refl, sym, true, ℕ, ◌∙◌, ◌∷◌, ◌≡◌, none-some}
-use Rattle.lagprogress.proofs.Common.{SystemId, same_system, system-itself, One, Side, Two, Config, config_value, Algorithms, AreFirst, LinkState}
-use Rattle.lagprogress.proofs.Common.{WorldState, half, BothAreActive, IsBundle, OneIsActive, ReachedIsApart, ReachedIsBundle, SystemsDiffer}
-use Rattle.lagprogress.proofs.Common.{CarriersAreUp, HostRounds, EachAgrees, EachDistributes, IsReached, IsReady, LeadsTo, NothingStaysHeld, Rounds}
+use Rattle.lagprogress.proofs.Common.{Bool, List, None, Option, Some, [], ap, arith, false, if◌then◌else◌, map, refl, subst, suc, sym, true, zero, ℕ}
+use Rattle.lagprogress.proofs.Common.{◌++◌, ◌+◌, ◌-◌, ◌∙◌, ◌∷◌, ◌≡◌, none-some, SystemId, same_system, system-itself, One, Side, Two, Config}
+use Rattle.lagprogress.proofs.Common.{config_value, Event, Reply, Algorithms, WorldRuns, AreFirst, LinkState, WorldState, half, BothAreActive}
+use Rattle.lagprogress.proofs.Common.{IsBundle, OneIsActive, ReachedIsApart, ReachedIsBundle, SystemsDiffer, CarriersAreUp, DrainingRounds}
+use Rattle.lagprogress.proofs.Common.{HostRounds, EachAgrees, EachDistributes, IsReached, IsReady, LeadsTo, NothingStaysHeld, Rounds}
 use Rattle.lagprogress.proofs.Common.{freed_if_both_active, freed_if_one_is, up_if_both_active, up_if_one_is, IsSteady}
 use Rattle.lagscript.specs.declared.config.BadWorld.TheVariants.{SameSystem}
 use Rattle.cables.specs.declared.item.Item.{Item}
@@ -11,13 +12,14 @@ use Rattle.lagworld.specs.Sound.{IsSound}
 use Rattle.lagprogress.proofs.OneLink.{first_none}
 use Rattle.lagprogress.proofs.Carrying.{each_reached_has_carriers_up}
 use Rattle.lagprogress.proofs.Unchanged.{events_keep}
-use Rattle.lagprogress.proofs.Freeing.{none_is_held_where_active, nothing_is_held}
+use Rattle.lagprogress.proofs.Freeing.{none_is_held_where_active, none_is_held_where_active_by_hosts, nothing_is_held, nothing_is_held_by_hosts}
 use Rattle.lagprogress.proofs.Hearing.{no}
 use Rattle.lagprogress.proofs.Bundling.{each_active_link_agrees_by_hosts, each_active_link_comes_up_by_hosts, each_link_agrees_by_hosts}
 use Rattle.lagprogress.proofs.Bundling.{each_link_comes_up_by_hosts}
 use Rattle.lagprogress.proofs.Reaching.{reached_steady}
 use Rattle.lagprogress.proofs.HostRound.{left}
-use Rattle.lagprogress.proofs.HostLoops.{rounds_are_host_rounds}
+use Rattle.lagprogress.proofs.HostLoops.{draining_are_host, rounds_are_host_rounds}
+use Rattle.lagprogress.proofs.Played.{runs_append}
 
 when_none : {X : Type 0} (b : Bool) (x : X) → (if b then Some x else None) ≡ None → b ≡ false
 when_none true x e = absurd (none-some x (sym e))
@@ -51,6 +53,23 @@ reached_is_bundle Holds gives config es rs start new accepted i first runs few h
         links = links;
       },
     )
+
+-- draining rounds are events, and the last of them are such rounds
+
+draining_run : (gives : Algorithms) (n : ℕ) (old new : WorldState) → DrainingRounds gives n old new
+    → (es : List Event) × (rs : List Reply) × WorldRuns gives old es rs new
+draining_run gives zero old new h = ([], [], h)
+draining_run gives (suc n) old new h =
+    let run = draining_run gives n old h.0 h.1 in
+    let q = h.2.round in
+    (run.0 ++ q.events, run.1 ++ q.replies, runs_append gives run.0 q.events run.1 q.replies old h.0 new run.2 q.acts)
+
+draining_splits : (gives : Algorithms) (k m n : ℕ) (old new : WorldState) → n ≡ k + m → DrainingRounds gives n old new
+    → (mid : WorldState) × DrainingRounds gives m old mid × DrainingRounds gives k mid new
+draining_splits gives zero m n old new e h = (new, subst (λ i. DrainingRounds gives i old new) (omega (arith, e)) h, refl)
+draining_splits gives (suc k) m zero old new e h = absurd (omega (arith, e))
+draining_splits gives (suc k) m (suc n) old new e h =
+    let r = draining_splits gives k m n old h.0 (omega (arith, e)) h.1 in (r.0, r.1, (h.0, r.2, h.2))
 
 -- as the contract of `World::new` says it
 module _ {C : Type 0} (items : C → List Item) (limit : C → Option ℕ) where
@@ -87,6 +106,31 @@ module _ {C : Type 0} (items : C → List Item) (limit : C → Option ℕ) where
   one_host_agrees gives n old new h r ready enough i l healthy =
       let both = is_bundle OneIsActive gives old r ready in
       each_link_agrees_by_hosts gives n i l old new both.0 both.1 healthy enough (h both.1.steady)
+
+  -- that ask until nothing is due
+
+  carriers_later : (gives : Algorithms) (n : ℕ) (old new : WorldState) → IsReached items limit gives old → DrainingRounds gives n old new
+      → (s : Side) → CarriersAreUp (half s new).state
+  carriers_later gives n old new r h =
+      let run = draining_run gives n old new h in
+      each_reached_has_carriers_up gives r.config.systems (r.events ++ run.0) (r.replies ++ run.1) r.start new r.starts r.made.systems
+      (runs_append gives r.events run.0 r.replies run.1 r.start old new r.runs run.2)
+
+  pub hosts_free : (gives : Algorithms) (n : ℕ) (old new : WorldState) → (IsSteady old → DrainingRounds gives n old new)
+      → LeadsTo items limit NothingStaysHeld BothAreActive freed_if_both_active gives n old new
+  hosts_free gives n old new h r ready enough s left =
+      let b = (is_bundle BothAreActive gives old r ready).1 in
+      let cut = draining_splits gives 30 (n - 30) n old new (omega (arith, enough)) (h b.steady) in
+      none_is_held_where_active_by_hosts gives (n - 30) 30 old cut.0 new s b (omega (arith, enough))
+      (draining_are_host gives (n - 30) old cut.0 cut.1) (omega arith) cut.2 left (carriers_later gives n old new r (h b.steady) s)
+
+  pub one_host_frees : (gives : Algorithms) (n : ℕ) (old new : WorldState) → (IsSteady old → DrainingRounds gives n old new)
+      → LeadsTo items limit NothingStaysHeld OneIsActive freed_if_one_is gives n old new
+  one_host_frees gives n old new h r ready enough s left =
+      let b = (is_bundle OneIsActive gives old r ready).1 in
+      let cut = draining_splits gives 30 (n - 30) n old new (omega (arith, enough)) (h b.steady) in
+      nothing_is_held_by_hosts gives (n - 30) 30 old cut.0 new s b (omega (arith, enough))
+      (draining_are_host gives (n - 30) old cut.0 cut.1) (omega arith) cut.2 left (carriers_later gives n old new r (h b.steady) s)
 
   -- and in healthy rounds
 

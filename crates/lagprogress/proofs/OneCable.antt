@@ -2,14 +2,14 @@
 use Rattle.lagprogress.proofs.Common.{Bool, Err, List, None, Ok, Option, Result, Some, [], ap, arith, cond, get_or, inl, inr, length, map, nat_lt}
 use Rattle.lagprogress.proofs.Common.{not, option_map, position, refl, slice_get, slice_set, subst, suc, sym, true, zero, ℕ, ◌++◌, ◌<◌, ◌==◌, ◌∙◌}
 use Rattle.lagprogress.proofs.Common.{◌∷◌, ◌≡◌, ◌⊎◌, cases_Bool, false≢true, nat_tests, position-Some, same_Some, slice_get-get_or, slice_get_within}
-use Rattle.lagprogress.proofs.Common.{AllByRecursion, position_or_len, itself, Lacpdu, all-append, IsCabling, One, Side, Two, end_at, peer, value_of}
-use Rattle.lagprogress.proofs.Common.{Stamp, Answer, SystemFault, Received, Call, Carries, IsFrame, Receive, Step, Tick, Transmit, CallPromise}
-use Rattle.lagprogress.proofs.Common.{SystemState, PortHistory, Reply, AfterReceive, AfterTransmit, Algorithms, DeliversFrom, OnLink, WorldEmits}
-use Rattle.lagprogress.proofs.Common.{WorldReceives, WorldSteps, set_last_lacpdu, side_of, stamp_for, stamped_in, with_link_at, with_stamp_collected}
-use Rattle.lagprogress.proofs.Common.{HalfTicks, payload_in, stamp_count, link_ends, HalfState, ItemValue, LinkState, WorldState, accepts}
-use Rattle.lagprogress.proofs.Common.{change_count_in, change_link, half, history_at, limit_towards, link_at, link_index, port_at, put_on_port}
-use Rattle.lagprogress.proofs.Common.{sent_on, towards, with_half, with_links, with_towards, read_log, end_is, mapped_set, put_ends, set_elsewhere}
-use Rattle.lagprogress.proofs.Common.{set_here, half_there, position_there}
+use Rattle.lagprogress.proofs.Common.{AllByRecursion, position_or_len, itself, Lacpdu, pdu_in, all-append, IsCabling, One, Side, Two, end_at, peer}
+use Rattle.lagprogress.proofs.Common.{value_of, Stamp, Answer, SystemFault, Received, Call, Carries, IsFrame, Receive, Step, Tick, Transmit}
+use Rattle.lagprogress.proofs.Common.{CallPromise, SystemState, PortHistory, Reply, AfterReceive, AfterTransmit, Algorithms, DeliversFrom, OnLink}
+use Rattle.lagprogress.proofs.Common.{WorldEmits, WorldReceives, WorldSteps, set_last_lacpdu, side_of, stamp_for, stamped_in, with_link_at}
+use Rattle.lagprogress.proofs.Common.{with_stamp_collected, HalfTicks, payload_in, stamp_count, link_ends, HalfState, ItemValue, LinkState}
+use Rattle.lagprogress.proofs.Common.{WorldState, accepts, change_count_in, change_link, half, history_at, limit_towards, link_at, link_index}
+use Rattle.lagprogress.proofs.Common.{port_at, put_on_port, sent_on, towards, with_half, with_links, with_towards, read_log, end_is, mapped_set}
+use Rattle.lagprogress.proofs.Common.{put_ends, set_elsewhere, set_here, half_there, position_there}
 use Rattle.lagsystem.specs.declared.drive.Reply.TheVariants as answer
 use Rattle.lagsystem.specs.declared.received.Received.TheVariants as received
 use Rattle.lagscript.specs.declared.event.Event.TheVariants as event
@@ -18,7 +18,6 @@ use Rattle.slowpdu.proofs.PduInLemmas.{pdu_read}
 use Rattle.cables.specs.declared.item.Stamp.TheVariants as stamp
 use Rattle.lagprogress.proofs.Passing.{peer_there, put_there}
 use Rattle.std.proofs.lemmas.List.Sums.{fails_before_first}
-use Rattle.slowpdu.specs.Readings.{pdu_in}
 
 -- the cable that joins these ports, with these items on it towards each system
 abbrev pub cable : (Side → ℕ) → (Side → List ItemValue) → LinkState

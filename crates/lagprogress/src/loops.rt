@@ -4,11 +4,12 @@ ghost use Rattle.lagworld.specs.Events.{most_events};
 ghost use Rattle.lagworld.specs.ModelWorld.{world_setup};
 ghost use Rattle.lagworld.specs.Sound.{both_algorithms};
 ghost use Rattle.lagprogress.specs.Bundle.{BothAreActive, OneIsActive};
+ghost use Rattle.lagprogress.specs.HostFreed.{IsDrainingRound};
 ghost use Rattle.lagprogress.specs.HostRounds.{HostRounds, IsHostRound};
-ghost use Rattle.lagprogress.specs.Played.{EachAgrees, EachDistributes, LeadsTo};
+ghost use Rattle.lagprogress.specs.Played.{EachAgrees, EachDistributes, LeadsTo, NothingStaysHeld};
 ghost use Rattle.lagprogress.specs.PlayedByHosts.{AsksEnds, AsksPort, PlaysBetween, RefusesHostRound, StopsBetween, StopsInHostRounds};
 ghost use Rattle.lagprogress.specs.PlayedByHosts.{sent_nothing};
-ghost use Rattle.lagprogress.specs.Rounds.{NothingInFlight, up_if_both_active, up_if_one_is};
+ghost use Rattle.lagprogress.specs.Rounds.{NothingInFlight, freed_if_both_active, freed_if_one_is, up_if_both_active, up_if_one_is};
 ghost use Rattle.lagprogress.specs.Steady.{IsSteady};
 
 use crate::playing::{deliver_each, play};
@@ -111,14 +112,16 @@ fn deliver_and_ask<C: Cable, F: Fn(u16, usize) -> usize + Drop>(
 
 /// Plays one healthy round of a world as two hosts do: both systems tick, the ends of all cables are asked until they send
 /// nothing, and while anything is on a cable, it is delivered and they are asked again. Where it is not refused, this is a round
-/// as `each_link_agrees_by_hosts` wants it, if the systems are sound and their timers within their bounds, as in each world that
-/// events lead to from a start. It is refused as `play_round` is (profile).
+/// as `each_link_agrees_by_hosts` and `held_conversations_are_freed_by_hosts` want it, if the systems are sound and their timers
+/// within their bounds, as in each world that events lead to from a start. It is refused as `play_round` is (profile).
 pub fn play_host_round<C: Cable, F: Fn(u16, usize) -> usize + Drop>(
     world: &mut World<C, F>,
 ) -> Result<(), WorldFault>
     requires one { PicksIndexes (F.pre world.old.one) (F.post world.old.one) }
     requires two { PicksIndexes (F.pre world.old.two) (F.post world.old.two) }
     ensures round { IfOk result (λ done. IsSteady world.old.state → IsHostRound (both_algorithms (F.post world.old.one)
+        (F.post world.old.two)) world.old.state world.new.state) }
+    ensures drains { IfOk result (λ done. IsSteady world.old.state → IsDrainingRound (both_algorithms (F.post world.old.one)
         (F.post world.old.two)) world.old.state world.new.state) }
     ensures refused { IfErr result (λ fault. RefusesHostRound (both_algorithms (F.post world.old.one) (F.post world.old.two)) fault
         world.old.state world.new.state) }
@@ -148,9 +151,13 @@ pub fn play_host_rounds<C: Cable, F: Fn(u16, usize) -> usize + Drop>(
         (both_algorithms (F.post world.old.one) (F.post world.old.two)) count world.old.state world.new.state) }
     ensures agrees_both { IfOk result (λ done. LeadsTo C.items C.limit EachAgrees BothAreActive up_if_both_active
         (both_algorithms (F.post world.old.one) (F.post world.old.two)) count world.old.state world.new.state) }
+    ensures frees_both { IfOk result (λ done. LeadsTo C.items C.limit NothingStaysHeld BothAreActive freed_if_both_active
+        (both_algorithms (F.post world.old.one) (F.post world.old.two)) count world.old.state world.new.state) }
     ensures distributes_one { IfOk result (λ done. LeadsTo C.items C.limit EachDistributes OneIsActive up_if_one_is
         (both_algorithms (F.post world.old.one) (F.post world.old.two)) count world.old.state world.new.state) }
     ensures agrees_one { IfOk result (λ done. LeadsTo C.items C.limit EachAgrees OneIsActive up_if_one_is
+        (both_algorithms (F.post world.old.one) (F.post world.old.two)) count world.old.state world.new.state) }
+    ensures frees_one { IfOk result (λ done. LeadsTo C.items C.limit NothingStaysHeld OneIsActive freed_if_one_is
         (both_algorithms (F.post world.old.one) (F.post world.old.two)) count world.old.state world.new.state) }
     ensures stopped { IfErr result (λ fault. StopsInHostRounds (both_algorithms (F.post world.old.one) (F.post world.old.two)) fault
         count world.old.state world.new.state) }

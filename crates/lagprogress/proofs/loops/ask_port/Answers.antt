@@ -1,5 +1,5 @@
-use Rattle.lagprogress.proofs.Common.{arith, refl, ◌+◌, ◌∙◌, ◌≡◌, ◌≤◌}
-use Rattle.lagprogress.proofs.Looping.{asks_port, plays_nothing, stops_asking_port}
+use Rattle.lagprogress.proofs.Common.{arith, refl, sym, ◌+◌, ◌∙◌, ◌≡◌, ◌≤◌}
+use Rattle.lagprogress.proofs.Looping.{asks_more, asks_port, plays_nothing, stops_asking_port}
 use Rattle.lagprogress.proofs.Played.{on_err}
 use Rattle.lagprogress.proofs.loops.ask_port.Goals as goal
 
@@ -29,8 +29,8 @@ loop-reply-preserved g c =
     let now : c.step.new.self.state.acted ≡ c.loop-reply.world.state.acted + 1 = c.in_ok-reply.ensures.steps.1 in
     let risen : c.args.world.now.state.acted ≤ c.loop-reply.world.state.acted = c.loop-reply.invariant.risen in
     record {
-      played = (asks_port _ c.args.system c.args.port c.in_ok-reply.reply _ _ _ c.loop-reply.invariant.played
-          (rw (c.loop-reply.invariant.one, c.loop-reply.invariant.two) at c.in_ok-reply.ensures.steps)).played;
+      played = asks_more _ c.args.system c.args.port c.in_ok-reply.reply _ _ _ c.loop-reply.invariant.played
+          (rw (c.loop-reply.invariant.one, c.loop-reply.invariant.two) at c.in_ok-reply.ensures.steps);
       risen = omega (arith, now, risen);
       few = λ few. c.step.ensures.sound.few;
       fixed = c.step.ensures.fixed ∙ c.loop-reply.invariant.fixed;
@@ -41,3 +41,4 @@ loop-reply-preserved g c =
 pub returns-then-sent_nothing-clause-asks : goal.returns-then-sent_nothing-clause-asks
 returns-then-sent_nothing-clause-asks g c = asks_port _ c.args.system c.args.port c.in_ok-reply.reply _ _ _ c.loop-reply.invariant.played
     (rw (c.loop-reply.invariant.one, c.loop-reply.invariant.two) at c.in_ok-reply.ensures.steps)
+    (sym c.sent_nothing.ensures ∙ c.if-sent_nothing.true)

@@ -1,5 +1,5 @@
 use Rattle.lagprogress.proofs.Common.{arith, inl, inr}
-use Rattle.lagprogress.proofs.Looping.{host_round_played, stops_after_ticks, stops_later, stops_ticking_hosts}
+use Rattle.lagprogress.proofs.Looping.{host_round_drains, stops_after_ticks, stops_later, stops_ticking_hosts}
 use Rattle.lagprogress.proofs.Played.{both_ok, if_err, if_ok, on_err, too_many}
 use Rattle.lagprogress.proofs.loops.play_host_round.Goals as goal
 
@@ -28,14 +28,17 @@ returns-in_err-ask_ends-clause-refused g c = on_err _ c.in_err-ask_ends.field-0.
     (inl (stops_after_ticks _ _ _ _ _ c.in_ok-play.ensures.all
     (rw (c.play.ensures.algorithm_one, c.play.ensures.algorithm_two) at c.in_err-ask_ends.ensures.part)))
 
-pub returns-clause-round : goal.returns-clause-round
-returns-clause-round g c = if_ok _ _ c.deliver_and_ask.result
-    (λ done h steady. host_round_played _ c.in-Ok.count c.args.world.now.state c.play.new.world.state c.ask_ends.new.world.state _
+pub returns-clause-drains : goal.returns-clause-drains
+returns-clause-drains g c = if_ok _ _ c.deliver_and_ask.result
+    (λ done h steady. host_round_drains _ c.in-Ok.count c.args.world.now.state c.play.new.world.state c.ask_ends.new.world.state _
     c.play.ensures.fixed (omega (arith, c.cables.ensures, c.in-Ok.ensures)) c.in_ok-play.ensures.all
     (rw (c.play.ensures.algorithm_one, c.play.ensures.algorithm_two) at c.in_ok-ask_ends.ensures.asks)
     (rw (c.ask_ends.ensures.algorithm_one, c.play.ensures.algorithm_one, c.ask_ends.ensures.algorithm_two, c.play.ensures.algorithm_two)
     at h.0) h.1 steady)
     (both_ok _ _ c.deliver_and_ask.result c.deliver_and_ask.ensures.plays c.deliver_and_ask.ensures.empties)
+
+pub returns-clause-round : goal.returns-clause-round
+returns-clause-round g c = if_ok _ _ c.deliver_and_ask.result (λ done h steady. (h steady).round) (returns-clause-drains g c)
 
 pub returns-clause-refused : goal.returns-clause-refused
 returns-clause-refused g c = if_err _ _ c.deliver_and_ask.result

@@ -1,6 +1,7 @@
-use Rattle.lagprogress.proofs.Common.{arith, subst, ℕ, ◌∙◌, ◌≡◌, ◌≤◌, Algorithms, WorldState, HostRounds, IsSteady}
-use Rattle.lagprogress.proofs.Looping.{one_host_round_more}
-use Rattle.lagprogress.proofs.MadeWorlds.{hosts_agree, hosts_distribute, one_host_agrees, one_host_distributes}
+use Rattle.lagprogress.proofs.Common.{arith, subst, ℕ, ◌∙◌, ◌≡◌, ◌≤◌, Algorithms, WorldState, DrainingRounds, HostRounds, IsSteady}
+use Rattle.lagprogress.proofs.HostLoops.{draining_are_host}
+use Rattle.lagprogress.proofs.Looping.{one_draining_round_more}
+use Rattle.lagprogress.proofs.MadeWorlds.{hosts_agree, hosts_distribute, hosts_free, one_host_agrees, one_host_distributes, one_host_frees}
 use Rattle.lagprogress.proofs.Played.{on_err}
 use Rattle.lagprogress.proofs.loops.play_host_rounds.Goals as goal
 
@@ -13,8 +14,8 @@ play_host_round-requires-clause-two g c = rw c.loop-done.invariant.two c.require
 pub loop-done-preserved : goal.loop-done-preserved
 loop-done-preserved g c = record {
   within = omega (arith, c.loop-done-test.true);
-  played = one_host_round_more _ c.loop-done.done _ _ _ c.loop-done.invariant.played
-      (rw (c.loop-done.invariant.one, c.loop-done.invariant.two) at c.in_ok-play_host_round.ensures.round);
+  played = one_draining_round_more _ c.loop-done.done _ _ _ c.loop-done.invariant.played
+      (rw (c.loop-done.invariant.one, c.loop-done.invariant.two) at c.in_ok-play_host_round.ensures.drains);
   fixed = c.play_host_round.ensures.fixed ∙ c.loop-done.invariant.fixed;
   one = c.play_host_round.ensures.algorithm_one ∙ c.loop-done.invariant.one;
   two = c.play_host_round.ensures.algorithm_two ∙ c.loop-done.invariant.two;
@@ -26,15 +27,19 @@ returns-in_err-play_host_round-clause-stopped g c =
       done = c.loop-done.done;
       mid = c.loop-done.world.state;
       within = c.loop-done-test.true;
-      before = c.loop-done.invariant.played;
+      before = λ steady. draining_are_host _ c.loop-done.done _ _ (c.loop-done.invariant.played steady);
       last = rw (c.loop-done.invariant.one, c.loop-done.invariant.two) at c.in_err-play_host_round.ensures.refused;
     })
 
 -- none is left
+all_drain : (gives : Algorithms) (count done : ℕ) (old new : WorldState) → count ≤ done → done ≤ count
+    → (IsSteady old → DrainingRounds gives done old new) → IsSteady old → DrainingRounds gives count old new
+all_drain gives count done old new l m h =
+    let all : done ≡ count = omega (arith, l, m) in subst (λ n. IsSteady old → DrainingRounds gives n old new) all h
+
 all_played : (gives : Algorithms) (count done : ℕ) (old new : WorldState) → count ≤ done → done ≤ count
-    → (IsSteady old → HostRounds gives done old new) → IsSteady old → HostRounds gives count old new
-all_played gives count done old new l m h =
-    let all : done ≡ count = omega (arith, l, m) in subst (λ n. IsSteady old → HostRounds gives n old new) all h
+    → (IsSteady old → DrainingRounds gives done old new) → IsSteady old → HostRounds gives count old new
+all_played gives count done old new l m h = λ steady. draining_are_host gives count old new (all_drain gives count done old new l m h steady)
 
 pub returns-clause-rounds : goal.returns-clause-rounds
 returns-clause-rounds g c =
@@ -55,3 +60,11 @@ returns-clause-distributes_one g c = one_host_distributes g.C.Cable.items g.C.Ca
 pub returns-clause-agrees_one : goal.returns-clause-agrees_one
 returns-clause-agrees_one g c = one_host_agrees g.C.Cable.items g.C.Cable.limit _ c.args.count _ _
     (all_played _ c.args.count c.loop-done.done _ _ c.loop-done-test.false c.loop-done.invariant.within c.loop-done.invariant.played)
+
+pub returns-clause-frees_both : goal.returns-clause-frees_both
+returns-clause-frees_both g c = hosts_free g.C.Cable.items g.C.Cable.limit _ c.args.count _ _
+    (all_drain _ c.args.count c.loop-done.done _ _ c.loop-done-test.false c.loop-done.invariant.within c.loop-done.invariant.played)
+
+pub returns-clause-frees_one : goal.returns-clause-frees_one
+returns-clause-frees_one g c = one_host_frees g.C.Cable.items g.C.Cable.limit _ c.args.count _ _
+    (all_drain _ c.args.count c.loop-done.done _ _ c.loop-done-test.false c.loop-done.invariant.within c.loop-done.invariant.played)
