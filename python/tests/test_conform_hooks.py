@@ -1,0 +1,71 @@
+"""The hooks of examples/conform, whose commands are printed in place of run, and the flows that they send."""
+
+from __future__ import annotations
+
+import os
+import runpy
+import subprocess
+from pathlib import Path
+
+import pytest
+from conform_device import Device, World
+
+from lagconform.bench import Bench
+
+FOLDER = Path(__file__).parents[2] / "examples" / "conform"
+HOOKS = ["lagd", "bonding", "teamd", "openvswitch", "testpmd"]
+pytestmark = pytest.mark.skipif(not FOLDER.exists(), reason="no examples")
+
+
+def hook(name: str, *words: str, folder: Path) -> tuple[int, str]:
+    """The status of a hook, and what it would run."""
+    files = {it: str(folder / it) for it in ("SENDER", "DAEMON", "FIFO")}
+    env = {**os.environ, **files, "RUN": "echo", "LINKS": "x y"}
+    ended = subprocess.run(["sh", str(FOLDER / name), *words], env=env, capture_output=True, text=True, timeout=30)
+    return ended.returncode, ended.stdout
+
+
+@pytest.mark.parametrize("name", HOOKS)
+def test_a_hook_says_what_it_does_not_know(name: str, tmp_path: Path) -> None:
+    assert hook(name, "dance", folder=tmp_path)[0] == 64
+    assert hook(name, "set", "speed", "9", folder=tmp_path)[0] == 64
+    assert hook(name, "reset", folder=tmp_path) == (0, "")
+
+
+@pytest.mark.parametrize("name", HOOKS)
+def test_a_hook_takes_links_down_and_up(name: str, tmp_path: Path) -> None:
+    if name == "testpmd":
+        assert hook(name, "down", "1", folder=tmp_path)[0] == 64
+        return
+    assert hook(name, "down", "1", folder=tmp_path) == (0, "ip link set x down\n")
+    assert hook(name, "up", "2", folder=tmp_path) == (0, "ip link set y up\n")
+
+
+@pytest.mark.parametrize(
+    "name, word, begins",
+    [
+        ("bonding", "start", "ip link add bond0 type bond mode 802.3ad miimon 100 lacp_rate fast\nip link set x down\nip link set x master bond0\n"),
+        ("bonding", "stop", "ip link del bond0\n"),
+        ("teamd", "start", "ip link set x down\nip link set y down\nteamd -d -t team0 -c "),
+        ("teamd", "stop", "teamd -k -t team0\n"),
+        ("openvswitch", "start", "ovs-vsctl --may-exist add-br br0 -- --may-exist add-bond br0 bond0 x y lacp=active "),
+        ("openvswitch", "stop", "ovs-vsctl --if-exists del-port br0 bond0\n"),
+    ],
+)
+def test_a_hook_starts_and_ends_lacp(name: str, word: str, begins: str, tmp_path: Path) -> None:
+    status, told = hook(name, word, folder=tmp_path)
+    assert status == 0 and told.startswith(begins), told
+
+
+def test_the_flows_are_those_that_the_bench_counts() -> None:
+    flow = runpy.run_path(str(FOLDER / "flows.py"))["flow"]
+    device = Device()
+    b = Bench(World(device))
+    for number in range(64):
+        octets = flow(number)
+        header = octets[14:34]
+        assert sum(int.from_bytes(header[at : at + 2], "big") for at in range(0, 20, 2)) % 0xFFFF == 0
+        b.log(1, 0.0, False, octets)
+    assert b.data(0, 1) == 64 and b.data(0, 2) == 0
+    b.close()
+    device.stop()
