@@ -86,7 +86,9 @@ def names(it: Source, body: Span, said: Declared) -> Iterator[Change]:
             for name in dict.fromkeys([*alike[max(place - 1, 0) : place + 2], *alike[:1], *alike[-1:]]):
                 if name != word:
                     yield it.change(f"{name} for {word}", (at, at + 1), name)
-        group = "function" if behind == "(" else "field" if before == "." else "constant" if word.isupper() else ""
+        # A function of a module, as `hex::decode`, is none of those of the file.
+        is_foreign = before == "::" and it.word(at - 2).islower()
+        group = "function" if behind == "(" and not is_foreign else "field" if before == "." else "constant" if word.isupper() else ""
         for name in said.beside(group, word) if group else ():
             if group != "field" or it.word(at - 2) != "self" or name in own:
                 yield it.change(f"{name} for {word}", (at, at + 1), name)
