@@ -8,7 +8,7 @@ ghost use Rattle.std.specs.Prelude.{◌≡◌, ◌<◌};
 ghost use Rattle.distributor.specs.Calls.{index_by_number};
 
 use lagstreams::{Sink, Source};
-use lagtool_capture::{CaptureFault, Settings, CaptureSummary, report_capture};
+use lagtool_capture::{CaptureFault, CaptureSummary, Settings, report_capture};
 use lagtool_jobs::{
     FaultText, Progress, ToolFault, Watch, check_watched, digits_text, replay_watched, reply,
     script_text, show, status_of, unread_text, utf8_text, vectors,
@@ -68,7 +68,7 @@ fn say_more(rt: &impl Eprint, line: Result<String, AllocError>) {
     }
 }
 
-/// The exit status for the result of a job with a file; standard error says why one could not be done, and with `--report_capture` what
+/// The exit status for the result of a job with a file; standard error says why one could not be done, and with `--explain` what
 /// is wrong with a file that cannot be read.
 fn ended_with_file(
     rt: &(impl Eprint + Files + AllocGlobal),
@@ -77,7 +77,7 @@ fn ended_with_file(
     accepted: Result<bool, ToolFault>,
 ) -> ExitCode {
     let status = ended(rt, file, accepted);
-    if options.report_capture && accepted == Err(ToolFault::Read) {
+    if options.explain && accepted == Err(ToolFault::Read) {
         say_more(rt, unread_text(rt.alloc(), rt, file));
     }
     status
@@ -204,7 +204,7 @@ fn status_of_script<R: Print + Eprint + Clock + AllocGlobal>(
         Err(fault) => {
             let status = ended(rt, file, Err(fault));
             if let ToolFault::Script(fault) = fault
-                && options.report_capture
+                && options.explain
             {
                 say_more(rt, script_text(rt.alloc(), file, text, fault));
             }
@@ -227,7 +227,7 @@ fn status_of_replay<R: Print + Eprint + Files + Input + Clock + AllocGlobal>(
         Ok(text) => status_of_script(rt, options, file, text),
         Err(error) => {
             let status = ended(rt, file, Err(ToolFault::Read));
-            if options.report_capture {
+            if options.explain {
                 let before = octets.get(..error.valid_up_to()).unwrap_or(&[]);
                 say_more(rt, utf8_text(rt.alloc(), file, before));
             }
@@ -245,7 +245,7 @@ fn ended_with_words(
     accepted: Result<bool, ToolFault>,
 ) -> ExitCode {
     let status = ended(rt, "", accepted);
-    if options.report_capture {
+    if options.explain {
         let alloc = rt.alloc();
         match accepted {
             Err(ToolFault::NotHex) => {
