@@ -91,5 +91,5 @@ def test_no_line_is_wider_than_allowed() -> None:
 
 def test_the_proofs_of_the_repository_are_as_the_tool_writes_them() -> None:
     crates = [tool.Crate(path.parent.name) for path in sorted(tool.CRATES.glob("*/proofs"))]
-    different = [path for crate in crates for path, text in crate.written().items() if tool.stands(path) != text]
+    different = [path for crate in crates for path, text in crate.written().items() if not tool.is_as(path, text)]
     assert not different
