@@ -1,7 +1,7 @@
 """A system with the device's parameters that gets the same frames and predicts each of its LACPDUs.
 
 The clock of the device is not known, and the standard leaves timers 0.25 s and the time of an answer open. So several systems run, whose
-ticks lie apart, and an LACPDU agrees if one of them would have told the same at some time near it. What differs is told, and is never a fail: it may be what the standard leaves open.
+clocks differ, and an LACPDU agrees if one of them would have told the same at some time near it. What differs is told, and is never a fail: it may be what the standard leaves open.
 """
 
 from __future__ import annotations
@@ -20,8 +20,8 @@ from .pdus import end, six, words
 # How far from an LACPDU a system may have told the same, and how long it takes until what the device was before is forgotten.
 BEFORE, AFTER = TIMERS + PROMPT + LIMIT, TIMERS + TICK
 FORGETS = 5.0
-# When the first tick of each system is, after the first frame.
-PHASES = (0.0, 0.02, 0.04, 0.06, 0.08)
+# When the first tick of each system is, after the first frame, and how long a tick of it takes: 3 s are 2.85 to 3.15 s.
+PHASES, TICKS = (0.0, 0.03, 0.06), (0.95 * TICK, TICK, 1.05 * TICK)
 
 
 @dataclass(frozen=True)
@@ -74,7 +74,7 @@ class Replay:
         for link in self.links:
             self.system.set_link(link, True)
 
-    def run(self, phase: float) -> dict[int, History]:
+    def run(self, phase: float, tick: float) -> dict[int, History]:
         """What the system would have told on each link, and since when."""
         with self.system as system:
             due = (self.frames[0].time if self.frames else 0.0) + phase
@@ -83,7 +83,7 @@ class Replay:
                     self.happen(due)
                     system.tick()
                     self.note(due)
-                    due += TICK
+                    due += tick
                 if frame.out and frame.link in self.pdus and self.on:
                     system.receive(frame.link, self.inside(frame))
                     self.note(frame.time)
@@ -149,7 +149,7 @@ def compare(b: Bench) -> Shadow:
     last = {link: frame.lacpdu for link, it in b.links.items() if (frame := it.frame) and frame.lacpdu}
     if not last:
         return Shadow(0, ())
-    histories = [Replay(b, last).run(phase) for phase in PHASES]
+    histories = [Replay(b, last).run(phase, tick) for phase in PHASES for tick in TICKS]
     compared, differences = 0, []
     for frame in b.frames:
         if frame.out or not frame.lacpdu or frame.link not in last or frame.time < FORGETS:

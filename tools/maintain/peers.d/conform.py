@@ -201,7 +201,7 @@ class OwnDaemon:
         self.stop()
 
     def version(self) -> str:
-        return command(self.program, "--version").stdout.strip()
+        return command(self.program, "--version").stdout.split()[-1]
 
 
 class Lagd(Device):
