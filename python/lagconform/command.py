@@ -5,31 +5,34 @@ from __future__ import annotations
 import argparse
 import fnmatch
 import gc
+import math
 import os
 import signal
 import sys
 import time
-from typing import Optional, Sequence
+from typing import Callable, Optional, Sequence
 
 from niwhopera import __version__
 
 from . import capture, known, pics, report
 from .bench import Bench
+from .files import check_writable, read_text, tell, undisturbed, written
 from .groups import GROUPS, TESTS
 from .listing import as_markdown, as_text
-from .model import LONG, NOT_APPLICABLE, Result, Test
+from .model import FAIL, LONG, NOT_APPLICABLE, PASS, Result, Test
 from .page import as_html
 from .refusals import Refused, check_interfaces
 from .report import Run
 from .runner import NoDevice, meet, ordered, run_all
-from .shadow import compare
+from .shadow import Shadow, compare
 from .sockets import Command, PacketWire
 
 TITLES = {it.name: it.title for it in GROUPS}
 ABOUT = """Tests a device which runs LACP at the far end of one or two cables, by frames alone.
 
 It prints a line for each test, and in the end the count of each verdict. The status is 0 if nothing failed but what --known has, 1 if
-something did, 2 if the bench could not run, and 130 after SIGINT. It wants CAP_NET_RAW, and the interfaces for itself: in no bond, in no
+something did, 2 if the bench could not run to its end, a report could not be written, or no test came to pass or fail, and 130 after
+SIGINT. It wants CAP_NET_RAW, and the interfaces for itself: in no bond, in no
 bridge, and with no other program that speaks LACP there.
 
 The hook is a command that gets words behind it, and ends with status 0 if it did what they say:
@@ -43,6 +46,14 @@ The hook is a command that gets words behind it, and ends with status 0 if it di
                            and ports in each flow
 
 The first two come before the first test. Tests that want words which the hook does not know are skipped."""
+
+
+def seconds(text: str) -> float:
+    """A time of the command line."""
+    number = float(text)
+    if not math.isfinite(number) or number < 0:
+        raise argparse.ArgumentTypeError(f"a number of seconds, from 0 on, and not {text}")
+    return number
 
 
 def reader() -> argparse.ArgumentParser:
@@ -59,33 +70,38 @@ def reader() -> argparse.ArgumentParser:
     it.add_argument("--known", metavar="FILE", help="fails that are known: lines of a test and a reason")
     it.add_argument("--hook", metavar="COMMAND", help="a command that has the device do something, above")
     it.add_argument("--set", metavar="KEY=VALUE", action="append", default=[], help="a setting for the hook; may be given again")
-    it.add_argument("--only", metavar="TEST", action="append", help="tests to run, as RX-02 or 'RX-*'; may be given again")
+    it.add_argument("--only", metavar="TEST", action="append", help="tests to run, as RX-02 or 'RX-*', also a long one by its name; may be given again")
     it.add_argument("--flap", action="store_true", help="take our own end of a link down, where the device sees that; wants CAP_NET_ADMIN")
     it.add_argument("--long", action="store_true", help=f"run tests of more than {LONG} s, too")
     it.add_argument("--shadow", action="store_true", help="tell where the engine would have sent another LACPDU in the device's place")
     it.add_argument("--seed", type=int, default=1, help="the seed of random frames (1)")
-    it.add_argument("--slack", metavar="SECONDS", type=float, default=0.15, help="so late this machine and the link may be (0.15)")
+    it.add_argument("--slack", metavar="SECONDS", type=seconds, default=0.15, help="so late this machine and the link may be (0.15)")
     it.add_argument("--list", action="store_true", help="print the tests, and end")
     it.add_argument("--markdown", action="store_true", help="with --list: as tables")
     return it
 
 
 def selected(only: Optional[Sequence[str]], long: bool, links: int) -> list[Test]:
-    """The tests to run, in their order. A pattern that no test has is refused."""
-    for pattern in only or ():
-        if not any(fnmatch.fnmatch(it.id, pattern) for it in TESTS):
+    """The tests to run, in their order. A long test that is named runs. A pattern that no test has, or that leaves none, is refused."""
+    named = only or ()
+    runs = [it for it in TESTS if (long or not it.is_long or it.id in named) and it.links <= links]
+    for pattern in named:
+        own = [it for it in TESTS if fnmatch.fnmatch(it.id, pattern)]
+        if not own:
             raise Refused(f"there is no test {pattern}: --list prints them")
-    tests = [it for it in TESTS if not only or any(fnmatch.fnmatch(it.id, pattern) for pattern in only)]
-    return ordered(it for it in tests if (long or not it.is_long) and it.links <= links)
+        if not any(it in runs for it in own):
+            raise Refused(f"{pattern} wants {'two links' if own[0].links > links else '--long'}")
+    return ordered(it for it in runs if not only or any(fnmatch.fnmatch(it.id, pattern) for pattern in only))
 
 
-def read_text(path: str) -> str:
-    """The text of a file of the user's."""
-    try:
-        with open(path, encoding="utf-8") as it:
-            return it.read()
-    except OSError as why:
-        raise Refused(f"{path}: {why.strerror}") from why
+def check_words(given: argparse.Namespace) -> None:
+    """Refuses words that would do nothing, or too late."""
+    if given.set and not given.hook:
+        raise Refused("--set wants --hook: the hook sets it")
+    for it in given.set:
+        if not it.partition("=")[0] or "=" not in it:
+            raise Refused(f"--set {it}: it is KEY=VALUE")
+    check_writable([given.json, given.junit, given.report, given.pcap])
 
 
 class Progress:
@@ -123,19 +139,16 @@ def about(given: argparse.Namespace, b: Bench, results: Sequence[Result]) -> dic
     return {**told, "capture": os.path.basename(given.pcap)} if given.pcap else told
 
 
-def write_all(given: argparse.Namespace, run: Run) -> None:
-    """Writes the files that were asked for."""
+def write_all(given: argparse.Namespace, run: Run) -> bool:
+    """Writes the files that were asked for, each of them if another one can't be; answers whether all stand there."""
     b = run.bench
-    files: list[tuple[Optional[str], bytes]] = [
-        (given.json, report.as_json(run).encode()),
-        (given.junit, report.as_junit(run).encode()),
-        (given.report, as_html(run, TITLES).encode()),
-        (given.pcap, capture.octets(b.wire.started, b.wire.names, b.frames, report.comments(run.results))),
+    files: list[tuple[Optional[str], Callable[[], bytes]]] = [
+        (given.json, lambda: report.as_json(run).encode()),
+        (given.junit, lambda: report.as_junit(run).encode()),
+        (given.report, lambda: as_html(run, TITLES).encode("utf-8", "replace")),
+        (given.pcap, lambda: capture.octets(b.wire.started, b.wire.names, b.frames, report.comments(run.results))),
     ]
-    for path, octets in files:
-        if path:
-            with open(path, "wb") as out:
-                out.write(octets)
+    return all([written(path, make) for path, make in files if path])
 
 
 def stand(given: argparse.Namespace) -> Bench:
@@ -168,27 +181,47 @@ def prepare_device(given: argparse.Namespace, b: Bench) -> None:
 
 
 def run_tests(given: argparse.Namespace, b: Bench, tests: Sequence[Test], claimed: dict[str, bool], reasons: dict[str, str]) -> int:
-    """Runs the tests and writes the reports; the status."""
-    progress, status = Progress(tests), 0
-    minutes = max(1, round(sum(it.takes for it in tests) / 60))
-    print(f"{len(tests)} tests on {len(b.links)} link{'s' if len(b.links) > 1 else ''}, some {minutes} min", flush=True)
-    progress.show()
+    """Runs the tests and reports them, whatever ends the run; the status."""
+    progress, status, ended = Progress(tests), 0, ""
 
     def say(it: Result) -> None:
         known.mark([it], reasons)
         progress.add(it)
 
     try:
+        minutes = max(1, round(sum(it.takes for it in tests) / 60))
+        print(f"{len(tests)} tests on {len(b.links)} link{'s' if len(b.links) > 1 else ''}, some {minutes} min", flush=True)
+        progress.show()
         run_all(b, tests, say, claimed)
     except KeyboardInterrupt:
-        print("\nlagconform: interrupted; the reports have what was run", file=sys.stderr)
-        status = 130
-    run = Run(b, about(given, b, progress.results), progress.results, compare(b) if given.shadow else None)
-    write_all(given, run)
-    for name in known.no_longer(run.results, reasons):
-        print(f"known fail {name} did not fail")
-    print(*report.closing(run), sep="\n", flush=True)
-    return status or int(bool(known.new_fails(run.results)))
+        status, ended = 130, "interrupted"
+    except Exception as why:  # what was run is worth its reports
+        status, ended = 2, f"the run ended early: {type(why).__name__}: {why}"
+    shadow = compared(b) if given.shadow else None
+    with undisturbed():
+        if ended:
+            tell(f"\nlagconform: {ended}; the reports have what was run", to=sys.stderr)
+        return finish(given, Run(b, about(given, b, progress.results), progress.results, shadow), reasons, status)
+
+
+def compared(b: Bench) -> Optional[Shadow]:
+    """What a system would have sent in the device's place; nothing where that can't be told."""
+    try:
+        return compare(b)
+    except (Exception, KeyboardInterrupt) as why:
+        tell(f"lagconform: --shadow: {type(why).__name__}: {why}", to=sys.stderr)
+        return None
+
+
+def finish(given: argparse.Namespace, run: Run, reasons: dict[str, str], status: int) -> int:
+    """Writes and prints the reports; the status: of what ended the run, or of its tests."""
+    stand_there = write_all(given, run)
+    gone = [f"known fail {name} did not fail" for name in known.no_longer(run.results, reasons)]
+    tell(*gone, *report.closing(run))
+    if not status and not any(it.verdict in (PASS, FAIL) for it in run.results):
+        tell("lagconform: no test came to pass or fail", to=sys.stderr)
+        status = 2
+    return status or (int(bool(known.new_fails(run.results))) if stand_there else 2)
 
 
 def interrupt(*_: object) -> None:
@@ -204,7 +237,8 @@ def main(words: Optional[Sequence[str]] = None) -> int:
             tests = selected(given.only, True, 2)
             print(as_markdown(sorted(tests, key=TESTS.index), TITLES) if given.markdown else as_text(sorted(tests, key=TESTS.index), TITLES))
             return 0
-        tests = selected(given.only, given.long, len(given.interfaces))
+        check_words(given)
+        tests = selected(given.only, given.long, max(1, len(given.interfaces)))
         claimed = pics.parsed(read_text(given.pics)) if given.pics else {}
         reasons = known.parsed(read_text(given.known), (it.id for it in TESTS)) if given.known else {}
         gc.disable()  # no pauses

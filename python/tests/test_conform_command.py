@@ -4,7 +4,9 @@ from __future__ import annotations
 
 import json
 import os
+import signal
 import struct
+import sys
 import xml.etree.ElementTree as xml
 from pathlib import Path
 from typing import Iterator, Type
@@ -14,7 +16,7 @@ from conform_device import Device, World
 from conform_faults import KeyUnchecked, NoWait, SystemUnchecked
 from conform_frames import NoMarkers
 
-from lagconform import causes, command, known, listing, pics, refusals
+from lagconform import causes, command, files, known, listing, pics, refusals, report
 from lagconform.bench import Bench, most_within
 from lagconform.groups import GROUPS, TESTS
 from lagconform.model import DEVICES, FAIL, INCONCLUSIVE, MEMORY, NOT_APPLICABLE, PASS, PROFILE, SKIPPED, Claim, Result
@@ -115,6 +117,92 @@ def test_an_interrupted_run_reports_what_ran(run, tmp_path: Path, capsys: pytest
     assert json.loads((tmp_path / "r.json").read_text())["counts"]["pass"] >= 1
 
 
+@pytest.mark.parametrize("why", [OSError(5, "it broke"), RuntimeError("it broke")])
+def test_a_run_that_breaks_reports_what_ran(run, why: Exception, tmp_path: Path, capsys: pytest.CaptureFixture[str], monkeypatch: pytest.MonkeyPatch) -> None:  # type: ignore[no-untyped-def]
+    def line(it: Result) -> str:
+        if it.test.id == "FM-03":
+            raise why
+        return ""
+
+    monkeypatch.setattr(report, "line", line)
+    assert run(Device, "--only", "FM-*", "--json", "r.json") == 2
+    assert "it broke; the reports have what was run" in capsys.readouterr().err
+    assert json.loads((tmp_path / "r.json").read_text())["counts"]["pass"] == 3
+
+
+def test_a_reader_that_goes_leaves_the_report(run, tmp_path: Path, monkeypatch: pytest.MonkeyPatch) -> None:  # type: ignore[no-untyped-def]
+    end, begin = os.pipe()
+
+    class Closes(Device):
+        open = True
+
+        def ticked(self) -> None:
+            if self.open and self.now > 8:
+                os.close(end)
+                self.open = False
+
+    with os.fdopen(begin, "w") as out:
+        monkeypatch.setattr(sys, "stdout", out)
+        assert run(Closes, "--only", "FM-*", "--json", "r.json") == 2
+        monkeypatch.undo()
+    assert json.loads((tmp_path / "r.json").read_text())["counts"]["pass"] >= 1
+
+
+def test_a_report_that_fails_costs_no_other_one(run, tmp_path: Path, capsys: pytest.CaptureFixture[str], monkeypatch: pytest.MonkeyPatch) -> None:  # type: ignore[no-untyped-def]
+    def breaks(*_: object) -> str:
+        raise ValueError("it broke")
+
+    monkeypatch.setattr(command, "as_html", breaks)
+    monkeypatch.setattr(command, "compare", breaks)
+    words = ["--only", "FM-01", "--shadow", "--json", "/dev/full", "--report", "r.html", "--junit", "r.xml"]
+    assert run(Device, *words) == 2
+    told = capsys.readouterr().err
+    assert all(it in told for it in ("/dev/full was not written: No space", "r.html was not written: ValueError: it broke", "--shadow: ValueError: it broke"))
+    assert xml.parse(tmp_path / "r.xml").getroot().get("tests") == "1"
+
+
+def test_signals_wait_while_reports_are_written() -> None:
+    before = signal.getsignal(signal.SIGTERM)
+    with files.undisturbed():
+        os.kill(os.getpid(), signal.SIGTERM)
+        os.kill(os.getpid(), signal.SIGINT)
+    assert signal.getsignal(signal.SIGTERM) is before
+
+
+@pytest.mark.parametrize("path, why", [("none/r.json", "there is no folder"), (".", "it is a folder"), ("/proc/sys/r", "can't be written")])
+def test_a_report_that_can_not_be_written_is_refused_before_the_run(run, path: str, why: str, capsys: pytest.CaptureFixture[str]) -> None:  # type: ignore[no-untyped-def]
+    for option in "--json", "--junit", "--report", "--pcap":
+        assert run(Device, "--only", "FM-01", option, path) == 2
+        told = capsys.readouterr()
+        assert why in told.err and not told.out
+
+
+def test_a_run_without_an_answer_is_no_success(run, capsys: pytest.CaptureFixture[str]) -> None:  # type: ignore[no-untyped-def]
+    assert run(Device, "--only", "RX-14") == 2  # it asks for short timeouts
+    assert "no test came to pass or fail" in capsys.readouterr().err
+
+
+def test_a_long_test_runs_by_its_name() -> None:
+    assert [it.id for it in command.selected(["RX-14"], False, 1)] == ["RX-14"]
+    assert not any(it.is_long for it in command.selected(["RX-*"], False, 1))
+
+
+@pytest.mark.parametrize("text", ["nan", "inf", "-0.1", "soon"])
+def test_slack_is_a_time(text: str, capsys: pytest.CaptureFixture[str]) -> None:
+    with pytest.raises(SystemExit, match="2"):
+        command.main(["lo", f"--slack={text}"])
+    assert "--slack" in capsys.readouterr().err
+
+
+def test_a_file_that_is_no_text_is_refused(tmp_path: Path) -> None:
+    (tmp_path / "octets").write_bytes(b"FM-01 \xff")
+    (tmp_path / "long").write_bytes(bytes(files.LONGEST + 1))
+    os.mkfifo(tmp_path / "fifo")
+    for name, why in ("octets", "octet 6 is ff"), ("long", "more than"), ("fifo", "no regular file"), ("/dev/urandom", "no regular file"), (".", "Is a directory"):
+        with pytest.raises(refusals.Refused, match=why):
+            files.read_text(str(tmp_path / name))
+
+
 def test_one_link_runs_tests_of_one_link(run, capsys: pytest.CaptureFixture[str]) -> None:  # type: ignore[no-untyped-def]
     assert run(Device, "--only", "SL-*", links=1) == 0
     assert capsys.readouterr().out.endswith("1 pass, 0 fail\n")
@@ -130,6 +218,10 @@ def test_one_link_runs_tests_of_one_link(run, capsys: pytest.CaptureFixture[str]
         (["lo"], "no Ethernet interface"),
         (["lo", "--only", "XX-*"], "there is no test XX"),
         (["lo", "--known", "/none"], "/none: No such file"),
+        (["lo", "--only", "RX-14*"], "RX-14* wants --long"),
+        (["lo", "--only", "SL-01", "--only", "FM-01"], "SL-01 wants two links"),
+        (["lo", "--set", "a=b"], "--set wants --hook"),
+        (["lo", "--hook", "true", "--set", "a"], "--set a: it is KEY=VALUE"),
     ],
 )
 def test_refusals(words: list[str], why: str, capsys: pytest.CaptureFixture[str]) -> None:

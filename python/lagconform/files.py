@@ -1,0 +1,80 @@
+"""Files of the user's: what a run reads, and what it writes in the end, whatever ended it."""
+
+from __future__ import annotations
+
+import os
+import signal
+import stat
+import sys
+from contextlib import contextmanager, suppress
+from typing import Callable, Iterator, Optional, Sequence, TextIO
+
+from .refusals import Refused
+
+# No list of known fails is longer.
+LONGEST = 1 << 20
+
+
+def read_text(path: str) -> str:
+    """The text of a file of the user's."""
+    try:
+        with open(os.open(path, os.O_RDONLY | os.O_NONBLOCK | os.O_CLOEXEC), "rb") as it:
+            if not stat.S_ISREG(os.fstat(it.fileno()).st_mode):
+                raise Refused(f"{path} is no regular file")
+            octets = it.read(LONGEST + 1)
+    except OSError as why:
+        raise Refused(f"{path}: {why.strerror}") from why
+    if len(octets) > LONGEST:
+        raise Refused(f"{path} has more than {LONGEST} octets")
+    try:
+        return octets.decode("utf-8")
+    except UnicodeDecodeError as why:
+        raise Refused(f"{path} is no text in UTF-8: octet {why.start} is {octets[why.start]:02x}") from why
+
+
+def check_writable(paths: Sequence[Optional[str]]) -> None:
+    """Refuses a report that could not be written."""
+    for path in filter(None, paths):
+        folder = os.path.dirname(os.path.realpath(path))
+        if not os.path.isdir(folder):
+            raise Refused(f"{path} can't be written: there is no folder {folder}")
+        if os.path.isdir(path):
+            raise Refused(f"{path} can't be written: it is a folder")
+        if not os.access(path if os.path.exists(path) else folder, os.W_OK):
+            raise Refused(f"{path} can't be written: no right to, or the file system is read-only")
+
+
+def written(path: str, make: Callable[[], bytes]) -> bool:
+    """Writes what is made into a file; answers whether it stands there. What keeps it from that is told."""
+    try:
+        octets = make()
+        with open(path, "wb") as out:
+            out.write(octets)
+    except Exception as why:  # another file may go well
+        reason = why.strerror if isinstance(why, OSError) else f"{type(why).__name__}: {why}"
+        tell(f"lagconform: {path} was not written: {reason}", to=sys.stderr)
+        return False
+    return True
+
+
+def tell(*lines: str, to: Optional[TextIO] = None) -> None:
+    """Prints lines, if there is somebody still who reads them."""
+    out = to or sys.stdout
+    try:
+        print(*lines, sep="\n", file=out, flush=True)
+    except OSError:
+        with suppress(OSError, ValueError):  # what waits in it would be tried again at the end
+            nowhere = os.open(os.devnull, os.O_WRONLY)
+            os.dup2(nowhere, out.fileno())
+            os.close(nowhere)
+
+
+@contextmanager
+def undisturbed() -> Iterator[None]:
+    """SIGINT and SIGTERM do nothing inside."""
+    before = {it: signal.signal(it, signal.SIG_IGN) for it in (signal.SIGINT, signal.SIGTERM)}
+    try:
+        yield
+    finally:
+        for it, old in before.items():
+            signal.signal(it, signal.SIG_DFL if old is None else old)
