@@ -452,7 +452,12 @@ def serve(source: BinaryIO, sink: BinaryIO) -> None:
 def _run(words: list[str]) -> None:
     """Does what the words of the command line ask for: the first one decides."""
     texts = {"--help": _help(), "-h": _help(), "--version": _VERSION, "-V": _VERSION}
+    # Python has no stream where the file was closed before it began.
+    if sys.stdout is None:
+        raise Stopped("cannot write")
     if not words:
+        if sys.stdin is None:
+            raise Stopped("cannot read")
         functions()
         serve(sys.stdin.buffer, sys.stdout.buffer)
     elif words[0] in texts:
@@ -468,7 +473,7 @@ def main(words: list[str]) -> int:
     except (ImportError, Stopped) as why:
         print(f"{_NAME}: {why}", file=sys.stderr)
         # What could not be written is not tried once more when Python ends.
-        os.dup2(os.open(os.devnull, os.O_WRONLY), sys.stdout.fileno())
+        os.dup2(os.open(os.devnull, os.O_WRONLY), 1)
         return 2
     return 0
 

@@ -218,6 +218,12 @@ def test_an_output_that_is_full(words: list[str]) -> None:
         assert ended(*words, stdout=full) == (2, "", "niwhopera.lines: cannot write\n")
 
 
+@pytest.mark.parametrize(("closed", "fault"), [("<&-", "cannot read"), (">&-", "cannot write")])
+def test_a_stream_that_was_closed_before(closed: str, fault: str) -> None:
+    run = subprocess.run(["sh", "-c", f'exec "$0" -m niwhopera.lines {closed}', sys.executable], capture_output=True, text=True)
+    assert (run.returncode, run.stdout, run.stderr) == (2, "", f"niwhopera.lines: {fault}\n")
+
+
 def test_a_library_that_is_not_there() -> None:
     status, text, fault = ended(env={**os.environ, "NIWHOPERA_LIBRARY": os.path.join(HERE, "none.so")})
     assert (status, text) == (2, "") and fault.startswith("niwhopera.lines: ") and "NIWHOPERA_LIBRARY" in fault
