@@ -3,6 +3,7 @@
 from __future__ import annotations
 
 import random
+from contextlib import contextmanager, suppress
 from typing import Callable, Iterator, Optional, Sequence, cast
 
 from niwhopera import Lacpdu, Mac, MarkerKind, State
@@ -43,7 +44,8 @@ class Bench:
         self.frames: list[Frame] = []
         # What was done to the device, and when: words of the hook.
         self.events: list[tuple[float, tuple[str, ...]]] = []
-        self.late = 0.0
+        # What the bench itself did wrong in a test: how late it was, and how many frames its links refused.
+        self.late, self.refused = 0.0, 0
         self.links = {number: Link(self, number, name) for number, name in enumerate(wire.names, 1)}
         self.result: Optional[Result] = None
         # Whether data of one aggregator was seen on both links; whether a marker was answered, and when one went out last.
@@ -51,9 +53,10 @@ class Bench:
         self.marked = -9.0
 
     def close(self) -> None:
-        """Gives back what the partners have."""
+        """Gives back what the partners have, and the links."""
         for link in self.links.values():
             link.partner.close()
+        self.wire.close()
 
     # Time and frames.
 
@@ -88,7 +91,7 @@ class Bench:
     def send_raw(self, link: int, octets: bytes) -> Frame:
         """Sends a frame."""
         frame = self.log(link, self.now(), True, octets)
-        self.wire.send(link, octets)
+        self.refused += not self.wire.send(link, octets)
         return frame
 
     def _take(self, link: int, when: float, octets: bytes) -> None:
@@ -231,9 +234,15 @@ class Bench:
 
     def hook(self, *words: str) -> None:
         """Has the device do something; the test is skipped where there is no hook, or where it does not know these words."""
+        began, answer = self.now(), self.ask(*words)
+        if answer.status:
+            raise NotHere(f"the hook does not do: {' '.join(words)}: {answer.said.strip()[-200:]}")
+        self.events.append((began, words))
+
+    def ask(self, *words: str) -> Answer:
+        """What the hook says to these words; the test is skipped where there is none, or where it does not end."""
         if not self._hook:
             raise NotHere(f"wants a hook that knows: {' '.join(words)}")
-        self.events.append((self.now(), words))
         doing = self._hook.call(words)
         got: list[Answer] = []
 
@@ -245,16 +254,26 @@ class Bench:
         if not self.until(HOOK_SECONDS, ended):
             doing.stop()
             raise NotHere(f"the hook did not end in {HOOK_SECONDS:g} s: {' '.join(words)}")
-        if got[0].status:
-            raise NotHere(f"the hook does not do: {' '.join(words)}: {got[0].said.strip()[-200:]}")
+        return got[0]
+
+    @contextmanager
+    def undone(self, undo: Callable[[], None]) -> Iterator[None]:
+        """Leaves the device as it was where what is inside ends early, as SIGTERM ends it."""
+        try:
+            yield
+        except BaseException:
+            with suppress(Exception):  # what ended it is told
+                undo()
+            raise
 
     def link_goes(self, link: int, up: bool) -> None:
         """Takes a link down or up: by the hook, or our own end of it."""
         if not self.flaps:
             self.hook("up" if up else "down", str(link))
             return
-        self.events.append((self.now(), ("up" if up else "down", str(link))))
+        began = self.now()
         self.wire.flap(link, up)
+        self.events.append((began, ("up" if up else "down", str(link))))
 
     # What a test claims.
 

@@ -19,13 +19,14 @@ from .bench import Bench
 from .files import check_writable, read_text, tell, undisturbed, written
 from .groups import GROUPS, TESTS
 from .listing import as_markdown, as_text
-from .model import FAIL, LONG, NOT_APPLICABLE, PASS, Result, Test
+from .model import FAIL, LONG, NOT_APPLICABLE, PASS, NotHere, Result, Test
 from .page import as_html
 from .refusals import Refused, check_interfaces
 from .report import Run
 from .runner import NoDevice, meet, ordered, run_all
 from .shadow import Shadow, compare
 from .sockets import Command, PacketWire
+from .wires import Gone
 
 TITLES = {it.name: it.title for it in GROUPS}
 ABOUT = """Tests a device which runs LACP at the far end of one or two cables, by frames alone.
@@ -171,11 +172,11 @@ def stand(given: argparse.Namespace) -> Bench:
 
 def prepare_device(given: argparse.Namespace, b: Bench) -> None:
     """Has the hook bring the device into its state; a hook need not know how."""
-    hook = Command(given.hook)
     for words in [["reset"], *(["set", *it.split("=", 1)] for it in given.set)]:
-        doing = hook.call(words)
-        while (answer := doing.answer()) is None:
-            b.wait(0.1)
+        try:
+            answer = b.ask(*words)
+        except NotHere as why:
+            raise Refused(str(why)) from why
         if answer.status and words[0] == "set":
             raise Refused(f"the hook does not do: {' '.join(words)}: {answer.said.strip()[-200:]}")
 
@@ -195,6 +196,8 @@ def run_tests(given: argparse.Namespace, b: Bench, tests: Sequence[Test], claime
         run_all(b, tests, say, claimed)
     except KeyboardInterrupt:
         status, ended = 130, "interrupted"
+    except Gone as why:
+        status, ended = 2, str(why)
     except Exception as why:  # what was run is worth its reports
         status, ended = 2, f"the run ended early: {type(why).__name__}: {why}"
     shadow = compared(b) if given.shadow else None
@@ -244,7 +247,7 @@ def main(words: Optional[Sequence[str]] = None) -> int:
         gc.disable()  # no pauses
         signal.signal(signal.SIGTERM, interrupt)
         b = stand(given)
-    except (Refused, NoDevice, pics.BadPics, known.BadKnown, ImportError, OSError) as why:
+    except (Refused, NoDevice, pics.BadPics, known.BadKnown, Gone, ImportError, OSError) as why:
         print(f"lagconform: {why}", file=sys.stderr)
         return 2
     except KeyboardInterrupt:

@@ -87,7 +87,8 @@ class Test:
 
 @dataclass
 class Result:
-    """What came of a test: packets `first` to `last`, seconds `begin` to `end`, and how late the bench was at most."""
+    """What came of a test: packets `first` to `last`, seconds `begin` to `end`, and how late the bench was at most. `gone` says which
+    interface is no longer there, and `known` why a fail is known."""
 
     test: Test
     verdict: str = PASS
@@ -100,6 +101,7 @@ class Result:
     end: float = 0
     late: float = 0
     known: str = ""
+    gone: str = ""
 
     @property
     def packets(self) -> dict[int, bool]:

@@ -58,6 +58,11 @@ def put(payload: bytes, at: int, octets: bytes) -> bytes:
     return payload[:at] + octets + payload[at + len(octets) :]
 
 
+def is_of_lag(frame: bytes) -> bool:
+    """Whether a frame has a subtype of this standard: LACP or Marker. Others of Slow Protocols, as OAM and ESMC, are somebody else's."""
+    return frame[12:14] == SLOW and frame[PAYLOAD : PAYLOAD + 1] in (b"\1", b"\2")
+
+
 def read(frame: bytes) -> tuple[Optional[Pdu], str]:
     """The PDU of a frame; or none, and why its payload is refused, if it has the EtherType of Slow Protocols."""
     if frame[12:14] != SLOW:

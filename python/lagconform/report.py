@@ -3,6 +3,7 @@
 from __future__ import annotations
 
 import json
+import re
 from dataclasses import dataclass
 from html import escape
 from typing import Optional, Sequence
@@ -82,6 +83,8 @@ def as_json(run: Run) -> str:
     return json.dumps({**whole, "tests": [record(run.bench, it) for it in run.results]}, indent=1) + "\n"
 
 
+# What no document of XML 1.0 may have.
+UNWANTED = re.compile("[^\t\n\r\x20-\ud7ff\ue000-\ufffd\U00010000-\U0010ffff]")
 TAGS = {FAIL: "failure", INCONCLUSIVE: "error", SKIPPED: "skipped", NOT_APPLICABLE: "skipped"}
 
 
@@ -114,7 +117,7 @@ def as_junit(run: Run) -> str:
     for group in dict.fromkeys(it.test.group for it in run.results):
         own = [it for it in run.results if it.test.group == group]
         out += [suite("testsuite", group, own), *map(case, own), "</testsuite>"]
-    return "\n".join([*out, "</testsuites>"]) + "\n"
+    return UNWANTED.sub("\ufffd", "\n".join([*out, "</testsuites>"]) + "\n")
 
 
 def comments(results: Sequence[Result]) -> dict[int, str]:

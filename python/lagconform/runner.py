@@ -9,7 +9,9 @@ from niwhopera import State
 
 from .bench import QUIET, Bench
 from .model import FAIL, INCONCLUSIVE, PASS, DoesNotApply, NotHere, Result, Stop, Test
+from .pdus import is_of_lag
 from .pics import ITEMS, lacking
+from .wires import Gone
 
 # So long a device is waited for at the start.
 MEETS = 35.0
@@ -25,7 +27,7 @@ def meet(b: Bench) -> None:
     if b.until(MEETS, lambda: all(it.frame for it in b.links.values())):
         return
     missing = [it for it in b.links.values() if not it.frame]
-    faults = {it.fault for it in b.frames if not it.out and it.fault}
+    faults = {it.fault for it in b.frames if not it.out and it.fault and is_of_lag(it.octets)}
     names = ", ".join(it.name for it in missing)
     if faults:
         raise NoDevice(f"what the device sends on {names} is no LACPDU: {'; '.join(sorted(faults))}")
@@ -64,13 +66,16 @@ def prepare(b: Bench, test: Test, claimed: Mapping[str, bool]) -> None:
 def run_one(b: Bench, test: Test, claimed: Optional[Mapping[str, bool]] = None) -> Result:
     """Runs a test; answers its verdict."""
     result = Result(test, first=len(b.frames) + 1, begin=b.now())
-    b.result, b.late = result, 0.0
+    b.result, b.late, b.refused = result, 0.0, 0
+    b.wire.drops()  # what was lost before is of no test
     try:
         prepare(b, test, claimed or {})
         result.first, result.begin = len(b.frames) + 1, b.now()
         test.run(b)
     except Stop as why:
         result.verdict, result.why = why.verdict, str(why)
+    except Gone as why:
+        result.verdict, result.why, result.gone = INCONCLUSIVE, str(why), str(why)
     except Exception:  # a fault of the bench
         result.verdict, result.why = INCONCLUSIVE, f"the bench has a fault: {traceback.format_exc(limit=-2)}"
     judge(b, result)
@@ -82,30 +87,37 @@ def run_one(b: Bench, test: Test, claimed: Optional[Mapping[str, bool]] = None) 
 
 
 def judge(b: Bench, result: Result) -> None:
-    """The verdict: a claim that does not hold is a fail, unless the bench itself was late."""
+    """The verdict: a claim that does not hold is a fail, unless the bench itself is to blame."""
     failed = [it for it in result.claims if not it.holds]
     if failed:
         result.verdict, result.why = FAIL, failed[0].text
     elif result.verdict == PASS and not result.claims:
         result.verdict, result.why = INCONCLUSIVE, "nothing was claimed"
     result.last, result.end, result.late = len(b.frames), b.now(), b.late
-    if result.verdict == FAIL and result.late > b.slack:
-        result.verdict = INCONCLUSIVE
-        result.why = f"this machine is too busy for a verdict: the bench was {result.late:.2f} s late, more than --slack {b.slack:g}. Seen: {result.why}"
+    if result.verdict == FAIL and (excuse := excused(b, result)):
+        result.verdict, result.why = INCONCLUSIVE, f"{excuse}. Seen: {result.why}"
+
+
+def excused(b: Bench, result: Result) -> str:
+    """What the bench or its links did in a test, so that nothing is the device's fault; nothing where they were as they should be."""
+    if result.gone:
+        return result.gone
+    if result.late > b.slack:
+        return f"this machine is too busy for a verdict: the bench was {result.late:.2f} s late, more than --slack {b.slack:g}"
+    if drops := b.wire.drops():
+        return f"this machine is too busy for a verdict: it dropped {drops} frames that came"
+    flaps = any(when >= result.begin and words[0] in ("down", "up") for when, words in b.events)
+    return f"the link refused {b.refused} frames" if b.refused and not flaps else ""
 
 
 def run_all(b: Bench, tests: Iterable[Test], say: Callable[[Result], None], claimed: Optional[Mapping[str, bool]] = None) -> list[Result]:
-    """Runs tests in order; `say` gets each result."""
+    """Runs tests in order; `say` gets each result. Where an interface is gone, no other test is run."""
     results: list[Result] = []
-    second = False
     for test in tests:
-        if second and test.links == 1 and test.group != "IV":  # what is left on link 2 goes first
-            b.links[2].partner.hush()
-            gone = State.DEFAULTED
-            b.until(7.5, lambda: b.bits(2) & (State.DEFAULTED | State.EXPIRED) == gone)
-        second = test.links > 1
         results.append(run_one(b, test, claimed))
         say(results[-1])
+        if results[-1].gone:
+            raise Gone(results[-1].gone)
     return results
 
 

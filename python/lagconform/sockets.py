@@ -3,40 +3,67 @@
 from __future__ import annotations
 
 import errno
+import os
 import select
 import shlex
+import signal
 import socket
 import struct
 import subprocess
+import tempfile
 import time
+from contextlib import suppress
 from typing import Optional, Sequence
 
 from niwhopera import Mac
 
+from .model import NotHere
 from .pdus import GROUP
-from .wires import Answer, Arrival
+from .wires import Answer, Arrival, Gone
 
 # Numbers of Linux that the socket module does not name.
 SOL_PACKET, SO_TIMESTAMPNS = 263, 35
 PACKET_ADD_MEMBERSHIP, PACKET_MR_MULTICAST, PACKET_MR_PROMISC, PACKET_IGNORE_OUTGOING, EVERY = 1, 0, 1, 23, 3
+PACKET_STATISTICS, PACKET_AUXDATA, VLAN_VALID, VLAN_TYPE_VALID, VLAN_TYPE = 6, 8, 1 << 4, 1 << 6, 0x8100
 OUTGOING = 4
 RECEIVE_OCTETS = 4 << 20
+# How many octets addresses take, and how many of what a hook says are kept.
+ADDRESSES, SAID_OCTETS = 12, 4096
 # What a link that refuses a frame may say: it is lost then.
 LOST = (errno.ENETDOWN, errno.ENXIO, errno.EMSGSIZE, errno.ENOBUFS, errno.EINVAL, errno.EAGAIN)
 
 
-def opened(name: str) -> socket.socket:
-    """A packet socket on an interface, which takes each frame that comes there, those to the group address and to strangers too."""
-    it = socket.socket(socket.AF_PACKET, socket.SOCK_RAW, socket.htons(EVERY))
-    it.bind((name, EVERY))
-    it.setsockopt(socket.SOL_SOCKET, SO_TIMESTAMPNS, 1)
-    it.setsockopt(socket.SOL_SOCKET, socket.SO_RCVBUF, RECEIVE_OCTETS)
-    it.setsockopt(SOL_PACKET, PACKET_IGNORE_OUTGOING, 1)
-    index = socket.if_nametoindex(name)
-    for kind, address in (PACKET_MR_MULTICAST, GROUP), (PACKET_MR_PROMISC, b""):
-        it.setsockopt(SOL_PACKET, PACKET_ADD_MEMBERSHIP, struct.pack("=iHH8s", index, kind, len(address), address))
-    it.setblocking(False)
+# What an interface that is down or gone says.
+DOWN = (errno.ENETDOWN, errno.ENXIO, errno.ENODEV)
+
+
+def opened(name: str, index: int) -> socket.socket:
+    """A packet socket on an interface, which takes each frame that comes there, those to the group address and to strangers too. It takes
+    none before it is bound, and so none of another interface."""
+    it = socket.socket(socket.AF_PACKET, socket.SOCK_RAW, 0)
+    try:
+        it.setsockopt(socket.SOL_SOCKET, SO_TIMESTAMPNS, 1)
+        it.setsockopt(socket.SOL_SOCKET, socket.SO_RCVBUF, RECEIVE_OCTETS)
+        it.setsockopt(SOL_PACKET, PACKET_IGNORE_OUTGOING, 1)
+        it.setsockopt(SOL_PACKET, PACKET_AUXDATA, 1)
+        for kind, address in (PACKET_MR_MULTICAST, GROUP), (PACKET_MR_PROMISC, b""):
+            it.setsockopt(SOL_PACKET, PACKET_ADD_MEMBERSHIP, struct.pack("=iHH8s", index, kind, len(address), address))
+        it.setblocking(False)
+        it.bind((name, EVERY))
+    except BaseException:
+        it.close()
+        raise
     return it
+
+
+def tag(more: Sequence[tuple[int, int, bytes]]) -> bytes:
+    """The VLAN tag that the kernel took out of a frame; nothing where it had none."""
+    for level, kind, told in more:
+        if (level, kind) == (SOL_PACKET, PACKET_AUXDATA) and len(told) >= 20:
+            status, control, vlan = struct.unpack("=I12xHH", told[:20])
+            if status & VLAN_VALID:
+                return struct.pack("!HH", vlan if status & VLAN_TYPE_VALID else VLAN_TYPE, control)
+    return b""
 
 
 class PacketWire:
@@ -44,7 +71,13 @@ class PacketWire:
 
     def __init__(self, names: Sequence[str]) -> None:
         self.names = list(names)
-        self._sockets = [opened(name) for name in names]
+        self._indices = [socket.if_nametoindex(it) for it in names]
+        self._sockets: list[socket.socket] = []
+        try:
+            self._sockets += (opened(*it) for it in zip(self.names, self._indices))
+        except BaseException:
+            self.close()
+            raise
         self._sources = [Mac(it.getsockname()[4]) for it in self._sockets]
         self.started, self._begin = time.time(), time.monotonic()
 
@@ -61,13 +94,23 @@ class PacketWire:
         """The address of an interface."""
         return self._sources[link - 1]
 
-    def send(self, link: int, octets: bytes) -> None:
-        """Puts a frame on a link."""
+    def _check(self, link: int) -> None:
+        """Sees whether an interface is there still: one of its name that was made anew is another one."""
+        with suppress(OSError):
+            if socket.if_nametoindex(self.names[link - 1]) == self._indices[link - 1]:
+                return
+        raise Gone(f"the interface {self.names[link - 1]} is gone")
+
+    def send(self, link: int, octets: bytes) -> bool:
+        """Puts a frame on a link; answers whether it went."""
         try:
-            self._sockets[link - 1].send(octets)
+            return self._sockets[link - 1].send(octets) == len(octets)
         except OSError as why:
+            if why.errno in DOWN:
+                self._check(link)
             if why.errno not in LOST:
                 raise
+            return False
 
     def wait(self, seconds: float) -> list[Arrival]:
         """The frames that came, in the order of their times."""
@@ -82,11 +125,13 @@ class PacketWire:
             try:
                 octets, more, _, address = it.recvmsg(65535, 128)
             except OSError as why:
-                if why.errno in (errno.EAGAIN, errno.ENETDOWN):
-                    return came
-                raise
+                if why.errno in DOWN:
+                    self._check(link)
+                elif why.errno != errno.EAGAIN:
+                    raise
+                return came
             if address[2] != OUTGOING:
-                came.append(Arrival(link, self._time(more), octets))
+                came.append(Arrival(link, self._time(more), octets[:ADDRESSES] + tag(more) + octets[ADDRESSES:]))
 
     def _time(self, more: Sequence[tuple[int, int, bytes]]) -> float:
         """When a frame came: the age of the kernel's time stamp, which is of the clock that may be set, before now."""
@@ -99,7 +144,17 @@ class PacketWire:
 
     def flap(self, link: int, up: bool) -> None:
         """Takes our interface down or up, which wants CAP_NET_ADMIN."""
-        subprocess.run(["ip", "link", "set", self.names[link - 1], "up" if up else "down"], check=True)
+        words = ["ip", "link", "set", self.names[link - 1], "up" if up else "down"]
+        try:
+            subprocess.run(words, check=True, stdin=subprocess.DEVNULL, stdout=subprocess.DEVNULL, stderr=subprocess.DEVNULL)
+        except (OSError, subprocess.CalledProcessError) as why:
+            self._check(link)
+            raise NotHere("--flap wants CAP_NET_ADMIN and ip") from why
+
+    def drops(self) -> int:
+        """How many frames the kernel had no room for since that was asked last."""
+        told = [it.getsockopt(SOL_PACKET, PACKET_STATISTICS, 8) for it in self._sockets]
+        return sum(drops for _, drops in (struct.unpack("=II", it) for it in told))
 
 
 class Command:
@@ -114,20 +169,27 @@ class Command:
 
 
 class Running:
-    """A command that runs."""
+    """A command that runs, in a session of its own. What it says goes into a file, which no child of it can keep from its end."""
 
     def __init__(self, line: str) -> None:
-        self._process = subprocess.Popen(line, shell=True, stdout=subprocess.PIPE, stderr=subprocess.STDOUT, text=True)
+        self._said = tempfile.TemporaryFile()
+        self._process = subprocess.Popen(
+            line, shell=True, stdin=subprocess.DEVNULL, stdout=self._said, stderr=subprocess.STDOUT, start_new_session=True
+        )
 
     def answer(self) -> Optional[Answer]:
-        """Its status and what it said, once it has ended."""
+        """Its status and the end of what it said, once it has ended."""
         status = self._process.poll()
         if status is None:
             return None
-        with self._process.stdout or open("/dev/null") as said:
-            return Answer(status, said.read())
+        with self._said as said:
+            size = os.fstat(said.fileno()).st_size
+            octets = os.pread(said.fileno(), SAID_OCTETS, max(0, size - SAID_OCTETS))
+        return Answer(status, octets.decode("utf-8", "replace"))
 
     def stop(self) -> None:
-        """Kills it."""
-        self._process.kill()
+        """Kills it, and its children."""
+        with suppress(ProcessLookupError):
+            os.killpg(self._process.pid, signal.SIGKILL)
         self._process.wait()
+        self._said.close()

@@ -22,6 +22,10 @@ class Answer(NamedTuple):
     said: str
 
 
+class Gone(Exception):
+    """An interface is no longer there, and no run goes on; the text says which."""
+
+
 class Wire(Protocol):
     """One or two links. Links go by their numbers, from 1, and times in seconds since the start of the run."""
 
@@ -39,14 +43,20 @@ class Wire(Protocol):
     def source(self, link: int) -> Mac:
         """The address of our interface."""
 
-    def send(self, link: int, octets: bytes) -> None:
-        """Puts a frame on a link. One that the link refuses is lost."""
+    def send(self, link: int, octets: bytes) -> bool:
+        """Puts a frame on a link; answers whether it went. One that the link refuses is lost."""
 
     def wait(self, seconds: float) -> list[Arrival]:
         """The frames that came; waits for the first one for so long at most."""
 
+    def drops(self) -> int:
+        """How many frames came and were lost by this machine since that was asked last."""
+
     def flap(self, link: int, up: bool) -> None:
         """Takes our own end of a link down or up."""
+
+    def close(self) -> None:
+        """Gives the links back."""
 
 
 class Doing(Protocol):

@@ -58,8 +58,15 @@ class World:
     def source(self, link: int) -> Mac:
         return Mac(bytes([2, 0, 0, 0, 0xAA, link]))
 
-    def send(self, link: int, octets: bytes) -> None:
+    def send(self, link: int, octets: bytes) -> bool:
         self.device.take(link, octets)
+        return True
+
+    def drops(self) -> int:
+        return 0
+
+    def close(self) -> None:
+        pass
 
     def wait(self, seconds: float) -> list[Arrival]:
         limit = self.clock + seconds

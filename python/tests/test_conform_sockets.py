@@ -6,16 +6,23 @@ import os
 import shutil
 import subprocess
 import sys
+import time
+from pathlib import Path
 
 import pytest
+
+from lagconform.sockets import Command
+from lagconform.wires import Answer
 
 WANTED = not os.geteuid() and shutil.which("ip") and shutil.which("unshare")
 MAKES = "ip link add one type veth peer name two && ip link set one up && ip link set two up && "
 PROGRAM = """
-import socket, time
-from lagconform import refusals
+import os, socket, subprocess, time
+from lagconform import refusals, sockets
+from lagconform.model import NotHere
 from lagconform.sockets import Command, PacketWire
 from lagconform.pdus import GROUP, SLOW
+from lagconform.wires import Gone
 
 for name in "one", "two":
     for _ in range(100):
@@ -30,8 +37,41 @@ wire.send(1, frame)
 came = [it for it in wire.wait(2.0) if it.octets == frame]
 assert [it.link for it in came] == [2], came
 assert sent - 0.01 <= came[0].time <= wire.now(), (sent, came[0].time)
+tagged = frame[:12] + bytes.fromhex("81006005") + frame[12:]
+assert wire.send(1, tagged)
+assert tagged in [it.octets for it in wire.wait(2.0)]
+wire.drops()
+wire._sockets[1].setsockopt(socket.SOL_SOCKET, socket.SO_RCVBUF, 0)
+for _ in range(200):
+    wire.send(1, frame)
+assert wire.drops() > 100 and wire.drops() == 0
+wire.wait(0.1)
+
+class Late(socket.socket):
+    def bind(self, address):
+        wire.send(1, frame)  # it comes at two
+        time.sleep(0.1)
+        super().bind(address)
+
+with sockets.opened("one", socket.if_nametoindex("one")) as early:
+    pass
+socket.socket, before = Late, socket.socket
+with sockets.opened("one", socket.if_nametoindex("one")) as early:
+    try:
+        raise AssertionError(early.recv(2000))
+    except BlockingIOError:
+        pass
+socket.socket = before
+path, os.environ["PATH"] = os.environ["PATH"], "/none"
+try:
+    wire.flap(1, False)
+    raise AssertionError("there was an ip")
+except NotHere as told:
+    assert str(told) == "--flap wants CAP_NET_ADMIN and ip"
+os.environ["PATH"] = path
 wire.flap(1, False)
-wire.send(1, frame)
+assert not wire.send(1, frame)
+wire.wait(0.1)
 held = socket.socket(socket.AF_PACKET, socket.SOCK_RAW, socket.htons(0x8809))
 held.bind(("two", 0x8809))
 assert "python" in str(refusals.lacp_speaker("two")) and refusals.lacp_speaker("one") is None
@@ -40,10 +80,13 @@ for name, why in ("one", "is down"), ("two", "has no carrier"):
         refusals.check_interface(name)
     except refusals.Refused as told:
         assert why in str(told), told
-doing = Command("printf %s:").call(["a b", "c"])
-while (answer := doing.answer()) is None:
-    time.sleep(0.01)
-assert answer == (0, "a b:c:"), answer
+subprocess.run(["ip", "link", "del", "one"], check=True)
+for act in lambda: wire.send(1, frame), lambda: wire.wait(0.1), lambda: wire.flap(1, True):
+    try:
+        act()
+        raise AssertionError("one is there")
+    except Gone as told:
+        assert str(told) in ("the interface one is gone", "the interface two is gone"), told
 wire.close()
 held.close()
 print("well")
@@ -55,3 +98,39 @@ def test_frames_pass_a_pair() -> None:
     words = ["unshare", "--net", "--mount", "sh", "-c", MAKES + 'mount -t sysfs sys /sys && exec "$0" -B -W error -c "$1"', sys.executable, PROGRAM]
     ended = subprocess.run(words, capture_output=True, text=True, timeout=60)
     assert ended.stdout == "well\n", ended.stderr
+
+
+def said(line: str) -> Answer:
+    """What a command says that ends soon."""
+    doing, limit = Command(line).call([]), time.monotonic() + 20
+    while (answer := doing.answer()) is None:
+        assert time.monotonic() < limit
+        time.sleep(0.01)
+    return answer
+
+
+def test_a_hook_gets_its_words() -> None:
+    assert said("printf %s: 'a b' c") == (0, "a b:c:")
+    assert said("exit 3 #").status == 3
+
+
+def test_a_hook_may_leave_a_child_and_say_much_and_no_text(tmp_path: Path) -> None:
+    pid = tmp_path / "pid"
+    begin = time.monotonic()
+    assert said(f"sleep 30 & echo $! > {pid}; printf well #") == (0, "well")
+    assert time.monotonic() - begin < 10
+    os.kill(int(pid.read_text()), 9)
+    assert said("head -c 200000 /dev/zero | tr '\\0' x; printf end #").said.endswith("xxend")
+    assert said("printf '\\377' #").said == "\ufffd"
+
+
+def test_a_hook_that_is_ended_takes_its_children_along(tmp_path: Path) -> None:
+    pid = tmp_path / "pid"
+    doing = Command(f"sleep 30 & echo $! > {pid}; wait #").call([])
+    while not pid.exists() or not pid.read_text().strip():
+        time.sleep(0.01)
+    doing.stop()
+    stat, limit = Path("/proc") / pid.read_text().strip() / "stat", time.monotonic() + 10
+    while stat.exists() and stat.read_text().split()[2] != "Z":
+        assert time.monotonic() < limit
+        time.sleep(0.01)

@@ -136,4 +136,5 @@ def steady_bits(b: Bench) -> None:
     states = [it.lacpdu.actor.state for it in found if it.lacpdu]
     b.holds(not any(it & (State.DEFAULTED | State.EXPIRED) for it in states), "neither Defaulted nor Expired", *found[:2])
     b.holds(len({it & 7 for it in states}) == 1, f"Activity, Timeout, Aggregation stay: {words(states[0] & 7)}", *found[:2])
-    b.holds(states[0] & State.AGGREGATION and states[0] & State.SYNCHRONIZATION, "aggregatable, and synchronized", found[0])
+    b.holds(states[0] & State.SYNCHRONIZATION, "synchronized", found[0])
+    b.note("aggregatable" if states[0] & State.AGGREGATION else "individual")

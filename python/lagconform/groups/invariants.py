@@ -8,7 +8,7 @@ from niwhopera import Info, Lacpdu, PortId, State, SystemId
 
 from ..bench import Bench
 from ..model import Frame, Group
-from ..pdus import PAYLOAD, SLOW, put, read, six
+from ..pdus import PAYLOAD, SLOW, is_of_lag, put, read, six
 
 group = Group("IV", "All frames of the run")
 # The first octets of the systems that the bench is.
@@ -45,11 +45,11 @@ def in_sync(b: Bench) -> None:
     b.claim(not wrong, f"{len(wrong)} of {len(found)} LACPDUs", *wrong[:4])
 
 
-@group.test("03", "6.4.2, 6.5.3", "The proved codec reads each frame of Slow Protocols", "look at all frames of type 8809 of the device",
+@group.test("03", "6.4.2, 6.5.3", "The proved codec reads each LACPDU and Marker PDU", "look at all LACPDUs and Marker PDUs of the device: subtypes 1 and 2",
             rule="niwhopera.decode refuses none; TLV types as they have to be; 124 octets", takes=0.1)  # fmt: skip
 def whole(b: Bench) -> None:
-    """Nothing but LACPDUs and Marker PDUs of the right shape came, in the whole run."""
-    slow = [it for it in b.frames if not it.out and it.octets[12:14] == SLOW]
+    """Each LACPDU and Marker PDU of the whole run has the right shape. Other Slow Protocols, as OAM and ESMC, are not looked at."""
+    slow = [it for it in b.frames if not it.out and is_of_lag(it.octets)]
     sent = {it.octets[17:30] for it in b.frames if it.out and it.octets[12:15] == SLOW + b"\2"}  # whose response may be as wrong
 
     def is_whole(it: Frame) -> bool:

@@ -24,13 +24,13 @@ DATA = ("data",)
 
 def flows(b: Bench) -> dict[int, int]:
     """How many flows of the device's client came on each link, while a hook makes it send."""
-    b.hook("data", "start")
-    try:
+    with b.undone(lambda: b.hook("data", "stop")):
+        b.hook("data", "start")
         mark = b.mark()
         b.wait(SECONDS)
-        return {link: b.data(mark, link) for link in (1, 2)}
-    finally:
-        b.hook("data", "stop")
+        found = {link: b.data(mark, link) for link in (1, 2)}
+    b.hook("data", "stop")
+    return found
 
 
 def apart(b: Bench, seconds: float = 8, one: bool = True) -> None:

@@ -1,0 +1,216 @@
+"""What is no fault of the device gives it no fail: right devices with ways of their own, and links and machines that lose frames."""
+
+from __future__ import annotations
+
+import xml.etree.ElementTree as xml
+from typing import Iterable, Iterator, Optional, Sequence, Type
+
+import pytest
+from conform_device import Device, Done, World, is_lacpdu
+from conform_faults import KeyUnchecked, LinkUnseen, set_bits
+
+from lagconform import command, report
+from lagconform.bench import HOOK_SECONDS, Bench
+from lagconform.groups import TESTS
+from lagconform.model import FAIL, INCONCLUSIVE, PASS, SKIPPED, Result
+from lagconform.refusals import Refused
+from lagconform.runner import NoDevice, meet, run_all, run_one
+from lagconform.wires import Answer, Arrival, Gone
+
+BY_NAME = {it.id: it for it in TESTS}
+
+
+def play(kind: Type[Device], *names: str, world: Type[World] = World, flaps: bool = False) -> list[Result]:
+    """Runs tests beside a device; a hook is there."""
+    device = kind()
+    wire = world(device)
+    b = Bench(wire, wire, flaps=flaps)
+    try:
+        meet(b)
+        return [run_one(b, BY_NAME[it]) for it in names]
+    finally:
+        b.close()
+        device.stop()
+
+
+class NoIndividual(Device):
+    """Attaches no individual partner."""
+
+    def says(self, port: int, frame: bytes) -> Iterable[bytes]:
+        yield frame if frame[52] & 4 else set_bits(frame, 18, 0x38, False)
+
+
+class Individual(Device):
+    """Its ports are individual."""
+
+    def hears(self, port: int, frame: bytes) -> Iterable[bytes]:
+        yield set_bits(frame, 38, 4, True) if is_lacpdu(frame) else frame
+
+    def says(self, port: int, frame: bytes) -> Iterable[bytes]:
+        yield set_bits(frame, 18, 4, False)
+
+
+class Neighbours(Device):
+    """Sends OAM and ESMC, too."""
+
+    def says(self, port: int, frame: bytes) -> Iterable[bytes]:
+        yield frame
+        yield frame[:14] + b"\3" + bytes(45)
+        yield frame[:14] + b"\x0a" + bytes(45)
+
+
+@pytest.mark.parametrize("kind, name", [(NoIndividual, "RX-12f"), (NoIndividual, "MX-08"), (Individual, "FM-08"), (Neighbours, "IV-03")])
+def test_a_right_device_of_its_own_kind_passes(kind: Type[Device], name: str) -> None:
+    found = play(kind, "RX-01", name)[-1]
+    assert found.verdict == PASS, found.why
+
+
+def test_oam_and_esmc_are_no_faulty_lacpdus() -> None:
+    class Others(Neighbours):
+        def says(self, port: int, frame: bytes) -> Iterator[bytes]:
+            yield from list(super().says(port, frame))[1:]
+
+    with pytest.raises(NoDevice, match="no LACPDU came in 35 s"):
+        play(Others)
+
+
+class Refuses(World):
+    """A link that refuses what names another key, but tells it."""
+
+    def send(self, link: int, octets: bytes) -> bool:
+        super().send(link, octets)
+        return not (is_lacpdu(octets) and octets[14 + 32 : 14 + 34] != b"\0\x17")
+
+
+class Full(World):
+    """A machine that drops frames."""
+
+    def drops(self) -> int:
+        return 3
+
+
+@pytest.mark.parametrize("world, why", [(Refuses, "the link refused "), (Full, "it dropped 3 frames")])
+def test_a_bench_that_loses_frames_gives_no_fail(world: Type[World], why: str) -> None:
+    assert play(KeyUnchecked, "RX-07c")[0].verdict == FAIL
+    found = play(KeyUnchecked, "RX-07c", world=world)[0]
+    assert found.verdict == INCONCLUSIVE and why in found.why and "Seen: with another key" in found.why, found.why
+
+
+def test_what_a_flap_refuses_excuses_no_device() -> None:
+    class Down(World):
+        def flap(self, link: int, up: bool) -> None:
+            self.up = up
+
+        def send(self, link: int, octets: bytes) -> bool:
+            super().send(link, octets)
+            return getattr(self, "up", True)
+
+    assert play(LinkUnseen, "RX-13", world=Down, flaps=True)[0].verdict == FAIL
+
+
+def test_a_run_ends_where_an_interface_is_gone() -> None:
+    class Leaves(World):
+        def wait(self, seconds: float) -> list[Arrival]:
+            if self.clock > 8:
+                raise Gone("the interface link1 is gone")
+            return super().wait(seconds)
+
+    device, results = KeyUnchecked(), list[Result]()
+    b = Bench(Leaves(device))
+    meet(b)
+    with pytest.raises(Gone, match="link1 is gone"):
+        run_all(b, [BY_NAME[it] for it in ("RX-07c", "FM-01", "FM-02", "FM-03", "FM-04")], results.append)
+    assert results[-1].verdict == INCONCLUSIVE and results[-1].why == "the interface link1 is gone" and len(results) < 5
+    b.close()
+    device.stop()
+
+
+class Told(World):
+    """Keeps what was asked for, and ends the test in the middle of it."""
+
+    ends_with: BaseException = KeyboardInterrupt()
+
+    def __init__(self, device: Device) -> None:
+        super().__init__(device)
+        self.done: list[str] = []
+
+    def flap(self, link: int, up: bool) -> None:
+        super().flap(link, up)
+        self.done.append("up" if up else "down")
+
+    def call(self, words: Sequence[str]) -> Done:
+        self.done.append(" ".join(words))
+        return super().call(words)
+
+    def wait(self, seconds: float) -> list[Arrival]:
+        if getattr(self, "done", []) and len(self.done) == 1:
+            raise self.ends_with
+        return super().wait(seconds)
+
+
+@pytest.mark.parametrize("name, flaps, done", [("RX-13", True, "down up"), ("RX-13", False, "down 1 up 1"), ("RX-15", False, "stop start")])
+def test_an_end_within_a_test_leaves_the_device_as_it_was(name: str, flaps: bool, done: str) -> None:
+    device = Device()
+    world = Told(device)
+    b = Bench(world, world, flaps=flaps)
+    meet(b)
+    with pytest.raises(KeyboardInterrupt):
+        run_one(b, BY_NAME[name])
+    assert " ".join(world.done) == done
+    b.close()
+    device.stop()
+
+
+class Endless:
+    """A hook that does not end."""
+
+    stopped = False
+
+    def call(self, words: Sequence[str]) -> Endless:
+        return self
+
+    def answer(self) -> Optional[Answer]:
+        return None
+
+    def stop(self) -> None:
+        self.stopped = True
+
+
+def test_a_hook_that_does_not_end_is_refused() -> None:
+    device, hook = Device(), Endless()
+    b = Bench(World(device), hook)
+    with pytest.raises(Refused, match="the hook did not end in 40 s: reset"):
+        command.prepare_device(command.reader().parse_args(["a", "--hook", "x"]), b)
+    assert hook.stopped and HOOK_SECONDS <= b.now() < HOOK_SECONDS + 1
+    b.close()
+    device.stop()
+
+
+def test_a_test_without_its_hook_leaves_nothing_for_the_shadow() -> None:
+    device = Device()
+    b = Bench(World(device))
+    meet(b)
+    assert run_one(b, BY_NAME["RX-15"]).verdict == SKIPPED and not b.events
+    b.close()
+    device.stop()
+
+
+def test_a_closed_bench_closes_its_links() -> None:
+    closed: list[bool] = []
+
+    class Closes(World):
+        def close(self) -> None:
+            closed.append(True)
+
+    play(Device, world=Closes)
+    assert closed == [True]
+
+
+def test_junit_is_xml_whatever_a_text_has() -> None:
+    device = Device()
+    b = Bench(World(device))
+    found = Result(BY_NAME["FM-01"], FAIL, why="\x1b[31mred\x00\ufffe\ud800", notes=["\x07"])
+    text = report.as_junit(report.Run(b, {"device": "a\x08b"}, [found]))
+    assert xml.fromstring(text.encode()).get("name") == "a\ufffdb"
+    b.close()
+    device.stop()
