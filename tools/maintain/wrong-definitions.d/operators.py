@@ -5,6 +5,8 @@ from __future__ import annotations
 import os
 import random
 import re
+from collections import Counter
+from dataclasses import replace
 from typing import Iterator
 
 import body_operators
@@ -57,12 +59,15 @@ def each(crate: str, kind: str, said: Declared) -> Iterator[Trial]:
     by, folder, ending = (body_operators, "src", ".rt") if kind == "bodies" else (definition_operators, "specs", ".antt")
     for file in files(crate, folder, ending):
         text = read(os.path.join(CRATES, crate, file))
-        made = {text}
+        made, names = {text}, Counter[str]()
         for change in by.changes(text, said):
             new = text[: change.start] + change.new + text[change.end :]
             if new not in made:
                 made.add(new)
-                yield trial(crate, file, text, change)
+                edit = trial(crate, file, text, change)
+                names[edit.name] += 1
+                # Equal lines of one function have a number, so that each edit has a name of its own.
+                yield edit if names[edit.name] == 1 else replace(edit, name=f"{edit.name} ({names[edit.name]})")
 
 
 def made(crate: str, kind: str, seed: int = 0, count: int = 0) -> list[Trial]:
