@@ -38,6 +38,18 @@ use crate::values::{
 use lagsystem::AggId;
 use std::alloc::Global;
 
+/// Takes the system out of a handle, asks it, and puts it back; refused in this type where the handle holds no system.
+macro_rules! ask {
+    ($alloc:ident, $lag:ident, $refused:ident, $system:ident, $block:ident => $answer:expr) => {{
+        let Some(($system, $block)) = $lag.take($alloc, by_number) else {
+            return $refused::refused(NO_SYSTEM);
+        };
+        let answer = $answer;
+        $lag.put($system, $block);
+        answer
+    }};
+}
+
 /// Whether the link of a port is up.
 /// Refuses: NIW_NO_SYSTEM, NIW_NO_PORT.
 #[unsafe(no_mangle)]
@@ -45,12 +57,7 @@ pub extern "C" fn lagffi_is_up(alloc: Global, lag: &mut Lag, port: u16) -> LagTr
     ensures { ReadsHeldSystem (held_value lag.old.held.kept) (held_value lag.new.held.kept)
         (λ s. result ≡ truth_or_no_port (option_map (λ p. p.enabled) (machines_of port s))) (result ≡ truth_refused no_system) }
 {
-    let Some((system, block)) = lag.take(alloc, by_number) else {
-        return LagTruth::refused(NO_SYSTEM);
-    };
-    let answer = LagTruth::of_port(system.is_up(port));
-    lag.put(system, block);
-    answer
+    ask!(alloc, lag, LagTruth, system, block => LagTruth::of_port(system.is_up(port)))
 }
 
 /// Whether niw_transmit would return a frame now.
@@ -60,12 +67,7 @@ pub extern "C" fn lagffi_is_due(alloc: Global, lag: &mut Lag, port: u16) -> LagT
     ensures { ReadsHeldSystem (held_value lag.old.held.kept) (held_value lag.new.held.kept)
         (λ s. result ≡ truth_or_no_port (would_transmit_at port s)) (result ≡ truth_refused no_system) }
 {
-    let Some((system, block)) = lag.take(alloc, by_number) else {
-        return LagTruth::refused(NO_SYSTEM);
-    };
-    let answer = LagTruth::of_port(system.is_due(port));
-    lag.put(system, block);
-    answer
+    ask!(alloc, lag, LagTruth, system, block => LagTruth::of_port(system.is_due(port)))
 }
 
 /// Actor_State.Defaulted: whether recordDefault set the recorded partner, and no LACPDU since.
@@ -75,12 +77,7 @@ pub extern "C" fn lagffi_defaulted(alloc: Global, lag: &mut Lag, port: u16) -> L
     ensures { ReadsHeldSystem (held_value lag.old.held.kept) (held_value lag.new.held.kept)
         (λ s. result ≡ truth_or_no_port (option_map (λ p. p.defaulted) (machines_of port s))) (result ≡ truth_refused no_system) }
 {
-    let Some((system, block)) = lag.take(alloc, by_number) else {
-        return LagTruth::refused(NO_SYSTEM);
-    };
-    let answer = LagTruth::of_port(system.defaulted(port));
-    lag.put(system, block);
-    answer
+    ask!(alloc, lag, LagTruth, system, block => LagTruth::of_port(system.defaulted(port)))
 }
 
 /// Whether a port distributes.
@@ -91,12 +88,7 @@ pub extern "C" fn lagffi_distributes(alloc: Global, lag: &mut Lag, port: u16) ->
         (λ s. result ≡ truth_or_no_port (option_map (λ p. same_mux_state MuxState.CollectingDistributing p.mux) (machines_of port s)))
         (result ≡ truth_refused no_system) }
 {
-    let Some((system, block)) = lag.take(alloc, by_number) else {
-        return LagTruth::refused(NO_SYSTEM);
-    };
-    let answer = LagTruth::of_port(system.distributes(port));
-    lag.put(system, block);
-    answer
+    ask!(alloc, lag, LagTruth, system, block => LagTruth::of_port(system.distributes(port)))
 }
 
 /// The state octet of a port's own side.
@@ -106,12 +98,7 @@ pub extern "C" fn lagffi_state(alloc: Global, lag: &mut Lag, port: u16) -> LagNu
     ensures { ReadsHeldSystem (held_value lag.old.held.kept) (held_value lag.new.held.kept)
         (λ s. result ≡ state_or_no_port (option_map actor_state (machines_of port s))) (result ≡ number_refused no_system) }
 {
-    let Some((system, block)) = lag.take(alloc, by_number) else {
-        return LagNumber::refused(NO_SYSTEM);
-    };
-    let answer = state_or_no_port(system.state(port));
-    lag.put(system, block);
-    answer
+    ask!(alloc, lag, LagNumber, system, block => state_or_no_port(system.state(port)))
 }
 
 /// The state of the receive machine of a port.
@@ -121,12 +108,7 @@ pub extern "C" fn lagffi_receive_state(alloc: Global, lag: &mut Lag, port: u16) 
     ensures { ReadsHeldSystem (held_value lag.old.held.kept) (held_value lag.new.held.kept)
         (λ s. result ≡ receive_state_or_no_port (option_map (λ p. p.receive) (machines_of port s))) (result ≡ number_refused no_system) }
 {
-    let Some((system, block)) = lag.take(alloc, by_number) else {
-        return LagNumber::refused(NO_SYSTEM);
-    };
-    let answer = receive_state_or_no_port(system.receive_state(port));
-    lag.put(system, block);
-    answer
+    ask!(alloc, lag, LagNumber, system, block => receive_state_or_no_port(system.receive_state(port)))
 }
 
 /// The aggregator that a port is given, or 0. The port is SELECTED or STANDBY with it.
@@ -136,12 +118,7 @@ pub extern "C" fn lagffi_choice(alloc: Global, lag: &mut Lag, port: u16) -> LagN
     ensures { ReadsHeldSystem (held_value lag.old.held.kept) (held_value lag.new.held.kept)
         (λ s. result ≡ choice_or_no_port (option_map (λ p. p.choice) (machines_of port s))) (result ≡ number_refused no_system) }
 {
-    let Some((system, block)) = lag.take(alloc, by_number) else {
-        return LagNumber::refused(NO_SYSTEM);
-    };
-    let answer = choice_or_no_port(system.choice(port));
-    lag.put(system, block);
-    answer
+    ask!(alloc, lag, LagNumber, system, block => choice_or_no_port(system.choice(port)))
 }
 
 /// Whether a port is STANDBY: its aggregator had no room for one more link.
@@ -151,12 +128,7 @@ pub extern "C" fn lagffi_is_standby(alloc: Global, lag: &mut Lag, port: u16) -> 
     ensures { ReadsHeldSystem (held_value lag.old.held.kept) (held_value lag.new.held.kept)
         (λ s. result ≡ standby_or_no_port (option_map (λ p. p.choice) (machines_of port s))) (result ≡ truth_refused no_system) }
 {
-    let Some((system, block)) = lag.take(alloc, by_number) else {
-        return LagTruth::refused(NO_SYSTEM);
-    };
-    let answer = standby_or_no_port(system.choice(port));
-    lag.put(system, block);
-    answer
+    ask!(alloc, lag, LagTruth, system, block => standby_or_no_port(system.choice(port)))
 }
 
 /// The state of the mux machine of a port.
@@ -166,12 +138,7 @@ pub extern "C" fn lagffi_mux_state(alloc: Global, lag: &mut Lag, port: u16) -> L
     ensures { ReadsHeldSystem (held_value lag.old.held.kept) (held_value lag.new.held.kept)
         (λ s. result ≡ mux_state_or_no_port (option_map (λ p. p.mux) (machines_of port s))) (result ≡ number_refused no_system) }
 {
-    let Some((system, block)) = lag.take(alloc, by_number) else {
-        return LagNumber::refused(NO_SYSTEM);
-    };
-    let answer = mux_state_or_no_port(system.mux_state(port));
-    lag.put(system, block);
-    answer
+    ask!(alloc, lag, LagNumber, system, block => mux_state_or_no_port(system.mux_state(port)))
 }
 
 /// Whether a port distributes, and else the first reason why not: NIW_PORT_STATUS_..
@@ -181,12 +148,7 @@ pub extern "C" fn lagffi_port_status(alloc: Global, lag: &mut Lag, port: u16) ->
     ensures { ReadsHeldSystem (held_value lag.old.held.kept) (held_value lag.new.held.kept)
         (λ s. result ≡ port_status_or_no_port (option_map status_of_port (machines_of port s))) (result ≡ number_refused no_system) }
 {
-    let Some((system, block)) = lag.take(alloc, by_number) else {
-        return LagNumber::refused(NO_SYSTEM);
-    };
-    let answer = port_status_or_no_port(system.port_status(port));
-    lag.put(system, block);
-    answer
+    ask!(alloc, lag, LagNumber, system, block => port_status_or_no_port(system.port_status(port)))
 }
 
 /// How many ticks current_while of a port has left, 0 to 900.
@@ -196,12 +158,7 @@ pub extern "C" fn lagffi_current_while(alloc: Global, lag: &mut Lag, port: u16) 
     ensures { ReadsHeldSystem (held_value lag.old.held.kept) (held_value lag.new.held.kept)
         (λ s. result ≡ number_or_refused 1 (option_map (λ p. p.current_while) (machines_of port s))) (result ≡ number_refused no_system) }
 {
-    let Some((system, block)) = lag.take(alloc, by_number) else {
-        return LagNumber::refused(NO_SYSTEM);
-    };
-    let answer = LagNumber::or(system.current_while(port), NO_PORT);
-    lag.put(system, block);
-    answer
+    ask!(alloc, lag, LagNumber, system, block => LagNumber::or(system.current_while(port), NO_PORT))
 }
 
 /// How many ticks wait_while of a port has left, 0 to 20.
@@ -211,12 +168,7 @@ pub extern "C" fn lagffi_wait_while(alloc: Global, lag: &mut Lag, port: u16) -> 
     ensures { ReadsHeldSystem (held_value lag.old.held.kept) (held_value lag.new.held.kept)
         (λ s. result ≡ number_or_refused 1 (option_map (λ p. p.wait_while) (machines_of port s))) (result ≡ number_refused no_system) }
 {
-    let Some((system, block)) = lag.take(alloc, by_number) else {
-        return LagNumber::refused(NO_SYSTEM);
-    };
-    let answer = LagNumber::octet_or_no_port(system.wait_while(port));
-    lag.put(system, block);
-    answer
+    ask!(alloc, lag, LagNumber, system, block => LagNumber::octet_or_no_port(system.wait_while(port)))
 }
 
 /// Whether an LACPDU is to be sent on a port. It is not due yet where three went in the last eleven ticks; niw_is_due tells of markers
@@ -227,12 +179,7 @@ pub extern "C" fn lagffi_ntt(alloc: Global, lag: &mut Lag, port: u16) -> LagTrut
     ensures { ReadsHeldSystem (held_value lag.old.held.kept) (held_value lag.new.held.kept)
         (λ s. result ≡ truth_or_no_port (option_map (λ p. p.ntt) (machines_of port s))) (result ≡ truth_refused no_system) }
 {
-    let Some((system, block)) = lag.take(alloc, by_number) else {
-        return LagTruth::refused(NO_SYSTEM);
-    };
-    let answer = LagTruth::of_port(system.ntt(port));
-    lag.put(system, block);
-    answer
+    ask!(alloc, lag, LagTruth, system, block => LagTruth::of_port(system.ntt(port)))
 }
 
 /// The own parameters of a port.
@@ -242,12 +189,7 @@ pub extern "C" fn lagffi_party(alloc: Global, lag: &mut Lag, port: u16) -> LagPa
     ensures { ReadsHeldSystem (held_value lag.old.held.kept) (held_value lag.new.held.kept)
         (λ s. result ≡ party_or_no_port (option_map (λ p. p.party) (machines_of port s))) (result ≡ party_refused no_system) }
 {
-    let Some((system, block)) = lag.take(alloc, by_number) else {
-        return LagParty::refused(NO_SYSTEM);
-    };
-    let answer = LagParty::of(system.party(port));
-    lag.put(system, block);
-    answer
+    ask!(alloc, lag, LagParty, system, block => LagParty::of(system.party(port)))
 }
 
 /// The recorded partner of a port.
@@ -257,12 +199,7 @@ pub extern "C" fn lagffi_partner(alloc: Global, lag: &mut Lag, port: u16) -> Lag
     ensures { ReadsHeldSystem (held_value lag.old.held.kept) (held_value lag.new.held.kept)
         (λ s. result ≡ info_or_no_port (option_map (λ p. p.partner) (machines_of port s))) (result ≡ info_refused no_system) }
 {
-    let Some((system, block)) = lag.take(alloc, by_number) else {
-        return LagInfo::refused(NO_SYSTEM);
-    };
-    let answer = LagInfo::of(system.partner(port));
-    lag.put(system, block);
-    answer
+    ask!(alloc, lag, LagInfo, system, block => LagInfo::of(system.partner(port)))
 }
 
 /// The Link Aggregation Group of a port.
@@ -272,12 +209,7 @@ pub extern "C" fn lagffi_group(alloc: Global, lag: &mut Lag, port: u16) -> LagGr
     ensures { ReadsHeldSystem (held_value lag.old.held.kept) (held_value lag.new.held.kept)
         (λ s. result ≡ group_or_no_port (option_map group_at (machines_of port s))) (result ≡ group_refused no_system) }
 {
-    let Some((system, block)) = lag.take(alloc, by_number) else {
-        return LagGroup::refused(NO_SYSTEM);
-    };
-    let answer = LagGroup::of(system.group(port));
-    lag.put(system, block);
-    answer
+    ask!(alloc, lag, LagGroup, system, block => LagGroup::of(system.group(port)))
 }
 
 /// How many conversations are on a port, those that are held among them.
@@ -288,12 +220,7 @@ pub extern "C" fn lagffi_load(alloc: Global, lag: &mut Lag, port: u16) -> LagNum
         (λ s. MatchOption (port_index port s.system_ports) (result ≡ number_refused 1)
         (λ place. result ≡ number (count_conversations (names_port port) s.table))) (result ≡ number_refused no_system) }
 {
-    let Some((system, block)) = lag.take(alloc, by_number) else {
-        return LagNumber::refused(NO_SYSTEM);
-    };
-    let answer = LagNumber::of_count(&system.load(port));
-    lag.put(system, block);
-    answer
+    ask!(alloc, lag, LagNumber, system, block => LagNumber::of_count(&system.load(port)))
 }
 
 /// Whether the peer of a port answers markers: NIW_ANSWERS_.. A marker that niw_transmit or niw_probe wrote asks it. A response that
@@ -306,12 +233,7 @@ pub extern "C" fn lagffi_answers(alloc: Global, lag: &mut Lag, port: u16) -> Lag
         (λ s notes. result ≡ number_or_refused 1 (option_map answers_number (note_of port s.system_ports notes)))
         (result ≡ number_refused no_system) }
 {
-    let Some((system, block)) = lag.take(alloc, by_number) else {
-        return LagNumber::refused(NO_SYSTEM);
-    };
-    let answer = LagNumber::note_or_no_port(block.answering.of(&system, port));
-    lag.put(system, block);
-    answer
+    ask!(alloc, lag, LagNumber, system, block => LagNumber::note_or_no_port(block.answering.of(&system, port)))
 }
 
 /// How many conversations are held on a port, wanted or flushing there; niw_load counts those that are on it, too.
@@ -322,12 +244,7 @@ pub extern "C" fn lagffi_held(alloc: Global, lag: &mut Lag, port: u16) -> LagNum
         (λ s. MatchOption (port_index port s.system_ports) (result ≡ number_refused 1)
         (λ place. result ≡ number (count_held_on port s))) (result ≡ number_refused no_system) }
 {
-    let Some((system, block)) = lag.take(alloc, by_number) else {
-        return LagNumber::refused(NO_SYSTEM);
-    };
-    let answer = LagNumber::of_count(&system.held(port));
-    lag.put(system, block);
-    answer
+    ask!(alloc, lag, LagNumber, system, block => LagNumber::of_count(&system.held(port)))
 }
 
 /// How many aggregators there are. They are numbered from 1.
@@ -337,12 +254,7 @@ pub extern "C" fn lagffi_aggregators(alloc: Global, lag: &mut Lag) -> LagNumber
     ensures { ReadsHeldSystem (held_value lag.old.held.kept) (held_value lag.new.held.kept)
         (λ s. result ≡ number (length s.keys)) (result ≡ number_refused no_system) }
 {
-    let Some((system, block)) = lag.take(alloc, by_number) else {
-        return LagNumber::refused(NO_SYSTEM);
-    };
-    let answer = LagNumber::answered(system.aggregators() as u64);
-    lag.put(system, block);
-    answer
+    ask!(alloc, lag, LagNumber, system, block => LagNumber::answered(system.aggregators() as u64))
 }
 
 /// The number of the conversation of a frame, the same in every aggregator.
@@ -354,12 +266,7 @@ pub extern "C" fn lagffi_conversation(alloc: Global, lag: &mut Lag, frame: &[u8]
         × IfSome (conversation_in s frame.now) (λ conv. conv < conversation_count s))
         (result ≡ number_refused no_system) }
 {
-    let Some((system, block)) = lag.take(alloc, by_number) else {
-        return LagNumber::refused(NO_SYSTEM);
-    };
-    let answer = LagNumber::or(system.conversation(frame), FRAME_LENGTH_REFUSED);
-    lag.put(system, block);
-    answer
+    ask!(alloc, lag, LagNumber, system, block => LagNumber::or(system.conversation(frame), FRAME_LENGTH_REFUSED))
 }
 
 /// What a conversation of an aggregator is doing.
@@ -374,12 +281,7 @@ pub extern "C" fn lagffi_conversation_state(
     ensures { ReadsHeldSystem (held_value lag.old.held.kept) (held_value lag.new.held.kept)
         (λ s. result ≡ assignment_or_refused (conversation_at s (aggregator_numbered agg) conv)) (result ≡ assignment_refused no_system) }
 {
-    let Some((system, block)) = lag.take(alloc, by_number) else {
-        return LagAssignment::refused(NO_SYSTEM);
-    };
-    let answer = LagAssignment::of(system.conversation_state(AggId(agg), conv));
-    lag.put(system, block);
-    answer
+    ask!(alloc, lag, LagAssignment, system, block => LagAssignment::of(system.conversation_state(AggId(agg), conv)))
 }
 
 /// The identifier of the next marker.
@@ -389,12 +291,7 @@ pub extern "C" fn lagffi_next_marker(alloc: Global, lag: &mut Lag) -> LagMarker
     ensures { ReadsHeldSystem (held_value lag.old.held.kept) (held_value lag.new.held.kept)
         (λ s. result ≡ lag_marker (next_identifier s.table)) (result ≡ marker_refused no_system) }
 {
-    let Some((system, block)) = lag.take(alloc, by_number) else {
-        return LagMarker::refused(NO_SYSTEM);
-    };
-    let answer = LagMarker::of(system.next_marker());
-    lag.put(system, block);
-    answer
+    ask!(alloc, lag, LagMarker, system, block => LagMarker::of(system.next_marker()))
 }
 
 /// In how many ticks something happens by itself: 0 if a frame is due on some port. Until then a tick only counts: a program may
@@ -406,12 +303,7 @@ pub extern "C" fn lagffi_ticks_until_due(alloc: Global, lag: &mut Lag) -> LagWai
     ensures { ReadsHeldSystem (held_value lag.old.held.kept) (held_value lag.new.held.kept)
         (λ s. result ≡ lag_wait (ticks_until_due s)) (result ≡ wait_refused no_system) }
 {
-    let Some((system, block)) = lag.take(alloc, by_number) else {
-        return LagWait::refused(NO_SYSTEM);
-    };
-    let answer = LagWait::of(system.ticks_until_due());
-    lag.put(system, block);
-    answer
+    ask!(alloc, lag, LagWait, system, block => LagWait::of(system.ticks_until_due()))
 }
 
 /// How many ports there are. `numbers` has room for NIW_MOST_PORTS numbers or more, which `room` counts; those of the ports are written
