@@ -7,6 +7,7 @@ from __future__ import annotations
 
 import json
 import os
+import runpy
 import shlex
 import signal
 import socket
@@ -103,20 +104,17 @@ class Pump(testpmd.Pump):
     many = False
 
     def send(self) -> None:
-        flows = [made(number) for number in range(64)]
+        frames = frames_of_flows()
         number = 0
         while not self.ends.wait(0.01):
-            number = (number + 1) % 64 if Pump.many else 0
-            self.socket.send(flows[number])
+            number = (number + 1) % len(frames) if Pump.many else 0
+            self.socket.send(frames[number])
 
 
-def made(number: int) -> bytes:
-    """A frame of a flow, as examples/conform/flows.py makes it."""
-    with open(FLOWS, encoding="utf-8") as it:
-        space: dict[str, Any] = {"__name__": "flows"}
-        exec(it.read(), space)
-    octets: bytes = space["flow"](number)
-    return octets
+def frames_of_flows() -> list[bytes]:
+    """A frame of each flow, as examples/conform/flows.py makes them."""
+    space = runpy.run_path(FLOWS, run_name="flows")
+    return [space["flow"](number) for number in range(space["FLOWS"])]
 
 
 class Pmd(Device):
@@ -230,7 +228,7 @@ def serve(device: Device, path: str) -> None:
 
 def beside(name: str, device: Device, shared: str, reports: str, words: Sequence[str]) -> str:
     """Runs lagconform beside a device; answers the file of its JSON."""
-    made = os.path.join(reports, f"{name}.json")
+    report = os.path.join(reports, f"{name}.json")
     with tempfile.TemporaryDirectory() as folder:
         try:
             make_spaces()
@@ -255,9 +253,9 @@ def beside(name: str, device: Device, shared: str, reports: str, words: Sequence
             device.end()
             drop_spaces()
     check(status in (0, 1), f"{name}: lagconform runs to its end", f"status {status}")
-    new = [f"{it['id']}: {it['why']}" for it in loaded(made)["tests"] if it["verdict"] == "fail" and not it["known"]]
+    new = [f"{it['id']}: {it['why']}" for it in loaded(report)["tests"] if it["verdict"] == "fail" and not it["known"]]
     check(not new, f"{name}: no test fails but those that are known", *new)
-    return made
+    return report
 
 
 def loaded(path: str) -> Any:
