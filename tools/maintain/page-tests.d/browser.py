@@ -1,0 +1,164 @@
+"""A headless Chromium with one page, driven over its debugging protocol by two pipes."""
+
+from __future__ import annotations
+
+import base64
+import fcntl
+import json
+import os
+import select
+import shutil
+import subprocess
+import time
+from typing import Any
+
+from repository import Missing
+
+PATIENCE = 120.0  # seconds for an answer
+# Where descriptors of this program do not meet those that Chromium wants, 3 and 4.
+ABOVE = 20
+
+
+def pipe() -> tuple[int, int]:
+    """Both ends of a pipe, by high numbers."""
+    ends = os.pipe()
+    high = [fcntl.fcntl(it, fcntl.F_DUPFD, ABOVE) for it in ends]
+    for it in ends:
+        os.close(it)
+    return high[0], high[1]
+
+
+class Browser:
+    """Chromium with one page. What the page complains of, and what it asks of a network, is kept."""
+
+    def __init__(self, home: str) -> None:
+        program = os.environ.get("CHROMIUM") or shutil.which("chromium")
+        if not program:
+            raise Missing("there is no command chromium in PATH (Debian: chromium); CHROMIUM may name it")
+        (theirs_in, self.out), (self.into, theirs_out) = pipe(), pipe()
+
+        def give() -> None:
+            os.dup2(theirs_in, 3)
+            os.dup2(theirs_out, 4)
+
+        words = "--headless=new --no-sandbox --disable-gpu --no-first-run --disable-dev-shm-usage --remote-debugging-pipe".split()
+        self.process = subprocess.Popen(
+            [program, *words, f"--user-data-dir={home}", "--window-size=1200,1500", "about:blank"],
+            stdin=subprocess.DEVNULL,
+            stdout=subprocess.DEVNULL,
+            stderr=subprocess.DEVNULL,
+            preexec_fn=give,
+            pass_fds=(3, 4),
+        )
+        os.close(theirs_in)
+        os.close(theirs_out)
+        self.left, self.number, self.session = b"", 0, ""
+        self.complaints: list[str] = []
+        self.asked: list[str] = []
+        target = self.call("Target.createTarget", url="about:blank")["targetId"]
+        self.session = self.call("Target.attachToTarget", targetId=target, flatten=True)["sessionId"]
+        for domain in ("Runtime", "Log", "Page", "DOM", "Network"):
+            self.call(f"{domain}.enable")
+
+    def end(self) -> None:
+        self.process.kill()
+        self.process.wait()
+
+    def message(self, until: float) -> dict[str, Any]:
+        """The next message of the browser."""
+        while b"\0" not in self.left:
+            ready, _, _ = select.select([self.into], [], [], max(0.0, until - time.monotonic()))
+            more = os.read(self.into, 1 << 20) if ready else b""
+            if not more:
+                raise Missing("the browser gives no answer")
+            self.left += more
+        whole, _, self.left = self.left.partition(b"\0")
+        found: dict[str, Any] = json.loads(whole)
+        return found
+
+    def note(self, event: dict[str, Any]) -> None:
+        """Keeps what the page complains of, and what it asks of a network."""
+        method, params = event.get("method"), event.get("params", {})
+        if method in ("Runtime.exceptionThrown", "Log.entryAdded"):
+            self.complaints.append(json.dumps(params)[:400])
+        if method == "Network.requestWillBeSent":
+            self.asked.append(params["request"]["url"])
+
+    def call(self, method: str, **params: Any) -> dict[str, Any]:
+        """Calls a method of the protocol; events that come meanwhile are noted."""
+        self.number += 1
+        sent = {"id": self.number, "method": method, "params": params, **({"sessionId": self.session} if self.session else {})}
+        self.send(json.dumps(sent).encode() + b"\0")
+        until = time.monotonic() + PATIENCE
+        while True:
+            found = self.message(until)
+            if found.get("id") != self.number:
+                self.note(found)
+                continue
+            if "error" in found:
+                raise Missing(f"{method}: {found['error']['message']}")
+            result: dict[str, Any] = found["result"]
+            return result
+
+    def send(self, octets: bytes) -> None:
+        while octets:
+            octets = octets[os.write(self.out, octets) :]
+
+    def value(self, expression: str) -> Any:
+        """What an expression in the page gives, once it is there."""
+        found = self.call("Runtime.evaluate", expression=expression, awaitPromise=True, returnByValue=True)
+        if "exceptionDetails" in found:
+            raise Missing(f"{expression[:80]}: {json.dumps(found['exceptionDetails'])[:400]}")
+        return found["result"].get("value")
+
+    def wait(self, expression: str) -> Any:
+        """Waits until an expression is true in the page, and gives its value."""
+        until = time.monotonic() + PATIENCE
+        while time.monotonic() < until:
+            found = self.value(expression)
+            if found:
+                return found
+            time.sleep(0.05)
+        raise Missing(f"this never comes true in the page: {expression[:80]}")
+
+    def go(self, path: str) -> None:
+        self.call("Page.navigate", url=f"file://{os.path.abspath(path)}")
+        self.wait("Boolean(window.lagtool)")
+
+    def choose(self, path: str) -> dict[str, Any]:
+        """Gives a file to the page by its input, and gives what is shown then."""
+        self.value("window.shown = null, 1")
+        root = self.call("DOM.getDocument")["root"]["nodeId"]
+        node = self.call("DOM.querySelector", nodeId=root, selector="#file")["nodeId"]
+        self.call("DOM.setFileInputFiles", nodeId=node, files=[os.path.abspath(path)])
+        return self.shown()
+
+    def drop(self, path: str) -> dict[str, Any]:
+        """Drops a file on the page, and gives what is shown then."""
+        self.value("window.shown = null, scrollTo(0, 0), 1")
+        x, y = self.value("(() => { const it = document.getElementById('drop').getBoundingClientRect(); return [it.x + 20, it.y + 10]; })()")
+        data = {"items": [], "files": [os.path.abspath(path)], "dragOperationsMask": 1}
+        for kind in ("dragEnter", "dragOver", "drop"):
+            self.call("Input.dispatchDragEvent", type=kind, x=x, y=y, data=data)
+        return self.shown()
+
+    def shown(self) -> dict[str, Any]:
+        found: dict[str, Any] = self.wait("window.shown")
+        return found
+
+    def key(self, name: str) -> None:
+        code = {"Tab": 9, "Enter": 13}[name]
+        text = {"text": "\r"} if name == "Enter" else {}
+        for kind in ("keyDown", "keyUp"):
+            self.call("Input.dispatchKeyEvent", type=kind, key=name, code=name, windowsVirtualKeyCode=code, **(text if kind == "keyDown" else {}))
+
+    def size(self, width: int, height: int) -> None:
+        self.call("Emulation.setDeviceMetricsOverride", width=width, height=height, deviceScaleFactor=1, mobile=False)
+
+    def dark(self, on: bool) -> None:
+        self.call("Emulation.setEmulatedMedia", features=[{"name": "prefers-color-scheme", "value": "dark" if on else "light"}])
+
+    def picture(self, path: str) -> None:
+        found = self.call("Page.captureScreenshot", format="png")
+        with open(path, "wb") as out:
+            out.write(base64.b64decode(found["data"]))

@@ -1,0 +1,113 @@
+"""Makes the module of the page, of crates/lagpage: by clang, from what rattle lowers for x86-64."""
+
+from __future__ import annotations
+
+import importlib.machinery
+import importlib.util
+import os
+import re
+import shutil
+import subprocess
+from typing import Any
+
+from repository import CRATES, RT, TOP, Missing, kit, want
+
+CRATE = os.path.join(CRATES, "lagpage")
+EXPORTS = ["lagpage_capture", "page_alloc"]
+TARGET = "wasm64-unknown-unknown"
+LAYOUT = "e-m:e-p:64:64-p10:8:8-p20:8:8-i64:64-i128:128-n32:64-S128-ni:1:10:20"
+# How clang compiles for WebAssembly: the words that rattle itself has for that target.
+WORDS = (
+    f"--target={TARGET} -mcpu=lime1 -mllvm -expand-div-rem-bits=64 -mllvm -expand-fp-convert-bits=64 -ffunction-sections -fdata-sections"
+    " -mllvm -trap-unreachable -mllvm -disable-machine-licm -mllvm -disable-postra-machine-licm -mllvm -sink-common-insts=false"
+    " --no-default-config -no-canonical-prefixes -fintegrated-cc1 -fno-crash-diagnostics -Werror -O3"
+).split()
+STACK = 1 << 20
+# What lowers memory to 32 bits, and which instructions the module has.
+LOWER = (
+    "--enable-memory64 --enable-bulk-memory --enable-mutable-globals --enable-nontrapping-float-to-int --enable-sign-ext --enable-multivalue"
+    " --memory64-lowering"
+).split()
+
+
+def done(words: list[str], program: str | None = None, cwd: str | None = None) -> None:
+    """Runs a command; stops the tool where it fails."""
+    ended = subprocess.run(words, executable=program, stdin=subprocess.DEVNULL, capture_output=True, text=True, cwd=cwd)
+    if ended.returncode:
+        raise Missing(f"{words[0]} failed: {(ended.stderr or ended.stdout).strip()[-800:]}")
+
+
+def keeping(folder: str) -> str:
+    """A folder of tools as rattle wants one: the toolchain's, but its clang keeps each module that it is given, before any pass."""
+    made, real = os.path.join(folder, "keeping"), os.path.join(kit(), "toolchain")
+    os.makedirs(os.path.join(made, "bin"))
+    os.symlink(os.path.join(real, "lib"), os.path.join(made, "lib"))
+    for name in os.listdir(os.path.join(real, "bin")):
+        if name != "clang":
+            os.symlink(os.path.join(real, "bin", name), os.path.join(made, "bin", name))
+    clang = os.path.join(made, "bin", "clang")
+    with open(clang, "w", encoding="utf-8") as it:
+        it.write(f'#!/bin/bash\nfor it in "$@"; do case "$it" in *.bc) /bin/cp "$it" {folder}/module.bc;; esac; done\n')
+        it.write(f'exec -a clang {real}/bin/clang "$@"\n')
+    os.chmod(clang, 0o755)
+    return made
+
+
+def crate_words() -> list[str]:
+    """With which words `rt lib` calls rattle for lagpage."""
+    path = os.path.join(os.path.dirname(os.path.realpath(shutil.which(RT) or RT)), "rtlib.py")
+    loader = importlib.machinery.SourceFileLoader("rtlib", path)
+    spec = importlib.util.spec_from_loader("rtlib", loader)
+    if spec is None:
+        raise Missing(f"{path} is no module")
+    rtlib: Any = importlib.util.module_from_spec(spec)
+    loader.exec_module(rtlib)
+    words: list[str] = rtlib.Crate(CRATE, TOP, {}).words(["--cpu=x86-64", "--jobs", os.environ.get("RT_JOBS", "2")])
+    return [*words, *rtlib.KEPT]
+
+
+def lowered(folder: str) -> str:
+    """The module as rattle lowers it for x86-64, once lagpage is proved."""
+    want(RT)
+    done([RT, "check", "--jobs", os.environ.get("RT_JOBS", "2")], cwd=CRATE)
+    words = [*crate_words(), "--backend", "llvm", "--toolchain", keeping(folder), "-o", os.path.join(folder, "lagpage.a")]
+    done([os.path.join(kit(), "bin", "rattle"), "build", *words], cwd=CRATE)
+    kept = os.path.join(folder, "module.bc")
+    if not os.path.exists(kept):
+        raise Missing("rattle called clang with no module: this toolchain lowers in another way")
+    return kept
+
+
+def retargeted(text: str) -> str:
+    """A module in LLVM's text, for WebAssembly in place of x86-64."""
+    left = sorted(set(re.findall(r"@llvm\.x86[\w.]*", text)))
+    if left:
+        raise Missing(f"the module has instructions of x86-64 alone: {', '.join(left)}")
+    text = re.sub(r"^target datalayout = .*$", f'target datalayout = "{LAYOUT}"', text, flags=re.M)
+    text = re.sub(r"^target triple = .*$", f'target triple = "{TARGET}"', text, flags=re.M)
+    # No C library is there, so none of its functions may be called in place of a loop.
+    no_calls = '"no-builtin-bcmp" "no-builtin-memcmp" "no-builtin-strlen"'
+    return text.replace('"frame-pointer"="non-leaf" ', "").replace('"target-cpu"="x86-64"', f'{no_calls} "target-cpu"="lime1"')
+
+
+def made(folder: str) -> bytes:
+    """The octets of the module, which imports nothing."""
+    want("wasm-opt")
+    clang = os.path.join(kit(), "toolchain", "bin", "clang")
+    at = {name: os.path.join(folder, name) for name in ("from.ll", "to.ll", "lagpage.o", "heap.o", "builtins.o", "wide.wasm", "page.wasm")}
+    show = ["-S", "-emit-llvm", "-Xclang", "-disable-llvm-passes", "-Wno-unused-command-line-argument"]
+    done(["clang", "--target=x86_64-unknown-linux-gnu", "-x", "ir", lowered(folder), *show, "-o", at["from.ll"]], clang)
+    with open(at["from.ll"], encoding="utf-8") as it:
+        text = retargeted(it.read())
+    with open(at["to.ll"], "w", encoding="utf-8") as out:
+        out.write(text)
+    done(["clang", *WORDS, "-c", "-x", "ir", at["to.ll"], "-o", at["lagpage.o"]], clang)
+    for name in ("heap", "builtins"):
+        source = os.path.join(TOP, "page", f"{name}.c")
+        done(["clang", *WORDS, "-ffreestanding", "-fno-builtin", "-c", source, "-o", at[f"{name}.o"]], clang)
+    link = ["wasm-ld", "-mwasm64", "--no-entry", "--stack-first", "-z", f"stack-size={STACK}", "--gc-sections", "--strip-all"]
+    objects = [at[it] for it in ("lagpage.o", "heap.o", "builtins.o")]
+    done([*link, *(f"--export={name}" for name in EXPORTS), "-o", at["wide.wasm"], *objects], clang)
+    done(["wasm-opt", *LOWER, at["wide.wasm"], "-o", at["page.wasm"]])
+    with open(at["page.wasm"], "rb") as module:
+        return module.read()

@@ -1,0 +1,64 @@
+"""Packs a page into one file that needs no server and no network, and takes its module out again."""
+
+from __future__ import annotations
+
+import base64
+import hashlib
+import os
+import re
+
+from repository import TOP, Missing
+
+PARTS = os.path.join(TOP, "page")
+# The modules in the order in which each has what it imports.
+SCRIPTS = ["module.js", "records.js", "diagram.js", "page.js"]
+EXAMPLE = os.path.join(TOP, "examples", "captures", "unequal-keys.pcapng")
+IMPORT = re.compile(r'^import \{ ([\w, ]+) \} from "\./([\w.]+)";\n', re.M)
+# Octets as a data block, lines of them so that tools take the file.
+BLOCK = re.compile(r'<script type="application/x-base64" id="module">([^<]*)</script>')
+WIDE = 120
+
+
+def text_of(name: str) -> str:
+    with open(os.path.join(PARTS, name), encoding="utf-8") as it:
+        return it.read()
+
+
+def joined() -> str:
+    """The modules as one: names are those of one scope, so imports and exports fall away."""
+    texts: list[str] = []
+    known: set[str] = set()
+    for name in SCRIPTS:
+        text = text_of(name)
+        for names, source in IMPORT.findall(text):
+            unknown = [it for it in names.split(", ") if it not in known]
+            if unknown or source not in SCRIPTS[: SCRIPTS.index(name)]:
+                raise Missing(f"page/{name} imports {', '.join(unknown) or source}, and no module before it has that")
+        known |= set(re.findall(r"^export (?:class|const|function) (\w+)", text, re.M))
+        texts.append(re.sub(r"^export ", "", IMPORT.sub("", text), flags=re.M))
+    return "\n".join(texts)
+
+
+def digest(text: str) -> str:
+    return f"'sha256-{base64.b64encode(hashlib.sha256(text.encode()).digest()).decode()}'"
+
+
+def block(octets: bytes) -> str:
+    code = base64.b64encode(octets).decode()
+    return "\n".join(code[at : at + WIDE] for at in range(0, len(code), WIDE))
+
+
+def packed(module: bytes) -> str:
+    """The page with this module."""
+    style, script = text_of("style.css"), joined()
+    with open(EXAMPLE, "rb") as it, open(os.path.join(TOP, "VERSION"), encoding="utf-8") as number:
+        capture, version = it.read(), number.read().strip()
+    policy = f"default-src 'none'; script-src {digest(script)} 'wasm-unsafe-eval'; style-src {digest(style)}; base-uri 'none'; form-action 'none'"
+    values = {"POLICY": policy, "STYLE": style, "SCRIPT": script, "MODULE": block(module), "CAPTURE": block(capture), "VERSION": version}
+    return re.sub(r"@([A-Z]+)@", lambda found: values[found[1]], text_of("index.html"))
+
+
+def module_in(page: str) -> bytes | None:
+    """The module of a page; None if it has none."""
+    found = BLOCK.search(page)
+    return base64.b64decode(found[1]) if found else None
