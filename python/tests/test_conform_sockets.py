@@ -129,8 +129,10 @@ def test_a_hook_that_is_ended_takes_its_children_along(tmp_path: Path) -> None:
     doing = Command(f"sleep 30 & echo $! > {pid}; wait #").call([])
     while not pid.exists() or not pid.read_text().strip():
         time.sleep(0.01)
+    begin = time.monotonic()
     doing.stop()
-    stat, limit = Path("/proc") / pid.read_text().strip() / "stat", time.monotonic() + 10
+    assert time.monotonic() - begin < 10
+    stat, limit = Path("/proc") / pid.read_text().strip() / "stat", begin + 20
     while stat.exists() and stat.read_text().split()[2] != "Z":
         assert time.monotonic() < limit
         time.sleep(0.01)

@@ -34,6 +34,11 @@ def test_a_peer_that_there_is_not_is_refused(monkeypatch: pytest.MonkeyPatch) ->
         peers.read_words()
 
 
+def test_each_flow_is_a_frame_of_its_own() -> None:
+    frames = peers.conform.frames_of_flows()
+    assert len(set(frames)) == len(frames) == 64 and {it[12:14] for it in frames} == {b"\x08\x00"}
+
+
 def test_a_table() -> None:
     assert peers.table(["peer", "seconds"], [["teamd", "1.5"], ["bonding", "2"]]) == (
         "| peer | seconds |\n| --- | --- |\n| teamd | 1.5 |\n| bonding | 2 |"
