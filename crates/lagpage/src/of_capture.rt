@@ -1,0 +1,66 @@
+ghost use Rattle.std.specs.Prelude.{◌≡◌, IfOk, nat_lt, string_bytes};
+ghost use Rattle.lagpage.specs.Answers.{Answers};
+ghost use Rattle.lagpage.specs.Jobs.{TellsCapture, said_of_fault, settings_with, status_of_summary};
+
+use crate::answer::{Answer, answered};
+use crate::told::{Told, make_told};
+use lagstreams::{Sink, Source};
+use lagtool_capture::{CaptureSummary, ReadFault, Settings, report_capture};
+use std::alloc::{AllocError, Global};
+
+/// What is said of a capture that is not read on. `AllocError` if memory is refused.
+fn said_of_fault(alloc: Global, fault: Option<ReadFault>) -> Result<String, AllocError>
+    ensures { IfOk result (λ said. string_bytes said ≡ said_of_fault fault) }
+{
+    match fault {
+        Some(fault) => format!(in alloc; "cannot read: {fault}"),
+        None => Ok(String::new(alloc)),
+    }
+}
+
+/// The exit status of `lagtool capture`.
+fn status_of_summary(summary: CaptureSummary) -> u32
+    ensures { result ≡ status_of_summary summary }
+{
+    match summary.fault {
+        Some(_) => 2,
+        None if summary.findings == 0 => 0,
+        None => 1,
+    }
+}
+
+/// What `lagtool capture` tells of a capture. `AllocError` if memory is refused: nothing else fails in memory.
+fn told_of_capture(alloc: Global, settings: Settings, capture: &[u8]) -> Result<Told, AllocError>
+    ensures { IfOk result (λ t. TellsCapture settings capture.now t) }
+{
+    let mut source = Source::new(capture);
+    let mut sink = Sink::new(Vec::new(alloc));
+    let Ok(summary) = report_capture(alloc, settings, &mut source, &mut sink) else {
+        return Err(AllocError);
+    };
+    let said = said_of_fault(alloc, summary.fault)?;
+    make_told(sink.into_inner(), said.as_str(), status_of_summary(summary))
+}
+
+/// Explains a capture as `lagtool capture` does: with `--all`, `--no-frames` and `--json`, where these numbers are above 0. It writes
+/// what is printed at the front of `out`, and behind it what is said on standard error.
+#[unsafe(no_mangle)]
+pub extern "C" fn lagpage_capture(
+    alloc: Global,
+    capture: &[u8],
+    all: u32,
+    no_frames: u32,
+    json: u32,
+    out: &mut [u8],
+    answer: &mut Answer,
+)
+    ensures { Answers (λ t. TellsCapture (settings_with all no_frames json) capture.now t) out.old out.new answer.new }
+{
+    let settings = Settings {
+        all: all > 0,
+        frames: no_frames == 0,
+        json: json > 0,
+    };
+    let told = told_of_capture(alloc, settings, capture);
+    *answer = answered(&told, out);
+}
