@@ -97,9 +97,9 @@ pub fn held_conversations_are_freed_by_hosts<F: Fn(u16, usize) -> usize>()
 
 ghost use Rattle.lagprogress.specs.HostArriving.{EachActiveFrameArrivesByHosts, EachFrameArrivesByHosts};
 
-/// A data frame that a bundle is offered after 352 healthy rounds of hosts (35.2 s) or more if both ends of each healthy cable are
-/// active, after 661 (66.1 s) if one is, arrives within one healthy round of hosts, as in `each_frame_arrives`, whatever else is offered
-/// or moved in it (6.2.3, 6.2.4; profile).
+/// A data frame that a bundle is offered behind 352 healthy rounds of hosts (35.2 s) or more if both ends of each healthy cable are
+/// active, behind 661 (66.1 s) if one is, and before the next such round, arrives within that, as in `each_frame_arrives`, whatever else
+/// is offered or moved in it (6.2.3, 6.2.4; profile).
 pub fn each_frame_arrives_by_hosts<F: Fn(u16, usize) -> usize>()
     ensures both { (one two : F) → EachActiveFrameArrivesByHosts (both_algorithms (F.post one) (F.post two)) }
     ensures one { (one two : F) → EachFrameArrivesByHosts (both_algorithms (F.post one) (F.post two)) }

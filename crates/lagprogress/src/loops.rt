@@ -113,7 +113,8 @@ fn deliver_and_ask<C: Cable, F: Fn(u16, usize) -> usize + Drop>(
 /// Plays one healthy round of a world as two hosts do: both systems tick, the ends of all cables are asked until they send
 /// nothing, and while anything is on a cable, it is delivered and they are asked again. Where it is not refused, this is a round
 /// as `each_link_agrees_by_hosts` and `held_conversations_are_freed_by_hosts` want it, if the systems are sound and their timers
-/// within their bounds, as in each world that events lead to from a start. It is refused as `play_round` is (profile).
+/// within their bounds, as in each world that events lead to from a start. It is refused as `World::step` refuses an event of such a
+/// round, with `NoMemory` where memory is, or with `NoCable` above 65,535 cables (profile).
 pub fn play_host_round<C: Cable, F: Fn(u16, usize) -> usize + Drop>(
     world: &mut World<C, F>,
 ) -> Result<(), WorldFault>
