@@ -204,7 +204,8 @@ def run_tests(given: argparse.Namespace, b: Bench, tests: Sequence[Test], claime
     with undisturbed():
         if ended:
             tell(f"\nlagconform: {ended}; the reports have what was run", to=sys.stderr)
-        return finish(given, Run(b, about(given, b, progress.results), progress.results, shadow), reasons, status)
+        told = {**about(given, b, progress.results), **({"incomplete": f"{ended}; {len(progress.results)} of {len(tests)} tests ran"} if ended else {})}
+        return finish(given, Run(b, told, progress.results, shadow), reasons, status)
 
 
 def compared(b: Bench) -> Optional[Shadow]:
@@ -238,7 +239,7 @@ def main(words: Optional[Sequence[str]] = None) -> int:
     try:
         if given.list:
             tests = selected(given.only, True, 2)
-            print(as_markdown(sorted(tests, key=TESTS.index), TITLES) if given.markdown else as_text(sorted(tests, key=TESTS.index), TITLES))
+            tell(as_markdown(sorted(tests, key=TESTS.index), TITLES) if given.markdown else as_text(sorted(tests, key=TESTS.index), TITLES))
             return 0
         check_words(given)
         tests = selected(given.only, given.long, max(1, len(given.interfaces)))
@@ -248,7 +249,8 @@ def main(words: Optional[Sequence[str]] = None) -> int:
         signal.signal(signal.SIGTERM, interrupt)
         b = stand(given)
     except (Refused, NoDevice, pics.BadPics, known.BadKnown, Gone, ImportError, OSError) as why:
-        print(f"lagconform: {why}", file=sys.stderr)
+        file = given.pics if isinstance(why, pics.BadPics) else given.known if isinstance(why, known.BadKnown) else None
+        print(f"lagconform: {file}: {why}" if file else f"lagconform: {why}", file=sys.stderr)
         return 2
     except KeyboardInterrupt:
         return 130

@@ -44,8 +44,10 @@ def counts(results: Sequence[Result]) -> dict[str, int]:
 
 
 def summary(results: Sequence[Result]) -> str:
-    """The counts as a line, without the verdicts that no test has but pass and fail."""
-    return ", ".join(f"{count} {name}" for name, count in counts(results).items() if count or name in VERDICTS[:2])
+    """The counts as a line, without the verdicts that no test has but pass and fail; how many fails are known stands behind theirs."""
+    known = sum(bool(it.known) for it in results)
+    told = {FAIL: f" ({known} known)"} if known else {}
+    return ", ".join(f"{count} {name}{told.get(name, '')}" for name, count in counts(results).items() if count or name in VERDICTS[:2])
 
 
 def about_device(b: Bench) -> dict[str, str]:

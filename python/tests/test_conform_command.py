@@ -82,7 +82,7 @@ def test_known_fails(run, tmp_path: Path, capsys: pytest.CaptureFixture[str]) ->
     words = ["--only", "RX-07c", "--only", "FM-01", "--known", str(tmp_path / "known"), "--junit", "r.xml"]
     assert run(KeyUnchecked, *words) == 0
     said = capsys.readouterr().out
-    assert "(known: compares no key)" in said and "known fail FM-01 did not fail" in said
+    assert "(known: compares no key)" in said and "known fail FM-01 did not fail" in said and said.endswith("1 pass, 1 fail (1 known)\n")
     assert xml.parse(tmp_path / "r.xml").getroot().get("failures") == "0"
     assert run(KeyUnchecked, *words, "--only", "TX-02c") == 1
 
@@ -114,7 +114,8 @@ def test_an_interrupted_run_reports_what_ran(run, tmp_path: Path, capsys: pytest
                 raise KeyboardInterrupt
 
     assert run(Interrupts, "--only", "FM-*", "--json", "r.json") == 130
-    assert json.loads((tmp_path / "r.json").read_text())["counts"]["pass"] >= 1
+    told = json.loads((tmp_path / "r.json").read_text())
+    assert told["counts"]["pass"] >= 1 and told["about"]["incomplete"] == f"interrupted; {len(told['tests'])} of 8 tests ran"
 
 
 @pytest.mark.parametrize("why", [OSError(5, "it broke"), RuntimeError("it broke")])
@@ -338,6 +339,22 @@ def test_the_list_has_each_test(capsys: pytest.CaptureFixture[str]) -> None:
     text, table = listing.as_text(TESTS, titles), listing.as_markdown(TESTS, titles)
     assert all(f"  {name} " in text and f"\n| {name}" in table for name in BY_NAME)
     assert command.main(["--list"]) == 0 and command.main(["--list", "--markdown", "--only", "FM-*"]) == 0
+
+
+def test_a_list_that_nobody_reads_to_its_end_is_no_error(monkeypatch: pytest.MonkeyPatch, capsys: pytest.CaptureFixture[str]) -> None:
+    reading, writing = os.pipe()
+    os.close(reading)
+    with monkeypatch.context() as patch, open(writing, "w", encoding="utf-8") as out:
+        patch.setattr(sys, "stdout", out)
+        assert command.main(["--list"]) == 0
+    assert not capsys.readouterr().err
+
+
+def test_a_wrong_line_is_told_with_its_file(tmp_path: Path, capsys: pytest.CaptureFixture[str]) -> None:
+    for option in "--known", "--pics":
+        (tmp_path / "wrong").write_text("FM-99 why\n")
+        assert command.main(["lo", option, str(tmp_path / "wrong")]) == 2
+        assert f"lagconform: {tmp_path}/wrong: line 1: " in capsys.readouterr().err
 
 
 def test_each_test_tells_what_it_does() -> None:
