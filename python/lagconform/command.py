@@ -19,7 +19,7 @@ from .bench import Bench
 from .files import check_writable, read_text, tell, undisturbed, written
 from .groups import GROUPS, TESTS
 from .listing import as_markdown, as_text
-from .model import FAIL, LONG, NOT_APPLICABLE, PASS, NotHere, Result, Test
+from .model import FAIL, LONG, PASS, NotHere, Result, Test
 from .page import as_html
 from .refusals import Refused, check_interfaces
 from .report import Run
@@ -126,8 +126,7 @@ class Progress:
         self.results.append(it)
         if self.left:
             self.left.pop(0)
-        if it.verdict != NOT_APPLICABLE or it.notes:
-            print(report.line(it), flush=True)
+        print(report.line(it), flush=True)
         self.show()
 
 
