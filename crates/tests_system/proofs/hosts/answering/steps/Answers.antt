@@ -8,5 +8,5 @@ step-requires g c =
     record {
       usable =
           subst (λ f. PicksIndexes (λ conv count. g.F.Fn.pre f (conv, (count, tt)))
-          (λ conv count place. g.F.Fn.post f (conv, (count, tt)) place)) (sym c.loop.invariant) c.requires.usable;
+          (λ conv count place. g.F.Fn.post f (conv, (count, tt)) place)) (sym c.loop-row.invariant) c.requires.usable;
     }
