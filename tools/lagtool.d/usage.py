@@ -8,7 +8,7 @@ import textwrap
 
 from repository import CRATES
 
-TEXTS = os.path.join(CRATES, "lagtool_words", "src", "help.rt")
+TEXTS = os.path.join(CRATES, "lagtool", "src", "help.rt")
 
 
 def texts() -> dict[str, str]:

@@ -1,4 +1,4 @@
-//! A conversation moves to another port behind a marker: its frames are held until the old cable is known to be empty.
+//! Two systems come up, a frame goes from one to the other, and its conversation moves to another port behind a marker.
 //!
 //! Two systems are joined by two cables: port 1 to port 1, and port 2 to port 2. Nothing here is real but the systems: a
 //! cable is a call, and the clock is a loop.
@@ -150,10 +150,12 @@ fn hold<F: Fn(u16, usize) -> usize + Drop>(
     Ok(system.offer(AggId(1), &FRAME) == Err(SystemFault::Held))
 }
 
-/// What the example shows: the port of a frame before the move, whether frames are held during it, and the port after it.
+/// What the example shows: the port of a frame before the move, what became of the frame, whether frames are held during the move, and the
+/// port after it.
 #[derive(Clone, Copy)]
 struct Story {
     before: u16,
+    received: Received,
     held: bool,
     after: u16,
 }
@@ -165,13 +167,15 @@ fn move_over<F: Fn(u16, usize) -> usize + Drop>(
 ) -> Result<Story, SystemFault>
     requires usable { PicksIndexes (F.pre one.old.algorithm) (F.post one.old.algorithm) }
 {
-    let before = one.offer(AggId(1), &FRAME)?;
+    let before = one.offer(AggId(1), &FRAME)?; // the port to send the frame on
+    let received = two.receive(before, &FRAME)?; // Received::Up(AggId(1)): it is for the client
     let held = hold(one, if before == 1 { 2 } else { 1 })?;
     carry(before, one, two)?; // an LACPDU is due first
     carry(before, one, two)?; // the marker, and the response to it
     let after = one.offer(AggId(1), &FRAME)?;
     Ok(Story {
         before,
+        received,
         held,
         after,
     })
@@ -179,7 +183,7 @@ fn move_over<F: Fn(u16, usize) -> usize + Drop>(
 
 /// Makes two systems, lets them come up, and moves the conversation.
 fn play(alloc: Global) -> Result<Option<(u16, Story)>, SystemFault> {
-    let mut one = System::new(alloc, config(alloc, 1)?, by_number)?;
+    let mut one = System::new(alloc, config(alloc, 1)?, by_number)?; // all links are down
     let mut two = System::new(alloc, config(alloc, 2)?, by_number)?;
     link_up(&mut one)?;
     link_up(&mut two)?;
@@ -194,13 +198,16 @@ fn main(rt: HostRuntime) -> ExitCode {
     let Ok(Some((ticks, story))) = play(rt.alloc()) else {
         return ExitCode::FAILURE;
     };
+    let Received::Up(agg) = story.received else {
+        return ExitCode::FAILURE;
+    };
     if !story.held {
         return ExitCode::FAILURE;
     }
     let before = story.before;
     let after = story.after;
     let _ = println!(rt; "tick {ticks}: ports 1 and 2 of both systems distribute in aggregator 1");
-    let _ = println!(rt; "a frame of conversation 48 goes on port {before}");
+    let _ = println!(rt; "a frame of conversation 48 goes on port {before}, and up to the client of aggregator {agg}");
     let _ = println!(rt; "the conversation is to move: its frames are held");
     let _ = println!(rt; "the response to the marker is here: a frame goes on port {after}");
     ExitCode::SUCCESS

@@ -25,4 +25,4 @@ def test_a_check_that_proves_nothing_has_no_answer() -> None:
 
 
 def test_the_page_counts_these_crates() -> None:
-    assert set(trusted.claims()[1]) == {"lagffi", "lagtool", "example_two_systems"}
+    assert set(trusted.claims()[1]) == {"lagffi", "lagtool", "example_moved_conversation"}

@@ -39,7 +39,7 @@ def test_the_other_tests_are_left_out() -> None:
 def test_crates_and_tests_of_a_copy_have_its_number() -> None:
     assert named.renamed("lagsystem::a, lagsystems::b, old_lagsystem::c", ["lagsystem"], 7) == "lagsystem_7::a, lagsystems::b, old_lagsystem::c"
     assert named.copied("tests_system", 8, "lagsystem", "ports::mux::it_waits") == "ports_8::mux::it_waits"
-    assert named.copied("lagtool_words", 9, "lagtool_words", "ports::mux::it_waits") == "copy_9::ports::mux::it_waits"
+    assert named.copied("lagexplain", 9, "lagexplain", "ports::mux::it_waits") == "copy_9::ports::mux::it_waits"
     assert named.place("/tests/src/systems/hostile.rt", "/tests/src") == "systems::hostile"
 
 

@@ -1,8 +1,0 @@
-use Rattle.std.proofs.lemmas.Result.{IfOk-weaker}
-use Rattle.lagtool_words.proofs.LineLemmas.{one_more}
-use Rattle.lagtool_words.proofs.line.program.Goals as goal
-
-pub returns : goal.returns
-returns c = IfOk-weaker c.subcommand.result _ _
-    (λ m h. one_more _ _ m _ _ h c.subcommand-vectors.ensures.local c.in_ok-up_to_replay.ensures c.subcommand-vectors.ensures.app)
-    c.subcommand.ensures

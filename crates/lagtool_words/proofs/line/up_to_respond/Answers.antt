@@ -1,7 +1,0 @@
-use Rattle.std.proofs.lemmas.Result.{IfOk-weaker}
-use Rattle.lagtool_words.proofs.LineLemmas.{one_more}
-use Rattle.lagtool_words.proofs.line.up_to_respond.Goals as goal
-
-pub returns : goal.returns
-returns c = IfOk-weaker c.subcommand.result _ _
-    (λ m h. one_more _ _ m _ _ h c.in_ok-respond_line.ensures.local c.in_ok-up_to_decode.ensures c.in_ok-respond_line.ensures.app) c.subcommand.ensures
