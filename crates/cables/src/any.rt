@@ -13,6 +13,9 @@ pub enum AnyCable {
     Ring(RingCable),
 }
 
+// promise: a cable keeps its order: a new item is the last, `front` shows the first, `pop` takes it off, `clear` leaves nothing, `len` is
+//    exact
+// contract: trait `Cable`: `push` (`appended`, `handed_back`), `pop` (`first`, `rest`), `front`, `clear` (`empty`), `len`
 impl Cable for AnyCable {
     ghost use Rattle.cables.specs.AnyCable.{any_items, any_limit, any_reserved};
 
@@ -25,6 +28,8 @@ impl Cable for AnyCable {
     // Whether that cable has a place reserved.
     ghost reserved = { any_reserved };
 
+    // promise: a full cable hands the item back and changes nothing; one that is not full keeps it, if a place is reserved
+    // contract: `push` (`full`, `untouched`, `place`)
     fn push(&mut self, item: Item) -> Result<(), Item> {
         match self {
             AnyCable::List(cable) => cable.push(item),
@@ -32,6 +37,9 @@ impl Cable for AnyCable {
         }
     }
 
+    // promise: `reserve_one` reserves a place, `pop` and `clear` keep it; a refused one changes nothing, and no place was reserved
+    // contract: `reserve_one` (`ok`, `items`, `limit`, `err`), `pop`, `clear` (`reserved`)
+    // not said: whether a place is reserved after a push or a refusal
     fn reserve_one(&mut self) -> Result<(), NoMemory> {
         match self {
             AnyCable::List(cable) => cable.reserve_one(),
@@ -67,6 +75,8 @@ impl Cable for AnyCable {
         }
     }
 
+    // promise: a limit never changes, and `limit` returns it
+    // contract: `limit`, and clause `limit` of the others
     fn limit(&self) -> Option<usize> {
         match self {
             AnyCable::List(cable) => cable.limit(),

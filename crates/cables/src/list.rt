@@ -25,6 +25,11 @@ impl Model for ListCable {
 }
 
 impl ListCable {
+    // promise: a new `ListCable` is empty without a limit; a new `RingCable` is empty with its limit, refused as `Limit` exactly if that is
+    //    0, and never refuses to reserve
+    // contract: `ListCable::new`, `RingCable::new` (`empty`, `limit`, `refused`, `no_memory`), `reserve_one` (`err`)
+    // promise: `AnyCable` is the cable that it holds
+    // contract: `AnyCable` under the trait's clauses
     /// An empty cable. It keeps the allocator, for the memory that it takes later (profile).
     pub fn new(alloc: Global) -> ListCable
         // The cable is empty.

@@ -12,6 +12,8 @@ ghost use Rattle.captures.specs.Steps.{ReaderState, step, taking};
 ghost use Rattle.captures.specs.Times.{nanoseconds};
 ghost use Rattle.captures.specs.Writing.{file_header, packet_octets};
 
+// promise: a written pcap reads as it was
+// contract: `what_is_written_is_read`; `put_file_header`, `put_packet`, `LinkType::number`
 /// What is written of a file of pcap reads as it was, whatever follows it: the header as the format with its order of
 /// octets, unit and link type, and each packet with its time, its length and its octets.
 pub fn what_is_written_is_read()
@@ -37,6 +39,8 @@ pub fn what_is_written_is_read()
         → slice_range (packet_octets order seconds fraction original octets ++ rest) 16 (16 + length octets) ≡ octets }
 {}
 
+// promise: what a step answers does not depend on the octets behind
+// contract: `a_step_stays`
 /// What stands at the beginning of octets is the same, whatever follows them: a step, or why reading stops.
 pub fn a_step_stays()
     ensures taken { (s : ReaderState) (b more : List ℕ) (x : Step × ReaderState) → step s b ≡ Ok x → step s (b ++ more) ≡ Ok x }

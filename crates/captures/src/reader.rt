@@ -55,6 +55,9 @@ impl Model for Reader {
 }
 
 impl Reader {
+    // promise: the next header, block or packet is read as the descriptions of pcap and pcapng have it; the first fault has its offset, and
+    //    leaves the reader as it was
+    // contract: `Reader::new`, `read` (`ok`, `err`: `step`; `unchanged`)
     /// A reader before the beginning of a file.
     pub fn new() -> Reader
         ensures { result ≡ record { format = Start; interfaces = [] } }
@@ -121,6 +124,10 @@ impl Reader {
         })
     }
 
+    // promise: a step takes an octet or more; `read` asks for more only if it wants more, at most 262,172 at once
+    // contract: `read` (`taken`, `wants`)
+    // promise: a packet's octets are among the given ones
+    // contract: `read` (`within`), `Packet::octets`
     /// Reads what stands at the beginning of these octets, which follow those that were taken before. `Wants` if it does
     /// not end among them: the same octets and those behind them are to be given again, as many as wanted, which is at
     /// most `MOST_WANTED`. Refused: the first fault. An `Err` changes nothing.
@@ -155,6 +162,8 @@ impl Reader {
         }
     }
 
+    // promise: a capture ends behind the header of pcap, a packet or a block alone
+    // contract: `Reader::end` (`end_of`)
     /// Whether the capture may end here, so many octets behind those that were taken. `CutShort` if octets are left, or
     /// if it ends at its beginning or before a block's second length.
     pub fn end(&self, left: usize) -> Result<(), Fault>

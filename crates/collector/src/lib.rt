@@ -21,6 +21,8 @@ pub enum Taken {
     Dropped,
 }
 
+// promise: a data frame is handed up in the aggregator in which its port is Collecting; any other is dropped
+// contract: `collect`
 /// Hands a data frame up to the client of the aggregator in which the receiving port is Collecting. Every other frame
 /// is dropped: any frame if the port is not Collecting (`None`), a slow protocols frame (EtherType 0x8809), and one of
 /// fewer than 14 octets, which is no frame (6.2.3; profile).
@@ -35,6 +37,8 @@ pub fn collect(collecting: Option<AggId>, frame: &[u8]) -> Taken
     }
 }
 
+// promise: a marker on an enabled port is answered with the same marker of the response type; a response is not
+// contract: `answer`
 /// The Marker Response to a marker that came on a port: the same port, system and identifier, with the response type.
 /// It is to be sent on the same port, in whichever state the mux machine is. None exactly if the link of the port is
 /// down (port_enabled false) or the marker is itself a response (6.5.4; profile).

@@ -30,6 +30,8 @@ impl Model for Answering {
 }
 
 impl Answering {
+    // promise: at first no peer was asked; `of` has a port's note, None without the port; a note has its number and word
+    // contract: `Answering::nobody_asked`, `of`; `MarkerNote::number`, `Display`
     /// No peer was asked: the notes of a system that was just made.
     pub fn nobody_asked() -> Answering
         ensures { result ≡ nobody_asked }
@@ -83,6 +85,9 @@ impl Answering {
         }
     }
 
+    // promise: a Marker Response answers if it has the Requester_Port, Requester_System and Requester_Transaction_ID of the last marker
+    //    that went out on the port where it comes; any other changes no note
+    // contract: `after_receive` (`notes_after_receive`)
     /// Updates the notes by what `System::receive` returned for a frame that came on a port: a response to the last marker that went
     /// out there answers.
     pub fn after_receive<F: Fn(u16, usize) -> usize + Drop>(
@@ -99,6 +104,8 @@ impl Answering {
         }
     }
 
+    // promise: a marker that goes out notes that the peer was asked, unless it answered; an LACPDU changes no note
+    // contract: `after_transmit`
     /// Updates the notes by what `System::transmit` or `System::probe` returned for a port: a marker asks.
     pub fn after_transmit<F: Fn(u16, usize) -> usize + Drop>(
         &mut self,
@@ -115,6 +122,8 @@ impl Answering {
         }
     }
 
+    // promise: a link that is down now forgets its port's note alone; a refused call changes none; a restart forgets all
+    // contract: `after_set_link`, `after_call` (`notes_after`)
     /// Updates the notes by what `System::set_link` returned: a link that is down now forgets.
     pub fn after_set_link<F: Fn(u16, usize) -> usize + Drop>(
         &mut self,
@@ -154,6 +163,8 @@ impl Answering {
         }
     }
 
+    // promise: a list of calls changes the notes call by call
+    // contract: `after_calls` (`notes_after_all`)
     /// Updates the notes by the replies of `System::drive` to these calls.
     pub fn after_calls<F: Fn(u16, usize) -> usize + Drop>(
         &mut self,

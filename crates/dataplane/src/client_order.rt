@@ -9,6 +9,11 @@ ghost use Rattle.lagmodel.specs.World.{Side, World};
 ghost use Rattle.lagmodel.specs.Law.{CountsFromZero, InOrder};
 ghost use Rattle.dataplane.specs.Arrivals.{ArrivesInOrder, SentFromQueue};
 
+// promise: **from a client to a client in order**: if the host sends what leaves a queue of `Holding` to be sent, in this order, or gives
+//    some up (`SentFromQueue`), and the conversation was never forced, what is collected of it is a subsequence of what waited at first and
+//    was put since
+// contract: `from_client_to_client` (`ArrivesInOrder`)
+// not said: what a host does behind the collector. `headline` of `lagmodel` proves the premises `InOrder`, `CountsFromZero`
 /// From a client to a client in order. The client's frames of a conversation are put into a queue of `holding`, whatever
 /// calls come between; the host sends each that leaves it to be sent, in this order, or gives it up. Then what is collected of
 /// the conversation, if it was never forced, is a subsequence of what the client put: nothing is reordered and nothing comes
@@ -26,6 +31,12 @@ ghost use Rattle.lagmodel.specs.Law.{OnItsCable};
 ghost use Rattle.std.specs.Prelude.{[], ◌∷◌};
 ghost use Rattle.dataplane.specs.OneAggregator.{FreeElsewhere, InOneAggregator, NoneOnItsWayElsewhere, SendsNoFrame};
 
+// promise: a number is On, Wanted or Flushing in one aggregator at most: at the start, after each call whose moves send no frame, and after
+//    one that sends a frame whose number is Free in every other aggregator
+// contract: `one_aggregator_at_a_time` (`first`, `kept`, `sent`)
+// promise: while a number is Free in every other aggregator, and was never forced there, no frame of it that was sent there is on any cable
+// contract: `one_aggregator_at_a_time` (`behind`)
+// not said: `headline` proves the premise `OnItsCable`
 /// Where a frame of a conversation number is sent in an aggregator only while the number is Free in every other one: it is
 /// On, Wanted or Flushing in one aggregator at most, at the start and after each call; and while a frame may be sent, no
 /// frame that was sent in another aggregator is on any cable, if the number was never forced there. The premise `OnItsCable`

@@ -37,6 +37,11 @@ fn see_each(ends: &mut [KeptEnd], now: &SlowFrame)
 }
 
 impl Findings {
+    // promise: behind any frames, `finding` is for an end and a rule the first frame that shows the rule; None if none does, or, for rule
+    //    18, if a frame of another end came later
+    // contract: `Findings::new`, `observe`, `finding` (`Knows`; `found`; rules in `Holds`, `Markers`, `Responses`)
+    // promise: the ends are the first 64 that send, in order; `left_out` counts the frames of all others
+    // contract: `new`, `observe`, `count`, `end`, `left_out` (`ends`, `counts`)
     /// What is found before the first frame: nothing.
     pub fn new() -> Findings
         ensures { Knows [] result.kept.items result.left_out }

@@ -241,6 +241,8 @@ impl Rule {
         }
     }
 
+    // promise: a rule's number, name, section and advice are those of one table
+    // contract: `Rule::number`, `name`, `clause`, `advice` (`Rules`)
     /// The number of the rule, from 1.
     pub fn number(&self) -> u8
         ensures { result ≡ rule_number self.now }

@@ -88,6 +88,8 @@ pub struct SlowFrame {
 }
 
 impl SlowFrame {
+    // promise: an end is its interface, source address and the port that it names
+    // contract: `SlowFrame::end`, `Findings::end`
     /// The end that sent the frame.
     pub fn end(&self) -> LinkEnd
         ensures { result ≡ end_of self.now }

@@ -28,6 +28,8 @@ fn text_at(value: &Value, index: usize) -> Option<&str>
     }
 }
 
+// promise: `entry_at` finds the entry at its place, `first_wrong` the first word that is not of its kind
+// contract: `entry_at`, `first_wrong`
 /// The text of the entry at this place, from 1; None if there is none.
 pub(crate) fn entry_at<'a>(top: &'a Table, place: usize) -> Option<&'a str>
     ensures { option_map (λ s. s.now) result ≡ entry_at place (table_view top.now) }

@@ -174,6 +174,10 @@ fn explain_toml(alloc: Global, text: &str, error: &toml::de::Error) -> Result<St
     format!(in alloc; ":{}:{}: {}", place.line, place.column, error.message())
 }
 
+// promise: an explanation begins with the place: `:LINE:COLUMN: ` in a text that is no TOML, the place that the parser's error names; else
+//    the system, port, cable or entry that the fault names; else `: `
+// contract: `explain` (`SaysWhere`), `explain_toml` (`place`)
+// not said: that the text ceases to be TOML there
 /// Says what is wrong with a text that `read_plan` refuses for this fault: what is to stand behind the name of its file.
 /// For `NotToml` that is `:LINE:COLUMN: ` and the message of the crate `toml`, for any other fault `: `, what the fault names,
 /// as `system 1 port 2`, and what is wrong with it. Its contract speaks of what stands first, not of the words behind it, nor that

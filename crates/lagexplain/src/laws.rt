@@ -5,6 +5,9 @@ ghost use Rattle.lagscript.specs.declared.fault.EntryFault.TheVariants.{Count, W
 ghost use Rattle.lagscript.specs.declared.forms.WordKind.{WordKind};
 ghost use Rattle.lagexplain.specs.Entries.{first_fault};
 
+// promise: the known events, their words and faults are those that `lagscript` reads
+// contract: `events_are_those_of_scripts`
+// not said: all other words: a table of typos
 /// The events that are known here are those that `lagscript` reads, and so are their words. Of a name without kinds it answers
 /// `Word`; of another count of words than there are kinds, `Count`; else the fault of the first word that is none of its kind, and
 /// the event where there is none (profile).

@@ -17,6 +17,9 @@ fn edits_between(alloc: Global, word: &str, name: &str) -> Result<usize, AllocEr
     osa_distance(alloc, word, name)
 }
 
+// promise: the suggested name is one of the known ones with the fewest edits, two at most, the first of these; none only if each needs
+//    more, or the word has over 40 octets
+// contract: `nearest` (`FindsNearest`)
 /// The first of the names that are nearest to a word of at most 40 octets, if at most two edits lead there. `AllocError` if memory
 /// is refused.
 pub(crate) fn nearest<'a>(

@@ -43,6 +43,9 @@ fn characters_behind(before: &[u8]) -> usize
         .count()
 }
 
+// promise: a place is a line, one more than the line ends before it, and a column, one more than the characters since
+// contract: `place_of` (`line`, `column`)
+// not said: texts of 2^32 octets or more
 /// The place right behind these octets of a text in UTF-8. One line end, or one character in the last line, leads one
 /// further; above the largest `usize` there is no place (profile).
 pub fn place_of(before: &[u8]) -> Place

@@ -10,6 +10,9 @@ use Rattle.lagffi.specs.Holding.{HeldValue}
 abbrev pub by_number_gives : ℕ → ℕ → ℕ → Type 0
 by_number_gives conv count place = place ≡ index_by_number conv count
 
+-- promise: a call is the system's own, with the algorithm of the handle, which stays
+-- contract: the exports of `calls.rt` (`CallsHeldSystem`, `OffersToHeldSystem`), `lagffi_restart`, `lagffi_ticks` (`TicksInTurn`),
+--    `lagffi_force_port`
 -- A call: the handle held a system, which goes on by this relation and is held still, with its algorithm; or it held none,
 -- holds none, and answers its refusal.
 abbrev pub CallsHeldSystem : Option HeldValue → Option HeldValue → (SystemState → SystemState → Type 0) → Type 0 → Type 0

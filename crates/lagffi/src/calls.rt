@@ -59,6 +59,8 @@ pub(crate) fn write_due(answer: &Result<Option<[u8; 124]>, SystemFault>, buffer:
     }
 }
 
+// promise: a frame stands at the front of the buffer, the rest stays; room below 124 octets is refused with 15
+// contract: `lagffi_receive`, `lagffi_transmit` (`answers`, `room`)
 /// A frame comes on a port: of control frames hand over those to 01-80-C2-00-00-02 alone. `response` has NIW_FRAME octets or more, and
 /// is written only for NIW_RECEIVED_RESPOND, at its front.
 /// Refuses: NIW_BUFFER, NIW_NO_SYSTEM, NIW_NO_PORT.

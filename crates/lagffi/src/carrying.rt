@@ -26,6 +26,9 @@ fn number_or_0(agg: Option<AggId>) -> u64
     }
 }
 
+// promise: the aggregator that carries, and offers in it, are those of [the active aggregator](#active_aggregator); 0 is none
+// contract: `lagffi_carrier` (`Carries`), `lagffi_offer_in_carrier`, `lagffi_offer_conversation_in_carrier` (`OffersInCarrier`)
+// not said: that no frame is offered by another export
 /// The aggregator that carries the frames of the client, or 0 if no port distributes. `now` is the one that carried them before, or 0 for
 /// none. An aggregator with a partner is before one that runs on defaults, and of those the one with the most ports. `now` stays unless
 /// another has strictly more; of several others it is the one with the least LAG ID, then the lowest number. To be asked after each call

@@ -15,6 +15,8 @@ use slowpdu::{Pdu, decode};
 /// The octets of a payload (6.4.2.3, 6.5.3.3).
 const PAYLOAD_LENGTH: usize = 110;
 
+// promise: a payload is read as `decode` reads it, or refused with 17, its first fault, the offset and the octet
+// contract: `lagffi_decode` (`reads`, `answers`: `IsDecoded`)
 /// Reads the payload of a control frame, what follows its EtherType 0x8809, and writes its numbers into `pdu`. Octets after the first
 /// NIW_PAYLOAD_LENGTH are not looked at. A payload that is refused leaves `pdu` as it was.
 /// Refuses: NIW_BAD_PAYLOAD.
@@ -42,6 +44,8 @@ fn octets_of(pdu: &Pdu) -> [u8; PAYLOAD_LENGTH]
     }
 }
 
+// promise: the payload for a PDU is written; numbers of no PDU are refused with 18, below 110 octets with 15
+// contract: `lagffi_encode` (`answers`: `WritesFirst`; `room`)
 /// Writes the payload of a PDU at the front of `payload`, which has NIW_PAYLOAD_LENGTH octets or more: version 1, and 0 in each
 /// reserved octet.
 /// Refuses: NIW_BUFFER, NIW_NO_PDU.

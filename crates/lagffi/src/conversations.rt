@@ -80,6 +80,8 @@ pub extern "C" fn lagffi_offer_conversation(
     LagNumber::of(&answer)
 }
 
+// promise: so are a leave, a rest, a probe, and an offer by number
+// contract: `lagffi_leave_conversation`, `lagffi_rest`, `lagffi_probe`, `lagffi_offer_conversation` (`OffersByNumber`)
 /// Takes a conversation off its port, behind a marker, without another port to go to: it prefers none.
 /// Refuses: NIW_NO_SYSTEM, NIW_NO_AGGREGATOR, NIW_NOT_ASSIGNED, NIW_HELD, NIW_MARKERS_SPENT.
 #[unsafe(no_mangle)]
@@ -177,6 +179,9 @@ fn tell_freed<F: Fn(u16, usize) -> usize + Drop>(
     LagNumber::of(&system.released(AggId(agg), busy, freed))
 }
 
+// promise: the rows of an aggregator's conversations are written, with marks; lists with too few rows are refused with 15, no aggregator
+//    with 2
+// contract: `lagffi_conversation_ports`, `lagffi_released` (`TellsRowsIf`)
 /// What changed of the conversations of an aggregator: writes into `ports`, for each of them by its number, the port that it is on, or 0
 /// if it is free or held; and into `changed` whether `ports` had another number there. Both have a place or more for each conversation.
 /// Answers how many changed. The first time, `ports` may hold zeros.

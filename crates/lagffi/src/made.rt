@@ -198,6 +198,11 @@ fn system_of(
     Ok(system.with_algorithm(()))
 }
 
+// promise: `lagffi_new` puts a configured system in its first state into an empty handle; a limit of 0 is none. Else the handle stays as it
+//    was, with the first reason (an algorithm that is not 0 to 2 is the last), refused memory, or 14 if it holds one
+// contract: `lagffi_new` (`made`: `IsMadeOfLagConfig`, `why_refused`; `accepted`, `shows`, `live`)
+// promise: an empty handle is refused with 13, less room with 15 first
+// contract: each export but `lagffi_new`
 /// Makes a system with all links down and puts it into an empty handle. The keys are those of aggregators 1, 2 and on; the
 /// port numbers rise.
 /// Refuses: NIW_HAS_SYSTEM, NIW_BAD_CONFIG, NIW_NO_MEMORY.
@@ -246,6 +251,8 @@ pub extern "C" fn lagffi_new(
     }
 }
 
+// promise: after `lagffi_free` the handle is empty; 0 if it held a system
+// contract: `lagffi_free` (`left`, `status`)
 /// Frees the system of a handle, which is empty then.
 /// Refuses: NIW_NO_SYSTEM.
 #[unsafe(no_mangle)]

@@ -51,6 +51,8 @@ fn due_on<F: Fn(u16, usize) -> usize + Drop>(
     due
 }
 
+// promise: a mask has a bit for each port, in order: a frame is due; or the values differ from those in the buffer, and stand there now
+// contract: `lagffi_due`, `lagffi_views` (`mask`, `due_on`, `changed`, `views_of`)
 /// A mask of the ports on which niw_transmit would return a frame now. Bit 0, of the value 1, tells of the first port.
 /// Refuses: NIW_NO_SYSTEM.
 #[unsafe(no_mangle)]

@@ -50,6 +50,8 @@ macro_rules! ask {
     }};
 }
 
+// promise: a reader has the value of the system's own; 1 without the port, 3 for a frame below 14 octets, 9 without the conversation
+// contract: `lagffi_is_up` and the others (`ReadsHeldSystem`), `lagffi_conversation`
 /// Whether the link of a port is up.
 /// Refuses: NIW_NO_SYSTEM, NIW_NO_PORT.
 #[unsafe(no_mangle)]
@@ -223,6 +225,8 @@ pub extern "C" fn lagffi_load(alloc: Global, lag: &mut Lag, port: u16) -> LagNum
     ask!(alloc, lag, LagNumber, system, block => LagNumber::of_count(&system.load(port)))
 }
 
+// promise: the notes on who answers markers are those of [answering](#answering)
+// contract: `lagffi_answers` (`ReadsNotes`), `lagffi_receive` and its siblings (`NotesHeldSystem`)
 /// Whether the peer of a port answers markers: NIW_ANSWERS_.. A marker that niw_transmit or niw_probe wrote asks it. A response that
 /// niw_receive takes on the port answers, if it has the port, system and identifier of the last such marker. When the link goes down, and
 /// after niw_restart, it is as never asked.
@@ -306,6 +310,8 @@ pub extern "C" fn lagffi_ticks_until_due(alloc: Global, lag: &mut Lag) -> LagWai
     ask!(alloc, lag, LagWait, system, block => LagWait::of(system.ticks_until_due()))
 }
 
+// promise: port numbers stand at the front, ascending; room for fewer than 64 is refused with 15
+// contract: `lagffi_ports`, `lagffi_distributing` (`answers`, `room`)
 /// How many ports there are. `numbers` has room for NIW_MOST_PORTS numbers or more, which `room` counts; those of the ports are written
 /// at its front, ascending.
 /// Refuses: NIW_BUFFER, NIW_NO_SYSTEM.

@@ -42,6 +42,12 @@ fn told_of_capture(alloc: Global, settings: Settings, capture: &[u8]) -> Result<
     make_told(sink.into_inner(), said.as_str(), status_of_summary(summary))
 }
 
+// promise: a call writes what is told at the front of the buffer, if that has room for all of it; else it answers 1 and how much it takes,
+//    and the buffer stays; 2 if memory was refused
+// contract: `lagpage_capture` (`Answers`)
+// not said: that memory is refused only if there is none; the host's part, in `lib.rt`
+// promise: what is told of a capture is the report on its octets, the status and, where it is not read on, why
+// contract: `lagpage_capture` (`TellsCapture`)
 /// Explains a capture as `lagtool capture` does: with `--all`, `--no-frames` and `--json`, where these numbers are above 0. It writes
 /// what is printed at the front of `out`, and behind it what is said on standard error.
 #[unsafe(no_mangle)]

@@ -3,6 +3,14 @@
 ghost use Rattle.lagworld.specs.Sound.{both_algorithms};
 ghost use Rattle.lagprogress.specs.Arriving.{DeliverHandsUp, OfferGetsPort};
 
+// promise: an Offer gives a frame a port that distributes in the aggregator, and sends it behind all items on the port's cable, if that
+//    accepts it; no port changes
+// contract: `frames_pass_cables` (`offered`: `GetsPort`)
+// premises: sound; a port distributes in the aggregator; 14 to 1518 octets, no slow protocols frame; its conversation is not held
+//    (`TakesFrame`)
+// promise: Deliver of a cable whose first item is a data frame hands it up in the aggregator in which the port there collects
+// contract: `frames_pass_cables` (`delivered`)
+// premises: that port's link is up, and it collects
 /// An Offer event gives a frame that a sound system takes a port that distributes in the aggregator: a frame of 14 to 1518
 /// octets, no slow protocols frame, for an aggregator that exists and in which a port distributes, and whose conversation is
 /// not held. And where a data frame is the first item on a cable, a Deliver event hands it up in the aggregator in which the
@@ -22,6 +30,12 @@ pub fn disabled_ports_have_unsynchronized_partners<F: Fn(u16, usize) -> usize>()
 
 ghost use Rattle.lagprogress.specs.Arriving.{EachActiveFrameArrives, EachFrameArrives};
 
+// promise: a frame offered behind the rounds gets a port, the cable accepts it, and in the next healthy round the other end hands it up,
+//    octet by octet: 352 | 661
+// contract: `each_frame_arrives` (`Arrives`, `HandsUp`)
+// premises: `IsBundle` before the rounds; `TakesFrame` when it is offered; a partner recorded in PORT_DISABLED has Synchronization FALSE,
+//    as after any events (`disabled_ports_have_unsynchronized_partners`); the Offer comes between two rounds. Nothing is said of a second
+//    frame in it
 /// A data frame that a bundle as in `each_link_comes_up` is offered after 352 healthy rounds (35.2 s) or more if both ends of each
 /// healthy cable are active, after 661 (66.1 s) if one is, arrives within one healthy round (100 ms), whatever was before them:
 /// it gets a port that distributes in the aggregator, its cable accepts it, and at the other end it is handed up, with the same

@@ -3,6 +3,16 @@
 ghost use Rattle.lagworld.specs.Sound.{both_algorithms};
 ghost use Rattle.lagprogress.specs.HostRounds.{AskingIsHostRound, LoopIsHostRound, RoundIsHostRound, RoundsAreHostRounds};
 
+// promise: events are such a round in which each system ticks once, every other one is Emit, Deliver, Offer or Move, each end of a healthy
+//    cable is asked after its system's tick, and nothing is on any cable in the end
+// contract: `hosts_play_rounds` (`asking`)
+// premises: steady; the events acted
+// promise: so is the loop of two hosts: each system ticks, then asks all its ports; items arrive, ports are asked again
+// contract: `hosts_play_rounds` (`host_loop`: `IsHostLoop`)
+// premises: the same; nothing is on any cable in the end
+// promise: each healthy round is one
+// contract: `hosts_play_rounds` (`round`, `rounds`)
+// premises: steady
 /// Which events are a healthy round of hosts: each system ticks once, and every other event is Emit, Deliver, Offer or Move, in
 /// any order; each end of a healthy cable is asked at least once after the tick of its system; and nothing is on any cable in
 /// the end. So are the rounds that `play_round` plays, and those of a host that asks each port after each of its calls until
@@ -16,6 +26,12 @@ pub fn hosts_play_rounds<F: Fn(u16, usize) -> usize>()
 
 ghost use Rattle.lagprogress.specs.HostRounds.{ActiveEndsKnowByHosts, EndsKnowByHosts};
 
+// promise: what the rows of these names say, of so many rounds of hosts (the first: `ends_of_each_cable_come_to_know`); the last is both
+//    rows on cut-offs but for `frees`, which stands below
+// contract: `ends_come_to_know_by_hosts`, `each_link_comes_up_by_hosts`, `each_link_agrees_by_hosts`, `selected_pairs_agree_by_hosts`,
+//    `each_limited_link_agrees_by_hosts`, `each_frame_arrives_by_hosts`, with the same clauses; `cut_offs_do_no_harm_by_hosts`
+//    (`defaulted`, `up`, `agrees`)
+// premises: theirs. A frame that is offered behind these rounds arrives in the next one, whatever else is offered or moved in that
 /// The ends of each healthy cable come to know each other in healthy rounds of hosts: from 321 (32.1 s) on if both are active,
 /// from 630 (63 s) on if one is, whatever was before them, as in `ends_of_each_cable_come_to_know` (6.4.12, 6.4.13).
 pub fn ends_come_to_know_by_hosts<F: Fn(u16, usize) -> usize>()
@@ -80,6 +96,13 @@ pub fn cut_offs_do_no_harm_by_hosts<F: Fn(u16, usize) -> usize>()
 ghost use Rattle.lagprogress.specs.HostFreed.{NoneIsHeldBesideCutOffsByHosts, NoneIsHeldOnActiveEndsByHosts, NoneIsHeldOnEndsByHosts};
 ghost use Rattle.lagprogress.specs.HostFreed.{NoneIsHeldWhereActiveByHosts, NothingIsHeldByHosts, RoundIsDraining};
 
+// promise: no conversation is held on an end of a healthy cable after 352 | 661, and 30 more in which none is moved and at each end nothing
+//    is due, nor a marker, at some time after its tick, as in each healthy round
+// contract: `held_conversations_are_freed_by_hosts` (`ends_both`, `ends_one`, `round`)
+// premises: those of `each_link_comes_up`; an identifier is left in the end. Frames may be offered
+// promise: nor in the whole system; nor beside ports that are cut off, after 962 and 30
+// contract: the same (`all_both`, `all_one`; `beside`)
+// premises: the same, and `CarriersAreUp` in the end; as for `each_link_comes_up_beside_cut_offs`
 /// Conversations that are held in a bundle as in `each_link_comes_up` are freed in healthy rounds of hosts that ask until nothing is
 /// due: after 352 healthy rounds of hosts (35.2 s) or more if both ends of each healthy cable are active, after 661 (66.1 s) if one is,
 /// and 30 more (3 s) in which each end has neither an LACPDU nor a marker due at some time after its system's tick, and no

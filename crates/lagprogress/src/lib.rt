@@ -30,6 +30,10 @@ pub use loops::{play_host_round, play_host_rounds};
 pub use playing::{play_round, play_rounds};
 pub use sharing::ports_share_aggregators;
 
+// promise: NTT becomes true within a bound, which each tick lowers by one and no run of the periodic machine raises: in FAST the timer's
+//    ticks and 299, in SLOW the timer's ticks
+// contract: `silence_ends` (`Silence`)
+// premises: active, link up
 /// An active port whose link is up is not silent for long: no run of the periodic machine raises the bound on the ticks
 /// until NTT is true; each tick lowers it by one; and at 0 NTT is true (6.4.13).
 pub fn silence_ends()
@@ -38,6 +42,10 @@ pub fn silence_ends()
 
 ghost use Rattle.lagprogress.specs.Selecting.{FindsAggregator, WaitsForRoom};
 
+// promise: a port is SELECTED, or STANDBY with a full aggregator, if its link is up, it is CURRENT or DEFAULTED, and its partner is not its
+//    own system
+// contract: `ports_find_aggregators` (`FindsAggregator`)
+// premises: sound; as many aggregators of its key as ports of that key, whether their links are up or not
 /// A port of a sound system whose link is up, that is CURRENT or DEFAULTED and whose partner is not its own system is
 /// SELECTED, or STANDBY in an aggregator that has no room, if its system has at least as many aggregators of its key as
 /// ports of that key (6.4.14; profile).
@@ -45,6 +53,9 @@ pub fn ports_find_aggregators()
     ensures { FindsAggregator }
 {}
 
+// promise: the aggregator of a STANDBY port has as many members as the limit
+// contract: `standby_ports_wait_for_room`
+// premises: sound
 /// No STANDBY port of a sound system waits while its aggregator has room: that has as many members as the limit of links
 /// (6.4.14; profile).
 pub fn standby_ports_wait_for_room()
@@ -53,6 +64,10 @@ pub fn standby_ports_wait_for_room()
 
 ghost use Rattle.lagprogress.specs.Timers.{EachCallKeepsTimed, FirstIsTimed};
 
+// promise: at first and after each call no timer has more ticks than it can start with, no age of a window is above 10, and a wait for a
+//    response is below 30 ticks
+// contract: `timers_are_bounded`, `waits_are_short` (`first`, `kept`)
+// premises: the calls are those of `Call`
 /// No timer of a port has more ticks than it can start with: current_while at most Short_Timeout_Time (30 ticks) if the
 /// port has Short Timeout or is in EXPIRED, else Long_Timeout_Time (900); periodic_timer at most Fast_Periodic_Time (10)
 /// in FAST, else Slow_Periodic_Time (300); wait_while at most Aggregate_Wait_Time (20); and no age of the transmit window
@@ -74,6 +89,9 @@ pub fn waits_are_short<F: Fn(u16, usize) -> usize>()
 
 ghost use Rattle.lagprogress.specs.Told.{TellsAtMost900};
 
+// promise: `ticks_until_due` is at most 900, and 0 exactly if a frame is due
+// contract: `ticks_until_due_are_bounded`
+// premises: timers and waits within their bounds
 /// `ticks_until_due` tells at most 900 ticks (90 s), and 0 exactly where a frame is due. The timers and waits of the system
 /// are within their bounds (6.4.4; profile).
 pub fn ticks_until_due_are_bounded()
@@ -82,6 +100,9 @@ pub fn ticks_until_due_are_bounded()
 
 ghost use Rattle.lagprogress.specs.Heartbeat.{IsHeard, IsSilentShortly};
 
+// promise: an LACPDU of a port is due after calls with 309 ticks or more, if it sent none in them; if none is due, they have at most 308
+// contract: `active_ports_are_heard` (`heard`, `silent`)
+// premises: sound, timers within bounds; active; the link stays up
 /// An active port whose link stays up is heard: after any calls that leave its link up, 309 ticks or more among them, an
 /// LACPDU is due on it, if it sent none in them. So it sends one in any 309 ticks (31 s) after each of which it is asked
 /// (6.4.13, 6.4.16), and where none is due after such calls, at most 308 ticks are among them. The system is sound, its timers
@@ -93,6 +114,10 @@ pub fn active_ports_are_heard<F: Fn(u16, usize) -> usize>()
 
 ghost use Rattle.lagprogress.specs.Hearing.{IsNoticed};
 
+// promise: a port is not CURRENT after calls with 900 ticks (30 with Short Timeout) in which it processed no LACPDU, and DEFAULTED after 30
+//    more
+// contract: `silence_is_noticed` (`Hearing`)
+// premises: sound, timers within bounds; the link stays up; no `configure` names it
 /// Silence is noticed: a port whose link stays up, that no `configure` names, and that processes no LACPDU is not
 /// CURRENT after 900 ticks (90 s), or 30 (3 s) if it has Short Timeout, and it is DEFAULTED after 30 more (6.4.12). The
 /// system is sound, its timers are within their bounds, and its distribution algorithm may return anything.
@@ -102,6 +127,9 @@ pub fn silence_is_noticed<F: Fn(u16, usize) -> usize>()
 
 ghost use Rattle.lagprogress.specs.Knowing.{IsKnown};
 
+// promise: a port that processed an LACPDU knows its actor after calls with fewer ticks than these
+// contract: `what_was_heard_is_known` (`Knowing`)
+// premises: sound before and after; the link stays up; no `configure` names it; it processes no other LACPDU
 /// What a port heard it knows: a port that processed an LACPDU is CURRENT and has recorded its actor, with its Activity
 /// and its Timeout, for 900 ticks (90 s), or 30 (3 s) if it has Short Timeout, while its link stays up, no `configure`
 /// names it, and it processes no other LACPDU (6.4.12). The system is sound, and its distribution algorithm may
@@ -114,12 +142,17 @@ ghost use Rattle.lagworld.specs.Sound.{both_algorithms};
 ghost use Rattle.lagprogress.specs.Steady.{EachEventIsCalls, EachEventKeepsSteady, StartIsSteady};
 ghost use Rattle.lagprogress.specs.Steady.{EachReachedIsSteady, EachRunKeepsSteady};
 
+// promise: each event of a world is a list of calls of each system, perhaps empty
+// contract: `each_event_is_calls`
 /// Each event of a world is a list of calls of each of its two systems, perhaps an empty one (profile). Which calls they
 /// are it does not say.
 pub fn each_event_is_calls<F: Fn(u16, usize) -> usize>()
     ensures { (one two : F) → EachEventIsCalls (both_algorithms (F.post one) (F.post two)) }
 {}
 
+// promise: a world is steady at first, and after any events; one that events lead to is sound, too
+// contract: `each_world_is_steady` (`start`, `kept`, `run`, `reached`)
+// premises: `World::new` made the first; for `reached` at most 2^63 events
 /// Both systems of a world are sound, and their timers within their bounds: at the start, after each event and after any
 /// events, whatever the distribution algorithms return. So each world that at most 2^63 events lead to from a start is
 /// sound, and both its systems are sound with their timers within their bounds, as `links_come_up` and `links_agree` want it
@@ -133,6 +166,10 @@ pub fn each_world_is_steady<F: Fn(u16, usize) -> usize>()
 
 ghost use Rattle.lagprogress.specs.Passing.{DeliverProcessesLacpdu, EmitSendsLacpdu};
 
+// promise: Emit puts the LACPDU that is due on the port's cable, behind all items; Deliver of a cable whose first item is an LACPDU makes
+//    the port at the other end process it
+// contract: `lacpdus_pass_cables` (`sent`, `processed`)
+// premises: the port's link is up; the cable accepts the item
 /// What an end of a cable sends is heard at the other: an Emit event of a port whose LACPDU is due puts just that LACPDU
 /// on its cable, behind what is there, if the cable accepts it; and when it is the first item, a Deliver event of the
 /// cable makes the port at the other end process just that LACPDU, if the link of that port is up (6.4.12, 6.4.16).
@@ -143,6 +180,9 @@ pub fn lacpdus_pass_cables<F: Fn(u16, usize) -> usize>()
 
 ghost use Rattle.lagprogress.specs.Progress.{ActiveEndsComeToKnow};
 
+// promise: both ports of the only cable know each other after 321 rounds if both are active, after 630 if one is
+// contract: `active_ends_come_to_know`, `ends_come_to_know` (`Progress`)
+// premises: steady; the one cable is healthy
 /// The ends of a cable come to know each other: in a world with one cable that is whole and has no limit, with the links
 /// of both of its ports up and both ports active, each of the two has recorded the other as it is, from 321 healthy
 /// rounds (32.1 s) on, whatever was before them. Both systems are sound, and their timers within their bounds, as in each
@@ -161,6 +201,9 @@ pub fn ends_come_to_know<F: Fn(u16, usize) -> usize>()
 
 ghost use Rattle.lagprogress.specs.ComingUp.{ActiveLinkComesUp, LinkComesUp};
 
+// promise: they are up, and its `agreement` is `Same`: 352 | 661
+// contract: `links_come_up` (`ComingUp`), `links_agree` (`Agreeing`)
+// premises: the same; each system has one port, and an aggregator with its key; the systems differ; for the agreement the world is sound
 /// Links come up: in a world with one cable that is whole and has no limit, with the links of both of its ports up, both
 /// ports are SELECTED and distribute from 352 healthy rounds (35.2 s) on if both are active, from 661 (66.1 s) on if one is,
 /// whatever was before them. Each system has one port, and an aggregator with its key; the two systems differ; both are
@@ -181,6 +224,9 @@ pub fn links_agree<F: Fn(u16, usize) -> usize>()
 
 ghost use Rattle.lagprogress.specs.Bundle.{ActiveEndsOfEachKnow, EndsOfEachKnow};
 
+// promise: among any cables, the ports of each healthy one know each other after 321 rounds if both are active, after 630 if one is
+// contract: `ends_of_each_cable_come_to_know` (`both`, `one`)
+// premises: steady; no port has two cables
 /// Of any number of cables, the ends of each healthy one come to know each other: from 321 healthy rounds (32.1 s) on if both
 /// are active, from 630 (63 s) on if one is, whatever was before them, whatever the other cables are, and whatever other
 /// ports and aggregators the systems have. A cable is healthy that is whole and has no limit, with the links of both of its
@@ -192,6 +238,9 @@ pub fn ends_of_each_cable_come_to_know<F: Fn(u16, usize) -> usize>()
 
 ghost use Rattle.lagprogress.specs.Bundle.{BothAreActive, OneIsActive, ReachedIsApart, ReachedIsBundle};
 
+// promise: a world that events lead to from a new one is sound and meets `IsBundle`; its systems differ
+// contract: `reached_worlds_are_bundles` (`apart`, `both`, `one`)
+// premises: the configuration is accepted; at most 2^63 events; `AllHeard`, `HasAggregators`, `EnoughLinks`
 /// A world that at most 2^63 events lead to from a start of two systems whose configurations are accepted is sound, and a
 /// bundle as `each_link_comes_up`, `each_link_agrees` and `held_conversations_are_freed` want it, if each port whose link is up
 /// ends a healthy cable with both ends active, or one, and each system has aggregators and enough links as they say. Its two
@@ -204,6 +253,9 @@ pub fn reached_worlds_are_bundles<F: Fn(u16, usize) -> usize>()
 
 ghost use Rattle.lagprogress.specs.Bundle.{EachActiveLinkComesUp, EachLinkComesUp};
 
+// promise: both ports of each healthy cable are up, and its `agreement` is `Same`: 352 | 661
+// contract: `each_link_comes_up`, `each_link_agrees`
+// premises: `IsBundle`; for the agreement the world is sound. Other cables may be cut, have a limit, or end at ports whose links are down
 /// The links of a bundle come up: both ends of each healthy cable are SELECTED and distribute from 352 healthy rounds
 /// (35.2 s) on if both ends of each are active, from 661 (66.1 s) on if one end of each is, whatever was before them. Each port whose
 /// link is up ends a healthy cable; each system has as many aggregators of a port's key as ports of that key, or at least one,
@@ -227,6 +279,10 @@ pub fn each_link_agrees<F: Fn(u16, usize) -> usize>()
 
 ghost use Rattle.lagprogress.specs.Bundle.{ActiveSelectedPairsAgree, ActiveSelectedPairsComeUp, SelectedPairsAgree, SelectedPairsComeUp};
 
+// promise: if both ports of a healthy cable are SELECTED after that many rounds, they are up and agree, however few aggregators and links
+//    there are: 352 | 661
+// contract: `selected_pairs_agree` (`up_both`, `up_one`, `both`, `one`)
+// premises: steady; no port has two cables; `AllHeard`; for the agreement the world is sound. That they are SELECTED no clause says
 /// However few aggregators and links the systems have: if each port whose link is up ends a healthy cable, and both ends of one
 /// are SELECTED after 352 healthy rounds or more if both ends of each are active, after 661 if one is, then both distribute, and in
 /// a sound world the agreement of that cable is `Same`, whatever was before the rounds. Both systems are sound and their timers within
@@ -240,6 +296,13 @@ pub fn selected_pairs_agree<F: Fn(u16, usize) -> usize>()
 
 ghost use Rattle.lagprogress.specs.Freed.{NoneIsHeldOnActiveEnds, NoneIsHeldOnEnds, NoneIsHeldWhereActive, NothingIsHeld};
 
+// promise: no conversation is held on an end of a healthy cable: 382 | 691
+// contract: `held_conversations_are_freed` (`ends_both`, `ends_one`)
+// premises: those of `each_link_comes_up`; an identifier is left in the end (`HasIdentifierLeft`)
+// promise: nor in the whole system
+// contract: the same (`all_both`, `all_one`)
+// premises: the same; before the rounds the links of all ports that conversations are On or held on are up, as in each world that events
+//    lead to (`carriers_are_up`)
 /// Conversations that are held in a bundle as in `each_link_comes_up` are freed: from 382 healthy rounds (38.2 s) on if both ends
 /// of each healthy cable are active, from 691 (69.1 s) on if one is, no conversation is Wanted or Flushing on an end of a
 /// healthy cable, whatever was before them, if an identifier for a marker is left in the end. And none is at all in a system

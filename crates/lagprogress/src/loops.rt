@@ -110,6 +110,14 @@ fn deliver_and_ask<C: Cable, F: Fn(u16, usize) -> usize + Drop>(
     }
 }
 
+// promise: `play_host_round` plays such a round, which moves none and asks until nothing is due; `play_host_rounds` so many healthy rounds
+//    of hosts
+// contract: `play_host_round` (`round`, `drains`), `play_host_rounds` (`rounds`)
+// premises: both algorithms meet the condition; steady
+// promise: they are refused as `World::step` refuses the next event, all before which were played; or as `NoCable` above 65,535 cables, and
+//    then none was
+// contract: `play_host_round` (`refused`), `play_host_rounds` (`stopped`)
+// premises: the condition
 /// Plays one healthy round of a world as two hosts do: both systems tick, the ends of all cables are asked until they send
 /// nothing, and while anything is on a cable, it is delivered and they are asked again. Where it is not refused, this is a round
 /// as `each_link_agrees_by_hosts` and `held_conversations_are_freed_by_hosts` want it, if the systems are sound and their timers
@@ -139,6 +147,9 @@ pub fn play_host_round<C: Cable, F: Fn(u16, usize) -> usize + Drop>(
     deliver_and_ask(world, count)
 }
 
+// promise: **from a new world:** as `play_rounds` has it
+// contract: `play_host_rounds` (`distributes_both`, `agrees_both`, `frees_both`, and `_one` of each)
+// premises: the same
 /// Plays so many healthy rounds, as `play_host_round` plays one, and stops in the first that is refused.
 pub fn play_host_rounds<C: Cable, F: Fn(u16, usize) -> usize + Drop>(
     world: &mut World<C, F>,

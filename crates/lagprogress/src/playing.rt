@@ -140,6 +140,12 @@ fn deliver_all<C: Cable, F: Fn(u16, usize) -> usize + Drop>(
     }
 }
 
+// promise: `play_round` plays a healthy round, `play_rounds` the given number in turn, in any world
+// contract: `play_round` (`round`), `play_rounds` (`rounds`)
+// premises: both algorithms meet [the condition](#lagsystem). That it is not refused tests show
+// promise: they are refused as `NoCable` above 65,535 cables, with nothing played; else as `World::step` refuses the next event of a round:
+//    as `Spent`, or after both ticks and where there is a cable as `NoMemory`
+// contract: `play_round` (`refused`, `part`), `play_rounds` (`stopped`)
 /// Plays one healthy round of a world: both systems tick, both ends of each cable are asked twice, since an LACPDU goes before a
 /// marker, and what is on the cables is delivered until nothing is. Where it is not refused, this is a round as `each_link_agrees`
 /// wants it, from whatever state the world was in. `NoMemory` or `Spent` if `World::step` refuses an event of the round so; then
@@ -168,6 +174,10 @@ pub fn play_round<C: Cable, F: Fn(u16, usize) -> usize + Drop>(
     deliver_all(world, count)
 }
 
+// promise: **from a new world:** after `World::new`, any events and `play_rounds` with a count, both ports of each healthy cable are up and
+//    its `agreement` is `Same` (352 | 661), and no conversation is held (382 | 691) where an identifier is left
+// contract: `play_rounds` (`distributes_both`, `agrees_both`, `frees_both`, and `_one` of each: `LeadsTo`)
+// premises: no round was refused; before them `AllHeard`, `HasAggregators` and `EnoughLinks` hold (`IsReady`)
 /// Plays so many healthy rounds, as `play_round` plays one, and stops in the first that is refused.
 pub fn play_rounds<C: Cable, F: Fn(u16, usize) -> usize + Drop>(
     world: &mut World<C, F>,

@@ -66,6 +66,8 @@ abbrev pub aggregators_in : ℕ → Members → Result (List Key) ScriptFault
 aggregators_in system ms = or_fault (fault.SystemValue system system_key.Aggregators)
     (value_at (codes "aggregators") (list_in key_in) None ms)
 
+-- promise: the limit of links and the count of conversations are those of the table; left out: none, and 256
+-- contract: both (`reads`: `max_links_in`, `conversations_in`)
 -- how many links each aggregator may have; None if it is left out
 abbrev pub max_links_in : ℕ → Members → Result (Option ℕ) ScriptFault
 max_links_in system ms = or_fault (fault.SystemValue system system_key.MaxLinks)

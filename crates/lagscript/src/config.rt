@@ -73,6 +73,9 @@ fn bad_end(first: &[PortConfig], second: &[PortConfig], cables: &[(u16, u16)]) -
 }
 
 impl WorldConfig {
+    // promise: two systems and their cables are refused for the first reason: system 1, system 2, equal identifiers, the first bad end of a
+    //    cable
+    // contract: `WorldConfig::refusal` (`world_refusal`)
     /// The first reason to refuse the systems and their cables (profile): a fault of system 1, then of system 2, then
     /// equal identifiers, then the first cable with an end that is no port of its system or that an earlier cable has.
     /// Never `Lines`.

@@ -171,6 +171,10 @@ fn limits_of(alloc: Global, cables: &[CablePlan]) -> Result<Vec<Option<u16>>, Al
     cables.iter().map(|cable| cable.limit).collect(alloc)
 }
 
+// promise: a text has a plan or a first fault, by one function of its document over the grammar that `toml` states. Refused memory aside,
+//    `read_plan` returns that plan, `not toml` exactly if the text is none, or the first fault; `read_script` the script of the plan
+// contract: `plan_in`; `read_plan` (`reads`: `ReadsPlan`), `read_script` (`reads`: `ReadsScript`)
+// not said: the texts of faults: tests
 /// Reads the plan of a document.
 fn plan_in(alloc: Global, top: &Table) -> Result<Plan, ScriptFault>
     ensures reads { ReadsAs NoMemory plan_value (plan_in (table_view top.now)) result }
@@ -200,6 +204,8 @@ fn plan_in(alloc: Global, top: &Table) -> Result<Plan, ScriptFault>
     }
 }
 
+// promise: a configuration that was read is not refused; as many limits as cables, none of them 0
+// contract: both (`accepted`); `read_plan` (`one_each`, `from_one`)
 /// Reads a whole script (profile): the configuration of two systems and their cables, the limit of each cable, and the
 /// events. The configuration is one that is accepted, as far as a script can tell; no limit is 0.
 ///

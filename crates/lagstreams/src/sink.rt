@@ -27,6 +27,9 @@ impl<W: Write> Model for Sink<W> {
 pub struct WriteFailed;
 
 impl<W: Write> Sink<W> {
+    // promise: a sink appends all octets or a beginning of them, and remembers whether it failed and whether octets wait for a flush
+    // contract: `Sink::new`, `put`, `send`, `flush`, `failed`, `into_inner` (`WritesWhole`, `WritesPart`, `WritesAndFlushes`, `Flushes`)
+    // not said: that it fails only if the writer failed or took nothing: tests
     /// A sink that has not failed.
     pub fn new(inner: W) -> Self
         ensures { result ≡ record { writer = inner; failed = false; unflushed = false } }

@@ -33,6 +33,10 @@ impl<R: Read> Model for Source<R> {
 pub struct ReadFailed;
 
 impl<R: Read> Source<R> {
+    // promise: a source gives just what its reader gives, at most 2^64 - 2 octets, and remembers whether it failed: its reader then gave
+    //    nothing, or too much
+    // contract: `Source::new` (`left`), `read` (`ok`: `Gives`, `Fails`), `failed`
+    // not said: that it fails only then: tests
     /// A source that has not failed.
     pub fn new(inner: R) -> Self
         ensures reader { result.reader ≡ inner }

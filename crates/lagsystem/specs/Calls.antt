@@ -78,6 +78,8 @@ HoldsAtIndex P (Some i) system_ports = (system_port : SystemPort) × (slice_get 
 abbrev pub Unchanged : SystemState → SystemState → Type 0
 Unchanged old new = new ≡ old
 
+-- promise: a refusal names its cause and changes nothing
+-- contract: `step` (`RefusesNoPort`, `RefusesOffer`, `GivesOrRefuses`)
 -- there is no such port: the call is refused with NoPort, and nothing changes
 pub record RefusesNoPort (index : Option ℕ) (fault : SystemFault) (old new : SystemState) : Type 0 where
   pub cause : index ≡ None
@@ -189,6 +191,9 @@ abbrev pub ParsesWhere : Bool → SystemPort → List ℕ → FrameEffect → Ty
 ParsesWhere false system_port octets effect = effect ≡ Answered Disabled
 ParsesWhere true system_port octets effect = (frame : ReceivedFrame) × IsFrame octets frame × GivesEffect system_port frame effect
 
+-- promise: incoming octets have the grammar's reading or first fault; outgoing octets are the written payload in a control frame of 124
+--    octets from the port's address
+-- contract: `step` (`ParsesFrame`; `TransmitsAt`), `answers` (`moves`: `IsSent` of `ModelView`)
 -- what received octets ask for on this port
 abbrev pub ParsesFrame : SystemPort → List ℕ → FrameEffect → Type 0
 ParsesFrame system_port octets effect = ParsesWhere system_port.port.enabled system_port octets effect

@@ -142,6 +142,9 @@ EffectsSeenAs s (Transmit n) (reply.Transmit (Ok (Some frame))) acts = (payload 
 EffectsSeenAs s (Offer agg octets) (reply.Offer (Ok port)) acts = acts ≡ Sends_frame port agg.0 (number_of_conversation s octets) ∷ []
 EffectsSeenAs s call answer acts = acts ≡ []
 
+-- promise: each call is a list of moves that the law allows, from the view before to the view after; its octets and its reply show what
+--    others see of them
+-- contract: `answers` (`moves`: `JoinedByLawfulMoves`, `EffectsSeenAs`)
 -- the model allows this call: its lawful moves lead from the view before the call to the view after it, with just these
 -- visible acts
 abbrev pub JoinedByLawfulMoves : SystemState → Call → Reply → SystemState → Type 0

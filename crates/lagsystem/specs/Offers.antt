@@ -59,6 +59,9 @@ AssignsPort gives s agg octets answer = Assigns gives (number_of_conversation s 
 abbrev pub RefusedBy : (ℕ → ℕ → ℕ → Type 0) → SystemState → AggId → List ℕ → DistFault → Type 0
 RefusedBy gives s agg octets cause = MayBeOfferedTo s agg octets × AssignsPort gives s agg octets (Err cause)
 
+-- promise: `offer` refuses `NoAggregator`, `FrameLength`, `SlowFrame`, `move_conversation` `NoAggregator`, `NoPort`, `force`
+--    `NoAggregator`, each then as the distributor
+-- contract: `step` (`RefusesOffer`, `system_move_result`, `system_force_result`)
 -- an offered frame is refused with the first fault that holds: of the aggregator, of the frame, or the distributor's
 abbrev pub RefusesOffer : (ℕ → ℕ → ℕ → Type 0) → SystemState → AggId → List ℕ → SystemFault → Type 0
 RefusesOffer gives s agg octets fault =
@@ -66,6 +69,9 @@ RefusesOffer gives s agg octets fault =
     ⊎ ((IsTrue (has_aggregator s agg) × RefusesFrame octets fault)
     ⊎ ((cause : DistFault) × RefusedBy gives s agg octets cause × (fault ≡ system_fault cause)))
 
+-- promise: `offer` returns the port of the conversation, or one that distributes: the preferred one, else one that the algorithm picks;
+--    what is accepted is a conversation of the aggregator
+-- contract: `step` (`Offers`), `offer` (`within`)
 -- a frame is to be sent on a port, and its conversation is now on that port; or it is refused, and nothing changes
 abbrev pub Offers : (ℕ → ℕ → ℕ → Type 0) → AggId → List ℕ → SystemState → Result ℕ SystemFault → SystemState → Type 0
 Offers gives agg octets old (Ok port) new =

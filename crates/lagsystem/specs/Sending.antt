@@ -39,6 +39,9 @@ SendsMarkerOf (Some id) port mac old answer new =
 abbrev pub SendsMarker : ℕ → List ℕ → SystemState → Option (List ℕ) → SystemState → Type 0
 SendsMarker port mac old answer new = SendsMarkerOf (marker_due old.table port) port mac old answer new
 
+-- promise: `transmit` sends, while the link is up, the LACPDU that is due, else a marker if a conversation is Wanted on the port and an
+--    identifier is left: a frame exactly if `is_due`
+-- contract: `step` (`TransmitsIf`), `transmit_answers_what_is_due`
 -- What transmit does on the port at index i. The first argument: its link is up; the second: an LACPDU is due.
 abbrev pub TransmitsIf : Bool → Bool → ℕ → SystemPort → SystemState → Option (List ℕ) → SystemState → Type 0
 TransmitsIf false due i system_port old answer new = (answer ≡ None) × (new ≡ old)

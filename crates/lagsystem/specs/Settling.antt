@@ -61,6 +61,8 @@ PromotesTimes aggs agg (suc n) old new = (mid : List SystemPort) × PromotesTime
 abbrev pub PromotesAll : AggregatorsValue → AggId → List SystemPort → List SystemPort → Type 0
 PromotesAll aggs agg old new = (n : ℕ) × PromotesTimes aggs agg n old new × (next_standby_index aggs (views new) agg ≡ None)
 
+-- promise: first, aggregators ascending, the STANDBY port that comes next becomes SELECTED, until none comes next
+-- contract: `step` (`PromotesFirst`, `PromotesAll`, `PromotesNext`)
 -- so in the first n aggregators, ascending
 abbrev pub PromotesFirst : AggregatorsValue → ℕ → List SystemPort → List SystemPort → Type 0
 PromotesFirst aggs zero old new = new ≡ old
@@ -95,6 +97,9 @@ abbrev pub after_choices : AggregatorsValue → ℕ → List SystemPort → List
 after_choices aggs zero system_ports = system_ports
 after_choices aggs (suc n) system_ports = after_choice_at aggs (after_choices aggs n system_ports) n (slice_get (after_choices aggs n system_ports) n)
 
+-- promise: then eligible ports choose; each sees the promotions and the choices before it. It becomes SELECTED exactly if the aggregator
+--    has room, else STANDBY; a port becomes STANDBY in no other way
+-- contract: `step` (`ChoosesIn`, `choice_for`, `choice_in`)
 -- STANDBY ports become SELECTED where there is room; then each eligible port, ascending, chooses its aggregator
 abbrev pub ChoosesIn : AggregatorsValue → List SystemPort → List SystemPort → Type 0
 ChoosesIn aggs old new =
@@ -137,6 +142,8 @@ abbrev pub held_unless_on : List ℕ → Assignment → Assignment
 held_unless_on ports (On p) = if is_among ports p then On p else Wanted p None
 held_unless_on ports s = s
 
+-- promise: last, each conversation On a port that does not distribute in its aggregator becomes Wanted there; no other changes then
+-- contract: `step` (`HoldsConversations`)
 -- 6. each conversation On a port that does not distribute in its aggregator becomes Wanted on that port, and nothing
 -- else changes
 pub record HoldsConversations (old new : SystemState) : Type 0 where
@@ -157,6 +164,8 @@ Follows (step ∷ steps) old new = (mid : SystemState) × step old mid × Follow
 abbrev pub SettlesPorts : SystemState → SystemState → Type 0
 SettlesPorts old new = Follows (RunsMuxNotReady ∷ Chooses ∷ WorksOutReady ∷ RunsMux ∷ RunsAllPeriodic ∷ []) old new
 
+-- promise: a settling is seven states; its six steps lead from each to the next
+-- contract: `step` (`six_steps`)
 -- the steps of a settling, in their order
 abbrev pub six_steps : List (SystemState → SystemState → Type 0)
 six_steps = RunsMuxNotReady ∷ Chooses ∷ WorksOutReady ∷ RunsMux ∷ RunsAllPeriodic ∷ HoldsConversations ∷ []

@@ -53,6 +53,9 @@ impl<F: Fn(u16, usize) -> usize + Drop> Inner<F> {
 }
 
 impl<F: Fn(u16, usize) -> usize + Drop> System<F> {
+    // promise: `offer_conversation` is, for each frame with this number, the call `offer`, and each number has such a frame. It refuses
+    //    `NoAggregator`, `NotAssigned`, then as the distributor
+    // contract: `offer_conversation` (`offers`, `answers`); `each_conversation_has_a_frame` (`frame`, `octets`)
     /// Returns the number of the port to send a client's frame of this conversation on, and puts the conversation on that
     /// port, whatever the octets of the frame are: what `offer` answers and does for a frame of the conversation. The frames
     /// of one flow keep their order if the host gives the flow one number for ever. Refused in this order: `NoAggregator`;

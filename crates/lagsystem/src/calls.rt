@@ -39,6 +39,21 @@ impl<F> Model for System<F> {
 }
 
 impl<F: Fn(u16, usize) -> usize + Drop> System<F> {
+    // promise: `new` returns the first reason to refuse: ports, aggregators, port number, limit of links, conversations
+    // contract: `System::new` (`refused`, `accepted`); `Config::refusal` knows it without a system
+    // promise: else, memory aside, it makes the first state: the start rows of each port, one settling, all links down, every conversation
+    //    free; the limit and the count are the configured ones
+    // contract: `new` (`first`, `configured`, `algorithm`)
+    // promise: each call, whatever octets it brings, is its own effect; a settling follows a tick, a `set_link`, an LACPDU that is
+    //    processed and a `configure` that changes something, and no other
+    // contract: `step`
+    // promise: `PortsAgree` holds: the members of an aggregator have its key and one group, not individual where they are two or more;
+    //    ports that distribute in one aggregator name one partner system and key; no aggregator has more members than the limit; a port
+    //    distributes exactly if its mux machine is in COLLECTING_DISTRIBUTING; the ports are those of an accepted configuration, each
+    //    receive machine is at rest, each port keeps at most three ages
+    // contract: `agrees` of `new`, `answers` (`agrees`) of each call
+    // promise: the first state shows the law's first view
+    // contract: `new` (`shows`)
     /// Makes a system with all links down. Every port starts (BEGIN), one settling follows, and every conversation is
     /// free. Refused in this order: `BadConfig(Ports)` if there are not 1 to 64 ports, `BadConfig(Aggregators)` if
     /// there are not 1 to 64 aggregators, `BadConfig(PortNumber)` if the port numbers do not ascend from 1 or more,
@@ -58,6 +73,9 @@ impl<F: Fn(u16, usize) -> usize + Drop> System<F> {
         Ok(System { inner })
     }
 
+    // promise: a response frees what waits for it only if it names this system's address and the port where it comes; the answer is how
+    //    many
+    // contract: `step` of `receive` (`Releases`)
     /// Takes a frame that came on a port, of any octets, and returns what became of it: `Disabled` while the link is
     /// down; `Dropped` if it has fewer than 14 octets; for a data frame `Up`, or `Dropped` if the port is not
     /// Collecting; and for a control frame (EtherType 0x8809) `Ignored` with the fault of its payload, `TookLacpdu`,
@@ -82,6 +100,8 @@ impl<F: Fn(u16, usize) -> usize + Drop> System<F> {
         self.inner.tick();
     }
 
+    // promise: a port whose link goes down under a limit is UNSELECTED before the settling; without a limit Selected stays
+    // contract: `step` of `set_link` (`SetsPortEnabled`)
     /// Sets port_enabled: the link of a port is up or down now. Its receive machine runs; if the link is down now,
     /// every conversation of the port is free, and with a limit of links the port is UNSELECTED; one settling follows. `NoPort` if there is no such port (6.4.7, 6.4.12;
     /// profile).
@@ -104,6 +124,10 @@ impl<F: Fn(u16, usize) -> usize + Drop> System<F> {
         self.inner.configure(port, change)
     }
 
+    // promise: after `restart` the system is as `new` left it; a configuration has one first state
+    // contract: `restart` (`answers`: `IsFirst`; `shows`), `first_state_is_one`
+    // promise: no call changes what a restart goes back to: identifier, keys, ports, first marker, limit, count of conversations
+    // contract: `answers` (`configured`, `conversations`; for the limit `step`)
     /// Goes back to the state that `new` made: all links down, every conversation free, the first marker identifier
     /// next. What `configure` changed is undone. Takes no memory (profile).
     pub fn restart(&mut self)

@@ -13,6 +13,8 @@ use distributor::Assignment;
 use lagtypes::AggId;
 
 impl<F: Fn(u16, usize) -> usize + Drop> System<F> {
+    // promise: the number of a frame's conversation is the low 8 or 12 bits of the exclusive-or, by the count
+    // contract: `conversation` (`is`, `within`), `conversation_state`
     /// The conversation of a frame, in whichever aggregator: the low bits of octets 4 and 5 exclusive-or octets 10 and
     /// 11, 8 bits for 256 conversations, and 12 for 4096. None if the frame has fewer than 14 octets (profile).
     pub fn conversation(&self, frame: &[u8]) -> Option<u16>
@@ -33,6 +35,9 @@ impl<F: Fn(u16, usize) -> usize + Drop> System<F> {
         self.inner.conversation_state(agg, conv)
     }
 
+    // promise: each reader of a port is exact, and None without it; `load` is `NoPort`
+    // contract: `load`, `party`, `partner`, `group`, `defaulted`, `distributes`, `choice`, `mux_state`, `receive_state`, `state`, `is_up`,
+    //    `is_due`, `current_while`, `wait_while`, `ntt`, `machines`
     /// How many conversations, of all aggregators together, are On, Wanted or Flushing on a port. `NoPort` if there is
     /// no such port (profile).
     pub fn load(&self, port: u16) -> Result<u32, SystemFault>
@@ -43,6 +48,8 @@ impl<F: Fn(u16, usize) -> usize + Drop> System<F> {
         Ok(self.inner.distributor.load(port))
     }
 
+    // promise: `held` counts what is Wanted or Flushing on a port
+    // contract: `held` (`count_held_on`)
     /// How many conversations, of all aggregators together, are held on a port: Wanted or Flushing there. `load` counts those
     /// that are On it, too. `NoPort` if there is no such port (profile).
     pub fn held(&self, port: u16) -> Result<u32, SystemFault>

@@ -99,6 +99,9 @@ fn tell_freed<F: Fn(u16, usize) -> usize + Drop>(
 }
 
 impl<F: Fn(u16, usize) -> usize + Drop> System<F> {
+    // promise: `conversation_ports` writes the port that each conversation is On, or 0, which rows are new, and how many; no more rows than
+    //    both lists have
+    // contract: `conversation_ports` (`tells`: `TellsPorts`)
     /// Writes for each conversation of an aggregator, by its number, the port that it is On, or 0 if it is free or held.
     /// `changed` gets whether `ports` had another number there; the answer is how many changed. A row names a port only while
     /// `offer` answers that port for a frame of the conversation. Rows are written as far as both lists go, at most one for
@@ -128,6 +131,9 @@ impl<F: Fn(u16, usize) -> usize + Drop> System<F> {
         Ok(tell_ports(&self.inner.distributor, agg, rows, ports, changed))
     }
 
+    // promise: `released` writes which conversations are On, Wanted or Flushing, which were and are not, and how many
+    // contract: `released` (`tells`: `TellsFreed`)
+    // not said: one that became busy and free, or free and busy, between two questions
     /// Writes which conversations of an aggregator became free since `busy` was written. `busy` is the host's own list, by the
     /// number of the conversation: whether it was On, Wanted or Flushing when the host asked last, at first all false. It gets
     /// which are so now; `freed` gets which were so and are free now; the answer is how many. Asked after each `receive`,

@@ -58,6 +58,8 @@ pub enum Reply {
 }
 
 impl<F: Fn(u16, usize) -> usize + Drop> System<F> {
+    // promise: `call` makes the call that its argument names
+    // contract: `call` (`answers`)
     /// Makes a call that stands as a value, and returns its result (profile).
     pub fn call(&mut self, call: &Call) -> Reply
         requires usable { PicksIndexes (F.pre self.old.algorithm) (F.post self.old.algorithm) }
@@ -85,6 +87,10 @@ impl<F: Fn(u16, usize) -> usize + Drop> System<F> {
         }
     }
 
+    // promise: **one whole system**: `drive` gives one reply for each call, in order; each is what a call promises (`CallPromise`); the
+    //    window holds; refused memory changes nothing
+    // contract: `drive` (`driven`, `window`, `refused`; `Drives`)
+    // not said: cables, the other end, the order in which frames arrive
     /// Makes these calls in order and returns their results, one for each. `NoMemory` if memory for the results is
     /// refused; then no call was made (profile).
     pub fn drive(&mut self, alloc: Global, calls: &[Call]) -> Result<Vec<Reply>, NoMemory>

@@ -8,6 +8,12 @@ use crate::fault::SystemFault;
 use lagtypes::AggId;
 
 impl<F: Fn(u16, usize) -> usize + Drop> System<F> {
+    // promise: `force_port` is a `force` for just those conversations that are Wanted or Flushing on the port, ascending, each a
+    //    `CallPromise`. The answer is how many, or `NoPort`, and nothing changes
+    // contract: `force_port` (`forced`: `ForcesPort`)
+    // not said: that their frames keep their order
+    // promise: afterwards none is held there; each that was is free and prefers what it preferred; nothing else changes
+    // contract: `force_port` (`none`, `frees`, `counts`)
     /// Forces each conversation that is held on a port, Wanted or Flushing there, exactly as `force` of each would, by
     /// aggregator and number ascending; returns how many were held. Each of them is free afterwards, and prefers the port that
     /// it was to move to; nothing else changes. Frames of these conversations may be reordered. `NoPort` if there is no such

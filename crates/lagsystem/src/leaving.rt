@@ -45,6 +45,9 @@ impl<F: Fn(u16, usize) -> usize + Drop> Inner<F> {
 }
 
 impl<F: Fn(u16, usize) -> usize + Drop> System<F> {
+    // promise: `leave_conversation`: what is On a port is Wanted there, without preference. It refuses `NoAggregator`, `NotAssigned`,
+    //    `Held`, `MarkersSpent`. Its moves are lawful, without a visible act
+    // contract: `leave_conversation` (`gives`: `system_leave_result`; `promise`: `TablePromise`)
     /// Takes a conversation of an aggregator off its port, without another to go to: it becomes Wanted there and prefers no
     /// port. A marker is wanted on its port, and its frames are held until the response, `force`, or that port's link going
     /// down frees it. Refused in this order: `NoAggregator`; `NotAssigned` if the conversation is free or there is none of
@@ -57,6 +60,10 @@ impl<F: Fn(u16, usize) -> usize + Drop> System<F> {
         self.inner.leave_conversation(agg, conv)
     }
 
+    // promise: `rest` frees what is On a port, without preference; it refuses `NoAggregator`, `NotAssigned`, `Held`. Where it frees, it is
+    //    the call `force`
+    // contract: `rest` (`gives`: `system_rest_result`; `forces`)
+    // not said: that nothing is on its way: it counts as forced
     /// Frees a conversation that is On a port, on the host's word that none of its frames is on its way: its next frame may go
     /// on any port. To the law of two systems it is `force`: if the host is wrong, frames may be reordered. Refused in this
     /// order: `NoAggregator`; `NotAssigned` if the conversation is free or there is none of this number; `Held` while it is

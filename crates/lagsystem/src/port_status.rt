@@ -39,6 +39,8 @@ pub enum PortStatus {
 }
 
 impl PortStatus {
+    // promise: a status has its number, name and text
+    // contract: `PortStatus::number`, `name`, `Display`
     /// The number of the status, 0 for `Distributing` to 9, in the order in which they stand here (profile).
     pub fn number(&self) -> u8
         ensures { result ≡ status_number self.now }
@@ -147,6 +149,8 @@ fn status_of_port(port: &Port) -> PortStatus
 }
 
 impl<F: Fn(u16, usize) -> usize + Drop> System<F> {
+    // promise: `port_status` is Distributing, exactly as `distributes` says, or the first reason of the list why not
+    // contract: `port_status` (`is`: `status_of_port`; `distributing`)
     /// Whether a port distributes, and else the first reason why not; None if there is no such port (profile).
     /// `Distributing` exactly if `distributes` is true.
     pub fn port_status(&self, port: u16) -> Option<PortStatus>

@@ -37,6 +37,9 @@ impl<F: Fn(u16, usize) -> usize + Drop> Inner<F> {
 }
 
 impl<F: Fn(u16, usize) -> usize + Drop> System<F> {
+    // promise: `probe` returns the port's next marker; what is Wanted there is Flushing with it. While the link is down or no identifier is
+    //    left it is None and changes nothing. Its moves are lawful, as of a `transmit` of this frame
+    // contract: `probe` (`probes`: `ProbesIf`; `lawful`: `ProbesLawfully`)
     /// Returns a marker that asks whether the peer of a port answers markers, to be sent now: the next identifier, in the frame
     /// that `transmit` would return if a conversation were Wanted there and no LACPDU due. What is Wanted on the port becomes
     /// Flushing with it. None, and nothing changes, while the link is down or if no identifier is left. `NoPort` if there is no

@@ -24,6 +24,8 @@ fn port_numbers(system_ports: &[SystemPort]) -> ArrayVec<u16, 64>
 }
 
 impl<F: Fn(u16, usize) -> usize + Drop> System<F> {
+    // promise: and so is each of a system
+    // contract: `ports` (`all`, `ascending`), `aggregators`, `distributing` (`all`, `ascending`, `unknown`), `next_marker`
     /// The numbers of the ports, 1 to 64 of them, ascending (profile).
     pub fn ports(&self) -> ArrayVec<u16, 64>
         ensures all { result.items ≡ port_numbers self.now.state.system_ports }

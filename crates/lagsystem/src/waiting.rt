@@ -113,6 +113,9 @@ impl<F: Fn(u16, usize) -> usize + Drop> Inner<F> {
 }
 
 impl<F: Fn(u16, usize) -> usize + Drop> System<F> {
+    // promise: `ticks_until_due` is the least of the ticks that [PROFILE](../PROFILE.md#ticks_until_due-profile) lists, None without any
+    // contract: `ticks_until_due` (`Waiting`)
+    // not said: that a frame is due then
     /// In how many ticks, 0 to 900 as `lagprogress` bounds the timers, something happens by itself: a host may let so
     /// many pass at once. 0 if a frame is due on some port, as `is_due` tells; else the least of: the ticks that
     /// current_while, periodic_timer or wait_while of a port has left, where it has not expired; where an LACPDU is to

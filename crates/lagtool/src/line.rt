@@ -211,6 +211,11 @@ fn job_in<'a>(matches: &ArgMatches<'a>) -> Job<'a>
     }
 }
 
+// promise: `Ok` has the subcommand and the values that `clap` states for the words, and comes only without a fault
+// contract: `read_line` (`job`, `faultless`: `Lines`)
+// promise: `Help` comes only if `clap` states that the words ask for help or the version, `Usage` only with another fault that it states
+// contract: `read_line` (`fault`)
+// not said: that every fault is found
 /// Reads the words of a command line; the first is the program's name (profile). `Help` if they ask for help or for the
 /// version, `Usage` if they are no line of the program, `NoMemory` if memory is refused.
 pub fn read_line<'a, S: AsStr>(alloc: Global, words: &'a [S]) -> Result<Job<'a>, LineFault>

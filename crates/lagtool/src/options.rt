@@ -57,6 +57,8 @@ fn count_options(words: &[String]) -> usize
     count
 }
 
+// promise: the options are the words before the first that is none; what they ask for, and how many
+// contract: `read_options`
 /// Reads the options of a command line, whose first word is the program's name. The words from place `count` on, with the
 /// word at that place in the place of the name, are the command line without them (profile).
 pub fn read_options(words: &[String]) -> Options

@@ -287,6 +287,8 @@ impl CaptureReport {
         }
     }
 
+    // promise: what is written is what was added, once; the words of each line are exact
+    // contract: `CaptureReport::write` (`ok`, `to_write`); `Display` of each text
     /// Writes the part of the explanation that is not written yet, in one call of the sink. `WriteFailed` if the sink
     /// failed.
     pub fn write<W: Write>(&mut self, sink: &mut Sink<W>) -> Result<(), WriteFailed>

@@ -76,6 +76,8 @@ impl Gaps {
         tenths_up_to(&self.counts, self.known - self.known / 2)
     }
 
+    // promise: the median of the times between LACPDUs is the least number of tenths of a second that at least half of them have at most
+    // contract: `Gaps::median` (`IsMedianOf`)
     /// The median of the times in tenths of a second, cut off: of an even number the lower of the two in the middle. 1000
     /// stands for 100 seconds and more; None without a time.
     pub fn median(&self) -> Option<usize>

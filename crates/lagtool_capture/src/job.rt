@@ -18,6 +18,17 @@ fn is_read_on(reading: &Reading, n: usize) -> bool
     n > 0 && reading.is_read_on()
 }
 
+// promise: a packet adds the line of its frame, the lines of the legend that it needs, and what it says of its end; the end of a capture a
+//    line for each end and each finding, and the counts. With `json` each line is a record
+// contract: `report_capture` (`ok`), over `CaptureReport::count`, `observe` (`after_frame`), `finish` (`with_ends`, `closing_records`;
+//    `Json`)
+// not said: that a record is JSON: Python's `json`
+// promise: where `report_capture` answers `Ok`, what is written is the report on all octets that it read, however the reads cut them, and
+//    the summary is the report's; the source is at its end, or what follows changes nothing
+// contract: `report_capture` (`ok`: `Completes`, `report`, `summary`; `capture_in` of `captures`)
+// not said: what is written before the next read or a failure
+// promise: a job that fails has a cause: `Read` if the source alone failed, `Write` if the sink alone did
+// contract: `report_capture` (`HasCause`)
 /// Reads a capture to its end, and writes what it says: a line for each frame of the slow protocols, then a line for each
 /// end of a link, what is found of the ends, and the counts (profile). Up to 4,096 octets are read at a time, and what they say is written before
 /// the next read. A capture that is not read on has the lines of what was read before.

@@ -111,6 +111,10 @@ fn slow_frame(number: u64, packet: &Packet, header: Header, payload: &[u8]) -> S
     }
 }
 
+// promise: what stands before a payload is read as Ethernet, Linux cooked headers and 802.1Q have it, behind two tags at most
+// contract: `frame_in` (`SlowFrames`, `Headers`)
+// promise: a payload is what `slowpdu` reads, or its first fault
+// contract: `frame_in` (`SlowFrames`, `Contents`)
 /// The frame of the slow protocols in a packet with these captured octets; None if it is another frame.
 pub fn frame_in(number: u64, packet: &Packet, octets: &[u8]) -> Option<SlowFrame>
     ensures { result ≡ frame_in number packet.now octets.now }

@@ -40,6 +40,9 @@ fn check_all<R: Read, W: Write, P: Watch>(
     Ok(summary)
 }
 
+// promise: a watch changes nothing; a sign is due after a tenth of a second; progress comes if asked for, under the work's name
+// contract: `check_watched`, `replay_watched`; `SignText`, `is_due` (`Signs`); `Progress::new` (`unasked`, `noun`)
+// not said: that it appears: tests
 /// Checks as `check` does, and shows the watch how many lines have ended, as tests show (profile).
 pub fn check_watched<R: Read, W: Write, P: Watch>(
     alloc: Global,
@@ -54,6 +57,16 @@ pub fn check_watched<R: Read, W: Write, P: Watch>(
     check_all(alloc, source, sink, watch)
 }
 
+// promise: `check` is `Ok` only at the end of the source: the sink got the report of all octets, however they were cut, and the summary has
+//    its counts
+// contract: `check` (`Checks`, `Completes`; `report`)
+// promise: if the source fails, the lines are written that a newline ended before; the report on a read is written before the next
+// contract: `check` (`StopsReading`)
+// promise: if memory runs out, so are they for all but a last part of 4,096 octets at most; if the sink fails, at least these, and a
+//    beginning of the report
+// contract: `check` (`StopsShort`, `StopsWriting`)
+// promise: `Read`, `Write`, `NoMemory` come only if the source alone, the sink alone, neither failed; no other fault comes
+// contract: `check` (`HasCause`)
 /// Reads frames in hexadecimal, one a line. Writes for each line its number and what frame it is, and at the end the
 /// counts of lines and faults (profile). Up to 4,096 octets are read at a time; the verdicts on the lines that they end
 /// are written before the next read.

@@ -33,6 +33,8 @@ fn both_directions(alloc: Global, limit: Option<u16>) -> Result<(AnyCable, AnyCa
     Ok((to_one, to_two))
 }
 
+// promise: `NoMemory` means that memory was refused: a plan, its world and its events are refused for nothing else
+// contract: `all_directions` (`err`), `make_world` (`refused`), `run_events` (`stopped`); `AllNameExisting`
 /// The two directions of each cable, with these limits, in order.
 pub(crate) fn all_directions(
     alloc: Global,

@@ -67,6 +67,10 @@ pub fn utf8_text(alloc: Global, file: &str, before: &[u8]) -> Result<String, All
     )
 }
 
+// promise: the second line about a script, octets that are no UTF-8, a word or a file is exact, but for the character that is no digit and
+//    the cause of a file
+// contract: `script_text`, `utf8_text`, `digits_text` (`count`, `character`), `unread_text`, `error_text` (`Explained`)
+// not said: texts of 2^32 octets or more; that it is printed
 /// Says what is wrong with a text that `read_plan` refuses for this fault, behind the name of its file. `AllocError` if memory is
 /// refused (profile).
 pub fn script_text(

@@ -41,6 +41,9 @@ impl ToolFault {
     }
 }
 
+// promise: each verdict, line and fault text is exact
+// contract: `Display` of `Verdict`, `ToolFault`, `FaultText` and the lines of `texts.rt`
+// not said: what `main` of `lagtool` writes itself
 impl fmt::Display for ToolFault {
     ghost output = { λ e. tool_fault_text e };
 

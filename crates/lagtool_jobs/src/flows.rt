@@ -85,6 +85,8 @@ fn set_offer_flag(flags: &mut [bool], system: u8, event: &Event)
     }
 }
 
+// promise: flows are asked of those aggregators to which an event offers; no other sent a frame
+// contract: `offer_flags`, `push_flows` (`IsSentWhereOffered`)
 /// For each aggregator of a system, by its number: whether an event offers a frame to it. No aggregator has the number
 /// 0.
 fn offer_flags(

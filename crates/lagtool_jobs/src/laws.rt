@@ -11,6 +11,9 @@ ghost use Rattle.lagworld.specs.Sound.{IsSound};
 ghost use Rattle.lagworld.specs.State.{WorldState, collected_in, forced_in, sent_in};
 ghost use Rattle.lagworld.specs.declared.agreement.Agreement.TheVariants.{Differ};
 
+// promise: each report keeps the headline: no agreement is `differ`; what was collected unforced is a subsequence of 0 to one less than the
+//    count sent
+// contract: `a_report_keeps_the_headline`
 /// The last lines of a report keep the headline, in any world that the theorem is true of: no agreement is `differ`
 /// (6.3.6), and what a conversation collected, if it was never forced, is a subsequence of 0, 1, 2 and so on up to the
 /// last serial number that it sent (6.2.4).

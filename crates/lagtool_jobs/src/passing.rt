@@ -84,6 +84,9 @@ pub fn run_vectors<W: Write>(
     })
 }
 
+// promise: `vectors` writes a line for each of ten answers, and their counts
+// contract: `vectors`, `run_vectors` (`RunsVectors`)
+// not said: that the answers come from the vectors: tests
 /// Runs the ten known vectors, V1 to V10 (profile), as `run_vectors` does.
 ///
 /// `NoMemory` if memory is refused; then nothing is written. `Write` if the sink failed in this call; then nothing or a

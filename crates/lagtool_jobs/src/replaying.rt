@@ -180,6 +180,12 @@ pub fn replay_watched<F: Fn(u16, usize) -> usize + Drop, W: Write, P: Watch>(
     Ok(())
 }
 
+// promise: `replay` is `Ok`: the text has a plan, its events are a run of the event table from the start of its systems and cables with
+//    their limits, and the sink got the report of this run: each entry with its reply, each cable's agreement, each conversation that sent
+// contract: `replay` (`Replays`, `IsReportOfScript`, `IsRunFromStart`; `empty_links`, `replay_report`)
+// promise: `Script` comes exactly if the text has no script; nothing is written then, nor after `NoMemory`; after `Write` a beginning
+// contract: `replay` (`HasNoScript`), `a_script_is_not_refused`
+// not said: the text of the fault: tests
 /// Runs a script on two systems with these distribution algorithms. Then writes the entries with their replies, how the
 /// ends of each cable agree, and what each conversation sent and collected (profile).
 ///

@@ -38,6 +38,8 @@ pub(crate) fn make_world<F: Fn(u16, usize) -> usize + Drop>(
 /// How many events are played before the watch is shown again how many have acted.
 const AT_ONCE: usize = 16;
 
+// promise: events played by several calls of `World::run` are one run
+// contract: `run_events` (`ran`, `sound`)
 /// Plays events from the start of a world. What comes of them is what one call of `World::run` with all of them gives. It
 /// calls `run` for sixteen at a time, and then shows the watch how many have acted. Each event names a cable and a system that
 /// exist. Only memory can be refused: `World::run` has more faults, and this contract says that none of them comes here.

@@ -40,6 +40,8 @@ fn report_on(alloc: Global, payload: &[u8]) -> Result<Outcome, AllocError>
     }
 }
 
+// promise: `show`: `NotHex` exactly if HEX is not hexadecimal; else the text for its octets, and true exactly if the payload has a reading
+// contract: `show` (`Shows`)
 /// Writes what a payload in hexadecimal says; returns whether it is accepted (profile).
 ///
 /// `NotHex` if the text is not hexadecimal, which includes an odd number of digits; `NoMemory` if memory is refused;

@@ -84,6 +84,11 @@ impl Group {
     }
 }
 
+// promise: each text is exact, octet by octet
+// contract: each `Display` (`output`)
+// promise: refusals have their numbers and texts
+// contract: `number` of `WireFault`, `DistFault`, `SystemFault`, `BadConfig`, `CableFault`, `WorldFault`, `ToolFault`; `Display` of all but
+//    `WorldFault`
 impl fmt::Display for End {
     ghost output = { λ e. Some (end_text e) };
 

@@ -34,6 +34,8 @@ pub struct Key(pub u16);
 pub struct AggId(pub u16);
 
 impl SystemId {
+    // promise: identifiers compare as unsigned numbers, the priority more significant
+    // contract: `SystemId::is_below`, `PortId::is_below`; equality, order and hash are derived with their laws
     /// Whether this identifier is the lower number, so the one with the higher priority (6.3.2).
     pub fn is_below(&self, other: &SystemId) -> bool
         ensures { result ≡ is_lt (system_cmp self.now other.now) }

@@ -18,6 +18,8 @@ pub struct Party {
 }
 
 impl Party {
+    // promise: two parties match exactly if all six parameters are equal
+    // contract: `Party::matches`
     /// Whether all six parameters are equal: system priority, MAC address, key, port priority, port number and
     /// Aggregation (6.4.9, recordPDU).
     pub fn matches(&self, other: &Party) -> bool

@@ -112,6 +112,8 @@ impl State {
         }
     }
 
+    // promise: a reader of a state reads its bit; `with_synchronization`, `with_timeout` change that bit alone
+    // contract: `is_active` and its siblings, `named`, `State::from`
     /// Whether LACP_Activity is 1: the end is active (6.4.2.3).
     pub fn is_active(self) -> bool
         ensures { result ≡ (bits_of self).activity }

@@ -3,6 +3,8 @@ ghost use Rattle.lagtypes.specs.Words.{number_below, words_of};
 
 use std::alloc::{AllocError, Global};
 
+// promise: a text is cut into words at every single space
+// contract: `words_of`
 /// The words of a text, cut at each space: an empty word stands between two spaces, and an empty text is one empty word.
 /// `AllocError` if memory for the list is refused.
 pub fn words_of<'a>(alloc: Global, text: &'a str) -> Result<Vec<&'a str>, AllocError>
@@ -11,6 +13,8 @@ pub fn words_of<'a>(alloc: Global, text: &'a str) -> Result<Vec<&'a str>, AllocE
     text.split(' ').collect(alloc)
 }
 
+// promise: decimal digits have their value up to 65,535 or 4,294,967,295, with leading zeros; any other word has none
+// contract: `decimal_u16`, `decimal_u32` (`number_below`)
 /// The value of a word of decimal digits, 0 to 65535; leading zeros are allowed. None for any other word: one that is empty,
 /// signed or too large.
 pub fn decimal_u16(word: &str) -> Option<u16>

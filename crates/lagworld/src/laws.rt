@@ -6,6 +6,8 @@ ghost use Rattle.lagworld.specs.Events.{WorldSteps, model_event};
 ghost use Rattle.lagworld.specs.Sound.{IsSound, both_algorithms};
 ghost use Rattle.lagworld.specs.ModelWorld.{world_setup, model_world};
 
+// promise: each event that acts keeps what every world keeps, and `new` makes such a world
+// contract: `each_event_happens`, `each_event_keeps`, `a_start_is_sound`
 /// What an event does to a sound world, one whose invariant holds, is an event of the two-system theorem (lagmodel),
 /// whatever the distribution algorithms return (profile).
 pub fn each_event_happens<F: Fn(u16, usize) -> usize>()
@@ -49,6 +51,10 @@ pub fn each_world_keeps_the_headline<F: Fn(u16, usize) -> usize>()
 ghost use Rattle.lagsystem.specs.OneAnswer.{IsFunction};
 ghost use Rattle.lagworld.specs.OneReply.{OneHistory, OneReply};
 
+// promise: if each algorithm returns one index for each conversation and count of ports, an event that acts has at most one reply and leads
+//    to at most one world; so does a list of events
+// contract: `each_event_has_one_reply` (`OneReply`, `OneHistory`)
+// not said: whether memory is refused
 /// An event that acts has at most one reply and leads to at most one world, and so does a list of events, if each
 /// algorithm returns one index for each conversation and count of ports. The worlds are equal; of each system, what
 /// `each_call_has_one_answer` of `lagsystem` says is equal. Whether memory is refused is left open (profile).

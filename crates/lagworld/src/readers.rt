@@ -78,6 +78,8 @@ impl<C: Cable, F: Fn(u16, usize) -> usize + Drop> World<C, F> {
         self.inner.ends(cable)
     }
 
+    // promise: `agreement` is the first of its five answers that holds, and never `Differ`
+    // contract: `agreement` (`exact`, `never`)
     /// How the two ends of a cable stand to each other; None if there is no such cable. It is never `Differ` (6.3.6;
     /// profile).
     pub fn agreement(&self, cable: u16) -> Option<Agreement>
@@ -87,6 +89,8 @@ impl<C: Cable, F: Fn(u16, usize) -> usize + Drop> World<C, F> {
         self.inner.agreement(cable)
     }
 
+    // promise: each reader is exact; of what does not exist it is empty, false or None
+    // contract: `sent`, `collected`, `forced`, `system`, `cables`, `ends`
     /// The serial numbers of the frames that a conversation of a system sent, lost ones too: 0, 1, 2 and so on. Empty
     /// if there is no such system, aggregator or conversation (profile).
     pub fn sent(&self, system: u8, agg: AggId, conv: u16) -> &[u64]

@@ -35,6 +35,9 @@ impl<C: Cable, F> Model for World<C, F> {
 }
 
 impl<C: Cable, F: Fn(u16, usize) -> usize + Drop> World<C, F> {
+    // promise: `new` returns the first reason to refuse, or `NoMemory`; else both systems are in their first states, every cable is whole
+    //    and empty, and nothing is counted, taken, sent, collected or forced
+    // contract: `World::new` (`accepted`, `refused`, `made`, `start`)
     /// Makes both systems in their first states, and every cable whole and empty. `one` and `two` are the distribution
     /// algorithms of system 1 and system 2. `lines` has the two directions of each cable; the first of them leads to
     /// system 1. Refused as `BadConfig` with the first of these reasons: `System` (what `System::new` refuses of system
@@ -61,6 +64,17 @@ impl<C: Cable, F: Fn(u16, usize) -> usize + Drop> World<C, F> {
         Ok(World { inner })
     }
 
+    // promise: one event does what its row says: the system answers as every call promises, and that decides the reply, the items on the
+    //    cable and the records
+    // contract: `step` (`steps`: `WorldSteps`)
+    // promise: an event is one of the law's; an item stands for the message that its stamp and the reading of its octets give
+    // contract: `step` (`happens`)
+    // promise: an event is refused with the first cause: no such cable, no such system, 2^63 events have acted. Else it acts, or is refused
+    //    with `NoMemory`, as Emit, Deliver, Repeat and Offer alone may be. A refusal changes nothing
+    // contract: `step` (`accepted`, `refused`, `unchanged`, `memory`), `events_have_limits` (`memory`, `most`)
+    // not said: that the others allocate none
+    // promise: both configurations and the ports that cables join stay
+    // contract: `step`, `run` (`fixed`)
     /// Plays one event and returns its reply. Refused in this order: `NoCable` and `NoSystem` if the event names one
     /// that does not exist, `Spent` if 2^63 events have acted, `NoMemory`; then nothing has changed. Only Emit,
     /// Deliver, Repeat and Offer may take memory. What a system refuses is not a fault but the reply `Refused`
@@ -93,6 +107,8 @@ impl<C: Cable, F: Fn(u16, usize) -> usize + Drop> World<C, F> {
         self.inner.alloc
     }
 
+    // promise: the headline
+    // contract: `World::run`, above
     /// Plays events in order and returns their replies. If an event is refused, `run` stops there: `RunFault` says how
     /// many events acted and why the next did not. Memory for all replies is taken first, so `NoMemory` may come before
     /// any event acted. Whatever is returned, these hold of the world afterwards (profile; 6.3.6, 6.2.4):

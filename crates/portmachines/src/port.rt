@@ -47,6 +47,8 @@ impl Model for Port {
 }
 
 impl Port {
+    // promise: `new` and `reinit` start the receive and mux machine; `reinit` leaves link, periodic machine and window
+    // contract: `Port::new`, `reinit` (`Starts`)
     /// A port whose link is down and whose machines have started (BEGIN). NTT is true, as DETACHED sets it (6.4.12,
     /// 6.4.15).
     pub fn new(setup: Setup) -> Port
@@ -74,6 +76,8 @@ impl Port {
         Port { machines }
     }
 
+    // promise: `set_link`, and `tick` after its countdown, fire the enabled receive rows until none is enabled
+    // contract: `Port::set_link`, `tick` (`receive_rows`)
     /// Sets port_enabled: the link is up or down now. The receive machine runs until none of its rows is enabled
     /// (6.4.7, 6.4.12).
     pub fn set_link(&mut self, enabled: bool)
@@ -83,6 +87,8 @@ impl Port {
         self.machines.run_receive();
     }
 
+    // promise: `take` fires the row for an LACPDU; nothing changes while the link is down
+    // contract: `Port::take` (`lacpdu_rows`)
     /// Processes an LACPDU that came on the port; while the link is down this has no effect (6.4.12).
     pub fn take(&mut self, pdu: &Lacpdu)
         ensures { FiresIfEnabled (lacpdu_rows pdu.now) self.old self.new }
@@ -99,6 +105,11 @@ impl Port {
         self.machines.run_receive();
     }
 
+    // promise: `mux` and `periodic` fire the enabled rows of their machine and leave it at rest; `mux` returns how many fired, at most
+    //    three
+    // contract: `Port::mux` (`fired`, `rest`, `few`: `mux_rows`), `Port::periodic` (`RunsPeriodic`)
+    // promise: a STANDBY port is in WAITING after `mux`, whatever Ready is
+    // contract: `Port::mux` (`fired`, `rest`)
     /// Runs the mux machine until none of its rows is enabled, and returns how many fired, at most 3 (6.4.15). `ready`
     /// is the Ready of the aggregator that the port was given (6.4.8).
     pub fn mux(&mut self, ready: bool) -> u8
@@ -117,6 +128,10 @@ impl Port {
         self.machines.run_periodic();
     }
 
+    // promise: `select` writes Selected and nothing else
+    // contract: `Port::select`
+    // promise: the receive machine is at rest between calls
+    // contract: the invariant of `Port`
     /// Sets Selected, with the aggregator that the Selection Logic chose (6.4.8, 6.4.14).
     pub fn select(&mut self, choice: Choice)
         ensures { self.new ≡ record self.old { choice = choice } }
@@ -133,6 +148,9 @@ impl Port {
         self.machines.start();
     }
 
+    // promise: an LACPDU is sent exactly if NTT is set and fewer than three ages are kept; it has the port's party and state, the recorded
+    //    partner and the given CollectorMaxDelay
+    // contract: `Port::transmit` (`pdu`, `state`)
     /// Returns an LACPDU if NTT is true and fewer than three were sent in the last eleven ticks, and sets NTT to false;
     /// else None. `max_delay` is its CollectorMaxDelay, in tens of microseconds (6.4.16).
     pub fn transmit(&mut self, max_delay: u16) -> Option<Lacpdu>
@@ -256,11 +274,17 @@ impl Port {
     }
 }
 
+// promise: a call has one effect on such a port
+// contract: `each_call_has_one_effect`
 /// The machines are deterministic: each call of a port has exactly one effect (profile).
 pub fn each_call_has_one_effect()
     ensures { OneEffect }
 {}
 
+// promise: no two rows of a machine are enabled together: mux for either Ready, periodic with its rows in order, receive while the link is
+//    up
+// contract: `one_row_is_enabled_at_most` (`mux`, `periodic`, `receive`)
+// not said: receive rows while the link is down; the row for an LACPDU
 /// No two rows of a machine are enabled together: of the mux machine with either value of Ready, of the periodic machine
 /// with its rows in order, and, where the link is up, of the receive machine (6.4.12, 6.4.13, 6.4.15; profile).
 pub fn one_row_is_enabled_at_most()

@@ -50,6 +50,12 @@ pub(crate) fn age_window(ages: &mut ArrayVec<u8, 3>)
     *ages = kept;
 }
 
+// promise: in any calls of one port, eleven consecutive ticks hold at most three sends; an age kept before counts as a send that many ticks
+//    earlier
+// contract: `window_holds`
+// not said: a port that keeps more than three ages, or one above the ticks so far
+// promise: each reader returns its variable
+// contract: the readers of `Port`
 /// The transmit limit: any eleven consecutive ticks hold at most three sent LACPDUs, over every list of calls of one
 /// port. An age that the port has at the beginning counts as an LACPDU sent so many ticks earlier (6.4.16).
 pub fn window_holds()

@@ -38,6 +38,8 @@ impl Aggregators {
     ghost use Rattle.selection.specs.Choice.{chosen_aggregator, is_aggregator};
     ghost use Rattle.selection.specs.Ready.{is_ready, members};
 
+    // promise: the keys are kept, at most the first 65,535; the limit is the one that was asked for
+    // contract: `Aggregators::new` (`unlimited`), `with_limit` (`first`, `all`, `limit`), `max_links`
     /// Makes aggregators 1, 2 and so on with these keys, each for any number of links. Keys after the first 65535 are
     /// left out. `NoMemory` if memory for them is refused (profile).
     pub fn new(alloc: Global, keys: &[Key]) -> Result<Aggregators, NoMemory>
@@ -63,6 +65,11 @@ impl Aggregators {
         Ok(Aggregators { keys, max_links })
     }
 
+    // promise: the choice is that of `Choice`, by filters over all views; a port without a view or not eligible gets none
+    // contract: `choose` (`exact`)
+    // promise: a port that gets an aggregator was in none, its partner's system is not its own, the aggregator has its key, and no
+    //    occupant, or all occupants name the port's unordered pair of ends and the link is not individual
+    // contract: `choose` (`joins`)
     /// The aggregator that the port with this number chooses: the lowest one that has the port's key and at least one
     /// occupant, a SELECTED or STANDBY port that was given it, if all occupants have the port's group (LAG ID) and the
     /// group is not Individual; else the lowest one with that key and no occupant; else None (profile). None also if
@@ -81,6 +88,8 @@ impl Aggregators {
         }
     }
 
+    // promise: Ready is that of `Ready`, over members alone; false for an unknown aggregator
+    // contract: `ready`
     /// Whether the aggregator is Ready: at least one member is in DETACHED or WAITING, and each member in one of these
     /// is in WAITING with wait_while expired (6.4.14). False if there is no such aggregator.
     pub fn ready(&self, views: &[PortView], agg: AggId) -> bool
@@ -91,6 +100,8 @@ impl Aggregators {
             && all_have_waited(views, agg)
     }
 
+    // promise: the members are the SELECTED ports of the aggregator, strictly ascending
+    // contract: `members` (`exact`, `ascending`)
     /// The numbers of the SELECTED ports that were given this aggregator, ascending. Empty if there is no such
     /// aggregator (6.4.14; profile).
     pub fn members(&self, views: &[PortView], agg: AggId) -> ArrayVec<u16, 64>
@@ -109,6 +120,8 @@ impl Aggregators {
         found
     }
 
+    // promise: an aggregator has room exactly if it exists and has fewer members than the limit
+    // contract: `room` (`has_room`)
     /// Whether there is such an aggregator and it has fewer members than the limit (profile).
     pub fn room(&self, views: &[PortView], agg: AggId) -> bool
         ensures { result ≡ has_room self.now views.now agg }
@@ -116,6 +129,9 @@ impl Aggregators {
         self.is_aggregator(agg) && is_below(self.max_links, member_count(views, agg))
     }
 
+    // promise: the STANDBY port that comes next is that of `Limits`: none without room; no other STANDBY port of the aggregator has a lower
+    //    identifier
+    // contract: `next_standby`, `next_standby_index` (`exact`, `next`)
     /// The number of the STANDBY port that comes next in the aggregator: the one with the lowest port identifier. None
     /// without room or without a STANDBY port (6.4.14; profile).
     pub fn next_standby(&self, views: &[PortView], agg: AggId) -> Option<u16>

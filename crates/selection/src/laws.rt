@@ -6,6 +6,8 @@ ghost use Rattle.selection.specs.Choice.{has_group_of};
 ghost use Rattle.selection.specs.Joining.{ends};
 ghost use Rattle.lagtypes.specs.Same.{same_system};
 
+// promise: the tests by which definitions filter mean equality, of pairs of ends and of identifiers
+// contract: `tests_are_equalities`
 /// The Boolean tests in the definitions of a choice mean equality: `has_group_of` holds of two ports exactly if the
 /// unordered pairs of ends of their links are equal, and `same_system` exactly if the systems are equal (6.3.2, 6.3.6).
 pub fn tests_are_equalities()

@@ -76,6 +76,8 @@ impl PortView {
         }
     }
 
+    // promise: eligible, waited long enough, and a list that `members` may get, are as defined
+    // contract: `PortView::is_eligible`, `has_waited`, `are_views`
     /// Whether the port may choose an aggregator now: its link is up, its receive machine is in CURRENT or DEFAULTED,
     /// its mux machine is in DETACHED, it is UNSELECTED, and its partner is not its own system (6.4.14, profile).
     pub fn is_eligible(&self) -> bool

@@ -86,6 +86,14 @@ fn decode_lacpdu(payload: &[u8]) -> Result<Pdu, WireFault>
     }))
 }
 
+// promise: a payload is accepted with a value exactly if it reads as it: 110 octets or more, each row that a receiver reads has its number
+//    at its offset
+// contract: `decode` (`found`, `only`: `ReadsPdu`; `lacpdu_table`, `marker_table`)
+// not said: that the values make sense
+// promise: every other payload is refused with the first cause of the list, and one that has a cause is refused with it
+// contract: `decode` (`fault`, `refused`: `fault_of`)
+// promise: octets behind the first 110 change nothing
+// contract: `decode` (`first_octets`); the law `what_follows_is_ignored`
 /// Reads the payload of a control frame: what follows its EtherType (6.4.2.3, 6.5.3.3). Only the subtype, the TLV
 /// lengths, the TLV type of a Marker PDU, and the fields are read. The version, the other TLV types, pad and reserved
 /// octets, and all octets after the first 110 may have any value (profile). A payload is refused with the first fault

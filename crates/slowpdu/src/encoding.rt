@@ -69,6 +69,8 @@ fn put_info(payload: &mut [u8], offset: usize, info: Info)
 }
 
 impl Lacpdu {
+    // promise: a PDU is sent as the one payload of its table: 110 octets, each row at its offset, every other octet 0
+    // contract: `Lacpdu::encode` (`Writes`), `Marker::encode` (`WritesMarker`); `one_payload_is_written`
     /// The payload of this LACPDU, 110 octets: version 1, and zero in every reserved octet (6.4.2.3).
     pub fn encode(&self) -> [u8; 110]
         ensures { Writes result self.now }

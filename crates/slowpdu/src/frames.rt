@@ -17,6 +17,8 @@ pub enum Kind<'a> {
     TooShort,
 }
 
+// promise: a control frame is 01-80-C2-00-00-02, source, 0x8809, payload, and a receiver finds that payload
+// contract: `frame`; `what_is_framed_is_control`
 /// A control frame of 124 octets with this source address and payload; the destination is 01-80-C2-00-00-02, the
 /// Slow_Protocols_Multicast address, and the EtherType 0x8809 (6.4.2.2, 6.5.3.2).
 pub fn frame(src: [u8; 6], payload: &[u8; 110]) -> [u8; 124]
@@ -30,6 +32,10 @@ pub fn frame(src: [u8; 6], payload: &[u8; 110]) -> [u8; 124]
     octets
 }
 
+// promise: a received frame is too short exactly below 14 octets; else control exactly if octets 12, 13 are 0x88, 0x09, with what follows
+//    as its payload; else data
+// contract: `classify` (`kind`, `too_short`, `control`, `data`)
+// not said: the destination
 /// The kind of a received frame. Its length has no upper bound, and its addresses are not read (profile).
 pub fn classify(octets: &[u8]) -> Kind<'_>
     ensures kind { IsFrameOfKind octets.now result }

@@ -14,6 +14,8 @@ use crate::decoding::decode;
 use crate::fault::WireFault;
 use crate::pdu::Pdu;
 
+// promise: a sent payload reads as its PDU and as nothing else, whatever follows; decoding what was encoded gives the PDU
+// contract: `what_is_written_is_read`, `encode_then_decode`
 /// The octets that `encode` makes of a PDU read as that PDU and as no other, whatever follows them (6.4.2.3, 6.5.3.3;
 /// profile).
 pub fn what_is_written_is_read()
@@ -26,6 +28,10 @@ pub fn one_payload_is_written()
     ensures { (b c : List ℕ) (v : Pdu) → WritesPdu b v → WritesPdu c v → b ≡ c }
 {}
 
+// promise: a payload has one reading or one fault, never both, never neither, and is never of both kinds; the reading is a function,
+//    `pdu_in`
+// contract: `one_reading_or_one_fault` (`kinds`, `readings`, `not_both`, `not_neither`, `as_function`)
+// not said: what `pdu_in` is of a refused payload
 /// A payload either reads as exactly one PDU or has a first fault, never both; and none reads as both an LACPDU and a
 /// Marker PDU. The reading is a function of the octets (profile).
 pub fn one_reading_or_one_fault()

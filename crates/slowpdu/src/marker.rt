@@ -67,6 +67,8 @@ impl Marker {
     }
 }
 
+// promise: the answer to a marker is the same marker of the response type; a response has none
+// contract: `respond`
 /// The Marker Response to a marker: the same port, system and identifier, with the response type. None exactly if the
 /// argument is itself a response (6.5.4).
 pub fn respond(marker: &Marker) -> Option<Marker>

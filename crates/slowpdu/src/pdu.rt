@@ -17,6 +17,8 @@ pub struct Info {
 }
 
 impl Info {
+    // promise: the party of an end is its six parameters
+    // contract: `Info::party`
     /// The six parameters of this end that are compared; one of them is the Aggregation bit of the state (6.4.9).
     pub fn party(&self) -> Party
         ensures { result ≡ party_of self.now }

@@ -9,6 +9,7 @@ import pytest
 import loading
 
 pages = loading.program("pages")
+promises = loading.module("", "promises")
 purposes = loading.module("", "purposes")
 manual = loading.module("dist.d", "manual")
 hints = loading.module("", "hints")
@@ -65,3 +66,16 @@ def test_each_module_of_a_tool_is_read_for_its_types() -> None:
     looked_up = {folder for folders, _ in hints.groups() for folder in folders}
     inner = [os.path.join(place, it) for place in (loading.TOOLS, loading.MAINTAIN) for it in os.listdir(place) if it.endswith(".d")]
     assert {it for it in inner if hints.modules(it)} <= looked_up
+
+
+def test_a_promise_is_read_from_the_comments_beside_its_contract() -> None:
+    text = "    // promise: it waits, and\n    //    goes on\n    // contract: `a` (`b`)\n    // premises: 1 | 2\n    /// A.\n-- promise: x\n-- contract: y\n"
+    assert list(promises.promises_in(text, "a.rt")) == [("it waits, and goes on", "`a` (`b`)", "1 | 2"), ("x", "y", "")]
+    with pytest.raises(promises.Missing, match="a.rt: a promise names no contract"):
+        list(promises.promises_in("// promise: x\n", "a.rt"))
+
+
+def test_a_row_stays_in_its_place_and_a_new_one_comes_last() -> None:
+    now = [promises.Promise("new", "c", ""), promises.Promise("one", "a", "x | y"), promises.Promise("two, changed", "b", "")]
+    tables = [["|two|b||", "|gone|z||"], ["|one|a|x \\| y|"]]
+    assert promises.rows_of(tables, now) == [["|two, changed|b||"], ["|one|a|x \\| y|", "|new|c||"]]

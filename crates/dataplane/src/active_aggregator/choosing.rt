@@ -100,6 +100,9 @@ fn aggregator_of(best: Option<Rank>) -> Option<AggId>
     Some(best?.agg)
 }
 
+// promise: the aggregator that carries has the least rank: a partner before defaults, more ports before fewer, the one that carries now
+//    before others, the lesser LAG ID, the lower number; one where no port distributes has no rank, and None exactly if none has
+// contract: `carrier` (`Carries`)
 /// The aggregator that carries the frames of a client, where `now` carried them before: one in which ports distribute with a
 /// partner before one that runs on defaults, and of those the one with the most ports. `now` stays unless another has strictly
 /// more; of several others the one with the least LAG ID is taken, then the lowest number. `None` if no port distributes (profile).

@@ -7,6 +7,10 @@ ghost use Rattle.dataplane.specs.Choice.{Carries, IsAggregator, rank_in};
 ghost use Rattle.dataplane.specs.declared.active_aggregator.choosing.Rank.{Rank};
 ghost use Rattle.dataplane.specs.Ends.{Alike, HasMore, ShowTheSame};
 
+// promise: both ends choose alike: if two systems show the same partner flags, counts of ports and groups, and none carried before, both
+//    choose none, or aggregators with the same of these three
+// contract: `both_ends_choose_alike`
+// not said: what they choose if one carried before; that no two aggregators of a system have one LAG ID
 /// Both ends of the same bundles choose the same one, however each numbers its aggregators: if two systems show the same
 /// partner flags, counts of ports and groups (LAG IDs), and none carried before, each chooses none, or an aggregator with the
 /// same partner flag, count of ports and group as the other's (6.3.6; profile).
@@ -14,6 +18,12 @@ pub fn both_ends_choose_alike()
     ensures { (s t : SystemState) (g h : Option AggId) → ShowTheSame s t → Carries None s g → Carries None t h → Alike s g t h }
 {}
 
+// promise: another than `now` is chosen only if it has a partner where `now` runs on defaults, or more ports where both are alike in this,
+//    or `now` has no rank
+// contract: `the_carrier_stays` (`HasMore`)
+// promise: `offer_in_carrier`, `offer_conversation_in_carrier` return `Held` and change nothing while the number is On, Wanted or Flushing
+//    in another aggregator; else they are the system's own offers
+// contract: both (`held`, `offers`, `answers`)
 /// The aggregator that carries stays unless another has strictly more: another is chosen only if it has a partner and this one
 /// runs on defaults, or if both are alike in this and it has more ports, or if no port distributes in this one (profile).
 pub fn the_carrier_stays()
@@ -31,6 +41,13 @@ ghost use Rattle.lagsystem.specs.declared.drive.Reply.{Reply};
 ghost use Rattle.dataplane.specs.Offers.{IsElsewhere, IsInOneAggregator, IsNoOffer};
 ghost use Rattle.dataplane.specs.OneAggregator.{NoneOnItsWayElsewhere};
 
+// promise: where each frame is offered by these two, a number is On, Wanted or Flushing in one aggregator at most: at first, after each
+//    `Call` that is no offer, after `leave_conversation`, `probe`, `force_port`, `rest`, and after these two
+// contract: `each_call_keeps_one_aggregator` (`first`, `kept`), `leaving_and_probing_keep_one_aggregator`,
+//    `forcing_and_resting_keep_one_aggregator`; both offers (`keeps`)
+// promise: while they do not hold a frame back, no frame of its number that was sent in another aggregator is on any cable, if the number
+//    was never forced there
+// contract: `each_call_keeps_one_aggregator` (`behind`)
 /// Where each frame is offered by `offer_in_carrier`, a conversation number is On, Wanted or Flushing in one aggregator at
 /// most: so it is in the first state, and each call of `Call` that is no offer keeps it, as `offer_in_carrier` does. And while
 /// `offer_in_carrier` does not hold a frame back, no frame of its number that was sent in another aggregator is on any cable,

@@ -6,6 +6,11 @@ ghost use Rattle.dataplane.specs.declared.balance.moves.Move.{Move};
 ghost use Rattle.dataplane.specs.Moves.{load_on, IsMove};
 ghost use Rattle.dataplane.specs.RunsOfMoves.{AllDiffer, CountsOne, moved, IsRunOfMoves, squares};
 
+// promise: each move lowers the sum of the squares of the loads
+// contract: `every_run_of_moves` (`lowers`)
+// promise: if each conversation counts one, no run of moves is longer than their count, and none is left exactly if any two loads differ by
+//    at most one
+// contract: `every_run_of_moves` (`ends`, `alike`, `none`)
 /// Among ports that differ each move lowers the sum of the squares of their loads. Where each conversation counts one, no
 /// run of moves is longer than there are conversations, and where no move is left, the loads of two ports differ by one at
 /// most. So whoever completes each move that `next_move` answers comes to such loads after at most as many moves as

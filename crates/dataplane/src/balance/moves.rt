@@ -21,6 +21,10 @@ pub struct Move {
     pub port: u16,
 }
 
+// promise: a move goes from a port with the most load to one with the least; its conversation's load is neither 0 nor the whole difference;
+//    None exactly if there is no such move
+// contract: `next_move` (`IsMove`)
+// not said: that the distributor can move it
 /// A move from a port with the most load of these to the one with the least, of a conversation whose load is less than
 /// the difference: each conversation stands at its number in `carried`. `None` exactly if there is no such move (profile).
 pub fn next_move(ports: &[u16], carried: &[Carried]) -> Option<Move>

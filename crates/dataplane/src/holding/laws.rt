@@ -5,6 +5,13 @@ ghost use Rattle.dataplane.specs.Holding.{HoldingValue, queue, counted};
 ghost use Rattle.dataplane.specs.QueueCalls.{QueueCall};
 ghost use Rattle.dataplane.specs.QueueLaws.{after_all, all_accepted, all_gone, all_sent, all_dropped, all_handed_back, handle_of, IsSubsequence, IsWithin};
 
+// promise: **every list of calls keeps the order**: the handles that waited in a conversation, then those put there since, are those taken
+//    out, to be sent or dropped, then those that wait now. The sent ones are a subsequence
+// contract: `every_list_of_calls` (`in_order`, `subsequence`) over `QueueCalls`, which the clauses `after` of the calls cite
+// promise: each dropped handle and each handed back is counted, up to 2^64 - 1
+// contract: `every_list_of_calls` (`dropped`, `refused`), `drop_oldest`, `clear`, `put` (`after`)
+// promise: no more wait than the bounds allow, in a conversation and in all
+// contract: `every_list_of_calls` (`within`), `waiting`, `waiting_in_all` (`within`)
 /// After every list of calls, whatever was held before them: what waited in a conversation and what was put there since,
 /// in this order, is what was taken out of it followed by what waits, so that nothing overtakes and nothing is lost; what
 /// was sent of it is a subsequence of that; each handle that was not sent is counted, up to 2^64 - 1, as each that was

@@ -44,6 +44,8 @@ impl<T: Drop> Model for Holding<T> {
 }
 
 impl<T: Drop> Holding<T> {
+    // promise: a new `Holding` is empty and has the given bounds
+    // contract: `new`
     /// Empty queues for `conversations` conversations, numbered from 0: at most `most_in_all` handles wait in all, and at
     /// most `most_each` in each. All memory is taken here: a conversation has the lesser of both numbers of places.
     /// `AllocError` if it is refused (profile).
@@ -66,6 +68,8 @@ impl<T: Drop> Holding<T> {
         })
     }
 
+    // promise: a handle waits behind the others, or comes back with the first reason
+    // contract: `put` (`room`, `reason`, `handed_back`, `after`), `refusal`
     /// Puts a handle behind those that wait in its conversation. Hands it back, counts it and changes nothing else if
     /// there is no such conversation, its queue is full or all that may wait do (profile).
     pub fn put(&mut self, conversation: u16, handle: T) -> Result<(), (Refusal, T)>
@@ -83,6 +87,8 @@ impl<T: Drop> Holding<T> {
         Ok(())
     }
 
+    // promise: the oldest comes out first; `oldest` names it, `waiting` tells how many, and both change nothing
+    // contract: `next`, `drop_oldest` (`first`, `after`), `clear` (`number`, `after`), `oldest`, `waiting` (`number`)
     /// Takes the oldest handle of a conversation out, to be sent; `None` if none waits or there is no such conversation
     /// (profile).
     pub fn next(&mut self, conversation: u16) -> Option<T>
@@ -94,6 +100,9 @@ impl<T: Drop> Holding<T> {
         Some(handle)
     }
 
+    // promise: of a table of ports, the first conversation on a port with a waiting handle gives its oldest, with that port; None only
+    //    without one
+    // contract: `next_released`
     /// Takes out the oldest handle of the first conversation that is on a port and has one waiting: `ports` has the port of
     /// each conversation, 0 for none. `None` if nothing waits that may leave (profile). Reads `ports` from its start.
     pub fn next_released(&mut self, ports: &[u16]) -> Option<Released<T>>

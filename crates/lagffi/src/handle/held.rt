@@ -22,6 +22,9 @@ impl Model for Held {
 }
 
 impl Drop for Held {
+    // promise: each block is freed or kept in a handle, whose flag tells whether it keeps one
+    // contract: `drop` of `Held`, `Parts::free`; `tells`, `full` of `Lag`
+    // not said: that a box which `Box::into_inner` empties goes to `free`: std's `Box` is trusted
     fn drop(self)
         requires { self.kept ≡ None }
     {
