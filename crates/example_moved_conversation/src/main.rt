@@ -207,7 +207,9 @@ fn main(rt: HostRuntime) -> ExitCode {
     let before = story.before;
     let after = story.after;
     let _ = println!(rt; "tick {ticks}: ports 1 and 2 of both systems distribute in aggregator 1");
-    let _ = println!(rt; "a frame of conversation 48 goes on port {before}, and up to the client of aggregator {agg}");
+    let _ = println!(rt;
+        "a frame of conversation 48 goes on port {before}, and up to the client of aggregator {agg}"
+    );
     let _ = println!(rt; "the conversation is to move: its frames are held");
     let _ = println!(rt; "the response to the marker is here: a frame goes on port {after}");
     ExitCode::SUCCESS

@@ -16,12 +16,12 @@ mod tests;
 use crate::line::{Job, LineFault, read_line};
 use crate::options::{Options, read_options};
 use lagstreams::{Sink, Source};
+use lagtool::{Job, LineFault, Options, read_line, read_options};
 use lagtool_capture::{CaptureFault, CaptureSummary, Settings, report_capture};
 use lagtool_jobs::{
     FaultText, Progress, ToolFault, Watch, check_watched, digits_text, replay_watched, reply,
     script_text, show, status_of, unread_text, utf8_text, vectors,
 };
-use lagtool::{Job, LineFault, Options, read_line, read_options};
 use std::alloc::AllocError;
 use std::fmt::Display;
 use std::fs::{File, Files};
