@@ -16,7 +16,6 @@ mod tests;
 use crate::line::{Job, LineFault, read_line};
 use crate::options::{Options, read_options};
 use lagstreams::{Sink, Source};
-use lagtool::{Job, LineFault, Options, read_line, read_options};
 use lagtool_capture::{CaptureFault, CaptureSummary, Settings, report_capture};
 use lagtool_jobs::{
     FaultText, Progress, ToolFault, Watch, check_watched, digits_text, replay_watched, reply,
