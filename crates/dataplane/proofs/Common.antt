@@ -1,4 +1,4 @@
--- The names that proofs of this crate import, passed on from one place. Declares nothing; tools/proof-imports writes it.
+-- The names that proofs of this crate import, passed on from one place. Declares nothing; tools/maintain/proof-imports writes it.
 pub use Rattle.std.proofs.Common.{Bool, Err, IfOk, List, None, Ok, Option, Result, Some, [], ap, append-nil, append_assoc, arith, cond, drop, eq-eqb}
 pub use Rattle.std.proofs.Common.{eqb, eqb-true, false, get_or, if◌then◌else◌, inl, inr, is_some, length, map, min, nat_le, nat_lt, not, option_map}
 pub use Rattle.std.proofs.Common.{position, refl, replicate, rules, slice_get, slice_index, slice_set, subst, suc, sym, take, true, zero, ℕ, ◌&&◌}

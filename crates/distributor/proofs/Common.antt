@@ -1,4 +1,4 @@
--- The names that proofs of this crate import, passed on from one place. Declares nothing; tools/proof-imports writes it.
+-- The names that proofs of this crate import, passed on from one place. Declares nothing; tools/maintain/proof-imports writes it.
 pub use Rattle.std.proofs.Common.{Bool, Err, List, None, Ok, Option, Some, [], ap, append-nil, append_assoc, arith, cond, eq-eqb, eqb, eqb-true}
 pub use Rattle.std.proofs.Common.{false, get_or, inl, inr, length, ltb, map, min, nat_lt, refl, replicate, set, subst, suc, sym, true, zero, ℕ}
 pub use Rattle.std.proofs.Common.{⊎_elim, ◌%◌, ◌&&◌, ◌*◌, ◌++◌, ◌+◌, ◌-◌, ◌/◌, ◌<◌, ◌^◌, ◌||◌, ◌∙◌, ◌∷◌, ◌≡◌, ◌≤◌, ◌⊎◌}

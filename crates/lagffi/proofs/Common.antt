@@ -1,4 +1,4 @@
--- The names that proofs of this crate import, passed on from one place. Declares nothing; tools/proof-imports writes it.
+-- The names that proofs of this crate import, passed on from one place. Declares nothing; tools/maintain/proof-imports writes it.
 pub use mathlib.Core.List.{List, [], ◌++◌, ◌∷◌}
 pub use mathlib.Core.Path.{ap, refl, subst, sym, ◌∙◌}
 pub use Rattle.std.proofs.Common.{Bool, Err, IfErr, IfOk, IsTrue, None, Ok, Option, Result, Some, arith, drop, false, get_or, is_some, length}

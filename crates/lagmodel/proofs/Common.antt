@@ -1,4 +1,4 @@
--- The names that proofs of this crate import, passed on from one place. Declares nothing; tools/proof-imports writes it.
+-- The names that proofs of this crate import, passed on from one place. Declares nothing; tools/maintain/proof-imports writes it.
 pub use Rattle.std.proofs.Common.{Bool, IsSome, IsSomeAnd, List, None, Option, Some, [], ap, append-nil, append_assoc, arith, cond, eq-eqb, eqb}
 pub use Rattle.std.proofs.Common.{eqb-true, false, get_or, inl, inr, is_some, length, length-append, map, not, option_map, refl, set, slice_get}
 pub use Rattle.std.proofs.Common.{subst, suc, sym, true, zero, ℕ, ◌&&◌, ◌++◌, ◌+◌, ◌<◌, ◌∙◌, ◌∷◌, ◌≡◌, ◌≢◌, ◌≤◌, ◌⊎◌}

@@ -1,4 +1,4 @@
--- The names that proofs of this crate import, passed on from one place. Declares nothing; tools/proof-imports writes it.
+-- The names that proofs of this crate import, passed on from one place. Declares nothing; tools/maintain/proof-imports writes it.
 pub use Rattle.std.proofs.Common.{Bool, Err, IfErr, IfOk, IsSome, IsTrue, List, None, Ok, Option, Result, Some, [], ap, append_assoc, arith, bytes_eq}
 pub use Rattle.std.proofs.Common.{cond, drop, eqb, eqb-true, false, filter, find, get_or, if◌then◌else◌, inl, inr, is_some, length, ltb, map, nat_le}
 pub use Rattle.std.proofs.Common.{nat_lt, not, option_map, position, refl, slice_get, slice_set, subst, suc, sym, take, true, zero, ℕ, ◌&&◌, ◌++◌}

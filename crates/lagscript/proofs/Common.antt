@@ -1,4 +1,4 @@
--- The names that proofs of this crate import, passed on from one place. Declares nothing; tools/proof-imports writes it.
+-- The names that proofs of this crate import, passed on from one place. Declares nothing; tools/maintain/proof-imports writes it.
 pub use Rattle.std.proofs.Common.{All, Bool, Bor, Err, Global, List, None, Ok, Option, Result, Some, String, [], add-one, ap, ap₂, arith, bytes_eq}
 pub use Rattle.std.proofs.Common.{codes, cond, drop, false, if◌then◌else◌, inl, inr, length, map, nat_le, option_and_then, option_map, refl, rules}
 pub use Rattle.std.proofs.Common.{string_bytes, subst, suc, sym, take, true, zero, ℕ, ◌&&◌, ◌++◌, ◌+◌, ◌<◌, ◌^◌, ◌||◌, ◌∙◌, ◌∷◌, ◌≡◌, ◌≢◌, ◌≤◌, ◌⊎◌}

@@ -1,5 +1,5 @@
-//! Readers and writers that remember whether they failed, and the lines of what is read: what the programs `lagtool` and
-//! `lagengine` stand on. In comments, "profile" is docs/PROFILE.md.
+//! Readers and writers that remember whether they failed, and the lines of what is read: what `lagtool` and `lagpage` stand
+//! on. In comments, "profile" is docs/PROFILE.md.
 #![tactic(auto)]
 
 mod line;

@@ -1,4 +1,4 @@
--- The names that proofs of this crate import, passed on from one place. Declares nothing; tools/proof-imports writes it.
+-- The names that proofs of this crate import, passed on from one place. Declares nothing; tools/maintain/proof-imports writes it.
 pub use Rattle.std.proofs.Common.{All, Bool, Bor, Err, IfOk, IsSome, IsSomeAnd, List, None, Ok, Option, Result, Some, [], add-one, ap, append-nil}
 pub use Rattle.std.proofs.Common.{append_assoc, ap₂, arith, cond, drop, eq-eqb, eqb, eqb-true, false, filter, find, get_or, if◌then◌else◌, inl, inr}
 pub use Rattle.std.proofs.Common.{is_some, length, length-append, length-drop, ltb, map, nat_le, nat_lt, not, option_map, position, refl, replicate}

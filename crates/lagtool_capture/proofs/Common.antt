@@ -1,4 +1,4 @@
--- The names that proofs of this crate import, passed on from one place. Declares nothing; tools/proof-imports writes it.
+-- The names that proofs of this crate import, passed on from one place. Declares nothing; tools/maintain/proof-imports writes it.
 pub use Rattle.std.proofs.Common.{Bool, Err, IfErr, IfOk, IfSome, List, None, Ok, OnOk, Option, Result, Some, [], ap, append-nil, append_assoc, arith}
 pub use Rattle.std.proofs.Common.{cond, drop, eqb, eqb-true, false, get_or, inl, inr, leb, length, length-append, length-drop, ltb-false, min, nat_lt}
 pub use Rattle.std.proofs.Common.{option_map, refl, replicate, set, slice_get, subst, suc, sym, take, true, true≢false, zero, ℕ, ◌&&◌, ◌*◌, ◌++◌, ◌+◌}

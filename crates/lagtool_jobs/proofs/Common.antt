@@ -1,4 +1,4 @@
--- The names that proofs of this crate import, passed on from one place. Declares nothing; tools/proof-imports writes it.
+-- The names that proofs of this crate import, passed on from one place. Declares nothing; tools/maintain/proof-imports writes it.
 pub use Rattle.std.proofs.Common.{Bool, Err, Global, IfErr, IfOk, List, None, Ok, OnOk, Option, Result, Some, String, [], ap, append-nil}
 pub use Rattle.std.proofs.Common.{append_assoc, ap₂, arith, codes, cond, decimal, drop, eq-eqb, eqb-true, false, get_or, if◌then◌else◌, inl, inr}
 pub use Rattle.std.proofs.Common.{is_some, length, length-append, length-drop, map, min, nat_le, option_and_then, option_map, refl, rules, slice_get}

@@ -1,4 +1,4 @@
--- The names that proofs of this crate import, passed on from one place. Declares nothing; tools/proof-imports writes it.
+-- The names that proofs of this crate import, passed on from one place. Declares nothing; tools/maintain/proof-imports writes it.
 pub use Rattle.std.proofs.Common.{Bool, Err, Global, IfErr, IfOk, IsSome, IsSomeAnd, IsTrue, List, None, Ok, OnOk, Option, Result, Some, [], add-one}
 pub use Rattle.std.proofs.Common.{ap, arith, cond, drop, eq-eqb, eqb, eqb-true, false, get_or, if◌then◌else◌, inl, inr, is_some, length, length-drop}
 pub use Rattle.std.proofs.Common.{map, nat_le, nat_lt, not, option_and_then, option_map, position, refl, replicate, set, slice_get, slice_set, subst}

@@ -1,4 +1,4 @@
--- The names that proofs of this crate import, passed on from one place. Declares nothing; tools/proof-imports writes it.
+-- The names that proofs of this crate import, passed on from one place. Declares nothing; tools/maintain/proof-imports writes it.
 pub use Rattle.std.proofs.Common.{Bool, IsTrue, List, [], add-one, ap, append-nil, append_assoc, arith, cond, drop, false, if◌then◌else◌, inl, inr}
 pub use Rattle.std.proofs.Common.{length, nat_le, nat_lt, not, refl, subst, suc, sym, take, true, zero, ℕ, ◌&&◌, ◌++◌, ◌+◌, ◌-◌, ◌<◌, ◌||◌, ◌∙◌, ◌∷◌}
 pub use Rattle.std.proofs.Common.{◌≡◌, ◌≤◌}

@@ -1,4 +1,4 @@
--- The names that proofs of this crate import, passed on from one place. Declares nothing; tools/proof-imports writes it.
+-- The names that proofs of this crate import, passed on from one place. Declares nothing; tools/maintain/proof-imports writes it.
 pub use Rattle.std.proofs.Common.{All, Bool, IsSomeAnd, IsTrue, List, None, Option, Some, [], ap, arith, cond, drop, false, filter, find, get_or}
 pub use Rattle.std.proofs.Common.{if◌then◌else◌, inl, inr, length, map, nat_lt, not, option_map, refl, rules, slice_get, slice_index, subst, suc, sym}
 pub use Rattle.std.proofs.Common.{take, take_all, true, zero, ℕ, ◌&&◌, ◌+◌, ◌-◌, ◌<◌, ◌==◌, ◌||◌, ◌↔◌, ◌∙◌, ◌∷◌, ◌≡◌, ◌≢◌, ◌≤◌, ◌⊎◌}

@@ -1,4 +1,4 @@
--- The names that proofs of this crate import, passed on from one place. Declares nothing; tools/proof-imports writes it.
+-- The names that proofs of this crate import, passed on from one place. Declares nothing; tools/maintain/proof-imports writes it.
 pub use Rattle.std.proofs.Common.{Bool, Err, List, None, Ok, Result, Some, [], add-zero, ap, append-nil, append_assoc, arith, cond, drop, false}
 pub use Rattle.std.proofs.Common.{filter, inl, inr, length, length-append, length-drop, map, nat_le, nat_lt, not, refl, replicate, rules, slice_index}
 pub use Rattle.std.proofs.Common.{subst, suc, sym, take, take-append-drop, take_all, true, zero, zero-add, ℕ, ◌%◌, ◌&&◌, ◌*◌, ◌++◌, ◌+◌, ◌-◌, ◌/◌}
