@@ -1,104 +1,95 @@
-/* The page: takes a file, calls the module, and shows what it says. */
+/* The page: takes a file, lets the module explain it, and shows what it says. */
 
 import { Lagtool } from "./module.js";
-import { linksOf, nameOf, placeOf, recordsIn } from "./records.js";
-import { drawLink, rowOf } from "./diagram.js";
+import { Records } from "./records.js";
+import { counted, picturesOf, showRecords } from "./capture.js";
+import { offer, textOfReport } from "./saving.js";
 
-/* Of a longer text the page shows so much. */
+/* Of a longer text the page keeps so much. */
 const MOST_SHOWN = 2000000;
 
 const at = (id) => document.getElementById(id);
-const octetsOf = (id) => Uint8Array.from(atob(at(id).textContent), (it) => it.charCodeAt(0));
+const octetsIn = (id) => Uint8Array.from(atob(at(id).textContent), (it) => it.charCodeAt(0));
 
-function made(name, text, kind) {
-    const it = document.createElement(name);
-    if (text) it.textContent = text;
-    if (kind) it.className = kind;
-    return it;
-}
+/* What is shown now: the pairs of systems, and the job that runs. */
+const now = { pairs: [], job: null };
 
-/* A part that opens and draws once it is opened. */
-function drawn(summary, draw, isOpen) {
-    const part = made("details"), place = made("div", "", "diagram");
-    place.tabIndex = 0;
-    const fill = () => {
-        if (!part.open || place.firstChild) return;
-        place.append(draw());
-        place.scrollLeft = (place.scrollWidth - place.clientWidth) / 2;
-    };
-    part.append(made("summary", summary), place);
-    part.addEventListener("toggle", fill);
-    part.open = isOpen;
-    fill();
-    part.fill = () => { part.open = true; fill(); };
-    return part;
-}
-
-/* Where a finding shows: the clause, the end, and the packet, which leads into the diagram. */
-function placeIn(finding, part) {
-    const link = made("a", `packet ${finding.packet}`);
-    link.href = `#${rowOf(finding.packet)}`;
-    link.addEventListener("click", (event) => {
-        event.preventDefault();
-        part.fill();
-        const row = at(rowOf(finding.packet));
-        if (!row) return;
-        row.scrollIntoView({ block: "center", inline: "center" });
-        row.focus({ preventScroll: true });
-    });
-    const when = finding.seconds === null ? "" : ` at ${finding.seconds.toFixed(6)} s`;
-    const port = finding.end.port === null ? "" : ` port ${finding.end.port}`;
-    const where = made("span", `${finding.clause}: ${nameOf(placeOf(finding.end))}${port}, `, "quiet");
-    where.append(link, when);
-    return where;
-}
-
-/* What is found by one rule: what, what to do, and where it shows. */
-function itemOf(findings, partOf) {
-    const item = made("li"), [{ name, advice }] = findings;
-    item.append(made("strong", name[0].toUpperCase() + name.slice(1)), made("span", advice));
-    item.append(...findings.map((it) => placeIn(it, partOf(it))));
-    return item;
-}
-
-function showCapture(lagtool, octets) {
-    const whole = lagtool.capture(octets), records = recordsIn(lagtool.capture(octets, { json: true }).printed);
-    const links = linksOf(records), findings = records.filter((it) => it.record === "finding");
-    const parts = links.map((link, number) => drawn(`${link.ends.map(nameOf).join(" and ")}: ${link.frames.length} frames, ${link.findings.length} findings`,
-        () => drawLink(link), number === 0));
-    const partOf = (finding) => parts[links.findIndex((it) => it.findings.includes(finding))];
-    const rules = [...new Set(findings.map((it) => it.rule))].map((rule) => findings.filter((it) => it.rule === rule));
-    at("findings").replaceChildren(...rules.map((it) => itemOf(it, partOf)));
-    at("links").replaceChildren(...parts);
-    const slow = records.find((it) => it.record === "counts")?.slow ?? 0;
-    const none = slow ? "Nothing found." : "No frame of the slow protocols (LACPDU, Marker PDU) is in this capture.";
-    return { ...whole, verdict: rules.length ? `${rules.length} found` : whole.said ? "" : none, isGood: !findings.length && slow > 0 };
-}
-
-function put(name, told) {
+function put(name, verdict, isGood, said) {
     at("name").textContent = name;
-    at("verdict").textContent = told.verdict;
-    at("verdict").className = told.isGood ? "good" : "bad";
-    at("said").textContent = told.said;
-    at("said").hidden = !told.said;
-    at("text").textContent = told.printed.length > MOST_SHOWN ? `${told.printed.slice(0, MOST_SHOWN)}\n(and more)` : told.printed;
-    at("copied").textContent = "";
+    at("verdict").textContent = verdict;
+    at("verdict").className = isGood ? "good" : "bad";
+    at("said").textContent = said;
+    at("said").hidden = !said;
     at("shown").hidden = false;
-    at("name").focus();
-    window.shown = told.status === null ? null : { name, status: told.status, printed: told.printed, said: told.said };
 }
 
-async function show(lagtool, name, octets) {
-    put(name, { status: null, printed: "", said: "", verdict: "It is being read.", isGood: true });
+function clear(name) {
+    now.job?.stop();
+    window.shown = null;
     at("findings").replaceChildren();
     at("links").replaceChildren();
-    // The browser shows this before the module runs.
-    await new Promise((done) => setTimeout(done, 30));
+    at("legend").hidden = true;
+    at("text").textContent = at("copied").textContent = "";
+    put(name, "It is being read.", true, "");
+    at("name").focus();
+}
+
+/* Runs one job over a file; shows how far it is where that takes long. */
+async function run(lagtool, file, options, printed) {
+    if (!lagtool.canStream) {
+        const whole = lagtool.now("capture", new Uint8Array(await file.arrayBuffer()), options);
+        printed(whole.printed);
+        return whole;
+    }
+    at("far").max = Math.max(file.size, 1);
+    at("far").value = 0;
+    const late = setTimeout(() => { at("reading").hidden = false; }, 300);
+    const job = now.job = lagtool.stream(file, options, { printed, read: (octets) => { at("far").value = octets; } });
     try {
-        put(name, showCapture(lagtool, octets));
+        return await job.told;
+    } finally {
+        clearTimeout(late);
+        at("reading").hidden = true;
+    }
+}
+
+function verdictOf(records, kinds, said) {
+    if (kinds) return [`${kinds === 1 ? "One thing is" : `${kinds} things are`} wrong, at ${counted(records.findings.length, "place")}:`, false];
+    if (said) return ["", false];
+    if (records.counts?.slow) return ["Nothing found.", true];
+    return ["No frame of the slow protocols (LACPDU, Marker PDU) is in this capture.", false];
+}
+
+/* The records first, with what they show; then the text. */
+async function explain(lagtool, name, file) {
+    const records = new Records();
+    let text = "", left = 0;
+    let told = await run(lagtool, file, { json: true }, (piece) => records.addLines(piece)).catch((error) => error);
+    const isStopped = told instanceof Error, said = isStopped ? told.message : told.said;
+    const { pairs, kinds } = showRecords(records, file, at("findings"), at("links"));
+    now.pairs = pairs;
+    at("legend").hidden = !pairs.length;
+    put(name, ...verdictOf(records, kinds, said), isStopped && said === "stopped" ? "Stopped: the findings want the whole capture." : said);
+    if (!isStopped) {
+        told = await run(lagtool, file, {}, (piece) => {
+            const room = MOST_SHOWN - text.length;
+            text += piece.slice(0, Math.max(room, 0));
+            left += Math.max(piece.length - Math.max(room, 0), 0);
+        });
+    }
+    at("text").textContent = left ? `${text}\n(and ${left} characters more: lagtool capture prints all)` : text;
+    window.shown = { name, status: told.status ?? 2, printed: text, said };
+}
+
+async function show(lagtool, name, file) {
+    clear(name);
+    try {
+        await explain(lagtool, name, file);
     } catch (error) {
+        if (error.message === "stopped") return;
         const said = `This page could not explain it: ${error.message}. lagtool capture reads files of any size.`;
-        put(name, { status: 2, printed: "", said, verdict: "", isGood: false });
+        put(name, "", false, said);
+        window.shown = { name, status: 2, printed: "", said };
     }
 }
 
@@ -113,8 +104,13 @@ async function copy() {
     }
 }
 
+function saveReport() {
+    const pictures = picturesOf(now.pairs), title = `${at("name").textContent}: ${at("verdict").textContent}`.replace(/[: ]+$/, "");
+    offer("report.html", "text/html", textOfReport(title, at("shown"), pictures, at("closing").innerHTML));
+}
+
 function listen(lagtool) {
-    const drop = at("drop"), take = async (file) => show(lagtool, file.name, new Uint8Array(await file.arrayBuffer()));
+    const drop = at("drop"), take = (file) => show(lagtool, file.name, file);
     const isOver = (over) => (event) => { event.preventDefault(); drop.classList.toggle("over", over); };
     addEventListener("dragover", isOver(true));
     addEventListener("dragleave", isOver(false));
@@ -122,16 +118,22 @@ function listen(lagtool) {
         isOver(false)(event);
         if (event.dataTransfer.files.length) take(event.dataTransfer.files[0]);
     });
+    addEventListener("paste", (event) => {
+        if (event.clipboardData.files.length) take(event.clipboardData.files[0]);
+    });
     at("file").addEventListener("change", (event) => {
         if (event.target.files.length) take(event.target.files[0]);
         event.target.value = "";
     });
-    at("example").addEventListener("click", () => show(lagtool, "unequal-keys.pcapng, an example", octetsOf("capture")));
+    at("example").addEventListener("click", () => show(lagtool, "unequal-keys.pcapng, an example", new Blob([octetsIn("capture")])));
     at("copy").addEventListener("click", copy);
+    at("stop").addEventListener("click", () => now.job?.stop());
+    at("report").addEventListener("click", saveReport);
 }
 
 async function start() {
-    const lagtool = await Lagtool.of(octetsOf("module"));
+    const lagtool = await Lagtool.of(octetsIn("module"));
+    lagtool.canStream = WebAssembly.Module.exports(lagtool.module).some((it) => it.name === "lagpage_stream");
     listen(lagtool);
     at("unable").hidden = true;
     at("ask").hidden = false;

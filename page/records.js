@@ -1,42 +1,173 @@
-/* The records of a capture (docs/COMMAND.md), and the links that they are of. */
+/* The records of a capture (docs/COMMAND.md), the links that they are of, and the links of each pair of systems. */
 
-export const placeOf = (it) => `${it.interface} ${it.source}`;
+/* So many frames are kept to be drawn; behind them only those that a finding names. */
+export const MOST_KEPT = 300000;
+const NO_SYSTEM = "00-00-00-00-00-00";
+const BITS = ["active", "short", "aggregatable", "synchronized", "collecting", "distributing", "defaulted", "expired"];
 
-export const nameOf = (place) => {
-    if (place === null) return "not heard";
-    const [number, source] = place.split(" ");
-    return number === "0" ? source : `interface ${number} ${source}`;
-};
+export const bitsOf = (octet) => BITS.filter((_, bit) => (octet >> bit) & 1);
+export const hexadecimal = (number, digits = 2) => number.toString(16).padStart(digits, "0");
+export const secondsOf = (seconds) => seconds === null ? "-" : seconds.toFixed(6);
 
-export function recordsIn(text) {
-    return text.split("\n").filter(Boolean).map((it) => JSON.parse(it));
+/* The receive and the mux machine, as far as a state octet shows them. */
+export function machinesOf(octet) {
+    const has = new Set(bitsOf(octet));
+    const receive = has.has("expired") ? "EXPIRED" : has.has("defaulted") ? "DEFAULTED" : "CURRENT";
+    const mux = has.has("distributing") ? "DISTRIBUTING" : has.has("collecting") ? "COLLECTING"
+        : has.has("synchronized") ? "ATTACHED" : "DETACHED or WAITING";
+    return { receive, mux };
+}
+
+/* What a frame says, in few words. */
+export function saidBy(frame) {
+    if (frame.kind === "lacpdu") return `LACPDU ${hexadecimal(frame.actor.state)} ${bitsOf(frame.actor.state).join(", ") || "none"}`;
+    return frame.kind === "refused" ? `refused: ${frame.fault}` : `${frame.kind} ${frame.id}`;
+}
+
+/* One end of a link: an interface of the capture, a source address, and the number of its port, null where no frame names it. */
+export class End {
+    constructor(number, source, port) {
+        this.interface = number;
+        this.source = source;
+        this.port = port;
+        this.frames = [];
+        this.findings = [];
+        this.actors = new Set();
+        this.partners = new Set();
+        this.system = null;
+        this.named = null;
+    }
+
+    get name() {
+        const source = this.interface === 0 ? this.source : `interface ${this.interface} ${this.source}`;
+        return this.port === null ? source : `${source} port ${this.port}`;
+    }
+
+    take(frame) {
+        this.frames.push(frame);
+        frame.end = this;
+        if (frame.kind !== "lacpdu") return;
+        this.actors.add(`${frame.actor.system} ${frame.actor.port}`);
+        this.partners.add(`${frame.partner.system} ${frame.partner.port}`);
+        this.system = frame.actor.system;
+        this.named = frame.partner.system;
+    }
+}
+
+const portNumberOf = (port) => Number(port.split("/")[1]);
+
+/* The port that a frame names as its sender's; null where it names none. */
+function portOf(frame) {
+    if (frame.kind === "lacpdu") return portNumberOf(frame.actor.port);
+    return frame.kind === "marker" ? frame.port : null;
+}
+
+/* What a capture says, record after record. */
+export class Records {
+    constructor() {
+        this.ends = new Map();
+        this.findings = [];
+        this.frames = 0;
+        this.kept = 0;
+        this.counts = null;
+    }
+
+    /* The end of these, which is there from now on; without a port it is the first of that source. */
+    end(number, source, port) {
+        const places = [`${number} ${source} ${port}`, `${number} ${source}`];
+        const found = this.ends.get(places[port === null ? 1 : 0]);
+        if (found) return found;
+        const bare = this.ends.get(places[1]);
+        if (bare && bare.port === null) bare.port = port;
+        const end = bare && bare.port === port ? bare : new End(number, source, port);
+        this.ends.set(places[0], end);
+        if (!bare) this.ends.set(places[1], end);
+        return end;
+    }
+
+    add(record) {
+        if (record.record === "frame") this.addFrame(record);
+        if (record.record === "finding") this.addFinding(record);
+        if (record.record === "counts") this.counts = record;
+    }
+
+    addFrame(frame) {
+        this.frames += 1;
+        const end = this.end(frame.interface, frame.source, portOf(frame));
+        if (this.kept >= MOST_KEPT) return;
+        this.kept += 1;
+        end.take(frame);
+    }
+
+    addFinding(finding) {
+        const { interface: number, source, port } = finding.end;
+        finding.at = this.end(number, source, port);
+        finding.at.findings.push(finding);
+        this.findings.push(finding);
+    }
+
+    addLines(text) {
+        for (const line of text.split("\n")) if (line) this.add(JSON.parse(line));
+    }
 }
 
 /* Who answers an end: whom its LACPDUs name, or who names it, on the same interface. */
-function partnerOf(place, frames) {
-    const named = (it) => `${it.system} ${it.port}`;
-    const lacpdus = frames.filter((it) => it.kind === "lacpdu");
-    const own = lacpdus.filter((it) => placeOf(it) === place);
-    const actors = new Set(own.map((it) => named(it.actor))), partners = new Set(own.map((it) => named(it.partner)));
-    const found = lacpdus.find((it) => placeOf(it) !== place && String(it.interface) === place.split(" ")[0]
-        && (partners.has(named(it.actor)) || actors.has(named(it.partner))));
-    return found ? placeOf(found) : null;
+function partnerOf(end, actors, partners) {
+    const places = (set) => [...set].map((it) => `${end.interface} ${it}`);
+    const found = [...places(end.partners).flatMap((it) => actors.get(it) ?? []), ...places(end.actors).flatMap((it) => partners.get(it) ?? [])];
+    return found.find((it) => it !== end) ?? null;
 }
 
-/* The links in the order of their first frames: two ends, of which the second may not be heard, their frames and their findings. Those with a
- * finding stand first. */
-export function linksOf(records) {
-    const frames = records.filter((it) => it.record === "frame"), findings = records.filter((it) => it.record === "finding");
-    const links = [], seen = new Set();
-    for (const place of new Set(frames.map(placeOf))) {
-        if (seen.has(place)) continue;
-        const partner = partnerOf(place, frames), ends = [place, seen.has(partner) ? null : partner];
-        for (const it of ends) if (it !== null) seen.add(it);
-        links.push({
-            ends,
-            frames: frames.filter((it) => ends.includes(placeOf(it))),
-            findings: findings.filter((it) => ends.includes(placeOf(it.end))),
-        });
+function listed(ends, setOf) {
+    const lists = new Map();
+    for (const end of ends) {
+        for (const it of setOf(end)) {
+            const place = `${end.interface} ${it}`;
+            lists.set(place, [...lists.get(place) ?? [], end]);
+        }
     }
-    return [...links.filter((it) => it.findings.length), ...links.filter((it) => !it.findings.length)];
+    return lists;
+}
+
+const byTime = (one, other) => one.seconds === null || other.seconds === null ? one.packet - other.packet
+    : one.seconds - other.seconds || one.packet - other.packet;
+const findingsFirst = (list) => [...list.filter((it) => it.findings.length), ...list.filter((it) => !it.findings.length)];
+
+/* The links: two ends, of which the second may not be heard (null), their frames in the order of times, and their findings. */
+function linksOf(ends) {
+    const actors = listed(ends, (it) => it.actors), partners = listed(ends, (it) => it.partners);
+    const seen = new Set(), links = [];
+    for (const end of ends) {
+        if (seen.has(end)) continue;
+        const partner = partnerOf(end, actors, partners), both = [end, partner && !seen.has(partner) ? partner : null];
+        const heard = both.filter(Boolean);
+        heard.forEach((it) => seen.add(it));
+        links.push({ ends: both, frames: heard.flatMap((it) => it.frames).sort(byTime), findings: heard.flatMap((it) => it.findings) });
+    }
+    return links;
+}
+
+/* The links of each pair of systems. The lower system stands first in each, and pairs with a finding stand before the others. */
+export function bundlesOf(records) {
+    const bundles = new Map();
+    for (const link of linksOf([...new Set(records.ends.values())])) {
+        const [one, other] = link.ends, systems = [one.system ?? "", (other ? other.system : one.named) ?? ""];
+        if (systems[1] && !systems[1].endsWith(NO_SYSTEM) && systems[1] < systems[0]) {
+            link.ends.reverse();
+            systems.reverse();
+        }
+        const pair = systems.join(" ");
+        if (!bundles.has(pair)) bundles.set(pair, { systems, links: [], findings: [] });
+        bundles.get(pair).links.push(link);
+        bundles.get(pair).findings.push(...link.findings);
+    }
+    return findingsFirst([...bundles.values()]);
+}
+
+const isKnown = (system) => system !== "" && !system.endsWith(NO_SYSTEM);
+
+/* What a pair of systems is called: by their addresses. */
+export function nameOf(bundle) {
+    const [one, other] = bundle.systems.map((it) => isKnown(it) ? it.split("/")[1] : "a system that is not heard");
+    return `${one} and ${other}`;
 }

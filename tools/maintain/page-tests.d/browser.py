@@ -15,6 +15,9 @@ from typing import Any
 from repository import Missing
 
 PATIENCE = 120.0  # seconds for an answer
+KEYS = {"Tab": 9, "Enter": 13, "Escape": 27, "ArrowLeft": 37, "ArrowUp": 38, "ArrowRight": 39, "ArrowDown": 40}
+# The roles that want a name.
+NAMED = ("button", "link", "textbox", "combobox", "img", "checkbox", "slider", "progressbar", "region")
 # Where descriptors of this program do not meet those that Chromium wants, 3 and 4.
 ABOVE = 20
 
@@ -121,6 +124,12 @@ class Browser:
             time.sleep(0.05)
         raise Missing(f"this never comes true in the page: {expression[:80]}")
 
+    def open(self, path: str) -> None:
+        """Opens a file that has no script of its own."""
+        url = f"file://{os.path.abspath(path)}"
+        self.call("Page.navigate", url=url)
+        self.wait(f"document.readyState === 'complete' && location.href === {json.dumps(url)}")
+
     def go(self, path: str) -> None:
         self.call("Page.navigate", url=f"file://{os.path.abspath(path)}")
         self.wait("Boolean(window.lagtool)")
@@ -146,11 +155,39 @@ class Browser:
         found: dict[str, Any] = self.wait("window.shown")
         return found
 
+    def paste(self, path: str) -> dict[str, Any]:
+        """Pastes a file into the page, and gives what is shown then."""
+        with open(path, "rb") as it:
+            octets = base64.b64encode(it.read()).decode()
+        self.value("window.shown = null, 1")
+        file = f"new File([Uint8Array.from(atob('{octets}'), (it) => it.charCodeAt(0))], {json.dumps(os.path.basename(path))})"
+        data = f"const data = new DataTransfer(); data.items.add({file});"
+        self.value(f"(() => {{ {data} document.body.dispatchEvent(new ClipboardEvent('paste', {{ clipboardData: data, bubbles: true }})); }})()")
+        return self.shown()
+
     def key(self, name: str) -> None:
-        code = {"Tab": 9, "Enter": 13}[name]
-        text = {"text": "\r"} if name == "Enter" else {}
+        code = KEYS.get(name, ord(name[0]))
+        text = {"text": "\r" if name == "Enter" else name} if name == "Enter" or len(name) == 1 else {}
         for kind in ("keyDown", "keyUp"):
             self.call("Input.dispatchKeyEvent", type=kind, key=name, code=name, windowsVirtualKeyCode=code, **(text if kind == "keyDown" else {}))
+
+    def wheel(self, x: float, y: float, way: float) -> None:
+        """Turns the wheel with the control key."""
+        self.call("Input.dispatchMouseEvent", type="mouseWheel", x=x, y=y, deltaX=0, deltaY=way, modifiers=2)
+
+    def drag(self, x: float, y: float, way: float) -> None:
+        for kind, at in ("mousePressed", x), ("mouseMoved", x + way / 2), ("mouseMoved", x + way), ("mouseReleased", x + way):
+            self.call("Input.dispatchMouseEvent", type=kind, x=at, y=y, button="left", buttons=1, clickCount=1)
+
+    def settle(self) -> None:
+        """Waits until the page is drawn."""
+        self.value("new Promise((done) => setTimeout(() => requestAnimationFrame(() => requestAnimationFrame(done)), 100))")
+
+    def nameless(self) -> list[str]:
+        """What can be used in the page, and has no name that a screen reader says."""
+        nodes = self.call("Accessibility.getFullAXTree")["nodes"]
+        used = [it for it in nodes if not it.get("ignored") and it.get("role", {}).get("value") in NAMED]
+        return [json.dumps(it["role"]["value"]) for it in used if not it.get("name", {}).get("value")]
 
     def size(self, width: int, height: int) -> None:
         self.call("Emulation.setDeviceMetricsOverride", width=width, height=height, deviceScaleFactor=1, mobile=False)

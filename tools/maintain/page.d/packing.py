@@ -11,7 +11,7 @@ from repository import TOP, Missing
 
 PARTS = os.path.join(TOP, "page")
 # The modules in the order in which each has what it imports.
-SCRIPTS = ["module.js", "records.js", "diagram.js", "page.js"]
+SCRIPTS = ["module.js", "records.js", "shapes.js", "packets.js", "fields.js", "octets.js", "timeline.js", "viewing.js", "saving.js", "capture.js", "page.js"]
 EXAMPLE = os.path.join(TOP, "examples", "captures", "unequal-keys.pcapng")
 IMPORT = re.compile(r'^import \{ ([\w, ]+) \} from "\./([\w.]+)";\n', re.M)
 # Octets as a data block, lines of them so that tools take the file.

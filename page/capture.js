@@ -1,0 +1,155 @@
+/* What is shown of a capture: the findings, then a time axis for each pair of systems, then the frames and the text. */
+
+import { bundlesOf, nameOf, Records, saidBy, secondsOf } from "./records.js";
+import { Packets } from "./packets.js";
+import { fieldsOf } from "./fields.js";
+import { octetsBeside } from "./octets.js";
+import { changesOf } from "./timeline.js";
+import { Viewing } from "./viewing.js";
+import { offer, pictureOf, textOfPicture } from "./saving.js";
+import { button, made, table } from "./shapes.js";
+
+/* The most frames that are listed of a link, besides those of findings. */
+const MOST = 400;
+/* The rules whose findings often follow from those of others, which stand before them (docs/COMMAND.md). */
+const FOLLOWING = [12, 13, 17, 22, 23];
+export const counted = (number, word) => `${number} ${word}${number === 1 ? "" : "s"}`;
+const upper = (text) => text[0].toUpperCase() + text.slice(1);
+export const frameRow = (packet) => `packet-${packet}`;
+
+/* A part that opens, and is made once it is opened. */
+function opening(summary, make, isOpen) {
+    const part = made("details");
+    part.append(made("summary", summary));
+    part.fill = () => { if (part.childElementCount === 1) part.append(...make()); };
+    part.addEventListener("toggle", () => part.open && part.fill());
+    if (isOpen) part.fill();
+    part.open = isOpen;
+    return part;
+}
+
+/* The frames of a link, each a row. */
+function framesOf(link, choose) {
+    const packets = new Set(link.findings.map((it) => it.packet));
+    const listed = link.frames.filter((it, number) => number < MOST || packets.has(it.packet));
+    const rows = listed.map((frame) => {
+        const open = button(`${frame.packet}`, () => choose(frame)), said = made("span", saidBy(frame));
+        for (const it of link.findings) if (it.packet === frame.packet) said.append(made("strong", ` ${it.name} (${it.clause})`, "bad"));
+        open.setAttribute("aria-label", `packet ${frame.packet}: its fields`);
+        return [open, secondsOf(frame.seconds), frame.end === link.ends[0] ? "\u2192" : "\u2190", said];
+    });
+    const it = table(["packet", "seconds", "way", "says"], rows, "frames");
+    listed.forEach((frame, number) => { it.tBodies[0].rows[number].id = frameRow(frame.packet); });
+    const left = link.frames.length - listed.length;
+    return left ? [it, made("p", `${counted(left, "frame")} more are not listed.`, "quiet")] : [it];
+}
+
+function statesOf(end) {
+    const rows = changesOf(end).map(([frame, ...words]) => [secondsOf(frame.seconds), ...words]);
+    const it = table(["seconds", "receive", "mux", "bits"], rows.slice(0, MOST), "frames");
+    it.createCaption().textContent = rows.length > MOST ? `${end.name}: the first ${MOST} changes` : end.name;
+    return it;
+}
+
+/* One pair of systems. */
+class Pair {
+    constructor(bundle, packets, isOpen) {
+        Object.assign(this, { bundle, packets });
+        this.title = `${nameOf(bundle)}: ${counted(bundle.links.length, "link")}, ${counted(bundle.findings.length, "finding")}`;
+        this.fields = made("div", "", "chosen-frame");
+        this.fields.hidden = true;
+        this.viewing = new Viewing(bundle, this.title, (frame, isEntered) => this.showFields(frame, isEntered));
+        this.part = opening(this.title, () => this.parts(), isOpen);
+    }
+
+    parts() {
+        const tools = made("p", "", "tools");
+        tools.append(button("Save as SVG", () => this.save()));
+        const states = opening("The states as text", () => this.bundle.links.flatMap((it) => it.ends.filter(Boolean).map(statesOf)), false);
+        this.lists = this.bundle.links.map((link) => opening(`The frames of ${link.ends.map((it) => it ? it.name : "no other end").join(" and ")}: ${link.frames.length}`,
+            () => framesOf(link, (frame) => this.take(frame)), false));
+        return [this.viewing.box, this.fields, tools, states, ...this.lists];
+    }
+
+    save() { offer("links.svg", "image/svg+xml", textOfPicture(pictureOf(this.viewing, this.title, false))); }
+
+    take(frame) {
+        this.part.fill();
+        this.part.open = true;
+        this.viewing.take(frame, false);
+    }
+
+    /* Scrolls so far that the fields do not cover the chosen frame. */
+    uncover() {
+        const { top, bottom } = this.viewing.svg.querySelector(".chosen").getBoundingClientRect();
+        if (top < 0 || bottom > innerHeight / 2) scrollBy(0, top - innerHeight / 5);
+    }
+
+    async showFields(frame, isEntered) {
+        const found = await this.packets.packet(frame.packet);
+        if (this.viewing.view.chosen !== frame) return;
+        const head = made("h3", `Packet ${frame.packet} at ${secondsOf(frame.seconds)} s, from ${frame.end.name}`);
+        const findings = this.bundle.findings.filter((it) => it.packet === frame.packet && it.at === frame.end);
+        const said = findings.map((it) => made("p", `${upper(it.name)} (${it.clause}). ${it.advice}`, "bad"));
+        const octets = found ? octetsBeside(found.octets, fieldsOf(found.octets, found.link)) : made("p", "Its octets are not found in the file.");
+        this.fields.replaceChildren(button("Close", () => this.close(), "close"), head, ...said, octets);
+        this.fields.hidden = false;
+        this.uncover();
+        this.fields.onkeydown = (event) => { if (event.key === "Escape") this.close(); };
+        if (isEntered) this.fields.querySelector("tr[tabindex='0']")?.focus();
+    }
+
+    close() {
+        this.fields.hidden = true;
+        this.viewing.svg.querySelector(".chosen")?.focus();
+    }
+}
+
+/* Where a finding shows: the clause, the end, and the packet, which leads into the diagram. */
+function placeIn(finding, pair) {
+    const link = made("a", `packet ${finding.packet}`);
+    link.href = `#${frameRow(finding.packet)}`;
+    link.addEventListener("click", (event) => {
+        event.preventDefault();
+        const frame = pair.bundle.links.flatMap((it) => it.frames).find((it) => it.packet === finding.packet);
+        if (frame) pair.take(frame);
+    });
+    const where = made("span", `${finding.clause}: ${finding.at.name}, `, "quiet");
+    where.append(link, finding.seconds === null ? "" : ` at ${finding.seconds.toFixed(6)} s`);
+    return where;
+}
+
+/* What is found by one rule: what, what to do, and where it shows. */
+function itemOf(findings, pairOf) {
+    const item = made("li"), [{ name, advice }] = findings;
+    item.append(made("strong", upper(name)), made("span", advice));
+    item.append(...findings.map((it) => placeIn(it, pairOf(it))));
+    return item;
+}
+
+/* Shows what the records say; `blob` has the capture. Gives the verdict, and the pairs. */
+export function showRecords(records, blob, findingsAt, linksAt) {
+    const packets = new Packets(blob), bundles = bundlesOf(records), { findings } = records;
+    const pairs = bundles.map((it, number) => new Pair(it, packets, number === 0));
+    const pairOf = (finding) => pairs.find((it) => it.bundle.findings.includes(finding));
+    const rules = [...new Set(findings.map((it) => it.rule))].map((rule) => findings.filter((it) => it.rule === rule));
+    rules.sort(([one], [other]) => FOLLOWING.includes(one.rule) - FOLLOWING.includes(other.rule));
+    findingsAt.replaceChildren(...rules.map((it) => itemOf(it, pairOf)));
+    linksAt.replaceChildren(...pairs.map((it) => it.part));
+    return { pairs, kinds: rules.length };
+}
+
+export const recordsIn = (text) => {
+    const records = new Records();
+    records.addLines(text);
+    return records;
+};
+
+/* What is drawn of each pair, for a report. All of it is made then. */
+export function picturesOf(pairs) {
+    for (const it of pairs) {
+        it.part.fill();
+        for (const list of it.part.querySelectorAll("details")) list.fill();
+    }
+    return pairs.map((it) => pictureOf(it.viewing, it.title, true));
+}

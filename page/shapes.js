@@ -1,0 +1,41 @@
+/* Elements of the page and of pictures. */
+
+const SVG = "http://www.w3.org/2000/svg";
+
+/* An element of the page: its text and its class are set where they are given. */
+export function made(name, text, kind) {
+    const it = document.createElement(name);
+    if (text) it.textContent = text;
+    if (kind) it.className = kind;
+    return it;
+}
+
+export function button(text, act, kind) {
+    const it = made("button", text, kind);
+    it.type = "button";
+    it.addEventListener("click", act);
+    return it;
+}
+
+/* A table with its heads and rows; a cell is a text or an element. */
+export function table(heads, rows, kind) {
+    const it = made("table", "", kind), head = it.createTHead().insertRow(), body = it.createTBody();
+    for (const text of heads) {
+        const cell = made("th", text);
+        cell.scope = "col";
+        head.append(cell);
+    }
+    for (const row of rows) body.insertRow().append(...row.map((cell) => {
+        const place = made("td");
+        place.append(cell);
+        return place;
+    }));
+    return it;
+}
+
+export function shape(name, attributes, text) {
+    const it = document.createElementNS(SVG, name);
+    for (const [key, value] of Object.entries(attributes)) it.setAttribute(key, value);
+    if (text !== undefined) it.textContent = text;
+    return it;
+}

@@ -1,0 +1,158 @@
+"""Tests of how the page behaves: findings, frames and their fields, the time axis, keys, broken files, looks."""
+
+from __future__ import annotations
+
+import json
+import os
+from typing import Any
+
+from browser import Browser
+from stored import CAPTURES, UNEQUAL, Tests, captures, printed, read
+
+HOSTILE = '<img src=x onerror="window.taken = true"><script>window.taken = true</script>'
+# The frame that is chosen, and the packet whose fields are shown.
+CHOSEN = "[document.activeElement.dataset.packet ?? '', document.querySelector('.chosen-frame:not([hidden]) h3')?.textContent.split(' ')[1] ?? '']"
+# The fields of each frame that is drawn, by a click on it.
+FIELDS = """(async () => {
+    const all = {};
+    for (const it of document.querySelectorAll('#links details')) it.open = true;
+    await new Promise((done) => setTimeout(done, 100));
+    for (const it of [...document.querySelectorAll('.frames button')]) {
+        it.click();
+        const shown = () => [...document.querySelectorAll('.chosen-frame:not([hidden])')].find((box) => box.querySelector('h3').textContent.startsWith(`Packet ${it.textContent} `));
+        for (let tries = 0; tries < 200 && !shown(); tries += 1) await new Promise((done) => setTimeout(done, 5));
+        all[it.textContent] = [...shown().querySelectorAll('.fields tbody tr')].map((row) => [...row.cells].slice(0, 2).map((cell) => cell.textContent));
+    }
+    return all;
+})()"""
+
+
+def of_page(tests: Tests, browser: Browser, folder: str) -> None:
+    """How the page behaves."""
+    of_findings(tests, browser)
+    of_fields(tests, browser)
+    of_axis(tests, browser)
+    of_hostile(tests, browser, folder)
+    of_keyboard(tests, browser)
+    tests.same("a file that is dropped is explained", [browser.drop(UNEQUAL)[it] for it in ("status", "said")], [1, ""])
+    tests.same("a file that is pasted is explained", [browser.paste(UNEQUAL)[it] for it in ("status", "said")], [1, ""])
+
+
+def of_findings(tests: Tests, browser: Browser) -> None:
+    browser.choose(UNEQUAL)
+    stored = [it for it in read(f"{UNEQUAL.rpartition('.')[0]}.report.txt").splitlines() if it.startswith("finding ")]
+    links = browser.value("[...document.querySelectorAll('#findings a')].map((it) => it.textContent)")
+    tests.same("each finding leads to its packet", sorted(links), sorted("packet " + it.split(" packet ")[1].split()[0] for it in stored))
+    packet = links[0].split()[1]
+    browser.value("document.querySelector('#findings a').click(), 1")
+    browser.wait("document.querySelector('.chosen-frame:not([hidden])') !== null")
+    tests.same("a packet of a finding is chosen in the diagram, and its fields are shown", browser.value(CHOSEN), [packet, packet])
+    inside = browser.value("(() => { const it = document.activeElement.getBoundingClientRect(); return it.top >= 0 && it.bottom <= innerHeight * 0.6; })()")
+    tests.same("it is in view, above its fields", inside, True)
+    rows = browser.value("['#links > details', '#links > details[open] svg', '#links svg .name'].map((it) => document.querySelectorAll(it).length)")
+    tests.same("two links of one pair of systems stand on one axis", rows, [1, 1, 4])
+
+
+def fields_wanted(record: dict[str, Any]) -> list[list[str]]:
+    """What the fields of a frame say, by its record."""
+    if record["kind"] == "lacpdu":
+        found: list[list[str]] = []
+        for name in "actor", "partner":
+            party = record[name]
+            (priority, system), (port_priority, port) = party["system"].split("/"), party["port"].split("/")
+            values = [priority, system, str(party["key"]), port_priority, port]
+            found += [[f"{name} {it}", value] for it, value in zip(["system priority", "system", "key", "port priority", "port"], values)]
+            found.append([f"{name} state", f"{party['state']:02x}"])
+        return [*found, ["CollectorMaxDelay", str(record["max_delay"])]]
+    if record["kind"] in ("marker", "marker-response"):
+        return [["requester port", str(record["port"])], ["requester system", record["system"]], ["requester transaction ID", str(record["id"])]]
+    return []
+
+
+def of_fields(tests: Tests, browser: Browser) -> None:
+    """The fields that the page reads out of the octets are those of the records."""
+    for name in captures():
+        path = os.path.join(CAPTURES, name)
+        browser.choose(path)
+        records = [json.loads(it) for it in printed(browser, path, "{ json: true }").splitlines()]
+        frames = {str(it["packet"]): fields_wanted(it) for it in records if it["record"] == "frame"}
+        shown = browser.value(FIELDS)
+        came = {packet: [[name, value.split(":")[0] if name.endswith(" state") else value] for name, value in rows] for packet, rows in shown.items()}
+        missing = [f"packet {packet}: {row}" for packet, rows in frames.items() for row in rows if row not in came.get(packet, [])]
+        tests.told(f"{name}: the fields of {len(frames)} frames are those of the records", "; ".join(missing)[:400])
+
+
+def of_axis(tests: Tests, browser: Browser) -> None:
+    """The time axis by keys, wheel and drag."""
+    browser.choose(UNEQUAL)
+    marks = "[...document.querySelectorAll('.timeline svg .grid + text')].map((it) => it.textContent)"
+    whole = browser.value(f"document.querySelector('.timeline svg').focus(), {marks}")
+    for key in "ArrowRight", "ArrowRight", "Enter":
+        browser.key(key)
+    inside = browser.wait("document.activeElement.closest('.fields') !== null")
+    at = browser.value("document.querySelector('.timeline .chosen').dataset.packet")
+    tests.same("left and right go from frame to frame, in the order of times", at, "4")
+    tests.same("Enter goes to the fields", inside, True)
+    browser.key("ArrowDown")
+    marked = browser.value("[document.activeElement.cells[0].textContent, document.querySelectorAll('.octets .marked').length]")
+    tests.same("a field marks its octets", marked, ["source address", 6])
+    browser.key("Escape")
+    tests.same("Escape goes back to the frame", browser.value(CHOSEN), ["4", ""])
+    browser.key("+")
+    near = browser.value(f"new Promise((done) => requestAnimationFrame(() => requestAnimationFrame(() => done({marks}))))")
+    browser.key("0")
+    again = browser.value(f"new Promise((done) => requestAnimationFrame(() => requestAnimationFrame(() => done({marks}))))")
+    tests.same("plus zooms, and 0 shows all again", (near != whole, again), (True, whole))
+    x, y = browser.value("(() => { const it = document.querySelector('.timeline svg'); it.scrollIntoView(); const at = it.getBoundingClientRect(); return [at.x + 400, at.y + 60]; })()")
+    browser.wheel(x, y, -240)
+    browser.settle()
+    near = browser.value(marks)
+    tests.same("Ctrl and the wheel zoom", near != whole, True)
+    browser.drag(x, y, -150)
+    browser.settle()
+    tests.same("a drag moves the axis", browser.value(marks) != near, True)
+
+
+def of_hostile(tests: Tests, browser: Browser, folder: str) -> None:
+    """Broken files, and words that a page must not take for its own."""
+    with open(UNEQUAL, "rb") as it:
+        whole = it.read()
+    cases = {
+        "cut.pcapng": whole[:1001],
+        "nothing.pcap": b"",
+        "lengths.pcap": bytes.fromhex("d4c3b2a1020004000000000000000000ffffffff01000000") + b"\xff" * 64,
+        "noise.bin": bytes((7 * it * it + it) % 251 for it in range(100000)),
+        HOSTILE.replace("/", "") + ".pcap": b"\xd4\xc3[[system]]\n",
+    }
+    for name, octets in cases.items():
+        path = os.path.join(folder, name)
+        with open(path, "wb") as out:
+            out.write(octets)
+        shown = browser.choose(path)
+        tests.same(f"a broken file, {name}: it is refused by words", (bool(shown["said"] or shown["printed"]), shown["status"]), (True, 2))
+        tests.same(f"a broken file, {name}: none of it runs", browser.value("[window.taken ?? 0, document.querySelectorAll('#shown img, #shown script').length]"), [0, 0])
+    tests.same("behind broken files a capture is explained", browser.choose(UNEQUAL)["status"], 1)
+
+
+def of_keyboard(tests: Tests, browser: Browser) -> None:
+    browser.value("window.shown = null, scrollTo(0, 0), document.activeElement.blur(), document.getElementById('file').focus(), 1")
+    browser.key("Tab")
+    at = browser.value("document.activeElement.id")
+    browser.key("Enter")
+    tests.same("the keyboard shows the example", (at, browser.shown()["status"]), ("example", 1))
+    tests.told("what can be used has a name for a screen reader", "; ".join(browser.nameless())[:300])
+
+
+def of_looks(tests: Tests, browser: Browser, view: str, pictures: str | None) -> None:
+    """Light, dark and narrow; the pictures are for a person to look at."""
+    for name, width, height, dark in ("light", 1000, 1280, False), ("dark", 1000, 1280, True), ("narrow", 360, 760, False):
+        browser.size(width, height)
+        browser.dark(dark)
+        browser.settle()
+        reach = browser.value("document.documentElement.scrollWidth")
+        tests.same(f"{view}, {name}: nothing reaches beyond {width} pixels", reach <= width, True)
+        if pictures:
+            os.makedirs(pictures, exist_ok=True)
+            browser.picture(os.path.join(pictures, f"{view}-{name}.png"))
+    browser.size(1200, 1500)
+    browser.dark(False)
