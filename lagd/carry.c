@@ -95,7 +95,7 @@ static void send_on(const struct conversation *conversation, uint8_t *packet, si
 /* Whether a frame of the host may go: of a right length, which each member takes, and none of the slow protocols. */
 static bool is_fit(const uint8_t *packet, size_t length) {
     const uint8_t *frame = packet + head_octets();
-    return has_right_length(packet, length) && segments_fit(packet, length, longest_payload())
+    return has_right_length(packet, length, longest_payload())
         && ((unsigned)frame[12] << 8 | frame[13]) != ETH_P_SLOW;
 }
 

@@ -9,8 +9,8 @@
 
 /* The octets of a VLAN tag, and of the longest frame without and with one. */
 #define TAG_OCTETS 4
-#define LONGEST_PLAIN (ETH_HLEN + ETH_DATA_LEN)
-#define LONGEST_TAGGED (LONGEST_PLAIN + TAG_OCTETS)
+/* The library takes a frame of so many octets at most: of a longer one it is shown the beginning. */
+#define LONGEST_SHOWN (ETH_HLEN + ETH_DATA_LEN + TAG_OCTETS)
 /* How many VLAN tags are skipped to find the network header. */
 #define MOST_TAGS 4
 /* Frames of the host that wait for the daemon, which other programs may keep from a processor for a while. */
@@ -95,8 +95,7 @@ uint8_t *make_rooms(void);
 bool passes_segments(void);
 bool has_segments(const uint8_t *packet);
 uint32_t count_segments(const uint8_t *packet, size_t length);
-bool has_right_length(const uint8_t *packet, size_t length);
-bool segments_fit(const uint8_t *packet, size_t length, uint32_t mtu);
+bool has_right_length(const uint8_t *packet, size_t length, uint32_t mtu);
 uint8_t *put_tag(uint8_t *packet, uint16_t type, uint16_t tag);
 
 /* tap.c */

@@ -291,24 +291,34 @@ static void uncount(struct code *code) {
     add_opaque(code);
 }
 
-/* A jump where a segment of the frame, with its headers, is too long for the interface in HASH. */
-static unsigned jump_unless_segments_fit(struct code *code) {
+/* A jump where the frame without the octets of its tag in ARG4, or with `how` a segment of it with its headers, is too long for the interface
+ * in ARG2, or for that where it came in if this is 0. */
+static unsigned jump_unless_fit(struct code *code, int32_t how) {
     set(code, ARG1, 0);
     store(code, BPF_W, STACK, PORTS, ARG1);
     move(code, ARG1, FRAME);
-    move(code, ARG2, HASH);
     move(code, ARG3, STACK);
     with(code, BPF_ADD, ARG3, PORTS);
-    set(code, ARG4, 0);
-    set(code, ARG5, BPF_MTU_CHK_SEGS);
+    set(code, ARG5, how);
     call(code, BPF_FUNC_check_mtu);
     return jump(code, BPF_JNE, ANSWER, 0);
+}
+
+/* What a frame of the type in ARG3 may be longer by, in ARG4: a tag that stands in it. */
+static void allow_tag(struct code *code) {
+    unsigned customer, service;
+    set(code, ARG4, -TAG_OCTETS);
+    customer = jump(code, BPF_JEQ, ARG3, htons(ETH_P_8021Q));
+    service = jump(code, BPF_JEQ, ARG3, htons(ETH_P_8021AD));
+    set(code, ARG4, 0);
+    land(code, customer);
+    land(code, service);
 }
 
 /* Whether the frame is of the slow protocols, or too long for the member whose interface is in HASH, or one of its segments is; answers the
  * jumps of those. */
 static unsigned find_unfit(struct code *code, unsigned *unfit) {
-    unsigned count = 0, beside, tagged, customer, plain, one;
+    unsigned count = 0, beside, one;
     load(code, BPF_H, ARG3, STACK, ETHERNET + 2 * ETH_ALEN);
     load(code, BPF_W, ARG1, FRAME, offsetof(struct __sk_buff, vlan_present));
     beside = jump(code, BPF_JNE, ARG1, 0);
@@ -316,18 +326,14 @@ static unsigned find_unfit(struct code *code, unsigned *unfit) {
     land(code, beside);
     load(code, BPF_W, ARG1, FRAME, offsetof(struct __sk_buff, gso_size));
     one = jump(code, BPF_JEQ, ARG1, 0);
-    unfit[count++] = jump_unless_segments_fit(code);
+    set(code, ARG4, 0);
+    move(code, ARG2, HASH);
+    unfit[count++] = jump_unless_fit(code, BPF_MTU_CHK_SEGS);
     beside = jump(code, BPF_JA, 0, 0);
     land(code, one);
-    load(code, BPF_W, ARG2, FRAME, offsetof(struct __sk_buff, len));
-    tagged = jump(code, BPF_JEQ, ARG3, htons(ETH_P_8021Q));
-    customer = jump(code, BPF_JEQ, ARG3, htons(ETH_P_8021AD));
-    unfit[count++] = jump(code, BPF_JGT, ARG2, LONGEST_PLAIN);
-    plain = jump(code, BPF_JA, 0, 0);
-    land(code, tagged);
-    land(code, customer);
-    unfit[count++] = jump(code, BPF_JGT, ARG2, LONGEST_TAGGED);
-    land(code, plain);
+    allow_tag(code);
+    move(code, ARG2, HASH);
+    unfit[count++] = jump_unless_fit(code, 0);
     land(code, beside);
     return count;
 }
@@ -483,7 +489,7 @@ static void take_control(struct code *code, const struct fast_maps *maps, uint16
 
 /* A frame of data goes up, if it has a right length and its port collects. */
 static void take_data_up(struct code *code, const struct fast_maps *maps, uint16_t port) {
-    unsigned none, segments, fits, uncollected;
+    unsigned none, segments, fits, unfit, uncollected;
     set(code, ARG1, port - 1);
     store(code, BPF_W, STACK, KEY, ARG1);
     look_up(code, maps->members);
@@ -491,8 +497,12 @@ static void take_data_up(struct code *code, const struct fast_maps *maps, uint16
     move(code, FOUND, ANSWER);
     load(code, BPF_W, ARG1, FRAME, offsetof(struct __sk_buff, gso_size));
     segments = jump(code, BPF_JNE, ARG1, 0);
-    load(code, BPF_W, ARG1, FRAME, offsetof(struct __sk_buff, len));
-    fits = jump(code, BPF_JLE, ARG1, LONGEST_PLAIN);
+    load(code, BPF_W, ARG3, FRAME, offsetof(struct __sk_buff, protocol));
+    allow_tag(code);
+    set(code, ARG2, 0);
+    unfit = jump_unless_fit(code, 0);
+    fits = jump(code, BPF_JA, 0, 0);
+    land(code, unfit);
     count_in(code, offsetof(struct fast_member, wrong_length));
     end(code, LOSE);
     land(code, fits);

@@ -74,7 +74,7 @@ struct niw_number conversation_of(const uint8_t *frame, size_t length) {
     size_t place;
     bool has_addresses;
     if (settings.hash == HASH_LAYER2 || length < ETH_HLEN)
-        return niw_conversation(&own_system, frame, length < LONGEST_TAGGED ? length : LONGEST_TAGGED);
+        return niw_conversation(&own_system, frame, length < LONGEST_SHOWN ? length : LONGEST_SHOWN);
     headers = read_headers(frame, length);
     has_addresses = add_addresses(&headers, &hash);
     if (settings.hash == HASH_LAYER2_3 || !has_addresses) hash = add_words(hash, frame, 3);

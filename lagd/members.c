@@ -236,12 +236,12 @@ void put_back_members(void) {
 
 /* The TAP device takes what each member takes; 0: there is no such member any more. */
 void follow_mtu(struct link *link, uint32_t mtu) {
-    uint32_t least = ETH_DATA_LEN;
+    uint32_t least = 0;
     if (!carries_data() || member_of(link)->mtu == mtu) return;
     member_of(link)->mtu = mtu;
     for (uint16_t i = 0; i < link_count; i++)
-        if (members[i].mtu > 0 && members[i].mtu < least) least = members[i].mtu;
-    limit_mtu(least);
+        if (members[i].mtu > 0 && (least == 0 || members[i].mtu < least)) least = members[i].mtu;
+    if (least != 0) limit_mtu(least);
 }
 
 /* What the kernel alone handed up, or lost, of what came on a port, since the last time. */
@@ -318,11 +318,11 @@ bool send_marker_again(uint16_t port) {
     return members[port - 1].has_marker && send_marker(&links[port - 1], members[port - 1].marker);
 }
 
-/* Hands a frame of data to the library, and up. The library looks at no more of it than the longest frame has. */
+/* Hands a frame of data to the library, and up. */
 static void take_one(struct link *link, const uint8_t *packet, size_t length) {
     struct member *member = member_of(link);
     uint8_t response[NIW_FRAME];
-    size_t octets = length - head_octets() < LONGEST_TAGGED ? length - head_octets() : LONGEST_TAGGED;
+    size_t octets = length - head_octets() < LONGEST_SHOWN ? length - head_octets() : LONGEST_SHOWN;
     struct niw_received received = niw_receive(&own_system, link->settings.number, packet + head_octets(), octets, response,
         sizeof response);
     if (is_done(received.status, "niw_receive") && received.what == NIW_RECEIVED_HANDED_UP)
@@ -359,7 +359,7 @@ static void take_message(struct link *link, struct mmsghdr *message, bool handed
         member->counts[RETAGGED]++;
     }
     if (aux.tp_status & TP_STATUS_CSUMNOTREADY) member->counts[WITHOUT_SUMS]++;
-    if (message->msg_hdr.msg_flags & MSG_TRUNC || !has_right_length(packet, length))
+    if (message->msg_hdr.msg_flags & MSG_TRUNC || !has_right_length(packet, length, member->mtu != 0 ? member->mtu : ETH_DATA_LEN))
         member->counts[WRONG_LENGTH]++;
     else
         take_one(link, packet, length);

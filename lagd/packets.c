@@ -71,25 +71,24 @@ uint32_t count_segments(const uint8_t *packet, size_t length) {
     return (uint32_t)((length - before + told.gso_size - 1) / told.gso_size);
 }
 
-static bool is_tagged(const uint8_t *frame) {
-    unsigned type = (unsigned)frame[12] << 8 | frame[13];
-    return type == ETH_P_8021Q || type == ETH_P_8021AD;
+/* The octets of the tags of a frame, of two at most. */
+static size_t tag_octets(const uint8_t *frame, size_t length) {
+    size_t octets = 0;
+    while (octets < 2 * TAG_OCTETS && ETH_HLEN + octets + TAG_OCTETS <= length) {
+        unsigned type = (unsigned)frame[12 + octets] << 8 | frame[13 + octets];
+        if (type != ETH_P_8021Q && type != ETH_P_8021AD) break;
+        octets += TAG_OCTETS;
+    }
+    return octets;
 }
 
-/* Whether a frame, or each segment of it, has a right length: 14 to 1514 octets, or 1518 with a tag. */
-bool has_right_length(const uint8_t *packet, size_t length) {
+/* Whether a frame has a header, and its payload behind tags, or that of each of its segments, has so many octets at most. A bridge before
+ * the TAP device looks at no segment. */
+bool has_right_length(const uint8_t *packet, size_t length, uint32_t mtu) {
     size_t octets;
     if (length < head + ETH_HLEN) return false;
     octets = has_segments(packet) ? octets_before(packet, length) + head_of(packet).gso_size : length - head;
-    return octets <= (is_tagged(packet + head) ? LONGEST_TAGGED : LONGEST_PLAIN);
-}
-
-/* Whether each segment of a frame of several has a payload of so many octets at most, as the kernel measures them where it passes them on.
- * A bridge before the TAP device looks at no segment. */
-bool segments_fit(const uint8_t *packet, size_t length, uint32_t mtu) {
-    size_t octets = octets_before(packet, length) + head_of(packet).gso_size, most = ETH_HLEN + (size_t)mtu;
-    if (is_tagged(packet + head)) most += TAG_OCTETS;
-    return !has_segments(packet) || octets <= most;
+    return octets <= ETH_HLEN + tag_octets(packet + head, length - head) + (size_t)mtu;
 }
 
 /* Puts a tag back into the frame of a packet, which has TAG_OCTETS before it; answers where the packet begins then. */

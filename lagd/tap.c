@@ -21,6 +21,9 @@
 /* Of Linux 6.0; older kernels do not look at it. */
 #define NO_CARRIER 0x40
 
+/* The longest payload that a TAP device takes. */
+#define LONGEST_PAYLOAD (65535 - ETH_HLEN)
+
 /* For how many ticks the carrier may be another one than was set: the kernel takes up to a second to tell. */
 #define CARRIER_TICKS 15
 
@@ -29,7 +32,7 @@ static int number;               /* of the device, its index; 0: there is none *
 static bool carrier;             /* which it is to have */
 static bool carrier_told;        /* which it had, as the kernel told last */
 static unsigned carrier_ticks;   /* for how long it was up and had none, and was to have one */
-static uint32_t most_mtu = ETH_DATA_LEN; /* the longest payload that each member takes */
+static uint32_t most_mtu = ETH_DATA_LEN; /* the longest payload that each member takes, and the device may */
 static uint32_t less_mtu;                /* one below that which an administrator set, or 0 */
 static uint32_t set_mtu;                 /* what was set last */
 
@@ -79,7 +82,7 @@ static void settle_mtu(void) {
 
 /* The longest payload that each member takes is another one now. */
 void limit_mtu(uint32_t most) {
-    most_mtu = most;
+    most_mtu = most < LONGEST_PAYLOAD ? most : LONGEST_PAYLOAD;
     settle_mtu();
 }
 

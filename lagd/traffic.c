@@ -18,7 +18,7 @@
 /* What waits at a member: the octets of 50 ms at the speed of its link, within these bounds; the most of them where nobody tells a
  * speed. */
 #define OCTETS_QUEUED(megabits) ((uint64_t)(megabits) * 125 * 50)
-#define LEAST_QUEUED (64 * LONGEST_PLAIN)
+#define LEAST_QUEUED (64 * (ETH_HLEN + ETH_DATA_LEN))
 #define MOST_QUEUED (4 << 20)
 /* The most messages that the kernel has for a question. */
 #define MOST_ANSWERS 4

@@ -19,7 +19,7 @@ from rows import rows
 from checking import Skipped, check, within
 from fetching import Packages
 from openvswitch import OpenVSwitch
-from tap_parts import administered, fast_moved, fast_outage, fast_queues, fast_start, gone, queues, segments
+from tap_parts import administered, fast_moved, fast_outage, fast_queues, fast_start, gone, long_frames, queues, segments
 from spaces import OURS, THEIRS, inside, ip, packet_socket
 
 # Frames a second of an overload.
@@ -270,10 +270,12 @@ def try_frames(ours: End, theirs: End) -> None:
     before = ours.data("wrong_length")
     ip(OURS, "link", "set", "a0", "mtu", "3000")
     ip(THEIRS, "link", "set", "b0", "mtu", "3000")
-    long = packet_socket(THEIRS, "b0", 0x88B5)
-    long.send(plain + bytes(2000))
+    long, up = packet_socket(THEIRS, "b0", 0x88B5), ours.carry()["handed_up"]
+    long.send(plain + bytes(3000))
+    check(within(3, lambda: ours.carry()["handed_up"] == up + 1), "one of 3014 octets is handed up where the member takes it", ours.text())
+    long.send(plain + bytes(3001))
     long.close()
-    check(within(3, lambda: ours.data("wrong_length") == before + 1), "one of 2014 octets is counted, and not handed up", ours.text())
+    check(within(3, lambda: ours.data("wrong_length") == before + 1), "a longer one is counted, and not handed up", ours.text())
 
 
 def effective_rights(end: End) -> str:
@@ -307,7 +309,7 @@ def rights(programs: Programs) -> None:
 PARTS: dict[str, Callable[[Programs], None]] = {it.__name__: it for it in
     (rows, moves, cuts, silence, switches, away, restarts, stops, overload, hashes, mute, frames, rights, open_vswitch, offload,
      kernel_hashes, model, fast, fast_hash, fast_troubles, fast_overload, fast_refused, fast_requeued, fast_unfit, fast_unwaited, fast_away,
-     fast_ends, fast_outage, fast_start, fast_moved, fast_queues, gone, administered, queues,
-     segments)}
+     fast_ends, fast_outage, fast_start, fast_moved, fast_queues, gone, administered, long_frames,
+     queues, segments)}
 PARTS.update(FORGED)
 PARTS.update(MEMBERS)

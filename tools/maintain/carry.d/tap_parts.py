@@ -185,6 +185,50 @@ def mtu_of(device: str) -> str:
     return inside(OURS, "cat", f"/sys/class/net/{device}/mtu").stdout.strip()
 
 
+def carries(ours: End, theirs: End, frame: bytes) -> bool:
+    """Whether a frame of the host comes out at the other end as it went in."""
+    sent, seen = packet_socket(OURS, DEVICE, 0), packet_socket(THEIRS, DEVICE, 3)
+    seen.settimeout(0.5)
+    found = False
+    with sent, seen, contextlib.suppress(TimeoutError):
+        sent.send(frame)
+        while not found:
+            came = seen.recv(65536)  # without the tag that the kernel keeps beside it
+            found = came[:12] == frame[:12] and len(came) >= len(frame) - 4
+    return found
+
+
+def long_frames(programs: Programs) -> None:
+    """Frames as long as all members take, in each way; a member that takes less, and one that goes."""
+    header = bytes.fromhex("0200000000070200000000dd")
+    frames = {"": "88b5", " behind a tag": "8100 0064 88b5", " behind two tags": "88a8 0065 8100 0064 88b5"}
+    for way in [], ["--offload"], ["--fast"]:
+        name = way[0] if way else "plain"
+        with pair(programs, delays=(), options=way) as (_, ours, theirs):
+            for space, member in (OURS, "a0"), (OURS, "a1"), (THEIRS, "b0"), (THEIRS, "b1"):
+                ip(space, "link", "set", member, "mtu", "9216")
+            check(within(FOLLOWS, lambda: mtu_of(DEVICE) == "9216"), f"{name}: the device takes what all members take", mtu_of(DEVICE))
+            time.sleep(1)
+            for what, types in frames.items():
+                frame = header + bytes.fromhex(types) + bytes(9216)
+                check(all(carries(ours, theirs, frame) for _ in range(20)), f"{name}: 20 frames of 9216 octets{what} are carried", ours.text(),
+                      theirs.text())
+            if way == ["--fast"]:
+                check_fast(ours)
+            if shutil.which("iperf3"):
+                stream = run_stream(2)
+                check(stream.bits > 1e6, f"{name}: a stream of {stream.bits / 1e9:.1f} Gb/s goes", ours.text())
+            wrong = ours.data("wrong_length") + theirs.data("wrong_length") + ours.carry()["unfit"]
+            check(wrong == 0, f"{name}: no frame has a wrong length", ours.text(), theirs.text())
+            ip(OURS, "link", "set", "a1", "mtu", "1500")
+            check(within(FOLLOWS, lambda: mtu_of(DEVICE) == "1500"), f"{name}: with a smaller member it takes less", mtu_of(DEVICE))
+            check(carries(ours, theirs, header + bytes.fromhex("88b5") + bytes(1500)), f"{name}: and carries that", ours.text())
+            ip(OURS, "link", "del", "a1")
+            check(within(FOLLOWS, lambda: mtu_of(DEVICE) == "9216"), f"{name}: once that is gone, it takes the former", mtu_of(DEVICE))
+            check(within(COMES_BACK, lambda: carries(ours, theirs, header + bytes.fromhex("88b5") + bytes(9216))),
+                  f"{name}: and carries it on the other", ours.text())
+
+
 def administered(programs: Programs) -> None:
     """An administrator sets the MTU of the TAP device, takes its carrier away, and renames it; and a member with a low MTU goes."""
     with pair(programs, delays=(), options=["--fast"]) as (_, ours, theirs):
