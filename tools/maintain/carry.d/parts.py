@@ -269,7 +269,7 @@ def try_frames(ours: End, theirs: End) -> None:
     check(within(3, lambda: mtu() == "1500"), "and follows it", mtu())
     before = ours.data("wrong_length")
     ip(OURS, "link", "set", "a0", "mtu", "3000")
-    ip(THEIRS, "link", "set", "b0", "mtu", "3000")
+    ip(THEIRS, "link", "set", "b0", "mtu", "4000")
     long, up = packet_socket(THEIRS, "b0", 0x88B5), ours.carry()["handed_up"]
     long.send(plain + bytes(3000))
     check(within(3, lambda: ours.carry()["handed_up"] == up + 1), "one of 3014 octets is handed up where the member takes it", ours.text())

@@ -185,7 +185,7 @@ def mtu_of(device: str) -> str:
     return inside(OURS, "cat", f"/sys/class/net/{device}/mtu").stdout.strip()
 
 
-def carries(ours: End, theirs: End, frame: bytes) -> bool:
+def carries(frame: bytes) -> bool:
     """Whether a frame of the host comes out at the other end as it went in."""
     sent, seen = packet_socket(OURS, DEVICE, 0), packet_socket(THEIRS, DEVICE, 3)
     seen.settimeout(0.5)
@@ -201,7 +201,9 @@ def carries(ours: End, theirs: End, frame: bytes) -> bool:
 def long_frames(programs: Programs) -> None:
     """Frames as long as all members take, in each way; a member that takes less, and one that goes."""
     header = bytes.fromhex("0200000000070200000000dd")
-    frames = {"": "88b5", " behind a tag": "8100 0064 88b5", " behind two tags": "88a8 0065 8100 0064 88b5"}
+    frames = {"9216 octets": header + bytes.fromhex("88b5") + bytes(9216),
+              "9216 octets behind a tag": header + bytes.fromhex("8100 0064 88b5") + bytes(9216),
+              "9212 octets behind two tags": header + bytes.fromhex("8100 0065 8100 0064 88b5") + bytes(9212)}
     for way in [], ["--offload"], ["--fast"]:
         name = way[0] if way else "plain"
         with pair(programs, delays=(), options=way) as (_, ours, theirs):
@@ -209,10 +211,8 @@ def long_frames(programs: Programs) -> None:
                 ip(space, "link", "set", member, "mtu", "9216")
             check(within(FOLLOWS, lambda: mtu_of(DEVICE) == "9216"), f"{name}: the device takes what all members take", mtu_of(DEVICE))
             time.sleep(1)
-            for what, types in frames.items():
-                frame = header + bytes.fromhex(types) + bytes(9216)
-                check(all(carries(ours, theirs, frame) for _ in range(20)), f"{name}: 20 frames of 9216 octets{what} are carried", ours.text(),
-                      theirs.text())
+            for what, frame in frames.items():
+                check(all(carries(frame) for _ in range(20)), f"{name}: 20 frames of {what} are carried", ours.text(), theirs.text())
             if way == ["--fast"]:
                 check_fast(ours)
             if shutil.which("iperf3"):
@@ -222,11 +222,10 @@ def long_frames(programs: Programs) -> None:
             check(wrong == 0, f"{name}: no frame has a wrong length", ours.text(), theirs.text())
             ip(OURS, "link", "set", "a1", "mtu", "1500")
             check(within(FOLLOWS, lambda: mtu_of(DEVICE) == "1500"), f"{name}: with a smaller member it takes less", mtu_of(DEVICE))
-            check(carries(ours, theirs, header + bytes.fromhex("88b5") + bytes(1500)), f"{name}: and carries that", ours.text())
+            check(carries(header + bytes.fromhex("88b5") + bytes(1500)), f"{name}: and carries that", ours.text())
             ip(OURS, "link", "del", "a1")
             check(within(FOLLOWS, lambda: mtu_of(DEVICE) == "9216"), f"{name}: once that is gone, it takes the former", mtu_of(DEVICE))
-            check(within(COMES_BACK, lambda: carries(ours, theirs, header + bytes.fromhex("88b5") + bytes(9216))),
-                  f"{name}: and carries it on the other", ours.text())
+            check(within(COMES_BACK, lambda: carries(frames["9216 octets"])), f"{name}: and carries it on the other", ours.text())
 
 
 def administered(programs: Programs) -> None:
