@@ -204,8 +204,8 @@ def long_frames(programs: Programs) -> None:
     frames = {"9216 octets": header + bytes.fromhex("88b5") + bytes(9216),
               "9216 octets behind a tag": header + bytes.fromhex("8100 0064 88b5") + bytes(9216),
               "9212 octets behind two tags": header + bytes.fromhex("8100 0065 8100 0064 88b5") + bytes(9212)}
-    for way in [], ["--offload"], ["--fast"]:
-        name = way[0] if way else "plain"
+    for name in "plain", "--offload", "--fast":
+        way = [] if name == "plain" else [name]
         with pair(programs, delays=(), options=way) as (_, ours, theirs):
             for space, member in (OURS, "a0"), (OURS, "a1"), (THEIRS, "b0"), (THEIRS, "b1"):
                 ip(space, "link", "set", member, "mtu", "9216")
@@ -213,7 +213,7 @@ def long_frames(programs: Programs) -> None:
             time.sleep(1)
             for what, frame in frames.items():
                 check(all(carries(frame) for _ in range(20)), f"{name}: 20 frames of {what} are carried", ours.text(), theirs.text())
-            if way == ["--fast"]:
+            if name == "--fast":
                 check_fast(ours)
             if shutil.which("iperf3"):
                 stream = run_stream(2)
