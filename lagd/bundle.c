@@ -20,7 +20,7 @@ static uint16_t carrying_in(uint16_t aggregator) {
  * a partner is required, its links do not carry, and the answer is 0. */
 static uint16_t aggregator_after(uint16_t before) {
     uint64_t aggregator;
-    if (!is_told(niw_carrier(&own_system, before), "niw_carrier", &aggregator)) return 0;
+    if (!is_told(niw_active_aggregator(&own_system, before), "niw_active_aggregator", &aggregator)) return 0;
     return carrying_in((uint16_t)aggregator) > 0 ? (uint16_t)aggregator : 0;
 }
 

@@ -652,11 +652,11 @@ class Functions:
         self.probe: Callable[..., NiwSent] = _bound(
             library, "lagffi_probe", NiwSent, [ctypes.POINTER(NiwSystem), ctypes.c_uint16, ctypes.POINTER(ctypes.c_uint8), ctypes.c_size_t]
         )
-        self.offer_in_carrier: Callable[..., NiwNumber] = _bound(
-            library, "lagffi_offer_in_carrier", NiwNumber, [ctypes.POINTER(NiwSystem), ctypes.c_uint16, ctypes.c_char_p, ctypes.c_size_t]
+        self.offer_in_active_aggregator: Callable[..., NiwNumber] = _bound(
+            library, "lagffi_offer_in_active_aggregator", NiwNumber, [ctypes.POINTER(NiwSystem), ctypes.c_uint16, ctypes.c_char_p, ctypes.c_size_t]
         )
-        self.offer_conversation_in_carrier: Callable[..., NiwNumber] = _bound(
-            library, "lagffi_offer_conversation_in_carrier", NiwNumber, [ctypes.POINTER(NiwSystem), ctypes.c_uint16, ctypes.c_uint16]
+        self.offer_conversation_in_active_aggregator: Callable[..., NiwNumber] = _bound(
+            library, "lagffi_offer_conversation_in_active_aggregator", NiwNumber, [ctypes.POINTER(NiwSystem), ctypes.c_uint16, ctypes.c_uint16]
         )
         self.ports: Callable[..., NiwNumber] = _bound(
             library, "lagffi_ports", NiwNumber, [ctypes.POINTER(NiwSystem), ctypes.POINTER(ctypes.c_uint16), ctypes.c_size_t]
@@ -730,8 +730,8 @@ class Functions:
         self.distributing: Callable[..., NiwNumber] = _bound(
             library, "lagffi_distributing", NiwNumber, [ctypes.POINTER(NiwSystem), ctypes.c_uint16, ctypes.POINTER(ctypes.c_uint16), ctypes.c_size_t]
         )
-        self.carrier: Callable[..., NiwNumber] = _bound(
-            library, "lagffi_carrier", NiwNumber, [ctypes.POINTER(NiwSystem), ctypes.c_uint16]
+        self.active_aggregator: Callable[..., NiwNumber] = _bound(
+            library, "lagffi_active_aggregator", NiwNumber, [ctypes.POINTER(NiwSystem), ctypes.c_uint16]
         )
         self.conversation: Callable[..., NiwNumber] = _bound(
             library, "lagffi_conversation", NiwNumber, [ctypes.POINTER(NiwSystem), ctypes.c_char_p, ctypes.c_size_t]

@@ -143,17 +143,17 @@ class System(Handle):
         identifier is left."""
         return self._sent(self._c.probe, port)
 
-    def offer_in_carrier(self, aggregator: int, frame: Octets) -> int:
+    def offer_in_active_aggregator(self, aggregator: int, frame: Octets) -> int:
         """What `offer` answers and does in the aggregator that carries. Raises `Held`, before every other refusal, while the conversation
         of the frame is on a port or held in another aggregator: `leave_conversation` takes it off its port there. Where ports
-        distribute in several aggregators, offer each frame of the client by this or by `offer_conversation_in_carrier`."""
+        distribute in several aggregators, offer each frame of the client by this or by `offer_conversation_in_active_aggregator`."""
         octets = bytes(frame)
-        return self._number(self._c.offer_in_carrier(self._at(), _aggregator(aggregator), octets, len(octets)))
+        return self._number(self._c.offer_in_active_aggregator(self._at(), _aggregator(aggregator), octets, len(octets)))
 
-    def offer_conversation_in_carrier(self, aggregator: int, conversation: int) -> int:
+    def offer_conversation_in_active_aggregator(self, aggregator: int, conversation: int) -> int:
         """What `offer_conversation` answers and does in the aggregator that carries. Raises `Held`, before every other refusal, while the
         conversation is on a port or held in another aggregator."""
-        return self._number(self._c.offer_conversation_in_carrier(self._at(), _aggregator(aggregator), _conversation(conversation)))
+        return self._number(self._c.offer_conversation_in_active_aggregator(self._at(), _aggregator(aggregator), _conversation(conversation)))
 
     def move_conversation(self, aggregator: int, conversation: int, port: int) -> None:
         """Moves a conversation to a port, behind a marker on the port that it is on. Raises `Held`; NOT_DISTRIBUTING, SAME_PORT,
@@ -294,12 +294,12 @@ class System(Handle):
         numbers = (ctypes.c_uint16 * c.MOST_PORTS)()
         return tuple(numbers[: self._number(self._c.distributing(self._at(), _aggregator(aggregator), numbers, len(numbers)))])
 
-    def carrier(self, now: Optional[int] = None) -> Optional[int]:
+    def active_aggregator(self, now: Optional[int] = None) -> Optional[int]:
         """The aggregator that carries the frames of the client, where `now` carried them before; None if no port distributes. One with a
         partner is before one on defaults, and of those the one with the most ports. `now` stays unless another has strictly more;
         of several others it is the one with the least LAG ID, then the lowest number. Ask after each call that may change which
         ports distribute, and give the answer as `now` the next time."""
-        return self._number(self._c.carrier(self._at(), _aggregator(now or 0))) or None
+        return self._number(self._c.active_aggregator(self._at(), _aggregator(now or 0))) or None
 
     def conversation(self, frame: Octets) -> int:
         """The number of the conversation of a frame of at least 14 octets, the same in every aggregator. Raises FRAME_LENGTH."""

@@ -236,9 +236,9 @@ class Device:
 
     def port_of(self, frame: bytes) -> Optional[int]:
         """The port of a frame of the client."""
-        carrier = self.on.carrier()
+        aggregator = self.on.active_aggregator()
         try:
-            return self.on.offer_in_carrier(carrier, frame) if carrier else None
+            return self.on.offer_in_active_aggregator(aggregator, frame) if aggregator else None
         except LagError:
             return None
 

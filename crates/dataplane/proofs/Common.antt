@@ -26,7 +26,7 @@ pub use Rattle.lagsystem.specs.Drives.{call_of}
 pub use Rattle.lagsystem.specs.ModelView.{EffectsSeenAs, JoinedByLawfulMoves, model_setup, model_view}
 pub use Rattle.lagsystem.specs.Readers.{aggregator_numbered, conversation_count, conversation_in, distributing, group_at, number_of_conversation}
 pub use Rattle.lagsystem.specs.State.{SystemState, machines_of, port_index, port_numbers}
-pub use Rattle.dataplane.specs.declared.active_aggregator.choosing.Rank.{Rank}
+pub use Rattle.dataplane.specs.declared.active.choosing.Rank.{Rank}
 pub use Rattle.dataplane.specs.declared.balance.moves.Carried.{Carried}
 pub use Rattle.dataplane.specs.declared.balance.moves.Move.{Move}
 pub use Rattle.dataplane.specs.declared.holding.refusal.Refusal.{Refusal}

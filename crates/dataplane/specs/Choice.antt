@@ -7,7 +7,7 @@ use Rattle.lagtypes.specs.declared.identifiers.AggId.{AggId}
 use Rattle.lagtypes.specs.Order.{end_cmp}
 use Rattle.lagsystem.specs.Readers.{aggregator_numbered, distributing, group_at}
 use Rattle.lagsystem.specs.State.{SystemState, machines_of}
-use Rattle.dataplane.specs.declared.active_aggregator.choosing.Rank.{Rank}
+use Rattle.dataplane.specs.declared.active.choosing.Rank.{Rank}
 
 -- groups compare by their lower ends, then by their upper ends
 abbrev pub group_cmp : Group → Group → Ordering

@@ -2,7 +2,7 @@
 use Rattle.std.specs.Prelude.{◌≡◌, ◌⊎◌, ◌<◌, true, false, Option, Some, None}
 use Rattle.lagtypes.specs.declared.identifiers.AggId.{AggId}
 use Rattle.lagsystem.specs.State.{SystemState}
-use Rattle.dataplane.specs.declared.active_aggregator.choosing.Rank.{Rank}
+use Rattle.dataplane.specs.declared.active.choosing.Rank.{Rank}
 use Rattle.dataplane.specs.Choice.{IsAggregator, rank_in}
 
 -- for each aggregator of the first system that has a rank the second has one with the same partner flag, count of ports and

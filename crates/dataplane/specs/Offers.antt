@@ -43,20 +43,20 @@ IsNoOffer call = Unit {0}
 
 -- An offer in the aggregator that carries. The first two: the conversation is On, Wanted or Flushing in another aggregator; what the
 -- offer answers and does where it is not. Where it is, the offer is Held, and nothing changes.
-pub record OffersInCarrier (elsewhere offers : Type 0) (old : SystemState) (answer : Result ℕ SystemFault) (new : SystemState) : Type 0 where
+pub record OffersInActiveAggregator (elsewhere offers : Type 0) (old : SystemState) (answer : Result ℕ SystemFault) (new : SystemState) : Type 0 where
   pub held : elsewhere → (answer ≡ Err Held) × (new ≡ old)
   pub offered : (elsewhere → ⊥) → offers
   pub keeps : IsInOneAggregator old → IsInOneAggregator new
 
 -- the offer of a frame
-abbrev pub OffersFrameInCarrier : (ℕ → ℕ → ℕ → Type 0) → AggId → List ℕ → SystemState → Result ℕ SystemFault → SystemState → Type 0
-OffersFrameInCarrier gives agg octets old answer new =
-    OffersInCarrier (IsHeldElsewhere old agg (conversation_in old octets))
+abbrev pub OffersFrameInActiveAggregator : (ℕ → ℕ → ℕ → Type 0) → AggId → List ℕ → SystemState → Result ℕ SystemFault → SystemState → Type 0
+OffersFrameInActiveAggregator gives agg octets old answer new =
+    OffersInActiveAggregator (IsHeldElsewhere old agg (conversation_in old octets))
     (CallPromise gives old (Offer agg octets) (reply.Offer answer) new) old answer new
 
 -- the offer of a conversation, whatever the octets of its frame: for each frame of the conversation, the offer of the frame
-abbrev pub OffersNumberInCarrier : (ℕ → ℕ → ℕ → Type 0) → AggId → ℕ → SystemState → Result ℕ SystemFault → SystemState → Type 0
-OffersNumberInCarrier gives agg conv old answer new =
-    OffersInCarrier (IsNumberElsewhere old agg conv) (OffersConversation gives agg conv old answer new
+abbrev pub OffersNumberInActiveAggregator : (ℕ → ℕ → ℕ → Type 0) → AggId → ℕ → SystemState → Result ℕ SystemFault → SystemState → Type 0
+OffersNumberInActiveAggregator gives agg conv old answer new =
+    OffersInActiveAggregator (IsNumberElsewhere old agg conv) (OffersConversation gives agg conv old answer new
     × ((octets : List ℕ) → MayBeOffered octets → number_of_conversation old octets ≡ conv
     → CallPromise gives old (Offer agg octets) (reply.Offer answer) new)) old answer new

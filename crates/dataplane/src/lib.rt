@@ -4,16 +4,17 @@
 //! In comments, numbers such as 6.5.3.3 are sections of IEEE 802.1AX-2014, and "profile" is docs/PROFILE.md.
 #![tactic(auto)]
 
-mod active_aggregator;
+mod active;
 mod answering;
 mod balance;
 mod client_order;
 mod holding;
 
-pub use active_aggregator::{
-    aggregator_or_none, both_ends_choose_alike, carrier, each_call_keeps_one_aggregator,
+pub use active::{
+    active_aggregator, aggregator_or_none, both_ends_choose_alike, each_call_keeps_one_aggregator,
     forcing_and_resting_keep_one_aggregator, leaving_and_probing_keep_one_aggregator,
-    offer_conversation_in_carrier, offer_in_carrier, the_carrier_stays,
+    offer_conversation_in_active_aggregator, offer_in_active_aggregator,
+    the_active_aggregator_stays,
 };
 pub use answering::{Answering, MarkerNote};
 pub use balance::{Carried, Move, every_run_of_moves, next_move};

@@ -79,8 +79,8 @@ enum {
     NIW_HELD = 5,               /* the conversation is wanted or flushing, so its frames are held: until the marker's response comes,
                                    the link of its port goes down, or niw_force or niw_force_port frees it. A link that falls
                                    silent and stays up holds them for ever: once its port has not distributed for longer
-                                   than frames can take through the network, niw_force_port. niw_offer_in_carrier and
-                                   niw_offer_conversation_in_carrier: the same, or it is on a port or held in another aggregator */
+                                   than frames can take through the network, niw_force_port. niw_offer_in_active_aggregator and
+                                   niw_offer_conversation_in_active_aggregator: the same, or it is on a port or held in another aggregator */
     NIW_NONE_DISTRIBUTING = 6,  /* the conversation is free, and no port distributes in the aggregator */
     NIW_NOT_DISTRIBUTING = 7,   /* the port to move to does not distribute in the aggregator */
     NIW_SAME_PORT = 8,          /* the port to move to is the one that the conversation is on */
@@ -404,8 +404,10 @@ struct niw_number lagffi_offer_conversation(struct niw_system *handle, uint16_t 
 uint32_t lagffi_leave_conversation(struct niw_system *handle, uint16_t agg, uint16_t conv);
 uint32_t lagffi_rest(struct niw_system *handle, uint16_t agg, uint16_t conv);
 struct niw_sent lagffi_probe(struct niw_system *handle, uint16_t port, uint8_t *frame, size_t room);
-struct niw_number lagffi_offer_in_carrier(struct niw_system *handle, uint16_t agg, const uint8_t *frame, size_t length);
-struct niw_number lagffi_offer_conversation_in_carrier(struct niw_system *handle, uint16_t agg, uint16_t conv);
+struct niw_number lagffi_offer_in_active_aggregator(struct niw_system *handle, uint16_t agg, const uint8_t *frame,
+    size_t length);
+struct niw_number lagffi_offer_conversation_in_active_aggregator(struct niw_system *handle, uint16_t agg,
+    uint16_t conv);
 struct niw_number lagffi_ports(struct niw_system *handle, uint16_t *numbers, size_t room);
 struct niw_number lagffi_views(struct niw_system *handle, struct niw_view *views, size_t room);
 struct niw_number lagffi_due(struct niw_system *handle);
@@ -430,7 +432,7 @@ struct niw_number lagffi_current_while(struct niw_system *handle, uint16_t port)
 struct niw_number lagffi_wait_while(struct niw_system *handle, uint16_t port);
 struct niw_truth lagffi_ntt(struct niw_system *handle, uint16_t port);
 struct niw_number lagffi_distributing(struct niw_system *handle, uint16_t agg, uint16_t *numbers, size_t room);
-struct niw_number lagffi_carrier(struct niw_system *handle, uint16_t now);
+struct niw_number lagffi_active_aggregator(struct niw_system *handle, uint16_t now);
 struct niw_number lagffi_conversation(struct niw_system *handle, const uint8_t *frame, size_t length);
 struct niw_assignment lagffi_conversation_state(struct niw_system *handle, uint16_t agg, uint16_t conv);
 struct niw_number lagffi_conversation_ports(struct niw_system *handle, uint16_t agg, uint16_t *ports, size_t port_count,
@@ -585,18 +587,20 @@ static inline struct niw_sent niw_probe(struct niw_system *handle, uint16_t port
 }
 
 /* Where ports distribute in several aggregators, each frame of the client is offered by one of the next two, in the aggregator that
- * niw_carrier tells, and none by niw_offer or niw_offer_conversation. Then a conversation number is on a port or held in one aggregator
+ * niw_active_aggregator tells, and none by niw_offer or niw_offer_conversation. Then a conversation number is on a port or held in one aggregator
  * at most. */
 
 /* The port to send a frame on, in the aggregator that carries. NIW_HELD, before every other refusal, while the conversation of the frame
  * is on a port or held in another aggregator; else what niw_offer does and returns. niw_leave_conversation takes it off its port there. */
-static inline struct niw_number niw_offer_in_carrier(struct niw_system *handle, uint16_t agg, const uint8_t *frame, size_t length) {
-    return (handle && frame) ? lagffi_offer_in_carrier(handle, agg, frame, length) : niw_null_number();
+static inline struct niw_number niw_offer_in_active_aggregator(struct niw_system *handle, uint16_t agg, const uint8_t *frame,
+    size_t length) {
+    return (handle && frame) ? lagffi_offer_in_active_aggregator(handle, agg, frame, length) : niw_null_number();
 }
 
-/* As niw_offer_in_carrier, for a frame of a conversation, whatever its octets: NIW_HELD as there, else what niw_offer_conversation does. */
-static inline struct niw_number niw_offer_conversation_in_carrier(struct niw_system *handle, uint16_t agg, uint16_t conv) {
-    return handle ? lagffi_offer_conversation_in_carrier(handle, agg, conv) : niw_null_number();
+/* As niw_offer_in_active_aggregator, for a frame of a conversation, whatever its octets: NIW_HELD as there, else what niw_offer_conversation does. */
+static inline struct niw_number niw_offer_conversation_in_active_aggregator(struct niw_system *handle, uint16_t agg,
+    uint16_t conv) {
+    return handle ? lagffi_offer_conversation_in_active_aggregator(handle, agg, conv) : niw_null_number();
 }
 
 /* How many ports there are. `numbers` has room for NIW_MOST_PORTS numbers or more, which `room` counts; those of the ports are written
@@ -742,8 +746,8 @@ static inline struct niw_number niw_distributing(struct niw_system *handle, uint
  * none. An aggregator with a partner is before one that runs on defaults, and of those the one with the most ports. `now` stays unless
  * another has strictly more; of several others it is the one with the least LAG ID, then the lowest number. To be asked after each call
  * that may change which ports distribute; its answer is `now` the next time. */
-static inline struct niw_number niw_carrier(struct niw_system *handle, uint16_t now) {
-    return handle ? lagffi_carrier(handle, now) : niw_null_number();
+static inline struct niw_number niw_active_aggregator(struct niw_system *handle, uint16_t now) {
+    return handle ? lagffi_active_aggregator(handle, now) : niw_null_number();
 }
 
 /* The number of the conversation of a frame, the same in every aggregator. */

@@ -19,7 +19,7 @@ pub use Rattle.lagsystem.specs.State.{SystemState, machines_of}
 pub use Rattle.lagffi.specs.declared.values.LagNumber.{LagNumber}
 pub use Rattle.lagffi.specs.Algorithms.{gives_by, index_by_sum}
 pub use Rattle.lagffi.specs.Asking.{CallsHeldSystem, NotesHeldSystem, OffersToHeldSystem, ReadsHeldSystem, ReadsNotes, by_number_gives}
-pub use Rattle.lagffi.specs.Carrying.{OffersFrameInCarrier, OffersNumberInCarrier}
+pub use Rattle.lagffi.specs.Carrying.{OffersFrameInActiveAggregator, OffersNumberInActiveAggregator}
 pub use Rattle.lagffi.specs.Lists.{put_first}
 pub use Rattle.lagffi.specs.Made.{IsMadeOfLagConfig, lag_key, lag_port_config}
 pub use Rattle.lagffi.specs.Masks.{due_on, is_so, mask}

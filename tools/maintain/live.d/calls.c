@@ -17,14 +17,15 @@ static const struct {
 #define EXPORT(name) {#name, (void (*)(void))lagffi_##name}
     EXPORT(new), EXPORT(free), EXPORT(receive), EXPORT(tick), EXPORT(ticks), EXPORT(set_link), EXPORT(configure), EXPORT(restart),
     EXPORT(transmit), EXPORT(offer), EXPORT(move_conversation), EXPORT(force), EXPORT(force_port), EXPORT(offer_conversation),
-    EXPORT(leave_conversation), EXPORT(rest), EXPORT(probe), EXPORT(offer_in_carrier), EXPORT(offer_conversation_in_carrier),
-    EXPORT(ports), EXPORT(views), EXPORT(due), EXPORT(aggregators), EXPORT(load), EXPORT(held), EXPORT(answers), EXPORT(is_up),
-    EXPORT(state), EXPORT(receive_state), EXPORT(is_due), EXPORT(party), EXPORT(partner), EXPORT(group), EXPORT(defaulted),
-    EXPORT(distributes), EXPORT(choice), EXPORT(is_standby), EXPORT(mux_state), EXPORT(port_status), EXPORT(current_while),
-    EXPORT(wait_while), EXPORT(ntt), EXPORT(distributing), EXPORT(carrier), EXPORT(conversation), EXPORT(conversation_state),
-    EXPORT(conversation_ports), EXPORT(released), EXPORT(next_marker), EXPORT(ticks_until_due), EXPORT(decode), EXPORT(encode),
-    EXPORT(next_move), EXPORT(queue_new), EXPORT(queue_free), EXPORT(queue_put), EXPORT(queue_next), EXPORT(queue_drop),
-    EXPORT(queue_oldest), EXPORT(queue_next_released), EXPORT(queue_waiting), EXPORT(queue_counts),
+    EXPORT(leave_conversation), EXPORT(rest), EXPORT(probe), EXPORT(offer_in_active_aggregator),
+    EXPORT(offer_conversation_in_active_aggregator), EXPORT(ports), EXPORT(views), EXPORT(due), EXPORT(aggregators), EXPORT(load),
+    EXPORT(held), EXPORT(answers), EXPORT(is_up), EXPORT(state), EXPORT(receive_state), EXPORT(is_due), EXPORT(party),
+    EXPORT(partner), EXPORT(group), EXPORT(defaulted), EXPORT(distributes), EXPORT(choice), EXPORT(is_standby), EXPORT(mux_state),
+    EXPORT(port_status), EXPORT(current_while), EXPORT(wait_while), EXPORT(ntt), EXPORT(distributing), EXPORT(active_aggregator),
+    EXPORT(conversation), EXPORT(conversation_state), EXPORT(conversation_ports), EXPORT(released), EXPORT(next_marker),
+    EXPORT(ticks_until_due), EXPORT(decode), EXPORT(encode), EXPORT(next_move), EXPORT(queue_new), EXPORT(queue_free),
+    EXPORT(queue_put), EXPORT(queue_next), EXPORT(queue_drop), EXPORT(queue_oldest), EXPORT(queue_next_released),
+    EXPORT(queue_waiting), EXPORT(queue_counts),
 };
 
 const char *const program = "calls";
@@ -731,7 +732,7 @@ int main(void) {
     check_plane();
     check_next_move();
     check_queue();
-    check_carrier();
+    check_active_aggregator();
     check_ticks();
     check_waits();
     check_masks();

@@ -38,7 +38,7 @@ void check_next_move(void);
 /* Frames that wait, by niw_queue_new and the calls of its handle. */
 void check_queue(void);
 
-/* The aggregator that carries, by niw_carrier, and offers in it. */
-void check_carrier(void);
+/* The aggregator that carries, by niw_active_aggregator, and offers in it. */
+void check_active_aggregator(void);
 
 #endif

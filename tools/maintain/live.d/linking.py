@@ -57,7 +57,7 @@ def build(made: str, sources: Sequence[str], libraries: Sequence[str], *words: s
 def build_calls(folder: str, libraries: Sequence[str]) -> str:
     """Builds the program that calls each function; answers its path."""
     words = ["-std=c11", "-Wall", "-Wextra", "-Werror", *COUNTED]
-    sources = [f"{MAINTAIN}/live.d/{name}.c" for name in ("calls", "checks", "conversations", "payloads", "queues", "carriers")]
+    sources = [f"{MAINTAIN}/live.d/{name}.c" for name in ("calls", "checks", "conversations", "payloads", "queues", "active_aggregator")]
     return build(os.path.join(folder, "calls"), sources, libraries, *words)
 
 

@@ -50,7 +50,7 @@ REFUSING(struct niw_truth, configure, (SYSTEM, uint16_t port, const struct niw_c
 REFUSING(struct niw_sent, transmit, (SYSTEM, uint16_t port, uint8_t *frame, size_t room), (handle, port, frame, room))
 REFUSING(struct niw_number, due, (SYSTEM), (handle))
 REFUSING(struct niw_number, views, (SYSTEM, struct niw_view *views, size_t room), (handle, views, room))
-REFUSING(struct niw_number, carrier, (SYSTEM, uint16_t now), (handle, now))
+REFUSING(struct niw_number, active_aggregator, (SYSTEM, uint16_t now), (handle, now))
 REFUSING(struct niw_actor, party, (SYSTEM, uint16_t port), (handle, port))
 REFUSING(struct niw_info, partner, (SYSTEM, uint16_t port), (handle, port))
 REFUSING(struct niw_number, receive_state, (SYSTEM, uint16_t port), (handle, port))

@@ -5,37 +5,39 @@ use lagsystem::{Assignment, SystemFault};
 fn a_conversation_is_held_until_it_is_free_elsewhere(rt: HostRuntime) -> Result<(), SystemFault> {
     let rows = [
         // 165 % 2 is 1: the second port that distributes
-        Row::OffersInCarrier(1, 165, Ok(7)),
+        Row::OffersInActiveAggregator(1, 165, Ok(7)),
         Row::State(1, 165, Assignment::On(7)),
-        Row::OffersInCarrier(1, 165, Ok(7)),
-        Row::OffersInCarrier(2, 165, Err(SystemFault::Held)),
+        Row::OffersInActiveAggregator(1, 165, Ok(7)),
+        Row::OffersInActiveAggregator(2, 165, Err(SystemFault::Held)),
         // before every other refusal
-        Row::OffersInCarrier(3, 165, Err(SystemFault::Held)),
+        Row::OffersInActiveAggregator(3, 165, Err(SystemFault::Held)),
         Row::Leaves(1, 165, Ok(())),
-        Row::OffersInCarrier(2, 165, Err(SystemFault::Held)),
-        Row::OffersInCarrier(1, 165, Err(SystemFault::Held)),
+        Row::OffersInActiveAggregator(2, 165, Err(SystemFault::Held)),
+        Row::OffersInActiveAggregator(1, 165, Err(SystemFault::Held)),
         Row::Marks(7, Some(11)),
-        Row::OffersInCarrier(2, 165, Err(SystemFault::Held)),
+        Row::OffersInActiveAggregator(2, 165, Err(SystemFault::Held)),
         Row::Releases(7, 11, 1),
         // it is free, and no port distributes in aggregator 2
-        Row::OffersInCarrier(2, 165, Err(SystemFault::NoneDistributing)),
-        Row::OffersInCarrier(1, 165, Ok(7)),
+        Row::OffersInActiveAggregator(2, 165, Err(SystemFault::NoneDistributing)),
+        Row::OffersInActiveAggregator(1, 165, Ok(7)),
     ];
     plays(&rt, rt.alloc(), 11, &rows)
 }
 
 #[test]
-fn offers_in_the_carrier_are_refused_in_order(rt: HostRuntime) -> Result<(), SystemFault> {
+fn offers_in_the_active_aggregator_are_refused_in_order(
+    rt: HostRuntime,
+) -> Result<(), SystemFault> {
     let rows = [
-        Row::OffersInCarrier(0, 300, Err(SystemFault::NoAggregator)),
-        Row::OffersInCarrier(3, 90, Err(SystemFault::NoAggregator)),
-        Row::OffersInCarrier(1, 256, Err(SystemFault::NotAssigned)),
-        Row::OffersInCarrier(2, 65535, Err(SystemFault::NotAssigned)),
+        Row::OffersInActiveAggregator(0, 300, Err(SystemFault::NoAggregator)),
+        Row::OffersInActiveAggregator(3, 90, Err(SystemFault::NoAggregator)),
+        Row::OffersInActiveAggregator(1, 256, Err(SystemFault::NotAssigned)),
+        Row::OffersInActiveAggregator(2, 65535, Err(SystemFault::NotAssigned)),
         // 90 % 2 is 0: the first port that distributes
-        Row::OffersInCarrier(1, 90, Ok(3)),
-        Row::OffersInCarrier(2, 90, Err(SystemFault::Held)),
+        Row::OffersInActiveAggregator(1, 90, Ok(3)),
+        Row::OffersInActiveAggregator(2, 90, Err(SystemFault::Held)),
         // another conversation is not held with it
-        Row::OffersInCarrier(2, 91, Err(SystemFault::NoneDistributing)),
+        Row::OffersInActiveAggregator(2, 91, Err(SystemFault::NoneDistributing)),
     ];
     plays(&rt, rt.alloc(), 1, &rows)
 }

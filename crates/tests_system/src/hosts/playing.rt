@@ -2,7 +2,7 @@ ghost use Rattle.std.specs.Prelude.{◌≡◌, ◌<◌};
 ghost use Rattle.distributor.specs.Calls.{PicksIndexes};
 
 use bitflags::Flags;
-use dataplane::offer_conversation_in_carrier;
+use dataplane::offer_conversation_in_active_aggregator;
 use lagsystem::{
     AggId, Assignment, Config, Info, Key, NoMemory, PortConfig, PortId, Received, State, System,
     SystemFault, SystemId,
@@ -21,8 +21,8 @@ pub(crate) enum Row<'a> {
     Hears(u16),
     /// `offer_conversation` returns this.
     OffersConversation(u16, u16, Result<u16, SystemFault>),
-    /// `offer_conversation_in_carrier` returns this.
-    OffersInCarrier(u16, u16, Result<u16, SystemFault>),
+    /// `offer_conversation_in_active_aggregator` returns this.
+    OffersInActiveAggregator(u16, u16, Result<u16, SystemFault>),
     /// `offer` of a frame returns this.
     Offers(u16, &'a [u8], Result<u16, SystemFault>),
     Leaves(u16, u16, Result<(), SystemFault>),
@@ -280,8 +280,8 @@ fn carries<F: Fn(u16, usize) -> usize + Drop>(
     ensures { system.new.algorithm ≡ system.old.algorithm }
 {
     match row {
-        Row::OffersInCarrier(agg, conv, answer) => {
-            let came = offer_conversation_in_carrier(system, AggId(agg), conv);
+        Row::OffersInActiveAggregator(agg, conv, answer) => {
+            let came = offer_conversation_in_active_aggregator(system, AggId(agg), conv);
             compare(rt, place, row, &came, &answer);
         }
         _ => sends(rt, system, place, row),

@@ -1,6 +1,0 @@
-use Rattle.lagffi.proofs.AskingLemmas.{offered}
-use Rattle.lagffi.proofs.carrying.lagffi_offer_in_carrier.Goals as goal
-
-pub returns : goal.returns
-returns c = offered _ _ c.in-Some.ensures.taken c.put.ensures
-    (c.offer_in_carrier_with-answer.result.0, c.offer_in_carrier_with-answer.ensures, c.of.ensures)
