@@ -1,6 +1,6 @@
 ghost use Rattle.std.specs.Prelude.{◌≡◌, ◌+◌};
 ghost use Rattle.std.specs.Bool.{OnTrue, OnFalse};
-ghost use Rattle.portmachines.specs.Rows.{Fires, AtRest, FiresTimes};
+ghost use Rattle.portmachines.specs.Rows.{Fires, AtRest};
 ghost use Rattle.portmachines.specs.Periodic.{periodic_rows, RunsPeriodic};
 ghost use Rattle.portmachines.specs.RowsToFire.{periodic_rows_to_fire};
 
@@ -56,23 +56,11 @@ impl Machines {
         true
     }
 
-    /// Fires periodic rows until none is enabled, and returns how many fired.
-    fn fire_periodic_rows(&mut self) -> u8
-        ensures fired { FiresTimes periodic_rows result self.old self.new }
-        ensures rest { AtRest periodic_rows self.new }
-    {
-        let mut fired = 0;
-        while self.fire_periodic() {
-            fired += 1;
-        }
-        fired
-    }
-
     /// Fires periodic rows until none is enabled; then sets NTT to false if the state is NO_PERIODIC.
     pub(crate) fn run_periodic(&mut self)
         ensures { RunsPeriodic self.old self.new }
     {
-        let _fired = self.fire_periodic_rows();
+        while self.fire_periodic() {}
         if self.periodic == PeriodicState::NoPeriodic {
             self.ntt = false;
         }

@@ -1,6 +1,6 @@
 ghost use Rattle.std.specs.Prelude.{◌≡◌, ◌+◌, if◌then◌else◌, true};
 ghost use Rattle.std.specs.Bool.{OnTrue, OnFalse};
-ghost use Rattle.portmachines.specs.Rows.{Fires, FiresIfEnabled, AtRest, FiresTimes, RunsToRest};
+ghost use Rattle.portmachines.specs.Rows.{Fires, FiresIfEnabled, AtRest, RunsToRest};
 ghost use Rattle.portmachines.specs.Receive.{
   receive_rows,
   lacpdu_rows,
@@ -62,23 +62,11 @@ impl Machines {
         true
     }
 
-    /// Fires receive rows until none is enabled, and returns how many fired.
-    fn fire_receive_rows(&mut self) -> u8
-        ensures fired { FiresTimes receive_rows result self.old self.new }
-        ensures rest { AtRest receive_rows self.new }
-    {
-        let mut fired = 0;
-        while self.fire_receive() {
-            fired += 1;
-        }
-        fired
-    }
-
     /// Fires receive rows until none is enabled.
     pub(crate) fn run_receive(&mut self)
         ensures { RunsToRest receive_rows self.old self.new }
     {
-        let _fired = self.fire_receive_rows();
+        while self.fire_receive() {}
     }
 
     /// The row to PORT_DISABLED.
