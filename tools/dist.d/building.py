@@ -187,7 +187,7 @@ def parts(processor: Processor = AMD64) -> Parts:
         made[f"share/bash-completion/completions/{name}"] = completion.text(name, partial(printed, *processor.runs, file))
     made.update(documents.installed(texts("README.md", "CHANGELOG.md", "docs", "examples")))
     found += [File(to, text.encode()) for to, text in made.items()]
-    found += [*scripts(), *module(), *units(), *pictures()]
+    found += [*scripts(), *module(), *units(), *pictures(), File("share/doc/niwhopera/try.html", b"", link="docs/try.html")]
     instead = [File("sbin/lagd", read(loading), True), File("lib/pkgconfig/lag.pc", pkg_config("/usr", processor.libraries).encode())]
     return Parts(sorted(found), instead, processor)
 
