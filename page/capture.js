@@ -105,17 +105,23 @@ class Pair {
     }
 }
 
+/* What the packet of a finding has of what is wrong, by the rule. */
+const VALUES = new Map([
+    [2, ({ partner }) => `names system ${partner.system}`], [3, ({ partner }) => `names port ${partner.port}`], [4, ({ partner }) => `names key ${partner.key}`],
+    [15, ({ actor, partner }) => `key ${actor.key}, the partner's key ${partner.key}`],
+]);
+const valueOf = (finding, frame) => frame?.kind === "lacpdu" && VALUES.has(finding.rule) ? `: ${VALUES.get(finding.rule)(frame)}` : "";
+
 /* Where a finding shows: the clause, the end, and the packet, which leads into the diagram. */
 function placeIn(finding, pair) {
-    const link = made("a", `packet ${finding.packet}`);
-    link.href = `#${frameRow(finding.packet)}`;
-    link.addEventListener("click", (event) => {
+    const frame = finding.at.frames.find((it) => it.packet === finding.packet), link = made(frame ? "a" : "span", `packet ${finding.packet}`);
+    if (frame) link.href = `#${frameRow(finding.packet)}`;
+    if (frame) link.addEventListener("click", (event) => {
         event.preventDefault();
-        const frame = pair.bundle.links.flatMap((it) => it.frames).find((it) => it.packet === finding.packet);
-        if (frame) pair.take(frame);
+        pair.take(frame);
     });
     const where = made("span", `${finding.clause}: ${finding.at.name}, `, "quiet");
-    where.append(link, finding.seconds === null ? "" : ` at ${finding.seconds.toFixed(6)} s`);
+    where.append(link, finding.seconds === null ? "" : ` at ${finding.seconds.toFixed(6)} s`, valueOf(finding, frame));
     return where;
 }
 

@@ -3,35 +3,40 @@
 import { Lagtool } from "./module.js";
 import { Records } from "./records.js";
 import { counted, picturesOf, showRecords } from "./capture.js";
+import { Playing } from "./playing.js";
+import { digitsOf, Payload } from "./payload.js";
 import { offer, textOfReport } from "./saving.js";
+import { byId } from "./shapes.js";
 
 /* Of a longer text the page keeps so much. */
 const MOST_SHOWN = 2000000;
+/* A larger file is no script and no payload. */
+const MOST_TEXT = 16000000;
 
-const at = (id) => document.getElementById(id);
-const octetsIn = (id) => Uint8Array.from(atob(at(id).textContent), (it) => it.charCodeAt(0));
+const octetsIn = (id) => Uint8Array.from(atob(byId(id).textContent), (it) => it.charCodeAt(0));
 
 /* What is shown now: the pairs of systems, and the job that runs. */
 const now = { pairs: [], job: null };
 
 function put(name, verdict, isGood, said) {
-    at("name").textContent = name;
-    at("verdict").textContent = verdict;
-    at("verdict").className = isGood ? "good" : "bad";
-    at("said").textContent = said;
-    at("said").hidden = !said;
-    at("shown").hidden = false;
+    byId("name").textContent = name;
+    byId("verdict").textContent = verdict;
+    byId("verdict").className = isGood ? "good" : "bad";
+    byId("said").textContent = said;
+    byId("said").hidden = !said;
+    byId("shown").hidden = false;
 }
 
 function clear(name) {
     now.job?.stop();
     window.shown = null;
-    at("findings").replaceChildren();
-    at("links").replaceChildren();
-    at("legend").hidden = true;
-    at("text").textContent = at("copied").textContent = "";
+    byId("findings").replaceChildren();
+    byId("links").replaceChildren();
+    byId("legend").hidden = true;
+    byId("undrawn-frames").textContent = "";
+    byId("text").textContent = byId("copied").textContent = "";
     put(name, "It is being read.", true, "");
-    at("name").focus();
+    byId("name").focus();
 }
 
 /* Runs one job over a file; shows how far it is where that takes long. */
@@ -41,15 +46,15 @@ async function run(lagtool, file, options, printed) {
         printed(whole.printed);
         return whole;
     }
-    at("far").max = Math.max(file.size, 1);
-    at("far").value = 0;
-    const late = setTimeout(() => { at("reading").hidden = false; }, 300);
-    const job = now.job = lagtool.stream(file, options, { printed, read: (octets) => { at("far").value = octets; } });
+    byId("far").max = Math.max(file.size, 1);
+    byId("far").value = 0;
+    const late = setTimeout(() => { byId("reading").hidden = false; }, 300);
+    const job = now.job = lagtool.stream(file, options, { printed, read: (octets) => { byId("far").value = octets; } });
     try {
         return await job.told;
     } finally {
         clearTimeout(late);
-        at("reading").hidden = true;
+        byId("reading").hidden = true;
     }
 }
 
@@ -66,9 +71,10 @@ async function explain(lagtool, name, file) {
     let text = "", left = 0;
     let told = await run(lagtool, file, { json: true }, (piece) => records.addLines(piece)).catch((error) => error);
     const isStopped = told instanceof Error, said = isStopped ? told.message : told.said;
-    const { pairs, kinds } = showRecords(records, file, at("findings"), at("links"));
+    const { pairs, kinds } = showRecords(records, file, byId("findings"), byId("links"));
     now.pairs = pairs;
-    at("legend").hidden = !pairs.length;
+    byId("legend").hidden = !pairs.length;
+    byId("undrawn-frames").textContent = records.frames > records.kept ? `Of ${records.frames} frames ${records.kept} are drawn.` : "";
     put(name, ...verdictOf(records, kinds, said), isStopped && said === "stopped" ? "Stopped: the findings want the whole capture." : said);
     if (!isStopped) {
         told = await run(lagtool, file, {}, (piece) => {
@@ -77,7 +83,7 @@ async function explain(lagtool, name, file) {
             left += Math.max(piece.length - Math.max(room, 0), 0);
         });
     }
-    at("text").textContent = left ? `${text}\n(and ${left} characters more: lagtool capture prints all)` : text;
+    byId("text").textContent = left ? `${text}\n(and ${left} characters more: lagtool capture prints all)` : text;
     window.shown = { name, status: told.status ?? 2, printed: text, said };
 }
 
@@ -97,20 +103,35 @@ async function copy() {
     const text = window.shown.printed;
     try {
         await navigator.clipboard.writeText(text);
-        at("copied").textContent = "copied";
+        byId("copied").textContent = "copied";
     } catch {
-        getSelection().selectAllChildren(at("text"));
-        at("copied").textContent = "selected: copy it by the keyboard";
+        getSelection().selectAllChildren(byId("text"));
+        byId("copied").textContent = "selected: copy it by the keyboard";
     }
 }
 
 function saveReport() {
-    const pictures = picturesOf(now.pairs), title = `${at("name").textContent}: ${at("verdict").textContent}`.replace(/[: ]+$/, "");
-    offer("report.html", "text/html", textOfReport(title, at("shown"), pictures, at("closing").innerHTML));
+    const pictures = picturesOf(now.pairs), title = `${byId("name").textContent}: ${byId("verdict").textContent}`.replace(/[: ]+$/, "");
+    offer("report.html", "text/html", textOfReport(title, byId("shown"), pictures, byId("closing").innerHTML));
+}
+
+/* What a file is: a capture, unless it is a text that is a payload or reads like a script. */
+async function kindOf(file) {
+    if (file.size > MOST_TEXT) return { kind: "capture" };
+    const octets = new Uint8Array(await file.arrayBuffer());
+    if (octets.includes(0)) return { kind: "capture" };
+    const text = new TextDecoder().decode(octets);
+    if (/^\s*\[\[\s*system|^\s*events\s*=/m.test(text) || file.name.endsWith(".toml")) return { kind: "script", text };
+    return { kind: /^([0-9a-f]{2})+$/i.test(digitsOf(text)) ? "payload" : "capture", text };
 }
 
 function listen(lagtool) {
-    const drop = at("drop"), take = (file) => show(lagtool, file.name, file);
+    const playing = new Playing(lagtool, JSON.parse(byId("example-scripts").textContent)), payload = new Payload(lagtool), drop = byId("drop");
+    const take = async (file) => {
+        const { kind, text } = lagtool.canStream ? await kindOf(file) : { kind: "capture" };
+        if (kind === "capture") await show(lagtool, file.name, file);
+        else (kind === "script" ? playing : payload).load(text);
+    };
     const isOver = (over) => (event) => { event.preventDefault(); drop.classList.toggle("over", over); };
     addEventListener("dragover", isOver(true));
     addEventListener("dragleave", isOver(false));
@@ -121,22 +142,23 @@ function listen(lagtool) {
     addEventListener("paste", (event) => {
         if (event.clipboardData.files.length) take(event.clipboardData.files[0]);
     });
-    at("file").addEventListener("change", (event) => {
+    byId("file").addEventListener("change", (event) => {
         if (event.target.files.length) take(event.target.files[0]);
         event.target.value = "";
     });
-    at("example").addEventListener("click", () => show(lagtool, "unequal-keys.pcapng, an example", new Blob([octetsIn("capture")])));
-    at("copy").addEventListener("click", copy);
-    at("stop").addEventListener("click", () => now.job?.stop());
-    at("report").addEventListener("click", saveReport);
+    byId("example").addEventListener("click", () => show(lagtool, "unequal-keys.pcapng, an example", new Blob([octetsIn("capture")])));
+    byId("copy").addEventListener("click", copy);
+    byId("stop").addEventListener("click", () => now.job?.stop());
+    byId("report").addEventListener("click", saveReport);
 }
 
 async function start() {
     const lagtool = await Lagtool.of(octetsIn("module"));
     lagtool.canStream = WebAssembly.Module.exports(lagtool.module).some((it) => it.name === "lagpage_stream");
     listen(lagtool);
-    at("unable").hidden = true;
-    at("ask").hidden = false;
+    byId("unable").hidden = true;
+    byId("ask").hidden = false;
+    byId("more").hidden = !lagtool.canStream;
     window.lagtool = lagtool;
 }
 

@@ -1,7 +1,7 @@
 /* The records of a capture (docs/COMMAND.md), the links that they are of, and the links of each pair of systems. */
 
-/* So many frames are kept to be drawn; behind them only those that a finding names. */
-export const MOST_KEPT = 300000;
+/* So many frames of so many ends are kept to be drawn; lagtool examines 64 ends. */
+const MOST_KEPT = 100000, MOST_ENDS = 128;
 const NO_SYSTEM = "00-00-00-00-00-00";
 const BITS = ["active", "short", "aggregatable", "synchronized", "collecting", "distributing", "defaulted", "expired"];
 
@@ -66,6 +66,7 @@ function portOf(frame) {
 export class Records {
     constructor() {
         this.ends = new Map();
+        this.all = [];
         this.findings = [];
         this.frames = 0;
         this.kept = 0;
@@ -80,6 +81,7 @@ export class Records {
         const bare = this.ends.get(places[1]);
         if (bare && bare.port === null) bare.port = port;
         const end = bare && bare.port === port ? bare : new End(number, source, port);
+        if (end !== bare) this.all.push(end);
         this.ends.set(places[0], end);
         if (!bare) this.ends.set(places[1], end);
         return end;
@@ -93,10 +95,10 @@ export class Records {
 
     addFrame(frame) {
         this.frames += 1;
-        const end = this.end(frame.interface, frame.source, portOf(frame));
-        if (this.kept >= MOST_KEPT) return;
+        const port = portOf(frame), { interface: number, source } = frame;
+        if (this.all.length >= MOST_ENDS && !this.ends.has(port === null ? `${number} ${source}` : `${number} ${source} ${port}`)) return;
         this.kept += 1;
-        end.take(frame);
+        this.end(number, source, port).take(frame);
     }
 
     addFinding(finding) {
@@ -107,7 +109,10 @@ export class Records {
     }
 
     addLines(text) {
-        for (const line of text.split("\n")) if (line) this.add(JSON.parse(line));
+        for (const line of text.split("\n")) {
+            if (this.kept >= MOST_KEPT && line.startsWith('{"record":"frame"')) this.frames += 1;
+            else if (line) this.add(JSON.parse(line));
+        }
     }
 }
 
@@ -123,7 +128,8 @@ function listed(ends, setOf) {
     for (const end of ends) {
         for (const it of setOf(end)) {
             const place = `${end.interface} ${it}`;
-            lists.set(place, [...lists.get(place) ?? [], end]);
+            if (!lists.has(place)) lists.set(place, []);
+            lists.get(place).push(end);
         }
     }
     return lists;
@@ -147,24 +153,36 @@ function linksOf(ends) {
     return links;
 }
 
-/* The links of each pair of systems. The lower system stands first in each, and pairs with a finding stand before the others. */
-export function bundlesOf(records) {
-    const bundles = new Map();
-    for (const link of linksOf([...new Set(records.ends.values())])) {
-        const [one, other] = link.ends, systems = [one.system ?? "", (other ? other.system : one.named) ?? ""];
-        if (systems[1] && !systems[1].endsWith(NO_SYSTEM) && systems[1] < systems[0]) {
-            link.ends.reverse();
-            systems.reverse();
-        }
-        const pair = systems.join(" ");
-        if (!bundles.has(pair)) bundles.set(pair, { systems, links: [], findings: [] });
-        bundles.get(pair).links.push(link);
-        bundles.get(pair).findings.push(...link.findings);
-    }
-    return findingsFirst([...bundles.values()]);
+const isKnown = (system) => system !== "" && !system.endsWith(NO_SYSTEM);
+
+/* The two systems of a link, the lower one first; its ends are turned likewise. */
+function systemsOf(link) {
+    const [one, other] = link.ends, systems = [one.system ?? "", (other ? other.system : one.named) ?? ""];
+    if (!isKnown(systems[1]) || systems[0] <= systems[1]) return systems;
+    link.ends.reverse();
+    return systems.reverse();
 }
 
-const isKnown = (system) => system !== "" && !system.endsWith(NO_SYSTEM);
+/* A link whose other system is not known belongs to the one pair that its own system is in, if there is one alone. */
+function pairOfUnknown([system], pairs) {
+    const found = pairs.filter((it) => it.includes(system) && it.every(isKnown));
+    return found.length === 1 ? found[0] : null;
+}
+
+/* The links of each pair of systems. Pairs with a finding stand before the others, and so do their links. */
+export function bundlesOf(records) {
+    const links = linksOf(records.all).map((link) => ({ link, systems: systemsOf(link) })), pairs = new Map(links.map(({ systems }) => [systems.join(" "), systems]));
+    const bundles = new Map();
+    for (const { link, systems } of links) {
+        const pair = (isKnown(systems[1]) ? null : pairOfUnknown(systems, [...pairs.values()])) ?? systems, name = pair.join(" ");
+        if (pair[1] === systems[0]) link.ends.reverse();
+        if (!bundles.has(name)) bundles.set(name, { systems: pair, links: [], findings: [] });
+        bundles.get(name).links.push(link);
+        bundles.get(name).findings.push(...link.findings);
+    }
+    for (const it of bundles.values()) it.links = findingsFirst(it.links);
+    return findingsFirst([...bundles.values()]);
+}
 
 /* What a pair of systems is called: by their addresses. */
 export function nameOf(bundle) {

@@ -29,10 +29,12 @@ export function pictureOf(viewing, title, isWhole) {
     return picture;
 }
 
-/* An SVG as a file, with the style that it needs. */
+/* An SVG as a file, with its style. The colours are those of the page as it shows now, since not every viewer of pictures knows variables. */
 export function textOfPicture(picture) {
-    const whole = picture.cloneNode(true);
-    whole.prepend(shape("style", {}, styleOf()), shape("rect", { width: "100%", height: "100%", class: "ground" }));
+    const whole = picture.cloneNode(true), colours = getComputedStyle(document.documentElement);
+    const style = styleOf().replace(/var\((--\w+)\)/g, (_, name) => colours.getPropertyValue(name).trim());
+    const [x, y, width, height] = whole.getAttribute("viewBox").split(" ");
+    whole.prepend(shape("style", {}, style), shape("rect", { x, y, width, height, class: "ground" }));
     return new XMLSerializer().serializeToString(whole);
 }
 

@@ -2,6 +2,8 @@
 
 const SVG = "http://www.w3.org/2000/svg";
 
+export const byId = (id) => document.getElementById(id);
+
 /* An element of the page: its text and its class are set where they are given. */
 export function made(name, text, kind) {
     const it = document.createElement(name);

@@ -15,7 +15,7 @@ export const LINK_HEIGHT = 2 * END_HEIGHT + ARROWS + BETWEEN;
 const NEAREST = 3; // pixels between two arrows that are drawn
 
 /* The stretches of time in which an end showed one value, by its state octets: from one LACPDU to the next that shows another. */
-export function stretchesOf(end, timeOf, last, valueOf) {
+function stretchesOf(end, timeOf, last, valueOf) {
     const stretches = [];
     for (const frame of end.frames) {
         if (frame.kind !== "lacpdu") continue;
@@ -71,7 +71,7 @@ export class Drawing {
     drawBars(end, y) {
         ROWS.forEach(([name, valueOf], row) => {
             this.text(GUTTER - 6, y + row * ROW + ROW - 4, name, "quiet small", "end");
-            for (const stretch of stretchesOf(end, this.axis.timeOf, this.axis.to, valueOf)) {
+            for (const stretch of this.axis.stretches(end, row, valueOf)) {
                 if (!stretch.value || stretch.to < this.view.from || stretch.from > this.view.to) continue;
                 this.bar(stretch, y + row * ROW, `bar ${row < 2 ? stretch.value.toLowerCase().split(" ")[0] : "bit"}`);
             }
@@ -79,11 +79,12 @@ export class Drawing {
     }
 
     drawLink(link, top) {
-        const [one, other] = link.ends, upper = top + END_HEIGHT, lower = upper + ARROWS;
-        this.text(4, top + 13, one.name, "name");
-        this.drawBars(one, top + NAME);
-        this.text(4, lower + 13, other ? other.name : "the other end is not heard", other ? "name" : "name bad");
-        if (other) this.drawBars(other, lower + NAME);
+        const upper = top + END_HEIGHT, lower = upper + ARROWS;
+        link.ends.forEach((end, number) => {
+            const y = number === 0 ? top : lower;
+            this.text(4, y + 13, end ? end.name : "the other end is not heard", end ? "name" : "name bad");
+            if (end) this.drawBars(end, y + NAME);
+        });
         for (const y of [upper, lower]) this.add("path", { d: `M${GUTTER} ${y} H${this.width - RIGHT}`, class: "life" });
         this.drawFrames(link, upper, lower);
     }
@@ -104,14 +105,15 @@ export class Drawing {
             last[way] = x;
             const words = room > 70 && frame.kind === "lacpdu" ? `${frame.packet}: ${hexadecimal(frame.actor.state)}` : `${frame.packet}`;
             const isInTheWay = !isMarked && first.some(([it, other]) => it.end === frame.end && Math.abs(other - x) < 30);
-            const said = x > written[way] && !isInTheWay ? words : "";
+            const hasRoom = isMarked || 2 * room > 10 + LETTER * words.length;
+            const said = x > written[way] && hasRoom && !isInTheWay ? words : "";
             if (said) written[way] = x + 10 + LETTER * said.length;
             this.drawFrame(link, frame, { x, way, upper, lower, said, isMarked });
         }
     }
 
     drawFrame(link, frame, { x, way, upper, lower, said, isMarked }) {
-        const from = way === 0 ? upper : lower, back = way === 0 ? 1 : -1, isLost = link.ends[1] === null, to = isLost ? from + back * 26 : way === 0 ? lower : upper;
+        const from = way === 0 ? upper : lower, back = way === 0 ? 1 : -1, isLost = link.ends.includes(null), to = isLost ? from + back * 26 : way === 0 ? lower : upper;
         const isChosen = frame === this.view.chosen, findings = link.findings.filter((it) => it.packet === frame.packet);
         const it = shape("g", { class: `frame${isChosen ? " chosen" : ""}`, role: "button", tabindex: isChosen ? 0 : -1, "data-packet": frame.packet,
             "aria-label": labelOf(frame, findings) });
@@ -120,7 +122,8 @@ export class Drawing {
         put("path", { d: `M${x.toFixed(1)} ${from} V${to - back * 6}`, class: frame.kind === "lacpdu" ? "lacpdu" : "marker" });
         put("path", { d: isLost ? `M${(x - 4).toFixed(1)} ${to - 4} l8 8 m0 -8 l-8 8` : `M${x.toFixed(1)} ${to} l-4 ${-back * 8} h8 z`, class: isLost ? "lost" : "tip" });
         if (isMarked) put("circle", { cx: x.toFixed(1), cy: from + back * 9, r: 5, class: "found" });
-        if (said) put("text", { x: (x + 7).toFixed(1), y: from + (way === 0 ? 13 : -5), class: isMarked ? "bad small" : "small" }, said);
+        const isLast = x + 7 + LETTER * said.length > this.width, anchor = isLast ? "end" : "start";
+        if (said) put("text", { x: (isLast ? x - 7 : x + 7).toFixed(1), y: from + (way === 0 ? 13 : -5), "text-anchor": anchor, class: isMarked ? "bad small" : "small" }, said);
         put("title", {}, labelOf(frame, findings));
         this.parts.push(it);
     }
@@ -150,7 +153,12 @@ export function axisOf(bundle) {
     }
     if (from > to) [from, to] = [0, 0];
     const margin = Math.max((to - from) / 50, isTimed ? 0.01 : 0.5);
-    return { timeOf, from: from - margin, to: to + margin, unit: isTimed ? " s" : "" };
+    const known = new Map(), last = to + margin;
+    const stretches = (end, row, valueOf) => {
+        if (!known.has(end)) known.set(end, []);
+        return known.get(end)[row] ??= stretchesOf(end, timeOf, last, valueOf);
+    };
+    return { timeOf, from: from - margin, to: last, unit: isTimed ? " s" : "", stretches };
 }
 
 /* The changes of an end's state, in words: what the bars show. */

@@ -1,7 +1,8 @@
 """Links the C library: one object for programs that are linked with it, and one for programs that load it.
 
-Both come from liblagffi.a, which `rt lib` makes, and the C part of the toolchain. They show the functions of lag.h and nothing else,
-so a program may have functions of any other name. tools/dist packs them, and tools/maintain/python-tests loads the second one.
+Both come from liblagffi.a, which `rt lib` makes, and the C part of the toolchain; of another processor than x86-64 from what rattle
+compiles for it, and dist.d/runtime, since the toolchain has no C there. They show the functions of lag.h and nothing else, so a program may
+have functions of any other name. tools/dist packs them, and tools/maintain/python-tests loads the second one.
 """
 
 from __future__ import annotations
@@ -10,12 +11,13 @@ import os
 import re
 import subprocess
 
-from repository import COMPILER, CRATES, RT, Missing, runtime, want
+from processors import AMD64, Processor, compile_crate
+from repository import COMPILER, CRATES, RT, TOOLS, Missing, runtime, want
 
 HEADER = os.path.join(CRATES, "lagffi", "include", "lag.h")
 ARCHIVE = os.path.join(CRATES, "lagffi", "out", "liblagffi.a")
-# For each processor of x86-64: without this word `rt lib` compiles for x86-64-v2.
-FOR_EACH_PROCESSOR = "--cpu=x86-64"
+# The C of another processor, in the place of that of the toolchain.
+RUNTIME = os.path.join(TOOLS, "dist.d", "runtime")
 # The name by which programs load the library: its number rises where it no longer fits what was built for it (docs/ABI.md).
 SONAME = "liblag.so.0"
 # The version that each function has in the library that is loaded.
@@ -41,23 +43,40 @@ def exports() -> list[str]:
     return sorted(found)
 
 
-def proved() -> list[str]:
-    """liblagffi.a, proved and built, and the C part of the toolchain. LIBRARY names an archive that is there already."""
+def compiler(processor: Processor) -> list[str]:
+    """What a command line of its C compiler begins with."""
+    return [processor.compiler] if processor.prefix else COMPILER
+
+
+def runtime_part(name: str, folder: str, processor: Processor) -> str:
+    """An object of dist.d/runtime."""
+    made = os.path.join(folder, f"{name}.o")
+    printed(*compiler(processor), "-std=gnu11", "-O2", "-fPIC", "-c", "-o", made, os.path.join(RUNTIME, f"{name}.c"))
+    return made
+
+
+def proved(folder: str, processor: Processor = AMD64) -> list[str]:
+    """The library of the exports, proved and built, and the C that it wants. LIBRARY names one of this processor that is there already."""
     given = os.environ.get("LIBRARY")
+    if processor.prefix:
+        made = given or os.path.join(folder, "liblagffi.a")
+        if not given:
+            compile_crate("lagffi", made, processor.words)
+        return [made, runtime_part("memory", folder, processor)]
     if not given:
         want(RT)
-        printed(RT, "lib", "--jobs", os.environ.get("RT_JOBS", "4"), FOR_EACH_PROCESSOR, cwd=os.path.join(CRATES, "lagffi"))
+        printed(RT, "lib", "--jobs", os.environ.get("RT_JOBS", "4"), *processor.words, cwd=os.path.join(CRATES, "lagffi"))
     return [given or ARCHIVE, runtime()]
 
 
-def one_object(folder: str, archives: list[str]) -> str:
-    """All that the archives hold as one object, lag.o, of which only the functions of lag.h are seen from outside."""
-    want("ld", "objcopy")
+def one_object(folder: str, parts: list[str], processor: Processor = AMD64) -> str:
+    """All that the archives and objects hold as one object, lag.o, of which only the functions of lag.h are seen from outside."""
+    want(processor.tool("ld"), processor.tool("objcopy"))
     made, kept = os.path.join(folder, "lag.o"), os.path.join(folder, "exports")
     with open(kept, "w", encoding="utf-8") as it:
         it.write("\n".join(exports()) + "\n")
-    printed("ld", "-r", "-o", made, "--whole-archive", *archives)
-    printed("objcopy", f"--keep-global-symbols={kept}", "--strip-debug", made)
+    printed(processor.tool("ld"), "-r", "-o", made, "--whole-archive", *parts)
+    printed(processor.tool("objcopy"), f"--keep-global-symbols={kept}", "--strip-debug", made)
     return made
 
 
@@ -78,10 +97,10 @@ def version_script(folder: str) -> str:
     return made
 
 
-def shared(folder: str, lag: str) -> str:
+def shared(folder: str, lag: str, processor: Processor = AMD64) -> str:
     """The library for programs that load it."""
     made = os.path.join(folder, SONAME)
     script = version_script(folder)
     words = [f"-Wl,-soname,{SONAME}", "-Wl,--build-id=sha1", f"-Wl,--version-script={script}", "-Wl,--no-undefined", "-Wl,-z,text"]
-    printed(*COMPILER, "-shared", "-O2", *HARDENING, *words, "-o", made, lag)
+    printed(*compiler(processor), "-shared", "-O2", *HARDENING, *words, "-o", made, lag)
     return made

@@ -18,8 +18,9 @@ TOOLS = os.path.dirname(os.path.abspath(__file__))
 MAINTAIN = os.path.join(TOOLS, "maintain")
 TOP = os.path.dirname(TOOLS)
 CRATES = os.path.join(TOP, "crates")
-# The program, which tools/lagtool makes where it is missing.
-PROGRAM = os.path.join(CRATES, "lagtool", "out", "lagtool")
+# The program that tools/lagtool makes where it is missing; and that which tools run: it, or one that LAGTOOL names.
+MADE = os.path.join(CRATES, "lagtool", "out", "lagtool")
+PROGRAM = os.environ.get("LAGTOOL", MADE)
 RT = os.environ.get("RT", "rt")
 CC = os.environ.get("CC", "cc")
 # CC may be words, such as `ccache gcc`: what a command line begins with.
@@ -97,9 +98,10 @@ def below(*names: str) -> list[str]:
 
 
 def make_program() -> None:
-    """Makes the proved program, where it is missing or older than its sources, and looks that it works."""
-    if subprocess.run([os.path.join(TOOLS, "lagtool"), "vectors"], stdout=subprocess.DEVNULL).returncode:
-        raise Missing("tools/lagtool vectors fails, as the lines above say")
+    """Makes the proved program, where it is missing or older than its sources and LAGTOOL names none, and looks that it works."""
+    made = os.path.join(TOOLS, "lagtool") if PROGRAM == MADE else PROGRAM
+    if subprocess.run([made, "vectors"], stdout=subprocess.DEVNULL).returncode:
+        raise Missing(f"{made} vectors fails, as the lines above say")
 
 
 def say(text: object) -> None:

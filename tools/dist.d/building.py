@@ -13,7 +13,8 @@ import documents
 import library
 import manual
 from library import printed
-from repository import CC, CRATES, RT, TOOLS, TOP, Missing, make_program, say, want
+from processors import AMD64, Processor, compile_crate, want_tools
+from repository import CRATES, RT, TOOLS, TOP, Missing, make_program, say, want
 
 
 class File(NamedTuple):
@@ -26,10 +27,11 @@ class File(NamedTuple):
 
 
 class Parts(NamedTuple):
-    """What is installed: the files of the archive, and those that stand in a package of Debian in their place."""
+    """What is installed: the files of the archive, those that stand in a package of Debian in their place, and for which processor."""
 
     archive: list[File]
     instead: list[File]
+    processor: Processor
 
 
 DAEMON = os.path.join(TOP, "lagd")
@@ -46,8 +48,8 @@ SCRIPTS = {
     "lagdraw": ("draw", ["draw.d/captured.py", "draw.d/report.py"], "draw the report of lagtool replay, or a link of a capture, as a picture"),
 }
 CONFORM = "test the LACP and the Marker protocol of any device at the end of its cable"
-# Where the scripts stand, and where Debian has libraries of its processor.
-SHARE, MULTIARCH = "share/niwhopera-tools", "lib/x86_64-linux-gnu"
+# Where the scripts stand.
+SHARE = "share/niwhopera-tools"
 
 
 def version() -> str:
@@ -56,23 +58,34 @@ def version() -> str:
         return it.read().strip()
 
 
-def program(name: str) -> str:
+def program(name: str, processor: Processor) -> str:
     """A program that is proved and built; what is not yet is proved first. PROGRAMS names a folder that has it already."""
     given = os.environ.get("PROGRAMS")
     if given:
         return os.path.join(given, name)
     say(f"building {name}; what is not yet proved is proved first")
+    if processor.prefix:
+        return linked(name, processor)
     make_program()
     return os.path.join(CRATES, name, "out", name)
 
 
-def daemon(folder: str, lag: str) -> str:
+def linked(name: str, processor: Processor) -> str:
+    """A program of another processor: what rattle compiles, linked with the C of dist.d/runtime."""
+    made = os.path.join(BUILD, name)
+    compile_crate(name, f"{made}.o", processor.words)
+    parts = [library.runtime_part(it, BUILD, processor) for it in ("memory", "process")]
+    printed(processor.compiler, "-pie", "-s", "-Wl,-z,relro,-z,now,-z,noexecstack", "-o", made, f"{made}.o", *parts)
+    return made
+
+
+def daemon(folder: str, lag: str, processor: Processor = AMD64) -> str:
     """The daemon, linked with a library of this path, by its own Makefile in a copy of its folder."""
     shutil.rmtree(folder, ignore_errors=True)
     shutil.copytree(DAEMON, folder, ignore=shutil.ignore_patterns("out"))
     flags = f"-O2 -fPIE -fstack-protector-strong -D_FORTIFY_SOURCE=2 -ffile-prefix-map={folder}=lagd -ffile-prefix-map={TOP}=."
     words = [f"CRATE={CRATES}/lagffi", f"LIBRARY={lag}", "RUNTIME=", f"CFLAGS={flags}", "LDFLAGS=-pie -Wl,-z,relro,-z,now"]
-    printed("make", "-s", "-C", folder, f"CC={CC}", *words)
+    printed("make", "-s", "-C", folder, f"CC={processor.compiler}", *words, env={**os.environ, **processor.finds})
     return os.path.join(folder, "out", "lagd")
 
 
@@ -152,30 +165,31 @@ def manuals(ask: dict[str, str]) -> dict[str, str]:
     return pages
 
 
-def parts() -> Parts:
+def parts(processor: Processor = AMD64) -> Parts:
     """Each file to install."""
-    want(RT, CC, "ar", "ld", "objcopy", "git", "make")
+    want(RT, processor.compiler, processor.tool("ar"), processor.tool("ld"), processor.tool("objcopy"), "git", "make")
+    want_tools(processor)
     shutil.rmtree(BUILD, ignore_errors=True)
     os.makedirs(BUILD)
     say("building the C library; what is not yet proved is proved first")
-    lag = library.one_object(BUILD, library.proved())
-    shared, archive = library.shared(BUILD, lag), library.archive(BUILD, lag)
-    alone, loading = (daemon(os.path.join(BUILD, name), it) for name, it in (("alone", archive), ("loading", shared)))
-    programs = {"bin/lagtool": program("lagtool"), "sbin/lagd": alone}
-    check_versions(programs)
-    ask = {os.path.basename(to): printed(file, "--help") for to, file in programs.items()}
+    lag = library.one_object(BUILD, library.proved(BUILD, processor), processor)
+    shared, archive = library.shared(BUILD, lag, processor), library.archive(BUILD, lag)
+    alone, loading = (daemon(os.path.join(BUILD, name), it, processor) for name, it in (("alone", archive), ("loading", shared)))
+    programs = {"bin/lagtool": program("lagtool", processor), "sbin/lagd": alone}
+    check_versions(programs, processor)
+    ask = {os.path.basename(to): printed(*processor.runs, file, "--help") for to, file in programs.items()}
     found = [File(to, read(file), True) for to, file in programs.items()]
     found += [File("include/lag.h", read(library.HEADER)), File("lib/liblag.a", read(archive))]
     found += [File(f"lib/{library.SONAME}", read(shared)), File("lib/liblag.so", b"", link=library.SONAME)]
     made = {"lib/pkgconfig/lag.pc": pkg_config("${pcfiledir}/../..", "lib"), "share/doc/niwhopera/BUILD": verdict(), **manuals(ask)}
     for to, file in programs.items():
         name = os.path.basename(to)
-        made[f"share/bash-completion/completions/{name}"] = completion.text(name, partial(printed, file))
+        made[f"share/bash-completion/completions/{name}"] = completion.text(name, partial(printed, *processor.runs, file))
     made.update(documents.installed(texts("README.md", "CHANGELOG.md", "docs", "examples")))
     found += [File(to, text.encode()) for to, text in made.items()]
-    found += [*scripts(), *module(), *units(), *pictures()]
-    instead = [File("sbin/lagd", read(loading), True), File("lib/pkgconfig/lag.pc", pkg_config("/usr", MULTIARCH).encode())]
-    return Parts(sorted(found), instead)
+    found += [*scripts(), *module(), *units(), *pictures(), File("share/doc/niwhopera/try.html", b"", link="docs/try.html")]
+    instead = [File("sbin/lagd", read(loading), True), File("lib/pkgconfig/lag.pc", pkg_config("/usr", processor.libraries).encode())]
+    return Parts(sorted(found), instead, processor)
 
 
 def pictures() -> list[File]:
@@ -184,9 +198,9 @@ def pictures() -> list[File]:
     return [File(f"share/doc/niwhopera/{it}", read(it)) for it in paths if not documents.is_text(it)]
 
 
-def check_versions(programs: dict[str, str]) -> None:
+def check_versions(programs: dict[str, str], processor: Processor) -> None:
     """Each program says the version of the file VERSION."""
     for to, file in programs.items():
-        told = printed(file, "--version").strip()
+        told = printed(*processor.runs, file, "--version").strip()
         if not re.search(rf"\b{re.escape(version())}$", told):
             raise Missing(f"{to} --version says {told!r}, and VERSION has {version()}")

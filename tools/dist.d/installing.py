@@ -14,9 +14,10 @@ from typing import Sequence
 
 import admin
 import trying
-from building import MULTIARCH, version
+from building import version
 from counting import Count, ran
 from library import printed
+from processors import AMD64, Processor
 from repository import TOP, Missing, say
 
 RELEASE = "bookworm"
@@ -118,7 +119,7 @@ def try_installed(count: Count, tree: str) -> None:
         right = ended.returncode == 0 and ended.stdout.startswith(begins) and (begins or not ended.stdout)
         count.add(f"in a minimal tree: {' '.join(words)[:60]}", "" if right else f"status {ended.returncode}, {ended.stdout[:200]!r}, {ended.stderr[:300]!r}")
     trying.try_documents(count, tree, "usr/share/doc/niwhopera-tools")
-    library = f"{tree}/usr/{MULTIARCH}"
+    library = f"{tree}/usr/{AMD64.libraries}"
     trying.try_library(count, tree, f"{library}/pkgconfig/lag.pc", {"PKG_CONFIG_SYSROOT_DIR": tree, "PKG_CONFIG_ALLOW_SYSTEM_LIBS": "1", "PKG_CONFIG_ALLOW_SYSTEM_CFLAGS": ""}, library)
 
 
@@ -177,3 +178,15 @@ def tried(count: Count, files: Sequence[str], newer: Sequence[str]) -> None:
             raise Missing(f"{base} cannot be copied")
         os.chmod(folder, 0o755)
         try_life(count, tree, files, newer)
+
+
+def tried_elsewhere(count: Count, files: Sequence[str], processor: Processor) -> None:
+    """Tries packages of another processor: unpacks them into one tree, and runs what they have."""
+    lint(count, files)
+    with tempfile.TemporaryDirectory() as tree:
+        for file in files:
+            count.add(f"{os.path.basename(file)} unpacks", ran(["dpkg-deb", "-x", file, tree]).stderr)
+        for program in ("usr/bin/lagtool", "usr/sbin/lagd"):
+            ended = ran([*processor.runs, os.path.join(tree, program), "--version"], LD_LIBRARY_PATH=os.path.join(tree, "usr", processor.libraries))
+            name = os.path.basename(program)
+            count.add(f"{name} of the packages runs", "" if ended.stdout == f"{name} {version()}\n" else ended.stderr[:300] or ended.stdout[:300])

@@ -6,23 +6,24 @@ import email.utils
 import os
 import shutil
 
-from building import MULTIARCH, File, Parts, version
+from building import File, Parts, version
 from library import printed
 from packing import date
+from processors import Processor
 from repository import say
 
 # What debhelper reads: the package files of this folder, and what is installed.
 KEPT = os.path.join(os.path.dirname(os.path.abspath(__file__)), "debian")
 # What the packages are made by, with the package of Debian that has it.
 WANTED = {"dh": "debhelper", "dh_python3": "dh-python", "dpkg-gensymbols": "dpkg-dev"}
-# Where parts stand that Debian has in another place than the archive, and what is in no package.
+# Where parts stand that Debian has in another place than the archive; LIBRARIES is where those of the processor are.
 PLACES = {
     "share/doc/niwhopera/": "usr/share/doc/niwhopera-tools/",
     "lib/python3/": "usr/lib/python3/dist-packages/",
     "lib/systemd/": "lib/systemd/",
     "lib/sysusers.d/": "usr/lib/sysusers.d/",
-    "lib/liblag.": f"usr/{MULTIARCH}/liblag.",
-    "lib/pkgconfig/": f"usr/{MULTIARCH}/pkgconfig/",
+    "lib/liblag.": "usr/LIBRARIES/liblag.",
+    "lib/pkgconfig/": "usr/LIBRARIES/pkgconfig/",
 }
 # The package that has optional files of the daemon, and where they stand.
 OPTIONAL = ("lib/systemd/system", "usr/share/doc/lagd/examples")
@@ -38,17 +39,17 @@ def is_possible() -> bool:
     return not missing
 
 
-def place(path: str) -> str:
+def place(path: str, processor: Processor) -> str:
     """Where a file of the archive stands in Debian."""
     for begins, there in PLACES.items():
         if path.startswith(begins):
-            return there + path[len(begins) :]
+            return there.replace("LIBRARIES", processor.libraries) + path[len(begins) :]
     return f"usr/{path}"
 
 
-def lay(part: File, tree: str) -> None:
+def lay(part: File, tree: str, processor: Processor) -> None:
     """Writes a file to install into the tree."""
-    path = os.path.join(tree, place(part.path))
+    path = os.path.join(tree, place(part.path, processor))
     os.makedirs(os.path.dirname(path), exist_ok=True)
     if part.link:
         os.symlink(part.link, path)
@@ -72,7 +73,7 @@ def tree_of(parts: Parts, folder: str, more: str) -> str:
     shutil.copytree(KEPT, files)
     stands = {it.path for it in parts.instead}
     for part in [*(it for it in parts.archive if it.path not in stands), *parts.instead]:
-        lay(part, stage)
+        lay(part, stage, parts.processor)
     with open(os.path.join(files, "changelog"), "w", encoding="utf-8") as it:
         it.write(changelog(more))
     users = os.path.join(stage, USERS)
@@ -85,13 +86,20 @@ def tree_of(parts: Parts, folder: str, more: str) -> str:
     return top
 
 
+def environment(processor: Processor) -> dict[str, str]:
+    """What debhelper is to know: the date, which is the same in each run, and the processor."""
+    given = {"SOURCE_DATE_EPOCH": str(date()), "DEB_BUILD_OPTIONS": "nocheck noautodbgsym", "DEB_RULES_REQUIRES_ROOT": "no", "LC_ALL": "C.UTF-8"}
+    told = printed("dpkg-architecture", f"--host-arch={processor.name}")
+    return {**os.environ, **dict(line.split("=", 1) for line in told.splitlines()), **given}
+
+
 def made(parts: Parts, out: str, folder: str, more: str = "") -> list[str]:
-    """Makes the packages, with `more` behind their version; answers their files, none where what makes them is not here."""
+    """Makes the packages, with `more` behind their version; answers their files, none where what makes them is not here. Those that have
+    nothing of a processor are made with the ones of amd64."""
     if not is_possible():
         return []
     top = tree_of(parts, folder, more)
-    given = {**os.environ, "SOURCE_DATE_EPOCH": str(date()), "DEB_BUILD_OPTIONS": "nocheck noautodbgsym", "DEB_RULES_REQUIRES_ROOT": "no", "LC_ALL": "C.UTF-8"}
-    printed("debian/rules", "binary", cwd=top, env=given)
+    printed("debian/rules", "binary-arch" if parts.processor.prefix else "binary", cwd=top, env=environment(parts.processor))
     os.makedirs(out, exist_ok=True)
     made = sorted(it for it in os.listdir(folder) if it.endswith(".deb"))
     return [shutil.copy(os.path.join(folder, it), os.path.join(out, it)) for it in made]

@@ -6,9 +6,8 @@ import gzip
 import io
 import os
 import tarfile
-from typing import Sequence
 
-from building import File, version
+from building import Parts, version
 from library import printed
 from repository import TOP
 
@@ -18,12 +17,12 @@ def date() -> int:
     return int(printed("git", "log", "-1", "--format=%ct", cwd=TOP))
 
 
-def archive(parts: Sequence[File], out: str) -> str:
+def archive(parts: Parts, out: str) -> str:
     """The archive: one folder with all files in the order of their names; answers its path."""
-    name = f"niwhopera-{version()}-x86_64-linux"
+    name = f"niwhopera-{version()}-{parts.processor.machine}-linux"
     packed, made = io.BytesIO(), date()
     with tarfile.open(fileobj=packed, mode="w", format=tarfile.USTAR_FORMAT) as tar:
-        for part in parts:
+        for part in parts.archive:
             entry = tarfile.TarInfo(f"{name}/{part.path}")
             entry.size, entry.mtime, entry.mode = len(part.octets), made, 0o755 if part.is_program else 0o644
             if part.link:

@@ -12,7 +12,10 @@ import tempfile
 from typing import Iterable, Mapping, Sequence
 
 import documents
+import emulating
+import imported
 from counting import Count, ran
+from processors import AMD64, PROCESSORS, Processor
 from repository import WARNINGS, Missing, want
 
 # A program over the library: one port whose link comes up, and the LACPDU that it sends within a second.
@@ -109,16 +112,27 @@ def unpacked(file: str, folder: str) -> str:
     return os.path.join(folder, found[0])
 
 
-def try_programs(count: Count, root: str) -> None:
+def processor_of(root: str) -> Processor:
+    """For which processor an archive is, by the name of its folder."""
+    machine = os.path.basename(root).split("-")[-2]
+    found = [it for it in PROCESSORS.values() if it.machine == machine]
+    if not found:
+        raise Missing(f"{os.path.basename(root)} names no processor")
+    return found[0]
+
+
+def try_programs(count: Count, root: str, processor: Processor) -> None:
     """Runs the programs of the archive."""
     version = os.path.basename(root).split("-")[1]
     for words, given, status, begins in RUNS:
-        ended = ran([os.path.join(root, words[0]), *words[1:]], given, cwd=root)
+        # lagtool and lagd are of the processor, the others scripts.
+        by = processor.runs if os.path.basename(words[0]) in ("lagtool", "lagd") else []
+        ended = ran([*by, os.path.join(root, words[0]), *words[1:]], given, cwd=root)
         right = ended.returncode == status and ended.stdout.startswith(begins.replace("VERSION", version))
         count.add(" ".join(words)[:60], "" if right else f"status {ended.returncode}, {ended.stdout[:60]!r}, {ended.stderr[:200]!r}")
 
 
-def try_module(count: Count, root: str) -> None:
+def try_module(count: Count, root: str, python: Sequence[str] = (sys.executable,)) -> None:
     """The Python module prints what its own text has."""
     program = (
         "import niwhopera as n; m = n.Mac('020000000001'); "
@@ -126,7 +140,7 @@ def try_module(count: Count, root: str) -> None:
         "print([sent.frame[:16].hex() for _, sent in s.transmissions()]); s.close()"
     )
     more = {"PYTHONPATH": os.path.join(root, "lib", "python3"), "NIWHOPERA_LIBRARY": os.path.join(root, "lib", "liblag.so.0")}
-    ended = ran([sys.executable, "-W", "error", "-c", program], **more)
+    ended = ran([*python, "-W", "error", "-c", program], **more)
     right = ended.stdout == "['0180c200000202000000000188090101']\n" and not ended.stderr
     count.add("the Python module sends an LACPDU", "" if right else f"{ended.stdout!r}, {ended.stderr[-300:]!r}")
 
@@ -137,22 +151,23 @@ def libraries(root: str, words: Sequence[str]) -> Iterable[tuple[str, list[str]]
     yield "the archive", [it.replace("-llag", "-l:liblag.a") for it in words]
 
 
-def try_library(count: Count, root: str, pkg_config: str, given: Mapping[str, str], load: str) -> None:
+def try_library(count: Count, root: str, pkg_config: str, given: Mapping[str, str], load: str, processor: Processor = AMD64) -> None:
     """Builds by pkg-config alone, as C and as C++, with the library to load, in the folder `load`, and with the archive."""
     told = ran(["pkg-config", "--cflags", "--libs", pkg_config], **given)
     if told.returncode:
         count.add("pkg-config reads lag.pc", told.stderr[:200] or "it fails")
         return
     with tempfile.TemporaryDirectory() as folder:
-        for compiler, ending, standard in ("cc", "c", "-std=c11"), ("c++", "cc", "-std=c++20"):
+        both = ("cc", "c", "-std=c11"), ("c++", "cc", "-std=c++20")
+        for compiler, ending, standard in ((processor.compiler, "c", "-std=c11"),) if processor.prefix else both:
             source, made = os.path.join(folder, f"try.{ending}"), os.path.join(folder, f"try-{ending}")
             with open(source, "w", encoding="utf-8") as it:
                 it.write(f'extern "C" {{\n{PROGRAM}\n}}\n' if ending == "cc" else PROGRAM)
             for kind, words in libraries(root, told.stdout.split()):
                 built = ran([compiler, standard, *WARNINGS, "-o", made, source, *words])
-                ended = built if built.returncode else ran([made], LD_LIBRARY_PATH=load)
+                ended = built if built.returncode else ran([*processor.runs, made], LD_LIBRARY_PATH=load)
                 count.add(f"{compiler} with {kind}", "" if ended.stdout == PRINTS else ended.stderr[:400] or f"status {ended.returncode}, {ended.stdout!r}")
-                if not built.returncode:
+                if not built.returncode and processor.is_here:
                     try_on_oldest(count, f"a program by {compiler} with {kind}", [made], {"LD_LIBRARY_PATH": load}, PRINTS)
 
 
@@ -174,7 +189,7 @@ def try_programs_on_oldest(count: Count, root: str) -> None:
 
 
 def try_exports(count: Count, root: str) -> None:
-    """Both libraries show the functions of lag.h alone, and the one to load and the daemon are hardened."""
+    """Both libraries show the functions of lag.h alone, and the one to load and the programs are hardened."""
     with open(os.path.join(root, "include", "lag.h"), encoding="utf-8") as it:
         wanted = set(re.findall(r"^[\w ]+ (lagffi_\w+)\(", it.read(), re.M))
     for file, words in ("liblag.so.0", ["-D"]), ("liblag.a", ["-g"]):
@@ -233,12 +248,20 @@ def tried(count: Count, file: str) -> None:
     want("cc", "c++", "pkg-config", "nm", "readelf")
     with tempfile.TemporaryDirectory() as folder:
         root = unpacked(file, folder)
-        try_programs(count, root)
-        try_module(count, root)
+        processor = processor_of(root)
+        want(processor.compiler, *processor.runs)
+        try_programs(count, root, processor)
+        python = emulating.python() if processor.prefix else [sys.executable]
+        if python:
+            try_module(count, root, python)
         library = os.path.join(root, "lib")
-        try_library(count, root, os.path.join(library, "pkgconfig", "lag.pc"), {}, library)
-        try_programs_on_oldest(count, root)
+        try_library(count, root, os.path.join(library, "pkgconfig", "lag.pc"), {}, library, processor)
+        if processor.is_here:
+            try_programs_on_oldest(count, root)
         try_exports(count, root)
+        imported.tried(count, os.path.join(library, "liblag.a"), processor.name)
         try_manuals(count, root)
         try_completions(count, root)
         try_documents(count, root, documents.FOLDER)
+        if processor.prefix:
+            emulating.tried(count, root, processor)

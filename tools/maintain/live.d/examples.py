@@ -3,13 +3,14 @@ docs/USING.md stands in programs that run."""
 
 from __future__ import annotations
 
+import glob
 import os
 import re
 import shutil
 
 import library
 from checking import check, command
-from linking import EXAMPLES, STRICT, build
+from linking import EXAMPLES, RUN_BY, STRICT, build, ran
 from repository import MAINTAIN, TOP
 
 EXAMPLE = os.path.join(EXAMPLES, "two_ends.c")
@@ -19,15 +20,25 @@ PRINTS = "both ends distribute after 30 ticks of 100 ms\n"
 
 def check_example(folder: str, libraries: list[str]) -> None:
     program = build(os.path.join(folder, "two_ends"), [EXAMPLE], libraries, *STRICT, "-Werror")
-    ran = command(program)
-    check(ran.returncode == 0 and ran.stdout == PRINTS, "examples/c/two_ends.c prints what README says", ran.stdout + ran.stderr)
+    told = ran(program)
+    check(told.returncode == 0 and told.stdout == PRINTS, "examples/c/two_ends.c prints what README says", told.stdout + told.stderr)
     with open(f"{TOP}/README.md", encoding="utf-8") as page:
         check(PRINTS.strip() in page.read(), "README says what it prints")
 
 
+def check_programs(folder: str, libraries: list[str]) -> None:
+    """Each program of examples/c that has a text beside it prints that text; what it measures goes to standard error."""
+    for text in sorted(glob.glob(f"{EXAMPLES}/*.txt")):
+        name = os.path.basename(text).removesuffix(".txt")
+        with open(text, encoding="utf-8") as it:
+            wanted = it.read()
+        told = ran(build(os.path.join(folder, name), [os.path.join(EXAMPLES, f"{name}.c")], libraries, *STRICT))
+        check(told.returncode == 0 and told.stdout == wanted, f"examples/c/{name}.c prints what stands beside it", told.stdout + told.stderr)
+
+
 def check_quotes() -> None:
     """Each block of C in docs/USING.md stands in a program that is compiled and run; `...` leaves lines out."""
-    sources = [EXAMPLE, os.path.join(EXAMPLES, "minimal.c"), os.path.join(MAINTAIN, "live.d", "planes.c")]
+    sources = [*sorted(glob.glob(f"{EXAMPLES}/*.c")), os.path.join(MAINTAIN, "live.d", "planes.c")]
     texts = [open(it, encoding="utf-8").read() for it in sources]
     with open(f"{TOP}/docs/USING.md", encoding="utf-8") as page:
         blocks = re.findall(r"^```c\n(.*?)^```$", page.read(), re.M | re.S)
@@ -37,13 +48,13 @@ def check_quotes() -> None:
 
 
 def check_rust_example(folder: str, libraries: list[str]) -> None:
-    """Skipped, with a line, where there is no cargo."""
-    if not shutil.which("cargo"):
-        print("skipped: examples/rust: no command cargo in PATH", flush=True)
+    """Skipped, with a line, where there is no cargo, or only one of another processor."""
+    if RUN_BY or not shutil.which("cargo"):
+        print(f"skipped: examples/rust: {'no cargo of this processor' if RUN_BY else 'no command cargo in PATH'}", flush=True)
         return
     linked = os.path.join(folder, "linked")
     os.makedirs(linked)
     library.archive(linked, library.one_object(linked, libraries))
     words = {"LAG_FOLDER": linked, "CARGO_TARGET_DIR": os.path.join(folder, "cargo"), "RUSTFLAGS": "-D warnings"}
-    ran = command("cargo", "run", "--quiet", "--offline", "--locked", "--manifest-path", CARGO, env={**os.environ, **words})
-    check(ran.returncode == 0 and ran.stdout == PRINTS, "examples/rust prints what README says", ran.stdout + ran.stderr)
+    told = command("cargo", "run", "--quiet", "--offline", "--locked", "--manifest-path", CARGO, env={**os.environ, **words})
+    check(told.returncode == 0 and told.stdout == PRINTS, "examples/rust prints what README says", told.stdout + told.stderr)

@@ -6,10 +6,11 @@ import glob
 import os
 import re
 import shutil
+from subprocess import CompletedProcess
 from typing import Sequence
 
 from checking import Failed, check, command
-from library import FOR_EACH_PROCESSOR
+from processors import FOR_EACH_X86
 from repository import CC, COMPILER, CRATES, MAINTAIN, RT, TOP, WARNINGS, Missing, daemon_words, runtime, want
 
 CRATE = os.path.join(CRATES, "lagffi")
@@ -19,6 +20,8 @@ EXAMPLES = os.path.join(TOP, "examples", "c")
 STRICT = ["-std=c11", *WARNINGS]
 
 
+# What stands before a program, where another processor's are built by CC: an emulator. No sanitizer runs under it.
+RUN_BY = os.environ.get("RUN_BY", "").split()
 # How a program counts the memory of the library.
 COUNTED = [f"-Wl,--wrap={name}" for name in ("malloc", "realloc", "free")]
 
@@ -29,10 +32,10 @@ def build_library() -> list[str]:
     given = os.environ.get("LIBRARY")
     want(CC)
     if given:
-        return [given, *beside()]
+        return [given, *([] if RUN_BY else beside())]
     want(RT)
     print("building the library; what is not yet proved is proved first", flush=True)
-    built = command(RT, "lib", FOR_EACH_PROCESSOR, cwd=CRATE)
+    built = command(RT, "lib", FOR_EACH_X86, cwd=CRATE)
     if built.returncode:
         raise Failed(f"{RT} lib builds the library", built.stdout + built.stderr)
     return [f"{CRATE}/out/liblagffi.a", runtime()]
@@ -54,6 +57,11 @@ def build(made: str, sources: Sequence[str], libraries: Sequence[str], *words: s
     return made
 
 
+def ran(program: str) -> CompletedProcess[str]:
+    """Runs a program that was built."""
+    return command(*RUN_BY, program)
+
+
 def build_calls(folder: str, libraries: Sequence[str]) -> str:
     """Builds the program that calls each function; answers its path."""
     words = ["-std=c11", "-Wall", "-Wextra", "-Werror", *COUNTED]
@@ -65,8 +73,9 @@ def daemon_sources() -> list[str]:
     return sorted(glob.glob(f"{DAEMON}/*.c"))
 
 
-# How a daemon is built that ends at the first fault of memory, and the first behaviour that C does not define.
-SANITIZED = ["-g", "-fno-omit-frame-pointer", "-fsanitize=address,undefined", "-fno-sanitize-recover=all"]
+# How a program is built that ends at the first fault of memory, and the first behaviour that C does not define; under an emulator the latter.
+FAULTS = ["-g", "-fno-omit-frame-pointer", "-fsanitize=address,undefined", "-fno-sanitize-recover=all"]
+SANITIZED = ["-fsanitize=undefined", "-fsanitize-undefined-trap-on-error"] if RUN_BY else FAULTS
 
 
 def build_daemon(folder: str, libraries: Sequence[str], name: str = "lagd", more: Sequence[str] = (), words: Sequence[str] = ()) -> str:
@@ -94,8 +103,7 @@ def build_markers(folder: str, libraries: Sequence[str]) -> str:
 
 def build_minimal(folder: str, libraries: Sequence[str]) -> str:
     """Builds the example of one port, with ASan and UBSan; answers its path."""
-    words = [*STRICT, "-g", "-fsanitize=address,undefined", "-fno-sanitize-recover=all"]
-    return build(os.path.join(folder, "minimal"), [os.path.join(EXAMPLES, "minimal.c")], libraries, *words)
+    return build(os.path.join(folder, "minimal"), [os.path.join(EXAMPLES, "minimal.c")], libraries, *STRICT, *SANITIZED)
 
 
 REFUSING = f"{MAINTAIN}/live.d/refusing.c"

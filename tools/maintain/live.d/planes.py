@@ -8,9 +8,9 @@ import socket
 import struct
 import time
 
-from checking import Skipped, check, command
+from checking import Skipped, check
 from daemon import Part
-from linking import build_planes
+from linking import build_planes, ran
 from spaces import GROUP, OURS, SLOW_PROTOCOLS, THEIRS, inside, marker, octets, packet_socket, within_space
 
 # Of SIOCETHTOOL: whether an interface cuts long frames of TCP itself, and whether it joins frames that come.
@@ -21,9 +21,9 @@ KEPT, SEEN, TRIALS = 50_000_000, 1, 10
 
 
 def check_planes(folder: str, libraries: list[str]) -> None:
-    ran = command(build_planes(folder, libraries))
-    print(ran.stdout, end="")
-    check(ran.returncode == 0, "hosts that carry data: no frame overtakes where a host keeps to docs/USING.md, and some do where it does not", ran.stderr)
+    played = ran(build_planes(folder, libraries))
+    print(played.stdout, end="")
+    check(played.returncode == 0, "hosts that carry data: no frame overtakes where a host keeps to docs/USING.md, and some do where it does not", played.stderr)
 
 
 def set_feature(space: str, name: str, what: int, on: int) -> None:

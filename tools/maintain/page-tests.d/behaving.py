@@ -6,6 +6,7 @@ import json
 import os
 from typing import Any
 
+import made
 from browser import Browser
 from stored import CAPTURES, UNEQUAL, Tests, captures, printed, read
 
@@ -32,6 +33,7 @@ def of_page(tests: Tests, browser: Browser, folder: str) -> None:
     of_findings(tests, browser)
     of_fields(tests, browser)
     of_axis(tests, browser)
+    of_bundles(tests, browser, folder)
     of_hostile(tests, browser, folder)
     of_keyboard(tests, browser)
     tests.same("a file that is dropped is explained", [browser.drop(UNEQUAL)[it] for it in ("status", "said")], [1, ""])
@@ -111,6 +113,24 @@ def of_axis(tests: Tests, browser: Browser) -> None:
     browser.drag(x, y, -150)
     browser.settle()
     tests.same("a drag moves the axis", browser.value(marks) != near, True)
+
+
+def of_bundles(tests: Tests, browser: Browser, folder: str) -> None:
+    """Many links, many ends, and packets without times."""
+    names = {name: os.path.join(folder, name) for name in ("bundle.pcap", "crowd.pcap", "timeless.pcapng")}
+    made.bundle(names["bundle.pcap"])
+    made.crowd(names["crowd.pcap"], 5000)
+    one, other = made.Party(1, 7, 1, made.UP), made.Party(2, 7, 1, made.UP)
+    made.pcapng(names["timeless.pcapng"], [made.frame(it.source(), made.lacpdu(it, one if it is other else other)) for it in [one, other] * 9])
+    browser.choose(names["bundle.pcap"])
+    counts = browser.value("['#links > details', '#links svg .name', '#links svg .name.bad'].map((it) => document.querySelectorAll(it).length)")
+    tests.same("eight links of two systems stand on one axis, the silent one too", counts, [1, 16, 1])
+    browser.choose(names["crowd.pcap"])
+    told = browser.value("document.getElementById('undrawn-frames').textContent")
+    tests.same("of 5000 ends some are drawn", told, "Of 5000 frames 128 are drawn.")
+    browser.choose(names["timeless.pcapng"])
+    marks = browser.value("[...document.querySelectorAll('.timeline svg .grid + text')].map((it) => it.textContent)")
+    tests.same("packets without times stand in their order", (len(marks) > 3, [it for it in marks if not it.isdigit()]), (True, []))
 
 
 def of_hostile(tests: Tests, browser: Browser, folder: str) -> None:

@@ -134,13 +134,23 @@ class Browser:
         self.call("Page.navigate", url=f"file://{os.path.abspath(path)}")
         self.wait("Boolean(window.lagtool)")
 
-    def choose(self, path: str) -> dict[str, Any]:
-        """Gives a file to the page by its input, and gives what is shown then."""
-        self.value("window.shown = null, 1")
+    def begin(self, path: str) -> None:
+        """Gives a file to the page by its input."""
+        self.value("window.shown = window.replayed = null, 1")
         root = self.call("DOM.getDocument")["root"]["nodeId"]
         node = self.call("DOM.querySelector", nodeId=root, selector="#file")["nodeId"]
         self.call("DOM.setFileInputFiles", nodeId=node, files=[os.path.abspath(path)])
+
+    def choose(self, path: str) -> dict[str, Any]:
+        """Gives a capture to the page by its input, and gives what is shown then."""
+        self.begin(path)
         return self.shown()
+
+    def replay(self, path: str) -> dict[str, Any]:
+        """The same for a script."""
+        self.begin(path)
+        found: dict[str, Any] = self.wait("window.replayed")
+        return found
 
     def drop(self, path: str) -> dict[str, Any]:
         """Drops a file on the page, and gives what is shown then."""

@@ -25,6 +25,7 @@ def of_saving(tests: Tests, browser: Browser, folder: str, page: str, pictures: 
     picture = saved(browser, "querySelector('#links .tools + details').previousElementSibling.querySelector('button')")
     whole = xml.etree.ElementTree.fromstring(picture)
     tests.same("the picture is an SVG with its style, of two links", (whole.tag, len(whole.findall(f"{SVG}style")), picture.count('class="name"')), (f"{SVG}svg", 1, 4))
+    tests.same("its colours are no variables", "var(" in picture, False)
     report = saved(browser, "getElementById('report')")
     for name, text in ("links.svg", picture), ("report.html", report):
         with open(os.path.join(folder, name), "w", encoding="utf-8") as out:

@@ -2,17 +2,12 @@
 
 from __future__ import annotations
 
-import importlib.machinery
-import importlib.util
 import os
 import re
-import shutil
-import subprocess
-from typing import Any
 
-from repository import CRATES, RT, TOP, Missing, kit, want
+from processors import FOR_EACH_X86, compile_crate, done
+from repository import TOP, Missing, kit, want
 
-CRATE = os.path.join(CRATES, "lagpage")
 EXPORTS = ["lagpage_capture", "page_alloc"]
 TARGET = "wasm64-unknown-unknown"
 LAYOUT = "e-m:e-p:64:64-p10:8:8-p20:8:8-i64:64-i128:128-n32:64-S128-ni:1:10:20"
@@ -28,13 +23,6 @@ LOWER = (
     "--enable-memory64 --enable-bulk-memory --enable-mutable-globals --enable-nontrapping-float-to-int --enable-sign-ext --enable-multivalue"
     " --memory64-lowering"
 ).split()
-
-
-def done(words: list[str], program: str | None = None, cwd: str | None = None) -> None:
-    """Runs a command; stops the tool where it fails."""
-    ended = subprocess.run(words, executable=program, stdin=subprocess.DEVNULL, capture_output=True, text=True, cwd=cwd)
-    if ended.returncode:
-        raise Missing(f"{words[0]} failed: {(ended.stderr or ended.stdout).strip()[-800:]}")
 
 
 def keeping(folder: str) -> str:
@@ -53,25 +41,9 @@ def keeping(folder: str) -> str:
     return made
 
 
-def crate_words() -> list[str]:
-    """With which words `rt lib` calls rattle for lagpage."""
-    path = os.path.join(os.path.dirname(os.path.realpath(shutil.which(RT) or RT)), "rtlib.py")
-    loader = importlib.machinery.SourceFileLoader("rtlib", path)
-    spec = importlib.util.spec_from_loader("rtlib", loader)
-    if spec is None:
-        raise Missing(f"{path} is no module")
-    rtlib: Any = importlib.util.module_from_spec(spec)
-    loader.exec_module(rtlib)
-    words: list[str] = rtlib.Crate(CRATE, TOP, {}).words(["--cpu=x86-64", "--jobs", os.environ.get("RT_JOBS", "2")])
-    return [*words, *rtlib.KEPT]
-
-
 def lowered(folder: str) -> str:
     """The module as rattle lowers it for x86-64, once lagpage is proved."""
-    want(RT)
-    done([RT, "check", "--jobs", os.environ.get("RT_JOBS", "2")], cwd=CRATE)
-    words = [*crate_words(), "--backend", "llvm", "--toolchain", keeping(folder), "-o", os.path.join(folder, "lagpage.a")]
-    done([os.path.join(kit(), "bin", "rattle"), "build", *words], cwd=CRATE)
+    compile_crate("lagpage", os.path.join(folder, "lagpage.a"), [FOR_EACH_X86], keeping(folder))
     kept = os.path.join(folder, "module.bc")
     if not os.path.exists(kept):
         raise Missing("rattle called clang with no module: this toolchain lowers in another way")

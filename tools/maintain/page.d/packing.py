@@ -4,6 +4,7 @@ from __future__ import annotations
 
 import base64
 import hashlib
+import json
 import os
 import re
 
@@ -11,8 +12,11 @@ from repository import TOP, Missing
 
 PARTS = os.path.join(TOP, "page")
 # The modules in the order in which each has what it imports.
-SCRIPTS = ["module.js", "records.js", "shapes.js", "packets.js", "fields.js", "octets.js", "timeline.js", "viewing.js", "saving.js", "capture.js", "page.js"]
-EXAMPLE = os.path.join(TOP, "examples", "captures", "unequal-keys.pcapng")
+SCRIPTS = (
+    "module records shapes packets fields octets timeline viewing saving capture script report diagram playing payload page"
+).split()
+EXAMPLES = os.path.join(TOP, "examples")
+EXAMPLE = os.path.join(EXAMPLES, "captures", "unequal-keys.pcapng")
 IMPORT = re.compile(r'^import \{ ([\w, ]+) \} from "\./([\w.]+)";\n', re.M)
 # Octets as a data block, lines of them so that tools take the file.
 BLOCK = re.compile(r'<script type="application/x-base64" id="module">([^<]*)</script>')
@@ -29,11 +33,11 @@ def joined() -> str:
     texts: list[str] = []
     known: set[str] = set()
     for name in SCRIPTS:
-        text = text_of(name)
+        text = text_of(f"{name}.js")
         for names, source in IMPORT.findall(text):
             unknown = [it for it in names.split(", ") if it not in known]
-            if unknown or source not in SCRIPTS[: SCRIPTS.index(name)]:
-                raise Missing(f"page/{name} imports {', '.join(unknown) or source}, and no module before it has that")
+            if unknown or source.removesuffix(".js") not in SCRIPTS[: SCRIPTS.index(name)]:
+                raise Missing(f"page/{name}.js imports {', '.join(unknown) or source}, and no module before it has that")
         known |= set(re.findall(r"^export (?:class|const|function) (\w+)", text, re.M))
         texts.append(re.sub(r"^export ", "", IMPORT.sub("", text), flags=re.M))
     return "\n".join(texts)
@@ -48,13 +52,23 @@ def block(octets: bytes) -> str:
     return "\n".join(code[at : at + WIDE] for at in range(0, len(code), WIDE))
 
 
+def scripts() -> str:
+    """The scripts of examples/ by their names, as a data block."""
+    texts: dict[str, str] = {}
+    for name in sorted(it for it in os.listdir(EXAMPLES) if it.endswith(".toml")):
+        with open(os.path.join(EXAMPLES, name), encoding="utf-8") as it:
+            texts[name] = it.read()
+    return json.dumps(texts, indent=0).replace("<", "\\u003c")
+
+
 def packed(module: bytes) -> str:
     """The page with this module."""
     style, script = text_of("style.css"), joined()
     with open(EXAMPLE, "rb") as it, open(os.path.join(TOP, "VERSION"), encoding="utf-8") as number:
         capture, version = it.read(), number.read().strip()
     policy = f"default-src 'none'; script-src {digest(script)} 'wasm-unsafe-eval'; style-src {digest(style)}; worker-src blob:; base-uri 'none'; form-action 'none'"
-    values = {"POLICY": policy, "STYLE": style, "SCRIPT": script, "MODULE": block(module), "CAPTURE": block(capture), "VERSION": version}
+    values = {"POLICY": policy, "STYLE": style, "SCRIPT": script, "MODULE": block(module), "CAPTURE": block(capture)}
+    values |= {"EXAMPLES": scripts(), "VERSION": version}
     return re.sub(r"@([A-Z]+)@", lambda found: values[found[1]], text_of("index.html"))
 
 

@@ -1,0 +1,41 @@
+/* One payload or one frame, in hexadecimal: what it is, its fields, and what answers it. */
+
+import { fieldsOf, fieldsOfPayload, isFrame } from "./fields.js";
+import { octetsBeside } from "./octets.js";
+import { byId } from "./shapes.js";
+
+const ETHERNET_LINK = 1, HEADER = 28; // digits of both addresses and the EtherType
+
+const octetsOf = (digits) => Uint8Array.from(digits.match(/../g) ?? [], (it) => parseInt(it, 16));
+/* The digits alone: blanks, colons and dashes are for people. */
+export const digitsOf = (text) => text.replace(/^\s*0x|[\s:.-]/gi, "");
+
+export class Payload {
+    constructor(lagtool) {
+        this.lagtool = lagtool;
+        byId("hex").addEventListener("input", () => this.read());
+        byId("address").addEventListener("input", () => this.read());
+        byId("run-vectors").addEventListener("click", () => {
+            byId("vectors").textContent = lagtool.now("vectors").printed;
+            byId("vectors").hidden = false;
+        });
+    }
+
+    load(text) {
+        byId("payloads").open = true;
+        byId("hex").value = text;
+        this.read();
+    }
+
+    read() {
+        const digits = digitsOf(byId("hex").value), isHex = /^([0-9a-f]{2})+$/i.test(digits), octets = isHex ? octetsOf(digits) : new Uint8Array(0);
+        const whole = isFrame(octets), told = this.lagtool.now("decode", whole ? digits.slice(HEADER) : digits);
+        const answer = whole ? this.lagtool.now("respond", digitsOf(byId("address").value), digits) : null;
+        byId("decoded").textContent = `${told.printed}${told.said}`.trim();
+        byId("decoded").className = told.status ? "bad" : "";
+        byId("answer").hidden = !answer;
+        byId("answered").textContent = answer ? `${answer.printed}${answer.said}`.trim() : "";
+        byId("payload-octets").replaceChildren(...octets.length ? [octetsBeside(octets, whole ? fieldsOf(octets, ETHERNET_LINK) : fieldsOfPayload(octets))] : []);
+        window.decoded = told;
+    }
+}

@@ -1,0 +1,44 @@
+"""Tests of a capture of 100 MB: it is read slice by slice, shows how far it is, and can be stopped."""
+
+from __future__ import annotations
+
+import os
+import time
+
+import made
+from browser import Browser
+from stored import Tests
+
+SIZE = 100_000_000
+DATA = 1400  # octets of a packet of data
+EACH = 20  # packets of data between two LACPDUs
+
+
+def write(path: str) -> tuple[int, int]:
+    """Writes a capture of two ends with much data between their LACPDUs; gives how many packets and LACPDUs it has."""
+    one, other = made.Party(1, 7, 1, made.UP), made.Party(2, 7, 1, made.UP)
+    frames = [made.frame(one.source(), made.lacpdu(one, other)), made.frame(other.source(), made.lacpdu(other, one))]
+    data, group = bytes.fromhex("0200000000020200000000010800") + bytes(DATA), EACH * (DATA + 30) + 140
+    count = SIZE // group + 1
+    made.pcap(path, ((number / 2 + part / 1000, [frames[number % 2], data][part > 0]) for number in range(count) for part in range(EACH + 1)))
+    return count * (EACH + 1), count
+
+
+def of_large(tests: Tests, browser: Browser, folder: str) -> None:
+    path = os.path.join(folder, "large.pcap")
+    packets, lacpdus = write(path)
+    browser.begin(path)
+    browser.wait("!document.getElementById('reading').hidden && document.getElementById('far').value > 0")
+    browser.value("document.getElementById('stop').click(), 1")
+    shown = browser.shown()
+    tests.same("a capture of 100 MB shows how far it is read, and is stopped", shown["said"], "stopped")
+    began = time.monotonic()
+    shown = browser.choose(path)
+    tests.same("a capture of 100 MB is read to its end", shown["printed"].splitlines()[-1].split(" ends")[0], f"packets {packets} slow {lacpdus}")
+    print(f"a capture of 100 MB took {time.monotonic() - began:.0f} s", flush=True)
+    browser.value("document.querySelector('.timeline svg').focus(), 1")
+    browser.key("End")
+    browser.wait("document.querySelector('.chosen-frame:not([hidden]) .fields') !== null")
+    last = browser.value("document.querySelector('.chosen-frame h3').textContent.split(' ')[1]")
+    tests.same("the last LACPDU of 100 MB has its fields", last, str(1 + (lacpdus - 1) * (EACH + 1)))
+    os.remove(path)

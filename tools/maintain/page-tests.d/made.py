@@ -1,0 +1,70 @@
+"""Captures that the tests make: LACPDUs of two systems, as pcap and pcapng."""
+
+from __future__ import annotations
+
+import struct
+from typing import Iterable, NamedTuple
+
+SLOW, DEFAULTS = bytes.fromhex("0180c2000002"), bytes(18)
+UP, DOWN, DEFAULTED = 0x3D, 0x05, 0x45  # state octets
+
+
+class Party(NamedTuple):
+    """One end of a link, as an LACPDU names it."""
+
+    system: int
+    key: int
+    port: int
+    state: int
+
+    def octets(self) -> bytes:
+        return struct.pack(">H6sHHHB3x", 32768, bytes([2, 0, 0, 0, 0, self.system]), self.key, 255, self.port, self.state)
+
+    def source(self) -> bytes:
+        return bytes([2, 0, 0, 0, self.system, self.port])
+
+
+def lacpdu(actor: Party, partner: Party | None) -> bytes:
+    """The payload of an LACPDU; without a partner it names none."""
+    named = partner.octets() if partner else DEFAULTS
+    return b"\x01\x01\x01\x14" + actor.octets() + b"\x02\x14" + named + b"\x03\x10" + bytes(66)
+
+
+def frame(source: bytes, payload: bytes) -> bytes:
+    return SLOW + source + b"\x88\x09" + payload
+
+
+def pcap(path: str, packets: Iterable[tuple[float, bytes]]) -> None:
+    with open(path, "wb") as out:
+        out.write(struct.pack("<IHHiIII", 0xA1B2C3D4, 2, 4, 0, 0, 262144, 1))
+        for seconds, octets in packets:
+            time = struct.pack("<II", 1_700_000_000 + int(seconds), int(seconds % 1 * 1e6))
+            out.write(time + struct.pack("<II", len(octets), len(octets)) + octets)
+
+
+def pcapng(path: str, packets: Iterable[bytes]) -> None:
+    """A capture whose packets have no times."""
+    with open(path, "wb") as out:
+        out.write(struct.pack("<IIIHHqI", 0x0A0D0D0A, 28, 0x1A2B3C4D, 1, 0, -1, 28) + struct.pack("<IIHHII", 1, 20, 1, 0, 262144, 20))
+        for octets in packets:
+            whole = octets + bytes(-len(octets) % 4)
+            out.write(struct.pack("<III", 3, 16 + len(whole), len(octets)) + whole + struct.pack("<I", 16 + len(whole)))
+
+
+def bundle(path: str) -> None:
+    """Eight links of two systems: link 3 has another key at system 2, and on link 5 nobody answers."""
+    packets: list[tuple[float, bytes]] = []
+    for second in range(60):
+        for port in range(1, 9):
+            state, at = UP if second > 3 and port != 3 else DOWN, second + port / 100
+            one, other = Party(1, 7, port, DEFAULTED if port == 5 else state), Party(2, 9 if port == 3 else 7, port, state)
+            packets.append((at, frame(one.source(), lacpdu(one, None if port == 5 else other))))
+            if port != 5:
+                packets.append((at + 0.004, frame(other.source(), lacpdu(other, one))))
+    pcap(path, packets)
+
+
+def crowd(path: str, count: int) -> None:
+    """So many ends that send one LACPDU each."""
+    partner = Party(2, 7, 1, UP)
+    pcap(path, ((number / 1000, frame(struct.pack(">HI", 0x0200, number), lacpdu(Party(1, 7, number, UP), partner))) for number in range(count)))
