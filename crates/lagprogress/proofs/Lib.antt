@@ -10,6 +10,7 @@ mod Hearing
 mod Knowing
 mod TableSteps
 mod Waits
+mod HostWaits
 mod Told
 mod Halves
 mod Passing

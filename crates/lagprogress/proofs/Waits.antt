@@ -11,7 +11,7 @@ use Rattle.lagprogress.proofs.TableSteps.{Turning, Turns, asks_turn, comes_turn,
 use Rattle.lagprogress.proofs.TableSteps.{turns_by, turns_through}
 
 -- the second is awaited if the first is
-abbrev Stays : Assignment → Assignment → Type 0
+abbrev pub Stays : Assignment → Assignment → Type 0
 Stays a b = IsAwaited a → IsAwaited b
 
 either : (b : Bool) (x y : Assignment) → IsAwaited x → IsAwaited y → IsAwaited (cond b x y)
@@ -28,7 +28,7 @@ ticked a h = h
 released : (port id : ℕ) (a : Assignment) → IsAwaited a → IsAwaited (after_release port id a)
 released port id a h = grind (arith, nat_tests)
 
-marked : (port id : ℕ) (a : Assignment) → IsAwaited a → IsAwaited (after_mark port id a)
+pub marked : (port id : ℕ) (a : Assignment) → IsAwaited a → IsAwaited (after_mark port id a)
 marked port id a h = grind (arith, nat_tests)
 
 downed : (port : ℕ) (a : Assignment) → IsAwaited a → IsAwaited (after_down port a)
@@ -37,7 +37,7 @@ downed port a h = grind (arith, nat_tests)
 held : (ports : List ℕ) (a : Assignment) → IsAwaited a → IsAwaited (held_unless_on ports a)
 held ports a h = grind (arith, nat_tests)
 
-stays : Turning Stays
+pub stays : Turning Stays
 stays = record { same = λ a h. h; through = λ a b c f g h. g (f h); tick = ticked; mark = marked; release = released; held = held }
 
 frees : (up : Bool) (n : ℕ) (old mid new : SystemState) → FreesIfDown up n old.table mid.table → Settling mid new

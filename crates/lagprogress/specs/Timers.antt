@@ -6,10 +6,13 @@ use Rattle.portmachines.specs.declared.receive.ReceiveState.TheVariants.{Initial
 use Rattle.portmachines.specs.declared.periodic.PeriodicState.{PeriodicState}
 use Rattle.portmachines.specs.declared.periodic.PeriodicState.TheVariants.{NoPeriodic, Fast, Slow, PeriodicTx}
 use Rattle.portmachines.specs.Machines.{Machines}
+use Rattle.lagsystem.specs.declared.drive.HostCall.{HostCall}
+use Rattle.lagsystem.specs.declared.drive.HostReply.{HostReply}
 use Rattle.lagsystem.specs.declared.drive.Reply.{Reply}
 use Rattle.lagsystem.specs.declared.system_ports.SystemPort.{SystemPort}
 use Rattle.lagsystem.specs.Calls.{Call, Step}
 use Rattle.lagsystem.specs.First.{IsFirst}
+use Rattle.lagsystem.specs.HostCalls.{HostPromise}
 use Rattle.lagsystem.specs.State.{SystemState}
 
 -- current_while: Short_Timeout_Time if the port has Short Timeout, and in EXPIRED; else Long_Timeout_Time
@@ -46,3 +49,8 @@ FirstIsTimed = (s : SystemState) → IsFirst s → PortsAreTimed s
 abbrev pub EachCallKeepsTimed : (ℕ → ℕ → ℕ → Type 0) → Type 0
 EachCallKeepsTimed gives = (old new : SystemState) (call : Call) (reply : Reply) → Step gives old call reply new → PortsAreTimed old
     → PortsAreTimed new
+
+-- and so does each call of a host with a data plane
+abbrev pub EachHostCallKeepsTimed : (ℕ → ℕ → ℕ → Type 0) → Type 0
+EachHostCallKeepsTimed gives = (old new : SystemState) (call : HostCall) (reply : HostReply) → HostPromise gives old call reply new
+    → PortsAreTimed old → PortsAreTimed new

@@ -62,12 +62,11 @@ pub fn standby_ports_wait_for_room()
     ensures { WaitsForRoom }
 {}
 
-ghost use Rattle.lagprogress.specs.Timers.{EachCallKeepsTimed, FirstIsTimed};
+ghost use Rattle.lagprogress.specs.Timers.{EachCallKeepsTimed, EachHostCallKeepsTimed, FirstIsTimed};
 
 // promise: at first and after each call no timer has more ticks than it can start with, no age of a window is above 10, and a wait for a
 //    response is below 30 ticks
-// contract: `timers_are_bounded`, `waits_are_short` (`first`, `kept`)
-// premises: the calls are those of `Call`
+// contract: `timers_are_bounded`, `waits_are_short` (`first`, `kept`, `hosts`)
 /// No timer of a port has more ticks than it can start with: current_while at most Short_Timeout_Time (30 ticks) if the
 /// port has Short Timeout or is in EXPIRED, else Long_Timeout_Time (900); periodic_timer at most Fast_Periodic_Time (10)
 /// in FAST, else Slow_Periodic_Time (300); wait_while at most Aggregate_Wait_Time (20); and no age of the transmit window
@@ -76,15 +75,17 @@ ghost use Rattle.lagprogress.specs.Timers.{EachCallKeepsTimed, FirstIsTimed};
 pub fn timers_are_bounded<F: Fn(u16, usize) -> usize>()
     ensures first { FirstIsTimed }
     ensures kept { (algorithm : F) → EachCallKeepsTimed (F.post algorithm) }
+    ensures hosts { (algorithm : F) → EachHostCallKeepsTimed (F.post algorithm) }
 {}
 
-ghost use Rattle.lagprogress.specs.Waits.{EachCallKeepsWaits, FirstWaitsAreShort};
+ghost use Rattle.lagprogress.specs.Waits.{EachCallKeepsWaits, EachHostCallKeepsWaits, FirstWaitsAreShort};
 
 /// The age of a conversation that waits for the response to a marker is below 30 ticks (3 s): so it is in each first
 /// state, and each call keeps it, whatever the distribution algorithm returns (6.2.5; profile).
 pub fn waits_are_short<F: Fn(u16, usize) -> usize>()
     ensures first { FirstWaitsAreShort }
     ensures kept { (algorithm : F) → EachCallKeepsWaits (F.post algorithm) }
+    ensures hosts { (algorithm : F) → EachHostCallKeepsWaits (F.post algorithm) }
 {}
 
 ghost use Rattle.lagprogress.specs.Told.{TellsAtMost900};

@@ -63,3 +63,4 @@ pub mod ProbingLemmas
 pub mod TellingLemmas
 pub mod StillDueLemmas
 pub mod HeldLemmas
+pub mod HostCallLemmas

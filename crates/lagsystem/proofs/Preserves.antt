@@ -23,10 +23,10 @@ subtype_of mac payload k a h = grind (arith, nat_tests, framed_payload, octet_st
 pub lacpdu_subtype : (max_delay : ℕ) (x : SystemPort) (octets : List ℕ) → IsLacpduOf max_delay x octets → subtype octets ≡ 1
 lacpdu_subtype max_delay x octets h = ap subtype h.3 ∙ subtype_of x.mac h.0 1 h.1 h.2.table.fields_hold.0
 
-none_silent : (n : ℕ) (answer : Option (List ℕ)) → answer ≡ None → IsSilent (Transmit n) (reply.Transmit (Ok answer))
+pub none_silent : (n : ℕ) (answer : Option (List ℕ)) → answer ≡ None → IsSilent (Transmit n) (reply.Transmit (Ok answer))
 none_silent n answer e m now before = (refl, ap (λ a. sends_after m now (Transmit n) (reply.Transmit (Ok a)) before) e)
 
-marker_silent : (n id port : ℕ) (mac : List ℕ) (old : SystemState) (answer : Option (List ℕ)) (new : SystemState)
+pub marker_silent : (n id port : ℕ) (mac : List ℕ) (old : SystemState) (answer : Option (List ℕ)) (new : SystemState)
     → SendsMarkerOf (Some id) port mac old answer new → IsSilent (Transmit n) (reply.Transmit (Ok answer))
 marker_silent n id port mac old answer new h m now before = (
   refl,

@@ -24,7 +24,7 @@ use Rattle.lagsystem.proofs.SettlingLemmas.{RunsReady}
 -- one port
 
 -- after these sends the port keeps the window, whatever calls of it follow
-abbrev Good : ℕ → Machines → List ℕ → Type 0
+abbrev pub Good : ℕ → Machines → List ℕ → Type 0
 Good now p before = (calls : List port.PortCall) (ticks : List ℕ) → window.SendsAtTicks now calls p ticks → KeepsWindow (before ++ ticks)
 
 good_ages : (now : ℕ) (p : Machines) → AllByRecursion (λ a. a ≤ now) p.ages → length p.ages ≤ 3 → Good now p (sent_before now p.ages)
@@ -46,27 +46,27 @@ none_sent first = omega arith
 
 -- the port with the number n among those of a system
 
-abbrev port_in : Option SystemPort → Option Machines
+abbrev pub port_in : Option SystemPort → Option Machines
 port_in o = option_map (λ x. x.port) o
 
-abbrev is_numbered : ℕ → SystemPort → Bool
+abbrev pub is_numbered : ℕ → SystemPort → Bool
 is_numbered n s = s.number == n
 
 -- P holds of the port, and N where there is none
-abbrev At : (Machines → Type 0) → Type 0 → Option Machines → Type 0
+abbrev pub At : (Machines → Type 0) → Type 0 → Option Machines → Type 0
 At P N None = N
 At P N (Some p) = P p
 
-abbrev In : (Machines → Type 0) → Type 0 → ℕ → List SystemPort → Type 0
+abbrev pub In : (Machines → Type 0) → Type 0 → ℕ → List SystemPort → Type 0
 In P N n system_ports = At P N (port_in (find (is_numbered n) system_ports))
 
-abbrev GoodAt : ℕ → List ℕ → Option Machines → Type 0
+abbrev pub GoodAt : ℕ → List ℕ → Option Machines → Type 0
 GoodAt now before o = At (λ p. Good now p before) (KeepsWindow before) o
 
-abbrev GoodIn : ℕ → ℕ → List ℕ → List SystemPort → Type 0
+abbrev pub GoodIn : ℕ → ℕ → List ℕ → List SystemPort → Type 0
 GoodIn n now before system_ports = In (λ p. Good now p before) (KeepsWindow before) n system_ports
 
-good_end : (now : ℕ) (before : List ℕ) (o : Option Machines) → GoodAt now before o → KeepsWindow before
+pub good_end : (now : ℕ) (before : List ℕ) (o : Option Machines) → GoodAt now before o → KeepsWindow before
 good_end now before None g = g
 good_end now before (Some p) g = subst KeepsWindow (append-nil before) (g [] [] refl)
 
@@ -172,7 +172,7 @@ at_place : (n : ℕ) (xs : List SystemPort) (b : Bool) (k : ℕ) → nat_lt k (l
 at_place n xs true k e = refl
 at_place n xs false k e = sym (slice_get_past xs k (grind (arith, nat_tests)))
 
-found : (n : ℕ) (xs : List SystemPort) → system_port_at (port_index n xs) xs ≡ find (is_numbered n) xs
+pub found : (n : ℕ) (xs : List SystemPort) → system_port_at (port_index n xs) xs ≡ find (is_numbered n) xs
 found n xs = let k = position_or_len (is_numbered n) xs in at_place n xs (nat_lt k (length xs)) k refl ∙ sym (find_at (is_numbered n) xs)
 
 found_set : (p : SystemPort → Bool) (xs : List SystemPort) (i : ℕ) (s t : SystemPort) → slice_get xs i ≡ Some s
@@ -269,7 +269,7 @@ since_empty o h = grind (arith, nat_tests)
 three_empty : (o : Option Machines) → At IsEmpty Unit o → AtMostThreeAges o
 three_empty o h = grind (arith, nat_tests)
 
-good_few : (now : ℕ) (o : Option Machines) → AgesSince now o → AtMostThreeAges o → GoodAt now (remembered_sends now o) o
+pub good_few : (now : ℕ) (o : Option Machines) → AgesSince now o → AtMostThreeAges o → GoodAt now (remembered_sends now o) o
 good_few now None h k = none_sent
 good_few now (Some p) h k = good_ages now p h k
 
@@ -283,7 +283,7 @@ good_first n s h =
 
 -- runs
 
-good_step : (gives : ℕ → ℕ → ℕ → Type 0) (n now : ℕ) (before : List ℕ) (old : SystemState) (call : Call) (answer : Reply)
+pub good_step : (gives : ℕ → ℕ → ℕ → Type 0) (n now : ℕ) (before : List ℕ) (old : SystemState) (call : Call) (answer : Reply)
     (new : SystemState) → Step gives old call answer new
     → GoodIn n now before old.system_ports → GoodIn n (tick_after call now) (sends_after n now call answer before) new.system_ports
 good_step gives n now before old call answer new h g =

@@ -32,3 +32,4 @@ pub mod StillDue
 pub mod Waiting
 pub mod Quiet
 pub mod Soonest
+pub mod HostCalls

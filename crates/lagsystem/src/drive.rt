@@ -1,6 +1,7 @@
 ghost use Rattle.std.specs.Prelude.{◌≡◌, IfOk, OnErr, map};
 ghost use Rattle.distributor.specs.Calls.{PicksIndexes};
 ghost use Rattle.lagsystem.specs.Drives.{Drives, call_of};
+ghost use Rattle.lagsystem.specs.HostCalls.{HasConversations, HostPromise};
 ghost use Rattle.lagsystem.specs.Sound.{CallPromise};
 ghost use Rattle.lagsystem.specs.Windows.{KeepsTransmitLimit, EachAtMostThreeAges};
 
@@ -57,9 +58,44 @@ pub enum Reply {
     Force(Result<(), SystemFault>),
 }
 
+/// A call of a host with a data plane, with its arguments: one of `Call`, or one of five that change the conversations alone
+/// (profile).
+#[derive(Debug, Drop)]
+pub enum HostCall {
+    /// One of `Call`.
+    Call(Call),
+    /// `offer_conversation`: the aggregator, and the conversation.
+    OfferConversation(AggId, u16),
+    /// `leave_conversation`: the aggregator, and the conversation.
+    LeaveConversation(AggId, u16),
+    /// `probe`: the port.
+    Probe(u16),
+    /// `rest`: the aggregator, and the conversation.
+    Rest(AggId, u16),
+    /// `force_port`: the port.
+    ForcePort(u16),
+}
+
+/// The result of a call of a host (profile).
+#[derive(Clone, Copy, Debug, PartialEq, Eq)]
+pub enum HostReply {
+    /// Of one of `Call`.
+    Call(Reply),
+    /// Of `offer_conversation`.
+    OfferConversation(Result<u16, SystemFault>),
+    /// Of `leave_conversation`.
+    LeaveConversation(Result<(), SystemFault>),
+    /// Of `probe`.
+    Probe(Result<Option<[u8; 124]>, SystemFault>),
+    /// Of `rest`.
+    Rest(Result<(), SystemFault>),
+    /// Of `force_port`.
+    ForcePort(Result<u32, SystemFault>),
+}
+
 impl<F: Fn(u16, usize) -> usize + Drop> System<F> {
-    // promise: `call` makes the call that its argument names
-    // contract: `call` (`answers`)
+    // promise: `call` and `host_call` make the call that their argument names
+    // contract: `call` (`answers`), `host_call` (`promise`: `HostPromise`)
     /// Makes a call that stands as a value, and returns its result (profile).
     pub fn call(&mut self, call: &Call) -> Reply
         requires usable { PicksIndexes (F.pre self.old.algorithm) (F.post self.old.algorithm) }
@@ -87,6 +123,27 @@ impl<F: Fn(u16, usize) -> usize + Drop> System<F> {
         }
     }
 
+    /// Makes a call of a host that stands as a value, and returns its result (profile).
+    pub fn host_call(&mut self, call: &HostCall) -> HostReply
+        requires usable { PicksIndexes (F.pre self.old.algorithm) (F.post self.old.algorithm) }
+        ensures promise { HostPromise (F.post self.old.algorithm) self.old.state call.now result self.new.state }
+        ensures algorithm { self.new.algorithm ≡ self.old.algorithm }
+    {
+        self.open_invariant();
+        match call {
+            HostCall::Call(call) => HostReply::Call(self.call(call)),
+            HostCall::OfferConversation(agg, conv) => {
+                HostReply::OfferConversation(self.offer_conversation(*agg, *conv))
+            }
+            HostCall::LeaveConversation(agg, conv) => {
+                HostReply::LeaveConversation(self.leave_conversation(*agg, *conv))
+            }
+            HostCall::Probe(port) => HostReply::Probe(self.probe(*port)),
+            HostCall::Rest(agg, conv) => HostReply::Rest(self.rest(*agg, *conv)),
+            HostCall::ForcePort(port) => HostReply::ForcePort(self.force_port(*port)),
+        }
+    }
+
     // promise: **one whole system**: `drive` gives one reply for each call, in order; each is what a call promises (`CallPromise`); the
     //    window holds; refused memory changes nothing
     // contract: `drive` (`driven`, `window`, `refused`; `Drives`)
@@ -110,10 +167,11 @@ impl<F: Fn(u16, usize) -> usize + Drop> System<F> {
         Ok(replies)
     }
 
-    /// Does nothing when it runs. The prover knows the invariant of `System` (at most three ages a port) only where
-    /// `inner` is read, and `drive` needs that invariant.
+    /// Does nothing when it runs. The prover knows the invariant of `System` (at most three ages a port, and the conversations
+    /// of its configuration) only where `inner` is read, and `drive` and `host_call` need it.
     fn open_invariant(&self)
-        ensures { EachAtMostThreeAges self.now.state }
+        ensures ages { EachAtMostThreeAges self.now.state }
+        ensures conversations { HasConversations self.now.state }
     {
         let _inner = &self.inner;
     }

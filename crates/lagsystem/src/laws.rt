@@ -124,3 +124,16 @@ pub fn offers_and_data_make_none_due<F: Fn(u16, usize) -> usize>()
 pub fn port_status_says_why()
     ensures { (status : PortStatus) → Says status (meaning status) }
 {}
+
+ghost use Rattle.lagsystem.specs.HostCalls.{HostAgreementLaw, HostWindowLaw};
+
+// promise: over every list of calls, these five among them, the window holds, and ports that agree (`PortsAgree`) do so afterwards
+// contract: `host_calls_keep_the_limits` (`window`, `agreement`)
+/// Over every list of calls of a host with a data plane, of which `Call` is a part (`HostCall`): any eleven consecutive ticks
+/// since the last start hold at most three LACPDUs of each port, a probe counting as a `transmit` (6.4.16); and ports that
+/// agree (`PortsAgree`: one partner in each aggregator, no more members than its limit) do so after it (6.4.14.1; profile).
+/// `System::host_call` meets the relation for each call.
+pub fn host_calls_keep_the_limits<F: Fn(u16, usize) -> usize>()
+    ensures window { (algorithm : F) → HostWindowLaw (F.post algorithm) }
+    ensures agreement { (algorithm : F) → HostAgreementLaw (F.post algorithm) }
+{}

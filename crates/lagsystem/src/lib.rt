@@ -40,14 +40,14 @@ pub use arrayvec::ArrayVec;
 pub use calls::System;
 pub use config::{Config, PortChange, PortConfig};
 pub use distributor::Assignment;
-pub use drive::{Call, Reply};
+pub use drive::{Call, HostCall, HostReply, Reply};
 pub use fault::{BadConfig, SystemFault};
 pub use lagtypes::{AggId, Choice, Group, Key, NoMemory, Party, PortId, State, SystemId};
 pub use laws::{
     by_number_is_a_function, each_call_has_one_answer, each_conversation_has_a_frame,
-    first_state_is_one, offers_and_data_make_none_due, rows_name_the_answer,
-    settling_again_is_nothing, ticks_only_count_until_due, ticks_until_due_tells_the_first,
-    transmit_answers_what_is_due, window_holds,
+    first_state_is_one, host_calls_keep_the_limits, offers_and_data_make_none_due,
+    rows_name_the_answer, settling_again_is_nothing, ticks_only_count_until_due,
+    ticks_until_due_tells_the_first, transmit_answers_what_is_due, window_holds,
 };
 pub use port_status::PortStatus;
 pub use portmachines::{MuxState, ReceiveState};

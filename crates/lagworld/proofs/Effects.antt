@@ -203,7 +203,7 @@ does_effect gives e r old new x = value_of (effect old.links e) _ (does_some giv
 
 -- ---- what an event that acts names is there
 
-some_there : {X : Type 0} (o : Option X) (P : X → Type 0) → IsSomeAnd o P → is_some o ≡ true
+pub some_there : {X : Type 0} (o : Option X) (P : X → Type 0) → IsSomeAnd o P → is_some o ≡ true
 some_there None P h = absurd h
 some_there (Some x) P h = refl
 

@@ -36,16 +36,16 @@ twice One h i j = refl
 twice Two h i j = refl
 
 -- a refusal changes nothing
-refused_same : (agg : AggId) (conv : ℕ) (what : Result Assignment SystemFault) (fault : SystemFault) (old new : SystemState)
+pub refused_same : (agg : AggId) (conv : ℕ) (what : Result Assignment SystemFault) (fault : SystemFault) (old new : SystemState)
     → GivesOrRefuses agg conv what old (Err fault) new → new ≡ old
 refused_same agg conv (Ok state) fault old new h = absurd (let e = h.0 in cc)
 refused_same agg conv (Err other) fault old new h = h.1
 
-with_itself : (s : Side) (j : WorldState) → with_half s (half s j) j ≡ j
+pub with_itself : (s : Side) (j : WorldState) → with_half s (half s j) j ≡ j
 with_itself One j = refl
 with_itself Two j = refl
 
-forced_by : (gives : ℕ → ℕ → ℕ → Type 0) (s : Side) (agg : AggId) (conv : ℕ) (a : Result Unit SystemFault) (mid : HalfState)
+pub forced_by : (gives : ℕ → ℕ → ℕ → Type 0) (s : Side) (agg : AggId) (conv : ℕ) (a : Result Unit SystemFault) (mid : HalfState)
     (old : WorldState) → ((done : Unit) → a ≡ Ok done → IsSome (flow_at (half s old).flows agg.0 conv))
     → HalfAnswers gives (Force agg conv) (answer.Force a) (half s old) mid
     → Happens (world_setup old) (Event.Force s agg.0 conv) (model_world old)

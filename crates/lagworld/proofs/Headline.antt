@@ -33,7 +33,7 @@ rises gives (e ∷ es) [] old new h = absurd h
 rises gives (e ∷ es) (r ∷ rs) old new h = let below = rises gives es rs h.0 new h.2 in omega (arith, h.1.1, below)
 
 -- a sound world has it
-headline_of : (j : WorldState) → IsSound j → Headline j
+pub headline_of : (j : WorldState) → IsSound j → Headline j
 headline_of j i = record {
   one_partner = one_partner_of j i;
   agree = agree_of j i;

@@ -21,7 +21,7 @@ use Rattle.lagworld.proofs.Soundness.{follows_emptied, follows_put, asked_on, ti
 use Rattle.lagworld.proofs.Whole.{steps_happen}
 
 -- counts may rise by one
-up_to_one : (a b : WorldState) → Follows 0 a b → Follows 1 a b
+pub up_to_one : (a b : WorldState) → Follows 0 a b → Follows 1 a b
 up_to_one a b x = record { shaped = x.shaped; fixed = x.fixed; counts = λ s n m le h. x.counts s n m (omega arith) h }
 
 -- a call of a system, and no party can change
@@ -29,7 +29,7 @@ asked : (gives : ℕ → ℕ → ℕ → Type 0) (s : Side) (call : Call) (a : _
     → ((n : ℕ) (c : _) → call ≡ Configure n c → ⊥) → HalfAnswers gives call a (half s j) mid → Follows 0 j (with_half s mid j)
 asked gives s call a mid j i r c x = follows_half 0 s mid j i (asked_on gives call a (half s j) mid (i.kept s) r c x)
 
-control_item : (s : Side) (octets : List ℕ) (v : Pdu) (n : ℕ) (j : WorldState) → IsItem s octets (stamp_for v n) j
+pub control_item : (s : Side) (octets : List ℕ) (v : Pdu) (n : ℕ) (j : WorldState) → IsItem s octets (stamp_for v n) j
 control_item s octets (pdu.Lacpdu v) n j = tt
 control_item s octets (pdu.Marker m) n j = tt
 
@@ -64,7 +64,7 @@ shrunk : (i : ℕ) (l m : LinkState) (j : WorldState) → IsShaped j → Shrinks
 shrunk i l m j h k = follows_set i l m j h k.there k.ends k.ports (λ s. k.items s j (h.items s i l k.there))
 
 -- a frame is offered
-peer_twice : (s : Side) → peer (peer s) ≡ s
+pub peer_twice : (s : Side) → peer (peer s) ≡ s
 peer_twice One = refl
 peer_twice Two = refl
 
@@ -88,7 +88,7 @@ offered_on gives s agg octets (Ok port) j mid new r i p x =
     )))
 
 -- a conversation is forced
-forces : (s : Side) (agg : AggId) (conv : ℕ) (a : Result Unit SystemFault) (mid : HalfState) (j : WorldState) → IsShaped j
+pub forces : (s : Side) (agg : AggId) (conv : ℕ) (a : Result Unit SystemFault) (mid : HalfState) (j : WorldState) → IsShaped j
     → GoesOn 0 (half s j) mid → Follows 0 j (with_half s (forced_if_accepted a agg conv mid) j)
 forces s agg conv (Ok done) mid j i g = follows_half 0 s _ j i (goes_on (half s j) mid _ g (flow_on with_forced agg.0 conv mid g.kept))
 forces s agg conv (Err fault) mid j i g = follows_half 0 s mid j i g
@@ -136,7 +136,7 @@ pub does_follow : (gives : Algorithms) (e : Event) (r : Reply) (old new : WorldS
 does_follow gives e r old new i x =
     let v = does_effect gives e r old new x in effect_follows gives e v.0 r old new i v.2
 
-shaped_of : (j : WorldState) → IsSound j → IsShaped j
+pub shaped_of : (j : WorldState) → IsSound j → IsShaped j
 shaped_of j i = record { kept = i.kept; items = i.items; ends = i.ends }
 
 -- one event more

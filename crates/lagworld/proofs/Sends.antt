@@ -4,7 +4,7 @@ use Rattle.lagworld.proofs.Common.{AggId, Pdu, pdu_in, pdu_read, written_pdu, Se
 use Rattle.lagworld.proofs.Common.{Happens, IsCabling, One, Side, Two, end_at, peer, put_in, stamp_of, Answer, SystemFault, Call, Offer, Transmit}
 use Rattle.lagworld.proofs.Common.{IsSent, control_message, marker_message, number_of_conversation, sent_payload, Reply, AfterOffer, AfterTransmit}
 use Rattle.lagworld.proofs.Common.{WorldEmits, WorldOffers, offered_item, stamp_for, transmitted_item, with_frame_counted, with_item_sent}
-use Rattle.lagworld.proofs.Common.{HalfAnswers, item_message, message_in, payload_in, model_taken, model_world, world_setup, HalfState, ItemValue}
+use Rattle.lagworld.proofs.Common.{HalfAnswers, with_state, item_message, message_in, payload_in, model_taken, model_world, world_setup, HalfState, ItemValue}
 use Rattle.lagworld.proofs.Common.{WorldState, change_count_in, change_flow, collected_in, flow_at, forced_in, half, history_at, is_accepted}
 use Rattle.lagworld.proofs.Common.{put_on_port, sent_in, taken_in, with_half, with_sent}
 use Rattle.lagmodel.specs.World.{Event}
@@ -34,22 +34,29 @@ stamped octets (pdu.Lacpdu v) n e = ap (λ v. Control (control_message v) n) e
 stamped octets (pdu.Marker m) n e = ap (λ v. Control (control_message v) 0) e
     ∙ ap (Control (control_message (pdu.Marker m))) (sym (no_stamp m.kind m n))
 
--- what a PDU that is sent leaves
-pub sends_pdu : {gives : ℕ → ℕ → ℕ → Type 0} {call : Call} {a : Answer} (s : Side) (p : ℕ) (pdu : Message_pdu) (item : ItemValue) (count : ℕ)
-    (h : HalfState) (j : WorldState) → HalfAnswers gives call a (half s j) h → IsCabling (world_setup j).cables
-    → item_message item ≡ Control pdu (stamp_of pdu count) → count ≡ (model_world j).count s p
-    → (stamp : ℕ) → Leaves s stamp (is_accepted s p j.links) (Some (Sends p pdu)) h (put_on_port s p item j.links) j
-sends_pdu s p pdu item count h j x one e n stamp = record {
+-- what a PDU that is sent leaves, where the system alone changed
+pub sends_beside : (s : Side) (p : ℕ) (pdu : Message_pdu) (item : ItemValue) (count : ℕ) (h : HalfState) (j : WorldState)
+    → h ≡ with_state h.state (half s j) → IsCabling (world_setup j).cables → item_message item ≡ Control pdu (stamp_of pdu count)
+    → count ≡ (model_world j).count s p → (stamp : ℕ)
+    → Leaves s stamp (is_accepted s p j.links) (Some (Sends p pdu)) h (put_on_port s p item j.links) j
+sends_beside s p pdu item count h j same one e n stamp = record {
   away = λ c. put_away s p item j.links (one s) c
       ∙ ap (λ m. put_in (end_at (world_setup j).cables s) (model_world j).whole (is_accepted s p j.links) p m
       ((model_world j).on_cable (peer s)) c) (e ∙ ap (λ n. Control pdu (stamp_of pdu n)) n);
   towards = put_towards s p item j.links;
   whole = put_whole s p item j.links;
-  taken = λ q. ap (λ o. option_map model_taken (taken_in o)) (history_kept x q);
-  sent = λ g k. ap (λ f. sent_in (flow_at f g k)) (flows_kept x);
-  collected = λ g k. ap (λ f. collected_in (flow_at f g k)) (flows_kept x);
-  forced = λ g k. ap (λ f. forced_in (flow_at f g k)) (flows_kept x);
+  taken = λ q. ap (λ (h : HalfState). option_map model_taken (taken_in (history_at h.histories q))) same;
+  sent = λ g k. ap (λ (h : HalfState). sent_in (flow_at h.flows g k)) same;
+  collected = λ g k. ap (λ (h : HalfState). collected_in (flow_at h.flows g k)) same;
+  forced = λ g k. ap (λ (h : HalfState). forced_in (flow_at h.flows g k)) same;
 }
+
+-- so of a call
+pub sends_pdu : {gives : ℕ → ℕ → ℕ → Type 0} {call : Call} {a : Answer} (s : Side) (p : ℕ) (pdu : Message_pdu) (item : ItemValue) (count : ℕ)
+    (h : HalfState) (j : WorldState) → HalfAnswers gives call a (half s j) h → IsCabling (world_setup j).cables
+    → item_message item ≡ Control pdu (stamp_of pdu count) → count ≡ (model_world j).count s p
+    → (stamp : ℕ) → Leaves s stamp (is_accepted s p j.links) (Some (Sends p pdu)) h (put_on_port s p item j.links) j
+sends_pdu s p pdu item count h j x one e n stamp = sends_beside s p pdu item count h j x.same one e n stamp
 
 emitted : (gives : ℕ → ℕ → ℕ → Type 0) (s : Side) (p : ℕ) (a : Result (Option (List ℕ)) SystemFault) (mid : HalfState) (r : Reply)
     (old new : WorldState) → IsCabling (world_setup old).cables

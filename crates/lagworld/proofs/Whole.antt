@@ -43,7 +43,7 @@ forced_known : (agg : AggId) (conv : ℕ) (what : Result Assignment SystemFault)
 forced_known agg conv (Ok y) done old new h = (y, refl)
 forced_known agg conv (Err fault) done old new h = absurd (let e = h.0 in cc)
 
-forced_there : (h : HalfState) (agg : AggId) (conv : ℕ) (done : Unit) (new : SystemState) → IsHalfSound h
+pub forced_there : (h : HalfState) (agg : AggId) (conv : ℕ) (done : Unit) (new : SystemState) → IsHalfSound h
     → GivesOrRefuses agg conv (system_force_result h.state agg conv) h.state (Ok done) new → IsSome (flow_at h.flows agg.0 conv)
 forced_there h agg conv done new k x =
     let y = forced_known agg conv (system_force_result h.state agg conv) done h.state new x in

@@ -1,3 +1,4 @@
+mod calls_of_hosts;
 mod configurations;
 mod conversations;
 mod driven;

@@ -1,3 +1,4 @@
+use Rattle.lagprogress.proofs.HostWaits.{Host-timed}
 use Rattle.lagprogress.proofs.EachPort.{Step-each, first_each}
 use Rattle.lagprogress.proofs.Timers.{TimedAt, timed_kept, timed_settles, timed_starts}
 use Rattle.lagprogress.proofs.timers_are_bounded.Goals as goal
@@ -8,3 +9,7 @@ returns-clause-first g c = λ s h. first_each TimedAt timed_settles timed_starts
 pub returns-clause-kept : goal.returns-clause-kept
 returns-clause-kept g c = λ algorithm old new call reply h a. Step-each TimedAt timed_settles
     (λ conv count place. g.F.Fn.post algorithm (conv, (count, tt)) place) old call reply new (timed_kept call reply) h a
+
+pub returns-clause-hosts : goal.returns-clause-hosts
+returns-clause-hosts g c = λ algorithm. Host-timed (λ conv count place. g.F.Fn.post algorithm (conv, (count, tt)) place)
+    (λ old new call reply. returns-clause-kept g c algorithm old new call reply)

@@ -44,5 +44,5 @@ returns-clause-window g c =
     let old = c.args.self.now.state in
     let new = c.loop-call.self.state in
     let calls = map call_of c.args.calls.now in
-    window_law gives old new calls c.loop-call.replies.items c.open_invariant.ensures
+    window_law gives old new calls c.loop-call.replies.items c.open_invariant.ensures.ages
     (driven_runs gives old new calls c.loop-call.replies.items (returns-clause-driven g c))

@@ -1,0 +1,176 @@
+-- Lists of all calls keep the transmit limit, and ports that agree.
+use Rattle.lagsystem.proofs.Common.{Bool, Err, IfOk, List, None, Ok, Option, Result, Some, [], ap, arith, false, refl, subst, sym, true, ℕ, ◌++◌, ◌+◌}
+use Rattle.lagsystem.proofs.Common.{◌∙◌, ◌∷◌, ◌≡◌, nat_tests, AggId, Assignment, SystemFault, Reply, SystemPort, Call, Transmit, ForcesPort, FreesHeld}
+use Rattle.lagsystem.proofs.Common.{OffersIf, GivesOrRefuses, SendsMarkerOf, CallPromise, PortsAgree, SystemState, machines_of, port_index, with_table}
+use Rattle.lagsystem.proofs.Common.{AgesSince, EachAtMostThreeAges, remembered_sends, sends_after, next_identifier}
+use Rattle.portmachines.specs.Window.{KeepsWindow}
+use Rattle.lagsystem.specs.Calls.{RefusesNoPort}
+use Rattle.lagsystem.specs.Probing.{Probes, ProbesAt, ProbesIf}
+use Rattle.lagsystem.specs.declared.drive.HostCall.{HostCall}
+use Rattle.lagsystem.specs.declared.drive.HostCall.TheVariants as host
+use Rattle.lagsystem.specs.declared.drive.HostReply.{HostReply}
+use Rattle.lagsystem.specs.declared.drive.HostReply.TheVariants as told
+use Rattle.lagsystem.specs.declared.drive.Reply.TheVariants as reply
+use Rattle.lagsystem.specs.HostCalls.{HostAgreementLaw, HostPromise, HostRun, HostWindowLaw, KeepsAgreement, StaysWindowedForHosts}
+use Rattle.lagsystem.specs.HostCalls.{sends_after_host, tick_after_host}
+use Rattle.lagsystem.specs.Drives.{call_of}
+use Rattle.lagsystem.specs.ModelView.{model_setup}
+use Rattle.lagsystem.proofs.Preserves.{marker_silent, none_silent}
+use Rattle.lagsystem.proofs.Windows.{GoodAt, GoodIn, good_end, good_few, good_step, found, is_numbered, port_in}
+
+-- ---- the five calls change the conversations alone
+
+abbrev pub TableAlone : SystemState → SystemState → Type 0
+TableAlone old new = new ≡ with_table old new.table
+
+unmoved : (old new : SystemState) → new ≡ old → TableAlone old new
+unmoved old new e = grind (arith, nat_tests)
+
+offered_alone : (there known : Bool) (gives : ℕ → ℕ → ℕ → Type 0) (agg : AggId) (conv : ℕ) (old : SystemState)
+    (answer : Result ℕ SystemFault) (new : SystemState) → OffersIf there known gives agg conv old answer new → TableAlone old new
+offered_alone false known gives agg conv old answer new h = unmoved old new h.1
+offered_alone true false gives agg conv old answer new h = unmoved old new h.1
+offered_alone true true gives agg conv old (Ok port) new h = h.1.1
+offered_alone true true gives agg conv old (Err fault) new h = unmoved old new h.1
+
+given_alone : (agg : AggId) (conv : ℕ) (what : Result Assignment SystemFault) (old : SystemState) (answer : Result Unit SystemFault)
+    (new : SystemState) → GivesOrRefuses agg conv what old answer new → TableAlone old new
+given_alone agg conv (Ok state) old answer new h = h.1.1
+given_alone agg conv (Err fault) old answer new h = unmoved old new h.1
+
+forced_alone : (gives : ℕ → ℕ → ℕ → Type 0) (port : ℕ) (old : SystemState) (answer : Result ℕ SystemFault) (new : SystemState)
+    → ForcesPort gives port old answer new → IfOk answer (λ count. FreesHeld port old new) → TableAlone old new
+forced_alone gives port old (Ok count) new h k = k.others
+forced_alone gives port old (Err fault) new h k = unmoved old new h.same
+
+-- the call is none of those of `drive`
+abbrev pub IsOther : HostCall → Type 0
+IsOther (host.Call call) = ⊥
+IsOther call = Unit
+
+pub host_alone : (gives : ℕ → ℕ → ℕ → Type 0) (old : SystemState) (call : HostCall) (answer : HostReply) (new : SystemState)
+    → HostPromise gives old call answer new → IsOther call → TableAlone old new
+host_alone gives old (host.OfferConversation agg conv) (told.OfferConversation answer) new h k =
+    offered_alone _ _ gives agg conv old answer new h.0
+host_alone gives old (host.LeaveConversation agg conv) (told.LeaveConversation answer) new h k = h.1.others
+host_alone gives old (host.Probe port) (told.Probe answer) new h k = h.1.2.others
+host_alone gives old (host.Rest agg conv) (told.Rest answer) new h k = given_alone agg conv _ old answer new h.0
+host_alone gives old (host.ForcePort port) (told.ForcePort answer) new h k = forced_alone gives port old answer new h.1 h.2
+host_alone gives old (host.Call call) answer new h k = absurd k
+host_alone gives old call answer new h k = absurd h
+
+-- ---- the transmit limit
+
+marker_probe : (o : Option ℕ) (n now port : ℕ) (number : ℕ) (mac : List ℕ) (before : List ℕ) (old : SystemState)
+    (answer : Option (List ℕ)) (new : SystemState) → SendsMarkerOf o number mac old answer new
+    → sends_after n now (Transmit port) (reply.Transmit (Ok answer)) before ≡ before
+marker_probe None n now port number mac before old answer new h = (none_silent port answer h.0 n now before).1
+marker_probe (Some id) n now port number mac before old answer new h = (marker_silent port id number mac old answer new h n now before).1
+
+up_probe : (up : Bool) (n now port : ℕ) (system_port : SystemPort) (before : List ℕ) (old : SystemState) (answer : Option (List ℕ))
+    (new : SystemState) → ProbesIf up system_port old answer new
+    → sends_after n now (Transmit port) (reply.Transmit (Ok answer)) before ≡ before
+up_probe false n now port system_port before old answer new h = (none_silent port answer h.0 n now before).1
+up_probe true n now port system_port before old answer new h =
+    marker_probe (next_identifier old.table) n now port system_port.number system_port.mac before old answer new h
+
+place_probe : (o : Option ℕ) (n now port : ℕ) (before : List ℕ) (old : SystemState) (answer : Option (List ℕ)) (new : SystemState)
+    → ProbesAt o old answer new → sends_after n now (Transmit port) (reply.Transmit (Ok answer)) before ≡ before
+place_probe None n now port before old answer new h = absurd h
+place_probe (Some i) n now port before old answer new h = up_probe h.0.port.enabled n now port h.0 before old answer new h.2
+
+-- what is probed is no LACPDU
+probe_silent : (n now port : ℕ) (before : List ℕ) (old : SystemState) (answer : Result (Option (List ℕ)) SystemFault) (new : SystemState)
+    → Probes port old answer new → sends_after n now (Transmit port) (reply.Transmit answer) before ≡ before
+probe_silent n now port before old (Ok answer) new h = place_probe (port_index port old.system_ports) n now port before old answer new h
+probe_silent n now port before old (Err fault) new h = refl
+
+good_alone : (n now : ℕ) (before : List ℕ) (old new : SystemState) → TableAlone old new → GoodIn n now before old.system_ports
+    → GoodIn n now before new.system_ports
+good_alone n now before old new e g = subst (GoodIn n now before) (sym (ap (λ (s : SystemState). s.system_ports) e)) g
+
+good_host : (gives : ℕ → ℕ → ℕ → Type 0) (n now : ℕ) (before : List ℕ) (old : SystemState) (call : HostCall) (answer : HostReply)
+    (new : SystemState) → HostPromise gives old call answer new → GoodIn n now before old.system_ports
+    → GoodIn n (tick_after_host call now) (sends_after_host n now call answer before) new.system_ports
+good_host gives n now before old (host.Call call) (told.Call answer) new h g =
+    good_step gives n now before old (call_of call) answer new h.step g
+good_host gives n now before old (host.OfferConversation agg conv) (told.OfferConversation answer) new h g =
+    good_alone n now before old new (host_alone gives old (host.OfferConversation agg conv) (told.OfferConversation answer) new h tt) g
+good_host gives n now before old (host.LeaveConversation agg conv) (told.LeaveConversation answer) new h g =
+    good_alone n now before old new (host_alone gives old (host.LeaveConversation agg conv) (told.LeaveConversation answer) new h tt) g
+good_host gives n now before old (host.Probe port) (told.Probe answer) new h g =
+    subst (λ sends. GoodIn n now sends new.system_ports) (sym (probe_silent n now port before old answer new h.0))
+    (good_alone n now before old new (host_alone gives old (host.Probe port) (told.Probe answer) new h tt) g)
+good_host gives n now before old (host.Rest agg conv) (told.Rest answer) new h g =
+    good_alone n now before old new (host_alone gives old (host.Rest agg conv) (told.Rest answer) new h tt) g
+good_host gives n now before old (host.ForcePort port) (told.ForcePort answer) new h g =
+    good_alone n now before old new (host_alone gives old (host.ForcePort port) (told.ForcePort answer) new h tt) g
+good_host gives n now before old call answer new h g = absurd h
+
+good_hosts : (gives : ℕ → ℕ → ℕ → Type 0) (n now : ℕ) (before : List ℕ) (old new : SystemState) (calls : List HostCall)
+    (answers : List HostReply) → HostRun gives old calls answers new → GoodIn n now before old.system_ports
+    → StaysWindowedForHosts n now before calls answers
+good_hosts gives n now before old new [] [] h g = good_end now before _ g
+good_hosts gives n now before old new [] (a ∷ answers) h g = absurd h
+good_hosts gives n now before old new (c ∷ calls) [] h g = absurd h
+good_hosts gives n now before old new (c ∷ calls) (a ∷ answers) h g = (
+  good_end now before _ g,
+  good_hosts gives n (tick_after_host c now) (sends_after_host n now c a before) h.0 new calls answers h.2
+      (good_host gives n now before old c a h.0 h.1 g),
+)
+
+pub host_window : (gives : ℕ → ℕ → ℕ → Type 0) → HostWindowLaw gives
+host_window gives old new calls answers three run n now since =
+    good_hosts gives n now (remembered_sends now (machines_of n old)) old new calls answers run
+    (subst (λ o. GoodAt now (remembered_sends now (machines_of n old)) (port_in o)) (found n old.system_ports)
+    (good_few now (machines_of n old) since (three n)))
+
+-- ---- the ports agree
+
+pub agrees_beside : (old new : SystemState) → TableAlone old new → PortsAgree old → PortsAgree new
+agrees_beside old new e a = subst PortsAgree (sym e) (record {
+  ports = record { accepted = a.ports.accepted; same = a.ports.same };
+  rested = a.rested;
+  windowed = a.windowed;
+  members = a.members;
+  one_partner = a.one_partner;
+  limited = a.limited;
+  distribute = a.distribute;
+})
+
+pub keeps_beside : (old new : SystemState) → TableAlone old new → PortsAgree old → KeepsAgreement old new
+keeps_beside old new e a = record {
+  agrees = agrees_beside old new e a;
+  configured = ap model_setup e;
+  conversations = ap (λ (s : SystemState). s.conversations) e;
+  max_links = ap (λ (s : SystemState). s.max_links) e;
+}
+
+pub keeps_agreement : (gives : ℕ → ℕ → ℕ → Type 0) (old : SystemState) (call : HostCall) (answer : HostReply) (new : SystemState)
+    → PortsAgree old → HostPromise gives old call answer new → KeepsAgreement old new
+keeps_agreement gives old (host.Call call) (told.Call answer) new a h =
+    record { agrees = h.agrees; configured = h.configured; conversations = h.conversations; max_links = h.max_links }
+keeps_agreement gives old (host.OfferConversation agg conv) answer new a h =
+    keeps_beside old new (host_alone gives old (host.OfferConversation agg conv) answer new h tt) a
+keeps_agreement gives old (host.LeaveConversation agg conv) answer new a h =
+    keeps_beside old new (host_alone gives old (host.LeaveConversation agg conv) answer new h tt) a
+keeps_agreement gives old (host.Probe port) answer new a h = keeps_beside old new (host_alone gives old (host.Probe port) answer new h tt) a
+keeps_agreement gives old (host.Rest agg conv) answer new a h =
+    keeps_beside old new (host_alone gives old (host.Rest agg conv) answer new h tt) a
+keeps_agreement gives old (host.ForcePort port) answer new a h =
+    keeps_beside old new (host_alone gives old (host.ForcePort port) answer new h tt) a
+keeps_agreement gives old call answer new a h = absurd h
+
+pub host_agreement : (gives : ℕ → ℕ → ℕ → Type 0) → HostAgreementLaw gives
+host_agreement gives old new [] [] a h = subst (KeepsAgreement old) (sym h)
+    (record { agrees = a; configured = refl; conversations = refl; max_links = refl })
+host_agreement gives old new [] (r ∷ answers) a h = absurd h
+host_agreement gives old new (c ∷ calls) [] a h = absurd h
+host_agreement gives old new (c ∷ calls) (r ∷ answers) a h =
+    let one = keeps_agreement gives old c r h.0 a h.1 in
+    let more = host_agreement gives h.0 new calls answers one.agrees h.2 in record {
+      agrees = more.agrees;
+      configured = more.configured ∙ one.configured;
+      conversations = more.conversations ∙ one.conversations;
+      max_links = more.max_links ∙ one.max_links;
+    }
