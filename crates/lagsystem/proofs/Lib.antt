@@ -9,6 +9,7 @@ pub mod Limiting
 pub mod NextLemmas
 pub mod MemberCounts
 pub mod ForcingLemmas
+pub mod ReceivingLemmas
 pub mod StateLemmas
 pub mod TableLemmas
 pub mod HoldingLemmas

@@ -1,12 +1,13 @@
 -- An LACPDU after which the port looks the same to the Selection Logic: a settling goes on with this port alone.
 use Rattle.lagsystem.proofs.Common.{Bool, List, Option, Some, [], ap, arith, false, refl, slice_get, slice_set, subst, suc, sym, true, zero, ℕ, ◌∙◌}
 use Rattle.lagsystem.proofs.Common.{◌∷◌, ◌≡◌, nat_tests, same_Some, OnTrue, AllByRecursion, AggId, Key, Lacpdu, Machines, mux_rows, RunsPeriodic}
-use Rattle.lagsystem.proofs.Common.{AtRest, RunsToRest, one_mux, Reaches-keeps, PortView, ChangesAssignments, Table, SystemPort, OnlyPortChangesBy}
+use Rattle.lagsystem.proofs.Common.{AtRest, FiresTimes, RunsToRest, one_mux, Reaches-keeps, PortView, ChangesAssignments, Table, SystemPort, OnlyPortChangesBy}
 use Rattle.lagsystem.proofs.Common.{PortAtChangesBy, ProcessesLacpdu, ThenSettles, after_holding, aggregators_in_use, stopped, HasRecordedActor}
 use Rattle.lagsystem.proofs.Common.{IsSamePartner, LooksUnchanged, MuxIsSettled, MuxesAreSettled, PeriodicsAreSettled, ProcessesLacpduAt, NoneIsNext}
 use Rattle.lagsystem.proofs.Common.{collecting, PortChangesBy, PortsChangeBy, SettlesPorts, Settling, IsSound, SystemState, aggregators_value}
 use Rattle.lagsystem.proofs.Common.{with_system_ports, selection_view, stage_of, views}
 use Rattle.selection.specs.declared.view.Stage.TheVariants as stage
+use Rattle.lagsystem.specs.NothingToSettle.{ProcessesLacpduAndRunsMux}
 use Rattle.lagsystem.proofs.Keeps.{ports_keep, ports_table, settling_joined}
 use Rattle.lagsystem.proofs.PlaceLemmas.{in_use_before}
 use Rattle.lagsystem.proofs.Quieting.{paced_runs, settles_from, still_mux}
@@ -198,6 +199,23 @@ ran_alike s q h e = λ i. record (rest i) { stage = e i }
     rest = Reaches-keeps seen_but_stage (mux_rows false)
         ((λ p. refl), ((λ p. refl), ((λ p. refl), ((λ p. refl), ((λ p. refl), ((λ p. refl), tt)))))) h.0 s.port q h.1
 
-pub ran_looks : (s t : SystemPort) → PortChangesBy (RunsToRest (mux_rows false)) s t
-    → (selection_view t).stage ≡ (selection_view s).stage → LooksUnchanged s t
-ran_looks s t h e = grind (arith, nat_tests, ran_alike)
+-- a port that processed an LACPDU and ran its mux machine
+pub took_and_ran : (v : Lacpdu) (s : SystemPort) (p q : Machines) (n : ℕ) (alike : Bool) → ProcessesLacpdu v s.port p
+    → FiresTimes (mux_rows false) n p q → AtRest (mux_rows false) q
+    → OnTrue alike (LooksUnchanged s (record s { port = p }) × LooksUnchanged s (record s { port = q }))
+    → ProcessesLacpduAndRunsMux v s alike (record s { port = q })
+took_and_ran v s p q n alike took fired rest same = record {
+  mid = record s { port = p };
+  processes = (refl, took);
+  runs = (refl, (n, fired, rest));
+  same = same;
+}
+
+-- it looks as before if the LACPDU came from its recorded partner and left that as it was, and the mux machine left the stage
+pub both_alike : (v : Lacpdu) (s : SystemPort) (p q : Machines) (n : ℕ) → ProcessesLacpdu v s.port p → HasRecordedActor v s
+    → IsSamePartner s.port.partner p.partner → FiresTimes (mux_rows false) n p q → AtRest (mux_rows false) q
+    → stage_of q.mux q.wait_while ≡ stage_of p.mux p.wait_while
+    → LooksUnchanged s (record s { port = p }) × LooksUnchanged s (record s { port = q })
+both_alike v s p q n took known same fired rest e =
+    let processed : LooksUnchanged s (record s { port = p }) = took_alike v s p took known same in
+    (processed, ran_alike (record s { port = p }) q (n, fired, rest) e ∙ processed)

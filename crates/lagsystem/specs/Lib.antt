@@ -5,6 +5,7 @@ pub mod Settling
 pub mod Promoting
 pub mod First
 pub mod Readers
+pub mod Receiving
 pub mod Offers
 pub mod Sending
 pub mod Calls

@@ -1,6 +1,6 @@
 ghost use Rattle.std.specs.Prelude.{◌≡◌, ◌<◌, ◌≤◌, IfErr, IfOk, None, Some, length, vec_len};
 ghost use Rattle.distributor.specs.Calls.{PicksIndexes};
-ghost use Rattle.lagsystem.specs.Calls.{Call, OnlyPortChangesBy, ReceivesAt, Releases, ThenSettles, Step, ProcessesLacpdu, is_own_response};
+ghost use Rattle.lagsystem.specs.Calls.{Call, OnlyPortChangesBy, Releases, ThenSettles, Step, ProcessesLacpdu, is_own_response};
 ghost use Rattle.lagsystem.specs.First.{fault_or_no_memory, config_refusal};
 ghost use Rattle.lagsystem.specs.Hosts.{conversation_at, would_transmit};
 ghost use Rattle.lagsystem.specs.Inner.{inner_state};
@@ -8,6 +8,7 @@ ghost use Rattle.lagsystem.specs.Holding.{WereInUse};
 ghost use Rattle.lagsystem.specs.Offers.{has_aggregator};
 ghost use Rattle.lagsystem.specs.Readers.{number_of_conversation, conversation_count};
 ghost use Rattle.lagsystem.specs.Sending.{SendsMarker, own_marker};
+ghost use Rattle.lagsystem.specs.Receiving.{ReceivesControl};
 ghost use Rattle.lagsystem.specs.Settling.{Settling, SettlesPorts};
 ghost use Rattle.lagsystem.specs.Sound.{IsMade, IsSound};
 ghost use Rattle.lagsystem.specs.State.{port_index};
@@ -24,7 +25,7 @@ use crate::holding::{
     list_aggregators_in_use_before,
 };
 use crate::offers::check_offer;
-use crate::parse::{parse_frame, take_data_frame};
+use crate::parse::parse_payload;
 use crate::process_lacpdu::{process_lacpdu_at, run_periodic_at};
 use crate::received::{FrameEffect, Received};
 use crate::set_link::set_link_at;
@@ -34,10 +35,11 @@ use crate::system_ports::{SystemPort, port_index};
 use crate::tick::tick_each;
 use crate::transmit::{control_frame, is_lacpdu_due, transmit_lacpdu_at};
 use arrayvec::ArrayVec;
+use collector::collect;
 use distributor::{Assignment, Distributor};
 use lagtypes::{AggId, SystemId};
 use selection::Aggregators;
-use slowpdu::{Lacpdu, Marker, MarkerKind};
+use slowpdu::{Kind, Lacpdu, Marker, MarkerKind, classify};
 use std::alloc::Global;
 
 /// The fields of a `System`. Its calls are proved on this struct; `System` wraps it, so that contracts do not name the
@@ -172,23 +174,28 @@ impl<F: Fn(u16, usize) -> usize + Drop> Inner<F> {
         ensures algorithm { self.new.distributor.algorithm ≡ self.old.distributor.algorithm }
     {
         let place = self.port_index(number)?;
-        match take_data_frame(&self.system_ports[place], octets) {
-            Some(taken) => Ok(Received::from(taken)),
-            None => Ok(self.receive_at(place, octets)),
+        let port = &self.system_ports[place].port;
+        if !port.is_enabled() {
+            return Ok(Received::Disabled);
+        }
+        match classify(octets) {
+            Kind::TooShort => Ok(Received::Dropped),
+            Kind::Data => Ok(Received::from(collect(collecting(port), octets))),
+            Kind::Control(payload) => Ok(self.receive_control(place, payload)),
         }
     }
 
-    /// Takes a frame that came on the port at this index, as `System::receive` does. `receive` takes a data frame without it, since
-    /// the answers of this function have room for a Marker Response, which costs time to pass on.
+    /// Takes the payload of a control frame that came on the port at this index, whose link is up. Not inlined: its answers have room
+    /// for a Marker Response, which a data frame would pay for.
     #[inline(never)]
-    fn receive_at(&mut self, place: usize, octets: &[u8]) -> Received
+    fn receive_control(&mut self, place: usize, payload: &[u8]) -> Received
         requires sound { IsSound (inner_state self.old) }
         requires within { place < length self.old.system_ports.items }
-        ensures received { ReceivesAt (Some place) octets.now (inner_state self.old) result (inner_state self.new) }
+        ensures received { ReceivesControl place payload.now (inner_state self.old) result (inner_state self.new) }
         ensures algorithm { self.new.distributor.algorithm ≡ self.old.distributor.algorithm }
     {
         let number = self.system_ports[place].number;
-        match parse_frame(&self.system_ports[place], octets) {
+        match parse_payload(&self.system_ports[place], payload) {
             FrameEffect::ProcessLacpdu(pdu) => {
                 self.process_lacpdu(place, &pdu);
                 Received::TookLacpdu

@@ -1,14 +1,9 @@
-ghost use Rattle.std.specs.Prelude.{false, ◌<◌, ◌≡◌, Some, length};
+ghost use Rattle.std.specs.Prelude.{◌<◌, ◌≡◌, Some, length};
 ghost use Rattle.std.specs.Bool.{OnTrue};
-ghost use Rattle.lagsystem.specs.Calls.{PortAtChangesBy, ProcessesLacpdu};
-ghost use Rattle.portmachines.specs.Mux.{mux_rows};
 ghost use Rattle.portmachines.specs.Periodic.{RunsPeriodic};
-ghost use Rattle.portmachines.specs.Rows.{RunsToRest};
-ghost use Rattle.lagsystem.specs.NothingToSettle.{IsSamePartner, HasRecordedActor, LooksUnchanged, ProcessesLacpduAndRunsMux};
-ghost use Rattle.lagsystem.specs.NothingToSettle.{ProcessesLacpduAt};
-ghost use Rattle.lagsystem.specs.Settling.{PortChangesBy};
+ghost use Rattle.lagsystem.specs.Calls.{PortAtChangesBy};
+ghost use Rattle.lagsystem.specs.NothingToSettle.{HasRecordedActor, IsSamePartner, ProcessesLacpduAndRunsMux, ProcessesLacpduAt};
 
-use crate::settling::run_mux_rows;
 use crate::system_ports::{SystemPort, stage};
 use portmachines::ReceiveState;
 use selection::Stage;
@@ -42,48 +37,30 @@ fn is_same_stage(now: Stage, was: Stage) -> bool
     now == was
 }
 
-/// Processes an LACPDU. If this returns true, the Selection Logic sees the port as before; false says nothing.
+/// Processes an LACPDU on a port, and runs its mux machine with Ready false, as the first step of a settling does. If this returns
+/// true, the Selection Logic sees the port as before; false says nothing.
 fn process_lacpdu_on(system_port: &mut SystemPort, pdu: &Lacpdu) -> bool
-    ensures taken { PortChangesBy (ProcessesLacpdu pdu.now) system_port.old system_port.new }
-    ensures same { OnTrue result (LooksUnchanged system_port.old system_port.new) }
-{
-    let was = system_port.port.partner();
-    let known = has_recorded_actor(system_port, pdu);
-    system_port.port.take(pdu);
-    let now = system_port.port.partner();
-    known && is_same_partner(&now, &was)
-}
-
-/// Runs the mux machine of a port with Ready false. If this returns true, the Selection Logic sees the port as before; false says
-/// nothing.
-fn run_mux_on(system_port: &mut SystemPort) -> bool
-    ensures ran { PortChangesBy (RunsToRest (mux_rows false)) system_port.old system_port.new }
-    ensures same { OnTrue result (LooksUnchanged system_port.old system_port.new) }
-{
-    let was = stage(system_port);
-    run_mux_rows(system_port, false);
-    let now = stage(system_port);
-    is_same_stage(now, was)
-}
-
-/// Processes an LACPDU on a port, and runs its mux machine with Ready false. If this returns true, the Selection Logic sees the
-/// port as before; false says nothing.
-fn process_lacpdu_and_run_mux(system_port: &mut SystemPort, pdu: &Lacpdu) -> bool
     ensures { ProcessesLacpduAndRunsMux pdu.now system_port.old result system_port.new }
 {
-    let taken = process_lacpdu_on(system_port, pdu);
-    let ran = run_mux_on(system_port);
-    taken && ran
+    let known = has_recorded_actor(system_port, pdu);
+    let partner = system_port.port.partner();
+    system_port.port.take(pdu);
+    let same_partner = is_same_partner(&system_port.port.partner(), &partner);
+    let before = stage(system_port);
+    let _fired = system_port.port.mux(false);
+    if !known || !same_partner {
+        return false;
+    }
+    is_same_stage(stage(system_port), before)
 }
 
-/// Processes an LACPDU on the port at this index, and runs its mux machine with Ready false, as the first step of a settling does.
-/// If this returns true, the Selection Logic sees the port as before; false says nothing.
+/// Processes an LACPDU on the port at this index, as `process_lacpdu_on` does.
 pub(crate) fn process_lacpdu_at(system_ports: &mut [SystemPort], place: usize, pdu: &Lacpdu) -> bool
     requires { place < length system_ports.old }
     ensures { ProcessesLacpduAt pdu.now place system_ports.old result system_ports.new }
 {
     let system_port = &mut system_ports[place];
-    process_lacpdu_and_run_mux(system_port, pdu)
+    process_lacpdu_on(system_port, pdu)
 }
 
 /// Runs the periodic machine of the port at this index until none of its rows is enabled. No timer counts down.

@@ -6,7 +6,7 @@ ghost use Rattle.portmachines.specs.Mux.{mux_rows};
 ghost use Rattle.portmachines.specs.Periodic.{RunsPeriodic};
 ghost use Rattle.selection.specs.Views.{has_waited, is_eligible};
 ghost use Rattle.lagsystem.specs.Views.{selection_view, views};
-ghost use Rattle.lagsystem.specs.Settling.{PortsChangeBy, PortChangesBy, SettlesPorts, after_choice_at, after_choices, ready_of};
+ghost use Rattle.lagsystem.specs.Settling.{PortsChangeBy, SettlesPorts, after_choice_at, after_choices, ready_of};
 ghost use Rattle.lagsystem.specs.Settling.{ChoosesAndRunsMux, ChoosesIn, choice_in, is_restless};
 ghost use Rattle.lagsystem.specs.State.{SystemState, aggregators_value, with_system_ports};
 
@@ -16,19 +16,12 @@ use arrayvec::ArrayVec;
 use lagtypes::{AggId, Choice};
 use selection::{Aggregators, PortView};
 
-/// Runs the mux machine of a port, with this value of Ready.
-pub(crate) fn run_mux_rows(system_port: &mut SystemPort, ready: bool)
-    ensures { PortChangesBy (RunsToRest (mux_rows ready)) system_port.old system_port.new }
-{
-    let _fired = system_port.port.mux(ready);
-}
-
 /// Step 1: each mux machine runs with Ready false, so that ports leave their aggregators before any port chooses.
 fn run_mux_not_ready(system_ports: &mut [SystemPort])
     ensures { PortsChangeBy (RunsToRest (mux_rows false)) system_ports.old system_ports.new }
 {
     for system_port in system_ports.iter_mut() {
-        run_mux_rows(system_port, false);
+        let _fired = system_port.port.mux(false);
     }
 }
 
@@ -201,17 +194,9 @@ fn run_each_mux(aggregators: &Aggregators, system_ports: &mut [SystemPort], port
         system_ports.old system_ports.new }
 {
     for system_port in system_ports.iter_mut() {
-        run_one_mux(aggregators, system_port, port_views);
+        let ready = ready_of(aggregators, port_views, system_port.port.choice());
+        let _fired = system_port.port.mux(ready);
     }
-}
-
-/// Runs the mux machine of a port; Ready is worked out from these views.
-fn run_one_mux(aggregators: &Aggregators, system_port: &mut SystemPort, port_views: &[PortView])
-    ensures { PortChangesBy (λ p q. RunsToRest (mux_rows (ready_of aggregators.now.keys port_views.now p.choice)) p q)
-        system_port.old system_port.new }
-{
-    let ready = ready_of(aggregators, port_views, system_port.port.choice());
-    run_mux_rows(system_port, ready);
 }
 
 /// Ready of the aggregator of which the port is a member; false if it is of none.
@@ -252,19 +237,12 @@ fn choose_and_run_mux(aggregators: &Aggregators, system_ports: &mut [SystemPort]
     }
 }
 
-/// Runs the periodic machine of a port.
-fn run_one_periodic(system_port: &mut SystemPort)
-    ensures { PortChangesBy RunsPeriodic system_port.old system_port.new }
-{
-    system_port.port.periodic();
-}
-
 /// Step 5: each periodic machine runs.
 fn run_each_periodic(system_ports: &mut [SystemPort])
     ensures { PortsChangeBy RunsPeriodic system_ports.old system_ports.new }
 {
     for system_port in system_ports.iter_mut() {
-        run_one_periodic(system_port);
+        system_port.port.periodic();
     }
 }
 

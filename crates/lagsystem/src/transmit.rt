@@ -2,7 +2,7 @@ ghost use Rattle.std.specs.Prelude.{◌≡◌, ◌<◌, length};
 ghost use Rattle.slowpdu.specs.Frames.{frame_octets};
 ghost use Rattle.slowpdu.specs.Layout.{IsAddress};
 ghost use Rattle.portmachines.specs.Transmit.{is_due};
-ghost use Rattle.lagsystem.specs.Sending.{SendsLacpduIfDue, PortSendsLacpduIfDue};
+ghost use Rattle.lagsystem.specs.Sending.{PortSendsLacpduIfDue};
 
 use crate::system_ports::SystemPort;
 use portmachines::Port;
@@ -26,18 +26,6 @@ pub(crate) fn is_lacpdu_due(port: &Port) -> bool
     port.ntt() && port.ages().len() < MOST_LACPDUS
 }
 
-/// The LACPDU that is due on a port, as a control frame; None if none is due.
-fn transmit_lacpdu(system_port: &mut SystemPort, max_delay: u16) -> Option<[u8; 124]>
-    ensures kept { system_port.new ≡ record system_port.old { port = system_port.new.port } }
-    ensures sends { SendsLacpduIfDue max_delay system_port.old result system_port.new.port }
-{
-    let mac = system_port.mac;
-    match system_port.port.transmit(max_delay) {
-        Some(pdu) => Some(control_frame(mac, &pdu.encode())),
-        None => None,
-    }
-}
-
 /// The LACPDU that is due on the port at this index, as a control frame; None if none is due.
 pub(crate) fn transmit_lacpdu_at(
     system_ports: &mut [SystemPort],
@@ -48,5 +36,9 @@ pub(crate) fn transmit_lacpdu_at(
     ensures { PortSendsLacpduIfDue max_delay place result system_ports.old system_ports.new }
 {
     let system_port = &mut system_ports[place];
-    transmit_lacpdu(system_port, max_delay)
+    let mac = system_port.mac;
+    match system_port.port.transmit(max_delay) {
+        Some(pdu) => Some(control_frame(mac, &pdu.encode())),
+        None => None,
+    }
 }

@@ -1,11 +1,12 @@
-use Rattle.lagsystem.proofs.Common.{arith, SoFar-all, SoFar-more, RunsPeriodic, PortChangesBy}
+use Rattle.lagsystem.proofs.Common.{arith, get_or, refl, SoFar-all, SoFar-more, RunsPeriodic, PortChangesBy}
 use Rattle.lagsystem.proofs.settling.run_each_periodic.Goals as goal
 
 pub loop-system_port-preserved : goal.loop-system_port-preserved
 loop-system_port-preserved c =
+    let s = get_or c.loop-system_port.system_ports c.loop-system_port.system_port-index c.system_port-item.result in
     SoFar-more (PortChangesBy (RunsPeriodic)) c.loop-system_port.system_port-index c.args.system_ports.now c.loop-system_port.system_ports
-    c.system_port-item.result c.run_one_periodic.new.system_port
-    (omega arith) c.loop-system_port.invariant c.run_one_periodic.ensures
+    c.system_port-item.result (record s { port = c.periodic.new.self })
+    (omega arith) c.loop-system_port.invariant (refl, c.periodic.ensures)
 
 pub returns : goal.returns
 returns c =

@@ -1,6 +1,6 @@
 use Rattle.lagsystem.proofs.Common.{Some, ap, refl, slice_get, subst, sym, ◌∙◌, ◌≡◌, same_Some, slice_get-get_or, Answered, ProcessLacpdu, Response}
-use Rattle.lagsystem.proofs.Common.{Released, SystemPort, ParsesFrame, Releases, is_own_response, inner_state}
-use Rattle.lagsystem.proofs.inner.Inner.receive_at.Goals as goal
+use Rattle.lagsystem.proofs.Common.{Released, SystemPort, ParsesPayload, Releases, is_own_response, inner_state}
+use Rattle.lagsystem.proofs.inner.Inner.receive_control.Goals as goal
 
 pub returns-in-ProcessLacpdu-clause-received : goal.returns-in-ProcessLacpdu-clause-received
 returns-in-ProcessLacpdu-clause-received g c =
@@ -9,7 +9,7 @@ returns-in-ProcessLacpdu-clause-received g c =
       system_port,
       ProcessLacpdu c.in-ProcessLacpdu.pdu,
       slice_get-get_or v.items c.args.place system_port c.requires.within ∙ ap (λ (x : SystemPort). Some x) (sym c.index-2.ensures),
-      subst (λ h. ParsesFrame system_port c.args.octets.now h) c.in-ProcessLacpdu.is c.parse_frame.ensures,
+      subst (λ h. ParsesPayload system_port c.args.payload.now h) c.in-ProcessLacpdu.is c.parse_payload.ensures,
       (refl, c.process_lacpdu.ensures.settled),
     )
 
@@ -27,7 +27,7 @@ returns-in-Response-clause-received g c =
       system_port,
       Response m,
       there,
-      subst (λ h. ParsesFrame system_port c.args.octets.now h) c.in-Response.is c.parse_frame.ensures,
+      subst (λ h. ParsesPayload system_port c.args.payload.now h) c.in-Response.is c.parse_payload.ensures,
       subst (λ (x : SystemPort). Releases (is_own_response (inner_state c.args.self.now) x.number m) x.number m
           (inner_state c.args.self.now) (Released c.release.result) (inner_state c.release.new.self)) same c.release.ensures.released,
     )
@@ -39,6 +39,6 @@ returns-in-Answered-clause-received g c =
       Answered c.in-Answered.reply,
       slice_get-get_or c.args.self.now.system_ports.items c.args.place system_port c.requires.within
           ∙ ap (λ (x : SystemPort). Some x) (sym c.index-2.ensures),
-      subst (λ h. ParsesFrame system_port c.args.octets.now h) c.in-Answered.is c.parse_frame.ensures,
+      subst (λ h. ParsesPayload system_port c.args.payload.now h) c.in-Answered.is c.parse_payload.ensures,
       (refl, refl),
     )
