@@ -112,7 +112,7 @@ def of_module(octets: bytes, jobs: list[Job], folder: str) -> list[Answer]:
     if ended.returncode:
         raise Missing(f"node failed: {ended.stderr.strip()[-800:]}")
     with open(at["answers.json"], encoding="utf-8") as it:
-        return [tuple(found) for found in json.load(it)]
+        return [(status, printed, said) for status, printed, said in json.load(it)]
 
 
 def compared(octets: bytes, lagtool: str, folder: str, seed: int, count: int) -> tuple[int, list[str]]:
