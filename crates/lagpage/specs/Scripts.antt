@@ -1,6 +1,7 @@
 -- What is told of a script: the texts of the job of `lagtool`.
-use Rattle.std.specs.Prelude.{◌≡◌, ◌<◌, ◌⊎◌, ¬, ℕ, ◌^◌, ◌++◌, List, [], ◌∷◌, codes, length, take}
-use Rattle.core.specs.Str.{IsUtf8, utf8_valid_len}
+use Rattle.std.specs.Prelude.{◌≡◌, ◌<◌, ◌⊎◌, ℕ, ◌^◌, ◌++◌, List, [], ◌∷◌, codes, length, take}
+use Rattle.std.specs.Str.{IsUtf8}
+use Rattle.std.specs.Str.Lossy.{utf8_valid_len}
 use Rattle.distributor.specs.Calls.{index_by_number}
 use Rattle.lagscript.specs.declared.fault.ScriptFault.{ScriptFault}
 use Rattle.lagtool_jobs.specs.Explained.{SaysFault, utf8_text}
@@ -57,4 +58,4 @@ pub record TellsNoUtf8 (octets : List ℕ) (t : Told) : Type 0 where
 
 -- what is told of a file that is replayed
 abbrev pub TellsReplay : List ℕ → Told → Type 0
-TellsReplay octets t = (IsUtf8 octets × TellsScript octets t) ⊎ (¬ (IsUtf8 octets) × TellsNoUtf8 octets t)
+TellsReplay octets t = (IsUtf8 octets × TellsScript octets t) ⊎ ((IsUtf8 octets → ⊥) × TellsNoUtf8 octets t)

@@ -1,6 +1,6 @@
 -- What is told of a payload, of a frame that is to be answered, and of the vectors: the texts of the jobs of `lagtool`.
-use Rattle.std.specs.Prelude.{◌≡◌, ◌<◌, ◌⊎◌, ¬, ℕ, ◌==◌, Bool, List, [], Ok, IsErr, codes, length, if◌then◌else◌}
-use Rattle.core.specs.Str.{IsUtf8}
+use Rattle.std.specs.Prelude.{◌≡◌, ◌<◌, ◌⊎◌, ℕ, ◌==◌, Bool, List, [], Ok, IsErr, codes, length, if◌then◌else◌}
+use Rattle.std.specs.Str.{IsUtf8}
 use Rattle.std.specs.Io.{StartsWith}
 use Rattle.hex.specs.Hex.{decode_of}
 use Rattle.lagtool_jobs.specs.Engines.{SaysMac, status_of}
@@ -35,7 +35,7 @@ TellsDecodeOf hex t =
     ⊎ (IsErr (decode_of hex) × ((said : List ℕ) × SaysNoHex hex said × Tells 2 [] said t))
 
 abbrev pub TellsDecode : List ℕ → Told → Type 0
-TellsDecode hex t = (IsUtf8 hex × TellsDecodeOf hex t) ⊎ (¬ (IsUtf8 hex) × TellsNoWord t)
+TellsDecode hex t = (IsUtf8 hex × TellsDecodeOf hex t) ⊎ ((IsUtf8 hex → ⊥) × TellsNoWord t)
 
 -- what is told of a frame that is to be answered, or of words that are none; the address is checked first
 abbrev pub TellsRespondOf : List ℕ → List ℕ → Told → Type 0
@@ -46,7 +46,7 @@ TellsRespondOf mac hex t =
 
 abbrev pub TellsRespond : List ℕ → List ℕ → Told → Type 0
 TellsRespond mac hex t =
-    ((IsUtf8 mac × IsUtf8 hex) × TellsRespondOf mac hex t) ⊎ ((¬ (IsUtf8 mac) ⊎ ¬ (IsUtf8 hex)) × TellsNoWord t)
+    ((IsUtf8 mac × IsUtf8 hex) × TellsRespondOf mac hex t) ⊎ (((IsUtf8 mac → ⊥) ⊎ (IsUtf8 hex → ⊥)) × TellsNoWord t)
 
 -- a line for each of the ten vectors, and the counts
 pub record TellsVectors (t : Told) : Type 0 where

@@ -1,5 +1,5 @@
 ghost use Rattle.std.specs.Prelude.{◌≡◌, ◌<◌, ◌^◌, IfOk, length, string_bytes, take};
-ghost use Rattle.core.specs.Str.{utf8_valid_len};
+ghost use Rattle.std.specs.Str.Lossy.{utf8_valid_len};
 ghost use Rattle.distributor.specs.Calls.{index_by_number};
 ghost use Rattle.lagpage.specs.Answers.{Answers};
 ghost use Rattle.lagpage.specs.Scripts.{SaysNoScript, TellsNoUtf8, TellsReplay, TellsScript};
