@@ -65,6 +65,9 @@ fn told_of_replay(alloc: Global, octets: &[u8]) -> Result<Told, AllocError>
     }
 }
 
+// promise: what is told of a script is the report of its run; else its fault, and where it is no UTF-8, no TOML or no script
+// contract: `lagpage_replay` (`TellsReplay`)
+// not said: the words of the fault, and those behind the place, as in `explain`
 /// Replays a script as `lagtool --explain replay script` does. It writes what is printed at the front of `out`, and behind it what
 /// is said on standard error: of a text that is no script a line of its fault, and one that says why, with the line and the column
 /// where it is no TOML or no UTF-8.

@@ -90,6 +90,10 @@ fn told_of_answered(alloc: Global, mac: &[u8], hex: &[u8]) -> Result<Told, Alloc
     }
 }
 
+// promise: what is told of a payload, of a frame that is to be answered and of the vectors is what `show`, `reply` and `vectors` write, and
+//    their status
+// contract: `lagpage_decode`, `lagpage_respond`, `lagpage_vectors` (`TellsDecode`, `TellsRespond`, `TellsVectors`)
+// not said: the character that is no digit
 /// Says what a payload in hexadecimal is as `lagtool --explain decode` does. It writes what is printed at the front of `out`, and
 /// behind it what is said on standard error.
 #[unsafe(no_mangle)]
