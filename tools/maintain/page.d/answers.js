@@ -2,7 +2,7 @@
  * its answer [status, printed, said]; 'stream' is a capture that is read slice by slice. */
 import { readFileSync, writeFileSync } from "node:fs";
 
-/* A file and its reader, as a browser has them. */
+/* The reader of files, as a browser has it. */
 globalThis.FileReaderSync = class {
     readAsArrayBuffer(it) {
         return it;
@@ -16,7 +16,8 @@ const textOf = (it) => new Uint8Array(Buffer.from(it, "base64"));
 function answerOf([name, texts, options]) {
     if (name !== "stream") return lagtool.now(name, ...texts.map(textOf), options);
     let printed = "";
-    const told = streamed(lagtool.module, textOf(texts[0]), numbersOf(options), (it) => { printed += it.printed ?? ""; });
+    const octets = textOf(texts[0]), file = { size: octets.length, slice: (from, to) => octets.slice(from, to) };
+    const told = streamed(lagtool.module, file, numbersOf(options), (it) => { printed += it.printed ?? ""; });
     return { ...told, printed };
 }
 
