@@ -48,6 +48,7 @@ function streamed(module, file, numbers, tell) {
     };
     const next = () => {
         slice = new Uint8Array(reader.readAsArrayBuffer(file.slice(from, from + SLICE)));
+        if (slice.length < Math.min(SLICE, file.size - from)) throw new Error("it is shorter than it was");
         [from, at] = [from + slice.length, 0];
         tell({ read: from });
     };

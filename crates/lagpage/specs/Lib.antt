@@ -1,2 +1,4 @@
 pub mod Answers
-pub mod Jobs
+pub mod Captures
+pub mod Scripts
+pub mod Words

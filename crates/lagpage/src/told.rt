@@ -15,12 +15,12 @@ pub(crate) struct Told {
 }
 
 /// Puts what is said behind what is printed. `AllocError` if memory is refused.
-pub(crate) fn make_told(printed: Vec<u8>, said: &str, status: u32) -> Result<Told, AllocError>
+pub(crate) fn make_told(printed: Vec<u8>, said: &[u8], status: u32) -> Result<Told, AllocError>
     ensures { IfOk result (λ t. Tells status printed.items said.now t) }
 {
     let mut octets = printed;
     let count = octets.len();
-    octets.extend_from_slice(said.as_bytes())?;
+    octets.extend_from_slice(said)?;
     Ok(Told {
         octets,
         printed: count,

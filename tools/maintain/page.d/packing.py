@@ -66,7 +66,8 @@ def packed(module: bytes) -> str:
     style, script = text_of("style.css"), joined()
     with open(EXAMPLE, "rb") as it, open(os.path.join(TOP, "VERSION"), encoding="utf-8") as number:
         capture, version = it.read(), number.read().strip()
-    policy = f"default-src 'none'; script-src {digest(script)} 'wasm-unsafe-eval'; style-src {digest(style)}; worker-src blob:; base-uri 'none'; form-action 'none'"
+    allowed = f"script-src {digest(script)} 'wasm-unsafe-eval'; style-src {digest(style)}; worker-src blob:"
+    policy = f"default-src 'none'; {allowed}; base-uri 'none'; form-action 'none'"
     values = {"POLICY": policy, "STYLE": style, "SCRIPT": script, "MODULE": block(module), "CAPTURE": block(capture)}
     values |= {"EXAMPLES": scripts(), "VERSION": version}
     return re.sub(r"@([A-Z]+)@", lambda found: values[found[1]], text_of("index.html"))
