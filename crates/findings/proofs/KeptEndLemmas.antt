@@ -2,7 +2,7 @@
 use Rattle.std.proofs.Common.{◌≡◌, ◌∷◌, ◌∙◌, [], ℕ, Bool, List, Option, None, Some, refl, sym, ap, false}
 use Rattle.findings.specs.declared.slow_frame.LinkEnd.{LinkEnd}
 use Rattle.findings.specs.declared.slow_frame.SlowFrame.{SlowFrame}
-use Rattle.findings.specs.Ends.{Relation, Unsent, answers, faces, frames_of, is_sibling, lacpdus, latest, rivals, said, end_of, same_end, others}
+use Rattle.findings.specs.Ends.{Relation, Unsent, answers, faces, frames_of, intrudes, is_named, is_sibling, lacpdus, latest, rivals, said, end_of, same_end, others}
 use Rattle.findings.specs.Markers.{first_overdue, open_marker, response_in, unless_answered, asking}
 use Rattle.slowpdu.specs.declared.pdu.Marker.{Marker}
 use Rattle.findings.specs.Responses.{first_response, is_overdue, is_unasked, owed, request, responding}
@@ -70,6 +70,8 @@ before_first e h u = λ i. record {
     rival = sym (none_latest rivals e h u) i;
     sibling = sym (none_latest is_sibling e h u) i;
     facing = sym (none_latest faces e h u) i;
+    third = sym (none_latest intrudes e h u) i;
+    named = sym (none_latest is_named e h u) i;
   };
   recent = recent_of (sym (no_lacpdus e h u) i);
   lacpdus = lacpdu_rules (sym (no_lacpdus e h u) i);

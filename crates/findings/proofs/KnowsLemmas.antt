@@ -9,9 +9,11 @@ use Rattle.std.specs.List.{AllByRecursion, AllZip, refill}
 use Rattle.findings.specs.declared.slow_frame.LinkEnd.{LinkEnd}
 use Rattle.findings.specs.declared.slow_frame.SlowFrame.{SlowFrame}
 use Rattle.findings.specs.declared.kept_end.KeptEnd.{KeptEnd}
+use Rattle.findings.specs.declared.order.Order.{Order}
 use Rattle.findings.specs.Counts.{counted}
 use Rattle.findings.specs.Ends.{Unsent, end_of, same_end}
 use Rattle.findings.specs.KeptEnds.{kept_end}
+use Rattle.findings.specs.Orders.{order_of}
 use Rattle.findings.specs.Knows.{IsExact, Knows, Takes, ends_of, first_ends, firsts, frames_beyond, has_end, is_among, with_end}
 use Rattle.findings.proofs.EndLemmas.{exact_end, itself}
 use Rattle.findings.proofs.KeptEndLemmas.{before_first}
@@ -126,18 +128,20 @@ counted_one left n more before after = one_of left n more (2 ^ 64 - 1) before af
     one_of : (left n more most : ℕ) → left ≡ min n most → more ≡ min (left + 1) most → more ≡ min (suc n) most
     one_of left n more most before after = omega arith
 
-among_first : (now : SlowFrame) (h : List SlowFrame) (olds news : List KeptEnd) (left : ℕ) (b : Bool) → AllZip (Takes now) olds news
-    → has_end (end_of now) news ≡ b → Knows h olds left → is_among (end_of now) (first_ends h) ≡ b
-among_first now h olds news left b t known k =
+among_first : (now : SlowFrame) (h : List SlowFrame) (olds news : List KeptEnd) (was : Order) (left : ℕ) (b : Bool) → AllZip (Takes now) olds news
+    → has_end (end_of now) news ≡ b → Knows h olds was left → is_among (end_of now) (first_ends h) ≡ b
+among_first now h olds news was left b t known k =
     ap (λ es. is_among (end_of now) es) (sym (same_ends now olds news t ∙ k.ends)) ∙ (sym (among_ends (end_of now) news) ∙ known)
 
 -- the frame is one of an end that is kept
-pub known_end : (now : SlowFrame) (h : List SlowFrame) (olds news : List KeptEnd) (left : ℕ) → AllZip (Takes now) olds news
-    → has_end (end_of now) news ≡ true → Knows h olds left → Knows (now ∷ h) news left
-known_end now h olds news left t known k =
-    let among = among_first now h olds news left true t known k in
+pub known_end : (now : SlowFrame) (h : List SlowFrame) (olds news : List KeptEnd) (was is : Order) (left : ℕ) → AllZip (Takes now) olds news
+    → has_end (end_of now) news ≡ true → ((g : List SlowFrame) → was ≡ order_of g → is ≡ order_of (now ∷ g))
+    → Knows h olds was left → Knows (now ∷ h) news is left
+known_end now h olds news was is left t known o k =
+    let among = among_first now h olds news was left true t known k in
     let same : first_ends (now ∷ h) ≡ first_ends h = kept_known (end_of now) (firsts h) among in
     record {
+      sequence = o h k.sequence;
       exact = still_exact now h olds news t k.exact;
       ends = same_ends now olds news t ∙ (k.ends ∙ sym same);
       counts = k.counts
@@ -145,14 +149,16 @@ known_end now h olds news left t known k =
     }
 
 -- the frame is left out, since as many ends are kept as may be
-pub left_out : (now : SlowFrame) (h : List SlowFrame) (olds news : List KeptEnd) (left more : ℕ) → AllZip (Takes now) olds news
-    → has_end (end_of now) news ≡ false → length news ≡ 64 → more ≡ min (left + 1) (2 ^ 64 - 1) → Knows h olds left → Knows (now ∷ h) news more
-left_out now h olds news left more t unknown full one k =
-    let among = among_first now h olds news left false t unknown k in
+pub left_out : (now : SlowFrame) (h : List SlowFrame) (olds news : List KeptEnd) (was is : Order) (left more : ℕ) → AllZip (Takes now) olds news
+    → has_end (end_of now) news ≡ false → length news ≡ 64 → more ≡ min (left + 1) (2 ^ 64 - 1) → ((g : List SlowFrame) → was ≡ order_of g → is ≡ order_of (now ∷ g))
+    → Knows h olds was left → Knows (now ∷ h) news is more
+left_out now h olds news was is left more t unknown full one o k =
+    let among = among_first now h olds news was left false t unknown k in
     let many : length (first_ends h) ≡ 64
     = ap length (sym (same_ends now olds news t ∙ k.ends)) ∙ (length-map news (λ (w : KeptEnd). w.end) ∙ full) in
     let same : first_ends (now ∷ h) ≡ first_ends h = kept_full (end_of now) (firsts h) many (is_among (end_of now) (firsts h)) refl in
     record {
+      sequence = o h k.sequence;
       exact = still_exact now h olds news t k.exact;
       ends = same_ends now olds news t ∙ (k.ends ∙ sym same);
       counts = counted_one left (length (frames_beyond (first_ends h) h)) more k.counts one
@@ -168,18 +174,19 @@ pushed_ends [] w = refl
 pushed_ends (v ∷ ws) w = ap (λ es. v.end ∷ es) (pushed_ends ws w)
 
 -- the frame is the first of its end
-pub new_end : (now : SlowFrame) (h : List SlowFrame) (olds news : List KeptEnd) (w : KeptEnd) (left : ℕ) → AllZip (Takes now) olds news
-    → has_end (end_of now) news ≡ false → length news < 64 → Takes now (kept_end (end_of now) []) w → Knows h olds left
-    → Knows (now ∷ h) (news ++ w ∷ []) left
-new_end now h olds news w left t unknown room first k =
+pub new_end : (now : SlowFrame) (h : List SlowFrame) (olds news : List KeptEnd) (was is : Order) (w : KeptEnd) (left : ℕ) → AllZip (Takes now) olds news
+    → has_end (end_of now) news ≡ false → length news < 64 → Takes now (kept_end (end_of now) []) w → ((g : List SlowFrame) → was ≡ order_of g → is ≡ order_of (now ∷ g))
+    → Knows h olds was left → Knows (now ∷ h) (news ++ w ∷ []) is left
+new_end now h olds news was is w left t unknown room first o k =
     let kept : ends_of news ≡ first_ends h = same_ends now olds news t ∙ k.ends in
     let fewer : length (first_ends h) < 64 = subst (λ n. n < 64) (sym (length-map news (λ (w : KeptEnd). w.end)) ∙ ap length kept) room in
     let all : first_ends h ≡ firsts h = take_all 64 (firsts h) (omega (arith, few (firsts h) fewer)) in
     let new : is_among (end_of now) (firsts h) ≡ false
-    = subst (λ es. is_among (end_of now) es ≡ false) all (among_first now h olds news left false t unknown k) in
+    = subst (λ es. is_among (end_of now) es ≡ false) all (among_first now h olds news was left false t unknown k) in
     let longer : first_ends (now ∷ h) ≡ firsts h ++ end_of now ∷ [] = kept_new (end_of now) (firsts h) fewer new in
     let none : Unsent (end_of now) h = unsent (end_of now) (firsts h) h (covered h) new in
     record {
+      sequence = o h k.sequence;
       exact = push_all (IsExact (now ∷ h)) news w (still_exact now h olds news t k.exact) (first.exact h (before_first (end_of now) h none));
       ends = pushed_ends news w ∙ (ap (λ es. es ++ w.end ∷ []) (kept ∙ all) ∙ (ap (λ e. firsts h ++ e ∷ []) first.end ∙ sym longer));
       counts = k.counts
@@ -190,9 +197,9 @@ new_end now h olds news w left t unknown room first k =
     }
 
 -- before the first frame
-pub nothing_known : Knows [] [] 0
+pub nothing_known : Knows [] [] (order_of []) 0
 unfolding counted
-nothing_known = record { exact = tt; ends = refl; counts = refl }
+nothing_known = record { sequence = refl; exact = tt; ends = refl; counts = refl }
 
 -- a list that takes the place of one as long
 pub refill_same : (olds news : List KeptEnd) → length news ≡ length olds → refill (length olds) olds news ≡ news

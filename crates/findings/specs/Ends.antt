@@ -1,9 +1,11 @@
 -- Link ends and their frames. A list of frames has the latest first.
-use Rattle.std.specs.Prelude.{◌≡◌, ◌==◌, ◌&&◌, ℕ, Bool, false, List, [], ◌∷◌, filter, Option, Some, None, if◌then◌else◌}
+use Rattle.std.specs.Prelude.{◌≡◌, ◌==◌, ◌&&◌, ◌||◌, ℕ, Bool, false, not, List, [], ◌∷◌, filter, Option, Some, None, if◌then◌else◌}
 use Rattle.std.specs.List.{AllByRecursion, cons_option}
 use Rattle.std.specs.Option.{option_eq, option_or}
 use Rattle.std.specs.Str.{bytes_eq}
 use Rattle.lagtypes.specs.Same.{same_port, same_system}
+use Rattle.lagtypes.specs.States.{bits_of}
+use Rattle.slowpdu.specs.declared.pdu.Info.{Info}
 use Rattle.slowpdu.specs.declared.pdu.Lacpdu.{Lacpdu}
 use Rattle.slowpdu.specs.declared.pdu.MarkerKind.{MarkerKind}
 use Rattle.slowpdu.specs.declared.pdu.MarkerKind.TheVariants as kinds
@@ -88,6 +90,25 @@ is_sibling e own o v = same_system v.actor.system own.actor.system && same_syste
 abbrev pub faces : Relation
 faces e own o v = o.interface == e.interface
 
+-- an LACPDU whose Partner is this end: its system and port
+abbrev pub names : Lacpdu → Info → Bool
+names v end = same_system v.partner.system end.system && same_port v.partner.port end.port
+
+-- an LACPDU of an end that has current information of its Partner
+abbrev pub is_heard : Lacpdu → Bool
+is_heard v = not (bits_of v.actor.state).defaulted && not (bits_of v.actor.state).expired
+
+-- on the same interface, an LACPDU of a system that is neither this one nor its Partner's, and names one of the two ends
+abbrev pub intrudes : Relation
+intrudes e own o v =
+    (o.interface == e.interface)
+    && (not (same_system v.actor.system own.actor.system)
+    && (not (same_system v.actor.system own.partner.system) && (is_heard v && (names v own.actor || names v own.partner))))
+
+-- on the same interface, an LACPDU of the Partner's system
+abbrev pub is_named : Relation
+is_named e own o v = (o.interface == e.interface) && same_system v.actor.system own.partner.system
+
 -- what is known of other ends
 abbrev pub others : LinkEnd → List SlowFrame → Others
 others e h = record {
@@ -95,6 +116,8 @@ others e h = record {
   rival = latest rivals e h;
   sibling = latest is_sibling e h;
   facing = latest faces e h;
+  third = latest intrudes e h;
+  named = latest is_named e h;
 }
 
 -- an LACPDU that is heard, with what is known then of other ends

@@ -11,10 +11,11 @@ use Rattle.findings.specs.declared.rule.Rule.{Rule}
 use Rattle.findings.specs.declared.rule.Rule.TheVariants as variants
 use Rattle.findings.specs.Ends.{faces, frames_of, lacpdus, latest}
 use Rattle.findings.specs.Holds.{is_rushed, is_passive, is_late, lasts, twice, is_attached, is_relapsing, is_unheard, is_discarded, is_desynchronized, is_individual, seconds}
-use Rattle.findings.specs.Holds.{has_other_system, has_other_port, has_other_key, has_other_keys, has_rival, is_one_way, is_silent}
+use Rattle.findings.specs.Holds.{has_other_system, has_other_port, has_other_key, has_other_keys, has_rival, has_third, is_hasty, is_one_way, is_silent}
 use Rattle.findings.specs.Markers.{first_unanswered}
+use Rattle.findings.specs.Orders.{first_back, if_of, unless_back}
 use Rattle.findings.specs.Responses.{first_late, first_unasked}
-use Rattle.findings.specs.Holds.{has_other_version, has_other_length, has_reserved, has_other_destination, has_tag}
+use Rattle.findings.specs.Holds.{has_other_version, has_other_length, has_reserved, has_other_destination, has_tag, has_other_types, has_other_source}
 
 -- the earlier one if there is one; else this one if it shows the rule
 abbrev pub earlier_or : Option Shown → Bool → Shown → Option Shown
@@ -61,6 +62,14 @@ unless_faced (Some x) shown = None
 abbrev pub first_one_way : LinkEnd → List SlowFrame → Option Shown
 first_one_way e h = unless_faced (latest faces e h) (first_heard is_one_way e h)
 
+-- what is found of an end where the frames of both directions are in their order; nothing where a frame steps back
+abbrev pub in_order : (LinkEnd → List SlowFrame → Option Shown) → LinkEnd → List SlowFrame → Option Shown
+in_order of e h = unless_back (first_back h) (of e h)
+
+-- the first frame of a capture that is more than a second earlier than the one before it, if an end sent it
+abbrev pub first_backward : LinkEnd → List SlowFrame → Option Shown
+first_backward e h = if_of e (first_back h)
+
 -- the first frame of an end that shows a rule, where the capture goes up to this time
 abbrev pub first_of : Rule → ℕ → LinkEnd → List SlowFrame → Option Shown
 first_of variants.Rate until = first_heard is_rushed
@@ -80,12 +89,17 @@ first_of variants.Individual until = first_heard is_individual
 first_of variants.Keys until = first_heard (twice has_other_keys)
 first_of variants.Segment until = first_heard has_rival
 first_of variants.Discarded until = first_heard (lasts is_discarded (seconds 3))
-first_of variants.OneWay until = first_one_way
-first_of variants.Unanswered until = first_unanswered until
-first_of variants.Unasked until = first_unasked
-first_of variants.Late until = first_late
+first_of variants.OneWay until = in_order first_one_way
+first_of variants.Unanswered until = in_order (first_unanswered until)
+first_of variants.Unasked until = in_order first_unasked
+first_of variants.Late until = in_order first_late
 first_of variants.Attached until = first_heard (lasts is_attached (seconds 6))
 first_of variants.Relapsing until = first_heard is_relapsing
+first_of variants.Types until = first_frame has_other_types
+first_of variants.Source until = first_frame has_other_source
+first_of variants.Third until = first_heard (twice has_third)
+first_of variants.Hasty until = first_heard is_hasty
+first_of variants.Backward until = first_backward
 
 -- what is found of an end by a rule
 abbrev pub finding_of : Rule → LinkEnd → Option Shown → Option Finding

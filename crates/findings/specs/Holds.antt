@@ -1,5 +1,5 @@
 -- Each rule: whether the latest frame of an end shows it, by the frames of that end before it, the latest of them first.
-use Rattle.std.specs.Prelude.{is_none, ◌==◌, ◌&&◌, ◌||◌, ◌-◌, ◌*◌, ℕ, Bool, true, false, not, nat_lt, List, [], ◌∷◌, Option, Some, None, slice_get, unwrap_or, if◌then◌else◌}
+use Rattle.std.specs.Prelude.{is_none, ◌==◌, ◌&&◌, ◌||◌, ◌-◌, ◌*◌, ◌%◌, get_or, ℕ, Bool, true, false, not, nat_lt, List, [], ◌∷◌, Option, Some, None, slice_get, unwrap_or, if◌then◌else◌}
 use Rattle.std.specs.Str.{bytes_eq}
 use Rattle.lagtypes.specs.declared.state.StateBits.{StateBits}
 use Rattle.lagtypes.specs.Same.{same_port, same_system}
@@ -35,10 +35,17 @@ is_ordered t u = nat_lt 0 t && not (nat_lt u t)
 abbrev pub is_over : ℕ → ℕ → ℕ → Bool
 is_over n t u = is_ordered t u && nat_lt n (u - t)
 
+-- the times of these four LACPDUs, the latest first, are in order, and the first and the last are less than a second apart
+abbrev pub are_in_a_second : Heard → Heard → Heard → Heard → Bool
+are_in_a_second a b c d =
+    is_ordered d.nanoseconds c.nanoseconds
+    && (is_ordered c.nanoseconds b.nanoseconds
+    && (is_ordered b.nanoseconds a.nanoseconds && nat_lt (a.nanoseconds - d.nanoseconds) (seconds 1)))
+
 -- More than three in a second (6.4.16): the third one before it was sent less than a second before.
 abbrev pub is_rushed : Heard → List Heard → Bool
 is_rushed a before =
-    and_if (λ d. is_ordered d.nanoseconds a.nanoseconds && nat_lt (a.nanoseconds - d.nanoseconds) (seconds 1)) (slice_get before 2)
+    and_if (λ b. and_if (λ c. and_if (are_in_a_second a b c) (slice_get before 2)) (slice_get before 1)) (slice_get before 0)
 
 -- Both ends are passive (6.4.13): the sender is, and an LACPDU told it that its partner is.
 abbrev pub is_passive : Heard → List Heard → Bool
@@ -165,6 +172,45 @@ abbrev pub has_rival : Heard → List Heard → Bool
 has_rival a before =
     is_current a && and_if (λ x. names_partner_of a x && is_fresh a x) a.others.rival
 
+-- A third system on the link (6.4.9): in the last Long Timeout the Partner's system has sent an LACPDU, and so has another one
+-- that has named one of the two ends.
+abbrev pub has_third : Heard → Bool
+has_third a =
+    is_current a
+    && (and_if (λ x. is_fresh a x && is_named_system a x) a.others.named
+    && and_if (λ x. is_fresh a x && not (is_named_system a x)) a.others.third)
+
+-- Aggregate_Wait_Time of 2 seconds, less the tolerance of a timer (6.4.4)
+abbrev pub least_wait : ℕ
+least_wait = 1750000000
+
+-- it names the same partner as another one
+abbrev pub names_as : Heard → Heard → Bool
+names_as a b = same_system a.pdu.partner.system b.pdu.partner.system && same_port a.pdu.partner.port b.pdu.partner.port
+
+-- the time of the latest LACPDU before this one at which the port can't have waited yet for the partner that this one names: the
+-- one before names another, or it is this time; none where the clock steps back
+abbrev pub no_wait_at : Heard → Option Heard → Option ℕ → Option ℕ
+no_wait_at a None time = None
+no_wait_at a (Some b) time =
+    if is_ordered b.nanoseconds a.nanoseconds then (if names_as a b then time else Some b.nanoseconds) else None
+
+-- the time of the latest LACPDU at which the port can't have waited yet for the partner that it names last: it is synchronized, or
+-- names another
+abbrev pub no_wait : List Heard → Option ℕ
+no_wait [] = None
+no_wait (a ∷ before) = if (actor a).synchronization then Some a.nanoseconds else no_wait_at a (slice_get before 0) (no_wait before)
+
+-- it is synchronized, with the partner with which the one before is not
+abbrev pub attaches : Heard → List Heard → Bool
+attaches a before = (actor a).synchronization && not (and_if (λ b. (actor b).synchronization && names_as a b) (slice_get before 0))
+
+-- A wait below Aggregate_Wait_Time before Synchronization (6.4.4, 6.4.15).
+abbrev pub is_hasty : Heard → List Heard → Bool
+is_hasty a before =
+    is_current a && attaches a before
+    && and_if (λ t. nat_lt (a.nanoseconds - t) least_wait) (no_wait_at a (slice_get before 0) (no_wait before))
+
 -- it is an LACPDU, a marker or a response
 abbrev pub is_read : What → Bool
 is_read (Lacpdu v) = true
@@ -190,6 +236,22 @@ slow_protocols = 1 ∷ 128 ∷ 194 ∷ 0 ∷ 0 ∷ 2 ∷ []
 -- A destination other than the Slow_Protocols_Multicast address (6.4.2.2, 6.5.3.2).
 abbrev pub has_other_destination : SlowFrame → List SlowFrame → Bool
 has_other_destination o before = and_if (λ d. not (bytes_eq d slow_protocols)) o.destination
+
+-- A TLV type, or the type or length of a Terminator, that is another one (6.4.2.3, 6.5.3.3).
+abbrev pub has_other_types : SlowFrame → List SlowFrame → Bool
+has_other_types o before = is_read o.what && o.other_types
+
+-- the address of a group: the first bit on the wire, the least significant one of the first octet, is 1 (6.4.2.2)
+abbrev pub is_group : List ℕ → Bool
+is_group mac = get_or mac 0 0 % 2 == 1
+
+-- six octets of zero
+abbrev pub no_address : List ℕ
+no_address = 0 ∷ 0 ∷ 0 ∷ 0 ∷ 0 ∷ 0 ∷ []
+
+-- A source address that is no individual one: a group's, or zero (6.4.2.2, 6.5.3.2).
+abbrev pub has_other_source : SlowFrame → List SlowFrame → Bool
+has_other_source o before = is_group o.source || bytes_eq o.source no_address
 
 -- A tag (6.4.2.2, 6.5.3.2).
 abbrev pub has_tag : SlowFrame → List SlowFrame → Bool

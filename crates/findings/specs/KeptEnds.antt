@@ -10,10 +10,10 @@ use Rattle.findings.specs.declared.kept_end.KeptEnd.{KeptEnd}
 use Rattle.findings.specs.Ends.{frames_of, lacpdus, others, said}
 use Rattle.findings.specs.Firsts.{first, shown_heard, shown_frame}
 use Rattle.findings.specs.Holds.{is_rushed, is_passive, is_late, lasts, twice, since, is_attached, has_relapsed, is_relapsing, is_unheard, is_discarded, is_desynchronized, is_individual, seconds}
-use Rattle.findings.specs.Holds.{has_other_system, has_other_port, has_other_key, has_other_keys, has_rival, is_alone, is_alone_short, is_one_way}
+use Rattle.findings.specs.Holds.{has_other_system, has_other_port, has_other_key, has_other_keys, has_rival, has_third, is_alone, is_alone_short, is_hasty, is_one_way, no_wait}
 use Rattle.findings.specs.Markers.{asking}
 use Rattle.findings.specs.Responses.{responding}
-use Rattle.findings.specs.Holds.{has_other_version, has_other_length, has_reserved, has_other_destination, has_tag}
+use Rattle.findings.specs.Holds.{has_other_version, has_other_length, has_reserved, has_other_destination, has_tag, has_other_types, has_other_source}
 
 -- the latest three LACPDUs, and since when the latest ones have a property
 abbrev pub recent_of : List Heard → Recent
@@ -27,6 +27,7 @@ recent_of l = record {
   alone_short_since = since is_alone_short l;
   attached_since = since is_attached l;
   relapsed = has_relapsed l;
+  no_wait = no_wait l;
 }
 
 -- the first LACPDU that shows each rule
@@ -47,6 +48,8 @@ lacpdu_rules l = record {
   one_way = first shown_heard is_one_way l;
   attached = first shown_heard (lasts is_attached (seconds 6)) l;
   relapsing = first shown_heard is_relapsing l;
+  third = first shown_heard (twice has_third) l;
+  hasty = first shown_heard is_hasty l;
 }
 
 -- the first frame that shows each rule
@@ -57,6 +60,8 @@ frame_rules l = record {
   reserved = first shown_frame has_reserved l;
   destination = first shown_frame has_other_destination l;
   tag = first shown_frame has_tag l;
+  types = first shown_frame has_other_types l;
+  source = first shown_frame has_other_source l;
 }
 
 -- what is kept of an end behind these frames, the latest first

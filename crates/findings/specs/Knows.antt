@@ -4,9 +4,11 @@ use Rattle.std.specs.List.{AllByRecursion, list_any}
 use Rattle.findings.specs.declared.slow_frame.LinkEnd.{LinkEnd}
 use Rattle.findings.specs.declared.slow_frame.SlowFrame.{SlowFrame}
 use Rattle.findings.specs.declared.kept_end.KeptEnd.{KeptEnd}
+use Rattle.findings.specs.declared.order.Order.{Order}
 use Rattle.findings.specs.Counts.{counted}
 use Rattle.findings.specs.Ends.{end_of, same_end}
 use Rattle.findings.specs.KeptEnds.{kept_end}
+use Rattle.findings.specs.Orders.{order_of}
 
 -- the ends that are kept
 abbrev pub ends_of : List KeptEnd → List LinkEnd
@@ -46,8 +48,10 @@ first_ends h = take 64 (firsts h)
 abbrev pub frames_beyond : List LinkEnd → List SlowFrame → List SlowFrame
 frames_beyond es = filter (λ o. not (is_among (end_of o) es))
 
--- What is kept behind these frames, and how many of them were left out.
-pub record Knows (h : List SlowFrame) (kept : List KeptEnd) (left_out : ℕ) : Type 0 where
+-- What is kept behind these frames, in what order they are, and how many of them were left out.
+pub record Knows (h : List SlowFrame) (kept : List KeptEnd) (order : Order) (left_out : ℕ) : Type 0 where
+  -- what is kept of their order is by all frames
+  pub sequence : order ≡ order_of h
   -- what is kept of each end is by all frames
   pub exact : AllByRecursion (IsExact h) kept
   -- the first 64 ends are kept, in the order of their first frames

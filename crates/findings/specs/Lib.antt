@@ -4,6 +4,7 @@ pub mod Holds
 pub mod Counts
 pub mod Markers
 pub mod Responses
+pub mod Orders
 pub mod Firsts
 pub mod KeptEnds
 pub mod Knows

@@ -10,56 +10,66 @@ pub record RuleRow : Type 0 where
   pub clause : List ℕ
   pub advice : List ℕ
 
-abbrev row : ℕ → List ℕ → List ℕ → List ℕ → RuleRow
-row number name clause advice = record { number = number; name = name; clause = clause; advice = advice }
+abbrev rule_row : ℕ → List ℕ → List ℕ → List ℕ → RuleRow
+rule_row number name clause advice = record { number = number; name = name; clause = clause; advice = advice }
 
 abbrev pub row_of : Rule → RuleRow
-row_of variants.Rate = row 1 (codes "more than three LACPDUs in a second") (codes "6.4.16")
+row_of variants.Rate = rule_row 1 (codes "more than three LACPDUs in a second") (codes "6.4.16")
     (codes "Look for what changes the port again and again; an LACP implementation limits its LACPDUs.")
-row_of variants.System = row 2 (codes "the partner's system is not the one that answers") (codes "6.4.9")
+row_of variants.System = rule_row 2 (codes "the partner's system is not the one that answers") (codes "6.4.9")
     (codes "Look whether the LACPDUs of the system that answers reach this end: it names another one.")
-row_of variants.Port = row 3 (codes "the partner's port is not the one that answers") (codes "6.4.9")
+row_of variants.Port = rule_row 3 (codes "the partner's port is not the one that answers") (codes "6.4.9")
     (codes "Look for crossed cables: this end names another port of the system.")
-row_of variants.Key = row 4 (codes "the partner's key is not the one that answers") (codes "6.4.9")
+row_of variants.Key = rule_row 4 (codes "the partner's key is not the one that answers") (codes "6.4.9")
     (codes "Look whether the latest LACPDUs of the partner reach this end: it names a key that the partner has no more.")
-row_of variants.Passive = row 5 (codes "both ends are passive") (codes "6.4.13")
+row_of variants.Passive = rule_row 5 (codes "both ends are passive") (codes "6.4.13")
     (codes "Set LACP to active at one end at least.")
-row_of variants.Version = row 6 (codes "a version other than 1") (codes "6.4.2.3")
+row_of variants.Version = rule_row 6 (codes "a version other than 1") (codes "6.4.2.3")
     (codes "None is needed: a receiver of version 1 reads the fields that version 1 has.")
-row_of variants.Length = row 7 (codes "a frame of another length") (codes "6.4.2.3")
+row_of variants.Length = rule_row 7 (codes "a frame of another length") (codes "6.4.2.3")
     (codes "Compare the frames at the other end of the cable: a device between may pad or cut them.")
-row_of variants.Reserved = row 8 (codes "a reserved octet is not zero") (codes "6.4.2.3")
+row_of variants.Reserved = rule_row 8 (codes "a reserved octet is not zero") (codes "6.4.2.3")
     (codes "None is needed: a receiver ignores these octets.")
-row_of variants.Destination = row 9 (codes "a frame to another destination") (codes "6.4.2.2")
+row_of variants.Destination = rule_row 9 (codes "a frame to another destination") (codes "6.4.2.2")
     (codes "Set the destination address of LACPDUs to 01-80-c2-00-00-02 at both ends.")
-row_of variants.Tag = row 10 (codes "a frame with a tag") (codes "6.4.2.2")
+row_of variants.Tag = rule_row 10 (codes "a frame with a tag") (codes "6.4.2.2")
     (codes "Send LACPDUs without a tag: a switch forwards or drops those that have one.")
-row_of variants.Silence = row 11 (codes "no LACPDU for longer than the partner's timeout") (codes "6.4.13")
+row_of variants.Silence = rule_row 11 (codes "no LACPDU for longer than the partner's timeout") (codes "6.4.13")
     (codes "Look for lost frames, and whether the sender follows the timeout that the partner asks for.")
-row_of variants.Unheard = row 12 (codes "defaulted or expired for longer than 6 seconds") (codes "6.4.12")
+row_of variants.Unheard = rule_row 12 (codes "defaulted or expired for longer than 6 seconds") (codes "6.4.12")
     (codes "Look whether the partner sends LACPDUs and whether they reach this end.")
-row_of variants.Desynchronized = row 13 (codes "synchronization lost") (codes "6.4.15")
+row_of variants.Desynchronized = rule_row 13 (codes "synchronization lost") (codes "6.4.15")
     (codes "Look at the frames before it: a party has changed, or the port left its aggregator.")
-row_of variants.Individual = row 14 (codes "one end is Individual") (codes "6.3.5")
+row_of variants.Individual = rule_row 14 (codes "one end is Individual") (codes "6.3.5")
     (codes "Look at this end's speed, duplex and key: its port may not be aggregated with others.")
-row_of variants.Keys = row 15 (codes "keys differ within one pair of systems") (codes "6.3.6")
+row_of variants.Keys = rule_row 15 (codes "keys differ within one pair of systems") (codes "6.3.6")
     (codes "Give the ports that are to aggregate one key at each system: these are two groups.")
-row_of variants.Segment = row 16 (codes "two actors on one segment") (codes "6.4.9")
+row_of variants.Segment = rule_row 16 (codes "two actors on one segment") (codes "6.4.9")
     (codes "Look for a hub, or for a switch between the ends that passes the slow protocols on.")
-row_of variants.Discarded = row 17 (codes "distributing while the partner is not collecting") (codes "6.4.15")
+row_of variants.Discarded = rule_row 17 (codes "distributing while the partner is not collecting") (codes "6.4.15")
     (codes "Look why the partner does not collect: frames that this end sends are lost there.")
-row_of variants.OneWay = row 18 (codes "LACPDUs in one direction only") (codes "6.4.12")
+row_of variants.OneWay = rule_row 18 (codes "LACPDUs in one direction only") (codes "6.4.12")
     (codes "Look whether the other end sends LACPDUs, and whether the capture has both directions.")
-row_of variants.Unanswered = row 19 (codes "a marker without a response within 3 seconds") (codes "6.5.4")
+row_of variants.Unanswered = rule_row 19 (codes "a marker without a response within 3 seconds") (codes "6.5.4")
     (codes "Look whether the marker reaches the partner: each system responds to markers.")
-row_of variants.Unasked = row 20 (codes "a marker response that nobody asked for") (codes "6.5.4")
+row_of variants.Unasked = rule_row 20 (codes "a marker response that nobody asked for") (codes "6.5.4")
     (codes "Compare port, system and number of the response with those of the marker: a responder copies them.")
-row_of variants.Late = row 21 (codes "a marker response after more than 3 seconds") (codes "6.5.4")
+row_of variants.Late = rule_row 21 (codes "a marker response after more than 3 seconds") (codes "6.5.4")
     (codes "Look what delays the responses: whoever waits for one may have given up by then.")
-row_of variants.Attached = row 22 (codes "attached for longer than 6 seconds while the partner is not synchronized") (codes "6.4.15")
+row_of variants.Attached = rule_row 22 (codes "attached for longer than 6 seconds while the partner is not synchronized") (codes "6.4.15")
     (codes "Look why the partner does not attach this link: it may have chosen another aggregator or have too many links.")
-row_of variants.Relapsing = row 23 (codes "defaulted or expired again and again") (codes "6.4.12")
+row_of variants.Relapsing = rule_row 23 (codes "defaulted or expired again and again") (codes "6.4.12")
     (codes "Look for a link that loses frames, and for a partner that sends LACPDUs less often than it is asked to.")
+row_of variants.Types = rule_row 24 (codes "a TLV type or a Terminator other than the standard's") (codes "6.4.2.3")
+    (codes "Look for a fault of the sender: a receiver does not check these octets, and reads the rest.")
+row_of variants.Source = rule_row 25 (codes "a source address that is a group's, or zero") (codes "6.4.2.2")
+    (codes "Give the port that sends the frame an individual MAC address of its own.")
+row_of variants.Third = rule_row 26 (codes "a third system on the link") (codes "6.4.9")
+    (codes "Look for a hub, or for a switch that passes the slow protocols on: LACP is between two systems.")
+row_of variants.Hasty = rule_row 27 (codes "a wait of less than 2 seconds before synchronization") (codes "6.4.15")
+    (codes "Look whether this end waits at all: links that come up together are to attach together.")
+row_of variants.Backward = rule_row 28 (codes "more than a second earlier than the frame before it") (codes "6.4.4")
+    (codes "Sort the packets by reordercap and read them again: rules 18 to 21 are left out, and no time is judged from a packet to an earlier one.")
 
 abbrev pub rule_number : Rule → ℕ
 rule_number rule = (row_of rule).number
@@ -79,4 +89,5 @@ all_rules =
     variants.Rate ∷ variants.System ∷ variants.Port ∷ variants.Key ∷ variants.Passive ∷ variants.Version ∷ variants.Length
     ∷ variants.Reserved ∷ variants.Destination ∷ variants.Tag ∷ variants.Silence ∷ variants.Unheard ∷ variants.Desynchronized
     ∷ variants.Individual ∷ variants.Keys ∷ variants.Segment ∷ variants.Discarded ∷ variants.OneWay ∷ variants.Unanswered
-    ∷ variants.Unasked ∷ variants.Late ∷ variants.Attached ∷ variants.Relapsing ∷ []
+    ∷ variants.Unasked ∷ variants.Late ∷ variants.Attached ∷ variants.Relapsing ∷ variants.Types ∷ variants.Source
+    ∷ variants.Third ∷ variants.Hasty ∷ variants.Backward ∷ []

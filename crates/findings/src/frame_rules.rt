@@ -1,7 +1,7 @@
 ghost use Rattle.std.specs.Prelude.{◌≡◌, ◌∷◌, List};
 ghost use Rattle.findings.specs.declared.slow_frame.SlowFrame.{SlowFrame};
 ghost use Rattle.findings.specs.Firsts.{shown_frame};
-ghost use Rattle.findings.specs.Holds.{has_other_destination, has_other_length, has_other_version, has_reserved, is_read};
+ghost use Rattle.findings.specs.Holds.{has_other_destination, has_other_length, has_other_source, has_other_types, has_other_version, has_reserved, is_read};
 ghost use Rattle.findings.specs.KeptEnds.{frame_rules};
 
 use crate::finding::{Shown, earlier_or};
@@ -21,6 +21,8 @@ pub(crate) struct FrameRules {
     pub(crate) reserved: Option<Shown>,
     pub(crate) destination: Option<Shown>,
     pub(crate) tag: Option<Shown>,
+    pub(crate) types: Option<Shown>,
+    pub(crate) source: Option<Shown>,
 }
 
 impl SlowFrame {
@@ -58,6 +60,20 @@ impl SlowFrame {
         self.is_read() && self.reserved
     }
 
+    /// Whether a TLV type or the Terminator is another one.
+    fn has_other_types(&self) -> bool
+        ensures { (l : List SlowFrame) → result ≡ has_other_types self.now l }
+    {
+        self.is_read() && self.other_types
+    }
+
+    /// Whether the source address is no individual one.
+    fn has_other_source(&self) -> bool
+        ensures { (l : List SlowFrame) → result ≡ has_other_source self.now l }
+    {
+        self.source[0] % 2 == 1 || self.source == [0; 6]
+    }
+
     /// Whether the length is neither 124 nor 128 octets.
     fn has_other_length(&self) -> bool
         ensures { (l : List SlowFrame) → result ≡ has_other_length self.now l }
@@ -88,6 +104,8 @@ impl FrameRules {
             reserved: earlier_or(self.reserved, now.has_reserved(), shown),
             destination: earlier_or(self.destination, now.has_other_destination(), shown),
             tag: earlier_or(self.tag, now.tags > 0, shown),
+            types: earlier_or(self.types, now.has_other_types(), shown),
+            source: earlier_or(self.source, now.has_other_source(), shown),
         }
     }
 }

@@ -2,7 +2,7 @@ ghost use Rattle.std.specs.Prelude.{◌≡◌, List};
 ghost use Rattle.findings.specs.declared.recent.Heard.{Heard};
 ghost use Rattle.findings.specs.Firsts.{shown_heard};
 ghost use Rattle.findings.specs.Holds.{is_current, is_fresh, is_passive, is_individual, is_named_system, is_sibling_of, has_keys_of, names_partner_of};
-ghost use Rattle.findings.specs.Holds.{has_other_system, has_other_port, has_other_key, has_other_keys, has_rival};
+ghost use Rattle.findings.specs.Holds.{has_other_system, has_other_port, has_other_key, has_other_keys, has_rival, has_third, names_as};
 
 use crate::finding::Shown;
 use crate::others::Other;
@@ -137,6 +137,30 @@ impl Heard {
             }
             None => false,
         }
+    }
+
+    /// Whether the Partner's system and a third one speak on the link.
+    pub(crate) fn has_third(&self) -> bool
+        ensures { result ≡ has_third self.now }
+    {
+        match (self.others.named, self.others.third) {
+            (Some(named), Some(third)) => {
+                self.is_current()
+                    && self.is_fresh(&named)
+                    && self.is_named_system(&named)
+                    && self.is_fresh(&third)
+                    && !self.is_named_system(&third)
+            }
+            _ => false,
+        }
+    }
+
+    /// Whether the other LACPDU, of the same end, names the same partner.
+    pub(crate) fn names_as(&self, other: &Heard) -> bool
+        ensures { result ≡ names_as self.now other.now }
+    {
+        self.pdu.partner.system == other.pdu.partner.system
+            && self.pdu.partner.port == other.pdu.partner.port
     }
 
     /// Whether both ends are passive.

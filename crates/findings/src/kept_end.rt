@@ -3,6 +3,7 @@ ghost use Rattle.findings.specs.declared.slow_frame.SlowFrame.{SlowFrame};
 ghost use Rattle.findings.specs.Ends.{end_of, others, same_end};
 ghost use Rattle.findings.specs.Firsts.{first_of, unless_faced};
 ghost use Rattle.findings.specs.Knows.{Takes};
+ghost use Rattle.findings.specs.Orders.{order_of};
 ghost use Rattle.findings.specs.Responses.{responding};
 ghost use Rattle.findings.specs.KeptEnds.{kept_end};
 
@@ -10,6 +11,7 @@ use crate::asking::Asking;
 use crate::finding::Shown;
 use crate::frame_rules::FrameRules;
 use crate::lacpdu_rules::LacpduRules;
+use crate::order::Order;
 use crate::others::Others;
 use crate::recent::{Heard, Recent};
 use crate::responding::Responding;
@@ -133,9 +135,9 @@ impl KeptEnd {
         }
     }
 
-    /// The first frame that shows the rule, where the capture goes up to this time.
-    pub(crate) fn first(&self, rule: Rule, until: u64) -> Option<Shown>
-        ensures { (h : List SlowFrame) → self.now ≡ kept_end self.now.end h → result ≡ first_of rule until self.now.end h }
+    /// The first frame that shows the rule, where the frames have this order and the capture goes up to this time.
+    pub(crate) fn first(&self, rule: Rule, order: &Order, until: u64) -> Option<Shown>
+        ensures { (h : List SlowFrame) → self.now ≡ kept_end self.now.end h → order.now ≡ order_of h → result ≡ first_of rule until self.now.end h }
     {
         match rule {
             Rule::Rate => self.lacpdus.rate,
@@ -155,12 +157,17 @@ impl KeptEnd {
             Rule::Keys => self.lacpdus.keys,
             Rule::Segment => self.lacpdus.segment,
             Rule::Discarded => self.lacpdus.discarded,
-            Rule::OneWay => self.one_way(),
-            Rule::Unanswered => self.asking.first(until),
-            Rule::Unasked => self.responding.unasked,
-            Rule::Late => self.responding.late,
+            Rule::OneWay => order.unless_back(self.one_way()),
+            Rule::Unanswered => order.unless_back(self.asking.first(until)),
+            Rule::Unasked => order.unless_back(self.responding.unasked),
+            Rule::Late => order.unless_back(self.responding.late),
             Rule::Attached => self.lacpdus.attached,
             Rule::Relapsing => self.lacpdus.relapsing,
+            Rule::Types => self.frames.types,
+            Rule::Source => self.frames.source,
+            Rule::Third => self.lacpdus.third,
+            Rule::Hasty => self.lacpdus.hasty,
+            Rule::Backward => order.back_of(&self.end),
         }
     }
 }

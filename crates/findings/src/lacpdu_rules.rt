@@ -23,6 +23,8 @@ pub(crate) struct LacpduRules {
     pub(crate) one_way: Option<Shown>,
     pub(crate) attached: Option<Shown>,
     pub(crate) relapsing: Option<Shown>,
+    pub(crate) third: Option<Shown>,
+    pub(crate) hasty: Option<Shown>,
 }
 
 impl LacpduRules {
@@ -47,6 +49,8 @@ impl LacpduRules {
             one_way: earlier_or(self.one_way, recent.is_one_way(now), shown),
             attached: earlier_or(self.attached, recent.is_attached(now), shown),
             relapsing: earlier_or(self.relapsing, recent.is_relapsing(now), shown),
+            third: earlier_or(self.third, recent.has_third(now), shown),
+            hasty: earlier_or(self.hasty, recent.is_hasty(now), shown),
         }
     }
 }

@@ -13,6 +13,7 @@ mod heard;
 mod kept_end;
 mod lacpdu_rules;
 mod observing;
+mod order;
 mod others;
 mod recent;
 mod responding;

@@ -6,6 +6,7 @@ ghost use Rattle.findings.specs.Knows.{Knows, Takes, ends_of, has_end};
 
 use crate::finding::{Finding, finding_of};
 use crate::kept_end::KeptEnd;
+use crate::order::Order;
 use crate::rule::Rule;
 use crate::slow_frame::{LinkEnd, SlowFrame};
 use arrayvec::ArrayVec;
@@ -17,6 +18,7 @@ pub const MOST_ENDS: usize = 64;
 #[derive(Drop)]
 pub struct Findings {
     kept: ArrayVec<KeptEnd, MOST_ENDS>,
+    order: Order,
     left_out: u64,
 }
 
@@ -37,25 +39,30 @@ fn see_each(ends: &mut [KeptEnd], now: &SlowFrame)
 }
 
 impl Findings {
-    // promise: behind any frames, `finding` is for an end and a rule the first frame that shows the rule; None if none does, or, for rule
-    //    18, if a frame of another end came later
-    // contract: `Findings::new`, `observe`, `finding` (`Knows`; `found`; rules in `Holds`, `Markers`, `Responses`)
+    // promise: behind any frames, `finding` is for an end and a rule the first frame that shows the rule; None if none does; for rule 18 if
+    //    another end's frame came later; for 18 to 21 if a frame steps back by over a second
+    // contract: `Findings::new`, `observe`, `finding` (`Knows`; `found`; rules in `Holds`, `Orders`, `Markers`, `Responses`)
     // promise: the ends are the first 64 that send, in order; `left_out` counts the frames of all others
     // contract: `new`, `observe`, `count`, `end`, `left_out` (`ends`, `counts`)
     /// What is found before the first frame: nothing.
     pub fn new() -> Findings
-        ensures { Knows [] result.kept.items result.left_out }
+        ensures { Knows [] result.kept.items result.order result.left_out }
     {
         Findings {
             kept: ArrayVec::new(),
+            order: Order {
+                latest: None,
+                back: None,
+            },
             left_out: 0,
         }
     }
 
     /// Takes the next frame. A frame of an end that comes after 64 others is left out, and counted.
     pub fn observe(&mut self, now: &SlowFrame)
-        ensures { (h : List SlowFrame) → Knows h self.old.kept.items self.old.left_out → Knows (now.now ∷ h) self.new.kept.items self.new.left_out }
+        ensures { (h : List SlowFrame) → Knows h self.old.kept.items self.old.order self.old.left_out → Knows (now.now ∷ h) self.new.kept.items self.new.order self.new.left_out }
     {
+        self.order = self.order.with(now);
         see_each(self.kept.as_mut_slice(), now);
         let end = now.end();
         if has_end(&self.kept, &end) {
@@ -98,11 +105,11 @@ impl Findings {
     /// if there are fewer ends. `until` is the time of the capture's last packet of any kind, in nanoseconds since the
     /// beginning of 1970: an end can be silent up to then.
     pub fn finding(&self, index: usize, rule: Rule, until: u64) -> Option<Finding>
-        ensures { (h : List SlowFrame) → Knows h self.now.kept.items self.now.left_out
+        ensures { (h : List SlowFrame) → Knows h self.now.kept.items self.now.order self.now.left_out
             → result ≡ option_and_then (λ e. found rule until e h) (slice_get (ends_of self.now.kept.items) index) }
     {
         match self.kept.get(index) {
-            Some(kept) => finding_of(rule, kept.end, kept.first(rule, until)),
+            Some(kept) => finding_of(rule, kept.end, kept.first(rule, &self.order, until)),
             None => None,
         }
     }

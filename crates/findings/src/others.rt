@@ -1,9 +1,9 @@
 ghost use Rattle.std.specs.Prelude.{◌≡◌, Some, None, if◌then◌else◌};
 ghost use Rattle.std.specs.Option.{option_or};
-ghost use Rattle.findings.specs.Ends.{answers, faces, is_sibling, related, rivals};
+ghost use Rattle.findings.specs.Ends.{answers, faces, intrudes, is_heard, is_named, is_sibling, names, related, rivals};
 
 use crate::slow_frame::{LinkEnd, SlowFrame};
-use slowpdu::Lacpdu;
+use slowpdu::{Info, Lacpdu};
 
 /// An LACPDU of another end.
 #[derive(Clone, Copy, Debug, PartialEq, Eq)]
@@ -27,6 +27,10 @@ pub(crate) struct Others {
     pub(crate) sibling: Option<Other>,
     /// The latest LACPDU of another end on the same interface, whatever its Partner.
     pub(crate) facing: Option<Other>,
+    /// The latest LACPDU of a third system on the same interface that has this end or its Partner as its Partner.
+    pub(crate) third: Option<Other>,
+    /// The latest LACPDU of the Partner's system on the same interface.
+    pub(crate) named: Option<Other>,
 }
 
 /// Whether the LACPDU of another end has this end as its Partner.
@@ -54,6 +58,38 @@ fn is_sibling(end: &LinkEnd, own: &Lacpdu, now: &SlowFrame, pdu: &Lacpdu) -> boo
     pdu.actor.system == own.actor.system && pdu.partner.system == own.partner.system
 }
 
+/// Whether the LACPDU has the end with this information as its Partner.
+fn names(pdu: &Lacpdu, end: &Info) -> bool
+    ensures { result ≡ names pdu.now end.now }
+{
+    pdu.partner.system == end.system && pdu.partner.port == end.port
+}
+
+/// Whether the sender of the LACPDU is neither Defaulted nor Expired.
+fn is_heard(pdu: &Lacpdu) -> bool
+    ensures { result ≡ is_heard pdu.now }
+{
+    !pdu.actor.state.is_defaulted() && !pdu.actor.state.is_expired()
+}
+
+/// Whether the LACPDU is of a third system, and names this end or its Partner.
+fn intrudes(end: &LinkEnd, own: &Lacpdu, now: &SlowFrame, pdu: &Lacpdu) -> bool
+    ensures { result ≡ intrudes end.now own.now now.now pdu.now }
+{
+    now.interface == end.interface
+        && pdu.actor.system != own.actor.system
+        && pdu.actor.system != own.partner.system
+        && is_heard(pdu)
+        && (names(pdu, &own.actor) || names(pdu, &own.partner))
+}
+
+/// Whether the LACPDU is of the Partner's system.
+fn is_named(end: &LinkEnd, own: &Lacpdu, now: &SlowFrame, pdu: &Lacpdu) -> bool
+    ensures { result ≡ is_named end.now own.now now.now pdu.now }
+{
+    now.interface == end.interface && pdu.actor.system == own.partner.system
+}
+
 /// The new one if it is related, else the one before.
 fn latest(is_related: bool, now: Other, before: Option<Other>) -> Option<Other>
     ensures { result ≡ option_or (if is_related then Some now else None) before }
@@ -67,6 +103,8 @@ impl Others {
         ensures answer { result.answer ≡ option_or (related answers end.now now.now (Some own.now) (Some pdu.now)) self.now.answer }
         ensures rival { result.rival ≡ option_or (related rivals end.now now.now (Some own.now) (Some pdu.now)) self.now.rival }
         ensures facing { result.facing ≡ option_or (related faces end.now now.now (Some own.now) (Some pdu.now)) self.now.facing }
+        ensures third { result.third ≡ option_or (related intrudes end.now now.now (Some own.now) (Some pdu.now)) self.now.third }
+        ensures named { result.named ≡ option_or (related is_named end.now now.now (Some own.now) (Some pdu.now)) self.now.named }
         ensures sibling { result.sibling ≡ option_or (related is_sibling end.now now.now (Some own.now) (Some pdu.now)) self.now.sibling }
     {
         let other = Other {
@@ -79,6 +117,8 @@ impl Others {
             rival: latest(rivals(end, own, now, pdu), other, self.rival),
             sibling: latest(is_sibling(end, own, now, pdu), other, self.sibling),
             facing: latest(now.interface == end.interface, other, self.facing),
+            third: latest(intrudes(end, own, now, pdu), other, self.third),
+            named: latest(is_named(end, own, now, pdu), other, self.named),
         }
     }
 }

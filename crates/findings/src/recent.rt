@@ -1,7 +1,7 @@
 ghost use Rattle.std.specs.Prelude.{◌≡◌, ◌∷◌, List, unwrap_or, Some, None, if◌then◌else◌};
 ghost use Rattle.findings.specs.declared.recent.Heard.{Heard};
-ghost use Rattle.findings.specs.Holds.{and_if, is_alone, is_alone_short, is_one_way, is_ordered, is_over, is_attached, is_relapse, is_relapsing, is_unheard, is_discarded, is_periodic, is_rushed, is_late, is_silent, is_desynchronized, lasts, seconds, since, timeout};
-ghost use Rattle.findings.specs.Holds.{has_other_system, has_other_port, has_other_key, has_other_keys, twice};
+ghost use Rattle.findings.specs.Holds.{and_if, is_alone, is_alone_short, is_one_way, is_ordered, is_over, is_attached, is_relapse, is_relapsing, is_unheard, is_discarded, is_periodic, is_rushed, is_late, is_silent, is_desynchronized, lasts, seconds, since, timeout, are_in_a_second, attaches, is_hasty, no_wait_at};
+ghost use Rattle.findings.specs.Holds.{has_other_system, has_other_port, has_other_key, has_other_keys, has_third, twice};
 ghost use Rattle.findings.specs.Firsts.{last_silent};
 ghost use Rattle.findings.specs.KeptEnds.{recent_of};
 
@@ -10,7 +10,7 @@ use crate::others::Others;
 use slowpdu::Lacpdu;
 
 /// The nanoseconds in a second.
-const SECOND: u64 = 1_000_000_000;
+pub(crate) const SECOND: u64 = 1_000_000_000;
 
 /// Short_Timeout_Time (6.4.4), in nanoseconds.
 pub(crate) const SHORT_TIMEOUT: u64 = 3 * SECOND;
@@ -25,6 +25,10 @@ const MOST_UNHEARD: u64 = 6 * SECOND;
 /// How long an end may be ATTACHED before its partner is synchronized, in nanoseconds: Aggregate_Wait_Time of 2 seconds
 /// (6.4.4), three times.
 const MOST_ATTACHED: u64 = 6 * SECOND;
+
+/// How long an end waits at least before it is synchronized, in nanoseconds: Aggregate_Wait_Time of 2 seconds, less the
+/// tolerance of a timer, 0.25 seconds (6.4.4).
+const LEAST_WAIT: u64 = 1_750_000_000;
 
 /// How long an end may distribute before its partner collects, in nanoseconds.
 const MOST_DISCARDED: u64 = 3 * SECOND;
@@ -63,6 +67,8 @@ pub(crate) struct Recent {
     pub(crate) attached_since: Option<u64>,
     /// Whether the end became Defaulted or Expired behind current information.
     pub(crate) relapsed: bool,
+    /// The time of the latest LACPDU at which the port can't have waited yet for the partner that it names last.
+    pub(crate) no_wait: Option<u64>,
 }
 
 /// When a condition began to hold: `before` if that is known, else `now`; None if it does not hold.
@@ -91,6 +97,16 @@ pub(crate) fn is_over(most: u64, since: Option<u64>, now: u64) -> bool
         Some(time) => is_ordered(time, now) && most < now.saturating_sub(time),
         None => false,
     }
+}
+
+/// Whether the times of four LACPDUs, the latest first, are in order and less than a second apart.
+fn are_in_a_second(now: &Heard, last: &Heard, second: &Heard, third: &Heard) -> bool
+    ensures { result ≡ are_in_a_second now.now last.now second.now third.now }
+{
+    is_ordered(third.nanoseconds, second.nanoseconds)
+        && is_ordered(second.nanoseconds, last.nanoseconds)
+        && is_ordered(last.nanoseconds, now.nanoseconds)
+        && now.nanoseconds.saturating_sub(third.nanoseconds) < SECOND
 }
 
 impl Heard {
@@ -179,6 +195,54 @@ impl Recent {
             ),
             attached_since: since(now.is_attached(), self.attached_since, now.nanoseconds),
             relapsed: self.is_relapse(now) || self.relapsed,
+            no_wait: if now.pdu.actor.state.is_synchronized() {
+                Some(now.nanoseconds)
+            } else {
+                self.no_wait_at(now)
+            },
+        }
+    }
+
+    /// The time of the latest LACPDU before this one at which the port can't have waited yet for this one's partner.
+    fn no_wait_at(&self, now: &Heard) -> Option<u64>
+        ensures { result ≡ no_wait_at now.now self.now.last self.now.no_wait }
+    {
+        match self.last {
+            Some(heard) => {
+                if !is_ordered(heard.nanoseconds, now.nanoseconds) {
+                    None
+                } else if now.names_as(&heard) {
+                    self.no_wait
+                } else {
+                    Some(heard.nanoseconds)
+                }
+            }
+            None => None,
+        }
+    }
+
+    /// Whether the end is synchronized with a partner with which it was not.
+    fn attaches(&self, now: &Heard) -> bool
+        ensures { (l : List Heard) → self.now ≡ recent_of l → result ≡ attaches now.now l }
+    {
+        let was_synchronized = match self.last {
+            Some(heard) => heard.pdu.actor.state.is_synchronized() && now.names_as(&heard),
+            None => false,
+        };
+        now.pdu.actor.state.is_synchronized() && !was_synchronized
+    }
+
+    /// Whether the end is synchronized after too short a wait.
+    pub(crate) fn is_hasty(&self, now: &Heard) -> bool
+        ensures { (l : List Heard) → self.now ≡ recent_of l → result ≡ is_hasty now.now l }
+    {
+        match self.no_wait_at(now) {
+            Some(time) => {
+                now.is_current()
+                    && self.attaches(now)
+                    && now.nanoseconds.saturating_sub(time) < LEAST_WAIT
+            }
+            None => false,
         }
     }
 
@@ -212,12 +276,11 @@ impl Recent {
     pub(crate) fn is_rushed(&self, now: &Heard) -> bool
         ensures { (l : List Heard) → self.now ≡ recent_of l → result ≡ is_rushed now.now l }
     {
-        match self.third {
-            Some(heard) => {
-                is_ordered(heard.nanoseconds, now.nanoseconds)
-                    && now.nanoseconds.saturating_sub(heard.nanoseconds) < SECOND
+        match (self.last, self.second, self.third) {
+            (Some(last), Some(second), Some(third)) => {
+                are_in_a_second(now, &last, &second, &third)
             }
-            None => false,
+            _ => false,
         }
     }
 
@@ -279,6 +342,16 @@ impl Recent {
     {
         match self.last {
             Some(heard) => now.has_other_keys() && heard.has_other_keys(),
+            None => false,
+        }
+    }
+
+    /// Whether a third system has named one of the two ends, for the second time in turn.
+    pub(crate) fn has_third(&self, now: &Heard) -> bool
+        ensures { (l : List Heard) → self.now ≡ recent_of l → result ≡ twice has_third now.now l }
+    {
+        match self.last {
+            Some(heard) => now.has_third() && heard.has_third(),
             None => false,
         }
     }

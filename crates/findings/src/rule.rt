@@ -53,6 +53,18 @@ pub enum Rule {
     Attached,
     /// 23: Defaulted or Expired for the second time after current information.
     Relapsing,
+    /// 24: a TLV type, or the type or length of a Terminator, that is another one.
+    Types,
+    /// 25: a source address that is a group's, or zero.
+    Source,
+    /// 26: in two LACPDUs in turn, both the Partner's system and a third one, which names one of the two ends, have sent LACPDUs
+    /// within 90 seconds.
+    Third,
+    /// 27: synchronized less than 1.75 seconds after it last was, or after it named another partner: 2 seconds less their
+    /// tolerance.
+    Hasty,
+    /// 28: more than a second earlier than the frame before it in the capture, of any end; the first one alone is found.
+    Backward,
 }
 
 /// What is said of a rule: its number, what is found, the section that has it, and what to do.
@@ -66,7 +78,7 @@ struct RuleRow {
 
 impl Rule {
     /// All rules, in the order of their numbers.
-    pub const ALL: [Rule; 23] = [
+    pub const ALL: [Rule; 28] = [
         Rule::Rate,
         Rule::System,
         Rule::Port,
@@ -90,6 +102,11 @@ impl Rule {
         Rule::Late,
         Rule::Attached,
         Rule::Relapsing,
+        Rule::Types,
+        Rule::Source,
+        Rule::Third,
+        Rule::Hasty,
+        Rule::Backward,
     ];
 
     /// The row of the rule.
@@ -237,6 +254,36 @@ impl Rule {
                 name: "defaulted or expired again and again",
                 clause: "6.4.12",
                 advice: "Look for a link that loses frames, and for a partner that sends LACPDUs less often than it is asked to.",
+            },
+            Rule::Types => RuleRow {
+                number: 24,
+                name: "a TLV type or a Terminator other than the standard's",
+                clause: "6.4.2.3",
+                advice: "Look for a fault of the sender: a receiver does not check these octets, and reads the rest.",
+            },
+            Rule::Source => RuleRow {
+                number: 25,
+                name: "a source address that is a group's, or zero",
+                clause: "6.4.2.2",
+                advice: "Give the port that sends the frame an individual MAC address of its own.",
+            },
+            Rule::Third => RuleRow {
+                number: 26,
+                name: "a third system on the link",
+                clause: "6.4.9",
+                advice: "Look for a hub, or for a switch that passes the slow protocols on: LACP is between two systems.",
+            },
+            Rule::Hasty => RuleRow {
+                number: 27,
+                name: "a wait of less than 2 seconds before synchronization",
+                clause: "6.4.15",
+                advice: "Look whether this end waits at all: links that come up together are to attach together.",
+            },
+            Rule::Backward => RuleRow {
+                number: 28,
+                name: "more than a second earlier than the frame before it",
+                clause: "6.4.4",
+                advice: "Sort the packets by reordercap and read them again: rules 18 to 21 are left out, and no time is judged from a packet to an earlier one.",
             },
         }
     }

@@ -83,6 +83,9 @@ pub struct SlowFrame {
     pub version: u8,
     /// Whether a reserved octet is not zero; of no meaning if the payload is refused.
     pub reserved: bool,
+    /// Whether a TLV type, or the type or length of the Terminator, is another one than in 6.4.2.3 and 6.5.3.3; of no meaning
+    /// if the payload is refused.
+    pub other_types: bool,
     /// What the payload holds.
     pub what: What,
 }

@@ -52,7 +52,7 @@ logged_all (x ∷ xs) l = logged_all xs (logged_next x l)
 
 -- what is kept is by these frames
 abbrev pub IsKnown : List SlowFrame → Findings → Type 0
-IsKnown h x = Knows h x.kept.items x.left_out
+IsKnown h x = Knows h x.kept.items x.order x.left_out
 
 -- what is kept is by what is logged
 pub record Follows (l : Log) (x : Noticed) : Type 0 where

@@ -1,5 +1,5 @@
 -- The frames of the slow protocols in a capture.
-use Rattle.std.specs.Prelude.{◌==◌, ◌||◌, ◌+◌, ◌-◌, ◌*◌, ℕ, Bool, false, not, List, Option, Some, None, Result, Ok, Err, drop, length, nat_lt, slice_get, slice_range, unwrap_or, if◌then◌else◌}
+use Rattle.std.specs.Prelude.{◌==◌, ◌&&◌, ◌||◌, ◌+◌, ◌-◌, ◌*◌, ℕ, Bool, false, not, List, Option, Some, None, Result, Ok, Err, drop, length, nat_lt, slice_get, slice_range, unwrap_or, if◌then◌else◌}
 use Rattle.std.specs.List.{list_any}
 use Rattle.captures.specs.declared.link.LinkType.{LinkType}
 use Rattle.captures.specs.declared.link.LinkType.TheVariants as links
@@ -7,6 +7,7 @@ use Rattle.captures.specs.declared.packet.Packet.{Packet}
 use Rattle.findings.specs.declared.slow_frame.SlowFrame.{SlowFrame}
 use Rattle.findings.specs.declared.slow_frame.What.{What}
 use Rattle.findings.specs.declared.slow_frame.What.TheVariants as what
+use Rattle.findings.specs.Holds.{and_if}
 use Rattle.slowpdu.specs.declared.fault.WireFault.{WireFault}
 use Rattle.slowpdu.specs.declared.pdu.Pdu.{Pdu}
 use Rattle.slowpdu.specs.declared.pdu.Pdu.TheVariants as pdu
@@ -26,6 +27,17 @@ abbrev pub has_reserved : List ℕ → What → Bool
 has_reserved b (what.Lacpdu v) = has_octet b 19 22 || (has_octet b 39 42 || (has_octet b 46 58 || has_octet b 60 110))
 has_reserved b (what.Marker m) = has_octet b 16 18 || has_octet b 20 110
 has_reserved b (what.Refused e) = false
+
+-- there is an octet at this offset, and it is this one
+abbrev pub is_octet : List ℕ → ℕ → ℕ → Bool
+is_octet b at octet = and_if (λ found. found == octet) (slice_get b at)
+
+-- a TLV type, or the type or length of the Terminator, is another one: Actor 1, Partner 2, Collector 3, Terminator 0 (6.4.2.3, 6.5.3.3)
+abbrev pub has_other_types : List ℕ → What → Bool
+has_other_types b (what.Lacpdu v) =
+    not (is_octet b 2 1 && (is_octet b 22 2 && (is_octet b 42 3 && (is_octet b 58 0 && is_octet b 59 0))))
+has_other_types b (what.Marker m) = not (is_octet b 18 0 && is_octet b 19 0)
+has_other_types b (what.Refused e) = false
 
 -- octet 1, the version
 abbrev pub version_in : List ℕ → ℕ
@@ -62,6 +74,7 @@ slow_frame number packet e b = record {
   length = frame_length packet e.tags;
   version = version_in b;
   reserved = has_reserved b (what_in b);
+  other_types = has_other_types b (what_in b);
   what = what_in b;
 }
 

@@ -1,6 +1,6 @@
 ghost use Rattle.std.specs.Prelude.{◌≡◌, ◌≤◌};
 ghost use Rattle.std.specs.List.{list_any};
-ghost use Rattle.lagtool_capture.specs.SlowFrames.{frame_in, frame_length, has_octet, has_reserved, is_set, slow_frame, version_in, what_in, what_of};
+ghost use Rattle.lagtool_capture.specs.SlowFrames.{frame_in, frame_length, has_octet, has_other_types, has_reserved, is_octet, is_set, slow_frame, version_in, what_in, what_of};
 
 use crate::header::{Header, header_of};
 use captures::{LinkType, Packet};
@@ -47,6 +47,34 @@ fn has_reserved(payload: &[u8], what: &What) -> bool
                 || has_octet(payload, 60, 110)
         }
         What::Marker(_) => has_octet(payload, 16, 18) || has_octet(payload, 20, 110),
+        What::Refused(_) => false,
+    }
+}
+
+/// Whether the octet at this offset is this one; false if there is none.
+fn is_octet(payload: &[u8], at: usize, octet: u8) -> bool
+    ensures { result ≡ is_octet payload.now at octet }
+{
+    match payload.get(at) {
+        Some(found) => *found == octet,
+        None => false,
+    }
+}
+
+/// Whether a TLV type, or the type or length of the Terminator, is another one (6.4.2.3, 6.5.3.3). The type of a marker's TLV says
+/// what it is.
+fn has_other_types(payload: &[u8], what: &What) -> bool
+    ensures { result ≡ has_other_types payload.now what.now }
+{
+    match what {
+        What::Lacpdu(_) => {
+            !(is_octet(payload, 2, 1)
+                && is_octet(payload, 22, 2)
+                && is_octet(payload, 42, 3)
+                && is_octet(payload, 58, 0)
+                && is_octet(payload, 59, 0))
+        }
+        What::Marker(_) => !(is_octet(payload, 18, 0) && is_octet(payload, 19, 0)),
         What::Refused(_) => false,
     }
 }
@@ -107,6 +135,7 @@ fn slow_frame(number: u64, packet: &Packet, header: Header, payload: &[u8]) -> S
         length: frame_length(packet, header.tags),
         version: version_in(payload),
         reserved: has_reserved(payload, &what),
+        other_types: has_other_types(payload, &what),
         what,
     }
 }

@@ -111,8 +111,10 @@ P3 = 32768/02-00-00-00-00-02 key 7 port 255/2
 8 -0.000001 02-00-00-00-00-02 refused fewer than 110 octets: 46
 end 02-00-00-00-00-01 port 1 names P3 named by 02-00-00-00-00-02 port 2 lacpdus 2 first 0.000000 last 1.005000 gaps 1.005000 to 1.005000 median 1.0 synchronized 0.000000 collecting 1.005000 distributing 1.005000
 end 02-00-00-00-00-02 port 2 names P1 named by 02-00-00-00-00-01 port 1 lacpdus 3 first 1.000000 last 3.250000 gaps 1.000000 to 1.250000 median 1.0 synchronized 2.250000 collecting 2.250000 distributing 2.250000
+finding 27 end 02-00-00-00-00-01 port 1 packet 3 at 1.005000: a wait of less than 2 seconds before synchronization (6.4.15). Look whether this end waits at all: links that come up together are to attach together.
 finding 7 end 02-00-00-00-00-02 packet 8 at -0.000001: a frame of another length (6.4.2.3). Compare the frames at the other end of the cable: a device between may pad or cut them.
-packets 8 slow 7 ends 2 findings 1
+finding 28 end 02-00-00-00-00-02 packet 8 at -0.000001: more than a second earlier than the frame before it (6.4.4). Sort the packets by reordercap and read them again: rules 18 to 21 are left out, and no time is judged from a packet to an earlier one.
+packets 8 slow 7 ends 2 findings 3
 ";
 
 /// The records of the same capture, in JSON.
@@ -126,8 +128,10 @@ const RECORDS: &str = "\
 {\"record\":\"frame\",\"packet\":8,\"seconds\":-0.000001,\"interface\":0,\"source\":\"02-00-00-00-00-02\",\"destination\":\"01-80-c2-00-00-02\",\"tags\":0,\"kind\":\"refused\",\"fault\":\"fewer than 110 octets: 46\"}
 {\"record\":\"end\",\"interface\":0,\"source\":\"02-00-00-00-00-01\",\"port\":1,\"lacpdus\":2,\"names\":{\"system\":\"32768/02-00-00-00-00-02\",\"key\":7,\"port\":\"255/2\"},\"named_by\":{\"interface\":0,\"source\":\"02-00-00-00-00-02\",\"port\":2},\"first\":0.000000,\"last\":1.005000,\"shortest\":1.005000,\"longest\":1.005000,\"median\":1.0,\"synchronized\":{\"began\":0.000000,\"ended\":null},\"collecting\":{\"began\":1.005000,\"ended\":null},\"distributing\":{\"began\":1.005000,\"ended\":null}}
 {\"record\":\"end\",\"interface\":0,\"source\":\"02-00-00-00-00-02\",\"port\":2,\"lacpdus\":3,\"names\":{\"system\":\"32768/02-00-00-00-00-01\",\"key\":1,\"port\":\"255/1\"},\"named_by\":{\"interface\":0,\"source\":\"02-00-00-00-00-01\",\"port\":1},\"first\":1.000000,\"last\":3.250000,\"shortest\":1.000000,\"longest\":1.250000,\"median\":1.0,\"synchronized\":{\"began\":2.250000,\"ended\":null},\"collecting\":{\"began\":2.250000,\"ended\":null},\"distributing\":{\"began\":2.250000,\"ended\":null}}
+{\"record\":\"finding\",\"rule\":27,\"name\":\"a wait of less than 2 seconds before synchronization\",\"clause\":\"6.4.15\",\"advice\":\"Look whether this end waits at all: links that come up together are to attach together.\",\"end\":{\"interface\":0,\"source\":\"02-00-00-00-00-01\",\"port\":1},\"partner\":{\"interface\":0,\"source\":\"02-00-00-00-00-02\",\"port\":2},\"packet\":3,\"seconds\":1.005000}
 {\"record\":\"finding\",\"rule\":7,\"name\":\"a frame of another length\",\"clause\":\"6.4.2.3\",\"advice\":\"Compare the frames at the other end of the cable: a device between may pad or cut them.\",\"end\":{\"interface\":0,\"source\":\"02-00-00-00-00-02\",\"port\":null},\"partner\":null,\"packet\":8,\"seconds\":-0.000001}
-{\"record\":\"counts\",\"packets\":8,\"slow\":7,\"ends\":2,\"findings\":1,\"beyond\":0}
+{\"record\":\"finding\",\"rule\":28,\"name\":\"more than a second earlier than the frame before it\",\"clause\":\"6.4.4\",\"advice\":\"Sort the packets by reordercap and read them again: rules 18 to 21 are left out, and no time is judged from a packet to an earlier one.\",\"end\":{\"interface\":0,\"source\":\"02-00-00-00-00-02\",\"port\":null},\"partner\":null,\"packet\":8,\"seconds\":-0.000001}
+{\"record\":\"counts\",\"packets\":8,\"slow\":7,\"ends\":2,\"findings\":3,\"beyond\":0}
 ";
 
 /// The outcome of an explanation, and what was written.
@@ -161,7 +165,7 @@ fn a_link_that_comes_up_is_explained(rt: HostRuntime) -> Result<(), Fail> {
     let wanted = Ok(CaptureSummary {
         packets: 8,
         slow: 7,
-        findings: 1,
+        findings: 3,
         fault: None,
     });
     for order in [Order::Big, Order::Little] {
@@ -238,7 +242,7 @@ fn every_field_or_no_frame_is_shown(rt: HostRuntime) -> Result<(), Fail> {
     assert!(rt; !text.contains("lacpdu actor"), "{text}");
     assert!(rt; text.contains("P3 = "), "{text}");
     assert!(rt;
-        text.contains("packets 8 slow 7 ends 2 findings 1\n"),
+        text.contains("packets 8 slow 7 ends 2 findings 3\n"),
         "{text}"
     );
     Ok(())

@@ -3,7 +3,7 @@ use captures::{LinkType, Order, Unit, put_file_header, put_packet};
 use lagstreams::{Sink, Source};
 use lagtool_capture::{CaptureFault, CaptureSummary, Settings, report_capture};
 use lagtypes::{Key, PortId, State, SystemId};
-use slowpdu::{Info, Lacpdu, frame};
+use slowpdu::{Info, Lacpdu, Marker, MarkerKind, frame};
 use std::alloc::{AllocError, Global};
 use std::process::Abort;
 use std::test::Fail;
@@ -135,6 +135,50 @@ fn a_frame_has_another_length(rt: HostRuntime) -> Result<(), Fail> {
     let line =
         "finding 7 end 02-00-00-00-00-02 port 1 packet 2 at 1.000000: a frame of another length (6.4.2.3). Compare the frames at the other end of the cable: a device between may pad or cut them.\n";
     assert!(rt; has_just(rt.alloc(), &frames, line)?);
+    Ok(())
+}
+
+// 6.4.2.3: behind the 14 octets of a header TLV types at 2, 22 and 42 (Actor 1, Partner 2, Collector 3), Terminator type and
+// length at 58 and 59 (0); the octets beside a Terminator are reserved.
+#[test]
+fn a_type_is_another_one(rt: HostRuntime) -> Result<(), Fail> {
+    let line =
+        "finding 24 end 02-00-00-00-00-02 port 1 packet 2 at 1.000000: a TLV type or a Terminator other than the standard's (6.4.2.3). Look for a fault of the sender: a receiver does not check these octets, and reads the rest.\n";
+    for at in [16, 36, 56, 72, 73] {
+        let mut other = lacpdu(2, UP, 1, UP);
+        other[at] = 9;
+        let frames = [(100, 124, lacpdu(1, UP, 2, UP)), (101, 124, other)];
+        assert!(rt; has_just(rt.alloc(), &frames, line)?, "{at}");
+    }
+    for at in [71, 74] {
+        let mut other = lacpdu(2, UP, 1, UP);
+        other[at] = 9;
+        let frames = [(100, 124, lacpdu(1, UP, 2, UP)), (101, 124, other)];
+        assert!(rt; has_just(rt.alloc(), &frames, "finding 8 ")?, "{at}");
+    }
+    Ok(())
+}
+
+// 6.5.3.3: in a marker the Terminator is at 18 and 19 behind the header, between pad and reserved octets.
+#[test]
+fn a_marker_has_another_terminator(rt: HostRuntime) -> Result<(), Fail> {
+    let asks = Marker {
+        kind: MarkerKind::Response,
+        port: 1,
+        system: [0x02, 0, 0, 0, 0, 1],
+        id: 7,
+    };
+    let rows = [
+        (31, "finding 8 "),
+        (32, "finding 24 "),
+        (33, "finding 24 "),
+        (34, "finding 8 "),
+    ];
+    for (at, line) in rows {
+        let mut other = frame([0x02, 0, 0, 0, 0, 2], &asks.encode());
+        other[at] = 9;
+        assert!(rt; has_just(rt.alloc(), &[(100, 124, other)], line)?, "{at}");
+    }
     Ok(())
 }
 

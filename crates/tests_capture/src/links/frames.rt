@@ -75,6 +75,7 @@ pub fn at(milliseconds: u64, said: Said) -> SlowFrame {
         length: 124,
         version: 1,
         reserved: false,
+        other_types: false,
         what: What::Lacpdu(Lacpdu {
             actor: said.actor,
             partner: said.partner,

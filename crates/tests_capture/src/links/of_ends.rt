@@ -1,4 +1,4 @@
-use crate::links::frames::{FAST, a_to_b, at, observed, shows};
+use crate::links::frames::{FAST, UP, a_to_b, at, observed, shows};
 use findings::{Findings, LinkEnd, MOST_ENDS, Rule, What};
 use slowpdu::{Marker, MarkerKind, WireFault};
 use std::process::Abort;
@@ -26,6 +26,55 @@ fn a_frame_is_not_as_the_standard_has_it(rt: HostRuntime) {
     let mut other = frame;
     other.tags = 1;
     shows(&rt, &[frame, other], 1000, &[(10, 2)]);
+    let mut other = frame;
+    other.other_types = true;
+    shows(&rt, &[frame, other], 1000, &[(24, 2)]);
+}
+
+// 6.4.2.2: the source is the individual address of the port; the first bit of a group's address on the wire is 1.
+#[test]
+fn a_source_is_no_individual_address(rt: HostRuntime) {
+    let mut frame = at(0, a_to_b(FAST, FAST));
+    let rows = [
+        ([1, 0, 0x5e, 0, 0, 9], true),
+        ([0x33, 0x33, 0, 0, 0, 1], true),
+        ([0xff; 6], true),
+        ([0; 6], false),
+        ([2, 1, 1, 1, 1, 1], false),
+        ([0, 0, 0, 0, 0, 7], false),
+        ([0xfe, 0xff, 0xff, 0xff, 0xff, 0xff], false),
+    ];
+    for (source, is_group) in rows {
+        frame.source = source;
+        if is_group || source == [0; 6] {
+            shows(&rt, &[frame, frame], 1000, &[(25, 1)]);
+        } else {
+            shows(&rt, &[frame, frame], 1000, &[]);
+        }
+    }
+}
+
+/// Each frame of one end breaks another rule.
+#[test]
+fn each_rule_of_a_frame_has_its_own_first_frame(rt: HostRuntime) {
+    let said = a_to_b(UP, UP);
+    let mut frames = [
+        at(0, said),
+        at(1000, said),
+        at(2000, said),
+        at(3000, said),
+        at(4000, said),
+        at(5000, said),
+        at(6000, said),
+    ];
+    frames[0].tags = 2;
+    frames[1].other_types = true;
+    frames[2].destination = Some([0x01, 0x80, 0xc2, 0, 0, 0x0e]);
+    frames[3].reserved = true;
+    frames[4].length = 60;
+    frames[5].version = 3;
+    let expected = [(6, 6), (7, 5), (8, 4), (9, 3), (10, 1), (24, 2)];
+    shows(&rt, &frames, 7000, &expected);
 }
 
 #[test]
@@ -50,6 +99,7 @@ fn an_end_is_named_by_what_it_sends(rt: HostRuntime) {
     refused.what = What::Refused(WireFault::Short { have: 46 });
     refused.version = 9;
     refused.reserved = true;
+    refused.other_types = true;
     let end = |port: Option<u16>| LinkEnd {
         interface: 0,
         source: [2, 0, 0, 0, 0, 0xa],

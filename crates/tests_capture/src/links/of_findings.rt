@@ -96,15 +96,19 @@ fn a_link_that_is_cabled_anew_shows_nothing(rt: HostRuntime) {
     said.partner = info(C, FAST);
     let mut answer = b_to_a(FAST, FAST);
     answer.actor = info(C, FAST);
-    let frames = [
-        at(0, a_to_b(FAST, FAST)),
-        at(500, b_to_a(FAST, FAST)),
-        at(1000, said),
-        at(1100, answer),
-        at(2000, said),
-        at(3000, said),
-    ];
-    shows(&rt, &frames, 3500, &[]);
+    let frames = |third: u64| {
+        [
+            at(0, a_to_b(FAST, FAST)),
+            at(500, b_to_a(FAST, FAST)),
+            at(third, said),
+            at(1850, answer),
+            at(2600, said),
+            at(3500, said),
+        ]
+    };
+    shows(&rt, &frames(1750), 3500, &[]);
+    // It is synchronized with C too soon.
+    shows(&rt, &frames(1000), 3500, &[(27, 3)]);
 }
 
 // 6.4.4: Long_Timeout_Time is 90 seconds. B answers 500 milliseconds after the beginning and is not heard any more.
@@ -209,6 +213,31 @@ fn silence_is_longer_than_the_timeout_that_the_partner_asks_for(rt: HostRuntime)
     let long = [at(0, a_to_b(FAST, UP)), at(500, a_to_b(FAST, UP))];
     shows(&rt, &long, 90_500, &[]);
     shows(&rt, &long, 90_501, &[(11, 2)]);
+}
+
+// 6.4.13: one active end is enough for both to send.
+#[test]
+fn a_passive_end_is_silent_beside_an_active_one(rt: HostRuntime) {
+    let said = a_to_b(0x3c, FAST);
+    shows(&rt, &[at(0, said), at(3001, said)], 4000, &[(11, 2)]);
+    let said = a_to_b(UP, 0x3e);
+    shows(&rt, &[at(0, said), at(3001, said)], 4000, &[(11, 2)]);
+    let said = a_to_b(0x3c, 0x3e);
+    shows(&rt, &[at(0, said), at(3001, said)], 4000, &[(5, 1)]);
+}
+
+// A state that lasted, and is over when the next LACPDU comes.
+#[test]
+fn what_is_over_did_not_last(rt: HostRuntime) {
+    let rows = [
+        (a_to_b(0x45, 0x00), a_to_b(0x05, UP)),
+        (a_to_b(UP, 0x0d), a_to_b(UP, UP)),
+        (a_to_b(0x0d, 0x05), a_to_b(0x0d, 0x0d)),
+    ];
+    for (lasts, is_over) in rows {
+        let frames = [at(0, lasts), at(2500, lasts), at(9000, is_over)];
+        shows(&rt, &frames, 9500, &[]);
+    }
 }
 
 // 6.4.12: an end that hears its partner is CURRENT; without it is 3 seconds in EXPIRED, then DEFAULTED.
@@ -327,6 +356,122 @@ fn keys_differ_within_a_pair_of_systems(rt: HostRuntime) {
     shows(&rt, &frames, 90_400, &[]);
 }
 
+// 6.4.9: each of three systems records who spoke last. So none of them has the partner of another.
+#[test]
+fn a_third_system_speaks_on_the_link(rt: HostRuntime) {
+    let of = |actor: u8, partner: u8| Said {
+        actor: info(actor, FAST),
+        partner: info(partner, FAST),
+    };
+    let frames = [
+        at(0, of(A, C)),
+        at(300, of(B, A)),
+        at(600, of(C, B)),
+        at(1000, of(A, C)),
+        at(1300, of(B, A)),
+        at(1600, of(C, B)),
+        at(2000, of(A, C)),
+    ];
+    // Each names another system than the one that answers it, too.
+    shows(&rt, &frames, 3000, &[(2, 7), (26, 7)]);
+    shows(&rt, &frames[..6], 3000, &[]);
+    // A and B name each other, and C names A, which B does too; or B, which A does too.
+    let rows = [(A, [(26, 6), (16, 5)]), (B, [(16, 4), (26, 6)])];
+    for (named, expected) in rows {
+        let pair = [
+            at(0, of(A, B)),
+            at(100, of(B, A)),
+            at(600, of(C, named)),
+            at(1000, of(A, B)),
+            at(1100, of(B, A)),
+            at(2000, of(A, B)),
+        ];
+        shows(&rt, &pair, 3000, &expected);
+    }
+    let pair = |third: SlowFrame, last: u64| {
+        [
+            at(0, of(A, B)),
+            at(100, of(B, A)),
+            third,
+            at(1000, of(A, B)),
+            at(last, of(A, B)),
+        ]
+    };
+    // One that names neither may be of another link; so may one on another interface.
+    shows(&rt, &pair(at(600, of(C, 0xd)), 2000), 3000, &[]);
+    let mut elsewhere = at(600, of(C, B));
+    elsewhere.interface = 1;
+    shows(&rt, &pair(elsewhere, 2000), 3000, &[]);
+    // So may one that names another port of A.
+    let mut said = of(C, A);
+    said.partner.port.number = 2;
+    shows(&rt, &pair(at(600, said), 2000), 3000, &[]);
+    // What C has recorded of B is of former times; another one than A has recorded it.
+    for state in [0x47, 0x87] {
+        let mut said = of(C, B);
+        said.actor = info(C, state);
+        shows(&rt, &pair(at(600, said), 2000), 3000, &[(16, 4)]);
+    }
+    // B and C were heard 90 seconds before the last LACPDU; then B was heard longer ago.
+    let slow = |actor: u8, partner: u8| Said {
+        actor: info(actor, UP),
+        partner: info(partner, UP),
+    };
+    let frames = |last: u64| {
+        [
+            at(0, slow(A, B)),
+            at(500, slow(B, A)),
+            at(600, slow(C, A)),
+            at(60_000, slow(A, B)),
+            at(last, slow(A, B)),
+        ]
+    };
+    shows(&rt, &frames(90_500), 90_500, &[(2, 5), (26, 5)]);
+    shows(&rt, &frames(90_501), 90_500, &[(2, 5)]);
+}
+
+// 6.4.4, 6.4.15: the port waits for 2 seconds, give or take 0.25, before it is attached to its aggregator.
+#[test]
+fn an_end_is_synchronized_too_soon(rt: HostRuntime) {
+    let (up, down) = (a_to_b(FAST, FAST), a_to_b(0x07, FAST));
+    let other = Said {
+        actor: info(A, FAST),
+        partner: info(C, FAST),
+    };
+    // it was synchronized at 1000 milliseconds, and is not at 1500
+    let again = |last: u64| [at(0, up), at(1000, up), at(1500, down), at(last, up)];
+    shows(&rt, &again(2749), 3000, &[(13, 3), (27, 4)]);
+    shows(&rt, &again(2750), 3000, &[(13, 3)]);
+    // two LACPDUs without Synchronization
+    let frames = [at(0, up), at(900, down), at(1700, down), at(1749, up)];
+    shows(&rt, &frames, 3000, &[(13, 2), (27, 4)]);
+    // The clock steps back by 2 seconds between two of them.
+    let frames = [at(5000, up), at(5500, down), at(4000, down), at(5200, up)];
+    shows(&rt, &frames, 6000, &[(13, 2), (28, 3)]);
+    // another partner
+    shows(&rt, &[at(0, other), at(1749, up)], 3000, &[(27, 2)]);
+    shows(&rt, &[at(0, other), at(1750, up)], 3000, &[]);
+    let frames = [at(0, other), at(500, down), at(1749, up)];
+    shows(&rt, &frames, 3000, &[(13, 2), (27, 3)]);
+    let frames = [at(0, other), at(500, down), at(2249, up)];
+    shows(&rt, &frames, 3000, &[(13, 2)]);
+    // nobody, at its start: Defaulted
+    let nobody = Said {
+        actor: info(A, 0x47),
+        partner: Info::default(),
+    };
+    shows(&rt, &[at(0, nobody), at(1000, up)], 3000, &[(27, 2)]);
+    // A port that has just come up is not known to wait from its first LACPDU on.
+    shows(&rt, &[at(0, down), at(1000, up)], 3000, &[]);
+    // It goes on to be synchronized, and one that is Defaulted has no partner to wait for.
+    shows(&rt, &[at(0, up), at(1000, up)], 3000, &[]);
+    let alone = Said {
+        actor: info(A, 0x4f),
+        partner: Info::default(),
+    };
+    shows(&rt, &[at(0, other), at(1000, alone)], 3000, &[]);
+}
+
 // 6.4.9: two ends record one partner, so both hear it.
 #[test]
 fn two_actors_are_on_one_segment(rt: HostRuntime) {
@@ -372,8 +517,9 @@ fn frames_are_distributed_that_nobody_collects(rt: HostRuntime) {
     shows(&rt, &frames, 5000, &[]);
 }
 
+// A step back is told, and no time is judged over it.
 #[test]
-fn a_clock_that_steps_back_shows_nothing(rt: HostRuntime) {
+fn a_clock_that_steps_back_shows_this_alone(rt: HostRuntime) {
     let said = a_to_b(FAST, FAST);
     let fourth = [
         at(5000, said),
@@ -381,11 +527,65 @@ fn a_clock_that_steps_back_shows_nothing(rt: HostRuntime) {
         at(7000, said),
         at(1000, said),
     ];
-    shows(&rt, &fourth, 1500, &[]);
+    shows(&rt, &fourth, 1500, &[(28, 4)]);
     let mut rival = a_to_b(FAST, FAST);
     rival.actor = info(C, FAST);
     let frames = [at(5000, said), at(5500, rival), at(1000, said)];
-    shows(&rt, &frames, 1500, &[]);
+    shows(&rt, &frames, 1500, &[(28, 3)]);
+    // 6.4.16: the clock steps back by 3 seconds between two of four LACPDUs that are a second apart.
+    let apart = [
+        at(5000, said),
+        at(6000, said),
+        at(7000, said),
+        at(5500, said),
+        at(6500, said),
+    ];
+    shows(&rt, &apart, 7000, &[(28, 4)]);
+    // By a second it is in the order of what several interfaces receive; the first step is told, and no other.
+    shows(&rt, &[at(5000, said), at(4000, said)], 5000, &[]);
+    let (back, again) = (at(3999, said), at(2000, said));
+    shows(&rt, &[at(5000, said), back, again], 5000, &[(28, 2)]);
+}
+
+// The frames of one direction stand behind those of the other: B hears A, and responds.
+#[test]
+fn directions_one_behind_the_other_are_not_judged_by_their_order(rt: HostRuntime) {
+    let (said, answer) = (a_to_b(FAST, FAST), b_to_a(FAST, FAST));
+    let frames = [
+        at(0, said),
+        at(2500, said),
+        at(5000, said),
+        at(100, answer),
+        at(2600, answer),
+        at(5100, answer),
+    ];
+    shows(&rt, &frames, 5100, &[(28, 4)]);
+    shows(&rt, &frames[3..], 5100, &[(18, 3)]);
+}
+
+// 6.3.6: the frames of one interface stand behind those of the other, as `mergecap -a` writes them: no time is judged between
+// the two.
+#[test]
+fn keys_are_not_judged_where_one_link_stands_behind_the_other(rt: HostRuntime) {
+    let said = a_to_b(UP, UP);
+    let mut other = said;
+    other.actor.key = Key(2);
+    other.actor.port.number = 2;
+    other.partner.port.number = 2;
+    let second = |milliseconds: u64| {
+        let mut frame = at(milliseconds, other);
+        frame.interface = 1;
+        frame
+    };
+    let frames = [
+        at(0, said),
+        at(70_000, said),
+        at(100_000, said),
+        second(9_999),
+        second(10_000),
+        second(10_500),
+    ];
+    shows(&rt, &frames, 10_500, &[(28, 4)]);
 }
 
 #[test]

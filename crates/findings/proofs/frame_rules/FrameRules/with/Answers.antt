@@ -11,4 +11,6 @@ returns c = λ l is.
       reserved = next c.earlier_or-3.ensures (ap (λ (r : FrameRules). r.reserved) is) (c.has_reserved.ensures l) c.shown-shown.ensures i;
       destination = next c.earlier_or-4.ensures (ap (λ (r : FrameRules). r.destination) is) (c.has_other_destination.ensures l) c.shown-shown.ensures i;
       tag = next c.earlier_or-5.ensures (ap (λ (r : FrameRules). r.tag) is) refl c.shown-shown.ensures i;
+      types = next c.earlier_or-6.ensures (ap (λ (r : FrameRules). r.types) is) (c.has_other_types.ensures l) c.shown-shown.ensures i;
+      source = next c.earlier_or-7.ensures (ap (λ (r : FrameRules). r.source) is) (c.has_other_source.ensures l) c.shown-shown.ensures i;
     }

@@ -21,4 +21,6 @@ returns c = λ l recent is.
       one_way = next c.earlier_or-13.ensures (ap (λ (r : LacpduRules). r.one_way) is) (c.is_one_way.ensures l recent) c.shown-shown.ensures i;
       attached = next c.earlier_or-14.ensures (ap (λ (r : LacpduRules). r.attached) is) (c.is_attached.ensures l recent) c.shown-shown.ensures i;
       relapsing = next c.earlier_or-15.ensures (ap (λ (r : LacpduRules). r.relapsing) is) (c.is_relapsing.ensures l recent) c.shown-shown.ensures i;
+      third = next c.earlier_or-16.ensures (ap (λ (r : LacpduRules). r.third) is) (c.has_third.ensures l recent) c.shown-shown.ensures i;
+      hasty = next c.earlier_or-17.ensures (ap (λ (r : LacpduRules). r.hasty) is) (c.is_hasty.ensures l recent) c.shown-shown.ensures i;
     }
