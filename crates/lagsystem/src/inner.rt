@@ -26,7 +26,7 @@ use crate::holding::{
 };
 use crate::offers::check_offer;
 use crate::parse::parse_payload;
-use crate::process_lacpdu::{process_lacpdu_at, run_periodic_at};
+use crate::process_lacpdu::process_lacpdu_on;
 use crate::received::{FrameEffect, Received};
 use crate::set_link::set_link_at;
 use crate::settling::settle_ports;
@@ -205,7 +205,7 @@ impl<F: Fn(u16, usize) -> usize + Drop> Inner<F> {
         }
     }
 
-    /// Processes an LACPDU on the port at this index, and settles. Where `process_lacpdu_at` answers true, the rest of a settling
+    /// Processes an LACPDU on the port at this index, and settles. Where `process_lacpdu_on` answers true, the rest of a settling
     /// can change nothing but by the periodic machine of this port and by what leaves it, so these alone are done: the result is
     /// the same, and the contract does not say which of the two ways is taken.
     fn process_lacpdu(&mut self, place: usize, pdu: &Lacpdu)
@@ -216,8 +216,8 @@ impl<F: Fn(u16, usize) -> usize + Drop> Inner<F> {
         ensures algorithm { self.new.distributor.algorithm ≡ self.old.distributor.algorithm }
     {
         let was = collecting(&self.system_ports[place].port);
-        if process_lacpdu_at(&mut self.system_ports, place, pdu) {
-            run_periodic_at(&mut self.system_ports, place);
+        if process_lacpdu_on(&mut self.system_ports[place], pdu) {
+            self.system_ports[place].port.periodic();
             hold_conversations_at(&mut self.distributor, &self.system_ports, place, was);
         } else {
             let mut before = ArrayVec::new();

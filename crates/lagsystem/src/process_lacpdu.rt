@@ -1,8 +1,6 @@
-ghost use Rattle.std.specs.Prelude.{◌<◌, ◌≡◌, Some, length};
+ghost use Rattle.std.specs.Prelude.{◌≡◌};
 ghost use Rattle.std.specs.Bool.{OnTrue};
-ghost use Rattle.portmachines.specs.Periodic.{RunsPeriodic};
-ghost use Rattle.lagsystem.specs.Calls.{PortAtChangesBy};
-ghost use Rattle.lagsystem.specs.NothingToSettle.{HasRecordedActor, IsSamePartner, ProcessesLacpduAndRunsMux, ProcessesLacpduAt};
+ghost use Rattle.lagsystem.specs.NothingToSettle.{HasRecordedActor, IsSamePartner, ProcessesLacpduAndRunsMux};
 
 use crate::system_ports::{SystemPort, stage};
 use portmachines::ReceiveState;
@@ -39,7 +37,7 @@ fn is_same_stage(now: Stage, was: Stage) -> bool
 
 /// Processes an LACPDU on a port, and runs its mux machine with Ready false, as the first step of a settling does. If this returns
 /// true, the Selection Logic sees the port as before; false says nothing.
-fn process_lacpdu_on(system_port: &mut SystemPort, pdu: &Lacpdu) -> bool
+pub(crate) fn process_lacpdu_on(system_port: &mut SystemPort, pdu: &Lacpdu) -> bool
     ensures { ProcessesLacpduAndRunsMux pdu.now system_port.old result system_port.new }
 {
     let known = has_recorded_actor(system_port, pdu);
@@ -52,22 +50,4 @@ fn process_lacpdu_on(system_port: &mut SystemPort, pdu: &Lacpdu) -> bool
         return false;
     }
     is_same_stage(stage(system_port), before)
-}
-
-/// Processes an LACPDU on the port at this index, as `process_lacpdu_on` does.
-pub(crate) fn process_lacpdu_at(system_ports: &mut [SystemPort], place: usize, pdu: &Lacpdu) -> bool
-    requires { place < length system_ports.old }
-    ensures { ProcessesLacpduAt pdu.now place system_ports.old result system_ports.new }
-{
-    let system_port = &mut system_ports[place];
-    process_lacpdu_on(system_port, pdu)
-}
-
-/// Runs the periodic machine of the port at this index until none of its rows is enabled. No timer counts down.
-pub(crate) fn run_periodic_at(system_ports: &mut [SystemPort], place: usize)
-    requires { place < length system_ports.old }
-    ensures { PortAtChangesBy RunsPeriodic (Some place) system_ports.old system_ports.new }
-{
-    let system_port = &mut system_ports[place];
-    system_port.port.periodic();
 }
