@@ -108,7 +108,7 @@ pub use Rattle.lagsystem.specs.Calls.{AlreadyConfigured, AnswersMarker, Call, Ca
 pub use Rattle.lagsystem.specs.Calls.{FreesIfDown, GivesEffect, IsControlFrame, IsFrame, Move_conversation, Offer, OnlyPortChangesBy, ParsesFrame}
 pub use Rattle.lagsystem.specs.Calls.{ParsesPayload, ParsesWhere, Performs, PortAtChangesBy, ProcessesLacpdu, Receive, ReceivedFrame, ReceivesAt}
 pub use Rattle.lagsystem.specs.Calls.{RefusesNoPort, Releases, Restart, Runt, Set_link, SetsLink, SetsPortEnabled, Step, TableRun, ThenSettles, Tick}
-pub use Rattle.lagsystem.specs.Calls.{Ticks, Transmit, changed_party, choice_with_link, is_own_response, up_or_dropped}
+pub use Rattle.lagsystem.specs.Calls.{Ticks, Transmit, changed_party, choice_with_link, is_own_response, received_of, up_or_dropped}
 pub use Rattle.lagsystem.specs.ConversationTables.{TellsRows, has_changed, has_freed, is_busy, port_on}
 pub use Rattle.lagsystem.specs.Drives.{Drives, call_of}
 pub use Rattle.lagsystem.specs.First.{HasJustStarted, IsConfigured, IsFirst, config_refusal, configured_number, configured_numbers}
@@ -123,7 +123,7 @@ pub use Rattle.lagsystem.specs.ModelView.{can_receive, can_receive_in, configure
 pub use Rattle.lagsystem.specs.ModelView.{model_port, model_port_of, model_setup, model_view, model_view_at, mux_consistent, mux_consistent_of}
 pub use Rattle.lagsystem.specs.ModelView.{none_enabled, number_of_port, selected_number}
 pub use Rattle.lagsystem.specs.NothingToSettle.{HasRecordedActor, IsSamePartner, LooksUnchanged, MuxIsSettled, MuxesAreSettled, PeriodicIsSettled}
-pub use Rattle.lagsystem.specs.NothingToSettle.{PeriodicsAreSettled, ProcessesLacpduAt}
+pub use Rattle.lagsystem.specs.NothingToSettle.{PeriodicsAreSettled, ProcessesLacpduAndRunsMux, ProcessesLacpduAt}
 pub use Rattle.lagsystem.specs.Occupants.{NoneIsNext, OccupantsAgree, WithinLimit, occupied}
 pub use Rattle.lagsystem.specs.Offers.{AssignsPort, GivesAssignment, GivesOrRefuses, MayBeOffered, MayBeOfferedTo, Offers, RefusedBy, RefusesFrame}
 pub use Rattle.lagsystem.specs.Offers.{RefusesOffer, assignment_of_frame, has_aggregator, in_system, is_frame_length, or_not_assigned}

@@ -1,15 +1,12 @@
 -- What a system makes of a received frame.
-use Rattle.lagsystem.proofs.Common.{List, None, Option, Some, ap, drop, false, length, refl, same_Some, slice_get, subst, sym, true, ℕ, ◌∙◌, ◌≡◌, ◌≤◌}
+use Rattle.lagsystem.proofs.Common.{List, None, Option, Some, ap, drop, false, length, refl, slice_get, subst, sym, true, ℕ, ◌∙◌, ◌≡◌, ◌≤◌, same_Some}
+use Rattle.lagsystem.proofs.Common.{AggId, IsSlowProtocolsFrame, FrameEffect, Answered, Received, Disabled, SystemPort, GivesEffect, IsFrame}
+use Rattle.lagsystem.proofs.Common.{ParsesFrame, ParsesWhere, Performs, ReceivedFrame, ReceivesAt, received_of, up_or_dropped, SystemState}
+use Rattle.lagsystem.proofs.Common.{system_port_at}
 use Rattle.collector.specs.Collecting.{IsDataFrame}
 use Rattle.collector.specs.declared.Taken.{Taken}
 use Rattle.collector.specs.declared.Taken.TheVariants as taken
-use Rattle.lagsystem.proofs.Common.{AggId, FrameEffect, IsSlowProtocolsFrame, ParsesFrame, ParsesWhere, SystemPort, SystemState}
-use Rattle.lagsystem.specs.Calls.{GivesEffect, IsFrame, Performs, ReceivedFrame, ReceivesAt, received_of, up_or_dropped}
 use Rattle.lagsystem.specs.Receiving.{ReceivesControl}
-use Rattle.lagsystem.specs.State.{system_port_at}
-use Rattle.lagsystem.specs.declared.received.FrameEffect.TheVariants.{Answered}
-use Rattle.lagsystem.specs.declared.received.Received.{Received}
-use Rattle.lagsystem.specs.declared.received.Received.TheVariants.{Disabled}
 use Rattle.lagsystem.proofs.StateLemmas.{hears_control}
 
 -- on a port whose link is down

@@ -16,6 +16,13 @@ pub lacpdu_sent : (max_delay : ℕ) (system_port : SystemPort) (given : Option L
     → SendsLacpduIfDue max_delay system_port (Some octets) port
 lacpdu_sent max_delay system_port given pdu payload octets port eg ep some address writes e = grind (arith, nat_tests)
 
+-- a port whose transmit machine gives none sends none
+pub none_sent : (max_delay : ℕ) (system_port : SystemPort) (given : Option Lacpdu) (port : Machines)
+    → given ≡ (if is_due system_port.port then Some (pdu_of system_port.port max_delay) else None)
+    → port ≡ (if is_due system_port.port then after_sending system_port.port else system_port.port)
+    → given ≡ None → SendsLacpduIfDue max_delay system_port None port
+none_sent max_delay system_port given port eg ep none = grind (arith, nat_tests)
+
 where_marker : (up due : Bool) (i : ℕ) (system_port : SystemPort) (old : SystemState) (answer : Option (List ℕ)) (new : SystemState)
     → up ≡ true → due ≡ false
     → SendsMarker system_port.number system_port.mac old answer new → TransmitsIf up due i system_port old answer new

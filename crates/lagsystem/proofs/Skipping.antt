@@ -1,13 +1,12 @@
 -- An LACPDU after which the port looks the same to the Selection Logic: a settling goes on with this port alone.
 use Rattle.lagsystem.proofs.Common.{Bool, List, Option, Some, [], ap, arith, false, refl, slice_get, slice_set, subst, suc, sym, true, zero, ℕ, ◌∙◌}
 use Rattle.lagsystem.proofs.Common.{◌∷◌, ◌≡◌, nat_tests, same_Some, OnTrue, AllByRecursion, AggId, Key, Lacpdu, Machines, mux_rows, RunsPeriodic}
-use Rattle.lagsystem.proofs.Common.{AtRest, FiresTimes, RunsToRest, one_mux, Reaches-keeps, PortView, ChangesAssignments, Table, SystemPort, OnlyPortChangesBy}
-use Rattle.lagsystem.proofs.Common.{PortAtChangesBy, ProcessesLacpdu, ThenSettles, after_holding, aggregators_in_use, stopped, HasRecordedActor}
-use Rattle.lagsystem.proofs.Common.{IsSamePartner, LooksUnchanged, MuxIsSettled, MuxesAreSettled, PeriodicsAreSettled, ProcessesLacpduAt, NoneIsNext}
-use Rattle.lagsystem.proofs.Common.{collecting, PortChangesBy, PortsChangeBy, SettlesPorts, Settling, IsSound, SystemState, aggregators_value}
-use Rattle.lagsystem.proofs.Common.{with_system_ports, selection_view, stage_of, views}
+use Rattle.lagsystem.proofs.Common.{AtRest, FiresTimes, RunsToRest, one_mux, Reaches-keeps, PortView, ChangesAssignments, Table, SystemPort}
+use Rattle.lagsystem.proofs.Common.{OnlyPortChangesBy, PortAtChangesBy, ProcessesLacpdu, ThenSettles, after_holding, aggregators_in_use, stopped}
+use Rattle.lagsystem.proofs.Common.{HasRecordedActor, IsSamePartner, LooksUnchanged, MuxIsSettled, MuxesAreSettled, PeriodicsAreSettled}
+use Rattle.lagsystem.proofs.Common.{ProcessesLacpduAndRunsMux, ProcessesLacpduAt, NoneIsNext, collecting, PortChangesBy, PortsChangeBy, SettlesPorts}
+use Rattle.lagsystem.proofs.Common.{Settling, IsSound, SystemState, aggregators_value, with_system_ports, selection_view, stage_of, views}
 use Rattle.selection.specs.declared.view.Stage.TheVariants as stage
-use Rattle.lagsystem.specs.NothingToSettle.{ProcessesLacpduAndRunsMux}
 use Rattle.lagsystem.proofs.Keeps.{ports_keep, ports_table, settling_joined}
 use Rattle.lagsystem.proofs.PlaceLemmas.{in_use_before}
 use Rattle.lagsystem.proofs.Quieting.{paced_runs, settles_from, still_mux}

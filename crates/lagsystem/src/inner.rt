@@ -33,7 +33,7 @@ use crate::settling::settle_ports;
 use crate::start::{aggregator_count, new_system_ports, restart_each};
 use crate::system_ports::{SystemPort, port_index};
 use crate::tick::tick_each;
-use crate::transmit::{control_frame, is_lacpdu_due, transmit_lacpdu_at};
+use crate::transmit::{control_frame, is_lacpdu_due};
 use arrayvec::ArrayVec;
 use collector::collect;
 use distributor::{Assignment, Distributor};
@@ -281,10 +281,11 @@ impl<F: Fn(u16, usize) -> usize + Drop> Inner<F> {
         if !self.system_ports[place].port.is_enabled() {
             return Ok(None);
         }
-        if let Some(frame) = transmit_lacpdu_at(&mut self.system_ports, place, self.max_delay) {
-            return Ok(Some(frame));
+        let system_port = &mut self.system_ports[place];
+        let mac = system_port.mac;
+        if let Some(pdu) = system_port.port.transmit(self.max_delay) {
+            return Ok(Some(control_frame(mac, &pdu.encode())));
         }
-        let mac = self.system_ports[place].mac;
         Ok(self.transmit_marker(number, mac))
     }
 

@@ -1,10 +1,8 @@
-ghost use Rattle.std.specs.Prelude.{◌≡◌, ◌<◌, length};
+ghost use Rattle.std.specs.Prelude.{◌≡◌};
 ghost use Rattle.slowpdu.specs.Frames.{frame_octets};
 ghost use Rattle.slowpdu.specs.Layout.{IsAddress};
 ghost use Rattle.portmachines.specs.Transmit.{is_due};
-ghost use Rattle.lagsystem.specs.Sending.{PortSendsLacpduIfDue};
 
-use crate::system_ports::SystemPort;
 use portmachines::Port;
 use slowpdu::frame;
 
@@ -24,21 +22,4 @@ pub(crate) fn is_lacpdu_due(port: &Port) -> bool
     ensures { result ≡ is_due port.now }
 {
     port.ntt() && port.ages().len() < MOST_LACPDUS
-}
-
-/// The LACPDU that is due on the port at this index, as a control frame; None if none is due.
-pub(crate) fn transmit_lacpdu_at(
-    system_ports: &mut [SystemPort],
-    place: usize,
-    max_delay: u16,
-) -> Option<[u8; 124]>
-    requires { place < length system_ports.old }
-    ensures { PortSendsLacpduIfDue max_delay place result system_ports.old system_ports.new }
-{
-    let system_port = &mut system_ports[place];
-    let mac = system_port.mac;
-    match system_port.port.transmit(max_delay) {
-        Some(pdu) => Some(control_frame(mac, &pdu.encode())),
-        None => None,
-    }
 }

@@ -1,7 +1,6 @@
-use Rattle.lagsystem.proofs.Common.{List, Some, ap, arith, length, refl, slice_get, slice_set, subst, sym, true, ◌∙◌, ◌≡◌, ◌≤◌, ◌<◌}
+use Rattle.lagsystem.proofs.Common.{List, Some, ap, arith, length, refl, slice_get, slice_set, subst, sym, true, ◌<◌, ◌∙◌, ◌≡◌, ◌≤◌, length-set}
 use Rattle.lagsystem.proofs.Common.{slice_get-get_or, RunsPeriodic, ChangesAssignments, SystemPort, PortAtChangesBy, after_holding}
 use Rattle.lagsystem.proofs.Common.{aggregators_in_use, stopped, inner_state, ProcessesLacpduAt, with_system_ports}
-use Rattle.lagsystem.proofs.Common.{length-set}
 use Rattle.lagsystem.proofs.Keeps.{few_ports}
 use Rattle.lagsystem.proofs.PlaceLemmas.{were_before}
 use Rattle.lagsystem.proofs.Settled.{place_carried}

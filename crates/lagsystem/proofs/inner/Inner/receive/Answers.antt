@@ -1,7 +1,5 @@
-use Rattle.lagsystem.proofs.Common.{Some, ap, false, slice_get, sym, true, ◌∙◌, ◌≡◌, slice_get-get_or, SystemPort, inner_state, port_index}
-use Rattle.lagsystem.proofs.Common.{Answered, Data_frame, refl}
-use Rattle.lagsystem.specs.Calls.{Runt, up_or_dropped}
-use Rattle.lagsystem.specs.declared.received.Received.TheVariants.{Disabled, Dropped}
+use Rattle.lagsystem.proofs.Common.{Some, ap, false, refl, slice_get, sym, true, ◌∙◌, ◌≡◌, slice_get-get_or, Answered, Disabled, Dropped, SystemPort}
+use Rattle.lagsystem.proofs.Common.{Data_frame, Runt, up_or_dropped, inner_state, port_index}
 use Rattle.lagsystem.proofs.ReceivingLemmas.{answered_at, collected, control_at, parses_none, parses_one}
 use Rattle.lagsystem.proofs.inner.Inner.receive.Goals as goal
 
