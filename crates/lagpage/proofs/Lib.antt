@@ -1,1 +1,2 @@
 pub mod CaptureLemmas
+pub mod UtfLemmas

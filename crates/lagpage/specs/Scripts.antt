@@ -50,11 +50,15 @@ pub record TellsNoScript (text : List ℕ) (t : Told) : Type 0 where
 abbrev pub TellsScript : List ℕ → Told → Type 0
 TellsScript text t = TellsReport text t ⊎ TellsNoScript text t
 
+-- the octets before the first that are no UTF-8
+abbrev pub text_before : List ℕ → List ℕ
+text_before octets = take (utf8_valid_len octets) octets
+
 -- where octets are no UTF-8
 pub record TellsNoUtf8 (octets : List ℕ) (t : Told) : Type 0 where
-  pub where_not : List ℕ
-  pub says : length octets < 2 ^ 32 → where_not ≡ utf8_text script_name (take (utf8_valid_len octets) octets)
-  pub told : Tells 2 [] (two_lines (codes "cannot read " ++ script_name) where_not) t
+  pub place : List ℕ
+  pub says : length (text_before octets) < 2 ^ 32 → place ≡ utf8_text script_name (text_before octets)
+  pub told : Tells 2 [] (two_lines (codes "cannot read " ++ script_name) place) t
 
 -- what is told of a file that is replayed
 abbrev pub TellsReplay : List ℕ → Told → Type 0

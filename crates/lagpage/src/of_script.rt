@@ -46,16 +46,17 @@ fn told_of_script(alloc: Global, text: &str) -> Result<Told, AllocError>
 
 /// What is told of octets that are no UTF-8 behind so many. `AllocError` if memory is refused.
 fn told_of_no_utf8(alloc: Global, octets: &[u8], valid: usize) -> Result<Told, AllocError>
-    requires { valid ≡ utf8_valid_len octets.now }
+    requires valid { valid ≡ utf8_valid_len octets.now }
+    requires short { valid < length octets.now }
     ensures { IfOk result (λ t. TellsNoUtf8 octets.now t) }
 {
-    let before = octets.get(..valid).unwrap_or(&[]);
-    let more = utf8_text(alloc, SCRIPT, before)?;
+    let more = utf8_text(alloc, SCRIPT, &octets[..valid])?;
     let said = said_of_fault(alloc, ToolFault::Read, more.as_str())?;
     make_told(Vec::new(alloc), said.as_bytes(), 2)
 }
 
 /// What `lagtool --explain replay` tells of a file with these octets. `AllocError` if memory is refused.
+#[tactic(auto, using(crate::proofs::UtfLemmas::replays, crate::proofs::UtfLemmas::replays_no_text))]
 fn told_of_replay(alloc: Global, octets: &[u8]) -> Result<Told, AllocError>
     ensures { IfOk result (λ t. TellsReplay octets.now t) }
 {

@@ -71,6 +71,7 @@ fn told_of_respond(alloc: Global, mac: &str, hex: &str) -> Result<Told, AllocErr
 }
 
 /// What is told of the word of `decode`, whatever octets it has.
+#[tactic(auto, using(crate::proofs::UtfLemmas::decodes, crate::proofs::UtfLemmas::decodes_no_text))]
 fn told_of_decoded(alloc: Global, hex: &[u8]) -> Result<Told, AllocError>
     ensures { IfOk result (λ t. TellsDecode hex.now t) }
 {
@@ -81,12 +82,16 @@ fn told_of_decoded(alloc: Global, hex: &[u8]) -> Result<Told, AllocError>
 }
 
 /// What is told of the words of `respond`, whatever octets they have.
+#[tactic(auto, using(crate::proofs::UtfLemmas::responds, crate::proofs::UtfLemmas::responds_no_text))]
 fn told_of_answered(alloc: Global, mac: &[u8], hex: &[u8]) -> Result<Told, AllocError>
     ensures { IfOk result (λ t. TellsRespond mac.now hex.now t) }
 {
-    match (str::from_utf8(mac), str::from_utf8(hex)) {
-        (Ok(mac), Ok(hex)) => told_of_respond(alloc, mac, hex),
-        _ => told_of_no_word(alloc),
+    match str::from_utf8(mac) {
+        Ok(mac) => match str::from_utf8(hex) {
+            Ok(hex) => told_of_respond(alloc, mac, hex),
+            Err(_) => told_of_no_word(alloc),
+        },
+        Err(_) => told_of_no_word(alloc),
     }
 }
 
