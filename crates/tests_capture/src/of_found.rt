@@ -146,13 +146,17 @@ fn a_type_is_another_one(rt: HostRuntime) -> Result<(), Fail> {
         "finding 24 end 02-00-00-00-00-02 port 1 packet 2 at 1.000000: a TLV type or a Terminator other than the standard's (6.4.2.3). Look for a fault of the sender: a receiver does not check these octets, and reads the rest.\n";
     for at in [16, 36, 56, 72, 73] {
         let mut other = lacpdu(2, UP, 1, UP);
-        other[at] = 9;
+        if let Some(octet) = other.get_mut(at) {
+            *octet = 9;
+        }
         let frames = [(100, 124, lacpdu(1, UP, 2, UP)), (101, 124, other)];
         assert!(rt; has_just(rt.alloc(), &frames, line)?, "{at}");
     }
     for at in [71, 74] {
         let mut other = lacpdu(2, UP, 1, UP);
-        other[at] = 9;
+        if let Some(octet) = other.get_mut(at) {
+            *octet = 9;
+        }
         let frames = [(100, 124, lacpdu(1, UP, 2, UP)), (101, 124, other)];
         assert!(rt; has_just(rt.alloc(), &frames, "finding 8 ")?, "{at}");
     }
@@ -176,7 +180,9 @@ fn a_marker_has_another_terminator(rt: HostRuntime) -> Result<(), Fail> {
     ];
     for (at, line) in rows {
         let mut other = frame([0x02, 0, 0, 0, 0, 2], &asks.encode());
-        other[at] = 9;
+        if let Some(octet) = other.get_mut(at) {
+            *octet = 9;
+        }
         assert!(rt; has_just(rt.alloc(), &[(100, 124, other)], line)?, "{at}");
     }
     Ok(())

@@ -356,6 +356,40 @@ fn keys_differ_within_a_pair_of_systems(rt: HostRuntime) {
     shows(&rt, &frames, 90_400, &[]);
 }
 
+// 6.3.6: both links of two systems carry, each in an aggregator of its own, since B gives them the keys 1 and 2.
+#[test]
+fn two_links_carry_in_two_groups(rt: HostRuntime) {
+    let (first, answer) = (a_to_b(FAST, FAST), b_to_a(FAST, FAST));
+    let (mut second, mut reply) = (first, answer);
+    second.actor.port.number = 2;
+    second.partner.port.number = 2;
+    second.partner.key = Key(2);
+    reply.actor.port.number = 2;
+    reply.actor.key = Key(2);
+    reply.partner.port.number = 2;
+    let other = |milliseconds: u64, said: Said| {
+        let mut frame = at(milliseconds, said);
+        frame.interface = 1;
+        frame
+    };
+    let frames = [
+        at(0, first),
+        at(10, answer),
+        other(20, second),
+        other(30, reply),
+        at(1000, first),
+        at(1010, answer),
+        other(1020, second),
+        other(1030, reply),
+        at(2000, first),
+        at(2010, answer),
+        other(2020, second),
+        other(2030, reply),
+    ];
+    let expected = [(15, 9), (15, 10), (15, 11), (15, 12)];
+    shows(&rt, &frames, 2500, &expected);
+}
+
 // 6.4.9: each of three systems records who spoke last. So none of them has the partner of another.
 #[test]
 fn a_third_system_speaks_on_the_link(rt: HostRuntime) {
