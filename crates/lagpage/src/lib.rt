@@ -1,5 +1,5 @@
 //! What a page in a browser shows: exports that explain a capture, replay a script, decode a payload, answer a frame and run the
-//! vectors as `lagtool` does. All but `lagpage_stream` work over memory, and do no input and no output.
+//! vectors as `lagtool` does. They work over memory, and do no input and no output.
 //!
 //! What the host owes, and nothing checks: a pointer has room for the octets of the length beside it; what a call may write overlaps
 //! nothing else that it is given; one thread calls; and none calls after a trap.
@@ -13,5 +13,4 @@ mod of_script;
 mod of_vectors;
 mod of_words;
 mod said;
-mod streaming;
 mod told;

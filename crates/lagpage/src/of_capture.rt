@@ -43,11 +43,10 @@ fn status_of_summary(summary: CaptureSummary) -> u32
 
 // promise: of a capture from any reader, the report on what was read is written to one sink, and what is said to another
 // contract: `explain_capture` (`Explains`)
-// not said: what `lagpage_stream` gets of its host, and what that does with the text
 /// Explains a capture as `lagtool capture` does, from a source to one sink for what is printed and one for what is said; returns the
 /// exit status. Up to 4,096 octets are read at a time, and what they say is written before the next read, in memory that does not
 /// grow with the capture. `Read` if the source failed, `Write` if a sink did, `NoMemory` if memory was refused.
-pub(crate) fn explain_capture<R: Read, W: Write, S: Write>(
+fn explain_capture<R: Read, W: Write, S: Write>(
     alloc: Global,
     settings: Settings,
     source: &mut Source<R>,
@@ -79,7 +78,7 @@ fn told_of_capture(alloc: Global, settings: Settings, capture: &[u8]) -> Result<
 
 // promise: a call writes what is told at the front of the buffer, if that has room for all of it; else it answers 1 and how much it takes,
 //    and the buffer stays; 2 if memory was refused
-// contract: each export but `lagpage_stream` (`Answers`)
+// contract: each export (`Answers`)
 // not said: that memory is refused only if there is none; the host's part, in `lib.rt`
 // promise: what is told of a capture is the report on its octets, the status and, where it is not read on, why
 // contract: `lagpage_capture` (`TellsCapture`)

@@ -78,7 +78,7 @@ def all_jobs(seed: int, count: int) -> list[Job]:
     for octets in captures:
         for words, options in WAYS:
             told = [*(it.encode() for it in words), b"capture", b"capture"]
-            jobs += [Job(name, [octets], options, told, "capture") for name in ("capture", "stream")]
+            jobs.append(Job("capture", [octets], options, told, "capture"))
     jobs += [Job("replay", [octets], {}, [b"--explain", b"replay", b"script"], "script") for octets in scripts]
     for hex in [*WORDS, *(it[14:].hex().encode() for it in frames)]:
         jobs.append(Job("decode", [hex], {}, [b"--explain", b"decode", hex]))

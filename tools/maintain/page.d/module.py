@@ -8,7 +8,7 @@ import re
 from processors import FOR_EACH_X86, compile_crate, done
 from repository import TOP, Missing, kit, want
 
-EXPORTS = [*(f"lagpage_{job}" for job in ("capture", "decode", "replay", "respond", "stream", "vectors")), "page_alloc"]
+EXPORTS = [*(f"lagpage_{job}" for job in ("capture", "decode", "replay", "respond", "vectors")), "page_alloc"]
 # The functions that the page gives: a capture is read by one, and its text goes out by the other.
 IMPORTS = ["read", "write"]
 TARGET = "wasm64-unknown-unknown"
