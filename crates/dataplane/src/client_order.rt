@@ -2,12 +2,15 @@
 //! that carries changes. The functions of this module do nothing when they run: the contract of each is a proved theorem, in the
 //! words of the model of two systems (`lagmodel`).
 
-ghost use Rattle.std.specs.Prelude.{◌≡◌, false, ℕ, List};
+ghost use Rattle.std.specs.Prelude.{[], ◌∷◌, ◌≡◌, false, ℕ, List};
+ghost use Rattle.lagmodel.specs.View.{ModelCall, SystemSetup, View, first_view};
+ghost use Rattle.lagmodel.specs.Move.{Act, LawfulMoves, Sends_frame};
+ghost use Rattle.lagmodel.specs.World.{Side, World, WorldSetup};
+ghost use Rattle.lagmodel.specs.Law.{CountsFromZero, InOrder, OnItsCable};
 ghost use Rattle.dataplane.specs.Holding.{HoldingValue};
 ghost use Rattle.dataplane.specs.QueueCalls.{QueueCall};
-ghost use Rattle.lagmodel.specs.World.{Side, World};
-ghost use Rattle.lagmodel.specs.Law.{CountsFromZero, InOrder};
 ghost use Rattle.dataplane.specs.Arrivals.{ArrivesInOrder, SentFromQueue};
+ghost use Rattle.dataplane.specs.OneAggregator.{FreeElsewhere, InOneAggregator, NoneOnItsWayElsewhere, SendsNoFrame};
 
 // promise: **from a client to a client in order**: if the host sends what leaves a queue of `Holding` to be sent, in this order, or gives
 //    some up (`SentFromQueue`), and the conversation was never forced, what is collected of it is a subsequence of what waited at first and
@@ -23,13 +26,6 @@ pub fn from_client_to_client<T>()
         → InOrder w → CountsFromZero w → w.forced s g k ≡ false → SentFromQueue calls h offered w s g k
         → ArrivesInOrder calls h offered w s g k }
 {}
-
-ghost use Rattle.lagmodel.specs.View.{ModelCall, SystemSetup, View, first_view};
-ghost use Rattle.lagmodel.specs.Move.{Act, LawfulMoves, Sends_frame};
-ghost use Rattle.lagmodel.specs.World.{WorldSetup};
-ghost use Rattle.lagmodel.specs.Law.{OnItsCable};
-ghost use Rattle.std.specs.Prelude.{[], ◌∷◌};
-ghost use Rattle.dataplane.specs.OneAggregator.{FreeElsewhere, InOneAggregator, NoneOnItsWayElsewhere, SendsNoFrame};
 
 // promise: a number is On, Wanted or Flushing in one aggregator at most: at the start, after each call whose moves send no frame, and after
 //    one that sends a frame whose number is Free in every other aggregator
