@@ -61,7 +61,8 @@ pub use Rattle.selection.specs.Views.{has_chosen, has_waited, is_detached, is_de
 pub use Rattle.selection.proofs.LimitLemmas.{NoneStandsBy, is_next, none_is_next}
 pub use Rattle.distributor.specs.declared.assignment.Assignment.{Assignment}
 pub use Rattle.distributor.specs.declared.assignment.Assignment.TheVariants.{Flushing, Free, On, Wanted}
-pub use Rattle.distributor.specs.Calls.{Assigns, MaySend, force_result, is_among, move_result}
+pub use Rattle.distributor.specs.declared.fault.DistFault.{DistFault}
+pub use Rattle.distributor.specs.Calls.{Assigns, MaySend, force_result, is_among, leave_result, move_result}
 pub use Rattle.distributor.specs.Changes.{SetsAssignment, after_down, after_mark, after_release, after_tick, marker_due, wants_marker}
 pub use Rattle.distributor.specs.Conversations.{IsConversation, Table, assignment_of, count_conversations, next_identifier}
 pub use Rattle.distributor.proofs.TableLemmas.{first_free}
@@ -80,7 +81,7 @@ pub use Rattle.lagsystem.specs.First.{HasJustStarted, IsFirst, config_value, con
 pub use Rattle.lagsystem.specs.ModelView.{IsSent, can_receive, can_receive_in, key_of, model_port_of, none_enabled, number_of_port}
 pub use Rattle.lagsystem.specs.NothingToSettle.{MuxIsSettled, PeriodicIsSettled}
 pub use Rattle.lagsystem.specs.Occupants.{OccupantsAgree, WithinLimit, occupied}
-pub use Rattle.lagsystem.specs.Offers.{GivesOrRefuses, MayBeOffered, Offers, RefusesOffer, assignment_of_frame, system_force_result}
+pub use Rattle.lagsystem.specs.Offers.{GivesOrRefuses, MayBeOffered, Offers, RefusesOffer, assignment_of_frame, in_system, system_force_result}
 pub use Rattle.lagsystem.specs.Offers.{system_move_result}
 pub use Rattle.lagsystem.specs.Readers.{aggregator_numbered, collecting, distributes_in, distributing, group_at, number_of_conversation}
 pub use Rattle.lagsystem.specs.Readers.{selected_aggregator}
@@ -162,5 +163,5 @@ pub use Rattle.lagprogress.specs.Selecting.{IsFull, StandsByFull, WantsAggregato
 pub use Rattle.lagprogress.specs.Shared.{AreOneGroup, DownWereLinkedTo, HasAggregators, LeadToKey, SharesGroup}
 pub use Rattle.lagprogress.specs.Silence.{IsLoud, SilentFor, Speaks}
 pub use Rattle.lagprogress.specs.Steady.{GoesByCalls, IsSteady, IsSteadySystem}
-pub use Rattle.lagprogress.specs.Timers.{IsTimed, PortsAreTimed, most_current_while, most_periodic_timer}
-pub use Rattle.lagprogress.specs.Waits.{IsAwaited, WaitsAreShort}
+pub use Rattle.lagprogress.specs.Timers.{EachCallKeepsTimed, EachHostCallKeepsTimed, IsTimed, PortsAreTimed, most_current_while, most_periodic_timer}
+pub use Rattle.lagprogress.specs.Waits.{EachHostCallKeepsWaits, IsAwaited, WaitsAreShort}

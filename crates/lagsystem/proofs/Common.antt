@@ -67,6 +67,7 @@ pub use Rattle.portmachines.specs.Receive.{default_partner, lacpdu_rows, receive
 pub use Rattle.portmachines.specs.Rows.{AtRest, Fires, FiresTimes, Row, RunsToRest}
 pub use Rattle.portmachines.specs.Start.{Starts, before_start}
 pub use Rattle.portmachines.specs.Transmit.{after_sending, aged, count_down, is_due, pdu_of}
+pub use Rattle.portmachines.specs.Window.{KeepsWindow, sent_before}
 pub use Rattle.portmachines.proofs.Choices.{one_effect, one_mux, one_periodic}
 pub use Rattle.portmachines.proofs.Runs.{EachRelates, Fires-relates, Reaches-keeps, Rests-relates}
 pub use Rattle.selection.specs.declared.view.PortView.{PortView, PortView as Seen}
@@ -129,6 +130,7 @@ pub use Rattle.lagsystem.specs.Offers.{AssignsPort, GivesAssignment, GivesOrRefu
 pub use Rattle.lagsystem.specs.Offers.{RefusesOffer, assignment_of_frame, has_aggregator, in_system, is_frame_length, or_not_assigned}
 pub use Rattle.lagsystem.specs.Offers.{system_force_result, system_move_result}
 pub use Rattle.lagsystem.specs.OneAnswer.{IsFunction, OneAnswer, OneForcing, OneRun, SameConversations, SameState}
+pub use Rattle.lagsystem.specs.Probing.{Probes, ProbesAt, ProbesIf, ProbesLawfully}
 pub use Rattle.lagsystem.specs.Promises.{TablePromise}
 pub use Rattle.lagsystem.specs.Promoting.{CountsMembers, count_standby}
 pub use Rattle.lagsystem.specs.Quiet.{IsBeyond, NothingIsDue, OnlyCounted, counted, counted_times, fewer, waited}

@@ -1,20 +1,16 @@
 -- Lists of all calls keep the transmit limit, and ports that agree.
 use Rattle.lagsystem.proofs.Common.{Bool, Err, IfOk, List, None, Ok, Option, Result, Some, [], ap, arith, false, refl, subst, sym, true, ℕ, ◌++◌, ◌+◌}
-use Rattle.lagsystem.proofs.Common.{◌∙◌, ◌∷◌, ◌≡◌, nat_tests, AggId, Assignment, SystemFault, Reply, SystemPort, Call, Transmit, ForcesPort, FreesHeld}
-use Rattle.lagsystem.proofs.Common.{OffersIf, GivesOrRefuses, SendsMarkerOf, CallPromise, PortsAgree, SystemState, machines_of, port_index, with_table}
-use Rattle.lagsystem.proofs.Common.{AgesSince, EachAtMostThreeAges, remembered_sends, sends_after, next_identifier}
-use Rattle.portmachines.specs.Window.{KeepsWindow}
-use Rattle.lagsystem.specs.Calls.{RefusesNoPort}
-use Rattle.lagsystem.specs.Probing.{Probes, ProbesAt, ProbesIf}
+use Rattle.lagsystem.proofs.Common.{◌∙◌, ◌∷◌, ◌≡◌, nat_tests, AggId, KeepsWindow, Assignment, next_identifier, Reply, SystemFault, SystemPort}
+use Rattle.lagsystem.proofs.Common.{OffersIf, Call, RefusesNoPort, Transmit, call_of, ForcesPort, FreesHeld, model_setup, GivesOrRefuses, Probes}
+use Rattle.lagsystem.proofs.Common.{ProbesAt, ProbesIf, SendsMarkerOf, CallPromise, PortsAgree, SystemState, machines_of, port_index, with_table}
+use Rattle.lagsystem.proofs.Common.{AgesSince, EachAtMostThreeAges, remembered_sends, sends_after}
 use Rattle.lagsystem.specs.declared.drive.HostCall.{HostCall}
 use Rattle.lagsystem.specs.declared.drive.HostCall.TheVariants as host
 use Rattle.lagsystem.specs.declared.drive.HostReply.{HostReply}
 use Rattle.lagsystem.specs.declared.drive.HostReply.TheVariants as told
 use Rattle.lagsystem.specs.declared.drive.Reply.TheVariants as reply
-use Rattle.lagsystem.specs.HostCalls.{HostAgreementLaw, HostPromise, HostRun, HostWindowLaw, KeepsAgreement, StaysWindowedForHosts}
-use Rattle.lagsystem.specs.HostCalls.{sends_after_host, tick_after_host}
-use Rattle.lagsystem.specs.Drives.{call_of}
-use Rattle.lagsystem.specs.ModelView.{model_setup}
+use Rattle.lagsystem.specs.HostCalls.{HostAgreementLaw, HostPromise, HostRun, HostWindowLaw, KeepsAgreement, StaysWindowedForHosts, sends_after_host}
+use Rattle.lagsystem.specs.HostCalls.{tick_after_host}
 use Rattle.lagsystem.proofs.Preserves.{marker_silent, none_silent}
 use Rattle.lagsystem.proofs.Windows.{GoodAt, GoodIn, good_end, good_few, good_step, found, is_numbered, port_in}
 

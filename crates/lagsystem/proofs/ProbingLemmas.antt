@@ -1,8 +1,8 @@
 -- A marker that asks whether the peer answers markers is a lawful move.
 use Rattle.lagsystem.proofs.Common.{Bool, Err, List, None, Ok, Option, Result, Some, arith, false, refl, slice_get, subst, true, ℕ, ◌≡◌, nat_tests}
 use Rattle.lagsystem.proofs.Common.{LawfulMoves, ModelCall, next_identifier, SystemFault, SystemPort, Transmit, JoinedByLawfulMoves, model_setup}
-use Rattle.lagsystem.proofs.Common.{model_view, SendsMarkerOf, IsSound, SystemState, port_index, with_table}
-use Rattle.lagsystem.specs.Probing.{Probes, ProbesAt, ProbesIf, ProbesLawfully}
+use Rattle.lagsystem.proofs.Common.{model_view, Probes, ProbesAt, ProbesIf, ProbesLawfully, SendsMarkerOf, IsSound, SystemState, port_index}
+use Rattle.lagsystem.proofs.Common.{with_table}
 use Rattle.lagsystem.specs.declared.drive.Reply.TheVariants as reply
 use Rattle.lagsystem.proofs.OnPorts.{marker_carried}
 use Rattle.lagsystem.proofs.PromiseLemmas.{table_promise, table_sound}

@@ -1,10 +1,10 @@
 -- What is held on a port is forced: to the law it is one force after another.
-use Rattle.lagworld.proofs.Common.{Bool, List, [], ap, cond, eqb, false, inl, inr, refl, subst, sym, true, suc, zero, ℕ, ◌&&◌, ◌||◌, ◌++◌, ◌∙◌, ◌∷◌, ◌≡◌}
-use Rattle.lagworld.proofs.Common.{View, Happens, One, Run, Side, Two, World, WorldSetup, at_side, at_two, runs_joined}
-use Rattle.lagworld.proofs.Common.{same_world, CountsChanges, and_parts, arith, cases_Bool, eq-eqb, eqb-true, nat_tests, true≢false, ◌<◌, ◌≤◌, ◌⊎◌}
-use Rattle.lagmodel.specs.Move.{Become, Flow, Forced}
-use Rattle.lagmodel.specs.View.{Free, at_conversation}
-use Rattle.lagmodel.specs.World.{Event, world_after_all}
+use Rattle.lagworld.proofs.Common.{Bool, List, [], ap, arith, cond, eq-eqb, eqb, eqb-true, false, inl, inr, refl, subst, suc, sym, true, zero, ℕ}
+use Rattle.lagworld.proofs.Common.{◌&&◌, ◌++◌, ◌<◌, ◌||◌, ◌∙◌, ◌∷◌, ◌≡◌, ◌≤◌, ◌⊎◌, and_parts, cases_Bool, true≢false, nat_tests, Become, Forced, Free}
+use Rattle.lagworld.proofs.Common.{View, at_conversation, CountsChanges, Happens, One, Run, Side, Two, World, WorldSetup, at_side, at_two}
+use Rattle.lagworld.proofs.Common.{world_after_all, runs_joined, same_world}
+use Rattle.lagmodel.specs.World.{Event}
+use Rattle.lagmodel.specs.Move.{Flow}
 
 -- the conversations that the list names
 abbrev pub among : List (ℕ × ℕ) → ℕ → ℕ → Bool

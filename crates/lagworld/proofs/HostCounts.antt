@@ -1,20 +1,16 @@
 -- What was held on a port is free and counts as forced, as the law has it.
 use Rattle.lagworld.proofs.Common.{Bool, IsSome, List, None, Option, Some, ap, arith, cond, false, inl, inr, length, nat_le, nat_lt, option_map, refl}
-use Rattle.lagworld.proofs.Common.{subst, sym, true, ℕ, ◌&&◌, ◌<◌, ◌==◌, ◌||◌, ◌∙◌, ◌≡◌, ◌≤◌, and_parts, cases_Bool, nat_tests, true≢false, Side, World}
-use Rattle.lagworld.proofs.Common.{at_side, same_world, Run, Assignment, assignment_of, has_aggregator, conversation_count, model_view, SystemState}
-use Rattle.lagworld.proofs.Common.{with_state, model_taken, model_world, world_setup, IsHalfSound, FlowValue, HalfState, WorldState, change_count_in}
-use Rattle.lagworld.proofs.Common.{collected_in, flow_at, forced_in, half, history_at, sent_in, taken_in, with_half}
+use Rattle.lagworld.proofs.Common.{subst, sym, true, ℕ, ◌&&◌, ◌<◌, ◌==◌, ◌||◌, ◌∙◌, ◌≡◌, ◌≤◌, and_parts, cases_Bool, true≢false, nat_tests}
+use Rattle.lagworld.proofs.Common.{Conversation, Free, View, Run, Side, World, at_side, same_world, Assignment, IsConversation, assignment_of}
+use Rattle.lagworld.proofs.Common.{model_view, has_aggregator, aggregator_numbered, conversation_count, SystemState, with_table, with_state}
+use Rattle.lagworld.proofs.Common.{CountsHeld, forced_if, is_held, model_taken, model_world, world_setup, IsHalfSound, FlowValue, HalfState}
+use Rattle.lagworld.proofs.Common.{WorldState, change_count_in, collected_in, flow_at, forced_in, half, history_at, sent_in, taken_in, with_half}
+use Rattle.lagmodel.specs.World.{Event}
 use Rattle.distributor.specs.declared.assignment.Assignment.TheVariants as state
 use Rattle.distributor.specs.Chains.{is_held_on}
-use Rattle.distributor.specs.Conversations.{IsConversation}
 use Rattle.distributor.specs.Moves.{model_conversation}
-use Rattle.lagmodel.specs.View.{Conversation, Free, View}
-use Rattle.lagmodel.specs.World.{Event}
 use Rattle.lagsystem.specs.Forcing.{FreesHeld, after_forcing}
 use Rattle.lagsystem.specs.HostCalls.{HasConversations}
-use Rattle.lagsystem.specs.Readers.{aggregator_numbered}
-use Rattle.lagsystem.specs.State.{with_table}
-use Rattle.lagworld.specs.HostEvents.{CountsHeld, forced_if, is_held}
 use Rattle.lagworld.proofs.HeldForced.{all_forced, among, are_passing, forcing, freed, freed_view, passing}
 use Rattle.lagworld.proofs.HostHalves.{flow_there}
 use Rattle.lagworld.proofs.Sides.{half_after, kept_at}

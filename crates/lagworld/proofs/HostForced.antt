@@ -1,15 +1,14 @@
 -- A conversation counts as forced only after an event that forces it.
-use Rattle.lagworld.proofs.Common.{Bool, Err, IsSomeAnd, List, None, Ok, Option, Result, Some, [], ap, arith, cond, eq-eqb, eqb, eqb-true, false, inl, inr}
-use Rattle.lagworld.proofs.Common.{option_map, refl, subst, sym, true, ℕ, ◌&&◌, ◌||◌, ◌∙◌, ◌∷◌, ◌≡◌, ◌⊎◌, cases_Bool, and_parts, true≢false, AggId}
-use Rattle.lagworld.proofs.Common.{ModelEvent, CallHappens, Control, Data, DeliversFirst, Happens, LosesFirst, Message, One, Receives, RepeatsFirst, Side}
-use Rattle.lagworld.proofs.Common.{Told_senses, Two, World, WorldSetup, at_side, at_two, end_at, handed_up, SystemFault, Event, Reply, Algorithms}
-use Rattle.lagworld.proofs.Common.{WorldSteps, model_event, side_of, side_numbered, model_world, world_setup, IsSound, FlowValue, HalfState, WorldState}
-use Rattle.lagworld.proofs.Common.{change_flow, flow_at, forced_in, half, with_forced, with_half, with_sent, with_sent_in, is_some, forced_if_accepted}
-use Rattle.lagmodel.specs.Move.{Move}
-use Rattle.lagmodel.specs.World.{world_after, world_after_all, Event as Happening}
+use Rattle.lagworld.proofs.Common.{Bool, Err, IsSomeAnd, List, None, Ok, Option, Result, Some, [], ap, arith, cond, eq-eqb, eqb, eqb-true, false, inl}
+use Rattle.lagworld.proofs.Common.{inr, is_some, option_map, refl, subst, sym, true, ℕ, ◌&&◌, ◌||◌, ◌∙◌, ◌∷◌, ◌≡◌, ◌⊎◌, and_parts, cases_Bool}
+use Rattle.lagworld.proofs.Common.{true≢false, AggId, Move, ModelEvent, CallHappens, Control, Data, DeliversFirst, Happening, Happens, LosesFirst}
+use Rattle.lagworld.proofs.Common.{Message, One, Receives, RepeatsFirst, Side, Told_senses, Two, World, WorldSetup, at_side, at_two, end_at}
+use Rattle.lagworld.proofs.Common.{handed_up, world_after, world_after_all, SystemFault, Event, Reply, with_sent_in, Algorithms, WorldSteps}
+use Rattle.lagworld.proofs.Common.{model_event, side_of, forced_if_accepted, AfterNumberedOffer, AfterProbe, CountsHeldIfOk, ForcedByForce}
+use Rattle.lagworld.proofs.Common.{ForcesPort, HostEvent, HostSteps, Leaves, MayForce, Offers, Plays, Probes, Rests, forced_if, is_held}
+use Rattle.lagworld.proofs.Common.{numbered_item, side_numbered, model_world, world_setup, IsSound, FlowValue, HalfState, WorldState, change_flow}
+use Rattle.lagworld.proofs.Common.{flow_at, forced_in, half, with_forced, with_half, with_sent}
 use Rattle.lagscript.specs.declared.event.Event.TheVariants as event
-use Rattle.lagworld.specs.HostEvents.{AfterNumberedOffer, AfterProbe, CountsHeldIfOk, ForcedByForce, ForcesPort, HostEvent, HostSteps, Leaves}
-use Rattle.lagworld.specs.HostEvents.{MayForce, Offers, Plays, Probes, Rests, forced_if, is_held, numbered_item}
 use Rattle.lagworld.proofs.Acts.{side_there}
 use Rattle.lagworld.proofs.Effects.{some_there}
 use Rattle.lagworld.proofs.Flows.{flow_other, flow_other_row, read_same}

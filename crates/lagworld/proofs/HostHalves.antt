@@ -1,9 +1,8 @@
 -- A call of a host changes the conversations of one system alone: nothing that is kept of it goes.
 use Rattle.lagworld.proofs.Common.{Bool, Err, IsSome, Ok, Result, [], ap, arith, false, length, nat_le, nat_lt, option_map, refl, subst, sym, true, ℕ}
-use Rattle.lagworld.proofs.Common.{◌<◌, ◌∙◌, ◌≡◌, ◌≤◌, and_parts, nat_tests, AggId, SystemFault, has_aggregator, conversation_count, model_setup}
-use Rattle.lagworld.proofs.Common.{SystemState, with_state, party_of_port, AreBelow, IsHalfSound, FlowValue, HalfState, flow_at, history_at}
-use Rattle.lagsystem.specs.Assigning.{OffersIf}
-use Rattle.lagsystem.proofs.HostCallLemmas.{TableAlone, agrees_beside}
+use Rattle.lagworld.proofs.Common.{◌<◌, ◌∙◌, ◌≡◌, ◌≤◌, and_parts, nat_tests, AggId, SystemFault, OffersIf, model_setup, has_aggregator}
+use Rattle.lagworld.proofs.Common.{conversation_count, SystemState, TableAlone, agrees_beside, party_of_port, with_state, AreBelow, IsHalfSound}
+use Rattle.lagworld.proofs.Common.{FlowValue, HalfState, flow_at, history_at}
 use Rattle.lagworld.proofs.Soundness.{GoesOn, below_more}
 
 -- the ports and the histories stay, and each record that there was is there

@@ -1,22 +1,19 @@
 -- Each of the five calls of hosts is events of the law, and nothing that is kept of a world goes.
-use Rattle.lagworld.proofs.Common.{Bool, Err, IsSome, List, None, Ok, Option, Result, Some, [], ap, arith, length, nat_lt, option_map, refl, subst, sym, ℕ}
-use Rattle.lagworld.proofs.Common.{◌++◌, ◌<◌, ◌∙◌, ◌∷◌, ◌≡◌, true, nat_tests, AggId, Pdu, IsSlowProtocolsFrame, pdu_in, Sends, Sends_frame}
-use Rattle.lagworld.proofs.Common.{ModelEvent, CallHappens, Data, Happens, IsCabling, One, Run, Side, Two, end_at, peer, put_in, SystemFault, Force}
-use Rattle.lagworld.proofs.Common.{Offer, Transmit, control_message, conversation_count, number_of_conversation, system_force_result, SystemState}
-use Rattle.lagworld.proofs.Common.{stamp_for, transmitted_item, with_item_sent, HalfAnswers, forced_if_accepted, with_state, item_message, payload_in}
-use Rattle.lagworld.proofs.Common.{model_taken, model_world, world_setup, IsHalfSound, HalfState, ItemValue, WorldState, change_count_in, change_flow}
-use Rattle.lagworld.proofs.Common.{collected_in, flow_at, forced_in, half, history_at, is_accepted, put_on_port, sent_in, taken_in, with_half}
-use Rattle.lagworld.proofs.Common.{with_sent, with_sent_in}
+use Rattle.lagworld.proofs.Common.{Bool, Err, IsSome, List, None, Ok, Option, Result, Some, [], ap, arith, length, nat_lt, option_map, refl, subst}
+use Rattle.lagworld.proofs.Common.{sym, true, ℕ, ◌++◌, ◌<◌, ◌∙◌, ◌∷◌, ◌≡◌, nat_tests, AggId, Pdu, IsSlowProtocolsFrame, pdu_in, Sends, Sends_frame}
+use Rattle.lagworld.proofs.Common.{ModelEvent, CallHappens, Data, Happens, IsCabling, One, Run, Side, Two, end_at, peer, put_in, SystemFault}
+use Rattle.lagworld.proofs.Common.{OffersIf, frame_of_conversation, Force, Offer, Transmit, control_message, has_aggregator, system_force_result}
+use Rattle.lagworld.proofs.Common.{conversation_count, number_of_conversation, SystemState, host_alone, with_sent_in, stamp_for, transmitted_item}
+use Rattle.lagworld.proofs.Common.{with_item_sent, HalfAnswers, forced_if_accepted, with_state, AfterNumberedOffer, AfterProbe, CountsHeldIfOk}
+use Rattle.lagworld.proofs.Common.{HalfTells, forced_if, is_held, numbered_item, item_message, payload_in, model_taken, model_world, world_setup}
+use Rattle.lagworld.proofs.Common.{IsHalfSound, HalfState, ItemValue, WorldState, change_count_in, change_flow, collected_in, flow_at, forced_in}
+use Rattle.lagworld.proofs.Common.{half, history_at, is_accepted, put_on_port, sent_in, taken_in, with_half, with_sent}
 use Rattle.lagmodel.specs.World.{Event}
-use Rattle.lagsystem.specs.Assigning.{OffersIf, frame_of_conversation}
 use Rattle.lagsystem.specs.Leaving.{system_rest_result}
-use Rattle.lagsystem.specs.Offers.{has_aggregator}
 use Rattle.lagsystem.specs.declared.drive.HostCall.TheVariants as host
 use Rattle.lagsystem.specs.declared.drive.HostReply.TheVariants as told
 use Rattle.lagsystem.specs.declared.drive.Reply.TheVariants as answer
 use Rattle.lagsystem.proofs.AssigningLemmas.{framed}
-use Rattle.lagsystem.proofs.HostCallLemmas.{host_alone}
-use Rattle.lagworld.specs.HostEvents.{AfterNumberedOffer, AfterProbe, CountsHeldIfOk, HalfTells, forced_if, is_held, numbered_item}
 use Rattle.lagworld.proofs.Cables.{put_away, put_towards, put_whole}
 use Rattle.lagworld.proofs.Flows.{read_changed, read_same}
 use Rattle.lagworld.proofs.Forced.{forced_by, refused_same, with_itself}

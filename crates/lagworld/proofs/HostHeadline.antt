@@ -1,10 +1,10 @@
 -- Every list of events and calls of hosts keeps a world sound, so the headline holds after it.
 use Rattle.lagworld.proofs.Common.{Err, List, None, Ok, Option, Result, Some, [], ap, arith, refl, subst, sym, ℕ, ◌++◌, ◌+◌, ◌∙◌, ◌∷◌, ◌≡◌, ◌≤◌}
 use Rattle.lagworld.proofs.Common.{AggId, IsCabling, One, Run, Side, Two, WorldSetup, first_world, runs_joined, SystemFault, Event, Reply, Algorithms}
-use Rattle.lagworld.proofs.Common.{WorldSteps, most_events, model_world, world_setup, IsReached, IsSound, HalfState, WorldState, half, with_half}
+use Rattle.lagworld.proofs.Common.{WorldSteps, most_events, AfterNumberedOffer, AfterProbe, ForcesPort, HostEvent, HostRuns, HostSteps}
+use Rattle.lagworld.proofs.Common.{HostsKeepHeadline, KeepsHeadline, Leaves, Offers, Plays, Probes, Rests, model_world, world_setup, IsReached}
+use Rattle.lagworld.proofs.Common.{IsSound, HalfState, WorldState, half, with_half}
 use Rattle.lagmodel.specs.World.{Event as ModelEvent}
-use Rattle.lagworld.specs.HostEvents.{AfterNumberedOffer, AfterProbe, ForcesPort, HostEvent, HostRuns, HostSteps, HostsKeepHeadline, KeepsHeadline}
-use Rattle.lagworld.specs.HostEvents.{Leaves, Offers, Plays, Probes, Rests}
 use Rattle.lagworld.proofs.Headline.{accepted, headline_of}
 use Rattle.lagworld.proofs.HostHappens.{IsFollowed, force_port_followed, leave_followed, offer_followed, probe_followed, rest_followed}
 use Rattle.lagworld.proofs.Keeping.{shaped_of, steps_fixed, steps_sound}

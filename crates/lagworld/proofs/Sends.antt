@@ -4,9 +4,9 @@ use Rattle.lagworld.proofs.Common.{AggId, Pdu, pdu_in, pdu_read, written_pdu, Se
 use Rattle.lagworld.proofs.Common.{Happens, IsCabling, One, Side, Two, end_at, peer, put_in, stamp_of, Answer, SystemFault, Call, Offer, Transmit}
 use Rattle.lagworld.proofs.Common.{IsSent, control_message, marker_message, number_of_conversation, sent_payload, Reply, AfterOffer, AfterTransmit}
 use Rattle.lagworld.proofs.Common.{WorldEmits, WorldOffers, offered_item, stamp_for, transmitted_item, with_frame_counted, with_item_sent}
-use Rattle.lagworld.proofs.Common.{HalfAnswers, with_state, item_message, message_in, payload_in, model_taken, model_world, world_setup, HalfState, ItemValue}
-use Rattle.lagworld.proofs.Common.{WorldState, change_count_in, change_flow, collected_in, flow_at, forced_in, half, history_at, is_accepted}
-use Rattle.lagworld.proofs.Common.{put_on_port, sent_in, taken_in, with_half, with_sent}
+use Rattle.lagworld.proofs.Common.{HalfAnswers, with_state, item_message, message_in, payload_in, model_taken, model_world, world_setup, HalfState}
+use Rattle.lagworld.proofs.Common.{ItemValue, WorldState, change_count_in, change_flow, collected_in, flow_at, forced_in, half, history_at}
+use Rattle.lagworld.proofs.Common.{is_accepted, put_on_port, sent_in, taken_in, with_half, with_sent}
 use Rattle.lagmodel.specs.World.{Event}
 use Rattle.lagworld.proofs.OneSystem.{told_moves, Leaves, after_call, keeping_call, quiet_call, flows_kept, history_kept}
 use Rattle.slowpdu.specs.declared.pdu.Marker.{Marker}
