@@ -1,12 +1,11 @@
 -- What is cut off does no harm: the other links come up beside it.
-use Rattle.lagprogress.proofs.Common.{EachLinkAgreesBesideCutOffs, EachLinkComesUpBesideCutOffs}
 use Rattle.lagprogress.proofs.Common.{Some, ap, arith, false, inl, inr, refl, slice_get, subst, sym, true, ℕ, ◌-◌, ◌∙◌, ◌≡◌, cases_Bool, nat_tests}
 use Rattle.lagprogress.proofs.Common.{same_Some, Choice, Selected, Party, is_selected, same_system, exact_system, system-itself, Info, Side, peer}
 use Rattle.lagprogress.proofs.Common.{Defaulted, Machines, mux_rows, periodic_rows, receive_rows, RunsToRest, count_down, SystemPort, MuxIsSettled}
 use Rattle.lagprogress.proofs.Common.{occupied, SystemState, all-get, found_place, ports_rise, Algorithms, LinkState, WorldState, half, port_at}
-use Rattle.lagprogress.proofs.Common.{EnoughAggregators, EnoughLinks, OneIsActive}
-use Rattle.lagprogress.proofs.Common.{IsBundleBesideCutOffs, IsCutOff, NoneIsHeldBesideCutOffs}
-use Rattle.lagprogress.proofs.Common.{NoneIsHeldBesideCutOffsByHosts, HostRounds, IsHealthyAt, WantsAggregator, IsSteady, IsTimed}
+use Rattle.lagprogress.proofs.Common.{EnoughAggregators, EnoughLinks, OneIsActive, EachLinkAgreesBesideCutOffs, EachLinkComesUpBesideCutOffs}
+use Rattle.lagprogress.proofs.Common.{IsBundleBesideCutOffs, IsCutOff, NoneIsHeldBesideCutOffs, NoneIsHeldBesideCutOffsByHosts, HostRounds}
+use Rattle.lagprogress.proofs.Common.{IsHealthyAt, WantsAggregator, IsSteady, IsTimed}
 use Rattle.lagprogress.proofs.Bundling.{Meets, agree_of, distribute_of, never_stands, one_meet, one_wakes}
 use Rattle.lagprogress.proofs.Climbing.{Ripe, Rising, rising_first, rising_rows, state_not}
 use Rattle.lagprogress.proofs.CutOffLemmas.{Severed, WereDown, cut_round, cut_since, KeptUnheard, cut_off_is_defaulted_by_hosts}

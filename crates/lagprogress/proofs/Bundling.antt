@@ -1,14 +1,12 @@
 -- How the links of a bundle come up and agree.
-use Rattle.lagprogress.proofs.Common.{EachLinkAgrees, EachLinkComesUp, up_if_both_active, up_if_one_is}
 use Rattle.lagprogress.proofs.Common.{Bool, IsSome, List, None, Option, Some, [], ap, arith, inl, inr, is_some, length, map, refl, slice_get, subst}
 use Rattle.lagprogress.proofs.Common.{suc, sym, true, ℕ, ◌+◌, ◌-◌, ◌==◌, ◌∙◌, ◌∷◌, ◌≡◌, ◌≢◌, ◌≤◌, ◌⊎◌, cases_Bool, nat_tests, same_Some}
 use Rattle.lagprogress.proofs.Common.{AllByRecursion, AggId, Key, Choice, Standby, Party, is_selected, itself, Lacpdu, IsCabling, One, Side, Two}
 use Rattle.lagprogress.proofs.Common.{end_at, peer, ports_that_chose, has_chosen, SystemPort, MuxIsSettled, occupied, IsSound, SystemState, views}
 use Rattle.lagprogress.proofs.Common.{all-get, found_place, Same, agreement_at, Algorithms, link_ends, world_setup, IsWorldSound, LinkState}
-use Rattle.lagprogress.proofs.Common.{WorldState, half, history_at, port_at, towards, end_is, AllHeard, BothAreActive, EndsHealthyCable, EnoughLinks}
-use Rattle.lagprogress.proofs.Common.{IsBundle, OneIsActive, SystemsDiffer, Distributes}
-use Rattle.lagprogress.proofs.Common.{HostRounds, AtEnd, IsHealthyAt, WantsAggregator, ports_with}
-use Rattle.lagprogress.proofs.Common.{IsSteady, IsTimed}
+use Rattle.lagprogress.proofs.Common.{WorldState, half, history_at, port_at, towards, end_is, AllHeard, BothAreActive, EachLinkAgrees}
+use Rattle.lagprogress.proofs.Common.{EachLinkComesUp, EndsHealthyCable, EnoughLinks, IsBundle, OneIsActive, SystemsDiffer, Distributes, HostRounds}
+use Rattle.lagprogress.proofs.Common.{AtEnd, IsHealthyAt, up_if_both_active, up_if_one_is, WantsAggregator, ports_with, IsSteady, IsTimed}
 use Rattle.lagprogress.proofs.Climbing.{Down, Ripe, Rising, climbed, down_settles, down_takes, down_ticks, rising_first}
 use Rattle.lagprogress.proofs.ComingUp.{Climbs, Up, agrees_now, climbs_first, climbs_on, comes_up, distributes, hosts_kept}
 use Rattle.lagprogress.proofs.Starting.{active_at, awake_at, named_at, Ends, healthy_cable, said_by, starts}

@@ -1,5 +1,4 @@
 -- A port that is cut off hears nothing, and is DEFAULTED in the end.
-use Rattle.lagprogress.proofs.Common.{CutOffIsDefaulted}
 use Rattle.lagprogress.proofs.Common.{Bool, List, None, Ok, Option, Result, Some, [], ap, arith, false, if◌then◌else◌, inl, inr, not, refl, slice_get}
 use Rattle.lagprogress.proofs.Common.{slice_set, subst, sym, true, ℕ, ◌&&◌, ◌++◌, ◌+◌, ◌-◌, ◌==◌, ◌∙◌, ◌∷◌, ◌≡◌, ◌≤◌, ◌⊎◌, cases_Bool, nat_tests}
 use Rattle.lagprogress.proofs.Common.{none-some, same_Some, AllByRecursion, Lacpdu, One, Side, Two, peer, value_of, ReceiveState, Machines}
@@ -8,8 +7,8 @@ use Rattle.lagprogress.proofs.Common.{Carries, IsFrame, ParsesWhere, Performs, R
 use Rattle.lagprogress.proofs.Common.{TransmitsAt, TransmitsIf, CallPromise, SystemState, port_index, can_receive_at_rest, all-get, found_place}
 use Rattle.lagprogress.proofs.Common.{Event, Reply, AfterTransmit, Algorithms, WorldSteps, side_of, HalfState, ItemValue, LinkState, WorldState}
 use Rattle.lagprogress.proofs.Common.{accepts, change_link, half, link_at, link_index, port_at, put_on_port, sent_on, towards, with_half}
-use Rattle.lagprogress.proofs.Common.{with_towards, set_elsewhere, set_here, position_there, IsCutOff, timeout_time}
-use Rattle.lagprogress.proofs.Common.{HostRounds, IsHostRound, IsSteady, IsTimed}
+use Rattle.lagprogress.proofs.Common.{with_towards, set_elsewhere, set_here, position_there, CutOffIsDefaulted, IsCutOff, timeout_time, HostRounds}
+use Rattle.lagprogress.proofs.Common.{IsHostRound, IsSteady, IsTimed}
 use Rattle.lagprogress.proofs.OneRound.{one_of_both}
 use Rattle.lagprogress.proofs.RoundEvents.{asked_half, came_half}
 use Rattle.lagprogress.proofs.Hearing.{no, Unheard, Within, begins, counts, is_defaulted, receives, rested, unheard_settles, when_up}

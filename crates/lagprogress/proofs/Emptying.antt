@@ -1,15 +1,14 @@
 -- A port of a healthy cable is drained of a conversation that is held on it.
 use Rattle.lagprogress.proofs.Common.{Bool, Err, IsSome, List, None, Ok, Option, Result, Some, [], ap, arith, cond, eqb, false, inl, inr, length, ltb}
 use Rattle.lagprogress.proofs.Common.{refl, subst, suc, sym, true, zero, ℕ, ◌&&◌, ◌+◌, ◌<◌, ◌^◌, ◌∙◌, ◌∷◌, ◌≡◌, ◌≤◌, ◌⊎◌, nat_tests, none-some, Vec}
-use Rattle.lagprogress.proofs.Common.{AggId, Choice, is_selected, Lacpdu, One, Side, peer, Machines, is_due, after_tick, marker_due}
-use Rattle.lagprogress.proofs.Common.{Assignment, IsConversation, Table, assignment_of, next_identifier, SystemFault, Move_conversation, Offer, Receive}
-use Rattle.lagprogress.proofs.Common.{Step, Tick, Transmit, GivesOrRefuses, system_move_result}
-use Rattle.lagprogress.proofs.Common.{number_of_conversation, TransmitsAt, Settling, CallPromise, SystemState, machines_of, ports_table}
-use Rattle.lagprogress.proofs.Common.{settling_parts, found_place, Event, Reply, Algorithms, WorldRuns, WorldSteps, side_of, ItemValue, WorldState}
-use Rattle.lagprogress.proofs.Common.{half, port_at, DrainingRounds, IsDrainingRound, IsNoMoveOf, AfterTick, AtSomeWorld, IsBetweenTicks, IsHostRound}
-use Rattle.lagprogress.proofs.Common.{TickOnce, NothingInFlight, OfPort, IsSteady}
-use Rattle.lagprogress.proofs.Answering.{IsFine, Steady, fine_in_map, turned_by, sends_fine, settles_all, stays_on, went_flights, none_wanted, not_wanted}
-use Rattle.lagprogress.proofs.Answering.{none_due}
+use Rattle.lagprogress.proofs.Common.{AggId, Choice, is_selected, Lacpdu, One, Side, peer, Machines, is_due, Assignment, after_tick, marker_due}
+use Rattle.lagprogress.proofs.Common.{IsConversation, Table, assignment_of, next_identifier, SystemFault, Move_conversation, Offer, Receive, Step}
+use Rattle.lagprogress.proofs.Common.{Tick, Transmit, GivesOrRefuses, system_move_result, number_of_conversation, TransmitsAt, Settling, CallPromise}
+use Rattle.lagprogress.proofs.Common.{SystemState, machines_of, ports_table, settling_parts, found_place, Event, Reply, Algorithms, WorldRuns}
+use Rattle.lagprogress.proofs.Common.{WorldSteps, side_of, ItemValue, WorldState, half, port_at, DrainingRounds, IsDrainingRound, IsNoMoveOf}
+use Rattle.lagprogress.proofs.Common.{AfterTick, AtSomeWorld, IsBetweenTicks, IsHostRound, TickOnce, NothingInFlight, OfPort, IsSteady}
+use Rattle.lagprogress.proofs.Answering.{IsFine, Steady, fine_in_map, turned_by, sends_fine, settles_all, stays_on, went_flights, none_wanted}
+use Rattle.lagprogress.proofs.Answering.{not_wanted, none_due}
 use Rattle.lagprogress.proofs.Climbing.{PartnerInSync, choice_along, partner_along, ticks_choice, ticks_partner}
 use Rattle.lagprogress.proofs.Unchanged.{calls_keep}
 use Rattle.lagprogress.proofs.Delivering.{deliver_link}

@@ -1,14 +1,12 @@
 -- No conversation that is not moved stays held on a port of a healthy cable of a bundle.
-use Rattle.lagprogress.proofs.Common.{freed_if_both_active, freed_if_one_is, up_if_both_active, up_if_one_is}
 use Rattle.lagprogress.proofs.Common.{List, None, Option, Some, [], ap, arith, inl, inr, length, refl, subst, suc, sym, zero, ℕ, ◌++◌, ◌+◌, ◌-◌, ◌<◌}
 use Rattle.lagprogress.proofs.Common.{◌∙◌, ◌∷◌, ◌≡◌, ◌≤◌, ◌⊎◌, nat_tests, none-some, same_Some, AllByRecursion, all-append, One, Side, peer, value_of}
 use Rattle.lagprogress.proofs.Common.{Assignment, Flushing, On, Wanted, after_mark, after_release, after_tick, IsConversation, Table, assignment_of}
 use Rattle.lagprogress.proofs.Common.{held_unless_on, SystemState, Event, Reply, Algorithms, WorldSteps, side_of, LinkState, WorldState, half}
 use Rattle.lagprogress.proofs.Common.{port_at, BothAreActive, IsBundle, OneIsActive, CarriersAreUp, HasIdentifierLeft, IsNotHeld, IsNotHeldOn}
-use Rattle.lagprogress.proofs.Common.{NoneIsHeld, NoneIsHeldOn}
-use Rattle.lagprogress.proofs.Common.{NoneIsHeldOnEnds, NothingIsHeld, carrier_of, held_on}
-use Rattle.lagprogress.proofs.Common.{DrainingRounds, NoneIsHeldOnEndsByHosts}
-use Rattle.lagprogress.proofs.Common.{NothingIsHeldByHosts, HostRounds, IsSteady, IsDeliver, IsHealthyAt, IsRound, Rounds, asks_all, ticks_of_both}
+use Rattle.lagprogress.proofs.Common.{NoneIsHeld, NoneIsHeldOn, NoneIsHeldOnEnds, NothingIsHeld, carrier_of, held_on, DrainingRounds}
+use Rattle.lagprogress.proofs.Common.{NoneIsHeldOnEndsByHosts, NothingIsHeldByHosts, HostRounds, IsDeliver, IsHealthyAt, IsRound, Rounds, asks_all}
+use Rattle.lagprogress.proofs.Common.{freed_if_both_active, freed_if_one_is, ticks_of_both, up_if_both_active, up_if_one_is, IsSteady}
 use Rattle.lagprogress.proofs.OneCable.{ticks}
 use Rattle.lagprogress.proofs.RoundEvents.{asked_half, came_half}
 use Rattle.lagprogress.proofs.Bundling.{Meets, Nowhere, awake_of, both_active, one_active, said, ups_of, named_of}

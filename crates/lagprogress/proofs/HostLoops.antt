@@ -6,11 +6,11 @@ use Rattle.lagprogress.proofs.Common.{after_sending, is_due, Assignment, Flushin
 use Rattle.lagprogress.proofs.Common.{count_conversations, next_identifier, SystemFault, SystemPort, Step, Transmit, SendsMarkerOf, TransmitsAt}
 use Rattle.lagprogress.proofs.Common.{TransmitsIf, SystemState, machines_of, port_index, all-get, found_place, ports_rise, Event, Reply}
 use Rattle.lagprogress.proofs.Common.{AfterTransmit, Algorithms, WorldEmits, WorldRuns, WorldSteps, sent_reply, side_of, payload_in, HalfState}
-use Rattle.lagprogress.proofs.Common.{LinkState, WorldState, half, is_accepted, port_at, with_half, half_there, AskingInVainIsDraining, DrainingRounds, IsDrainingRound}
-use Rattle.lagprogress.proofs.Common.{IsNoMoveOf, NothingIsDue, RoundIsDraining, AfterTick, AskingIsHostRound, Asks, AsksAfterTick, AsksIn}
-use Rattle.lagprogress.proofs.Common.{AtSomeWorld, HostRounds, IsBetweenTicks, IsTickOf, LoopIsHostRound, RoundIsHostRound, RoundsAreHostRounds}
-use Rattle.lagprogress.proofs.Common.{TickOnce, AsksInVain, AsksInVainAfterTick, sent_nothing, AtEnd, IsDeliver, IsHealthyAt, NothingInFlight, OfPort, Rounds, asks_all}
-use Rattle.lagprogress.proofs.Common.{ticks_of_both, IsSteady}
+use Rattle.lagprogress.proofs.Common.{LinkState, WorldState, half, is_accepted, port_at, with_half, half_there, AskingInVainIsDraining, AsksInVain}
+use Rattle.lagprogress.proofs.Common.{AsksInVainAfterTick, DrainingRounds, IsDrainingRound, IsNoMoveOf, NothingIsDue, RoundIsDraining, sent_nothing}
+use Rattle.lagprogress.proofs.Common.{AfterTick, AskingIsHostRound, Asks, AsksAfterTick, AsksIn, AtSomeWorld, HostRounds, IsBetweenTicks, IsTickOf}
+use Rattle.lagprogress.proofs.Common.{LoopIsHostRound, RoundIsHostRound, RoundsAreHostRounds, TickOnce, AtEnd, IsDeliver, IsHealthyAt}
+use Rattle.lagprogress.proofs.Common.{NothingInFlight, OfPort, Rounds, asks_all, ticks_of_both, IsSteady}
 use Rattle.distributor.specs.Conversations.{sum_below}
 use Rattle.lagprogress.proofs.EachPort.{OfEach, Tick-each}
 use Rattle.lagprogress.proofs.EachRound.{EachAt, asks_each, delivers_each, own_keeps, own_ticks, hosts_steady}
@@ -401,8 +401,14 @@ round_is_draining gives t g k old new steady h = record {
         (ticks_of_both ++ (asks_all old.links ++ h.delivers)) h.replies old new h.acts (drained s i l y);
     empties = h.empties;
   };
-  still = (tt, (tt, all-append (IsNoMoveOf t g k) (asks_all old.links) h.delivers (asks_still t g k old.links)
-      (delivers_still t g k h.delivers h.arrives)));
+  still = (
+    tt,
+    (
+      tt,
+      all-append (IsNoMoveOf t g k) (asks_all old.links) h.delivers (asks_still t g k old.links)
+          (delivers_still t g k h.delivers h.arrives),
+    ),
+  );
   drained = drained;
 }
   where

@@ -1,5 +1,4 @@
 -- How the links of a bundle agree where one system has a limit of links.
-use Rattle.lagprogress.proofs.Common.{EachLimitedLinkAgrees, up_if_both_active, up_if_one_is}
 use Rattle.lagprogress.proofs.Common.{Bool, Err, IsSome, None, Ok, Option, Some, ap, arith, false, if◌then◌else◌, inl, inr, refl, slice_get, subst}
 use Rattle.lagprogress.proofs.Common.{suc, sym, true, ℕ, ◌∙◌, ◌≡◌, ◌⊎◌, cases_Bool, AggId, SystemId, Choice, Selected, Standby, Unselected, Party}
 use Rattle.lagprogress.proofs.Common.{is_selected, same_party, Lacpdu, party_of, One, Side, Two, end_at, peer, Setup, Machines, selected}
@@ -7,9 +6,9 @@ use Rattle.lagprogress.proofs.Common.{default_partner, receive_rows, start_recei
 use Rattle.lagprogress.proofs.Common.{SystemPort, Call, Configure, ProcessesLacpdu, Receive, Restart, Set_link, SetsPortEnabled, Step, Tick, Transmit}
 use Rattle.lagprogress.proofs.Common.{changed_party, choice_with_link, SystemState, port_index, Step-frame, all-get, found_place, ports_rise, Same}
 use Rattle.lagprogress.proofs.Common.{agreement_at, Algorithms, IsWorldSound, LinkState, WorldState, half, port_at, end_is, BothAreActive}
-use Rattle.lagprogress.proofs.Common.{OneIsActive, HostRounds, CarriesOnAll}
-use Rattle.lagprogress.proofs.Common.{DownAreUnselected, EachReachedHasDownUnselected, EndsAgreed, IsLimitedBundle, StandsByOthers, EndKnows, Knows}
-use Rattle.lagprogress.proofs.Common.{AtEnd, IsHealthyAt, OfPort, StandsByFull, WantsAggregator}
+use Rattle.lagprogress.proofs.Common.{OneIsActive, HostRounds, CarriesOnAll, DownAreUnselected, EachLimitedLinkAgrees, EachReachedHasDownUnselected}
+use Rattle.lagprogress.proofs.Common.{EndsAgreed, IsLimitedBundle, StandsByOthers, EndKnows, Knows, AtEnd, IsHealthyAt, OfPort, up_if_both_active}
+use Rattle.lagprogress.proofs.Common.{up_if_one_is, StandsByFull, WantsAggregator}
 use Rattle.lagprogress.proofs.Bundling.{never_stands, heard_holds}
 use Rattle.lagprogress.proofs.EachPort.{KeptByCall, KeptBySettling, OfEach, Step-each, first_each, place_each, settling_each}
 use Rattle.lagprogress.proofs.EachRound.{EachAt, RoundKeeps, host_each, hosts_join, hosts_keep, hosts_on, hosts_steady}

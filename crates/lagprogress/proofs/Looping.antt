@@ -2,10 +2,10 @@
 use Rattle.lagprogress.proofs.Common.{List, None, Option, Some, [], ap, arith, false, inl, inr, is_some, length, option_map, refl, slice_get, subst}
 use Rattle.lagprogress.proofs.Common.{suc, sym, true, ℕ, ◌++◌, ◌+◌, ◌<◌, ◌∙◌, ◌∷◌, ◌≡◌, ◌≤◌, false≢true, same_Some, slice_get_within, AllByRecursion}
 use Rattle.lagprogress.proofs.Common.{all-append, One, Side, Two, WorldSetup, end_at, Event, WorldFault, Reply, Algorithms, WorldRuns, WorldSteps}
-use Rattle.lagprogress.proofs.Common.{cause, cause_or_no_memory, world_setup, ends_of_cable, ports_joined, LinkState, WorldState, port_at, end_is}
-use Rattle.lagprogress.proofs.Common.{has_system, DrainingRounds, IsDrainingRound, IsNoMoveOf, AsksInVain, sent_nothing, IsBetweenTicks}
-use Rattle.lagprogress.proofs.Common.{Delivers, IsOutOfMemoryOrSpent, RefusesDelivery, RunsAll, AsksEnds, AsksOrDelivers, AsksPort, PlaysBetween}
-use Rattle.lagprogress.proofs.Common.{PlaysHostPart, StopsBetween, IsDeliver, IsHealthyAt, NothingInFlight, ticks_of_both, IsSteady}
+use Rattle.lagprogress.proofs.Common.{cause, cause_or_no_memory, has_system, world_setup, ends_of_cable, ports_joined, LinkState, WorldState, port_at}
+use Rattle.lagprogress.proofs.Common.{end_is, AsksInVain, DrainingRounds, IsDrainingRound, IsNoMoveOf, sent_nothing, IsBetweenTicks, Delivers}
+use Rattle.lagprogress.proofs.Common.{IsOutOfMemoryOrSpent, RefusesDelivery, RunsAll, AsksEnds, AsksOrDelivers, AsksPort, PlaysBetween, PlaysHostPart}
+use Rattle.lagprogress.proofs.Common.{StopsBetween, IsDeliver, IsHealthyAt, NothingInFlight, ticks_of_both, IsSteady}
 use Rattle.lagprogress.proofs.EachRound.{hosts_steady}
 use Rattle.lagprogress.proofs.Linked.{each_side}
 use Rattle.lagprogress.proofs.Played.{as_many, some_within, below_or_same, cable_at, refused_event, runs_append}

@@ -2,9 +2,9 @@
 use Rattle.lagprogress.proofs.Common.{Bool, List, None, Option, Some, [], ap, arith, false, if◌then◌else◌, map, refl, subst, suc, sym, true, zero, ℕ}
 use Rattle.lagprogress.proofs.Common.{◌++◌, ◌+◌, ◌-◌, ◌∙◌, ◌∷◌, ◌≡◌, none-some, SystemId, same_system, system-itself, One, Side, Two, Config}
 use Rattle.lagprogress.proofs.Common.{config_value, Event, Reply, Algorithms, WorldRuns, AreFirst, LinkState, WorldState, half, BothAreActive}
-use Rattle.lagprogress.proofs.Common.{IsBundle, OneIsActive, ReachedIsApart, ReachedIsBundle, SystemsDiffer, CarriersAreUp, DrainingRounds}
-use Rattle.lagprogress.proofs.Common.{HostRounds, EachAgrees, EachDistributes, IsReached, IsReady, LeadsTo, NothingStaysHeld, Rounds}
-use Rattle.lagprogress.proofs.Common.{EachLinkAgrees, EachLinkComesUp, NothingIsHeld, NothingIsHeldByHosts, IsSteady}
+use Rattle.lagprogress.proofs.Common.{EachLinkAgrees, EachLinkComesUp, IsBundle, OneIsActive, ReachedIsApart, ReachedIsBundle, SystemsDiffer}
+use Rattle.lagprogress.proofs.Common.{CarriersAreUp, NothingIsHeld, DrainingRounds, NothingIsHeldByHosts, HostRounds, EachAgrees, EachDistributes}
+use Rattle.lagprogress.proofs.Common.{IsReached, IsReady, LeadsTo, NothingStaysHeld, Rounds, IsSteady}
 use Rattle.lagscript.specs.declared.config.BadWorld.TheVariants.{SameSystem}
 use Rattle.cables.specs.declared.item.Item.{Item}
 use Rattle.lagscript.specs.Configs.{refusal_of_all}

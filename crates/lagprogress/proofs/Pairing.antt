@@ -1,11 +1,9 @@
 -- Cables of which both ends are SELECTED agree, however few aggregators and links there are.
-use Rattle.lagprogress.proofs.Common.{SelectedPairsAgree, SelectedPairsComeUp, up_if_both_active, up_if_one_is}
 use Rattle.lagprogress.proofs.Common.{List, Some, ap, arith, inl, inr, refl, slice_get, subst, suc, sym, true, ℕ, ◌+◌, ◌-◌, ◌∙◌, ◌≡◌, ◌≤◌, ◌⊎◌}
 use Rattle.lagprogress.proofs.Common.{cases_Bool, AllByRecursion, is_selected, Lacpdu, IsCabling, One, Side, peer, selected, PortConfig, SystemPort}
 use Rattle.lagprogress.proofs.Common.{MuxIsSettled, all-get, ports_rise, Same, agreement_at, Algorithms, world_setup, IsWorldSound, LinkState}
-use Rattle.lagprogress.proofs.Common.{WorldState, half, port_at, AllHeard, BothAreActive, OneIsActive}
-use Rattle.lagprogress.proofs.Common.{Distributes}
-use Rattle.lagprogress.proofs.Common.{HostRounds, AtEnd, IsHealthyAt, OfPort, IsSteady, IsTimed}
+use Rattle.lagprogress.proofs.Common.{WorldState, half, port_at, AllHeard, BothAreActive, OneIsActive, SelectedPairsAgree, SelectedPairsComeUp}
+use Rattle.lagprogress.proofs.Common.{Distributes, HostRounds, AtEnd, IsHealthyAt, OfPort, up_if_both_active, up_if_one_is, IsSteady, IsTimed}
 use Rattle.lagprogress.proofs.Bundling.{agree_up, both_meet, both_wake, heard_holds, one_meet, one_wakes, Named, names}
 use Rattle.lagprogress.proofs.Choosing.{Chose}
 use Rattle.lagprogress.proofs.Climbing.{Down, Ripe, Rising, climbed, down_settles, down_takes, down_ticks, rising_first}

@@ -1,5 +1,5 @@
 -- The laws of healthy rounds, which are rounds of hosts.
-use Rattle.lagprogress.proofs.Common.{ℕ, zero, Algorithms, LinkState, WorldState, BothAreActive, EachLinkAgrees, EachLinkComesUp, EndsOfEachKnow}
+use Rattle.lagprogress.proofs.Common.{zero, ℕ, Algorithms, LinkState, WorldState, BothAreActive, EachLinkAgrees, EachLinkComesUp, EndsOfEachKnow}
 use Rattle.lagprogress.proofs.Common.{OneIsActive, SelectedPairsAgree, SelectedPairsComeUp, ActiveLinkComesUp, LinkComesUp, CutOffIsDefaulted}
 use Rattle.lagprogress.proofs.Common.{EachLinkAgreesBesideCutOffs, EachLinkComesUpBesideCutOffs, HostRounds, EachLimitedLinkAgrees}
 use Rattle.lagprogress.proofs.Common.{ActiveEndsComeToKnow, EndsComeToKnow, Rounds}

@@ -1,10 +1,10 @@
 -- A frame that is offered, or a conversation that is moved, leaves the ports, and what their LACPDUs say.
 use Rattle.lagprogress.proofs.Common.{Err, List, Ok, Result, Some, [], ap, arith, inl, inr, map, refl, subst, sym, ℕ, ◌++◌, ◌==◌, ◌∙◌, ◌∷◌, ◌≡◌, ◌⊎◌}
 use Rattle.lagprogress.proofs.Common.{cases_Bool, nat_tests, Vec, AggId, Lacpdu, One, Side, Two, peer, value_of, Machines, SystemFault, Carries}
-use Rattle.lagprogress.proofs.Common.{IsFrame, Move_conversation, Offer, Step, system_move_result, SystemState, port_index, becomes_slots, offers_slots, Event, Reply}
-use Rattle.lagprogress.proofs.Common.{AfterOffer, Algorithms, InHalf, WorldSteps, offered_item, side_of, with_frame_counted, link_ends, HalfState, ItemValue}
-use Rattle.lagprogress.proofs.Common.{WorldState, half, put_on_port, with_half, put_ends, half_there, IsSteady}
-use Rattle.lagworld.specs.HalfCalls.{HalfMoves}
+use Rattle.lagprogress.proofs.Common.{IsFrame, Move_conversation, Offer, Step, system_move_result, SystemState, port_index, becomes_slots}
+use Rattle.lagprogress.proofs.Common.{offers_slots, Event, Reply, AfterOffer, Algorithms, InHalf, WorldSteps, offered_item, side_of}
+use Rattle.lagprogress.proofs.Common.{with_frame_counted, HalfMoves, link_ends, HalfState, ItemValue, WorldState, half, put_on_port, with_half}
+use Rattle.lagprogress.proofs.Common.{put_ends, half_there, IsSteady}
 use Rattle.lagprogress.proofs.ArrivingLemmas.{is_data, same_ports}
 use Rattle.lagprogress.proofs.EachPort.{OfEach}
 use Rattle.lagprogress.proofs.Halves.{keeps_steady}
