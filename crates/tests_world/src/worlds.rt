@@ -21,7 +21,7 @@ use crate::worlds::given::{Setting, lines, modulo, parts, read};
 use bitflags::Flags;
 use cables::AnyCable;
 use lagtypes::{AggId, NoMemory};
-use lagworld::{Agreement, Event, Reply, RunFault, World, WorldFault};
+use lagworld::{Agreement, Reply, RunFault, World, WorldFault};
 use std::alloc::Global;
 use std::process::Abort;
 
@@ -29,7 +29,7 @@ use std::process::Abort;
 ///
 /// Unless a comment says otherwise, an offered frame is of conversation 48: octets 5 and 11 of 0200000000200200000000100800 are 0x20
 /// and 0x10, and 0x20 xor 0x10 is 48 (profile). A frame of conversation 49 or 50 has 0x21 or 0x22 as octet 5.
-type Lines = &'static str;
+type EventLines = &'static str;
 
 /// A conversation of aggregator 1 at the end: how many serial numbers it sent, from 0 on, and which of them were
 /// collected.
@@ -47,8 +47,8 @@ struct Flow {
 #[derive(Clone, Copy)]
 struct Row {
     setting: Setting,
-    first: Lines,
-    rest: Lines,
+    first: EventLines,
+    rest: EventLines,
     /// For cables, by their numbers.
     agreements: &'static [(u16, Agreement)],
     flows: &'static [Flow],
@@ -123,6 +123,14 @@ fn compare_run_of(
     }
 }
 
+fn count_of(lines: &str) -> usize {
+    let mut count = 0usize;
+    for _line in lines.lines() {
+        count = count.saturating_add(1);
+    }
+    count
+}
+
 /// Compares the result of a run of all events of these lines.
 fn compare_run(
     rt: &impl Abort,
@@ -130,7 +138,7 @@ fn compare_run(
     lines: &str,
     came: Result<Vec<Reply>, RunFault>,
 ) -> Result<(), NoMemory> {
-    compare_run_of(rt, alloc, lines, (0, lines.lines().count()), came)
+    compare_run_of(rt, alloc, lines, (0, count_of(lines)), came)
 }
 
 fn is_from_zero(serials: &[u64]) -> bool {
@@ -174,29 +182,19 @@ fn tells<F: Fn(u16, usize) -> usize + Drop>(
     }
 }
 
-/// The replies of a world to events, one by one.
-fn replies_of<F: Fn(u16, usize) -> usize + Drop>(
-    alloc: Global,
-    world: &mut World<AnyCable, F>,
-    events: &[Event],
-) -> Result<Vec<Reply>, WorldFault> {
-    let mut replies = Vec::new(alloc);
-    for event in events {
-        let reply = world.step(event)?;
-        if replies.push(reply).is_err() {
-            return Err(WorldFault::NoMemory);
-        }
-    }
-    Ok(replies)
-}
-
 /// Plays the events of a row by `step`, one by one, in a new world with cables of this limit.
 fn steps(rt: &impl Abort, alloc: Global, row: &Row, limit: Option<u16>) -> Result<(), WorldFault> {
     let text = lines_of(alloc, row)?;
     let (config, events) = read(rt, alloc, row.setting, text.as_str())?;
     let lines = lines(alloc, config.cables.len(), limit)?;
     let mut world = World::new(alloc, config, modulo, modulo, lines)?;
-    let replies = replies_of(alloc, &mut world, &events)?;
+    let mut replies = Vec::new(alloc);
+    for event in &events {
+        let reply = world.step(event)?;
+        if replies.push(reply).is_err() {
+            return Err(WorldFault::NoMemory);
+        }
+    }
     compare_part(rt, alloc, text.as_str(), (0, events.len()), &replies)?;
     tells(rt, &world, row);
     Ok(())
