@@ -1,6 +1,7 @@
 ghost use Rattle.std.specs.Prelude.{◌≡◌, ◌∷◌, []};
 ghost use Rattle.portmachines.specs.Window.{KeepsWindow, within_eleven};
 
+use crate::comparing::same_in_row;
 use bitflags::Flags;
 use lagtypes::{AggId, Choice, Key, Party, PortId, State, SystemId};
 use portmachines::{
@@ -9,8 +10,8 @@ use portmachines::{
 use slowpdu::{Info, Lacpdu};
 use std::process::Abort;
 
-/// What a reader of a port returns.
-#[derive(Clone, Copy, Debug, PartialEq, Eq)]
+/// What a reader of a port is expected to return.
+#[derive(Clone, Copy)]
 enum Fact {
     /// Actor_State.
     State(u8),
@@ -37,7 +38,7 @@ enum Fact {
 }
 
 /// A call of a port, or several, with the expected result; or an expected value of a variable.
-#[derive(Clone, Copy, Debug, PartialEq, Eq)]
+#[derive(Clone, Copy)]
 enum Step {
     Link(bool),
     Periodic,
@@ -134,44 +135,71 @@ fn asks(port: &mut Port, ready: bool) -> bool {
     port.ntt() && !before
 }
 
-/// What the reader that a fact names returns.
-fn read(port: &Port, fact: Fact) -> Fact {
-    match fact {
-        Fact::State(_) => Fact::State(port.state().bits()),
-        Fact::Carries(_) => Fact::Carries(port.state().bits() & 0x38),
-        Fact::Receive(_) => Fact::Receive(port.receive_state()),
-        Fact::PeriodicIn(_) => Fact::PeriodicIn(port.periodic_state()),
-        Fact::MuxIn(_) => Fact::MuxIn(port.mux_state()),
-        Fact::Ntt(_) => Fact::Ntt(port.ntt()),
-        Fact::Enabled(_) => Fact::Enabled(port.is_enabled()),
-        Fact::Defaulted(_) => Fact::Defaulted(port.is_defaulted()),
-        Fact::Waited(_) => Fact::Waited(port.has_waited()),
-        Fact::Distributes(_) => Fact::Distributes(port.distributes()),
-        Fact::Chosen(_) => Fact::Chosen(port.choice()),
-        Fact::OwnParty(_) => Fact::OwnParty(port.party()),
-        Fact::Partner(_) => Fact::Partner(port.partner()),
-        Fact::PartnerState(_) => Fact::PartnerState(port.partner().state.bits()),
-        Fact::CurrentWhile(_) => Fact::CurrentWhile(port.current_while()),
-        Fact::PeriodicTimer(_) => Fact::PeriodicTimer(port.periodic_timer()),
-        Fact::WaitWhile(_) => Fact::WaitWhile(port.wait_while()),
-        Fact::Ages(_, _, _) => ages(port),
+/// Compares the ages in the window of a port with what a fact says.
+fn tells_ages(rt: &impl Abort, place: usize, port: &Port, fact: Fact) {
+    if let Fact::Ages(count, first, last) = fact {
+        let ages = port.ages();
+        let all = ages.as_slice();
+        same_in_row(rt, place, &all.len(), &count);
+        same_in_row(rt, place, &all.first().copied(), &first);
+        same_in_row(rt, place, &all.last().copied(), &last);
     }
 }
 
-fn ages(port: &Port) -> Fact {
-    let ages = port.ages();
-    let all = ages.as_slice();
-    Fact::Ages(all.len(), all.first().copied(), all.last().copied())
+/// Compares a timer of a port with what a fact says.
+fn tells_timer(rt: &impl Abort, place: usize, port: &Port, fact: Fact) {
+    match fact {
+        Fact::CurrentWhile(ticks) => same_in_row(rt, place, &port.current_while(), &ticks),
+        Fact::PeriodicTimer(ticks) => same_in_row(rt, place, &port.periodic_timer(), &ticks),
+        Fact::WaitWhile(ticks) => same_in_row(rt, place, &port.wait_while(), &ticks),
+        _ => tells_ages(rt, place, port, fact),
+    }
 }
 
-/// Does a step, and returns it with the actual result in the place of the expected one.
-fn done(port: &mut Port, step: Step) -> Step {
+/// Compares what the reader that a fact names returns with what the fact says.
+fn tells(rt: &impl Abort, place: usize, port: &Port, fact: Fact) {
+    match fact {
+        Fact::State(octet) => same_in_row(rt, place, &port.state().bits(), &octet),
+        Fact::Carries(bits) => same_in_row(rt, place, &(port.state().bits() & 0x38), &bits),
+        Fact::Receive(state) => same_in_row(rt, place, &port.receive_state(), &state),
+        Fact::PeriodicIn(state) => same_in_row(rt, place, &port.periodic_state(), &state),
+        Fact::MuxIn(state) => same_in_row(rt, place, &port.mux_state(), &state),
+        Fact::Ntt(is) => same_in_row(rt, place, &port.ntt(), &is),
+        Fact::Enabled(is) => same_in_row(rt, place, &port.is_enabled(), &is),
+        Fact::Defaulted(is) => same_in_row(rt, place, &port.is_defaulted(), &is),
+        Fact::Waited(is) => same_in_row(rt, place, &port.has_waited(), &is),
+        Fact::Distributes(is) => same_in_row(rt, place, &port.distributes(), &is),
+        Fact::Chosen(choice) => same_in_row(rt, place, &port.choice(), &choice),
+        Fact::OwnParty(party) => same_in_row(rt, place, &port.party(), &party),
+        Fact::Partner(partner) => same_in_row(rt, place, &port.partner(), &partner),
+        Fact::PartnerState(octet) => same_in_row(rt, place, &port.partner().state.bits(), &octet),
+        _ => tells_timer(rt, place, port, fact),
+    }
+}
+
+/// Makes a call that returns something, and compares the result with what the step says; or else looks at a variable.
+fn answers(rt: &impl Abort, place: usize, port: &mut Port, step: Step) {
+    match step {
+        Step::Quiet(ticks) => same_in_row(rt, place, &quiet(port, ticks), &ticks),
+        Step::Mux(ready, rows) => same_in_row(rt, place, &port.mux(ready), &rows),
+        Step::Asks(ready, asked) => same_in_row(rt, place, &asks(port, ready), &asked),
+        Step::Sends(state) => {
+            let sent = port.transmit(0).map(|pdu| pdu.actor.state.bits());
+            same_in_row(rt, place, &sent, &state);
+        }
+        Step::SendsAll(delay, pdu) => same_in_row(rt, place, &port.transmit(delay), &Some(pdu)),
+        Step::Is(fact) => tells(rt, place, port, fact),
+        _ => {}
+    }
+}
+
+/// Does a step.
+fn does(rt: &impl Abort, place: usize, port: &mut Port, step: Step) {
     match step {
         Step::Link(enabled) => port.set_link(enabled),
         Step::Periodic => port.periodic(),
         Step::Tick => port.tick(),
         Step::Run(ticks) => run(port, ticks),
-        Step::Quiet(ticks) => return Step::Quiet(quiet(port, ticks)),
         Step::Take(state) => port.take(&saying(state, zero(0))),
         Step::Told(state, partner) => port.take(&saying(state, partner)),
         Step::Heard(actor, partner) => port.take(&Lacpdu {
@@ -181,25 +209,13 @@ fn done(port: &mut Port, step: Step) -> Step {
         }),
         Step::Select(choice) => port.select(choice),
         Step::Reinit(party) => port.reinit(party),
-        Step::Mux(ready, _) => return Step::Mux(ready, port.mux(ready)),
-        Step::Asks(ready, _) => return Step::Asks(ready, asks(port, ready)),
-        Step::Sends(_) => {
-            return Step::Sends(port.transmit(0).map(|pdu| pdu.actor.state.bits()));
-        }
-        Step::SendsAll(delay, _) => {
-            return match port.transmit(delay) {
-                Some(pdu) => Step::SendsAll(delay, pdu),
-                None => Step::Sends(None),
-            };
-        }
-        Step::Is(fact) => return Step::Is(read(port, fact)),
+        _ => answers(rt, place, port, step),
     }
-    step
 }
 
 fn walk(rt: &impl Abort, mut port: Port, steps: &[Step]) {
     for (place, step) in steps.iter().enumerate() {
-        assert_eq!(rt; done(&mut port, *step), *step, "step {place} of {steps:?}");
+        does(rt, place, &mut port, *step);
     }
 }
 

@@ -88,10 +88,15 @@ pub(crate) fn outcome(alloc: Global, text: &str) -> Result<String, AllocError> {
     }
 }
 
-/// The text of a row between the others of its frame.
+/// The text of a row between the others of its frame; `;` stands for the end of a line.
 fn framed(alloc: Global, frame: &Frame, given: &str, text: &str) -> Result<String, AllocError> {
     let (before, behind) = (frame.before, frame.behind);
-    format!(in alloc; "{before}{given}{text}{behind}")
+    let mut all = format!(in alloc; "{before}{given}")?;
+    for octet in text.chars() {
+        all.push(if octet == ';' { '\n' } else { octet })?;
+    }
+    all.push_str(behind)?;
+    Ok(all)
 }
 
 /// A text in a frame has this outcome.
@@ -100,411 +105,384 @@ fn has_outcome(
     alloc: Global,
     frame: &Frame,
     given: &str,
-    row: &(&str, &str),
+    (text, fault): (&str, &str),
 ) -> Result<(), AllocError> {
-    let (text, fault) = row;
-    let came = outcome(alloc, framed(alloc, frame, given, *text)?.as_str())?;
-    let start = if *fault == "read" { "" } else { frame.fault };
+    let came = outcome(alloc, framed(alloc, frame, given, text)?.as_str())?;
+    let start = if fault == "read" { "" } else { frame.fault };
     let wanted = format!(in alloc; "{start}{fault}")?;
-    same(rt, *text, &came.as_str(), &wanted.as_str());
+    same(rt, text, &came.as_str(), &wanted.as_str());
     Ok(())
 }
 
-/// Each row has its outcome.
+/// The parts of a line before and behind its first arrow.
+pub(crate) fn parts(line: &str) -> (&str, &str) {
+    line.split_once(" => ").unwrap_or((line, ""))
+}
+
+/// Each line, a text and its outcome with an arrow between them, is so.
 pub(crate) fn have_outcomes(
     rt: &impl Abort,
     alloc: Global,
     frame: &Frame,
     given: &str,
-    rows: &[(&str, &str)],
+    lines: &str,
 ) -> Result<(), AllocError> {
-    for row in rows {
-        has_outcome(rt, alloc, frame, given, row)?;
+    for line in lines.lines() {
+        has_outcome(rt, alloc, frame, given, parts(line))?;
     }
     Ok(())
 }
 
-/// Each row has its outcome in either frame.
-pub(crate) fn have_outcomes_in(
+/// Each line is so for either system.
+fn have_outcomes_in_systems(
     rt: &impl Abort,
     alloc: Global,
-    frames: [&Frame; 2],
     given: &str,
-    rows: &[(&str, &str)],
+    lines: &str,
 ) -> Result<(), AllocError> {
-    let [first, second] = frames;
-    have_outcomes(rt, alloc, first, given, rows)?;
-    have_outcomes(rt, alloc, second, given, rows)
+    have_outcomes(rt, alloc, &SYSTEM_1, given, lines)?;
+    have_outcomes(rt, alloc, &SYSTEM_2, given, lines)
 }
+
+/// Each line is so for either cable.
+pub(crate) fn have_outcomes_in_cables(
+    rt: &impl Abort,
+    alloc: Global,
+    lines: &str,
+) -> Result<(), AllocError> {
+    have_outcomes(rt, alloc, &CABLE_1, "", lines)?;
+    have_outcomes(rt, alloc, &CABLE_2, "", lines)
+}
+
+/// Each line is so for either entry.
+fn have_outcomes_in_entries(rt: &impl Abort, alloc: Global, lines: &str) -> Result<(), AllocError> {
+    have_outcomes(rt, alloc, &ENTRY_1, "", lines)?;
+    have_outcomes(rt, alloc, &ENTRY_2, "", lines)
+}
+
+/// Texts of whole scripts.
+const TOPS: &str = r#"x = => not toml
+system = [{}, {} => not toml
+x = 1 => extra key
+System = [] => extra key
+system = 1;end = 1 => extra key
+ => system
+system = 1 => system
+[system] => system
+system = [] => system
+system = [{}] => system
+system = [{}, {}, {}] => system
+system = [{}, 1] => system
+system = [1, {}] => system
+cable = 1;events = 1 => system
+cable = 1;system = [{}, {}] => system 1: mac
+system = [{a = 1}, {a = 1}] => system 1: extra key"#;
 
 #[test]
 fn tops_are_refused(rt: HostRuntime) -> Result<(), AllocError> {
-    let rows = [
-        ("x =", "not toml"),
-        ("system = [{}, {}", "not toml"),
-        ("x = 1", "extra key"),
-        ("System = []", "extra key"),
-        ("system = 1\nend = 1", "extra key"),
-        ("", "system"),
-        ("system = 1", "system"),
-        ("[system]", "system"),
-        ("system = []", "system"),
-        ("system = [{}]", "system"),
-        ("system = [{}, {}, {}]", "system"),
-        ("system = [{}, 1]", "system"),
-        ("system = [1, {}]", "system"),
-        ("cable = 1\nevents = 1", "system"),
-        ("cable = 1\nsystem = [{}, {}]", "system 1: mac"),
-        ("system = [{a = 1}, {a = 1}]", "system 1: extra key"),
-    ];
-    have_outcomes(&rt, rt.alloc(), &TOP, "", &rows)
+    have_outcomes(&rt, rt.alloc(), &TOP, "", TOPS)
 }
+
+/// The first keys of a system.
+const FIRST_KEYS: &str = r#" => : mac
+a = 1 => : extra key
+limit = 1, priority = -1 => : extra key
+ports = 3 => : extra key
+priority = -1 => : priority
+priority = 65536 => : priority
+priority = 1.0 => : priority
+priority = "1" => : priority
+priority = 0, mac = 1 => : mac
+mac = "" => : mac
+mac = "020000000001" => : mac
+mac = "02-00-00-00-00-0" => : mac
+mac = "02-00-00-00-00-001" => : mac
+mac = "02:00-00-00-00-01" => : mac
+mac = "02-00x00-00-00-01" => : mac
+mac = "02-00-00x00-00-01" => : mac
+mac = "02-00-00-00x00-01" => : mac
+mac = "02-00-00-00-00:01" => : mac
+mac = "02-0000--00-00-01" => : mac
+mac = "02-00-00-00-00-0g" => : mac
+mac = "02-00-00-00-00-+1" => : mac
+mac = " 02-00-00-00-00-01" => : mac
+max_delay = 65536 => : mac"#;
 
 #[test]
 fn systems_are_refused(rt: HostRuntime) -> Result<(), AllocError> {
-    let rows = [
-        ("", ": mac"),
-        ("a = 1", ": extra key"),
-        ("limit = 1, priority = -1", ": extra key"),
-        ("ports = 3", ": extra key"),
-        ("priority = -1", ": priority"),
-        ("priority = 65536", ": priority"),
-        ("priority = 1.0", ": priority"),
-        ("priority = \"1\"", ": priority"),
-        ("priority = 0, mac = 1", ": mac"),
-        ("mac = \"\"", ": mac"),
-        ("mac = \"020000000001\"", ": mac"),
-        ("mac = \"02-00-00-00-00-0\"", ": mac"),
-        ("mac = \"02-00-00-00-00-001\"", ": mac"),
-        ("mac = \"02:00-00-00-00-01\"", ": mac"),
-        ("mac = \"02-00x00-00-00-01\"", ": mac"),
-        ("mac = \"02-00-00x00-00-01\"", ": mac"),
-        ("mac = \"02-00-00-00x00-01\"", ": mac"),
-        ("mac = \"02-00-00-00-00:01\"", ": mac"),
-        ("mac = \"02-0000--00-00-01\"", ": mac"),
-        ("mac = \"02-00-00-00-00-0g\"", ": mac"),
-        ("mac = \"02-00-00-00-00-+1\"", ": mac"),
-        ("mac = \" 02-00-00-00-00-01\"", ": mac"),
-        ("max_delay = 65536", ": mac"),
-    ];
-    have_outcomes_in(&rt, rt.alloc(), [&SYSTEM_1, &SYSTEM_2], "", &rows)
+    have_outcomes_in_systems(&rt, rt.alloc(), "", FIRST_KEYS)
 }
+
+/// The keys after the MAC address of a system.
+const LATER_KEYS: &str = r#"max_delay = -1 => : max_delay
+max_delay = 65536 => : max_delay
+max_delay = true, first_marker = true => : max_delay
+first_marker = -1 => : first_marker
+first_marker = 4294967296 => : first_marker
+first_marker = [1], aggregators = 1 => : first_marker
+port = [] => : aggregators
+aggregators = 1 => : aggregators
+aggregators = {} => : aggregators
+aggregators = [-1] => : aggregators
+aggregators = [0, 65536] => : aggregators
+aggregators = [1, "1"] => : aggregators
+aggregators = [[1]], port = 1 => : aggregators
+aggregators = [1] => : port
+aggregators = [1], port = 1 => : port
+aggregators = [1], port = {number = 1, key = 1} => : port
+aggregators = [1], port = [{number = 1, key = 1}, 1] => : port
+aggregators = [1], port = [{}, 1] => : port
+aggregators = [1], port = [{}] =>  port 1: number
+aggregators = [], port = [{}] =>  port 1: number
+aggregators = [], port = [] => : ports
+aggregators = [1], port = [] => : ports
+aggregators = [], port = [{number = 0, key = 1}] => : aggregator count
+aggregators = [1], port = [{number = 0, key = 1}] => : port number 1
+aggregators = [1], port = [{number = 7, key = 1}, {number = 7, key = 1}] => : port number 2
+aggregators = [1], port = [{number = 7, key = 1}, {number = 8, key = 1}, {number = 1, key = 1}] => : port number 3"#;
 
 #[test]
 fn later_keys_of_systems_are_refused(rt: HostRuntime) -> Result<(), AllocError> {
-    let rows = [
-        ("max_delay = -1", ": max_delay"),
-        ("max_delay = 65536", ": max_delay"),
-        ("max_delay = true, first_marker = true", ": max_delay"),
-        ("first_marker = -1", ": first_marker"),
-        ("first_marker = 4294967296", ": first_marker"),
-        ("first_marker = [1], aggregators = 1", ": first_marker"),
-        ("port = []", ": aggregators"),
-        ("aggregators = 1", ": aggregators"),
-        ("aggregators = {}", ": aggregators"),
-        ("aggregators = [-1]", ": aggregators"),
-        ("aggregators = [0, 65536]", ": aggregators"),
-        ("aggregators = [1, \"1\"]", ": aggregators"),
-        ("aggregators = [[1]], port = 1", ": aggregators"),
-        ("aggregators = [1]", ": port"),
-        ("aggregators = [1], port = 1", ": port"),
-        ("aggregators = [1], port = {number = 1, key = 1}", ": port"),
-        (
-            "aggregators = [1], port = [{number = 1, key = 1}, 1]",
-            ": port",
-        ),
-        ("aggregators = [1], port = [{}, 1]", ": port"),
-        ("aggregators = [1], port = [{}]", " port 1: number"),
-        ("aggregators = [], port = [{}]", " port 1: number"),
-        ("aggregators = [], port = []", ": ports"),
-        ("aggregators = [1], port = []", ": ports"),
-        (
-            "aggregators = [], port = [{number = 0, key = 1}]",
-            ": aggregator count",
-        ),
-        (
-            "aggregators = [1], port = [{number = 0, key = 1}]",
-            ": port number 1",
-        ),
-        (
-            "aggregators = [1], port = [{number = 7, key = 1}, {number = 7, key = 1}]",
-            ": port number 2",
-        ),
-        (
-            "aggregators = [1], port = [{number = 7, key = 1}, {number = 8, key = 1}, {number = 1, key = 1}]",
-            ": port number 3",
-        ),
-    ];
-    have_outcomes_in(&rt, rt.alloc(), [&SYSTEM_1, &SYSTEM_2], MAC, &rows)
+    have_outcomes_in_systems(&rt, rt.alloc(), MAC, LATER_KEYS)
 }
+
+/// Limits of links and counts of conversations whose kind is wrong.
+const LINKS_AND_COUNTS: &str = r#"max_links = -1 => : max_links
+max_links = 65536 => : max_links
+max_links = "1" => : max_links
+max_links = [1], conversations = [1] => : max_links
+conversations = -1 => : conversations
+conversations = 65536 => : conversations
+conversations = "256", port = 1 => : conversations
+max_links = 0, conversations = 256.0 => : conversations
+max_links = 0, conversations = 257 => : port
+max_link = 1, conversations = true => : extra key"#;
 
 /// The keys between the aggregators and the ports of a system.
 #[test]
 fn limits_of_links_and_counts_of_conversations_are_refused(
     rt: HostRuntime,
 ) -> Result<(), AllocError> {
-    let rows = [
-        ("max_links = -1", ": max_links"),
-        ("max_links = 65536", ": max_links"),
-        ("max_links = \"1\"", ": max_links"),
-        ("max_links = [1], conversations = [1]", ": max_links"),
-        ("conversations = -1", ": conversations"),
-        ("conversations = 65536", ": conversations"),
-        ("conversations = \"256\", port = 1", ": conversations"),
-        ("max_links = 0, conversations = 256.0", ": conversations"),
-        ("max_links = 0, conversations = 257", ": port"),
-        ("max_link = 1, conversations = true", ": extra key"),
-    ];
-    have_outcomes_in(&rt, rt.alloc(), [&SYSTEM_1, &SYSTEM_2], AGGREGATORS, &rows)
+    have_outcomes_in_systems(&rt, rt.alloc(), AGGREGATORS, LINKS_AND_COUNTS)
 }
+
+/// Limits of links and counts of conversations that are numbers.
+const OTHER_LINKS_AND_COUNTS: &str = r#"max_links = 0 => : max links
+max_links = 65 => : max links
+max_links = 65535, conversations = 0 => : max links
+conversations = 0 => : conversation count
+conversations = 255 => : conversation count
+conversations = 257 => : conversation count
+conversations = 4095 => : conversation count
+max_links = 64, conversations = 4097 => : conversation count
+conversations = 65535 => : conversation count
+max_links = 1, conversations = 4096 => read
+conversations = 256, max_links = 64 => read"#;
 
 #[test]
 fn other_limits_of_links_and_counts_are_refused(rt: HostRuntime) -> Result<(), AllocError> {
-    let rows = [
-        ("max_links = 0", ": max links"),
-        ("max_links = 65", ": max links"),
-        ("max_links = 65535, conversations = 0", ": max links"),
-        ("conversations = 0", ": conversation count"),
-        ("conversations = 255", ": conversation count"),
-        ("conversations = 257", ": conversation count"),
-        ("conversations = 4095", ": conversation count"),
-        (
-            "max_links = 64, conversations = 4097",
-            ": conversation count",
-        ),
-        ("conversations = 65535", ": conversation count"),
-        ("max_links = 1, conversations = 4096", "read"),
-        ("conversations = 256, max_links = 64", "read"),
-    ];
     let alloc = rt.alloc();
     let given = format!(in alloc; "{AGGREGATORS}port = [{{number = 1, key = 1}}], ")?;
-    have_outcomes_in(
-        &rt,
-        rt.alloc(),
-        [&SYSTEM_1, &SYSTEM_2],
-        given.as_str(),
-        &rows,
-    )
+    have_outcomes_in_systems(&rt, alloc, given.as_str(), OTHER_LINKS_AND_COUNTS)
 }
+
+/// The keys of a port.
+const PORTS: &str = r#"a = 1 => : extra key
+ => : number
+number = -1 => : number
+number = 65536 => : number
+number = "2", priority = -1 => : number
+number = 2 => : key
+number = 2, priority = -1 => : priority
+number = 2, priority = 65536 => : priority
+number = 2, priority = false, mac = false => : priority
+number = 2, mac = 1 => : mac
+number = 2, mac = "02-00-00-00-00", key = true => : mac
+number = 2, key = -1 => : key
+number = 2, key = 65536 => : key
+number = 2, key = {}, aggregatable = 1 => : key
+number = 2, key = 1, aggregatable = 1, active = 1 => : aggregatable
+number = 2, key = 1, active = "true", short = 1 => : active
+number = 2, key = 1, short = 0 => : short"#;
 
 #[test]
 fn ports_are_refused(rt: HostRuntime) -> Result<(), AllocError> {
-    let rows = [
-        ("a = 1", ": extra key"),
-        ("", ": number"),
-        ("number = -1", ": number"),
-        ("number = 65536", ": number"),
-        ("number = \"2\", priority = -1", ": number"),
-        ("number = 2", ": key"),
-        ("number = 2, priority = -1", ": priority"),
-        ("number = 2, priority = 65536", ": priority"),
-        ("number = 2, priority = false, mac = false", ": priority"),
-        ("number = 2, mac = 1", ": mac"),
-        ("number = 2, mac = \"02-00-00-00-00\", key = true", ": mac"),
-        ("number = 2, key = -1", ": key"),
-        ("number = 2, key = 65536", ": key"),
-        ("number = 2, key = {}, aggregatable = 1", ": key"),
-        (
-            "number = 2, key = 1, aggregatable = 1, active = 1",
-            ": aggregatable",
-        ),
-        (
-            "number = 2, key = 1, active = \"true\", short = 1",
-            ": active",
-        ),
-        ("number = 2, key = 1, short = 0", ": short"),
-    ];
     let alloc = rt.alloc();
-    have_outcomes(&rt, rt.alloc(), &PORT_1_OF_1, "", &rows)?;
-    have_outcomes_in(&rt, rt.alloc(), [&PORT_2_OF_1, &PORT_1_OF_2], "", &rows)
+    have_outcomes(&rt, alloc, &PORT_1_OF_1, "", PORTS)?;
+    have_outcomes(&rt, alloc, &PORT_2_OF_1, "", PORTS)?;
+    have_outcomes(&rt, alloc, &PORT_1_OF_2, "", PORTS)
 }
+
+/// The keys of a cable.
+const CABLES: &str = r#"a = 1 => : extra key
+ends = [1, 1], a = 1 => : extra key
+ => : ends
+ends = 1 => : ends
+ends = [] => : ends
+ends = [1] => : ends
+ends = [1, 1, 1] => : ends
+ends = [1, -1] => : ends
+ends = [65536, 1] => : ends
+ends = [1, "1"] => : ends
+ends = [0, 65535] => : end
+ends = [1, 0] => : end
+ends = [65535, 1] => : end"#;
+
+/// Ends of a second cable.
+const TAKEN: &str = r#"ends = [2, 1] => read
+ends = [1, 1] => : end
+ends = [2, 65535] => : end
+ends = [1, 65535] => : end"#;
 
 #[test]
 fn cables_are_refused(rt: HostRuntime) -> Result<(), AllocError> {
-    let rows = [
-        ("a = 1", ": extra key"),
-        ("ends = [1, 1], a = 1", ": extra key"),
-        ("", ": ends"),
-        ("ends = 1", ": ends"),
-        ("ends = []", ": ends"),
-        ("ends = [1]", ": ends"),
-        ("ends = [1, 1, 1]", ": ends"),
-        ("ends = [1, -1]", ": ends"),
-        ("ends = [65536, 1]", ": ends"),
-        ("ends = [1, \"1\"]", ": ends"),
-        ("ends = [0, 65535]", ": end"),
-        ("ends = [1, 0]", ": end"),
-        ("ends = [65535, 1]", ": end"),
-    ];
     let alloc = rt.alloc();
-    have_outcomes_in(&rt, rt.alloc(), [&CABLE_1, &CABLE_2], "", &rows)?;
-    let taken = [
-        ("ends = [2, 1]", "read"),
-        ("ends = [1, 1]", ": end"),
-        ("ends = [2, 65535]", ": end"),
-        ("ends = [1, 65535]", ": end"),
-    ];
-    have_outcomes(&rt, rt.alloc(), &CABLE_2, "", &taken)
+    have_outcomes_in_cables(&rt, alloc, CABLES)?;
+    have_outcomes(&rt, alloc, &CABLE_2, "", TAKEN)
 }
+
+/// Entries that are no event, ticks, and what is sent.
+const ENTRIES: &str = r#" => : word
+Tick 1 1 => : word
+ tick 1 1 => : word
+ticks 1 1 => : word
+offers 1 1 00 => : word
+link 1 1 => : word
+tick => : count
+tick 1 => : count
+tick  1 1 => : count
+tick 1 1  => : count
+tick 1 1 1 => : count
+tick 3 1 => : system
+tick 3 0 => : system
+tick 0 x => : system
+tick 65535 1 => : system
+tick 65536 1 => : number
+tick x 1 => : number
+tick 1 0 => : number
+tick 1 65536 => : number
+tick 1  => : number
+tick 1 +1 => : number
+tick 1 -1 => : number
+tick 1 1_0 => : number
+tick 1 0x1 => : number
+tick 1 18446744073709551617 => : number
+emit 1 => : count
+emit 1 1 1 => : count
+emit 3 x => : system
+emit 2 65536 => : number"#;
 
 #[test]
 fn entries_are_refused(rt: HostRuntime) -> Result<(), AllocError> {
-    let rows = [
-        ("", ": word"),
-        ("Tick 1 1", ": word"),
-        (" tick 1 1", ": word"),
-        ("ticks 1 1", ": word"),
-        ("offers 1 1 00", ": word"),
-        ("link 1 1", ": word"),
-        ("tick", ": count"),
-        ("tick 1", ": count"),
-        ("tick  1 1", ": count"),
-        ("tick 1 1 ", ": count"),
-        ("tick 1 1 1", ": count"),
-        ("tick 3 1", ": system"),
-        ("tick 3 0", ": system"),
-        ("tick 0 x", ": system"),
-        ("tick 65535 1", ": system"),
-        ("tick 65536 1", ": number"),
-        ("tick x 1", ": number"),
-        ("tick 1 0", ": number"),
-        ("tick 1 65536", ": number"),
-        ("tick 1 ", ": number"),
-        ("tick 1 +1", ": number"),
-        ("tick 1 -1", ": number"),
-        ("tick 1 1_0", ": number"),
-        ("tick 1 0x1", ": number"),
-        ("tick 1 18446744073709551617", ": number"),
-        ("emit 1", ": count"),
-        ("emit 1 1 1", ": count"),
-        ("emit 3 x", ": system"),
-        ("emit 2 65536", ": number"),
-    ];
-    have_outcomes_in(&rt, rt.alloc(), [&ENTRY_1, &ENTRY_2], "", &rows)
+    have_outcomes_in_entries(&rt, rt.alloc(), ENTRIES)
 }
+
+/// Entries that name a cable.
+const ENTRIES_OF_CABLES: &str = r#"deliver 1 => : count
+deliver 2 3 => : cable
+deliver 0 1 => : cable
+deliver 1 3 => : system
+deliver 65536 3 => : number
+lose 2 1 => : cable
+lose 2 3 => : cable
+repeat 2 3 => : cable
+sense 2 3 => : cable
+lose 1 0 => : system
+lose 1 1 1 => : count
+repeat 1 x => : number
+repeat 0 1 => : cable
+repeat 1 3 => : system
+cut => : count
+cut 0 => : cable
+cut 2 => : cable
+cut 65535 => : cable
+cut 65536 => : number
+cut +1 => : number
+cut  => : number
+cut 1 1 => : count
+join 0 => : cable
+join 2 => : cable
+join => : count
+sense 2 1 => : cable
+sense 1 3 => : system
+sense 1 => : count"#;
 
 #[test]
 fn entries_of_cables_are_refused(rt: HostRuntime) -> Result<(), AllocError> {
-    let rows = [
-        ("deliver 1", ": count"),
-        ("deliver 2 3", ": cable"),
-        ("deliver 0 1", ": cable"),
-        ("deliver 1 3", ": system"),
-        ("deliver 65536 3", ": number"),
-        ("lose 2 1", ": cable"),
-        ("lose 2 3", ": cable"),
-        ("repeat 2 3", ": cable"),
-        ("sense 2 3", ": cable"),
-        ("lose 1 0", ": system"),
-        ("lose 1 1 1", ": count"),
-        ("repeat 1 x", ": number"),
-        ("repeat 0 1", ": cable"),
-        ("repeat 1 3", ": system"),
-        ("cut", ": count"),
-        ("cut 0", ": cable"),
-        ("cut 2", ": cable"),
-        ("cut 65535", ": cable"),
-        ("cut 65536", ": number"),
-        ("cut +1", ": number"),
-        ("cut ", ": number"),
-        ("cut 1 1", ": count"),
-        ("join 0", ": cable"),
-        ("join 2", ": cable"),
-        ("join", ": count"),
-        ("sense 2 1", ": cable"),
-        ("sense 1 3", ": system"),
-        ("sense 1", ": count"),
-    ];
-    have_outcomes_in(&rt, rt.alloc(), [&ENTRY_1, &ENTRY_2], "", &rows)
+    have_outcomes_in_entries(&rt, rt.alloc(), ENTRIES_OF_CABLES)
 }
+
+/// Entries that name a system.
+const ENTRIES_OF_SYSTEMS: &str = r#"restart => : count
+restart 3 => : system
+restart 1 1 => : count
+configure 1 1 1 128 => : count
+configure 1 1 1 128 both => : kind
+configure 1 1 1 128  => : kind
+configure 1 1 1 128 Individual => : kind
+configure 1 1 1 128 INDIVIDUAL => : kind
+configure 1 1 1 128 aggregatables => : kind
+configure 1 1 1 128 aggregatable extra => : count
+configure 1 1 1 65536 both => : number
+configure 1 1 65536 128 both => : number
+configure 1 65536 1 128 both => : number
+configure 0 65536 1 128 both => : system
+offer 1 1 => : count
+offer 1 1 0200000000200200000000100800 00 => : count
+offer 1 1 0g => : hex
+offer 1 1 0 => : hex
+offer 1 1 0x00 => : hex
+offer 1 65536 0g => : number
+offer 3 65536 0g => : system
+move 1 1 1 => : count
+move 1 1 48 2 2 => : count
+move 3 1 1 1 => : system
+move 3 65536 1 1 => : system
+move 1 65536 1 1 => : number
+move 1 1 65536 1 => : number
+move 1 1 1 65536 => : number
+force 1 1 => : count
+force 1 1 48 1 => : count
+force 3 1 1 => : system
+force 3 65536 1 => : system
+force 1 65536 1 => : number
+force 1 1 65536 => : number"#;
 
 #[test]
 fn entries_of_systems_are_refused(rt: HostRuntime) -> Result<(), AllocError> {
-    let rows = [
-        ("restart", ": count"),
-        ("restart 3", ": system"),
-        ("restart 1 1", ": count"),
-        ("configure 1 1 1 128", ": count"),
-        ("configure 1 1 1 128 both", ": kind"),
-        ("configure 1 1 1 128 ", ": kind"),
-        ("configure 1 1 1 128 Individual", ": kind"),
-        ("configure 1 1 1 128 INDIVIDUAL", ": kind"),
-        ("configure 1 1 1 128 aggregatables", ": kind"),
-        ("configure 1 1 1 128 aggregatable extra", ": count"),
-        ("configure 1 1 1 65536 both", ": number"),
-        ("configure 1 1 65536 128 both", ": number"),
-        ("configure 1 65536 1 128 both", ": number"),
-        ("configure 0 65536 1 128 both", ": system"),
-        ("offer 1 1", ": count"),
-        ("offer 1 1 0200000000200200000000100800 00", ": count"),
-        ("offer 1 1 0g", ": hex"),
-        ("offer 1 1 0", ": hex"),
-        ("offer 1 1 0x00", ": hex"),
-        ("offer 1 65536 0g", ": number"),
-        ("offer 3 65536 0g", ": system"),
-        ("move 1 1 1", ": count"),
-        ("move 1 1 48 2 2", ": count"),
-        ("move 3 1 1 1", ": system"),
-        ("move 3 65536 1 1", ": system"),
-        ("move 1 65536 1 1", ": number"),
-        ("move 1 1 65536 1", ": number"),
-        ("move 1 1 1 65536", ": number"),
-        ("force 1 1", ": count"),
-        ("force 1 1 48 1", ": count"),
-        ("force 3 1 1", ": system"),
-        ("force 3 65536 1", ": system"),
-        ("force 1 65536 1", ": number"),
-        ("force 1 1 65536", ": number"),
-    ];
-    have_outcomes_in(&rt, rt.alloc(), [&ENTRY_1, &ENTRY_2], "", &rows)
+    have_outcomes_in_entries(&rt, rt.alloc(), ENTRIES_OF_SYSTEMS)
 }
+
+/// Smallest and greatest values of a system.
+const SYSTEM_EDGES: &str =
+    r#"priority = 0, max_delay = 0, first_marker = 0, port = [{number = 1, key = 1}] => read
+priority = 65535, max_delay = 65535, first_marker = 4294967295, port = [{number = 1, key = 1}] => read"#;
+
+/// Smallest and greatest keys.
+const KEY_EDGES: &str = r#"aggregators = [0, 65535], port = [{number = 1, key = 0}] => read
+aggregators = [1], port = [{number = 65535, key = 65535}] => read"#;
+
+/// Smallest and greatest values of a port.
+const PORT_EDGES: &str = r#"number = 2, priority = 0, key = 0 => read
+number = 65535, priority = 65535, key = 65535 => read"#;
+
+/// Smallest and greatest numbers of an entry.
+const ENTRY_EDGES: &str = r#"tick 1 1 => read
+tick 2 65535 => read
+tick 00001 000065535 => read
+emit 1 0 => read
+emit 2 65535 => read
+configure 1 0 0 0 individual => read
+configure 2 65535 65535 65535 aggregatable => read
+offer 1 65535  => read
+move 1 65535 65535 65535 => read
+force 1 65535 65535 => read"#;
 
 #[test]
 fn smallest_and_greatest_are_read(rt: HostRuntime) -> Result<(), AllocError> {
-    let systems = [
-        (
-            "priority = 0, max_delay = 0, first_marker = 0, port = [{number = 1, key = 1}]",
-            "read",
-        ),
-        (
-            "priority = 65535, max_delay = 65535, first_marker = 4294967295, port = [{number = 1, key = 1}]",
-            "read",
-        ),
-    ];
-    have_outcomes_in(
-        &rt,
-        rt.alloc(),
-        [&SYSTEM_1, &SYSTEM_2],
-        AGGREGATORS,
-        &systems,
-    )?;
-    let keys = [
-        (
-            "aggregators = [0, 65535], port = [{number = 1, key = 0}]",
-            "read",
-        ),
-        (
-            "aggregators = [1], port = [{number = 65535, key = 65535}]",
-            "read",
-        ),
-    ];
-    have_outcomes(&rt, rt.alloc(), &SYSTEM_1, MAC, &keys)?;
-    let ports = [
-        ("number = 2, priority = 0, key = 0", "read"),
-        ("number = 65535, priority = 65535, key = 65535", "read"),
-    ];
-    have_outcomes(&rt, rt.alloc(), &PORT_2_OF_1, "", &ports)?;
-    let entries = [
-        ("tick 1 1", "read"),
-        ("tick 2 65535", "read"),
-        ("tick 00001 000065535", "read"),
-        ("emit 1 0", "read"),
-        ("emit 2 65535", "read"),
-        ("configure 1 0 0 0 individual", "read"),
-        ("configure 2 65535 65535 65535 aggregatable", "read"),
-        ("offer 1 65535 ", "read"),
-        ("move 1 65535 65535 65535", "read"),
-        ("force 1 65535 65535", "read"),
-    ];
-    have_outcomes_in(&rt, rt.alloc(), [&ENTRY_1, &ENTRY_2], "", &entries)
+    let alloc = rt.alloc();
+    have_outcomes_in_systems(&rt, alloc, AGGREGATORS, SYSTEM_EDGES)?;
+    have_outcomes(&rt, alloc, &SYSTEM_1, MAC, KEY_EDGES)?;
+    have_outcomes(&rt, alloc, &PORT_2_OF_1, "", PORT_EDGES)?;
+    have_outcomes_in_entries(&rt, alloc, ENTRY_EDGES)
 }

@@ -88,7 +88,7 @@ enum Row<'a> {
 }
 
 /// What the readers return for a port.
-#[derive(Clone, Copy, Debug, PartialEq, Eq)]
+#[derive(Clone, Copy)]
 pub(crate) struct PortFacts {
     party: Option<Party>,
     partner: Option<Info>,
@@ -155,6 +155,30 @@ pub(crate) fn look<F: Fn(u16, usize) -> usize + Drop>(system: &System<F>, port: 
         wait_while: system.wait_while(port),
         ntt: system.ntt(port),
     }
+}
+
+/// Compares what the readers return for a port with what is expected.
+pub(crate) fn same_facts(rt: &impl Abort, place: usize, came: &PortFacts, wanted: &PortFacts) {
+    same_in_row(rt, place, &came.party, &wanted.party);
+    same_in_row(rt, place, &came.partner, &wanted.partner);
+    same_in_row(rt, place, &came.group, &wanted.group);
+    same_in_row(rt, place, &came.defaulted, &wanted.defaulted);
+    same_in_row(rt, place, &came.distributes, &wanted.distributes);
+    same_in_row(rt, place, &came.choice, &wanted.choice);
+    same_in_row(rt, place, &came.state, &wanted.state);
+    same_in_row(rt, place, &came.status, &wanted.status);
+    same_machines(rt, place, came, wanted);
+}
+
+/// The same of the machines of the port and their timers.
+fn same_machines(rt: &impl Abort, place: usize, came: &PortFacts, wanted: &PortFacts) {
+    same_in_row(rt, place, &came.mux, &wanted.mux);
+    same_in_row(rt, place, &came.receive, &wanted.receive);
+    same_in_row(rt, place, &came.up, &wanted.up);
+    same_in_row(rt, place, &came.due, &wanted.due);
+    same_in_row(rt, place, &came.current_while, &wanted.current_while);
+    same_in_row(rt, place, &came.wait_while, &wanted.wait_while);
+    same_in_row(rt, place, &came.ntt, &wanted.ntt);
 }
 
 /// The information about a port of a system; this is the last octet of the system's MAC address.
@@ -274,7 +298,7 @@ fn tells_port<F: Fn(u16, usize) -> usize + Drop>(
     row: Row<'_>,
 ) {
     match row {
-        Row::Shows(port, seen) => same_in_row(rt, place, &look(system, port), &seen),
+        Row::Shows(port, seen) => same_facts(rt, place, &look(system, port), &seen),
         Row::Chosen(port, choice) => same_in_row(rt, place, &system.choice(port), &Some(choice)),
         Row::Status(port, status) => {
             same_in_row(rt, place, &system.port_status(port), &Some(status));
@@ -361,7 +385,7 @@ fn plays(
         let replies = system.drive(alloc, &plan.calls)?;
         same_in_row(rt, place, &replies.as_slice(), &plan.replies.as_slice());
         forces_port(rt, &mut system, place, *row);
-        same_in_row(rt, place, &look(&system, kept_port(*row)), &before);
+        same_facts(rt, place, &look(&system, kept_port(*row)), &before);
         tells(rt, &system, place, *row);
     }
     Ok(())

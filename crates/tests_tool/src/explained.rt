@@ -75,13 +75,16 @@ fn unread(
     Ok(())
 }
 
+/// Errors, and what is said of a file.
+const FAILURES: [(ErrorKind, &str); 3] = [
+    (ErrorKind::NotFound, "a b: no such file"),
+    (ErrorKind::PermissionDenied, "a b: permission denied"),
+    (ErrorKind::IsADirectory, "a b: is a folder"),
+];
+
 #[test]
 fn files_that_fail(rt: HostRuntime) -> Result<(), Fail> {
-    for (kind, text) in [
-        (ErrorKind::NotFound, "a b: no such file"),
-        (ErrorKind::PermissionDenied, "a b: permission denied"),
-        (ErrorKind::IsADirectory, "a b: is a folder"),
-    ] {
+    for (kind, text) in FAILURES {
         unread(&rt, &Failing(kind), "a b", text)?;
     }
     Ok(())
@@ -99,71 +102,82 @@ fn digits(
     Ok(())
 }
 
+/// Files, and why they cannot be read.
+const UNREAD: [(&str, &str); 4] = [
+    ("-", "standard input: reading failed"),
+    ("/", "/: is a folder"),
+    ("/dev/null", "/dev/null: reading failed"),
+    ("/no/file", "/no/file: no such file"),
+];
+
 #[test]
 fn files_that_cannot_be_read(rt: HostRuntime) -> Result<(), Fail> {
-    for (file, text) in [
-        ("-", "standard input: reading failed"),
-        ("/", "/: is a folder"),
-        ("/dev/null", "/dev/null: reading failed"),
-        ("/no/file", "/no/file: no such file"),
-    ] {
+    for (file, text) in UNREAD {
         unread(&rt, &rt, file, text)?;
     }
     Ok(())
 }
 
+/// A file, its octets before the one that is refused, and what is said of it.
+const NOT_UTF8: [(&str, &[u8], &str); 5] = [
+    ("a.toml", b"", "a.toml:1:1: octet 1 is not UTF-8"),
+    ("-", b"ab\n", "standard input:2:1: octet 4 is not UTF-8"),
+    (
+        "a.toml",
+        b"k = 1\nx\xc3\xbc",
+        "a.toml:2:3: octet 10 is not UTF-8",
+    ),
+    ("a.toml", b"\n\n", "a.toml:3:1: octet 3 is not UTF-8"),
+    ("a.toml", b"abc", "a.toml:1:4: octet 4 is not UTF-8"),
+];
+
 #[test]
 fn octets_that_are_not_utf8(rt: HostRuntime) -> Result<(), Fail> {
-    let rows: [(&str, &[u8], &str); 5] = [
-        ("a.toml", b"", "a.toml:1:1: octet 1 is not UTF-8"),
-        ("-", b"ab\n", "standard input:2:1: octet 4 is not UTF-8"),
-        (
-            "a.toml",
-            b"k = 1\nx\xc3\xbc",
-            "a.toml:2:3: octet 10 is not UTF-8",
-        ),
-        ("a.toml", b"\n\n", "a.toml:3:1: octet 3 is not UTF-8"),
-        ("a.toml", b"abc", "a.toml:1:4: octet 4 is not UTF-8"),
-    ];
-    for (file, before, text) in rows {
+    for (file, before, text) in NOT_UTF8 {
         let said = utf8_text(rt.alloc(), file, before)?;
         assert_eq!(rt; said.as_str(), text);
     }
     Ok(())
 }
 
+/// Words, and why they are not hexadecimal.
+const NOT_HEXADECIMAL: [(&str, &str); 5] = [
+    ("zz", "HEX: character 1 'z' is no hexadecimal digit"),
+    ("00fFg0", "HEX: character 5 'g' is no hexadecimal digit"),
+    ("01 1", "HEX: character 3 ' ' is no hexadecimal digit"),
+    (
+        "a\u{fc}:",
+        "HEX: character 2 '\u{fc}' is no hexadecimal digit",
+    ),
+    ("010", "HEX: 3 hexadecimal digits: wanted is an even number"),
+];
+
 #[test]
 fn words_that_are_not_hexadecimal(rt: HostRuntime) -> Result<(), Fail> {
-    for (word, text) in [
-        ("zz", "HEX: character 1 'z' is no hexadecimal digit"),
-        ("00fFg0", "HEX: character 5 'g' is no hexadecimal digit"),
-        ("01 1", "HEX: character 3 ' ' is no hexadecimal digit"),
-        (
-            "a\u{fc}:",
-            "HEX: character 2 '\u{fc}' is no hexadecimal digit",
-        ),
-        ("010", "HEX: 3 hexadecimal digits: wanted is an even number"),
-    ] {
+    for (word, text) in NOT_HEXADECIMAL {
         digits(&rt, ("HEX", "is an even number"), word, text)?;
     }
     Ok(())
 }
 
+/// Words, and why they are no MAC addresses.
+const NO_ADDRESSES: [(&str, &str); 5] = [
+    (
+        "02:00:00:00:00:01",
+        "MAC: character 3 ':' is no hexadecimal digit",
+    ),
+    (
+        "02000000000O",
+        "MAC: character 12 'O' is no hexadecimal digit",
+    ),
+    ("02000000001", "MAC: 11 hexadecimal digits: wanted are 12"),
+    ("0200000000001", "MAC: 13 hexadecimal digits: wanted are 12"),
+    ("", "MAC: 0 hexadecimal digits: wanted are 12"),
+];
+
 #[test]
 fn words_that_are_no_address(rt: HostRuntime) -> Result<(), Fail> {
-    for (word, text) in [
-        (
-            "02:00:00:00:00:01",
-            "MAC: character 3 ':' is no hexadecimal digit",
-        ),
-        (
-            "02000000000O",
-            "MAC: character 12 'O' is no hexadecimal digit",
-        ),
-        ("02000000001", "MAC: 11 hexadecimal digits: wanted are 12"),
-        ("0200000000001", "MAC: 13 hexadecimal digits: wanted are 12"),
-        ("", "MAC: 0 hexadecimal digits: wanted are 12"),
-    ] {
+    for (word, text) in NO_ADDRESSES {
         digits(&rt, ("MAC", "are 12"), word, text)?;
     }
     Ok(())
@@ -172,19 +186,22 @@ fn words_that_are_no_address(rt: HostRuntime) -> Result<(), Fail> {
 /// A script whose third entry names no event.
 const NO_EVENT: &str = "events = [\"tick 1 1\", \"tick 2 1\", \"tic 1 10\"]\n";
 
+/// Files with such a script, and what is said of it.
+const REFUSED: [(&str, &str); 2] = [
+    (
+        "lag.toml",
+        "lag.toml: event 3 \"tic 1 10\": no event has this name; did you mean tick?",
+    ),
+    (
+        "-",
+        "standard input: event 3 \"tic 1 10\": no event has this name; did you mean tick?",
+    ),
+];
+
 #[test]
 fn scripts_that_are_refused(rt: HostRuntime) -> Result<(), Fail> {
     let fault = ScriptFault::Entry(3, EntryFault::Word);
-    for (file, text) in [
-        (
-            "lag.toml",
-            "lag.toml: event 3 \"tic 1 10\": no event has this name; did you mean tick?",
-        ),
-        (
-            "-",
-            "standard input: event 3 \"tic 1 10\": no event has this name; did you mean tick?",
-        ),
-    ] {
+    for (file, text) in REFUSED {
         let said = script_text(rt.alloc(), file, NO_EVENT, fault)?;
         assert_eq!(rt; said.as_str(), text);
     }

@@ -66,78 +66,90 @@ fn each_reply_to_what_is_sent(rt: HostRuntime) -> Result<(), Fail> {
     Ok(())
 }
 
+/// Replies to what comes, and their texts.
+const COMES: [(Reply, &str); 11] = [
+    (Reply::Took, "took"),
+    (Reply::Responded(true), "responded sent"),
+    (Reply::Responded(false), "responded lost"),
+    (Reply::Released(3), "released 3"),
+    (Reply::Up(AggId(4)), "up 4"),
+    (Reply::Dropped, "dropped"),
+    (Reply::Disabled, "disabled"),
+    (Reply::Ignored, "ignored"),
+    (Reply::Empty, "empty"),
+    (Reply::Lost, "lost"),
+    (Reply::NotControl, "not control"),
+];
+
 #[test]
 fn each_reply_to_what_comes(rt: HostRuntime) -> Result<(), Fail> {
-    for (reply, text) in [
-        (Reply::Took, "took"),
-        (Reply::Responded(true), "responded sent"),
-        (Reply::Responded(false), "responded lost"),
-        (Reply::Released(3), "released 3"),
-        (Reply::Up(AggId(4)), "up 4"),
-        (Reply::Dropped, "dropped"),
-        (Reply::Disabled, "disabled"),
-        (Reply::Ignored, "ignored"),
-        (Reply::Empty, "empty"),
-        (Reply::Lost, "lost"),
-        (Reply::NotControl, "not control"),
-    ] {
+    for (reply, text) in COMES {
         told(&rt, ReplyText(reply), text)?;
     }
     Ok(())
 }
+
+/// Replies to other events, and their texts.
+const OTHERS: [(Reply, &str); 10] = [
+    (Reply::Ticked, "ticked"),
+    (Reply::Cut, "cut"),
+    (Reply::Joined, "joined"),
+    (Reply::Restarted, "restarted"),
+    (Reply::Sensed(true), "up"),
+    (Reply::Sensed(false), "down"),
+    (Reply::Configured(true), "configured"),
+    (Reply::Configured(false), "unchanged"),
+    (Reply::Moved, "moved"),
+    (Reply::Forced, "forced"),
+];
 
 #[test]
 fn each_reply_to_other_events(rt: HostRuntime) -> Result<(), Fail> {
-    for (reply, text) in [
-        (Reply::Ticked, "ticked"),
-        (Reply::Cut, "cut"),
-        (Reply::Joined, "joined"),
-        (Reply::Restarted, "restarted"),
-        (Reply::Sensed(true), "up"),
-        (Reply::Sensed(false), "down"),
-        (Reply::Configured(true), "configured"),
-        (Reply::Configured(false), "unchanged"),
-        (Reply::Moved, "moved"),
-        (Reply::Forced, "forced"),
-    ] {
+    for (reply, text) in OTHERS {
         told(&rt, ReplyText(reply), text)?;
     }
     Ok(())
 }
 
+/// Refusals, and their texts.
+const REFUSALS: [(SystemFault, &str); 12] = [
+    (SystemFault::NoPort, "refused 1 no-port"),
+    (SystemFault::NoAggregator, "refused 2 no-aggregator"),
+    (SystemFault::FrameLength, "refused 3 frame-length"),
+    (SystemFault::SlowFrame, "refused 4 slow-frame"),
+    (SystemFault::Held, "refused 5 held"),
+    (SystemFault::NoneDistributing, "refused 6 none-distributing"),
+    (SystemFault::NotDistributing, "refused 7 not-distributing"),
+    (SystemFault::SamePort, "refused 8 same-port"),
+    (SystemFault::NotAssigned, "refused 9 not-assigned"),
+    (SystemFault::MarkersSpent, "refused 10 markers-spent"),
+    (
+        SystemFault::BadConfig(BadConfig::Aggregators),
+        "refused 11 bad-config",
+    ),
+    (SystemFault::NoMemory, "refused 12 no-memory"),
+];
+
 #[test]
 fn each_refusal_has_its_number_and_name(rt: HostRuntime) -> Result<(), Fail> {
-    for (fault, text) in [
-        (SystemFault::NoPort, "refused 1 no-port"),
-        (SystemFault::NoAggregator, "refused 2 no-aggregator"),
-        (SystemFault::FrameLength, "refused 3 frame-length"),
-        (SystemFault::SlowFrame, "refused 4 slow-frame"),
-        (SystemFault::Held, "refused 5 held"),
-        (SystemFault::NoneDistributing, "refused 6 none-distributing"),
-        (SystemFault::NotDistributing, "refused 7 not-distributing"),
-        (SystemFault::SamePort, "refused 8 same-port"),
-        (SystemFault::NotAssigned, "refused 9 not-assigned"),
-        (SystemFault::MarkersSpent, "refused 10 markers-spent"),
-        (
-            SystemFault::BadConfig(BadConfig::Aggregators),
-            "refused 11 bad-config",
-        ),
-        (SystemFault::NoMemory, "refused 12 no-memory"),
-    ] {
+    for (fault, text) in REFUSALS {
         told(&rt, ReplyText(Reply::Refused(fault)), text)?;
     }
     Ok(())
 }
 
+/// Agreements, and their names.
+const AGREEMENTS: [(Agreement, &str); 5] = [
+    (Agreement::NotBoth, "not-both"),
+    (Agreement::Defaults, "defaults"),
+    (Agreement::Changed, "changed"),
+    (Agreement::Same, "same"),
+    (Agreement::Differ, "differ"),
+];
+
 #[test]
 fn each_agreement_has_its_name(rt: HostRuntime) -> Result<(), Fail> {
-    for (agreement, text) in [
-        (Agreement::NotBoth, "not-both"),
-        (Agreement::Defaults, "defaults"),
-        (Agreement::Changed, "changed"),
-        (Agreement::Same, "same"),
-        (Agreement::Differ, "differ"),
-    ] {
+    for (agreement, text) in AGREEMENTS {
         told(&rt, AgreementText(agreement), text)?;
     }
     Ok(())

@@ -75,15 +75,18 @@ fn shown(alloc: Global, step: u64, is_asked: bool) -> String {
     fake.said.into_inner()
 }
 
+/// How far the clock goes on, whether signs are asked for, and what is shown.
+const SIGNS: [(u64, bool, &str); 5] = [
+    (60, false, ""),
+    (19, true, ""),
+    (60, true, "\rlagtool: entry 2\rlagtool: entry 4\r\x1b[K"),
+    (99, true, "\rlagtool: entry 2\rlagtool: entry 4\r\x1b[K"),
+    (20, true, "\rlagtool: entry 5\r\x1b[K"),
+];
+
 #[test]
 fn signs_are_apart_and_go(rt: HostRuntime) {
-    for (step, is_asked, text) in [
-        (60, false, ""),
-        (19, true, ""),
-        (60, true, "\rlagtool: entry 2\rlagtool: entry 4\r\x1b[K"),
-        (99, true, "\rlagtool: entry 2\rlagtool: entry 4\r\x1b[K"),
-        (20, true, "\rlagtool: entry 5\r\x1b[K"),
-    ] {
+    for (step, is_asked, text) in SIGNS {
         let said = shown(rt.alloc(), step, is_asked);
         assert_eq!(rt; said.as_str(), text, "{step}");
     }
@@ -101,17 +104,20 @@ fn shown_without(alloc: Global, unread: (u64, u64)) -> String {
     fake.said.into_inner()
 }
 
+/// Between which times the clock cannot be read, and what is shown.
+const FAILING: [((u64, u64), &str); 5] = [
+    ((0, u64::MAX), ""),
+    // The time when the work began is not known.
+    ((0, 1), ""),
+    ((60, u64::MAX), ""),
+    // The clock fails where the first sign was due, or the second.
+    ((120, 121), "\rlagtool: entry 3\rlagtool: entry 5\r\x1b[K"),
+    ((240, u64::MAX), "\rlagtool: entry 2\r\x1b[K"),
+];
+
 #[test]
 fn nothing_is_shown_where_the_clock_fails(rt: HostRuntime) {
-    for (unread, text) in [
-        ((0, u64::MAX), ""),
-        // The time when the work began is not known.
-        ((0, 1), ""),
-        ((60, u64::MAX), ""),
-        // The clock fails where the first sign was due, or the second.
-        ((120, 121), "\rlagtool: entry 3\rlagtool: entry 5\r\x1b[K"),
-        ((240, u64::MAX), "\rlagtool: entry 2\r\x1b[K"),
-    ] {
+    for (unread, text) in FAILING {
         let said = shown_without(rt.alloc(), unread);
         assert_eq!(rt; said.as_str(), text, "{unread:?}");
     }

@@ -17,36 +17,19 @@ mod standby;
 mod starts;
 
 use crate::comparing::{same, same_at};
-use crate::worlds::given::{Setting, lines, modulo, read};
+use crate::worlds::given::{Setting, lines, modulo, parts, read};
 use bitflags::Flags;
 use cables::AnyCable;
-use lagtypes::{AggId, NoMemory, State};
+use lagtypes::{AggId, NoMemory};
 use lagworld::{Agreement, Reply, RunFault, World, WorldFault};
 use std::alloc::Global;
 use std::process::Abort;
 
-/// The expected reply.
-#[derive(Clone, Copy)]
-enum Want {
-    /// An LACPDU whose Actor has this state was sent, and a cable accepted it.
-    Lacpdu(u8),
-    /// An LACPDU whose Actor has this state was sent, and no cable accepted it.
-    LacpduLost(u8),
-    /// The offered frame was sent on this port with this serial number, and a cable accepted it.
-    Frame(u16, u64),
-    /// The offered frame was sent on this port with this serial number, and no cable accepted it.
-    FrameLost(u16, u64),
-    Is(Reply),
-}
-
-/// An event, as an entry of a script has it, and its expected reply.
+/// Lines, each with an event as an entry of a script has it, an arrow, and the text of its expected reply.
 ///
 /// Unless a comment says otherwise, an offered frame is of conversation 48: octets 5 and 11 of 0200000000200200000000100800 are 0x20
 /// and 0x10, and 0x20 xor 0x10 is 48 (profile). A frame of conversation 49 or 50 has 0x21 or 0x22 as octet 5.
-type Entry = (&'static str, Want);
-
-/// Events and their expected replies.
-type Entries = &'static [Entry];
+type EventLines = &'static str;
 
 /// A conversation of aggregator 1 at the end: how many serial numbers it sent, from 0 on, and which of them were
 /// collected.
@@ -64,62 +47,98 @@ struct Flow {
 #[derive(Clone, Copy)]
 struct Row {
     setting: Setting,
-    first: Entries,
-    rest: Entries,
+    first: EventLines,
+    rest: EventLines,
     /// For cables, by their numbers.
     agreements: &'static [(u16, Agreement)],
     flows: &'static [Flow],
 }
 
-fn reply(want: Want) -> Reply {
-    match want {
-        Want::Lacpdu(octet) => Reply::Lacpdu(State::from_bits_retain(octet), true),
-        Want::LacpduLost(octet) => Reply::Lacpdu(State::from_bits_retain(octet), false),
-        Want::Frame(port, serial) => Reply::Port(port, serial, true),
-        Want::FrameLost(port, serial) => Reply::Port(port, serial, false),
-        Want::Is(reply) => reply,
+/// The text of a reply: of an LACPDU its Actor_State, of an offered frame the port that it was sent on and its serial number, each
+/// with `lost` behind it if no cable accepted it; and else the reply as Rust has it.
+fn text_of(alloc: Global, reply: Reply) -> Result<String, NoMemory> {
+    match reply {
+        Reply::Lacpdu(state, true) => format!(in alloc; "lacpdu {:02x}", state.bits()),
+        Reply::Lacpdu(state, false) => format!(in alloc; "lacpdu {:02x} lost", state.bits()),
+        Reply::Port(port, serial, true) => format!(in alloc; "port {port} serial {serial}"),
+        Reply::Port(port, serial, false) => format!(in alloc; "port {port} serial {serial} lost"),
+        _ => format!(in alloc; "{reply:?}"),
     }
 }
 
-/// The entries of a row: `first` and then `rest`.
-fn entries(alloc: Global, row: &Row) -> Result<Vec<Entry>, NoMemory> {
-    let mut entries = Vec::new(alloc);
-    entries.extend_from_slice(row.first)?;
-    entries.extend_from_slice(row.rest)?;
-    Ok(entries)
+/// The lines of a row: `first` and then `rest`.
+fn lines_of(alloc: Global, row: &Row) -> Result<String, NoMemory> {
+    let mut lines = String::from_str(alloc, row.first)?;
+    lines.push_str(row.rest)?;
+    Ok(lines)
 }
 
-/// Compares the reply to an event with the expected one; the event is at this place, counted from 1.
-fn compare(rt: &impl Abort, place: usize, (event, want): Entry, came: Result<Reply, WorldFault>) {
-    assert_eq!(rt; came, Ok(reply(want)), "event {place}, {event}");
-}
-
-/// Compares the replies to entries that come after this many others.
-fn compare_all(rt: &impl Abort, before: usize, entries: &[Entry], came: &[Reply]) {
-    same(rt, "how many replies", &came.len(), &entries.len());
-    for place in 0..entries.len().min(came.len()) {
-        let number = before.saturating_add(place).saturating_add(1);
-        compare(rt, number, entries[place], Ok(came[place]));
-    }
-}
-
-/// Compares the result of a run of entries that come after this many others.
-fn compare_run(
+/// Compares the reply to an event with the expected one; the line is at this place, counted from 0.
+fn compare(
     rt: &impl Abort,
-    before: usize,
-    entries: &[Entry],
+    alloc: Global,
+    place: usize,
+    line: &str,
+    came: Reply,
+) -> Result<(), NoMemory> {
+    let (event, wanted) = parts(line);
+    let text = text_of(alloc, came)?;
+    same_at(rt, event, place, &text.as_str(), &wanted);
+    Ok(())
+}
+
+/// Compares replies with those of the lines from this place on, counted from 0; there are as many as the second number says.
+fn compare_part(
+    rt: &impl Abort,
+    alloc: Global,
+    lines: &str,
+    (from, count): (usize, usize),
+    came: &[Reply],
+) -> Result<(), NoMemory> {
+    same(rt, "how many replies", &came.len(), &count);
+    let mut place = 0usize;
+    for line in lines.lines() {
+        if let Some(reply) = came.get(place.wrapping_sub(from)) {
+            compare(rt, alloc, place, line, *reply)?;
+        }
+        place = place.saturating_add(1);
+    }
+    Ok(())
+}
+
+/// Compares the result of a run of some of the events of these lines.
+fn compare_run_of(
+    rt: &impl Abort,
+    alloc: Global,
+    lines: &str,
+    part: (usize, usize),
     came: Result<Vec<Reply>, RunFault>,
-) {
+) -> Result<(), NoMemory> {
     match came {
-        Ok(replies) => compare_all(rt, before, entries, &replies),
+        Ok(replies) => compare_part(rt, alloc, lines, part, &replies),
         Err(stop) => {
-            if let Some(entry) = entries.get(stop.done) {
-                let place = before.saturating_add(stop.done).saturating_add(1);
-                compare(rt, place, *entry, Err(stop.fault));
-            }
             same(rt, "the stop", &Some(stop), &None);
+            Ok(())
         }
     }
+}
+
+fn count_of(lines: &str) -> usize {
+    let mut count = 0usize;
+    for _line in lines.lines() {
+        count = count.saturating_add(1);
+    }
+    count
+}
+
+/// Compares the result of a run of all events of these lines.
+fn compare_run(
+    rt: &impl Abort,
+    alloc: Global,
+    lines: &str,
+    came: Result<Vec<Reply>, RunFault>,
+) -> Result<(), NoMemory> {
+    compare_run_of(rt, alloc, lines, (0, count_of(lines)), came)
 }
 
 fn is_from_zero(serials: &[u64]) -> bool {
@@ -165,16 +184,18 @@ fn tells<F: Fn(u16, usize) -> usize + Drop>(
 
 /// Plays the events of a row by `step`, one by one, in a new world with cables of this limit.
 fn steps(rt: &impl Abort, alloc: Global, row: &Row, limit: Option<u16>) -> Result<(), WorldFault> {
-    let entries = entries(alloc, row)?;
-    let (config, events) = read(rt, alloc, row.setting, &entries)?;
+    let text = lines_of(alloc, row)?;
+    let (config, events) = read(rt, alloc, row.setting, text.as_str())?;
     let lines = lines(alloc, config.cables.len(), limit)?;
     let mut world = World::new(alloc, config, modulo, modulo, lines)?;
-    let mut place = 0usize;
-    for (entry, event) in entries.iter().zip(&events) {
-        let came = world.step(event);
-        place = place.saturating_add(1);
-        compare(rt, place, *entry, came);
+    let mut replies = Vec::new(alloc);
+    for event in &events {
+        let reply = world.step(event)?;
+        if replies.push(reply).is_err() {
+            return Err(WorldFault::NoMemory);
+        }
     }
+    compare_part(rt, alloc, text.as_str(), (0, events.len()), &replies)?;
     tells(rt, &world, row);
     Ok(())
 }
@@ -187,13 +208,20 @@ fn runs(
     limit: Option<u16>,
     cut: usize,
 ) -> Result<(), WorldFault> {
-    let entries = entries(alloc, row)?;
-    let (config, events) = read(rt, alloc, row.setting, &entries)?;
+    let text = lines_of(alloc, row)?;
+    let (config, events) = read(rt, alloc, row.setting, text.as_str())?;
     let lines = lines(alloc, config.cables.len(), limit)?;
     let mut world = World::new(alloc, config, modulo, modulo, lines)?;
-    let cut = cut.min(events.len()).min(entries.len());
-    compare_run(rt, 0, &entries[..cut], world.run(&events[..cut]));
-    compare_run(rt, cut, &entries[cut..], world.run(&events[cut..]));
+    let cut = cut.min(events.len());
+    let (now, later) = events.split_at(cut);
+    compare_run_of(rt, alloc, text.as_str(), (0, now.len()), world.run(now))?;
+    compare_run_of(
+        rt,
+        alloc,
+        text.as_str(),
+        (cut, later.len()),
+        world.run(later),
+    )?;
     tells(rt, &world, row);
     Ok(())
 }

@@ -1,7 +1,8 @@
 ghost use Rattle.std.specs.Prelude.{◌≡◌};
 ghost use Rattle.distributor.specs.Calls.{PicksIndexes};
 
-use crate::hosts::playing::{Row as Played, come_up, config, marker, modulo, play, same};
+use crate::comparing::same;
+use crate::hosts::playing::{Row as Played, come_up, config, marker, modulo, play};
 use dataplane::{Answering, MarkerNote};
 use lagsystem::{Call, NoMemory, Reply, System, SystemFault};
 use std::alloc::Global;
@@ -9,7 +10,7 @@ use std::process::Abort;
 use std::test::Fail;
 
 /// A call, which is noted; or what is noted of the peer of a port.
-#[derive(Clone, Copy, Debug)]
+#[derive(Clone, Copy)]
 enum Row {
     Link(u16, bool),
     Restarts,
@@ -78,7 +79,7 @@ fn noted(
     };
     let text = format!(in alloc; "{note}")?;
     same(rt, word, &note.number(), &number);
-    assert_eq!(rt; text.as_str(), word);
+    same(rt, "the word", &text.as_str(), &word);
     Ok(())
 }
 

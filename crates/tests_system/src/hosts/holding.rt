@@ -1,10 +1,10 @@
+use crate::comparing::{same, same_in_row};
 use dataplane::{Holding, Refusal, Released};
-use std::alloc::{AllocError, Global};
 use std::process::Abort;
 use std::test::Fail;
 
 /// A call with its answer.
-#[derive(Clone, Copy, Debug)]
+#[derive(Clone, Copy)]
 enum Row {
     /// A handle is put into a conversation, and waits or is handed back.
     Put(u16, u32, Option<Refusal>),
@@ -16,51 +16,54 @@ enum Row {
     Clear(u16, usize),
 }
 
+/// Fails unless a handle is put into a conversation, or is handed back for this reason.
+fn puts(
+    rt: &impl Abort,
+    held: &mut Holding<u32>,
+    place: usize,
+    (conversation, handle): (u16, u32),
+    refusal: Option<Refusal>,
+) {
+    let wanted = match refusal {
+        Some(reason) => Err((reason, handle)),
+        None => Ok(()),
+    };
+    same_in_row(rt, place, &held.put(conversation, handle), &wanted);
+}
+
 /// Plays one row.
-fn plays(rt: &impl Abort, held: &mut Holding<u32>, place: usize, row: Row) {
+fn play(rt: &impl Abort, held: &mut Holding<u32>, place: usize, row: Row) {
     match row {
         Row::Put(conversation, handle, refusal) => {
-            let wanted = match refusal {
-                Some(reason) => Err((reason, handle)),
-                None => Ok(()),
-            };
-            assert_eq!(rt;
-                held.put(conversation, handle),
-                wanted,
-                "row {place}, {row:?}"
-            );
+            puts(rt, held, place, (conversation, handle), refusal);
         }
         Row::Next(conversation, wanted) => {
-            assert_eq!(rt;
-                held.oldest(conversation).copied(),
-                wanted,
-                "oldest of row {place}, {row:?}"
-            );
-            assert_eq!(rt; held.next(conversation), wanted, "row {place}, {row:?}");
+            same_in_row(rt, place, &held.oldest(conversation).copied(), &wanted);
+            same_in_row(rt, place, &held.next(conversation), &wanted);
         }
         Row::DropOldest(conversation, wanted) => {
-            assert_eq!(rt;
-                held.drop_oldest(conversation),
-                wanted,
-                "row {place}, {row:?}"
-            );
+            same_in_row(rt, place, &held.drop_oldest(conversation), &wanted);
         }
         Row::Clear(conversation, wanted) => {
-            assert_eq!(rt; held.clear(conversation), wanted, "row {place}, {row:?}");
+            same_in_row(rt, place, &held.clear(conversation), &wanted);
         }
     }
 }
 
 /// How many wait in conversations 0 and 1 and in all, how many were dropped, and how many were handed back.
-fn counts(rt: &impl Abort, held: &Holding<u32>, wanted: (usize, usize, usize, u64, u64)) {
-    let counted = (
-        held.waiting(0),
-        held.waiting(1),
-        held.waiting_in_all(),
-        held.dropped(),
-        held.refused(),
-    );
-    assert_eq!(rt; counted, wanted);
+type Counts = (usize, usize, usize, u64, u64);
+
+/// Plays rows, and then compares what is counted.
+fn plays(rt: &impl Abort, held: &mut Holding<u32>, rows: &[Row], wanted: Counts) {
+    for (place, row) in rows.iter().enumerate() {
+        play(rt, held, place, *row);
+    }
+    let (first, second, all, dropped, refused) = wanted;
+    same(rt, "waiting in 0", &held.waiting(0), &first);
+    same(rt, "waiting in 1", &held.waiting(1), &second);
+    same(rt, "waiting in all", &held.waiting_in_all(), &all);
+    same(rt, "dropped", &held.dropped(), &dropped);
+    same(rt, "refused", &held.refused(), &refused);
 }
 
 #[test]
@@ -76,10 +79,7 @@ fn two_conversations_with_three_places_each_and_four_in_all(rt: HostRuntime) -> 
         Row::Put(1, 21, Some(Refusal::AllFull)),
         Row::Put(2, 30, Some(Refusal::NoConversation)),
     ];
-    for (place, row) in rows.into_iter().enumerate() {
-        plays(&rt, &mut held, place, row);
-    }
-    counts(&rt, &held, (3, 1, 4, 0, 3));
+    plays(&rt, &mut held, &rows, (3, 1, 4, 0, 3));
     let rows = [
         Row::Next(0, Some(10)),
         Row::Put(1, 21, None),
@@ -92,10 +92,7 @@ fn two_conversations_with_three_places_each_and_four_in_all(rt: HostRuntime) -> 
         Row::DropOldest(2, None),
         Row::Clear(2, 0),
     ];
-    for (place, row) in rows.into_iter().enumerate() {
-        plays(&rt, &mut held, place, row);
-    }
-    counts(&rt, &held, (2, 1, 3, 1, 3));
+    plays(&rt, &mut held, &rows, (2, 1, 3, 1, 3));
     let rows = [
         Row::Clear(0, 2),
         Row::Next(0, None),
@@ -104,96 +101,125 @@ fn two_conversations_with_three_places_each_and_four_in_all(rt: HostRuntime) -> 
         Row::Put(0, 16, None),
         Row::Next(0, Some(16)),
     ];
-    for (place, row) in rows.into_iter().enumerate() {
-        plays(&rt, &mut held, place, row);
-    }
-    counts(&rt, &held, (0, 0, 0, 4, 3));
+    plays(&rt, &mut held, &rows, (0, 0, 0, 4, 3));
     Ok(())
+}
+
+/// Fails unless the next handle of a conversation on these ports is this one: its conversation, its port and itself.
+fn releases(
+    rt: &impl Abort,
+    held: &mut Holding<u32>,
+    ports: &[u16],
+    wanted: Option<(u16, u16, u32)>,
+) {
+    if ports.len() <= 65_536 {
+        let wanted = wanted.map(|(conversation, port, handle)| Released {
+            conversation,
+            port,
+            handle,
+        });
+        same(rt, "next_released", &held.next_released(ports), &wanted);
+    }
 }
 
 #[test]
 fn what_is_on_a_port_leaves_in_order_and_what_is_not_stays(rt: HostRuntime) -> Result<(), Fail> {
     let mut held = Holding::new(rt.alloc(), 4, 8, 8)?;
-    for (conversation, handle) in [(3, 30_u32), (1, 10), (0, 1), (1, 11), (3, 31)] {
-        assert_eq!(rt; held.put(conversation, handle), Ok(()), "handle {handle}");
+    let rows = [
+        Row::Put(3, 30, None),
+        Row::Put(1, 10, None),
+        Row::Put(0, 1, None),
+        Row::Put(1, 11, None),
+        Row::Put(3, 31, None),
+    ];
+    plays(&rt, &mut held, &rows, (1, 2, 5, 0, 0));
+    let ports = [0, 7, 7, 5];
+    for wanted in &[
+        Some((1, 7, 10)),
+        Some((1, 7, 11)),
+        Some((3, 5, 30)),
+        Some((3, 5, 31)),
+        None,
+    ] {
+        releases(&rt, &mut held, &ports, *wanted);
     }
-    let rows = [(1, 7, 10), (1, 7, 11), (3, 5, 30), (3, 5, 31)];
-    for (conversation, port, handle) in rows {
-        let released = Released {
-            conversation,
-            port,
-            handle,
-        };
-        assert_eq!(rt;
-            held.next_released(&[0, 7, 7, 5]),
-            Some(released),
-            "handle {handle}"
-        );
-    }
-    assert_eq!(rt; held.next_released(&[0, 7, 7, 5]), None);
-    assert_eq!(rt; held.next_released(&[]), None);
-    assert_eq!(rt; held.waiting_in_all(), 1);
-    assert_eq!(rt; held.next(0), Some(1));
+    releases(&rt, &mut held, &[], None);
+    plays(&rt, &mut held, &[], (1, 0, 1, 0, 0));
+    plays(&rt, &mut held, &[Row::Next(0, Some(1))], (0, 0, 0, 0, 0));
     Ok(())
+}
+
+/// Why a handle would be handed back by conversations 0, 1 and 2.
+fn refuses(rt: &impl Abort, held: &Holding<u32>, wanted: [Option<Refusal>; 3]) {
+    let refusals = [held.refusal(0), held.refusal(1), held.refusal(2)];
+    same(rt, "refusal", &refusals, &wanted);
 }
 
 #[test]
 fn reasons_are_told_before_a_handle_is_put(rt: HostRuntime) -> Result<(), Fail> {
     let mut held = Holding::new(rt.alloc(), 2, 1, 1)?;
-    assert_eq!(rt; held.refusal(1), None);
-    assert_eq!(rt; held.put(0, 1_u32), Ok(()));
-    assert_eq!(rt; held.refusal(0), Some(Refusal::ConversationFull));
-    assert_eq!(rt; held.refusal(1), Some(Refusal::AllFull));
-    assert_eq!(rt; held.refusal(2), Some(Refusal::NoConversation));
+    let beyond = Some(Refusal::NoConversation);
+    refuses(&rt, &held, [None, None, beyond]);
+    puts(&rt, &mut held, 0, (0, 1), None);
+    let (one, all) = (Some(Refusal::ConversationFull), Some(Refusal::AllFull));
+    refuses(&rt, &held, [one, all, beyond]);
     let mut none: Holding<u32> = Holding::new(rt.alloc(), 1, 1, 0)?;
-    assert_eq!(rt; none.put(0, 1), Err((Refusal::ConversationFull, 1)));
+    puts(&rt, &mut none, 1, (0, 1), one);
     Ok(())
+}
+
+/// A queue of three places is full: a handle comes back, and the first of those in it leaves.
+fn turns(rt: &impl Abort, held: &mut Holding<u32>, handle: u32) {
+    let place = handle as usize;
+    puts(rt, held, place, (0, handle), None);
+    puts(
+        rt,
+        held,
+        place,
+        (0, handle),
+        Some(Refusal::ConversationFull),
+    );
+    same_in_row(rt, place, &held.next(0), &Some(handle.wrapping_sub(2)));
 }
 
 #[test]
 fn a_queue_serves_long_after_it_first_was_full(rt: HostRuntime) -> Result<(), Fail> {
     let mut held = Holding::new(rt.alloc(), 1, 3, 3)?;
-    for handle in 0..2_u32 {
-        assert_eq!(rt; held.put(0, handle), Ok(()));
+    puts(&rt, &mut held, 0, (0, 0), None);
+    puts(&rt, &mut held, 1, (0, 1), None);
+    for handle in 2..40 {
+        turns(&rt, &mut held, handle);
     }
-    for handle in 2..40_u32 {
-        assert_eq!(rt; held.put(0, handle), Ok(()), "put {handle}");
-        assert_eq!(rt;
-            held.put(0, handle),
-            Err((Refusal::ConversationFull, handle)),
-            "full at {handle}"
-        );
-        assert_eq!(rt; held.next(0), Some(handle - 2), "next at {handle}");
-    }
-    assert_eq!(rt; held.refused(), 38);
+    same(&rt, "refused", &held.refused(), &38);
     Ok(())
 }
 
 #[test]
 fn all_memory_is_taken_at_the_start(rt: HostRuntime) -> Result<(), Fail> {
     let mut held = Holding::new(rt.alloc(), 16, 64, 8)?;
-    for handle in 0..64_u32 {
-        assert_eq!(rt;
-            held.put((handle % 16) as u16, handle),
-            Ok(()),
-            "handle {handle}"
-        );
+    for handle in 0..64u16 {
+        let given = (handle % 16, u32::from(handle));
+        puts(&rt, &mut held, usize::from(handle), given, None);
     }
-    assert_eq!(rt; held.next(5), Some(5));
+    same(&rt, "next", &held.next(5), &Some(5));
     Ok(())
 }
 
 #[test]
 fn a_conversation_has_no_more_places_than_may_wait_in_all(rt: HostRuntime) -> Result<(), Fail> {
     let mut held = Holding::new(rt.alloc(), 300, 3, usize::MAX)?;
-    for handle in 70..73_u32 {
-        assert_eq!(rt; held.put(299, handle), Ok(()), "handle {handle}");
-    }
-    assert_eq!(rt; held.put(299, 73), Err((Refusal::AllFull, 73)));
-    assert_eq!(rt; held.put(5, 74), Err((Refusal::AllFull, 74)));
-    assert_eq!(rt; held.next(299), Some(70));
-    assert_eq!(rt; held.put(5, 75), Ok(()));
+    let full = Some(Refusal::AllFull);
+    let rows = [
+        Row::Put(299, 70, None),
+        Row::Put(299, 71, None),
+        Row::Put(299, 72, None),
+        Row::Put(299, 73, full),
+        Row::Put(5, 74, full),
+        Row::Next(299, Some(70)),
+        Row::Put(5, 75, None),
+    ];
+    plays(&rt, &mut held, &rows, (0, 0, 3, 0, 2));
     let mut none: Holding<u32> = Holding::new(rt.alloc(), 300, 0, usize::MAX)?;
-    assert_eq!(rt; none.put(299, 1), Err((Refusal::AllFull, 1)));
+    puts(&rt, &mut none, 0, (299, 1), full);
     Ok(())
 }

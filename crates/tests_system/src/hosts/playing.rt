@@ -1,6 +1,7 @@
 ghost use Rattle.std.specs.Prelude.{◌≡◌, ◌<◌};
 ghost use Rattle.distributor.specs.Calls.{PicksIndexes};
 
+use crate::comparing::same_in_row;
 use bitflags::Flags;
 use dataplane::offer_conversation_in_active_aggregator;
 use lagsystem::{
@@ -9,11 +10,10 @@ use lagsystem::{
 };
 use slowpdu::{Lacpdu, frame};
 use std::alloc::Global;
-use std::fmt::Debug;
 use std::process::Abort;
 
 /// A call, or several, with the expected result; or what a reader is expected to return.
-#[derive(Clone, Copy, Debug)]
+#[derive(Clone, Copy)]
 pub(crate) enum Row<'a> {
     Link(u16, bool),
     Ticks(u16),
@@ -45,22 +45,6 @@ pub(crate) enum Row<'a> {
     State(u16, u16, Assignment),
     /// `next_marker` returns this.
     Next(Option<u32>),
-}
-
-/// Fails unless a row came out as it says; the message has the row and its place among the rows, counted from 0.
-fn compare<T: Debug + PartialEq>(
-    rt: &impl Abort,
-    place: usize,
-    row: Row<'_>,
-    came: &T,
-    wanted: &T,
-) {
-    assert_eq!(rt; *came, *wanted, "row {place}, {row:?}");
-}
-
-/// Fails unless a reader filled its lists as expected; the text says what was read.
-pub(crate) fn same<T: Debug + PartialEq>(rt: &impl Abort, what: &str, came: &T, wanted: &T) {
-    assert_eq!(rt; *came, *wanted, "{what}");
 }
 
 /// The distribution algorithm: the conversation's number modulo the count of ports.
@@ -197,7 +181,7 @@ fn comes<F: Fn(u16, usize) -> usize + Drop>(
     ensures { system.new.algorithm ≡ system.old.algorithm }
 {
     match row {
-        Row::Link(port, up) => compare(rt, place, row, &system.set_link(port, up), &Ok(())),
+        Row::Link(port, up) => same_in_row(rt, place, &system.set_link(port, up), &Ok(())),
         Row::Ticks(count) => {
             for _ in 0..count {
                 system.tick();
@@ -205,12 +189,12 @@ fn comes<F: Fn(u16, usize) -> usize + Drop>(
         }
         Row::Hears(port) => {
             let answer = system.receive(port, &heard(port));
-            compare(rt, place, row, &answer, &Ok(Received::TookLacpdu));
+            same_in_row(rt, place, &answer, &Ok(Received::TookLacpdu));
         }
         Row::Releases(port, id, count) => {
             let response = marker(2, [2, 0, 0, 0, 0, 0x43], port, id);
             let answer = system.receive(port, &response);
-            compare(rt, place, row, &answer, &Ok(Received::Released(count)));
+            same_in_row(rt, place, &answer, &Ok(Received::Released(count)));
         }
         _ => asks(rt, system, place, row),
     }
@@ -228,43 +212,39 @@ fn asks<F: Fn(u16, usize) -> usize + Drop>(
 {
     match row {
         Row::OffersConversation(agg, conv, answer) => {
-            compare(
+            same_in_row(
                 rt,
                 place,
-                row,
                 &system.offer_conversation(AggId(agg), conv),
                 &answer,
             );
         }
         Row::Offers(agg, octets, answer) => {
-            compare(rt, place, row, &system.offer(AggId(agg), octets), &answer);
+            same_in_row(rt, place, &system.offer(AggId(agg), octets), &answer);
         }
         Row::Leaves(agg, conv, answer) => {
-            compare(
+            same_in_row(
                 rt,
                 place,
-                row,
                 &system.leave_conversation(AggId(agg), conv),
                 &answer,
             );
         }
-        Row::Rests(agg, conv, answer) => compare(
+        Row::Rests(agg, conv, answer) => same_in_row(
             rt,
             place,
-            row,
             &system.rest(AggId(agg), conv),
             &answer,
         ),
         Row::Moves(agg, conv, port, answer) => {
-            compare(
+            same_in_row(
                 rt,
                 place,
-                row,
                 &system.move_conversation(AggId(agg), conv, port),
                 &answer,
             );
         }
-        Row::ForcesPort(port, answer) => compare(rt, place, row, &system.force_port(port), &answer),
+        Row::ForcesPort(port, answer) => same_in_row(rt, place, &system.force_port(port), &answer),
         _ => carries(rt, system, place, row),
     }
 }
@@ -282,7 +262,7 @@ fn carries<F: Fn(u16, usize) -> usize + Drop>(
     match row {
         Row::OffersInActiveAggregator(agg, conv, answer) => {
             let came = offer_conversation_in_active_aggregator(system, AggId(agg), conv);
-            compare(rt, place, row, &came, &answer);
+            same_in_row(rt, place, &came, &answer);
         }
         _ => sends(rt, system, place, row),
     }
@@ -298,17 +278,15 @@ fn sends<F: Fn(u16, usize) -> usize + Drop>(
     ensures { system.new.algorithm ≡ system.old.algorithm }
 {
     match row {
-        Row::Probes(port, answer) => compare(
+        Row::Probes(port, answer) => same_in_row(
             rt,
             place,
-            row,
             &system.probe(port),
             &made(1, port, answer),
         ),
-        Row::Marks(port, id) => compare(
+        Row::Marks(port, id) => same_in_row(
             rt,
             place,
-            row,
             &system.transmit(port),
             &made(1, port, Ok(id)),
         ),
@@ -318,7 +296,7 @@ fn sends<F: Fn(u16, usize) -> usize + Drop>(
                 Ok(Some(octets)) => octets[14],
                 Ok(None) | Err(_) => 0,
             };
-            compare(rt, place, row, &subtype, &1);
+            same_in_row(rt, place, &subtype, &1);
         }
         _ => tells(rt, system, place, row),
     }
@@ -332,18 +310,17 @@ fn tells<F: Fn(u16, usize) -> usize + Drop>(
     row: Row<'_>,
 ) {
     match row {
-        Row::Held(port, answer) => compare(rt, place, row, &system.held(port), &answer),
-        Row::Due(port, is) => compare(rt, place, row, &system.is_due(port), &Some(is)),
+        Row::Held(port, answer) => same_in_row(rt, place, &system.held(port), &answer),
+        Row::Due(port, is) => same_in_row(rt, place, &system.is_due(port), &Some(is)),
         Row::State(agg, conv, state) => {
-            compare(
+            same_in_row(
                 rt,
                 place,
-                row,
                 &system.conversation_state(AggId(agg), conv),
                 &Some(state),
             );
         }
-        Row::Next(id) => compare(rt, place, row, &system.next_marker(), &id),
+        Row::Next(id) => same_in_row(rt, place, &system.next_marker(), &id),
         _ => {}
     }
 }

@@ -1,5 +1,27 @@
-use crate::hosts::playing::{Row, come_up, config, modulo, play, same};
+use crate::comparing::{same, same_in_row};
+use crate::hosts::playing::{Row, come_up, config, modulo, play};
 use lagsystem::{AggId, System, SystemFault};
+use std::process::Abort;
+
+/// A conversation, its port, and whether that is another one than before.
+type Told = (usize, u16, bool);
+
+/// For an aggregator `conversation_ports` answers this, and then its lists have these entries.
+fn tells_ports<F: Fn(u16, usize) -> usize + Drop>(
+    rt: &impl Abort,
+    system: &System<F>,
+    ports: &mut [u16],
+    changed: &mut [bool],
+    (agg, answer): (u16, Result<u16, SystemFault>),
+    told: &[Told],
+) {
+    let came = system.conversation_ports(AggId(agg), ports, changed);
+    same(rt, "how many changed", &came, &answer);
+    for (conv, port, is_changed) in told {
+        same_in_row(rt, *conv, &ports.get(*conv), &Some(port));
+        same_in_row(rt, *conv, &changed.get(*conv), &Some(is_changed));
+    }
+}
 
 #[test]
 fn each_conversation_tells_its_port_at_once(rt: HostRuntime) -> Result<(), SystemFault> {
@@ -8,75 +30,24 @@ fn each_conversation_tells_its_port_at_once(rt: HostRuntime) -> Result<(), Syste
     play(&rt, &mut system, &come_up());
     let mut ports = [0; 256];
     let mut changed = [true; 256];
-    same(
-        &rt,
-        "how many before any offer",
-        &system.conversation_ports(AggId(1), &mut ports, &mut changed),
-        &Ok(0),
-    );
-    same(&rt, "changed before any offer", &changed[255], &false);
+    let told = [(255, 0, false)];
+    tells_ports(&rt, &system, &mut ports, &mut changed, (1, Ok(0)), &told);
     let rows = [
         Row::OffersConversation(1, 0, Ok(3)),
         Row::OffersConversation(1, 101, Ok(7)),
         Row::OffersConversation(1, 255, Ok(7)),
     ];
     play(&rt, &mut system, &rows);
-    same(
-        &rt,
-        "how many after three offers",
-        &system.conversation_ports(AggId(1), &mut ports, &mut changed),
-        &Ok(3),
-    );
-    same(
-        &rt,
-        "ports after three offers",
-        &(ports[0], ports[1], ports[101], ports[255]),
-        &(3, 0, 7, 7),
-    );
-    same(
-        &rt,
-        "changed after three offers",
-        &(changed[0], changed[1], changed[101], changed[255]),
-        &(true, false, true, true),
-    );
+    let told = [(0, 3, true), (1, 0, false), (101, 7, true), (255, 7, true)];
+    tells_ports(&rt, &system, &mut ports, &mut changed, (1, Ok(3)), &told);
     // a conversation that waits has no port, and what it prefers is none either
     play(&rt, &mut system, &[Row::Moves(1, 101, 3, Ok(()))]);
-    same(
-        &rt,
-        "how many after a move",
-        &system.conversation_ports(AggId(1), &mut ports, &mut changed),
-        &Ok(1),
-    );
-    same(
-        &rt,
-        "ports after a move",
-        &(ports[0], ports[101], ports[255]),
-        &(3, 0, 7),
-    );
-    same(
-        &rt,
-        "changed after a move",
-        &(changed[0], changed[101], changed[255]),
-        &(false, true, false),
-    );
-    same(
-        &rt,
-        "how many after no call",
-        &system.conversation_ports(AggId(1), &mut ports, &mut changed),
-        &Ok(0),
-    );
-    same(
-        &rt,
-        "how many without an aggregator",
-        &system.conversation_ports(AggId(3), &mut ports, &mut changed),
-        &Err(SystemFault::NoAggregator),
-    );
-    same(
-        &rt,
-        "ports without an aggregator",
-        &(ports[0], ports[255]),
-        &(3, 7),
-    );
+    let told = [(0, 3, false), (101, 0, true), (255, 7, false)];
+    tells_ports(&rt, &system, &mut ports, &mut changed, (1, Ok(1)), &told);
+    let told = [(0, 3, false), (101, 0, false), (255, 7, false)];
+    tells_ports(&rt, &system, &mut ports, &mut changed, (1, Ok(0)), &told);
+    let none = (3, Err(SystemFault::NoAggregator));
+    tells_ports(&rt, &system, &mut ports, &mut changed, none, &told);
     Ok(())
 }
 
@@ -92,26 +63,62 @@ fn rows_are_told_as_far_as_both_lists_go(rt: HostRuntime) -> Result<(), SystemFa
     play(&rt, &mut system, &rows);
     let mut ports = [19; 4];
     let mut changed = [true; 3];
-    same(
-        &rt,
-        "how many ports",
-        &system.conversation_ports(AggId(1), &mut ports, &mut changed),
-        &Ok(3),
-    );
-    same(&rt, "ports", &ports, &[0, 0, 3, 19]);
-    same(&rt, "changed", &changed, &[true, true, true]);
+    let told = [(0, 0, true), (1, 0, true), (2, 3, true)];
+    tells_ports(&rt, &system, &mut ports, &mut changed, (1, Ok(3)), &told);
+    same(&rt, "a port behind the flags", &ports[3], &19);
     let mut busy = [true; 2];
     let mut freed = [false; 5];
-    same(
-        &rt,
-        "how many are released",
-        &system.released(AggId(1), &mut busy, &mut freed),
-        &Ok(2),
-    );
-    same(&rt, "busy", &busy, &[false, false]);
-    same(&rt, "freed", &freed, &[true, true, false, false, false]);
+    let told = [(0, false, true), (1, false, true)];
+    tells_released(&rt, &system, &mut busy, &mut freed, (1, Ok(2)), &told);
+    let behind = &freed[2..];
+    same(&rt, "flags behind", &behind, &[false; 3].as_slice());
     Ok(())
 }
+
+/// A conversation, whether it is On, Wanted or Flushing, and whether it became free.
+type Freed = (usize, bool, bool);
+
+/// For an aggregator `released` answers this, and then its lists have these entries.
+fn tells_released<F: Fn(u16, usize) -> usize + Drop>(
+    rt: &impl Abort,
+    system: &System<F>,
+    busy: &mut [bool],
+    freed: &mut [bool],
+    (agg, answer): (u16, Result<u16, SystemFault>),
+    told: &[Freed],
+) {
+    let came = system.released(AggId(agg), busy, freed);
+    same(rt, "how many are free", &came, &answer);
+    for (conv, is_busy, is_freed) in told {
+        same_in_row(rt, *conv, &busy.get(*conv), &Some(is_busy));
+        same_in_row(rt, *conv, &freed.get(*conv), &Some(is_freed));
+    }
+}
+
+/// After the moves.
+const MOVED: [Freed; 5] = [
+    (40, true, false),
+    (41, false, false),
+    (42, true, false),
+    (43, true, false),
+    (45, true, false),
+];
+
+/// The response to the marker of port 3 frees the one that waited behind it.
+const ANSWERED: [Freed; 4] = [
+    (40, true, false),
+    (42, false, true),
+    (43, true, false),
+    (45, true, false),
+];
+
+/// The link of port 7 goes down: both of its conversations are free.
+const DOWN: [Freed; 4] = [
+    (40, true, false),
+    (42, false, false),
+    (43, false, true),
+    (45, false, true),
+];
 
 #[test]
 fn what_a_call_sets_free_is_told(rt: HostRuntime) -> Result<(), SystemFault> {
@@ -129,74 +136,15 @@ fn what_a_call_sets_free_is_told(rt: HostRuntime) -> Result<(), SystemFault> {
         Row::Moves(1, 45, 3, Ok(())),
     ];
     play(&rt, &mut system, &rows);
-    same(
-        &rt,
-        "how many after moves",
-        &system.released(AggId(1), &mut busy, &mut freed),
-        &Ok(0),
-    );
-    same(
-        &rt,
-        "busy after moves",
-        &(busy[40], busy[41], busy[42], busy[43], busy[45]),
-        &(true, false, true, true, true),
-    );
-    same(
-        &rt,
-        "freed after moves",
-        &(freed[40], freed[42]),
-        &(false, false),
-    );
-    // the response to the marker of port 3 frees the one that waited behind it
-    play(
-        &rt,
-        &mut system,
-        &[Row::Marks(3, Some(5)), Row::Releases(3, 5, 1)],
-    );
-    same(
-        &rt,
-        "how many after the response",
-        &system.released(AggId(1), &mut busy, &mut freed),
-        &Ok(1),
-    );
-    same(
-        &rt,
-        "freed after the response",
-        &(freed[40], freed[42], freed[43], freed[45]),
-        &(false, true, false, false),
-    );
-    // the link of port 7 goes down: both of its conversations are free
+    tells_released(&rt, &system, &mut busy, &mut freed, (1, Ok(0)), &MOVED);
+    let rows = [Row::Marks(3, Some(5)), Row::Releases(3, 5, 1)];
+    play(&rt, &mut system, &rows);
+    tells_released(&rt, &system, &mut busy, &mut freed, (1, Ok(1)), &ANSWERED);
     play(&rt, &mut system, &[Row::Link(7, false)]);
-    same(
-        &rt,
-        "how many after the link",
-        &system.released(AggId(1), &mut busy, &mut freed),
-        &Ok(2),
-    );
-    same(
-        &rt,
-        "freed after the link",
-        &(freed[40], freed[42], freed[43], freed[45]),
-        &(false, false, true, true),
-    );
-    same(
-        &rt,
-        "busy after the link",
-        &(busy[40], busy[42], busy[43], busy[45]),
-        &(true, false, false, false),
-    );
-    same(
-        &rt,
-        "how many after no call",
-        &system.released(AggId(1), &mut busy, &mut freed),
-        &Ok(0),
-    );
-    same(
-        &rt,
-        "how many without an aggregator",
-        &system.released(AggId(0), &mut busy, &mut freed),
-        &Err(SystemFault::NoAggregator),
-    );
-    same(&rt, "busy without an aggregator", &busy[40], &true);
+    tells_released(&rt, &system, &mut busy, &mut freed, (1, Ok(2)), &DOWN);
+    let told = [(40, true, false)];
+    tells_released(&rt, &system, &mut busy, &mut freed, (1, Ok(0)), &told);
+    let none = (0, Err(SystemFault::NoAggregator));
+    tells_released(&rt, &system, &mut busy, &mut freed, none, &told);
     Ok(())
 }

@@ -1,37 +1,37 @@
 use crate::comparing::same;
-use crate::scripts::{CABLE_1, CABLE_2, have_outcomes, have_outcomes_in};
+use crate::scripts::{CABLE_2, have_outcomes, have_outcomes_in_cables, parts};
 use lagscript::{ScriptFault, read_plan, read_script};
 use std::alloc::{AllocError, Global};
 use std::process::Abort;
 
+/// The keys of a cable.
+const LIMITS: &str = r#"limit = 1 => : ends
+limit = 0 => : ends
+ends = [2], limit = 0 => : ends
+ends = [2, 1], limit = 0, a = 1 => : extra key
+ends = [2, 1], limit = 1, limits = 1 => : extra key
+ends = [2, 1], Limit = 1 => : extra key
+ends = [2, 1], limit = 0 => : limit
+ends = [2, 1], limit = -1 => : limit
+ends = [2, 1], limit = 65536 => : limit
+ends = [2, 1], limit = 4294967297 => : limit
+ends = [2, 1], limit = "8" => : limit
+ends = [2, 1], limit = 8.0 => : limit
+ends = [2, 1], limit = true => : limit
+ends = [2, 1], limit = [8, 8] => : limit
+ends = [0, 1], limit = 0 => : limit
+ends = [0, 1], limit = 8 => : end"#;
+
+/// The keys of a cable that are read.
+const LIMITS_READ: &str = r#"ends = [2, 1], limit = 1 => read
+ends = [2, 1], limit = 65535 => read
+limit = 8, ends = [2, 1] => read"#;
+
 #[test]
 fn limits_are_refused(rt: HostRuntime) -> Result<(), AllocError> {
-    let rows = [
-        ("limit = 1", ": ends"),
-        ("limit = 0", ": ends"),
-        ("ends = [2], limit = 0", ": ends"),
-        ("ends = [2, 1], limit = 0, a = 1", ": extra key"),
-        ("ends = [2, 1], limit = 1, limits = 1", ": extra key"),
-        ("ends = [2, 1], Limit = 1", ": extra key"),
-        ("ends = [2, 1], limit = 0", ": limit"),
-        ("ends = [2, 1], limit = -1", ": limit"),
-        ("ends = [2, 1], limit = 65536", ": limit"),
-        ("ends = [2, 1], limit = 4294967297", ": limit"),
-        ("ends = [2, 1], limit = \"8\"", ": limit"),
-        ("ends = [2, 1], limit = 8.0", ": limit"),
-        ("ends = [2, 1], limit = true", ": limit"),
-        ("ends = [2, 1], limit = [8, 8]", ": limit"),
-        ("ends = [0, 1], limit = 0", ": limit"),
-        ("ends = [0, 1], limit = 8", ": end"),
-    ];
     let alloc = rt.alloc();
-    have_outcomes_in(&rt, rt.alloc(), [&CABLE_1, &CABLE_2], "", &rows)?;
-    let good = [
-        ("ends = [2, 1], limit = 1", "read"),
-        ("ends = [2, 1], limit = 65535", "read"),
-        ("limit = 8, ends = [2, 1]", "read"),
-    ];
-    have_outcomes(&rt, rt.alloc(), &CABLE_2, "", &good)
+    have_outcomes_in_cables(&rt, alloc, LIMITS)?;
+    have_outcomes(&rt, alloc, &CABLE_2, "", LIMITS_READ)
 }
 
 /// Three ports in each system, and three cables between them.
@@ -55,66 +55,33 @@ fn read_as(alloc: Global, cables: &str, events: &str) -> Result<String, AllocErr
     }
 }
 
+/// Both readers read cables and events as a line says.
+fn are_read(rt: &impl Abort, alloc: Global, line: &str) -> Result<(), AllocError> {
+    let (cables, rest) = parts(line);
+    let (events, wanted) = parts(rest);
+    let came = read_as(alloc, cables, events)?;
+    same(rt, line, &came.as_str(), &wanted);
+    Ok(())
+}
+
+/// Cables, events, and what both readers read.
+const ONE_A_CABLE: &str = r#" =>  => [] [] [], [] []
+{ends = [1, 4]} => "cut 1" => [(1, 4)] [None] [Cut(1)], [(1, 4)] [Cut(1)]
+{ends = [1, 4], limit = 1}, {ends = [2, 5], limit = 65535}, {ends = [3, 6], limit = 8} => "cut 3", "cut 2" => [(1, 4), (2, 5), (3, 6)] [Some(1), Some(65535), Some(8)] [Cut(3), Cut(2)], [(1, 4), (2, 5), (3, 6)] [Cut(3), Cut(2)]
+{ends = [3, 4]}, {limit = 2, ends = [1, 5]}, {ends = [2, 6]} =>  => [(3, 4), (1, 5), (2, 6)] [None, Some(2), None] [], [(3, 4), (1, 5), (2, 6)] []
+{ends = [3, 4], limit = 7}, {ends = [1, 5]}, {ends = [2, 6], limit = 9} =>  => [(3, 4), (1, 5), (2, 6)] [Some(7), None, Some(9)] [], [(3, 4), (1, 5), (2, 6)] []
+{ends = [1, 4], limit = 0}, {ends = 1} => "cut 3" => cable 1: limit
+{ends = 1}, {ends = [1, 4], limit = 0} =>  => cable 1: ends
+{ends = [1, 4]}, {ends = [1, 4], limit = 0} => "cut 3" => cable 2: limit
+{ends = [1, 4]}, {ends = [2, 5]}, {ends = [1, 6]} =>  => cable 3: end
+{ends = [1, 4]}, {ends = [2, 5]}, {ends = [3, 4]} =>  => cable 3: end
+{ends = [7, 7]}, {ends = [8, 8]} =>  => cable 1: end
+{ends = [1, 4], limit = 9}, {ends = [1, 4], limit = 8} => "cut 3" => event 1: cable"#;
+
 #[test]
 fn limits_are_read_one_a_cable(rt: HostRuntime) -> Result<(), AllocError> {
-    let rows = [
-        ("", "", "[] [] [], [] []"),
-        (
-            "{ends = [1, 4]}",
-            "\"cut 1\"",
-            "[(1, 4)] [None] [Cut(1)], [(1, 4)] [Cut(1)]",
-        ),
-        (
-            "{ends = [1, 4], limit = 1}, {ends = [2, 5], limit = 65535}, {ends = [3, 6], limit = 8}",
-            "\"cut 3\", \"cut 2\"",
-            "[(1, 4), (2, 5), (3, 6)] [Some(1), Some(65535), Some(8)] [Cut(3), Cut(2)], [(1, 4), (2, 5), (3, 6)] [Cut(3), Cut(2)]",
-        ),
-        (
-            "{ends = [3, 4]}, {limit = 2, ends = [1, 5]}, {ends = [2, 6]}",
-            "",
-            "[(3, 4), (1, 5), (2, 6)] [None, Some(2), None] [], [(3, 4), (1, 5), (2, 6)] []",
-        ),
-        (
-            "{ends = [3, 4], limit = 7}, {ends = [1, 5]}, {ends = [2, 6], limit = 9}",
-            "",
-            "[(3, 4), (1, 5), (2, 6)] [Some(7), None, Some(9)] [], [(3, 4), (1, 5), (2, 6)] []",
-        ),
-        (
-            "{ends = [1, 4], limit = 0}, {ends = 1}",
-            "\"cut 3\"",
-            "cable 1: limit",
-        ),
-        (
-            "{ends = 1}, {ends = [1, 4], limit = 0}",
-            "",
-            "cable 1: ends",
-        ),
-        (
-            "{ends = [1, 4]}, {ends = [1, 4], limit = 0}",
-            "\"cut 3\"",
-            "cable 2: limit",
-        ),
-        (
-            "{ends = [1, 4]}, {ends = [2, 5]}, {ends = [1, 6]}",
-            "",
-            "cable 3: end",
-        ),
-        (
-            "{ends = [1, 4]}, {ends = [2, 5]}, {ends = [3, 4]}",
-            "",
-            "cable 3: end",
-        ),
-        ("{ends = [7, 7]}, {ends = [8, 8]}", "", "cable 1: end"),
-        (
-            "{ends = [1, 4], limit = 9}, {ends = [1, 4], limit = 8}",
-            "\"cut 3\"",
-            "event 1: cable",
-        ),
-    ];
-    let alloc = rt.alloc();
-    for (cables, events, wanted) in &rows {
-        let came = read_as(alloc, *cables, *events)?;
-        same(&rt, *cables, &came.as_str(), wanted);
+    for line in ONE_A_CABLE.lines() {
+        are_read(&rt, rt.alloc(), line)?;
     }
     Ok(())
 }

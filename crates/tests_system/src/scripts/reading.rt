@@ -1,5 +1,5 @@
 use crate::comparing::same;
-use crate::scripts::{ENTRY_1, Frame, MAC, SYSTEM_1, have_outcomes, outcome};
+use crate::scripts::{ENTRY_1, Frame, MAC, SYSTEM_1, have_outcomes, outcome, parts};
 use lagscript::{ScriptFault, read_script};
 use std::alloc::{AllocError, Global};
 use std::process::Abort;
@@ -132,79 +132,64 @@ fn entry_as(alloc: Global, entry: &str) -> Result<String, AllocError> {
 }
 
 /// An entry is read as this event.
-fn is_read(rt: &impl Abort, alloc: Global, entry: &str, event: &str) -> Result<(), AllocError> {
+fn is_read(rt: &impl Abort, alloc: Global, (entry, event): (&str, &str)) -> Result<(), AllocError> {
     let came = entry_as(alloc, entry)?;
     let wanted = format!(in alloc; "[{event}, Tick(1, 1)]")?;
     same(rt, entry, &came.as_str(), &wanted.as_str());
     Ok(())
 }
 
+/// Entries, and the events that they are.
+const EVENTS_READ: &str = r#"tick 2 3 => Tick(2, 3)
+tick 01 0010 => Tick(1, 10)
+emit 1 2 => Emit(1, 2)
+deliver 1 2 => Deliver(1, 2)
+lose 1 2 => Lose(1, 2)
+repeat 1 2 => Repeat(1, 2)
+cut 1 => Cut(1)
+join 0001 => Join(1)
+sense 1 2 => Sense(1, 2)
+restart 2 => Restart(2)
+configure 2 3 4 5 aggregatable => Configure(2, 3, PortChange { key: Key(4), priority: 5, aggregatable: true })
+configure 1 65535 0 65535 individual => Configure(1, 65535, PortChange { key: Key(0), priority: 65535, aggregatable: false })
+offer 2 3 0aFf => Offer(2, AggId(3), [10, 255])
+offer 1 1  => Offer(1, AggId(1), [])
+move 1 2 3 4 => Move(1, AggId(2), 3, 4)
+force 2 3 4 => Force(2, AggId(3), 4)"#;
+
 #[test]
 fn entries_are_read(rt: HostRuntime) -> Result<(), AllocError> {
-    let rows = [
-        ("tick 2 3", "Tick(2, 3)"),
-        ("tick 01 0010", "Tick(1, 10)"),
-        ("emit 1 2", "Emit(1, 2)"),
-        ("deliver 1 2", "Deliver(1, 2)"),
-        ("lose 1 2", "Lose(1, 2)"),
-        ("repeat 1 2", "Repeat(1, 2)"),
-        ("cut 1", "Cut(1)"),
-        ("join 0001", "Join(1)"),
-        ("sense 1 2", "Sense(1, 2)"),
-        ("restart 2", "Restart(2)"),
-        (
-            "configure 2 3 4 5 aggregatable",
-            "Configure(2, 3, PortChange { key: Key(4), priority: 5, aggregatable: true })",
-        ),
-        (
-            "configure 1 65535 0 65535 individual",
-            "Configure(1, 65535, PortChange { key: Key(0), priority: 65535, aggregatable: false })",
-        ),
-        ("offer 2 3 0aFf", "Offer(2, AggId(3), [10, 255])"),
-        ("offer 1 1 ", "Offer(1, AggId(1), [])"),
-        ("move 1 2 3 4", "Move(1, AggId(2), 3, 4)"),
-        ("force 2 3 4", "Force(2, AggId(3), 4)"),
-    ];
-    for (entry, event) in &rows {
-        is_read(&rt, rt.alloc(), *entry, *event)?;
+    for line in EVENTS_READ.lines() {
+        is_read(&rt, rt.alloc(), parts(line))?;
     }
     Ok(())
 }
 
+/// Cables and events of two systems.
+const ORDER: &str = r#" => read
+cable = [];events = [] => read
+cable = 1;events = 1 => cable
+cable = {ends = [1, 1]} => cable
+cable = [{}, 1] => cable
+cable = [{}];events = 1 => cable 1: ends
+events = 1 => events
+events = "tick 1 1" => events
+events = ["", 1] => events
+events = [["tick 1 1"]] => events
+events = ["cut 1"] => event 1: cable
+cable = [{ends = [7, 7]}];events = ["cut 1", ""] => event 2: word
+cable = [{ends = [7, 7]}];events = ["cut 1"] => cable 1: end
+cable = [{ends = [1, 1]}, {ends = [1, 1]}] => cable 2: end"#;
+
+/// Cables and events of two systems with the same identifier.
+const ORDER_OF_EQUAL: &str = r#" => two systems with one identifier
+cable = [{ends = [7, 7]}] => two systems with one identifier
+events = [""] => event 1: word"#;
+
 #[test]
 fn faults_come_in_order(rt: HostRuntime) -> Result<(), AllocError> {
-    let rows = [
-        ("", "read"),
-        ("cable = []\nevents = []", "read"),
-        ("cable = 1\nevents = 1", "cable"),
-        ("cable = {ends = [1, 1]}", "cable"),
-        ("cable = [{}, 1]", "cable"),
-        ("cable = [{}]\nevents = 1", "cable 1: ends"),
-        ("events = 1", "events"),
-        ("events = \"tick 1 1\"", "events"),
-        ("events = [\"\", 1]", "events"),
-        ("events = [[\"tick 1 1\"]]", "events"),
-        ("events = [\"cut 1\"]", "event 1: cable"),
-        (
-            "cable = [{ends = [7, 7]}]\nevents = [\"cut 1\", \"\"]",
-            "event 2: word",
-        ),
-        (
-            "cable = [{ends = [7, 7]}]\nevents = [\"cut 1\"]",
-            "cable 1: end",
-        ),
-        ("cable = [{ends = [1, 1]}, {ends = [1, 1]}]", "cable 2: end"),
-    ];
-    have_outcomes(&rt, rt.alloc(), &SYSTEMS, "", &rows)?;
-    let rows = [
-        ("", "two systems with one identifier"),
-        (
-            "cable = [{ends = [7, 7]}]",
-            "two systems with one identifier",
-        ),
-        ("events = [\"\"]", "event 1: word"),
-    ];
-    have_outcomes(&rt, rt.alloc(), &EQUAL_SYSTEMS, "", &rows)
+    have_outcomes(&rt, rt.alloc(), &SYSTEMS, "", ORDER)?;
+    have_outcomes(&rt, rt.alloc(), &EQUAL_SYSTEMS, "", ORDER_OF_EQUAL)
 }
 
 /// This text, repeated this many times, between two others.

@@ -3,7 +3,7 @@ ghost use Rattle.distributor.specs.Calls.{PicksIndexes};
 use crate::comparing::same;
 use crate::systems::conversations::{coming_up, leaving};
 use crate::systems::plan::{Plan, plan_of_all};
-use crate::systems::{DATA, PortFacts, Row, config, end, joined, look, marker, modulo};
+use crate::systems::{DATA, PortFacts, Row, config, end, joined, look, marker, modulo, same_facts};
 use lagsystem::{AggId, Received, System, SystemFault};
 use slowpdu::MarkerKind;
 use std::alloc::Global;
@@ -13,9 +13,21 @@ fn looks<F: Fn(u16, usize) -> usize + Drop>(system: &System<F>) -> [PortFacts; 2
     [look(system, 1), look(system, 2)]
 }
 
+/// What the readers return is as before.
+fn looks_as<F: Fn(u16, usize) -> usize + Drop>(
+    rt: &impl Abort,
+    system: &System<F>,
+    before: &[PortFacts; 2],
+) {
+    let after = looks(system);
+    same_facts(rt, 1, &after[0], &before[0]);
+    same_facts(rt, 2, &after[1], &before[1]);
+}
+
 /// Makes the calls of a plan at once; returns whether the replies are the expected ones. If memory for the replies is
 /// refused, the system must not have changed.
 fn follows<F: Fn(u16, usize) -> usize + Drop>(
+    rt: &impl Abort,
     alloc: Global,
     driven: &mut System<F>,
     plan: &Plan,
@@ -25,16 +37,22 @@ fn follows<F: Fn(u16, usize) -> usize + Drop>(
     let before = looks(driven);
     match driven.drive(alloc, &plan.calls) {
         Ok(replies) => Ok(replies.as_slice() == plan.replies.as_slice()),
-        Err(_) if looks(driven) != before => Ok(false),
-        Err(refused) => Err(SystemFault::from(refused)),
+        Err(refused) => {
+            looks_as(rt, driven, &before);
+            Err(SystemFault::from(refused))
+        }
     }
 }
 
 /// Whether `drive` of the calls of all rows gives their replies on a new system.
-pub(crate) fn drives(alloc: Global, rows: &[Row<'_>]) -> Result<bool, SystemFault> {
+pub(crate) fn drives(
+    rt: &impl Abort,
+    alloc: Global,
+    rows: &[Row<'_>],
+) -> Result<bool, SystemFault> {
     let mut driven = System::new(alloc, config(alloc, &[1, 2], 2)?, modulo)?;
     let plan = plan_of_all(alloc, rows)?;
-    follows(alloc, &mut driven, &plan)
+    follows(rt, alloc, &mut driven, &plan)
 }
 
 /// Drives a new system with the calls of lists of rows, which must give the expected replies.
@@ -43,7 +61,7 @@ fn is_driven(rt: &impl Abort, alloc: Global, lists: &[&[Row<'_>]]) -> Result<(),
     same(
         rt,
         "the replies are the expected ones",
-        &drives(alloc, &rows)?,
+        &drives(rt, alloc, &rows)?,
         &true,
     );
     Ok(())

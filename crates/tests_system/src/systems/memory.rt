@@ -5,13 +5,13 @@ use lagsystem::SystemFault;
 /// Fails if an allocation is refused.
 #[test]
 fn memory_is_granted(rt: HostRuntime) {
-    assert_eq!(rt; drives(rt.alloc(), &other_key()), Ok(true));
+    assert_eq!(rt; drives(&rt, rt.alloc(), &other_key()), Ok(true));
 }
 
 /// Passes whichever allocation is refused.
 #[test]
 fn refused_memory_leaves_the_system(rt: HostRuntime) {
-    match drives(rt.alloc(), &other_key()) {
+    match drives(&rt, rt.alloc(), &other_key()) {
         Ok(holds) => assert!(rt; holds),
         Err(fault) => assert_eq!(rt; fault, SystemFault::NoMemory),
     }

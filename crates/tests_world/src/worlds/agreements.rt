@@ -1,28 +1,26 @@
-use crate::worlds::Want::{Frame, Is, Lacpdu};
 use crate::worlds::given::ONE_SHORT;
-use crate::worlds::starts::{LINK_UP, NONE_DISTRIBUTING, ONE_CABLE, TICKED, TOOK};
-use crate::worlds::{Entry, Flow, Row, plays, runs, steps};
-use lagworld::{Agreement, Reply, WorldFault};
+use crate::worlds::starts::ONE_CABLE;
+use crate::worlds::{Flow, Row, plays, runs, steps};
+use lagworld::{Agreement, WorldFault};
 
-const ALONE: [Entry; 12] = [
-    ("sense 1 1", LINK_UP),
-    ("tick 1 9", TICKED),
-    ("emit 1 1", Is(Reply::Nothing)),
-    ("tick 1 1", TICKED),
-    ("emit 1 1", Lacpdu(0xc7)),
-    ("tick 1 20", TICKED),
-    ("emit 1 1", Lacpdu(0x47)),
-    ("tick 1 19", TICKED),
-    ("offer 1 1 0200000000200200000000100800", NONE_DISTRIBUTING),
-    ("tick 1 1", TICKED),
-    ("offer 1 1 0200000000200200000000100800", Frame(1, 0)),
-    ("emit 1 1", Lacpdu(0x7f)),
-];
+const ALONE: &str = "sense 1 1 => Sensed(true)
+tick 1 9 => Ticked
+emit 1 1 => Nothing
+tick 1 1 => Ticked
+emit 1 1 => lacpdu c7
+tick 1 20 => Ticked
+emit 1 1 => lacpdu 47
+tick 1 19 => Ticked
+offer 1 1 0200000000200200000000100800 => Refused(NoneDistributing)
+tick 1 1 => Ticked
+offer 1 1 0200000000200200000000100800 => port 1 serial 0
+emit 1 1 => lacpdu 7f
+";
 
 const ALONE_ROW: Row = Row {
     setting: ONE_SHORT,
-    first: &ALONE,
-    rest: &[],
+    first: ALONE,
+    rest: "",
     agreements: &[(1, Agreement::NotBoth)],
     flows: &[Flow {
         system: 1,
@@ -40,8 +38,8 @@ fn a_port_on_defaults_carries_data_after_50_ticks(rt: HostRuntime) -> Result<(),
 
 pub(crate) const ONE_CABLE_ROW: Row = Row {
     setting: ONE_SHORT,
-    first: &ONE_CABLE,
-    rest: &[],
+    first: ONE_CABLE,
+    rest: "",
     agreements: &[(1, Agreement::Same)],
     flows: &[],
 };
@@ -64,21 +62,14 @@ fn two_ends_agree_in_one_run_and_in_two(rt: HostRuntime) -> Result<(), WorldFaul
 
 const CHANGED_ROW: Row = Row {
     setting: ONE_SHORT,
-    first: &ONE_CABLE,
-    rest: &[
-        ("tick 2 10", TICKED),
-        ("emit 2 1", Lacpdu(0x3f)),
-        (
-            "configure 1 1 2 128 aggregatable",
-            Is(Reply::Configured(true)),
-        ),
-        (
-            "configure 1 1 1 128 aggregatable",
-            Is(Reply::Configured(true)),
-        ),
-        ("deliver 1 1", TOOK),
-        ("tick 1 20", TICKED),
-    ],
+    first: ONE_CABLE,
+    rest: "tick 2 10 => Ticked
+emit 2 1 => lacpdu 3f
+configure 1 1 2 128 aggregatable => Configured(true)
+configure 1 1 1 128 aggregatable => Configured(true)
+deliver 1 1 => Took
+tick 1 20 => Ticked
+",
     agreements: &[(1, Agreement::Changed)],
     flows: &[],
 };
@@ -90,13 +81,12 @@ fn equal_values_are_not_enough_to_agree(rt: HostRuntime) -> Result<(), WorldFaul
 
 const DEFAULTS_ROW: Row = Row {
     setting: ONE_SHORT,
-    first: &[
-        ("sense 1 1", LINK_UP),
-        ("sense 1 2", LINK_UP),
-        ("tick 1 50", TICKED),
-        ("tick 2 50", TICKED),
-    ],
-    rest: &[],
+    first: "sense 1 1 => Sensed(true)
+sense 1 2 => Sensed(true)
+tick 1 50 => Ticked
+tick 2 50 => Ticked
+",
+    rest: "",
     agreements: &[(1, Agreement::Defaults)],
     flows: &[],
 };
@@ -107,39 +97,38 @@ fn both_ends_on_defaults(rt: HostRuntime) -> Result<(), WorldFault> {
 }
 
 /// One cable comes up, and each LACPDU is received twice.
-const REPEATED: [Entry; 26] = [
-    ("sense 1 1", LINK_UP),
-    ("sense 1 2", LINK_UP),
-    ("tick 1 10", TICKED),
-    ("tick 2 10", TICKED),
-    ("emit 1 1", Lacpdu(0xc7)),
-    ("repeat 1 2", TOOK),
-    ("deliver 1 2", TOOK),
-    ("emit 2 1", Lacpdu(0x07)),
-    ("repeat 1 1", TOOK),
-    ("deliver 1 1", TOOK),
-    ("tick 1 10", TICKED),
-    ("tick 2 10", TICKED),
-    ("emit 1 1", Lacpdu(0x07)),
-    ("repeat 1 2", TOOK),
-    ("deliver 1 2", TOOK),
-    ("tick 1 10", TICKED),
-    ("tick 2 10", TICKED),
-    ("emit 1 1", Lacpdu(0x0f)),
-    ("repeat 1 2", TOOK),
-    ("deliver 1 2", TOOK),
-    ("emit 2 1", Lacpdu(0x3f)),
-    ("repeat 1 1", TOOK),
-    ("deliver 1 1", TOOK),
-    ("emit 1 1", Lacpdu(0x3f)),
-    ("repeat 1 2", TOOK),
-    ("deliver 1 2", TOOK),
-];
+const REPEATED: &str = "sense 1 1 => Sensed(true)
+sense 1 2 => Sensed(true)
+tick 1 10 => Ticked
+tick 2 10 => Ticked
+emit 1 1 => lacpdu c7
+repeat 1 2 => Took
+deliver 1 2 => Took
+emit 2 1 => lacpdu 07
+repeat 1 1 => Took
+deliver 1 1 => Took
+tick 1 10 => Ticked
+tick 2 10 => Ticked
+emit 1 1 => lacpdu 07
+repeat 1 2 => Took
+deliver 1 2 => Took
+tick 1 10 => Ticked
+tick 2 10 => Ticked
+emit 1 1 => lacpdu 0f
+repeat 1 2 => Took
+deliver 1 2 => Took
+emit 2 1 => lacpdu 3f
+repeat 1 1 => Took
+deliver 1 1 => Took
+emit 1 1 => lacpdu 3f
+repeat 1 2 => Took
+deliver 1 2 => Took
+";
 
 const REPEATED_ROW: Row = Row {
     setting: ONE_SHORT,
-    first: &REPEATED,
-    rest: &[],
+    first: REPEATED,
+    rest: "",
     agreements: &[(1, Agreement::Same)],
     flows: &[],
 };

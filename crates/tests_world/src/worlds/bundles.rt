@@ -1,7 +1,6 @@
 use crate::comparing::{same, same_at};
+use crate::worlds::compare_run;
 use crate::worlds::given::{Setting, lines, modulo, read, world_config};
-use crate::worlds::starts::LINK_UP;
-use crate::worlds::{Entry, compare_run};
 use cables::AnyCable;
 use lagprogress::{play_round, play_rounds};
 use lagtypes::AggId;
@@ -10,77 +9,70 @@ use std::alloc::Global;
 use std::process::Abort;
 use std::test::Fail;
 
-/// System 1 has as many aggregators of each key as ports.
-const KEYS_OF_1: &str = "
+/// All ports are active.
+const ACTIVE: &str = r#"
 [[system]]
-mac = \"02-00-00-00-00-01\"
+mac = "02-00-00-00-00-01"
 aggregators = [7, 9, 7]
-";
+port = [
+    { number = 11, key = 7, short = false },
+    { number = 12, key = 9, short = false },
+    { number = 13, key = 7, short = false },
+]
 
-/// System 2 has as many aggregators of each key as ports.
-const KEYS_OF_2: &str = "
 [[system]]
-mac = \"02-00-00-00-00-02\"
+mac = "02-00-00-00-00-02"
 aggregators = [6, 5, 5]
-";
+port = [
+    { number = 21, key = 5, short = true },
+    { number = 22, key = 6, short = true },
+    { number = 23, key = 5, short = true },
+]
 
-/// The cables cross: the first port of system 1 is joined with the last one of system 2.
-const CROSSED_CABLES: &str = "
 [[cable]]
 ends = [11, 23]
 [[cable]]
 ends = [12, 22]
 [[cable]]
 ends = [13, 21]
-";
-
-/// All ports are active.
-const ACTIVE: Setting = &[
-    KEYS_OF_1,
-    "port = [
-    { number = 11, key = 7, short = false },
-    { number = 12, key = 9, short = false },
-    { number = 13, key = 7, short = false },
-]
-",
-    KEYS_OF_2,
-    "port = [
-    { number = 21, key = 5, short = true },
-    { number = 22, key = 6, short = true },
-    { number = 23, key = 5, short = true },
-]
-",
-    CROSSED_CABLES,
-];
+"#;
 
 /// One end of each cable is passive.
-const HALF_PASSIVE: Setting = &[
-    KEYS_OF_1,
-    "port = [
+const HALF_PASSIVE: &str = r#"
+[[system]]
+mac = "02-00-00-00-00-01"
+aggregators = [7, 9, 7]
+port = [
     { number = 11, key = 7, short = false },
     { number = 12, key = 9, active = false, short = false },
     { number = 13, key = 7, active = false, short = false },
 ]
-",
-    KEYS_OF_2,
-    "port = [
+
+[[system]]
+mac = "02-00-00-00-00-02"
+aggregators = [6, 5, 5]
+port = [
     { number = 21, key = 5, short = true },
     { number = 22, key = 6, short = true },
     { number = 23, key = 5, active = false, short = true },
 ]
-",
-    CROSSED_CABLES,
-];
+
+[[cable]]
+ends = [11, 23]
+[[cable]]
+ends = [12, 22]
+[[cable]]
+ends = [13, 21]
+"#;
 
 /// The link of every port is up.
-const LINKS_UP: [Entry; 6] = [
-    ("sense 1 1", LINK_UP),
-    ("sense 1 2", LINK_UP),
-    ("sense 2 1", LINK_UP),
-    ("sense 2 2", LINK_UP),
-    ("sense 3 1", LINK_UP),
-    ("sense 3 2", LINK_UP),
-];
+const LINKS_UP: &str = "sense 1 1 => Sensed(true)
+sense 1 2 => Sensed(true)
+sense 2 1 => Sensed(true)
+sense 2 2 => Sensed(true)
+sense 3 1 => Sensed(true)
+sense 3 2 => Sensed(true)
+";
 
 /// Compares the ports of an aggregator that distribute with the expected ones.
 fn compare_distributing<F: Fn(u16, usize) -> usize + Drop>(
@@ -104,9 +96,9 @@ fn compare_distributing<F: Fn(u16, usize) -> usize + Drop>(
 /// After so many healthy rounds each cable agrees. Cables 1 and 3 make one aggregation, and cable 2 another. The number is no
 /// constant here: the prover would unfold each of these rounds.
 fn agree(rt: &impl Abort, alloc: Global, setting: Setting, rounds: u16) -> Result<(), WorldFault> {
-    let (config, events) = read(rt, alloc, setting, &LINKS_UP)?;
+    let (config, events) = read(rt, alloc, setting, LINKS_UP)?;
     let mut world = World::new(alloc, config, modulo, modulo, lines(alloc, 3, None)?)?;
-    compare_run(rt, 0, &LINKS_UP, world.run(&events));
+    compare_run(rt, alloc, LINKS_UP, world.run(&events))?;
     same(rt, "the rounds", &play_rounds(&mut world, rounds), &Ok(()));
     for cable in 1..4u16 {
         let agreement = world.agreement(cable);
@@ -142,7 +134,7 @@ fn crossed_cables_with_a_passive_end_agree_in_661(rt: HostRuntime) -> Result<(),
 /// After 12 rounds (1.2 s) each port has heard its peer: each end was asked, and what it sent arrived (6.4.12, 6.4.13).
 #[test]
 fn a_round_asks_each_end_of_each_cable(rt: HostRuntime) -> Result<(), Fail> {
-    let (config, events) = read(&rt, rt.alloc(), ACTIVE, &LINKS_UP)?;
+    let (config, events) = read(&rt, rt.alloc(), ACTIVE, LINKS_UP)?;
     let mut world = World::new(
         rt.alloc(),
         config,
@@ -150,7 +142,7 @@ fn a_round_asks_each_end_of_each_cable(rt: HostRuntime) -> Result<(), Fail> {
         modulo,
         lines(rt.alloc(), 3, None)?,
     )?;
-    compare_run(&rt, 0, &LINKS_UP, world.run(&events));
+    compare_run(&rt, rt.alloc(), LINKS_UP, world.run(&events))?;
     for _ in 0..12 {
         same(&rt, "the round", &play_round(&mut world), &Ok(()));
     }

@@ -1,7 +1,6 @@
 ghost use Rattle.std.specs.Prelude.{◌<◌};
 
 use crate::comparing::same;
-use crate::worlds::Entry;
 use cables::{AnyCable, ListCable, RingCable};
 use lagscript::{ScriptFault, WorldConfig, read_script};
 use lagtypes::NoMemory;
@@ -9,105 +8,115 @@ use lagworld::{Event, WorldFault};
 use std::alloc::Global;
 use std::process::Abort;
 
-/// The tables of a script, as pieces of text: both systems with their ports, and the cables.
-pub(crate) type Setting = &'static [&'static str];
+/// The tables of a script: both systems with their ports, and the cables.
+pub(crate) type Setting = &'static str;
 
-/// System 1; its ports follow.
-pub(crate) const SYSTEM_1: &str = "
+/// One cable between ports with Short Timeout.
+pub(crate) const ONE_SHORT: &str = r#"
 [[system]]
-mac = \"02-00-00-00-00-01\"
+mac = "02-00-00-00-00-01"
 aggregators = [1]
-";
+port = [{ number = 1, key = 1, short = true }]
 
-/// System 2; its ports follow.
-pub(crate) const SYSTEM_2: &str = "
 [[system]]
-mac = \"02-00-00-00-00-02\"
+mac = "02-00-00-00-00-02"
 aggregators = [1]
-";
+port = [{ number = 1, key = 1, short = true }]
 
-/// One port with Short Timeout.
-pub(crate) const ONE_SHORT_PORT: &str = "port = [{ number = 1, key = 1, short = true }]
-";
+[[cable]]
+ends = [1, 1]
+"#;
 
-/// One port with Long Timeout.
-const ONE_LONG_PORT: &str = "port = [{ number = 1, key = 1, short = false }]
-";
+/// One cable between ports with Long Timeout.
+pub(crate) const ONE_LONG: &str = r#"
+[[system]]
+mac = "02-00-00-00-00-01"
+aggregators = [1]
+port = [{ number = 1, key = 1, short = false }]
 
-/// Two ports with Short Timeout.
-const TWO_SHORT_PORTS: &str = "port = [
-    { number = 1, key = 1, short = true },
-    { number = 2, key = 1, short = true },
-]
-";
+[[system]]
+mac = "02-00-00-00-00-02"
+aggregators = [1]
+port = [{ number = 1, key = 1, short = false }]
 
-/// Two ports with Long Timeout.
-pub(crate) const TWO_LONG_PORTS: &str = "port = [
+[[cable]]
+ends = [1, 1]
+"#;
+
+/// Two cables between ports with Long Timeout.
+pub(crate) const TWO_LONG: &str = r#"
+[[system]]
+mac = "02-00-00-00-00-01"
+aggregators = [1]
+port = [
     { number = 1, key = 1, short = false },
     { number = 2, key = 1, short = false },
 ]
-";
 
-/// Two ports with Short Timeout that are Individual.
-const INDIVIDUAL_PORTS: &str = "port = [
+[[system]]
+mac = "02-00-00-00-00-02"
+aggregators = [1]
+port = [
+    { number = 1, key = 1, short = false },
+    { number = 2, key = 1, short = false },
+]
+
+[[cable]]
+ends = [1, 1]
+
+[[cable]]
+ends = [2, 2]
+"#;
+
+/// Two cables between ports with Short Timeout.
+pub(crate) const TWO_SHORT: &str = r#"
+[[system]]
+mac = "02-00-00-00-00-01"
+aggregators = [1]
+port = [
+    { number = 1, key = 1, short = true },
+    { number = 2, key = 1, short = true },
+]
+
+[[system]]
+mac = "02-00-00-00-00-02"
+aggregators = [1]
+port = [
+    { number = 1, key = 1, short = true },
+    { number = 2, key = 1, short = true },
+]
+
+[[cable]]
+ends = [1, 1]
+
+[[cable]]
+ends = [2, 2]
+"#;
+
+/// Two cables between ports with Short Timeout; those of system 1 are Individual.
+pub(crate) const INDIVIDUAL: &str = r#"
+[[system]]
+mac = "02-00-00-00-00-01"
+aggregators = [1]
+port = [
     { number = 1, key = 1, aggregatable = false, short = true },
     { number = 2, key = 1, aggregatable = false, short = true },
 ]
-";
 
-/// A cable that joins ports 1.
-pub(crate) const CABLE_1: &str = "
+[[system]]
+mac = "02-00-00-00-00-02"
+aggregators = [1]
+port = [
+    { number = 1, key = 1, short = true },
+    { number = 2, key = 1, short = true },
+]
+
 [[cable]]
 ends = [1, 1]
-";
 
-/// A cable that joins ports 2.
-pub(crate) const CABLE_2: &str = "
 [[cable]]
 ends = [2, 2]
-";
-
-/// One cable between ports with Short Timeout.
-pub(crate) const ONE_SHORT: Setting = &[
-    SYSTEM_1,
-    ONE_SHORT_PORT,
-    SYSTEM_2,
-    ONE_SHORT_PORT,
-    CABLE_1,
-];
-
-/// One cable between ports with Long Timeout.
-pub(crate) const ONE_LONG: Setting = &[SYSTEM_1, ONE_LONG_PORT, SYSTEM_2, ONE_LONG_PORT, CABLE_1];
-
-/// Two cables between ports with Long Timeout.
-pub(crate) const TWO_LONG: Setting = &[
-    SYSTEM_1,
-    TWO_LONG_PORTS,
-    SYSTEM_2,
-    TWO_LONG_PORTS,
-    CABLE_1,
-    CABLE_2,
-];
-
-/// Two cables between ports with Short Timeout.
-pub(crate) const TWO_SHORT: Setting = &[
-    SYSTEM_1,
-    TWO_SHORT_PORTS,
-    SYSTEM_2,
-    TWO_SHORT_PORTS,
-    CABLE_1,
-    CABLE_2,
-];
-
-/// Two cables between ports with Short Timeout; those of system 1 are Individual.
-pub(crate) const INDIVIDUAL: Setting = &[
-    SYSTEM_1,
-    INDIVIDUAL_PORTS,
-    SYSTEM_2,
-    TWO_SHORT_PORTS,
-    CABLE_1,
-    CABLE_2,
-];
+"#;
 
 /// The distribution algorithm of both systems.
 pub(crate) fn modulo(conv: u16, count: usize) -> usize
@@ -120,34 +129,30 @@ pub(crate) fn modulo(conv: u16, count: usize) -> usize
     }
 }
 
-/// The text of a script with these tables and events.
-pub(crate) fn script(
-    alloc: Global,
-    setting: Setting,
-    entries: &[Entry],
-) -> Result<String, NoMemory> {
-    let mut text = String::new(alloc);
-    text.push_str("events = [")?;
-    for (event, _) in entries {
-        text.push_str("\"")?;
-        text.push_str(*event)?;
-        text.push_str("\", ")?;
+/// The parts of a line before and behind its arrow.
+pub(crate) fn parts(line: &str) -> (&str, &str) {
+    line.split_once(" => ").unwrap_or((line, ""))
+}
+
+/// The text of a script with these tables and the events of these lines.
+pub(crate) fn script(alloc: Global, setting: &str, lines: &str) -> Result<String, NoMemory> {
+    let mut text = String::from_str(alloc, "events = [")?;
+    for line in lines.lines() {
+        let (event, _) = parts(line);
+        write!(text, "\"{event}\", ")?;
     }
-    text.push_str("]")?;
-    for piece in setting {
-        text.push_str(*piece)?;
-    }
+    write!(text, "]{setting}")?;
     Ok(text)
 }
 
-/// The systems and cables of a script with these tables, and its events. Fails where the script is refused.
+/// The systems and cables of a script with these tables, and the events of these lines. Fails where the script is refused.
 pub(crate) fn read(
     rt: &impl Abort,
     alloc: Global,
-    setting: Setting,
-    entries: &[Entry],
+    setting: &str,
+    lines: &str,
 ) -> Result<(WorldConfig, Vec<Event>), WorldFault> {
-    let text = script(alloc, setting, entries)?;
+    let text = script(alloc, setting, lines)?;
     match read_script(alloc, text.as_str()) {
         Ok(read) => Ok(read),
         Err(fault) => {
@@ -161,20 +166,20 @@ pub(crate) fn read(
 pub(crate) fn world_config(
     rt: &impl Abort,
     alloc: Global,
-    setting: Setting,
+    setting: &str,
 ) -> Result<WorldConfig, WorldFault> {
-    let (config, _) = read(rt, alloc, setting, &[])?;
+    let (config, _) = read(rt, alloc, setting, "")?;
     Ok(config)
 }
 
-/// The events of a script with these tables.
+/// The events of these lines, in a script with these tables.
 pub(crate) fn events(
     rt: &impl Abort,
     alloc: Global,
-    setting: Setting,
-    entries: &[Entry],
+    setting: &str,
+    lines: &str,
 ) -> Result<Vec<Event>, WorldFault> {
-    let (_, events) = read(rt, alloc, setting, entries)?;
+    let (_, events) = read(rt, alloc, setting, lines)?;
     Ok(events)
 }
 

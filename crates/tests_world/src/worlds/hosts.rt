@@ -1,113 +1,109 @@
 use crate::comparing::{same, same_at};
-use crate::worlds::Want::{Frame, Is, Lacpdu};
+use crate::worlds::compare_run;
 use crate::worlds::given::{TWO_LONG, lines, modulo, read};
-use crate::worlds::starts::{COMING_UP, HELD, LINK_UP, MOVED, TICKED, TOOK, UP_1};
-use crate::worlds::{Entry, Want, compare_run};
+use crate::worlds::starts::COMING_UP;
 use cables::AnyCable;
 use lagprogress::play_host_rounds;
-use lagsystem::SystemFault;
 use lagworld::{Agreement, Reply, World, WorldFault};
 use std::alloc::Global;
 use std::process::Abort;
 use std::test::Fail;
 
 /// The links of both cables are up.
-const LINKS_UP: [Entry; 4] = [
-    ("sense 1 1", LINK_UP),
-    ("sense 1 2", LINK_UP),
-    ("sense 2 1", LINK_UP),
-    ("sense 2 2", LINK_UP),
-];
-
-const NOTHING: Want = Is(Reply::Nothing);
-
-const EMPTY: Want = Is(Reply::Empty);
+const LINKS_UP: &str = "sense 1 1 => Sensed(true)
+sense 1 2 => Sensed(true)
+sense 2 1 => Sensed(true)
+sense 2 2 => Sensed(true)
+";
 
 /// A healthy round as hosts play it: each system ticks and then asks its ports, frames are offered, a conversation is moved, items
 /// arrive between the ticks, and ports are asked again after what arrives. The replies are those of round 352.
-const ROUND: [Entry; 34] = [
-    ("offer 1 1 0200000000200200000000100800", Frame(2, 321)),
-    ("tick 1 1", TICKED),
-    ("emit 1 1", NOTHING),
-    ("emit 1 2", NOTHING),
-    ("move 1 1 48 2", Is(Reply::Refused(SystemFault::SamePort))),
-    ("deliver 2 2", UP_1),
-    ("tick 2 1", TICKED),
-    ("emit 2 1", NOTHING),
-    ("offer 2 1 0200000000200200000000100800", Frame(2, 322)),
-    ("emit 2 2", NOTHING),
-    ("deliver 1 1", EMPTY),
-    ("deliver 1 2", EMPTY),
-    ("deliver 2 1", UP_1),
-    ("deliver 2 2", EMPTY),
-    ("emit 1 1", NOTHING),
-    ("emit 1 2", NOTHING),
-    ("emit 2 1", NOTHING),
-    ("emit 2 2", NOTHING),
-    ("deliver 1 1", EMPTY),
-    ("deliver 1 2", EMPTY),
-    ("deliver 2 1", EMPTY),
-    ("deliver 2 2", EMPTY),
-    ("emit 1 1", NOTHING),
-    ("emit 1 2", NOTHING),
-    ("emit 2 1", NOTHING),
-    ("emit 2 2", NOTHING),
-    ("deliver 1 1", EMPTY),
-    ("deliver 1 2", EMPTY),
-    ("deliver 2 1", EMPTY),
-    ("deliver 2 2", EMPTY),
-    ("deliver 1 1", EMPTY),
-    ("deliver 1 2", EMPTY),
-    ("deliver 2 1", EMPTY),
-    ("deliver 2 2", EMPTY),
-];
+const ROUND: &str = "offer 1 1 0200000000200200000000100800 => port 2 serial 321
+tick 1 1 => Ticked
+emit 1 1 => Nothing
+emit 1 2 => Nothing
+move 1 1 48 2 => Refused(SamePort)
+deliver 2 2 => Up(AggId(1))
+tick 2 1 => Ticked
+emit 2 1 => Nothing
+offer 2 1 0200000000200200000000100800 => port 2 serial 322
+emit 2 2 => Nothing
+deliver 1 1 => Empty
+deliver 1 2 => Empty
+deliver 2 1 => Up(AggId(1))
+deliver 2 2 => Empty
+emit 1 1 => Nothing
+emit 1 2 => Nothing
+emit 2 1 => Nothing
+emit 2 2 => Nothing
+deliver 1 1 => Empty
+deliver 1 2 => Empty
+deliver 2 1 => Empty
+deliver 2 2 => Empty
+emit 1 1 => Nothing
+emit 1 2 => Nothing
+emit 2 1 => Nothing
+emit 2 2 => Nothing
+deliver 1 1 => Empty
+deliver 1 2 => Empty
+deliver 2 1 => Empty
+deliver 2 2 => Empty
+deliver 1 1 => Empty
+deliver 1 2 => Empty
+deliver 2 1 => Empty
+deliver 2 2 => Empty
+";
 
 /// Conversation 48 is moved to port 2, and its marker is lost.
-const LOSING: [Entry; 9] = [
-    ("emit 1 1", Lacpdu(0x3d)),
-    ("emit 1 2", Lacpdu(0x3d)),
-    ("deliver 1 2", TOOK),
-    ("deliver 2 2", TOOK),
-    ("offer 1 1 0200000000200200000000100800", Frame(1, 0)),
-    ("deliver 1 2", UP_1),
-    MOVED,
-    ("emit 1 1", Is(Reply::Marker(1, true))),
-    ("lose 1 2", Is(Reply::Lost)),
-];
+const LOSING: &str = "emit 1 1 => lacpdu 3d
+emit 1 2 => lacpdu 3d
+deliver 1 2 => Took
+deliver 2 2 => Took
+offer 1 1 0200000000200200000000100800 => port 1 serial 0
+deliver 1 2 => Up(AggId(1))
+move 1 1 48 2 => Moved
+emit 1 1 => Marker(1, true)
+lose 1 2 => Lost
+";
 
-/// Conversation 48 is held, and free after a healthy round of hosts, in which conversation 49 moves to port 1 and back. The replies
-/// are those of round 30 behind `LOSING`: its first tick is the 30th since the marker went out (profile), so a new one is due.
-const FREEING: [Entry; 29] = [
-    ("offer 1 1 0200000000200200000000100800", HELD),
-    ("offer 1 1 0200000000210200000000100800", Frame(2, 58)),
-    ("move 1 1 49 1", Is(Reply::Moved)),
-    ("tick 1 1", TICKED),
-    ("emit 1 1", Is(Reply::Marker(60, true))),
-    ("deliver 1 2", Is(Reply::Responded(true))),
-    ("deliver 1 1", Is(Reply::Released(1))),
-    ("emit 1 2", Is(Reply::Marker(61, true))),
-    ("tick 2 1", TICKED),
-    ("emit 2 1", NOTHING),
-    ("emit 2 2", NOTHING),
-    ("deliver 2 2", UP_1),
-    ("deliver 2 2", Is(Reply::Responded(true))),
-    ("deliver 2 1", Is(Reply::Released(1))),
-    ("offer 1 1 0200000000210200000000100800", Frame(1, 59)),
-    ("move 1 1 49 2", Is(Reply::Moved)),
-    ("emit 1 1", Is(Reply::Marker(62, true))),
-    ("deliver 1 2", UP_1),
-    ("deliver 1 2", Is(Reply::Responded(true))),
-    ("deliver 1 1", Is(Reply::Released(1))),
-    ("emit 1 1", NOTHING),
-    ("emit 1 2", NOTHING),
-    ("emit 2 1", NOTHING),
-    ("emit 2 2", NOTHING),
-    ("deliver 1 1", EMPTY),
-    ("deliver 1 2", EMPTY),
-    ("deliver 2 1", EMPTY),
-    ("deliver 2 2", EMPTY),
-    ("offer 1 1 0200000000200200000000100800", Frame(2, 1)),
-];
+/// Conversation 48 is held.
+const HELD: &str = "offer 1 1 0200000000200200000000100800 => Refused(Held)
+";
+
+/// A healthy round of hosts, in which conversation 49 moves to port 1 and back. The replies are those of round 30 behind `LOSING`: its
+/// first tick is the 30th since the marker went out (profile), so a new one is due.
+const MOVING: &str = "offer 1 1 0200000000210200000000100800 => port 2 serial 58
+move 1 1 49 1 => Moved
+tick 1 1 => Ticked
+emit 1 1 => Marker(60, true)
+deliver 1 2 => Responded(true)
+deliver 1 1 => Released(1)
+emit 1 2 => Marker(61, true)
+tick 2 1 => Ticked
+emit 2 1 => Nothing
+emit 2 2 => Nothing
+deliver 2 2 => Up(AggId(1))
+deliver 2 2 => Responded(true)
+deliver 2 1 => Released(1)
+offer 1 1 0200000000210200000000100800 => port 1 serial 59
+move 1 1 49 2 => Moved
+emit 1 1 => Marker(62, true)
+deliver 1 2 => Up(AggId(1))
+deliver 1 2 => Responded(true)
+deliver 1 1 => Released(1)
+emit 1 1 => Nothing
+emit 1 2 => Nothing
+emit 2 1 => Nothing
+emit 2 2 => Nothing
+deliver 1 1 => Empty
+deliver 1 2 => Empty
+deliver 2 1 => Empty
+deliver 2 2 => Empty
+";
+
+/// Conversation 48 is free: its next frame goes on port 2.
+const FREE: &str = "offer 1 1 0200000000200200000000100800 => port 2 serial 1
+";
 
 /// Both cables agree.
 fn agree<F: Fn(u16, usize) -> usize + Drop>(rt: &impl Abort, world: &World<AnyCable, F>) {
@@ -126,10 +122,10 @@ fn agree<F: Fn(u16, usize) -> usize + Drop>(rt: &impl Abort, world: &World<AnyCa
 /// Plays so many of these rounds between two systems with two ports and one aggregator each: nothing is left on a cable after any
 /// of them, the frames of the last one arrive, and then both cables agree.
 fn share(rt: &impl Abort, alloc: Global, rounds: u16) -> Result<(), WorldFault> {
-    let (config, events) = read(rt, alloc, TWO_LONG, &LINKS_UP)?;
-    let (_, round) = read(rt, alloc, TWO_LONG, &ROUND)?;
+    let (config, events) = read(rt, alloc, TWO_LONG, LINKS_UP)?;
+    let (_, round) = read(rt, alloc, TWO_LONG, ROUND)?;
     let mut world = World::new(alloc, config, modulo, modulo, lines(alloc, 2, None)?)?;
-    compare_run(rt, 0, &LINKS_UP, world.run(&events));
+    compare_run(rt, alloc, LINKS_UP, world.run(&events))?;
     for _ in 1..rounds {
         match world.run(&round) {
             Ok(replies) => {
@@ -140,16 +136,16 @@ fn share(rt: &impl Abort, alloc: Global, rounds: u16) -> Result<(), WorldFault> 
             Err(stop) => same(rt, "a round", &Some(stop), &None),
         }
     }
-    compare_run(rt, LINKS_UP.len(), &ROUND, world.run(&round));
+    compare_run(rt, alloc, ROUND, world.run(&round))?;
     agree(rt, &world);
     Ok(())
 }
 
 /// Plays so many rounds of hosts between the same systems; then both cables agree.
 fn play(rt: &impl Abort, alloc: Global, rounds: u16) -> Result<(), WorldFault> {
-    let (config, events) = read(rt, alloc, TWO_LONG, &LINKS_UP)?;
+    let (config, events) = read(rt, alloc, TWO_LONG, LINKS_UP)?;
     let mut world = World::new(alloc, config, modulo, modulo, lines(alloc, 2, None)?)?;
-    compare_run(rt, 0, &LINKS_UP, world.run(&events));
+    compare_run(rt, alloc, LINKS_UP, world.run(&events))?;
     same(
         rt,
         "the rounds",
@@ -162,13 +158,12 @@ fn play(rt: &impl Abort, alloc: Global, rounds: u16) -> Result<(), WorldFault> {
 
 /// Plays so many rounds in which conversation 49 moves, and conversation 48 does not: that is held before the last one, and then free.
 fn free(rt: &impl Abort, alloc: Global, rounds: u16) -> Result<(), WorldFault> {
-    let (config, coming) = read(rt, alloc, TWO_LONG, &COMING_UP)?;
-    let (_, losing) = read(rt, alloc, TWO_LONG, &LOSING)?;
-    let (_, round) = read(rt, alloc, TWO_LONG, &FREEING[1..28])?;
-    let (_, freeing) = read(rt, alloc, TWO_LONG, &FREEING)?;
+    let (config, coming) = read(rt, alloc, TWO_LONG, COMING_UP)?;
+    let (_, losing) = read(rt, alloc, TWO_LONG, LOSING)?;
+    let (_, round) = read(rt, alloc, TWO_LONG, MOVING)?;
     let mut world = World::new(alloc, config, modulo, modulo, lines(alloc, 2, None)?)?;
-    compare_run(rt, 0, &COMING_UP, world.run(&coming));
-    compare_run(rt, COMING_UP.len(), &LOSING, world.run(&losing));
+    compare_run(rt, alloc, COMING_UP, world.run(&coming))?;
+    compare_run(rt, alloc, LOSING, world.run(&losing))?;
     for _ in 1..rounds {
         match world.run(&round) {
             Ok(replies) => {
@@ -179,7 +174,19 @@ fn free(rt: &impl Abort, alloc: Global, rounds: u16) -> Result<(), WorldFault> {
             Err(stop) => same(rt, "a round", &Some(stop), &None),
         }
     }
-    compare_run(rt, 0, &FREEING, world.run(&freeing));
+    end(rt, alloc, &mut world)
+}
+
+/// Conversation 48 is held; in one more round that moves conversation 49 it becomes free.
+fn end<F: Fn(u16, usize) -> usize + Drop>(
+    rt: &impl Abort,
+    alloc: Global,
+    world: &mut World<AnyCable, F>,
+) -> Result<(), WorldFault> {
+    for part in [HELD, MOVING, FREE] {
+        let (_, events) = read(rt, alloc, TWO_LONG, part)?;
+        compare_run(rt, alloc, part, world.run(&events))?;
+    }
     Ok(())
 }
 

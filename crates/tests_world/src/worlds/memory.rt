@@ -1,7 +1,7 @@
 use crate::comparing::same;
 use crate::worlds::conversations::MOVES_ROW;
 use crate::worlds::given::{lines, modulo, read, world_config};
-use crate::worlds::{Row, compare_all, compare_run, entries, tells};
+use crate::worlds::{Row, compare_part, compare_run_of, lines_of, tells};
 use cables::AnyCable;
 use lagsystem::System;
 use lagtypes::AggId;
@@ -128,21 +128,23 @@ fn same_world<F: Fn(u16, usize) -> usize + Drop>(
 /// Runs the events of a row. If memory is refused, the world must be one that ran the events before, and the rest is
 /// run after them.
 fn resumes(rt: &impl Abort, alloc: Global, row: &Row) -> Result<(), WorldFault> {
-    let entries = entries(alloc, row)?;
-    let (config, events) = read(rt, alloc, row.setting, &entries)?;
+    let text = lines_of(alloc, row)?;
+    let text = text.as_str();
+    let (config, events) = read(rt, alloc, row.setting, text)?;
     let ends = lines(alloc, config.cables.len(), None)?;
     let mut world = World::new(alloc, config, modulo, modulo, ends)?;
     match world.run(&events) {
-        Ok(replies) => compare_all(rt, 0, &entries, &replies),
+        Ok(replies) => compare_part(rt, alloc, text, (0, events.len()), &replies)?,
         Err(stop) => {
             same(rt, "fault", &stop.fault, &WorldFault::NoMemory);
-            let done = stop.done.min(events.len()).min(entries.len());
+            let done = stop.done.min(events.len());
+            let (now, later) = events.split_at(done);
             let config = world_config(rt, alloc, row.setting)?;
             let ends = lines(alloc, config.cables.len(), None)?;
             let mut twin = World::new(alloc, config, modulo, modulo, ends)?;
-            compare_run(rt, 0, &entries[..done], twin.run(&events[..done]));
+            compare_run_of(rt, alloc, text, (0, done), twin.run(now))?;
             same_world(rt, &world, &twin);
-            compare_run(rt, done, &entries[done..], world.run(&events[done..]));
+            compare_run_of(rt, alloc, text, (done, later.len()), world.run(later))?;
         }
     }
     tells(rt, &world, row);

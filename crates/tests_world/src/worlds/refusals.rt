@@ -1,13 +1,12 @@
 use crate::comparing::{same, same_at};
-use crate::worlds::Want::{Frame, Is};
 use crate::worlds::given::{
     INDIVIDUAL, ONE_SHORT, TWO_LONG, add_line, empty_direction, lines, modulo, read, world_config,
 };
 use crate::worlds::joined::joined;
-use crate::worlds::starts::{COMING_UP, HELD, LINK_UP, NONE_DISTRIBUTING, TICKED, UP_1};
-use crate::worlds::{Entry, Flow, Row, compare_run, entries, plays, tells};
+use crate::worlds::starts::COMING_UP;
+use crate::worlds::{Flow, Row, compare_run, lines_of, plays, tells};
 use cables::{AnyCable, Cable, Item, Stamp};
-use lagsystem::{BadConfig, PortChange, SystemFault};
+use lagsystem::{BadConfig, PortChange};
 use lagtypes::{AggId, Key};
 use lagworld::{Agreement, BadWorld, Event, Reply, RunFault, World, WorldFault};
 use std::alloc::Global;
@@ -244,53 +243,30 @@ fn a_run_stops_at_the_first_fault(rt: HostRuntime) -> Result<(), WorldFault> {
 }
 
 /// Events before any port distributes. One frame has 13 octets, another one is of the slow protocols.
-const EARLY: [Entry; 10] = [
-    ("sense 1 1", LINK_UP),
-    ("sense 2 1", LINK_UP),
-    ("emit 1 9", Is(Reply::Refused(SystemFault::NoPort))),
-    (
-        "configure 1 9 1 128 aggregatable",
-        Is(Reply::Refused(SystemFault::NoPort)),
-    ),
-    (
-        "configure 1 1 1 128 individual",
-        Is(Reply::Configured(false)),
-    ),
-    (
-        "offer 1 2 0200000000200200000000100800",
-        Is(Reply::Refused(SystemFault::NoAggregator)),
-    ),
-    (
-        "offer 1 1 02000000002002000000001008",
-        Is(Reply::Refused(SystemFault::FrameLength)),
-    ),
-    (
-        "offer 1 1 0180c20000020200000000018809",
-        Is(Reply::Refused(SystemFault::SlowFrame)),
-    ),
-    ("offer 1 1 0200000000200200000000100800", NONE_DISTRIBUTING),
-    ("force 1 1 48", Is(Reply::Refused(SystemFault::NotAssigned))),
-];
+const EARLY: &str = "sense 1 1 => Sensed(true)
+sense 2 1 => Sensed(true)
+emit 1 9 => Refused(NoPort)
+configure 1 9 1 128 aggregatable => Refused(NoPort)
+configure 1 1 1 128 individual => Configured(false)
+offer 1 2 0200000000200200000000100800 => Refused(NoAggregator)
+offer 1 1 02000000002002000000001008 => Refused(FrameLength)
+offer 1 1 0180c20000020200000000018809 => Refused(SlowFrame)
+offer 1 1 0200000000200200000000100800 => Refused(NoneDistributing)
+force 1 1 48 => Refused(NotAssigned)
+";
 
-const LATE: [Entry; 6] = [
-    ("tick 1 50", TICKED),
-    ("offer 1 1 0200000000200200000000100800", Frame(1, 0)),
-    ("move 1 1 48 1", Is(Reply::Refused(SystemFault::SamePort))),
-    (
-        "move 1 1 48 2",
-        Is(Reply::Refused(SystemFault::NotDistributing)),
-    ),
-    (
-        "configure 1 1 2 128 individual",
-        Is(Reply::Configured(true)),
-    ),
-    ("offer 1 1 0200000000200200000000100800", HELD),
-];
+const LATE: &str = "tick 1 50 => Ticked
+offer 1 1 0200000000200200000000100800 => port 1 serial 0
+move 1 1 48 1 => Refused(SamePort)
+move 1 1 48 2 => Refused(NotDistributing)
+configure 1 1 2 128 individual => Configured(true)
+offer 1 1 0200000000200200000000100800 => Refused(Held)
+";
 
 const REFUSED_ROW: Row = Row {
     setting: INDIVIDUAL,
-    first: &EARLY,
-    rest: &LATE,
+    first: EARLY,
+    rest: LATE,
     agreements: &[(1, Agreement::NotBoth)],
     flows: &[],
 };
@@ -314,19 +290,18 @@ const NO_FLOWS: [(u8, u16, u16); 9] = [
 ];
 
 /// Each system sends a frame of conversation 48, which the other collects, and then the conversation is forced.
-const FORCED: [Entry; 6] = [
-    ("offer 1 1 0200000000200200000000100800", Frame(1, 0)),
-    ("offer 2 1 0200000000100200000000200800", Frame(1, 0)),
-    ("deliver 1 1", UP_1),
-    ("deliver 1 2", UP_1),
-    ("force 1 1 48", Is(Reply::Forced)),
-    ("force 2 1 48", Is(Reply::Forced)),
-];
+const FORCED: &str = "offer 1 1 0200000000200200000000100800 => port 1 serial 0
+offer 2 1 0200000000100200000000200800 => port 1 serial 0
+deliver 1 1 => Up(AggId(1))
+deliver 1 2 => Up(AggId(1))
+force 1 1 48 => Forced
+force 2 1 48 => Forced
+";
 
 const FORCED_ROW: Row = Row {
     setting: TWO_LONG,
-    first: &COMING_UP,
-    rest: &FORCED,
+    first: COMING_UP,
+    rest: FORCED,
     agreements: &[],
     flows: &[
         Flow {
@@ -374,11 +349,11 @@ fn tells_systems<F: Fn(u16, usize) -> usize + Drop>(rt: &impl Abort, world: &Wor
 
 /// Plays the row, and asks for what does not exist.
 fn nothing_told(rt: &impl Abort, alloc: Global) -> Result<(), WorldFault> {
-    let entries = entries(alloc, &FORCED_ROW)?;
-    let (config, events) = read(rt, alloc, TWO_LONG, &entries)?;
+    let text = lines_of(alloc, &FORCED_ROW)?;
+    let (config, events) = read(rt, alloc, TWO_LONG, text.as_str())?;
     let lines = lines(alloc, 2, None)?;
     let mut world = World::new(alloc, config, modulo, modulo, lines)?;
-    compare_run(rt, 0, &entries, world.run(&events));
+    compare_run(rt, alloc, text.as_str(), world.run(&events))?;
     tells(rt, &world, &FORCED_ROW);
     same(rt, "cable 0", &world.agreement(0), &None);
     same(rt, "cable 3", &world.agreement(3), &None);

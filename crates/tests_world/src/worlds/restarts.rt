@@ -1,30 +1,28 @@
 use crate::comparing::same_at;
-use crate::worlds::Want::Is;
 use crate::worlds::conversations::MOVES;
 use crate::worlds::given::{TWO_LONG, lines, modulo, read};
 use crate::worlds::starts::COMING_UP;
-use crate::worlds::{Entry, Want};
 use cables::AnyCable;
 use lagtypes::{AggId, NoMemory};
-use lagworld::{Agreement, Reply, World, WorldFault};
+use lagworld::{Agreement, World, WorldFault};
 use std::alloc::Global;
 use std::process::Abort;
 
-const RESTARTED: Want = Is(Reply::Restarted);
-
 /// The events in which a conversation moves, and this restart before the event of the move at this index, or after the last.
-fn with_restart(
-    alloc: Global,
-    restart: &'static str,
-    place: usize,
-) -> Result<Vec<Entry>, NoMemory> {
-    let place = place.min(MOVES.len());
-    let mut entries = Vec::new(alloc);
-    entries.extend_from_slice(&COMING_UP)?;
-    entries.extend_from_slice(&MOVES[..place])?;
-    entries.push((restart, RESTARTED))?;
-    entries.extend_from_slice(&MOVES[place..])?;
-    Ok(entries)
+fn with_restart(alloc: Global, restart: &str, place: usize) -> Result<String, NoMemory> {
+    let mut lines = String::from_str(alloc, COMING_UP)?;
+    let mut count = 0usize;
+    for line in MOVES.lines() {
+        if count == place {
+            write!(lines, "{restart}\n")?;
+        }
+        write!(lines, "{line}\n")?;
+        count = count.saturating_add(1);
+    }
+    if count <= place {
+        write!(lines, "{restart}\n")?;
+    }
+    Ok(lines)
 }
 
 /// Whether the first list is a subsequence of the second.
@@ -66,14 +64,9 @@ fn keeps<F: Fn(u16, usize) -> usize + Drop>(
 }
 
 /// Restarts a system before the event of the move at this index. The replies are not compared.
-fn restarts(
-    rt: &impl Abort,
-    alloc: Global,
-    restart: &'static str,
-    place: usize,
-) -> Result<(), WorldFault> {
-    let entries = with_restart(alloc, restart, place)?;
-    let (config, events) = read(rt, alloc, TWO_LONG, &entries)?;
+fn restarts(rt: &impl Abort, alloc: Global, restart: &str, place: usize) -> Result<(), WorldFault> {
+    let text = with_restart(alloc, restart, place)?;
+    let (config, events) = read(rt, alloc, TWO_LONG, text.as_str())?;
     let lines = lines(alloc, config.cables.len(), None)?;
     let mut world = World::new(alloc, config, modulo, modulo, lines)?;
     let mut place = 0usize;

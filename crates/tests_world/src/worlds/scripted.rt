@@ -1,20 +1,16 @@
-use crate::worlds::Entry;
-use crate::worlds::Want::Is;
 use crate::worlds::given::{TWO_LONG, script};
 use crate::worlds::joined::joined;
-use crate::worlds::starts::{LINK_UP, MOVED, TICKED, UP_1};
 use lagscript::read_script;
 use lagtypes::AggId;
-use lagworld::{Event, Reply};
+use lagworld::Event;
 use std::alloc::{AllocError, Global};
 
-const ENTRIES: [Entry; 5] = [
-    ("sense 2 1", LINK_UP),
-    ("tick 1 10", TICKED),
-    ("offer 1 1 02ff", Is(Reply::Nothing)),
-    MOVED,
-    ("deliver 1 2", UP_1),
-];
+const ENTRIES: &str = "sense 2 1 => Sensed(true)
+tick 1 10 => Ticked
+offer 1 1 02ff => Nothing
+move 1 1 48 2 => Moved
+deliver 1 2 => Up(AggId(1))
+";
 
 /// The events of `ENTRIES` as values.
 fn events(alloc: Global) -> Result<Vec<Event>, AllocError> {

@@ -1,13 +1,9 @@
-use crate::worlds::Want::{Frame, Is, Lacpdu};
-use crate::worlds::given::{
-    CABLE_1, CABLE_2, SYSTEM_1, SYSTEM_2, Setting, TWO_LONG_PORTS, lines, modulo, read,
-};
-use crate::worlds::starts::{LINK_DOWN, LINK_UP, TICKED, TOOK, UP_1};
-use crate::worlds::{Entry, Flow, Row, Want, compare_run, entries, tells};
+use crate::worlds::given::{lines, modulo, read};
+use crate::worlds::{Flow, Row, compare_run, lines_of, tells};
 use cables::AnyCable;
 use lagsystem::Choice;
 use lagtypes::AggId;
-use lagworld::{Agreement, Reply, World, WorldFault};
+use lagworld::{Agreement, World, WorldFault};
 use std::alloc::Global;
 use std::process::Abort;
 
@@ -15,100 +11,136 @@ const SELECTED: Choice = Choice::Selected(AggId(1));
 
 const STANDBY: Choice = Choice::Standby(AggId(1));
 
-const NOTHING: Want = Is(Reply::Nothing);
-
-const EMPTY: Want = Is(Reply::Empty);
-
-/// An aggregator of the system before this may have one link.
-const LIMITED: &str = "max_links = 1\n";
-
 /// Two cables between ports with Long Timeout. In both systems an aggregator may have one link.
-const BOTH_LIMITED: Setting = &[
-    SYSTEM_1,
-    LIMITED,
-    TWO_LONG_PORTS,
-    SYSTEM_2,
-    LIMITED,
-    TWO_LONG_PORTS,
-    CABLE_1,
-    CABLE_2,
-];
+const BOTH_LIMITED: &str = r#"
+[[system]]
+mac = "02-00-00-00-00-01"
+aggregators = [1]
+max_links = 1
+port = [
+    { number = 1, key = 1, short = false },
+    { number = 2, key = 1, short = false },
+]
+
+[[system]]
+mac = "02-00-00-00-00-02"
+aggregators = [1]
+max_links = 1
+port = [
+    { number = 1, key = 1, short = false },
+    { number = 2, key = 1, short = false },
+]
+
+[[cable]]
+ends = [1, 1]
+
+[[cable]]
+ends = [2, 2]
+"#;
 
 /// A limit of one link in system 1 only.
-const FIRST_LIMITED: Setting = &[
-    SYSTEM_1,
-    LIMITED,
-    TWO_LONG_PORTS,
-    SYSTEM_2,
-    TWO_LONG_PORTS,
-    CABLE_1,
-    CABLE_2,
-];
+const FIRST_LIMITED: &str = r#"
+[[system]]
+mac = "02-00-00-00-00-01"
+aggregators = [1]
+max_links = 1
+port = [
+    { number = 1, key = 1, short = false },
+    { number = 2, key = 1, short = false },
+]
+
+[[system]]
+mac = "02-00-00-00-00-02"
+aggregators = [1]
+port = [
+    { number = 1, key = 1, short = false },
+    { number = 2, key = 1, short = false },
+]
+
+[[cable]]
+ends = [1, 1]
+
+[[cable]]
+ends = [2, 2]
+"#;
 
 /// A limit of one link in system 2 only.
-const SECOND_LIMITED: Setting = &[
-    SYSTEM_1,
-    TWO_LONG_PORTS,
-    SYSTEM_2,
-    LIMITED,
-    TWO_LONG_PORTS,
-    CABLE_1,
-    CABLE_2,
-];
+const SECOND_LIMITED: &str = r#"
+[[system]]
+mac = "02-00-00-00-00-01"
+aggregators = [1]
+port = [
+    { number = 1, key = 1, short = false },
+    { number = 2, key = 1, short = false },
+]
+
+[[system]]
+mac = "02-00-00-00-00-02"
+aggregators = [1]
+max_links = 1
+port = [
+    { number = 1, key = 1, short = false },
+    { number = 2, key = 1, short = false },
+]
+
+[[cable]]
+ends = [1, 1]
+
+[[cable]]
+ends = [2, 2]
+"#;
 
 /// Both cables come up, and each end hears the other.
-const HEARD: [Entry; 16] = [
-    ("sense 1 1", LINK_UP),
-    ("sense 1 2", LINK_UP),
-    ("sense 2 1", LINK_UP),
-    ("sense 2 2", LINK_UP),
-    ("tick 1 10", TICKED),
-    ("tick 2 10", TICKED),
-    ("emit 1 1", Lacpdu(0xc5)),
-    ("emit 1 2", Lacpdu(0xc5)),
-    ("deliver 1 2", TOOK),
-    ("deliver 2 2", TOOK),
-    ("emit 2 1", Lacpdu(0x05)),
-    ("emit 2 2", Lacpdu(0x05)),
-    ("deliver 1 1", TOOK),
-    ("deliver 2 1", TOOK),
-    ("tick 1 20", TICKED),
-    ("tick 2 20", TICKED),
-];
+const HEARD: &str = "sense 1 1 => Sensed(true)
+sense 1 2 => Sensed(true)
+sense 2 1 => Sensed(true)
+sense 2 2 => Sensed(true)
+tick 1 10 => Ticked
+tick 2 10 => Ticked
+emit 1 1 => lacpdu c5
+emit 1 2 => lacpdu c5
+deliver 1 2 => Took
+deliver 2 2 => Took
+emit 2 1 => lacpdu 05
+emit 2 2 => lacpdu 05
+deliver 1 1 => Took
+deliver 2 1 => Took
+tick 1 20 => Ticked
+tick 2 20 => Ticked
+";
 
 /// Cable 1 carries frames until it is cut, then cable 2 does; cable 1 comes back, and its ports are STANDBY.
-const BOTH: [Entry; 25] = [
-    ("emit 1 1", Lacpdu(0x0d)),
-    ("emit 1 2", NOTHING),
-    ("deliver 1 2", TOOK),
-    ("deliver 2 2", EMPTY),
-    ("emit 2 1", Lacpdu(0x3d)),
-    ("emit 2 2", NOTHING),
-    ("deliver 1 1", TOOK),
-    ("deliver 2 1", EMPTY),
-    ("offer 1 1 0200000000200200000000100800", Frame(1, 0)),
-    ("cut 1", Is(Reply::Cut)),
-    ("sense 1 1", LINK_DOWN),
-    ("emit 1 2", Lacpdu(0x0d)),
-    ("deliver 2 2", TOOK),
-    ("sense 1 2", LINK_DOWN),
-    ("emit 2 2", Lacpdu(0x3d)),
-    ("deliver 2 1", TOOK),
-    ("offer 1 1 0200000000200200000000100800", Frame(2, 1)),
-    ("deliver 2 2", UP_1),
-    ("join 1", Is(Reply::Joined)),
-    ("sense 1 1", LINK_UP),
-    ("sense 1 2", LINK_UP),
-    ("tick 1 10", TICKED),
-    ("emit 1 1", Lacpdu(0x85)),
-    ("deliver 1 2", TOOK),
-    ("emit 2 1", Lacpdu(0x05)),
-];
+const BOTH: &str = "emit 1 1 => lacpdu 0d
+emit 1 2 => Nothing
+deliver 1 2 => Took
+deliver 2 2 => Empty
+emit 2 1 => lacpdu 3d
+emit 2 2 => Nothing
+deliver 1 1 => Took
+deliver 2 1 => Empty
+offer 1 1 0200000000200200000000100800 => port 1 serial 0
+cut 1 => Cut
+sense 1 1 => Sensed(false)
+emit 1 2 => lacpdu 0d
+deliver 2 2 => Took
+sense 1 2 => Sensed(false)
+emit 2 2 => lacpdu 3d
+deliver 2 1 => Took
+offer 1 1 0200000000200200000000100800 => port 2 serial 1
+deliver 2 2 => Up(AggId(1))
+join 1 => Joined
+sense 1 1 => Sensed(true)
+sense 1 2 => Sensed(true)
+tick 1 10 => Ticked
+emit 1 1 => lacpdu 85
+deliver 1 2 => Took
+emit 2 1 => lacpdu 05
+";
 
 const BOTH_ROW: Row = Row {
     setting: BOTH_LIMITED,
-    first: &HEARD,
-    rest: &BOTH,
+    first: HEARD,
+    rest: BOTH,
     agreements: &[(1, Agreement::NotBoth), (2, Agreement::Same)],
     flows: &[Flow {
         system: 1,
@@ -120,27 +152,26 @@ const BOTH_ROW: Row = Row {
 };
 
 /// Port 2 of system 1 is STANDBY; that of system 2 is in its aggregator, and says so.
-const FIRST: [Entry; 14] = [
-    ("emit 1 1", Lacpdu(0x0d)),
-    ("emit 1 2", NOTHING),
-    ("deliver 1 2", TOOK),
-    ("deliver 2 2", EMPTY),
-    ("emit 2 1", Lacpdu(0x3d)),
-    ("emit 2 2", Lacpdu(0x0d)),
-    ("deliver 1 1", TOOK),
-    ("deliver 2 1", TOOK),
-    ("offer 1 1 0200000000200200000000100800", Frame(1, 0)),
-    ("deliver 1 2", UP_1),
-    ("cut 1", Is(Reply::Cut)),
-    ("sense 1 1", LINK_DOWN),
-    ("emit 1 2", Lacpdu(0x3d)),
-    ("offer 1 1 0200000000200200000000100800", Frame(2, 1)),
-];
+const FIRST: &str = "emit 1 1 => lacpdu 0d
+emit 1 2 => Nothing
+deliver 1 2 => Took
+deliver 2 2 => Empty
+emit 2 1 => lacpdu 3d
+emit 2 2 => lacpdu 0d
+deliver 1 1 => Took
+deliver 2 1 => Took
+offer 1 1 0200000000200200000000100800 => port 1 serial 0
+deliver 1 2 => Up(AggId(1))
+cut 1 => Cut
+sense 1 1 => Sensed(false)
+emit 1 2 => lacpdu 3d
+offer 1 1 0200000000200200000000100800 => port 2 serial 1
+";
 
 const FIRST_ROW: Row = Row {
     setting: FIRST_LIMITED,
-    first: &HEARD,
-    rest: &FIRST,
+    first: HEARD,
+    rest: FIRST,
     agreements: &[(1, Agreement::NotBoth), (2, Agreement::NotBoth)],
     flows: &[Flow {
         system: 1,
@@ -152,21 +183,20 @@ const FIRST_ROW: Row = Row {
 };
 
 /// Port 2 of system 2 is STANDBY; that of system 1 is in its aggregator, and says so.
-const SECOND: [Entry; 8] = [
-    ("emit 1 1", Lacpdu(0x0d)),
-    ("emit 1 2", Lacpdu(0x0d)),
-    ("deliver 1 2", TOOK),
-    ("deliver 2 2", TOOK),
-    ("emit 2 1", Lacpdu(0x3d)),
-    ("emit 2 2", NOTHING),
-    ("deliver 1 1", TOOK),
-    ("deliver 2 1", EMPTY),
-];
+const SECOND: &str = "emit 1 1 => lacpdu 0d
+emit 1 2 => lacpdu 0d
+deliver 1 2 => Took
+deliver 2 2 => Took
+emit 2 1 => lacpdu 3d
+emit 2 2 => Nothing
+deliver 1 1 => Took
+deliver 2 1 => Empty
+";
 
 const SECOND_ROW: Row = Row {
     setting: SECOND_LIMITED,
-    first: &HEARD,
-    rest: &SECOND,
+    first: HEARD,
+    rest: SECOND,
     agreements: &[(1, Agreement::Same), (2, Agreement::NotBoth)],
     flows: &[],
 };
@@ -192,11 +222,11 @@ fn chosen<F: Fn(u16, usize) -> usize + Drop>(
 
 /// Plays a row, and then compares Selected of each port.
 fn leads_to(rt: &impl Abort, alloc: Global, row: &Row, wanted: Choices) -> Result<(), WorldFault> {
-    let entries = entries(alloc, row)?;
-    let (config, events) = read(rt, alloc, row.setting, &entries)?;
+    let text = lines_of(alloc, row)?;
+    let (config, events) = read(rt, alloc, row.setting, text.as_str())?;
     let lines = lines(alloc, 2, None)?;
     let mut world = World::new(alloc, config, modulo, modulo, lines)?;
-    compare_run(rt, 0, &entries, world.run(&events));
+    compare_run(rt, alloc, text.as_str(), world.run(&events))?;
     tells(rt, &world, row);
     chosen(rt, &world, wanted);
     Ok(())
