@@ -52,16 +52,13 @@ port_among agg [] p k x e n d = absurd (none-some x e)
 port_among agg (y ∷ ys) p zero x e n d = grind (arith, nat_tests, no)
 port_among agg (y ∷ ys) p (suc k) x e n d = grind (arith, nat_tests, port_among agg ys p k x e n d)
 
--- existing conversations
+-- conversations
 
--- so it is with each conversation of so many aggregators, of so many each
-abbrev pub Each : ℕ → ℕ → (Assignment → Type 0) → Table → Type 0
-Each aggs count P t = (g k : ℕ) → 0 < g → g ≤ aggs → k < count → P (assignment_of t g k)
-
-pub each_by : (aggs count : ℕ) (P Q : Assignment → Type 0) (f : Assignment → Assignment) (old new : Table)
-    → ((g k : ℕ) → assignment_of new g k ≡ f (assignment_of old g k)) → ((a : Assignment) → P a → Q (f a)) → Each aggs count P old
-    → Each aggs count Q new
-each_by aggs count P Q f old new h k e g c l m n = subst Q (sym (h g c)) (k (assignment_of old g c) (e g c l m n))
+-- one that changes by this function
+pub turned_by : (agg conv : ℕ) (P Q : Assignment → Type 0) (f : Assignment → Assignment) (old new : Table)
+    → ((g k : ℕ) → assignment_of new g k ≡ f (assignment_of old g k)) → ((a : Assignment) → P a → Q (f a)) → P (assignment_of old agg conv)
+    → Q (assignment_of new agg conv)
+turned_by agg conv P Q f old new h k e = subst Q (sym (h agg conv)) (k (assignment_of old agg conv) e)
 
 none_below : (f : ℕ → ℕ) (n k : ℕ) → k < n → sum_below f n ≡ 0 → f k ≡ 0
 unfolding sum_below
@@ -91,13 +88,13 @@ not_wanted p m W F (Wanted q preferred) e h = λ f. apart f
     apart f = grind (arith, nat_tests)
 not_wanted p m W F a e h = h
 
-module _ (at : Side → ℕ) (w : Side → Lacpdu) (s : Side) (mac : List ℕ) (aggs count : ℕ) where
-  -- what is known of the conversations of the port at the end of s
-  abbrev pub AllFine : ℕ → Type 0 → (ℕ → Type 0) → Table → Type 0
-  AllFine m W F t = Each aggs count (Fine (at s) m W F) t
+module _ (at : Side → ℕ) (w : Side → Lacpdu) (s : Side) (mac : List ℕ) (agg conv : ℕ) where
+  -- what is known of conversation `conv` of aggregator `agg` and of the port at the end of s
+  abbrev pub IsFine : ℕ → Type 0 → (ℕ → Type 0) → Table → Type 0
+  IsFine m W F t = Fine (at s) m W F (assignment_of t agg conv)
 
-  pub all_map : (m : ℕ) (W V : Type 0) (F G : ℕ → Type 0) (t : Table) → (W → V) → ((id : ℕ) → F id → G id) → AllFine m W F t → AllFine m V G t
-  all_map m W V F G t k f h g c l n o = fine_map (at s) m W V F G k f (assignment_of t g c) (h g c l n o)
+  pub fine_in_map : (m : ℕ) (W V : Type 0) (F G : ℕ → Type 0) (t : Table) → (W → V) → ((id : ℕ) → F id → G id) → IsFine m W F t → IsFine m V G t
+  fine_in_map m W V F G t k f h = fine_map (at s) m W V F G k f (assignment_of t agg conv) h
 
   -- what goes out leaves what is on its way
   pub went_has : (u t : Side) (P : ItemValue → Type 0) (a : Result (Option (List ℕ)) SystemFault) (fl now : Side → List ItemValue) → Went u a fl now
@@ -131,25 +128,25 @@ module _ (at : Side → ℕ) (w : Side → Lacpdu) (s : Side) (mac : List ℕ) (
   -- the port is asked
   sends_marker : (o : Option ℕ) (z : SystemPort) (old : SystemState) (a : Option (List ℕ)) (new : SystemState) (fl now : Side → List ItemValue)
       (m : ℕ) (W : Type 0) → z.number ≡ at s → old.system.mac ≡ mac → SendsMarkerOf o z.number z.mac old a new → Went s (Ok a) fl now
-      → AllFine m W (Flights s (at s) mac fl) old.table
-      → ((o ≡ None) × (new ≡ old)) ⊎ AllFine m ⊥ (Flights s (at s) mac now) new.table
+      → IsFine m W (Flights s (at s) mac fl) old.table
+      → ((o ≡ None) × (new ≡ old)) ⊎ IsFine m ⊥ (Flights s (at s) mac now) new.table
   sends_marker None z old a new fl now m W number own h went fine = inl (refl, h.1)
   sends_marker (Some id) z old a new fl now m W number own h went fine =
       let gone = subst (λ b. Went s (Ok b) fl now) h.3 went in
       let flies = marker_flies z old id h.0 fl now h.1 h.2 number own gone in
-      inr (each_by aggs count (Fine (at s) m W (Flights s (at s) mac fl)) (Fine (at s) m ⊥ (Flights s (at s) mac now)) (after_mark (at s) id)
+      inr (turned_by agg conv (Fine (at s) m W (Flights s (at s) mac fl)) (Fine (at s) m ⊥ (Flights s (at s) mac now)) (after_mark (at s) id)
       old.table new.table (λ g k. h.4.states g k ∙ ap (λ n. after_mark n id (assignment_of old.table g k)) number)
       (λ b f. marked_here (at s) m id W (Flights s (at s) mac fl) (Flights s (at s) mac now) flies
       (went_flights s (Ok (Some (frame_octets z.mac h.0))) fl now gone) b f) fine)
 
   went_fine : (a : Option (List ℕ)) (old new : SystemState) (fl now : Side → List ItemValue) (m : ℕ) (W : Type 0) → new.table ≡ old.table
-      → Went s (Ok a) fl now → AllFine m W (Flights s (at s) mac fl) old.table → AllFine m W (Flights s (at s) mac now) new.table
-  went_fine a old new fl now m W same went fine = subst (AllFine m W (Flights s (at s) mac now)) (sym same)
-      (all_map m W W (Flights s (at s) mac fl) (Flights s (at s) mac now) old.table (λ x. x) (went_flights s (Ok a) fl now went) fine)
+      → Went s (Ok a) fl now → IsFine m W (Flights s (at s) mac fl) old.table → IsFine m W (Flights s (at s) mac now) new.table
+  went_fine a old new fl now m W same went fine = subst (IsFine m W (Flights s (at s) mac now)) (sym same)
+      (fine_in_map m W W (Flights s (at s) mac fl) (Flights s (at s) mac now) old.table (λ x. x) (went_flights s (Ok a) fl now went) fine)
 
   pub sends_fine : (up due : Bool) (i : ℕ) (z : SystemPort) (old : SystemState) (a : Option (List ℕ)) (new : SystemState)
       (fl now : Side → List ItemValue) (m : ℕ) (W : Type 0) → z.number ≡ at s → old.system.mac ≡ mac → TransmitsIf up due i z old a new
-      → Went s (Ok a) fl now → AllFine m W (Flights s (at s) mac fl) old.table → AllFine m W (Flights s (at s) mac now) new.table
+      → Went s (Ok a) fl now → IsFine m W (Flights s (at s) mac fl) old.table → IsFine m W (Flights s (at s) mac now) new.table
   sends_fine false due i z old a new fl now m W number own h went fine =
       went_fine a old new fl now m W (ap (λ (t : SystemState). t.table) h.1) went fine
   sends_fine true true i z old a new fl now m W number own h went fine =
@@ -157,7 +154,7 @@ module _ (at : Side → ℕ) (w : Side → Lacpdu) (s : Side) (mac : List ℕ) (
   sends_fine true false i z old a new fl now m W number own h went fine =
       elim (sends_marker (marker_due old.table z.number) z old a new fl now m W number own h went fine) [
         | inl n ↦ went_fine a old new fl now m W (ap (λ (t : SystemState). t.table) n.1) went fine
-        | inr f ↦ all_map m ⊥ W (Flights s (at s) mac now) (Flights s (at s) mac now) new.table (λ x. absurd x) (λ id y. y) f
+        | inr f ↦ fine_in_map m ⊥ W (Flights s (at s) mac now) (Flights s (at s) mac now) new.table (λ x. absurd x) (λ id y. y) f
       ]
 
   -- no marker is due: no conversation is Wanted there, if an identifier is left
@@ -177,16 +174,16 @@ module _ (at : Side → ℕ) (w : Side → Lacpdu) (s : Side) (mac : List ℕ) (
 
   pub settles_all : (m : ℕ) (W : Type 0) (F : ℕ → Type 0) (old new : SystemState) → Settling old new
       → ((g k : ℕ) → assignment_of old.table g k ≡ On (at s) → is_among (distributing (aggregator_numbered g) new.system_ports) (at s) ≡ true)
-      → AllFine m W F old.table → AllFine m W F new.table
+      → IsFine m W F old.table → IsFine m W F new.table
   settles_all m W F old new h stays fine =
       let q = settling_parts old new h in
       let table = ports_table old q.0 q.1 in
       let ports : new.system_ports ≡ q.0.system_ports = ap (λ (t : SystemState). t.system_ports) q.2.frame in
-      λ g k l n o. subst (Fine (at s) m W F) (sym (q.2.states g k))
-      (settled_fine (at s) m W F (distributing (aggregator_numbered g) q.0.system_ports) (assignment_of q.0.table g k)
-      (λ e. subst (λ xs. is_among (distributing (aggregator_numbered g) xs) (at s) ≡ true) ports
-      (stays g k (sym (ap (λ t. assignment_of t g k) table) ∙ e)))
-      (subst (λ t. Fine (at s) m W F (assignment_of t g k)) (sym table) (fine g k l n o)))
+      subst (Fine (at s) m W F) (sym (q.2.states agg conv))
+      (settled_fine (at s) m W F (distributing (aggregator_numbered agg) q.0.system_ports) (assignment_of q.0.table agg conv)
+      (λ e. subst (λ xs. is_among (distributing (aggregator_numbered agg) xs) (at s) ≡ true) ports
+      (stays agg conv (sym (ap (λ t. assignment_of t agg conv) table) ∙ e)))
+      (subst (λ t. Fine (at s) m W F (assignment_of t agg conv)) (sym table) fine))
 
   -- the port distributes in its aggregator, and goes on so
   module _ (c : Choice) where
@@ -197,17 +194,17 @@ module _ (at : Side → ℕ) (w : Side → Lacpdu) (s : Side) (mac : List ℕ) (
         → assignment_of (half s old).state.table g k ≡ On (at s)
         → is_among (distributing (aggregator_numbered g) (half s new).state.system_ports) (at s) ≡ true
     stays_on one two old new a b g k e =
-        let agg = aggregator_numbered g in
+        let numbered = aggregator_numbered g in
         let was = (half s old).state in
         let st = (half s new).state in
-        let x = among_port agg was.system_ports (at s) ((a.steady s).0.carried g k (at s) e) in
+        let x = among_port numbered was.system_ports (at s) ((a.steady s).0.carried g k (at s) e) in
         let own = all-get (λ (y : SystemPort). AtPort (at s) Steady y.number y.port) was.system_ports x.0 x.1 x.2
         (beside at w 2 one s Steady old a) x.3 in
-        let chose : has_chosen agg c ≡ true = sym (ap (has_chosen agg) own.1)
-        ∙ (and_parts (has_chosen agg x.1.port.choice) (same_mux_state CollectingDistributing x.1.port.mux) x.4).0 in
+        let chose : has_chosen numbered c ≡ true = sym (ap (has_chosen numbered) own.1)
+        ∙ (and_parts (has_chosen numbered x.1.port.choice) (same_mux_state CollectingDistributing x.1.port.mux) x.4).0 in
         let z = end_here at w 2 two s Steady new b s in
         let now = end_with at w 2 two s new z Steady (beside at w 2 two s Steady new b) in
         let mux = (all-get (MuxIsSettled st.keys st.system_ports) st.system_ports z.index z.port z.there (b.steady s).0.quiet.0).mux in
         let up = distributes_now z.port.port mux (z.is.2 (omega arith)) now.0 in
-        port_among agg st.system_ports (at s) z.index z.port z.there z.number
-        (rw (ap (has_chosen agg) now.1 ∙ chose, ap (same_mux_state CollectingDistributing) up) refl)
+        port_among numbered st.system_ports (at s) z.index z.port z.there z.number
+        (rw (ap (has_chosen numbered) now.1 ∙ chose, ap (same_mux_state CollectingDistributing) up) refl)

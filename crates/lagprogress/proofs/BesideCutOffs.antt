@@ -3,9 +3,9 @@ use Rattle.lagprogress.proofs.Common.{Some, ap, arith, false, inl, inr, refl, sl
 use Rattle.lagprogress.proofs.Common.{same_Some, Choice, Selected, Party, is_selected, same_system, exact_system, system-itself, Info, Side, peer}
 use Rattle.lagprogress.proofs.Common.{Defaulted, Machines, mux_rows, periodic_rows, receive_rows, RunsToRest, count_down, SystemPort, MuxIsSettled}
 use Rattle.lagprogress.proofs.Common.{occupied, SystemState, all-get, found_place, ports_rise, Algorithms, LinkState, WorldState, half, port_at}
-use Rattle.lagprogress.proofs.Common.{EnoughAggregators, EnoughLinks, OneIsActive, EachLinkAgreesBesideCutOffsByHosts}
-use Rattle.lagprogress.proofs.Common.{EachLinkComesUpBesideCutOffsByHosts, IsBundleBesideCutOffs, IsCutOff, NoneIsHeldBesideCutOffs}
-use Rattle.lagprogress.proofs.Common.{NoneIsHeldBesideCutOffsByHosts, HostRounds, IsHealthyAt, WantsAggregator, IsSteady, IsTimed}
+use Rattle.lagprogress.proofs.Common.{EnoughAggregators, EnoughLinks, OneIsActive, EachLinkAgreesBesideCutOffs, EachLinkComesUpBesideCutOffs}
+use Rattle.lagprogress.proofs.Common.{IsBundleBesideCutOffs, IsCutOff, NoneIsHeldBesideCutOffs, NoneIsHeldBesideCutOffsByHosts, HostRounds}
+use Rattle.lagprogress.proofs.Common.{IsHealthyAt, WantsAggregator, IsSteady, IsTimed}
 use Rattle.lagprogress.proofs.Bundling.{Meets, agree_of, distribute_of, never_stands, one_meet, one_wakes}
 use Rattle.lagprogress.proofs.Climbing.{Ripe, Rising, rising_first, rising_rows, state_not}
 use Rattle.lagprogress.proofs.CutOffLemmas.{Severed, WereDown, cut_round, cut_since, KeptUnheard, cut_off_is_defaulted_by_hosts}
@@ -169,11 +169,11 @@ module _ (gives : Algorithms) (old : WorldState) (b : IsBundleBesideCutOffs old)
     wakes = one_wakes old;
   }
 
-pub each_link_comes_up_beside_by_hosts : (gives : Algorithms) → EachLinkComesUpBesideCutOffsByHosts gives
+pub each_link_comes_up_beside_by_hosts : (gives : Algorithms) → EachLinkComesUpBesideCutOffs HostRounds gives
 each_link_comes_up_beside_by_hosts gives n i l old new b y enough h =
     distribute_of OneIsActive (λ s n. IsCutOff s n old) 931 gives old (beside gives old b) i l y n new (omega (arith, enough)) h
 
-pub each_link_agrees_beside_by_hosts : (gives : Algorithms) → EachLinkAgreesBesideCutOffsByHosts gives
+pub each_link_agrees_beside_by_hosts : (gives : Algorithms) → EachLinkAgreesBesideCutOffs HostRounds gives
 each_link_agrees_beside_by_hosts gives n i l old new sound b y enough h =
     agree_of OneIsActive (λ s n. IsCutOff s n old) 931 gives old (beside gives old b) sound i l y n new (omega (arith, enough)) h
 
@@ -182,5 +182,6 @@ none_is_held_beside gives n i l old new s b y enough h left =
     freed_of OneIsActive (λ s n. IsCutOff s n old) 931 gives old (beside gives old b) i l y n new s (omega (arith, enough)) h left
 
 pub none_is_held_beside_by_hosts : (gives : Algorithms) → NoneIsHeldBesideCutOffsByHosts gives
-none_is_held_beside_by_hosts gives n m i l old mid new s b y enough h late more left =
-    freed_by OneIsActive (λ s n. IsCutOff s n old) 931 gives old (beside gives old b) i l y n m mid new s (omega (arith, enough)) h late more left
+none_is_held_beside_by_hosts gives n m i l old mid new s g k b y enough h late more left =
+    freed_by OneIsActive (λ s n. IsCutOff s n old) 931 gives old (beside gives old b) i l y n m mid new s g k (omega (arith, enough)) h late more
+    left

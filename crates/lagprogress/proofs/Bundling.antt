@@ -4,10 +4,9 @@ use Rattle.lagprogress.proofs.Common.{suc, sym, true, ℕ, ◌+◌, ◌-◌, ◌
 use Rattle.lagprogress.proofs.Common.{AllByRecursion, AggId, Key, Choice, Standby, Party, is_selected, itself, Lacpdu, IsCabling, One, Side, Two}
 use Rattle.lagprogress.proofs.Common.{end_at, peer, ports_that_chose, has_chosen, SystemPort, MuxIsSettled, occupied, IsSound, SystemState, views}
 use Rattle.lagprogress.proofs.Common.{all-get, found_place, Same, agreement_at, Algorithms, link_ends, world_setup, IsWorldSound, LinkState}
-use Rattle.lagprogress.proofs.Common.{WorldState, half, history_at, port_at, towards, end_is, AllHeard, BothAreActive, EndsHealthyCable, EnoughLinks}
-use Rattle.lagprogress.proofs.Common.{IsBundle, OneIsActive, SystemsDiffer, Distributes, EachActiveLinkAgreesByHosts, EachActiveLinkComesUpByHosts}
-use Rattle.lagprogress.proofs.Common.{EachLinkAgreesByHosts, EachLinkComesUpByHosts, HostRounds, AtEnd, IsHealthyAt, WantsAggregator, ports_with}
-use Rattle.lagprogress.proofs.Common.{IsSteady, IsTimed}
+use Rattle.lagprogress.proofs.Common.{WorldState, half, history_at, port_at, towards, end_is, AllHeard, BothAreActive, EachLinkAgrees}
+use Rattle.lagprogress.proofs.Common.{EachLinkComesUp, EndsHealthyCable, EnoughLinks, IsBundle, OneIsActive, SystemsDiffer, Distributes, HostRounds}
+use Rattle.lagprogress.proofs.Common.{AtEnd, IsHealthyAt, up_if_both_active, up_if_one_is, WantsAggregator, ports_with, IsSteady, IsTimed}
 use Rattle.lagprogress.proofs.Climbing.{Down, Ripe, Rising, climbed, down_settles, down_takes, down_ticks, rising_first}
 use Rattle.lagprogress.proofs.ComingUp.{Climbs, Up, agrees_now, climbs_first, climbs_on, comes_up, distributes, hosts_kept}
 use Rattle.lagprogress.proofs.Starting.{active_at, awake_at, named_at, Ends, healthy_cable, said_by, starts}
@@ -348,18 +347,18 @@ both_active gives old b = alone BothAreActive 321 gives old b (both_meet gives o
 
 -- the laws of a bundle, by rounds of hosts
 
-pub each_link_comes_up_by_hosts : (gives : Algorithms) → EachLinkComesUpByHosts gives
+pub each_link_comes_up_by_hosts : (gives : Algorithms) → EachLinkComesUp HostRounds OneIsActive up_if_one_is gives
 each_link_comes_up_by_hosts gives n i l old new b y enough h =
     distribute_of OneIsActive Nowhere 630 gives old (one_active gives old b) i l y n new (omega (arith, enough)) h
 
-pub each_active_link_comes_up_by_hosts : (gives : Algorithms) → EachActiveLinkComesUpByHosts gives
+pub each_active_link_comes_up_by_hosts : (gives : Algorithms) → EachLinkComesUp HostRounds BothAreActive up_if_both_active gives
 each_active_link_comes_up_by_hosts gives n i l old new b y enough h =
     distribute_of BothAreActive Nowhere 321 gives old (both_active gives old b) i l y n new (omega (arith, enough)) h
 
-pub each_link_agrees_by_hosts : (gives : Algorithms) → EachLinkAgreesByHosts gives
+pub each_link_agrees_by_hosts : (gives : Algorithms) → EachLinkAgrees HostRounds OneIsActive up_if_one_is gives
 each_link_agrees_by_hosts gives n i l old new sound b y enough h =
     agree_of OneIsActive Nowhere 630 gives old (one_active gives old b) sound i l y n new (omega (arith, enough)) h
 
-pub each_active_link_agrees_by_hosts : (gives : Algorithms) → EachActiveLinkAgreesByHosts gives
+pub each_active_link_agrees_by_hosts : (gives : Algorithms) → EachLinkAgrees HostRounds BothAreActive up_if_both_active gives
 each_active_link_agrees_by_hosts gives n i l old new sound b y enough h =
     agree_of BothAreActive Nowhere 321 gives old (both_active gives old b) sound i l y n new (omega (arith, enough)) h

@@ -110,10 +110,10 @@ pub use Rattle.lagworld.specs.declared.histories.PortHistory.{PortHistory}
 pub use Rattle.lagworld.specs.declared.reply.Reply.{Reply}
 pub use Rattle.lagworld.specs.Agreement.{agreement_at, agreement_of, end_facts, first_agreement, is_stamp, same_groups}
 pub use Rattle.lagworld.specs.Events.{AfterOffer, AfterReceive, AfterTransmit, Algorithms, DeliversFrom, InHalf, OnLink, WorldEmits, WorldOffers}
-pub use Rattle.lagworld.specs.Events.{WorldReceives, WorldRuns, WorldSteps, cause, cause_or_no_memory, first_event_cause, has_cable, may_take_memory}
-pub use Rattle.lagworld.specs.Events.{most_events, offered_item, sent_reply, set_last_lacpdu, side_of, stamp_for, stamped_in, with_frame_counted}
-pub use Rattle.lagworld.specs.Events.{with_link_at, with_stamp_collected}
-pub use Rattle.lagworld.specs.HalfCalls.{HalfAnswers, HalfTicks, forced_if_accepted, set_taken}
+pub use Rattle.lagworld.specs.Events.{WorldReceives, WorldRuns, WorldSteps, cause, cause_or_no_memory, first_event_cause, has_cable, has_system}
+pub use Rattle.lagworld.specs.Events.{may_take_memory, most_events, offered_item, sent_reply, set_last_lacpdu, side_of, stamp_for, stamped_in}
+pub use Rattle.lagworld.specs.Events.{with_frame_counted, with_link_at, with_stamp_collected}
+pub use Rattle.lagworld.specs.HalfCalls.{HalfAnswers, HalfMoves, HalfTicks, forced_if_accepted, set_taken}
 pub use Rattle.lagworld.specs.Making.{AreFirst}
 pub use Rattle.lagworld.specs.Messages.{payload_in, stamp_count}
 pub use Rattle.lagworld.specs.ModelWorld.{link_ends, world_setup}
@@ -125,39 +125,34 @@ pub use Rattle.lagworld.specs.State.{taken_in, towards, with_half, with_links, w
 pub use Rattle.lagworld.proofs.Arrives.{count_heard, read_log}
 pub use Rattle.lagworld.proofs.Cables.{end_is, mapped_set, put_ends, set_elsewhere, set_here}
 pub use Rattle.lagworld.proofs.Sides.{half_there, position_there}
-pub use Rattle.lagprogress.specs.Arriving.{Arrives, DeliverHandsUp, DisabledAreUnsynchronized, EachActiveFrameArrives, EachFrameArrives}
+pub use Rattle.lagprogress.specs.Arriving.{Arrives, DeliverHandsUp, DisabledAreUnsynchronized, EachFrameArrives, EachFrameArrivesByHosts}
 pub use Rattle.lagprogress.specs.Arriving.{EachReachedHasUnsynchronized, GetsPort, HandsUp, IsHandedUp, OfferGetsPort, Sometime, TakesFrame}
-pub use Rattle.lagprogress.specs.Bundle.{ActiveEndsOfEachKnow, ActiveSelectedPairsAgree, ActiveSelectedPairsComeUp, AllHeard, BothAreActive}
-pub use Rattle.lagprogress.specs.Bundle.{EachActiveLinkAgrees, EachActiveLinkComesUp, EachLinkAgrees, EachLinkComesUp, EndsHealthyCable}
-pub use Rattle.lagprogress.specs.Bundle.{EndsOfEachKnow, EnoughAggregators, EnoughLinks, IsBundle, OneIsActive, ReachedIsApart, ReachedIsBundle}
-pub use Rattle.lagprogress.specs.Bundle.{SelectedPairsAgree, SelectedPairsComeUp, SystemsDiffer}
-pub use Rattle.lagprogress.specs.ByHosts.{ActiveSelectedPairsAgreeByHosts, ActiveSelectedPairsComeUpByHosts, CutOffIsDefaultedByHosts}
-pub use Rattle.lagprogress.specs.ByHosts.{EachActiveLimitedLinkAgreesByHosts, EachLimitedLinkAgreesByHosts, EachLinkAgreesBesideCutOffsByHosts}
-pub use Rattle.lagprogress.specs.ByHosts.{EachLinkComesUpBesideCutOffsByHosts, SelectedPairsAgreeByHosts, SelectedPairsComeUpByHosts}
+pub use Rattle.lagprogress.specs.Bundle.{AllHeard, BothAreActive, EachLinkAgrees, EachLinkComesUp, EndsHealthyCable, EndsOfEachKnow}
+pub use Rattle.lagprogress.specs.Bundle.{EnoughAggregators, EnoughLinks, IsBundle, OneIsActive, ReachedIsApart, ReachedIsBundle, SelectedPairsAgree}
+pub use Rattle.lagprogress.specs.Bundle.{SelectedPairsComeUp, SystemsDiffer}
 pub use Rattle.lagprogress.specs.ComingUp.{ActiveLinkComesUp, AreApart, Distributes, HasRoom, LinkComesUp}
 pub use Rattle.lagprogress.specs.CutOff.{CutOffIsDefaulted, EachLinkAgreesBesideCutOffs, EachLinkComesUpBesideCutOffs, IsBundleBesideCutOffs}
 pub use Rattle.lagprogress.specs.CutOff.{IsCutOff, NoneIsHeldBesideCutOffs}
-pub use Rattle.lagprogress.specs.Freed.{CarriersAreUp, EachReachedHasCarriersUp, HasIdentifierLeft, HasPortUp, NoneIsHeld, NoneIsHeldOn}
-pub use Rattle.lagprogress.specs.Freed.{NoneIsHeldOnActiveEnds, NoneIsHeldOnEnds, NoneIsHeldWhereActive, NothingIsHeld, carrier_of, held_on}
+pub use Rattle.lagprogress.specs.Freed.{CarriersAreUp, EachReachedHasCarriersUp, HasIdentifierLeft, HasPortUp, IsNotHeld, IsNotHeldOn, NoneIsHeld}
+pub use Rattle.lagprogress.specs.Freed.{NoneIsHeldOn, NoneIsHeldOnEnds, NothingIsHeld, carrier_of, held_on}
 pub use Rattle.lagprogress.specs.Hearing.{IsNoticed, LeavesUnheard, processed_on, timeout_time}
 pub use Rattle.lagprogress.specs.Heartbeat.{EachCall, IsHeard, IsSilentShortly, LeavesUpAndSilent, takes_down, tick_count}
-pub use Rattle.lagprogress.specs.HostFreed.{DrainingRounds, IsDrainingRound, MovesNone, NoneIsHeldBesideCutOffsByHosts, NoneIsHeldOnActiveEndsByHosts}
-pub use Rattle.lagprogress.specs.HostFreed.{NoneIsHeldOnEndsByHosts, NoneIsHeldWhereActiveByHosts, NothingIsDue, NothingIsHeldByHosts}
-pub use Rattle.lagprogress.specs.HostFreed.{RoundIsDraining}
-pub use Rattle.lagprogress.specs.HostRounds.{ActiveEndsKnowByHosts, AfterTick, AskingIsHostRound, Asks, AsksAfterTick, AsksIn, AtSomeWorld}
-pub use Rattle.lagprogress.specs.HostRounds.{EachActiveLinkAgreesByHosts, EachActiveLinkComesUpByHosts, EachLinkAgreesByHosts, EachLinkComesUpByHosts}
-pub use Rattle.lagprogress.specs.HostRounds.{EndsKnowByHosts, HostRounds, IsBetweenTicks, IsHostRound, IsTickOf, LoopIsHostRound, RoundIsHostRound}
-pub use Rattle.lagprogress.specs.HostRounds.{RoundsAreHostRounds, TickOnce}
+pub use Rattle.lagprogress.specs.HostFreed.{AskingInVainIsDraining, AsksInVain, AsksInVainAfterTick, DrainingRounds, IsDrainingRound, IsNoMoveOf}
+pub use Rattle.lagprogress.specs.HostFreed.{NoneIsHeldBesideCutOffsByHosts, NoneIsHeldOnEndsByHosts, NothingIsDue, NothingIsHeldByHosts}
+pub use Rattle.lagprogress.specs.HostFreed.{RoundIsDraining, sent_nothing}
+pub use Rattle.lagprogress.specs.HostRounds.{AfterTick, AskingIsHostRound, Asks, AsksAfterTick, AsksIn, AtSomeWorld, HostRounds, IsBetweenTicks}
+pub use Rattle.lagprogress.specs.HostRounds.{IsHostRound, IsTickOf, LoopIsHostRound, RoundIsHostRound, RoundsAreHostRounds, TickOnce}
 pub use Rattle.lagprogress.specs.Knowing.{HasRecorded, IsKnown}
-pub use Rattle.lagprogress.specs.Limited.{CarriesOnAll, DownAreUnselected, EachActiveLimitedLinkAgrees, EachLimitedLinkAgrees}
-pub use Rattle.lagprogress.specs.Limited.{EachReachedHasDownUnselected, EndsAgreed, IsLimitedBundle, StandsByOthers}
+pub use Rattle.lagprogress.specs.Limited.{CarriesOnAll, DownAreUnselected, EachLimitedLinkAgrees, EachReachedHasDownUnselected, EndsAgreed}
+pub use Rattle.lagprogress.specs.Limited.{IsLimitedBundle, StandsByOthers}
 pub use Rattle.lagprogress.specs.Passing.{DeliverProcessesLacpdu, EmitSendsLacpdu, EndIsUp, IsHeardOn, IsSentOn}
 pub use Rattle.lagprogress.specs.Played.{Delivers, EachAgrees, EachDistributes, HasTooManyCables, IsOutOfMemoryOrSpent, IsReached, IsReady, LeadsTo}
 pub use Rattle.lagprogress.specs.Played.{NamesNoCable, NothingStaysHeld, PlaysPart, RefusesDelivery, RunsAll, RunsPart, found_nothing}
-pub use Rattle.lagprogress.specs.PlayedByHosts.{AsksEnds, AsksInVain, AsksPort, PlaysBetween, StopsBetween, StopsInHostRound, sent_nothing}
+pub use Rattle.lagprogress.specs.PlayedByHosts.{AsksEnds, AsksOrDelivers, AsksPort, PlaysBetween, PlaysHostPart, StopsBetween}
 pub use Rattle.lagprogress.specs.Progress.{ActiveEndsComeToKnow, EndKnows, EndsComeToKnow, Knows}
 pub use Rattle.lagprogress.specs.Rounds.{AtEnd, IsDeliver, IsHealthy, IsHealthyAt, IsRound, NothingInFlight, OfPort, Rounds, asks_all, asks_ends}
-pub use Rattle.lagprogress.specs.Rounds.{freed_if_both_active, freed_if_one_is, ticks_of_both, up_if_both_active, up_if_one_is}
+pub use Rattle.lagprogress.specs.Rounds.{freed_if_both_active, freed_if_one_is, known_if_both_active, known_if_one_is, ticks_of_both}
+pub use Rattle.lagprogress.specs.Rounds.{up_if_both_active, up_if_one_is}
 pub use Rattle.lagprogress.specs.Selecting.{IsFull, StandsByFull, WantsAggregator, aggregators_with, ports_with}
 pub use Rattle.lagprogress.specs.Shared.{AreOneGroup, DownWereLinkedTo, HasAggregators, LeadToKey, SharesGroup}
 pub use Rattle.lagprogress.specs.Silence.{IsLoud, SilentFor, Speaks}

@@ -7,8 +7,8 @@ use Rattle.lagprogress.proofs.Common.{Carries, IsFrame, ParsesWhere, Performs, R
 use Rattle.lagprogress.proofs.Common.{TransmitsAt, TransmitsIf, CallPromise, SystemState, port_index, can_receive_at_rest, all-get, found_place}
 use Rattle.lagprogress.proofs.Common.{Event, Reply, AfterTransmit, Algorithms, WorldSteps, side_of, HalfState, ItemValue, LinkState, WorldState}
 use Rattle.lagprogress.proofs.Common.{accepts, change_link, half, link_at, link_index, port_at, put_on_port, sent_on, towards, with_half}
-use Rattle.lagprogress.proofs.Common.{with_towards, set_elsewhere, set_here, position_there, CutOffIsDefaultedByHosts, IsCutOff, timeout_time}
-use Rattle.lagprogress.proofs.Common.{HostRounds, IsHostRound, IsSteady, IsTimed}
+use Rattle.lagprogress.proofs.Common.{with_towards, set_elsewhere, set_here, position_there, CutOffIsDefaulted, IsCutOff, timeout_time, HostRounds}
+use Rattle.lagprogress.proofs.Common.{IsHostRound, IsSteady, IsTimed}
 use Rattle.lagprogress.proofs.OneRound.{one_of_both}
 use Rattle.lagprogress.proofs.RoundEvents.{asked_half, came_half}
 use Rattle.lagprogress.proofs.Hearing.{no, Unheard, Within, begins, counts, is_defaulted, receives, rested, unheard_settles, when_up}
@@ -437,7 +437,7 @@ pub cut_since : (gives : Algorithms) (n k : ℕ) (s : Side) (x : SystemPort) (ol
     → 931 ≤ n → HostRounds gives n old new → Severed 1 s x.number (WereDown (peer s) old) new
 cut_since gives n k s x old new steady there up cut enough h = (deaf_since gives n k s x old new steady there up cut enough h).1
 
-pub cut_off_is_defaulted_by_hosts : (gives : Algorithms) → CutOffIsDefaultedByHosts gives
+pub cut_off_is_defaulted_by_hosts : (gives : Algorithms) → CutOffIsDefaulted HostRounds gives
 cut_off_is_defaulted_by_hosts gives n k s x y old new steady there up cut enough h now =
     let p = x.number in
     let last = deaf_since gives n k s x old new steady there up cut enough h in

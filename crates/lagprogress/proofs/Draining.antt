@@ -11,7 +11,7 @@ use Rattle.std.proofs.lemmas.Slice.Eq.{bytes_eq-Decides}
 use Rattle.slowpdu.specs.declared.pdu.Pdu.TheVariants as pdu
 use Rattle.lagsystem.specs.declared.drive.Reply.TheVariants as answer
 use Rattle.lagsystem.specs.declared.received.Received.TheVariants as received
-use Rattle.lagprogress.proofs.Answering.{AllFine, each_by, settles_all}
+use Rattle.lagprogress.proofs.Answering.{IsFine, settles_all, turned_by}
 use Rattle.lagprogress.proofs.Holding.{Fine, Flights, Has, IsMarker, answering, asking, frame_is, has_last, marked_beside, is_port, not_port}
 use Rattle.lagprogress.proofs.Holding.{released_beside, settled_fine}
 use Rattle.lagprogress.proofs.Linked.{peer_twice, push_there, put_other, put_there, gains_has}
@@ -28,9 +28,9 @@ after_tick_on p (Flushing q n preferred age) e = by_test (ltb (age + 1) 30) e
     by_test true f = absurd cc
     by_test false f = absurd cc
 
-module _ (at : Side → ℕ) (w : Side → Lacpdu) (s : Side) (mac : List ℕ) (aggs count : ℕ) where
-  abbrev Fines : ℕ → Type 0 → (ℕ → Type 0) → Table → Type 0
-  Fines m W F t = AllFine at w s mac aggs count m W F t
+module _ (at : Side → ℕ) (w : Side → Lacpdu) (s : Side) (mac : List ℕ) (agg conv : ℕ) where
+  abbrev FineIn : ℕ → Type 0 → (ℕ → Type 0) → Table → Type 0
+  FineIn m W F t = IsFine at w s mac agg conv m W F t
 
   -- the response to a marker of the port
   abbrev IsResponse : List ℕ → ℕ → Type 0
@@ -41,13 +41,13 @@ module _ (at : Side → ℕ) (w : Side → Lacpdu) (s : Side) (mac : List ℕ) (
   Stays old new = (g k : ℕ) → assignment_of old.table g k ≡ On (at s)
       → is_among (distributing (aggregator_numbered g) new.system_ports) (at s) ≡ true
 
-  fines_same : (m : ℕ) (W : Type 0) (F : ℕ → Type 0) (old new : SystemState) → new ≡ old → Fines m W F old.table → Fines m W F new.table
-  fines_same m W F old new e = subst (λ (t : SystemState). Fines m W F t.table) (sym e)
+  fines_same : (m : ℕ) (W : Type 0) (F : ℕ → Type 0) (old new : SystemState) → new ≡ old → FineIn m W F old.table → FineIn m W F new.table
+  fines_same m W F old new e = subst (λ (t : SystemState). FineIn m W F t.table) (sym e)
 
   settled_from : (m : ℕ) (W : Type 0) (F : ℕ → Type 0) (old mid new : SystemState) → mid.table ≡ old.table → Settling mid new → Stays old new
-      → Fines m W F old.table → Fines m W F new.table
-  settled_from m W F old mid new e h stays fine = settles_all at w s mac aggs count m W F mid new h
-      (λ g k f. stays g k (sym (ap (λ t. assignment_of t g k) e) ∙ f)) (subst (Fines m W F) (sym e) fine)
+      → FineIn m W F old.table → FineIn m W F new.table
+  settled_from m W F old mid new e h stays fine = settles_all at w s mac agg conv m W F mid new h
+      (λ g k f. stays g k (sym (ap (λ t. assignment_of t g k) e) ∙ f)) (subst (FineIn m W F) (sym e) fine)
 
   own_response : (old : SystemState) (port id : ℕ) → port ≡ at s → old.system.mac ≡ mac → is_own_response old port (answering (at s) mac id) ≡ true
   own_response old port id number own =
@@ -83,28 +83,29 @@ module _ (at : Side → ℕ) (w : Side → Lacpdu) (s : Side) (mac : List ℕ) (
   changes_fine : (index : Option ℕ) (old new : SystemState) (octets : List ℕ) (m : ℕ) (W : Type 0) (F G : ℕ → Type 0)
       → ((id : ℕ) → F id → IsResponse octets id ⊎ G id)
       → ((id : ℕ) → IsResponse octets id → (g k : ℕ) → assignment_of new.table g k ≡ after_release (at s) id (assignment_of old.table g k))
-      → Stays old new → TableChanges index old new → Fines m W F old.table → Fines m W G new.table
-  changes_fine index old new octets m W F G split comes stays c fine g k l n o =
-      one_fine octets m W F G (assignment_of old.table g k) (assignment_of new.table g k) split (λ id r. comes id r g k) (goes c) (fine g k l n o)
+      → Stays old new → TableChanges index old new → FineIn m W F old.table → FineIn m W G new.table
+  changes_fine index old new octets m W F G split comes stays c fine =
+      one_fine octets m W F G (assignment_of old.table agg conv) (assignment_of new.table agg conv) split (λ id r. comes id r agg conv) (goes c) fine
     where
-      goes : TableChanges index old new → Fine (at s) m W G (assignment_of old.table g k) → Fine (at s) m W G (assignment_of new.table g k)
+      goes : TableChanges index old new → FineIn m W G old.table → FineIn m W G new.table
       goes (inl x) h =
           let q = settling_parts x.1.0 new x.1.2 in
           let table : q.0.table ≡ old.table = ports_table x.1.0 q.0 q.1 ∙ ap (λ (t : SystemState). t.table) x.1.1.1 in
           let ports : new.system_ports ≡ q.0.system_ports = ap (λ (t : SystemState). t.system_ports) q.2.frame in
-          subst (Fine (at s) m W G) (sym (q.2.states g k))
-          (settled_fine (at s) m W G (distributing (aggregator_numbered g) q.0.system_ports) (assignment_of q.0.table g k)
-          (λ e. subst (λ xs. is_among (distributing (aggregator_numbered g) xs) (at s) ≡ true) ports
-          (stays g k (sym (ap (λ t. assignment_of t g k) table) ∙ e)))
-          (subst (λ t. Fine (at s) m W G (assignment_of t g k)) (sym table) h))
-      goes (inr (inl z)) h = subst (Fine (at s) m W G) (sym (z.2.states g k)) (released_beside (at s) m z.0 z.1 W G (assignment_of old.table g k) h)
-      goes (inr (inr e)) h = subst (λ t. Fine (at s) m W G (assignment_of t g k)) (sym e) h
+          subst (Fine (at s) m W G) (sym (q.2.states agg conv))
+          (settled_fine (at s) m W G (distributing (aggregator_numbered agg) q.0.system_ports) (assignment_of q.0.table agg conv)
+          (λ e. subst (λ xs. is_among (distributing (aggregator_numbered agg) xs) (at s) ≡ true) ports
+          (stays agg conv (sym (ap (λ t. assignment_of t agg conv) table) ∙ e)))
+          (subst (λ t. Fine (at s) m W G (assignment_of t agg conv)) (sym table) h))
+      goes (inr (inl z)) h =
+          subst (Fine (at s) m W G) (sym (z.2.states agg conv)) (released_beside (at s) m z.0 z.1 W G (assignment_of old.table agg conv) h)
+      goes (inr (inr e)) h = subst (λ t. Fine (at s) m W G (assignment_of t agg conv)) (sym e) h
 
   -- an item comes to the port at the end of s
   pub comes_fine : (gives : Algorithms) (fl : Side → List ItemValue) (old new : WorldState) (i : ℕ) (z : SystemPort) (m : ℕ) (W : Type 0)
       → port_index (at s) (half s old).state.system_ports ≡ Some i → slice_get (half s old).state.system_ports i ≡ Some z
       → z.port.enabled ≡ true → (half s old).state.system.mac ≡ mac → (k : Arrives gives s at fl old new) → Stays (half s old).state (half s new).state
-      → Fines m W (Flights s (at s) mac fl) (half s old).state.table → Fines m W (Flights s (at s) mac k.now) (half s new).state.table
+      → FineIn m W (Flights s (at s) mac fl) (half s old).state.table → FineIn m W (Flights s (at s) mac k.now) (half s new).state.table
   comes_fine gives fl old new i z m W place there up own k stays fine = by_answer k.a k.promise (split k.back)
     where
       st : SystemState
@@ -122,7 +123,7 @@ module _ (at : Side → ℕ) (w : Side → Lacpdu) (s : Side) (mac : List ℕ) (
 
       by_answer : (a : Result Received SystemFault) → CallPromise (gives s) (half s old).state (Receive (at s) k.item.octets) (answer.Receive a) (half s new).state
           → ((id : ℕ) → Flights s (at s) mac fl id → IsResponse k.item.octets id ⊎ Flights s (at s) mac k.now id)
-          → Fines m W (Flights s (at s) mac k.now) (half s new).state.table
+          → FineIn m W (Flights s (at s) mac k.now) (half s new).state.table
       by_answer (Err fault) h split = absurd (none-some i (sym h.step.cause ∙ place))
       by_answer (Ok o) h split =
           let r = subst (λ x. ReceivesAt x k.item.octets (half s old).state o (half s new).state) place h.step in
@@ -185,27 +186,27 @@ module _ (at : Side → ℕ) (w : Side → Lacpdu) (s : Side) (mac : List ℕ) (
   -- another port is asked, or something comes to it
 
   other_marks : (o : Option ℕ) (port : ℕ) (z : List ℕ) (old : SystemState) (a : Option (List ℕ)) (new : SystemState) (m : ℕ) (W : Type 0)
-      (F : ℕ → Type 0) → (port ≡ at s → ⊥) → SendsMarkerOf o port z old a new → Fines m W F old.table → Fines m W F new.table
+      (F : ℕ → Type 0) → (port ≡ at s → ⊥) → SendsMarkerOf o port z old a new → FineIn m W F old.table → FineIn m W F new.table
   other_marks None port z old a new m W F other h fine = fines_same m W F old new h.1 fine
   other_marks (Some id) port z old a new m W F other h fine =
-      each_by aggs count (Fine (at s) m W F) (Fine (at s) m W F) (after_mark port id) old.table new.table h.4.states
+      turned_by agg conv (Fine (at s) m W F) (Fine (at s) m W F) (after_mark port id) old.table new.table h.4.states
       (λ b f. marked_beside (at s) m port id W F other b f) fine
 
   other_sends : (up due : Bool) (i : ℕ) (z : SystemPort) (old : SystemState) (a : Option (List ℕ)) (new : SystemState) (m : ℕ) (W : Type 0)
-      (F : ℕ → Type 0) → (z.number ≡ at s → ⊥) → TransmitsIf up due i z old a new → Fines m W F old.table → Fines m W F new.table
+      (F : ℕ → Type 0) → (z.number ≡ at s → ⊥) → TransmitsIf up due i z old a new → FineIn m W F old.table → FineIn m W F new.table
   other_sends false due i z old a new m W F other h fine = fines_same m W F old new h.1 fine
   other_sends true true i z old a new m W F other h fine =
-      subst (Fines m W F) (sym (ap (λ (t : SystemState). t.table) h.3)) fine
+      subst (FineIn m W F) (sym (ap (λ (t : SystemState). t.table) h.3)) fine
   other_sends true false i z old a new m W F other h fine = other_marks (marker_due old.table z.number) z.number z.mac old a new m W F other h fine
 
   other_transmits : (n : ℕ) (o : Option ℕ) (old : SystemState) (a : Option (List ℕ)) (new : SystemState) (m : ℕ) (W : Type 0) (F : ℕ → Type 0)
-      → port_index n old.system_ports ≡ o → (n ≡ at s → ⊥) → TransmitsAt o old a new → Fines m W F old.table → Fines m W F new.table
+      → port_index n old.system_ports ≡ o → (n ≡ at s → ⊥) → TransmitsAt o old a new → FineIn m W F old.table → FineIn m W F new.table
   other_transmits n None old a new m W F e other h fine = absurd h
   other_transmits n (Some i) old a new m W F e other h fine = other_sends h.0.port.enabled (is_due h.0.port) i h.0 old a new m W F
       (λ f. other (sym (found_place n old.system_ports i h.0 e h.1) ∙ f)) h.2 fine
 
   pub elsewhere_fine : (gives : ℕ → ℕ → ℕ → Type 0) (old new : SystemState) (m : ℕ) (W : Type 0) (F : ℕ → Type 0)
-      → Elsewhere gives (at s) old new → Stays old new → Fines m W F old.table → Fines m W F new.table
+      → Elsewhere gives (at s) old new → Stays old new → FineIn m W F old.table → FineIn m W F new.table
   elsewhere_fine gives old new m W F (inl e) stays fine = fines_same m W F old new e fine
   elsewhere_fine gives old new m W F (inr (p, Transmit n, answer.Transmit (Ok a), other, is, step)) stays fine =
       other_transmits n (port_index n old.system_ports) old a new m W F refl (λ e. other (sym is ∙ e)) step fine
@@ -215,11 +216,11 @@ module _ (at : Side → ℕ) (w : Side → Lacpdu) (s : Side) (mac : List ℕ) (
   elsewhere_fine gives old new m W F (inr (p, Receive n octets, answer.Receive (Ok o), other, is, step)) stays fine =
       changed (table_changes step.1 step.0.number (port_index n old.system_ports) old o new step.4)
     where
-      changed : TableChanges (port_index n old.system_ports) old new → Fines m W F new.table
+      changed : TableChanges (port_index n old.system_ports) old new → FineIn m W F new.table
       changed (inl x) = settled_from m W F old x.1.0 new (ap (λ (t : SystemState). t.table) x.1.1.1) x.1.2 stays fine
-      changed (inr (inl z)) = each_by aggs count (Fine (at s) m W F) (Fine (at s) m W F) (after_release z.0 z.1) old.table new.table z.2.states
+      changed (inr (inl z)) = turned_by agg conv (Fine (at s) m W F) (Fine (at s) m W F) (after_release z.0 z.1) old.table new.table z.2.states
           (λ b f. released_beside (at s) m z.0 z.1 W F b f) fine
-      changed (inr (inr e)) = subst (Fines m W F) (sym e) fine
+      changed (inr (inr e)) = subst (FineIn m W F) (sym e) fine
   elsewhere_fine gives old new m W F (inr (p, Receive n octets, answer.Receive (Err fault), other, is, step)) stays fine =
       fines_same m W F old new step.same fine
   elsewhere_fine gives old new m W F (inr (p, Receive n octets, a, other, is, step)) stays fine = absurd step

@@ -1,14 +1,14 @@
--- A port of a healthy cable is drained of the conversations that are held on it.
+-- A port of a healthy cable is drained of a conversation that is held on it.
 use Rattle.lagprogress.proofs.Common.{Bool, Err, IsSome, List, None, Ok, Option, Result, Some, [], ap, arith, cond, eqb, false, inl, inr, length, ltb}
 use Rattle.lagprogress.proofs.Common.{refl, subst, suc, sym, true, zero, ℕ, ◌&&◌, ◌+◌, ◌<◌, ◌^◌, ◌∙◌, ◌∷◌, ◌≡◌, ◌≤◌, ◌⊎◌, nat_tests, none-some, Vec}
-use Rattle.lagprogress.proofs.Common.{AllByRecursion, AggId, Choice, is_selected, Lacpdu, One, Side, peer, Machines, is_due, after_tick, marker_due}
-use Rattle.lagprogress.proofs.Common.{Table, assignment_of, next_identifier, SystemFault, Offer, Receive, Step, Tick, Transmit}
-use Rattle.lagprogress.proofs.Common.{number_of_conversation, TransmitsAt, Settling, CallPromise, SystemState, machines_of, ports_table}
-use Rattle.lagprogress.proofs.Common.{settling_parts, found_place, Event, Reply, Algorithms, WorldRuns, WorldSteps, side_of, ItemValue, WorldState}
-use Rattle.lagprogress.proofs.Common.{half, port_at, DrainingRounds, IsDrainingRound, MovesNone, AfterTick, AtSomeWorld, IsBetweenTicks, IsHostRound}
-use Rattle.lagprogress.proofs.Common.{TickOnce, NothingInFlight, OfPort, IsSteady}
-use Rattle.lagprogress.proofs.Answering.{AllFine, Steady, all_map, each_by, sends_fine, settles_all, stays_on, went_flights, none_wanted, not_wanted}
-use Rattle.lagprogress.proofs.Answering.{none_due}
+use Rattle.lagprogress.proofs.Common.{AggId, Choice, is_selected, Lacpdu, One, Side, peer, Machines, is_due, Assignment, after_tick, marker_due}
+use Rattle.lagprogress.proofs.Common.{IsConversation, Table, assignment_of, next_identifier, SystemFault, Move_conversation, Offer, Receive, Step}
+use Rattle.lagprogress.proofs.Common.{Tick, Transmit, GivesOrRefuses, system_move_result, number_of_conversation, TransmitsAt, Settling, CallPromise}
+use Rattle.lagprogress.proofs.Common.{SystemState, machines_of, ports_table, settling_parts, found_place, Event, Reply, Algorithms, WorldRuns}
+use Rattle.lagprogress.proofs.Common.{WorldSteps, side_of, ItemValue, WorldState, half, port_at, DrainingRounds, IsDrainingRound, IsNoMoveOf}
+use Rattle.lagprogress.proofs.Common.{AfterTick, AtSomeWorld, IsBetweenTicks, IsHostRound, TickOnce, NothingInFlight, OfPort, IsSteady}
+use Rattle.lagprogress.proofs.Answering.{IsFine, Steady, fine_in_map, turned_by, sends_fine, settles_all, stays_on, went_flights, none_wanted}
+use Rattle.lagprogress.proofs.Answering.{not_wanted, none_due}
 use Rattle.lagprogress.proofs.Climbing.{PartnerInSync, choice_along, partner_along, ticks_choice, ticks_partner}
 use Rattle.lagprogress.proofs.Unchanged.{calls_keep}
 use Rattle.lagprogress.proofs.Delivering.{deliver_link}
@@ -25,7 +25,7 @@ use Rattle.lagprogress.proofs.Claims.{IsNamed}
 use Rattle.lagprogress.proofs.HostRound.{left, fits_in, known_in, peer_holds, own_holds, none_ticked, Stages, of_side, MadeByTick, first_on}
 use Rattle.lagprogress.proofs.HostRound.{healthy_link, KeptWhere}
 use Rattle.lagsystem.specs.declared.drive.Reply.TheVariants as answer
-use Rattle.lagprogress.proofs.Quieting.{quiet_cable, quiet_link, offered_half, Grown}
+use Rattle.lagprogress.proofs.Quieting.{quiet_cable, quiet_link, offered_half, moved_half, Grown}
 use Rattle.lagscript.specs.declared.event.Event.TheVariants as event
 
 -- identifiers
@@ -100,22 +100,37 @@ tick_next s t gives n r old new named h =
     same_number : (a b : ℕ) → b ≡ a → a ≤ b
     same_number a b e = omega (arith, e)
 
--- the events of a round that moves no conversation
-between_next : (s : Side) (gives : Algorithms) (e : Event) (r : Reply) (old new : WorldState) → MovesNone e → IsBetweenTicks e
-    → WorldSteps gives old e r new → Rising s old new
-between_next s gives (event.Emit n p) r old new still b h = emit_next s gives n p r old new h
-between_next s gives (event.Deliver c n) r old new still b h = deliver_next s gives c n r old new h
-between_next s gives (event.Offer n agg octets) r old new still b h = offer_next s gives n agg octets r old new h
-between_next s gives (event.Move n agg conv p) r old new still b h = absurd still
-between_next s gives e r old new still b h = absurd b
+moves_next : (gives : ℕ → ℕ → ℕ → Type 0) (agg : AggId) (conv p : ℕ) (a : Result Unit SystemFault) (old new : SystemState)
+    → Step gives old (Move_conversation agg conv p) (answer.MoveConversation a) new → old.table.next ≤ new.table.next
+moves_next gives agg conv p a old new h = gives_next (system_move_result old agg conv p) h
+  where
+    gives_next : (what : Result Assignment SystemFault) → GivesOrRefuses agg conv what old a new → old.table.next ≤ new.table.next
+    gives_next (Ok state) k = let same = k.1.0.next in omega (arith, same)
+    gives_next (Err fault) k = subst (λ (t : SystemState). old.table.next ≤ t.table.next) (sym k.1) (omega arith)
+
+move_next : (s : Side) (gives : Algorithms) (n : ℕ) (agg : AggId) (conv p : ℕ) (r : Reply) (old new : WorldState)
+    → WorldSteps gives old (event.Move n agg conv p) r new → Rising s old new
+move_next s gives n agg conv p r old new h = elim (moved_half gives n agg conv p r old new h s) [
+  | inl same ↦ same_next s old new same
+  | inr (named, a, step) ↦ moves_next (gives s) agg conv p a (half s old).state (half s new).state step
+]
+
+-- the events of a round
+between_next : (s : Side) (gives : Algorithms) (e : Event) (r : Reply) (old new : WorldState) → IsBetweenTicks e → WorldSteps gives old e r new
+    → Rising s old new
+between_next s gives (event.Emit n p) r old new b h = emit_next s gives n p r old new h
+between_next s gives (event.Deliver c n) r old new b h = deliver_next s gives c n r old new h
+between_next s gives (event.Offer n agg octets) r old new b h = offer_next s gives n agg octets r old new h
+between_next s gives (event.Move n agg conv p) r old new b h = move_next s gives n agg conv p r old new h
+between_next s gives e r old new b h = absurd b
 
 one_next : (s t : Side) (gives : Algorithms) (a b : Bool) (e : Event) (es : List Event) (r : Reply) (old new : WorldState)
-    → TickOnce t a b (e ∷ es) → MovesNone e → WorldSteps gives old e r new → Rising s old new
-one_next s t gives a b e es r old new (inl (k, due, more)) still h =
+    → TickOnce t a b (e ∷ es) → WorldSteps gives old e r new → Rising s old new
+one_next s t gives a b e es r old new (inl (k, due, more)) h =
     tick_next s t gives k.0 r old new k.1 (subst (λ f. WorldSteps gives old f r new) k.2 h)
-one_next s t gives a b e es r old new (inr (inl (k, due, more))) still h =
+one_next s t gives a b e es r old new (inr (inl (k, due, more))) h =
     tick_next s (peer t) gives k.0 r old new k.1 (subst (λ f. WorldSteps gives old f r new) k.2 h)
-one_next s t gives a b e es r old new (inr (inr k)) still h = between_next s gives e r old new still k.0 h
+one_next s t gives a b e es r old new (inr (inr k)) h = between_next s gives e r old new k.0 h
 
 rest_ticks : (t : Side) (a b : Bool) (e : Event) (es : List Event) → TickOnce t a b (e ∷ es) → (c : Bool) × (d : Bool) × TickOnce t c d es
 rest_ticks t a b e es (inl h) = (false, b, h.2)
@@ -123,14 +138,14 @@ rest_ticks t a b e es (inr (inl h)) = (a, false, h.2)
 rest_ticks t a b e es (inr (inr h)) = (a, b, h.1)
 
 run_next : (s t : Side) (gives : Algorithms) (a b : Bool) (es : List Event) (rs : List Reply) (old new : WorldState) → TickOnce t a b es
-    → AllByRecursion MovesNone es → WorldRuns gives old es rs new → Rising s old new
-run_next s t gives a b [] [] old new h still run = same_next s old new (ap (λ (j : WorldState). (half s j).state) run)
-run_next s t gives a b (e ∷ es) (r ∷ rs) old new h still run =
+    → WorldRuns gives old es rs new → Rising s old new
+run_next s t gives a b [] [] old new h run = same_next s old new (ap (λ (j : WorldState). (half s j).state) run)
+run_next s t gives a b (e ∷ es) (r ∷ rs) old new h run =
     let o = rest_ticks t a b e es h in
-    let one = one_next s t gives a b e es r old run.0 h still.0 run.1 in
-    let more = run_next s t gives o.0 o.1 es rs run.0 new o.2 still.1 run.2 in
+    let one = one_next s t gives a b e es r old run.0 h run.1 in
+    let more = run_next s t gives o.0 o.1 es rs run.0 new o.2 run.2 in
     omega (arith, one, more)
-run_next s t gives a b es rs old new h still run = absurd run
+run_next s t gives a b es rs old new h run = absurd run
 
 -- an identifier is left while nothing is due, if one is in the end
 
@@ -139,32 +154,44 @@ abbrev HasLeft : Side → WorldState → Type 0
 HasLeft s j = IsSome (next_identifier (half s j).state.table)
 
 some_left : (s t : Side) (P : WorldState → Type 0) (gives : Algorithms) (a b : Bool) (es : List Event) (rs : List Reply) (old new : WorldState)
-    → TickOnce t a b es → AllByRecursion MovesNone es → (run : WorldRuns gives old es rs new) → HasLeft s new
-    → AtSomeWorld P gives es rs old new run → AtSomeWorld (λ j. P j × HasLeft s j) gives es rs old new run
-some_left s t P gives a b [] [] old new h still run left y = (y, subst (HasLeft s) run left)
-some_left s t P gives a b (e ∷ es) (r ∷ rs) old new h still run left (inl y) =
-    inl (y, left_before (half s old).state.table (half s new).state.table (run_next s t gives a b (e ∷ es) (r ∷ rs) old new h still run) left)
-some_left s t P gives a b (e ∷ es) (r ∷ rs) old new h still run left (inr y) =
-    let o = rest_ticks t a b e es h in inr (some_left s t P gives o.0 o.1 es rs run.0 new o.2 still.1 run.2 left y)
-some_left s t P gives a b es rs old new h still run left y = absurd run
+    → TickOnce t a b es → (run : WorldRuns gives old es rs new) → HasLeft s new → AtSomeWorld P gives es rs old new run
+    → AtSomeWorld (λ j. P j × HasLeft s j) gives es rs old new run
+some_left s t P gives a b [] [] old new h run left y = (y, subst (HasLeft s) run left)
+some_left s t P gives a b (e ∷ es) (r ∷ rs) old new h run left (inl y) =
+    inl (y, left_before (half s old).state.table (half s new).state.table (run_next s t gives a b (e ∷ es) (r ∷ rs) old new h run) left)
+some_left s t P gives a b (e ∷ es) (r ∷ rs) old new h run left (inr y) =
+    let o = rest_ticks t a b e es h in inr (some_left s t P gives o.0 o.1 es rs run.0 new o.2 run.2 left y)
+some_left s t P gives a b es rs old new h run left y = absurd run
 
 after_left : (s t : Side) (P : WorldState → Type 0) (gives : Algorithms) (a b : Bool) (es : List Event) (rs : List Reply) (old new : WorldState)
-    → TickOnce t a b es → AllByRecursion MovesNone es → (run : WorldRuns gives old es rs new) → HasLeft s new
-    → AfterTick s P gives es rs old new run → AfterTick s (λ j. P j × HasLeft s j) gives es rs old new run
-after_left s t P gives a b [] rs old new h still run left y = y
-after_left s t P gives a b (e ∷ es) [] old new h still run left y = y
-after_left s t P gives a b (e ∷ es) (r ∷ rs) old new h still run left (inl y) =
-    let o = rest_ticks t a b e es h in inl (y.0, some_left s t P gives o.0 o.1 es rs run.0 new o.2 still.1 run.2 left y.1)
-after_left s t P gives a b (e ∷ es) (r ∷ rs) old new h still run left (inr y) =
-    let o = rest_ticks t a b e es h in inr (after_left s t P gives o.0 o.1 es rs run.0 new o.2 still.1 run.2 left y)
+    → TickOnce t a b es → (run : WorldRuns gives old es rs new) → HasLeft s new → AfterTick s P gives es rs old new run
+    → AfterTick s (λ j. P j × HasLeft s j) gives es rs old new run
+after_left s t P gives a b [] rs old new h run left y = y
+after_left s t P gives a b (e ∷ es) [] old new h run left y = y
+after_left s t P gives a b (e ∷ es) (r ∷ rs) old new h run left (inl y) =
+    let o = rest_ticks t a b e es h in inl (y.0, some_left s t P gives o.0 o.1 es rs run.0 new o.2 run.2 left y.1)
+after_left s t P gives a b (e ∷ es) (r ∷ rs) old new h run left (inr y) =
+    let o = rest_ticks t a b e es h in inr (after_left s t P gives o.0 o.1 es rs run.0 new o.2 run.2 left y)
+
+-- another conversation is moved
+
+apart : (a b c d : ℕ) → (a ≡ c → b ≡ d → ⊥) → (eqb a c && eqb b d) ≡ false
+apart a b c d h = grind (arith, nat_tests)
+
+moved_elsewhere : (group : AggId) (moved agg conv : ℕ) (what : Result Assignment SystemFault) (a : Result Unit SystemFault) (old new : SystemState)
+    → (group.0 ≡ agg → moved ≡ conv → ⊥) → GivesOrRefuses group moved what old a new
+    → assignment_of new.table agg conv ≡ assignment_of old.table agg conv
+moved_elsewhere group moved agg conv (Ok state) a old new other h = h.1.0.states agg conv
+    ∙ ap (λ b. cond b state (assignment_of old.table agg conv)) (apart group.0 moved agg conv other)
+moved_elsewhere group moved agg conv (Err fault) a old new other h = ap (λ (t : SystemState). assignment_of t.table agg conv) h.1
 
 module _ (at : Side → ℕ) (w : Side → Lacpdu) (named : (t : Side) → IsNamed (w t)) (awake : (s : Side) → (activity (w s) ≡ true) ⊎ (activity (w (peer s)) ≡ true)) (s : Side)
-    (mac : List ℕ) (aggs count : ℕ) (c : Choice) (chosen : is_selected c ≡ true) (gives : Algorithms) where
+    (mac : List ℕ) (agg conv : ℕ) (c : Choice) (chosen : is_selected c ≡ true) (gives : Algorithms) where
   abbrev pub Y : Machines → Type 0
-  Y p = Steady at w s mac aggs count c p
+  Y p = Steady at w s mac agg conv c p
 
-  abbrev pub Fines : ℕ → Type 0 → (ℕ → Type 0) → Table → Type 0
-  Fines m W F t = AllFine at w s mac aggs count m W F t
+  abbrev pub FineIn : ℕ → Type 0 → (ℕ → Type 0) → Table → Type 0
+  FineIn m W F t = IsFine at w s mac agg conv m W F t
 
   along : (kn : Side → ℕ) → 1 ≤ kn s → Along Y (w s) (w (peer s)) (kn s) 2
   along kn l = both_along PartnerInSync (λ p. p.choice ≡ c) (w s) (w (peer s)) (kn s) 2
@@ -174,8 +201,7 @@ module _ (at : Side → ℕ) (w : Side → Lacpdu) (named : (t : Side) → IsNam
   -- what is fixed of the system
   pub record IsFixed (j : WorldState) : Type 0 where
     pub own : (half s j).state.system.mac ≡ mac
-    pub rows : (half s j).state.table.aggs ≡ aggs
-    pub cols : (half s j).state.table.conversations ≡ count
+    pub there : IsConversation (half s j).state.table agg conv
 
   fixed : (e : Event) (r : Reply) (old new : WorldState) → WorldSteps gives old e r new → IsSteady old → IsFixed old → IsFixed new
   fixed e r old new h steady f =
@@ -185,8 +211,11 @@ module _ (at : Side → ℕ) (w : Side → Lacpdu) (named : (t : Side) → IsNam
       let cols = calls_keep ℕ (λ t. t.conversations) (λ t a b. refl) (gives s) (half s old).state (half s new).state k.0 k.1 k.2 in
       record {
         own = calls_keep (List ℕ) (λ t. t.system.mac) (λ t a b. refl) (gives s) (half s old).state (half s new).state k.0 k.1 k.2 ∙ f.own;
-        rows = (now s).0.aggregators ∙ (keys ∙ (sym (steady s).0.aggregators ∙ f.rows));
-        cols = (now s).0.conversations ∙ (cols ∙ (sym (steady s).0.conversations ∙ f.cols));
+        there = (
+          f.there.0,
+          subst (λ n. agg ≤ n) (sym ((now s).0.aggregators ∙ (keys ∙ sym (steady s).0.aggregators))) f.there.1,
+          subst (λ n. conv < n) (sym ((now s).0.conversations ∙ (cols ∙ sym (steady s).0.conversations))) f.there.2,
+        );
       }
 
   -- within a round
@@ -196,12 +225,12 @@ module _ (at : Side → ℕ) (w : Side → Lacpdu) (named : (t : Side) → IsNam
     index : ℕ
     links : OnCable index at flying j.links
     same : IsFixed j
-    fine : Fines m W (Flights s (at s) mac flying) (half s j).state.table
+    fine : FineIn m W (Flights s (at s) mac flying) (half s j).state.table
 
   -- another event of a round
   made : {m : ℕ} {V : Type 0} {kn : Side → ℕ} {old new : WorldState} (W : Type 0) (e : Event) (r : Reply) → WorldSteps gives old e r new
       → Mid m V kn old → Link 2 at w kn s Y new → (fl : Side → List ItemValue) (i : ℕ) → OnCable i at fl new.links
-      → Fines m W (Flights s (at s) mac fl) (half s new).state.table → Mid m W kn new
+      → FineIn m W (Flights s (at s) mac fl) (half s new).state.table → Mid m W kn new
   made {old = old} {new = new} W e r h d link fl i links fine = record {
     link = link;
     flying = fl;
@@ -217,21 +246,21 @@ module _ (at : Side → ℕ) (w : Side → Lacpdu) (named : (t : Side) → IsNam
   -- the port is asked
   own_asked : {kn : Side → ℕ} (m : ℕ) (W : Type 0) (a : Result (Option (List ℕ)) SystemFault) (j new : WorldState) (fl now : Side → List ItemValue)
       → EndPort at w 2 kn s j → IsFixed j → CallPromise (gives s) (half s j).state (Transmit (at s)) (answer.Transmit a) (half s new).state → Went s a fl now
-      → Fines m W (Flights s (at s) mac fl) (half s j).state.table → Fines m W (Flights s (at s) mac now) (half s new).state.table
+      → FineIn m W (Flights s (at s) mac fl) (half s j).state.table → FineIn m W (Flights s (at s) mac now) (half s new).state.table
   own_asked m W (Err fault) j new fl now z f h went fine = absurd (none-some z.index (sym h.step.cause ∙ z.place))
   own_asked m W (Ok o) j new fl now z f h went fine =
       let t = subst (λ i. TransmitsAt i (half s j).state o (half s new).state) z.place h.step in
       let number : t.0.number ≡ at s = found_place (at s) (half s j).state.system_ports z.index t.0 z.place t.1 in
-      sends_fine at w s mac aggs count t.0.port.enabled (is_due t.0.port) z.index t.0 (half s j).state o (half s new).state fl now m W number
+      sends_fine at w s mac agg conv t.0.port.enabled (is_due t.0.port) z.index t.0 (half s j).state o (half s new).state fl now m W number
       f.own t.2 went fine
 
   peer_asked : (m : ℕ) (W : Type 0) (j new : WorldState) (fl : Side → List ItemValue) (k : Asks gives (peer s) at fl j new)
-      → Fines m W (Flights s (at s) mac fl) (half s j).state.table → Fines m W (Flights s (at s) mac k.now) (half s new).state.table
+      → FineIn m W (Flights s (at s) mac fl) (half s j).state.table → FineIn m W (Flights s (at s) mac k.now) (half s new).state.table
   peer_asked m W j new fl k fine =
       let same : (half s new).state ≡ (half s j).state = subst (λ t. (half t new).state ≡ (half t j).state) (peer_twice s) k.peers in
-      subst (λ (t : SystemState). Fines m W (Flights s (at s) mac k.now) t.table) (sym same)
-      (all_map at w s mac aggs count m W W (Flights s (at s) mac fl) (Flights s (at s) mac k.now) (half s j).state.table (λ x. x)
-      (went_flights at w s mac aggs count (peer s) k.a fl k.now k.went) fine)
+      subst (λ (t : SystemState). FineIn m W (Flights s (at s) mac k.now) t.table) (sym same)
+      (fine_in_map at w s mac agg conv m W W (Flights s (at s) mac fl) (Flights s (at s) mac k.now) (half s j).state.table (λ x. x)
+      (went_flights at w s mac agg conv (peer s) k.a fl k.now k.went) fine)
 
   module _ (kn : Side → ℕ) (fits : Fits 2 w kn) where
     some_known : 1 ≤ kn s
@@ -244,8 +273,8 @@ module _ (at : Side → ℕ) (w : Side → Lacpdu) (named : (t : Side) → IsNam
     mid_beside : (m : ℕ) (W : Type 0) (e : Event) (r : Reply) (old new : WorldState) → WorldSteps gives old e r new → (d : Mid m W kn old)
         → Link 2 at w kn s Y new → Beside gives at d.flying old new → Mid m W kn new
     mid_beside m W e r old new h d link b = made W e r h d link d.flying b.index b.links
-        (elsewhere_fine at w s mac aggs count (gives s) (half s old).state (half s new).state m W (Flights s (at s) mac d.flying)
-        (b.calls s) (stays_on at w s mac aggs count c kn kn old new d.link link) d.fine)
+        (elsewhere_fine at w s mac agg conv (gives s) (half s old).state (half s new).state m W (Flights s (at s) mac d.flying)
+        (b.calls s) (stays_on at w s mac agg conv c kn kn old new d.link link) d.fine)
 
     mid_asked : (m : ℕ) (W : Type 0) (n p : ℕ) (r : Reply) (old new : WorldState) → WorldSteps gives old (event.Emit n p) r new
         → Mid m W kn old → Mid m W kn new
@@ -282,35 +311,23 @@ module _ (at : Side → ℕ) (w : Side → Lacpdu) (named : (t : Side) → IsNam
           | inl e ↦ (let o = subst (λ u. Arrives gives u at d.flying old new) e k in
               let z = placed kn old d.link s in
               made W (event.Deliver cn n) r h d link o.now o.index o.links
-              (comes_fine at w s mac aggs count gives d.flying old new z.index z.port m W z.place z.there z.is.1.0 d.same.own o
-              (stays_on at w s mac aggs count c kn kn old new d.link link) d.fine))
+              (comes_fine at w s mac agg conv gives d.flying old new z.index z.port m W z.place z.there z.is.1.0 d.same.own o
+              (stays_on at w s mac agg conv c kn kn old new d.link link) d.fine))
           | inr e ↦ (let o = subst (λ u. Arrives gives u at d.flying old new) e k in
               let z = placed kn old d.link (peer s) in
               let still : (half s new).state ≡ (half s old).state = subst (λ u. (half u new).state ≡ (half u old).state) (peer_twice s) o.peers in
               made W (event.Deliver cn n) r h d link o.now o.index o.links
-              (subst (λ (y : SystemState). Fines m W (Flights s (at s) mac o.now) y.table) (sym still)
-              (all_map at w s mac aggs count m W W (Flights s (at s) mac d.flying) (Flights s (at s) mac o.now) (half s old).state.table
-              (λ x. x) (peer_answers at w s mac aggs count gives d.flying old new z.index z.port z.place z.there z.is.1.0 o) d.fine)))
+              (subst (λ (y : SystemState). FineIn m W (Flights s (at s) mac o.now) y.table) (sym still)
+              (fine_in_map at w s mac agg conv m W W (Flights s (at s) mac d.flying) (Flights s (at s) mac o.now) (half s old).state.table
+              (λ x. x) (peer_answers at w s mac agg conv gives d.flying old new z.index z.port z.place z.there z.is.1.0 o) d.fine)))
         ]
 
-    offered_all : (m : ℕ) (W : Type 0) (F : ℕ → Type 0) (agg : AggId) (octets : List ℕ) (a : Result ℕ SystemFault) (old new : SystemState)
-        → Step (gives s) old (Offer agg octets) (answer.Offer a) new → Fines m W F old.table → Fines m W F new.table
-    offered_all m W F agg octets (Err fault) old new h fine = subst (λ (t : SystemState). Fines m W F t.table) (sym h.1) fine
-    offered_all m W F agg octets (Ok port) old new h fine = λ g k l n o. subst (Fine (at s) m W F) (sym (h.2.0.states g k))
-        (offered_fine (at s) m port W F (eqb agg.0 g && eqb (number_of_conversation old octets) k) (assignment_of old.table g k) (fine g k l n o))
-
-    mid_offered : (m : ℕ) (W : Type 0) (n : ℕ) (agg : AggId) (octets : Vec ℕ) (r : Reply) (old new : WorldState)
-        → WorldSteps gives old (event.Offer n agg octets) r new → Mid m W kn old → Mid m W kn new
-    mid_offered m W n agg octets r old new h d =
-        made W (event.Offer n agg octets) r h d (quiet_link gives (event.Offer n agg octets) 2 at w kn s Y r old new tt h d.link).link g.flying d.index g.on
-        (elim (offered_half gives n agg octets r old new h s) [
-          | inl same ↦ subst (λ (y : SystemState). Fines m W (Flights s (at s) mac g.flying) y.table) (sym same) grown
-          | inr (a, step) ↦ offered_all m W (Flights s (at s) mac g.flying) agg octets.items a (half s old).state (half s new).state step grown
-        ])
+    -- what is known of it goes on while the cable grows
+    grown : (m : ℕ) (W : Type 0) (old new : WorldState) (d : Mid m W kn old) (g : Grown d.index at d.flying new)
+        → FineIn m W (Flights s (at s) mac g.flying) (half s old).state.table
+    grown m W old new d g = fine_in_map at w s mac agg conv m W W (Flights s (at s) mac d.flying) (Flights s (at s) mac g.flying)
+        (half s old).state.table (λ x. x) flights d.fine
       where
-        g : Grown d.index at d.flying new
-        g = quiet_cable gives (event.Offer n agg octets) d.index at d.flying r old new tt h d.links
-
         has : (P : ItemValue → Type 0) (t : Side) → Has P (d.flying t) → Has P (g.flying t)
         has P t y = elim (g.grew t) [
           | inl e ↦ subst (Has P) (sym e) y
@@ -321,31 +338,58 @@ module _ (at : Side → ℕ) (w : Side → Lacpdu) (named : (t : Side) → IsNam
         flights id (inl y) = inl (has (IsMarker (asking (at s) mac id)) (peer s) y)
         flights id (inr y) = inr (has (IsMarker (answering (at s) mac id)) s y)
 
-        grown : Fines m W (Flights s (at s) mac g.flying) (half s old).state.table
-        grown = all_map at w s mac aggs count m W W (Flights s (at s) mac d.flying) (Flights s (at s) mac g.flying) (half s old).state.table (λ x. x)
-            flights d.fine
+    offered_frame : (m : ℕ) (W : Type 0) (F : ℕ → Type 0) (group : AggId) (octets : List ℕ) (a : Result ℕ SystemFault) (old new : SystemState)
+        → Step (gives s) old (Offer group octets) (answer.Offer a) new → FineIn m W F old.table → FineIn m W F new.table
+    offered_frame m W F group octets (Err fault) old new h fine = subst (λ (t : SystemState). FineIn m W F t.table) (sym h.1) fine
+    offered_frame m W F group octets (Ok port) old new h fine = subst (Fine (at s) m W F) (sym (h.2.0.states agg conv))
+        (offered_fine (at s) m port W F (eqb group.0 agg && eqb (number_of_conversation old octets) conv) (assignment_of old.table agg conv) fine)
 
-    mid_between : (m : ℕ) (W : Type 0) → KeptWhere gives MovesNone (Mid m W kn)
+    mid_offered : (m : ℕ) (W : Type 0) (n : ℕ) (group : AggId) (octets : Vec ℕ) (r : Reply) (old new : WorldState)
+        → WorldSteps gives old (event.Offer n group octets) r new → Mid m W kn old → Mid m W kn new
+    mid_offered m W n group octets r old new h d =
+        let e = event.Offer n group octets in
+        let g = quiet_cable gives e d.index at d.flying r old new tt h d.links in
+        made W e r h d (quiet_link gives e 2 at w kn s Y r old new tt h d.link).link g.flying d.index g.on
+        (elim (offered_half gives n group octets r old new h s) [
+          | inl same ↦ subst (λ (y : SystemState). FineIn m W (Flights s (at s) mac g.flying) y.table) (sym same) (grown m W old new d g)
+          | inr (a, step) ↦ offered_frame m W (Flights s (at s) mac g.flying) group octets.items a (half s old).state (half s new).state step
+              (grown m W old new d g)
+        ])
+
+    mid_moved : (m : ℕ) (W : Type 0) (n : ℕ) (group : AggId) (moved p : ℕ) (r : Reply) (old new : WorldState)
+        → IsNoMoveOf s agg conv (event.Move n group moved p) → WorldSteps gives old (event.Move n group moved p) r new → Mid m W kn old
+        → Mid m W kn new
+    mid_moved m W n group moved p r old new other h d =
+        let e = event.Move n group moved p in
+        let g = quiet_cable gives e d.index at d.flying r old new tt h d.links in
+        made W e r h d (quiet_link gives e 2 at w kn s Y r old new tt h d.link).link g.flying d.index g.on
+        (elim (moved_half gives n group moved p r old new h s) [
+          | inl same ↦ subst (λ (y : SystemState). FineIn m W (Flights s (at s) mac g.flying) y.table) (sym same) (grown m W old new d g)
+          | inr (told, a, step) ↦ subst (Fine (at s) m W (Flights s (at s) mac g.flying))
+              (sym (moved_elsewhere group moved agg conv (system_move_result (half s old).state group moved p) a (half s old).state (half s new).state
+              (other told) step)) (grown m W old new d g)
+        ])
+
+    mid_between : (m : ℕ) (W : Type 0) → KeptWhere gives (IsNoMoveOf s agg conv) (Mid m W kn)
     mid_between m W (event.Emit n p) r i j still b h d = mid_asked m W n p r i j h d
     mid_between m W (event.Deliver cn n) r i j still b h d = mid_delivers m W cn n r i j h d
-    mid_between m W (event.Offer n agg octets) r i j still b h d = mid_offered m W n agg octets r i j h d
-    mid_between m W (event.Move n agg conv p) r i j still b h d = absurd still
+    mid_between m W (event.Offer n group octets) r i j still b h d = mid_offered m W n group octets r i j h d
+    mid_between m W (event.Move n group moved p) r i j still b h d = mid_moved m W n group moved p r i j still h d
     mid_between m W e r i j still b h d = absurd b
 
-    -- where no marker is due and an identifier is left, none is Wanted
+    -- where no marker is due and an identifier is left, it is not Wanted
     mid_drained : (m : ℕ) (W : Type 0) (j : WorldState) → marker_due (half s j).state.table (at s) ≡ None → HasLeft s j → Mid m W kn j → Mid m ⊥ kn j
     mid_drained m W j none left d =
         let t = (half s j).state.table in
-        let zero_wanted = none_due at w s mac aggs count t left none in
+        let zero_wanted = none_due at w s mac agg conv t left none in
         record {
           link = d.link;
           flying = d.flying;
           index = d.index;
           links = d.links;
           same = d.same;
-          fine = λ g k l n o. not_wanted (at s) m W (Flights s (at s) mac d.flying) (assignment_of t g k)
-              (none_wanted (at s) t zero_wanted g k l (subst (λ x. g ≤ x) (sym d.same.rows) n) (subst (λ x. k < x) (sym d.same.cols) o))
-              (d.fine g k l n o);
+          fine = not_wanted (at s) m W (Flights s (at s) mac d.flying) (assignment_of t agg conv)
+              (none_wanted (at s) t zero_wanted agg conv d.same.there.0 d.same.there.1 d.same.there.2) d.fine;
         }
 
   -- ticks
@@ -360,10 +404,10 @@ module _ (at : Side → ℕ) (w : Side → Lacpdu) (named : (t : Side) → IsNam
         index = d.index;
         links = subst (OnCable d.index at d.flying) (sym k.links) d.links;
         same = fixed (event.Tick n 1) r i j step d.link.steady d.same;
-        fine = settles_all at w s mac aggs count (m + 1) (Unit {0}) (Flights s (at s) mac d.flying) k.step.0 (half s j).state k.step.2
-            (λ g x y. stays_on at w s mac aggs count c kn to i j d.link link g x
+        fine = settles_all at w s mac agg conv (m + 1) (Unit {0}) (Flights s (at s) mac d.flying) k.step.0 (half s j).state k.step.2
+            (λ g x y. stays_on at w s mac agg conv c kn to i j d.link link g x
             (after_tick_on (at s) (assignment_of (half s i).state.table g x) (sym (k.step.1.1.states g x) ∙ y)))
-            (each_by aggs count (Fine (at s) m W (Flights s (at s) mac d.flying)) (Fine (at s) (m + 1) (Unit {0}) (Flights s (at s) mac d.flying))
+            (turned_by agg conv (Fine (at s) m W (Flights s (at s) mac d.flying)) (Fine (at s) (m + 1) (Unit {0}) (Flights s (at s) mac d.flying))
             after_tick (half s i).state.table k.step.0.table k.step.1.1.states (ticked_fine (at s) m W (Flights s (at s) mac d.flying)) d.fine);
       }
 
@@ -378,7 +422,7 @@ module _ (at : Side → ℕ) (w : Side → Lacpdu) (named : (t : Side) → IsNam
         index = d.index;
         links = subst (OnCable d.index at d.flying) (sym k.links) d.links;
         same = fixed (event.Tick n 1) r i j step d.link.steady d.same;
-        fine = subst (λ (y : SystemState). Fines m W (Flights s (at s) mac d.flying) y.table) (sym still) d.fine;
+        fine = subst (λ (y : SystemState). FineIn m W (Flights s (at s) mac d.flying) y.table) (sym still) d.fine;
       }
 
   -- at the end of a round
@@ -386,7 +430,7 @@ module _ (at : Side → ℕ) (w : Side → Lacpdu) (named : (t : Side) → IsNam
     pub fresh : FreshAt at w 2 j
     pub steady : AtIt at w s Y j
     pub same : IsFixed j
-    pub fine : Fines m W (λ id. ⊥) (half s j).state.table
+    pub fine : FineIn m W (λ id. ⊥) (half s j).state.table
 
   none_flies : (j : WorldState) (i : ℕ) (fl : Side → List ItemValue) → NothingInFlight j → OnCable i at fl j.links → (id : ℕ)
       → Flights s (at s) mac fl id → ⊥
@@ -408,13 +452,13 @@ module _ (at : Side → ℕ) (w : Side → Lacpdu) (named : (t : Side) → IsNam
   Drained j = NoneDue j × HasLeft s j
 
   -- a round: what was Wanted is freed, and what waited for a response waits a tick more, or is freed
-  round_rests : (m : ℕ) (W : Type 0) (old new : WorldState) → IsDrainingRound gives old new → IsSome (next_identifier (half s new).state.table)
+  round_rests : (m : ℕ) (W : Type 0) (old new : WorldState) → IsDrainingRound s agg conv gives old new → IsSome (next_identifier (half s new).state.table)
       → Rests m W old → Rests (m + 1) ⊥ new
   round_rests m W old new q one_left rests = record {
     fresh = stays_fresh at w named awake gives 2 old new (omega arith) h g;
     steady = beside at w 2 (kn false false) s Y new end.link;
     same = end.same;
-    fine = all_map at w s mac aggs count (m + 1) ⊥ ⊥ (Flights s (at s) mac end.flying) (λ id. ⊥) (half s new).state.table (λ x. x)
+    fine = fine_in_map at w s mac agg conv (m + 1) ⊥ ⊥ (Flights s (at s) mac end.flying) (λ id. ⊥) (half s new).state.table (λ x. x)
         (none_flies new end.index end.flying h.empties end.links) end.fine;
   }
     where
@@ -454,7 +498,7 @@ module _ (at : Side → ℕ) (w : Side → Lacpdu) (named : (t : Side) → IsNam
       other a k V n r i j told step d = peer_ticked (kn a true) (kn a false) k V n r i j told step d
           (peer_holds gives s 2 at w g.known Y then a (along_left a) n r i j told step d.link)
 
-      stages : Stages gives MovesNone s (λ b. Mid m W (kn true b)) (λ b. Mid (m + 1) (Unit {0}) (kn false b)) (λ b. Mid (m + 1) ⊥ (kn false b)) Drained
+      stages : Stages gives (IsNoMoveOf s agg conv) s (λ b. Mid m W (kn true b)) (λ b. Mid (m + 1) (Unit {0}) (kn false b)) (λ b. Mid (m + 1) ⊥ (kn false b)) Drained
       stages = record {
         first = λ b. mid_between (kn true b) (fits true b) m W;
         second = λ b. mid_between (kn false b) (fits false b) (m + 1) (Unit {0});
@@ -476,7 +520,7 @@ module _ (at : Side → ℕ) (w : Side → Lacpdu) (named : (t : Side) → IsNam
         index = g.link.index;
         links = g.link.links;
         same = rests.same;
-        fine = all_map at w s mac aggs count m W W (λ id. ⊥) (Flights s (at s) mac g.link.flying) (half s old).state.table (λ x. x)
+        fine = fine_in_map at w s mac agg conv m W W (λ id. ⊥) (Flights s (at s) mac g.link.flying) (half s old).state.table (λ x. x)
             (λ id x. absurd x) rests.fine;
       }
 
@@ -486,17 +530,17 @@ module _ (at : Side → ℕ) (w : Side → Lacpdu) (named : (t : Side) → IsNam
           (q.drained s g.link.index (cable at g.link.flying) (healthy_link 2 at w g.known One Nothing old g.link))
 
       end : Mid (m + 1) ⊥ (kn false false) new
-      end = first_on gives MovesNone s (λ b. Mid m W (kn true b)) (λ b. Mid (m + 1) (Unit {0}) (kn false b)) (λ b. Mid (m + 1) ⊥ (kn false b)) Drained
+      end = first_on gives (IsNoMoveOf s agg conv) s (λ b. Mid m W (kn true b)) (λ b. Mid (m + 1) (Unit {0}) (kn false b)) (λ b. Mid (m + 1) ⊥ (kn false b)) Drained
           stages h.events h.replies old new true q.still (of_side s h.events h.ticks) h.acts
-          (after_left s One NoneDue gives true true h.events h.replies old new h.ticks q.still h.acts one_left drains) start
+          (after_left s One NoneDue gives true true h.events h.replies old new h.ticks h.acts one_left drains) start
 
   -- so many rounds on
   pub rounds_rest : (n : ℕ) (start new : WorldState) → 1 ≤ n → IsSome (next_identifier (half s new).state.table) → Rests 0 (Unit {0}) start
-      → DrainingRounds gives n start new → Rests n ⊥ new
+      → DrainingRounds s agg conv gives n start new → Rests n ⊥ new
   rounds_rest zero start new l left rests h = absurd (omega (arith, l))
   rounds_rest (suc zero) start new l left rests h =
-      round_rests 0 (Unit {0}) start new (subst (λ j. IsDrainingRound gives j new) h.1 h.2) left rests
+      round_rests 0 (Unit {0}) start new (subst (λ j. IsDrainingRound s agg conv gives j new) h.1 h.2) left rests
   rounds_rest (suc (suc n)) start new l left rests h =
       let before = left_before (half s h.0).state.table (half s new).state.table
-      (run_next s One gives true true h.2.round.events h.2.round.replies h.0 new h.2.round.ticks h.2.still h.2.round.acts) left in
+      (run_next s One gives true true h.2.round.events h.2.round.replies h.0 new h.2.round.ticks h.2.round.acts) left in
       subst (λ k. Rests k ⊥ new) (omega arith) (round_rests (suc n) ⊥ h.0 new h.2 left (rounds_rest (suc n) start h.0 (omega arith) before rests h.1))

@@ -1,12 +1,12 @@
--- No conversation stays held on a port of a healthy cable of a bundle.
+-- No conversation that is not moved stays held on a port of a healthy cable of a bundle.
 use Rattle.lagprogress.proofs.Common.{List, None, Option, Some, [], ap, arith, inl, inr, length, refl, subst, suc, sym, zero, ℕ, ◌++◌, ◌+◌, ◌-◌, ◌<◌}
 use Rattle.lagprogress.proofs.Common.{◌∙◌, ◌∷◌, ◌≡◌, ◌≤◌, ◌⊎◌, nat_tests, none-some, same_Some, AllByRecursion, all-append, One, Side, peer, value_of}
 use Rattle.lagprogress.proofs.Common.{Assignment, Flushing, On, Wanted, after_mark, after_release, after_tick, IsConversation, Table, assignment_of}
 use Rattle.lagprogress.proofs.Common.{held_unless_on, SystemState, Event, Reply, Algorithms, WorldSteps, side_of, LinkState, WorldState, half}
-use Rattle.lagprogress.proofs.Common.{port_at, BothAreActive, IsBundle, OneIsActive, CarriersAreUp, HasIdentifierLeft, NoneIsHeld, NoneIsHeldOn}
-use Rattle.lagprogress.proofs.Common.{NoneIsHeldOnActiveEnds, NoneIsHeldOnEnds, NoneIsHeldWhereActive, NothingIsHeld, carrier_of, held_on}
-use Rattle.lagprogress.proofs.Common.{DrainingRounds, NoneIsHeldOnActiveEndsByHosts, NoneIsHeldOnEndsByHosts, NoneIsHeldWhereActiveByHosts}
-use Rattle.lagprogress.proofs.Common.{NothingIsHeldByHosts, HostRounds, IsDeliver, IsHealthyAt, IsRound, Rounds, asks_all, ticks_of_both}
+use Rattle.lagprogress.proofs.Common.{port_at, BothAreActive, IsBundle, OneIsActive, CarriersAreUp, HasIdentifierLeft, IsNotHeld, IsNotHeldOn}
+use Rattle.lagprogress.proofs.Common.{NoneIsHeld, NoneIsHeldOn, NoneIsHeldOnEnds, NothingIsHeld, carrier_of, held_on, DrainingRounds}
+use Rattle.lagprogress.proofs.Common.{NoneIsHeldOnEndsByHosts, NothingIsHeldByHosts, HostRounds, IsDeliver, IsHealthyAt, IsRound, Rounds, asks_all}
+use Rattle.lagprogress.proofs.Common.{freed_if_both_active, freed_if_one_is, ticks_of_both, up_if_both_active, up_if_one_is, IsSteady}
 use Rattle.lagprogress.proofs.OneCable.{ticks}
 use Rattle.lagprogress.proofs.RoundEvents.{asked_half, came_half}
 use Rattle.lagprogress.proofs.Bundling.{Meets, Nowhere, awake_of, both_active, one_active, said, ups_of, named_of}
@@ -40,20 +40,32 @@ fine_last p m l (Flushing q id preferred age) h e = elim (h (same_Some q p e)) [
     too_old m age a b c = omega (arith, a, b, c)
 fine_last p m l a h e = none-some p e
 
+-- a conversation was there before
+was_there : (gives : Algorithms) (n : ℕ) (old new : WorldState) (s : Side) (g k : ℕ) → IsSteady old → HostRounds gives n old new
+    → IsConversation (half s new).state.table g k → IsConversation (half s old).state.table g k
+was_there gives n old new s g k steady h is =
+    let keys = hosts_keep ℕ (λ t. length t.keys) (λ t a b. refl) gives n old new h s in
+    let cols = hosts_keep ℕ (λ t. t.conversations) (λ t a b. refl) gives n old new h s in
+    let later = hosts_steady gives n old new steady h in
+    let rows : (half s new).state.table.aggs ≡ (half s old).state.table.aggs =
+    (later s).0.aggregators ∙ (keys ∙ sym (steady s).0.aggregators) in
+    let each : (half s new).state.table.conversations ≡ (half s old).state.table.conversations =
+    (later s).0.conversations ∙ (cols ∙ sym (steady s).0.conversations) in
+    (is.0, subst (λ x. g ≤ x) rows is.1, subst (λ x. k < x) each is.2)
+
 module _ (Holds : LinkState → WorldState → Type 0) (Other : Side → ℕ → Type 0) (first : ℕ) (gives : Algorithms) (old : WorldState)
     (b : Meets Holds Other first gives old) where
-  pub freed_by : (i : ℕ) (l : LinkState) (y : IsHealthyAt i l old) (n m : ℕ) (mid new : WorldState) (s : Side) → first + 31 ≤ n
-      → HostRounds gives n old mid → 30 ≤ m → DrainingRounds gives m mid new → HasIdentifierLeft (half s new).state
-      → NoneIsHeldOn (port_at s l) (half s new).state
-  freed_by i l y n m mid new s enough h late more left = from mid (ups_of Holds Other first gives old b i l y n mid enough h) m late more
+  pub freed_by : (i : ℕ) (l : LinkState) (y : IsHealthyAt i l old) (n m : ℕ) (mid new : WorldState) (s : Side) (g k : ℕ) → first + 31 ≤ n
+      → HostRounds gives n old mid → 30 ≤ m → DrainingRounds s g k gives m mid new → HasIdentifierLeft (half s new).state
+      → IsNotHeldOn (port_at s l) g k (half s new).state
+  freed_by i l y n m mid new s q r enough h late more left is =
+      from mid (ups_of Holds Other first gives old b i l y n mid enough h) m late more
     where
-      at : Side → ℕ
-      at = λ t. port_at t l
-
       from : (j : WorldState)
           → Up (λ t. port_at t l) (said old i l y) (named_of Holds Other first gives old b i l y) (awake_of Holds Other first gives old b i l y) j
-          → (k : ℕ) → 30 ≤ k → DrainingRounds gives k j new → NoneIsHeldOn (port_at s l) (half s new).state
-      from j up k late rounds =
+          → (k : ℕ) → 30 ≤ k → DrainingRounds s q r gives k j new
+          → held_on (assignment_of (half s new).state.table q r) ≡ Some (port_at s l) → ⊥
+      from j up k late rounds held =
           let w = said old i l y in
           let named = named_of Holds Other first gives old b i l y in
           let awake = awake_of Holds Other first gives old b i l y in
@@ -67,39 +79,38 @@ module _ (Holds : LinkState → WorldState → Type 0) (Other : Side → ℕ →
           let steady = each_map (λ q p. AtPort (port_at s l) PartnerInSync q p × AtPort (port_at s l) (λ p. p.choice ≡ c) q p)
           (AtPort (port_at s l) (λ p. PartnerInSync p × (p.choice ≡ c))) (λ q p a f. (a.0 f, a.1 f)) st.system_ports
           (each_both (AtPort (port_at s l) PartnerInSync) (AtPort (port_at s l) (λ p. p.choice ≡ c)) st.system_ports heard choice) in
-          let rests = rounds_rest (λ t. port_at t l) w named awake s st.system.mac st.table.aggs st.table.conversations c chosen gives k j new
-          (omega (arith, late)) left (record {
+          let was = was_there gives k j new s q r g.link.steady (draining_are_host gives s q r k j new rounds) is in
+          let rests = rounds_rest (λ t. port_at t l) w named awake s st.system.mac q r c chosen gives k j new (omega (arith, late)) left (record {
             fresh = g;
             steady = steady;
-            same = record { own = refl; rows = refl; cols = refl };
-            fine = λ q r a d f. fine_first (port_at s l) (assignment_of st.table q r);
+            same = record { own = refl; there = was };
+            fine = fine_first (port_at s l) (assignment_of st.table q r);
           }) rounds in
-          λ q r is held. fine_last (port_at s l) k late (assignment_of (half s new).state.table q r)
-          (rests.fine q r is.0 (subst (λ x. q ≤ x) rests.same.rows is.1) (subst (λ x. r < x) rests.same.cols is.2)) held
+          fine_last (port_at s l) k late (assignment_of (half s new).state.table q r) rests.fine held
 
   -- and in healthy rounds
   pub freed_of : (i : ℕ) (l : LinkState) (y : IsHealthyAt i l old) (n : ℕ) (new : WorldState) (s : Side) → first + 61 ≤ n
       → Rounds gives n old new → HasIdentifierLeft (half s new).state → NoneIsHeldOn (port_at s l) (half s new).state
-  freed_of i l y n new s enough h left =
+  freed_of i l y n new s enough h left q r =
       let m = first + 31 in
       let cut = splits gives (n - m) m n old new (omega (arith, enough)) h in
       let hosts = rounds_are_host_rounds gives m old cut.0 b.steady cut.1 in
-      freed_by i l y m (n - m) cut.0 new s (omega arith) hosts (omega (arith, enough))
-      (rounds_are_draining gives (n - m) cut.0 new (hosts_steady gives m old cut.0 b.steady hosts) cut.2) left
+      freed_by i l y m (n - m) cut.0 new s q r (omega arith) hosts (omega (arith, enough))
+      (rounds_are_draining gives s q r (n - m) cut.0 new (hosts_steady gives m old cut.0 b.steady hosts) cut.2) left
 
-pub none_is_held_on_ends_by_hosts : (gives : Algorithms) → NoneIsHeldOnEndsByHosts gives
-none_is_held_on_ends_by_hosts gives n m i l old mid new s b y enough h late more left =
-    freed_by OneIsActive Nowhere 630 gives old (one_active gives old b) i l y n m mid new s (omega (arith, enough)) h late more left
+pub none_is_held_on_ends_by_hosts : (gives : Algorithms) → NoneIsHeldOnEndsByHosts OneIsActive up_if_one_is gives
+none_is_held_on_ends_by_hosts gives n m i l old mid new s g k b y enough h late more left =
+    freed_by OneIsActive Nowhere 630 gives old (one_active gives old b) i l y n m mid new s g k (omega (arith, enough)) h late more left
 
-pub none_is_held_on_active_ends_by_hosts : (gives : Algorithms) → NoneIsHeldOnActiveEndsByHosts gives
-none_is_held_on_active_ends_by_hosts gives n m i l old mid new s b y enough h late more left =
-    freed_by BothAreActive Nowhere 321 gives old (both_active gives old b) i l y n m mid new s (omega (arith, enough)) h late more left
+pub none_is_held_on_active_ends_by_hosts : (gives : Algorithms) → NoneIsHeldOnEndsByHosts BothAreActive up_if_both_active gives
+none_is_held_on_active_ends_by_hosts gives n m i l old mid new s g k b y enough h late more left =
+    freed_by BothAreActive Nowhere 321 gives old (both_active gives old b) i l y n m mid new s g k (omega (arith, enough)) h late more left
 
-pub none_is_held_on_ends : (gives : Algorithms) → NoneIsHeldOnEnds gives
+pub none_is_held_on_ends : (gives : Algorithms) → NoneIsHeldOnEnds OneIsActive freed_if_one_is gives
 none_is_held_on_ends gives n i l old new s b y enough h left =
     freed_of OneIsActive Nowhere 630 gives old (one_active gives old b) i l y n new s (omega (arith, enough)) h left
 
-pub none_is_held_on_active_ends : (gives : Algorithms) → NoneIsHeldOnActiveEnds gives
+pub none_is_held_on_active_ends : (gives : Algorithms) → NoneIsHeldOnEnds BothAreActive freed_if_both_active gives
 none_is_held_on_active_ends gives n i l old new s b y enough h left =
     freed_of BothAreActive Nowhere 321 gives old (both_active gives old b) i l y n new s (omega (arith, enough)) h left
 
@@ -205,20 +216,8 @@ nothing_held : (Holds : LinkState → WorldState → Type 0) (gives : Algorithms
     → ((i : ℕ) (l : LinkState) → IsHealthyAt i l old → NoneIsHeldOn (port_at s l) (half s new).state) → NoneIsHeld (half s new).state
 nothing_held Holds gives n old new s b carriers h none g k is = by_port (held_on (assignment_of (half s new).state.table g k)) refl
   where
-    now : Table
-    now = (half s new).state.table
-
     was : IsConversation (half s old).state.table g k
-    was =
-        let hosts = rounds_are_host_rounds gives n old new b.steady h in
-        let keys = hosts_keep ℕ (λ t. length t.keys) (λ t a b. refl) gives n old new hosts s in
-        let cols = hosts_keep ℕ (λ t. t.conversations) (λ t a b. refl) gives n old new hosts s in
-        let later = hosts_steady gives n old new b.steady hosts in
-        let rows : (half s new).state.table.aggs ≡ (half s old).state.table.aggs =
-        (later s).0.aggregators ∙ (keys ∙ sym (b.steady s).0.aggregators) in
-        let each : (half s new).state.table.conversations ≡ (half s old).state.table.conversations =
-        (later s).0.conversations ∙ (cols ∙ sym (b.steady s).0.conversations) in
-        (is.0, subst (λ x. g ≤ x) rows is.1, subst (λ x. k < x) each is.2)
+    was = was_there gives n old new s g k b.steady (rounds_are_host_rounds gives n old new b.steady h) is
 
     carried : (p : ℕ) → carrier_of (assignment_of (half s new).state.table g k) ≡ Some p
         → carrier_of (assignment_of (half s old).state.table g k) ≡ Some p
@@ -235,11 +234,11 @@ nothing_held Holds gives n old new s b carriers h none g k is = by_port (held_on
         let number : port_at s it.link ≡ p = it.joins ∙ up.3 in
         absurd (none it.index it.link it.healthy g k is (e ∙ ap (λ (q : ℕ). Some q) (sym number)))
 
-pub nothing_is_held : (gives : Algorithms) → NothingIsHeld gives
+pub nothing_is_held : (gives : Algorithms) → NothingIsHeld OneIsActive freed_if_one_is gives
 nothing_is_held gives n old new s b carriers enough h left = nothing_held OneIsActive gives n old new s b carriers h
     (λ i l y. none_is_held_on_ends gives n i l old new s b y enough h left)
 
-pub none_is_held_where_active : (gives : Algorithms) → NoneIsHeldWhereActive gives
+pub none_is_held_where_active : (gives : Algorithms) → NothingIsHeld BothAreActive freed_if_both_active gives
 none_is_held_where_active gives n old new s b carriers enough h left = nothing_held BothAreActive gives n old new s b carriers h
     (λ i l y. none_is_held_on_active_ends gives n i l old new s b y enough h left)
 
@@ -250,10 +249,10 @@ hosts_then : (gives : Algorithms) (n m : ℕ) (old mid new : WorldState) → Hos
 hosts_then gives n zero old mid new h more = (n, subst (HostRounds gives n old) (sym more) h)
 hosts_then gives n (suc m) old mid new h more = let r = hosts_then gives n m old mid more.0 h more.1 in (suc r.0, (more.0, r.1, more.2))
 
-nothing_held_by_hosts : (Holds : LinkState → WorldState → Type 0) (gives : Algorithms) (n : ℕ) (old new : WorldState) (s : Side) → IsBundle Holds old
-    → HostRounds gives n old new → CarriersAreUp (half s new).state
-    → ((i : ℕ) (l : LinkState) → IsHealthyAt i l old → NoneIsHeldOn (port_at s l) (half s new).state) → NoneIsHeld (half s new).state
-nothing_held_by_hosts Holds gives n old new s b h carriers none g k is = by_port (held_on (assignment_of (half s new).state.table g k)) refl
+nothing_held_by_hosts : (Holds : LinkState → WorldState → Type 0) (gives : Algorithms) (n : ℕ) (old new : WorldState) (s : Side) (g k : ℕ)
+    → IsBundle Holds old → HostRounds gives n old new → CarriersAreUp (half s new).state
+    → ((i : ℕ) (l : LinkState) → IsHealthyAt i l old → IsNotHeldOn (port_at s l) g k (half s new).state) → IsNotHeld g k (half s new).state
+nothing_held_by_hosts Holds gives n old new s g k b h carriers none is = by_port (held_on (assignment_of (half s new).state.table g k)) refl
   where
     by_port : (o : Option ℕ) → held_on (assignment_of (half s new).state.table g k) ≡ o → held_on (assignment_of (half s new).state.table g k) ≡ None
     by_port None e = e
@@ -261,16 +260,16 @@ nothing_held_by_hosts Holds gives n old new s b h carriers none g k is = by_port
         let up = carriers g k p is (held_carries (assignment_of (half s new).state.table g k) p e) in
         let it = still_heard Holds s old new (as_before gives n old new b.steady h s) b.heard up.0 up.1 up.2 up.4 in
         let number : port_at s it.link ≡ p = it.joins ∙ up.3 in
-        absurd (none it.index it.link it.healthy g k is (e ∙ ap (λ (q : ℕ). Some q) (sym number)))
+        absurd (none it.index it.link it.healthy is (e ∙ ap (λ (q : ℕ). Some q) (sym number)))
 
-pub nothing_is_held_by_hosts : (gives : Algorithms) → NothingIsHeldByHosts gives
-nothing_is_held_by_hosts gives n m old mid new s b enough h late more left carriers =
-    let all = hosts_then gives n m old mid new h (draining_are_host gives m mid new more) in
-    nothing_held_by_hosts OneIsActive gives all.0 old new s b all.1 carriers
-    (λ i l y. none_is_held_on_ends_by_hosts gives n m i l old mid new s b y enough h late more left)
+pub nothing_is_held_by_hosts : (gives : Algorithms) → NothingIsHeldByHosts OneIsActive up_if_one_is gives
+nothing_is_held_by_hosts gives n m old mid new s g k b enough h late more left carriers =
+    let all = hosts_then gives n m old mid new h (draining_are_host gives s g k m mid new more) in
+    nothing_held_by_hosts OneIsActive gives all.0 old new s g k b all.1 carriers
+    (λ i l y. none_is_held_on_ends_by_hosts gives n m i l old mid new s g k b y enough h late more left)
 
-pub none_is_held_where_active_by_hosts : (gives : Algorithms) → NoneIsHeldWhereActiveByHosts gives
-none_is_held_where_active_by_hosts gives n m old mid new s b enough h late more left carriers =
-    let all = hosts_then gives n m old mid new h (draining_are_host gives m mid new more) in
-    nothing_held_by_hosts BothAreActive gives all.0 old new s b all.1 carriers
-    (λ i l y. none_is_held_on_active_ends_by_hosts gives n m i l old mid new s b y enough h late more left)
+pub none_is_held_where_active_by_hosts : (gives : Algorithms) → NothingIsHeldByHosts BothAreActive up_if_both_active gives
+none_is_held_where_active_by_hosts gives n m old mid new s g k b enough h late more left carriers =
+    let all = hosts_then gives n m old mid new h (draining_are_host gives s g k m mid new more) in
+    nothing_held_by_hosts BothAreActive gives all.0 old new s g k b all.1 carriers
+    (λ i l y. none_is_held_on_active_ends_by_hosts gives n m i l old mid new s g k b y enough h late more left)

@@ -1,8 +1,8 @@
 -- How the ends of a cable come to know each other in healthy rounds of hosts.
 use Rattle.lagprogress.proofs.Common.{Bool, arith, false, inl, inr, refl, subst, suc, sym, true, zero, ℕ, ◌+◌, ◌-◌, ◌∙◌, ◌≡◌, ◌≤◌, ◌⊎◌, cases_Bool}
 use Rattle.lagprogress.proofs.Common.{nat_tests, Lacpdu, One, Side, Two, peer, Machines, periodic_rows, AtRest, Algorithms, LinkState, WorldState}
-use Rattle.lagprogress.proofs.Common.{half, port_at, timeout_time, ActiveEndsKnowByHosts, EndsKnowByHosts, HostRounds, IsHostRound, EndKnows, Knows}
-use Rattle.lagprogress.proofs.Common.{AtEnd, NothingInFlight, OfPort, IsTimed}
+use Rattle.lagprogress.proofs.Common.{half, port_at, BothAreActive, EndsOfEachKnow, OneIsActive, timeout_time, HostRounds, IsHostRound, EndKnows}
+use Rattle.lagprogress.proofs.Common.{Knows, AtEnd, NothingInFlight, OfPort, known_if_both_active, known_if_one_is, IsTimed}
 use Rattle.lagprogress.proofs.Claims.{IsNamed, Wakeful, can_wake}
 use Rattle.lagprogress.proofs.EachPort.{OfEach}
 use Rattle.lagprogress.proofs.EndFacts.{Along, CanSound, IsEnd, Learnt, Synced, activity, calm, less_known, short_timeout, wait_of}
@@ -525,7 +525,7 @@ active_meet gives at w n old new named active enough l h = elim (cases_Bool (sho
   ]
 ]
 
-pub active_ends_know_by_hosts : (gives : Algorithms) → ActiveEndsKnowByHosts gives
+pub active_ends_know_by_hosts : (gives : Algorithms) → EndsOfEachKnow HostRounds BothAreActive known_if_both_active gives
 active_ends_know_by_hosts gives n i l old new cabling steady healthy active enough rounds =
     let e : Ends l old = λ s. end_of (λ p. p.enabled ≡ true) (port_at s l) (half s old).state (healthy.up s) in
     let w = said_by l old e in
@@ -637,7 +637,7 @@ one_meets gives at w s n old new named active enough l h = elim (cases_Bool (sho
         (λ j r. inl (called at w (peer u) on j (first_round gives at w old j l r) r.empties))
         (λ m i j r c. slowly at w named u on room gives m i j r c) n new (omega (arith, enough)) h)
 
-pub ends_know_by_hosts : (gives : Algorithms) → EndsKnowByHosts gives
+pub ends_know_by_hosts : (gives : Algorithms) → EndsOfEachKnow HostRounds OneIsActive known_if_one_is gives
 ends_know_by_hosts gives n i l old new cabling steady healthy (a, active) enough rounds =
     let e : Ends l old = λ s. end_of (λ p. p.enabled ≡ true) (port_at s l) (half s old).state (healthy.up s) in
     let w = said_by l old e in

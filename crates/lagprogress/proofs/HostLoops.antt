@@ -6,11 +6,11 @@ use Rattle.lagprogress.proofs.Common.{after_sending, is_due, Assignment, Flushin
 use Rattle.lagprogress.proofs.Common.{count_conversations, next_identifier, SystemFault, SystemPort, Step, Transmit, SendsMarkerOf, TransmitsAt}
 use Rattle.lagprogress.proofs.Common.{TransmitsIf, SystemState, machines_of, port_index, all-get, found_place, ports_rise, Event, Reply}
 use Rattle.lagprogress.proofs.Common.{AfterTransmit, Algorithms, WorldEmits, WorldRuns, WorldSteps, sent_reply, side_of, payload_in, HalfState}
-use Rattle.lagprogress.proofs.Common.{LinkState, WorldState, half, is_accepted, port_at, with_half, half_there, DrainingRounds, IsDrainingRound}
-use Rattle.lagprogress.proofs.Common.{MovesNone, NothingIsDue, RoundIsDraining, AfterTick, AskingIsHostRound, Asks, AsksAfterTick, AsksIn}
-use Rattle.lagprogress.proofs.Common.{AtSomeWorld, HostRounds, IsBetweenTicks, IsTickOf, LoopIsHostRound, RoundIsHostRound, RoundsAreHostRounds}
-use Rattle.lagprogress.proofs.Common.{TickOnce, AsksInVain, sent_nothing, AtEnd, IsDeliver, IsHealthyAt, NothingInFlight, OfPort, Rounds, asks_all}
-use Rattle.lagprogress.proofs.Common.{ticks_of_both, IsSteady}
+use Rattle.lagprogress.proofs.Common.{LinkState, WorldState, half, is_accepted, port_at, with_half, half_there, AskingInVainIsDraining, AsksInVain}
+use Rattle.lagprogress.proofs.Common.{AsksInVainAfterTick, DrainingRounds, IsDrainingRound, IsNoMoveOf, NothingIsDue, RoundIsDraining, sent_nothing}
+use Rattle.lagprogress.proofs.Common.{AfterTick, AskingIsHostRound, Asks, AsksAfterTick, AsksIn, AtSomeWorld, HostRounds, IsBetweenTicks, IsTickOf}
+use Rattle.lagprogress.proofs.Common.{LoopIsHostRound, RoundIsHostRound, RoundsAreHostRounds, TickOnce, AtEnd, IsDeliver, IsHealthyAt}
+use Rattle.lagprogress.proofs.Common.{NothingInFlight, OfPort, Rounds, asks_all, ticks_of_both, IsSteady}
 use Rattle.distributor.specs.Conversations.{sum_below}
 use Rattle.lagprogress.proofs.EachPort.{OfEach, Tick-each}
 use Rattle.lagprogress.proofs.EachRound.{EachAt, asks_each, delivers_each, own_keeps, own_ticks, hosts_steady}
@@ -256,6 +256,15 @@ module _ (gives : Algorithms) (s : Side) (p : ℕ) where
   vain_on (e ∷ es) (r ∷ rs) i j a b h run (inr q) x =
       let o = rest_of a b e es h in inr (vain_on es rs run.0 j o.0 o.1 o.2 run.2 q (stays a b e es r i run.0 h run.1 x))
 
+  vain_after : (es : List Event) (rs : List Reply) (i j : WorldState) (a b : Bool) → TickOnce s a b es → (run : WorldRuns gives i es rs j)
+      → AsksInVainAfterTick s p es rs → Stays i → AfterTick s Drained gives es rs i j run
+  vain_after [] rs i j a b h run q x = q
+  vain_after (e ∷ es) [] i j a b h run q x = absurd run
+  vain_after (e ∷ es) (r ∷ rs) i j a b h run (inl q) x = let o = rest_of a b e es h in
+      inl (q.0, vain_on es rs run.0 j o.0 o.1 o.2 run.2 q.1 (stays a b e es r i run.0 h run.1 x))
+  vain_after (e ∷ es) (r ∷ rs) i j a b h run (inr q) x = let o = rest_of a b e es h in
+      inr (vain_after es rs run.0 j o.0 o.1 o.2 run.2 q (stays a b e es r i run.0 h run.1 x))
+
   -- if it is asked twice in turn
   twice_on : (n : ℕ) → side_of n ≡ Some s → (before later : List Event) (rs : List Reply) (i j : WorldState) (a b : Bool)
       → TickOnce s a b (before ++ (event.Emit n p ∷ event.Emit n p ∷ later))
@@ -372,17 +381,17 @@ after_map s P Q gives k (e ∷ es) [] i j run y = y
 after_map s P Q gives k (e ∷ es) (r ∷ rs) i j run (inl y) = inl (y.0, at_map P Q gives k es rs run.0 j run.2 y.1)
 after_map s P Q gives k (e ∷ es) (r ∷ rs) i j run (inr y) = inr (after_map s P Q gives k es rs run.0 j run.2 y)
 
-asks_still : (links : List LinkState) → AllByRecursion MovesNone (asks_all links)
-asks_still [] = tt
-asks_still (l ∷ links) = (tt, (tt, (tt, (tt, asks_still links))))
+asks_still : (t : Side) (g k : ℕ) (links : List LinkState) → AllByRecursion (IsNoMoveOf t g k) (asks_all links)
+asks_still t g k [] = tt
+asks_still t g k (l ∷ links) = (tt, (tt, (tt, (tt, asks_still t g k links))))
 
-delivers_still : (es : List Event) → AllByRecursion IsDeliver es → AllByRecursion MovesNone es
-delivers_still [] h = tt
-delivers_still (event.Deliver c n ∷ es) h = (tt, delivers_still es h.1)
-delivers_still (e ∷ es) h = absurd h.0
+delivers_still : (t : Side) (g k : ℕ) (es : List Event) → AllByRecursion IsDeliver es → AllByRecursion (IsNoMoveOf t g k) es
+delivers_still t g k [] h = tt
+delivers_still t g k (event.Deliver c n ∷ es) h = (tt, delivers_still t g k es h.1)
+delivers_still t g k (e ∷ es) h = absurd h.0
 
 pub round_is_draining : (gives : Algorithms) → RoundIsDraining gives
-round_is_draining gives old new steady h = record {
+round_is_draining gives t g k old new steady h = record {
   round = record {
     events = ticks_of_both ++ (asks_all old.links ++ h.delivers);
     replies = h.replies;
@@ -392,7 +401,14 @@ round_is_draining gives old new steady h = record {
         (ticks_of_both ++ (asks_all old.links ++ h.delivers)) h.replies old new h.acts (drained s i l y);
     empties = h.empties;
   };
-  still = (tt, (tt, all-append MovesNone (asks_all old.links) h.delivers (asks_still old.links) (delivers_still h.delivers h.arrives)));
+  still = (
+    tt,
+    (
+      tt,
+      all-append (IsNoMoveOf t g k) (asks_all old.links) h.delivers (asks_still t g k old.links)
+          (delivers_still t g k h.delivers h.arrives),
+    ),
+  );
   drained = drained;
 }
   where
@@ -435,14 +451,38 @@ rounds_are_host_rounds gives (suc n) old new steady h =
     let before = rounds_are_host_rounds gives n old h.0 steady h.1 in
     (h.0, before, round_is_host_round gives h.0 new (hosts_steady gives n old h.0 steady before) h.2)
 
-pub rounds_are_draining : (gives : Algorithms) (n : ℕ) (old new : WorldState) → IsSteady old → Rounds gives n old new
-    → DrainingRounds gives n old new
-rounds_are_draining gives zero old new steady h = h
-rounds_are_draining gives (suc n) old new steady h =
-    let before = rounds_are_host_rounds gives n old h.0 steady h.1 in
-    (h.0, rounds_are_draining gives n old h.0 steady h.1, round_is_draining gives h.0 new (hosts_steady gives n old h.0 steady before) h.2)
+pub rounds_are_draining : (gives : Algorithms) (t : Side) (g k n : ℕ) (old new : WorldState) → IsSteady old → Rounds gives n old new
+    → DrainingRounds t g k gives n old new
+rounds_are_draining gives t g k zero old new steady h = h
+rounds_are_draining gives t g k (suc n) old new steady h =
+    let before = rounds_are_host_rounds gives n old h.0 steady h.1 in (
+      h.0,
+      rounds_are_draining gives t g k n old h.0 steady h.1,
+      round_is_draining gives t g k h.0 new (hosts_steady gives n old h.0 steady before) h.2,
+    )
 
--- so is a round in which both systems tick, and then each end is asked until it sends nothing
+-- so is a round in which each end is asked after its system's tick until it sends nothing
+
+pub asking_in_vain_is_draining : (gives : Algorithms) → AskingInVainIsDraining gives
+asking_in_vain_is_draining gives t g k events replies old new steady turns still run asks empty = record {
+  round = record {
+    events = events;
+    replies = replies;
+    ticks = turns;
+    acts = run;
+    asked = λ s i l y. after_map s (NothingIsDue s l) (λ j. AtEnd (λ p. is_due p ≡ false) s l j) gives (λ j z. z.0) events replies old new run
+        (drained s i l y);
+    empties = empty;
+  };
+  still = still;
+  drained = drained;
+}
+  where
+    drained : (s : Side) (i : ℕ) (l : LinkState) → IsHealthyAt i l old → AfterTick s (NothingIsDue s l) gives events replies old new run
+    drained s i l y = vain_after gives s (port_at s l) events replies old new true true (of_side s events turns) run (asks s i l y)
+        (stays_first gives s i l old steady y)
+
+-- as where both systems tick first
 
 all_between : (es : List Event) → AllByRecursion IsBetweenTicks es → TickOnce One false false es
 all_between [] h = (refl, refl)
@@ -451,47 +491,13 @@ all_between (e ∷ es) h = inr (inr (h.0, all_between es h.1))
 pub both_tick : (es : List Event) → AllByRecursion IsBetweenTicks es → TickOnce One true true (ticks_of_both ++ es)
 both_tick es h = inl ((1, refl, refl), refl, inr (inl ((2, refl, refl), refl, all_between es h)))
 
-pub ticks_then_drains : (gives : Algorithms) (old ticked new : WorldState) (ts : List Reply) (es : List Event) (rs : List Reply) → IsSteady old
-    → WorldRuns gives old ticks_of_both ts ticked → WorldRuns gives ticked es rs new → AllByRecursion IsBetweenTicks es
-    → AllByRecursion MovesNone es
-    → ((s : Side) (i : ℕ) (l : LinkState) → IsHealthyAt i l old → AsksInVain s (port_at s l) es rs) → NothingInFlight new
-    → IsDrainingRound gives old new
-ticks_then_drains gives old ticked new [] es rs steady t run between still asks empty = absurd t
-ticks_then_drains gives old ticked new (r ∷ []) es rs steady t run between still asks empty = absurd t.2
-ticks_then_drains gives old ticked new (r ∷ q ∷ []) es rs steady t run between still asks empty = record {
-  round = record {
-    events = ticks_of_both ++ es;
-    replies = r ∷ q ∷ rs;
-    ticks = both_tick es between;
-    acts = acts;
-    asked = λ s i l y. after_map s (NothingIsDue s l) (λ j. AtEnd (λ p. is_due p ≡ false) s l j) gives (λ j z. z.0)
-        (ticks_of_both ++ es) (r ∷ q ∷ rs) old new acts (drained s i l y);
-    empties = empty;
-  };
-  still = (tt, (tt, still));
-  drained = drained;
-}
-  where
-    tail : WorldRuns gives t.2.0 es rs new
-    tail = subst (λ j. WorldRuns gives j es rs new) t.2.2 run
-
-    acts : WorldRuns gives old (ticks_of_both ++ es) (r ∷ q ∷ rs) new
-    acts = (t.0, t.1, (t.2.0, t.2.1, tail))
-
-    drained : (s : Side) (i : ℕ) (l : LinkState) → IsHealthyAt i l old
-        → AfterTick s (NothingIsDue s l) gives (ticks_of_both ++ es) (r ∷ q ∷ rs) old new acts
-    drained s i l y =
-        let turns = of_side s (ticks_of_both ++ es) (both_tick es between) in
-        let first = stays gives s (port_at s l) true true (event.Tick 1 1) (event.Tick 2 1 ∷ es) r old t.0 turns t.1 (stays_first gives s i l old steady y) in
-        let more = rest_of gives s (port_at s l) true true (event.Tick 1 1) (event.Tick 2 1 ∷ es) turns in
-        let second = stays gives s (port_at s l) more.0 more.1 (event.Tick 2 1) es q t.0 t.2.0 more.2 t.2.1 first in
-        by_side s (vain_on gives s (port_at s l) es rs t.2.0 new false false (of_side_after s es (all_between es between)) tail (asks s i l y) second)
-      where
-        by_side : (s : Side) → AtSomeWorld (NothingIsDue s l) gives es rs t.2.0 new tail
-            → AfterTick s (NothingIsDue s l) gives (ticks_of_both ++ es) (r ∷ q ∷ rs) old new acts
-        by_side One z = inl ((1, refl, refl), inr z)
-        by_side Two z = inr (inl ((2, refl, refl), z))
-ticks_then_drains gives old ticked new (r ∷ q ∷ x ∷ ts) es rs steady t run between still asks empty = absurd t.2.2
+pub vain_after_ticks : (gives : Algorithms) (s : Side) (p : ℕ) (ts : List Reply) (es : List Event) (rs : List Reply) (old ticked : WorldState)
+    → WorldRuns gives old ticks_of_both ts ticked → AsksInVain s p es rs → AsksInVainAfterTick s p (ticks_of_both ++ es) (ts ++ rs)
+vain_after_ticks gives s p [] es rs old ticked run h = absurd run
+vain_after_ticks gives s p (r ∷ []) es rs old ticked run h = absurd run.2
+vain_after_ticks gives One p (r ∷ q ∷ []) es rs old ticked run h = inl ((1, refl, refl), inr h)
+vain_after_ticks gives Two p (r ∷ q ∷ []) es rs old ticked run h = inr (inl ((2, refl, refl), h))
+vain_after_ticks gives s p (r ∷ q ∷ x ∷ ts) es rs old ticked run h = absurd run.2.2
 
 -- the loop of two hosts is one
 
@@ -552,6 +558,7 @@ loop_is_host_round gives old new steady h = asking_is_host_round gives (event.Ti
 
 -- draining rounds are rounds of hosts
 
-pub draining_are_host : (gives : Algorithms) (n : ℕ) (old new : WorldState) → DrainingRounds gives n old new → HostRounds gives n old new
-draining_are_host gives zero old new h = h
-draining_are_host gives (suc n) old new h = (h.0, draining_are_host gives n old h.0 h.1, h.2.round)
+pub draining_are_host : (gives : Algorithms) (s : Side) (g k n : ℕ) (old new : WorldState) → DrainingRounds s g k gives n old new
+    → HostRounds gives n old new
+draining_are_host gives s g k zero old new h = h
+draining_are_host gives s g k (suc n) old new h = (h.0, draining_are_host gives s g k n old h.0 h.1, h.2.round)

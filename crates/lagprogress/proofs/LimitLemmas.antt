@@ -6,9 +6,9 @@ use Rattle.lagprogress.proofs.Common.{default_partner, receive_rows, start_recei
 use Rattle.lagprogress.proofs.Common.{SystemPort, Call, Configure, ProcessesLacpdu, Receive, Restart, Set_link, SetsPortEnabled, Step, Tick, Transmit}
 use Rattle.lagprogress.proofs.Common.{changed_party, choice_with_link, SystemState, port_index, Step-frame, all-get, found_place, ports_rise, Same}
 use Rattle.lagprogress.proofs.Common.{agreement_at, Algorithms, IsWorldSound, LinkState, WorldState, half, port_at, end_is, BothAreActive}
-use Rattle.lagprogress.proofs.Common.{OneIsActive, EachActiveLimitedLinkAgreesByHosts, EachLimitedLinkAgreesByHosts, HostRounds, CarriesOnAll}
-use Rattle.lagprogress.proofs.Common.{DownAreUnselected, EachReachedHasDownUnselected, EndsAgreed, IsLimitedBundle, StandsByOthers, EndKnows, Knows}
-use Rattle.lagprogress.proofs.Common.{AtEnd, IsHealthyAt, OfPort, StandsByFull, WantsAggregator}
+use Rattle.lagprogress.proofs.Common.{OneIsActive, HostRounds, CarriesOnAll, DownAreUnselected, EachLimitedLinkAgrees, EachReachedHasDownUnselected}
+use Rattle.lagprogress.proofs.Common.{EndsAgreed, IsLimitedBundle, StandsByOthers, EndKnows, Knows, AtEnd, IsHealthyAt, OfPort, up_if_both_active}
+use Rattle.lagprogress.proofs.Common.{up_if_one_is, StandsByFull, WantsAggregator}
 use Rattle.lagprogress.proofs.Bundling.{never_stands, heard_holds}
 use Rattle.lagprogress.proofs.EachPort.{KeptByCall, KeptBySettling, OfEach, Step-each, first_each, place_each, settling_each}
 use Rattle.lagprogress.proofs.EachRound.{EachAt, RoundKeeps, host_each, hosts_join, hosts_keep, hosts_on, hosts_steady}
@@ -234,14 +234,14 @@ module _ (Holds : LinkState → WorldState → Type 0) (t : Side) (gives : Algor
         (e.4.0, e.4.1, record { full = e.4.2; members = λ k x there chose. member e.4.0 k x there chose })))
   ]
 
-pub each_limited_link_agrees_by_hosts : (gives : Algorithms) → EachLimitedLinkAgreesByHosts gives
+pub each_limited_link_agrees_by_hosts : (gives : Algorithms) → EachLimitedLinkAgrees HostRounds OneIsActive up_if_one_is gives
 each_limited_link_agrees_by_hosts gives n i l t old new sound b y enough h =
     limited OneIsActive t gives n old new sound b h
     (λ k m z s. ends_know_by_hosts gives n k m old new sound.cabling b.steady z (heard_holds OneIsActive old sound.cabling b.heard k m z)
     (omega (arith, enough)) h s)
     (λ k m z both. selected_pairs_agree_by_hosts gives n k m old new sound b.steady b.heard z enough h both) i l y
 
-pub each_active_limited_link_agrees_by_hosts : (gives : Algorithms) → EachActiveLimitedLinkAgreesByHosts gives
+pub each_active_limited_link_agrees_by_hosts : (gives : Algorithms) → EachLimitedLinkAgrees HostRounds BothAreActive up_if_both_active gives
 each_active_limited_link_agrees_by_hosts gives n i l t old new sound b y enough h =
     limited BothAreActive t gives n old new sound b h
     (λ k m z s. active_ends_know_by_hosts gives n k m old new sound.cabling b.steady z (heard_holds BothAreActive old sound.cabling b.heard k m z)

@@ -2,47 +2,52 @@
 use Rattle.lagprogress.proofs.Common.{List, None, Option, Some, [], ap, arith, false, inl, inr, is_some, length, option_map, refl, slice_get, subst}
 use Rattle.lagprogress.proofs.Common.{suc, sym, true, ℕ, ◌++◌, ◌+◌, ◌<◌, ◌∙◌, ◌∷◌, ◌≡◌, ◌≤◌, false≢true, same_Some, slice_get_within, AllByRecursion}
 use Rattle.lagprogress.proofs.Common.{all-append, One, Side, Two, WorldSetup, end_at, Event, WorldFault, Reply, Algorithms, WorldRuns, WorldSteps}
-use Rattle.lagprogress.proofs.Common.{cause, cause_or_no_memory, world_setup, ends_of_cable, ports_joined, LinkState, WorldState, port_at, end_is}
-use Rattle.lagprogress.proofs.Common.{DrainingRounds, IsDrainingRound, MovesNone, AsksAfterTick, AsksIn, HostRounds, IsBetweenTicks, IsHostRound}
-use Rattle.lagprogress.proofs.Common.{IsTickOf, TickOnce, Delivers, RefusesDelivery, RunsAll, RunsPart, AsksEnds, AsksInVain, AsksPort, PlaysBetween}
-use Rattle.lagprogress.proofs.Common.{StopsBetween, StopsInHostRound, sent_nothing, IsDeliver, IsHealthyAt, NothingInFlight, ticks_of_both, IsSteady}
+use Rattle.lagprogress.proofs.Common.{cause, cause_or_no_memory, has_system, world_setup, ends_of_cable, ports_joined, LinkState, WorldState, port_at}
+use Rattle.lagprogress.proofs.Common.{end_is, AsksInVain, DrainingRounds, IsDrainingRound, IsNoMoveOf, sent_nothing, IsBetweenTicks, Delivers}
+use Rattle.lagprogress.proofs.Common.{IsOutOfMemoryOrSpent, RefusesDelivery, RunsAll, AsksEnds, AsksOrDelivers, AsksPort, PlaysBetween, PlaysHostPart}
+use Rattle.lagprogress.proofs.Common.{StopsBetween, IsDeliver, IsHealthyAt, NothingInFlight, ticks_of_both, IsSteady}
 use Rattle.lagprogress.proofs.EachRound.{hosts_steady}
 use Rattle.lagprogress.proofs.Linked.{each_side}
-use Rattle.lagprogress.proofs.Played.{as_many, some_within, below_or_same, cable_at, runs_append, runs_both}
+use Rattle.lagprogress.proofs.Played.{as_many, some_within, below_or_same, cable_at, refused_event, runs_append}
 use Rattle.lagscript.specs.declared.event.Event.TheVariants as event
-use Rattle.lagprogress.proofs.HostLoops.{ticks_then_drains, both_tick, draining_are_host}
+use Rattle.lagprogress.proofs.HostLoops.{asking_in_vain_is_draining, both_tick, draining_are_host, vain_after_ticks}
 
 -- events between ticks
 
 pub plays_nothing : (gives : Algorithms) (j : WorldState) → PlaysBetween gives j j
-plays_nothing gives j = record { events = []; replies = []; between = tt; still = tt; acts = refl }
+plays_nothing gives j = record { events = []; replies = []; between = tt; acts = refl }
 
 pub plays_both : (gives : Algorithms) (old mid new : WorldState) → PlaysBetween gives old mid → PlaysBetween gives mid new
     → PlaysBetween gives old new
 plays_both gives old mid new a b = record {
   events = a.events ++ b.events;
   replies = a.replies ++ b.replies;
-  between = all-append IsBetweenTicks a.events b.events a.between b.between;
-  still = all-append MovesNone a.events b.events a.still b.still;
+  between = all-append AsksOrDelivers a.events b.events a.between b.between;
   acts = runs_append gives a.events b.events a.replies b.replies old mid new a.acts b.acts;
 }
 
-delivers_between : (es : List Event) → AllByRecursion IsDeliver es → AllByRecursion IsBetweenTicks es
+are_between : (es : List Event) → AllByRecursion AsksOrDelivers es → AllByRecursion IsBetweenTicks es
+are_between [] h = tt
+are_between (event.Emit n p ∷ es) h = (tt, are_between es h.1)
+are_between (event.Deliver c n ∷ es) h = (tt, are_between es h.1)
+are_between (e ∷ es) h = absurd h.0
+
+move_none : (s : Side) (g k : ℕ) (es : List Event) → AllByRecursion AsksOrDelivers es → AllByRecursion (IsNoMoveOf s g k) es
+move_none s g k [] h = tt
+move_none s g k (event.Emit n p ∷ es) h = (tt, move_none s g k es h.1)
+move_none s g k (event.Deliver c n ∷ es) h = (tt, move_none s g k es h.1)
+move_none s g k (e ∷ es) h = absurd h.0
+
+delivers_between : (es : List Event) → AllByRecursion IsDeliver es → AllByRecursion AsksOrDelivers es
 delivers_between [] h = tt
 delivers_between (event.Deliver c n ∷ es) h = (tt, delivers_between es h.1)
 delivers_between (e ∷ es) h = absurd h.0
-
-delivers_still : (es : List Event) → AllByRecursion IsDeliver es → AllByRecursion MovesNone es
-delivers_still [] h = tt
-delivers_still (event.Deliver c n ∷ es) h = (tt, delivers_still es h.1)
-delivers_still (e ∷ es) h = absurd h.0
 
 pub plays_delivers : (gives : Algorithms) (old new : WorldState) → Delivers gives old new → PlaysBetween gives old new
 plays_delivers gives old new d = record {
   events = d.delivers;
   replies = d.acts.replies;
   between = delivers_between d.delivers d.arrives;
-  still = delivers_still d.delivers d.arrives;
   acts = d.acts.acts;
 }
 
@@ -51,7 +56,7 @@ plays_delivers gives old new d = record {
 asked_once : (gives : Algorithms) (number p : ℕ) (r : Reply) (mid new : WorldState) → WorldSteps gives mid (event.Emit number p) r new
     → PlaysBetween gives mid new
 asked_once gives number p r mid new x =
-    record { events = event.Emit number p ∷ []; replies = r ∷ []; between = (tt, tt); still = (tt, tt); acts = (new, x, refl) }
+    record { events = event.Emit number p ∷ []; replies = r ∷ []; between = (tt, tt); acts = (new, x, refl) }
 
 pub asks_more : (gives : Algorithms) (number p : ℕ) (r : Reply) (old mid new : WorldState) → PlaysBetween gives old mid
     → WorldSteps gives mid (event.Emit number p) r new → PlaysBetween gives old new
@@ -88,6 +93,11 @@ stops_asking_port gives fault number p old mid new a same f = subst (λ j. Stops
   between = tt;
   refused = record { named = f; memory = λ none. refl };
 })
+
+-- a port of a system that exists
+pub refused_ask : (fault : WorldFault) (n p : ℕ) (old new : WorldState) → has_system (Some n) ≡ true
+    → fault ≡ cause_or_no_memory (cause old (event.Emit n p)) → new ≡ old → IsOutOfMemoryOrSpent fault new
+refused_ask fault n p old new named f same = subst (IsOutOfMemoryOrSpent fault) (sym same) (refused_event fault old true _ refl named f)
 
 pub stops_delivering_now : (gives : Algorithms) (fault : WorldFault) (old new : WorldState) → Delivers gives old new
     → RefusesDelivery fault new → StopsBetween gives fault old new
@@ -176,46 +186,33 @@ stops_second gives n one fault old mid between new a b c =
 
 pub host_round_drains : (gives : Algorithms) (n : ℕ) (old ticked asked new : WorldState) → world_setup ticked ≡ world_setup old
     → length old.links ≤ n → RunsAll gives ticks_of_both old ticked → AsksEnds gives n ticked asked → PlaysBetween gives asked new
-    → NothingInFlight new → IsSteady old → IsDrainingRound gives old new
-host_round_drains gives n old ticked asked new fixed all t a b empty steady =
-    ticks_then_drains gives old ticked new t.replies (a.played.events ++ b.events) (a.played.replies ++ b.replies) steady t.acts
-    (runs_append gives a.played.events b.events a.played.replies b.replies ticked asked new a.played.acts b.acts)
-    (all-append IsBetweenTicks a.played.events b.events a.played.between b.between)
-    (all-append MovesNone a.played.events b.events a.played.still b.still)
-    (λ s i l h. vain_before s (port_at s l) a.played.events b.events a.played.replies b.replies (a.asks s i (port_at s l)
+    → NothingInFlight new → IsSteady old → (s : Side) (g k : ℕ) → IsDrainingRound s g k gives old new
+host_round_drains gives n old ticked asked new fixed all t a b empty steady s g k =
+    let es = a.played.events ++ b.events in
+    let rs = a.played.replies ++ b.replies in
+    let between = all-append AsksOrDelivers a.played.events b.events a.played.between b.between in
+    let run = runs_append gives a.played.events b.events a.played.replies b.replies ticked asked new a.played.acts b.acts in
+    asking_in_vain_is_draining gives s g k (ticks_of_both ++ es) (t.replies ++ rs) old new steady (both_tick es (are_between es between))
+    (tt, (tt, move_none s g k es between)) (runs_append gives ticks_of_both es t.replies rs old ticked new t.acts run)
+    (λ u i l h. vain_after_ticks gives u (port_at u l) t.replies es rs old ticked t.acts
+    (vain_before u (port_at u l) a.played.events b.events a.played.replies b.replies (a.asks u i (port_at u l)
     (let within = slice_get_within old.links i l h.there in omega (arith, all, within))
-    (ap (λ (x : WorldSetup). end_at x.cables s (suc i)) fixed ∙ end_is s old.links i l h.there))) empty
+    (ap (λ (x : WorldSetup). end_at x.cables u (suc i)) fixed ∙ end_is u old.links i l h.there)))) empty
 
 -- it is refused
 
-pub stops_ticking_hosts : (gives : Algorithms) (fault : WorldFault) (old new : WorldState) → RunsPart gives ticks_of_both fault old new
-    → StopsInHostRound gives fault old new
-stops_ticking_hosts gives fault old new p = record {
-  first = p.first;
-  next = p.next;
-  rest = p.rest;
-  ticks = subst (TickOnce One true true) (sym p.parts) (both_tick [] tt);
-  acts = p.acts;
-  refused = p.refused;
-}
-
 pub stops_after_ticks : (gives : Algorithms) (fault : WorldFault) (old ticked new : WorldState) → RunsAll gives ticks_of_both old ticked
-    → StopsBetween gives fault ticked new → StopsInHostRound gives fault old new
-stops_after_ticks gives fault old ticked new t b = record {
-  first = ticks_of_both ++ b.played.events;
-  next = b.next;
-  rest = [];
-  ticks = both_tick (b.played.events ++ (b.next ∷ []))
-      (all-append IsBetweenTicks b.played.events (b.next ∷ []) b.played.between (b.between, tt));
-  acts = runs_both gives ticks_of_both b.played.events old ticked new t (record { replies = b.played.replies; acts = b.played.acts });
-  refused = b.refused;
-}
+    → StopsBetween gives fault ticked new → PlaysHostPart gives fault old new
+stops_after_ticks gives fault old ticked new t b = inr (inl (record { ticked = ticked; ticks = t; stops = b }))
 
 -- rounds
 
-pub one_draining_round_more : (gives : Algorithms) (n : ℕ) (old mid new : WorldState) → (IsSteady old → DrainingRounds gives n old mid)
-    → (IsSteady mid → IsDrainingRound gives mid new) → IsSteady old → DrainingRounds gives (n + 1) old new
-one_draining_round_more gives n old mid new h x steady =
+pub one_draining_round_more : (gives : Algorithms) (n : ℕ) (old mid new : WorldState)
+    → (IsSteady old → (s : Side) (g k : ℕ) → DrainingRounds s g k gives n old mid)
+    → (IsSteady mid → (s : Side) (g k : ℕ) → IsDrainingRound s g k gives mid new) → IsSteady old → (s : Side) (g k : ℕ)
+    → DrainingRounds s g k gives (n + 1) old new
+one_draining_round_more gives n old mid new h x steady s g k =
     let e : suc n ≡ n + 1 = omega arith in
-    subst (λ k. DrainingRounds gives k old new) e
-    (mid, h steady, x (hosts_steady gives n old mid steady (draining_are_host gives n old mid (h steady))))
+    let before = h steady s g k in
+    subst (λ m. DrainingRounds s g k gives m old new) e
+    (mid, before, x (hosts_steady gives n old mid steady (draining_are_host gives s g k n old mid before)) s g k)

@@ -2,9 +2,9 @@
 use Rattle.lagprogress.proofs.Common.{Bool, List, None, Option, Some, [], ap, arith, false, if◌then◌else◌, map, refl, subst, suc, sym, true, zero, ℕ}
 use Rattle.lagprogress.proofs.Common.{◌++◌, ◌+◌, ◌-◌, ◌∙◌, ◌∷◌, ◌≡◌, none-some, SystemId, same_system, system-itself, One, Side, Two, Config}
 use Rattle.lagprogress.proofs.Common.{config_value, Event, Reply, Algorithms, WorldRuns, AreFirst, LinkState, WorldState, half, BothAreActive}
-use Rattle.lagprogress.proofs.Common.{IsBundle, OneIsActive, ReachedIsApart, ReachedIsBundle, SystemsDiffer, CarriersAreUp, DrainingRounds}
-use Rattle.lagprogress.proofs.Common.{HostRounds, EachAgrees, EachDistributes, IsReached, IsReady, LeadsTo, NothingStaysHeld, Rounds}
-use Rattle.lagprogress.proofs.Common.{freed_if_both_active, freed_if_one_is, up_if_both_active, up_if_one_is, IsSteady}
+use Rattle.lagprogress.proofs.Common.{EachLinkAgrees, EachLinkComesUp, IsBundle, OneIsActive, ReachedIsApart, ReachedIsBundle, SystemsDiffer}
+use Rattle.lagprogress.proofs.Common.{CarriersAreUp, NothingIsHeld, DrainingRounds, NothingIsHeldByHosts, HostRounds, EachAgrees, EachDistributes}
+use Rattle.lagprogress.proofs.Common.{IsReached, IsReady, LeadsTo, NothingStaysHeld, Rounds, IsSteady}
 use Rattle.lagscript.specs.declared.config.BadWorld.TheVariants.{SameSystem}
 use Rattle.cables.specs.declared.item.Item.{Item}
 use Rattle.lagscript.specs.Configs.{refusal_of_all}
@@ -12,13 +12,10 @@ use Rattle.lagworld.specs.Sound.{IsSound}
 use Rattle.lagprogress.proofs.OneLink.{first_none}
 use Rattle.lagprogress.proofs.Carrying.{each_reached_has_carriers_up}
 use Rattle.lagprogress.proofs.Unchanged.{events_keep}
-use Rattle.lagprogress.proofs.Freeing.{none_is_held_where_active, none_is_held_where_active_by_hosts, nothing_is_held, nothing_is_held_by_hosts}
 use Rattle.lagprogress.proofs.Hearing.{no}
-use Rattle.lagprogress.proofs.Bundling.{each_active_link_agrees_by_hosts, each_active_link_comes_up_by_hosts, each_link_agrees_by_hosts}
-use Rattle.lagprogress.proofs.Bundling.{each_link_comes_up_by_hosts}
 use Rattle.lagprogress.proofs.Reaching.{reached_steady}
 use Rattle.lagprogress.proofs.HostRound.{left}
-use Rattle.lagprogress.proofs.HostLoops.{draining_are_host, rounds_are_host_rounds}
+use Rattle.lagprogress.proofs.HostLoops.{draining_are_host}
 use Rattle.lagprogress.proofs.Played.{runs_append}
 
 when_none : {X : Type 0} (b : Bool) (x : X) → (if b then Some x else None) ≡ None → b ≡ false
@@ -56,20 +53,20 @@ reached_is_bundle Holds gives config es rs start new accepted i first runs few h
 
 -- draining rounds are events, and the last of them are such rounds
 
-draining_run : (gives : Algorithms) (n : ℕ) (old new : WorldState) → DrainingRounds gives n old new
+draining_run : (gives : Algorithms) (s : Side) (g k n : ℕ) (old new : WorldState) → DrainingRounds s g k gives n old new
     → (es : List Event) × (rs : List Reply) × WorldRuns gives old es rs new
-draining_run gives zero old new h = ([], [], h)
-draining_run gives (suc n) old new h =
-    let run = draining_run gives n old h.0 h.1 in
+draining_run gives s g k zero old new h = ([], [], h)
+draining_run gives s g k (suc n) old new h =
+    let run = draining_run gives s g k n old h.0 h.1 in
     let q = h.2.round in
     (run.0 ++ q.events, run.1 ++ q.replies, runs_append gives run.0 q.events run.1 q.replies old h.0 new run.2 q.acts)
 
-draining_splits : (gives : Algorithms) (k m n : ℕ) (old new : WorldState) → n ≡ k + m → DrainingRounds gives n old new
-    → (mid : WorldState) × DrainingRounds gives m old mid × DrainingRounds gives k mid new
-draining_splits gives zero m n old new e h = (new, subst (λ i. DrainingRounds gives i old new) (omega (arith, e)) h, refl)
-draining_splits gives (suc k) m zero old new e h = absurd (omega (arith, e))
-draining_splits gives (suc k) m (suc n) old new e h =
-    let r = draining_splits gives k m n old h.0 (omega (arith, e)) h.1 in (r.0, r.1, (h.0, r.2, h.2))
+draining_splits : (gives : Algorithms) (s : Side) (g k i m n : ℕ) (old new : WorldState) → n ≡ i + m → DrainingRounds s g k gives n old new
+    → (mid : WorldState) × DrainingRounds s g k gives m old mid × DrainingRounds s g k gives i mid new
+draining_splits gives s g k zero m n old new e h = (new, subst (λ j. DrainingRounds s g k gives j old new) (omega (arith, e)) h, refl)
+draining_splits gives s g k (suc i) m zero old new e h = absurd (omega (arith, e))
+draining_splits gives s g k (suc i) m (suc n) old new e h =
+    let r = draining_splits gives s g k i m n old h.0 (omega (arith, e)) h.1 in (r.0, r.1, (h.0, r.2, h.2))
 
 -- as the contract of `World::new` says it
 module _ {C : Type 0} (items : C → List Item) (limit : C → Option ℕ) where
@@ -83,75 +80,40 @@ module _ {C : Type 0} (items : C → List Item) (limit : C → Option ℕ) where
 
   -- in healthy rounds of hosts
 
-  pub hosts_distribute : (gives : Algorithms) (n : ℕ) (old new : WorldState) → (IsSteady old → HostRounds gives n old new)
-      → LeadsTo items limit EachDistributes BothAreActive up_if_both_active gives n old new
-  hosts_distribute gives n old new h r ready enough i l healthy =
-      let b = (is_bundle BothAreActive gives old r ready).1 in
-      each_active_link_comes_up_by_hosts gives n i l old new b healthy enough (h b.steady)
+  pub distribute : (Holds : LinkState → WorldState → Type 0) (least : ℕ) (gives : Algorithms) → EachLinkComesUp HostRounds Holds least gives
+      → (n : ℕ) (old new : WorldState) → (IsSteady old → HostRounds gives n old new)
+      → LeadsTo items limit EachDistributes Holds least gives n old new
+  distribute Holds least gives by n old new h r ready enough i l healthy =
+      let b = (is_bundle Holds gives old r ready).1 in by n i l old new b healthy enough (h b.steady)
 
-  pub hosts_agree : (gives : Algorithms) (n : ℕ) (old new : WorldState) → (IsSteady old → HostRounds gives n old new)
-      → LeadsTo items limit EachAgrees BothAreActive up_if_both_active gives n old new
-  hosts_agree gives n old new h r ready enough i l healthy =
-      let both = is_bundle BothAreActive gives old r ready in
-      each_active_link_agrees_by_hosts gives n i l old new both.0 both.1 healthy enough (h both.1.steady)
-
-  pub one_host_distributes : (gives : Algorithms) (n : ℕ) (old new : WorldState) → (IsSteady old → HostRounds gives n old new)
-      → LeadsTo items limit EachDistributes OneIsActive up_if_one_is gives n old new
-  one_host_distributes gives n old new h r ready enough i l healthy =
-      let b = (is_bundle OneIsActive gives old r ready).1 in
-      each_link_comes_up_by_hosts gives n i l old new b healthy enough (h b.steady)
-
-  pub one_host_agrees : (gives : Algorithms) (n : ℕ) (old new : WorldState) → (IsSteady old → HostRounds gives n old new)
-      → LeadsTo items limit EachAgrees OneIsActive up_if_one_is gives n old new
-  one_host_agrees gives n old new h r ready enough i l healthy =
-      let both = is_bundle OneIsActive gives old r ready in
-      each_link_agrees_by_hosts gives n i l old new both.0 both.1 healthy enough (h both.1.steady)
+  pub agree : (Holds : LinkState → WorldState → Type 0) (least : ℕ) (gives : Algorithms) → EachLinkAgrees HostRounds Holds least gives
+      → (n : ℕ) (old new : WorldState) → (IsSteady old → HostRounds gives n old new)
+      → LeadsTo items limit EachAgrees Holds least gives n old new
+  agree Holds least gives by n old new h r ready enough i l healthy =
+      let both = is_bundle Holds gives old r ready in by n i l old new both.0 both.1 healthy enough (h both.1.steady)
 
   -- that ask until nothing is due
 
-  carriers_later : (gives : Algorithms) (n : ℕ) (old new : WorldState) → IsReached items limit gives old → DrainingRounds gives n old new
-      → (s : Side) → CarriersAreUp (half s new).state
-  carriers_later gives n old new r h =
-      let run = draining_run gives n old new h in
+  carriers_later : (gives : Algorithms) (s : Side) (g k n : ℕ) (old new : WorldState) → IsReached items limit gives old
+      → DrainingRounds s g k gives n old new → CarriersAreUp (half s new).state
+  carriers_later gives s g k n old new r h =
+      let run = draining_run gives s g k n old new h in
       each_reached_has_carriers_up gives r.config.systems (r.events ++ run.0) (r.replies ++ run.1) r.start new r.starts r.made.systems
-      (runs_append gives r.events run.0 r.replies run.1 r.start old new r.runs run.2)
+      (runs_append gives r.events run.0 r.replies run.1 r.start old new r.runs run.2) s
 
-  pub hosts_free : (gives : Algorithms) (n : ℕ) (old new : WorldState) → (IsSteady old → DrainingRounds gives n old new)
-      → LeadsTo items limit NothingStaysHeld BothAreActive freed_if_both_active gives n old new
-  hosts_free gives n old new h r ready enough s left =
-      let b = (is_bundle BothAreActive gives old r ready).1 in
-      let cut = draining_splits gives 30 (n - 30) n old new (omega (arith, enough)) (h b.steady) in
-      none_is_held_where_active_by_hosts gives (n - 30) 30 old cut.0 new s b (omega (arith, enough))
-      (draining_are_host gives (n - 30) old cut.0 cut.1) (omega arith) cut.2 left (carriers_later gives n old new r (h b.steady) s)
-
-  pub one_host_frees : (gives : Algorithms) (n : ℕ) (old new : WorldState) → (IsSteady old → DrainingRounds gives n old new)
-      → LeadsTo items limit NothingStaysHeld OneIsActive freed_if_one_is gives n old new
-  one_host_frees gives n old new h r ready enough s left =
-      let b = (is_bundle OneIsActive gives old r ready).1 in
-      let cut = draining_splits gives 30 (n - 30) n old new (omega (arith, enough)) (h b.steady) in
-      nothing_is_held_by_hosts gives (n - 30) 30 old cut.0 new s b (omega (arith, enough))
-      (draining_are_host gives (n - 30) old cut.0 cut.1) (omega arith) cut.2 left (carriers_later gives n old new r (h b.steady) s)
+  pub free_by_hosts : (Holds : LinkState → WorldState → Type 0) (least : ℕ) (gives : Algorithms) → NothingIsHeldByHosts Holds least gives
+      → (n : ℕ) (old new : WorldState) → (IsSteady old → (s : Side) (g k : ℕ) → DrainingRounds s g k gives n old new)
+      → LeadsTo items limit NothingStaysHeld Holds (least + 30) gives n old new
+  free_by_hosts Holds least gives by n old new h r ready enough s left g k =
+      let b = (is_bundle Holds gives old r ready).1 in
+      let all = h b.steady s g k in
+      let cut = draining_splits gives s g k 30 (n - 30) n old new (omega (arith, enough)) all in
+      by (n - 30) 30 old cut.0 new s g k b (omega (arith, enough)) (draining_are_host gives s g k (n - 30) old cut.0 cut.1) (omega arith) cut.2 left
+      (carriers_later gives s g k n old new r all)
 
   -- and in healthy rounds
 
-  pub active_distribute : (gives : Algorithms) (n : ℕ) (old new : WorldState) → Rounds gives n old new → LeadsTo items limit EachDistributes BothAreActive up_if_both_active gives n old new
-  active_distribute gives n old new h = hosts_distribute gives n old new (λ steady. rounds_are_host_rounds gives n old new steady h)
-
-  pub active_agree : (gives : Algorithms) (n : ℕ) (old new : WorldState) → Rounds gives n old new → LeadsTo items limit EachAgrees BothAreActive up_if_both_active gives n old new
-  active_agree gives n old new h = hosts_agree gives n old new (λ steady. rounds_are_host_rounds gives n old new steady h)
-
-  pub active_free : (gives : Algorithms) (n : ℕ) (old new : WorldState) → Rounds gives n old new
-      → LeadsTo items limit NothingStaysHeld BothAreActive freed_if_both_active gives n old new
-  active_free gives n old new h r ready enough s left =
-      none_is_held_where_active gives n old new s (is_bundle BothAreActive gives old r ready).1 (carriers gives old r s) enough h left
-
-  pub one_distributes : (gives : Algorithms) (n : ℕ) (old new : WorldState) → Rounds gives n old new → LeadsTo items limit EachDistributes OneIsActive up_if_one_is gives n old new
-  one_distributes gives n old new h = one_host_distributes gives n old new (λ steady. rounds_are_host_rounds gives n old new steady h)
-
-  pub one_agrees : (gives : Algorithms) (n : ℕ) (old new : WorldState) → Rounds gives n old new → LeadsTo items limit EachAgrees OneIsActive up_if_one_is gives n old new
-  one_agrees gives n old new h = one_host_agrees gives n old new (λ steady. rounds_are_host_rounds gives n old new steady h)
-
-  pub one_frees : (gives : Algorithms) (n : ℕ) (old new : WorldState) → Rounds gives n old new
-      → LeadsTo items limit NothingStaysHeld OneIsActive freed_if_one_is gives n old new
-  one_frees gives n old new h r ready enough s left =
-      nothing_is_held gives n old new s (is_bundle OneIsActive gives old r ready).1 (carriers gives old r s) enough h left
+  pub free : (Holds : LinkState → WorldState → Type 0) (least : ℕ) (gives : Algorithms) → NothingIsHeld Holds least gives
+      → (n : ℕ) (old new : WorldState) → Rounds gives n old new → LeadsTo items limit NothingStaysHeld Holds least gives n old new
+  free Holds least gives by n old new h r ready enough s left =
+      by n old new s (is_bundle Holds gives old r ready).1 (carriers gives old r s) enough h left

@@ -3,9 +3,9 @@ use Rattle.lagprogress.proofs.Common.{List, Some, [], ap, arith, map, refl, slic
 use Rattle.lagprogress.proofs.Common.{Vec, AggId, Lacpdu, One, Side, peer, Machines, receive_rows, count_down, SystemPort, Data_frame, IsFrame}
 use Rattle.lagprogress.proofs.Common.{SystemState, all-get, Event, Reply, Algorithms, WorldRuns, WorldSteps, side_of, link_ends, ItemValue, LinkState}
 use Rattle.lagprogress.proofs.Common.{WorldState, accepts_at, half, is_accepted, link_at, port_at, put_on_port, towards, put_ends, Arrives}
-use Rattle.lagprogress.proofs.Common.{DisabledAreUnsynchronized, EachActiveFrameArrives, EachFrameArrives, EachReachedHasUnsynchronized, GetsPort}
+use Rattle.lagprogress.proofs.Common.{DisabledAreUnsynchronized, EachFrameArrives, EachFrameArrivesByHosts, EachReachedHasUnsynchronized, GetsPort}
 use Rattle.lagprogress.proofs.Common.{HandsUp, Sometime, TakesFrame, BothAreActive, EndsHealthyCable, IsBundle, OneIsActive, HostRounds, IsHostRound}
-use Rattle.lagprogress.proofs.Common.{TickOnce, IsRound, NothingInFlight, asks_all, ticks_of_both}
+use Rattle.lagprogress.proofs.Common.{TickOnce, IsRound, NothingInFlight, Rounds, asks_all, ticks_of_both, up_if_both_active, up_if_one_is}
 use Rattle.lagprogress.proofs.ArrivingLemmas.{is_data, offer_gets_port}
 use Rattle.lagprogress.proofs.Bundling.{Meets, Nowhere, awake_of, both_active, one_active, said, ups_of, named_of}
 use Rattle.lagprogress.proofs.Carrying.{Lapses, LapsesAt, distributes_up, lapse_first, lapse_kept, lapse_settles, receive_lapses}
@@ -24,7 +24,6 @@ use Rattle.lagprogress.proofs.ComingUp.{told_now}
 use Rattle.lagprogress.proofs.HostLoops.{rounds_are_host_rounds, round_ticks}
 use Rattle.lagscript.specs.declared.event.Event.TheVariants as event
 use Rattle.lagworld.specs.declared.reply.Reply.TheVariants as reply
-use Rattle.lagprogress.specs.HostArriving.{ArrivesByHosts, EachActiveFrameArrivesByHosts, EachFrameArrivesByHosts}
 use Rattle.lagprogress.proofs.Lasting.{all_by_place, as_before, still_heard}
 
 -- the partner of a port in PORT_DISABLED is not synchronized
@@ -150,9 +149,10 @@ module _ (Holds : LinkState → WorldState → Type 0) (first : ℕ) (gives : Al
             es rs sent new turns run none o.0 way;
       }
 
-  frame_arrives : (s : Side) (agg : AggId) (octets : List ℕ) (mid : WorldState) (r : Reply) (sent new : WorldState) → Sent s agg octets mid r sent
-      → (q : IsRound gives sent new) → Arrives gives s agg octets mid r sent new q
-  frame_arrives s agg octets mid r sent new x q = record {
+  frame_arrives : (s : Side) (agg : AggId) (octets : List ℕ) (mid : WorldState) (r : Reply) (es : List Event) (rs : List Reply)
+      (sent new : WorldState) (run : WorldRuns gives sent es rs new) → TickOnce One true true es → NothingInFlight new
+      → Sent s agg octets mid r sent → Arrives gives s agg octets mid r es rs sent new run
+  frame_arrives s agg octets mid r es rs sent new run turns none x = record {
     port = x.got.port;
     serial = x.got.serial;
     distributes = x.got.distributes;
@@ -164,46 +164,43 @@ module _ (Holds : LinkState → WorldState → Type 0) (first : ℕ) (gives : Al
     item = x.got.item;
     frame = x.got.frame;
     flies = x.flies;
-    up = x.arrives (ticks_of_both ++ (asks_all sent.links ++ q.delivers)) q.replies new (round_ticks sent.links q.delivers q.arrives) q.acts q.empties;
+    up = x.arrives es rs new turns run none;
   }
 
-  frame_arrives_by_hosts : (s : Side) (agg : AggId) (octets : List ℕ) (mid : WorldState) (r : Reply) (sent new : WorldState)
-      → Sent s agg octets mid r sent → (q : IsHostRound gives sent new) → ArrivesByHosts gives s agg octets mid r sent new q
-  frame_arrives_by_hosts s agg octets mid r sent new x q = record {
-    port = x.got.port;
-    serial = x.got.serial;
-    distributes = x.got.distributes;
-    replied = x.replied;
-    index = x.index;
-    link = x.link;
-    there = x.there;
-    joins = x.joins;
-    item = x.got.item;
-    frame = x.got.frame;
-    flies = x.flies;
-    up = x.arrives q.events q.replies new q.ticks q.acts q.empties;
-  }
+  pub arrives_by_hosts : (n number : ℕ) (s : Side) (agg : AggId) (octets : Vec ℕ) (r : Reply) (mid sent new : WorldState)
+      → DisabledAreUnsynchronized (half s old).state → first + 31 ≤ n → HostRounds gives n old mid → side_of number ≡ Some s
+      → TakesFrame agg octets.items (half s mid).state → WorldSteps gives mid (event.Offer number agg octets) r sent
+      → (q : IsHostRound gives sent new) → Arrives gives s agg octets.items mid r q.events q.replies sent new q.acts
+  arrives_by_hosts n number s agg octets r mid sent new quiet enough h named takes step q =
+      frame_arrives s agg octets.items mid r q.events q.replies sent new q.acts q.ticks q.empties
+      (frame_sent n number s agg octets r mid sent quiet (omega (arith, enough)) enough h named takes step)
 
-pub each_frame_arrives_by_hosts : (gives : Algorithms) → EachFrameArrivesByHosts gives
+  pub arrives : (n number : ℕ) (s : Side) (agg : AggId) (octets : Vec ℕ) (r : Reply) (mid sent new : WorldState)
+      → DisabledAreUnsynchronized (half s old).state → first + 31 ≤ n → Rounds gives n old mid → side_of number ≡ Some s
+      → TakesFrame agg octets.items (half s mid).state → WorldSteps gives mid (event.Offer number agg octets) r sent
+      → (q : IsRound gives sent new)
+      → Arrives gives s agg octets.items mid r (ticks_of_both ++ (asks_all sent.links ++ q.delivers)) q.replies sent new q.acts
+  arrives n number s agg octets r mid sent new quiet enough h named takes step q =
+      frame_arrives s agg octets.items mid r (ticks_of_both ++ (asks_all sent.links ++ q.delivers)) q.replies sent new q.acts
+      (round_ticks sent.links q.delivers q.arrives) q.empties (frame_sent n number s agg octets r mid sent quiet (omega (arith, enough)) enough
+      (rounds_are_host_rounds gives n old mid b.steady h) named takes step)
+
+pub each_frame_arrives_by_hosts : (gives : Algorithms) → EachFrameArrivesByHosts OneIsActive up_if_one_is gives
 each_frame_arrives_by_hosts gives n number s agg octets r old mid sent new b quiet enough h named takes step q =
-    let m = one_active gives old b in
-    frame_arrives_by_hosts OneIsActive 630 gives old b m s agg octets.items mid r sent new
-    (frame_sent OneIsActive 630 gives old b m n number s agg octets r mid sent quiet (omega (arith, enough)) (omega (arith, enough)) h named takes step) q
+    arrives_by_hosts OneIsActive 630 gives old b (one_active gives old b) n number s agg octets r mid sent new quiet (omega (arith, enough)) h
+    named takes step q
 
-pub each_active_frame_arrives_by_hosts : (gives : Algorithms) → EachActiveFrameArrivesByHosts gives
+pub each_active_frame_arrives_by_hosts : (gives : Algorithms) → EachFrameArrivesByHosts BothAreActive up_if_both_active gives
 each_active_frame_arrives_by_hosts gives n number s agg octets r old mid sent new b quiet enough h named takes step q =
-    let m = both_active gives old b in
-    frame_arrives_by_hosts BothAreActive 321 gives old b m s agg octets.items mid r sent new
-    (frame_sent BothAreActive 321 gives old b m n number s agg octets r mid sent quiet (omega (arith, enough)) (omega (arith, enough)) h named takes step) q
+    arrives_by_hosts BothAreActive 321 gives old b (both_active gives old b) n number s agg octets r mid sent new quiet (omega (arith, enough))
+    h named takes step q
 
-pub each_frame_arrives : (gives : Algorithms) → EachFrameArrives gives
+pub each_frame_arrives : (gives : Algorithms) → EachFrameArrives OneIsActive up_if_one_is gives
 each_frame_arrives gives n number s agg octets r old mid sent new b quiet enough h named takes step q =
-    let m = one_active gives old b in
-    frame_arrives OneIsActive 630 gives old b m s agg octets.items mid r sent new (frame_sent OneIsActive 630 gives old b m n number s agg octets r
-    mid sent quiet (omega (arith, enough)) (omega (arith, enough)) (rounds_are_host_rounds gives n old mid b.steady h) named takes step) q
+    arrives OneIsActive 630 gives old b (one_active gives old b) n number s agg octets r mid sent new quiet (omega (arith, enough)) h named
+    takes step q
 
-pub each_active_frame_arrives : (gives : Algorithms) → EachActiveFrameArrives gives
+pub each_active_frame_arrives : (gives : Algorithms) → EachFrameArrives BothAreActive up_if_both_active gives
 each_active_frame_arrives gives n number s agg octets r old mid sent new b quiet enough h named takes step q =
-    let m = both_active gives old b in
-    frame_arrives BothAreActive 321 gives old b m s agg octets.items mid r sent new (frame_sent BothAreActive 321 gives old b m n number s agg octets r
-    mid sent quiet (omega (arith, enough)) (omega (arith, enough)) (rounds_are_host_rounds gives n old mid b.steady h) named takes step) q
+    arrives BothAreActive 321 gives old b (both_active gives old b) n number s agg octets r mid sent new quiet (omega (arith, enough)) h named
+    takes step q

@@ -2,9 +2,8 @@
 use Rattle.lagprogress.proofs.Common.{List, Some, ap, arith, inl, inr, refl, slice_get, subst, suc, sym, true, ℕ, ◌+◌, ◌-◌, ◌∙◌, ◌≡◌, ◌≤◌, ◌⊎◌}
 use Rattle.lagprogress.proofs.Common.{cases_Bool, AllByRecursion, is_selected, Lacpdu, IsCabling, One, Side, peer, selected, PortConfig, SystemPort}
 use Rattle.lagprogress.proofs.Common.{MuxIsSettled, all-get, ports_rise, Same, agreement_at, Algorithms, world_setup, IsWorldSound, LinkState}
-use Rattle.lagprogress.proofs.Common.{WorldState, half, port_at, AllHeard, BothAreActive, OneIsActive, ActiveSelectedPairsAgreeByHosts}
-use Rattle.lagprogress.proofs.Common.{ActiveSelectedPairsComeUpByHosts, SelectedPairsAgreeByHosts, SelectedPairsComeUpByHosts, Distributes}
-use Rattle.lagprogress.proofs.Common.{HostRounds, AtEnd, IsHealthyAt, OfPort, IsSteady, IsTimed}
+use Rattle.lagprogress.proofs.Common.{WorldState, half, port_at, AllHeard, BothAreActive, OneIsActive, SelectedPairsAgree, SelectedPairsComeUp}
+use Rattle.lagprogress.proofs.Common.{Distributes, HostRounds, AtEnd, IsHealthyAt, OfPort, up_if_both_active, up_if_one_is, IsSteady, IsTimed}
 use Rattle.lagprogress.proofs.Bundling.{agree_up, both_meet, both_wake, heard_holds, one_meet, one_wakes, Named, names}
 use Rattle.lagprogress.proofs.Choosing.{Chose}
 use Rattle.lagprogress.proofs.Climbing.{Down, Ripe, Rising, climbed, down_settles, down_takes, down_ticks, rising_first}
@@ -172,18 +171,18 @@ module _ (Holds : LinkState → WorldState → Type 0) (first : ℕ) (gives : Al
       → ((s : Side) → AtEnd (λ p. selected p ≡ true) s l new) → agreement_at new (suc i) ≡ Some Same
   pairs_agree sound i l y n new enough h sel = agree_up gives n old new sound h i l y (named i l y) (wake i l y) (ups i l y n new enough h sel)
 
-pub selected_pairs_come_up_by_hosts : (gives : Algorithms) → SelectedPairsComeUpByHosts gives
+pub selected_pairs_come_up_by_hosts : (gives : Algorithms) → SelectedPairsComeUp HostRounds OneIsActive up_if_one_is gives
 selected_pairs_come_up_by_hosts gives n i l old new cabling steady heard y enough h sel = pairs_distribute OneIsActive 630 gives old cabling steady heard
     (one_meet gives 630 old cabling steady (omega arith)) (one_wakes old) i l y n new (omega (arith, enough)) h sel
 
-pub active_selected_pairs_come_up_by_hosts : (gives : Algorithms) → ActiveSelectedPairsComeUpByHosts gives
+pub active_selected_pairs_come_up_by_hosts : (gives : Algorithms) → SelectedPairsComeUp HostRounds BothAreActive up_if_both_active gives
 active_selected_pairs_come_up_by_hosts gives n i l old new cabling steady heard y enough h sel = pairs_distribute BothAreActive 321 gives old cabling
     steady heard (both_meet gives old cabling steady) (both_wake old) i l y n new (omega (arith, enough)) h sel
 
-pub selected_pairs_agree_by_hosts : (gives : Algorithms) → SelectedPairsAgreeByHosts gives
+pub selected_pairs_agree_by_hosts : (gives : Algorithms) → SelectedPairsAgree HostRounds OneIsActive up_if_one_is gives
 selected_pairs_agree_by_hosts gives n i l old new sound steady heard y enough h sel = pairs_agree OneIsActive 630 gives old sound.cabling steady heard
     (one_meet gives 630 old sound.cabling steady (omega arith)) (one_wakes old) sound i l y n new (omega (arith, enough)) h sel
 
-pub active_selected_pairs_agree_by_hosts : (gives : Algorithms) → ActiveSelectedPairsAgreeByHosts gives
+pub active_selected_pairs_agree_by_hosts : (gives : Algorithms) → SelectedPairsAgree HostRounds BothAreActive up_if_both_active gives
 active_selected_pairs_agree_by_hosts gives n i l old new sound steady heard y enough h sel = pairs_agree BothAreActive 321 gives old sound.cabling steady
     heard (both_meet gives old sound.cabling steady) (both_wake old) sound i l y n new (omega (arith, enough)) h sel

@@ -97,7 +97,7 @@ spent_or_not : (fault : WorldFault) (j : WorldState) (spent : Bool) → nat_le m
 spent_or_not fault j spent e h = grind (arith, nat_tests)
 
 -- an event whose cable and system exist
-refused_event : (fault : WorldFault) (j : WorldState) (cable system : Bool) → cable ≡ true → system ≡ true
+pub refused_event : (fault : WorldFault) (j : WorldState) (cable system : Bool) → cable ≡ true → system ≡ true
     → fault ≡ cause_or_no_memory (first_event_cause cable system (nat_le most_events j.acted)) → IsOutOfMemoryOrSpent fault j
 refused_event fault j cable system c s h = grind (arith, nat_tests, spent_or_not)
 

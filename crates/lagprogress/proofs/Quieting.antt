@@ -1,9 +1,10 @@
 -- A frame that is offered, or a conversation that is moved, leaves the ports, and what their LACPDUs say.
 use Rattle.lagprogress.proofs.Common.{Err, List, Ok, Result, Some, [], ap, arith, inl, inr, map, refl, subst, sym, ℕ, ◌++◌, ◌==◌, ◌∙◌, ◌∷◌, ◌≡◌, ◌⊎◌}
 use Rattle.lagprogress.proofs.Common.{cases_Bool, nat_tests, Vec, AggId, Lacpdu, One, Side, Two, peer, value_of, Machines, SystemFault, Carries}
-use Rattle.lagprogress.proofs.Common.{IsFrame, Offer, Step, system_move_result, SystemState, port_index, becomes_slots, offers_slots, Event, Reply}
-use Rattle.lagprogress.proofs.Common.{AfterOffer, Algorithms, WorldSteps, offered_item, side_of, with_frame_counted, link_ends, HalfState, ItemValue}
-use Rattle.lagprogress.proofs.Common.{WorldState, half, put_on_port, with_half, put_ends, half_there, IsSteady}
+use Rattle.lagprogress.proofs.Common.{IsFrame, Move_conversation, Offer, Step, system_move_result, SystemState, port_index, becomes_slots}
+use Rattle.lagprogress.proofs.Common.{offers_slots, Event, Reply, AfterOffer, Algorithms, InHalf, WorldSteps, offered_item, side_of}
+use Rattle.lagprogress.proofs.Common.{with_frame_counted, HalfMoves, link_ends, HalfState, ItemValue, WorldState, half, put_on_port, with_half}
+use Rattle.lagprogress.proofs.Common.{put_ends, half_there, IsSteady}
 use Rattle.lagprogress.proofs.ArrivingLemmas.{is_data, same_ports}
 use Rattle.lagprogress.proofs.EachPort.{OfEach}
 use Rattle.lagprogress.proofs.Halves.{keeps_steady}
@@ -256,3 +257,18 @@ offered_half gives n agg octets r old new h =
       subst (λ (z : SystemState). Step (gives v.0) (half v.0 old).state (Offer agg octets.items) (answer.Offer w.0) z)
           (sym (own_state v.0 agg octets.items w.0 old new w.1 r w.3)) w.2.answers.step,
     )) (inl (peer_state v.0 agg octets.items w.0 old new w.1 r w.3))
+
+-- a Move event leaves a system to itself, or asks it to move the conversation
+pub moved_half : (gives : Algorithms) (n : ℕ) (agg : AggId) (conv p : ℕ) (r : Reply) (old new : WorldState)
+    → WorldSteps gives old (event.Move n agg conv p) r new → (t : Side)
+    → ((half t new).state ≡ (half t old).state) ⊎ ((side_of n ≡ Some t) × (a : Result Unit SystemFault)
+    × Step (gives t) (half t old).state (Move_conversation agg conv p) (answer.MoveConversation a) (half t new).state)
+moved_half gives n agg conv p r old new h t = let v = value_of (side_of n) _ h.0 in by_side v.0 v.1 v.2 t
+  where
+    by_side : (s : Side) → side_of n ≡ Some s → InHalf s (λ h k. HalfMoves (gives s) agg conv p h r k) old (record new { acted = old.acted })
+        → (t : Side) → ((half t new).state ≡ (half t old).state) ⊎ ((side_of n ≡ Some t) × (a : Result Unit SystemFault)
+        × Step (gives t) (half t old).state (Move_conversation agg conv p) (answer.MoveConversation a) (half t new).state)
+    by_side One named m One = inr (named, m.0.0, m.0.1.answers.step)
+    by_side One named m Two = inl (ap (λ (w : WorldState). w.two.state) m.1)
+    by_side Two named m One = inl (ap (λ (w : WorldState). w.one.state) m.1)
+    by_side Two named m Two = inr (named, m.0.0, m.0.1.answers.step)

@@ -21,10 +21,11 @@ use Rattle.lagworld.specs.Events.{Algorithms, WorldRuns, WorldSteps, side_of}
 use Rattle.lagworld.specs.Making.{AreFirst}
 use Rattle.lagworld.specs.Sound.{IsStart}
 use Rattle.lagworld.specs.State.{ItemValue, LinkState, WorldState, half, is_accepted, port_at, put_on_port, towards, with_towards}
-use Rattle.lagprogress.specs.Bundle.{BothAreActive, IsBundle, OneIsActive}
+use Rattle.lagprogress.specs.Bundle.{IsBundle}
 use Rattle.lagprogress.specs.Freed.{held_on}
+use Rattle.lagprogress.specs.HostRounds.{HostRounds, IsHostRound}
 use Rattle.lagprogress.specs.Passing.{EndIsUp}
-use Rattle.lagprogress.specs.Rounds.{AtEnd, IsRound, Rounds, asks_all, ticks_of_both, up_if_both_active, up_if_one_is}
+use Rattle.lagprogress.specs.Rounds.{AtEnd, IsRound, Rounds, asks_all, ticks_of_both}
 
 -- The frame and the aggregator are such as `offer` takes, a port distributes in the aggregator, and the conversation of the
 -- frame is not held.
@@ -88,15 +89,10 @@ Sometime P gives (e ∷ es) (r ∷ rs) old new run = P old e r ⊎ Sometime P gi
 Sometime P gives [] (r ∷ rs) old new run = ⊥
 Sometime P gives (e ∷ es) [] old new run = ⊥
 
--- at some event of the round
-abbrev pub InRound : (P : WorldState → Event → Reply → Type 0) (gives : Algorithms) (old new : WorldState) → IsRound gives old new → Type 0
-InRound P gives old new q =
-    Sometime P gives (ticks_of_both ++ (asks_all old.links ++ q.delivers)) q.replies old new q.acts
-
 -- The frame that system s was offered got a port that distributes in the aggregator, its cable accepted it and has nothing else
--- on it in that direction, and in the round that follows it is handed up at the other end.
-pub record Arrives (gives : Algorithms) (s : Side) (agg : AggId) (octets : List ℕ) (old : WorldState) (r : Reply) (sent new : WorldState)
-    (q : IsRound gives sent new) : Type 0 where
+-- on it in that direction, and in the run that follows it is handed up at the other end.
+pub record Arrives (gives : Algorithms) (s : Side) (agg : AggId) (octets : List ℕ) (old : WorldState) (r : Reply) (es : List Event)
+    (rs : List Reply) (sent new : WorldState) (run : WorldRuns gives sent es rs new) : Type 0 where
   pub port : ℕ
   pub serial : ℕ
   pub distributes : is_among (distributing agg (half s old).state.system_ports) port ≡ true
@@ -108,7 +104,7 @@ pub record Arrives (gives : Algorithms) (s : Side) (agg : AggId) (octets : List 
   pub item : ItemValue
   pub frame : item.octets ≡ octets
   pub flies : towards (peer s) link ≡ item ∷ []
-  pub up : InRound (HandsUp (peer s) index item) gives sent new q
+  pub up : Sometime (HandsUp (peer s) index item) gives es rs sent new run
 
 -- each recorded partner of a port in PORT_DISABLED has Synchronization FALSE (6.4.12)
 abbrev pub DisabledAreUnsynchronized : SystemState → Type 0
@@ -120,19 +116,18 @@ abbrev pub EachReachedHasUnsynchronized : Algorithms → Type 0
 EachReachedHasUnsynchronized gives = (configs : List Config) (es : List Event) (rs : List Reply) (start new : WorldState) (s : Side)
     → IsStart start → AreFirst configs start → WorldRuns gives start es rs new → DisabledAreUnsynchronized (half s new).state
 
--- After 352 healthy rounds of a bundle or more, whatever was before them, a frame that a system takes arrives within one round,
--- if both ends of each healthy cable are active.
-abbrev pub EachActiveFrameArrives : Algorithms → Type 0
-EachActiveFrameArrives gives = (n number : ℕ) (s : Side) (agg : AggId) (octets : Vec ℕ) (r : Reply) (old mid sent new : WorldState)
-    → IsBundle BothAreActive old → DisabledAreUnsynchronized (half s old).state → up_if_both_active ≤ n → Rounds gives n old mid
+-- After so many healthy rounds of a bundle or more, whatever was before them, a frame that a system takes arrives within one round.
+abbrev pub EachFrameArrives : (LinkState → WorldState → Type 0) → ℕ → Algorithms → Type 0
+EachFrameArrives Holds least gives = (n number : ℕ) (s : Side) (agg : AggId) (octets : Vec ℕ) (r : Reply) (old mid sent new : WorldState)
+    → IsBundle Holds old → DisabledAreUnsynchronized (half s old).state → least ≤ n → Rounds gives n old mid
     → side_of number ≡ Some s → TakesFrame agg octets.items (half s mid).state
     → WorldSteps gives mid (event.Offer number agg octets) r sent → (q : IsRound gives sent new)
-    → Arrives gives s agg octets.items mid r sent new q
+    → Arrives gives s agg octets.items mid r (ticks_of_both ++ (asks_all sent.links ++ q.delivers)) q.replies sent new q.acts
 
--- So it does after 661, if one end of each is active.
-abbrev pub EachFrameArrives : Algorithms → Type 0
-EachFrameArrives gives = (n number : ℕ) (s : Side) (agg : AggId) (octets : Vec ℕ) (r : Reply) (old mid sent new : WorldState)
-    → IsBundle OneIsActive old → DisabledAreUnsynchronized (half s old).state → up_if_one_is ≤ n → Rounds gives n old mid
-    → side_of number ≡ Some s → TakesFrame agg octets.items (half s mid).state
-    → WorldSteps gives mid (event.Offer number agg octets) r sent → (q : IsRound gives sent new)
-    → Arrives gives s agg octets.items mid r sent new q
+-- And so it does by healthy rounds of hosts, whatever else is offered in them.
+abbrev pub EachFrameArrivesByHosts : (LinkState → WorldState → Type 0) → ℕ → Algorithms → Type 0
+EachFrameArrivesByHosts Holds least gives = (n number : ℕ) (s : Side) (agg : AggId) (octets : Vec ℕ) (r : Reply)
+    (old mid sent new : WorldState) → IsBundle Holds old → DisabledAreUnsynchronized (half s old).state → least ≤ n
+    → HostRounds gives n old mid → side_of number ≡ Some s → TakesFrame agg octets.items (half s mid).state
+    → WorldSteps gives mid (event.Offer number agg octets) r sent → (q : IsHostRound gives sent new)
+    → Arrives gives s agg octets.items mid r q.events q.replies sent new q.acts

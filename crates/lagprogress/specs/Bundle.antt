@@ -1,4 +1,4 @@
--- What holds after so many healthy rounds (100 ms each) of a world with any cables, and any ports and aggregators (profile).
+-- What holds after so many rounds (100 ms each), healthy ones or those of hosts, of a world with any cables, and any ports and aggregators (profile).
 use Rattle.std.specs.Prelude.{◌≡◌, ◌≢◌, ◌≤◌, ℕ, suc, true, List, None, Some, slice_get}
 use Rattle.lagmodel.specs.World.{IsCabling, Side, One, Two}
 use Rattle.portmachines.specs.Mux.{selected}
@@ -17,7 +17,7 @@ use Rattle.lagworld.specs.Sound.{IsSound, IsStart}
 use Rattle.lagworld.specs.State.{LinkState, WorldState, half, port_at}
 use Rattle.lagprogress.specs.ComingUp.{Distributes}
 use Rattle.lagprogress.specs.Progress.{EndKnows}
-use Rattle.lagprogress.specs.Rounds.{AtEnd, IsHealthyAt, Rounds, known_if_both_active, known_if_one_is, up_if_both_active, up_if_one_is}
+use Rattle.lagprogress.specs.Rounds.{AtEnd, IsHealthyAt, Playing}
 use Rattle.lagprogress.specs.Selecting.{aggregators_with, ports_with}
 use Rattle.lagprogress.specs.Shared.{HasAggregators}
 use Rattle.lagprogress.specs.Steady.{IsSteady}
@@ -30,16 +30,11 @@ OneIsActive l j = (a : Side) × AtEnd (λ p. p.active ≡ true) a l j
 abbrev pub BothAreActive : LinkState → WorldState → Type 0
 BothAreActive l j = (s : Side) → AtEnd (λ p. p.active ≡ true) s l j
 
--- From 321 healthy rounds on, whatever was before them and whatever the other cables are, each end of a healthy cable knows
--- the other, if both are active. No port has two cables.
-abbrev pub ActiveEndsOfEachKnow : Algorithms → Type 0
-ActiveEndsOfEachKnow gives = (n i : ℕ) (l : LinkState) (old new : WorldState) → IsCabling (world_setup old).cables → IsSteady old
-    → IsHealthyAt i l old → BothAreActive l old → known_if_both_active ≤ n → Rounds gives n old new → (s : Side) → EndKnows s l new
-
--- From 630 on they do, if one is active.
-abbrev pub EndsOfEachKnow : Algorithms → Type 0
-EndsOfEachKnow gives = (n i : ℕ) (l : LinkState) (old new : WorldState) → IsCabling (world_setup old).cables → IsSteady old
-    → IsHealthyAt i l old → OneIsActive l old → known_if_one_is ≤ n → Rounds gives n old new → (s : Side) → EndKnows s l new
+-- After so many rounds or more, whatever was before them and whatever the other cables are, each end of a healthy cable, of which this
+-- holds, knows the other. No port has two cables.
+abbrev pub EndsOfEachKnow : Playing → (LinkState → WorldState → Type 0) → ℕ → Algorithms → Type 0
+EndsOfEachKnow Plays Holds least gives = (n i : ℕ) (l : LinkState) (old new : WorldState) → IsCabling (world_setup old).cables
+    → IsSteady old → IsHealthyAt i l old → Holds l old → least ≤ n → Plays gives n old new → (s : Side) → EndKnows s l new
 
 -- port `number` of system s ends a healthy cable, of which this holds
 pub record EndsHealthyCable (Holds : LinkState → WorldState → Type 0) (s : Side) (number : ℕ) (j : WorldState) : Type 0 where
@@ -79,26 +74,15 @@ pub record IsBundle (Holds : LinkState → WorldState → Type 0) (j : WorldStat
   pub aggregators : (s : Side) → HasAggregators s j
   pub links : (s : Side) → EnoughLinks (half s j).state
 
--- From 352 healthy rounds on, whatever was before them, both ends of each healthy cable of a bundle distribute, if both ends
--- of each are active.
-abbrev pub EachActiveLinkComesUp : Algorithms → Type 0
-EachActiveLinkComesUp gives = (n i : ℕ) (l : LinkState) (old new : WorldState) → IsBundle BothAreActive old → IsHealthyAt i l old
-    → up_if_both_active ≤ n → Rounds gives n old new → (s : Side) → AtEnd Distributes s l new
+-- After so many rounds or more, whatever was before them, both ends of each healthy cable of a bundle distribute.
+abbrev pub EachLinkComesUp : Playing → (LinkState → WorldState → Type 0) → ℕ → Algorithms → Type 0
+EachLinkComesUp Plays Holds least gives = (n i : ℕ) (l : LinkState) (old new : WorldState) → IsBundle Holds old → IsHealthyAt i l old
+    → least ≤ n → Plays gives n old new → (s : Side) → AtEnd Distributes s l new
 
--- From 661 on they do, if one end of each is active.
-abbrev pub EachLinkComesUp : Algorithms → Type 0
-EachLinkComesUp gives = (n i : ℕ) (l : LinkState) (old new : WorldState) → IsBundle OneIsActive old → IsHealthyAt i l old
-    → up_if_one_is ≤ n → Rounds gives n old new → (s : Side) → AtEnd Distributes s l new
-
--- And in a sound world the agreement of each such cable is Same, from 352 on if both ends of each are active, from 661 on if
--- one is.
-abbrev pub EachActiveLinkAgrees : Algorithms → Type 0
-EachActiveLinkAgrees gives = (n i : ℕ) (l : LinkState) (old new : WorldState) → IsSound old → IsBundle BothAreActive old
-    → IsHealthyAt i l old → up_if_both_active ≤ n → Rounds gives n old new → agreement_at new (suc i) ≡ Some Same
-
-abbrev pub EachLinkAgrees : Algorithms → Type 0
-EachLinkAgrees gives = (n i : ℕ) (l : LinkState) (old new : WorldState) → IsSound old → IsBundle OneIsActive old → IsHealthyAt i l old
-    → up_if_one_is ≤ n → Rounds gives n old new → agreement_at new (suc i) ≡ Some Same
+-- And in a sound world the agreement of each such cable is Same, after as many.
+abbrev pub EachLinkAgrees : Playing → (LinkState → WorldState → Type 0) → ℕ → Algorithms → Type 0
+EachLinkAgrees Plays Holds least gives = (n i : ℕ) (l : LinkState) (old new : WorldState) → IsSound old → IsBundle Holds old
+    → IsHealthyAt i l old → least ≤ n → Plays gives n old new → agreement_at new (suc i) ≡ Some Same
 
 -- The systems differ of each world that events lead to from one that was made.
 abbrev pub ReachedIsApart : Algorithms → Type 0
@@ -113,26 +97,15 @@ ReachedIsBundle Holds gives = (config : WorldConfig) (es : List Event) (rs : Lis
     → new.acted ≤ most_events → AllHeard Holds new → ((s : Side) → HasAggregators s new)
     → ((s : Side) → EnoughLinks (half s new).state) → IsSound new × IsBundle Holds new
 
--- However few aggregators and links there are: if each port whose link is up ends a healthy cable with both ends active, and
--- both ends of a cable are SELECTED after 352 healthy rounds or more, both distribute.
-abbrev pub ActiveSelectedPairsComeUp : Algorithms → Type 0
-ActiveSelectedPairsComeUp gives = (n i : ℕ) (l : LinkState) (old new : WorldState) → IsCabling (world_setup old).cables → IsSteady old
-    → AllHeard BothAreActive old → IsHealthyAt i l old → up_if_both_active ≤ n → Rounds gives n old new
-    → ((s : Side) → AtEnd (λ p. selected p ≡ true) s l new) → (s : Side) → AtEnd Distributes s l new
-
--- So it is after 661, if one end of each is active.
-abbrev pub SelectedPairsComeUp : Algorithms → Type 0
-SelectedPairsComeUp gives = (n i : ℕ) (l : LinkState) (old new : WorldState) → IsCabling (world_setup old).cables → IsSteady old
-    → AllHeard OneIsActive old → IsHealthyAt i l old → up_if_one_is ≤ n → Rounds gives n old new
+-- However few aggregators and links there are: if each port whose link is up ends a healthy cable, of which this holds, and both ends
+-- of a cable are SELECTED after so many rounds or more, both distribute.
+abbrev pub SelectedPairsComeUp : Playing → (LinkState → WorldState → Type 0) → ℕ → Algorithms → Type 0
+SelectedPairsComeUp Plays Holds least gives = (n i : ℕ) (l : LinkState) (old new : WorldState) → IsCabling (world_setup old).cables
+    → IsSteady old → AllHeard Holds old → IsHealthyAt i l old → least ≤ n → Plays gives n old new
     → ((s : Side) → AtEnd (λ p. selected p ≡ true) s l new) → (s : Side) → AtEnd Distributes s l new
 
 -- And in a sound world the agreement of that cable is Same, after as many.
-abbrev pub ActiveSelectedPairsAgree : Algorithms → Type 0
-ActiveSelectedPairsAgree gives = (n i : ℕ) (l : LinkState) (old new : WorldState) → IsSound old → IsSteady old
-    → AllHeard BothAreActive old → IsHealthyAt i l old → up_if_both_active ≤ n → Rounds gives n old new
+abbrev pub SelectedPairsAgree : Playing → (LinkState → WorldState → Type 0) → ℕ → Algorithms → Type 0
+SelectedPairsAgree Plays Holds least gives = (n i : ℕ) (l : LinkState) (old new : WorldState) → IsSound old → IsSteady old
+    → AllHeard Holds old → IsHealthyAt i l old → least ≤ n → Plays gives n old new
     → ((s : Side) → AtEnd (λ p. selected p ≡ true) s l new) → agreement_at new (suc i) ≡ Some Same
-
-abbrev pub SelectedPairsAgree : Algorithms → Type 0
-SelectedPairsAgree gives = (n i : ℕ) (l : LinkState) (old new : WorldState) → IsSound old → IsSteady old → AllHeard OneIsActive old
-    → IsHealthyAt i l old → up_if_one_is ≤ n → Rounds gives n old new → ((s : Side) → AtEnd (λ p. selected p ≡ true) s l new)
-    → agreement_at new (suc i) ≡ Some Same

@@ -12,7 +12,7 @@ use Rattle.lagworld.specs.State.{LinkState, WorldState, half, port_at}
 use Rattle.lagprogress.specs.Bundle.{EndsHealthyCable, EnoughAggregators, EnoughLinks, OneIsActive, SystemsDiffer}
 use Rattle.lagprogress.specs.ComingUp.{Distributes}
 use Rattle.lagprogress.specs.Freed.{HasIdentifierLeft, NoneIsHeldOn}
-use Rattle.lagprogress.specs.Rounds.{AtEnd, IsHealthyAt, Rounds}
+use Rattle.lagprogress.specs.Rounds.{AtEnd, IsHealthyAt, Playing, Rounds}
 use Rattle.lagprogress.specs.Steady.{IsSteady}
 
 -- each port of system s with this number has its link down
@@ -25,12 +25,12 @@ abbrev pub IsCutOff : Side → ℕ → WorldState → Type 0
 IsCutOff s number j = (i : ℕ) (l : LinkState) → slice_get j.links i ≡ Some l → port_at s l ≡ number
     → (l.whole ≡ false) ⊎ IsDown (peer s) (port_at (peer s) l) j
 
--- After 931 healthy rounds or more, whatever was before them and whatever the other cables are, a port whose link is up and that
+-- After 931 rounds or more, whatever was before them and whatever the other cables are, a port whose link is up and that
 -- is cut off is DEFAULTED.
-abbrev pub CutOffIsDefaulted : Algorithms → Type 0
-CutOffIsDefaulted gives = (n k : ℕ) (s : Side) (x y : SystemPort) (old new : WorldState) → IsSteady old
+abbrev pub CutOffIsDefaulted : Playing → Algorithms → Type 0
+CutOffIsDefaulted Plays gives = (n k : ℕ) (s : Side) (x y : SystemPort) (old new : WorldState) → IsSteady old
     → slice_get (half s old).state.system_ports k ≡ Some x → x.port.enabled ≡ true → IsCutOff s x.number old
-    → 931 ≤ n → Rounds gives n old new → slice_get (half s new).state.system_ports k ≡ Some y → y.port.receive ≡ Defaulted
+    → 931 ≤ n → Plays gives n old new → slice_get (half s new).state.system_ports k ≡ Some y → y.port.receive ≡ Defaulted
 
 -- each port whose link is up ends a healthy cable with an active end, or is cut off
 abbrev pub AllHeardOrCutOff : WorldState → Type 0
@@ -46,17 +46,17 @@ pub record IsBundleBesideCutOffs (j : WorldState) : Type 0 where
   pub aggregators : (s : Side) → EnoughAggregators (half s j).state
   pub links : (s : Side) → EnoughLinks (half s j).state
 
--- From 962 healthy rounds on, whatever was before them, both ends of each healthy cable of such a bundle distribute.
-abbrev pub EachLinkComesUpBesideCutOffs : Algorithms → Type 0
-EachLinkComesUpBesideCutOffs gives = (n i : ℕ) (l : LinkState) (old new : WorldState) → IsBundleBesideCutOffs old → IsHealthyAt i l old
-    → 962 ≤ n → Rounds gives n old new → (s : Side) → AtEnd Distributes s l new
+-- From 962 rounds on, whatever was before them, both ends of each healthy cable of such a bundle distribute.
+abbrev pub EachLinkComesUpBesideCutOffs : Playing → Algorithms → Type 0
+EachLinkComesUpBesideCutOffs Plays gives = (n i : ℕ) (l : LinkState) (old new : WorldState) → IsBundleBesideCutOffs old
+    → IsHealthyAt i l old → 962 ≤ n → Plays gives n old new → (s : Side) → AtEnd Distributes s l new
 
 -- And in a sound world the agreement of each such cable is Same.
-abbrev pub EachLinkAgreesBesideCutOffs : Algorithms → Type 0
-EachLinkAgreesBesideCutOffs gives = (n i : ℕ) (l : LinkState) (old new : WorldState) → IsSound old → IsBundleBesideCutOffs old
-    → IsHealthyAt i l old → 962 ≤ n → Rounds gives n old new → agreement_at new (suc i) ≡ Some Same
+abbrev pub EachLinkAgreesBesideCutOffs : Playing → Algorithms → Type 0
+EachLinkAgreesBesideCutOffs Plays gives = (n i : ℕ) (l : LinkState) (old new : WorldState) → IsSound old → IsBundleBesideCutOffs old
+    → IsHealthyAt i l old → 962 ≤ n → Plays gives n old new → agreement_at new (suc i) ≡ Some Same
 
--- From 992 on no conversation is held on an end of a healthy cable, if its system has an identifier left in the end.
+-- From 992 healthy rounds on no conversation is held on an end of a healthy cable, if its system has an identifier left in the end.
 abbrev pub NoneIsHeldBesideCutOffs : Algorithms → Type 0
 NoneIsHeldBesideCutOffs gives = (n i : ℕ) (l : LinkState) (old new : WorldState) (s : Side) → IsBundleBesideCutOffs old
     → IsHealthyAt i l old → 992 ≤ n → Rounds gives n old new → HasIdentifierLeft (half s new).state

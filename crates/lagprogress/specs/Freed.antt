@@ -13,8 +13,8 @@ use Rattle.lagworld.specs.Events.{Algorithms, WorldRuns}
 use Rattle.lagworld.specs.Making.{AreFirst}
 use Rattle.lagworld.specs.Sound.{IsStart}
 use Rattle.lagworld.specs.State.{LinkState, WorldState, half, port_at}
-use Rattle.lagprogress.specs.Bundle.{BothAreActive, IsBundle, OneIsActive}
-use Rattle.lagprogress.specs.Rounds.{IsHealthyAt, Rounds, freed_if_both_active, freed_if_one_is}
+use Rattle.lagprogress.specs.Bundle.{IsBundle}
+use Rattle.lagprogress.specs.Rounds.{IsHealthyAt, Rounds}
 
 -- the port that the conversation is held on: a marker is to be sent there, or its response is waited for
 abbrev pub held_on : Assignment → Option ℕ
@@ -30,13 +30,21 @@ carrier_of (On port) = Some port
 carrier_of (Wanted port preferred) = Some port
 carrier_of (Flushing port id preferred age) = Some port
 
+-- conversation k of aggregator g of the system is not held on port n
+abbrev pub IsNotHeldOn : ℕ → (g k : ℕ) → SystemState → Type 0
+IsNotHeldOn n g k s = IsConversation s.table g k → held_on (assignment_of s.table g k) ≡ Some n → ⊥
+
+-- it is not held
+abbrev pub IsNotHeld : (g k : ℕ) → SystemState → Type 0
+IsNotHeld g k s = IsConversation s.table g k → held_on (assignment_of s.table g k) ≡ None
+
 -- no conversation of the system is held on port n
 abbrev pub NoneIsHeldOn : ℕ → SystemState → Type 0
-NoneIsHeldOn n s = (g k : ℕ) → IsConversation s.table g k → held_on (assignment_of s.table g k) ≡ Some n → ⊥
+NoneIsHeldOn n s = (g k : ℕ) → IsNotHeldOn n g k s
 
 -- no conversation of the system is held
 abbrev pub NoneIsHeld : SystemState → Type 0
-NoneIsHeld s = (g k : ℕ) → IsConversation s.table g k → held_on (assignment_of s.table g k) ≡ None
+NoneIsHeld s = (g k : ℕ) → IsNotHeld g k s
 
 -- an identifier is left for one more marker
 abbrev pub HasIdentifierLeft : SystemState → Type 0
@@ -50,26 +58,17 @@ HasPortUp n s = (k : ℕ) × (x : SystemPort) × (slice_get s.system_ports k ≡
 abbrev pub CarriersAreUp : SystemState → Type 0
 CarriersAreUp s = (g k p : ℕ) → IsConversation s.table g k → carrier_of (assignment_of s.table g k) ≡ Some p → HasPortUp p s
 
--- From 382 healthy rounds of a bundle on, whatever was before them, no conversation is held on an end of a healthy cable, if
--- both ends of each such cable are active, and its system has an identifier left in the end.
-abbrev pub NoneIsHeldOnActiveEnds : Algorithms → Type 0
-NoneIsHeldOnActiveEnds gives = (n i : ℕ) (l : LinkState) (old new : WorldState) (s : Side) → IsBundle BothAreActive old
-    → IsHealthyAt i l old → freed_if_both_active ≤ n → Rounds gives n old new → HasIdentifierLeft (half s new).state
+-- After so many healthy rounds of a bundle or more, whatever was before them, no conversation is held on an end of a healthy cable, if
+-- its system has an identifier left in the end.
+abbrev pub NoneIsHeldOnEnds : (LinkState → WorldState → Type 0) → ℕ → Algorithms → Type 0
+NoneIsHeldOnEnds Holds least gives = (n i : ℕ) (l : LinkState) (old new : WorldState) (s : Side) → IsBundle Holds old
+    → IsHealthyAt i l old → least ≤ n → Rounds gives n old new → HasIdentifierLeft (half s new).state
     → NoneIsHeldOn (port_at s l) (half s new).state
 
--- From 691 on, if one end of each is active.
-abbrev pub NoneIsHeldOnEnds : Algorithms → Type 0
-NoneIsHeldOnEnds gives = (n i : ℕ) (l : LinkState) (old new : WorldState) (s : Side) → IsBundle OneIsActive old → IsHealthyAt i l old
-    → freed_if_one_is ≤ n → Rounds gives n old new → HasIdentifierLeft (half s new).state → NoneIsHeldOn (port_at s l) (half s new).state
-
 -- And no conversation of a system is held at all, if the links of the ports were up that carried one, or held one.
-abbrev pub NoneIsHeldWhereActive : Algorithms → Type 0
-NoneIsHeldWhereActive gives = (n : ℕ) (old new : WorldState) (s : Side) → IsBundle BothAreActive old → CarriersAreUp (half s old).state
-    → freed_if_both_active ≤ n → Rounds gives n old new → HasIdentifierLeft (half s new).state → NoneIsHeld (half s new).state
-
-abbrev pub NothingIsHeld : Algorithms → Type 0
-NothingIsHeld gives = (n : ℕ) (old new : WorldState) (s : Side) → IsBundle OneIsActive old → CarriersAreUp (half s old).state
-    → freed_if_one_is ≤ n → Rounds gives n old new → HasIdentifierLeft (half s new).state → NoneIsHeld (half s new).state
+abbrev pub NothingIsHeld : (LinkState → WorldState → Type 0) → ℕ → Algorithms → Type 0
+NothingIsHeld Holds least gives = (n : ℕ) (old new : WorldState) (s : Side) → IsBundle Holds old → CarriersAreUp (half s old).state
+    → least ≤ n → Rounds gives n old new → HasIdentifierLeft (half s new).state → NoneIsHeld (half s new).state
 
 -- So it is with both systems of each world that events lead to from a start.
 abbrev pub EachReachedHasCarriersUp : Algorithms → Type 0

@@ -1,23 +1,15 @@
 -- A healthy round of a world as hosts play it: in any order, each system ticks once, is asked, and is offered frames (profile).
-use Rattle.std.specs.Prelude.{◌≡◌, ◌⊎◌, ◌≤◌, ℕ, zero, suc, Bool, true, false, List, [], ◌∷◌, ◌++◌, Some, slice_get}
+use Rattle.std.specs.Prelude.{◌≡◌, ◌⊎◌, ℕ, zero, suc, Bool, true, false, List, [], ◌∷◌, ◌++◌, Some, slice_get}
 use Rattle.std.specs.List.{AllByRecursion}
 use Rattle.lagsystem.specs.declared.system_ports.SystemPort.{SystemPort}
-use Rattle.lagmodel.specs.World.{IsCabling, Side, One, Two, peer}
+use Rattle.lagmodel.specs.World.{Side, One, Two, peer}
 use Rattle.portmachines.specs.Transmit.{is_due}
 use Rattle.lagscript.specs.declared.event.Event.{Event}
 use Rattle.lagscript.specs.declared.event.Event.TheVariants as event
 use Rattle.lagworld.specs.declared.reply.Reply.{Reply}
-use Rattle.lagworld.specs.declared.agreement.Agreement.TheVariants.{Same}
-use Rattle.lagworld.specs.Agreement.{agreement_at}
-use Rattle.lagworld.specs.Sound.{IsSound}
 use Rattle.lagworld.specs.Events.{Algorithms, WorldRuns, side_of}
-use Rattle.lagworld.specs.ModelWorld.{world_setup}
 use Rattle.lagworld.specs.State.{LinkState, WorldState, port_at}
-use Rattle.lagprogress.specs.Bundle.{BothAreActive, IsBundle, OneIsActive}
-use Rattle.lagprogress.specs.ComingUp.{Distributes}
-use Rattle.lagprogress.specs.Progress.{EndKnows}
-use Rattle.lagprogress.specs.Rounds.{AtEnd, IsHealthyAt, IsRound, NothingInFlight, Rounds, known_if_both_active, known_if_one_is, up_if_both_active}
-use Rattle.lagprogress.specs.Rounds.{up_if_one_is}
+use Rattle.lagprogress.specs.Rounds.{AtEnd, IsHealthyAt, IsRound, NothingInFlight, Rounds}
 use Rattle.lagprogress.specs.Steady.{IsSteady}
 
 -- the event is one tick of system s
@@ -119,34 +111,3 @@ RoundIsHostRound gives = (old new : WorldState) → IsSteady old → IsRound giv
 -- and so many of them are as many
 abbrev pub RoundsAreHostRounds : Algorithms → Type 0
 RoundsAreHostRounds gives = (n : ℕ) (old new : WorldState) → IsSteady old → Rounds gives n old new → HostRounds gives n old new
-
--- From 321 of them on, whatever was before them and whatever the other cables are, each end of a healthy cable knows the other, if
--- both are active.
-abbrev pub ActiveEndsKnowByHosts : Algorithms → Type 0
-ActiveEndsKnowByHosts gives = (n i : ℕ) (l : LinkState) (old new : WorldState) → IsCabling (world_setup old).cables → IsSteady old
-    → IsHealthyAt i l old → BothAreActive l old → known_if_both_active ≤ n → HostRounds gives n old new → (s : Side) → EndKnows s l new
-
--- From 630 on they do, if one is active.
-abbrev pub EndsKnowByHosts : Algorithms → Type 0
-EndsKnowByHosts gives = (n i : ℕ) (l : LinkState) (old new : WorldState) → IsCabling (world_setup old).cables → IsSteady old
-    → IsHealthyAt i l old → OneIsActive l old → known_if_one_is ≤ n → HostRounds gives n old new → (s : Side) → EndKnows s l new
-
--- From 352 of them on, whatever was before them, both ends of each healthy cable of a bundle distribute, if both ends of each are
--- active.
-abbrev pub EachActiveLinkComesUpByHosts : Algorithms → Type 0
-EachActiveLinkComesUpByHosts gives = (n i : ℕ) (l : LinkState) (old new : WorldState) → IsBundle BothAreActive old → IsHealthyAt i l old
-    → up_if_both_active ≤ n → HostRounds gives n old new → (s : Side) → AtEnd Distributes s l new
-
--- From 661 on they do, if one end of each is.
-abbrev pub EachLinkComesUpByHosts : Algorithms → Type 0
-EachLinkComesUpByHosts gives = (n i : ℕ) (l : LinkState) (old new : WorldState) → IsBundle OneIsActive old → IsHealthyAt i l old
-    → up_if_one_is ≤ n → HostRounds gives n old new → (s : Side) → AtEnd Distributes s l new
-
--- And in a sound world the agreement of each healthy cable is Same, after as many.
-abbrev pub EachActiveLinkAgreesByHosts : Algorithms → Type 0
-EachActiveLinkAgreesByHosts gives = (n i : ℕ) (l : LinkState) (old new : WorldState) → IsSound old → IsBundle BothAreActive old
-    → IsHealthyAt i l old → up_if_both_active ≤ n → HostRounds gives n old new → agreement_at new (suc i) ≡ Some Same
-
-abbrev pub EachLinkAgreesByHosts : Algorithms → Type 0
-EachLinkAgreesByHosts gives = (n i : ℕ) (l : LinkState) (old new : WorldState) → IsSound old → IsBundle OneIsActive old
-    → IsHealthyAt i l old → up_if_one_is ≤ n → HostRounds gives n old new → agreement_at new (suc i) ≡ Some Same

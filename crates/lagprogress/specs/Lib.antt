@@ -20,7 +20,5 @@ pub mod Arriving
 pub mod Limited
 pub mod CutOff
 pub mod HostRounds
-pub mod ByHosts
 pub mod HostFreed
-pub mod HostArriving
 pub mod PlayedByHosts

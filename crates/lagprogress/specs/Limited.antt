@@ -16,8 +16,8 @@ use Rattle.lagworld.specs.Making.{AreFirst}
 use Rattle.lagworld.specs.ModelWorld.{world_setup}
 use Rattle.lagworld.specs.Sound.{IsSound, IsStart}
 use Rattle.lagworld.specs.State.{LinkState, WorldState, half}
-use Rattle.lagprogress.specs.Bundle.{AllHeard, BothAreActive, EnoughLinks, OneIsActive, SystemsDiffer}
-use Rattle.lagprogress.specs.Rounds.{AtEnd, IsHealthyAt, Rounds, up_if_both_active, up_if_one_is}
+use Rattle.lagprogress.specs.Bundle.{AllHeard, EnoughLinks, SystemsDiffer}
+use Rattle.lagprogress.specs.Rounds.{AtEnd, IsHealthyAt, Playing}
 use Rattle.lagprogress.specs.Selecting.{IsFull}
 use Rattle.lagprogress.specs.Shared.{HasAggregators}
 use Rattle.lagprogress.specs.Steady.{IsSteady}
@@ -59,16 +59,9 @@ pub record IsLimitedBundle (Holds : LinkState → WorldState → Type 0) (t : Si
   pub down : DownAreUnselected (half t j).state
   pub links : EnoughLinks (half (peer t) j).state
 
--- After 352 healthy rounds or more, whatever was before them, the agreement of each healthy cable of such a bundle is Same, or its
--- end at t is STANDBY in an aggregator that has as many members as the limit, and the agreement of the cable of each is Same, if
--- both ends of each healthy cable are active.
-abbrev pub EachActiveLimitedLinkAgrees : Algorithms → Type 0
-EachActiveLimitedLinkAgrees gives = (n i : ℕ) (l : LinkState) (t : Side) (old new : WorldState) → IsSound old
-    → IsLimitedBundle BothAreActive t old → IsHealthyAt i l old → up_if_both_active ≤ n → Rounds gives n old new
-    → (agreement_at new (suc i) ≡ Some Same) ⊎ StandsByOthers t l new
-
--- So it is after 661, if one end of each is active.
-abbrev pub EachLimitedLinkAgrees : Algorithms → Type 0
-EachLimitedLinkAgrees gives = (n i : ℕ) (l : LinkState) (t : Side) (old new : WorldState) → IsSound old
-    → IsLimitedBundle OneIsActive t old → IsHealthyAt i l old → up_if_one_is ≤ n → Rounds gives n old new
+-- After so many rounds or more, whatever was before them, the agreement of each healthy cable of such a bundle is Same, or its end at t
+-- is STANDBY in an aggregator that has as many members as the limit, and the agreement of the cable of each is Same.
+abbrev pub EachLimitedLinkAgrees : Playing → (LinkState → WorldState → Type 0) → ℕ → Algorithms → Type 0
+EachLimitedLinkAgrees Plays Holds least gives = (n i : ℕ) (l : LinkState) (t : Side) (old new : WorldState) → IsSound old
+    → IsLimitedBundle Holds t old → IsHealthyAt i l old → least ≤ n → Plays gives n old new
     → (agreement_at new (suc i) ≡ Some Same) ⊎ StandsByOthers t l new

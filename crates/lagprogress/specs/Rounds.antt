@@ -47,6 +47,10 @@ abbrev pub Rounds : Algorithms → ℕ → WorldState → WorldState → Type 0
 Rounds gives zero old new = new ≡ old
 Rounds gives (suc n) old new = (mid : WorldState) × Rounds gives n old mid × IsRound gives mid new
 
+-- how rounds are played: the algorithms, how many rounds, and the worlds before and after them
+abbrev pub Playing : Type 1
+Playing = Algorithms → ℕ → WorldState → WorldState → Type 0
+
 -- there is a port, and so its machines are
 abbrev pub OfPort : (Machines → Type 0) → Option Machines → Type 0
 OfPort P None = ⊥

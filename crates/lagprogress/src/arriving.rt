@@ -28,7 +28,9 @@ pub fn disabled_ports_have_unsynchronized_partners<F: Fn(u16, usize) -> usize>()
     ensures { (one two : F) → EachReachedHasUnsynchronized (both_algorithms (F.post one) (F.post two)) }
 {}
 
-ghost use Rattle.lagprogress.specs.Arriving.{EachActiveFrameArrives, EachFrameArrives};
+ghost use Rattle.lagprogress.specs.Arriving.{EachFrameArrives};
+ghost use Rattle.lagprogress.specs.Bundle.{BothAreActive, OneIsActive};
+ghost use Rattle.lagprogress.specs.Rounds.{up_if_both_active, up_if_one_is};
 
 // promise: a frame offered behind the rounds gets a port, the cable accepts it, and in the next healthy round the other end hands it up,
 //    octet by octet: 352 | 661
@@ -43,6 +45,6 @@ ghost use Rattle.lagprogress.specs.Arriving.{EachActiveFrameArrives, EachFrameAr
 /// of one frame: a healthy round offers none. Each disabled port of the sender has an unsynchronized partner, as
 /// `disabled_ports_have_unsynchronized_partners` has it (6.2.3, 6.2.4; profile).
 pub fn each_frame_arrives<F: Fn(u16, usize) -> usize>()
-    ensures both { (one two : F) → EachActiveFrameArrives (both_algorithms (F.post one) (F.post two)) }
-    ensures one { (one two : F) → EachFrameArrives (both_algorithms (F.post one) (F.post two)) }
+    ensures both { (one two : F) → EachFrameArrives BothAreActive up_if_both_active (both_algorithms (F.post one) (F.post two)) }
+    ensures one { (one two : F) → EachFrameArrives OneIsActive up_if_one_is (both_algorithms (F.post one) (F.post two)) }
 {}

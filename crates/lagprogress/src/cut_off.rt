@@ -2,6 +2,7 @@
 
 ghost use Rattle.lagworld.specs.Sound.{both_algorithms};
 ghost use Rattle.lagprogress.specs.CutOff.{CutOffIsDefaulted, EachLinkAgreesBesideCutOffs, EachLinkComesUpBesideCutOffs, NoneIsHeldBesideCutOffs};
+ghost use Rattle.lagprogress.specs.Rounds.{Rounds};
 
 // promise: a port whose link is up is DEFAULTED after 931 rounds, if it is cut off: each of its cables is cut, or ends at a port whose link
 //    is down
@@ -11,7 +12,7 @@ ghost use Rattle.lagprogress.specs.CutOff.{CutOffIsDefaulted, EachLinkAgreesBesi
 /// rounds (93.1 s) or more, whatever was before them, and whatever the other ports and cables are. Both systems are sound, and
 /// their timers within their bounds (6.4.12).
 pub fn cut_off_ports_are_defaulted<F: Fn(u16, usize) -> usize>()
-    ensures { (one two : F) → CutOffIsDefaulted (both_algorithms (F.post one) (F.post two)) }
+    ensures { (one two : F) → CutOffIsDefaulted Rounds (both_algorithms (F.post one) (F.post two)) }
 {}
 
 // promise: beside such ports both ports of each healthy cable are up and agree after 962 rounds, and from 992 on no conversation is held on
@@ -25,7 +26,7 @@ pub fn cut_off_ports_are_defaulted<F: Fn(u16, usize) -> usize>()
 /// of each healthy cable distribute, and in a sound world its agreement is `Same`; and from 992 (99.2 s) on no conversation is
 /// Wanted or Flushing on them, if an identifier for a marker is left in the end (6.2.5, 6.3.6, 6.4.12 to 6.4.16; profile).
 pub fn each_link_comes_up_beside_cut_offs<F: Fn(u16, usize) -> usize>()
-    ensures up { (one two : F) → EachLinkComesUpBesideCutOffs (both_algorithms (F.post one) (F.post two)) }
-    ensures agrees { (one two : F) → EachLinkAgreesBesideCutOffs (both_algorithms (F.post one) (F.post two)) }
+    ensures up { (one two : F) → EachLinkComesUpBesideCutOffs Rounds (both_algorithms (F.post one) (F.post two)) }
+    ensures agrees { (one two : F) → EachLinkAgreesBesideCutOffs Rounds (both_algorithms (F.post one) (F.post two)) }
     ensures frees { (one two : F) → NoneIsHeldBesideCutOffs (both_algorithms (F.post one) (F.post two)) }
 {}

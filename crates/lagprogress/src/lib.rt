@@ -222,7 +222,8 @@ pub fn links_agree<F: Fn(u16, usize) -> usize>()
     ensures one { (one two : F) → LinkAgrees (both_algorithms (F.post one) (F.post two)) }
 {}
 
-ghost use Rattle.lagprogress.specs.Bundle.{ActiveEndsOfEachKnow, EndsOfEachKnow};
+ghost use Rattle.lagprogress.specs.Bundle.{EndsOfEachKnow};
+ghost use Rattle.lagprogress.specs.Rounds.{Rounds, known_if_both_active, known_if_one_is};
 
 // promise: among any cables, the ports of each healthy one know each other after 321 rounds if both are active, after 630 if one is
 // contract: `ends_of_each_cable_come_to_know` (`both`, `one`)
@@ -232,8 +233,8 @@ ghost use Rattle.lagprogress.specs.Bundle.{ActiveEndsOfEachKnow, EndsOfEachKnow}
 /// ports and aggregators the systems have. A cable is healthy that is whole and has no limit, with the links of both of its
 /// ports up; no port has two cables; both systems are sound, and their timers within their bounds (6.4.12, 6.4.13).
 pub fn ends_of_each_cable_come_to_know<F: Fn(u16, usize) -> usize>()
-    ensures both { (one two : F) → ActiveEndsOfEachKnow (both_algorithms (F.post one) (F.post two)) }
-    ensures one { (one two : F) → EndsOfEachKnow (both_algorithms (F.post one) (F.post two)) }
+    ensures both { (one two : F) → EndsOfEachKnow Rounds BothAreActive known_if_both_active (both_algorithms (F.post one) (F.post two)) }
+    ensures one { (one two : F) → EndsOfEachKnow Rounds OneIsActive known_if_one_is (both_algorithms (F.post one) (F.post two)) }
 {}
 
 ghost use Rattle.lagprogress.specs.Bundle.{BothAreActive, OneIsActive, ReachedIsApart, ReachedIsBundle};
@@ -251,7 +252,8 @@ pub fn reached_worlds_are_bundles<F: Fn(u16, usize) -> usize>()
     ensures one { (one two : F) → ReachedIsBundle OneIsActive (both_algorithms (F.post one) (F.post two)) }
 {}
 
-ghost use Rattle.lagprogress.specs.Bundle.{EachActiveLinkComesUp, EachLinkComesUp};
+ghost use Rattle.lagprogress.specs.Bundle.{EachLinkComesUp};
+ghost use Rattle.lagprogress.specs.Rounds.{up_if_both_active, up_if_one_is};
 
 // promise: both ports of each healthy cable are up, and its `agreement` is `Same`: 352 | 661
 // contract: `each_link_comes_up`, `each_link_agrees`
@@ -264,20 +266,20 @@ ghost use Rattle.lagprogress.specs.Bundle.{EachActiveLinkComesUp, EachLinkComesU
 /// the two systems differ, both are sound, and their timers are within their bounds. Other cables may be cut, or end at ports
 /// whose links are down (6.3.6, 6.4.12 to 6.4.16).
 pub fn each_link_comes_up<F: Fn(u16, usize) -> usize>()
-    ensures both { (one two : F) → EachActiveLinkComesUp (both_algorithms (F.post one) (F.post two)) }
-    ensures one { (one two : F) → EachLinkComesUp (both_algorithms (F.post one) (F.post two)) }
+    ensures both { (one two : F) → EachLinkComesUp Rounds BothAreActive up_if_both_active (both_algorithms (F.post one) (F.post two)) }
+    ensures one { (one two : F) → EachLinkComesUp Rounds OneIsActive up_if_one_is (both_algorithms (F.post one) (F.post two)) }
 {}
 
-ghost use Rattle.lagprogress.specs.Bundle.{EachActiveLinkAgrees, EachLinkAgrees};
+ghost use Rattle.lagprogress.specs.Bundle.{EachLinkAgrees};
 
 /// The two ends of each link agree: in a sound world as in `each_link_comes_up` the agreement of each healthy cable is
 /// `Same` from 352 healthy rounds (35.2 s) on if both ends of each are active, from 661 (66.1 s) on if one is (6.3.6; profile).
 pub fn each_link_agrees<F: Fn(u16, usize) -> usize>()
-    ensures both { (one two : F) → EachActiveLinkAgrees (both_algorithms (F.post one) (F.post two)) }
-    ensures one { (one two : F) → EachLinkAgrees (both_algorithms (F.post one) (F.post two)) }
+    ensures both { (one two : F) → EachLinkAgrees Rounds BothAreActive up_if_both_active (both_algorithms (F.post one) (F.post two)) }
+    ensures one { (one two : F) → EachLinkAgrees Rounds OneIsActive up_if_one_is (both_algorithms (F.post one) (F.post two)) }
 {}
 
-ghost use Rattle.lagprogress.specs.Bundle.{ActiveSelectedPairsAgree, ActiveSelectedPairsComeUp, SelectedPairsAgree, SelectedPairsComeUp};
+ghost use Rattle.lagprogress.specs.Bundle.{SelectedPairsAgree, SelectedPairsComeUp};
 
 // promise: if both ports of a healthy cable are SELECTED after that many rounds, they are up and agree, however few aggregators and links
 //    there are: 352 | 661
@@ -288,13 +290,14 @@ ghost use Rattle.lagprogress.specs.Bundle.{ActiveSelectedPairsAgree, ActiveSelec
 /// a sound world the agreement of that cable is `Same`, whatever was before the rounds. Both systems are sound and their timers within
 /// their ranges, as in each world that events lead to from a start (6.3.6, 6.4.12 to 6.4.16; profile).
 pub fn selected_pairs_agree<F: Fn(u16, usize) -> usize>()
-    ensures up_both { (one two : F) → ActiveSelectedPairsComeUp (both_algorithms (F.post one) (F.post two)) }
-    ensures up_one { (one two : F) → SelectedPairsComeUp (both_algorithms (F.post one) (F.post two)) }
-    ensures both { (one two : F) → ActiveSelectedPairsAgree (both_algorithms (F.post one) (F.post two)) }
-    ensures one { (one two : F) → SelectedPairsAgree (both_algorithms (F.post one) (F.post two)) }
+    ensures up_both { (one two : F) → SelectedPairsComeUp Rounds BothAreActive up_if_both_active (both_algorithms (F.post one) (F.post two)) }
+    ensures up_one { (one two : F) → SelectedPairsComeUp Rounds OneIsActive up_if_one_is (both_algorithms (F.post one) (F.post two)) }
+    ensures both { (one two : F) → SelectedPairsAgree Rounds BothAreActive up_if_both_active (both_algorithms (F.post one) (F.post two)) }
+    ensures one { (one two : F) → SelectedPairsAgree Rounds OneIsActive up_if_one_is (both_algorithms (F.post one) (F.post two)) }
 {}
 
-ghost use Rattle.lagprogress.specs.Freed.{NoneIsHeldOnActiveEnds, NoneIsHeldOnEnds, NoneIsHeldWhereActive, NothingIsHeld};
+ghost use Rattle.lagprogress.specs.Freed.{NoneIsHeldOnEnds, NothingIsHeld};
+ghost use Rattle.lagprogress.specs.Rounds.{freed_if_both_active, freed_if_one_is};
 
 // promise: no conversation is held on an end of a healthy cable: 382 | 691
 // contract: `held_conversations_are_freed` (`ends_both`, `ends_one`)
@@ -308,10 +311,10 @@ ghost use Rattle.lagprogress.specs.Freed.{NoneIsHeldOnActiveEnds, NoneIsHeldOnEn
 /// healthy cable, whatever was before them, if an identifier for a marker is left in the end. And none is at all in a system
 /// in which each port that carried a conversation, or held one, had its link up (6.2.5; profile).
 pub fn held_conversations_are_freed<F: Fn(u16, usize) -> usize>()
-    ensures ends_both { (one two : F) → NoneIsHeldOnActiveEnds (both_algorithms (F.post one) (F.post two)) }
-    ensures ends_one { (one two : F) → NoneIsHeldOnEnds (both_algorithms (F.post one) (F.post two)) }
-    ensures all_both { (one two : F) → NoneIsHeldWhereActive (both_algorithms (F.post one) (F.post two)) }
-    ensures all_one { (one two : F) → NothingIsHeld (both_algorithms (F.post one) (F.post two)) }
+    ensures ends_both { (one two : F) → NoneIsHeldOnEnds BothAreActive freed_if_both_active (both_algorithms (F.post one) (F.post two)) }
+    ensures ends_one { (one two : F) → NoneIsHeldOnEnds OneIsActive freed_if_one_is (both_algorithms (F.post one) (F.post two)) }
+    ensures all_both { (one two : F) → NothingIsHeld BothAreActive freed_if_both_active (both_algorithms (F.post one) (F.post two)) }
+    ensures all_one { (one two : F) → NothingIsHeld OneIsActive freed_if_one_is (both_algorithms (F.post one) (F.post two)) }
 {}
 
 ghost use Rattle.lagprogress.specs.Freed.{EachReachedHasCarriersUp};

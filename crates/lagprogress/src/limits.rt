@@ -9,7 +9,9 @@ pub fn down_ports_are_unselected<F: Fn(u16, usize) -> usize>()
     ensures { (one two : F) → EachReachedHasDownUnselected (both_algorithms (F.post one) (F.post two)) }
 {}
 
-ghost use Rattle.lagprogress.specs.Limited.{EachActiveLimitedLinkAgrees, EachLimitedLinkAgrees};
+ghost use Rattle.lagprogress.specs.Bundle.{BothAreActive, OneIsActive};
+ghost use Rattle.lagprogress.specs.Limited.{EachLimitedLinkAgrees};
+ghost use Rattle.lagprogress.specs.Rounds.{Rounds, up_if_both_active, up_if_one_is};
 
 // promise: each healthy cable agrees (`Same`), or its end at the limited system is STANDBY in an aggregator with as many members as the
 //    limit, each of which ends a cable that agrees: 352 | 661
@@ -24,6 +26,6 @@ ghost use Rattle.lagprogress.specs.Limited.{EachActiveLimitedLinkAgrees, EachLim
 /// key; the two systems differ; their timers are within their bounds; and no port of the limited system whose link is down is
 /// SELECTED or STANDBY (6.3.6, 6.4.12 to 6.4.16; profile).
 pub fn each_limited_link_agrees<F: Fn(u16, usize) -> usize>()
-    ensures both { (one two : F) → EachActiveLimitedLinkAgrees (both_algorithms (F.post one) (F.post two)) }
-    ensures one { (one two : F) → EachLimitedLinkAgrees (both_algorithms (F.post one) (F.post two)) }
+    ensures both { (one two : F) → EachLimitedLinkAgrees Rounds BothAreActive up_if_both_active (both_algorithms (F.post one) (F.post two)) }
+    ensures one { (one two : F) → EachLimitedLinkAgrees Rounds OneIsActive up_if_one_is (both_algorithms (F.post one) (F.post two)) }
 {}

@@ -1,14 +1,14 @@
-ghost use Rattle.std.specs.Prelude.{◌≡◌, ◌≤◌, IfErr, IfOk, length};
+ghost use Rattle.std.specs.Prelude.{◌≡◌, ◌≤◌, ℕ, IfErr, IfOk, Some, length, true};
 ghost use Rattle.distributor.specs.Calls.{PicksIndexes};
-ghost use Rattle.lagworld.specs.Events.{most_events};
+ghost use Rattle.lagmodel.specs.World.{Side};
+ghost use Rattle.lagworld.specs.Events.{has_system, most_events};
 ghost use Rattle.lagworld.specs.ModelWorld.{world_setup};
 ghost use Rattle.lagworld.specs.Sound.{both_algorithms};
 ghost use Rattle.lagprogress.specs.Bundle.{BothAreActive, OneIsActive};
-ghost use Rattle.lagprogress.specs.HostFreed.{IsDrainingRound};
+ghost use Rattle.lagprogress.specs.HostFreed.{DrainingRounds, IsDrainingRound, sent_nothing};
 ghost use Rattle.lagprogress.specs.HostRounds.{HostRounds, IsHostRound};
-ghost use Rattle.lagprogress.specs.Played.{EachAgrees, EachDistributes, LeadsTo, NothingStaysHeld};
-ghost use Rattle.lagprogress.specs.PlayedByHosts.{AsksEnds, AsksPort, PlaysBetween, RefusesHostRound, StopsBetween, StopsInHostRounds};
-ghost use Rattle.lagprogress.specs.PlayedByHosts.{sent_nothing};
+ghost use Rattle.lagprogress.specs.Played.{EachAgrees, EachDistributes, IsOutOfMemoryOrSpent, IsRefused, LeadsTo, NothingStaysHeld};
+ghost use Rattle.lagprogress.specs.PlayedByHosts.{AsksEnds, AsksPort, PlaysBetween, PlaysHostPart, StopsBetween, StopsInHostRounds};
 ghost use Rattle.lagprogress.specs.Rounds.{NothingInFlight, freed_if_both_active, freed_if_one_is, up_if_both_active, up_if_one_is};
 ghost use Rattle.lagprogress.specs.Steady.{IsSteady};
 
@@ -35,10 +35,12 @@ fn ask_port<C: Cable, F: Fn(u16, usize) -> usize + Drop>(
 ) -> Result<(), WorldFault>
     requires one { PicksIndexes (F.pre world.old.one) (F.post world.old.one) }
     requires two { PicksIndexes (F.pre world.old.two) (F.post world.old.two) }
+    requires named { has_system (Some system) ≡ true }
     ensures asks { IfOk result (λ done. AsksPort (both_algorithms (F.post world.old.one) (F.post world.old.two)) system port
         world.old.state world.new.state) }
     ensures part { IfErr result (λ fault. StopsBetween (both_algorithms (F.post world.old.one) (F.post world.old.two)) fault
         world.old.state world.new.state) }
+    ensures refused { IfErr result (λ fault. IsOutOfMemoryOrSpent fault world.new.state) }
     ensures risen { world.old.state.acted ≤ world.new.state.acted }
     ensures few { world.old.state.acted ≤ most_events → world.new.state.acted ≤ most_events }
     ensures fixed { world_setup world.new.state ≡ world_setup world.old.state }
@@ -65,6 +67,7 @@ fn ask_ends<C: Cable, F: Fn(u16, usize) -> usize + Drop>(
         world.old.state world.new.state) }
     ensures part { IfErr result (λ fault. StopsBetween (both_algorithms (F.post world.old.one) (F.post world.old.two)) fault
         world.old.state world.new.state) }
+    ensures refused { IfErr result (λ fault. IsOutOfMemoryOrSpent fault world.new.state) }
     ensures risen { world.old.state.acted ≤ world.new.state.acted }
     ensures few { world.old.state.acted ≤ most_events → world.new.state.acted ≤ most_events }
     ensures fixed { world_setup world.new.state ≡ world_setup world.old.state }
@@ -98,6 +101,7 @@ fn deliver_and_ask<C: Cable, F: Fn(u16, usize) -> usize + Drop>(
     ensures empties { IfOk result (λ done. NothingInFlight world.new.state) }
     ensures part { IfErr result (λ fault. StopsBetween (both_algorithms (F.post world.old.one) (F.post world.old.two)) fault
         world.old.state world.new.state) }
+    ensures refused { IfErr result (λ fault. IsOutOfMemoryOrSpent fault world.new.state) }
     ensures fixed { world_setup world.new.state ≡ world_setup world.old.state }
     ensures algorithm_one { world.new.one ≡ world.old.one }
     ensures algorithm_two { world.new.two ≡ world.old.two }
@@ -110,19 +114,18 @@ fn deliver_and_ask<C: Cable, F: Fn(u16, usize) -> usize + Drop>(
     }
 }
 
-// promise: `play_host_round` plays such a round, which moves none and asks until nothing is due; `play_host_rounds` so many healthy rounds
-//    of hosts
-// contract: `play_host_round` (`round`, `drains`), `play_host_rounds` (`rounds`)
+// promise: `play_host_round` plays such a round, whatever the conversation; `play_host_rounds` so many
+// contract: `play_host_round` (`round`, `drains`), `play_host_rounds` (`rounds`, `drains`)
 // premises: both algorithms meet the condition; steady
-// promise: they are refused as `World::step` refuses the next event, all before which were played; or as `NoCable` above 65,535 cables, and
-//    then none was
-// contract: `play_host_round` (`refused`), `play_host_rounds` (`stopped`)
+// promise: they are refused as `NoCable` above 65,535 cables, with nothing played; else as `Spent`, or after both ticks as `NoMemory`
+// contract: `play_host_round` (`refused`, `part`), `play_host_rounds` (`stopped`)
 // premises: the condition
 /// Plays one healthy round of a world as two hosts do: both systems tick, the ends of all cables are asked until they send
 /// nothing, and while anything is on a cable, it is delivered and they are asked again. Where it is not refused, this is a round
 /// as `each_link_agrees_by_hosts` and `held_conversations_are_freed_by_hosts` want it, if the systems are sound and their timers
-/// within their bounds, as in each world that events lead to from a start. It is refused as `World::step` refuses an event of such a
-/// round, with `NoMemory` where memory is, or with `NoCable` above 65,535 cables (profile).
+/// within their bounds, as in each world that events lead to from a start. `NoMemory` or `Spent` if `World::step` refuses an event of
+/// the round so; then the events before it have been played, and no other. So `NoMemory` comes after both ticks. `NoCable`, before any
+/// event, if there are more than 65,535 cables, since no event can name the others (profile).
 pub fn play_host_round<C: Cable, F: Fn(u16, usize) -> usize + Drop>(
     world: &mut World<C, F>,
 ) -> Result<(), WorldFault>
@@ -130,10 +133,11 @@ pub fn play_host_round<C: Cable, F: Fn(u16, usize) -> usize + Drop>(
     requires two { PicksIndexes (F.pre world.old.two) (F.post world.old.two) }
     ensures round { IfOk result (λ done. IsSteady world.old.state → IsHostRound (both_algorithms (F.post world.old.one)
         (F.post world.old.two)) world.old.state world.new.state) }
-    ensures drains { IfOk result (λ done. IsSteady world.old.state → IsDrainingRound (both_algorithms (F.post world.old.one)
-        (F.post world.old.two)) world.old.state world.new.state) }
-    ensures refused { IfErr result (λ fault. RefusesHostRound (both_algorithms (F.post world.old.one) (F.post world.old.two)) fault
+    ensures drains { IfOk result (λ done. IsSteady world.old.state → (s : Side) (g k : ℕ) → IsDrainingRound s g k
+        (both_algorithms (F.post world.old.one) (F.post world.old.two)) world.old.state world.new.state) }
+    ensures part { IfErr result (λ fault. PlaysHostPart (both_algorithms (F.post world.old.one) (F.post world.old.two)) fault
         world.old.state world.new.state) }
+    ensures refused { IfErr result (λ fault. IsRefused fault world.old.state world.new.state) }
     ensures fixed { world_setup world.new.state ≡ world_setup world.old.state }
     ensures algorithm_one { world.new.one ≡ world.old.one }
     ensures algorithm_two { world.new.two ≡ world.old.two }
@@ -159,6 +163,8 @@ pub fn play_host_rounds<C: Cable, F: Fn(u16, usize) -> usize + Drop>(
     requires two { PicksIndexes (F.pre world.old.two) (F.post world.old.two) }
     ensures rounds { IfOk result (λ done. IsSteady world.old.state → HostRounds (both_algorithms (F.post world.old.one)
         (F.post world.old.two)) count world.old.state world.new.state) }
+    ensures drains { IfOk result (λ done. IsSteady world.old.state → (s : Side) (g k : ℕ) → DrainingRounds s g k
+        (both_algorithms (F.post world.old.one) (F.post world.old.two)) count world.old.state world.new.state) }
     ensures distributes_both { IfOk result (λ done. LeadsTo C.items C.limit EachDistributes BothAreActive up_if_both_active
         (both_algorithms (F.post world.old.one) (F.post world.old.two)) count world.old.state world.new.state) }
     ensures agrees_both { IfOk result (λ done. LeadsTo C.items C.limit EachAgrees BothAreActive up_if_both_active

@@ -1,8 +1,10 @@
-use Rattle.lagprogress.proofs.PlainRounds.{each_active_link_comes_up, each_link_comes_up}
+use Rattle.lagprogress.proofs.Common.{BothAreActive, OneIsActive, up_if_both_active, up_if_one_is}
+use Rattle.lagprogress.proofs.Bundling.{each_active_link_comes_up_by_hosts, each_link_comes_up_by_hosts}
+use Rattle.lagprogress.proofs.PlainRounds.{come_up}
 use Rattle.lagprogress.proofs.each_link_comes_up.Goals as goal
 
 pub returns-clause-both : goal.returns-clause-both
-returns-clause-both g c = λ one two. each_active_link_comes_up _
+returns-clause-both g c = λ one two. come_up BothAreActive up_if_both_active _ (each_active_link_comes_up_by_hosts _)
 
 pub returns-clause-one : goal.returns-clause-one
-returns-clause-one g c = λ one two. each_link_comes_up _
+returns-clause-one g c = λ one two. come_up OneIsActive up_if_one_is _ (each_link_comes_up_by_hosts _)

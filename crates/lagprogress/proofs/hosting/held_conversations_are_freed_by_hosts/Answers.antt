@@ -1,7 +1,7 @@
 use Rattle.lagprogress.proofs.BesideCutOffs.{none_is_held_beside_by_hosts}
 use Rattle.lagprogress.proofs.Freeing.{none_is_held_on_active_ends_by_hosts, none_is_held_on_ends_by_hosts, none_is_held_where_active_by_hosts}
 use Rattle.lagprogress.proofs.Freeing.{nothing_is_held_by_hosts}
-use Rattle.lagprogress.proofs.HostLoops.{round_is_draining}
+use Rattle.lagprogress.proofs.HostLoops.{asking_in_vain_is_draining, round_is_draining}
 use Rattle.lagprogress.proofs.hosting.held_conversations_are_freed_by_hosts.Goals as goal
 
 pub returns-clause-ends_both : goal.returns-clause-ends_both
@@ -12,6 +12,9 @@ returns-clause-ends_one g c = λ one two. none_is_held_on_ends_by_hosts _
 
 pub returns-clause-round : goal.returns-clause-round
 returns-clause-round g c = λ one two. round_is_draining _
+
+pub returns-clause-asking : goal.returns-clause-asking
+returns-clause-asking g c = λ one two. asking_in_vain_is_draining _
 
 pub returns-clause-all_both : goal.returns-clause-all_both
 returns-clause-all_both g c = λ one two. none_is_held_where_active_by_hosts _

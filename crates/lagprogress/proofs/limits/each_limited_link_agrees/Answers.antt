@@ -1,8 +1,10 @@
-use Rattle.lagprogress.proofs.PlainRounds.{each_active_limited_link_agrees, each_limited_link_agrees}
+use Rattle.lagprogress.proofs.Common.{BothAreActive, OneIsActive, up_if_both_active, up_if_one_is}
+use Rattle.lagprogress.proofs.LimitLemmas.{each_active_limited_link_agrees_by_hosts, each_limited_link_agrees_by_hosts}
+use Rattle.lagprogress.proofs.PlainRounds.{limited_agree}
 use Rattle.lagprogress.proofs.limits.each_limited_link_agrees.Goals as goal
 
 pub returns-clause-both : goal.returns-clause-both
-returns-clause-both g c = λ one two. each_active_limited_link_agrees _
+returns-clause-both g c = λ one two. limited_agree BothAreActive up_if_both_active _ (each_active_limited_link_agrees_by_hosts _)
 
 pub returns-clause-one : goal.returns-clause-one
-returns-clause-one g c = λ one two. each_limited_link_agrees _
+returns-clause-one g c = λ one two. limited_agree OneIsActive up_if_one_is _ (each_limited_link_agrees_by_hosts _)

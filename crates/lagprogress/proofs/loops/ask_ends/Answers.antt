@@ -32,6 +32,12 @@ returns-in_default-clause-part g c =
     let there = cable_there c.loop-asked.asked c.args.world.now.state c.loop-asked.world.state within c.loop-asked.invariant.fixed in
     absurd (c.in_default.not-Some _ (c.ends.ensures ∙ there.1))
 
+pub returns-in_default-clause-refused : goal.returns-in_default-clause-refused
+returns-in_default-clause-refused g c =
+    let within : c.loop-asked.asked < length c.args.world.now.state.links = omega (arith, c.loop-asked-test.true, c.requires.counted) in
+    let there = cable_there c.loop-asked.asked c.args.world.now.state c.loop-asked.world.state within c.loop-asked.invariant.fixed in
+    absurd (c.in_default.not-Some _ (c.ends.ensures ∙ there.1))
+
 pub returns-clause-asks : goal.returns-clause-asks
 returns-clause-asks g c = asks_all_ends _ c.loop-asked.asked c.args.count _ _ c.loop-asked.invariant.within c.loop-asked-test.false
     c.loop-asked.invariant.asks

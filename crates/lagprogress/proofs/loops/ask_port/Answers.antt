@@ -1,5 +1,5 @@
 use Rattle.lagprogress.proofs.Common.{arith, refl, sym, ◌+◌, ◌∙◌, ◌≡◌, ◌≤◌}
-use Rattle.lagprogress.proofs.Looping.{asks_more, asks_port, plays_nothing, stops_asking_port}
+use Rattle.lagprogress.proofs.Looping.{asks_more, asks_port, plays_nothing, refused_ask, stops_asking_port}
 use Rattle.lagprogress.proofs.Played.{on_err}
 use Rattle.lagprogress.proofs.loops.ask_port.Goals as goal
 
@@ -23,6 +23,11 @@ pub returns-in_err-reply-clause-part : goal.returns-in_err-reply-clause-part
 returns-in_err-reply-clause-part g c = on_err _ c.in_err-reply.field-0.0 c.from_residual.result c.from_residual.ensures.1
     (stops_asking_port _ _ c.args.system c.args.port _ _ _ c.loop-reply.invariant.played c.in_err-reply.ensures.unchanged
     c.in_err-reply.ensures.refused)
+
+pub returns-in_err-reply-clause-refused : goal.returns-in_err-reply-clause-refused
+returns-in_err-reply-clause-refused g c = on_err _ c.in_err-reply.field-0.0 c.from_residual.result c.from_residual.ensures.1
+    (refused_ask c.in_err-reply.field-0.0 c.args.system c.args.port c.loop-reply.world.state _ c.requires.named c.in_err-reply.ensures.refused
+    c.in_err-reply.ensures.unchanged)
 
 pub loop-reply-preserved : goal.loop-reply-preserved
 loop-reply-preserved g c =

@@ -1,5 +1,5 @@
-use Rattle.lagprogress.proofs.Common.{arith, inl, inr}
-use Rattle.lagprogress.proofs.Looping.{host_round_drains, stops_after_ticks, stops_later, stops_ticking_hosts}
+use Rattle.lagprogress.proofs.Common.{arith, inl, inr, One}
+use Rattle.lagprogress.proofs.Looping.{host_round_drains, stops_after_ticks, stops_later}
 use Rattle.lagprogress.proofs.Played.{both_ok, if_err, if_ok, on_err, too_many}
 use Rattle.lagprogress.proofs.loops.play_host_round.Goals as goal
 
@@ -18,32 +18,35 @@ deliver_and_ask-requires-clause-two g c = rw (c.ask_ends.ensures.algorithm_two, 
 pub returns-in_default-clause-refused : goal.returns-in_default-clause-refused
 returns-in_default-clause-refused g c = inr (too_many c.cables.result c.args.world.now.state c.cables.ensures c.in_default.ensures)
 
-pub returns-in_err-play-clause-refused : goal.returns-in_err-play-clause-refused
-returns-in_err-play-clause-refused g c = on_err _ c.in_err-play.field-0.0 c.from_residual.result c.from_residual.ensures.1
-    (inl (stops_ticking_hosts _ _ _ _ c.in_err-play.ensures.part))
+pub returns-in_default-clause-part : goal.returns-in_default-clause-part
+returns-in_default-clause-part g c = inr (inr (too_many c.cables.result c.args.world.now.state c.cables.ensures c.in_default.ensures))
 
-pub returns-in_err-ask_ends-clause-refused : goal.returns-in_err-ask_ends-clause-refused
-returns-in_err-ask_ends-clause-refused g c = on_err _ c.in_err-ask_ends.field-0.0 c.from_residual-in_err-ask_ends.result
+pub returns-in_err-play-clause-part : goal.returns-in_err-play-clause-part
+returns-in_err-play-clause-part g c =
+    on_err _ c.in_err-play.field-0.0 c.from_residual.result c.from_residual.ensures.1 (inl c.in_err-play.ensures.part)
+
+pub returns-in_err-ask_ends-clause-part : goal.returns-in_err-ask_ends-clause-part
+returns-in_err-ask_ends-clause-part g c = on_err _ c.in_err-ask_ends.field-0.0 c.from_residual-in_err-ask_ends.result
     c.from_residual-in_err-ask_ends.ensures.1
-    (inl (stops_after_ticks _ _ _ _ _ c.in_ok-play.ensures.all
-    (rw (c.play.ensures.algorithm_one, c.play.ensures.algorithm_two) at c.in_err-ask_ends.ensures.part)))
+    (stops_after_ticks _ _ _ _ _ c.in_ok-play.ensures.all
+    (rw (c.play.ensures.algorithm_one, c.play.ensures.algorithm_two) at c.in_err-ask_ends.ensures.part))
 
 pub returns-clause-drains : goal.returns-clause-drains
 returns-clause-drains g c = if_ok _ _ c.deliver_and_ask.result
-    (λ done h steady. host_round_drains _ c.in-Ok.count c.args.world.now.state c.play.new.world.state c.ask_ends.new.world.state _
+    (λ done h steady s g k. host_round_drains _ c.in-Ok.count c.args.world.now.state c.play.new.world.state c.ask_ends.new.world.state _
     c.play.ensures.fixed (omega (arith, c.cables.ensures, c.in-Ok.ensures)) c.in_ok-play.ensures.all
     (rw (c.play.ensures.algorithm_one, c.play.ensures.algorithm_two) at c.in_ok-ask_ends.ensures.asks)
     (rw (c.ask_ends.ensures.algorithm_one, c.play.ensures.algorithm_one, c.ask_ends.ensures.algorithm_two, c.play.ensures.algorithm_two)
-    at h.0) h.1 steady)
+    at h.0) h.1 steady s g k)
     (both_ok _ _ c.deliver_and_ask.result c.deliver_and_ask.ensures.plays c.deliver_and_ask.ensures.empties)
 
 pub returns-clause-round : goal.returns-clause-round
-returns-clause-round g c = if_ok _ _ c.deliver_and_ask.result (λ done h steady. (h steady).round) (returns-clause-drains g c)
+returns-clause-round g c = if_ok _ _ c.deliver_and_ask.result (λ done h steady. (h steady One 0 0).round) (returns-clause-drains g c)
 
-pub returns-clause-refused : goal.returns-clause-refused
-returns-clause-refused g c = if_err _ _ c.deliver_and_ask.result
-    (λ fault b. inl (stops_after_ticks _ fault c.args.world.now.state c.play.new.world.state _ c.in_ok-play.ensures.all
+pub returns-clause-part : goal.returns-clause-part
+returns-clause-part g c = if_err _ _ c.deliver_and_ask.result
+    (λ fault b. stops_after_ticks _ fault c.args.world.now.state c.play.new.world.state _ c.in_ok-play.ensures.all
     (stops_later _ fault c.play.new.world.state c.ask_ends.new.world.state _
-    (rw (c.play.ensures.algorithm_one, c.play.ensures.algorithm_two) at c.in_ok-ask_ends.ensures.asks).played b)))
+    (rw (c.play.ensures.algorithm_one, c.play.ensures.algorithm_two) at c.in_ok-ask_ends.ensures.asks).played b))
     (rw (c.ask_ends.ensures.algorithm_one, c.play.ensures.algorithm_one, c.ask_ends.ensures.algorithm_two, c.play.ensures.algorithm_two)
     at c.deliver_and_ask.ensures.part)

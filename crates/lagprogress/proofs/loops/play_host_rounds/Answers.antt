@@ -1,7 +1,11 @@
-use Rattle.lagprogress.proofs.Common.{arith, subst, ℕ, ◌∙◌, ◌≡◌, ◌≤◌, Algorithms, WorldState, DrainingRounds, HostRounds, IsSteady}
+use Rattle.lagprogress.proofs.Common.{arith, subst, ℕ, ◌∙◌, ◌≡◌, ◌≤◌, One, Side, Algorithms, WorldState, BothAreActive, OneIsActive, DrainingRounds}
+use Rattle.lagprogress.proofs.Common.{HostRounds, up_if_both_active, up_if_one_is, IsSteady}
+use Rattle.lagprogress.proofs.Bundling.{each_active_link_agrees_by_hosts, each_active_link_comes_up_by_hosts, each_link_agrees_by_hosts}
+use Rattle.lagprogress.proofs.Bundling.{each_link_comes_up_by_hosts}
+use Rattle.lagprogress.proofs.Freeing.{none_is_held_where_active_by_hosts, nothing_is_held_by_hosts}
 use Rattle.lagprogress.proofs.HostLoops.{draining_are_host}
 use Rattle.lagprogress.proofs.Looping.{one_draining_round_more}
-use Rattle.lagprogress.proofs.MadeWorlds.{hosts_agree, hosts_distribute, hosts_free, one_host_agrees, one_host_distributes, one_host_frees}
+use Rattle.lagprogress.proofs.MadeWorlds.{agree, distribute, free_by_hosts}
 use Rattle.lagprogress.proofs.Played.{on_err}
 use Rattle.lagprogress.proofs.loops.play_host_rounds.Goals as goal
 
@@ -27,44 +31,51 @@ returns-in_err-play_host_round-clause-stopped g c =
       done = c.loop-done.done;
       mid = c.loop-done.world.state;
       within = c.loop-done-test.true;
-      before = λ steady. draining_are_host _ c.loop-done.done _ _ (c.loop-done.invariant.played steady);
-      last = rw (c.loop-done.invariant.one, c.loop-done.invariant.two) at c.in_err-play_host_round.ensures.refused;
+      before = λ steady. draining_are_host _ One 0 0 c.loop-done.done _ _ (c.loop-done.invariant.played steady One 0 0);
+      last = rw (c.loop-done.invariant.one, c.loop-done.invariant.two) at c.in_err-play_host_round.ensures.part;
+      refused = c.in_err-play_host_round.ensures.refused;
     })
 
 -- none is left
 all_drain : (gives : Algorithms) (count done : ℕ) (old new : WorldState) → count ≤ done → done ≤ count
-    → (IsSteady old → DrainingRounds gives done old new) → IsSteady old → DrainingRounds gives count old new
-all_drain gives count done old new l m h =
-    let all : done ≡ count = omega (arith, l, m) in subst (λ n. IsSteady old → DrainingRounds gives n old new) all h
+    → (IsSteady old → (s : Side) (g k : ℕ) → DrainingRounds s g k gives done old new) → IsSteady old → (s : Side) (g k : ℕ)
+    → DrainingRounds s g k gives count old new
+all_drain gives count done old new l m h = let all : done ≡ count = omega (arith, l, m) in
+    subst (λ n. IsSteady old → (s : Side) (g k : ℕ) → DrainingRounds s g k gives n old new) all h
 
 all_played : (gives : Algorithms) (count done : ℕ) (old new : WorldState) → count ≤ done → done ≤ count
-    → (IsSteady old → DrainingRounds gives done old new) → IsSteady old → HostRounds gives count old new
-all_played gives count done old new l m h = λ steady. draining_are_host gives count old new (all_drain gives count done old new l m h steady)
+    → (IsSteady old → (s : Side) (g k : ℕ) → DrainingRounds s g k gives done old new) → IsSteady old → HostRounds gives count old new
+all_played gives count done old new l m h =
+    λ steady. draining_are_host gives One 0 0 count old new (all_drain gives count done old new l m h steady One 0 0)
+
+pub returns-clause-drains : goal.returns-clause-drains
+returns-clause-drains g c =
+    all_drain _ c.args.count c.loop-done.done _ _ c.loop-done-test.false c.loop-done.invariant.within c.loop-done.invariant.played
 
 pub returns-clause-rounds : goal.returns-clause-rounds
 returns-clause-rounds g c =
     all_played _ c.args.count c.loop-done.done _ _ c.loop-done-test.false c.loop-done.invariant.within c.loop-done.invariant.played
 
 pub returns-clause-distributes_both : goal.returns-clause-distributes_both
-returns-clause-distributes_both g c = hosts_distribute g.C.Cable.items g.C.Cable.limit _ c.args.count _ _
+returns-clause-distributes_both g c = distribute g.C.Cable.items g.C.Cable.limit BothAreActive up_if_both_active _ (each_active_link_comes_up_by_hosts _) c.args.count _ _
     (all_played _ c.args.count c.loop-done.done _ _ c.loop-done-test.false c.loop-done.invariant.within c.loop-done.invariant.played)
 
 pub returns-clause-agrees_both : goal.returns-clause-agrees_both
-returns-clause-agrees_both g c = hosts_agree g.C.Cable.items g.C.Cable.limit _ c.args.count _ _
+returns-clause-agrees_both g c = agree g.C.Cable.items g.C.Cable.limit BothAreActive up_if_both_active _ (each_active_link_agrees_by_hosts _) c.args.count _ _
     (all_played _ c.args.count c.loop-done.done _ _ c.loop-done-test.false c.loop-done.invariant.within c.loop-done.invariant.played)
 
 pub returns-clause-distributes_one : goal.returns-clause-distributes_one
-returns-clause-distributes_one g c = one_host_distributes g.C.Cable.items g.C.Cable.limit _ c.args.count _ _
+returns-clause-distributes_one g c = distribute g.C.Cable.items g.C.Cable.limit OneIsActive up_if_one_is _ (each_link_comes_up_by_hosts _) c.args.count _ _
     (all_played _ c.args.count c.loop-done.done _ _ c.loop-done-test.false c.loop-done.invariant.within c.loop-done.invariant.played)
 
 pub returns-clause-agrees_one : goal.returns-clause-agrees_one
-returns-clause-agrees_one g c = one_host_agrees g.C.Cable.items g.C.Cable.limit _ c.args.count _ _
+returns-clause-agrees_one g c = agree g.C.Cable.items g.C.Cable.limit OneIsActive up_if_one_is _ (each_link_agrees_by_hosts _) c.args.count _ _
     (all_played _ c.args.count c.loop-done.done _ _ c.loop-done-test.false c.loop-done.invariant.within c.loop-done.invariant.played)
 
 pub returns-clause-frees_both : goal.returns-clause-frees_both
-returns-clause-frees_both g c = hosts_free g.C.Cable.items g.C.Cable.limit _ c.args.count _ _
+returns-clause-frees_both g c = free_by_hosts g.C.Cable.items g.C.Cable.limit BothAreActive up_if_both_active _ (none_is_held_where_active_by_hosts _) c.args.count _ _
     (all_drain _ c.args.count c.loop-done.done _ _ c.loop-done-test.false c.loop-done.invariant.within c.loop-done.invariant.played)
 
 pub returns-clause-frees_one : goal.returns-clause-frees_one
-returns-clause-frees_one g c = one_host_frees g.C.Cable.items g.C.Cable.limit _ c.args.count _ _
+returns-clause-frees_one g c = free_by_hosts g.C.Cable.items g.C.Cable.limit OneIsActive up_if_one_is _ (nothing_is_held_by_hosts _) c.args.count _ _
     (all_drain _ c.args.count c.loop-done.done _ _ c.loop-done-test.false c.loop-done.invariant.within c.loop-done.invariant.played)
