@@ -86,8 +86,8 @@ class Pair {
     }
 
     async showFields(frame, isEntered) {
-        const found = await this.packets.packet(frame.packet);
-        if (this.viewing.view.chosen !== frame) return;
+        const turn = this.turn = (this.turn ?? 0) + 1, found = await this.packets.packet(frame.packet);
+        if (turn !== this.turn) return;
         const head = made("h3", `Packet ${frame.packet} at ${secondsOf(frame.seconds)} s, from ${frame.end.name}`);
         const findings = this.bundle.findings.filter((it) => it.packet === frame.packet && it.at === frame.end);
         const said = findings.map((it) => made("p", `${upper(it.name)} (${it.clause}). ${it.advice}`, "bad"));

@@ -129,8 +129,9 @@ function listen(lagtool) {
     const playing = new Playing(lagtool, JSON.parse(byId("example-scripts").textContent)), payload = new Payload(lagtool), drop = byId("drop");
     const take = async (file) => {
         const { kind, text } = lagtool.canStream ? await kindOf(file) : { kind: "capture" };
-        if (kind === "capture") await show(lagtool, file.name, file);
-        else (kind === "script" ? playing : payload).load(text);
+        if (kind === "capture") return show(lagtool, file.name, file);
+        byId(kind === "script" ? "scripts" : "payloads").scrollIntoView();
+        return (kind === "script" ? playing : payload).load(text);
     };
     const isOver = (over) => (event) => { event.preventDefault(); drop.classList.toggle("over", over); };
     addEventListener("dragover", isOver(true));
@@ -140,7 +141,9 @@ function listen(lagtool) {
         if (event.dataTransfer.files.length) take(event.dataTransfer.files[0]);
     });
     addEventListener("paste", (event) => {
-        if (event.clipboardData.files.length) take(event.clipboardData.files[0]);
+        const [file] = event.clipboardData.files, text = event.clipboardData.getData("text");
+        if (file) take(file);
+        else if (text && !event.target.closest("textarea, input")) take(new File([text], "what is pasted"));
     });
     byId("file").addEventListener("change", (event) => {
         if (event.target.files.length) take(event.target.files[0]);

@@ -40,6 +40,16 @@ def of_page(tests: Tests, browser: Browser, folder: str) -> None:
     tests.same("a file that is pasted is explained", [browser.paste(UNEQUAL)[it] for it in ("status", "said")], [1, ""])
 
 
+def of_unable(tests: Tests, browser: Browser, page: str) -> None:
+    """Where no script runs, a sentence says which browser can."""
+    browser.call("Emulation.setScriptExecutionDisabled", value=True)
+    browser.open(page)
+    shown = browser.value("['unable', 'ask', 'more', 'shown'].map((it) => document.getElementById(it).offsetHeight > 0)")
+    tests.same("without scripts a sentence says which browser can", shown, [True, False, False, False])
+    browser.call("Emulation.setScriptExecutionDisabled", value=False)
+    browser.go(page)
+
+
 def of_findings(tests: Tests, browser: Browser) -> None:
     browser.choose(UNEQUAL)
     stored = [it for it in read(f"{UNEQUAL.rpartition('.')[0]}.report.txt").splitlines() if it.startswith("finding ")]

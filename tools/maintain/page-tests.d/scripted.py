@@ -33,8 +33,10 @@ def of_scripts(tests: Tests, browser: Browser) -> None:
         path = os.path.join(EXAMPLES, name)
         shown = browser.replay(path)
         tests.same(f"{name}: its report", (shown["status"], shown["printed"]), (0, read(f"{path[:-5]}.txt")))
-        entries = sum(" -> " in it for it in shown["printed"].splitlines())
-        tests.same(f"{name}: each entry is drawn", browser.value("document.querySelectorAll('#replayed .entry').length"), entries)
+        entries = [it.split(" ", 1)[1] for it in shown["printed"].splitlines() if " -> " in it]
+        arrows = [it for it in entries if it.startswith(("deliver ", "repeat ")) and not it.endswith(("-> empty", "-> not control"))]
+        drawn = browser.value("['.entry', '.tip'].map((it) => document.querySelectorAll(`#replayed ${it}`).length)")
+        tests.same(f"{name}: each entry is drawn, and an arrow for each frame that arrives", drawn, [len(entries), len(arrows)])
     of_steps(tests, browser)
     of_faults(tests, browser)
 
@@ -94,5 +96,8 @@ def of_payloads(tests: Tests, browser: Browser) -> None:
         browser.value(f"(() => {{ const it = document.getElementById('hex'); it.value = {json.dumps(digits)}; it.dispatchEvent(new Event('input')); }})(), 1")
         came = browser.value("['decoded', 'answered'].map((it) => document.getElementById(it).textContent)")
         tests.same(f"{name} is decoded", (came[0].startswith(decoded), came[1].startswith(answer)), (True, True))
-    browser.value("document.getElementById('payloads').open = true, document.getElementById('run-vectors').click(), 1")
+    browser.paste_text(payload.hex(" "))
+    browser.wait("document.getElementById('decoded').textContent.startsWith('lacpdu')")
+    tests.same("a payload that is pasted is decoded", browser.value("document.getElementById('payloads').open"), True)
+    browser.value("document.getElementById('run-vectors').click(), 1")
     tests.same("the vectors are run", browser.value("document.getElementById('vectors').textContent").endswith("vectors 10 failed 0\n"), True)
