@@ -16,8 +16,10 @@ CHOSEN = "[document.activeElement.dataset.packet ?? '', document.querySelector('
 # The fields of each frame that is drawn, by a click on it.
 FIELDS = """(async () => {
     const all = {};
-    for (const it of document.querySelectorAll('#links details')) it.open = true;
-    await new Promise((done) => setTimeout(done, 100));
+    for (let depth = 0; depth < 2; depth += 1) {
+        for (const it of document.querySelectorAll('#links details')) it.open = true;
+        await new Promise((done) => setTimeout(done, 100));
+    }
     for (const it of [...document.querySelectorAll('.frames button')]) {
         it.click();
         const shown = () => [...document.querySelectorAll('.chosen-frame:not([hidden])')].find((box) => box.querySelector('h3').textContent.startsWith(`Packet ${it.textContent} `));
