@@ -15,9 +15,9 @@ RESTARTS = os.path.join(EXAMPLES, "a-peer-restarts.toml")
 FAULTS: list[tuple[str, str, str, list[str]]] = [
     ('"sense 2 1"', '"sens 2 1"', '"sens 2 1"', ["line 7, column 5: ", "did you mean sense?"]),
     ('"tick 1 20"', '"tick 1 0"', '"tick 1 0"', ["line 19, column 5: ", "event 15"]),
-    ("short = false", "short = 3", "short = 3", ["line 75, column 1: ", "short"]),
-    ("number = 2", "numbre = 2", "numbre = 2", ["line 78, column 1: ", "numbre"]),
-    ("ends = [2, 2]", "ends = [2, 9]", "ends = [2, 9]", ["line 96, column 1: ", "9"]),
+    ("short = false", "short = 3", "short = 3", ["line 72, column 1: ", "short"]),
+    ("number = 2", "numbre = 2", "numbre = 2", ["line 74, column 1: ", "numbre"]),
+    ("ends = [2, 2]", "ends = [2, 9]", "ends = [2, 9]", ["line 91, column 1: ", "9"]),
     ("events = [", "events = [[", "", ["line ", "column "]),
 ]
 
@@ -70,7 +70,7 @@ def of_steps(tests: Tests, browser: Browser) -> None:
         browser.value("document.getElementById('back').click(), 1")
     browser.wait(f"!{agreement}.includes('..')")
     tests.same("a step has its entry", browser.value("document.getElementById('entry').textContent"), "30 of 59: restart 2: restarted")
-    tests.same("a step has the agreement of its own", (whole, browser.value(agreement)), ("same,same", "differ,differ"))
+    tests.same("a step has the agreement of its own", (whole, browser.value(agreement)), ("same,same", "not-both,not-both"))
     rows = browser.value("[...document.querySelectorAll('#tables table')].map((it) => [...it.tBodies[0].rows].map((row) => row.cells[3].textContent).join())")
     tests.same("a system that starts again has sent nothing", rows[:2], ["CURRENT,CURRENT", "none sent,none sent"])
     tests.same("what is not played yet is pale", browser.value("document.querySelectorAll('#replayed .later').length"), 29)
