@@ -66,8 +66,10 @@ class Pair {
         const tools = made("p", "", "tools");
         tools.append(button("Save as SVG", () => this.save()));
         const states = opening("The states as text", () => this.bundle.links.flatMap((it) => it.ends.filter(Boolean).map(statesOf)), false);
-        this.lists = this.bundle.links.map((link) => opening(`The frames of ${link.ends.map((it) => it ? it.name : "no other end").join(" and ")}: ${link.frames.length}`,
-            () => framesOf(link, (frame) => this.take(frame)), false));
+        this.lists = this.bundle.links.map((link) => {
+            const names = link.ends.map((it) => it ? it.name : "no other end").join(" and ");
+            return opening(`The frames of ${names}: ${link.frames.length}`, () => framesOf(link, (frame) => this.take(frame)), false);
+        });
         return [this.viewing.box, this.fields, tools, states, ...this.lists];
     }
 
@@ -86,8 +88,8 @@ class Pair {
     }
 
     async showFields(frame, isEntered) {
-        const found = await this.packets.packet(frame.packet);
-        if (this.viewing.view.chosen !== frame) return;
+        const turn = this.turn = (this.turn ?? 0) + 1, found = await this.packets.packet(frame.packet);
+        if (turn !== this.turn) return;
         const head = made("h3", `Packet ${frame.packet} at ${secondsOf(frame.seconds)} s, from ${frame.end.name}`);
         const findings = this.bundle.findings.filter((it) => it.packet === frame.packet && it.at === frame.end);
         const said = findings.map((it) => made("p", `${upper(it.name)} (${it.clause}). ${it.advice}`, "bad"));
@@ -107,7 +109,9 @@ class Pair {
 
 /* What the packet of a finding has of what is wrong, by the rule. */
 const VALUES = new Map([
-    [2, ({ partner }) => `names system ${partner.system}`], [3, ({ partner }) => `names port ${partner.port}`], [4, ({ partner }) => `names key ${partner.key}`],
+    [2, ({ partner }) => `names system ${partner.system}`],
+    [3, ({ partner }) => `names port ${partner.port}`],
+    [4, ({ partner }) => `names key ${partner.key}`],
     [15, ({ actor, partner }) => `key ${actor.key}, the partner's key ${partner.key}`],
 ]);
 const valueOf = (finding, frame) => frame?.kind === "lacpdu" && VALUES.has(finding.rule) ? `: ${VALUES.get(finding.rule)(frame)}` : "";

@@ -10,7 +10,8 @@ const SHORT = { synchronized: "sync", collecting: "coll", distributing: "dist", 
 export const MOST_DRAWN = 1500;
 
 const shortOf = (octet) => bitsOf(octet).map((it) => SHORT[it] ?? it).join(",") || "none";
-const labelOfFrame = (frame) => `port ${frame.port}: ${frame.kind === "lacpdu" ? `LACPDU ${hexadecimal(frame.state)} ${shortOf(frame.state)}` : frame.said}`;
+const lacpduOf = (octet) => `LACPDU ${hexadecimal(octet)} ${shortOf(octet)}`;
+const labelOfFrame = (frame) => `port ${frame.port}: ${frame.kind === "lacpdu" ? lacpduOf(frame.state) : frame.said}`;
 
 /* An SVG from the top down. System 1 stands left, system 2 right. */
 class Picture {
@@ -26,7 +27,8 @@ class Picture {
 
     note(system, said, kind = "") {
         this.reach[system - 1] = Math.max(this.reach[system - 1], 20 + WIDTH * said.length);
-        this.add("text", { x: this.at(system) + (system === 1 ? -10 : 10), y: this.y + 4, "text-anchor": system === 1 ? "end" : "start", class: kind }, said);
+        const [way, anchor] = system === 1 ? [-10, "end"] : [10, "start"];
+        this.add("text", { x: this.at(system) + way, y: this.y + 4, "text-anchor": anchor, class: kind }, said);
     }
 
     dot(system) { this.add("circle", { cx: this.at(system), cy: this.y, r: 3, class: "dot" }); }
@@ -70,13 +72,14 @@ class Picture {
 
 /* Draws what came of an entry. */
 function drawEntry(picture, entry, came) {
-    const [first, second] = entry.words.map(Number);
+    const [first, second] = entry.words.map(Number), isRefused = entry.reply.startsWith("refused");
     picture.open(entry);
     for (const { frame, to } of came.lost ?? []) picture.cross(frame, to);
     if (came.sent) came.sent.y = picture.y;
     if (entry.word === "emit" || entry.word === "offer") {
         if (came.sent) picture.dot(first);
-        picture.note(first, `${entry.number}  ${came.sent ? labelOfFrame(came.sent) : `${entry.word}: ${entry.reply}`}`, entry.reply.startsWith("refused") ? "bad" : "");
+        const said = came.sent ? labelOfFrame(came.sent) : `${entry.word}: ${entry.reply}`;
+        picture.note(first, `${entry.number}  ${said}`, isRefused ? "bad" : "");
         if (came.sent?.lost) picture.cross(came.sent, 3 - first);
     } else if (["deliver", "lose", "repeat"].includes(entry.word)) {
         picture.dot(second);
@@ -84,8 +87,9 @@ function drawEntry(picture, entry, came) {
         if (came.taken && entry.word === "lose") picture.cross(came.taken, second);
         else if (came.taken) picture.arrow(came.taken, second);
     } else if (["cut", "join", "restart"].includes(entry.word)) {
-        picture.across(`${entry.number}  ${entry.word === "restart" ? "system" : "cable"} ${first} ${entry.reply}`, entry.word === "join" ? "good" : "bad");
-    } else picture.note(entry.word === "sense" ? second : first, `${entry.number}  ${entry.text}: ${entry.reply}`, entry.reply.startsWith("refused") ? "bad" : "quiet");
+        const what = entry.word === "restart" ? "system" : "cable";
+        picture.across(`${entry.number}  ${what} ${first} ${entry.reply}`, entry.word === "join" ? "good" : "bad");
+    } else picture.note(entry.word === "sense" ? second : first, `${entry.number}  ${entry.text}: ${entry.reply}`, isRefused ? "bad" : "quiet");
     picture.y += STEP;
 }
 

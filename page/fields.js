@@ -9,12 +9,13 @@ const numberIn = (octets) => octets.reduce((sum, it) => sum * 256 + it, 0);
 const stateIn = ([octet]) => `${hexadecimal(octet)}: ${bitsOf(octet).join(", ") || "none"}`;
 const reservedIn = (octets) => octets.every((it) => it === 0) ? "zero" : "not zero";
 
-const ofPort = (name, kind) => [
+const ofPort = (name) => [
     [`${name} TLV type`, 1, numberIn], [`${name} length`, 1, numberIn], [`${name} system priority`, 2, numberIn], [`${name} system`, 6, joined],
-    [`${name} key`, 2, numberIn], [`${name} port priority`, 2, numberIn], [`${name} port`, 2, numberIn], [`${name} state`, 1, kind], ["reserved", 3, reservedIn],
+    [`${name} key`, 2, numberIn], [`${name} port priority`, 2, numberIn], [`${name} port`, 2, numberIn],
+    [`${name} state`, 1, stateIn], ["reserved", 3, reservedIn],
 ];
 const LACPDU = [
-    ["subtype", 1, numberIn], ["version", 1, numberIn], ...ofPort("actor", stateIn), ...ofPort("partner", stateIn),
+    ["subtype", 1, numberIn], ["version", 1, numberIn], ...ofPort("actor"), ...ofPort("partner"),
     ["collector TLV type", 1, numberIn], ["collector length", 1, numberIn], ["CollectorMaxDelay", 2, numberIn], ["reserved", 12, reservedIn],
     ["terminator TLV type", 1, numberIn], ["terminator length", 1, numberIn], ["reserved", 50, reservedIn],
 ];

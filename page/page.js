@@ -8,12 +8,33 @@ import { digitsOf, Payload } from "./payload.js";
 import { offer, textOfReport } from "./saving.js";
 import { byId } from "./shapes.js";
 
-/* Of a longer text the page keeps so much. */
-const MOST_SHOWN = 2000000;
+/* Of a longer text the page keeps so much of its beginning and of its end. */
+const MOST_SHOWN = 2000000, MOST_BEHIND = 100000;
 /* A larger file is no script and no payload. */
 const MOST_TEXT = 16000000;
 
 const octetsIn = (id) => Uint8Array.from(atob(byId(id).textContent), (it) => it.charCodeAt(0));
+
+/* A text that comes in pieces: of a long one the beginning and the end are kept. */
+class Text {
+    constructor() {
+        this.front = this.behind = "";
+        this.left = 0;
+    }
+
+    add(piece) {
+        const room = Math.max(MOST_SHOWN - this.front.length, 0);
+        this.front += piece.slice(0, room);
+        this.behind += piece.slice(room);
+        this.left += Math.max(this.behind.length - MOST_BEHIND, 0);
+        this.behind = this.behind.slice(-MOST_BEHIND);
+    }
+
+    get whole() {
+        const gap = this.left ? `\n(${this.left} characters are left out: lagtool capture prints all)\n` : "";
+        return `${this.front}${gap}${this.behind}`;
+    }
+}
 
 /* What is shown now: the pairs of systems, and the job that runs. */
 const now = { pairs: [], job: null };
@@ -68,7 +89,7 @@ function verdictOf(records, kinds, said) {
 /* The records first, with what they show; then the text. */
 async function explain(lagtool, name, file) {
     const records = new Records();
-    let text = "", left = 0;
+    const text = new Text();
     let told = await run(lagtool, file, { json: true }, (piece) => records.addLines(piece)).catch((error) => error);
     const isStopped = told instanceof Error, said = isStopped ? told.message : told.said;
     const { pairs, kinds } = showRecords(records, file, byId("findings"), byId("links"));
@@ -77,14 +98,10 @@ async function explain(lagtool, name, file) {
     byId("undrawn-frames").textContent = records.frames > records.kept ? `Of ${records.frames} frames ${records.kept} are drawn.` : "";
     put(name, ...verdictOf(records, kinds, said), isStopped && said === "stopped" ? "Stopped: the findings want the whole capture." : said);
     if (!isStopped) {
-        told = await run(lagtool, file, {}, (piece) => {
-            const room = MOST_SHOWN - text.length;
-            text += piece.slice(0, Math.max(room, 0));
-            left += Math.max(piece.length - Math.max(room, 0), 0);
-        });
+        told = await run(lagtool, file, {}, (piece) => text.add(piece));
     }
-    byId("text").textContent = left ? `${text}\n(and ${left} characters more: lagtool capture prints all)` : text;
-    window.shown = { name, status: told.status ?? 2, printed: text, said };
+    byId("text").textContent = text.whole;
+    window.shown = { name, status: told.status ?? 2, printed: text.whole, said };
 }
 
 async function show(lagtool, name, file) {
@@ -128,9 +145,10 @@ async function kindOf(file) {
 function listen(lagtool) {
     const playing = new Playing(lagtool, JSON.parse(byId("example-scripts").textContent)), payload = new Payload(lagtool), drop = byId("drop");
     const take = async (file) => {
-        const { kind, text } = lagtool.canStream ? await kindOf(file) : { kind: "capture" };
-        if (kind === "capture") await show(lagtool, file.name, file);
-        else (kind === "script" ? playing : payload).load(text);
+        const { kind, text } = lagtool.canPlay ? await kindOf(file) : { kind: "capture" };
+        if (kind === "capture") return show(lagtool, file.name, file);
+        byId(kind === "script" ? "scripts" : "payloads").scrollIntoView();
+        return (kind === "script" ? playing : payload).load(text);
     };
     const isOver = (over) => (event) => { event.preventDefault(); drop.classList.toggle("over", over); };
     addEventListener("dragover", isOver(true));
@@ -140,7 +158,9 @@ function listen(lagtool) {
         if (event.dataTransfer.files.length) take(event.dataTransfer.files[0]);
     });
     addEventListener("paste", (event) => {
-        if (event.clipboardData.files.length) take(event.clipboardData.files[0]);
+        const [file] = event.clipboardData.files, text = event.clipboardData.getData("text");
+        if (file) take(file);
+        else if (text && !event.target.closest("textarea, input")) take(new File([text], "what is pasted"));
     });
     byId("file").addEventListener("change", (event) => {
         if (event.target.files.length) take(event.target.files[0]);
@@ -154,11 +174,13 @@ function listen(lagtool) {
 
 async function start() {
     const lagtool = await Lagtool.of(octetsIn("module"));
-    lagtool.canStream = WebAssembly.Module.exports(lagtool.module).some((it) => it.name === "lagpage_stream");
+    const names = WebAssembly.Module.exports(lagtool.module).map((it) => it.name);
+    lagtool.canStream = names.includes("lagpage_stream");
+    lagtool.canPlay = names.includes("lagpage_replay");
     listen(lagtool);
     byId("unable").hidden = true;
     byId("ask").hidden = false;
-    byId("more").hidden = !lagtool.canStream;
+    byId("more").hidden = !lagtool.canPlay;
     window.lagtool = lagtool;
 }
 

@@ -35,7 +35,8 @@ export class Payload {
         byId("decoded").className = told.status ? "bad" : "";
         byId("answer").hidden = !answer;
         byId("answered").textContent = answer ? `${answer.printed}${answer.said}`.trim() : "";
-        byId("payload-octets").replaceChildren(...octets.length ? [octetsBeside(octets, whole ? fieldsOf(octets, ETHERNET_LINK) : fieldsOfPayload(octets))] : []);
+        const fields = whole ? fieldsOf(octets, ETHERNET_LINK) : fieldsOfPayload(octets);
+        byId("payload-octets").replaceChildren(...octets.length ? [octetsBeside(octets, fields)] : []);
         window.decoded = told;
     }
 }

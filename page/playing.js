@@ -28,9 +28,11 @@ function tablesOf(stand, agreements) {
         return it;
     });
     const flying = (list) => list.map((it) => it.kind === "lacpdu" ? `LACPDU ${hexadecimal(it.state)}` : it.said).join(", ") || "nothing";
-    const cables = table(["cable", "ports", "to system 2", "to system 1", "agreement"], stand.cables.map((ends, at) => [
-        `${at + 1}${stand.whole[at] ? "" : ", cut"}`, ends.join(" and "), flying(stand.flying[at][2]), flying(stand.flying[at][1]), agreements[at] ?? "..",
-    ]), "frames");
+    const rows = stand.cables.map((ends, at) => {
+        const { 1: back, 2: forth } = stand.flying[at];
+        return [`${at + 1}${stand.whole[at] ? "" : ", cut"}`, ends.join(" and "), flying(forth), flying(back), agreements[at] ?? ".."];
+    });
+    const cables = table(["cable", "ports", "to system 2", "to system 1", "agreement"], rows, "frames");
     cables.createCaption().textContent = "Cables";
     return [...systems, cables];
 }
@@ -98,8 +100,8 @@ export class Playing {
     /* Marks a place in the editor, behind its text. */
     mark(found, kind) {
         const text = byId("script").value, behind = byId("behind");
-        const parts = found ? [text.slice(0, found.from), made("mark", text.slice(found.from, found.to) || " ", kind), `${text.slice(found.to)}\n`] : [`${text}\n`];
-        behind.replaceChildren(...parts);
+        const { from, to } = found ?? { from: 0, to: 0 }, marks = found ? [made("mark", text.slice(from, to) || " ", kind)] : [];
+        behind.replaceChildren(text.slice(0, from), ...marks, `${text.slice(to)}\n`);
         behind.scrollTo(byId("script").scrollLeft, byId("script").scrollTop);
     }
 
@@ -145,7 +147,8 @@ export class Playing {
 
     /* The tables; the agreements are those of the script up to here, which the module runs. */
     async tell(stand) {
-        const { step } = this, put = (lines) => byId("tables").replaceChildren(...tablesOf(stand, lines.flatMap((it) => it.match(/^cable \d+ agreement (.*)$/)?.[1] ?? [])));
+        const { step } = this, agreementIn = (line) => line.match(/^cable \d+ agreement (.*)$/)?.[1] ?? [];
+        const put = (lines) => byId("tables").replaceChildren(...tablesOf(stand, lines.flatMap(agreementIn)));
         const isWhole = step === this.report.entries.length, until = isWhole ? "" : scriptUntil(this.text, step);
         if (isWhole) this.known.set(step, this.report.ends);
         put(this.known.get(step) ?? []);

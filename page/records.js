@@ -171,8 +171,8 @@ function pairOfUnknown([system], pairs) {
 
 /* The links of each pair of systems. Pairs with a finding stand before the others, and so do their links. */
 export function bundlesOf(records) {
-    const links = linksOf(records.all).map((link) => ({ link, systems: systemsOf(link) })), pairs = new Map(links.map(({ systems }) => [systems.join(" "), systems]));
-    const bundles = new Map();
+    const links = linksOf(records.all).map((link) => ({ link, systems: systemsOf(link) }));
+    const pairs = new Map(links.map(({ systems }) => [systems.join(" "), systems])), bundles = new Map();
     for (const { link, systems } of links) {
         const pair = (isKnown(systems[1]) ? null : pairOfUnknown(systems, [...pairs.values()])) ?? systems, name = pair.join(" ");
         if (pair[1] === systems[0]) link.ends.reverse();

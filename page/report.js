@@ -86,8 +86,8 @@ export class Stand {
         if (frame && entry.word !== "repeat") list.shift();
         if (frame && entry.word !== "lose" && frame.kind === "lacpdu" && entry.reply === "took") port.taken = frame.state;
         port.said = entry.reply;
-        const response = /^responded (sent|lost)$/.exec(entry.reply);
-        const answer = response ? this.send(to, this.cables[cable - 1]?.[to - 1], { kind: "marker", said: "marker response", from: to }, response[1]) : {};
+        const response = /^responded (sent|lost)$/.exec(entry.reply), made = { kind: "marker", said: "marker response", from: to };
+        const answer = response ? this.send(to, this.cables[cable - 1]?.[to - 1], made, response[1]) : {};
         return { ...answer, taken: entry.reply === "empty" || entry.reply === "not control" ? null : frame, to };
     }
 

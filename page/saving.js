@@ -22,7 +22,8 @@ export function offer(name, type, text) {
 export function pictureOf(viewing, title, isWhole) {
     const { bundle, axis } = viewing, view = isWhole ? { from: axis.from, to: axis.to, chosen: null } : viewing.view;
     const drawing = new Drawing(bundle, axis, view, WIDE), parts = drawing.draw();
-    const picture = shape("svg", { viewBox: `0 0 ${WIDE} ${drawing.height}`, width: WIDE, height: drawing.height, role: "img", "aria-label": title, class: "picture" });
+    const size = { viewBox: `0 0 ${WIDE} ${drawing.height}`, width: WIDE, height: drawing.height };
+    const picture = shape("svg", { ...size, role: "img", "aria-label": title, class: "picture" });
     picture.append(shape("title", {}, title), ...parts);
     for (const it of picture.querySelectorAll("[tabindex]")) it.removeAttribute("tabindex");
     for (const it of picture.querySelectorAll("[role=button]")) it.setAttribute("role", "img");

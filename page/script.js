@@ -90,7 +90,8 @@ export function placeOfFault(text, fault) {
         return found ? { from: found.from, to: found.to } : null;
     }
     const { plain } = scanned(text), tables = tablesIn(plain), table = tableOf(tables, fault.text);
-    const [, name] = /(?:^|: )([a-z_]+)(?: =| is|:|$)/.exec(fault.text) ?? [], from = table?.to ?? 0, end = table?.end ?? tables[0]?.from ?? plain.length;
+    const [, name] = /unknown key "([\w-]+)"/.exec(fault.text) ?? /(?:^|: )([a-z_]+)(?: =| is|:|$)/.exec(fault.text) ?? [];
+    const from = table?.to ?? 0, end = table?.end ?? tables[0]?.from ?? plain.length;
     const key = name && new RegExp(`^[ \\t]*(${name})\\s*=[^\\n]*`, "m").exec(plain.slice(from, end));
     if (key) return { from: from + key.index + key[0].indexOf(name), to: from + key.index + key[0].trimEnd().length };
     return table ? { from: table.from, to: table.to } : null;

@@ -91,7 +91,8 @@ export class Drawing {
 
     /* The frames in view: those of findings and the chosen one, and of the others no two that are too near to tell apart. */
     drawFrames(link, upper, lower) {
-        const { from, to } = this.view, marked = new Set(link.findings.map((it) => it.packet)), nearest = NEAREST * Math.max(1, this.bundle.links.length / 4);
+        const { from, to } = this.view, nearest = NEAREST * Math.max(1, this.bundle.links.length / 4);
+        const marked = new Set(link.findings.map((it) => it.packet));
         const last = [-Infinity, -Infinity], written = [-Infinity, -Infinity];
         const seen = link.frames.filter((it) => this.axis.timeOf(it) >= from && this.axis.timeOf(it) <= to);
         const first = seen.filter((it) => marked.has(it.packet)).map((it) => [it, this.x(this.axis.timeOf(it))]);
@@ -113,17 +114,19 @@ export class Drawing {
     }
 
     drawFrame(link, frame, { x, way, upper, lower, said, isMarked }) {
-        const from = way === 0 ? upper : lower, back = way === 0 ? 1 : -1, isLost = link.ends.includes(null), to = isLost ? from + back * 26 : way === 0 ? lower : upper;
+        const [from, other, back] = way === 0 ? [upper, lower, 1] : [lower, upper, -1], isLost = link.ends.includes(null);
+        const to = isLost ? from + back * 26 : other, across = x.toFixed(1);
         const isChosen = frame === this.view.chosen, findings = link.findings.filter((it) => it.packet === frame.packet);
         const it = shape("g", { class: `frame${isChosen ? " chosen" : ""}`, role: "button", tabindex: isChosen ? 0 : -1, "data-packet": frame.packet,
             "aria-label": labelOf(frame, findings) });
         const put = (name, attributes, text) => it.append(shape(name, attributes, text));
         put("rect", { x: (x - 7).toFixed(1), y: upper, width: 14, height: lower - upper, class: "back" });
-        put("path", { d: `M${x.toFixed(1)} ${from} V${to - back * 6}`, class: frame.kind === "lacpdu" ? "lacpdu" : "marker" });
-        put("path", { d: isLost ? `M${(x - 4).toFixed(1)} ${to - 4} l8 8 m0 -8 l-8 8` : `M${x.toFixed(1)} ${to} l-4 ${-back * 8} h8 z`, class: isLost ? "lost" : "tip" });
-        if (isMarked) put("circle", { cx: x.toFixed(1), cy: from + back * 9, r: 5, class: "found" });
-        const isLast = x + 7 + LETTER * said.length > this.width, anchor = isLast ? "end" : "start";
-        if (said) put("text", { x: (isLast ? x - 7 : x + 7).toFixed(1), y: from + (way === 0 ? 13 : -5), "text-anchor": anchor, class: isMarked ? "bad small" : "small" }, said);
+        put("path", { d: `M${across} ${from} V${to - back * 6}`, class: frame.kind === "lacpdu" ? "lacpdu" : "marker" });
+        if (isLost) put("path", { d: `M${(x - 4).toFixed(1)} ${to - 4} l8 8 m0 -8 l-8 8`, class: "lost" });
+        else put("path", { d: `M${across} ${to} l-4 ${-back * 8} h8 z`, class: "tip" });
+        if (isMarked) put("circle", { cx: across, cy: from + back * 9, r: 5, class: "found" });
+        const [beside, anchor] = x + 7 + LETTER * said.length > this.width ? [x - 7, "end"] : [x + 7, "start"], kind = isMarked ? "bad small" : "small";
+        if (said) put("text", { x: beside.toFixed(1), y: from + (way === 0 ? 13 : -5), "text-anchor": anchor, class: kind }, said);
         put("title", {}, labelOf(frame, findings));
         this.parts.push(it);
     }

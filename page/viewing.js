@@ -26,8 +26,10 @@ export class Viewing {
 
     buttons() {
         const row = made("p", "", "tools"), span = () => this.view.to - this.view.from;
-        const each = [["+", "zoom in", () => this.zoom(0.5)], ["\u2212", "zoom out", () => this.zoom(2)], ["\u25c0", "earlier", () => this.pan(-span() / 4)],
-            ["\u25b6", "later", () => this.pan(span() / 4)], ["all", "show all of it", () => this.whole()]];
+        const each = [
+            ["+", "zoom in", () => this.zoom(0.5)], ["\u2212", "zoom out", () => this.zoom(2)], ["\u25c0", "earlier", () => this.pan(-span() / 4)],
+            ["\u25b6", "later", () => this.pan(span() / 4)], ["all", "show all of it", () => this.whole()],
+        ];
         for (const [text, label, act] of each) {
             const it = button(text, act);
             it.setAttribute("aria-label", label);
@@ -139,7 +141,8 @@ export class Viewing {
         const hadFocus = this.svg.contains(document.activeElement) && document.activeElement !== this.svg, width = this.width();
         const drawing = new Drawing(this.bundle, this.axis, this.view, width);
         this.svg.replaceChildren(...drawing.draw());
-        for (const [key, value] of Object.entries({ viewBox: `0 0 ${width} ${drawing.height}`, width, height: drawing.height })) this.svg.setAttribute(key, value);
+        const size = { viewBox: `0 0 ${width} ${drawing.height}`, width, height: drawing.height };
+        for (const [key, value] of Object.entries(size)) this.svg.setAttribute(key, value);
         this.told.textContent = drawing.hidden ? `${drawing.hidden} frames stand too near to others to be drawn: zoom in.` : "";
         if (hadFocus) (this.svg.querySelector(".chosen") ?? this.svg).focus({ preventScroll: true });
     }

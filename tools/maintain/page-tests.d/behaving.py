@@ -16,8 +16,10 @@ CHOSEN = "[document.activeElement.dataset.packet ?? '', document.querySelector('
 # The fields of each frame that is drawn, by a click on it.
 FIELDS = """(async () => {
     const all = {};
-    for (const it of document.querySelectorAll('#links details')) it.open = true;
-    await new Promise((done) => setTimeout(done, 100));
+    for (let depth = 0; depth < 2; depth += 1) {
+        for (const it of document.querySelectorAll('#links details')) it.open = true;
+        await new Promise((done) => setTimeout(done, 100));
+    }
     for (const it of [...document.querySelectorAll('.frames button')]) {
         it.click();
         const shown = () => [...document.querySelectorAll('.chosen-frame:not([hidden])')].find((box) => box.querySelector('h3').textContent.startsWith(`Packet ${it.textContent} `));
@@ -38,6 +40,16 @@ def of_page(tests: Tests, browser: Browser, folder: str) -> None:
     of_keyboard(tests, browser)
     tests.same("a file that is dropped is explained", [browser.drop(UNEQUAL)[it] for it in ("status", "said")], [1, ""])
     tests.same("a file that is pasted is explained", [browser.paste(UNEQUAL)[it] for it in ("status", "said")], [1, ""])
+
+
+def of_unable(tests: Tests, browser: Browser, page: str) -> None:
+    """Where no script runs, a sentence says which browser can."""
+    browser.call("Emulation.setScriptExecutionDisabled", value=True)
+    browser.open(page)
+    shown = browser.value("['unable', 'ask', 'more', 'shown'].map((it) => document.getElementById(it).offsetHeight > 0)")
+    tests.same("without scripts a sentence says which browser can", shown, [True, False, False, False])
+    browser.call("Emulation.setScriptExecutionDisabled", value=False)
+    browser.go(page)
 
 
 def of_findings(tests: Tests, browser: Browser) -> None:

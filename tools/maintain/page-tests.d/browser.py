@@ -175,6 +175,10 @@ class Browser:
         self.value(f"(() => {{ {data} document.body.dispatchEvent(new ClipboardEvent('paste', {{ clipboardData: data, bubbles: true }})); }})()")
         return self.shown()
 
+    def paste_text(self, text: str) -> None:
+        data = f"const data = new DataTransfer(); data.setData('text', {json.dumps(text)});"
+        self.value(f"(() => {{ {data} document.body.dispatchEvent(new ClipboardEvent('paste', {{ clipboardData: data, bubbles: true }})); }})()")
+
     def key(self, name: str) -> None:
         code = KEYS.get(name, ord(name[0]))
         text = {"text": "\r" if name == "Enter" else name} if name == "Enter" or len(name) == 1 else {}

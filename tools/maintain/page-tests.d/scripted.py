@@ -15,9 +15,9 @@ RESTARTS = os.path.join(EXAMPLES, "a-peer-restarts.toml")
 FAULTS: list[tuple[str, str, str, list[str]]] = [
     ('"sense 2 1"', '"sens 2 1"', '"sens 2 1"', ["line 7, column 5: ", "did you mean sense?"]),
     ('"tick 1 20"', '"tick 1 0"', '"tick 1 0"', ["line 19, column 5: ", "event 15"]),
-    ("short = false", "short = 3", "short = 3", ["line 75, column 1: ", "short"]),
-    ("number = 2", "numbre = 2", "numbre = 2", ["line 78, column 1: ", "numbre"]),
-    ("ends = [2, 2]", "ends = [2, 9]", "ends = [2, 9]", ["line 96, column 1: ", "9"]),
+    ("short = false", "short = 3", "short = 3", ["line 72, column 1: ", "short"]),
+    ("number = 2", "numbre = 2", "numbre = 2", ["line 74, column 1: ", "numbre"]),
+    ("ends = [2, 2]", "ends = [2, 9]", "ends = [2, 9]", ["line 91, column 1: ", "9"]),
     ("events = [", "events = [[", "", ["line ", "column "]),
 ]
 
@@ -33,8 +33,10 @@ def of_scripts(tests: Tests, browser: Browser) -> None:
         path = os.path.join(EXAMPLES, name)
         shown = browser.replay(path)
         tests.same(f"{name}: its report", (shown["status"], shown["printed"]), (0, read(f"{path[:-5]}.txt")))
-        entries = sum(" -> " in it for it in shown["printed"].splitlines())
-        tests.same(f"{name}: each entry is drawn", browser.value("document.querySelectorAll('#replayed .entry').length"), entries)
+        entries = [it.split(" ", 1)[1] for it in shown["printed"].splitlines() if " -> " in it]
+        arrows = [it for it in entries if it.startswith(("deliver ", "repeat ")) and not it.endswith(("-> empty", "-> not control"))]
+        drawn = browser.value("['.entry', '.tip'].map((it) => document.querySelectorAll(`#replayed ${it}`).length)")
+        tests.same(f"{name}: each entry is drawn, and an arrow for each frame that arrives", drawn, [len(entries), len(arrows)])
     of_steps(tests, browser)
     of_faults(tests, browser)
 
@@ -68,7 +70,7 @@ def of_steps(tests: Tests, browser: Browser) -> None:
         browser.value("document.getElementById('back').click(), 1")
     browser.wait(f"!{agreement}.includes('..')")
     tests.same("a step has its entry", browser.value("document.getElementById('entry').textContent"), "30 of 59: restart 2: restarted")
-    tests.same("a step has the agreement of its own", (whole, browser.value(agreement)), ("same,same", "differ,differ"))
+    tests.same("a step has the agreement of its own", (whole, browser.value(agreement)), ("same,same", "not-both,not-both"))
     rows = browser.value("[...document.querySelectorAll('#tables table')].map((it) => [...it.tBodies[0].rows].map((row) => row.cells[3].textContent).join())")
     tests.same("a system that starts again has sent nothing", rows[:2], ["CURRENT,CURRENT", "none sent,none sent"])
     tests.same("what is not played yet is pale", browser.value("document.querySelectorAll('#replayed .later').length"), 29)
@@ -94,5 +96,8 @@ def of_payloads(tests: Tests, browser: Browser) -> None:
         browser.value(f"(() => {{ const it = document.getElementById('hex'); it.value = {json.dumps(digits)}; it.dispatchEvent(new Event('input')); }})(), 1")
         came = browser.value("['decoded', 'answered'].map((it) => document.getElementById(it).textContent)")
         tests.same(f"{name} is decoded", (came[0].startswith(decoded), came[1].startswith(answer)), (True, True))
-    browser.value("document.getElementById('payloads').open = true, document.getElementById('run-vectors').click(), 1")
+    browser.paste_text(payload.hex(" "))
+    browser.wait("document.getElementById('decoded').textContent.startsWith('lacpdu')")
+    tests.same("a payload that is pasted is decoded", browser.value("document.getElementById('payloads').open"), True)
+    browser.value("document.getElementById('run-vectors').click(), 1")
     tests.same("the vectors are run", browser.value("document.getElementById('vectors').textContent").endswith("vectors 10 failed 0\n"), True)
