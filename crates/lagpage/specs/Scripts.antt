@@ -54,11 +54,14 @@ TellsScript text t = TellsReport text t ⊎ TellsNoScript text t
 abbrev pub text_before : List ℕ → List ℕ
 text_before octets = take (utf8_valid_len octets) octets
 
--- where octets are no UTF-8
-pub record TellsNoUtf8 (octets : List ℕ) (t : Told) : Type 0 where
+-- what is said of a file that is no UTF-8 behind these octets: that it cannot be read, and the place
+pub record SaysNoUtf8 (before said : List ℕ) : Type 0 where
   pub place : List ℕ
-  pub says : length (text_before octets) < 2 ^ 32 → place ≡ utf8_text script_name (text_before octets)
-  pub told : Tells 2 [] (two_lines (codes "cannot read " ++ script_name) place) t
+  pub lines : said ≡ two_lines (codes "cannot read " ++ script_name) place
+  pub says : length before < 2 ^ 32 → place ≡ utf8_text script_name before
+
+abbrev pub TellsNoUtf8 : List ℕ → Told → Type 0
+TellsNoUtf8 octets t = (said : List ℕ) × SaysNoUtf8 (text_before octets) said × Tells 2 [] said t
 
 -- what is told of a file that is replayed
 abbrev pub TellsReplay : List ℕ → Told → Type 0

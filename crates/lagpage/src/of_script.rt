@@ -2,7 +2,7 @@ ghost use Rattle.std.specs.Prelude.{◌≡◌, ◌<◌, ◌^◌, IfOk, length, s
 ghost use Rattle.std.specs.Str.Lossy.{utf8_valid_len};
 ghost use Rattle.distributor.specs.Calls.{index_by_number};
 ghost use Rattle.lagpage.specs.Answers.{Answers};
-ghost use Rattle.lagpage.specs.Scripts.{SaysNoScript, TellsNoUtf8, TellsReplay, TellsScript};
+ghost use Rattle.lagpage.specs.Scripts.{SaysNoScript, SaysNoUtf8, TellsNoUtf8, TellsReplay, TellsScript};
 
 use crate::answer::{Answer, answered};
 use crate::said::{SCRIPT, said_of_fault};
@@ -44,14 +44,22 @@ fn told_of_script(alloc: Global, text: &str) -> Result<Told, AllocError>
     }
 }
 
+/// What is said of a file that is no UTF-8 behind these octets. `AllocError` if memory is refused.
+fn said_of_no_utf8(alloc: Global, before: &[u8]) -> Result<String, AllocError>
+    ensures { IfOk result (λ said. SaysNoUtf8 before.now (string_bytes said)) }
+{
+    let place = utf8_text(alloc, SCRIPT, before)?;
+    said_of_fault(alloc, ToolFault::Read, place.as_str())
+}
+
 /// What is told of octets that are no UTF-8 behind so many. `AllocError` if memory is refused.
+#[tactic(auto, using(crate::proofs::UtfLemmas::tells_no_text))]
 fn told_of_no_utf8(alloc: Global, octets: &[u8], valid: usize) -> Result<Told, AllocError>
     requires valid { valid ≡ utf8_valid_len octets.now }
     requires short { valid < length octets.now }
     ensures { IfOk result (λ t. TellsNoUtf8 octets.now t) }
 {
-    let more = utf8_text(alloc, SCRIPT, &octets[..valid])?;
-    let said = said_of_fault(alloc, ToolFault::Read, more.as_str())?;
+    let said = said_of_no_utf8(alloc, &octets[..valid])?;
     make_told(Vec::new(alloc), said.as_bytes(), 2)
 }
 
