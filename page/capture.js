@@ -11,8 +11,9 @@ import { button, made, table } from "./shapes.js";
 
 /* The most frames that are listed of a link, besides those of findings. */
 const MOST = 400;
-/* The rules whose findings often follow from those of others, which stand before them (docs/COMMAND.md). */
-const FOLLOWING = [12, 13, 17, 22, 23];
+/* The rules of docs/COMMAND.md whose findings often explain others, and those whose findings often follow from others. */
+const LEADING = [26, 28], FOLLOWING = [12, 13, 17, 22, 23, 27];
+const rankOf = (rule) => FOLLOWING.includes(rule) - LEADING.includes(rule);
 export const counted = (number, word) => `${number} ${word}${number === 1 ? "" : "s"}`;
 const upper = (text) => text[0].toUpperCase() + text.slice(1);
 export const frameRow = (packet) => `packet-${packet}`;
@@ -143,7 +144,7 @@ export function showRecords(records, blob, findingsAt, linksAt) {
     const pairs = bundles.map((it, number) => new Pair(it, packets, number === 0));
     const pairOf = (finding) => pairs.find((it) => it.bundle.findings.includes(finding));
     const rules = [...new Set(findings.map((it) => it.rule))].map((rule) => findings.filter((it) => it.rule === rule));
-    rules.sort(([one], [other]) => FOLLOWING.includes(one.rule) - FOLLOWING.includes(other.rule));
+    rules.sort(([one], [other]) => rankOf(one.rule) - rankOf(other.rule));
     findingsAt.replaceChildren(...rules.map((it) => itemOf(it, pairOf)));
     linksAt.replaceChildren(...pairs.map((it) => it.part));
     return { pairs, kinds: rules.length };

@@ -41,7 +41,8 @@ def of_saving(tests: Tests, browser: Browser, folder: str, page: str, pictures: 
 def of_report(tests: Tests, browser: Browser, printed: str) -> None:
     """The report, which is open in the browser."""
     counts = browser.value("['script', 'button', 'input', 'svg', '#findings li'].map((it) => document.querySelectorAll(it).length)")
-    tests.same("the report has the findings and a picture, and no script", counts, [0, 0, 0, 1, 3])
+    rules = {it.split()[1] for it in printed.splitlines() if it.startswith("finding ")}
+    tests.same("the report has the findings and a picture, and no script", counts, [0, 0, 0, 1, len(rules)])
     policy = browser.value("document.querySelector('meta[http-equiv]').content")
     tests.same("its policy allows a style and nothing else", policy.split("'sha256-")[0], "default-src 'none'; style-src ")
     tests.same("it has its style", browser.value("getComputedStyle(document.querySelector('svg .bit')).fill !== 'none'"), True)
