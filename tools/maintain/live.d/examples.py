@@ -36,6 +36,13 @@ def check_programs(folder: str, libraries: list[str]) -> None:
         check(told.returncode == 0 and told.stdout == wanted, f"examples/c/{name}.c prints what stands beside it", told.stdout + told.stderr)
 
 
+def check_no_libc(folder: str, libraries: list[str]) -> None:
+    """The library works without a C library, over the functions that docs/ABI.md lists."""
+    words = [*STRICT, "-ffreestanding", "-nostdlib", "-static"]
+    told = ran(build(os.path.join(folder, "no_libc"), [os.path.join(EXAMPLES, "no_libc.c")], libraries, *words))
+    check(told.returncode == 0, "examples/c/no_libc.c: two ends come up without a C library", f"it ended with {told.returncode}")
+
+
 def check_quotes() -> None:
     """Each block of C in docs/USING.md stands in a program that is compiled and run; `...` leaves lines out."""
     sources = [*sorted(glob.glob(f"{EXAMPLES}/*.c")), os.path.join(MAINTAIN, "live.d", "planes.c")]
