@@ -57,22 +57,26 @@ def try_tool(count: Count, name: str, words: list[str], given: dict[str, str]) -
     count.passed, count.failed = count.passed + int(last[1]), count.failed + int(last[2])
 
 
-def wrapper(folder: str, processor: Processor, program: str) -> str:
+def wrapper(folder: str, words: list[str]) -> str:
     """A program of this machine that runs one of the processor."""
-    made = os.path.join(folder, os.path.basename(program))
+    made = os.path.join(folder, os.path.basename(words[-1]))
     with open(made, "w", encoding="utf-8") as it:
-        it.write(f"#!/bin/sh\nexec {' '.join(processor.runs)} {program} \"$@\"\n")
+        it.write(f"#!/bin/sh\nexec {' '.join(words)} \"$@\"\n")
     os.chmod(made, 0o755)
     return made
 
 
-def try_python_tests(count: Count, library: str) -> None:
+# Runs pytest with a Python that tests can start as a program: the wrapper, which its first word names.
+PYTEST = "import sys, pytest; sys.executable = sys.argv.pop(1); sys.exit(pytest.main(sys.argv[1:]))"
+
+
+def try_python_tests(count: Count, library: str, folder: str) -> None:
     """Runs the tests of the Python module."""
     by = python()
     if not by:
         return
-    given = {"NIWHOPERA_LIBRARY": library, "PYTHONPATH": f"{TREE}/usr/lib/python3/dist-packages:.", "PYTHONDONTWRITEBYTECODE": "1"}
-    words = [*by, "-W", "error", "-m", "pytest", "-q", "-p", "no:cacheprovider", "tests"]
+    given = {"NIWHOPERA_LIBRARY": library, "PYTHONPATH": f"{TREE}/usr/lib/python3/dist-packages:{TOP}/python", "PYTHONDONTWRITEBYTECODE": "1"}
+    words = [*by, "-W", "error", "-c", PYTEST, wrapper(folder, by), "-q", "-p", "no:cacheprovider", "tests"]
     ended = subprocess.run(words, cwd=os.path.join(TOP, "python"), env={**clean(), **given}, capture_output=True, text=True)
     told = ended.stdout.strip().splitlines()
     counts = {word: int(number) for number, word in re.findall(r"(\d+) (passed|failed|error)", told[-1] if told else "")}
@@ -84,9 +88,9 @@ def try_python_tests(count: Count, library: str) -> None:
 def tried(count: Count, root: str, processor: Processor) -> None:
     """Tries what an archive has, which is unpacked."""
     with tempfile.TemporaryDirectory() as folder:
-        program = wrapper(folder, processor, os.path.join(root, "bin", "lagtool"))
+        program = wrapper(folder, [*processor.runs, os.path.join(root, "bin", "lagtool")])
         by = " ".join(processor.runs)
         try_tool(count, "live", ["--library"], {"CC": processor.compiler, "RUN_BY": by, "LIBRARY": os.path.join(root, "lib", "liblag.a")})
         try_tool(count, "examples", [], {"LAGTOOL": program})
         try_tool(count, "capture-tests", [], {"LAGTOOL": program})
-    try_python_tests(count, os.path.join(root, "lib", "liblag.so.0"))
+        try_python_tests(count, os.path.join(root, "lib", "liblag.so.0"), folder)
