@@ -12,8 +12,8 @@
  *   copy that is used after niw_free points to memory that is freed.
  * - A pointer that is not null points to what its type says, and a buffer or frame has as many octets as its length says.
  *   What a call may write overlaps nothing else that the call is given.
- * - Only the thread that made one calls with it, readers too, since each call writes the handle; no signal handler does, and no
- *   forked child of a program with threads.
+ * - One call of a handle runs at a time, readers too, since each call writes the handle: from any thread, under the program's lock. Two
+ *   handles share nothing. No signal handler calls, and no forked child of a program with threads.
  * - The program's malloc, realloc and free belong together, and align to 16 octets.
  * - A bool is false or true. One that is read from octets, as from a file, may hold 2: the state octet of a port is wrong then.
  * - A program that calls `lagffi_` functions itself, without those below, gives them no null pointer.

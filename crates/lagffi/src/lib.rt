@@ -1,8 +1,8 @@
 //! A system for programs in C, and payloads as numbers: include/lag.h declares what this library exports.
 //!
-//! What a program in C owes, and nothing checks: a handle is `NIW_EMPTY` before its first call, and only the exports write it; only
-//! the thread that made it calls with it, readers too, since each call writes the handle; no signal handler does, and no forked
-//! child of a program with threads; a pointer is not null, and points to what its type says, with as many octets as the length
+//! What a program in C owes, and nothing checks: a handle is `NIW_EMPTY` before its first call, and only the exports write it; one
+//! call of it runs at a time, readers too, since each call writes the handle; no signal handler calls, and no forked child of a
+//! program with threads; a pointer is not null, and points to what its type says, with as many octets as the length
 //! beside it; what a call may write overlaps nothing else that it is given; and `malloc`, `realloc` and `free` belong to one
 //! allocator. The inline functions of the header refuse null pointers before an export is called.
 #![tactic(auto)]

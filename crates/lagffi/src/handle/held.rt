@@ -21,6 +21,9 @@ impl Model for Held {
     ghost also_owns = { λ h. held_owns h.alloc h.ptr h.kept };
 }
 
+/// A thread may hand what it holds to another one: the block is memory of the one allocator of the program.
+unsafe impl Send for Held {}
+
 impl Drop for Held {
     // promise: each block is freed or kept in a handle, whose flag tells whether it keeps one
     // contract: `drop` of `Held`, `Parts::free`; `tells`, `full` of `Lag`
