@@ -7,7 +7,7 @@
 
 #include "lagd.h"
 
-/* The octets of a VLAN tag, and of the longest frame without and with one. */
+/* The octets of a VLAN tag. */
 #define TAG_OCTETS 4
 /* The library takes a frame of so many octets at most: of a longer one it is shown the beginning. */
 #define LONGEST_SHOWN (ETH_HLEN + ETH_DATA_LEN + TAG_OCTETS)

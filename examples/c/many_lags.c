@@ -69,7 +69,7 @@ int main(void) {
         send_all(theirs, ours);
     }
     printf("%u of %u ports distribute in %u LAGs\n", distributing(ours), LAGS * PORTS, LAGS);
-    printf("%zu kB for all, %zu octets a LAG\n", used / 1000, used / LAGS);
+    fprintf(stderr, "%zu kB for all, %zu octets a LAG\n", used / 1000, used / LAGS);
     fprintf(stderr, "a tick of all: %.1f us on average, %.1f us at most\n", all / TICKS * 1e6, worst * 1e6);
     return 0;
 }

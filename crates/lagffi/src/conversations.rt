@@ -80,7 +80,7 @@ pub extern "C" fn lagffi_offer_conversation(
     LagNumber::of(&answer)
 }
 
-// promise: so are a leave, a rest, a probe, and an offer by number
+// promise: a leave, a rest, a probe, and an offer by number are the system's own
 // contract: `lagffi_leave_conversation`, `lagffi_rest`, `lagffi_probe`, `lagffi_offer_conversation` (`OffersByNumber`)
 /// Takes a conversation off its port, behind a marker, without another port to go to: it prefers none.
 /// Refuses: NIW_NO_SYSTEM, NIW_NO_AGGREGATOR, NIW_NOT_ASSIGNED, NIW_HELD, NIW_MARKERS_SPENT.

@@ -45,6 +45,8 @@ impl Block {
 }
 
 impl Lag {
+    // promise: a system under another algorithm is the same system
+    // contract: `System::with_algorithm`, `Distributor::with_algorithm`
     /// Takes the system out under this algorithm, beside its block; None if the handle holds none.
     pub(crate) fn take<F: Drop>(
         &mut self,

@@ -82,8 +82,6 @@ fn put_into(queue: &mut Holding<u64>, conv: u16, frame: u64) -> Option<Refusal>
 // promise: a call of the queues is holding's own; without queues 19
 // contract: `lagffi_queue_put` and its siblings (`CallsQueue`)
 // not said: that the program sends what it takes out
-// promise: a system under another algorithm is the same system
-// contract: `System::with_algorithm`, `Distributor::with_algorithm`
 /// Puts a frame behind those that wait in its conversation. One that is refused is counted, and not put: by NIW_NOT_ASSIGNED where there
 /// is no such conversation, NIW_CONVERSATION_FULL or NIW_ALL_FULL.
 /// Refuses: NIW_NO_QUEUE, NIW_NOT_ASSIGNED, NIW_CONVERSATION_FULL, NIW_ALL_FULL.

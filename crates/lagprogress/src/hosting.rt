@@ -7,10 +7,10 @@ ghost use Rattle.lagprogress.specs.HostRounds.{AskingIsHostRound, LoopIsHostRoun
 //    cable is asked after its system's tick, and nothing is on any cable in the end
 // contract: `hosts_play_rounds` (`asking`)
 // premises: steady; the events acted
-// promise: so is the loop of two hosts: each system ticks, then asks all its ports; items arrive, ports are asked again
+// promise: the loop of two hosts is such a round: each system ticks, then asks all its ports; items arrive, ports are asked again
 // contract: `hosts_play_rounds` (`host_loop`: `IsHostLoop`)
 // premises: the same; nothing is on any cable in the end
-// promise: each healthy round is one
+// promise: each healthy round is a healthy round of hosts
 // contract: `hosts_play_rounds` (`round`, `rounds`)
 // premises: steady
 /// Which events are a healthy round of hosts: each system ticks once, and every other event is Emit, Deliver, Offer or Move, in
@@ -102,8 +102,8 @@ ghost use Rattle.lagprogress.specs.HostFreed.{NothingIsHeldByHosts, RoundIsDrain
 //    nothing is due, nor a marker, at some time after its tick, as in each healthy round, or if each end is asked until it sends nothing
 // contract: `held_conversations_are_freed_by_hosts` (`ends_both`, `ends_one`, `round`, `asking`)
 // premises: those of `each_link_comes_up`; an identifier is left in the end
-// promise: nor at all; nor beside ports that are cut off, after 962 and 30
-// contract: the same (`all_both`, `all_one`; `beside`)
+// promise: nor is it held at all; nor beside ports that are cut off, after 962 and 30
+// contract: `held_conversations_are_freed_by_hosts` (`all_both`, `all_one`; `beside`)
 // premises: the same, and `CarriersAreUp` in the end; as for `each_link_comes_up_beside_cut_offs`
 /// A conversation that is held in a bundle as in `each_link_comes_up` is freed in healthy rounds of hosts that ask until nothing is
 /// due: after 352 healthy rounds of hosts (35.2 s) or more if both ends of each healthy cable are active, after 661 (66.1 s) if one is,

@@ -202,7 +202,7 @@ pub fn ends_come_to_know<F: Fn(u16, usize) -> usize>()
 
 ghost use Rattle.lagprogress.specs.ComingUp.{ActiveLinkComesUp, LinkComesUp};
 
-// promise: they are up, and its `agreement` is `Same`: 352 | 661
+// promise: both ports of the only cable are up, and its `agreement` is `Same`: 352 | 661
 // contract: `links_come_up` (`ComingUp`), `links_agree` (`Agreeing`)
 // premises: the same; each system has one port, and an aggregator with its key; the systems differ; for the agreement the world is sound
 /// Links come up: in a world with one cable that is whole and has no limit, with the links of both of its ports up, both
@@ -303,8 +303,8 @@ ghost use Rattle.lagprogress.specs.Rounds.{freed_if_both_active, freed_if_one_is
 // promise: no conversation is held on an end of a healthy cable: 382 | 691
 // contract: `held_conversations_are_freed` (`ends_both`, `ends_one`)
 // premises: those of `each_link_comes_up`; an identifier is left in the end (`HasIdentifierLeft`)
-// promise: nor in the whole system
-// contract: the same (`all_both`, `all_one`)
+// promise: no conversation is held in the whole system: 382 | 691
+// contract: `held_conversations_are_freed` (`all_both`, `all_one`)
 // premises: the same; before the rounds the links of all ports that conversations are On or held on are up, as in each world that events
 //    lead to (`carriers_are_up`)
 /// Conversations that are held in a bundle as in `each_link_comes_up` are freed: from 382 healthy rounds (38.2 s) on if both ends

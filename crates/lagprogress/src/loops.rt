@@ -117,7 +117,7 @@ fn deliver_and_ask<C: Cable, F: Fn(u16, usize) -> usize + Drop>(
 // promise: `play_host_round` plays such a round, whatever the conversation; `play_host_rounds` so many
 // contract: `play_host_round` (`round`, `drains`), `play_host_rounds` (`rounds`, `drains`)
 // premises: both algorithms meet the condition; steady
-// promise: they are refused as `NoCable` above 65,535 cables, with nothing played; else as `Spent`, or after both ticks as `NoMemory`
+// promise: rounds of hosts are refused as `NoCable` above 65,535 cables, with nothing played; else as `Spent`, or after both ticks as `NoMemory`
 // contract: `play_host_round` (`refused`, `part`), `play_host_rounds` (`stopped`)
 // premises: the condition
 /// Plays one healthy round of a world as two hosts do: both systems tick, the ends of all cables are asked until they send

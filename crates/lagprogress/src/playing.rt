@@ -143,7 +143,7 @@ fn deliver_all<C: Cable, F: Fn(u16, usize) -> usize + Drop>(
 // promise: `play_round` plays a healthy round, `play_rounds` the given number in turn, in any world
 // contract: `play_round` (`round`), `play_rounds` (`rounds`)
 // premises: both algorithms meet [the condition](#lagsystem). That it is not refused tests show
-// promise: they are refused as `NoCable` above 65,535 cables, with nothing played; else as `World::step` refuses the next event of a round:
+// promise: healthy rounds are refused as `NoCable` above 65,535 cables, with nothing played; else as `World::step` refuses the next event of a round:
 //    as `Spent`, or after both ticks and where there is a cable as `NoMemory`
 // contract: `play_round` (`refused`, `part`), `play_rounds` (`stopped`)
 /// Plays one healthy round of a world: both systems tick, both ends of each cable are asked twice, since an LACPDU goes before a

@@ -2,7 +2,7 @@
 
 ghost use Rattle.lagprogress.specs.Shared.{SharesAggregator};
 
-// promise: the same where ports share fewer aggregators
+// promise: where ports share fewer aggregators, a port is SELECTED or STANDBY as `ports_find_aggregators` says
 // contract: `ports_share_aggregators` (`SharesAggregator`)
 // premises: sound; one aggregator of the key; the link is not Individual; the links of all ports of the key that are not UNSELECTED have
 //    its group

@@ -78,8 +78,8 @@ fn answer_frame(alloc: Global, mac: [u8; 6], octets: &[u8]) -> Result<Outcome, A
 // promise: `reply`: `NotMac` first, exactly if MAC is not twelve hexadecimal digits, then `NotHex`; else the answer's frame, a `no answer`
 //    line or a refusal, and true exactly for a frame
 // contract: `reply` (`Replies`)
-// promise: of both: nothing is written after `NotMac`, `NotHex`, `NoMemory`; after `Write`, with which the sink failed, a beginning
-// contract: both
+// promise: of `show` and `reply`: nothing is written after `NotMac`, `NotHex`, `NoMemory`; after `Write`, with which the sink failed, a beginning
+// contract: `show`, `reply`
 /// Writes the response to a frame in hexadecimal, with this MAC address as its source; returns whether there is a
 /// response (profile).
 ///

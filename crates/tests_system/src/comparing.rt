@@ -7,6 +7,17 @@ pub(crate) fn same<T: Debug + PartialEq>(rt: &impl Abort, what: &str, came: &T, 
     assert_eq!(rt; *came, *wanted, "{what}");
 }
 
+/// Fails unless a value of a row is the expected one; the text says which.
+pub(crate) fn same_at<T: Debug + PartialEq>(
+    rt: &impl Abort,
+    what: &str,
+    row: usize,
+    came: &T,
+    wanted: &T,
+) {
+    assert_eq!(rt; *came, *wanted, "{what} of row {row}");
+}
+
 /// Fails unless the value of a row is the expected one.
 pub(crate) fn same_in_row<T: Debug + PartialEq>(rt: &impl Abort, row: usize, came: &T, wanted: &T) {
     assert_eq!(rt; *came, *wanted, "row {row}");

@@ -17,7 +17,7 @@ mod wide;
 
 ghost use Rattle.std.specs.Prelude.{◌≡◌, ◌<◌};
 
-use crate::comparing::same_in_row;
+use crate::comparing::{same_at, same_in_row};
 use crate::systems::plan::plan_of;
 use bitflags::Flags;
 use lagsystem::{
@@ -159,26 +159,44 @@ pub(crate) fn look<F: Fn(u16, usize) -> usize + Drop>(system: &System<F>, port: 
 
 /// Compares what the readers return for a port with what is expected.
 pub(crate) fn same_facts(rt: &impl Abort, place: usize, came: &PortFacts, wanted: &PortFacts) {
-    same_in_row(rt, place, &came.party, &wanted.party);
-    same_in_row(rt, place, &came.partner, &wanted.partner);
-    same_in_row(rt, place, &came.group, &wanted.group);
-    same_in_row(rt, place, &came.defaulted, &wanted.defaulted);
-    same_in_row(rt, place, &came.distributes, &wanted.distributes);
-    same_in_row(rt, place, &came.choice, &wanted.choice);
-    same_in_row(rt, place, &came.state, &wanted.state);
-    same_in_row(rt, place, &came.status, &wanted.status);
+    same_at(rt, "party", place, &came.party, &wanted.party);
+    same_at(rt, "partner", place, &came.partner, &wanted.partner);
+    same_at(rt, "group", place, &came.group, &wanted.group);
+    same_at(rt, "defaulted", place, &came.defaulted, &wanted.defaulted);
+    same_at(
+        rt,
+        "distributes",
+        place,
+        &came.distributes,
+        &wanted.distributes,
+    );
+    same_at(rt, "choice", place, &came.choice, &wanted.choice);
+    same_at(rt, "state", place, &came.state, &wanted.state);
+    same_at(rt, "status", place, &came.status, &wanted.status);
     same_machines(rt, place, came, wanted);
 }
 
 /// The same of the machines of the port and their timers.
 fn same_machines(rt: &impl Abort, place: usize, came: &PortFacts, wanted: &PortFacts) {
-    same_in_row(rt, place, &came.mux, &wanted.mux);
-    same_in_row(rt, place, &came.receive, &wanted.receive);
-    same_in_row(rt, place, &came.up, &wanted.up);
-    same_in_row(rt, place, &came.due, &wanted.due);
-    same_in_row(rt, place, &came.current_while, &wanted.current_while);
-    same_in_row(rt, place, &came.wait_while, &wanted.wait_while);
-    same_in_row(rt, place, &came.ntt, &wanted.ntt);
+    same_at(rt, "mux", place, &came.mux, &wanted.mux);
+    same_at(rt, "receive", place, &came.receive, &wanted.receive);
+    same_at(rt, "up", place, &came.up, &wanted.up);
+    same_at(rt, "due", place, &came.due, &wanted.due);
+    same_at(
+        rt,
+        "current_while",
+        place,
+        &came.current_while,
+        &wanted.current_while,
+    );
+    same_at(
+        rt,
+        "wait_while",
+        place,
+        &came.wait_while,
+        &wanted.wait_while,
+    );
+    same_at(rt, "ntt", place, &came.ntt, &wanted.ntt);
 }
 
 /// The information about a port of a system; this is the last octet of the system's MAC address.

@@ -92,7 +92,7 @@ static void call(const struct call *it) {
     case SET_LINK: niw_set_link(&here, it->port, it->chance % 8 != 0); break;
     case CONFIGURE: niw_configure(&here, it->port, &change); break;
     case RESTART: niw_restart(&here); break;
-    case OFFER: niw_offer(&here, (uint16_t)(1 + it->chance % 4 % ports), frame, 64 < sizeof frame ? 64 : sizeof frame); break;
+    case OFFER: niw_offer(&here, (uint16_t)(1 + it->chance % 4 % ports), frame, 64); break;
     case OFFER_CONVERSATION: niw_offer_conversation(&here, 1, it->conversation); break;
     case MOVE: niw_move_conversation(&here, 1, it->conversation, it->port); break;
     case LEAVE: niw_leave_conversation(&here, 1, it->conversation); break;

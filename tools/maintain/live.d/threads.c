@@ -1,7 +1,6 @@
 /* Handles that one thread makes and others call: one handle under a lock, and a handle for each thread without one. valgrind looks for races
  * (tools/maintain/live): it has to find none in these two, and some in `./threads races`, which takes no lock. */
 #include <pthread.h>
-#include <stdio.h>
 #include <string.h>
 
 #include "lag.h"

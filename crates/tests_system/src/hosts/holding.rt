@@ -1,4 +1,4 @@
-use crate::comparing::{same, same_in_row};
+use crate::comparing::{same, same_at, same_in_row};
 use dataplane::{Holding, Refusal, Released};
 use std::process::Abort;
 use std::test::Fail;
@@ -38,8 +38,14 @@ fn play(rt: &impl Abort, held: &mut Holding<u32>, place: usize, row: Row) {
             puts(rt, held, place, (conversation, handle), refusal);
         }
         Row::Next(conversation, wanted) => {
-            same_in_row(rt, place, &held.oldest(conversation).copied(), &wanted);
-            same_in_row(rt, place, &held.next(conversation), &wanted);
+            same_at(
+                rt,
+                "the oldest",
+                place,
+                &held.oldest(conversation).copied(),
+                &wanted,
+            );
+            same_at(rt, "the next", place, &held.next(conversation), &wanted);
         }
         Row::DropOldest(conversation, wanted) => {
             same_in_row(rt, place, &held.drop_oldest(conversation), &wanted);

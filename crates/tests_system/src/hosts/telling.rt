@@ -1,4 +1,4 @@
-use crate::comparing::{same, same_in_row};
+use crate::comparing::{same, same_at};
 use crate::hosts::playing::{Row, come_up, config, modulo, play};
 use lagsystem::{AggId, System, SystemFault};
 use std::process::Abort;
@@ -18,8 +18,14 @@ fn tells_ports<F: Fn(u16, usize) -> usize + Drop>(
     let came = system.conversation_ports(AggId(agg), ports, changed);
     same(rt, "how many changed", &came, &answer);
     for (conv, port, is_changed) in told {
-        same_in_row(rt, *conv, &ports.get(*conv), &Some(port));
-        same_in_row(rt, *conv, &changed.get(*conv), &Some(is_changed));
+        same_at(rt, "the port", *conv, &ports.get(*conv), &Some(port));
+        same_at(
+            rt,
+            "the change",
+            *conv,
+            &changed.get(*conv),
+            &Some(is_changed),
+        );
     }
 }
 
@@ -90,8 +96,20 @@ fn tells_released<F: Fn(u16, usize) -> usize + Drop>(
     let came = system.released(AggId(agg), busy, freed);
     same(rt, "how many are free", &came, &answer);
     for (conv, is_busy, is_freed) in told {
-        same_in_row(rt, *conv, &busy.get(*conv), &Some(is_busy));
-        same_in_row(rt, *conv, &freed.get(*conv), &Some(is_freed));
+        same_at(
+            rt,
+            "whether it is busy",
+            *conv,
+            &busy.get(*conv),
+            &Some(is_busy),
+        );
+        same_at(
+            rt,
+            "whether it is free",
+            *conv,
+            &freed.get(*conv),
+            &Some(is_freed),
+        );
     }
 }
 
