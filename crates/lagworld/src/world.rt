@@ -107,8 +107,8 @@ impl<C: Cable, F: Fn(u16, usize) -> usize + Drop> World<C, F> {
         self.inner.alloc
     }
 
-    // promise: after any events the headline holds, as told above
-    // contract: `World::run`
+    // promise: the headline
+    // contract: `World::run`, above
     /// Plays events in order and returns their replies. If an event is refused, `run` stops there: `RunFault` says how
     /// many events acted and why the next did not. Memory for all replies is taken first, so `NoMemory` may come before
     /// any event acted. Whatever is returned, these hold of the world afterwards (profile; 6.3.6, 6.2.4):
