@@ -256,6 +256,7 @@ static void choose_active(void) {
     if ((before == 0) != (carry.active == 0))
         (void)say(LOG_NOTICE | ABOUT_CARRIER, "carry %s: carrier %s", settings.carry, carry.active ? "on" : "off");
     if (before != carry.active) forget_heard();
+    set_speed(sum_speeds());
     set_carrier(carry.active != 0);
 }
 

@@ -202,6 +202,7 @@ static void follow(struct link *link, const struct interface *interface) {
     }
     if (up && !link->up) fit_queue(link, interface->name);
     if (up) take_speed(link, interface->name);
+    if (up) follow_speed(link, interface->name);
     set_link(port, up);
 }
 

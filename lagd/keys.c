@@ -106,25 +106,43 @@ uint16_t choose_key(const struct link *link) {
     return unused->key;
 }
 
+/* What the driver of an interface tells of its link. */
+union link_settings {
+    struct ethtool_link_settings head;
+    uint32_t room[sizeof(struct ethtool_link_settings) / sizeof(uint32_t) + 3 * MOST_WORDS];
+};
+
+/* Asks the driver of an interface something of its link, or for something. */
+static bool ask_of_link(int socket, const char *name, uint32_t what, union link_settings *told) {
+    struct ifreq question;
+    memset(&question, 0, sizeof question);
+    snprintf(question.ifr_name, sizeof question.ifr_name, "%s", name);
+    question.ifr_data = (void *)told;
+    told->head.cmd = what;
+    return ioctl(socket, SIOCETHTOOL, &question) == 0;
+}
+
+/* The first answer is how many words a mask has, below 0. */
+static bool read_link_settings(int socket, const char *name, union link_settings *told) {
+    memset(told, 0, sizeof *told);
+    if (!ask_of_link(socket, name, ETHTOOL_GLINKSETTINGS, told) || told->head.link_mode_masks_nwords >= 0) return false;
+    told->head.link_mode_masks_nwords = (int8_t)-told->head.link_mode_masks_nwords;
+    return ask_of_link(socket, name, ETHTOOL_GLINKSETTINGS, told);
+}
+
 /* Asks the kernel for the speed and duplex of an interface. What a driver does not tell is unknown, which is a speed, too. */
 struct speed read_speed(int socket, const char *name) {
-    union {
-        struct ethtool_link_settings head;
-        uint32_t room[sizeof(struct ethtool_link_settings) / sizeof(uint32_t) + 3 * MOST_WORDS];
-    } told;
-    struct ifreq question;
-    memset(&told, 0, sizeof told);
-    memset(&question, 0, sizeof question);
-    told.head.cmd = ETHTOOL_GLINKSETTINGS;
-    snprintf(question.ifr_name, sizeof question.ifr_name, "%s", name);
-    question.ifr_data = (void *)&told;
-    /* The first answer is how many words a mask has, below 0. */
-    if (ioctl(socket, SIOCETHTOOL, &question) == 0 && told.head.link_mode_masks_nwords < 0) {
-        told.head.cmd = ETHTOOL_GLINKSETTINGS;
-        told.head.link_mode_masks_nwords = (int8_t)-told.head.link_mode_masks_nwords;
-        if (ioctl(socket, SIOCETHTOOL, &question) == 0) return (struct speed){told.head.speed, told.head.duplex};
-    }
+    union link_settings told;
+    if (read_link_settings(socket, name, &told)) return (struct speed){told.head.speed, told.head.duplex};
     return (struct speed){(uint32_t)SPEED_UNKNOWN, DUPLEX_UNKNOWN};
+}
+
+/* Gives an interface a speed that is told of it, in Mb/s; answers whether its driver took it. */
+bool write_speed(int socket, const char *name, uint32_t megabits) {
+    union link_settings told;
+    if (!read_link_settings(socket, name, &told)) return false;
+    told.head.speed = megabits;
+    return ask_of_link(socket, name, ETHTOOL_SLINKSETTINGS, &told);
 }
 
 /* Gives a port its key. */

@@ -266,6 +266,7 @@ bool has_aggregator(uint16_t given);
 uint16_t free_key(uint16_t behind, const struct link *but);
 uint16_t choose_key(const struct link *link);
 struct speed read_speed(int socket, const char *name);
+bool write_speed(int socket, const char *name, uint32_t megabits);
 void take_speed(struct link *link, const char *interface);
 const char *speed_text(const struct speed *speed, char room[static 40]);
 
@@ -343,6 +344,7 @@ void close_member(struct link *link);
 bool reopen_member(struct link *link);
 void take_marker(struct link *link, const uint8_t *frame);
 void follow_mtu(struct link *link, uint32_t mtu);
+void follow_speed(const struct link *link, const char *interface);
 
 /* moves.c */
 void ask_moves(void);

@@ -21,6 +21,7 @@ static struct member {
     int direct;  /* the one for those that come while it hands up no data, or -1 */
     struct guard guard;
     uint32_t mtu;      /* 0: not known */
+    uint32_t megabits; /* a second, or 0: not known */
     bool has_marker;   /* whether one was sent */
     uint8_t marker[NIW_FRAME];
     uint64_t counts[MEMBER_COUNTS];
@@ -242,6 +243,23 @@ void follow_mtu(struct link *link, uint32_t mtu) {
     for (uint16_t i = 0; i < link_count; i++)
         if (members[i].mtu > 0 && (least == 0 || members[i].mtu < least)) least = members[i].mtu;
     if (least != 0) limit_mtu(least);
+}
+
+/* The kernel told of an interface whose link is up, which may have another speed. */
+void follow_speed(const struct link *link, const char *interface) {
+    uint32_t now;
+    if (!carries_data()) return;
+    now = read_speed(link->socket, interface).megabits;
+    member_of(link)->megabits = now == (uint32_t)SPEED_UNKNOWN ? 0 : now;
+    look_at_carry();
+}
+
+/* How fast the ports that carry are together, in Mb/s. One whose speed is not known counts nothing; where none is, that is SPEED_UNKNOWN. */
+uint32_t sum_speeds(void) {
+    uint64_t sum = 0;
+    for (uint16_t i = 0; i < carry.port_count; i++) sum += members[carry.ports[i] - 1].megabits;
+    if (sum == 0) return (uint32_t)SPEED_UNKNOWN;
+    return sum < INT32_MAX ? (uint32_t)sum : INT32_MAX;
 }
 
 /* What the kernel alone handed up, or lost, of what came on a port, since the last time. */

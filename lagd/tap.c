@@ -35,6 +35,7 @@ static unsigned carrier_ticks;   /* for how long it was up and had none, and was
 static uint32_t most_mtu = ETH_DATA_LEN; /* the longest payload that each member takes, and the device may */
 static uint32_t less_mtu;                /* one below that which an administrator set, or 0 */
 static uint32_t set_mtu;                 /* what was set last */
+static uint32_t speed;                   /* in Mb/s, as it was to be last; 0: as the kernel made the device */
 
 static struct ifreq request_of(const char *name) {
     struct ifreq request;
@@ -59,6 +60,18 @@ void set_carrier(bool on) {
     if (!on) open_host(false);
     if (ioctl(tap, TUNSETCARRIER, &(int){on}) < 0)
         (void)say(LOG_ERR | ABOUT_CARRIER, "carry %s: no carrier: %s", settings.carry, strerror(errno));
+}
+
+/* The device has this speed from now on, in Mb/s, or none that is known. A kernel that does not take it has one line. */
+void set_speed(uint32_t megabits) {
+    static bool told;
+    struct ifreq named = {.ifr_ifindex = number};
+    if (speed == megabits || number == 0) return;
+    speed = megabits;
+    errno = EOPNOTSUPP; /* where the kernel tells none, either */
+    if ((ioctl(asker, SIOCGIFNAME, &named) == 0 && write_speed(asker, named.ifr_name, megabits)) || told) return;
+    told = true;
+    (void)say(LOG_WARNING | ABOUT_CARRIER, "carry %s: its speed stays: %s", settings.carry, strerror(errno));
 }
 
 /* Whether the device has a carrier: an administrator may have taken it away. */

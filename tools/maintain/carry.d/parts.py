@@ -19,7 +19,7 @@ from rows import rows
 from checking import Skipped, check, within
 from fetching import Packages
 from openvswitch import OpenVSwitch
-from tap_parts import administered, fast_moved, fast_outage, fast_queues, fast_start, gone, long_frames, queues, segments
+from tap_parts import administered, fast_moved, fast_outage, fast_queues, fast_start, gone, long_frames, queues, segments, speed
 from spaces import OURS, THEIRS, inside, ip, packet_socket
 
 # Frames a second of an overload.
@@ -310,6 +310,6 @@ PARTS: dict[str, Callable[[Programs], None]] = {it.__name__: it for it in
     (rows, moves, cuts, silence, switches, away, restarts, stops, overload, hashes, mute, frames, rights, open_vswitch, offload,
      kernel_hashes, model, fast, fast_hash, fast_troubles, fast_overload, fast_refused, fast_requeued, fast_unfit, fast_unwaited, fast_away,
      fast_ends, fast_outage, fast_start, fast_moved, fast_queues, gone, administered, long_frames,
-     queues, segments)}
+     queues, segments, speed)}
 PARTS.update(FORGED)
 PARTS.update(MEMBERS)

@@ -16,6 +16,7 @@ from typing import Iterator
 from bonds import (COMES_BACK, COMES_UP, DEVICE, FLOWS, MIDDLE, RATE, End, Event, Programs, cables, check_end, check_order, every, move_all, pair, run_flows)
 from checking import Failed, Skipped, check, command, within
 from fast_parts import check_fast, fast_pair
+from speeds import FULL, Cable, Settings, make_tap, renew
 from spaces import OURS, THEIRS, inside, ip, packet_socket
 from streams import run_stream
 
@@ -27,6 +28,7 @@ ENDS, KNOWN = 4, 2.5
 STOPPED = 3.2
 # How long the daemon takes to follow what an administrator sets.
 FOLLOWS = 3
+UNKNOWN_SPEED = 0xFFFFFFFF
 
 
 def send_many(programs: Programs, rate: int = 5000) -> None:
@@ -254,6 +256,39 @@ def administered(programs: Programs) -> None:
         ip(OURS, "link", "set", "a0", "mtu", "1500")
         check(within(FOLLOWS, lambda: mtu_of("other0") == "1500"), "with another name it follows its members", mtu_of("other0"))
         ip(OURS, "link", "set", "other0", "name", DEVICE)
+
+
+def speed_of(device: str) -> int:
+    return Settings(OURS, device).speed()
+
+
+def speed(programs: Programs) -> None:
+    """The TAP device is as fast as the members that carry are together, while one gets another speed, or one that nobody knows, or goes."""
+    with cables(programs, ()):
+        lines, ends = [Cable(make_tap(OURS, name), make_tap(THEIRS, f"u{name[1:]}")) for name in ("t0", "t1")], []
+        try:
+            renew(0, 1000, FULL)
+            renew(1, 2500, FULL)
+            ends += [End(programs, space, names=names) for space, names in ((OURS, ("t0", "t1")), (THEIRS, ("u0", "u1")))]
+            ours, begun = ends[0], speed_of(DEVICE)
+            check(begun in (UNKNOWN_SPEED, 1000, 2500), "it has none before both links carry", begun)
+            check(within(COMES_UP, lambda: all(end.links() == 2 for end in ends)), "two links carry", ours.text())
+            check(within(FOLLOWS, lambda: speed_of(DEVICE) == 3500), "members of 1000 and 2500 Mb/s are 3500", speed_of(DEVICE), ours.text())
+            for now, wanted in (100, 1100), (UNKNOWN_SPEED, 1000):
+                renew(1, now, FULL)
+                check(within(COMES_BACK, lambda: ours.links() == 2), f"both carry, one of which has {now}", ours.text())
+                check(within(FOLLOWS, lambda: speed_of(DEVICE) == wanted), f"they are {wanted}", speed_of(DEVICE))
+            check_order(run_flows(programs, 2, rate=640), "over members with a speed and without", ours.text())
+            ip(OURS, "link", "set", DEVICE, "name", "other0")
+            ip(OURS, "link", "set", "t0", "down")
+            check(within(FOLLOWS, lambda: speed_of("other0") == UNKNOWN_SPEED), "with another name, the first one's goes with its link",
+                  speed_of("other0"))
+            check("its speed stays" not in ours.printed(), "no line tells of a kernel that refuses", ours.printed())
+        finally:
+            for end in ends:
+                end.stop()
+            for line in lines:
+                line.cut()
 
 
 def queues(programs: Programs) -> None:

@@ -47,13 +47,19 @@ class Settings:
         struct.pack_into("=I", self.room, 0, what)
         fcntl.ioctl(self.socket, SIOCETHTOOL, struct.pack("16sQ16x", self.name.encode(), ctypes.addressof(self.room)))
 
+    def speed(self) -> int:
+        """The speed in Mb/s, or 0xffffffff where none is known."""
+        ctypes.memset(self.room, 0, SETTINGS_ROOM)
+        self.ask(GET_SETTINGS)
+        words = struct.unpack_from("=b", self.room, WORDS)[0]
+        struct.pack_into("=b", self.room, WORDS, -words)
+        self.ask(GET_SETTINGS)
+        return int(struct.unpack_from("=I", self.room, SPEED)[0])
+
     def set(self, speed: int, duplex: int) -> None:
         """Gives the interface a speed in Mb/s, and a duplex."""
         try:
-            self.ask(GET_SETTINGS)
-            words = struct.unpack_from("=b", self.room, WORDS)[0]
-            struct.pack_into("=b", self.room, WORDS, -words)
-            self.ask(GET_SETTINGS)
+            self.speed()
             struct.pack_into("=I", self.room, SPEED, speed)
             struct.pack_into("=B", self.room, DUPLEX, duplex)
             self.ask(SET_SETTINGS)
