@@ -10,82 +10,64 @@ function taken(exports, octets) {
     return at;
 }
 
+/* Puts octets into memory; a file slice by slice, which a worker alone can. */
+function filled(exports, at, given) {
+    const SLICE = 4194304, memory = new Uint8Array(exports.memory.buffer);
+    if (!(given instanceof Blob)) return memory.set(given, Number(at));
+    const reader = new FileReaderSync();
+    for (let from = 0; from < given.size; from += SLICE) {
+        memory.set(new Uint8Array(reader.readAsArrayBuffer(given.slice(from, from + SLICE))), Number(at) + from);
+    }
+}
+
 /* Calls an export with texts in memory and numbers; what it tells stands in memory. `room` is what it may take. */
 function answered(module, name, inputs, numbers, room) {
     const ANSWER = 32; // octets of an answer: four numbers of 64 bits
-    const none = () => -1n, { exports } = new WebAssembly.Instance(module, { env: { read: none, write: none } });
+    const { exports } = new WebAssembly.Instance(module);
     const given = inputs.flatMap((it) => {
-        const at = taken(exports, it.length);
-        new Uint8Array(exports.memory.buffer).set(it, Number(at));
-        return [at, BigInt(it.length)];
+        const octets = it.size ?? it.length, at = taken(exports, octets);
+        filled(exports, at, it);
+        return [at, BigInt(octets)];
     });
     const out = taken(exports, room), answer = taken(exports, ANSWER);
     exports[name](...given, ...numbers, out, BigInt(room), answer);
     const buffer = exports.memory.buffer, view = new DataView(buffer, Number(answer), ANSWER);
     const [outcome, status, printed, said] = [0, 8, 16, 24].map((it) => Number(view.getBigUint64(it, true)));
-    const text = (from, octets) => new TextDecoder().decode(new Uint8Array(buffer, Number(out) + from, octets));
-    return outcome ? { outcome, room: printed + said } : { outcome, status, printed: text(0, printed), said: text(printed, said) };
+    if (outcome) return { outcome, room: printed + said };
+    return { outcome, status, printed: new Uint8Array(buffer, Number(out), printed), said: new Uint8Array(buffer, Number(out) + printed, said) };
 }
 
-/* Asks for room for the text, and once more where that was too little: the answer says how much it takes. */
-function called(module, name, inputs, numbers) {
-    const NO_ROOM = 1;
-    let found = { outcome: NO_ROOM, room: 65536 + 4 * inputs.reduce((sum, it) => sum + it.length, 0) };
+/* Asks for room for the text, and once more where that was too little: the answer says how much it takes. `tell` gets what is printed in
+ * pieces of whole lines; where there is none, it is told as a whole. */
+function called(module, name, inputs, numbers, tell) {
+    const NO_ROOM = 1, PIECE = 262144, NEWLINE = 10, MOST_GUESSED = 67108864, decoder = new TextDecoder();
+    const given = inputs.reduce((sum, it) => sum + (it.size ?? it.length), 0);
+    let found = { outcome: NO_ROOM, room: 65536 + Math.min(4 * given, MOST_GUESSED) };
     while (found.outcome === NO_ROOM) found = answered(module, name, inputs, numbers, found.room);
     if (found.outcome) throw new Error("out of memory");
-    return { status: found.status, printed: found.printed, said: found.said };
-}
-
-/* Explains a file of any size, which the module reads slice by slice: one slice is in memory at a time. `tell` gets the text piece by
- * piece, and how far it is. */
-function streamed(module, file, numbers, tell) {
-    const SLICE = 4194304, PIECE = 262144, reader = new FileReaderSync(), words = [[], [], []];
-    let slice = new Uint8Array(0), from = 0, at = 0, count = 0;
-    const memory = () => new Uint8Array(exports.memory.buffer);
-    const hand = () => {
-        if (count) tell({ printed: words[1].join("") });
-        [words[1], count] = [[], 0];
-    };
-    const next = () => {
-        slice = new Uint8Array(reader.readAsArrayBuffer(file.slice(from, from + SLICE)));
-        if (slice.length < Math.min(SLICE, file.size - from)) throw new Error("it is shorter than it was");
-        [from, at] = [from + slice.length, 0];
-        tell({ read: from });
-    };
-    const read = (_, into, room) => {
-        try {
-            if (at === slice.length) next();
-        } catch {
-            return -1n; // the file is gone, or changed
-        }
-        const piece = slice.subarray(at, at + Number(room));
-        memory().set(piece, Number(into));
-        at += piece.length;
-        return BigInt(piece.length);
-    };
-    const write = (descriptor, out, octets) => {
-        words[descriptor].push(new TextDecoder().decode(memory().subarray(Number(out), Number(out + octets))));
-        if (descriptor === 1 && (count += Number(octets)) >= PIECE) hand();
-        return octets;
-    };
-    const { exports } = new WebAssembly.Instance(module, { env: { read, write } });
-    const status = exports.lagpage_stream(...numbers);
-    hand();
-    return { status, printed: "", said: words[2].join("") };
+    const { status, printed } = found, said = decoder.decode(found.said);
+    if (!tell) return { status, printed: decoder.decode(printed), said };
+    for (let from = 0, to; from < printed.length; from = to) {
+        to = printed.indexOf(NEWLINE, from + PIECE) + 1 || printed.length;
+        tell({ printed: decoder.decode(printed.subarray(from, to)) });
+    }
+    return { status, printed: "", said };
 }
 
 /* What the worker does: one job, and it tells what came of it. */
-function serve({ data: { octets, name, inputs, numbers, file } }) {
+function serve({ data: { octets, name, inputs, numbers, inPieces } }) {
     try {
-        const module = new WebAssembly.Module(octets);
-        const told = file ? streamed(module, file, numbers, (it) => postMessage(it)) : called(module, name, inputs, numbers);
-        postMessage({ told });
+        const tell = inPieces ? (it) => postMessage(it) : null;
+        postMessage({ told: called(new WebAssembly.Module(octets), name, inputs, numbers, tell) });
     } catch (error) {
         postMessage({ failed: error.message });
     }
 }
 
-const WORKER = `${[taken, answered, called, streamed, serve].map(String).join("\n")}\nonmessage = serve;`;
+const WORKER = `${[taken, filled, answered, called, serve].map(String).join("\n")}\nonmessage = serve;`;
+
+/* The largest capture that is explained: it and its text are in memory. */
+const MOST_READ = 256000000;
 
 const asOctets = (it) => (typeof it === "string" ? new TextEncoder().encode(it) : it);
 const numbersOf = ({ all = false, frames = true, json = false } = {}) => [all ? 1 : 0, frames ? 0 : 1, json ? 1 : 0];
@@ -123,9 +105,8 @@ class Job {
             const end = (act, it) => { this.worker.terminate(); URL.revokeObjectURL(url); act(it); };
             this.refuse = (why) => end(refuse, new Error(why));
             this.worker.onerror = (event) => { event.preventDefault(); this.refuse(event.message || "the worker failed"); };
-            this.worker.onmessage = ({ data: { printed, read, told, failed } }) => {
+            this.worker.onmessage = ({ data: { printed, told, failed } }) => {
                 if (printed !== undefined) heard.printed?.(printed);
-                if (read !== undefined) heard.read?.(read);
                 if (failed !== undefined) this.refuse(failed);
                 if (told) end(done, new Told(told));
             };
@@ -158,10 +139,12 @@ export class Lagtool {
         return new Job({ octets: this.octets, name: named, inputs, numbers });
     }
 
-    /* Explains a file of any size in a worker, in memory that does not grow with it. `heard.printed` gets the text piece by piece, whole
-     * lines each, `heard.read` how many octets are read; what is told has no text of its own. */
-    stream(file, options, heard) {
-        return new Job({ octets: this.octets, file, numbers: numbersOf(options) }, heard);
+    /* Explains a file in a worker, which holds it in memory. `heard.printed` gets the text piece by piece, whole lines each; what is told has
+     * no text of its own. Throws for a larger file than it reads. */
+    explain(file, options, heard) {
+        if (file.size > MOST_READ) throw new Error(`it is larger than ${MOST_READ / 1000000} MB`);
+        const [name, inputs, numbers] = JOBS.capture(file, options);
+        return new Job({ octets: this.octets, name, inputs, numbers, inPieces: true }, heard);
     }
 
     capture(octets, options) {

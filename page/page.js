@@ -60,17 +60,10 @@ function clear(name) {
     byId("name").focus();
 }
 
-/* Runs one job over a file; shows how far it is where that takes long. */
+/* Runs one job over a file; shows that it goes on where that takes long. */
 async function run(lagtool, file, options, printed) {
-    if (!lagtool.canStream) {
-        const whole = lagtool.now("capture", new Uint8Array(await file.arrayBuffer()), options);
-        printed(whole.printed);
-        return whole;
-    }
-    byId("far").max = Math.max(file.size, 1);
-    byId("far").value = 0;
+    const job = now.job = lagtool.explain(file, options, { printed });
     const late = setTimeout(() => { byId("reading").hidden = false; }, 300);
-    const job = now.job = lagtool.stream(file, options, { printed, read: (octets) => { byId("far").value = octets; } });
     try {
         return await job.told;
     } finally {
@@ -90,13 +83,14 @@ function verdictOf(records, kinds, said) {
 async function explain(lagtool, name, file) {
     const records = new Records();
     const text = new Text();
-    let told = await run(lagtool, file, { json: true }, (piece) => records.addLines(piece)).catch((error) => error);
+    const onStop = (error) => error.message === "stopped" ? error : Promise.reject(error);
+    let told = await run(lagtool, file, { json: true }, (piece) => records.addLines(piece)).catch(onStop);
     const isStopped = told instanceof Error, said = isStopped ? told.message : told.said;
     const { pairs, kinds } = showRecords(records, file, byId("findings"), byId("links"));
     now.pairs = pairs;
     byId("legend").hidden = !pairs.length;
     byId("undrawn-frames").textContent = records.frames > records.kept ? `Of ${records.frames} frames ${records.kept} are drawn.` : "";
-    put(name, ...verdictOf(records, kinds, said), isStopped && said === "stopped" ? "Stopped: the findings want the whole capture." : said);
+    put(name, ...verdictOf(records, kinds, said), isStopped ? "Stopped: the findings want the whole capture." : said);
     if (!isStopped) {
         told = await run(lagtool, file, {}, (piece) => text.add(piece));
     }
@@ -175,7 +169,6 @@ function listen(lagtool) {
 async function start() {
     const lagtool = await Lagtool.of(octetsIn("module"));
     const names = WebAssembly.Module.exports(lagtool.module).map((it) => it.name);
-    lagtool.canStream = names.includes("lagpage_stream");
     lagtool.canPlay = names.includes("lagpage_replay");
     listen(lagtool);
     byId("unable").hidden = true;

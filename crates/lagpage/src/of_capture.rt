@@ -10,7 +10,7 @@ use std::alloc::{AllocError, Global};
 use std::io::{Read, Write};
 
 /// The options of a capture, each on where its number is above 0.
-pub(crate) fn settings_with(all: u32, no_frames: u32, json: u32) -> Settings
+fn settings_with(all: u32, no_frames: u32, json: u32) -> Settings
     ensures { result ≡ settings_with all no_frames json }
 {
     Settings {

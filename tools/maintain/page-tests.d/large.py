@@ -1,4 +1,4 @@
-"""Tests of a capture of 100 MB: it is read slice by slice, shows how far it is, and can be stopped."""
+"""Tests of a capture of 100 MB: it shows that it is read, and can be stopped; and of one that is too large."""
 
 from __future__ import annotations
 
@@ -10,6 +10,7 @@ from browser import Browser
 from stored import Tests
 
 SIZE = 100_000_000
+MOST = 256_000_000  # octets that the page reads
 DATA = 1400  # octets of a packet of data
 EACH = 20  # packets of data between two LACPDUs
 
@@ -28,10 +29,10 @@ def of_large(tests: Tests, browser: Browser, folder: str) -> None:
     path = os.path.join(folder, "large.pcap")
     packets, lacpdus = write(path)
     browser.begin(path)
-    browser.wait("!document.getElementById('reading').hidden && document.getElementById('far').value > 0")
+    browser.wait("!document.getElementById('reading').hidden")
     browser.value("document.getElementById('stop').click(), 1")
     shown = browser.shown()
-    tests.same("a capture of 100 MB shows how far it is read, and is stopped", shown["said"], "stopped")
+    tests.same("a capture of 100 MB shows that it is read, and is stopped", shown["said"], "stopped")
     began = time.monotonic()
     shown = browser.choose(path)
     tests.same("a capture of 100 MB is read to its end", shown["printed"].splitlines()[-1].split(" ends")[0], f"packets {packets} slow {lacpdus}")
@@ -41,4 +42,8 @@ def of_large(tests: Tests, browser: Browser, folder: str) -> None:
     browser.wait("document.querySelector('.chosen-frame:not([hidden]) .fields') !== null")
     last = browser.value("document.querySelector('.chosen-frame h3').textContent.split(' ')[1]")
     tests.same("the last LACPDU of 100 MB has its fields", last, str(1 + (lacpdus - 1) * (EACH + 1)))
+    os.truncate(path, MOST + 1)
+    shown = browser.choose(path)
+    limit = f"This page could not explain it: it is larger than {MOST // 1_000_000} MB. lagtool capture reads files of any size."
+    tests.same("a larger capture than the page reads is refused, and the program named", shown["said"], limit)
     os.remove(path)

@@ -9,8 +9,6 @@ from processors import FOR_EACH_X86, compile_crate, done
 from repository import TOP, Missing, kit, want
 
 EXPORTS = [*(f"lagpage_{job}" for job in ("capture", "decode", "replay", "respond", "vectors")), "page_alloc"]
-# The functions that the page gives: a capture is read by one, and its text goes out by the other.
-IMPORTS = ["read", "write"]
 TARGET = "wasm64-unknown-unknown"
 LAYOUT = "e-m:e-p:64:64-p10:8:8-p20:8:8-i64:64-i128:128-n32:64-S128-ni:1:10:20"
 # How clang compiles for WebAssembly: the words that rattle itself has for that target.
@@ -68,7 +66,7 @@ def made(folder: str) -> bytes:
     """The octets of the module."""
     want("wasm-opt")
     clang = os.path.join(kit(), "toolchain", "bin", "clang")
-    names = ("from.ll", "to.ll", "lagpage.o", "heap.o", "builtins.o", "imports", "wide.wasm", "page.wasm")
+    names = ("from.ll", "to.ll", "lagpage.o", "heap.o", "builtins.o", "wide.wasm", "page.wasm")
     at = {name: os.path.join(folder, name) for name in names}
     show = ["-S", "-emit-llvm", "-Xclang", "-disable-llvm-passes", "-Wno-unused-command-line-argument"]
     done(["clang", "--target=x86_64-unknown-linux-gnu", "-x", "ir", lowered(folder), *show, "-o", at["from.ll"]], clang)
@@ -80,10 +78,7 @@ def made(folder: str) -> bytes:
     for name in ("heap", "builtins"):
         source = os.path.join(TOP, "page", f"{name}.c")
         done(["clang", *WORDS, "-ffreestanding", "-fno-builtin", "-c", source, "-o", at[f"{name}.o"]], clang)
-    with open(at["imports"], "w", encoding="utf-8") as out:
-        out.write("".join(f"{name}\n" for name in IMPORTS))
     link = ["wasm-ld", "-mwasm64", "--no-entry", "--stack-first", "-z", f"stack-size={STACK}", "--gc-sections", "--strip-all"]
-    link.append(f"--allow-undefined-file={at['imports']}")
     objects = [at[it] for it in ("lagpage.o", "heap.o", "builtins.o")]
     done([*link, *(f"--export={name}" for name in EXPORTS), "-o", at["wide.wasm"], *objects], clang)
     done(["wasm-opt", *LOWER, at["wide.wasm"], "-o", at["page.wasm"]])
