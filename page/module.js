@@ -40,9 +40,9 @@ function answered(module, name, inputs, numbers, room) {
 /* Asks for room for the text, and once more where that was too little: the answer says how much it takes. `tell` gets what is printed in
  * pieces of whole lines; where there is none, it is told as a whole. */
 function called(module, name, inputs, numbers, tell) {
-    const NO_ROOM = 1, PIECE = 262144, NEWLINE = 10, MOST_GUESSED = 67108864, decoder = new TextDecoder();
+    const NO_ROOM = 1, PIECE = 262144, NEWLINE = 10, MOST_GUESSED = 2 ** 29, decoder = new TextDecoder();
     const given = inputs.reduce((sum, it) => sum + (it.size ?? it.length), 0);
-    let found = { outcome: NO_ROOM, room: 65536 + Math.min(4 * given, MOST_GUESSED) };
+    let found = { outcome: NO_ROOM, room: Math.min(65536 + 4 * given, MOST_GUESSED) };
     while (found.outcome === NO_ROOM) found = answered(module, name, inputs, numbers, found.room);
     if (found.outcome) throw new Error("out of memory");
     const { status, printed } = found, said = decoder.decode(found.said);
