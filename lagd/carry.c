@@ -256,6 +256,7 @@ static void choose_active(void) {
     if ((before == 0) != (carry.active == 0))
         (void)say(LOG_NOTICE | ABOUT_CARRIER, "carry %s: carrier %s", settings.carry, carry.active ? "on" : "off");
     if (before != carry.active) forget_heard();
+    if (before != carry.active && carry.active != 0) announce_soon();
     set_speed(sum_speeds());
     set_carrier(carry.active != 0);
 }
@@ -302,6 +303,7 @@ void pass_carry_tick(void) {
     if (!carries_data() || broken) return;
     carry.time = milliseconds();
     pass_tap_tick();
+    pass_announcing_tick();
     pass_fast_tick();
     note_heard();
     pass_flight_tick();

@@ -110,6 +110,10 @@ void forget_tap(void);
 bool read_tap_mac(uint8_t *mac);
 bool is_tap_up(void);
 
+/* announce.c */
+void announce_soon(void);
+void pass_announcing_tick(void);
+
 /* bpf.c */
 struct bpf_insn;
 void *make_map(uint32_t size, uint32_t count, int *map);

@@ -13,12 +13,13 @@ def ipv4(source: str, ports: str, protocol: int = 17, fragment: int = 0, macs: s
     return f"{macs}{tag}0800" f"4500001c0000{fragment:04x}40{protocol:02x}0000" f"0a0000{source}" "0a000101" f"{ports}00080000"
 
 
-def ipv6(source: str, ports: str, protocol: int = 6, macs: str = MACS) -> str:
+def ipv6(source: str, ports: str, protocol: int = 6, macs: str = MACS, tag: str = "") -> str:
     address = "20010db80000000000000000000000"
-    return f"{macs}86dd" f"60000000 0014 {protocol:02x} 40".replace(" ", "") + f"{address}{source}{address}ff{ports}" + "00" * 16
+    return f"{macs}{tag}86dd" f"60000000 0014 {protocol:02x} 40".replace(" ", "") + f"{address}{source}{address}ff{ports}" + "00" * 16
 
 
 A, B = "27102710", "27112710"
+TAG, TWO_TAGS = "81000064", "88a8000181000064"
 # Each pair of frames, with whether they are of one conversation by layer2+3 and by layer3+4.
 ROWS = {
     "UDP, another port": (ipv4("01", A), ipv4("01", B), True, False),
@@ -29,8 +30,12 @@ ROWS = {
     "other MAC addresses": (ipv4("01", A), ipv4("01", A, macs=OTHER_MACS), False, True),
     "two fragments of IPv4, the first and one behind it": (ipv4("01", A, fragment=0x2000), ipv4("01", B, fragment=0x00B9), True, True),
     "a datagram that may not be fragmented, another port": (ipv4("01", A, fragment=0x4000), ipv4("01", B, fragment=0x4000), True, False),
-    "with a tag and without": (ipv4("01", A), ipv4("01", A, tag="81000064"), True, True),
-    "two tags, another port": (ipv4("01", A, tag="88a8000181000064"), ipv4("01", B, tag="88a8000181000064"), True, False),
+    "with a tag and without": (ipv4("01", A), ipv4("01", A, tag=TAG), True, True),
+    "two tags, another port": (ipv4("01", A, tag=TWO_TAGS), ipv4("01", B, tag=TWO_TAGS), True, False),
+    "two tags, and none": (ipv4("01", A), ipv4("01", A, tag=TWO_TAGS), True, True),
+    "two tags, another port of IPv6": (ipv6("01", A, tag=TWO_TAGS), ipv6("01", B, tag=TWO_TAGS), True, False),
+    "four tags, another port": (ipv4("01", A, tag=2 * TWO_TAGS), ipv4("01", B, tag=2 * TWO_TAGS), True, False),
+    "five tags, another address": (ipv4("01", A, tag=TAG + 2 * TWO_TAGS), ipv4("03", B, tag=TAG + 2 * TWO_TAGS), True, True),
     "IPv6, another port": (ipv6("01", A), ipv6("01", B), True, False),
     "IPv6, another address": (ipv6("01", A), ipv6("02", A), False, False),
     "two fragments of IPv6": (ipv6("01", A, 44), ipv6("01", B, 44), True, True),
