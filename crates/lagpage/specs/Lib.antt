@@ -1,4 +1,3 @@
 pub mod Answers
 pub mod Captures
-pub mod Scripts
 pub mod Words
