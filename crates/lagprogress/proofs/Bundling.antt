@@ -318,7 +318,7 @@ alone Holds first gives old b meets wakes = record {
 pub one_wakes : (old : WorldState) (i : ℕ) (l : LinkState) (h : IsHealthyAt i l old) → OneIsActive l old → Awake old i l h
 one_wakes old i l h a = awake_at (said old i l h) a.0 (active_at l old (ends_at i l old h) a.0 a.1)
 
-pub one_meet : (gives : Algorithms) (first : ℕ) (old : WorldState) → IsCabling (world_setup old).cables → IsSteady old → 630 ≤ first
+pub one_meet : (gives : Algorithms) (first : ℕ) (old : WorldState) → IsCabling (world_setup old).cables → IsSteady old → 621 ≤ first
     → (i : ℕ) (l : LinkState) (h : IsHealthyAt i l old) → OneIsActive l old → (mid : WorldState) → HostRounds gives first old mid
     → Fresh (λ s. port_at s l) (said old i l h) mid
 one_meet gives first old cabling steady many i l h a mid r =
@@ -326,8 +326,8 @@ one_meet gives first old cabling steady many i l h a mid r =
     one_meets gives (λ s. port_at s l) (said old i l h) a.0 first old mid (named_at l old e steady) (active_at l old e a.0 a.1) many
     (starts i l old e steady cabling h) r
 
-pub one_active : (gives : Algorithms) (old : WorldState) → IsBundle OneIsActive old → Meets OneIsActive Nowhere 630 gives old
-one_active gives old b = alone OneIsActive 630 gives old b (one_meet gives 630 old b.cabling b.steady (omega arith)) (one_wakes old)
+pub one_active : (gives : Algorithms) (old : WorldState) → IsBundle OneIsActive old → Meets OneIsActive Nowhere 621 gives old
+one_active gives old b = alone OneIsActive 621 gives old b (one_meet gives 621 old b.cabling b.steady (omega arith)) (one_wakes old)
 
 -- where both are
 
@@ -349,7 +349,7 @@ both_active gives old b = alone BothAreActive 321 gives old b (both_meet gives o
 
 pub each_link_comes_up_by_hosts : (gives : Algorithms) → EachLinkComesUp HostRounds OneIsActive up_if_one_is gives
 each_link_comes_up_by_hosts gives n i l old new b y enough h =
-    distribute_of OneIsActive Nowhere 630 gives old (one_active gives old b) i l y n new (omega (arith, enough)) h
+    distribute_of OneIsActive Nowhere 621 gives old (one_active gives old b) i l y n new (omega (arith, enough)) h
 
 pub each_active_link_comes_up_by_hosts : (gives : Algorithms) → EachLinkComesUp HostRounds BothAreActive up_if_both_active gives
 each_active_link_comes_up_by_hosts gives n i l old new b y enough h =
@@ -357,7 +357,7 @@ each_active_link_comes_up_by_hosts gives n i l old new b y enough h =
 
 pub each_link_agrees_by_hosts : (gives : Algorithms) → EachLinkAgrees HostRounds OneIsActive up_if_one_is gives
 each_link_agrees_by_hosts gives n i l old new sound b y enough h =
-    agree_of OneIsActive Nowhere 630 gives old (one_active gives old b) sound i l y n new (omega (arith, enough)) h
+    agree_of OneIsActive Nowhere 621 gives old (one_active gives old b) sound i l y n new (omega (arith, enough)) h
 
 pub each_active_link_agrees_by_hosts : (gives : Algorithms) → EachLinkAgrees HostRounds BothAreActive up_if_both_active gives
 each_active_link_agrees_by_hosts gives n i l old new sound b y enough h =

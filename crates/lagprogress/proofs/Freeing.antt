@@ -100,7 +100,7 @@ module _ (Holds : LinkState → WorldState → Type 0) (Other : Side → ℕ →
 
 pub none_is_held_on_ends_by_hosts : (gives : Algorithms) → NoneIsHeldOnEndsByHosts OneIsActive up_if_one_is gives
 none_is_held_on_ends_by_hosts gives n m i l old mid new s g k b y enough h late more left =
-    freed_by OneIsActive Nowhere 630 gives old (one_active gives old b) i l y n m mid new s g k (omega (arith, enough)) h late more left
+    freed_by OneIsActive Nowhere 621 gives old (one_active gives old b) i l y n m mid new s g k (omega (arith, enough)) h late more left
 
 pub none_is_held_on_active_ends_by_hosts : (gives : Algorithms) → NoneIsHeldOnEndsByHosts BothAreActive up_if_both_active gives
 none_is_held_on_active_ends_by_hosts gives n m i l old mid new s g k b y enough h late more left =
@@ -108,7 +108,7 @@ none_is_held_on_active_ends_by_hosts gives n m i l old mid new s g k b y enough 
 
 pub none_is_held_on_ends : (gives : Algorithms) → NoneIsHeldOnEnds OneIsActive freed_if_one_is gives
 none_is_held_on_ends gives n i l old new s b y enough h left =
-    freed_of OneIsActive Nowhere 630 gives old (one_active gives old b) i l y n new s (omega (arith, enough)) h left
+    freed_of OneIsActive Nowhere 621 gives old (one_active gives old b) i l y n new s (omega (arith, enough)) h left
 
 pub none_is_held_on_active_ends : (gives : Algorithms) → NoneIsHeldOnEnds BothAreActive freed_if_both_active gives
 none_is_held_on_active_ends gives n i l old new s b y enough h left =

@@ -538,12 +538,12 @@ active_ends_know_by_hosts gives n i l old new cabling steady healthy active enou
 module _ (at : Side → ℕ) (w : Side → Lacpdu) where
   -- The end of s hears its partner, which is active; then it sounds, since it goes to EXPIRED if it hears nothing more.
   abbrev Waits : Side → ℕ → WorldState → Type 0
-  Waits s n j = (k : ℕ) × (1 ≤ k) × (n + k ≤ 619) × Linked at w (λ _. 0) s (Lasting (w (peer s)) k) j × NothingInFlight j
+  Waits s n j = (k : ℕ) × (1 ≤ k) × (n + k ≤ 610) × Linked at w (λ _. 0) s (Lasting (w (peer s)) k) j × NothingInFlight j
 
   abbrev Slowly : Side → ℕ → WorldState → Type 0
-  Slowly s n j = Calls at w (peer s) n j ⊎ (Waits s n j ⊎ (Answers at w s 619 n j ⊎ Fresh at w j))
+  Slowly s n j = Calls at w (peer s) n j ⊎ (Waits s n j ⊎ (Answers at w s 610 n j ⊎ Fresh at w j))
 
-  module _ (named : (t : Side) → IsNamed (w t)) (s : Side) (active : activity (w (peer s)) ≡ true)
+  module _ (named : (t : Side) → IsNamed (w t)) (s : Side) (active : activity (w (peer s)) ≡ true) (long : short_timeout (w (peer s)) ≡ false)
       (room : silence_of (mode at w s) + silence_of (mode at w (peer s)) + 2 ≤ wait at w (peer s)) where
     awake_one : (u : Side) → (activity (w u) ≡ true) ⊎ (activity (w (peer u)) ≡ true)
     awake_one = each_side (λ u. (activity (w u) ≡ true) ⊎ (activity (w (peer u)) ≡ true)) s (inr active) (inl active)
@@ -556,13 +556,13 @@ module _ (at : Side → ℕ) (w : Side → Lacpdu) where
     begins : (n : ℕ) (j : WorldState) → n ≤ 310 → Linked at w (λ _. 0) s (Learnt 1 (w (peer s)) (wait at w s)) j
         → NothingInFlight j → Waits s n j
     begins n j l link none = (
-      309,
+      300,
       omega arith,
       omega (arith, l),
-      at_rest 1 at w (λ _. 0) s (Learnt 1 (w (peer s)) (wait at w s)) (Lasting (w (peer s)) 309) j
+      at_rest 1 at w (λ _. 0) s (Learnt 1 (w (peer s)) (wait at w s)) (Lasting (w (peer s)) 300) j
           (λ p rest timed a y. (let some = some_left (short_timeout (w s)) in
           let r = y.0.1 some in
-          begins_lasting (w (peer s)) p active y.0.0 rest timed (r.0, omega (arith, some, r.1)))) link,
+          begins_lasting (w (peer s)) p active long y.0.0 rest timed (r.0, omega (arith, some, r.1)))) link,
       none,
     )
 
@@ -596,28 +596,29 @@ module _ (at : Side → ℕ) (w : Side → Lacpdu) where
                 lower at w (ticked (λ _. 0)) (λ _. 0) s (Lasting u (k - 1)) new (λ _. omega arith) q,
                 h.empties,
               )))
-          | inr q ↦ inr (inr (inl (hears at w named s awake_one room 619 (n + 1) new (omega (arith, soon, some)) q.0 q.1 h.empties)))
+          | inr q ↦ inr (inr (inl (hears at w named s awake_one room 610 (n + 1) new (omega (arith, soon, some)) q.0 q.1 h.empties)))
         ]
 
     slowly : (gives : Algorithms) (n : ℕ) (old new : WorldState) → IsHostRound gives old new → Slowly s n old → Slowly s (n + 1) new
     slowly gives n old new h (inl c) = slow_calls gives n old new h c
     slowly gives n old new h (inr (inl l)) = waits gives n old new h l
-    slowly gives n old new h (inr (inr (inl a))) = inr (inr (answers at w named s awake_one room gives 619 n old new h a))
+    slowly gives n old new h (inr (inr (inl a))) = inr (inr (answers at w named s awake_one room gives 610 n old new h a))
     slowly gives n old new h (inr (inr (inr f))) = inr (inr (inr (stays_fresh at w named awake_one gives 1 old new (omega arith) h f)))
 
-    ended : (n : ℕ) (j : WorldState) → 619 + silence_of (mode at w (peer s)) ≤ n → Slowly s n j → Fresh at w j
+    ended : (n : ℕ) (j : WorldState) → 610 + silence_of (mode at w (peer s)) ≤ n → Slowly s n j → Fresh at w j
     ended n j l (inl c) = let k = c.1 in let m = c.2 in absurd (omega (arith, l, k, m))
     ended n j l (inr (inl (k, some, soon, link, none))) = absurd (omega (arith, l, some, soon))
-    ended n j l (inr (inr (inl a))) = answered at w named s awake_one room 619 n j l a
+    ended n j l (inr (inr (inl a))) = answered at w named s awake_one room 610 n j l a
     ended n j l (inr (inr (inr f))) = f
 
 pub one_meets : (gives : Algorithms) (at : Side → ℕ) (w : Side → Lacpdu) (s : Side) (n : ℕ) (old new : WorldState) → ((t : Side) → IsNamed (w t))
-    → activity (w s) ≡ true → 630 ≤ n
+    → activity (w s) ≡ true → 621 ≤ n
     → Link 0 at w (λ _. 0) One Nothing old → HostRounds gives n old new → Fresh at w new
 one_meets gives at w s n old new named active enough l h = elim (cases_Bool (short_timeout (w s))) [
   | inl short ↦ meets_short gives at w s n old new named active short (omega (arith, enough)) l h
   | inr long ↦ elim (cases_Bool (short_timeout (w (peer s)))) [
     | inl short ↦ other (peer s) short (subst (λ t. activity (w t) ≡ true) (sym (peer_twice s)) active)
+        (subst (λ t. short_timeout (w t) ≡ false) (sym (peer_twice s)) long)
     | inr wide ↦ (let slow : mode at w (peer s) ≡ false = subst (λ t. short_timeout (w t) ≡ false) (sym (peer_twice s)) long in
         let room : silence_of (mode at w s) + silence_of (mode at w (peer s)) + 2 ≤ wait at w (peer s) =
         rw (wide, slow) (omega arith) in
@@ -628,14 +629,14 @@ one_meets gives at w s n old new named active enough l h = elim (cases_Bool (sho
   ]
 ]
   where
-    other : (u : Side) → short_timeout (w u) ≡ true → activity (w (peer u)) ≡ true → Fresh at w new
-    other u short on =
+    other : (u : Side) → short_timeout (w u) ≡ true → activity (w (peer u)) ≡ true → short_timeout (w (peer u)) ≡ false → Fresh at w new
+    other u short on long =
         let quick : mode at w (peer u) ≡ true = subst (λ t. short_timeout (w t) ≡ true) (sym (peer_twice u)) short in
         let room = subst (λ b. silence_of (mode at w u) + silence_of b + 2 ≤ wait at w (peer u)) (sym quick) (room_short (mode at w u)) in
-        ended at w named u on room n new (subst (λ b. 619 + silence_of b ≤ n) (sym quick) enough)
+        ended at w named u on long room n new (subst (λ b. 610 + silence_of b ≤ n) (sym quick) enough)
         (along_rounds gives (λ m j. Slowly at w u m j) old
         (λ j r. inl (called at w (peer u) on j (first_round gives at w old j l r) r.empties))
-        (λ m i j r c. slowly at w named u on room gives m i j r c) n new (omega (arith, enough)) h)
+        (λ m i j r c. slowly at w named u on long room gives m i j r c) n new (omega (arith, enough)) h)
 
 pub ends_know_by_hosts : (gives : Algorithms) → EndsOfEachKnow HostRounds OneIsActive known_if_one_is gives
 ends_know_by_hosts gives n i l old new cabling steady healthy (a, active) enough rounds =

@@ -9,7 +9,7 @@ use Rattle.lagprogress.proofs.EndFacts.{Along, activity, both_along, constant_al
 use Rattle.lagprogress.proofs.Hearing.{EnabledKeep, no, not_down, times_keep}
 use Rattle.lagprogress.proofs.Knowing.{Recorded}
 use Rattle.lagprogress.proofs.OneRound.{Passes, still_sounds}
-use Rattle.lagprogress.proofs.Sounding.{Calm, Sounds, counts_sounds, mux_sounds, not_gone, not_silent, periodic_runs, sounds_first}
+use Rattle.lagprogress.proofs.Sounding.{Calm, Sounds, counts_sounds, mux_sounds, not_gone, not_silent, periodic_runs, sounds_first, sounds_in_slow}
 use Rattle.lagprogress.proofs.Timers.{runs_keep, takes_keep}
 
 -- EXPIRED for so many ticks more at the least; the partner is active, and Short Timeout stands recorded of it
@@ -274,11 +274,13 @@ lasting_passes v u d k on there = record {
       (phase_along v u LaterTails d (k - 1) on there later_tails_kept);
 }
 
--- a port that has just heard an active partner
-pub begins_lasting : (u : Lacpdu) (p : Machines) → activity u ≡ true → p.enabled ≡ true → AtRest periodic_rows p → IsTimed p
-    → Recorded u 1 p → Lasting u 309 p
-begins_lasting u p on up rest timed r =
-    (omega arith, (sounds_first false p rest timed (slow_calm (Recorded u 1) p (recorded_kept u on) up r), inl r))
+-- a port that has just heard an active partner with Long Timeout
+pub begins_lasting : (u : Lacpdu) (p : Machines) → activity u ≡ true → short_timeout u ≡ false → p.enabled ≡ true → AtRest periodic_rows p
+    → IsTimed p → Recorded u 1 p → Lasting u 300 p
+begins_lasting u p on long up rest timed r = (
+  omega arith,
+  (sounds_in_slow p rest timed (slow_calm (Recorded u 1) p (recorded_kept u on) up r) (r.0.short ∙ long), inl r),
+)
 
 -- and before it
 pub lasting_now : (u : Lacpdu) (k : ℕ) (p : Machines) → activity u ≡ true → Lasting u k p → (bits_of p.partner.state).activity ≡ true

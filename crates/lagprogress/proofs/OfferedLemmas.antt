@@ -187,7 +187,7 @@ module _ (Holds : LinkState → WorldState → Type 0) (first : ℕ) (gives : Al
 
 pub each_frame_arrives_by_hosts : (gives : Algorithms) → EachFrameArrivesByHosts OneIsActive up_if_one_is gives
 each_frame_arrives_by_hosts gives n number s agg octets r old mid sent new b quiet enough h named takes step q =
-    arrives_by_hosts OneIsActive 630 gives old b (one_active gives old b) n number s agg octets r mid sent new quiet (omega (arith, enough)) h
+    arrives_by_hosts OneIsActive 621 gives old b (one_active gives old b) n number s agg octets r mid sent new quiet (omega (arith, enough)) h
     named takes step q
 
 pub each_active_frame_arrives_by_hosts : (gives : Algorithms) → EachFrameArrivesByHosts BothAreActive up_if_both_active gives
@@ -197,7 +197,7 @@ each_active_frame_arrives_by_hosts gives n number s agg octets r old mid sent ne
 
 pub each_frame_arrives : (gives : Algorithms) → EachFrameArrives OneIsActive up_if_one_is gives
 each_frame_arrives gives n number s agg octets r old mid sent new b quiet enough h named takes step q =
-    arrives OneIsActive 630 gives old b (one_active gives old b) n number s agg octets r mid sent new quiet (omega (arith, enough)) h named
+    arrives OneIsActive 621 gives old b (one_active gives old b) n number s agg octets r mid sent new quiet (omega (arith, enough)) h named
     takes step q
 
 pub each_active_frame_arrives : (gives : Algorithms) → EachFrameArrives BothAreActive up_if_both_active gives

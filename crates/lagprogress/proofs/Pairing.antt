@@ -172,16 +172,16 @@ module _ (Holds : LinkState → WorldState → Type 0) (first : ℕ) (gives : Al
   pairs_agree sound i l y n new enough h sel = agree_up gives n old new sound h i l y (named i l y) (wake i l y) (ups i l y n new enough h sel)
 
 pub selected_pairs_come_up_by_hosts : (gives : Algorithms) → SelectedPairsComeUp HostRounds OneIsActive up_if_one_is gives
-selected_pairs_come_up_by_hosts gives n i l old new cabling steady heard y enough h sel = pairs_distribute OneIsActive 630 gives old cabling steady heard
-    (one_meet gives 630 old cabling steady (omega arith)) (one_wakes old) i l y n new (omega (arith, enough)) h sel
+selected_pairs_come_up_by_hosts gives n i l old new cabling steady heard y enough h sel = pairs_distribute OneIsActive 621 gives old cabling steady heard
+    (one_meet gives 621 old cabling steady (omega arith)) (one_wakes old) i l y n new (omega (arith, enough)) h sel
 
 pub active_selected_pairs_come_up_by_hosts : (gives : Algorithms) → SelectedPairsComeUp HostRounds BothAreActive up_if_both_active gives
 active_selected_pairs_come_up_by_hosts gives n i l old new cabling steady heard y enough h sel = pairs_distribute BothAreActive 321 gives old cabling
     steady heard (both_meet gives old cabling steady) (both_wake old) i l y n new (omega (arith, enough)) h sel
 
 pub selected_pairs_agree_by_hosts : (gives : Algorithms) → SelectedPairsAgree HostRounds OneIsActive up_if_one_is gives
-selected_pairs_agree_by_hosts gives n i l old new sound steady heard y enough h sel = pairs_agree OneIsActive 630 gives old sound.cabling steady heard
-    (one_meet gives 630 old sound.cabling steady (omega arith)) (one_wakes old) sound i l y n new (omega (arith, enough)) h sel
+selected_pairs_agree_by_hosts gives n i l old new sound steady heard y enough h sel = pairs_agree OneIsActive 621 gives old sound.cabling steady heard
+    (one_meet gives 621 old sound.cabling steady (omega arith)) (one_wakes old) sound i l y n new (omega (arith, enough)) h sel
 
 pub active_selected_pairs_agree_by_hosts : (gives : Algorithms) → SelectedPairsAgree HostRounds BothAreActive up_if_both_active gives
 active_selected_pairs_agree_by_hosts gives n i l old new sound steady heard y enough h sel = pairs_agree BothAreActive 321 gives old sound.cabling steady

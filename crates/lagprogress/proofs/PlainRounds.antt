@@ -57,12 +57,12 @@ active_ends_know gives n l old new steady healthy active enough h =
 
 pub ends_know : (gives : Algorithms) → EndsComeToKnow gives
 ends_know gives n l old new a steady healthy active enough h =
-    know OneIsActive 630 gives (ends_know_by_hosts gives) n zero l old new (only_cabling l old healthy) steady (only_cable l old healthy) (a, active)
+    know OneIsActive 621 gives (ends_know_by_hosts gives) n zero l old new (only_cabling l old healthy) steady (only_cable l old healthy) (a, active)
     enough h
 
 pub link_comes_up : (gives : Algorithms) → LinkComesUp gives
 link_comes_up gives n l old new a steady healthy room apart active enough h =
-    come_up OneIsActive 661 gives (each_link_comes_up_by_hosts gives) n zero l old new
+    come_up OneIsActive 652 gives (each_link_comes_up_by_hosts gives) n zero l old new
     (only_bundle OneIsActive l old steady healthy room apart (a, active)) (only_cable l old healthy) enough h
 
 pub active_link_comes_up : (gives : Algorithms) → ActiveLinkComesUp gives
@@ -72,7 +72,7 @@ active_link_comes_up gives n l old new steady healthy room apart active enough h
 
 pub link_agrees : (gives : Algorithms) → LinkAgrees gives
 link_agrees gives n l old new a sound steady healthy room apart active enough h =
-    agree OneIsActive 661 gives (each_link_agrees_by_hosts gives) n zero l old new sound
+    agree OneIsActive 652 gives (each_link_agrees_by_hosts gives) n zero l old new sound
     (only_bundle OneIsActive l old steady healthy room apart (a, active)) (only_cable l old healthy) enough h
 
 pub active_link_agrees : (gives : Algorithms) → ActiveLinkAgrees gives

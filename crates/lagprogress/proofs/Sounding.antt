@@ -225,13 +225,30 @@ begins_in Slow true short expired n r c l = clash short (c refl) r.1
 begins_in Fast true short expired n r c l = omega (arith, l)
 begins_in st fast short expired n r c l = omega (arith, l)
 
+leave_in : (most : ℕ) (ages : List ℕ) → 11 ≤ most → AllByRecursion (λ a. a < 11) ages → AllByRecursion (Leaves most) ages
+leave_in most [] l h = tt
+leave_in most (a ∷ ages) l h = ((omega (arith, l), h.0), leave_in most ages l h.1)
+
 pub all_leave : (fast : Bool) (ages : List ℕ) → AllByRecursion (λ a. a < 11) ages → AllByRecursion (Leaves (silence_of fast)) ages
-all_leave fast [] h = tt
-all_leave true (a ∷ ages) h = ((omega arith, h.0), all_leave true ages h.1)
-all_leave false (a ∷ ages) h = ((omega arith, h.0), all_leave false ages h.1)
+all_leave true ages h = leave_in 11 ages (omega arith) h
+all_leave false ages h = leave_in 309 ages (omega arith) h
 
 pub sounds_first : (fast : Bool) (p : Machines) → AtRest periodic_rows p → IsTimed p → Calm fast p → Sounds fast (silence_of fast) p
 sounds_first fast p rest t c = (
   inr (begins_in p.periodic fast (partner_short p) (timer_expired p) p.periodic_timer (rests p.periodic p rest c.0) c.1 t.1),
   all_leave fast p.ages t.3,
+)
+
+-- a port whose partner has Long Timeout is in SLOW
+slow_in : (st : PeriodicState) (expired : Bool) (n : ℕ) → Resting st expired false → n ≤ most_periodic_timer st → NextIn st false 300 n
+slow_in NoPeriodic expired n r l = absurd r
+slow_in PeriodicTx expired n r l = absurd r
+slow_in Fast expired n r l = absurd (no r.1)
+slow_in Slow expired n r l = l
+
+pub sounds_in_slow : (p : Machines) → AtRest periodic_rows p → IsTimed p → Calm false p → partner_short p ≡ false → Sounds false 300 p
+sounds_in_slow p rest t c long = (
+  inr (slow_in p.periodic (timer_expired p) p.periodic_timer
+      (subst (Resting p.periodic (timer_expired p)) long (rests p.periodic p rest c.0)) t.1),
+  leave_in 300 p.ages (omega arith) t.3,
 )

@@ -17,7 +17,7 @@ ActiveLinkAgrees gives = (n : ℕ) (l : LinkState) (old new : WorldState) → Is
     → ((s : Side) → HasRoom (half s old).state) → AreApart l old → ((s : Side) → AtEnd (λ p. p.active ≡ true) s l old)
     → up_if_both_active ≤ n → Rounds gives n old new → agreement_at new 1 ≡ Some Same
 
--- From 661 on it is, if the end at system a is active.
+-- From 652 on it is, if the end at system a is active.
 abbrev pub LinkAgrees : Algorithms → Type 0
 LinkAgrees gives = (n : ℕ) (l : LinkState) (old new : WorldState) (a : Side) → IsSound old → IsSteady old → IsHealthy l old
     → ((s : Side) → HasRoom (half s old).state) → AreApart l old → AtEnd (λ p. p.active ≡ true) a l old

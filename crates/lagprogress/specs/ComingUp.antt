@@ -31,7 +31,7 @@ ActiveLinkComesUp gives = (n : ℕ) (l : LinkState) (old new : WorldState) → I
     → ((s : Side) → HasRoom (half s old).state) → AreApart l old → ((s : Side) → AtEnd (λ p. p.active ≡ true) s l old)
     → up_if_both_active ≤ n → Rounds gives n old new → (s : Side) → AtEnd Distributes s l new
 
--- From 661 on they do, if the end at system a is active.
+-- From 652 on they do, if the end at system a is active.
 abbrev pub LinkComesUp : Algorithms → Type 0
 LinkComesUp gives = (n : ℕ) (l : LinkState) (old new : WorldState) (a : Side) → IsSteady old → IsHealthy l old
     → ((s : Side) → HasRoom (half s old).state) → AreApart l old → AtEnd (λ p. p.active ≡ true) a l old

@@ -28,7 +28,7 @@ abbrev pub ActiveEndsComeToKnow : Algorithms → Type 0
 ActiveEndsComeToKnow gives = (n : ℕ) (l : LinkState) (old new : WorldState) → IsSteady old → IsHealthy l old
     → ((s : Side) → AtEnd (λ p. p.active ≡ true) s l old) → known_if_both_active ≤ n → Rounds gives n old new → (s : Side) → EndKnows s l new
 
--- From 630 on they do, if the end at system a is active.
+-- From 621 on they do, if the end at system a is active.
 abbrev pub EndsComeToKnow : Algorithms → Type 0
 EndsComeToKnow gives = (n : ℕ) (l : LinkState) (old new : WorldState) (a : Side) → IsSteady old → IsHealthy l old
     → AtEnd (λ p. p.active ≡ true) a l old → known_if_one_is ≤ n → Rounds gives n old new → (s : Side) → EndKnows s l new

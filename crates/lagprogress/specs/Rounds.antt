@@ -80,16 +80,16 @@ abbrev pub known_if_both_active : ℕ
 known_if_both_active = 321
 
 abbrev pub known_if_one_is : ℕ
-known_if_one_is = 630
+known_if_one_is = 621
 
 abbrev pub up_if_both_active : ℕ
 up_if_both_active = 352
 
 abbrev pub up_if_one_is : ℕ
-up_if_one_is = 661
+up_if_one_is = 652
 
 abbrev pub freed_if_both_active : ℕ
 freed_if_both_active = 382
 
 abbrev pub freed_if_one_is : ℕ
-freed_if_one_is = 691
+freed_if_one_is = 682

@@ -33,13 +33,13 @@ ghost use Rattle.lagprogress.specs.Bundle.{BothAreActive, OneIsActive};
 ghost use Rattle.lagprogress.specs.Rounds.{up_if_both_active, up_if_one_is};
 
 // promise: a frame offered behind the rounds gets a port, the cable accepts it, and in the next healthy round the other end hands it up,
-//    octet by octet: 352 | 661
+//    octet by octet: 352 | 652
 // contract: `each_frame_arrives` (`Arrives`, `HandsUp`)
 // premises: `IsBundle` before the rounds; `TakesFrame` when it is offered; a partner recorded in PORT_DISABLED has Synchronization FALSE,
 //    as after any events (`disabled_ports_have_unsynchronized_partners`); the Offer comes between two rounds. Nothing is said of a second
 //    frame in it
 /// A data frame that a bundle as in `each_link_comes_up` is offered after 352 healthy rounds (35.2 s) or more if both ends of each
-/// healthy cable are active, after 661 (66.1 s) if one is, arrives within one healthy round (100 ms), whatever was before them:
+/// healthy cable are active, after 652 (65.2 s) if one is, arrives within one healthy round (100 ms), whatever was before them:
 /// it gets a port that distributes in the aggregator, its cable accepts it, and at the other end it is handed up, with the same
 /// octets, in the aggregator in which the port there collects. The system takes the frame as in `frames_pass_cables`. It is said
 /// of one frame: a healthy round offers none. Each disabled port of the sender has an unsynchronized partner, as

@@ -35,7 +35,7 @@ ghost use Rattle.lagprogress.specs.Rounds.{known_if_both_active, known_if_one_is
 //    (`defaulted`, `up`, `agrees`)
 // premises: theirs. A frame that is offered behind these rounds arrives in the next one, whatever else is offered or moved in that
 /// The ends of each healthy cable come to know each other in healthy rounds of hosts: from 321 (32.1 s) on if both are active,
-/// from 630 (63 s) on if one is, whatever was before them, as in `ends_of_each_cable_come_to_know` (6.4.12, 6.4.13).
+/// from 621 (62.1 s) on if one is, whatever was before them, as in `ends_of_each_cable_come_to_know` (6.4.12, 6.4.13).
 pub fn ends_come_to_know_by_hosts<F: Fn(u16, usize) -> usize>()
     ensures both { (one two : F) → EndsOfEachKnow HostRounds BothAreActive known_if_both_active (both_algorithms (F.post one) (F.post two)) }
     ensures one { (one two : F) → EndsOfEachKnow HostRounds OneIsActive known_if_one_is (both_algorithms (F.post one) (F.post two)) }
@@ -45,7 +45,7 @@ ghost use Rattle.lagprogress.specs.Bundle.{EachLinkComesUp};
 ghost use Rattle.lagprogress.specs.Rounds.{up_if_both_active, up_if_one_is};
 
 /// The links of a bundle as in `each_link_comes_up` come up in healthy rounds of hosts: both ends of each healthy cable are
-/// SELECTED and distribute from 352 (35.2 s) on if both ends of each are active, from 661 (66.1 s) on if one is, whatever was
+/// SELECTED and distribute from 352 (35.2 s) on if both ends of each are active, from 652 (65.2 s) on if one is, whatever was
 /// before them (6.4.12 to 6.4.16).
 pub fn each_link_comes_up_by_hosts<F: Fn(u16, usize) -> usize>()
     ensures both { (one two : F) → EachLinkComesUp HostRounds BothAreActive up_if_both_active (both_algorithms (F.post one) (F.post two)) }
@@ -55,7 +55,7 @@ pub fn each_link_comes_up_by_hosts<F: Fn(u16, usize) -> usize>()
 ghost use Rattle.lagprogress.specs.Bundle.{EachLinkAgrees};
 
 /// The two ends of each link agree in healthy rounds of hosts: in a sound world as in `each_link_comes_up` the agreement of each
-/// healthy cable is `Same` from 352 (35.2 s) on if both ends of each are active, from 661 (66.1 s) on if one is (6.3.6; profile).
+/// healthy cable is `Same` from 352 (35.2 s) on if both ends of each are active, from 652 (65.2 s) on if one is (6.3.6; profile).
 pub fn each_link_agrees_by_hosts<F: Fn(u16, usize) -> usize>()
     ensures both { (one two : F) → EachLinkAgrees HostRounds BothAreActive up_if_both_active (both_algorithms (F.post one) (F.post two)) }
     ensures one { (one two : F) → EachLinkAgrees HostRounds OneIsActive up_if_one_is (both_algorithms (F.post one) (F.post two)) }
@@ -64,7 +64,7 @@ pub fn each_link_agrees_by_hosts<F: Fn(u16, usize) -> usize>()
 ghost use Rattle.lagprogress.specs.Bundle.{SelectedPairsAgree, SelectedPairsComeUp};
 
 /// However few aggregators and links the systems have: where both ends of a healthy cable are SELECTED after 352 healthy rounds of
-/// hosts or more if both ends of each are active, after 661 if one is, both distribute, and in a sound world the agreement of that
+/// hosts or more if both ends of each are active, after 652 if one is, both distribute, and in a sound world the agreement of that
 /// cable is `Same`, as in `selected_pairs_agree` (6.3.6, 6.4.12 to 6.4.16; profile).
 pub fn selected_pairs_agree_by_hosts<F: Fn(u16, usize) -> usize>()
     ensures up_both { (one two : F) → SelectedPairsComeUp HostRounds BothAreActive up_if_both_active (both_algorithms (F.post one) (F.post two)) }
@@ -76,7 +76,7 @@ pub fn selected_pairs_agree_by_hosts<F: Fn(u16, usize) -> usize>()
 ghost use Rattle.lagprogress.specs.Limited.{EachLimitedLinkAgrees};
 
 /// Where one system has a limit of links, as in `each_limited_link_agrees`: after 352 healthy rounds of hosts (35.2 s) or more if both
-/// ends of each healthy cable are active, after 661 (66.1 s) if one is, the agreement of each healthy cable is `Same`, or its end
+/// ends of each healthy cable are active, after 652 (65.2 s) if one is, the agreement of each healthy cable is `Same`, or its end
 /// at the system with the limit is STANDBY in an aggregator that has as many members as the limit, each with a cable that agrees (6.4.14;
 /// profile).
 pub fn each_limited_link_agrees_by_hosts<F: Fn(u16, usize) -> usize>()
@@ -98,7 +98,7 @@ pub fn cut_offs_do_no_harm_by_hosts<F: Fn(u16, usize) -> usize>()
 ghost use Rattle.lagprogress.specs.HostFreed.{AskingInVainIsDraining, NoneIsHeldBesideCutOffsByHosts, NoneIsHeldOnEndsByHosts};
 ghost use Rattle.lagprogress.specs.HostFreed.{NothingIsHeldByHosts, RoundIsDraining};
 
-// promise: a conversation is not held on an end of a healthy cable after 352 | 661, and 30 more that do not move it, in which at each end
+// promise: a conversation is not held on an end of a healthy cable after 352 | 652, and 30 more that do not move it, in which at each end
 //    nothing is due, nor a marker, at some time after its tick, as in each healthy round, or if each end is asked until it sends nothing
 // contract: `held_conversations_are_freed_by_hosts` (`ends_both`, `ends_one`, `round`, `asking`)
 // premises: those of `each_link_comes_up`; an identifier is left in the end
@@ -106,7 +106,7 @@ ghost use Rattle.lagprogress.specs.HostFreed.{NothingIsHeldByHosts, RoundIsDrain
 // contract: `held_conversations_are_freed_by_hosts` (`all_both`, `all_one`; `beside`)
 // premises: the same, and `CarriersAreUp` in the end; as for `each_link_comes_up_beside_cut_offs`
 /// A conversation that is held in a bundle as in `each_link_comes_up` is freed in healthy rounds of hosts that ask until nothing is
-/// due: after 352 healthy rounds of hosts (35.2 s) or more if both ends of each healthy cable are active, after 661 (66.1 s) if one is,
+/// due: after 352 healthy rounds of hosts (35.2 s) or more if both ends of each healthy cable are active, after 652 (65.2 s) if one is,
 /// and 30 more (3 s) in which no event moves it, and each end has neither an LACPDU nor a marker due at some time after its system's
 /// tick, it is not Wanted or Flushing on an end of a healthy cable, if an identifier for a marker is left in the end; nor on any port,
 /// if the links of the ports are up then that carry a conversation, or hold one, as `carriers_are_up` has it. Beside ports that are cut
@@ -125,7 +125,7 @@ pub fn held_conversations_are_freed_by_hosts<F: Fn(u16, usize) -> usize>()
 ghost use Rattle.lagprogress.specs.Arriving.{EachFrameArrivesByHosts};
 
 /// A data frame that a bundle is offered behind 352 healthy rounds of hosts (35.2 s) or more if both ends of each healthy cable are
-/// active, behind 661 (66.1 s) if one is, and before the next such round, arrives within that, as in `each_frame_arrives`, whatever else
+/// active, behind 652 (65.2 s) if one is, and before the next such round, arrives within that, as in `each_frame_arrives`, whatever else
 /// is offered or moved in it (6.2.3, 6.2.4; profile).
 pub fn each_frame_arrives_by_hosts<F: Fn(u16, usize) -> usize>()
     ensures both { (one two : F) → EachFrameArrivesByHosts BothAreActive up_if_both_active (both_algorithms (F.post one) (F.post two)) }

@@ -181,7 +181,7 @@ pub fn lacpdus_pass_cables<F: Fn(u16, usize) -> usize>()
 
 ghost use Rattle.lagprogress.specs.Progress.{ActiveEndsComeToKnow};
 
-// promise: both ports of the only cable know each other after 321 rounds if both are active, after 630 if one is
+// promise: both ports of the only cable know each other after 321 rounds if both are active, after 621 if one is
 // contract: `active_ends_come_to_know`, `ends_come_to_know` (`Progress`)
 // premises: steady; the one cable is healthy
 /// The ends of a cable come to know each other: in a world with one cable that is whole and has no limit, with the links
@@ -195,18 +195,18 @@ pub fn active_ends_come_to_know<F: Fn(u16, usize) -> usize>()
 ghost use Rattle.lagprogress.specs.Progress.{EndsComeToKnow};
 
 /// The ends of a cable come to know each other as in `active_ends_come_to_know`, if one of the two ports is active, whatever the
-/// other is: from 630 healthy rounds (63 s) on (6.4.12, 6.4.13).
+/// other is: from 621 healthy rounds (62.1 s) on (6.4.12, 6.4.13).
 pub fn ends_come_to_know<F: Fn(u16, usize) -> usize>()
     ensures { (one two : F) → EndsComeToKnow (both_algorithms (F.post one) (F.post two)) }
 {}
 
 ghost use Rattle.lagprogress.specs.ComingUp.{ActiveLinkComesUp, LinkComesUp};
 
-// promise: both ports of the only cable are up, and its `agreement` is `Same`: 352 | 661
+// promise: both ports of the only cable are up, and its `agreement` is `Same`: 352 | 652
 // contract: `links_come_up` (`ComingUp`), `links_agree` (`Agreeing`)
 // premises: the same; each system has one port, and an aggregator with its key; the systems differ; for the agreement the world is sound
 /// Links come up: in a world with one cable that is whole and has no limit, with the links of both of its ports up, both
-/// ports are SELECTED and distribute from 352 healthy rounds (35.2 s) on if both are active, from 661 (66.1 s) on if one is,
+/// ports are SELECTED and distribute from 352 healthy rounds (35.2 s) on if both are active, from 652 (65.2 s) on if one is,
 /// whatever was before them. Each system has one port, and an aggregator with its key; the two systems differ; both are
 /// sound, and their timers within their bounds, as in each world that events lead to (6.4.12 to 6.4.16).
 pub fn links_come_up<F: Fn(u16, usize) -> usize>()
@@ -217,7 +217,7 @@ pub fn links_come_up<F: Fn(u16, usize) -> usize>()
 ghost use Rattle.lagprogress.specs.Agreeing.{ActiveLinkAgrees, LinkAgrees};
 
 /// The two ends of a link agree: in a sound world as in `links_come_up` the agreement of the cable is `Same` from 352
-/// healthy rounds (35.2 s) on if both ends are active, from 661 (66.1 s) on if one is (6.3.6; profile).
+/// healthy rounds (35.2 s) on if both ends are active, from 652 (65.2 s) on if one is (6.3.6; profile).
 pub fn links_agree<F: Fn(u16, usize) -> usize>()
     ensures both { (one two : F) → ActiveLinkAgrees (both_algorithms (F.post one) (F.post two)) }
     ensures one { (one two : F) → LinkAgrees (both_algorithms (F.post one) (F.post two)) }
@@ -226,11 +226,11 @@ pub fn links_agree<F: Fn(u16, usize) -> usize>()
 ghost use Rattle.lagprogress.specs.Bundle.{EndsOfEachKnow};
 ghost use Rattle.lagprogress.specs.Rounds.{Rounds, known_if_both_active, known_if_one_is};
 
-// promise: among any cables, the ports of each healthy one know each other after 321 rounds if both are active, after 630 if one is
+// promise: among any cables, the ports of each healthy one know each other after 321 rounds if both are active, after 621 if one is
 // contract: `ends_of_each_cable_come_to_know` (`both`, `one`)
 // premises: steady; no port has two cables
 /// Of any number of cables, the ends of each healthy one come to know each other: from 321 healthy rounds (32.1 s) on if both
-/// are active, from 630 (63 s) on if one is, whatever was before them, whatever the other cables are, and whatever other
+/// are active, from 621 (62.1 s) on if one is, whatever was before them, whatever the other cables are, and whatever other
 /// ports and aggregators the systems have. A cable is healthy that is whole and has no limit, with the links of both of its
 /// ports up; no port has two cables; both systems are sound, and their timers within their bounds (6.4.12, 6.4.13).
 pub fn ends_of_each_cable_come_to_know<F: Fn(u16, usize) -> usize>()
@@ -256,11 +256,11 @@ pub fn reached_worlds_are_bundles<F: Fn(u16, usize) -> usize>()
 ghost use Rattle.lagprogress.specs.Bundle.{EachLinkComesUp};
 ghost use Rattle.lagprogress.specs.Rounds.{up_if_both_active, up_if_one_is};
 
-// promise: both ports of each healthy cable are up, and its `agreement` is `Same`: 352 | 661
+// promise: both ports of each healthy cable are up, and its `agreement` is `Same`: 352 | 652
 // contract: `each_link_comes_up`, `each_link_agrees`
 // premises: `IsBundle`; for the agreement the world is sound. Other cables may be cut, have a limit, or end at ports whose links are down
 /// The links of a bundle come up: both ends of each healthy cable are SELECTED and distribute from 352 healthy rounds
-/// (35.2 s) on if both ends of each are active, from 661 (66.1 s) on if one end of each is, whatever was before them. Each port whose
+/// (35.2 s) on if both ends of each are active, from 652 (65.2 s) on if one end of each is, whatever was before them. Each port whose
 /// link is up ends a healthy cable; each system has as many aggregators of a port's key as ports of that key, or at least one,
 /// where the ports of that key lead to aggregatable ports of one key at the other system, and are aggregatable themselves, and
 /// those whose links are down are UNSELECTED or led there; a limit of links, if it has one, is no less than the ports of one key;
@@ -274,7 +274,7 @@ pub fn each_link_comes_up<F: Fn(u16, usize) -> usize>()
 ghost use Rattle.lagprogress.specs.Bundle.{EachLinkAgrees};
 
 /// The two ends of each link agree: in a sound world as in `each_link_comes_up` the agreement of each healthy cable is
-/// `Same` from 352 healthy rounds (35.2 s) on if both ends of each are active, from 661 (66.1 s) on if one is (6.3.6; profile).
+/// `Same` from 352 healthy rounds (35.2 s) on if both ends of each are active, from 652 (65.2 s) on if one is (6.3.6; profile).
 pub fn each_link_agrees<F: Fn(u16, usize) -> usize>()
     ensures both { (one two : F) → EachLinkAgrees Rounds BothAreActive up_if_both_active (both_algorithms (F.post one) (F.post two)) }
     ensures one { (one two : F) → EachLinkAgrees Rounds OneIsActive up_if_one_is (both_algorithms (F.post one) (F.post two)) }
@@ -283,11 +283,11 @@ pub fn each_link_agrees<F: Fn(u16, usize) -> usize>()
 ghost use Rattle.lagprogress.specs.Bundle.{SelectedPairsAgree, SelectedPairsComeUp};
 
 // promise: if both ports of a healthy cable are SELECTED after that many rounds, they are up and agree, however few aggregators and links
-//    there are: 352 | 661
+//    there are: 352 | 652
 // contract: `selected_pairs_agree` (`up_both`, `up_one`, `both`, `one`)
 // premises: steady; no port has two cables; `AllHeard`; for the agreement the world is sound. That they are SELECTED no clause says
 /// However few aggregators and links the systems have: if each port whose link is up ends a healthy cable, and both ends of one
-/// are SELECTED after 352 healthy rounds or more if both ends of each are active, after 661 if one is, then both distribute, and in
+/// are SELECTED after 352 healthy rounds or more if both ends of each are active, after 652 if one is, then both distribute, and in
 /// a sound world the agreement of that cable is `Same`, whatever was before the rounds. Both systems are sound and their timers within
 /// their ranges, as in each world that events lead to from a start (6.3.6, 6.4.12 to 6.4.16; profile).
 pub fn selected_pairs_agree<F: Fn(u16, usize) -> usize>()
@@ -300,15 +300,15 @@ pub fn selected_pairs_agree<F: Fn(u16, usize) -> usize>()
 ghost use Rattle.lagprogress.specs.Freed.{NoneIsHeldOnEnds, NothingIsHeld};
 ghost use Rattle.lagprogress.specs.Rounds.{freed_if_both_active, freed_if_one_is};
 
-// promise: no conversation is held on an end of a healthy cable: 382 | 691
+// promise: no conversation is held on an end of a healthy cable: 382 | 682
 // contract: `held_conversations_are_freed` (`ends_both`, `ends_one`)
 // premises: those of `each_link_comes_up`; an identifier is left in the end (`HasIdentifierLeft`)
-// promise: no conversation is held in the whole system: 382 | 691
+// promise: no conversation is held in the whole system: 382 | 682
 // contract: `held_conversations_are_freed` (`all_both`, `all_one`)
 // premises: the same; before the rounds the links of all ports that conversations are On or held on are up, as in each world that events
 //    lead to (`carriers_are_up`)
 /// Conversations that are held in a bundle as in `each_link_comes_up` are freed: from 382 healthy rounds (38.2 s) on if both ends
-/// of each healthy cable are active, from 691 (69.1 s) on if one is, no conversation is Wanted or Flushing on an end of a
+/// of each healthy cable are active, from 682 (68.2 s) on if one is, no conversation is Wanted or Flushing on an end of a
 /// healthy cable, whatever was before them, if an identifier for a marker is left in the end. And none is at all in a system
 /// in which each port that carried a conversation, or held one, had its link up (6.2.5; profile).
 pub fn held_conversations_are_freed<F: Fn(u16, usize) -> usize>()

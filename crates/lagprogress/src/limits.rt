@@ -14,12 +14,12 @@ ghost use Rattle.lagprogress.specs.Limited.{EachLimitedLinkAgrees};
 ghost use Rattle.lagprogress.specs.Rounds.{Rounds, up_if_both_active, up_if_one_is};
 
 // promise: each healthy cable agrees (`Same`), or its end at the limited system is STANDBY in an aggregator with as many members as the
-//    limit, each of which ends a cable that agrees: 352 | 661
+//    limit, each of which ends a cable that agrees: 352 | 652
 // contract: `each_limited_link_agrees` (`CarriesOnAll`)
 // premises: `IsBundle`, but one system may have any limit; none of its ports whose link is down is SELECTED or STANDBY, as after any events
 //    (`down_ports_are_unselected`); the world is sound
 /// A bundle one of whose systems has a limit of links carries on as many: after 352 healthy rounds (35.2 s) or more if both ends
-/// of each healthy cable are active, after 661 (66.1 s) if one is, whatever was before them, the agreement of each healthy cable
+/// of each healthy cable are active, after 652 (65.2 s) if one is, whatever was before them, the agreement of each healthy cable
 /// is `Same`, or its end at that system is STANDBY in an aggregator that has as many members as the limit, and each of these
 /// ends a cable whose agreement is `Same`. The world is sound; each port whose link is up ends a healthy cable; each system has
 /// aggregators as `each_link_comes_up` wants them; the limit of the other system, if it has one, is no less than the ports of one

@@ -175,7 +175,7 @@ pub fn play_round<C: Cable, F: Fn(u16, usize) -> usize + Drop>(
 }
 
 // promise: **from a new world:** after `World::new`, any events and `play_rounds` with a count, both ports of each healthy cable are up and
-//    its `agreement` is `Same` (352 | 661), and no conversation is held (382 | 691) where an identifier is left
+//    its `agreement` is `Same` (352 | 652), and no conversation is held (382 | 682) where an identifier is left
 // contract: `play_rounds` (`distributes_both`, `agrees_both`, `frees_both`, and `_one` of each: `LeadsTo`)
 // premises: no round was refused; before them `AllHeard`, `HasAggregators` and `EnoughLinks` hold (`IsReady`)
 /// Plays so many healthy rounds, as `play_round` plays one, and stops in the first that is refused.
