@@ -126,7 +126,7 @@ fn crossed_cables_agree_in_352_healthy_rounds(rt: HostRuntime) -> Result<(), Fai
 }
 
 #[test]
-fn crossed_cables_with_a_passive_end_agree_in_661(rt: HostRuntime) -> Result<(), Fail> {
+fn crossed_cables_with_a_passive_end_agree_in_652(rt: HostRuntime) -> Result<(), Fail> {
     agree(&rt, rt.alloc(), HALF_PASSIVE, 652)?;
     Ok(())
 }
