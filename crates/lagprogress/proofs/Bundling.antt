@@ -5,14 +5,15 @@ use Rattle.lagprogress.proofs.Common.{AllByRecursion, AggId, Key, Choice, Standb
 use Rattle.lagprogress.proofs.Common.{end_at, peer, ports_that_chose, has_chosen, SystemPort, MuxIsSettled, occupied, IsSound, SystemState, views}
 use Rattle.lagprogress.proofs.Common.{all-get, found_place, Same, agreement_at, Algorithms, link_ends, world_setup, IsWorldSound, LinkState}
 use Rattle.lagprogress.proofs.Common.{WorldState, half, history_at, port_at, towards, end_is, AllHeard, BothAreActive, EachLinkAgrees}
-use Rattle.lagprogress.proofs.Common.{EachLinkComesUp, EndsHealthyCable, EnoughLinks, IsBundle, OneIsActive, SystemsDiffer, Distributes, HostRounds}
-use Rattle.lagprogress.proofs.Common.{AtEnd, IsHealthyAt, up_if_both_active, up_if_one_is, WantsAggregator, ports_with, IsSteady, IsTimed}
+use Rattle.lagprogress.proofs.Common.{EachLinkComesUp, EndsHealthyCable, EnoughLinks, IsBundle, OneIsActive, SystemsDiffer, Distributes, Clearing}
+use Rattle.lagprogress.proofs.Common.{HostRounds, NoneIsLeft, PlayedRounds, AtEnd, IsHealthyAt, up_if_both_active, up_if_one_is, WantsAggregator}
+use Rattle.lagprogress.proofs.Common.{ports_with, IsSteady, IsTimed}
 use Rattle.lagprogress.proofs.Climbing.{Down, Ripe, Rising, climbed, down_settles, down_takes, down_ticks, rising_first}
-use Rattle.lagprogress.proofs.ComingUp.{Climbs, Up, agrees_now, climbs_first, climbs_on, comes_up, distributes, hosts_kept}
+use Rattle.lagprogress.proofs.ComingUp.{AreSynced, Climbs, Up, agrees_now, climbs_first, climbs_on, comes_up, distributes, hosts_kept, synced_of}
 use Rattle.lagprogress.proofs.Starting.{active_at, awake_at, named_at, Ends, healthy_cable, said_by, starts}
 use Rattle.lagprogress.proofs.Counting.{count, count_more_of, counted}
 use Rattle.lagprogress.proofs.EachPort.{OfEach}
-use Rattle.lagprogress.proofs.EachRound.{EachAt, RoundKeeps, same_index, hosts_join, host_each, hosts_on, hosts_split, hosts_steady}
+use Rattle.lagprogress.proofs.EachRound.{EachAt, RoundKeeps, same_index, played_join, host_each, hosts_on, hosts_split, hosts_steady, played_on}
 use Rattle.lagprogress.proofs.EndFacts.{Synced, activity}
 use Rattle.lagprogress.proofs.Linked.{many, at_end, end_here, end_with, EndPort}
 use Rattle.lagprogress.proofs.HostKnowing.{one_meets, AtIt, Fresh, active_meet, knows_peer, fresh_knows}
@@ -89,9 +90,9 @@ down_first s h timed enough = all_by_place (λ x. Down 20 x.number x.port) s.sys
           (all-get (λ (y : SystemPort). IsTimed y.port) s.system_ports k x there timed) chosen).1,
     ))
 
-down_rounds : (gives : Algorithms) (n : ℕ) (old new : WorldState) → IsSteady old → (s : Side) → EnoughLinks (half s old).state
-    → HostRounds gives n old new → EachAt (Down (20 - n)) s new
-down_rounds gives n old new steady s enough h = hosts_on gives (λ m j. EachAt (Down (20 - m)) s j) old
+pub down_rounds : (E : Clearing) (gives : Algorithms) (n : ℕ) (old new : WorldState) → IsSteady old → (s : Side) → EnoughLinks (half s old).state
+    → PlayedRounds E gives n old new → EachAt (Down (20 - n)) s new
+down_rounds E gives n old new steady s enough h = played_on E gives (λ m j. EachAt (Down (20 - m)) s j) old
     (subst (λ t. EachAt (Down t) s old) (omega arith) (down_first (half s old).state (steady s).0 (steady s).1 enough))
     (λ m i j q a. subst (λ t. EachAt (Down t) s j) (omega arith)
     (host_each (Down (20 - m)) (Down (20 - m - 1)) (down_keeps (20 - m)) (down_keeps (20 - m - 1)) (λ k p r run b. down_ticks (20 - m) k p r run b) s gives i j q a))
@@ -131,14 +132,25 @@ Named old i l h = (t : Side) → IsNamed (said old i l h t)
 pub names : (old : WorldState) → IsSteady old → (i : ℕ) (l : LinkState) (h : IsHealthyAt i l old) → Named old i l h
 names old steady i l h = named_at l old (ends_at i l old h) steady
 
+-- the ends of a healthy cable are of different systems
+pub apart_ends : (old : WorldState) → IsSteady old → SystemsDiffer old → (i : ℕ) (l : LinkState) (h : IsHealthyAt i l old) → (s : Side)
+    → (said old i l h (peer s)).actor.system ≢ (said old i l h s).actor.system
+apart_ends old steady differ i l h =
+    let e = ends_at i l old h in
+    apart_by e (λ s. own_system (half s old).state (e s).0 (e s).1 (steady s).0 (e s).3)
+  where
+    apart_by : (e : Ends l old) → ((s : Side) → (e s).1.port.party.system ≡ (half s old).state.system) → (s : Side)
+        → (said_by l old e (peer s)).actor.system ≢ (said_by l old e s).actor.system
+    apart_by e own One same = differ (sym (own One) ∙ (sym same ∙ own Two))
+    apart_by e own Two same = differ (sym (own One) ∙ (same ∙ own Two))
+
 -- ends that are up agree
-pub agree_up : (gives : Algorithms) (n : ℕ) (old new : WorldState) → IsWorldSound old → HostRounds gives n old new → (i : ℕ) (l : LinkState)
-    (h : IsHealthyAt i l old) (named : Named old i l h) (awake : Awake old i l h) → Up (λ s. port_at s l) (said old i l h) named awake new
-    → agreement_at new (suc i) ≡ Some Same
-agree_up gives n old new sound rounds i l h named awake up = agrees_now (λ s. port_at s l) (said old i l h) named awake i new
-    (λ x fl c. same_index i x l fl old new h.there (hosts_join gives n old new rounds) c)
-    (λ s. hosts_kept gives n i (λ t. port_at t l) (λ t. towards t l) old new (healthy_cable i l old sound.cabling h) rounds s
-    ∙ some_is (history_at (half s old).histories (port_at s l)) (sound.ends s i l h.there)) up
+pub agree_up : (E : Clearing) (gives : Algorithms) (n : ℕ) (old new : WorldState) → IsWorldSound old → PlayedRounds E gives n old new → (i : ℕ)
+    (l : LinkState) (h : IsHealthyAt i l old) → AreSynced (λ s. port_at s l) (said old i l h) new → agreement_at new (suc i) ≡ Some Same
+agree_up E gives n old new sound rounds i l h up = agrees_now (λ s. port_at s l) (said old i l h) new up i
+    (λ x fl c. same_index i x l fl old new h.there (played_join E gives n old new rounds) c)
+    (λ s. hosts_kept E gives n i (λ t. port_at t l) (λ t. towards t l) old new (healthy_cable i l old sound.cabling h) rounds s
+    ∙ some_is (history_at (half s old).histories (port_at s l)) (sound.ends s i l h.there))
   where
     some_is : {X : Type 0} (o : Option X) → IsSome o → is_some o ≡ true
     some_is None h = absurd (let e = h in cc)
@@ -187,16 +199,7 @@ module _ (Holds : LinkState → WorldState → Type 0) (Other : Side → ℕ →
 
   systems : (i : ℕ) (l : LinkState) (h : IsHealthyAt i l old) → (s : Side)
       → (said old i l h (peer s)).actor.system ≢ (said old i l h s).actor.system
-  systems i l h =
-      let e = ends_at i l old h in
-      let own : (s : Side) → (e s).1.port.party.system ≡ (half s old).state.system =
-      λ s. own_system (half s old).state (e s).0 (e s).1 (m.steady s).0 (e s).3 in
-      apart_by e own
-    where
-      apart_by : (e : Ends l old) → ((s : Side) → (e s).1.port.party.system ≡ (half s old).state.system) → (s : Side)
-          → (said_by l old e (peer s)).actor.system ≢ (said_by l old e s).actor.system
-      apart_by e own One same = m.differ (sym (own One) ∙ (sym same ∙ own Two))
-      apart_by e own Two same = m.differ (sym (own One) ∙ (same ∙ own Two))
+  systems = apart_ends old m.steady m.differ
 
   module _ (mid top : WorldState) (h : HostRounds gives first old mid) (more : HostRounds gives 20 mid top) where
     middle : IsSteady mid
@@ -241,7 +244,7 @@ module _ (Holds : LinkState → WorldState → Type 0) (Other : Side → ℕ →
 
         down : EachAt (Down 0) s top
         down = subst (λ t. EachAt (Down t) s top) (omega arith)
-            (down_rounds gives 20 mid top middle s (still_links s old mid start (m.links s)) more)
+            (down_rounds NoneIsLeft gives 20 mid top middle s (still_links s old mid start (m.links s)) more)
 
         each : (k : ℕ) (y : SystemPort) → slice_get (half s top).state.system_ports k ≡ Some y → Ripe 0 y.port
         each k y there =
@@ -284,11 +287,13 @@ module _ (Holds : LinkState → WorldState → Type 0) (Other : Side → ℕ →
   pub distribute_of : (i : ℕ) (l : LinkState) (y : IsHealthyAt i l old) (n : ℕ) (new : WorldState) → first + 31 ≤ n → HostRounds gives n old new
       → (s : Side) → AtEnd Distributes s l new
   distribute_of i l y n new enough h =
-      distributes (λ s. port_at s l) (said old i l y) (named_of i l y) (awake_of i l y) new (ups_of i l y n new enough h)
+      distributes (λ s. port_at s l) (said old i l y) new
+      (synced_of (λ s. port_at s l) (said old i l y) (named_of i l y) (awake_of i l y) new (ups_of i l y n new enough h))
 
   pub agree_of : IsWorldSound old → (i : ℕ) (l : LinkState) (y : IsHealthyAt i l old) (n : ℕ) (new : WorldState) → first + 31 ≤ n
       → HostRounds gives n old new → agreement_at new (suc i) ≡ Some Same
-  agree_of sound i l y n new enough h = agree_up gives n old new sound h i l y (named_of i l y) (awake_of i l y) (ups_of i l y n new enough h)
+  agree_of sound i l y n new enough h = agree_up NoneIsLeft gives n old new sound h i l y
+      (synced_of (λ s. port_at s l) (said old i l y) (named_of i l y) (awake_of i l y) new (ups_of i l y n new enough h))
 
 -- where there are no others
 

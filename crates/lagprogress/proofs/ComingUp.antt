@@ -4,19 +4,20 @@ use Rattle.lagprogress.proofs.Common.{ℕ, ◌&&◌, ◌+◌, ◌-◌, ◌||◌,
 use Rattle.lagprogress.proofs.Common.{pair_of, same_group, group-itself, Lacpdu, party_of, One, Side, Two, peer, CollectingDistributing, Machines}
 use Rattle.lagprogress.proofs.Common.{same_mux_state, SystemPort, MuxIsSettled, group_at, machines_of, all-get, Same, agreement_at, agreement_of}
 use Rattle.lagprogress.proofs.Common.{end_facts, first_agreement, is_stamp, same_groups, Algorithms, ItemValue, LinkState, WorldState}
-use Rattle.lagprogress.proofs.Common.{change_count_in, half, history_at, Distributes, HostRounds, IsHostRound, OfPort, IsTimed}
+use Rattle.lagprogress.proofs.Common.{change_count_in, half, history_at, Distributes, Clearing, HostRounds, IsHostRound, IsPlayed, PlayedRounds}
+use Rattle.lagprogress.proofs.Common.{OfPort, IsTimed}
 use Rattle.lagprogress.proofs.HostStamps.{stamped_between, stamped_tick}
 use Rattle.lagprogress.proofs.OneCable.{OnCable, cable}
-use Rattle.lagprogress.proofs.Stamps.{Stamped}
+use Rattle.lagprogress.proofs.Stamps.{Present, Stamped}
 use Rattle.lagprogress.proofs.Claims.{IsNamed, Owes}
 use Rattle.lagprogress.proofs.Climbing.{PartnerInSync, Rising, distributes_now, partner_along, rising_along, rising_first, ticks_partner}
 use Rattle.lagprogress.proofs.Climbing.{ticks_rising}
 use Rattle.lagprogress.proofs.EachPort.{OfEach}
 use Rattle.lagprogress.proofs.EndFacts.{Learnt, Synced, activity, wait_of}
-use Rattle.lagprogress.proofs.EachRound.{hosts_on}
+use Rattle.lagprogress.proofs.EachRound.{hosts_on, played_on}
 use Rattle.lagprogress.proofs.HostKnowing.{FreshAt, able_fresh, awake_peer, fits_before, fits_fresh, knows_peer, stays_fresh, AtIt, beside, mode}
 use Rattle.lagprogress.proofs.HostRound.{holds_on, host_holds, host_nears, of_side}
-use Rattle.lagprogress.proofs.Linked.{Fits, at_end, each_map, end_here, end_with, peer_twice}
+use Rattle.lagprogress.proofs.Linked.{EndPort, Fits, Link, at_end, each_map, end_here, end_with, peer_twice}
 use Rattle.lagprogress.proofs.OnePort.{AtPort}
 use Rattle.lagprogress.proofs.OneRound.{Nothing, join, ticked}
 use Rattle.lagprogress.proofs.Starting.{emptied}
@@ -37,31 +38,106 @@ turned p q =
     (inr (ap (λ b. group_end b p) alone, ap (λ b. group_end b q) alone)) in
     subst (λ g. same_group (group_of p q) g ≡ true) same (group-itself (group_of p q))
 
+-- both ends are synchronized, know that of each other, and what they took last bears the present change counts
+
+pub record AreSynced (at : Side → ℕ) (w : Side → Lacpdu) (j : WorldState) : Type 0 where
+  pub known : Side → ℕ
+  pub link : Link 2 at w known One Nothing j
+  pub knows : (s : Side) → 1 ≤ known s
+  pub heard : (s : Side) → AtIt at w s PartnerInSync j
+  pub present : (s : Side) → Present at s j
+
+module _ (at : Side → ℕ) (w : Side → Lacpdu) (j : WorldState) (g : AreSynced at w j) where
+  now_distributes : (s : Side) (e : EndPort at w 2 g.known s j) → e.port.port.mux ≡ CollectingDistributing
+  now_distributes s e =
+      let st = (half s j).state in
+      let mux = (all-get (MuxIsSettled st.keys st.system_ports) st.system_ports e.index e.port e.there (g.link.steady s).0.quiet.0).mux in
+      distributes_now e.port.port mux (e.is.2 (omega arith)) (end_with at w 2 g.known s j e PartnerInSync (g.heard s))
+
+  -- so both distribute
+  pub distributes : (s : Side) → OfPort Distributes (machines_of (at s) (half s j).state)
+  distributes s =
+      let e = end_here at w 2 g.known One Nothing j g.link s in
+      subst (OfPort Distributes) (sym e.found) (now_distributes s e, (e.is.2 (omega arith)).0)
+
+  -- what is compared of an end
+  record Compared (s : Side) : Type 0 where
+    distributes : (end_facts (half s j) (at s)).distributes ≡ true
+    present : (end_facts (half s j) (at s)).defaulted ≡ false
+    taken : is_stamp (end_facts (half (peer s) j) (at (peer s))).count (end_facts (half s j) (at s)).taken ≡ true
+    own : Party
+    others : Party
+    says : own ≡ party_of (w s).actor
+    knows : others ≡ party_of (w (peer s)).actor
+    group : (end_facts (half s j) (at s)).group ≡ Some (group_of own others)
+
+  compared : ((s : Side) → is_some (history_at (half s j).histories (at s)) ≡ true) → (s : Side) → Compared s
+  compared kept s =
+      let e = end_here at w 2 g.known One Nothing j g.link s in
+      let known = (e.is.1.1 (g.knows s)).0 in
+      record {
+        distributes = ap (λ o. unwrap_or (option_map (λ (x : Machines). same_mux_state CollectingDistributing x.mux) o) false) e.found
+            ∙ ap (same_mux_state CollectingDistributing) (now_distributes s e);
+        present = ap (λ o. unwrap_or (option_map (λ (x : Machines). x.defaulted) o) false) e.found ∙ known.present;
+        taken = g.present s (kept s);
+        own = e.port.port.party;
+        others = party_of e.port.port.partner;
+        says = e.is.0.0;
+        knows = known.party;
+        group = ap (λ o. option_map group_at o) e.found;
+      }
+
+  pub agrees_now : (i : ℕ) → ((x : ℕ) (fl : Side → List ItemValue) → OnCable x at fl j.links → x ≡ i)
+      → ((s : Side) → is_some (history_at (half s j).histories (at s)) ≡ true) → agreement_at j (suc i) ≡ Some Same
+  agrees_now i only kept =
+      let a = compared kept One in
+      let b = compared kept Two in
+      let links = g.link in
+      let groups : same_groups (end_facts j.one (at One)).group (end_facts j.two (at Two)).group ≡ true =
+      ap (λ g. same_groups g (end_facts j.two (at Two)).group) a.group ∙ (ap (same_groups (Some (group_of a.own a.others))) b.group
+      ∙ subst (λ x. same_group (group_of a.own a.others) (group_of b.own x) ≡ true) (a.says ∙ sym b.knows)
+      (subst (λ x. same_group (group_of a.own a.others) (group_of x a.own) ≡ true) (a.knows ∙ sym b.says) (turned a.own a.others))) in
+      ap (option_map (λ (l : LinkState). agreement_of (end_facts j.one l.one) (end_facts j.two l.two)))
+      (subst (λ x. slice_get j.links x ≡ Some (cable at links.flying)) (only links.index links.flying links.links) links.links.there)
+      ∙ ap Some (all_same (end_facts j.one (at One)).distributes (end_facts j.two (at Two)).distributes
+      (end_facts j.one (at One)).defaulted (end_facts j.two (at Two)).defaulted
+      (is_stamp (end_facts j.one (at One)).count (end_facts j.two (at Two)).taken)
+      (is_stamp (end_facts j.two (at Two)).count (end_facts j.one (at One)).taken)
+      (same_groups (end_facts j.one (at One)).group (end_facts j.two (at Two)).group)
+      a.distributes b.distributes a.present b.present b.taken a.taken groups)
+
+-- a SELECTED end climbs
+module _ (at : Side → ℕ) (w : Side → Lacpdu) (c : Side → ℕ) where
+  pub rises_first : (j : WorldState) (l : Link 1 at w c One Nothing j) (s : Side) → AtIt at w s (λ p. is_selected p.choice ≡ true) j
+      → AtIt at w s (Rising (20 - 0)) j
+  rises_first j l s chosen =
+      let e = end_here at w 1 c One Nothing j l s in
+      let st = (half s j).state in
+      let mux = (all-get (MuxIsSettled st.keys st.system_ports) st.system_ports e.index e.port e.there (l.steady s).0.quiet.0).mux in
+      let timed = all-get (λ (y : SystemPort). IsTimed y.port) st.system_ports e.index e.port e.there (l.steady s).1 in
+      at_end at w 1 c s j e l.steady (Rising 20) (rising_first e.port.port mux timed
+      (end_with at w 1 c s j e (λ p. is_selected p.choice ≡ true) chosen))
+
+  pub rises_on : {E : Clearing} (s : Side) (gives : Algorithms) (n : ℕ) (old new : WorldState) → Fits 1 w c → Fits 1 w (ticked c) → 2 ≤ c s
+      → Link 1 at w c One Nothing old → IsPlayed E gives old new → AtIt at w s (Rising (20 - n)) old → AtIt at w s (Rising (20 - (n + 1))) new
+  rises_on s gives n old new fits then l link h rising = subst (λ t. AtIt at w s (Rising t) new) (omega arith)
+      (beside at w 1 (ticked c) s (Rising (20 - n - 1)) new
+      (host_holds gives s 1 at w c (Rising (20 - n)) (Rising (20 - n - 1)) old new fits then
+      (rising_along (w s) (w (peer s)) (c s) 1 (20 - n) (omega arith) (omega (arith, l)))
+      (rising_along (w s) (w (peer s)) (ticked c s) 1 (20 - n - 1) (omega arith) (omega (arith, l)))
+      (λ p q r rest a y. ticks_rising 1 (w s) (w (peer s)) (c s) (20 - n) p q (omega (arith, l)) r a y)
+      (λ p y. y) (λ p y. y) (join 1 at w c One s (Rising (20 - n)) old link rising) h))
+
 module _ (at : Side → ℕ) (w : Side → Lacpdu) (named : (t : Side) → IsNamed (w t))
     (awake : (s : Side) → (activity (w s) ≡ true) ⊎ (activity (w (peer s)) ≡ true)) where
   pub climb_first : (j : WorldState) (g : FreshAt at w 1 j) (s : Side) → AtIt at w s (λ p. is_selected p.choice ≡ true) j
       → AtIt at w s (Rising (20 - 0)) j
-  climb_first j g s chosen =
-      let e = end_here at w 1 g.known One Nothing j g.link s in
-      let steady = g.link.steady in
-      let st = (half s j).state in
-      let mux = (all-get (MuxIsSettled st.keys st.system_ports) st.system_ports e.index e.port e.there (steady s).0.quiet.0).mux in
-      let timed = all-get (λ (y : SystemPort). IsTimed y.port) st.system_ports e.index e.port e.there (steady s).1 in
-      at_end at w 1 g.known s j e steady (Rising 20) (rising_first e.port.port mux timed
-      (end_with at w 1 g.known s j e (λ p. is_selected p.choice ≡ true) chosen))
+  climb_first j g s chosen = rises_first at w g.known j g.link s chosen
 
   pub climb_on : (s : Side) (gives : Algorithms) (n : ℕ) (old new : WorldState) (g : FreshAt at w 1 old) → IsHostRound gives old new
       → AtIt at w s (Rising (20 - n)) old → AtIt at w s (Rising (20 - (n + 1))) new
-  climb_on s gives n old new g h rising =
-      let l = knows_peer at w 1 0 0 old g (omega arith) s in
-      subst (λ t. AtIt at w s (Rising t) new) (omega arith)
-      (beside at w 1 (ticked g.known) s (Rising (20 - n - 1)) new
-      (host_holds gives s 1 at w g.known (Rising (20 - n)) (Rising (20 - n - 1)) old new
-      (fits_before at w named awake 1 old g (omega arith)) (fits_fresh at w named awake 1 old g (omega arith))
-      (rising_along (w s) (w (peer s)) (g.known s) 1 (20 - n) (omega arith) (omega (arith, l)))
-      (rising_along (w s) (w (peer s)) (ticked g.known s) 1 (20 - n - 1) (omega arith) (omega (arith, l)))
-      (λ p q r rest a y. ticks_rising 1 (w s) (w (peer s)) (g.known s) (20 - n) p q (omega (arith, l)) r a y)
-      (λ p y. y) (λ p y. y) (join 1 at w g.known One s (Rising (20 - n)) old g.link rising) h))
+  climb_on s gives n old new g h rising = rises_on at w g.known s gives n old new (fits_before at w named awake 1 old g (omega arith))
+      (fits_fresh at w named awake 1 old g (omega arith)) (knows_peer at w 1 0 0 old g (omega arith) s) g.link h rising
 
   -- both climb
   pub record Climbs (n : ℕ) (j : WorldState) : Type 0 where
@@ -157,22 +233,18 @@ module _ (at : Side → ℕ) (w : Side → Lacpdu) (named : (t : Side) → IsNam
     | inr y ↦ y
   ])
 
-  -- and so both distribute
-  up_now : (n : ℕ) (j : WorldState) → 11 ≤ n → Agrees n j → (s : Side) → OfPort Distributes (machines_of (at s) (half s j).state)
-  up_now n j l c s =
-      let g = c.fresh in
-      let e = end_here at w 2 g.known One Nothing j g.link s in
-      let st = (half s j).state in
-      let mux = (all-get (MuxIsSettled st.keys st.system_ports) st.system_ports e.index e.port e.there (g.link.steady s).0.quiet.0).mux in
-      let synced = e.is.2 (omega arith) in
-      let heard = end_with at w 2 g.known s j e PartnerInSync (told_now n j l c s) in
-      subst (OfPort Distributes) (sym e.found) (distributes_now e.port.port mux synced heard, synced.0)
-
   abbrev pub Up : WorldState → Type 0
   Up j = (n : ℕ) × (11 ≤ n) × Agrees n j
 
-  pub distributes : (j : WorldState) → Up j → (s : Side) → OfPort Distributes (machines_of (at s) (half s j).state)
-  distributes j up = up_now up.0 j up.1 up.2
+  pub synced_of : (j : WorldState) → Up j → AreSynced at w j
+  synced_of j up = let g = up.2.fresh in
+      record {
+        known = g.known;
+        link = g.link;
+        knows = λ s. (let l = knows_peer at w 2 0 0 j g (omega arith) s in omega (arith, l));
+        heard = told_now up.0 j up.1 up.2;
+        present = λ s. g.present s (let l = knows_peer at w 2 0 0 j g (omega arith) s in omega (arith, l));
+      }
 
   -- from a round in which both ends are SELECTED, in 20 rounds to one in which both are synchronized, and on
   pub comes_up : (gives : Algorithms) (n : ℕ) (start mid new : WorldState) → FreshAt at w 1 start
@@ -183,64 +255,11 @@ module _ (at : Side → ℕ) (w : Side → Lacpdu) (named : (t : Side) → IsNam
       let climbed = hosts_on gives Climbs start (climbs_first start g chosen) (climbs_on gives) 20 mid h in
       (n, enough, hosts_on gives Agrees mid (agrees_first mid climbed ready) (agrees_on gives) n new more)
 
-  -- what is compared of an end
-  record Compared (s : Side) (j : WorldState) : Type 0 where
-    distributes : (end_facts (half s j) (at s)).distributes ≡ true
-    present : (end_facts (half s j) (at s)).defaulted ≡ false
-    taken : is_stamp (end_facts (half (peer s) j) (at (peer s))).count (end_facts (half s j) (at s)).taken ≡ true
-    own : Party
-    others : Party
-    says : own ≡ party_of (w s).actor
-    knows : others ≡ party_of (w (peer s)).actor
-    group : (end_facts (half s j) (at s)).group ≡ Some (group_of own others)
-
-  compared : (j : WorldState) → ((s : Side) → is_some (history_at (half s j).histories (at s)) ≡ true) → Up j → (s : Side) → Compared s j
-  compared j kept up s =
-      let c = up.2 in
-      let g = c.fresh in
-      let e = end_here at w 2 g.known One Nothing j g.link s in
-      let st = (half s j).state in
-      let mux = (all-get (MuxIsSettled st.keys st.system_ports) st.system_ports e.index e.port e.there (g.link.steady s).0.quiet.0).mux in
-      let heard = end_with at w 2 g.known s j e PartnerInSync (told_now up.0 j up.1 c s) in
-      let now = distributes_now e.port.port mux (e.is.2 (omega arith)) heard in
-      let some : 1 ≤ g.known s = (let l = knows_peer at w 2 0 0 j g (omega arith) s in omega (arith, l)) in
-      let known = (e.is.1.1 some).0 in
-      record {
-        distributes = ap (λ o. unwrap_or (option_map (λ (x : Machines). same_mux_state CollectingDistributing x.mux) o) false) e.found
-            ∙ ap (same_mux_state CollectingDistributing) now;
-        present = ap (λ o. unwrap_or (option_map (λ (x : Machines). x.defaulted) o) false) e.found ∙ known.present;
-        taken = g.present s some (kept s);
-        own = e.port.port.party;
-        others = party_of e.port.port.partner;
-        says = e.is.0.0;
-        knows = known.party;
-        group = ap (λ o. option_map group_at o) e.found;
-      }
-
-  pub agrees_now : (i : ℕ) (j : WorldState) → ((x : ℕ) (fl : Side → List ItemValue) → OnCable x at fl j.links → x ≡ i)
-      → ((s : Side) → is_some (history_at (half s j).histories (at s)) ≡ true) → Up j → agreement_at j (suc i) ≡ Some Same
-  agrees_now i j only kept up =
-      let a = compared j kept up One in
-      let b = compared j kept up Two in
-      let links = up.2.fresh.link in
-      let groups : same_groups (end_facts j.one (at One)).group (end_facts j.two (at Two)).group ≡ true =
-      ap (λ g. same_groups g (end_facts j.two (at Two)).group) a.group ∙ (ap (same_groups (Some (group_of a.own a.others))) b.group
-      ∙ subst (λ x. same_group (group_of a.own a.others) (group_of b.own x) ≡ true) (a.says ∙ sym b.knows)
-      (subst (λ x. same_group (group_of a.own a.others) (group_of x a.own) ≡ true) (a.knows ∙ sym b.says) (turned a.own a.others))) in
-      ap (option_map (λ (l : LinkState). agreement_of (end_facts j.one l.one) (end_facts j.two l.two)))
-      (subst (λ x. slice_get j.links x ≡ Some (cable at links.flying)) (only links.index links.flying links.links) links.links.there)
-      ∙ ap Some (all_same (end_facts j.one (at One)).distributes (end_facts j.two (at Two)).distributes
-      (end_facts j.one (at One)).defaulted (end_facts j.two (at Two)).defaulted
-      (is_stamp (end_facts j.one (at One)).count (end_facts j.two (at Two)).taken)
-      (is_stamp (end_facts j.two (at Two)).count (end_facts j.one (at One)).taken)
-      (same_groups (end_facts j.one (at One)).group (end_facts j.two (at Two)).group)
-      a.distributes b.distributes a.present b.present b.taken a.taken groups)
-
 -- a port at an end of a cable has a history as before
-pub hosts_kept : (gives : Algorithms) (n i : ℕ) (at : Side → ℕ) (fl : Side → List ItemValue) (old new : WorldState)
-    → OnCable i at fl old.links → HostRounds gives n old new → (s : Side)
+pub hosts_kept : (E : Clearing) (gives : Algorithms) (n i : ℕ) (at : Side → ℕ) (fl : Side → List ItemValue) (old new : WorldState)
+    → OnCable i at fl old.links → PlayedRounds E gives n old new → (s : Side)
     → is_some (history_at (half s new).histories (at s)) ≡ is_some (history_at (half s old).histories (at s))
-hosts_kept gives n i at fl old new c h s = (hosts_on gives (λ m j. Stamped 0 at k kept j) old (record {
+hosts_kept E gives n i at fl old new c h s = (played_on E gives (λ m j. Stamped 0 at k kept j) old (record {
   flying = fl;
   index = i;
   links = c;

@@ -141,8 +141,11 @@ pub use Rattle.lagprogress.specs.Heartbeat.{EachCall, IsHeard, IsSilentShortly, 
 pub use Rattle.lagprogress.specs.HostFreed.{AskingInVainIsDraining, AsksInVain, AsksInVainAfterTick, DrainingRounds, IsDrainingRound, IsNoMoveOf}
 pub use Rattle.lagprogress.specs.HostFreed.{NoneIsHeldBesideCutOffsByHosts, NoneIsHeldOnEndsByHosts, NothingIsDue, NothingIsHeldByHosts}
 pub use Rattle.lagprogress.specs.HostFreed.{RoundIsDraining, sent_nothing}
-pub use Rattle.lagprogress.specs.HostRounds.{AfterTick, AskingIsHostRound, Asks, AsksAfterTick, AsksIn, AtSomeWorld, HostRounds, IsBetweenTicks}
-pub use Rattle.lagprogress.specs.HostRounds.{IsHostRound, IsTickOf, LoopIsHostRound, RoundIsHostRound, RoundsAreHostRounds, TickOnce}
+pub use Rattle.lagprogress.specs.HostRounds.{AfterTick, AskingIsHostRound, Asks, AsksAfterTick, AsksIn, AtSomeWorld, Clearing, HostRounds}
+pub use Rattle.lagprogress.specs.HostRounds.{IsBetweenTicks, IsHostRound, IsPlayed, IsTickOf, LoopIsHostRound, NoneIsLeft, PlayedRounds}
+pub use Rattle.lagprogress.specs.HostRounds.{RoundIsHostRound, RoundsAreHostRounds, TickOnce}
+pub use Rattle.lagprogress.specs.LateRounds.{ArriveIn, AskingIsLateRound, HostRoundIsLateRound, IsArrivalAt, IsLateRound, LateRounds, OldArrive}
+pub use Rattle.lagprogress.specs.LateRounds.{late_known_if_both_active, late_known_if_one_is, late_up_if_both_active, late_up_if_one_is}
 pub use Rattle.lagprogress.specs.Knowing.{HasRecorded, IsKnown}
 pub use Rattle.lagprogress.specs.Limited.{CarriesOnAll, DownAreUnselected, EachLimitedLinkAgrees, EachReachedHasDownUnselected, EndsAgreed}
 pub use Rattle.lagprogress.specs.Limited.{IsLimitedBundle, StandsByOthers}

@@ -20,7 +20,7 @@ use Rattle.lagprogress.proofs.Linked.{put_other, put_there, gains_has, gains_goo
 -- what goes back
 
 -- what goes back is no LACPDU
-responds_none : (gives : ℕ → ℕ → ℕ → Type 0) (n : ℕ) (octets : List ℕ) (a : Result Received SystemFault) (old new : SystemState)
+pub responds_none : (gives : ℕ → ℕ → ℕ → Type 0) (n : ℕ) (octets : List ℕ) (a : Result Received SystemFault) (old new : SystemState)
     → CallPromise gives old (Receive n octets) (answer.Receive a) new → (frame : List ℕ) → response a ≡ Some frame → (x : Lacpdu)
     → IsFrame frame (Carries (pdu.Lacpdu x)) → ⊥
 responds_none gives n octets (Ok (received.Respond sent)) old new k frame e x c =
@@ -127,6 +127,15 @@ arrives_link gives cn n s d at w c x Y r old new fits along l h k =
         → Arrived i k.item.octets (half s old).state (half s new).state
     arrived_by (Err fault) i z up e f p = absurd (none-some i (sym p.step.cause ∙ e))
     arrived_by (Ok o) i z up e f p = arrival (gives s) (at s) i z k.item.octets o (half s old).state (half s new).state e f up p
+
+-- so it is if the first item towards the end of s came
+pub arrives_moves : (gives : Algorithms) (cn n : ℕ) (s : Side) (d : ℕ) (at : Side → ℕ) (w : Side → Lacpdu) (c : Side → ℕ) (x : Side)
+    (Y : Machines → Type 0) (r : Reply) (old new : WorldState) → Fits d w c → Along Y (w x) (w (peer x)) (c x) d
+    → (l : Link d at w c x Y old) → WorldSteps gives old (event.Deliver cn n) r new → (k : Arrives gives s at l.flying old new)
+    → (m : Link d at w c x Y new) × (m.flying ≡ k.now)
+unfolding arrives_link
+arrives_moves gives cn n s d at w c x Y r old new fits along l h k =
+    ((arrives_link gives cn n s d at w c x Y r old new fits along l h k).link, refl)
 
 -- the first item towards an end came, or the event left the cable to itself; then these items are on their way
 abbrev pub Moved : Algorithms → (Side → ℕ) → (Side → List ItemValue) → WorldState → WorldState → (Side → List ItemValue) → Type 0

@@ -2,8 +2,8 @@
 use Rattle.lagprogress.proofs.Common.{Bool, List, Some, ap, arith, false, inl, inr, map, refl, slice_get, subst, suc, sym, true, zero, ℕ, ◌+◌, ◌∙◌}
 use Rattle.lagprogress.proofs.Common.{◌≡◌, nat_tests, Party, Lacpdu, One, Side, Two, end_at, peer, Machines, receive_rows, RunsToRest, after_sending}
 use Rattle.lagprogress.proofs.Common.{count_down, Table, SystemPort, ProcessesLacpdu, Receive, SystemState, with_system_ports, with_table, Reply}
-use Rattle.lagprogress.proofs.Common.{Algorithms, WorldSteps, link_ends, ItemValue, LinkState, WorldState, half, port_at, end_is, HostRounds}
-use Rattle.lagprogress.proofs.Common.{IsHostRound, IsRound, Rounds, IsSteady}
+use Rattle.lagprogress.proofs.Common.{Algorithms, WorldSteps, link_ends, ItemValue, LinkState, WorldState, half, port_at, end_is, Clearing}
+use Rattle.lagprogress.proofs.Common.{HostRounds, IsHostRound, IsPlayed, NoneIsLeft, PlayedRounds, IsRound, Rounds, IsSteady}
 use Rattle.lagprogress.proofs.Unchanged.{events_keep}
 use Rattle.lagprogress.proofs.EachPort.{KeptBySettling, OfEach, Step-each, asked_each, Tick-each}
 use Rattle.lagprogress.proofs.OneCable.{OnCable, cable, deliver_ends, emits, ticks}
@@ -98,9 +98,9 @@ tick_keeps P k ticked s t gives n r i j named step a = each_side (λ u. EachAt P
     (tick_makes P P k ticked t gives n r i j named step) (tick_leaves P t gives n r i j named step) s a
 
 -- a round makes Q of P, if the tick does, and the rest keeps both
-pub host_each : (P Q : ℕ → Machines → Type 0) → RoundKeeps P → RoundKeeps Q
+pub host_each : {E : Clearing} (P Q : ℕ → Machines → Type 0) → RoundKeeps P → RoundKeeps Q
     → ((n : ℕ) (p q : Machines) → RunsToRest receive_rows (count_down p) q → P n p → Q n q)
-    → (s : Side) (gives : Algorithms) (old new : WorldState) → IsHostRound gives old new → EachAt P s old → EachAt Q s new
+    → (s : Side) (gives : Algorithms) (old new : WorldState) → IsPlayed E gives old new → EachAt P s old → EachAt Q s new
 host_each P Q kp kq ticked s gives old new h a = holds_on gives s (λ x y j. EachAt (Pick P Q x) s j) kept own other
     h.events h.replies old new true true (of_side s h.events h.ticks) h.acts a
   where
@@ -118,47 +118,65 @@ host_each P Q kp kq ticked s gives old new h a = holds_on gives s (λ x y j. Eac
     other true = same P
     other false = same Q
 
--- so many rounds
-
-pub hosts_on : (gives : Algorithms) (S : ℕ → WorldState → Type 0) (start : WorldState) → S 0 start
-    → ((n : ℕ) (old new : WorldState) → IsHostRound gives old new → S n old → S (n + 1) new)
-    → (n : ℕ) (new : WorldState) → HostRounds gives n start new → S n new
-hosts_on gives S start first next zero new h = subst (S 0) (sym h) first
-hosts_on gives S start first next (suc n) new h =
-    subst (λ m. S m new) (omega arith) (next n h.0 new h.2 (hosts_on gives S start first next n h.0 h.1))
-
-pub hosts_split : (gives : Algorithms) (k m n : ℕ) (old new : WorldState) → n ≡ k + m → HostRounds gives n old new
-    → (mid : WorldState) × HostRounds gives m old mid × HostRounds gives k mid new
-hosts_split gives zero m n old new e h = (new, subst (λ i. HostRounds gives i old new) (omega (arith, e)) h, refl)
-hosts_split gives (suc k) m zero old new e h = absurd (omega (arith, e))
-hosts_split gives (suc k) m (suc n) old new e h = grind (arith, nat_tests, hosts_split gives k m n old h.0 (omega (arith, e)) h.1)
-
-pub hosts_steady : (gives : Algorithms) (n : ℕ) (old new : WorldState) → IsSteady old → HostRounds gives n old new → IsSteady new
-hosts_steady gives n old new k h = hosts_on gives (λ m j. IsSteady j) old k
-    (λ m i j q a. runs_steady gives q.events q.replies i j q.acts a) n new h
-
-module _ (X : Type 0) (g : SystemState → X)
-    (kept : (s : SystemState) (ports : List SystemPort) (t : Table) → g (with_table (with_system_ports s ports) t) ≡ g s) where
-  pub hosts_keep : (gives : Algorithms) (n : ℕ) (old new : WorldState) → HostRounds gives n old new → (s : Side)
-      → g (half s new).state ≡ g (half s old).state
-  hosts_keep gives n old new h = hosts_on gives (λ m j. (s : Side) → g (half s j).state ≡ g (half s old).state) old (λ s. refl)
-      (λ m i j q a s. events_keep X g kept gives q.events q.replies i j q.acts s ∙ a s) n new h
-
 -- the ports that the cables join
 
-joins_kept : (gives : Algorithms) (links : List LinkState) → KeptBetween gives (λ j. map link_ends j.links ≡ map link_ends links)
+pub joins_kept : (gives : Algorithms) (links : List LinkState) → KeptBetween gives (λ j. map link_ends j.links ≡ map link_ends links)
 joins_kept gives links (event.Emit n p) r i j b h m = (emits gives n p r i j h).2.ends ∙ m
 joins_kept gives links (event.Deliver c n) r i j b h m = deliver_ends gives c n r i j h ∙ m
 joins_kept gives links (event.Offer n agg octets) r i j b h m = quiet_ends gives (event.Offer n agg octets) r i j tt h ∙ m
 joins_kept gives links (event.Move n agg conv p) r i j b h m = quiet_ends gives (event.Move n agg conv p) r i j tt h ∙ m
 joins_kept gives links e r i j b h m = absurd b
 
+pub joins_tick : (gives : Algorithms) (links : List LinkState) (s : Side) → MadeByTick gives s (λ j. map link_ends j.links ≡ map link_ends links)
+    (λ j. map link_ends j.links ≡ map link_ends links)
+joins_tick gives links s n r i j named step m = ap (map link_ends) (ticks gives n s r i j named step).links ∙ m
+
+-- so many rounds
+
+module _ (E : Clearing) (gives : Algorithms) where
+  pub played_on : (S : ℕ → WorldState → Type 0) (start : WorldState) → S 0 start
+      → ((n : ℕ) (old new : WorldState) → IsPlayed E gives old new → S n old → S (n + 1) new)
+      → (n : ℕ) (new : WorldState) → PlayedRounds E gives n start new → S n new
+  played_on S start first next zero new h = subst (S 0) (sym h) first
+  played_on S start first next (suc n) new h =
+      subst (λ m. S m new) (omega arith) (next n h.0 new h.2 (played_on S start first next n h.0 h.1))
+
+  pub played_split : (k m n : ℕ) (old new : WorldState) → n ≡ k + m → PlayedRounds E gives n old new
+      → (mid : WorldState) × PlayedRounds E gives m old mid × PlayedRounds E gives k mid new
+  played_split zero m n old new e h = (new, subst (λ i. PlayedRounds E gives i old new) (omega (arith, e)) h, refl)
+  played_split (suc k) m zero old new e h = absurd (omega (arith, e))
+  played_split (suc k) m (suc n) old new e h =
+      let r = played_split k m n old h.0 (omega (arith, e)) h.1 in (r.0, r.1, (h.0, r.2, h.2))
+
+  pub played_steady : (n : ℕ) (old new : WorldState) → IsSteady old → PlayedRounds E gives n old new → IsSteady new
+  played_steady n old new k h = played_on (λ m j. IsSteady j) old k (λ m i j q a. runs_steady gives q.events q.replies i j q.acts a) n new h
+
+  pub played_keep : (X : Type 0) (g : SystemState → X)
+      → ((s : SystemState) (ports : List SystemPort) (t : Table) → g (with_table (with_system_ports s ports) t) ≡ g s)
+      → (n : ℕ) (old new : WorldState) → PlayedRounds E gives n old new → (s : Side) → g (half s new).state ≡ g (half s old).state
+  played_keep X g kept n old new h = played_on (λ m j. (s : Side) → g (half s j).state ≡ g (half s old).state) old (λ s. refl)
+      (λ m i j q a s. events_keep X g kept gives q.events q.replies i j q.acts s ∙ a s) n new h
+
+  pub played_join : (n : ℕ) (old new : WorldState) → PlayedRounds E gives n old new → map link_ends new.links ≡ map link_ends old.links
+  played_join n old new h = played_on (λ m j. map link_ends j.links ≡ map link_ends old.links) old refl
+      (λ m i j q k. holds_on gives One (λ a b j. map link_ends j.links ≡ map link_ends old.links) (λ a b. joins_kept gives old.links)
+      (λ b. joins_tick gives old.links One) (λ a. joins_tick gives old.links Two)
+      q.events q.replies i j true true (of_side One q.events q.ticks) q.acts k) n new h
+
+pub hosts_on : (gives : Algorithms) (S : ℕ → WorldState → Type 0) (start : WorldState) → S 0 start
+    → ((n : ℕ) (old new : WorldState) → IsHostRound gives old new → S n old → S (n + 1) new)
+    → (n : ℕ) (new : WorldState) → HostRounds gives n start new → S n new
+hosts_on gives = played_on NoneIsLeft gives
+
+pub hosts_split : (gives : Algorithms) (k m n : ℕ) (old new : WorldState) → n ≡ k + m → HostRounds gives n old new
+    → (mid : WorldState) × HostRounds gives m old mid × HostRounds gives k mid new
+hosts_split gives = played_split NoneIsLeft gives
+
+pub hosts_steady : (gives : Algorithms) (n : ℕ) (old new : WorldState) → IsSteady old → HostRounds gives n old new → IsSteady new
+hosts_steady gives = played_steady NoneIsLeft gives
+
 pub hosts_join : (gives : Algorithms) (n : ℕ) (old new : WorldState) → HostRounds gives n old new → map link_ends new.links ≡ map link_ends old.links
-hosts_join gives n old new h = hosts_on gives (λ m j. map link_ends j.links ≡ map link_ends old.links) old refl
-    (λ m i j q k. holds_on gives One (λ a b j. map link_ends j.links ≡ map link_ends old.links) (λ a b. joins_kept gives old.links)
-    (λ b n r i j named step m. ap (map link_ends) (ticks gives n One r i j named step).links ∙ m)
-    (λ a n r i j named step m. ap (map link_ends) (ticks gives n Two r i j named step).links ∙ m)
-    q.events q.replies i j true true (of_side One q.events q.ticks) q.acts k) n new h
+hosts_join gives = played_join NoneIsLeft gives
 
 pub zero_on : (gives : Algorithms) (S : ℕ → WorldState → Type 0) (start : WorldState) → S 0 start
     → ((n : ℕ) (old new : WorldState) → IsRound gives old new → S n old → S (n + 1) new)

@@ -67,6 +67,19 @@ pub not_attached : (m : MuxState) (g : Bool) (from : MuxState) → is_synchroniz
     → is_synchronized m ≡ true → ⊥
 not_attached m g from f h e = grind (arith, nat_tests)
 
+-- settling leaves a synchronized port so
+pub synced_mux : (ready : Bool) → EnabledKeep Synced (mux_rows ready)
+synced_mux ready = (
+  λ p h a. absurd (not_attached p.mux _ Detached refl h a.1),
+  (
+    λ p h a. absurd (not_attached p.mux _ Waiting refl h a.1),
+    (
+      λ p h a. absurd (not_attached p.mux _ Waiting refl h a.1),
+      (λ p h a. absurd (not_down _ (is_selected p.choice) h a.0), (λ p h a. (a.0, refl), (λ p h a. (a.0, refl), tt))),
+    ),
+  ),
+)
+
 end_mux : (d : ℕ) (v u : Lacpdu) (c : ℕ) (ready : Bool) → EnabledKeep (IsEnd d v u c) (mux_rows ready)
 end_mux d v u c ready = (
   λ p h a. (a.0, a.1, λ e. absurd (not_attached p.mux _ Detached refl h (a.2 e).1)),

@@ -1,18 +1,18 @@
 -- No conversation that is not moved stays held on a port of a healthy cable of a bundle.
 use Rattle.lagprogress.proofs.Common.{List, None, Option, Some, [], ap, arith, inl, inr, length, refl, subst, suc, sym, zero, ℕ, ◌++◌, ◌+◌, ◌-◌, ◌<◌}
 use Rattle.lagprogress.proofs.Common.{◌∙◌, ◌∷◌, ◌≡◌, ◌≤◌, ◌⊎◌, nat_tests, none-some, same_Some, AllByRecursion, all-append, One, Side, peer, value_of}
-use Rattle.lagprogress.proofs.Common.{Assignment, Flushing, On, Wanted, after_mark, after_release, after_tick, IsConversation, Table, assignment_of}
+use Rattle.lagprogress.proofs.Common.{Assignment, Flushing, On, Wanted, after_mark, after_release, after_tick, IsConversation, assignment_of}
 use Rattle.lagprogress.proofs.Common.{held_unless_on, SystemState, Event, Reply, Algorithms, WorldSteps, side_of, LinkState, WorldState, half}
 use Rattle.lagprogress.proofs.Common.{port_at, BothAreActive, IsBundle, OneIsActive, CarriersAreUp, HasIdentifierLeft, IsNotHeld, IsNotHeldOn}
 use Rattle.lagprogress.proofs.Common.{NoneIsHeld, NoneIsHeldOn, NoneIsHeldOnEnds, NothingIsHeld, carrier_of, held_on, DrainingRounds}
-use Rattle.lagprogress.proofs.Common.{NoneIsHeldOnEndsByHosts, NothingIsHeldByHosts, HostRounds, IsDeliver, IsHealthyAt, IsRound, Rounds, asks_all}
-use Rattle.lagprogress.proofs.Common.{freed_if_both_active, freed_if_one_is, ticks_of_both, up_if_both_active, up_if_one_is, IsSteady}
+use Rattle.lagprogress.proofs.Common.{NoneIsHeldOnEndsByHosts, NothingIsHeldByHosts, HostRounds, NoneIsLeft, IsDeliver, IsHealthyAt, IsRound, Rounds}
+use Rattle.lagprogress.proofs.Common.{asks_all, freed_if_both_active, freed_if_one_is, ticks_of_both, up_if_both_active, up_if_one_is, IsSteady}
 use Rattle.lagprogress.proofs.OneCable.{ticks}
 use Rattle.lagprogress.proofs.RoundEvents.{asked_half, came_half}
 use Rattle.lagprogress.proofs.Bundling.{Meets, Nowhere, awake_of, both_active, one_active, said, ups_of, named_of}
 use Rattle.lagprogress.proofs.Climbing.{PartnerInSync}
 use Rattle.lagprogress.proofs.ComingUp.{Up, told_now}
-use Rattle.lagprogress.proofs.EachRound.{splits, zero_on, hosts_keep, hosts_steady}
+use Rattle.lagprogress.proofs.EachRound.{splits, zero_on, hosts_steady, played_keep}
 use Rattle.lagprogress.proofs.Emptying.{rounds_rest}
 use Rattle.lagprogress.proofs.Holding.{Fine}
 use Rattle.lagprogress.proofs.Linked.{each_both, each_map, at_end, end_here, runs_all, each_side}
@@ -44,8 +44,8 @@ fine_last p m l a h e = none-some p e
 was_there : (gives : Algorithms) (n : ℕ) (old new : WorldState) (s : Side) (g k : ℕ) → IsSteady old → HostRounds gives n old new
     → IsConversation (half s new).state.table g k → IsConversation (half s old).state.table g k
 was_there gives n old new s g k steady h is =
-    let keys = hosts_keep ℕ (λ t. length t.keys) (λ t a b. refl) gives n old new h s in
-    let cols = hosts_keep ℕ (λ t. t.conversations) (λ t a b. refl) gives n old new h s in
+    let keys = played_keep NoneIsLeft gives ℕ (λ t. length t.keys) (λ t a b. refl) n old new h s in
+    let cols = played_keep NoneIsLeft gives ℕ (λ t. t.conversations) (λ t a b. refl) n old new h s in
     let later = hosts_steady gives n old new steady h in
     let rows : (half s new).state.table.aggs ≡ (half s old).state.table.aggs =
     (later s).0.aggregators ∙ (keys ∙ sym (steady s).0.aggregators) in

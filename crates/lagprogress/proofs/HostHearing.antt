@@ -32,7 +32,7 @@ start_stamped d at w c x Y j l none = record {
       ∙ none s l.index (cable at l.flying) l.links.there)) tt;
 }
 
-present_of : (gives : Algorithms) (at : Side → ℕ) (old new : WorldState) (t : Side) → Took-it gives 1 at (counts_of at old) (kept_of at old) t new
+pub present_of : (gives : Algorithms) (at : Side → ℕ) (old new : WorldState) (t : Side) → Took-it gives 1 at (counts_of at old) (kept_of at old) t new
     → Present at t new
 present_of gives at old new t m there = subst (λ n. is_stamp n (taken_in (history_at (half t new).histories (at t))) ≡ true) (sym (m.0.counts (peer t)))
     (m.1 (sym (m.0.there t) ∙ there))
@@ -68,7 +68,7 @@ module _ (gives : Algorithms) (d : ℕ) (at : Side → ℕ) (w : Side → Lacpdu
       → CanSound (w s) (w (peer s)) fast (c s) → Link d at w c s (Sounds fast most) old → Wakes at w s old → NothingInFlight old
       → IsHostRound gives old new → ((1 ≤ most - 1) × Link d at w (ticked c) s (Sounds fast (most - 1)) new) ⊎ Hears new
   nears fast most old new can was l wakes none h = elim (host_nears_told gives d at w s there named (Stamped 1 at (counts_of at old) (kept_of at old))
-      (Took-it gives 1 at (counts_of at old) (kept_of at old) (peer s)) (extra old) c fits then fast most old new can was l wakes none h
+      (Took-it gives 1 at (counts_of at old) (kept_of at old) (peer s)) (extra old) c fits then fast most old new can was l wakes h
       (start_stamped d at w c s (Sounds fast most) old l none)) [
         | inl z ↦ inl z
         | inr k ↦ inr (k.0, (k.1.0, present_of gives at old new (peer s) k.1.1))
@@ -78,7 +78,7 @@ module _ (gives : Algorithms) (d : ℕ) (at : Side → ℕ) (w : Side → Lacpdu
       → (old new : WorldState) → Link d at w c s X old → Wakes at w s old → NothingInFlight old → IsHostRound gives old new
       → Link d at w (ticked c) s Z new ⊎ Hears new
   passes X V Y Z k before old new l wakes none h = elim (host_tells gives d at w s there named (Stamped 1 at (counts_of at old) (kept_of at old))
-      (Took-it gives 1 at (counts_of at old) (kept_of at old) (peer s)) (extra old) c fits then X V Y Z k before old new l wakes none h
+      (Took-it gives 1 at (counts_of at old) (kept_of at old) (peer s)) (extra old) c fits then X V Y Z k before old new l wakes h
       (start_stamped d at w c s X old l none)) [
         | inl z ↦ inl z
         | inr q ↦ inr (q.0, (q.1.0, present_of gives at old new (peer s) q.1.1))

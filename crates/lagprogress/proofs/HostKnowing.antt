@@ -18,7 +18,7 @@ use Rattle.lagprogress.proofs.Sounding.{Sounds, silence_of, sounds_first}
 use Rattle.lagprogress.proofs.Stamps.{Present}
 use Rattle.lagprogress.proofs.Telling.{Told, Wakes}
 
-two_less : (s : Side) (c : Side → ℕ) (a b : ℕ) → a ≤ c s → b ≤ c (peer s) → (u : Side) → two s a b u ≤ c u
+pub two_less : (s : Side) (c : Side → ℕ) (a b : ℕ) → a ≤ c s → b ≤ c (peer s) → (u : Side) → two s a b u ≤ c u
 two_less One c a b l m One = l
 two_less One c a b l m Two = m
 two_less Two c a b l m One = m
@@ -30,7 +30,7 @@ module _ (at : Side → ℕ) (w : Side → Lacpdu) where
   mode s = short_timeout (w (peer s))
 
   -- what is left of current_while after the round in which an LACPDU came, at the least: it may have come before the tick
-  abbrev wait : Side → ℕ
+  abbrev pub wait : Side → ℕ
   wait s = wait_of (w s) - 1
 
   abbrev Linked : (Side → ℕ) → Side → (Machines → Type 0) → WorldState → Type 0
@@ -39,7 +39,7 @@ module _ (at : Side → ℕ) (w : Side → Lacpdu) where
   abbrev pub AtIt : Side → (Machines → Type 0) → WorldState → Type 0
   AtIt s P j = OfEach (AtPort (at s) P) (half s j).state.system_ports
 
-  lower : (c b : Side → ℕ) (x : Side) (Y : Machines → Type 0) (j : WorldState) → ((s : Side) → b s ≤ c s) → Linked c x Y j → Linked b x Y j
+  pub lower : (c b : Side → ℕ) (x : Side) (Y : Machines → Type 0) (j : WorldState) → ((s : Side) → b s ≤ c s) → Linked c x Y j → Linked b x Y j
   lower c b x Y j less l =
       other_ports l (λ s p rest timed a. (less_known 1 (w s) (w (peer s)) (c s) (b s) p (less s) a.0, a.1))
 
@@ -47,7 +47,7 @@ module _ (at : Side → ℕ) (w : Side → Lacpdu) where
   beside d c x Y j l = of_end l x Y (λ p rest timed a. a.1 refl)
 
   -- the end of s knows its partner since just now
-  learns : (d : ℕ) (c : Side → ℕ) (s : Side) (b : ℕ) (j : WorldState) → b ≤ c (peer s) → Link d at w c s (Learnt d (w (peer s)) (wait s)) j
+  pub learns : (d : ℕ) (c : Side → ℕ) (s : Side) (b : ℕ) (j : WorldState) → b ≤ c (peer s) → Link d at w c s (Learnt d (w (peer s)) (wait s)) j
       → Link d at w (two s (wait s) b) s Nothing j
   learns d c s b j less l =
       let P : Side → Machines → Type 0 = EndIs d w c s (Learnt d (w (peer s)) (wait s)) in
@@ -63,12 +63,12 @@ module _ (at : Side → ℕ) (w : Side → Lacpdu) where
         λ f. tt,
       )))
 
-  sounds_now : (d : ℕ) (c : Side → ℕ) (x : Side) (Y : Machines → Type 0) (s : Side) (fast : Bool) (j : WorldState)
+  pub sounds_now : (d : ℕ) (c : Side → ℕ) (x : Side) (Y : Machines → Type 0) (s : Side) (fast : Bool) (j : WorldState)
       → CanSound (w s) (w (peer s)) fast (c s) → Link d at w c x Y j → AtIt s (Sounds fast (silence_of fast)) j
   sounds_now d c x Y s fast j can l = of_end l s (Sounds fast (silence_of fast))
       (λ p rest timed a. sounds_first fast p rest timed (calm d (w s) (w (peer s)) fast (c s) p can a.0))
 
-  can_known : (s : Side) (c : ℕ) → 1 ≤ c → (activity (w s) ≡ true) ⊎ (activity (w (peer s)) ≡ true)
+  pub can_known : (s : Side) (c : ℕ) → 1 ≤ c → (activity (w s) ≡ true) ⊎ (activity (w (peer s)) ≡ true)
       → CanSound (w s) (w (peer s)) (mode s) c
   can_known s c l (inl a) = (inl a, λ e. (l, e))
   can_known s c l (inr a) = (inr (l, a), λ e. (l, e))
@@ -98,15 +98,15 @@ module _ (at : Side → ℕ) (w : Side → Lacpdu) where
     present : 1 ≤ known → Present at (peer s) j
     peer : AtIt (peer s) (IsEnd d (w (peer s)) (w (peer (peer s))) known) j
 
-  silence_less : (b : Bool) → silence_of b + 1 ≤ timeout_time b - 1
+  pub silence_less : (b : Bool) → silence_of b + 1 ≤ timeout_time b - 1
   silence_less true = omega arith
   silence_less false = omega arith
 
-  some_silence : (b : Bool) → 1 ≤ silence_of b
+  pub some_silence : (b : Bool) → 1 ≤ silence_of b
   some_silence true = omega arith
   some_silence false = omega arith
 
-  ends_of : (d : ℕ) (c : Side → ℕ) (x : Side) (Y : Machines → Type 0) (s : Side) (j : WorldState) → Link d at w c x Y j
+  pub ends_of : (d : ℕ) (c : Side → ℕ) (x : Side) (Y : Machines → Type 0) (s : Side) (j : WorldState) → Link d at w c x Y j
       → AtIt s (IsEnd d (w s) (w (peer s)) (c s)) j
   ends_of d c x Y s j l = of_end l s (IsEnd d (w s) (w (peer s)) (c s)) (λ p rest timed a. a.0)
 
@@ -114,17 +114,17 @@ module _ (at : Side → ℕ) (w : Side → Lacpdu) where
   one_less_two l = omega (arith, l)
 
   -- what is known fits, as long as it is kept
-  fits_first : (c : Side → ℕ) → ((s : Side) → c s ≤ wait s) → Fits 1 w c
+  pub fits_first : (c : Side → ℕ) → ((s : Side) → c s ≤ wait s) → Fits 1 w c
   fits_first c l s = (let m = l s in omega (arith, m), λ _. omega arith, λ e. absurd (one_less_two e), λ e. absurd (one_less_two e))
 
-  fits_ticked : (c : Side → ℕ) → ((s : Side) → c s ≤ wait s) → Fits 1 w (ticked c)
+  pub fits_ticked : (c : Side → ℕ) → ((s : Side) → c s ≤ wait s) → Fits 1 w (ticked c)
   fits_ticked c l = fits_first (ticked c) (λ s. let m = l s in omega (arith, m))
 
-  abbrev Able : (Side → ℕ) → Type 0
+  abbrev pub Able : (Side → ℕ) → Type 0
   Able c = (s : Side) → CanSound (w s) (w (peer s)) (mode s) (c s) × CanSound (w s) (w (peer s)) (mode s) (c s - 1)
 
   -- an end that may sound is wakeful
-  wakes_now : (d : ℕ) (c : Side → ℕ) (x : Side) (Y : Machines → Type 0) (s : Side) (fast : Bool) (j : WorldState)
+  pub wakes_now : (d : ℕ) (c : Side → ℕ) (x : Side) (Y : Machines → Type 0) (s : Side) (fast : Bool) (j : WorldState)
       → CanSound (w s) (w (peer s)) fast (c s) → Link d at w c x Y j → AtIt s (Wakeful (w s) (w (peer s))) j
   wakes_now d c x Y s fast j can l = of_end l s (Wakeful (w s) (w (peer s)))
       (λ p rest timed a. can_wake d (w s) (w (peer s)) fast (c s) p can a.0)
@@ -491,7 +491,7 @@ fresh_knows l w j g s =
 
 -- both ends are active
 
-room_short : (b : Bool) → silence_of b + silence_of true + 2 ≤ timeout_time b - 1
+pub room_short : (b : Bool) → silence_of b + silence_of true + 2 ≤ timeout_time b - 1
 room_short b = grind (arith, nat_tests)
 
 meets_short : (gives : Algorithms) (at : Side → ℕ) (w : Side → Lacpdu) (s : Side) (n : ℕ) (old new : WorldState)

@@ -7,10 +7,10 @@ use Rattle.lagprogress.proofs.Common.{count_conversations, next_identifier, Syst
 use Rattle.lagprogress.proofs.Common.{TransmitsIf, SystemState, machines_of, port_index, all-get, found_place, ports_rise, Event, Reply}
 use Rattle.lagprogress.proofs.Common.{AfterTransmit, Algorithms, WorldEmits, WorldRuns, WorldSteps, sent_reply, side_of, payload_in, HalfState}
 use Rattle.lagprogress.proofs.Common.{LinkState, WorldState, half, is_accepted, port_at, with_half, half_there, AskingInVainIsDraining, AsksInVain}
-use Rattle.lagprogress.proofs.Common.{AsksInVainAfterTick, DrainingRounds, IsDrainingRound, IsNoMoveOf, NothingIsDue, RoundIsDraining, sent_nothing}
-use Rattle.lagprogress.proofs.Common.{AfterTick, AskingIsHostRound, Asks, AsksAfterTick, AsksIn, AtSomeWorld, HostRounds, IsBetweenTicks, IsTickOf}
-use Rattle.lagprogress.proofs.Common.{LoopIsHostRound, RoundIsHostRound, RoundsAreHostRounds, TickOnce, AtEnd, IsDeliver, IsHealthyAt}
-use Rattle.lagprogress.proofs.Common.{NothingInFlight, OfPort, Rounds, asks_all, ticks_of_both, IsSteady}
+use Rattle.lagprogress.proofs.Common.{AsksInVainAfterTick, DrainingRounds, IsNoMoveOf, NothingIsDue, RoundIsDraining, sent_nothing, AfterTick}
+use Rattle.lagprogress.proofs.Common.{AskingIsHostRound, Asks, AsksAfterTick, AsksIn, AtSomeWorld, Clearing, HostRounds, IsBetweenTicks, IsPlayed}
+use Rattle.lagprogress.proofs.Common.{IsTickOf, LoopIsHostRound, NoneIsLeft, RoundIsHostRound, RoundsAreHostRounds, TickOnce, AtEnd, IsDeliver}
+use Rattle.lagprogress.proofs.Common.{IsHealthyAt, OfPort, Rounds, asks_all, ticks_of_both, IsSteady}
 use Rattle.distributor.specs.Conversations.{sum_below}
 use Rattle.lagprogress.proofs.EachPort.{OfEach, Tick-each}
 use Rattle.lagprogress.proofs.EachRound.{EachAt, asks_each, delivers_each, own_keeps, own_ticks, hosts_steady}
@@ -304,8 +304,10 @@ stays_first gives s i l old steady y =
           (at_number (λ q. q.enabled ≡ true) 0 st.system_ports e.0 e.1 (ports_rise st (steady s).0.ports) e.3 e.4);
     }
 
-pub asking_is_host_round : (gives : Algorithms) → AskingIsHostRound gives
-asking_is_host_round gives events replies old new steady turns run asks empty = record {
+pub asking_is_played : (E : Clearing) (gives : Algorithms) (events : List Event) (replies : List Reply) (old new : WorldState) → IsSteady old
+    → TickOnce One true true events → WorldRuns gives old events replies new
+    → ((s : Side) (i : ℕ) (l : LinkState) → IsHealthyAt i l old → AsksAfterTick s (port_at s l) events) → E events old new → IsPlayed E gives old new
+asking_is_played E gives events replies old new steady turns run asks empty = record {
   events = events;
   replies = replies;
   ticks = turns;
@@ -314,6 +316,9 @@ asking_is_host_round gives events replies old new steady turns run asks empty = 
       (stays_first gives s i l old steady y);
   empties = empty;
 }
+
+pub asking_is_host_round : (gives : Algorithms) → AskingIsHostRound gives
+asking_is_host_round gives = asking_is_played NoneIsLeft gives
 
 -- a healthy round is one
 

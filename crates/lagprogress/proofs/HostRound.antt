@@ -3,7 +3,7 @@ use Rattle.lagprogress.proofs.Common.{Bool, List, None, Some, [], ap, arith, fal
 use Rattle.lagprogress.proofs.Common.{nat_tests, same_Some, AllByRecursion, Lacpdu, One, Side, Two, peer, Machines, periodic_rows, receive_rows}
 use Rattle.lagprogress.proofs.Common.{AtRest, RunsToRest, after_sending, count_down, is_due, SystemState, machines_of, Event, Reply, Algorithms}
 use Rattle.lagprogress.proofs.Common.{WorldRuns, WorldSteps, side_of, ItemValue, WorldState, half, limit_towards, timeout_time, AfterTick}
-use Rattle.lagprogress.proofs.Common.{AtSomeWorld, IsBetweenTicks, IsHostRound, IsTickOf, TickOnce, IsHealthyAt, OfPort}
+use Rattle.lagprogress.proofs.Common.{AtSomeWorld, Clearing, IsBetweenTicks, IsHostRound, IsPlayed, IsTickOf, TickOnce, IsHealthyAt, OfPort}
 use Rattle.lagsystem.specs.declared.drive.Reply.TheVariants as answer
 use Rattle.lagscript.specs.declared.event.Event.TheVariants as event
 use Rattle.lagprogress.proofs.Climbing.{known_still}
@@ -56,7 +56,7 @@ one_of s e (n, named, is) (m, other, also) = other_side s (same_Some (peer s) s 
     number : (n m : ℕ) → event.Tick m 1 ≡ event.Tick n 1 → m ≡ n
     number n m e = cc
 
-not_tick : (s : Side) (e : Event) → IsTickOf s e → IsBetweenTicks e → ⊥
+pub not_tick : (s : Side) (e : Event) → IsTickOf s e → IsBetweenTicks e → ⊥
 not_tick s e (n, named, is) b = subst IsBetweenTicks is b
 
 -- a system that has ticked does not tick again
@@ -525,11 +525,11 @@ HeldIn d at w c x Y Z true b j = Link d at w (known_in c x true b) x Y j
 HeldIn d at w c x Y Z false b j = Link d at w (known_in c x false b) x Z j
 
 -- a round with something beside it that each event keeps: Y before the tick of x, Z after it
-pub host_holds : (gives : Algorithms) (x : Side) (d : ℕ) (at : Side → ℕ) (w : Side → Lacpdu) (c : Side → ℕ) (Y Z : Machines → Type 0)
+pub host_holds : {E : Clearing} (gives : Algorithms) (x : Side) (d : ℕ) (at : Side → ℕ) (w : Side → Lacpdu) (c : Side → ℕ) (Y Z : Machines → Type 0)
     (old new : WorldState) → Fits d w c → Fits d w (ticked c) → Along Y (w x) (w (peer x)) (c x) d → Along Z (w x) (w (peer x)) (ticked c x) d
     → ((p q : Machines) → RunsToRest receive_rows (count_down p) q → AtRest periodic_rows p → IsEnd d (w x) (w (peer x)) (c x) p → Y p → Z q)
     → ((p : Machines) → Y p → Y (after_sending p)) → ((p : Machines) → Z p → Z (after_sending p))
-    → Link d at w c x Y old → IsHostRound gives old new → Link d at w (ticked c) x Z new
+    → Link d at w c x Y old → IsPlayed E gives old new → Link d at w (ticked c) x Z new
 host_holds gives x d at w c Y Z old new fits then first last moves sends later l h =
     all_ticked d at w c x x Z new (holds_on gives x (λ a b j. HeldIn d at w c x Y Z a b j) kept own other h.events h.replies old new true true (of_side x h.events h.ticks) h.acts
     (none_ticked d at w c x x Y old l))
@@ -552,7 +552,7 @@ host_holds gives x d at w c Y Z old new fits then first last moves sends later l
     other false = peer_holds gives x d at w c Z then false last
 
 -- and with nothing beside it, even if nothing is known of what comes
-pub host_keeps : (gives : Algorithms) (x : Side) (d : ℕ) (at : Side → ℕ) (w : Side → Lacpdu) (c : Side → ℕ) (old new : WorldState)
-    → Fits d w c → Fits d w (ticked c) → Link d at w c x Nothing old → IsHostRound gives old new → Link d at w (ticked c) x Nothing new
+pub host_keeps : {E : Clearing} (gives : Algorithms) (x : Side) (d : ℕ) (at : Side → ℕ) (w : Side → Lacpdu) (c : Side → ℕ) (old new : WorldState)
+    → Fits d w c → Fits d w (ticked c) → Link d at w c x Nothing old → IsPlayed E gives old new → Link d at w (ticked c) x Nothing new
 host_keeps gives x d at w c old new fits then l h = host_holds gives x d at w c Nothing Nothing old new fits then
     (nothing_along (w x) (w (peer x)) (c x) d) (nothing_along (w x) (w (peer x)) (ticked c x) d) (λ p q r rest a y. y) (λ p y. y) (λ p y. y) l h

@@ -1,9 +1,10 @@
 -- In a healthy round of hosts, an end that hears the other is told when the other is synchronized, or the other owes it an LACPDU.
 use Rattle.lagprogress.proofs.Common.{Bool, List, Some, [], ap, arith, false, inl, inr, refl, slice_get, subst, sym, true, ℕ, ◌-◌, ◌∙◌, ◌∷◌, ◌≡◌, ◌≤◌}
-use Rattle.lagprogress.proofs.Common.{◌⊎◌, same_Some, AllByRecursion, Lacpdu, Side, peer, Machines, partner_synchronized, periodic_rows, receive_rows}
-use Rattle.lagprogress.proofs.Common.{AtRest, RunsToRest, after_sending, count_down, is_due, SystemPort, Carries, IsFrame, SystemState, machines_of}
-use Rattle.lagprogress.proofs.Common.{found_place, Event, Reply, Algorithms, WorldSteps, side_of, ItemValue, WorldState, half, towards, timeout_time}
-use Rattle.lagprogress.proofs.Common.{AfterTick, IsBetweenTicks, IsHostRound, NothingInFlight, OfPort}
+use Rattle.lagprogress.proofs.Common.{◌⊎◌, cases_Bool, same_Some, AllByRecursion, Lacpdu, Side, peer, Machines, partner_synchronized, periodic_rows}
+use Rattle.lagprogress.proofs.Common.{receive_rows, AtRest, RunsToRest, after_sending, count_down, is_due, SystemPort, Carries, IsFrame}
+use Rattle.lagprogress.proofs.Common.{OnlyPortChangesBy, ProcessesLacpdu, ThenSettles, SystemState, machines_of, found_place, Event, Reply}
+use Rattle.lagprogress.proofs.Common.{Algorithms, WorldSteps, side_of, ItemValue, WorldState, half, towards, timeout_time, AfterTick, Clearing}
+use Rattle.lagprogress.proofs.Common.{IsBetweenTicks, IsHostRound, IsPlayed, NothingInFlight, OfPort}
 use Rattle.slowpdu.specs.declared.pdu.Pdu.TheVariants as pdu
 use Rattle.lagsystem.specs.declared.drive.Reply.TheVariants as answer
 use Rattle.lagscript.specs.declared.event.Event.TheVariants as event
@@ -12,18 +13,20 @@ use Rattle.lagprogress.proofs.Climbing.{PartnerInSync, known_still, ticks_partne
 use Rattle.lagprogress.proofs.Delivering.{Heard, arrived_ports, deliver_link, deliver_moves}
 use Rattle.lagprogress.proofs.EachPort.{KeptBySettling, OfEach, Tick-each}
 use Rattle.lagprogress.proofs.EndFacts.{CanSound, sounds_along, Along, IsEnd, Learnt, activity, nothing_along, short_timeout, ticks_end, wait_of}
-use Rattle.lagprogress.proofs.HostRound.{KeptBetween, MadeByTick, Stages, all_ticked, first_on, fits_in, healthy_link, holds_on, known_in, learn_less}
-use Rattle.lagprogress.proofs.HostRound.{Whatever, all_whatever, learnt_along, left, none_ticked, of_side, tick_one, ticks_learnt, two_other}
-use Rattle.lagprogress.proofs.HostRound.{two_there}
+use Rattle.lagprogress.proofs.HostRound.{between, KeptBetween, MadeByTick, Stages, all_ticked, first_on, fits_in, healthy_link, holds_on, known_in}
+use Rattle.lagprogress.proofs.HostRound.{learn_less, Whatever, all_whatever, learnt_along, left, none_ticked, of_side, tick_one, ticks_learnt}
+use Rattle.lagprogress.proofs.HostRound.{two_other, two_there}
 use Rattle.lagprogress.proofs.Knowing.{counts}
-use Rattle.lagprogress.proofs.Linked.{at_end, emit_any, found, end_with, of_end, with_ports, Arrived, EndIs, Fits, Flying, IsGood, Link, each_both}
-use Rattle.lagprogress.proofs.Linked.{each_map, each_side, end_here, gains_has, HasLacpdu, other_side, peer_twice, put_other, put_there}
+use Rattle.lagprogress.proofs.Linked.{asked_which, at_end, beside_link, emit_any, found, end_with, of_end, with_ports, EndIs, Fits, Flying, IsGood}
+use Rattle.lagprogress.proofs.Linked.{Link, each_both, each_map, each_side, end_here, gains_has, HasLacpdu, other_side, peer_twice, put_other}
+use Rattle.lagprogress.proofs.Linked.{put_there}
 use Rattle.lagprogress.proofs.OneCable.{Arrives, alone, cable, port_there, put, response, ticks, towards_there}
 use Rattle.lagprogress.proofs.OnePort.{AtPort}
-use Rattle.lagprogress.proofs.OneRound.{Later, beside_here, sounds_pass, Nothing, Passes, ask_which, at_rest, forget, join, ticked}
+use Rattle.lagprogress.proofs.OneRound.{Later, beside_here, sounds_pass, Nothing, Passes, ask_idle, ask_peer, one_of_both, at_rest, forget, join}
+use Rattle.lagprogress.proofs.OneRound.{ticked}
 use Rattle.lagprogress.proofs.Quieting.{IsQuiet, quiet_link, quiet_ports}
 use Rattle.lagprogress.proofs.Sounding.{Sounds}
-use Rattle.lagprogress.proofs.Telling.{Bears, SaysIt, Tells, arrive_peer, ask_on, came_to, deliver_on, sync_settles, tells_map, tells_push}
+use Rattle.lagprogress.proofs.Telling.{Bears, SaysIt, Tells, arrive_peer, ask_on, came_to, deliver_on, due_on, sync_settles, tells_map, tells_push}
 
 -- what is on the cable of the same ports
 pub same_flying : (d e : ℕ) (at : Side → ℕ) (w v : Side → Lacpdu) (c b : Side → ℕ) (x y : Side) (Y Z : Machines → Type 0) (j : WorldState)
@@ -58,6 +61,23 @@ module _ (gives : Algorithms) (d : ℕ) (at : Side → ℕ) (w : Side → Lacpdu
 
   along_wakes : (n : ℕ) → Along Wakes v u n d
   along_wakes n = wakeful_along v u n d there
+
+  -- the end is wakeful, and stays so
+  abbrev pub Woken : (Side → ℕ) → WorldState → Type 0
+  Woken c j = Link d at w c s (Wakeful (w s) (w (peer s))) j
+
+  woken_between : (c : Side → ℕ) → Fits d w c → KeptBetween gives (Woken c)
+  woken_between c fits = between gives d at w c s Wakes fits (along_wakes (c s)) (λ p y. y)
+
+  woken_own : (c b : Side → ℕ) → b s ≡ c s - 1 → b (peer s) ≡ c (peer s) → (2 ≤ d → 1 ≤ c s - 1) → MadeByTick gives s (Woken c) (Woken b)
+  woken_own c b here other known n r i j numbered h l = (tick_one gives n s d at w c b s Wakes Wakes r i j numbered here other known
+      (along_wakes (b s)) (λ p q run rest a f y. wakeful_ticks v u p q named run y) (λ p f y. absurd (other_side s f)) h l).link
+
+  woken_other : (c b : Side → ℕ) → b (peer s) ≡ c (peer s) - 1 → b s ≡ c s → (2 ≤ d → 1 ≤ c (peer s) - 1)
+      → MadeByTick gives (peer s) (Woken c) (Woken b)
+  woken_other c b here own known n r i j numbered h l = (tick_one gives n (peer s) d at w c b s Wakes Wakes r i j numbered here
+      (subst (λ t. b t ≡ c t) (sym (peer_twice s)) own) known (along_wakes (b s)) (λ p q run rest a f y. absurd (other_side s f))
+      (λ p f y. y) h l).link
 
   module _ (X : Machines → Type 0) (keeps : KeptBySettling (AtPort (at (peer s)) X)) (sends : (p : Machines) → X p → X (after_sending p))
       (takes : (p : Machines) → partner_synchronized p ≡ true → X p) where
@@ -134,9 +154,33 @@ module _ (gives : Algorithms) (d : ℕ) (at : Side → ℕ) (w : Side → Lacpdu
   pub any_settles : KeptBySettling (AtPort (at (peer s)) Any)
   any_settles = record { mux = λ m ready p q h a. a; periodic = λ m p q h a. a; select = λ m choice p none may a. a }
 
-  all_any : (n : ℕ) (xs : List SystemPort) → OfEach (AtPort n Any) xs
+  pub all_any : (n : ℕ) (xs : List SystemPort) → OfEach (AtPort n Any) xs
   all_any n [] = tt
   all_any n (x ∷ xs) = (λ e. tt, all_any n xs)
+
+  -- an Emit event: the end of s sends an LACPDU that is due, or Z still holds of it
+  ask_sends : (c : Side → ℕ) (Z : Machines → Type 0) → Fits d w c → Along Z (w s) (w (peer s)) (c s) d → (n p : ℕ) (r : Reply) (i j : WorldState)
+      → Link d at w c s Z i → Woken c i → WorldSteps gives i (event.Emit n p) r j
+      → Link d at w c s Z j ⊎ ((o : OnWay c Any j) × Flying (o.0.flying (peer s)))
+  ask_sends c Z fits along n p r i j l k h = elim (asked_which gives n p l.index at l.flying r i j l.links h) [
+    | inl (t, numbered, is) ↦ asked t numbered (subst (λ q. WorldSteps gives i (event.Emit n q) r j) is h)
+    | inr b ↦ inl (beside_link gives (event.Emit n p) d at w c s Z r i j along l h b).link
+  ]
+    where
+      asked : (t : Side) → side_of n ≡ Some t → WorldSteps gives i (event.Emit n (at t)) r j
+          → Link d at w c s Z j ⊎ ((o : OnWay c Any j) × Flying (o.0.flying (peer s)))
+      asked t numbered h = elim (one_of_both s t) [
+        | inl e ↦ (let own = subst (λ q. side_of n ≡ Some q) e numbered in
+            let step = subst (λ q. WorldSteps gives i (event.Emit n (at q)) r j) e h in
+            let z = end_here at w d c s Z i l s in
+            elim (cases_Bool (is_due z.port.port)) [
+              | inl due ↦ inr (due_on gives d at w c s Any there fits any_settles (λ p y. y) (λ p y. tt) n r i j own k
+                  (at_end at w d c s i z l.steady (λ p. is_due p ≡ true) due) step)
+              | inr not ↦ inl (ask_idle gives n s d at w c Z Z r i j fits own (λ q rest timed a y f. y) l not step)
+            ])
+        | inr e ↦ inl (ask_peer gives n s d at w c Z r i j fits (subst (λ q. side_of n ≡ Some q) e numbered) along l
+            (subst (λ q. WorldSteps gives i (event.Emit n (at q)) r j) e h))
+      ]
 
   -- what each event keeps besides, before the peer has heard an LACPDU, and after
   pub record Extra (D E : WorldState → Type 0) : Type 0 where
@@ -148,6 +192,40 @@ module _ (gives : Algorithms) (d : ℕ) (at : Side → ℕ) (w : Side → Lacpdu
         (a : Arrives gives (peer s) at l.flying i j) (x : Lacpdu) → IsFrame a.item.octets (Carries (pdu.Lacpdu x)) → D j → D i → E j
 
   module _ (D E : WorldState → Type 0) (x : Extra D E) where
+    -- what comes to the peer is no LACPDU, or the peer has heard it, and is told
+    pub peer_hears : (c : Side → ℕ) → Fits d w c → (cn n : ℕ) (r : Reply) (i j : WorldState) → WorldSteps gives i (event.Deliver cn n) r j
+        → (o : OnWay c Any i) → D i → (now : Link d at w c s Wakes j) → (k : Arrives gives (peer s) at o.0.flying i j) → now.flying ≡ k.now
+        → (HasLacpdu k.item → ⊥) ⊎ ((Heard d at w (peer s) j × OnWay c PartnerInSync j) × E j)
+    peer_hears c fits cn n r i j h (l, m) da now k same =
+        elim (came_to gives d at w c s Any there fits any_settles (λ p y. y) (λ p y. tt) (peer s) i j l k) [
+          | inr none ↦ inl (λ q. none.0 q.0 q.1)
+          | inl (v1, carries, settles) ↦ inr (took v1 carries settles)
+        ]
+      where
+        took : (v1 : Lacpdu) → IsFrame k.item.octets (Carries (pdu.Lacpdu v1))
+            → ThenSettles (OnlyPortChangesBy (Some (l.place (peer s)).0) (ProcessesLacpdu v1)) (half (peer s) i).state (half (peer s) j).state
+            → (Heard d at w (peer s) j × OnWay c PartnerInSync j) × E j
+        took v1 carries settles =
+            let place = l.place (peer s) in
+            let ports = (half (peer s) i).state.system_ports in
+            let z = found (at (peer s)) place.0 ports place.1 in
+            let number = found_place (at (peer s)) ports place.0 z.0 place.1 z.1 in
+            let good = subst (AllByRecursion (IsGood d w (peer s))) k.first (l.good (peer s)) in
+            let own = arrived_ports d at w c s Wakes (peer s) place.0 z.0 k.item.octets i j fits (along_wakes (c s)) l z.1 number good.0
+            (inl (v1, carries, settles)) in (
+              (
+                elim own.1 [ inl not ↦ absurd (not v1 carries) | inr heard ↦ heard there ],
+                arrive_peer gives d at w c s PartnerInSync there fits (sync_settles (at (peer s))) (λ p y. y) (λ p y. y) i j l k now same
+                    (elim m [
+                      | inl owes ↦ inl owes
+                      | inr tells ↦ inr (subst (λ xs. Tells u v xs (PeerIs PartnerInSync i)) (sym k.first) (tells_map u v k.rest
+                          (SaysIt u v k.item × (PeerIs Any i ⊎ Bears k.item)) (SaysIt u v k.item × (PeerIs PartnerInSync i ⊎ Bears k.item))
+                          (λ a. (a.0, inr (v1, carries))) (subst (λ xs. Tells u v xs (PeerIs Any i)) k.first tells)))
+                    ]),
+              ),
+              x.hears c i j l k v1 carries (x.first (event.Deliver cn n) r i j tt h da) da,
+            )
+
     -- A Deliver event: an LACPDU still flies, or the peer has heard one, and is told.
     abbrev HasHeard : (Side → ℕ) → WorldState → Type 0
     HasHeard c j = (((o : OnWay c Any j) × Flying (o.0.flying (peer s))) × D j) ⊎ ((Heard d at w (peer s) j × OnWay c PartnerInSync j) × E j)
@@ -164,7 +242,7 @@ module _ (gives : Algorithms) (d : ℕ) (at : Side → ℕ) (w : Side → Lacpdu
               (λ k same. flies (subst (λ (g : Side → List ItemValue). Flying (g (peer s))) (sym same)
               (gains_has s HasLacpdu (response k.a) (put s k.rest l.flying) k.now k.back (peer s)
               (subst Flying (sym (put_other s k.rest l.flying)) f))))
-              (λ k same. came e.0.link flies k same (came_to gives d at w c s Any there fits any_settles (λ p y. y) (λ p y. tt) (peer s) i j l k)) q k same
+              (λ k same. came e.0.link flies k same) q k same
           | inr b ↦ flies (subst (λ (g : Side → List ItemValue). Flying (g (peer s))) (sym b.1) f)
         ]
       where
@@ -172,41 +250,26 @@ module _ (gives : Algorithms) (d : ℕ) (at : Side → ℕ) (w : Side → Lacpdu
         db = x.first (event.Deliver cn n) r i j tt h da
 
         came : (now : Link d at w c s Wakes j) → (Flying (now.flying (peer s)) → HasHeard c j) → (k : Arrives gives (peer s) at l.flying i j)
-            → now.flying ≡ k.now → Arrived (l.place (peer s)).0 k.item.octets (half (peer s) i).state (half (peer s) j).state → HasHeard c j
-        came now flies k same (inr none) = elim (subst Flying k.first f) [
-          | inl q ↦ absurd (none.0 q.0 q.1)
-          | inr g ↦ flies (subst (λ (y : Side → List ItemValue). Flying (y (peer s))) (sym same)
-              (gains_has (peer s) HasLacpdu (response k.a) (put (peer s) k.rest l.flying) k.now k.back (peer s)
-              (subst Flying (sym (put_there (peer s) k.rest l.flying)) g)))
+            → now.flying ≡ k.now → HasHeard c j
+        came now flies k same = elim (peer_hears c fits cn n r i j h (l, m) da now k same) [
+          | inl none ↦ elim (subst Flying k.first f) [
+            | inl q ↦ absurd (none q)
+            | inr g ↦ flies (subst (λ (y : Side → List ItemValue). Flying (y (peer s))) (sym same)
+                (gains_has (peer s) HasLacpdu (response k.a) (put (peer s) k.rest l.flying) k.now k.back (peer s)
+                (subst Flying (sym (put_there (peer s) k.rest l.flying)) g)))
+          ]
+          | inr heard ↦ inr heard
         ]
-        came now flies k same (inl (v1, carries, settles)) =
-            let place = l.place (peer s) in
-            let ports = (half (peer s) i).state.system_ports in
-            let z = found (at (peer s)) place.0 ports place.1 in
-            let number = found_place (at (peer s)) ports place.0 z.0 place.1 z.1 in
-            let good = subst (AllByRecursion (IsGood d w (peer s))) k.first (l.good (peer s)) in
-            let own = arrived_ports d at w c s Wakes (peer s) place.0 z.0 k.item.octets i j fits (along_wakes (c s)) l z.1 number good.0
-            (inl (v1, carries, settles)) in
-            inr (
-              (
-                elim own.1 [ inl not ↦ absurd (not v1 carries) | inr heard ↦ heard there ],
-                arrive_peer gives d at w c s PartnerInSync there fits (sync_settles (at (peer s))) (λ p y. y) (λ p y. y) i j l k now same
-                    (elim m [
-                      | inl owes ↦ inl owes
-                      | inr tells ↦ inr (subst (λ xs. Tells u v xs (PeerIs PartnerInSync i)) (sym k.first) (tells_map u v k.rest
-                          (SaysIt u v k.item × (PeerIs Any i ⊎ Bears k.item)) (SaysIt u v k.item × (PeerIs PartnerInSync i ⊎ Bears k.item))
-                          (λ a. (a.0, inr (v1, carries))) (subst (λ xs. Tells u v xs (PeerIs Any i)) k.first tells)))
-                    ]),
-              ),
-              x.hears c i j l k v1 carries db da,
-            )
 
     -- the stages of a round
 
-    -- Z holds of the end of s; or an LACPDU of it is on the cable; or the other end has heard one, keeps it for so many ticks, and is told
+    -- the other end has heard an LACPDU of the end of s, keeps it for so many ticks, and is told
+    abbrev pub HasTold : (Side → ℕ) → ℕ → WorldState → Type 0
+    HasTold c most j = (Link d at w c (peer s) (Learnt d (w (peer (peer s))) most) j × OnWay c PartnerInSync j) × E j
+
+    -- Z holds of the end of s; or an LACPDU of it is on the cable; or that holds
     abbrev pub Turn : (Side → ℕ) → ℕ → (Machines → Type 0) → WorldState → Type 0
-    Turn c most Z j = ((Link d at w c s Z j × OnWay c Any j) × D j) ⊎ ((((o : OnWay c Any j) × Flying (o.0.flying (peer s))) × D j)
-        ⊎ ((Link d at w c (peer s) (Learnt d (w (peer (peer s))) most) j × OnWay c PartnerInSync j) × E j))
+    Turn c most Z j = ((Link d at w c s Z j × Woken c j) × D j) ⊎ ((((o : OnWay c Any j) × Flying (o.0.flying (peer s))) × D j) ⊎ HasTold c most j)
 
     any_between : (c : Side → ℕ) → Fits d w c → KeptBetween gives (OnWay c Any)
     any_between c fits = on_between Any any_settles (λ p y. y) (λ p y. tt) c fits
@@ -214,44 +277,38 @@ module _ (gives : Algorithms) (d : ℕ) (at : Side → ℕ) (w : Side → Lacpdu
     sync_between : (c : Side → ℕ) → Fits d w c → KeptBetween gives (OnWay c PartnerInSync)
     sync_between c fits = on_between PartnerInSync (sync_settles (at (peer s))) (λ p y. y) (λ p y. y) c fits
 
+    pub told_between : (c : Side → ℕ) (most : ℕ) → most ≤ wait_of (w (peer s)) → Fits d w c → KeptBetween gives (HasTold c most)
+    told_between c most less fits e r i j b h ((l, o), ea) = (
+      (
+        between gives d at w c (peer s) (Learnt d (w (peer (peer s))) most) fits
+            (learnt_along (w (peer s)) (w (peer (peer s))) (c (peer s)) d most less there (fits (peer s)).3) (λ p y. y) e r i j b h l,
+        sync_between c fits e r i j b h o,
+      ),
+      x.second e r i j b h ea,
+    )
+
     turn_between : (c : Side → ℕ) (most : ℕ) (Z : Machines → Type 0) → most ≤ wait_of (w (peer s)) → Fits d w c
         → Along Z (w s) (w (peer s)) (c s) d → KeptBetween gives (Turn c most Z)
     turn_between c most Z less fits along = each
       where
-        L : Machines → Type 0
-        L p = Learnt d (w (peer (peer s))) most p
-
-        learns : Along (Learnt d (w (peer (peer s))) most) (w (peer s)) (w (peer (peer s))) (c (peer s)) d
-        learns = learnt_along (w (peer s)) (w (peer (peer s))) (c (peer s)) d most less there (fits (peer s)).3
-
         asked : (n p : ℕ) (r : Reply) (i j : WorldState) → WorldSteps gives i (event.Emit n p) r j → Turn c most Z i → Turn c most Z j
         asked n p r i j h (inl ((l, o), da)) =
             let db = x.first (event.Emit n p) r i j tt h da in
-            let after = any_between c fits (event.Emit n p) r i j tt h o in
-            elim (ask_which gives n p s d at w c Z Z r i j fits along (λ q rest timed a y not. y) l h) [
-              | inl k ↦ inl ((k, after), db)
-              | inr k ↦ elim k [
-                | inl k ↦ inl ((k, after), db)
-                | inr k ↦ inr (inl ((after, subst Flying (sym (same_flying d d at w w c c s s Nothing Wakes j k.0 after.0 (peer s))) k.1), db))
-              ]
+            elim (ask_sends c Z fits along n p r i j l o h) [
+              | inl k ↦ inl ((k, woken_between c fits (event.Emit n p) r i j tt h o), db)
+              | inr k ↦ inr (inl (k, db))
             ]
         asked n p r i j h (inr (inl ((o, f), da))) =
             let db = x.first (event.Emit n p) r i j tt h da in
             let after = any_between c fits (event.Emit n p) r i j tt h o in
             let e = emit_any gives n p d at w c s Wakes r i j fits (along_wakes (c s)) (λ q y. y) o.0 h in
             inr (inl ((after, subst Flying (sym (same_flying d d at w w c c s s Wakes Wakes j e.link after.0 (peer s))) (e.flying (peer s) f)), db))
-        asked n p r i j h (inr (inr ((l, o), ea))) = inr (inr (
-          (
-            (emit_any gives n p d at w c (peer s) (Learnt d (w (peer (peer s))) most) r i j fits learns (λ q y. y) l h).link,
-            sync_between c fits (event.Emit n p) r i j tt h o,
-          ),
-          x.second (event.Emit n p) r i j tt h ea,
-        ))
+        asked n p r i j h (inr (inr m)) = inr (inr (told_between c most less fits (event.Emit n p) r i j tt h m))
 
         came : (cn n : ℕ) (r : Reply) (i j : WorldState) → WorldSteps gives i (event.Deliver cn n) r j → Turn c most Z i → Turn c most Z j
         came cn n r i j h (inl ((l, o), da)) =
             inl (
-              ((deliver_link gives cn n d at w c s Z r i j fits along l h).link, any_between c fits (event.Deliver cn n) r i j tt h o),
+              ((deliver_link gives cn n d at w c s Z r i j fits along l h).link, woken_between c fits (event.Deliver cn n) r i j tt h o),
               x.first (event.Deliver cn n) r i j tt h da,
             )
         came cn n r i j h (inr (inl ((o, f), da))) = elim (hears_on c fits cn n r i j h o f da) [
@@ -266,17 +323,11 @@ module _ (gives : Algorithms) (d : ℕ) (at : Side → ℕ) (w : Side → Lacpdu
             k.1,
           ))
         ]
-        came cn n r i j h (inr (inr ((l, o), ea))) = inr (inr (
-          (
-            (deliver_link gives cn n d at w c (peer s) (Learnt d (w (peer (peer s))) most) r i j fits learns l h).link,
-            sync_between c fits (event.Deliver cn n) r i j tt h o,
-          ),
-          x.second (event.Deliver cn n) r i j tt h ea,
-        ))
+        came cn n r i j h (inr (inr m)) = inr (inr (told_between c most less fits (event.Deliver cn n) r i j tt h m))
 
         quiet : (e : Event) (r : Reply) (i j : WorldState) → IsQuiet e → IsBetweenTicks e → WorldSteps gives i e r j → Turn c most Z i → Turn c most Z j
         quiet e r i j b t h (inl ((l, o), da)) =
-            inl (((quiet_link gives e d at w c s Z r i j b h l).link, any_between c fits e r i j t h o), x.first e r i j t h da)
+            inl (((quiet_link gives e d at w c s Z r i j b h l).link, woken_between c fits e r i j t h o), x.first e r i j t h da)
         quiet e r i j b t h (inr (inl ((o, f), da))) =
             let after = any_between c fits e r i j t h o in
             let k = quiet_link gives e d at w c s Wakes r i j b h o.0 in
@@ -284,13 +335,7 @@ module _ (gives : Algorithms) (d : ℕ) (at : Side → ℕ) (w : Side → Lacpdu
               (after, subst Flying (sym (same_flying d d at w w c c s s Wakes Wakes j k.link after.0 (peer s))) (k.flying (peer s) f)),
               x.first e r i j t h da,
             ))
-        quiet e r i j b t h (inr (inr ((l, o), ea))) = inr (inr (
-          (
-            (quiet_link gives e d at w c (peer s) (Learnt d (w (peer (peer s))) most) r i j b h l).link,
-            sync_between c fits e r i j t h o,
-          ),
-          x.second e r i j t h ea,
-        ))
+        quiet e r i j b t h (inr (inr m)) = inr (inr (told_between c most less fits e r i j t h m))
 
         each : KeptBetween gives (Turn c most Z)
         each (event.Emit n p) r i j b h m = asked n p r i j h m
@@ -303,6 +348,41 @@ module _ (gives : Algorithms) (d : ℕ) (at : Side → ℕ) (w : Side → Lacpdu
     bare c i o f =
         subst Flying (sym (same_flying d d at w w c c s s Wakes Nothing i o.0 (forget d at w c s s Wakes i o.0) (peer s))) f
 
+    pub told_own : (c b : Side → ℕ) (most : ℕ) → b s ≡ c s - 1 → b (peer s) ≡ c (peer s) → (2 ≤ d → 1 ≤ c s - 1)
+        → most ≤ wait_of (w (peer s)) → Fits d w b → MadeByTick gives s (HasTold c most) (HasTold b most)
+    told_own c b most here other known less fits n r i j numbered h ((l, o), ea) =
+        let L = Learnt d (w (peer (peer s))) most in (
+          (
+            (tick_one gives n s d at w c b (peer s) L L r i j numbered here other known
+                (learnt_along (w (peer s)) (w (peer (peer s))) (b (peer s)) d most less there (fits (peer s)).3)
+                (λ p q run rest a f y. absurd (other_side s (sym f))) (λ p f y. y) h l).link,
+            on_own PartnerInSync (sync_settles (at (peer s))) (λ p y. y) (λ p y. y) c b here other known n r i j numbered h o,
+          ),
+          x.ticks_second s n r i j numbered h ea,
+        )
+
+    pub told_other : (c b : Side → ℕ) (most : ℕ) → b (peer s) ≡ c (peer s) - 1 → b s ≡ c s → (2 ≤ d → 1 ≤ c (peer s) - 1)
+        → 2 ≤ most → most ≤ wait_of (w (peer s)) → Fits d w b → MadeByTick gives (peer s) (HasTold c most) (HasTold b (most - 1))
+    told_other c b most here own known some less fits n r i j numbered h ((l, o), ea) =
+        let q = w (peer (peer s)) in
+        let back = subst (λ t. b t ≡ c t) (sym (peer_twice s)) own in
+        let t = ticks gives n (peer s) r i j numbered h in
+        let ports = (half (peer s) i).state.system_ports in (
+          (
+            (tick_one gives n (peer s) d at w c b (peer s) (Learnt d q most) (Learnt d q (most - 1)) r i j numbered here back known
+                (learnt_along (w (peer s)) q (b (peer s)) d (most - 1) (omega (arith, less)) there (fits (peer s)).3)
+                (λ p z run rest a f y. ticks_learnt d q most p z some run y) (λ p f y. absurd (other_side (peer s) f)) h l).link,
+            on_other PartnerInSync (sync_settles (at (peer s))) (λ p y. y) (λ p y. y) c b here own known n r i j numbered h
+                (λ y. Tick-each (λ m p. AtPort (at (peer s)) (Learnt d q most) m p × AtPort (at (peer s)) PartnerInSync m p)
+                (AtPort (at (peer s)) PartnerInSync) (sync_settles (at (peer s)))
+                (λ m p z run a e. subst PartnerInSync (sym (known_still q (most - 1) (count_down p) z (omega (arith, some))
+                (counts q most 0 p (a.0 e).0) run)) (a.1 e)) (gives (peer s)) (half (peer s) i).state answer.Tick (half (peer s) j).state t.step
+                (each_both (AtPort (at (peer s)) (Learnt d q most)) (AtPort (at (peer s)) PartnerInSync) ports
+                (of_end l (peer s) (Learnt d q most) (λ p rest timed a. a.1 refl)) y)) o,
+          ),
+          x.ticks_second (peer s) n r i j numbered h ea,
+        )
+
     -- the tick of s
     turn_own : (c b : Side → ℕ) (most : ℕ) (X V : Machines → Type 0) → b s ≡ c s - 1 → b (peer s) ≡ c (peer s) → (2 ≤ d → 1 ≤ c s - 1)
         → most ≤ wait_of (w (peer s)) → Fits d w b → Along V (w s) (w (peer s)) (b s) d
@@ -312,7 +392,7 @@ module _ (gives : Algorithms) (d : ℕ) (at : Side → ℕ) (w : Side → Lacpdu
       (
         (tick_one gives n s d at w c b s X V r i j numbered here other known along (λ p q run rest a f y. moves p q run rest a y)
             (λ p f y. absurd (other_side s f)) h l).link,
-        on_own Any any_settles (λ p y. y) (λ p y. tt) c b here other known n r i j numbered h o,
+        woken_own c b here other known n r i j numbered h o,
       ),
       x.ticks_first s n r i j numbered h da,
     )
@@ -328,17 +408,8 @@ module _ (gives : Algorithms) (d : ℕ) (at : Side → ℕ) (w : Side → Lacpdu
           ),
           x.ticks_first s n r i j numbered h da,
         ))
-    turn_own c b most X V here other known less fits along moves n r i j numbered h (inr (inr ((l, o), ea))) =
-        let L = Learnt d (w (peer (peer s))) most in
-        inr (inr (
-          (
-            (tick_one gives n s d at w c b (peer s) L L r i j numbered here other known
-                (learnt_along (w (peer s)) (w (peer (peer s))) (b (peer s)) d most less there (fits (peer s)).3)
-                (λ p q run rest a f y. absurd (other_side s (sym f))) (λ p f y. y) h l).link,
-            on_own PartnerInSync (sync_settles (at (peer s))) (λ p y. y) (λ p y. y) c b here other known n r i j numbered h o,
-          ),
-          x.ticks_second s n r i j numbered h ea,
-        ))
+    turn_own c b most X V here other known less fits along moves n r i j numbered h (inr (inr m)) =
+        inr (inr (told_own c b most here other known less fits n r i j numbered h m))
 
     -- the tick of the other system
     turn_other : (c b : Side → ℕ) (most : ℕ) (Y : Machines → Type 0) → b (peer s) ≡ c (peer s) - 1 → b s ≡ c s → (2 ≤ d → 1 ≤ c (peer s) - 1)
@@ -358,7 +429,7 @@ module _ (gives : Algorithms) (d : ℕ) (at : Side → ℕ) (w : Side → Lacpdu
           (
             (tick_one gives n (peer s) d at w c b s Y Y r i j numbered here back known along
                 (λ p q run rest a f y. absurd (other_side s f)) (λ p f y. y) h l).link,
-            loose o,
+            woken_other c b here own known n r i j numbered h o,
           ),
           x.ticks_first (peer s) n r i j numbered h da,
         )
@@ -374,24 +445,7 @@ module _ (gives : Algorithms) (d : ℕ) (at : Side → ℕ) (w : Side → Lacpdu
               ),
               x.ticks_first (peer s) n r i j numbered h da,
             ))
-        by_case (inr (inr ((l, o), ea))) = let q = w (peer (peer s)) in
-            let t = ticks gives n (peer s) r i j numbered h in
-            let ports = (half (peer s) i).state.system_ports in
-            inr (inr (
-              (
-                (tick_one gives n (peer s) d at w c b (peer s) (Learnt d q most) (Learnt d q (most - 1)) r i j numbered here back known
-                    (learnt_along (w (peer s)) q (b (peer s)) d (most - 1) (omega (arith, less)) there (fits (peer s)).3)
-                    (λ p z run rest a f y. ticks_learnt d q most p z some run y) (λ p f y. absurd (other_side (peer s) f)) h l).link,
-                on_other PartnerInSync (sync_settles (at (peer s))) (λ p y. y) (λ p y. y) c b here own known n r i j numbered h
-                    (λ y. Tick-each (λ m p. AtPort (at (peer s)) (Learnt d q most) m p × AtPort (at (peer s)) PartnerInSync m p)
-                    (AtPort (at (peer s)) PartnerInSync) (sync_settles (at (peer s)))
-                    (λ m p z run a e. subst PartnerInSync (sym (known_still q (most - 1) (count_down p) z (omega (arith, some))
-                    (counts q most 0 p (a.0 e).0) run)) (a.1 e)) (gives (peer s)) (half (peer s) i).state answer.Tick (half (peer s) j).state t.step
-                    (each_both (AtPort (at (peer s)) (Learnt d q most)) (AtPort (at (peer s)) PartnerInSync) ports
-                    (of_end l (peer s) (Learnt d q most) (λ p rest timed a. a.1 refl)) y)) o,
-              ),
-              x.ticks_second (peer s) n r i j numbered h ea,
-            ))
+        by_case (inr (inr m)) = inr (inr (told_other c b most here own known some less fits n r i j numbered h m))
 
     module _ (c : Side → ℕ) (fits : Fits d w c) (then : Fits d w (ticked c)) where
       abbrev W : ℕ
@@ -403,29 +457,29 @@ module _ (gives : Algorithms) (d : ℕ) (at : Side → ℕ) (w : Side → Lacpdu
       abbrev NoneDue : WorldState → Type 0
       NoneDue j = OfPort (λ p. is_due p ≡ false) (machines_of (at s) (half s j).state)
 
-      own_one : (b : Bool) → kn false b s ≡ kn true b s - 1
+      pub own_one : (b : Bool) → kn false b s ≡ kn true b s - 1
       own_one b = two_there s (c s - 1) (left b (c (peer s))) ∙ ap (λ n. n - 1) (sym (two_there s (c s) (left b (c (peer s)))))
 
-      own_two : (b : Bool) → kn false b (peer s) ≡ kn true b (peer s)
+      pub own_two : (b : Bool) → kn false b (peer s) ≡ kn true b (peer s)
       own_two b = two_other s (c s - 1) (left b (c (peer s))) ∙ sym (two_other s (c s) (left b (c (peer s))))
 
-      own_three : (b : Bool) → 2 ≤ d → 1 ≤ kn true b s - 1
+      pub own_three : (b : Bool) → 2 ≤ d → 1 ≤ kn true b s - 1
       own_three b e = subst (λ n. 1 ≤ n - 1) (sym (two_there s (c s) (left b (c (peer s))))) ((then s).2 e)
 
-      other_one : (a : Bool) → kn a false (peer s) ≡ kn a true (peer s) - 1
+      pub other_one : (a : Bool) → kn a false (peer s) ≡ kn a true (peer s) - 1
       other_one a = two_other s (left a (c s)) (c (peer s) - 1) ∙ ap (λ n. n - 1) (sym (two_other s (left a (c s)) (c (peer s))))
 
-      other_two : (a : Bool) → kn a false s ≡ kn a true s
+      pub other_two : (a : Bool) → kn a false s ≡ kn a true s
       other_two a = two_there s (left a (c s)) (c (peer s) - 1) ∙ sym (two_there s (left a (c s)) (c (peer s)))
 
-      other_three : (a : Bool) → 2 ≤ d → 1 ≤ kn a true (peer s) - 1
+      pub other_three : (a : Bool) → 2 ≤ d → 1 ≤ kn a true (peer s) - 1
       other_three a e = subst (λ n. 1 ≤ n - 1) (sym (two_other s (left a (c s)) (c (peer s)))) ((then (peer s)).2 e)
 
-      left_less : (b : Bool) (n : ℕ) → left b n ≤ n
+      pub left_less : (b : Bool) (n : ℕ) → left b n ≤ n
       left_less true n = omega arith
       left_less false n = omega arith
 
-      waits_long : 2 ≤ W
+      pub waits_long : 2 ≤ W
       waits_long = long (short_timeout (w (peer s)))
         where
           long : (b : Bool) → 2 ≤ timeout_time b
@@ -531,22 +585,28 @@ module _ (gives : Algorithms) (d : ℕ) (at : Side → ℕ) (w : Side → Lacpdu
           rests = rests;
         }
 
-        -- Z holds of the end of s after the round, or the other end has heard an LACPDU of it, and is told
-        pub host_tells : (old new : WorldState) → Link d at w c s X old → OfEach (AtPort (at s) Wakes) (half s old).state.system_ports
-            → NothingInFlight old → IsHostRound gives old new → D old
-            → Link d at w (ticked c) s Z new ⊎ (Link d at w (ticked c) (peer s) (Learnt d (w (peer (peer s))) (W - 1)) new
-            × ((OfEach (AtPort (at s) Wakes) (half s new).state.system_ports × Ended PartnerInSync new) × E new))
-        host_tells old new l wakes none h da =
+        -- a round: Z holds of the end of s, or an LACPDU of it is on the cable, or the other end has heard one, and is told
+        pub turns : {E : Clearing} (old new : WorldState) → Link d at w c s X old → OfEach (AtPort (at s) Wakes) (half s old).state.system_ports
+            → IsPlayed E gives old new → D old → Turn (kn false false) (W - 1) Z new
+        turns old new l wakes h da =
             let asked = subst (λ n. AfterTick s (λ j. OfPort (λ p. is_due p ≡ false) (machines_of n (half s j).state)) gives h.events h.replies old new
             h.acts) (port_there s at l.flying) (h.asked s l.index (cable at l.flying) (healthy_link d at w c s X old l)) in
             let start : A true old = inl (
               (
                 none_ticked d at w c s s X old l,
-                begin_on Any s X old none l wakes (inr (all_any (at (peer s)) (half (peer s) old).state.system_ports)),
+                none_ticked d at w c s s Wakes old (join d at w c s s Wakes old (forget d at w c s s X old l) wakes),
               ),
               da,
             ) in
-            landed (first_on gives Whatever s A B C NoneDue stages h.events h.replies old new true (all_whatever h.events) (of_side s h.events h.ticks) h.acts asked start)
+            first_on gives Whatever s A B C NoneDue stages h.events h.replies old new true (all_whatever h.events) (of_side s h.events h.ticks) h.acts
+            asked start
+
+        -- Z holds of the end of s after the round, or the other end has heard an LACPDU of it, and is told
+        pub host_tells : (old new : WorldState) → Link d at w c s X old → OfEach (AtPort (at s) Wakes) (half s old).state.system_ports
+            → IsHostRound gives old new → D old
+            → Link d at w (ticked c) s Z new ⊎ (Link d at w (ticked c) (peer s) (Learnt d (w (peer (peer s))) (W - 1)) new
+            × ((OfEach (AtPort (at s) Wakes) (half s new).state.system_ports × Ended PartnerInSync new) × E new))
+        host_tells old new l wakes h da = landed (turns old new l wakes h da)
           where
             landed : C false new → Link d at w (ticked c) s Z new ⊎ (Link d at w (ticked c) (peer s) (Learnt d (w (peer (peer s))) (W - 1)) new
                 × ((OfEach (AtPort (at s) Wakes) (half s new).state.system_ports × Ended PartnerInSync new) × E new))
@@ -558,18 +618,15 @@ module _ (gives : Algorithms) (d : ℕ) (at : Side → ℕ) (w : Side → Lacpdu
               ((wakes_then PartnerInSync new i.0.1, end_on PartnerInSync new h.empties i.0.1), i.1),
             )
 
-      -- what it was told stays
-      pub host_told : (x : Side) (Y : Machines → Type 0) (old new : WorldState) → Link d at w c x Y old
-          → OfEach (AtPort (at s) Wakes) (half s old).state.system_ports
-          → NothingInFlight old → IsHostRound gives old new → 2 ≤ c (peer s) → Ended PartnerInSync old
-          → OfEach (AtPort (at s) Wakes) (half s new).state.system_ports × Ended PartnerInSync new
-      host_told x Y old new l wakes none h known told =
-          let last = holds_on gives s (λ a b j. OnWay (kn a b) PartnerInSync j) (λ a b. sync_between (kn a b) (fits_in d w c s fits then a b))
+      -- what it is told, or what is on its way, stays
+      pub stays_on : {E : Clearing} (old new : WorldState) → OnWay (kn true true) PartnerInSync old → IsPlayed E gives old new → 2 ≤ c (peer s)
+          → OnWay (kn false false) PartnerInSync new
+      stays_on old new told h known = holds_on gives s (λ a b j. OnWay (kn a b) PartnerInSync j)
+          (λ a b. sync_between (kn a b) (fits_in d w c s fits then a b))
           (λ b. on_own PartnerInSync (sync_settles (at (peer s))) (λ p y. y) (λ p y. y) (kn true b) (kn false b) (own_one b) (own_two b) (own_three b))
           (λ a n r i j numbered step o. on_other PartnerInSync (sync_settles (at (peer s))) (λ p y. y) (λ p y. y) (kn a true) (kn a false)
           (other_one a) (other_two a) (other_three a) n r i j numbered step (stays a n r i j numbered step o.0) o)
-          h.events h.replies old new true true (of_side s h.events h.ticks) h.acts (begin_on PartnerInSync x Y old none l wakes told) in
-          (wakes_then PartnerInSync new last, end_on PartnerInSync new h.empties last)
+          h.events h.replies old new true true (of_side s h.events h.ticks) h.acts told
         where
           stays : (a : Bool) (n : ℕ) (r : Reply) (i j : WorldState) → side_of n ≡ Some (peer s) → WorldSteps gives i (event.Tick n 1) r j
               → Link d at w (kn a true) s Wakes i → PeerIs PartnerInSync i → PeerIs PartnerInSync j
@@ -583,16 +640,25 @@ module _ (gives : Algorithms) (d : ℕ) (at : Side → ℕ) (w : Side → Lacpdu
               (gives (peer s)) (half (peer s) i).state answer.Tick (half (peer s) j).state t.step
               (each_both (AtPort (at (peer s)) P) (AtPort (at (peer s)) PartnerInSync) (half (peer s) i).state.system_ports (l.ports (peer s)) y)
 
+      -- what it was told stays
+      pub host_told : (x : Side) (Y : Machines → Type 0) (old new : WorldState) → Link d at w c x Y old
+          → OfEach (AtPort (at s) Wakes) (half s old).state.system_ports
+          → NothingInFlight old → IsHostRound gives old new → 2 ≤ c (peer s) → Ended PartnerInSync old
+          → OfEach (AtPort (at s) Wakes) (half s new).state.system_ports × Ended PartnerInSync new
+      host_told x Y old new l wakes none h known told =
+          let last = stays_on old new (begin_on PartnerInSync x Y old none l wakes told) h known in
+          (wakes_then PartnerInSync new last, end_on PartnerInSync new h.empties last)
+
       -- an LACPDU of the end of s is nearer, or the other end has heard one, and is told
       pub host_nears_told : (fast : Bool) (most : ℕ) (old new : WorldState) → CanSound (w s) (w (peer s)) fast (ticked c s)
           → CanSound (w s) (w (peer s)) fast (c s) → Link d at w c s (Sounds fast most) old
-          → OfEach (AtPort (at s) Wakes) (half s old).state.system_ports → NothingInFlight old → IsHostRound gives old new → D old
+          → OfEach (AtPort (at s) Wakes) (half s old).state.system_ports → IsHostRound gives old new → D old
           → ((1 ≤ most - 1) × Link d at w (ticked c) s (Sounds fast (most - 1)) new)
           ⊎ (Link d at w (ticked c) (peer s) (Learnt d (w (peer (peer s))) (wait_of (w (peer s)) - 1)) new
           × ((OfEach (AtPort (at s) Wakes) (half s new).state.system_ports × Ended PartnerInSync new) × E new))
-      host_nears_told fast most old new can was l wakes none h da = elim (host_tells (Sounds fast most) (Sounds fast (most - 1)) (Sounds fast (most - 1))
+      host_nears_told fast most old new can was l wakes h da = elim (host_tells (Sounds fast most) (Sounds fast (most - 1)) (Sounds fast (most - 1))
           (Later fast (most - 1)) (sounds_pass (w s) (w (peer s)) fast (c s) (ticked c s) d most was can)
-          (sounds_along (w s) (w (peer s)) fast (c s) d most was) old new l wakes none h da) [
+          (sounds_along (w s) (w (peer s)) fast (c s) d most was) old new l wakes h da) [
             | inl z ↦ inl (
               (beside_here d at w (ticked c) s (Later fast (most - 1)) new z).0,
               at_rest d at w (ticked c) s (Later fast (most - 1)) (Sounds fast (most - 1)) new (λ p rest timed a y. y.1) z,

@@ -4,9 +4,9 @@ use Rattle.lagprogress.proofs.Common.{zero, ℕ, ◌==◌, ◌∙◌, ◌∷◌,
 use Rattle.lagprogress.proofs.Common.{Side, find_at, Machines, receive_rows, RunsToRest, count_down, PortConfig, SystemPort, configured_numbers}
 use Rattle.lagprogress.proofs.Common.{model_port_of, number_of_port, IsSound, SystemState, port_numbers, all-get, are_numbered, ports_rise}
 use Rattle.lagprogress.proofs.Common.{Algorithms, LinkState, WorldState, half, port_at, AllHeard, EndsHealthyCable, EnoughAggregators, EnoughLinks}
-use Rattle.lagprogress.proofs.Common.{HostRounds, IsHealthyAt, aggregators_with, ports_with, IsSteady}
+use Rattle.lagprogress.proofs.Common.{Clearing, HostRounds, NoneIsLeft, PlayedRounds, IsHealthyAt, aggregators_with, ports_with, IsSteady}
 use Rattle.lagprogress.proofs.Counting.{count_same, counted}
-use Rattle.lagprogress.proofs.EachRound.{EachAt, RoundKeeps, own_keeps, own_ticks, host_each, hosts_keep, hosts_on, hosts_steady}
+use Rattle.lagprogress.proofs.EachRound.{EachAt, RoundKeeps, own_keeps, own_ticks, host_each, played_keep, played_on, played_steady}
 use Rattle.lagprogress.proofs.Linked.{many}
 use Rattle.lagprogress.proofs.OnePort.{AtPort, at_number, same_place}
 use Rattle.lagprogress.proofs.Starting.{Ends, end_of}
@@ -24,14 +24,18 @@ pub alike_ticks : (n : ℕ) (x : Machines) (m : ℕ) (p q : Machines) → RunsTo
     → AtPort n (Alike x) m q
 alike_ticks n x = own_ticks (λ party up. (party ≡ x.party) × (up ≡ x.enabled)) n
 
-pub rounds_alike : (gives : Algorithms) (n : ℕ) (old new : WorldState) → IsSteady old → HostRounds gives n old new → (s : Side) (k : ℕ)
-    (x : SystemPort) → slice_get (half s old).state.system_ports k ≡ Some x → EachAt (AtPort x.number (Alike x.port)) s new
-rounds_alike gives n old new steady h s k x there =
+pub played_alike : (E : Clearing) (gives : Algorithms) (n : ℕ) (old new : WorldState) → IsSteady old → PlayedRounds E gives n old new
+    → (s : Side) (k : ℕ) (x : SystemPort) → slice_get (half s old).state.system_ports k ≡ Some x → EachAt (AtPort x.number (Alike x.port)) s new
+played_alike E gives n old new steady h s k x there =
     let st = (half s old).state in
-    hosts_on gives (λ m j. EachAt (AtPort x.number (Alike x.port)) s j) old
+    played_on E gives (λ m j. EachAt (AtPort x.number (Alike x.port)) s j) old
     (at_number (Alike x.port) 0 st.system_ports k x (ports_rise st (steady s).0.ports) there (refl, refl))
     (λ m i j q a. host_each (AtPort x.number (Alike x.port)) (AtPort x.number (Alike x.port)) (alike_keeps x.number x.port)
     (alike_keeps x.number x.port) (alike_ticks x.number x.port) s gives i j q a) n new h
+
+pub rounds_alike : (gives : Algorithms) (n : ℕ) (old new : WorldState) → IsSteady old → HostRounds gives n old new → (s : Side) (k : ℕ)
+    (x : SystemPort) → slice_get (half s old).state.system_ports k ≡ Some x → EachAt (AtPort x.number (Alike x.port)) s new
+rounds_alike gives = played_alike NoneIsLeft gives
 
 -- the system is as it was, but for its machines and its table
 pub record IsAsBefore (s : Side) (old new : WorldState) : Type 0 where
@@ -41,20 +45,24 @@ pub record IsAsBefore (s : Side) (old new : WorldState) : Type 0 where
   pub alike : (k : ℕ) (x y : SystemPort) → slice_get (half s old).state.system_ports k ≡ Some x
       → slice_get (half s new).state.system_ports k ≡ Some y → Alike x.port y.port
 
-pub as_before : (gives : Algorithms) (n : ℕ) (old new : WorldState) → IsSteady old → HostRounds gives n old new → (s : Side) → IsAsBefore s old new
-as_before gives n old new steady h s =
-    let now = hosts_steady gives n old new steady h in
-    let ports = hosts_keep (List PortConfig) (λ t. t.ports) (λ t a b. refl) gives n old new h s in
+pub played_before : (E : Clearing) (gives : Algorithms) (n : ℕ) (old new : WorldState) → IsSteady old → PlayedRounds E gives n old new → (s : Side)
+    → IsAsBefore s old new
+played_before E gives n old new steady h s =
+    let now = played_steady E gives n old new steady h in
+    let ports = played_keep E gives (List PortConfig) (λ t. t.ports) (λ t a b. refl) n old new h s in
     let numbers : port_numbers (half s new).state.system_ports ≡ port_numbers (half s old).state.system_ports =
     (now s).0.ports.same ∙ (ap configured_numbers ports ∙ sym (steady s).0.ports.same) in
     record {
-      keys = hosts_keep (List Key) (λ t. t.keys) (λ t a b. refl) gives n old new h s;
-      limit = hosts_keep (Option ℕ) (λ t. t.max_links) (λ t a b. refl) gives n old new h s;
+      keys = played_keep E gives (List Key) (λ t. t.keys) (λ t a b. refl) n old new h s;
+      limit = played_keep E gives (Option ℕ) (λ t. t.max_links) (λ t a b. refl) n old new h s;
       numbers = numbers;
       alike = λ k x y e f. all-get (λ (z : SystemPort). AtPort x.number (Alike x.port) z.number z.port) (half s new).state.system_ports k y f
-          (rounds_alike gives n old new steady h s k x e)
+          (played_alike E gives n old new steady h s k x e)
           (same_place (half s old).state.system_ports (half s new).state.system_ports k x y numbers e f);
     }
+
+pub as_before : (gives : Algorithms) (n : ℕ) (old new : WorldState) → IsSteady old → HostRounds gives n old new → (s : Side) → IsAsBefore s old new
+as_before gives = played_before NoneIsLeft gives
 
 -- the port that stood at the place
 pub old_port : (xs ys : List SystemPort) (k : ℕ) (y : SystemPort) → port_numbers ys ≡ port_numbers xs → slice_get ys k ≡ Some y

@@ -33,12 +33,19 @@ mod HostRound
 mod HostStamps
 mod HostTelling
 mod HostHearing
+mod LateFlow
+mod LateArriving
+mod LateHearing
+mod LateStart
+mod LateKnowing
+mod LateComingUp
 mod ComingUp
 mod Stamps
 mod EachRound
 mod Lasting
 mod SharedLemmas
 mod Bundling
+mod LateBundling
 mod Holding
 mod Answering
 mod Draining
@@ -59,6 +66,7 @@ mod Played
 mod Reaching
 mod BesideCutOffs
 mod HostLoops
+mod LateLoops
 mod Looping
 mod OneLink
 mod PlainRounds

@@ -6,12 +6,12 @@ use Rattle.lagprogress.proofs.Common.{default_partner, receive_rows, start_recei
 use Rattle.lagprogress.proofs.Common.{SystemPort, Call, Configure, ProcessesLacpdu, Receive, Restart, Set_link, SetsPortEnabled, Step, Tick, Transmit}
 use Rattle.lagprogress.proofs.Common.{changed_party, choice_with_link, SystemState, port_index, Step-frame, all-get, found_place, ports_rise, Same}
 use Rattle.lagprogress.proofs.Common.{agreement_at, Algorithms, IsWorldSound, LinkState, WorldState, half, port_at, end_is, BothAreActive}
-use Rattle.lagprogress.proofs.Common.{OneIsActive, HostRounds, CarriesOnAll, DownAreUnselected, EachLimitedLinkAgrees, EachReachedHasDownUnselected}
-use Rattle.lagprogress.proofs.Common.{EndsAgreed, IsLimitedBundle, StandsByOthers, EndKnows, Knows, AtEnd, IsHealthyAt, OfPort, up_if_both_active}
-use Rattle.lagprogress.proofs.Common.{up_if_one_is, StandsByFull, WantsAggregator}
+use Rattle.lagprogress.proofs.Common.{OneIsActive, HostRounds, NoneIsLeft, CarriesOnAll, DownAreUnselected, EachLimitedLinkAgrees}
+use Rattle.lagprogress.proofs.Common.{EachReachedHasDownUnselected, EndsAgreed, IsLimitedBundle, StandsByOthers, EndKnows, Knows, AtEnd, IsHealthyAt}
+use Rattle.lagprogress.proofs.Common.{OfPort, up_if_both_active, up_if_one_is, StandsByFull, WantsAggregator}
 use Rattle.lagprogress.proofs.Bundling.{never_stands, heard_holds}
 use Rattle.lagprogress.proofs.EachPort.{KeptByCall, KeptBySettling, OfEach, Step-each, first_each, place_each, settling_each}
-use Rattle.lagprogress.proofs.EachRound.{EachAt, RoundKeeps, host_each, hosts_join, hosts_keep, hosts_on, hosts_steady}
+use Rattle.lagprogress.proofs.EachRound.{EachAt, RoundKeeps, host_each, hosts_join, hosts_on, hosts_steady, played_keep}
 use Rattle.lagprogress.proofs.Halves.{both_first}
 use Rattle.lagprogress.proofs.Hearing.{no}
 use Rattle.lagprogress.proofs.Linked.{each_side, events_each, machines_there}
@@ -150,7 +150,7 @@ module _ (Holds : LinkState → WorldState → Type 0) (t : Side) (gives : Algor
       (rounds_alike gives n old new b.steady h s was.0 was.1 was.3) (number ∙ sym before) in
       let own : e.1.port.party.system ≡ st.system = own_system st e.0 e.1 (now s).0 e.3 in
       let other : f.1.port.party.system ≡ (half (peer s) new).state.system = own_system (half (peer s) new).state f.0 f.1 (now (peer s)).0 f.3 in
-      let kept = hosts_keep SystemId (λ z. z.system) (λ z ports table. refl) gives n old new h in
+      let kept = played_keep NoneIsLeft gives SystemId (λ z. z.system) (λ z ports table. refl) n old new h in
       record {
         place = e.0;
         port = e.1;

@@ -363,7 +363,7 @@ transmits_good d v u c n (Some i) old frame new known e h a =
     (all-get (λ (y : SystemPort). AtPort n (IsEnd d v u c) y.number y.port) old.system_ports i h.0 h.1 a
     (found_place n old.system_ports i h.0 e h.1)) h.2
 
-told_good : (d : ℕ) (v u : Lacpdu) (c : ℕ) (gives : ℕ → ℕ → ℕ → Type 0) (n : ℕ) (a : Result (Option (List ℕ)) SystemFault)
+pub told_good : (d : ℕ) (v u : Lacpdu) (c : ℕ) (gives : ℕ → ℕ → ℕ → Type 0) (n : ℕ) (a : Result (Option (List ℕ)) SystemFault)
     (old new : SystemState) → (2 ≤ d → 1 ≤ c) → CallPromise gives old (Transmit n) (answer.Transmit a) new
     → OfEach (AtPort n (IsEnd d v u c)) old.system_ports
     → (frame : List ℕ) → sent_frame a ≡ Some frame → (x : Lacpdu) → IsFrame frame (Carries (pdu.Lacpdu x)) → Suits d u v x

@@ -197,14 +197,17 @@ push_each P Two item fl h a One = a One
 push_each P Two item fl h a Two = all-append (P Two) (fl Two) (item ∷ []) (a Two) (h, tt)
 
 abbrev Stamping : Side → ℕ → List PortHistory → (Side → List ItemValue) → (Side → List ItemValue) → Type 0
-Stamping s p logs fl now = (m : Side → ℕ) → change_count_in (history_at logs p) ≡ m (peer s)
-    → ((t : Side) → AllByRecursion (IsStamped (m t)) (fl t)) → (t : Side) → AllByRecursion (IsStamped (m t)) (now t)
+Stamping s p logs fl now = (now ≡ fl)
+    ⊎ ((item : ItemValue) × IsStamped (change_count_in (history_at logs p)) item × (now ≡ push (peer s) item fl))
 
 stamping : (s : Side) (p : ℕ) (logs : List PortHistory) (o : Option (List ℕ)) (fl : Side → List ItemValue)
     → Stamping s p logs fl (gained s (option_map (sent_item p logs) o) fl)
-stamping s p logs None fl = λ m e y. y
-stamping s p logs (Some frame) fl = λ m e y. push_each (λ t. IsStamped (m t)) (peer s) (sent_item p logs frame) fl
-    (λ x c. ap (λ v. stamp_count (stamp_for v (change_count_in (history_at logs p)))) (pdu_read (payload_in frame) (pdu.Lacpdu x) c.1) ∙ e) y
+stamping s p logs None fl = inl refl
+stamping s p logs (Some frame) fl = inr (
+  sent_item p logs frame,
+  λ x c. ap (λ v. stamp_count (stamp_for v (change_count_in (history_at logs p)))) (pdu_read (payload_in frame) (pdu.Lacpdu x) c.1),
+  refl,
+)
 
 pub half_logs : (s : Side) (h : HalfState) (j : WorldState) → h.histories ≡ (half s j).histories
     → (t : Side) → (half t (with_half s h j)).histories ≡ (half t j).histories
@@ -370,7 +373,7 @@ pub record Comes (gives : Algorithms) (s : Side) (k : ℕ) (l : LinkState) (old 
   pub log : (half s new).histories ≡ logged a (port_at s l) item (half s old).histories
   pub peer_log : (half (peer s) new).histories ≡ (half (peer s) old).histories
 
-came : (gives : Algorithms) (s : Side) (k : ℕ) (l : LinkState) (item : ItemValue) (rest : List ItemValue) (r : Reply) (old new : WorldState)
+pub came : (gives : Algorithms) (s : Side) (k : ℕ) (l : LinkState) (item : ItemValue) (rest : List ItemValue) (r : Reply) (old new : WorldState)
     → towards s l ≡ item ∷ rest
     → WorldReceives gives s (port_at s l) item (with_link_at k (with_towards s rest l) old) r (record new { acted = old.acted })
     → Comes gives s k l old new

@@ -54,7 +54,7 @@ pub same_ports_then : (gives : ℕ → ℕ → ℕ → Type 0) (n k : ℕ) (z : 
     → Step gives old (Transmit n) (answer.Transmit a) new → new.system_ports ≡ old.system_ports
 same_ports_then gives n k z a old new place there due h = grind (arith, nat_tests)
 
-flies : (gives : ℕ → ℕ → ℕ → Type 0) (s : Side) (n k : ℕ) (z : SystemPort) (a : Result (Option (List ℕ)) SystemFault)
+pub flies : (gives : ℕ → ℕ → ℕ → Type 0) (s : Side) (n k : ℕ) (z : SystemPort) (a : Result (Option (List ℕ)) SystemFault)
     (old new : SystemState) (fl now : Side → List ItemValue)
     → port_index n old.system_ports ≡ Some k → slice_get old.system_ports k ≡ Some z → z.port.enabled ≡ true → is_due z.port ≡ true
     → Step gives old (Transmit n) (answer.Transmit a) new → Went s a fl now → Flying (now (peer s))
@@ -70,6 +70,24 @@ flies gives s n k z (Ok (Some frame)) old new fl now place there up due h w =
     (subst Flying (sym (push_there (peer s) w.0 fl))
     (has_last HasLacpdu (fl (peer s)) w.0 (v, sent_carries w.0.octets (pdu.Lacpdu v) (lacpdu_is_sent old.max_delay z w.0.octets lacpdu))))
 
+-- the end is asked where no LACPDU is due
+pub ask_idle : (gives : Algorithms) (n : ℕ) (s : Side) (d : ℕ) (at : Side → ℕ) (w : Side → Lacpdu) (c : Side → ℕ) (Y Z : Machines → Type 0)
+    (r : Reply) (old new : WorldState) → Fits d w c → side_of n ≡ Some s → Asks d Y Z (w s) (w (peer s)) (c s) → (l : Link d at w c s Y old)
+    → is_due (end_here at w d c s Y old l s).port.port ≡ false → WorldSteps gives old (event.Emit n (at s)) r new → Link d at w c s Z new
+ask_idle gives n s d at w c Y Z r old new fits named asks l not h =
+    let e = emit_link gives n s d at w c s Nothing r old new fits named (nothing_along (w s) (w (peer s)) (c s) d) (λ f p y. y)
+    (forget d at w c s s Y old l) h in
+    let z = end_here at w d c s Y old l s in
+    let same = same_ports_then (gives s) (at s) z.index z.port e.asks.a (half s old).state (half s new).state z.place z.there not
+    e.asks.promise.step in
+    let now = of_end l s (λ p. is_due p ≡ false → EndIs d w c s Z s p)
+    (λ p rest timed a none. (a.0, λ f. asks p rest timed a.0 (a.1 refl) none)) in
+    with_ports e.link (each_side (λ t. OfEach (AtPort (at t) (EndIs d w c s Z t)) (half t new).state.system_ports) s
+    (subst (OfEach (AtPort (at s) (EndIs d w c s Z s))) (sym same) (at_end at w d c s old z l.steady (EndIs d w c s Z s)
+    (end_with at w d c s old z (λ p. is_due p ≡ false → EndIs d w c s Z s p) now not)))
+    (subst (λ (y : SystemState). OfEach (AtPort (at (peer s)) (EndIs d w c s Z (peer s))) y.system_ports) (sym e.asks.peers)
+    (of_end l (peer s) (EndIs d w c s Z (peer s)) (λ p rest timed a. (a.0, λ g. absurd (other_side s g))))))
+
 ask_own : (gives : Algorithms) (n : ℕ) (s : Side) (d : ℕ) (at : Side → ℕ) (w : Side → Lacpdu) (c : Side → ℕ) (Y Z : Machines → Type 0)
     (r : Reply) (old new : WorldState) → Fits d w c → side_of n ≡ Some s → Asks d Y Z (w s) (w (peer s)) (c s)
     → Link d at w c s Y old → WorldSteps gives old (event.Emit n (at s)) r new → Asked d at w c s Z new
@@ -77,27 +95,17 @@ ask_own gives n s d at w c Y Z r old new fits named asks l h =
     let bare = forget d at w c s s Y old l in
     let e = emit_link gives n s d at w c s Nothing r old new fits named (nothing_along (w s) (w (peer s)) (c s) d) (λ f p y. y) bare h in
     let z = end_here at w d c s Y old l s in
-    let st = (half s old).state in
     elim (cases_Bool (is_due z.port.port)) [
       | inl due ↦ inr (
         e.link,
         subst (λ (f : Side → List ItemValue). Flying (f (peer s))) (sym e.same)
-            (flies (gives s) s (at s) z.index z.port e.asks.a st (half s new).state bare.flying e.asks.now z.place z.there z.is.1.0 due
-            e.asks.promise.step e.asks.went),
+            (flies (gives s) s (at s) z.index z.port e.asks.a (half s old).state (half s new).state bare.flying e.asks.now z.place z.there z.is.1.0
+            due e.asks.promise.step e.asks.went),
       )
-      | inr not ↦ (let same = same_ports_then (gives s) (at s) z.index z.port e.asks.a st (half s new).state z.place z.there not
-          e.asks.promise.step in
-          let now = of_end l s (λ p. is_due p ≡ false → EndIs d w c s Z s p)
-          (λ p rest timed a none. (a.0, λ f. asks p rest timed a.0 (a.1 refl) none)) in
-          inl (with_ports e.link (each_side (λ t. OfEach (AtPort (at t) (EndIs d w c s Z t)) (half t new).state.system_ports) s
-          (subst (OfEach (AtPort (at s) (EndIs d w c s Z s))) (sym same) (at_end at w d c s old z l.steady (EndIs d w c s Z s)
-          (end_with at w d c s old z (λ p. is_due p ≡ false → EndIs d w c s Z s p) now not)))
-          (subst (λ (y : SystemState). OfEach (AtPort (at (peer s)) (EndIs d w c s Z (peer s))) y.system_ports) (sym e.asks.peers)
-          (of_end l (peer s) (EndIs d w c s Z (peer s)) (λ p rest timed a. (a.0, λ g. absurd (other_side s g)))))))
-          )
+      | inr not ↦ inl (ask_idle gives n s d at w c Y Z r old new fits named asks l not h)
     ]
 
-ask_peer : (gives : Algorithms) (n : ℕ) (s : Side) (d : ℕ) (at : Side → ℕ) (w : Side → Lacpdu) (c : Side → ℕ) (Y : Machines → Type 0)
+pub ask_peer : (gives : Algorithms) (n : ℕ) (s : Side) (d : ℕ) (at : Side → ℕ) (w : Side → Lacpdu) (c : Side → ℕ) (Y : Machines → Type 0)
     (r : Reply) (old new : WorldState) → Fits d w c → side_of n ≡ Some (peer s) → Along Y (w s) (w (peer s)) (c s) d
     → Link d at w c s Y old → WorldSteps gives old (event.Emit n (at (peer s))) r new → Link d at w c s Y new
 ask_peer gives n s d at w c Y r old new fits named along l h =

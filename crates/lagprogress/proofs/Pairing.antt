@@ -3,12 +3,13 @@ use Rattle.lagprogress.proofs.Common.{List, Some, ap, arith, inl, inr, refl, sli
 use Rattle.lagprogress.proofs.Common.{cases_Bool, AllByRecursion, is_selected, Lacpdu, IsCabling, One, Side, peer, selected, PortConfig, SystemPort}
 use Rattle.lagprogress.proofs.Common.{MuxIsSettled, all-get, ports_rise, Same, agreement_at, Algorithms, world_setup, IsWorldSound, LinkState}
 use Rattle.lagprogress.proofs.Common.{WorldState, half, port_at, AllHeard, BothAreActive, OneIsActive, SelectedPairsAgree, SelectedPairsComeUp}
-use Rattle.lagprogress.proofs.Common.{Distributes, HostRounds, AtEnd, IsHealthyAt, OfPort, up_if_both_active, up_if_one_is, IsSteady, IsTimed}
+use Rattle.lagprogress.proofs.Common.{Distributes, HostRounds, NoneIsLeft, AtEnd, IsHealthyAt, OfPort, up_if_both_active, up_if_one_is, IsSteady}
+use Rattle.lagprogress.proofs.Common.{IsTimed}
 use Rattle.lagprogress.proofs.Bundling.{agree_up, both_meet, both_wake, heard_holds, one_meet, one_wakes, Named, names}
 use Rattle.lagprogress.proofs.Choosing.{Chose}
 use Rattle.lagprogress.proofs.Climbing.{Down, Ripe, Rising, climbed, down_settles, down_takes, down_ticks, rising_first}
-use Rattle.lagprogress.proofs.ComingUp.{Up, comes_up, climb_first, climb_on, distributes}
-use Rattle.lagprogress.proofs.EachRound.{EachAt, RoundKeeps, host_each, hosts_keep, hosts_on, hosts_split, hosts_steady}
+use Rattle.lagprogress.proofs.ComingUp.{Up, comes_up, climb_first, climb_on, distributes, synced_of}
+use Rattle.lagprogress.proofs.EachRound.{EachAt, RoundKeeps, host_each, hosts_on, hosts_split, hosts_steady, played_keep}
 use Rattle.lagprogress.proofs.EndFacts.{Synced, activity}
 use Rattle.lagprogress.proofs.Frozen.{AllChose, AllFresh, Stands, choice_rounds, on_cable}
 use Rattle.lagprogress.proofs.Hearing.{no}
@@ -74,7 +75,7 @@ module _ (Holds : LinkState → WorldState → Type 0) (first : ℕ) (gives : Al
     stands : Stands Holds gives old heard wake mid
     stands = record {
       steady = hosts_steady gives first old mid steady h;
-      config = hosts_keep (List PortConfig) (λ t. t.ports) (λ t a b. refl) gives first old mid h;
+      config = played_keep NoneIsLeft gives (List PortConfig) (λ t. t.ports) (λ t a b. refl) first old mid h;
       alike = λ t k x e. rounds_alike gives first old mid steady h t k x e;
     }
 
@@ -164,12 +165,14 @@ module _ (Holds : LinkState → WorldState → Type 0) (first : ℕ) (gives : Al
       → ((s : Side) → AtEnd (λ p. selected p ≡ true) s l new)
       → (s : Side) → AtEnd Distributes s l new
   pairs_distribute i l y n new enough h sel =
-      distributes (λ s. port_at s l) (said_by l old (ends_at i l old y)) (named i l y) (wake i l y) new (ups i l y n new enough h sel)
+      distributes (λ s. port_at s l) (said_by l old (ends_at i l old y)) new
+      (synced_of (λ s. port_at s l) (said_by l old (ends_at i l old y)) (named i l y) (wake i l y) new (ups i l y n new enough h sel))
 
   pub pairs_agree : IsWorldSound old → (i : ℕ) (l : LinkState) (y : IsHealthyAt i l old) (n : ℕ) (new : WorldState) → first + 31 ≤ n
       → HostRounds gives n old new
       → ((s : Side) → AtEnd (λ p. selected p ≡ true) s l new) → agreement_at new (suc i) ≡ Some Same
-  pairs_agree sound i l y n new enough h sel = agree_up gives n old new sound h i l y (named i l y) (wake i l y) (ups i l y n new enough h sel)
+  pairs_agree sound i l y n new enough h sel = agree_up NoneIsLeft gives n old new sound h i l y
+      (synced_of (λ s. port_at s l) (said_by l old (ends_at i l old y)) (named i l y) (wake i l y) new (ups i l y n new enough h sel))
 
 pub selected_pairs_come_up_by_hosts : (gives : Algorithms) → SelectedPairsComeUp HostRounds OneIsActive up_if_one_is gives
 selected_pairs_come_up_by_hosts gives n i l old new cabling steady heard y enough h sel = pairs_distribute OneIsActive 621 gives old cabling steady heard

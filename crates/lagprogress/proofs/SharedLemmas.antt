@@ -4,12 +4,13 @@ use Rattle.lagprogress.proofs.Common.{◌⊎◌, cases_Bool, nat_tests, AggId, K
 use Rattle.lagprogress.proofs.Common.{group-itself, party_of, Side, peer, ReceiveState, Current, Expired, Initialize, PortDisabled, Machines}
 use Rattle.lagprogress.proofs.Common.{mux_rows, selected, RunsPeriodic, receive_rows, same_receive_state, RunsToRest, count_down, SystemPort}
 use Rattle.lagprogress.proofs.Common.{none_enabled, rests, all-get, found_place, ports_rise, Algorithms, LinkState, WorldState, half, port_at}
-use Rattle.lagprogress.proofs.Common.{AllHeard, EnoughAggregators, HostRounds, EndKnows, Knows, AtEnd, IsHealthyAt, OfPort, StandsByFull}
-use Rattle.lagprogress.proofs.Common.{WantsAggregator, AreOneGroup, DownWereLinkedTo, HasAggregators, LeadToKey, SharesGroup, IsSteady}
+use Rattle.lagprogress.proofs.Common.{AllHeard, EnoughAggregators, Clearing, HostRounds, NoneIsLeft, PlayedRounds, EndKnows, Knows, AtEnd}
+use Rattle.lagprogress.proofs.Common.{IsHealthyAt, OfPort, StandsByFull, WantsAggregator, AreOneGroup, DownWereLinkedTo, HasAggregators, LeadToKey}
+use Rattle.lagprogress.proofs.Common.{SharesGroup, IsSteady}
 use Rattle.lagprogress.proofs.Choosing.{down_as_read}
-use Rattle.lagprogress.proofs.EachRound.{EachAt, RoundKeeps, host_each, hosts_keep, hosts_on, hosts_steady}
+use Rattle.lagprogress.proofs.EachRound.{EachAt, RoundKeeps, host_each, played_keep, played_on, played_steady}
 use Rattle.lagprogress.proofs.Hearing.{EnabledKeep, no, times_keep}
-use Rattle.lagprogress.proofs.Lasting.{IsAsBefore, as_before, ends_at, old_port, own_system, rounds_alike, still_enough, still_heard, still_one}
+use Rattle.lagprogress.proofs.Lasting.{IsAsBefore, ends_at, old_port, own_system, still_enough, still_heard, still_one, played_before, played_alike}
 use Rattle.lagprogress.proofs.Lasting.{Alike}
 use Rattle.lagprogress.proofs.OnePort.{AtPort, at_number, mux_leaves, periodic_leaves}
 use Rattle.lagprogress.proofs.Starting.{end_of}
@@ -118,13 +119,13 @@ pub is_disabled : (r : ReceiveState) (up : Bool) → up ≡ false → (not (same
 is_disabled PortDisabled up e h = refl
 is_disabled r up e h = absurd (no (sym h ∙ ap not e))
 
-still_sleeps : (gives : Algorithms) (n : ℕ) (old new : WorldState) → IsSteady old → HostRounds gives n old new → (s : Side) (k : ℕ) (x : SystemPort)
-    → slice_get (half s old).state.system_ports k ≡ Some x → x.port.enabled ≡ false → EachAt (AtPort x.number (Sleeps x.port)) s new
-still_sleeps gives n old new steady h s k x there down =
+still_sleeps : (E : Clearing) (gives : Algorithms) (n : ℕ) (old new : WorldState) → IsSteady old → PlayedRounds E gives n old new
+    → (s : Side) (k : ℕ) (x : SystemPort) → slice_get (half s old).state.system_ports k ≡ Some x → x.port.enabled ≡ false → EachAt (AtPort x.number (Sleeps x.port)) s new
+still_sleeps E gives n old new steady h s k x there down =
     let st = (half s old).state in
     let rest = rests receive_rows x.port
     (all-get (λ (y : SystemPort). none_enabled receive_rows y.port ≡ true) st.system_ports k x there (steady s).0.rested.0) in
-    hosts_on gives (λ m j. EachAt (AtPort x.number (Sleeps x.port)) s j) old
+    played_on E gives (λ m j. EachAt (AtPort x.number (Sleeps x.port)) s j) old
     (at_number (Sleeps x.port) 0 st.system_ports k x (ports_rise st (steady s).0.ports) there
     (record { down = down; disabled = is_disabled x.port.receive x.port.enabled down rest.1.0; partner = refl; idle = λ e. e }))
     (λ m i j q a. host_each (AtPort x.number (Sleeps x.port)) (AtPort x.number (Sleeps x.port)) (sleeping_round x.number x.port)
@@ -142,14 +143,18 @@ pub record Lasted (old new : WorldState) : Type 0 where
   pub sleeps : (s : Side) (k : ℕ) (x : SystemPort) → slice_get (half s old).state.system_ports k ≡ Some x → x.port.enabled ≡ false
       → EachAt (AtPort x.number (Sleeps x.port)) s new
 
-pub lasted : (gives : Algorithms) (n : ℕ) (old new : WorldState) → IsSteady old → HostRounds gives n old new → Lasted old new
-lasted gives n old new steady h = record {
-  now = hosts_steady gives n old new steady h;
-  before = as_before gives n old new steady h;
-  alike = rounds_alike gives n old new steady h;
-  system = hosts_keep SystemId (λ z. z.system) (λ z ports table. refl) gives n old new h;
-  sleeps = still_sleeps gives n old new steady h;
+pub played_lasted : (E : Clearing) (gives : Algorithms) (n : ℕ) (old new : WorldState) → IsSteady old → PlayedRounds E gives n old new
+    → Lasted old new
+played_lasted E gives n old new steady h = record {
+  now = played_steady E gives n old new steady h;
+  before = played_before E gives n old new steady h;
+  alike = played_alike E gives n old new steady h;
+  system = played_keep E gives SystemId (λ z. z.system) (λ z ports table. refl) n old new h;
+  sleeps = still_sleeps E gives n old new steady h;
 }
+
+pub lasted : (gives : Algorithms) (n : ℕ) (old new : WorldState) → IsSteady old → HostRounds gives n old new → Lasted old new
+lasted gives = played_lasted NoneIsLeft gives
 
 module _ (old new : WorldState) (steady : IsSteady old) (last : Lasted old new) (Holds : LinkState → WorldState → Type 0) (heard : AllHeard Holds old)
     (knows : (i : ℕ) (l : LinkState) → IsHealthyAt i l old → (s : Side) → EndKnows s l new) where

@@ -7,7 +7,7 @@ use Rattle.lagprogress.proofs.Common.{set_taken, stamp_count, ItemValue, WorldSt
 use Rattle.lagprogress.proofs.Common.{read_log}
 use Rattle.lagworld.specs.declared.histories.StampedLacpdu.{StampedLacpdu}
 use Rattle.lagprogress.proofs.Linked.{asked_which, each_side, is_took, peer_twice, put_other, put_there}
-use Rattle.lagprogress.proofs.OneCable.{Arrives, Back, Beside, IsStamped, OnCable, asks, delivers, logged, push_each, put}
+use Rattle.lagprogress.proofs.OneCable.{Arrives, Back, Beside, IsStamped, OnCable, asks, delivers, logged, push, push_each, put}
 use Rattle.lagprogress.proofs.Passing.{marker_carries_none}
 use Rattle.slowpdu.specs.declared.pdu.Pdu.TheVariants as pdu
 use Rattle.lagsystem.specs.declared.drive.Reply.TheVariants as answer
@@ -75,11 +75,19 @@ stamps_emit gives n s b at k kept r old new told l h =
         links = a.links;
         counts = λ t. ap (λ g. change_count_in (history_at g (at t))) (a.logs t) ∙ l.counts t;
         there = λ t. ap (λ g. is_some (history_at g (at t))) (a.logs t) ∙ l.there t;
-        items = λ i. a.stamps (λ t. k (peer t)) (subst (λ t. change_count_in (history_at (half s old).histories (at s)) ≡ k t)
-            (sym (peer_twice s)) (l.counts s)) (l.items i);
+        items = λ i. stamps_all a.stamps (l.items i);
       };
       took = λ i t y. took_same at k kept t old new (a.logs t) y;
     }
+  where
+    stamps_all : {fl now : Side → List ItemValue} → ((now ≡ fl) ⊎ ((item : ItemValue)
+        × IsStamped (change_count_in (history_at (half s old).histories (at s))) item × (now ≡ push (peer s) item fl)))
+        → ((t : Side) → AllByRecursion (IsStamped (k (peer t))) (fl t)) → (t : Side) → AllByRecursion (IsStamped (k (peer t))) (now t)
+    stamps_all (inl e) all = subst (λ (f : Side → List ItemValue). (t : Side) → AllByRecursion (IsStamped (k (peer t))) (f t)) (sym e) all
+    stamps_all {fl} (inr (item, is, e)) all =
+        subst (λ (f : Side → List ItemValue). (t : Side) → AllByRecursion (IsStamped (k (peer t))) (f t)) (sym e)
+        (push_each (λ t. IsStamped (k (peer t))) (peer s) item fl
+        (λ x c. is x c ∙ subst (λ t. change_count_in (history_at (half s old).histories (at s)) ≡ k t) (sym (peer_twice s)) (l.counts s)) all)
 
 -- the event leaves the cable to itself
 stamps_beside : (gives : Algorithms) (b : ℕ) (at k : Side → ℕ) (kept : Side → Bool) (old new : WorldState) (l : Stamped b at k kept old)

@@ -79,23 +79,27 @@ starts i l j e steady cabling h = record {
       ((own_says z.port, ((e s).4, λ m. absurd (omega (arith, m))), λ m. absurd (omega (arith, m))), λ f. tt)));
 }
 
+-- where more is known of what is on the cable
+pub raised : (at : Side → ℕ) (w : Side → Lacpdu) (d e : ℕ) (c : Side → ℕ) (x : Side) (Y : Machines → Type 0) (j : WorldState)
+    → ((s : Side) → OfEach (AtPort (at s) (λ p. 2 ≤ e → Synced p)) (half s j).state.system_ports) → (k : Link d at w c x Y j)
+    → ((s : Side) → AllByRecursion (IsGood e w s) (k.flying s)) → Link e at w c x Y j
+raised at w d e c x Y j synced k good = record {
+  steady = k.steady;
+  flying = k.flying;
+  index = k.index;
+  links = k.links;
+  good = good;
+  place = k.place;
+  ports = λ s. both_at (at s) (EndIs d w c x Y s) (λ p. 2 ≤ e → Synced p) (EndIs e w c x Y s)
+      (λ p a b. ((a.0.0, a.0.1, b), a.1)) (half s j).state.system_ports (k.ports s) (synced s);
+}
+
 -- where nothing is on the cable, nothing on it is unknown
 pub emptied : (at : Side → ℕ) (w : Side → Lacpdu) (d e : ℕ) (c : Side → ℕ) (x : Side) (Y : Machines → Type 0) (j : WorldState)
     → NothingInFlight j → ((s : Side) → OfEach (AtPort (at s) (λ p. 2 ≤ e → Synced p)) (half s j).state.system_ports)
     → Link d at w c x Y j → Link e at w c x Y j
-emptied at w d e c x Y j none synced k =
-    let empty : (s : Side) → k.flying s ≡ [] = λ s. sym (towards_there s at k.flying)
-    ∙ none s k.index (cable at k.flying) k.links.there in
-    record {
-      steady = k.steady;
-      flying = k.flying;
-      index = k.index;
-      links = k.links;
-      good = λ s. subst (AllByRecursion (IsGood e w s)) (sym (empty s)) tt;
-      place = k.place;
-      ports = λ s. both_at (at s) (EndIs d w c x Y s) (λ p. 2 ≤ e → Synced p) (EndIs e w c x Y s)
-          (λ p a b. ((a.0.0, a.0.1, b), a.1)) (half s j).state.system_ports (k.ports s) (synced s);
-    }
+emptied at w d e c x Y j none synced k = raised at w d e c x Y j synced k (λ s. subst (AllByRecursion (IsGood e w s))
+    (sym (sym (towards_there s at k.flying) ∙ none s k.index (cable at k.flying) k.links.there)) tt)
 
 -- an end names itself by a port number that the default partner has not
 

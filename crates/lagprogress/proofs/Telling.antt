@@ -11,11 +11,11 @@ use Rattle.lagprogress.proofs.Climbing.{PartnerInSync}
 use Rattle.lagprogress.proofs.Delivering.{deliver_moves}
 use Rattle.lagprogress.proofs.EachPort.{KeptBySettling, OfEach, asked_each}
 use Rattle.lagprogress.proofs.EndFacts.{Along, IsEnd, SameActor, takes_each, takes_end}
-use Rattle.lagprogress.proofs.Linked.{Arrived, EndIs, Fits, IsGood, Link, arrival, asked_which, beside_link, each_both, each_map, each_side}
+use Rattle.lagprogress.proofs.Linked.{Arrived, EndIs, Fits, Flying, IsGood, Link, arrival, asked_which, beside_link, each_both, each_map, each_side}
 use Rattle.lagprogress.proofs.Linked.{elsewhere_each, emit_link, found, peer_twice, push_other, push_there, put_other, put_there}
 use Rattle.lagprogress.proofs.OneCable.{Arrives, Back, Beside, Went, push, put}
 use Rattle.lagprogress.proofs.OnePort.{AtPort, at_number, settling_leaves}
-use Rattle.lagprogress.proofs.OneRound.{same_ports_then}
+use Rattle.lagprogress.proofs.OneRound.{flies, same_ports_then}
 use Rattle.lagprogress.proofs.Passing.{carries_one, lacpdu_is_sent, marker_carries_none, sends_due, sent_carries}
 use Rattle.slowpdu.specs.declared.pdu.Pdu.TheVariants as pdu
 use Rattle.lagsystem.specs.declared.drive.Reply.TheVariants as answer
@@ -63,7 +63,7 @@ sent_is true false i z old frame new h x k = by_marker (marker_due old.table z.n
     by_marker None m = absurd (none-some frame (sym m.0))
     by_marker (Some id) m = absurd (marker_carries_none frame x _ k (z.mac, m.0, m.1, m.2, same_Some frame _ m.3))
 
-went_other : (s : Side) (a : Result (Option (List ℕ)) SystemFault) (fl now : Side → List ItemValue) → Went s a fl now → now s ≡ fl s
+pub went_other : (s : Side) (a : Result (Option (List ℕ)) SystemFault) (fl now : Side → List ItemValue) → Went s a fl now → now s ≡ fl s
 went_other s a fl now h = grind (arith, nat_tests)
 
 -- one item more that says so
@@ -100,7 +100,7 @@ due_tells u v H gives s n k z (Ok (Some frame)) old new fl now says place there 
 
 -- what goes back
 
-back_other : (s : Side) (a : Result Received SystemFault) (fl now : Side → List ItemValue) → Back s a fl now → now s ≡ fl s
+pub back_other : (s : Side) (a : Result Received SystemFault) (fl now : Side → List ItemValue) → Back s a fl now → now s ≡ fl s
 back_other s (Ok (received.Respond frame)) fl now h = ap (λ (f : Side → List ItemValue). f s) h.2 ∙ push_other s h.0 fl
 back_other s a fl now h = ap (λ (f : Side → List ItemValue). f s) h
 
@@ -226,6 +226,34 @@ module _ (gives : Algorithms) (d : ℕ) (at : Side → ℕ) (w : Side → Lacpdu
           let is = sent_is t.0.port.enabled (is_due t.0.port) (l.place s).0 t.0 st frame (half s new).state t.2 x carried in
           subst (SaysSynced (w (peer s)) (w s)) (sym (ap (λ (y : SystemPort). pdu_of y.port st.max_delay) same) ∙ is)
           (claim_said (w s) (w (peer s)) st.max_delay z.port.port (z.wakes refl) claim)
+
+  -- the end itself is asked, and an LACPDU is due
+  pub due_on : (n : ℕ) (r : Reply) (old new : WorldState) → side_of n ≡ Some s → Held old
+      → OfEach (AtPort (at s) (λ p. is_due p ≡ true)) (half s old).state.system_ports → WorldSteps gives old (event.Emit n (at s)) r new
+      → (o : On new) × Flying (o.0.flying (peer s))
+  due_on n r old new named l dues h =
+      let e = emit_link gives n s d at w c s Wake r old new fits named along (λ f p y. y) l h in
+      let z = here s old l in
+      let st = (half s old).state in
+      let now = (half s new).state in
+      let u = w (peer s) in
+      let due = of_here (λ p. is_due p ≡ true) s old l z dues in (
+        (
+          e.link,
+          elim (claims_or_not u z.port.port) [
+            | inl claim ↦ inr (subst (λ (f : Side → List ItemValue). Tells u (w s) (f (peer s)) (HoldsAt new)) (sym e.same)
+                (due_tells u (w s) (HoldsAt new) (gives s) s (at s) (l.place s).0 z.port e.asks.a st now l.flying e.asks.now
+                (claim_said (w s) u st.max_delay z.port.port (z.wakes refl) claim) (l.place s).1 z.found z.is.1.0 due
+                e.asks.promise.step e.asks.went))
+            | inr not ↦ inl (each_map (AtPort (at s) (λ p. Claims u p → ⊥)) (AtPort (at s) (Owes u)) (λ q p b f k. absurd (b f k))
+                now.system_ports (asked_each (AtPort (at s) (λ p. Claims u p → ⊥)) (λ m p b. b) (gives s) (at s) e.asks.a st now
+                e.asks.promise.step (at_here (λ p. Claims u p → ⊥) s old l z not)))
+          ],
+        ),
+        subst (λ (f : Side → List ItemValue). Flying (f (peer s))) (sym e.same)
+            (flies (gives s) s (at s) (l.place s).0 z.port e.asks.a st now l.flying e.asks.now (l.place s).1 z.found z.is.1.0 due
+            e.asks.promise.step e.asks.went),
+      )
 
   -- its peer is asked
   ask_peer : (n : ℕ) (r : Reply) (old new : WorldState) → side_of n ≡ Some (peer s) → On old

@@ -46,21 +46,37 @@ AfterTick s P gives (e ∷ es) (r ∷ rs) old new run = (IsTickOf s e × AtSomeW
 AfterTick s P gives [] rs old new run = ⊥
 AfterTick s P gives (e ∷ es) [] old new run = ⊥
 
--- A healthy round of hosts: these events act, each system ticks once among them, at each end of a healthy cable no LACPDU is due
--- at some time after its system's tick, and in the end nothing is on any cable.
-pub record IsHostRound (gives : Algorithms) (old new : WorldState) : Type 0 where
+-- what becomes of what is on the cables in a round: the events, and the worlds before and after them
+abbrev pub Clearing : Type 1
+Clearing = List Event → WorldState → WorldState → Type 0
+
+-- These events act, each system ticks once among them, at each end of a healthy cable no LACPDU is due at some time after its system's
+-- tick, and the cables are cleared so far.
+pub record IsPlayed (Clears : Clearing) (gives : Algorithms) (old new : WorldState) : Type 0 where
   pub events : List Event
   pub replies : List Reply
   pub ticks : TickOnce One true true events
   pub acts : WorldRuns gives old events replies new
   pub asked : (s : Side) (i : ℕ) (l : LinkState) → IsHealthyAt i l old
       → AfterTick s (λ j. AtEnd (λ p. is_due p ≡ false) s l j) gives events replies old new acts
-  pub empties : NothingInFlight new
+  pub empties : Clears events old new
 
 -- so many of them lead from one world to the other
+abbrev pub PlayedRounds : Clearing → Algorithms → ℕ → WorldState → WorldState → Type 0
+PlayedRounds Clears gives zero old new = new ≡ old
+PlayedRounds Clears gives (suc n) old new = (mid : WorldState) × PlayedRounds Clears gives n old mid × IsPlayed Clears gives mid new
+
+-- in the end nothing is on any cable
+abbrev pub NoneIsLeft : Clearing
+NoneIsLeft events old new = NothingInFlight new
+
+-- a healthy round of hosts
+abbrev pub IsHostRound : Algorithms → WorldState → WorldState → Type 0
+IsHostRound gives old new = IsPlayed NoneIsLeft gives old new
+
+-- and so many of them
 abbrev pub HostRounds : Algorithms → ℕ → WorldState → WorldState → Type 0
-HostRounds gives zero old new = new ≡ old
-HostRounds gives (suc n) old new = (mid : WorldState) × HostRounds gives n old mid × IsHostRound gives mid new
+HostRounds gives n old new = PlayedRounds NoneIsLeft gives n old new
 
 -- an Emit event asks this port of system s
 abbrev pub Asks : Side → ℕ → Event → Type 0

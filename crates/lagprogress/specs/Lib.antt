@@ -20,5 +20,6 @@ pub mod Arriving
 pub mod Limited
 pub mod CutOff
 pub mod HostRounds
+pub mod LateRounds
 pub mod HostFreed
 pub mod PlayedByHosts

@@ -7,6 +7,7 @@
 #![tactic(auto)]
 
 mod arriving;
+mod clocks;
 mod cut_off;
 mod hosting;
 mod limits;
@@ -18,6 +19,10 @@ ghost use Rattle.lagprogress.specs.Silence.{SilenceEnds};
 
 pub use arriving::{
     disabled_ports_have_unsynchronized_partners, each_frame_arrives, frames_pass_cables,
+};
+pub use clocks::{
+    clocks_play_rounds, each_link_agrees_by_clocks, each_link_comes_up_by_clocks,
+    ends_come_to_know_by_clocks,
 };
 pub use cut_off::{cut_off_ports_are_defaulted, each_link_comes_up_beside_cut_offs};
 pub use hosting::{

@@ -1,0 +1,346 @@
+-- What a run leaves of the items that were on a cable, by the number of them that arrive.
+use Rattle.lagprogress.proofs.Common.{Bool, List, None, Option, Result, Some, [], ap, arith, false, inl, inr, length, map, refl, slice_get, subst}
+use Rattle.lagprogress.proofs.Common.{suc, sym, true, zero, ℕ, ◌++◌, ◌==◌, ◌∙◌, ◌∷◌, ◌≡◌, ◌⊎◌, cases_Bool, nat_tests, same_Some, AllByRecursion}
+use Rattle.lagprogress.proofs.Common.{all-append, One, Side, end_at, peer, value_of, SystemFault, Received, Receive, CallPromise, SystemState, Event}
+use Rattle.lagprogress.proofs.Common.{Reply, Algorithms, DeliversFrom, WorldRuns, WorldSteps, side_of, link_ends, ItemValue, LinkState, WorldState}
+use Rattle.lagprogress.proofs.Common.{half, towards, end_is, IsBetweenTicks, TickOnce, ArriveIn, IsArrivalAt}
+use Rattle.lagsystem.specs.declared.drive.Reply.TheVariants as answer
+use Rattle.lagscript.specs.declared.event.Event.TheVariants as event
+use Rattle.lagprogress.proofs.Delivering.{responds_none}
+use Rattle.lagprogress.proofs.EachRound.{joins_kept}
+use Rattle.lagprogress.proofs.HostRound.{KeptBetween, MadeByTick, not_tick}
+use Rattle.lagprogress.proofs.Linked.{Flying, HasLacpdu, asked_which, each_side, peer_twice, push_there, put_other, put_there}
+use Rattle.lagprogress.proofs.OneCable.{Arrives, Asks, Back, Comes, Gains, OnCable, Stays, arrived, asks, cable, came, came_off, passed_by, put}
+use Rattle.lagprogress.proofs.OneCable.{response, sent_frame, ticks, stays_beside, towards_there}
+use Rattle.lagprogress.proofs.Quieting.{IsQuiet, quiet_cable}
+use Rattle.lagprogress.proofs.Telling.{back_other, went_other}
+
+-- the first so many items
+
+-- one of the first k items is an LACPDU
+abbrev pub FlyingIn : ℕ → List ItemValue → Type 0
+FlyingIn zero xs = ⊥
+FlyingIn (suc k) [] = ⊥
+FlyingIn (suc k) (x ∷ xs) = HasLacpdu x ⊎ FlyingIn k xs
+
+-- each item but the first k is so
+abbrev pub Beyond : (ItemValue → Type 0) → ℕ → List ItemValue → Type 0
+Beyond P zero xs = AllByRecursion P xs
+Beyond P (suc k) [] = Unit {0}
+Beyond P (suc k) (x ∷ xs) = Beyond P k xs
+
+pub flying_first : (xs : List ItemValue) → Flying xs → FlyingIn (length xs) xs
+flying_first [] h = absurd h
+flying_first (x ∷ xs) (inl h) = inl h
+flying_first (x ∷ xs) (inr h) = inr (flying_first xs h)
+
+pub flying_push : (k : ℕ) (xs ys : List ItemValue) → FlyingIn k xs → FlyingIn k (xs ++ ys)
+flying_push zero xs ys h = absurd h
+flying_push (suc k) [] ys h = absurd h
+flying_push (suc k) (x ∷ xs) ys (inl h) = inl h
+flying_push (suc k) (x ∷ xs) ys (inr h) = inr (flying_push k xs ys h)
+
+flying_more : (k : ℕ) (xs : List ItemValue) → FlyingIn k xs → FlyingIn (suc k) xs
+flying_more zero xs h = absurd h
+flying_more (suc k) [] h = absurd h
+flying_more (suc k) (x ∷ xs) (inl h) = inl h
+flying_more (suc k) (x ∷ xs) (inr h) = inr (flying_more k xs h)
+
+pub flying_pop : (k : ℕ) (x : ItemValue) (xs : List ItemValue) → (HasLacpdu x → ⊥) → FlyingIn k (x ∷ xs) → FlyingIn k xs
+flying_pop zero x xs n h = absurd h
+flying_pop (suc k) x xs n (inl h) = absurd (n h)
+flying_pop (suc k) x xs n (inr h) = flying_more k xs h
+
+pub beyond_first : (P : ItemValue → Type 0) (xs : List ItemValue) → Beyond P (length xs) xs
+beyond_first P [] = tt
+beyond_first P (x ∷ xs) = beyond_first P xs
+
+beyond_none : (P : ItemValue → Type 0) (k : ℕ) → Beyond P k []
+beyond_none P zero = tt
+beyond_none P (suc k) = tt
+
+beyond_less : (P : ItemValue → Type 0) (k : ℕ) (xs : List ItemValue) → Beyond P k xs → Beyond P (suc k) xs
+beyond_less P zero [] h = tt
+beyond_less P zero (x ∷ xs) h = h.1
+beyond_less P (suc k) [] h = tt
+beyond_less P (suc k) (x ∷ xs) h = beyond_less P k xs h
+
+beyond_pop : (P : ItemValue → Type 0) (k : ℕ) (x : ItemValue) (xs : List ItemValue) → Beyond P k (x ∷ xs) → Beyond P k xs
+beyond_pop P zero x xs h = h.1
+beyond_pop P (suc k) x xs h = beyond_less P k xs h
+
+beyond_push : (P : ItemValue → Type 0) (k : ℕ) (xs : List ItemValue) (x : ItemValue) → P x → Beyond P k xs → Beyond P k (xs ++ x ∷ [])
+beyond_push P zero xs x p h = all-append P xs (x ∷ []) h (p, tt)
+beyond_push P (suc k) [] x p h = beyond_none P k
+beyond_push P (suc k) (y ∷ ys) x p h = beyond_push P k ys x p h
+
+-- what an event makes of the items towards an end
+
+-- the item bears no LACPDU
+abbrev pub IsPlain : ItemValue → Type 0
+IsPlain item = HasLacpdu item → ⊥
+
+-- the first item towards the end of t comes, or there is none
+pub comes_in : (gives : Algorithms) (n i : ℕ) (t : Side) (at : Side → ℕ) (fl : Side → List ItemValue) (r : Reply) (old new : WorldState)
+    → side_of n ≡ Some t → OnCable i at fl old.links → WorldSteps gives old (event.Deliver (suc i) n) r new
+    → ((fl t ≡ []) × Stays old new) ⊎ Arrives gives t at fl old new
+comes_in gives n i t at fl r old new named c h =
+    let v = value_of (side_of n) _ h.0 in
+    let same : v.0 ≡ t = same_Some v.0 t (sym v.1 ∙ named) in
+    let m = value_of (slice_get old.links i) _ v.2 in
+    let is : m.0 ≡ cable at fl = same_Some m.0 (cable at fl) (sym m.1 ∙ c.there) in
+    by_items m.0 is (towards t m.0) refl
+    (subst (λ s. DeliversFrom gives s i m.0 (towards s m.0) old r (record new { acted = old.acted })) same m.2)
+  where
+    by_items : (l : LinkState) → l ≡ cable at fl → (xs : List ItemValue) → towards t l ≡ xs
+        → DeliversFrom gives t i l xs old r (record new { acted = old.acted }) → ((fl t ≡ []) × Stays old new) ⊎ Arrives gives t at fl old new
+    by_items l is [] first x = inl (
+      sym (ap (towards t) is ∙ towards_there t at fl) ∙ first,
+      record {
+        halves = λ u. ap (λ (j : WorldState). (half u j).state) x.1;
+        logs = λ u. ap (λ (j : WorldState). (half u j).histories) x.1;
+        links = ap (λ (j : WorldState). j.links) x.1;
+      },
+    )
+    by_items l is (item ∷ rest) first x = inr (arrived gives t i at fl l old new c is (came gives t i l item rest r old new first x))
+
+-- one item more, or what an Emit event of the end of s sends
+gain : (s : Side) (o : Option (List ℕ)) (fl now : Side → List ItemValue) → Gains s o fl now
+    → (now (peer s) ≡ fl (peer s)) ⊎ ((item : ItemValue) × (o ≡ Some item.octets) × (now (peer s) ≡ fl (peer s) ++ item ∷ []))
+gain s None fl now h = inl (ap (λ (f : Side → List ItemValue). f (peer s)) h)
+gain s (Some frame) fl now h =
+    inr (h.0, ap (λ o. Some o) (sym h.1), ap (λ (f : Side → List ItemValue). f (peer s)) h.2 ∙ push_there (peer s) h.0 fl)
+
+-- so it is towards the end of t, if its peer sends
+pub gain_at : (t : Side) (o : Option (List ℕ)) (fl now : Side → List ItemValue) → Gains (peer t) o fl now
+    → (now t ≡ fl t) ⊎ ((item : ItemValue) × (o ≡ Some item.octets) × (now t ≡ fl t ++ item ∷ []))
+gain_at t o fl now h = subst (λ u. (now u ≡ fl u) ⊎ ((item : ItemValue) × (o ≡ Some item.octets) × (now u ≡ fl u ++ item ∷ []))) (peer_twice t)
+    (gain (peer t) o fl now h)
+
+-- the item is added last
+abbrev pub Adds : (ItemValue → Type 0) → List ItemValue → List ItemValue → Type 0
+Adds P xs ys = (item : ItemValue) × P item × (ys ≡ xs ++ item ∷ [])
+
+-- what an event between ticks does to the items towards the end of t: it leaves them, adds one that bears no LACPDU, takes the first,
+-- or asks the other end
+pub record Flows (gives : Algorithms) (t : Side) (x : ℕ) (at : Side → ℕ) (fl : Side → List ItemValue) (e : Event) (old new : WorldState)
+    : Type 0 where
+  pub index : ℕ
+  pub now : Side → List ItemValue
+  pub on : OnCable index at now new.links
+  pub moves : (now t ≡ fl t) ⊎ (Adds IsPlain (fl t) (now t) ⊎ (((item : ItemValue) × IsArrivalAt t x e × (fl t ≡ item ∷ now t))
+      ⊎ ((a : Asks gives (peer t) at fl old new) × (now ≡ a.now))))
+
+module _ (gives : Algorithms) (t : Side) (x : ℕ) (at : Side → ℕ) (fl : Side → List ItemValue) (r : Reply) (old new : WorldState)
+    (c : OnCable x at fl old.links) where
+  asked_flows : (n p : ℕ) → WorldSteps gives old (event.Emit n p) r new → Flows gives t x at fl (event.Emit n p) old new
+  asked_flows n p h = elim (asked_which gives n p x at fl r old new c h) [
+    | inl (s, named, is) ↦ each_side (λ u. side_of n ≡ Some u → WorldSteps gives old (event.Emit n (at u)) r new
+        → Flows gives t x at fl (event.Emit n p) old new) t
+        (λ told step. (let a = asks gives n t x at fl r old new told c step in
+        record { index = a.index; now = a.now; on = a.links; moves = inl (went_other t a.a fl a.now a.went) }))
+        (λ told step. (let a = asks gives n (peer t) x at fl r old new told c step in
+        record { index = a.index; now = a.now; on = a.links; moves = inr (inr (inr (a, refl))) }))
+        s named (subst (λ q. WorldSteps gives old (event.Emit n q) r new) is h)
+    | inr b ↦ record { index = b.index; now = fl; on = b.links; moves = inl refl }
+  ]
+
+  -- what the end of s sends back when an item comes
+  back_adds : (s : Side) (octets : List ℕ) (a : Result Received SystemFault) (i j : SystemState) (was now : Side → List ItemValue)
+      → CallPromise (gives s) i (Receive (at s) octets) (answer.Receive a) j → Back s a was now
+      → (now (peer s) ≡ was (peer s)) ⊎ Adds IsPlain (was (peer s)) (now (peer s))
+  back_adds s octets a i j was now k h = elim (gain s (response a) was now h) [
+    | inl e ↦ inl e
+    | inr (item, is, e) ↦ inr (item, λ q. responds_none (gives s) (at s) octets a i j k item.octets is q.0 q.1, e)
+  ]
+
+  arrives_flows : (e : Event) (s : Side) → IsArrivalAt s x e → Arrives gives s at fl old new → Flows gives t x at fl e old new
+  arrives_flows e s come k = each_side (λ u. IsArrivalAt u x e → Arrives gives u at fl old new → Flows gives t x at fl e old new) t
+      (λ come k. record {
+        index = k.index;
+        now = k.now;
+        on = k.links;
+        moves = inr (inr (inl (
+          k.item,
+          come,
+          k.first ∙ ap (λ xs. k.item ∷ xs) (sym (back_other t k.a (put t k.rest fl) k.now k.back ∙ put_there t k.rest fl)),
+        )));
+      })
+      (λ come k. record { index = k.index; now = k.now; on = k.links; moves = other k })
+      s come k
+    where
+      other : (k : Arrives gives (peer t) at fl old new) → (k.now t ≡ fl t) ⊎ (Adds IsPlain (fl t) (k.now t)
+          ⊎ (((item : ItemValue) × IsArrivalAt t x e × (fl t ≡ item ∷ k.now t)) ⊎ ((a : Asks gives (peer t) at fl old new) × (k.now ≡ a.now))))
+      other k =
+          let left : put (peer t) k.rest fl t ≡ fl t = subst (λ u. put (peer t) k.rest fl u ≡ fl u) (peer_twice t) (put_other (peer t) k.rest fl) in
+          elim (subst (λ u. (k.now u ≡ put (peer t) k.rest fl u) ⊎ Adds IsPlain (put (peer t) k.rest fl u) (k.now u)) (peer_twice t)
+          (back_adds (peer t) k.item.octets k.a (half (peer t) old).state (half (peer t) new).state (put (peer t) k.rest fl) k.now k.promise
+          k.back)) [
+            | inl e ↦ inl (e ∙ left)
+            | inr (item, plain, e) ↦ inr (inl (item, plain, e ∙ ap (λ xs. xs ++ item ∷ []) left))
+          ]
+
+  came_flows : (cn n : ℕ) → WorldSteps gives old (event.Deliver cn n) r new → Flows gives t x at fl (event.Deliver cn n) old new
+  came_flows cn n h = elim (came_off gives cn n r old new h) [
+    | inl m ↦ elim (cases_Bool (m.index == x)) [
+      | inl b ↦ (let same : m.index ≡ x = grind (arith, nat_tests) in
+          let is : m.link ≡ cable at fl = same_Some m.link (cable at fl) (sym m.there ∙ (ap (slice_get old.links) same ∙ c.there)) in
+          arrives_flows (event.Deliver cn n) m.side (n, m.named, ap (λ q. event.Deliver q n) (m.numbered ∙ ap (λ k. suc k) same))
+          (arrived gives m.side x at fl m.link old new c is (subst (λ k. Comes gives m.side k m.link old new) same m.comes)))
+      | inr f ↦ (let other : m.index ≡ x → ⊥ = grind (arith, nat_tests) in
+          let b = passed_by gives m.side x m.index at fl m.link old new c m.there other m.comes in
+          record { index = b.index; now = fl; on = b.links; moves = inl refl })
+    ]
+    | inr m ↦ (let b = stays_beside gives x at fl old new c m in record { index = b.index; now = fl; on = b.links; moves = inl refl })
+  ]
+
+  quiet_flows : (e : Event) → IsQuiet e → WorldSteps gives old e r new → Flows gives t x at fl e old new
+  quiet_flows e q h =
+      let g = quiet_cable gives e x at fl r old new q h c in
+      record {
+        index = x;
+        now = g.flying;
+        on = g.on;
+        moves = elim (g.grew t) [ inl e ↦ inl e | inr (item, plain, e) ↦ inr (inl (item, λ q. plain q.0 q.1, e)) ];
+      }
+
+  pub flows : (e : Event) → IsBetweenTicks e → WorldSteps gives old e r new → Flows gives t x at fl e old new
+  flows (event.Emit n p) b h = asked_flows n p h
+  flows (event.Deliver cn n) b h = came_flows cn n h
+  flows (event.Offer n agg octets) b h = quiet_flows (event.Offer n agg octets) tt h
+  flows (event.Move n agg conv p) b h = quiet_flows (event.Move n agg conv p) tt h
+  flows e b h = absurd b
+
+-- one of the first k items is an LACPDU still, or the first of them came
+pub flying_flows : {gives : Algorithms} {t : Side} {x : ℕ} {at : Side → ℕ} {fl : Side → List ItemValue} {e : Event} {old new : WorldState}
+    (k : ℕ) (f : Flows gives t x at fl e old new) → FlyingIn k (fl t)
+    → FlyingIn k (f.now t) ⊎ ((item : ItemValue) × IsArrivalAt t x e × (fl t ≡ item ∷ f.now t))
+flying_flows {gives} {t} {x} {at} {fl} k f h = elim f.moves [
+  | inl y ↦ inl (subst (FlyingIn k) (sym y) h)
+  | inr (inl (item, plain, y)) ↦ inl (subst (FlyingIn k) (sym y) (flying_push k (fl t) (item ∷ []) h))
+  | inr (inr (inl y)) ↦ inr y
+  | inr (inr (inr (a, is))) ↦ inl (subst (λ (g : Side → List ItemValue). FlyingIn k (g t)) (sym is)
+      (elim (gain_at t (sent_frame a.a) fl a.now a.went) [
+        | inl y ↦ subst (FlyingIn k) (sym y) h
+        | inr (item, it, y) ↦ subst (FlyingIn k) (sym y) (flying_push k (fl t) (item ∷ []) h)
+      ]))
+]
+
+-- the cable stays where it stood
+pub stays_there : (x y : ℕ) (at : Side → ℕ) (fl now : Side → List ItemValue) (old new : WorldState) → OnCable x at fl old.links
+    → OnCable y at now new.links → map link_ends new.links ≡ map link_ends old.links → y ≡ x
+stays_there x y at fl now old new c d e =
+    let here : end_at (map link_ends new.links) One (suc y) ≡ Some (at One) = end_is One new.links y (cable at now) d.there in
+    let there : end_at (map link_ends new.links) One (suc x) ≡ Some (at One) = subst (λ es. end_at es One (suc x) ≡ Some (at One)) (sym e)
+    (end_is One old.links x (cable at fl) c.there) in
+    let same : suc y ≡ suc x = d.cabling One (suc y) (suc x) (at One) here there in omega (arith, same)
+
+-- a run in which so many items towards the end of t are still to arrive
+
+pub between_at : {t : Side} {x : ℕ} {e : Event} → IsArrivalAt t x e → IsBetweenTicks e
+between_at come = subst IsBetweenTicks (sym come.2) tt
+
+module _ (gives : Algorithms) (s t : Side) (x : ℕ) (A : ℕ → Bool → Bool → WorldState → Type 0)
+    (kept : (k : ℕ) (a b : Bool) → KeptBetween gives (A k a b))
+    (comes : (k : ℕ) (a b : Bool) (e : Event) (r : Reply) (i j : WorldState) → IsArrivalAt t x e → WorldSteps gives i e r j → A (suc k) a b i
+    → A k a b j)
+    (own : (k : ℕ) (b : Bool) → MadeByTick gives s (A k true b) (A k false b))
+    (other : (k : ℕ) (a : Bool) → MadeByTick gives (peer s) (A k a true) (A k a false)) where
+  -- an event that need not be an arrival
+  step_on : (e : Event) (es : List Event) (r : Reply) (i j : WorldState) (k : ℕ) (a b : Bool) → TickOnce s a b (e ∷ es) → WorldSteps gives i e r j
+      → A k a b i → (c : Bool) × (d : Bool) × TickOnce s c d es × A k c d j
+  step_on e es r i j k a b (inl (m, due, h)) step y =
+      (false, b, h, own k b m.0 r i j m.1 (subst (λ x. WorldSteps gives i x r j) m.2 step) (subst (λ x. A k x b i) due y))
+  step_on e es r i j k a b (inr (inl (m, due, h))) step y =
+      (a, false, h, other k a m.0 r i j m.1 (subst (λ x. WorldSteps gives i x r j) m.2 step) (subst (λ x. A k a x i) due y))
+  step_on e es r i j k a b (inr (inr h)) step y = (a, b, h.1, kept k a b e r i j h.0 step y)
+
+  pub counted_on : (es : List Event) (rs : List Reply) (i j : WorldState) (k : ℕ) (a b : Bool) → TickOnce s a b es → ArriveIn k t x es
+      → WorldRuns gives i es rs j → A k a b i → A 0 false false j
+  counted_on [] [] i j zero a b h come run y =
+      subst (λ x. A 0 false false x) (sym run) (subst (λ x. A 0 false x i) h.1 (subst (λ x. A 0 x b i) h.0 y))
+  counted_on [] [] i j (suc k) a b h come run y = absurd come
+  counted_on (e ∷ es) (r ∷ rs) i j zero a b h come run y =
+      let m = step_on e es r i run.0 0 a b h run.1 y in counted_on es rs run.0 j 0 m.0 m.1 m.2 tt run.2 m.3
+  counted_on (e ∷ es) (r ∷ rs) i j (suc k) a b h (inr come) run y =
+      let m = step_on e es r i run.0 (suc k) a b h run.1 y in counted_on es rs run.0 j (suc k) m.0 m.1 m.2 come run.2 m.3
+  counted_on (e ∷ es) (r ∷ rs) i j (suc k) a b (inl h) (inl come) run y = absurd (not_tick s e h.0 (between_at come.0))
+  counted_on (e ∷ es) (r ∷ rs) i j (suc k) a b (inr (inl h)) (inl come) run y = absurd (not_tick (peer s) e h.0 (between_at come.0))
+  counted_on (e ∷ es) (r ∷ rs) i j (suc k) a b (inr (inr h)) (inl come) run y =
+      counted_on es rs run.0 j k a b h.1 come.1 run.2 (comes k a b e r i run.0 come.0 run.1 y)
+  counted_on es rs i j k a b h come run y = absurd run
+
+-- and so what is on the cable in the end has come to it in the run
+
+-- each item towards the end of t but the first k is so, on the cable at index x
+pub record Past (t : Side) (x : ℕ) (at : Side → ℕ) (P : ItemValue → Type 0) (k : ℕ) (j : WorldState) : Type 0 where
+  pub flying : Side → List ItemValue
+  pub on : OnCable x at flying j.links
+  pub items : Beyond P k (flying t)
+
+module _ (gives : Algorithms) (s t : Side) (x : ℕ) (at : Side → ℕ) (P : ItemValue → Type 0) (M : Bool → Bool → WorldState → Type 0)
+    (plain : (item : ItemValue) → IsPlain item → P item)
+    (sends : (a b : Bool) (fl : Side → List ItemValue) (i j : WorldState) → M a b i → OnCable x at fl i.links
+    → (k : Asks gives (peer t) at fl i j) → (k.now t ≡ fl t) ⊎ Adds P (fl t) (k.now t))
+    (kept : (a b : Bool) → KeptBetween gives (M a b))
+    (own : (b : Bool) → MadeByTick gives s (M true b) (M false b)) (other : (a : Bool) → MadeByTick gives (peer s) (M a true) (M a false)) where
+  abbrev A : ℕ → Bool → Bool → WorldState → Type 0
+  A k a b j = M a b j × Past t x at P k j
+
+  kept_past : (k : ℕ) (a b : Bool) → KeptBetween gives (A k a b)
+  kept_past k a b e r i j q h (m, p) =
+      let f = flows gives t x at p.flying r i j p.on e q h in
+      let same = stays_there x f.index at p.flying f.now i j p.on f.on (joins_kept gives i.links e r i j q h refl) in (
+        kept a b e r i j q h m,
+        record {
+          flying = f.now;
+          on = subst (λ y. OnCable y at f.now j.links) same f.on;
+          items = elim f.moves [
+            | inl y ↦ subst (Beyond P k) (sym y) p.items
+            | inr (inl (item, none, y)) ↦ subst (Beyond P k) (sym y) (beyond_push P k (p.flying t) item (plain item none) p.items)
+            | inr (inr (inl (item, come, y))) ↦ beyond_pop P k item (f.now t) (subst (Beyond P k) y p.items)
+            | inr (inr (inr (y, is))) ↦ subst (λ (g : Side → List ItemValue). Beyond P k (g t)) (sym is) (elim (sends a b p.flying i j m p.on y) [
+              | inl z ↦ subst (Beyond P k) (sym z) p.items
+              | inr (item, good, z) ↦ subst (Beyond P k) (sym z) (beyond_push P k (p.flying t) item good p.items)
+            ])
+          ];
+        },
+      )
+
+  comes_past : (k : ℕ) (a b : Bool) (e : Event) (r : Reply) (i j : WorldState) → IsArrivalAt t x e → WorldSteps gives i e r j → A (suc k) a b i
+      → A k a b j
+  comes_past k a b e r i j come h (m, p) = (kept a b e r i j (between_at come) h m, past)
+    where
+      past : Past t x at P k j
+      past = elim (comes_in gives come.0 x t at p.flying r i j come.1 p.on (subst (λ y. WorldSteps gives i y r j) come.2 h)) [
+        | inl (none, stays) ↦ record {
+          flying = p.flying;
+          on = subst (OnCable x at p.flying) (sym stays.links) p.on;
+          items = subst (Beyond P k) (sym none) (beyond_none P k);
+        }
+        | inr y ↦ (let same = stays_there x y.index at p.flying y.now i j p.on y.links (joins_kept gives i.links e r i j (between_at come) h refl) in
+            record {
+              flying = y.now;
+              on = subst (λ z. OnCable z at y.now j.links) same y.links;
+              items = subst (Beyond P k) (sym (back_other t y.a (put t y.rest p.flying) y.now y.back ∙ put_there t y.rest p.flying))
+                  (subst (Beyond P (suc k)) y.first p.items);
+            })
+      ]
+
+  own_past : (k : ℕ) (b : Bool) → MadeByTick gives s (A k true b) (A k false b)
+  own_past k b n r i j named h (m, p) = (
+    own b n r i j named h m,
+    record { flying = p.flying; on = subst (OnCable x at p.flying) (sym (ticks gives n s r i j named h).links) p.on; items = p.items },
+  )
+
+  other_past : (k : ℕ) (a : Bool) → MadeByTick gives (peer s) (A k a true) (A k a false)
+  other_past k a n r i j named h (m, p) = (
+    other a n r i j named h m,
+    record { flying = p.flying; on = subst (OnCable x at p.flying) (sym (ticks gives n (peer s) r i j named h).links) p.on; items = p.items },
+  )
+
+  pub cleared_on : (es : List Event) (rs : List Reply) (fl : Side → List ItemValue) (i j : WorldState) → OnCable x at fl i.links
+      → TickOnce s true true es → ArriveIn (length (fl t)) t x es → WorldRuns gives i es rs j → M true true i
+      → M false false j × Past t x at P 0 j
+  cleared_on es rs fl i j c h come run m = counted_on gives s t x A kept_past comes_past own_past other_past es rs i j (length (fl t)) true true
+      h come run (m, record { flying = fl; on = c; items = beyond_first P (fl t) })

@@ -1,0 +1,8 @@
+use Rattle.lagprogress.proofs.LateLoops.{asking_is_late_round, host_round_is_late_round}
+use Rattle.lagprogress.proofs.clocks.clocks_play_rounds.Goals as goal
+
+pub returns-clause-asking : goal.returns-clause-asking
+returns-clause-asking g c = λ one two. asking_is_late_round _
+
+pub returns-clause-host : goal.returns-clause-host
+returns-clause-host g c = λ one two. host_round_is_late_round _

@@ -1,0 +1,61 @@
+-- A healthy round of a world whose hosts tick by clocks of their own, and whose frames take up to a tick to arrive (profile).
+use Rattle.std.specs.Prelude.{◌≡◌, ◌⊎◌, ℕ, zero, suc, List, [], ◌∷◌, length, Some, true}
+use Rattle.lagmodel.specs.World.{IsCabling, One, Side}
+use Rattle.lagscript.specs.declared.event.Event.{Event}
+use Rattle.lagscript.specs.declared.event.Event.TheVariants as event
+use Rattle.lagworld.specs.declared.reply.Reply.{Reply}
+use Rattle.lagworld.specs.Events.{Algorithms, WorldRuns, side_of}
+use Rattle.lagworld.specs.ModelWorld.{world_setup}
+use Rattle.lagworld.specs.State.{LinkState, WorldState, port_at, towards}
+use Rattle.lagprogress.specs.HostRounds.{AsksAfterTick, Clearing, IsHostRound, IsPlayed, PlayedRounds, TickOnce}
+use Rattle.lagprogress.specs.Rounds.{IsHealthyAt}
+use Rattle.lagprogress.specs.Steady.{IsSteady}
+
+-- the event is that the first item on the cable at index i towards system s arrives, if there is one
+abbrev pub IsArrivalAt : Side → ℕ → Event → Type 0
+IsArrivalAt s i e = (n : ℕ) × (side_of n ≡ Some s) × (e ≡ event.Deliver (suc i) n)
+
+-- so many of the events are, or more
+abbrev pub ArriveIn : ℕ → Side → ℕ → List Event → Type 0
+ArriveIn zero s i es = Unit {0}
+ArriveIn (suc k) s i [] = ⊥
+ArriveIn (suc k) s i (e ∷ es) = (IsArrivalAt s i e × ArriveIn k s i es) ⊎ ArriveIn (suc k) s i es
+
+-- What was on each healthy cable arrives among the events: a cable is first in, first out, so as many arrive as were on it.
+abbrev pub OldArrive : Clearing
+OldArrive events old new = (s : Side) (i : ℕ) (l : LinkState) → IsHealthyAt i l old → ArriveIn (length (towards s l)) s i events
+
+-- A healthy round of hosts in which frames are late: it may end with frames on the cables, which arrive in the next one. Two hosts play
+-- such rounds, each of 100 ms, if their clocks have one rate, they ask each port at once after a tick, and no frame takes longer than that.
+abbrev pub IsLateRound : Algorithms → WorldState → WorldState → Type 0
+IsLateRound gives old new = IsPlayed OldArrive gives old new
+
+-- and so many of them
+abbrev pub LateRounds : Algorithms → ℕ → WorldState → WorldState → Type 0
+LateRounds gives n old new = PlayedRounds OldArrive gives n old new
+
+-- These events are such a round if each end of a healthy cable is asked after its system's tick, once at least, and what was on it
+-- arrives, whatever else is asked, delivered, offered or moved, and in what order. The timers of both systems are within their bounds.
+abbrev pub AskingIsLateRound : Algorithms → Type 0
+AskingIsLateRound gives = (events : List Event) (replies : List Reply) (old new : WorldState) → IsSteady old → TickOnce One true true events
+    → WorldRuns gives old events replies new
+    → ((s : Side) (i : ℕ) (l : LinkState) → IsHealthyAt i l old → AsksAfterTick s (port_at s l) events) → OldArrive events old new
+    → IsLateRound gives old new
+
+-- so each healthy round of hosts is one, if no port has two cables
+abbrev pub HostRoundIsLateRound : Algorithms → Type 0
+HostRoundIsLateRound gives = (old new : WorldState) → IsCabling (world_setup old).cables → IsHostRound gives old new → IsLateRound gives old new
+
+-- After so many of them, whatever was before them, the ends of healthy cables know each other, if both are active, and if one is;
+-- and they distribute and agree.
+abbrev pub late_known_if_both_active : ℕ
+late_known_if_both_active = 323
+
+abbrev pub late_known_if_one_is : ℕ
+late_known_if_one_is = 633
+
+abbrev pub late_up_if_both_active : ℕ
+late_up_if_both_active = 356
+
+abbrev pub late_up_if_one_is : ℕ
+late_up_if_one_is = 666
