@@ -13,6 +13,7 @@ mod Waits
 mod HostWaits
 mod Told
 mod Halves
+mod OvertakingLacpdus
 mod Passing
 mod Sounding
 mod OneCable

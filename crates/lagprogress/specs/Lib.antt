@@ -8,6 +8,7 @@ pub mod Knowing
 pub mod Waits
 pub mod Told
 pub mod Steady
+pub mod Overtaking
 pub mod Passing
 pub mod Rounds
 pub mod Played

@@ -1,7 +1,7 @@
 //! How ports make progress: which are SELECTED, how long one is silent, notices silence, and knows what it heard, how far
-//! timers go, and how soon a link comes up. The functions of this crate but four do nothing when they run: the contract of each
-//! is a proved theorem over the states and calls of `lagsystem`, and over the events of `lagworld`. `play_round` and
-//! `play_rounds` play healthy rounds, `play_host_round` and `play_host_rounds` those of hosts.
+//! timers go, and how soon a link comes up; and that LACPDUs may overtake data. The functions of this crate but four do nothing when
+//! they run: the contract of each is a proved theorem over the states and calls of `lagsystem`, and over the events of `lagworld`.
+//! `play_round` and `play_rounds` play healthy rounds, `play_host_round` and `play_host_rounds` those of hosts.
 //!
 //! In comments, numbers such as 6.4.13 are sections of IEEE 802.1AX-2014, and "profile" is docs/PROFILE.md.
 #![tactic(auto)]
@@ -12,6 +12,7 @@ mod cut_off;
 mod hosting;
 mod limits;
 mod loops;
+mod overtaking;
 mod playing;
 mod sharing;
 
@@ -32,6 +33,7 @@ pub use hosting::{
 };
 pub use limits::{down_ports_are_unselected, each_limited_link_agrees};
 pub use loops::{play_host_round, play_host_rounds};
+pub use overtaking::lacpdus_may_overtake;
 pub use playing::{play_round, play_rounds};
 pub use sharing::ports_share_aggregators;
 
