@@ -35,14 +35,19 @@ is_ordered t u = nat_lt 0 t && not (nat_lt u t)
 abbrev pub is_over : ℕ → ℕ → ℕ → Bool
 is_over n t u = is_ordered t u && nat_lt n (u - t)
 
--- the times of these four LACPDUs, the latest first, are in order, and the first and the last are less than a second apart
+-- the capture has a time for both, and they are less than a second apart, whichever is the later one
+abbrev pub is_near : ℕ → ℕ → Bool
+is_near t u = nat_lt 0 t && (nat_lt 0 u && (nat_lt (t - u) (seconds 1) && nat_lt (u - t) (seconds 1)))
+
+-- no two of these four LACPDUs are a second apart, or more: in a merged capture packets may stand out of the order of their times
 abbrev pub are_in_a_second : Heard → Heard → Heard → Heard → Bool
 are_in_a_second a b c d =
-    is_ordered d.nanoseconds c.nanoseconds
-    && (is_ordered c.nanoseconds b.nanoseconds
-    && (is_ordered b.nanoseconds a.nanoseconds && nat_lt (a.nanoseconds - d.nanoseconds) (seconds 1)))
+    is_near a.nanoseconds b.nanoseconds
+    && (is_near a.nanoseconds c.nanoseconds
+    && (is_near a.nanoseconds d.nanoseconds
+    && (is_near b.nanoseconds c.nanoseconds && (is_near b.nanoseconds d.nanoseconds && is_near c.nanoseconds d.nanoseconds))))
 
--- More than three in a second (6.4.16): the third one before it was sent less than a second before.
+-- More than three in a second (6.4.16): it and the three before it were sent in less than a second.
 abbrev pub is_rushed : Heard → List Heard → Bool
 is_rushed a before =
     and_if (λ b. and_if (λ c. and_if (are_in_a_second a b c) (slice_get before 2)) (slice_get before 1)) (slice_get before 0)

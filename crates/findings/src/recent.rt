@@ -1,6 +1,6 @@
 ghost use Rattle.std.specs.Prelude.{◌≡◌, ◌∷◌, List, unwrap_or, Some, None, if◌then◌else◌};
 ghost use Rattle.findings.specs.declared.recent.Heard.{Heard};
-ghost use Rattle.findings.specs.Holds.{and_if, is_alone, is_alone_short, is_one_way, is_ordered, is_over, is_attached, is_relapse, is_relapsing, is_unheard, is_discarded, is_periodic, is_rushed, is_late, is_silent, is_desynchronized, lasts, seconds, since, timeout, are_in_a_second, attaches, is_hasty, no_wait_at};
+ghost use Rattle.findings.specs.Holds.{and_if, is_alone, is_alone_short, is_one_way, is_ordered, is_over, is_attached, is_relapse, is_relapsing, is_unheard, is_discarded, is_periodic, is_rushed, is_late, is_silent, is_desynchronized, lasts, seconds, since, timeout, are_in_a_second, is_near, attaches, is_hasty, no_wait_at};
 ghost use Rattle.findings.specs.Holds.{has_other_system, has_other_port, has_other_key, has_other_keys, has_third, twice};
 ghost use Rattle.findings.specs.Firsts.{last_silent};
 ghost use Rattle.findings.specs.KeptEnds.{recent_of};
@@ -99,14 +99,23 @@ pub(crate) fn is_over(most: u64, since: Option<u64>, now: u64) -> bool
     }
 }
 
-/// Whether the times of four LACPDUs, the latest first, are in order and less than a second apart.
+/// Whether both times are there, and less than a second apart.
+fn is_near(one: u64, other: u64) -> bool
+    ensures { result ≡ is_near one other }
+{
+    one > 0 && other > 0 && one.abs_diff(other) < SECOND
+}
+
+/// Whether no two of these four LACPDUs are a second apart, or more.
 fn are_in_a_second(now: &Heard, last: &Heard, second: &Heard, third: &Heard) -> bool
     ensures { result ≡ are_in_a_second now.now last.now second.now third.now }
 {
-    is_ordered(third.nanoseconds, second.nanoseconds)
-        && is_ordered(second.nanoseconds, last.nanoseconds)
-        && is_ordered(last.nanoseconds, now.nanoseconds)
-        && now.nanoseconds.saturating_sub(third.nanoseconds) < SECOND
+    is_near(now.nanoseconds, last.nanoseconds)
+        && is_near(now.nanoseconds, second.nanoseconds)
+        && is_near(now.nanoseconds, third.nanoseconds)
+        && is_near(last.nanoseconds, second.nanoseconds)
+        && is_near(last.nanoseconds, third.nanoseconds)
+        && is_near(second.nanoseconds, third.nanoseconds)
 }
 
 impl Heard {

@@ -36,6 +36,11 @@ fn a_fourth_lacpdu_in_any_second_is_found_once(rt: HostRuntime) {
         at(1100, said),
     ];
     shows(&rt, &more, 2000, &[(1, 4)]);
+    // in a merged capture they stand out of order
+    let merged = [at(900, said), at(300, said), at(600, said), at(1200, said)];
+    shows(&rt, &merged, 2000, &[(1, 4)]);
+    let apart = [at(900, said), at(300, said), at(0, said), at(1000, said)];
+    shows(&rt, &apart, 2000, &[]);
 }
 
 // 6.4.9, recordPDU: the Partner is who sent the last LACPDU. B answers A, and A goes on to name another.
