@@ -7,10 +7,10 @@ use Rattle.lagprogress.proofs.Common.{count_conversations, next_identifier, Syst
 use Rattle.lagprogress.proofs.Common.{TransmitsIf, SystemState, machines_of, port_index, all-get, found_place, ports_rise, Event, Reply}
 use Rattle.lagprogress.proofs.Common.{AfterTransmit, Algorithms, WorldEmits, WorldRuns, WorldSteps, sent_reply, side_of, payload_in, HalfState}
 use Rattle.lagprogress.proofs.Common.{LinkState, WorldState, half, is_accepted, port_at, with_half, half_there, AskingInVainIsDraining, AsksInVain}
-use Rattle.lagprogress.proofs.Common.{AsksInVainAfterTick, DrainingRounds, IsDrainingRound, IsNoMoveOf, NothingIsDue, RoundIsDraining, sent_nothing}
-use Rattle.lagprogress.proofs.Common.{AfterTick, AskingIsHostRound, Asks, AsksAfterTick, AsksIn, AtSomeWorld, HostRounds, IsBetweenTicks, IsTickOf}
-use Rattle.lagprogress.proofs.Common.{LoopIsHostRound, RoundIsHostRound, RoundsAreHostRounds, TickOnce, AtEnd, IsDeliver, IsHealthyAt}
-use Rattle.lagprogress.proofs.Common.{NothingInFlight, OfPort, Rounds, asks_all, ticks_of_both, IsSteady}
+use Rattle.lagprogress.proofs.Common.{AsksInVainAfterTick, DrainingRounds, IsNoMoveOf, NothingIsDue, RoundIsDraining, sent_nothing, AfterTick}
+use Rattle.lagprogress.proofs.Common.{AskingIsHostRound, Asks, AsksAfterTick, AsksIn, AtSomeWorld, HostRounds, IsBetweenTicks, IsTickOf}
+use Rattle.lagprogress.proofs.Common.{LoopIsHostRound, RoundIsHostRound, RoundsAreHostRounds, TickOnce, AtEnd, IsDeliver, IsHealthyAt, OfPort, Rounds}
+use Rattle.lagprogress.proofs.Common.{asks_all, ticks_of_both, IsSteady}
 use Rattle.distributor.specs.Conversations.{sum_below}
 use Rattle.lagprogress.proofs.EachPort.{OfEach, Tick-each}
 use Rattle.lagprogress.proofs.EachRound.{EachAt, asks_each, delivers_each, own_keeps, own_ticks, hosts_steady}

@@ -62,3 +62,5 @@ mod HostLoops
 mod Looping
 mod OneLink
 mod PlainRounds
+mod Grouping
+mod Keyed

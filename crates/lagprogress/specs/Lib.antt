@@ -22,3 +22,4 @@ pub mod CutOff
 pub mod HostRounds
 pub mod HostFreed
 pub mod PlayedByHosts
+pub mod Together
