@@ -113,12 +113,9 @@ fn deliver_and_ask<C: Cable, F: Fn(u16, usize) -> usize + Drop>(
     }
 }
 
-// promise: `play_host_round` plays such a round, whatever the conversation; `play_host_rounds` so many
-// contract: `play_host_round` (`round`, `drains`), `play_host_rounds` (`rounds`, `drains`)
+// promise: `play_host_round` plays such a round, whatever the conversation, and asks the ends of all cables; `play_host_rounds` so many
+// contract: `play_host_round` (`round`, `drains`, `plays`), `play_host_rounds` (`rounds`, `drains`)
 // premises: both algorithms meet the condition; steady
-// promise: in the round the ends of all cables, healthy or not, are asked until they send nothing: after the ticks, and after what arrives
-// contract: `play_host_round` (`plays`)
-// premises: both algorithms meet the condition
 // promise: rounds of hosts are refused as `NoCable` above 65,535 cables, with nothing played; else as `Spent`, or after both ticks as `NoMemory`
 // contract: `play_host_round` (`refused`, `part`), `play_host_rounds` (`stopped`)
 // premises: the condition

@@ -18,7 +18,7 @@ ghost use Rattle.lagprogress.specs.Together.{CallsKeepGroupsWhole, FirstGroupsAr
 
 // promise: no two aggregators of a system have occupants of one group that is not Individual
 // contract: `groups_stay_whole` (`first`, `calls`, `reached`)
-// premises: none after a start; sound, and so it was, before calls; the world was made, before events
+// premises: before calls it was so, and sound
 /// No two aggregators of a system have SELECTED or STANDBY ports whose links have one group, unless it is Individual: not after a start,
 /// not after any calls (`HostCall`) of a sound system of which that holds, and not in either system of a world that events lead to
 /// from one that was made (6.3.6, 6.4.14; profile).
@@ -33,9 +33,9 @@ ghost use Rattle.lagprogress.specs.HostRounds.{HostRounds};
 ghost use Rattle.lagprogress.specs.Rounds.{up_if_both_active, up_if_one_is};
 ghost use Rattle.lagprogress.specs.Together.{EachKeyIsInOneAggregator};
 
-// promise: the ports of a key that are one group are SELECTED in one aggregator, though several have the key: 352 | 661 rounds of hosts
+// promise: the ports of a key that are one group come up in one aggregator of several: 352 | 661 rounds of hosts
 // contract: `each_key_is_in_one_aggregator_by_hosts` (`both`, `one`)
-// premises: those of `each_link_comes_up`; `AreOneGroup` of that key; `GroupsAreWhole`, as `groups_stay_whole` has it
+// premises: those of `each_link_comes_up`; `AreOneGroup`; `GroupsAreWhole`
 /// The ports of a key that are one group in a bundle as in `each_link_comes_up` are in one aggregator, though several have that key: after
 /// 352 healthy rounds of hosts (35.2 s) or more if both ends of each healthy cable are active, after 661 (66.1 s) if one is, all whose
 /// links are up are SELECTED with the same one. The system is as `groups_stay_whole` has it before the rounds (6.3.6, 6.4.14; profile).
