@@ -3,7 +3,7 @@ pub use Rattle.std.proofs.Common.{Bool, Err, IfErr, IfOk, IsSome, IsTrue, List, 
 pub use Rattle.std.proofs.Common.{cond, drop, eqb, eqb-true, false, filter, find, get_or, if◌then◌else◌, inl, inr, is_some, length, ltb, map, nat_le}
 pub use Rattle.std.proofs.Common.{nat_lt, not, option_map, position, refl, slice_get, slice_set, subst, suc, sym, take, true, zero, ℕ, ◌&&◌, ◌++◌}
 pub use Rattle.std.proofs.Common.{◌+◌, ◌-◌, ◌<◌, ◌==◌, ◌^◌, ◌||◌, ◌∙◌, ◌∷◌, ◌≡◌, ◌≢◌, ◌≤◌, ◌⊎◌}
-pub use Rattle.std.proofs.lemmas.Bool.{and_parts, cases_Bool, false≢true, ltb-true, true≢false}
+pub use Rattle.std.proofs.lemmas.Bool.{and_parts, cases_Bool, cases_eq, false≢true, ltb-true, true≢false}
 pub use Rattle.std.proofs.lemmas.Bool.Decides.{nat_tests}
 pub use Rattle.std.proofs.lemmas.List.Quantifiers.{position-Some}
 pub use Rattle.std.proofs.lemmas.Option.{none-some, same_Some, slice_get-get_or, slice_get-map, slice_get_cases, slice_get_within}
@@ -19,7 +19,7 @@ pub use Rattle.lagtypes.specs.declared.party.Party.{Party}
 pub use Rattle.lagtypes.specs.declared.state.State.{State}
 pub use Rattle.lagtypes.specs.declared.state.StateBits.{StateBits}
 pub use Rattle.lagtypes.specs.Choices.{is_selected, is_unselected}
-pub use Rattle.lagtypes.specs.Group.{end_of as group_end, group_of, individual, pair_of}
+pub use Rattle.lagtypes.specs.Group.{Pair, SamePair, end_of as group_end, group_of, individual, pair_of}
 pub use Rattle.lagtypes.specs.Same.{same_group, same_party, same_system}
 pub use Rattle.lagtypes.specs.States.{bits_of, with_synchronization, with_timeout}
 pub use Rattle.lagtypes.proofs.SameLemmas.{exact_party, exact_system, group-itself, itself, party_itself, system-itself}
@@ -58,6 +58,7 @@ pub use Rattle.selection.specs.Choice.{aggregator_of_entry, chosen_if_eligible, 
 pub use Rattle.selection.specs.Choice.{occupants, occupants_share_group, or_else, ports_that_chose}
 pub use Rattle.selection.specs.Limits.{AggregatorsValue, has_room, is_below}
 pub use Rattle.selection.specs.Views.{has_chosen, has_waited, is_detached, is_detached_or_waiting, is_eligible, occupies, stands_by}
+pub use Rattle.selection.proofs.Equal.{group-test}
 pub use Rattle.selection.proofs.LimitLemmas.{NoneStandsBy, is_next, none_is_next}
 pub use Rattle.distributor.specs.declared.assignment.Assignment.{Assignment}
 pub use Rattle.distributor.specs.declared.assignment.Assignment.TheVariants.{Flushing, Free, On, Wanted}
@@ -75,10 +76,12 @@ pub use Rattle.lagsystem.specs.declared.received.Received.TheVariants.{TookLacpd
 pub use Rattle.lagsystem.specs.declared.system_ports.SystemPort.{SystemPort}
 pub use Rattle.lagsystem.specs.Calls.{Call, Carries, ChangesParty, Configure, Data_frame, Faulty, Force, FreesIfDown, GivesEffect, IsFrame}
 pub use Rattle.lagsystem.specs.Calls.{Move_conversation, Offer, OnlyPortChangesBy, ParsesWhere, Performs, PortAtChangesBy, ProcessesLacpdu, Receive}
-pub use Rattle.lagsystem.specs.Calls.{ReceivedFrame, ReceivesAt, Releases, Restart, Runt, Set_link, SetsPortEnabled, Step, TableRun, ThenSettles}
-pub use Rattle.lagsystem.specs.Calls.{Tick, Transmit, changed_party, choice_with_link, is_own_response}
+pub use Rattle.lagsystem.specs.Calls.{ReceivedFrame, ReceivesAt, Releases, Restart, Runt, Set_link, SetsLink, SetsPortEnabled, Step, TableRun}
+pub use Rattle.lagsystem.specs.Calls.{ThenSettles, Tick, Ticks, Transmit, changed_party, choice_with_link, is_own_response}
+pub use Rattle.lagsystem.specs.Drives.{call_of}
 pub use Rattle.lagsystem.specs.First.{HasJustStarted, IsFirst, config_value, configured_numbers, or_first, setup_of}
-pub use Rattle.lagsystem.specs.ModelView.{IsSent, can_receive, can_receive_in, key_of, model_port_of, none_enabled, number_of_port}
+pub use Rattle.lagsystem.specs.ModelView.{IsSent, can_receive, can_receive_in, key_of, model_port_of, model_setup, model_view, none_enabled}
+pub use Rattle.lagsystem.specs.ModelView.{number_of_port}
 pub use Rattle.lagsystem.specs.NothingToSettle.{MuxIsSettled, PeriodicIsSettled}
 pub use Rattle.lagsystem.specs.Occupants.{OccupantsAgree, WithinLimit, occupied}
 pub use Rattle.lagsystem.specs.Offers.{GivesOrRefuses, MayBeOffered, Offers, RefusesOffer, assignment_of_frame, in_system, system_force_result}
@@ -86,23 +89,28 @@ pub use Rattle.lagsystem.specs.Offers.{system_move_result}
 pub use Rattle.lagsystem.specs.Readers.{aggregator_numbered, collecting, distributes_in, distributing, group_at, number_of_conversation}
 pub use Rattle.lagsystem.specs.Readers.{selected_aggregator}
 pub use Rattle.lagsystem.specs.Sending.{IsLacpduOf, SendsLacpdu, SendsMarkerOf, TransmitsAt, TransmitsIf, own_marker}
-pub use Rattle.lagsystem.specs.Settling.{ChoosesIn, PortsChangeBy, PromotesNext, Settling, choice_for, choice_in, held_unless_on, ready_of}
-pub use Rattle.lagsystem.specs.Settling.{with_choice}
-pub use Rattle.lagsystem.specs.Sound.{CallPromise, IsSound}
+pub use Rattle.lagsystem.specs.Settling.{ChoosesIn, PortsChangeBy, PromotesNext, Settling, aggregator_for, choice_for, choice_if, choice_in}
+pub use Rattle.lagsystem.specs.Settling.{held_unless_on, ready_of, with_choice}
+pub use Rattle.lagsystem.specs.Sound.{CallPromise, HasPorts, IsSound, PortsAgree}
 pub use Rattle.lagsystem.specs.State.{SystemState, aggregators_value, machines_of, port_index, port_numbers, system_port_at, with_system_ports}
 pub use Rattle.lagsystem.specs.State.{with_table}
 pub use Rattle.lagsystem.specs.Views.{selection_view, stage_of, views}
 pub use Rattle.lagsystem.specs.Windows.{reply_has_lacpdu, subtype}
 pub use Rattle.lagsystem.proofs.Effects.{named}
-pub use Rattle.lagsystem.proofs.Keeps.{Step-frame, keeps_place, keeps_settled, ports_table, settling_parts}
+pub use Rattle.lagsystem.proofs.FirstView.{first_unselected}
+pub use Rattle.lagsystem.proofs.HostCallLemmas.{TableAlone, agrees_beside, host_alone}
+pub use Rattle.lagsystem.proofs.Keeps.{Keeps, Step-frame, given_number, keeps_link, keeps_place, keeps_settled, keeps_tick, numbers_set, ports_table}
+pub use Rattle.lagsystem.proofs.Keeps.{promoted_numbers, settling_in, settling_keeps, settling_parts, zip_numbers}
 pub use Rattle.lagsystem.proofs.Limiting.{next_stands}
 pub use Rattle.lagsystem.proofs.NoneLeft.{takes_is}
 pub use Rattle.lagsystem.proofs.OneFrame.{effect_one}
 pub use Rattle.lagsystem.proofs.Performed.{ProcessesOrStays, TableChanges, processes_or_stays, table_changes}
+pub use Rattle.lagsystem.proofs.Preserves.{Step-preserves_ports, lacpdu_subtype}
 pub use Rattle.lagsystem.proofs.PromotionLemmas.{choices_keep, promotions_keep}
 pub use Rattle.lagsystem.proofs.Rest.{becomes_slots, can_receive_at_rest, last_slots, marker_slots, offers_slots, rests, same_slots, zip_all}
 pub use Rattle.lagsystem.proofs.Rising.{Rises, all-get, all-set, are_numbered, found_place, ports_rise}
-pub use Rattle.lagsystem.proofs.Sound.{Step-sound, first_sound}
+pub use Rattle.lagsystem.proofs.SettlingLemmas.{RunsReady, set_same}
+pub use Rattle.lagsystem.proofs.Sound.{Step-sound, agrees, first_sound}
 pub use Rattle.lagsystem.proofs.Steps.{forced_to, moved_to}
 pub use Rattle.lagscript.specs.declared.event.Event.{Event}
 pub use Rattle.lagworld.specs.declared.agreement.Agreement.TheVariants.{Same}
@@ -152,7 +160,8 @@ pub use Rattle.lagprogress.specs.Limited.{IsLimitedBundle, StandsByOthers}
 pub use Rattle.lagprogress.specs.Passing.{DeliverProcessesLacpdu, EmitSendsLacpdu, EndIsUp, IsHeardOn, IsSentOn}
 pub use Rattle.lagprogress.specs.Played.{Delivers, EachAgrees, EachDistributes, HasTooManyCables, IsOutOfMemoryOrSpent, IsReached, IsReady, LeadsTo}
 pub use Rattle.lagprogress.specs.Played.{NamesNoCable, NothingStaysHeld, PlaysPart, RefusesDelivery, RunsAll, RunsPart, found_nothing}
-pub use Rattle.lagprogress.specs.PlayedByHosts.{AsksEnds, AsksOrDelivers, AsksPort, PlaysBetween, PlaysHostPart, StopsBetween}
+pub use Rattle.lagprogress.specs.PlayedByHosts.{AsksEnds, AsksOrDelivers, AsksPort, DeliversAndAsks, EmptiesCables, PlaysBetween, PlaysHostPart}
+pub use Rattle.lagprogress.specs.PlayedByHosts.{PlaysHostRound, StopsBetween}
 pub use Rattle.lagprogress.specs.Progress.{ActiveEndsComeToKnow, EndKnows, EndsComeToKnow, Knows}
 pub use Rattle.lagprogress.specs.Rounds.{AtEnd, IsDeliver, IsHealthy, IsHealthyAt, IsRound, NothingInFlight, OfPort, Rounds, asks_all, asks_ends}
 pub use Rattle.lagprogress.specs.Rounds.{freed_if_both_active, freed_if_one_is, known_if_both_active, known_if_one_is, ticks_of_both}
@@ -162,4 +171,6 @@ pub use Rattle.lagprogress.specs.Shared.{AreOneGroup, DownWereLinkedTo, HasAggre
 pub use Rattle.lagprogress.specs.Silence.{IsLoud, SilentFor, Speaks}
 pub use Rattle.lagprogress.specs.Steady.{GoesByCalls, IsSteady, IsSteadySystem}
 pub use Rattle.lagprogress.specs.Timers.{EachCallKeepsTimed, EachHostCallKeepsTimed, IsTimed, PortsAreTimed, most_current_while, most_periodic_timer}
+pub use Rattle.lagprogress.specs.Together.{AreInOneAggregator, CallsKeepGroupsWhole, EachKeyIsInOneAggregator, FirstGroupsAreWhole, GroupsAreWhole}
+pub use Rattle.lagprogress.specs.Together.{ReachedGroupsAreWhole}
 pub use Rattle.lagprogress.specs.Waits.{EachHostCallKeepsWaits, IsAwaited, WaitsAreShort}

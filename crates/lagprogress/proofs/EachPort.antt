@@ -9,9 +9,8 @@ use Rattle.lagprogress.proofs.Common.{Configure, Force, Move_conversation, Offer
 use Rattle.lagprogress.proofs.Common.{SetsPortEnabled, Step, Tick, Transmit, HasJustStarted, IsFirst, setup_of, system_force_result}
 use Rattle.lagprogress.proofs.Common.{system_move_result, TransmitsAt, TransmitsIf, ChoosesIn, PortsChangeBy, PromotesNext, Settling, choice_for}
 use Rattle.lagprogress.proofs.Common.{ready_of, with_choice, SystemState, aggregators_value, port_index, with_system_ports, views, reply_has_lacpdu}
-use Rattle.lagprogress.proofs.Common.{subtype, next_stands, ProcessesOrStays, processes_or_stays, choices_keep, promotions_keep, becomes_slots}
-use Rattle.lagprogress.proofs.Common.{last_slots, marker_slots, offers_slots, same_slots, zip_all, all-get, all-set, found_place}
-use Rattle.lagsystem.proofs.Preserves.{lacpdu_subtype}
+use Rattle.lagprogress.proofs.Common.{subtype, next_stands, ProcessesOrStays, processes_or_stays, lacpdu_subtype, choices_keep, promotions_keep}
+use Rattle.lagprogress.proofs.Common.{becomes_slots, last_slots, marker_slots, offers_slots, same_slots, zip_all, all-get, all-set, found_place}
 use Rattle.lagsystem.specs.declared.drive.Reply.{Reply}
 use Rattle.lagsystem.specs.declared.drive.Reply.TheVariants as reply
 

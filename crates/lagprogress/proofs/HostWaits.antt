@@ -1,24 +1,19 @@
 -- No call of a host leaves a conversation waiting for a response for 30 ticks, or a timer above its bound.
 use Rattle.lagprogress.proofs.Common.{Bool, Err, List, None, Ok, Option, Result, Some, arith, false, if◌then◌else◌, subst, suc, sym, true, zero, ℕ}
-use Rattle.lagprogress.proofs.Common.{◌+◌, ◌∙◌, ◌≡◌, nat_tests, AggId, Assignment, On, DistFault, leave_result, after_mark, Table, assignment_of}
-use Rattle.lagprogress.proofs.Common.{next_identifier, SystemFault, SystemPort, Force, GivesOrRefuses, in_system, aggregator_numbered, SendsMarkerOf}
-use Rattle.lagprogress.proofs.Common.{SystemState, port_index, EachCallKeepsTimed, EachHostCallKeepsTimed, PortsAreTimed, EachHostCallKeepsWaits}
-use Rattle.lagprogress.proofs.Common.{IsAwaited, WaitsAreShort}
+use Rattle.lagprogress.proofs.Common.{◌≡◌, nat_tests, AggId, Assignment, On, DistFault, leave_result, after_mark, assignment_of, next_identifier}
+use Rattle.lagprogress.proofs.Common.{SystemFault, SystemPort, Force, call_of, GivesOrRefuses, in_system, aggregator_numbered, SendsMarkerOf}
+use Rattle.lagprogress.proofs.Common.{SystemState, port_index, TableAlone, host_alone, EachCallKeepsTimed, EachHostCallKeepsTimed, PortsAreTimed}
+use Rattle.lagprogress.proofs.Common.{EachHostCallKeepsWaits, IsAwaited, WaitsAreShort}
 use Rattle.distributor.specs.declared.fault.DistFault.TheVariants as dist
-use Rattle.lagsystem.specs.declared.drive.HostCall.{HostCall}
 use Rattle.lagsystem.specs.declared.drive.HostCall.TheVariants as host
-use Rattle.lagsystem.specs.declared.drive.HostReply.{HostReply}
 use Rattle.lagsystem.specs.declared.drive.HostReply.TheVariants as told
 use Rattle.lagsystem.specs.declared.drive.Reply.TheVariants as reply
 use Rattle.lagsystem.specs.declared.fault.SystemFault.TheVariants.{NoAggregator}
 use Rattle.lagsystem.specs.Assigning.{OffersIf}
-use Rattle.lagsystem.specs.Drives.{call_of}
 use Rattle.lagsystem.specs.Forcing.{ForcesFirst, ForcesIfHeld, ForcesIn, ForcesPort}
-use Rattle.lagsystem.specs.HostCalls.{HostPromise}
 use Rattle.lagsystem.specs.Leaving.{system_leave_result, system_rest_result}
 use Rattle.lagsystem.specs.Probing.{Probes, ProbesAt, ProbesIf}
-use Rattle.lagsystem.proofs.HostCallLemmas.{TableAlone, host_alone}
-use Rattle.lagprogress.proofs.TableSteps.{Turns, gives_turn, same_turns, sets_turn, turns_by}
+use Rattle.lagprogress.proofs.TableSteps.{Turns, gives_turn, sets_turn, turns_by}
 use Rattle.lagprogress.proofs.Waits.{Stays, Step-waits, marked, stays}
 
 stay_same : (old new : SystemState) → new ≡ old → WaitsAreShort old → WaitsAreShort new

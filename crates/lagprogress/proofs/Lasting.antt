@@ -5,6 +5,8 @@ use Rattle.lagprogress.proofs.Common.{Side, find_at, Machines, receive_rows, Run
 use Rattle.lagprogress.proofs.Common.{model_port_of, number_of_port, IsSound, SystemState, port_numbers, all-get, are_numbered, ports_rise}
 use Rattle.lagprogress.proofs.Common.{Algorithms, LinkState, WorldState, half, port_at, AllHeard, EndsHealthyCable, EnoughAggregators, EnoughLinks}
 use Rattle.lagprogress.proofs.Common.{Clearing, HostRounds, NoneIsLeft, PlayedRounds, IsHealthyAt, aggregators_with, ports_with, IsSteady}
+use Rattle.lagprogress.proofs.Common.{model_setup, model_view, HasPorts}
+use Rattle.lagmodel.specs.Law.{Members}
 use Rattle.lagprogress.proofs.Counting.{count_same, counted}
 use Rattle.lagprogress.proofs.EachRound.{EachAt, RoundKeeps, own_keeps, own_ticks, host_each, played_keep, played_on, played_steady}
 use Rattle.lagprogress.proofs.Linked.{many}
@@ -122,10 +124,14 @@ still_heard Holds s old new like heard k z there up =
 
 -- the ports of a system name it
 
+pub own_named : (s : SystemState) (k : ℕ) (x : SystemPort) → HasPorts s → Members (model_setup s) (model_view s).port
+    → slice_get s.system_ports k ≡ Some x → x.port.party.system ≡ s.system
+own_named s k x ports members there =
+    let found = find_at number_of_port s.system_ports k x (are_numbered 0 s.system_ports (ports_rise s ports)) there in
+    members.own x.number (model_port_of x) (ap (option_map model_port_of) found)
+
 pub own_system : (s : SystemState) (k : ℕ) (x : SystemPort) → IsSound s → slice_get s.system_ports k ≡ Some x → x.port.party.system ≡ s.system
-own_system s k x h there =
-    let found = find_at number_of_port s.system_ports k x (are_numbered 0 s.system_ports (ports_rise s h.ports)) there in
-    h.members.own x.number (model_port_of x) (ap (option_map model_port_of) found)
+own_system s k x h there = own_named s k x h.ports h.members there
 
 -- each place of a list
 

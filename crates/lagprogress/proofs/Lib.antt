@@ -71,3 +71,5 @@ mod LateLoops
 mod Looping
 mod OneLink
 mod PlainRounds
+mod Grouping
+mod Keyed

@@ -1,11 +1,11 @@
 -- Healthy rounds of hosts that are played.
-use Rattle.lagprogress.proofs.Common.{List, None, Option, Some, [], ap, arith, false, inl, inr, is_some, length, option_map, refl, slice_get, subst}
-use Rattle.lagprogress.proofs.Common.{suc, sym, true, ℕ, ◌++◌, ◌+◌, ◌<◌, ◌∙◌, ◌∷◌, ◌≡◌, ◌≤◌, false≢true, same_Some, slice_get_within, AllByRecursion}
+use Rattle.lagprogress.proofs.Common.{List, None, Option, Some, [], ap, arith, inl, inr, is_some, length, option_map, refl, slice_get, subst, suc}
+use Rattle.lagprogress.proofs.Common.{sym, true, zero, ℕ, ◌++◌, ◌+◌, ◌<◌, ◌∙◌, ◌∷◌, ◌≡◌, ◌≤◌, false≢true, same_Some, slice_get_within, AllByRecursion}
 use Rattle.lagprogress.proofs.Common.{all-append, One, Side, Two, WorldSetup, end_at, Event, WorldFault, Reply, Algorithms, WorldRuns, WorldSteps}
 use Rattle.lagprogress.proofs.Common.{cause, cause_or_no_memory, has_system, world_setup, ends_of_cable, ports_joined, LinkState, WorldState, port_at}
 use Rattle.lagprogress.proofs.Common.{end_is, AsksInVain, DrainingRounds, IsDrainingRound, IsNoMoveOf, sent_nothing, IsBetweenTicks, Delivers}
-use Rattle.lagprogress.proofs.Common.{IsOutOfMemoryOrSpent, RefusesDelivery, RunsAll, AsksEnds, AsksOrDelivers, AsksPort, PlaysBetween, PlaysHostPart}
-use Rattle.lagprogress.proofs.Common.{StopsBetween, IsDeliver, IsHealthyAt, NothingInFlight, ticks_of_both, IsSteady}
+use Rattle.lagprogress.proofs.Common.{IsOutOfMemoryOrSpent, RefusesDelivery, RunsAll, AsksEnds, AsksOrDelivers, AsksPort, DeliversAndAsks}
+use Rattle.lagprogress.proofs.Common.{EmptiesCables, PlaysBetween, PlaysHostPart, PlaysHostRound, StopsBetween, IsDeliver, ticks_of_both, IsSteady}
 use Rattle.lagprogress.proofs.EachRound.{hosts_steady}
 use Rattle.lagprogress.proofs.Linked.{each_side}
 use Rattle.lagprogress.proofs.Played.{as_many, some_within, below_or_same, cable_at, refused_event, runs_append}
@@ -182,22 +182,47 @@ pub stops_second : (gives : Algorithms) (n one : ℕ) (fault : WorldFault) (old 
 stops_second gives n one fault old mid between new a b c =
     stops_later gives fault old mid new a.played (stops_later gives fault mid between new b.played c)
 
+-- items arrive and ends are asked again and again
+pub plays_again : (gives : Algorithms) (count times : ℕ) (old new : WorldState) → DeliversAndAsks gives count times old new
+    → PlaysBetween gives old new
+plays_again gives count zero old new h = subst (PlaysBetween gives old) (sym h) (plays_nothing gives old)
+plays_again gives count (suc n) old new h = plays_both gives old h.0 new (plays_again gives count n old h.0 h.2)
+    (plays_both gives h.0 h.1 new (plays_delivers gives h.0 h.1 h.3) h.4.played)
+
+pub plays_until_empty : (gives : Algorithms) (count : ℕ) (old new : WorldState) → EmptiesCables gives count old new → PlaysBetween gives old new
+plays_until_empty gives count old new e = plays_both gives old e.asked new (plays_again gives count e.times old e.asked e.plays)
+    (plays_delivers gives e.asked new e.last)
+
 -- a round
 
-pub host_round_drains : (gives : Algorithms) (n : ℕ) (old ticked asked new : WorldState) → world_setup ticked ≡ world_setup old
-    → length old.links ≤ n → RunsAll gives ticks_of_both old ticked → AsksEnds gives n ticked asked → PlaysBetween gives asked new
-    → NothingInFlight new → IsSteady old → (s : Side) (g k : ℕ) → IsDrainingRound s g k gives old new
-host_round_drains gives n old ticked asked new fixed all t a b empty steady s g k =
+pub plays_host_round : (gives : Algorithms) (n : ℕ) (old ticked asked new : WorldState) → n ≡ length old.links
+    → world_setup ticked ≡ world_setup old → RunsAll gives ticks_of_both old ticked → AsksEnds gives n ticked asked
+    → EmptiesCables gives n asked new → PlaysHostRound gives old new
+plays_host_round gives n old ticked asked new same fixed t a e = record {
+  ticked = ticked;
+  asked = asked;
+  ticks = t;
+  fixed = fixed;
+  asks = subst (λ m. AsksEnds gives m ticked asked) same a;
+  later = subst (λ m. EmptiesCables gives m asked new) same e;
+}
+
+pub host_round_drains : (gives : Algorithms) (old new : WorldState) → PlaysHostRound gives old new → IsSteady old → (s : Side) (g k : ℕ)
+    → IsDrainingRound s g k gives old new
+host_round_drains gives old new h steady s g k =
+    let t = h.ticks in
+    let a = h.asks in
+    let b = plays_until_empty gives (length old.links) h.asked new h.later in
     let es = a.played.events ++ b.events in
     let rs = a.played.replies ++ b.replies in
     let between = all-append AsksOrDelivers a.played.events b.events a.played.between b.between in
-    let run = runs_append gives a.played.events b.events a.played.replies b.replies ticked asked new a.played.acts b.acts in
+    let run = runs_append gives a.played.events b.events a.played.replies b.replies h.ticked h.asked new a.played.acts b.acts in
     asking_in_vain_is_draining gives s g k (ticks_of_both ++ es) (t.replies ++ rs) old new steady (both_tick es (are_between es between))
-    (tt, (tt, move_none s g k es between)) (runs_append gives ticks_of_both es t.replies rs old ticked new t.acts run)
-    (λ u i l h. vain_after_ticks gives u (port_at u l) t.replies es rs old ticked t.acts
+    (tt, (tt, move_none s g k es between)) (runs_append gives ticks_of_both es t.replies rs old h.ticked new t.acts run)
+    (λ u i l at. vain_after_ticks gives u (port_at u l) t.replies es rs old h.ticked t.acts
     (vain_before u (port_at u l) a.played.events b.events a.played.replies b.replies (a.asks u i (port_at u l)
-    (let within = slice_get_within old.links i l h.there in omega (arith, all, within))
-    (ap (λ (x : WorldSetup). end_at x.cables u (suc i)) fixed ∙ end_is u old.links i l h.there)))) empty
+    (slice_get_within old.links i l at.there)
+    (ap (λ (x : WorldSetup). end_at x.cables u (suc i)) h.fixed ∙ end_is u old.links i l at.there)))) h.later.empties
 
 -- it is refused
 

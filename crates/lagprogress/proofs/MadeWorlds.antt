@@ -1,10 +1,10 @@
 -- A world that events lead to from one that was made is a bundle, if its links are up as it wants them.
 use Rattle.lagprogress.proofs.Common.{Bool, List, None, Option, Some, [], ap, arith, false, if◌then◌else◌, map, refl, subst, suc, sym, true, zero, ℕ}
 use Rattle.lagprogress.proofs.Common.{◌++◌, ◌+◌, ◌-◌, ◌∙◌, ◌∷◌, ◌≡◌, none-some, SystemId, same_system, system-itself, One, Side, Two, Config}
-use Rattle.lagprogress.proofs.Common.{config_value, Event, Reply, Algorithms, WorldRuns, AreFirst, LinkState, WorldState, half, BothAreActive}
-use Rattle.lagprogress.proofs.Common.{EachLinkAgrees, EachLinkComesUp, IsBundle, OneIsActive, ReachedIsApart, ReachedIsBundle, SystemsDiffer}
-use Rattle.lagprogress.proofs.Common.{CarriersAreUp, NothingIsHeld, DrainingRounds, NothingIsHeldByHosts, HostRounds, EachAgrees, EachDistributes}
-use Rattle.lagprogress.proofs.Common.{IsReached, IsReady, LeadsTo, NothingStaysHeld, Rounds, IsSteady}
+use Rattle.lagprogress.proofs.Common.{config_value, Event, Reply, Algorithms, WorldRuns, AreFirst, LinkState, WorldState, half, EachLinkAgrees}
+use Rattle.lagprogress.proofs.Common.{EachLinkComesUp, IsBundle, ReachedIsApart, ReachedIsBundle, SystemsDiffer, CarriersAreUp, NothingIsHeld}
+use Rattle.lagprogress.proofs.Common.{DrainingRounds, NothingIsHeldByHosts, HostRounds, EachAgrees, EachDistributes, IsReached, IsReady, LeadsTo}
+use Rattle.lagprogress.proofs.Common.{NothingStaysHeld, Rounds, IsSteady}
 use Rattle.lagscript.specs.declared.config.BadWorld.TheVariants.{SameSystem}
 use Rattle.cables.specs.declared.item.Item.{Item}
 use Rattle.lagscript.specs.Configs.{refusal_of_all}

@@ -22,10 +22,6 @@ if_err P Q r k h = grind (arith, nat_tests)
 pub if_ok : {T E : Type 0} (P Q : T → Type 0) (r : Result T E) → ((x : T) → P x → Q x) → IfOk r P → IfOk r Q
 if_ok P Q r k h = grind (arith, nat_tests)
 
--- both hold
-pub both_ok : {T E : Type 0} (P Q : T → Type 0) (r : Result T E) → IfOk r P → IfOk r Q → IfOk r (λ x. P x × Q x)
-both_ok P Q r h k = grind (arith, nat_tests)
-
 -- lists of events
 
 pub runs_append : (gives : Algorithms) (es fs : List Event) (rs qs : List Reply) (old mid new : WorldState)
@@ -282,6 +278,9 @@ quiet_next gives n q r start old mid new h x y first second =
 
 pub nothing_left : (n : ℕ) (old new : WorldState) → length old.links ≤ n → IsQuiet n old new → NothingInFlight new
 nothing_left n old new h q s i l f = grind (arith, nat_tests, slice_get_within)
+
+pub nothing_before : (n : ℕ) (old new : WorldState) → length old.links ≤ n → IsQuiet n old new → NothingInFlight old
+nothing_before n old new h q s i l f = grind (arith, nat_tests, slice_get_within)
 
 -- a round
 

@@ -63,10 +63,10 @@ enough k ports first (key ∷ keys) h =
 
 -- who occupies an aggregator
 
-occupies_is : (agg : AggId) (c : Choice) → occupies agg c ≡ true → (occupied c ≡ Some agg.0) × (place c ≡ agg.0)
+pub occupies_is : (agg : AggId) (c : Choice) → occupies agg c ≡ true → (occupied c ≡ Some agg.0) × (place c ≡ agg.0)
 occupies_is agg c h = grind (arith, nat_tests)
 
-abbrev Somebody : AggId → List SystemPort → Type 0
+abbrev pub Somebody : AggId → List SystemPort → Type 0
 Somebody agg ports = (i : ℕ) × (x : SystemPort) × (slice_get ports i ≡ Some x) × (occupies agg x.port.choice ≡ true)
 
 somebody_of : (agg : AggId) (b : Bool) (x : SystemPort) (xs : List SystemPort) → occupies agg x.port.choice ≡ b
@@ -75,11 +75,11 @@ somebody_of : (agg : AggId) (b : Bool) (x : SystemPort) (xs : List SystemPort) �
 somebody_of agg true x xs e h k = (0, x, refl, e)
 somebody_of agg false x xs e h k = let r = k h in (suc r.0, r.1, r.2, r.3)
 
-somebody : (agg : AggId) (ports : List SystemPort) → list_any (λ w. occupies agg w.choice) (views ports) ≡ true → Somebody agg ports
+pub somebody : (agg : AggId) (ports : List SystemPort) → list_any (λ w. occupies agg w.choice) (views ports) ≡ true → Somebody agg ports
 somebody agg [] h = absurd cc
 somebody agg (x ∷ xs) h = somebody_of agg (occupies agg x.port.choice) x xs refl h (somebody agg xs)
 
-passed : (b : Bool) (x : ℕ × Key) (o : Option (ℕ × Key)) → cond b (Some x) o ≡ None → (b ≡ false) × (o ≡ None)
+pub passed : (b : Bool) (x : ℕ × Key) (o : Option (ℕ × Key)) → cond b (Some x) o ≡ None → (b ≡ false) × (o ≡ None)
 passed b x o h = grind (arith, nat_tests)
 
 has_one : (a b : Bool) → a ≡ true → (a && not b) ≡ false → b ≡ true
@@ -152,7 +152,7 @@ first_none a b h = grind (arith, nat_tests)
 second_none : (a b : Option AggId) → or_else a b ≡ None → b ≡ None
 second_none a b h = grind (arith, nat_tests)
 
-no_entry : (o : Option (ℕ × Key)) → option_map aggregator_of_entry o ≡ None → o ≡ None
+pub no_entry : (o : Option (ℕ × Key)) → option_map aggregator_of_entry o ≡ None → o ≡ None
 no_entry o h = grind (arith, nat_tests)
 
 unselected_at : (c : Choice) → is_unselected c ≡ true → place c ≡ 0

@@ -231,7 +231,7 @@ module _ (old new : WorldState) (steady : IsSteady old) (last : Lasted old new) 
       ]
 
   -- so they are one group
-  one_group : (s : Side) (key : Key) → AreOneGroup s key old → (k : ℕ) (x : SystemPort) → slice_get (half s new).state.system_ports k ≡ Some x
+  pub one_group : (s : Side) (key : Key) → AreOneGroup s key old → (k : ℕ) (x : SystemPort) → slice_get (half s new).state.system_ports k ≡ Some x
       → x.port.enabled ≡ true → x.port.party.key ≡ key → SharesGroup (half s new).state x
   one_group s key g k x there up is = record {
     together = together x.port.party (party_of x.port.partner) mine.own mine.partner;

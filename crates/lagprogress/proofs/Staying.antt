@@ -5,8 +5,7 @@ use Rattle.lagprogress.proofs.Common.{AggId, Key, Party, party_of, PortView, cho
 use Rattle.lagprogress.proofs.Common.{is_aggregator, lowest, occupants, occupants_share_group, or_else, ports_that_chose, is_below, is_eligible}
 use Rattle.lagprogress.proofs.Common.{stands_by, is_next, none_is_next, SystemPort, MuxIsSettled, ChoosesIn, PromotesNext, choice_for, choice_in}
 use Rattle.lagprogress.proofs.Common.{with_choice, IsSound, SystemState, aggregators_value, port_numbers, selection_view, views, next_stands}
-use Rattle.lagprogress.proofs.Common.{takes_is, choices_keep, promotions_keep, Rises, all-get, ports_rise}
-use Rattle.lagsystem.proofs.SettlingLemmas.{set_same}
+use Rattle.lagprogress.proofs.Common.{takes_is, choices_keep, promotions_keep, Rises, all-get, ports_rise, set_same}
 use Rattle.lagprogress.proofs.Hearing.{no}
 use Rattle.lagprogress.proofs.Selecting.{clash, seen_stands, stands, when_is}
 

@@ -24,3 +24,4 @@ pub mod HostRounds
 pub mod LateRounds
 pub mod HostFreed
 pub mod PlayedByHosts
+pub mod Together

@@ -1,5 +1,5 @@
 -- Healthy rounds of hosts that are played, whole or in part (profile).
-use Rattle.std.specs.Prelude.{◌≡◌, ◌⊎◌, ◌<◌, ℕ, suc, List, Some}
+use Rattle.std.specs.Prelude.{◌≡◌, ◌⊎◌, ◌<◌, ℕ, zero, suc, List, Some, length}
 use Rattle.std.specs.List.{AllByRecursion}
 use Rattle.lagmodel.specs.World.{Side, end_at}
 use Rattle.lagscript.specs.declared.event.Event.{Event}
@@ -12,8 +12,8 @@ use Rattle.lagworld.specs.Sound.{RefusesFor}
 use Rattle.lagworld.specs.State.{WorldState}
 use Rattle.lagprogress.specs.HostFreed.{AsksInVain}
 use Rattle.lagprogress.specs.HostRounds.{HostRounds}
-use Rattle.lagprogress.specs.Played.{HasTooManyCables, IsRefused, RunsAll, RunsPart}
-use Rattle.lagprogress.specs.Rounds.{ticks_of_both}
+use Rattle.lagprogress.specs.Played.{Delivers, HasTooManyCables, IsRefused, RunsAll, RunsPart}
+use Rattle.lagprogress.specs.Rounds.{NothingInFlight, ticks_of_both}
 use Rattle.lagprogress.specs.Steady.{IsSteady}
 
 -- a port is asked, or something on a cable arrives
@@ -46,6 +46,31 @@ pub record AsksEnds (gives : Algorithms) (count : ℕ) (old new : WorldState) : 
   pub played : PlaysBetween gives old new
   pub asks : (s : Side) (i p : ℕ) → i < count → end_at (world_setup old).cables s (suc i) ≡ Some p
       → AsksInVain s p played.events played.replies
+
+-- so many times, items arrive, and then both ends of the first `count` cables are asked until they send nothing
+abbrev pub DeliversAndAsks : Algorithms → (count times : ℕ) → WorldState → WorldState → Type 0
+DeliversAndAsks gives count zero old new = new ≡ old
+DeliversAndAsks gives count (suc n) old new = (mid delivered : WorldState)
+    × DeliversAndAsks gives count n old mid × Delivers gives mid delivered × AsksEnds gives count delivered new
+
+-- so it is, until nothing is on any cable; Deliver events find that
+pub record EmptiesCables (gives : Algorithms) (count : ℕ) (old new : WorldState) : Type 0 where
+  pub times : ℕ
+  pub asked : WorldState
+  pub plays : DeliversAndAsks gives count times old asked
+  pub empty : NothingInFlight asked
+  pub last : Delivers gives asked new
+  pub empties : NothingInFlight new
+
+-- a healthy round of hosts in which both systems tick, both ends of all cables are asked until they send nothing, and so again after
+-- items arrive, until nothing is on any cable
+pub record PlaysHostRound (gives : Algorithms) (old new : WorldState) : Type 0 where
+  pub ticked : WorldState
+  pub asked : WorldState
+  pub ticks : RunsAll gives ticks_of_both old ticked
+  pub fixed : world_setup ticked ≡ world_setup old
+  pub asks : AsksEnds gives (length old.links) ticked asked
+  pub later : EmptiesCables gives (length old.links) asked new
 
 -- both systems tick, and then such events act, until one is refused with this fault
 pub record StopsAfterTicks (gives : Algorithms) (fault : WorldFault) (old new : WorldState) : Type 0 where

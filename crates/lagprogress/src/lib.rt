@@ -35,7 +35,9 @@ pub use limits::{down_ports_are_unselected, each_limited_link_agrees};
 pub use loops::{play_host_round, play_host_rounds};
 pub use overtaking::lacpdus_may_overtake;
 pub use playing::{play_round, play_rounds};
-pub use sharing::ports_share_aggregators;
+pub use sharing::{
+    each_key_is_in_one_aggregator_by_hosts, groups_stay_whole, ports_share_aggregators,
+};
 
 // promise: NTT becomes true within a bound, which each tick lowers by one and no run of the periodic machine raises: in FAST the timer's
 //    ticks and 299, in SLOW the timer's ticks

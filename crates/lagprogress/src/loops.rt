@@ -8,8 +8,8 @@ ghost use Rattle.lagprogress.specs.Bundle.{BothAreActive, OneIsActive};
 ghost use Rattle.lagprogress.specs.HostFreed.{DrainingRounds, IsDrainingRound, sent_nothing};
 ghost use Rattle.lagprogress.specs.HostRounds.{HostRounds, IsHostRound};
 ghost use Rattle.lagprogress.specs.Played.{EachAgrees, EachDistributes, IsOutOfMemoryOrSpent, IsRefused, LeadsTo, NothingStaysHeld};
-ghost use Rattle.lagprogress.specs.PlayedByHosts.{AsksEnds, AsksPort, PlaysBetween, PlaysHostPart, StopsBetween, StopsInHostRounds};
-ghost use Rattle.lagprogress.specs.Rounds.{NothingInFlight, freed_if_both_active, freed_if_one_is, up_if_both_active, up_if_one_is};
+ghost use Rattle.lagprogress.specs.PlayedByHosts.{AsksEnds, AsksPort, EmptiesCables, PlaysHostPart, PlaysHostRound, StopsBetween, StopsInHostRounds};
+ghost use Rattle.lagprogress.specs.Rounds.{freed_if_both_active, freed_if_one_is, up_if_both_active, up_if_one_is};
 ghost use Rattle.lagprogress.specs.Steady.{IsSteady};
 
 use crate::playing::{deliver_each, play};
@@ -96,9 +96,8 @@ fn deliver_and_ask<C: Cable, F: Fn(u16, usize) -> usize + Drop>(
     requires one { PicksIndexes (F.pre world.old.one) (F.post world.old.one) }
     requires two { PicksIndexes (F.pre world.old.two) (F.post world.old.two) }
     requires counted { count ≡ length world.old.state.links }
-    ensures plays { IfOk result (λ done. PlaysBetween (both_algorithms (F.post world.old.one) (F.post world.old.two))
+    ensures plays { IfOk result (λ done. EmptiesCables (both_algorithms (F.post world.old.one) (F.post world.old.two)) count
         world.old.state world.new.state) }
-    ensures empties { IfOk result (λ done. NothingInFlight world.new.state) }
     ensures part { IfErr result (λ fault. StopsBetween (both_algorithms (F.post world.old.one) (F.post world.old.two)) fault
         world.old.state world.new.state) }
     ensures refused { IfErr result (λ fault. IsOutOfMemoryOrSpent fault world.new.state) }
@@ -114,8 +113,8 @@ fn deliver_and_ask<C: Cable, F: Fn(u16, usize) -> usize + Drop>(
     }
 }
 
-// promise: `play_host_round` plays such a round, whatever the conversation; `play_host_rounds` so many
-// contract: `play_host_round` (`round`, `drains`), `play_host_rounds` (`rounds`, `drains`)
+// promise: `play_host_round` plays such a round, whatever the conversation, and asks the ends of all cables; `play_host_rounds` so many
+// contract: `play_host_round` (`round`, `drains`, `plays`), `play_host_rounds` (`rounds`, `drains`)
 // premises: both algorithms meet the condition; steady
 // promise: rounds of hosts are refused as `NoCable` above 65,535 cables, with nothing played; else as `Spent`, or after both ticks as `NoMemory`
 // contract: `play_host_round` (`refused`, `part`), `play_host_rounds` (`stopped`)
@@ -131,6 +130,8 @@ pub fn play_host_round<C: Cable, F: Fn(u16, usize) -> usize + Drop>(
 ) -> Result<(), WorldFault>
     requires one { PicksIndexes (F.pre world.old.one) (F.post world.old.one) }
     requires two { PicksIndexes (F.pre world.old.two) (F.post world.old.two) }
+    ensures plays { IfOk result (λ done. PlaysHostRound (both_algorithms (F.post world.old.one) (F.post world.old.two))
+        world.old.state world.new.state) }
     ensures round { IfOk result (λ done. IsSteady world.old.state → IsHostRound (both_algorithms (F.post world.old.one)
         (F.post world.old.two)) world.old.state world.new.state) }
     ensures drains { IfOk result (λ done. IsSteady world.old.state → (s : Side) (g k : ℕ) → IsDrainingRound s g k

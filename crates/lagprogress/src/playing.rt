@@ -99,6 +99,7 @@ pub(crate) fn deliver_each<C: Cable, F: Fn(u16, usize) -> usize + Drop>(
     ensures delivers { Delivers (both_algorithms (F.post world.old.one) (F.post world.old.two)) world.old.state world.new.state }
     ensures next { IfErr result (λ fault. RefusesDelivery fault world.new.state) }
     ensures empties { IfOk result (λ empty. empty ≡ true → NothingInFlight world.new.state) }
+    ensures empty { IfOk result (λ empty. empty ≡ true → NothingInFlight world.old.state) }
     ensures acted { IfOk result (λ empty. empty ≡ false → world.old.state.acted < world.new.state.acted) }
     ensures few { IfOk result (λ empty. empty ≡ false → world.new.state.acted ≤ most_events) }
     ensures refused { IfErr result (λ fault. IsOutOfMemoryOrSpent fault world.new.state) }

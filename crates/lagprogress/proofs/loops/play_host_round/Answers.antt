@@ -1,6 +1,6 @@
 use Rattle.lagprogress.proofs.Common.{arith, inl, inr, One}
-use Rattle.lagprogress.proofs.Looping.{host_round_drains, stops_after_ticks, stops_later}
-use Rattle.lagprogress.proofs.Played.{both_ok, if_err, if_ok, on_err, too_many}
+use Rattle.lagprogress.proofs.Looping.{host_round_drains, plays_host_round, stops_after_ticks, stops_later}
+use Rattle.lagprogress.proofs.Played.{if_err, if_ok, on_err, too_many}
 use Rattle.lagprogress.proofs.loops.play_host_round.Goals as goal
 
 pub ask_ends-requires-clause-one : goal.ask_ends-requires-clause-one
@@ -31,14 +31,17 @@ returns-in_err-ask_ends-clause-part g c = on_err _ c.in_err-ask_ends.field-0.0 c
     (stops_after_ticks _ _ _ _ _ c.in_ok-play.ensures.all
     (rw (c.play.ensures.algorithm_one, c.play.ensures.algorithm_two) at c.in_err-ask_ends.ensures.part))
 
-pub returns-clause-drains : goal.returns-clause-drains
-returns-clause-drains g c = if_ok _ _ c.deliver_and_ask.result
-    (λ done h steady s g k. host_round_drains _ c.in-Ok.count c.args.world.now.state c.play.new.world.state c.ask_ends.new.world.state _
-    c.play.ensures.fixed (omega (arith, c.cables.ensures, c.in-Ok.ensures)) c.in_ok-play.ensures.all
+pub returns-clause-plays : goal.returns-clause-plays
+returns-clause-plays g c = if_ok _ _ c.deliver_and_ask.result
+    (λ done h. plays_host_round _ c.in-Ok.count c.args.world.now.state c.play.new.world.state c.ask_ends.new.world.state _
+    (omega (arith, c.cables.ensures, c.in-Ok.ensures)) c.play.ensures.fixed c.in_ok-play.ensures.all
     (rw (c.play.ensures.algorithm_one, c.play.ensures.algorithm_two) at c.in_ok-ask_ends.ensures.asks)
     (rw (c.ask_ends.ensures.algorithm_one, c.play.ensures.algorithm_one, c.ask_ends.ensures.algorithm_two, c.play.ensures.algorithm_two)
-    at h.0) h.1 steady s g k)
-    (both_ok _ _ c.deliver_and_ask.result c.deliver_and_ask.ensures.plays c.deliver_and_ask.ensures.empties)
+    at h)) c.deliver_and_ask.ensures.plays
+
+pub returns-clause-drains : goal.returns-clause-drains
+returns-clause-drains g c = if_ok _ _ c.deliver_and_ask.result
+    (λ done h. host_round_drains _ c.args.world.now.state _ h) (returns-clause-plays g c)
 
 pub returns-clause-round : goal.returns-clause-round
 returns-clause-round g c = if_ok _ _ c.deliver_and_ask.result (λ done h steady. (h steady One 0 0).round) (returns-clause-drains g c)

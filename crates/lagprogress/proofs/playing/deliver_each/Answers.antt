@@ -1,6 +1,6 @@
 use Rattle.lagprogress.proofs.Common.{arith, length, refl, ◌+◌, ◌<◌, ◌∙◌, ◌≡◌, ◌≤◌, One, Two, Algorithms, both_algorithms, IsOutOfMemoryOrSpent}
 use Rattle.lagprogress.proofs.Common.{RefusesDelivery}
-use Rattle.lagprogress.proofs.Played.{delivery_refused, nothing_left, on_err, one_more, quiet_more, refused_delivery}
+use Rattle.lagprogress.proofs.Played.{delivery_refused, nothing_before, nothing_left, on_err, one_more, quiet_more, refused_delivery}
 use Rattle.lagprogress.proofs.playing.deliver_each.Goals as goal
 
 pub step-requires-clause-one : goal.step-requires-clause-one
@@ -53,6 +53,11 @@ pub returns-clause-empties : goal.returns-clause-empties
 returns-clause-empties g c =
     let past : length c.args.world.now.state.links ≤ c.loop-seen.seen = omega (arith, c.loop-seen-test.false, c.requires.counted) in
     λ all. nothing_left c.loop-seen.seen c.args.world.now.state c.loop-seen.world.state past (c.loop-seen.invariant.quiet all)
+
+pub returns-clause-empty : goal.returns-clause-empty
+returns-clause-empty g c =
+    let past : length c.args.world.now.state.links ≤ c.loop-seen.seen = omega (arith, c.loop-seen-test.false, c.requires.counted) in
+    λ all. nothing_before c.loop-seen.seen c.args.world.now.state c.loop-seen.world.state past (c.loop-seen.invariant.quiet all)
 
 pub loop-seen-preserved : goal.loop-seen-preserved
 loop-seen-preserved g c =

@@ -1,0 +1,396 @@
+-- Calls keep the ports of one group in one aggregator: a port that chooses joins the others, and the group of an occupant stays.
+use Rattle.lagprogress.proofs.Common.{Bool, List, None, Option, Some, [], ap, arith, cond, false, find, if◌then◌else◌, inl, inr, length, not}
+use Rattle.lagprogress.proofs.Common.{option_map, refl, slice_get, slice_set, subst, suc, sym, true, zero, ℕ, ◌&&◌, ◌+◌, ◌==◌, ◌∙◌, ◌∷◌, ◌≡◌, ◌⊎◌}
+use Rattle.lagprogress.proofs.Common.{cases_eq, nat_tests, none-some, same_Some, AllByRecursion, enumerate_from, list_all, AggId, Key, Choice}
+use Rattle.lagprogress.proofs.Common.{Selected, Standby, Unselected, Party, Pair, SamePair, individual, pair_of, itself, party_of, Machines, mux_rows}
+use Rattle.lagprogress.proofs.Common.{RunsPeriodic, receive_rows, RunsToRest, after_sending, count_down, PortView, aggregator_of_entry}
+use Rattle.lagprogress.proofs.Common.{chosen_if_eligible, has_group_of, has_no_occupant, has_occupant, lowest, occupants, occupants_share_group}
+use Rattle.lagprogress.proofs.Common.{or_else, AggregatorsValue, has_room, is_eligible, occupies, group-test, Answer, SystemPort, Call, ChangesParty}
+use Rattle.lagprogress.proofs.Common.{OnlyPortChangesBy, ProcessesLacpdu, SetsLink, SetsPortEnabled, Step, ThenSettles, Ticks, IsFirst, key_of}
+use Rattle.lagprogress.proofs.Common.{OccupantsAgree, occupied, aggregator_numbered, ChoosesIn, PortsChangeBy, Settling, aggregator_for, choice_for}
+use Rattle.lagprogress.proofs.Common.{choice_if, choice_in, ready_of, with_choice, HasPorts, PortsAgree, SystemState, aggregators_value, port_index}
+use Rattle.lagprogress.proofs.Common.{port_numbers, selection_view, views, first_unselected, Keeps, given_number, keeps_link, keeps_place, keeps_tick}
+use Rattle.lagprogress.proofs.Common.{numbers_set, promoted_numbers, settling_in, settling_keeps, zip_numbers, next_stands, takes_is}
+use Rattle.lagprogress.proofs.Common.{Step-preserves_ports, choices_keep, promotions_keep, Rises, all-get, ports_rise, RunsReady, set_same}
+use Rattle.lagprogress.proofs.Common.{GroupsAreWhole}
+use Rattle.std.specs.Prelude.{◌||◌}
+use Rattle.lagmodel.proofs.Ports.{group_sym, individual_along}
+use Rattle.selection.specs.Joining.{IsOccupant, MayJoin, ends}
+use Rattle.lagsystem.proofs.Choose.{taken_joins}
+use Rattle.lagsystem.proofs.Occupying.{EachStays, LeavesOrStays, OccupiesAsBefore, each_seen, joining_agrees, key_there, mux_stays, periodic_stays}
+use Rattle.lagsystem.proofs.Occupying.{promotion_agrees, set_cases, set_stays, stay_agrees, zip_stay, configure_stays, link_stays, place_stays}
+use Rattle.lagsystem.proofs.Occupying.{sending_stays, taking_stays, tick_stays}
+use Rattle.lagtypes.specs.declared.group.End.{End}
+use Rattle.lagprogress.proofs.Lasting.{own_named}
+use Rattle.lagprogress.proofs.Selecting.{Somebody, no_entry, occupies_is, passed, somebody}
+
+-- The ports of one key and one group, which is not Individual, are in one aggregator. In a sound system no other keys have the group.
+abbrev pub InOne : List SystemPort → Type 0
+InOne l = (g h i j : ℕ) (x y : SystemPort) → slice_get l i ≡ Some x → slice_get l j ≡ Some y → occupied x.port.choice ≡ Some g
+    → occupied y.port.choice ≡ Some h → x.port.party.key ≡ y.port.party.key → SamePair (ends (selection_view x)) (ends (selection_view y))
+    → individual x.port.party (party_of x.port.partner) ≡ false → g ≡ h
+
+group_along : (a b c : Pair) → SamePair a b → SamePair b c → SamePair a c
+group_along a b c (inl e) (inl f) = inl (e.0 ∙ f.0, e.1 ∙ f.1)
+group_along a b c (inl e) (inr f) = inr (e.0 ∙ f.0, e.1 ∙ f.1)
+group_along a b c (inr e) (inl f) = inr (e.0 ∙ f.1, e.1 ∙ f.0)
+group_along a b c (inr e) (inr f) = inl (e.0 ∙ f.1, e.1 ∙ f.0)
+
+-- where no port gets another aggregator or group
+
+same_ends : (x s : SystemPort) → x.port.party ≡ s.port.party → party_of x.port.partner ≡ party_of s.port.partner
+    → ends (selection_view x) ≡ ends (selection_view s)
+same_ends x s e f = λ i. pair_of (e i) (f i)
+
+same_individual : (x s : SystemPort) → x.port.party ≡ s.port.party → party_of x.port.partner ≡ party_of s.port.partner
+    → individual x.port.party (party_of x.port.partner) ≡ individual s.port.party (party_of s.port.partner)
+same_individual x s e f = λ i. individual (e i) (f i)
+
+by_place : (old new : List SystemPort) → ((j : ℕ) (t : SystemPort) → slice_get new j ≡ Some t
+    → (s : SystemPort) × (slice_get old j ≡ Some s) × OccupiesAsBefore s.port t.port) → InOne old → InOne new
+by_place old new each a g h i j x y at bt o p key pair together =
+    let s = each i x at in
+    let t = each j y bt in
+    elim s.2 [
+      | inl none ↦ absurd (none-some g (sym none ∙ o))
+      | inr k ↦ elim t.2 [
+        | inl none ↦ absurd (none-some h (sym none ∙ p))
+        | inr m ↦ a g h i j s.0 t.0 s.1 t.1 (sym k.0 ∙ o) (sym m.0 ∙ p)
+            (ap (λ (q : Party). q.key) (sym k.1) ∙ (key ∙ ap (λ (q : Party). q.key) m.1))
+            (subst (λ e. SamePair e (ends (selection_view t.0))) (same_ends x s.0 k.1 k.2)
+            (subst (λ e. SamePair (ends (selection_view x)) e) (same_ends y t.0 m.1 m.2) pair))
+            (sym (same_individual x s.0 k.1 k.2) ∙ together)
+      ]
+    ]
+
+as_before : (p q : Machines) → LeavesOrStays p q → OccupiesAsBefore p q
+as_before p q (inl e) = inl (ap occupied e)
+as_before p q (inr e) = inr (ap occupied e.0, e.1, e.2)
+
+stay_in_one : (old new : List SystemPort) → EachStays old new → InOne old → InOne new
+stay_in_one old new h a = by_place old new (λ j t g. let s = h j t g in (s.0, s.1, as_before s.0.port t.port s.2)) a
+
+-- a port that chooses
+
+find_passes : {X : Type 0} (test : X → Bool) (xs : List X) (x : X) → find test xs ≡ Some x → test x ≡ true
+find_passes test [] x e = absurd (none-some x e)
+find_passes test (y ∷ ys) x e = by_test (test y) refl (λ f. find_passes test ys x f) e
+  where
+    by_test : (b : Bool) → test y ≡ b → (find test ys ≡ Some x → test x ≡ true) → cond b (Some y) (find test ys) ≡ Some x → test x ≡ true
+    by_test true t later e = subst (λ z. test z ≡ true) (same_Some y x e) t
+    by_test false t later e = later e
+
+of_entry : (o : Option (ℕ × Key)) (agg : AggId) → option_map aggregator_of_entry o ≡ Some agg
+    → (row : ℕ × Key) × (o ≡ Some row) × (aggregator_of_entry row ≡ agg)
+of_entry None agg e = absurd (none-some agg e)
+of_entry (Some row) agg e = (row, refl, same_Some (aggregator_of_entry row) agg e)
+
+second : (a b : Bool) → (a && b) ≡ true → b ≡ true
+second a b h = grind (arith, nat_tests)
+
+-- the lowest one that passes does
+lowest_passes : (keys : List Key) (key : Key) (test : AggId → Bool) (agg : AggId) → lowest keys key test ≡ Some agg → test agg ≡ true
+lowest_passes keys key test agg e =
+    let r = of_entry (find (λ (row : ℕ × Key). (row.1.0 == key.0) && test (aggregator_of_entry row)) (enumerate_from 1 keys)) agg e in
+    subst (λ a. test a ≡ true) r.2 (second (r.0.1.0 == key.0) (test (aggregator_of_entry r.0))
+    (find_passes (λ (row : ℕ × Key). (row.1.0 == key.0) && test (aggregator_of_entry row)) (enumerate_from 1 keys) r.0 r.1))
+
+fails : (a b : Bool) → a ≡ true → (a && b) ≡ false → b ≡ false
+fails a b e h = grind (arith, nat_tests)
+
+-- if there is no lowest one, none passes that has the key
+none_passes : (first : ℕ) (keys : List Key) (key k : Key) (test : AggId → Bool) (n : ℕ)
+    → find (λ (row : ℕ × Key). (row.1.0 == key.0) && test (aggregator_of_entry row)) (enumerate_from first keys) ≡ None
+    → slice_get keys n ≡ Some k → k ≡ key → test (aggregator_numbered (first + n)) ≡ false
+none_passes first [] key k test n h e same = absurd (none-some k e)
+none_passes first (x ∷ xs) key k test zero h e same =
+    let here = passed ((x.0 == key.0) && test (aggregator_of_entry (first, x))) (first, x)
+    (find (λ (row : ℕ × Key). (row.1.0 == key.0) && test (aggregator_of_entry row)) (enumerate_from (first + 1) xs)) h in
+    let is : x ≡ key = same_Some x k e ∙ same in
+    let at : first ≡ first + 0 = omega arith in
+    subst (λ m. test (aggregator_numbered m) ≡ false) at (fails (x.0 == key.0) (test (aggregator_of_entry (first, x)))
+    (subst (λ (y : Key). (x.0 == y.0) ≡ true) is (itself x.0)) here.0)
+none_passes first (x ∷ xs) key k test (suc n) h e same =
+    let here = passed ((x.0 == key.0) && test (aggregator_of_entry (first, x))) (first, x)
+    (find (λ (row : ℕ × Key). (row.1.0 == key.0) && test (aggregator_of_entry row)) (enumerate_from (first + 1) xs)) h in
+    let at : first + 1 + n ≡ first + suc n = omega arith in
+    subst (λ m. test (aggregator_numbered m) ≡ false) at (none_passes (first + 1) xs key k test n here.1 e same)
+
+-- who is there
+
+occupies_at : (h : ℕ) (c : Choice) → occupied c ≡ Some h → occupies (aggregator_numbered h) c ≡ true
+occupies_at h c e = grind (arith, nat_tests, itself)
+
+both_true : (a b : Bool) → a ≡ true → b ≡ true → (a && b) ≡ true
+both_true a b e f = grind (arith, nat_tests)
+
+left_true : (a b : Bool) → a ≡ true → (a || b) ≡ true
+left_true a b e = grind (arith, nat_tests)
+
+right_true : (a b : Bool) → b ≡ true → (a || b) ≡ true
+right_true a b e = grind (arith, nat_tests)
+
+any_there : (agg : AggId) (l : List SystemPort) (j : ℕ) (y : SystemPort) → slice_get l j ≡ Some y → occupies agg y.port.choice ≡ true
+    → has_occupant (views l) agg ≡ true
+any_there agg [] j y e o = absurd (none-some y e)
+any_there agg (x ∷ xs) zero y e o =
+    left_true (occupies agg x.port.choice) _ (subst (λ (z : SystemPort). occupies agg z.port.choice ≡ true) (sym (same_Some x y e)) o)
+any_there agg (x ∷ xs) (suc j) y e o = right_true (occupies agg x.port.choice) _ (any_there agg xs j y e o)
+
+all_there : (test : PortView → Bool) (agg : AggId) (l : List SystemPort)
+    → ((j : ℕ) (w : SystemPort) → slice_get l j ≡ Some w → occupies agg w.port.choice ≡ true → test (selection_view w) ≡ true)
+    → list_all test (occupants agg (views l)) ≡ true
+all_there test agg [] h = refl
+all_there test agg (x ∷ xs) h =
+    let rest = all_there test agg xs (λ j w e o. h (suc j) w e o) in by_test (occupies agg x.port.choice) refl rest
+  where
+    by_test : (b : Bool) → occupies agg x.port.choice ≡ b → list_all test (occupants agg (views xs)) ≡ true
+        → list_all test (cond b (selection_view x ∷ occupants agg (views xs)) (occupants agg (views xs))) ≡ true
+    by_test true o rest = both_true (test (selection_view x)) (list_all test (occupants agg (views xs))) (h zero x refl o) rest
+    by_test false o rest = rest
+
+first_is : (a b : Option AggId) (agg c : AggId) → a ≡ Some c → or_else a b ≡ Some agg → a ≡ Some agg
+first_is a b agg c e h = grind (arith, nat_tests)
+
+is_one_of : (o : Option AggId) → (o ≡ None) ⊎ ((c : AggId) × (o ≡ Some c))
+is_one_of None = inl refl
+is_one_of (Some c) = inr (c, refl)
+
+when_some : (b : Bool) (o : Option AggId) (agg : AggId) → (if b then (if b then o else None) else None) ≡ Some agg → o ≡ Some agg
+when_some true o agg h = h
+when_some false o agg h = absurd (none-some agg h)
+
+not_shared : (a b c : Bool) → a ≡ false → b ≡ true → c ≡ true → ((not a && b) && c) ≡ false → ⊥
+not_shared a b c e f g h = grind (arith, nat_tests)
+
+has_one : (a b c : Bool) → ((not a && b) && c) ≡ true → b ≡ true
+has_one a b c h = grind (arith, nat_tests)
+
+occupant_in : (agg : AggId) (c : Choice) → occupies agg c ≡ true → (c ≡ Selected agg) ⊎ (c ≡ Standby agg)
+occupant_in agg c h = grind (arith, nat_tests)
+
+module _ (keys : List Key) (l : List SystemPort) (i : ℕ) (s : SystemPort) (agg : AggId) (rise : Rises 0 (port_numbers l))
+    (there : slice_get l i ≡ Some s) (takes : aggregator_for keys l s ≡ Some agg) (agree : OccupantsAgree keys l) (whole : InOne l) where
+  chooses : chosen_if_eligible keys (views l) (selection_view s) ≡ Some agg
+  chooses = when_some (is_eligible (selection_view s)) (chosen_if_eligible keys (views l) (selection_view s)) agg
+      (sym (takes_is keys l i s rise there) ∙ takes)
+
+  joins : MayJoin keys (views l) agg (selection_view s)
+  joins = (taken_joins keys l i s agg rise there takes).1
+
+  -- the port and an occupant of its key and group
+  module _ (h j : ℕ) (y : SystemPort) (at : slice_get l j ≡ Some y) (o : occupied y.port.choice ≡ Some h)
+      (key : s.port.party.key ≡ y.port.party.key) (pair : SamePair (ends (selection_view s)) (ends (selection_view y)))
+      (together : individual s.port.party (party_of s.port.partner) ≡ false) where
+    -- it joins an occupant, whose group is that of the other
+    by_occupant : occupants_share_group (views l) (selection_view s) agg ≡ true → agg.0 ≡ h
+    by_occupant shares =
+        let w : Somebody agg l = somebody agg l (has_one (individual s.port.party (party_of s.port.partner)) (has_occupant (views l) agg)
+        (list_all (has_group_of (selection_view s)) (occupants agg (views l))) shares) in
+        let is : IsOccupant agg (selection_view w.1) = occupant_in agg w.1.port.choice w.3 in
+        let mine : occupied w.1.port.choice ≡ Some agg.0 = (occupies_is agg w.1.port.choice w.3).0 in
+        elim joins.occupants [
+          | inl none ↦ absurd (all-get (λ (z : SystemPort). IsOccupant agg (selection_view z) → ⊥) l w.0 w.1 w.2
+              (each_seen (λ v. IsOccupant agg v → ⊥) l none) is)
+          | inr shared ↦ (let same = all-get
+              (λ (z : SystemPort). IsOccupant agg (selection_view z) → SamePair (ends (selection_view z)) (ends (selection_view s))) l w.0 w.1 w.2
+              (each_seen (λ v. IsOccupant agg v → SamePair (ends v) (ends (selection_view s))) l shared.one_group) is in
+              let its : key_of keys agg.0 ≡ Some w.1.port.party.key = agree.key w.0 agg.0 w.1 w.2 mine in
+              let own : key_of keys agg.0 ≡ Some s.port.party.key = key_there keys agg.0 s.port.party.key joins.numbered joins.key in
+              whole agg.0 h w.0 j w.1 y w.2 at mine o (same_Some w.1.port.party.key s.port.party.key (sym its ∙ own) ∙ key)
+              (group_along (ends (selection_view w.1)) (ends (selection_view s)) (ends (selection_view y)) same pair)
+              (individual_along s.port.party (party_of s.port.partner) w.1.port.party (party_of w.1.port.partner)
+              (group_sym (ends (selection_view w.1)) (ends (selection_view s)) same) together))
+        ]
+
+    -- it would have joined that one
+    would_share : occupants_share_group (views l) (selection_view s) (aggregator_numbered h) ≡ false → ⊥
+    would_share none = not_shared (individual s.port.party (party_of s.port.partner)) (has_occupant (views l) (aggregator_numbered h))
+        (list_all (has_group_of (selection_view s)) (occupants (aggregator_numbered h) (views l))) together
+        (any_there (aggregator_numbered h) l j y at (occupies_at h y.port.choice o))
+        (all_there (has_group_of (selection_view s)) (aggregator_numbered h) l (λ k w e is. (group-test (selection_view s) (selection_view w)).1
+        (each k w e (occupies_is (aggregator_numbered h) w.port.choice is).0))) none
+      where
+        each : (k : ℕ) (w : SystemPort) → slice_get l k ≡ Some w → occupied w.port.choice ≡ Some h
+            → SamePair (ends (selection_view w)) (ends (selection_view s))
+        each k w e is = elim (cases_eq k j) [
+          | inl same ↦ subst (λ (z : SystemPort). SamePair (ends (selection_view z)) (ends (selection_view s)))
+              (same_Some y w (sym at ∙ (ap (slice_get l) (sym same) ∙ e))) (group_sym (ends (selection_view s)) (ends (selection_view y)) pair)
+          | inr ne ↦ group_along (ends (selection_view w)) (ends (selection_view y)) (ends (selection_view s)) (agree.group h k j w y ne e at is o).0
+              (group_sym (ends (selection_view s)) (ends (selection_view y)) pair)
+        ]
+
+    no_other : lowest keys s.port.party.key (occupants_share_group (views l) (selection_view s)) ≡ None → ⊥
+    no_other none = by_number h refl (agree.key j h y at o)
+      where
+        by_number : (n : ℕ) → h ≡ n → key_of keys n ≡ Some y.port.party.key → ⊥
+        by_number zero is e = none-some y.port.party.key e
+        by_number (suc n) is e = would_share (subst (λ m. occupants_share_group (views l) (selection_view s) (aggregator_numbered m) ≡ false)
+            (let one : 1 + n ≡ suc n = omega arith in one ∙ sym is)
+            (none_passes 1 keys s.port.party.key y.port.party.key (occupants_share_group (views l) (selection_view s)) n
+            (no_entry (find (λ (row : ℕ × Key). (row.1.0 == s.port.party.key.0)
+            && occupants_share_group (views l) (selection_view s) (aggregator_of_entry row))
+            (enumerate_from 1 keys)) none) e (sym key)))
+
+    meets : agg.0 ≡ h
+    meets = elim (is_one_of (lowest keys s.port.party.key (occupants_share_group (views l) (selection_view s)))) [
+      | inl none ↦ absurd (no_other none)
+      | inr some ↦ by_occupant (lowest_passes keys s.port.party.key (occupants_share_group (views l) (selection_view s)) agg
+          (first_is (lowest keys s.port.party.key (occupants_share_group (views l) (selection_view s)))
+          (lowest keys s.port.party.key (has_no_occupant (views l))) agg some.0 some.1 chooses))
+    ]
+
+  pub joining_in_one : (c : Choice) → occupied c ≡ Some agg.0 → InOne (slice_set l i (with_choice s (Some c)))
+  joining_in_one c oc g h j k x y at bt o p key pair together =
+      let z : SystemPort = with_choice s (Some c) in
+      let number : (g : ℕ) (t : SystemPort) → t ≡ z → occupied t.port.choice ≡ Some g → agg.0 ≡ g =
+      λ g t is o. same_Some agg.0 g (sym oc ∙ sym (ap (λ (z : SystemPort). occupied z.port.choice) is) ∙ o) in
+      elim (set_cases l i j z x at) [
+        | inl n ↦ elim (set_cases l i k z y bt) [
+          | inl m ↦ sym (number g x n.1 o) ∙ number h y m.1 p
+          | inr w ↦ sym (number g x n.1 o) ∙ meets h k y w.1 p (ap (λ (t : SystemPort). t.port.party.key) (sym n.1) ∙ key)
+              (subst (λ (t : SystemPort). SamePair (ends (selection_view t)) (ends (selection_view y))) n.1 pair)
+              (subst (λ (t : SystemPort). individual t.port.party (party_of t.port.partner) ≡ false) n.1 together)
+        ]
+        | inr v ↦ elim (set_cases l i k z y bt) [
+          | inl m ↦ (let same = subst (λ (t : SystemPort). SamePair (ends (selection_view x)) (ends (selection_view t))) m.1 pair in
+              sym (meets g j x v.1 o (sym (key ∙ ap (λ (t : SystemPort). t.port.party.key) m.1))
+              (group_sym (ends (selection_view x)) (ends (selection_view s)) same)
+              (individual_along x.port.party (party_of x.port.partner) s.port.party (party_of s.port.partner) same together)) ∙ number h y m.1 p)
+          | inr w ↦ whole g h j k x y v.1 w.1 o p key pair together
+        ]
+      ]
+
+-- a settling
+
+-- with what it rests on
+abbrev Agreed : List Key → List SystemPort → Type 0
+Agreed keys l = OccupantsAgree keys l × InOne l
+
+agreed_zip : (R : Machines → Machines → Type 0) → ((p q : Machines) → R p q → LeavesOrStays p q) → (keys : List Key) (old new : List SystemPort)
+    → PortsChangeBy R old new → Agreed keys old → Agreed keys new
+agreed_zip R k keys old new h a =
+    let each = zip_stay R k old new h in (stay_agrees keys old new each a.0, stay_in_one old new each a.1)
+
+promotion_in_one : (l : List SystemPort) (i : ℕ) (s : SystemPort) (agg : AggId) → slice_get l i ≡ Some s → s.port.choice ≡ Standby agg → InOne l
+    → InOne (slice_set l i (with_choice s (Some (Selected agg))))
+promotion_in_one l i s agg there stands a =
+    let t : SystemPort = with_choice s (Some (Selected agg)) in
+    let here : OccupiesAsBefore s.port t.port = inr (sym (ap occupied stands), refl, refl) in
+    by_place l (slice_set l i t) (λ j u g. elim (set_cases l i j t u g) [
+      | inl c ↦ (s, ap (slice_get l) c.0 ∙ there, subst (λ (z : SystemPort). OccupiesAsBefore s.port z.port) (sym c.1) here)
+      | inr c ↦ (u, c.1, inr (refl, refl, refl))
+    ]) a
+
+occupied_if : (room : Bool) (agg : AggId) → occupied (choice_if room agg) ≡ Some agg.0
+occupied_if room agg = grind (arith, nat_tests)
+
+choice_agreed : (aggs : AggregatorsValue) (l : List SystemPort) (i : ℕ) (s : SystemPort) (o : Option AggId) → Rises 0 (port_numbers l)
+    → slice_get l i ≡ Some s → aggregator_for aggs.keys l s ≡ o → Agreed aggs.keys l
+    → Agreed aggs.keys (slice_set l i (with_choice s (option_map (choice_in aggs (views l)) o)))
+choice_agreed aggs l i s None r e k a = subst (Agreed aggs.keys) (sym (set_same l i s e)) a
+choice_agreed aggs l i s (Some agg) r e k a =
+    let c : Choice = choice_if (has_room aggs (views l) agg) agg in
+    let oc = occupied_if (has_room aggs (views l) agg) agg in (
+      joining_agrees aggs.keys l i s agg c e oc ((taken_joins aggs.keys l i s agg r e k).1) a.0,
+      joining_in_one aggs.keys l i s agg r e k a.0 a.1 c oc,
+    )
+
+abbrev AgreedRising : List Key → List SystemPort → Type 0
+AgreedRising keys l = Agreed keys l × Rises 0 (port_numbers l)
+
+choosing_agreed : (aggs : AggregatorsValue) (old new : List SystemPort) → Rises 0 (port_numbers old) → ChoosesIn aggs old new
+    → Agreed aggs.keys old → Agreed aggs.keys new
+choosing_agreed aggs old new r h a =
+    let first = promotions_keep aggs (Agreed aggs.keys) (λ agg l m x p. subst (Agreed aggs.keys) (sym x.4) (
+      promotion_agrees aggs.keys l x.0 x.1 agg x.3 (next_stands aggs agg l m x) p.0,
+      promotion_in_one l x.0 x.1 agg x.3 (next_stands aggs agg l m x) p.1,
+    ))
+    (length aggs.keys) old h.0 h.1 a in
+    let rise = subst (λ ns. Rises 0 ns) (sym (promoted_numbers aggs (length aggs.keys) old h.0 h.1)) r in
+    let last = choices_keep aggs (AgreedRising aggs.keys) (λ l i s e p. (
+      choice_agreed aggs l i s (aggregator_for aggs.keys l s) p.1 e refl p.0,
+      subst (λ ns. Rises 0 ns) (sym (numbers_set l i s (with_choice s (choice_for aggs l s)) e (given_number s (choice_for aggs l s)))) p.1,
+    )) (length h.0) h.0 (first, rise) in
+    subst (Agreed aggs.keys) (sym h.2) last.0
+
+settling_agreed : (old new : SystemState) → Rises 0 (port_numbers old.system_ports) → Settling old new → Agreed old.keys old.system_ports
+    → Agreed new.keys new.system_ports
+settling_agreed old new r h a =
+    let s = settling_in old new h in
+    let keys = old.keys in
+    let rise = subst (λ ns. Rises 0 ns) (sym (zip_numbers (RunsToRest (mux_rows false)) old.system_ports s.one s.stops)) r in
+    subst (λ k. Agreed k new.system_ports) (sym (ap (λ (x : SystemState). x.keys) (settling_keeps old new h).frame))
+    (agreed_zip RunsPeriodic periodic_stays keys s.four new.system_ports s.paces
+    (agreed_zip (RunsReady keys (views s.two)) (λ p q x. mux_stays (ready_of keys (views s.two) p.choice) p q x) keys s.two s.four s.runs
+    (choosing_agreed (aggregators_value old) s.one s.two rise s.chooses
+    (agreed_zip (RunsToRest (mux_rows false)) (mux_stays false) keys old.system_ports s.one s.stops a))))
+
+-- a call
+
+settled_in_one : (own : SystemState → SystemState → Type 0) (old new : SystemState) → Rises 0 (port_numbers old.system_ports)
+    → ((mid : SystemState) → own old mid → Keeps old mid) → ((mid : SystemState) → own old mid → EachStays old.system_ports mid.system_ports)
+    → ThenSettles own old new → Agreed old.keys old.system_ports → InOne new.system_ports
+settled_in_one own old new r keeps each h a =
+    let k = keeps h.0 h.1 in
+    let e = each h.0 h.1 in
+    (settling_agreed h.0 new (subst (λ ns. Rises 0 ns) (sym k.same) r) h.2
+    (subst (λ ks. Agreed ks h.0.system_ports) (sym (ap (λ (x : SystemState). x.keys) k.frame))
+    (stay_agrees old.keys old.system_ports h.0.system_ports e a.0, stay_in_one old.system_ports h.0.system_ports e a.1))).1
+
+none_in_one : (l : List SystemPort) → AllByRecursion (λ x. x.port.choice ≡ Unselected) l → InOne l
+none_in_one l h g k i j x y at bt o p key pair together =
+    absurd (none-some g (sym (ap occupied (all-get (λ (z : SystemPort). z.port.choice ≡ Unselected) l i x at h)) ∙ o))
+
+pub first_in_one : (s : SystemState) → IsFirst s → InOne s.system_ports
+first_in_one s h = none_in_one s.system_ports (first_unselected s h)
+
+pub step_in_one : (gives : ℕ → ℕ → ℕ → Type 0) (old : SystemState) (call : Call) (answer : Answer) (new : SystemState)
+    → Step gives old call answer new → HasPorts old → OccupantsAgree old.keys old.system_ports → InOne old.system_ports → InOne new.system_ports
+step_in_one gives old call answer new h ports agree whole =
+    Step-preserves_ports gives old (λ call answer new. InOne new.system_ports)
+    (λ call answer new none e. subst InOne (sym e) whole) (record {
+      tick = λ new h. settled_in_one Ticks old new r (keeps_tick old)
+          (λ mid x. zip_stay (λ p q. RunsToRest receive_rows (count_down p) q) tick_stays old.system_ports mid.system_ports x.0) h a;
+      link = λ n up done new h. settled_in_one (SetsLink n up) old new r (keeps_link n up old)
+          (λ mid x. place_stays (SetsPortEnabled old.max_links up) (link_stays old.max_links up) (port_index n old.system_ports) old.system_ports
+          mid.system_ports x.0) h a;
+      take = λ n octets v answer new told h. on_port n (ProcessesLacpdu v) (taking_stays v) new h;
+      change = λ n change new h. on_port n (ChangesParty change) (configure_stays change) new h;
+      restart = λ new e first. first_in_one new first;
+      send = λ n i x answer octets new at e due is told set.
+          let t : SystemPort = record x { port = after_sending x.port } in
+          subst (λ (z : SystemState). InOne z.system_ports) (sym set)
+          (stay_in_one old.system_ports (slice_set old.system_ports i t) (set_stays old.system_ports i x t e (sending_stays x.port)) whole);
+    }) call answer new h
+  where
+    r : Rises 0 (port_numbers old.system_ports)
+    r = ports_rise old ports
+
+    a : Agreed old.keys old.system_ports
+    a = (agree, whole)
+
+    on_port : (n : ℕ) (R : Machines → Machines → Type 0) → ((p q : Machines) → R p q → LeavesOrStays p q) → (new : SystemState)
+        → ThenSettles (OnlyPortChangesBy (port_index n old.system_ports) R) old new → InOne new.system_ports
+    on_port n R stay new h = let o = port_index n old.system_ports in
+        settled_in_one (OnlyPortChangesBy o R) old new r (keeps_place R o old)
+        (λ mid x. place_stays R stay o old.system_ports mid.system_ports x.0) h a
+
+-- in a sound system two ports of one group have one key, since neither has a partner of their own system
+
+ends_system : (a b : End) → a ≡ b → a.system ≡ b.system
+ends_system a b e = ap (λ (z : End). z.system) e
+
+ends_key : (a b : End) → a ≡ b → a.key ≡ b.key
+ends_key a b e = ap (λ (z : End). z.key) e
+
+pub whole_of : (s : SystemState) → PortsAgree s → OccupantsAgree s.keys s.system_ports → InOne s.system_ports → GroupsAreWhole s
+whole_of s ports agree one g h i j x y at bt o p pair together =
+    let own = own_named s i x ports.ports ports.members at ∙ sym (own_named s j y ports.ports ports.members bt) in
+    one g h i j x y at bt o p (elim pair [
+      | inl e ↦ ends_key _ _ e.0
+      | inr e ↦ absurd (agree.apart j h y bt p (sym (ends_system _ _ e.0) ∙ own))
+    ]) pair together
+
+pub in_one_of : (s : SystemState) → GroupsAreWhole s → InOne s.system_ports
+in_one_of s whole g h i j x y at bt o p key pair together = whole g h i j x y at bt o p pair together
