@@ -1,2 +1,4 @@
-pub mod CaptureLemmas
+mod Common
+mod AsBox
+pub mod PieceLemmas
 pub mod UtfLemmas

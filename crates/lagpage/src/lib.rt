@@ -1,4 +1,4 @@
-//! What a page in a browser shows: exports that explain a capture, decode a payload, answer a frame and run the vectors as
+//! What a page in a browser shows: exports that explain a capture piece by piece, decode a payload, answer a frame and run the vectors as
 //! `lagtool` does. They work over memory, and do no input and no output.
 //!
 //! What the host owes, and nothing checks: a pointer has room for the octets of the length beside it; what a call may write overlaps
@@ -8,8 +8,10 @@
 #![tactic(auto)]
 
 mod answer;
+mod handle;
 mod of_capture;
 mod of_vectors;
 mod of_words;
+mod pieces;
 mod said;
 mod told;
