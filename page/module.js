@@ -1,9 +1,9 @@
-/* Calls the exports of the module. Each call has an instance of its own, so that none is used behind a trap. A job runs in a worker, so
+/* Calls the exports of the module. Each job has an instance of its own, so that none is used behind a trap. A job runs in a worker, so
  * that the page stays awake; it is stopped by ending the worker.
  *
  * The functions up to `serve` are those of the worker, too: its text is made of theirs, so they name nothing else. */
 
-/* Room for so many octets in the memory of an instance, which is dropped behind the call. */
+/* Room for so many octets in the memory of an instance, which is dropped behind the job. */
 function taken(exports, octets) {
     const at = exports.page_alloc(BigInt(Math.max(octets, 1)));
     if (!at) throw new Error("out of memory");
@@ -42,12 +42,12 @@ function called(module, name, inputs) {
 }
 
 /* Explains a capture, octets or a file, piece by piece: one piece, and the text of one, is in memory at a time. A file is read as a worker
- * alone can. `tell` gets the text of each piece, whole lines, and how many octets are read. */
-function explained(module, given, numbers, tell) {
-    const PIECE = 1048576, NO_ROOM = 1, decoder = new TextDecoder(), size = given.size ?? given.length;
+ * alone can. It yields the text of each piece, whole lines, and how many octets are read; it returns what is told. */
+function* explained(module, given, numbers, most = 1048576) {
+    const NO_ROOM = 1, decoder = new TextDecoder(), size = given.size ?? given.length;
     const { exports } = new WebAssembly.Instance(module), reader = given.size === undefined ? null : new FileReaderSync();
-    const capture = taken(exports, 32), piece = taken(exports, PIECE), answer = taken(exports, 32); // the handle is 0 before it is opened
-    let room = 4 * PIECE, out = taken(exports, room);
+    const capture = taken(exports, 32), piece = taken(exports, most), answer = taken(exports, 32); // the handle is 0 before it is opened
+    let room = 4 * most, out = taken(exports, room);
     const step = (name, ...words) => {
         exports[name](capture, ...words, out, BigInt(room), answer);
         return answerIn(exports, answer, out);
@@ -62,27 +62,38 @@ function explained(module, given, numbers, tell) {
         return found;
     };
     if (exports.lagpage_open(capture, ...numbers)) throw new Error("out of memory");
-    for (let from = 0; from < size; from += PIECE) {
-        const part = given.slice(from, from + PIECE), octets = reader ? new Uint8Array(reader.readAsArrayBuffer(part)) : part;
+    for (let from = 0; from < size; from += most) {
+        const part = given.slice(from, from + most), octets = reader ? new Uint8Array(reader.readAsArrayBuffer(part)) : part;
         filled(exports, piece, octets);
-        tell({ printed: decoder.decode(told("lagpage_feed", piece, BigInt(octets.length)).printed), read: from + octets.length });
+        yield { printed: decoder.decode(told("lagpage_feed", piece, BigInt(octets.length)).printed), read: from + octets.length };
     }
     const { status, printed, said } = told("lagpage_end");
-    tell({ printed: decoder.decode(printed), read: size });
+    yield { printed: decoder.decode(printed), read: size };
     return { status, printed: "", said: decoder.decode(said) };
 }
 
-/* What the worker does: one job, and it tells what came of it. */
+/* What the worker does: one job, and it tells what came of it; of a capture it tells each piece once it is asked for. */
 function serve({ data: { octets, name, inputs, numbers } }) {
     try {
-        const module = new WebAssembly.Module(octets);
-        postMessage({ told: name ? called(module, name, inputs) : explained(module, inputs[0], numbers, (it) => postMessage(it)) });
+        if (name) return postMessage({ told: called(new WebAssembly.Module(octets), name, inputs) });
+        globalThis.steps ??= explained(new WebAssembly.Module(octets), inputs[0], numbers);
+        const { done, value } = globalThis.steps.next();
+        postMessage(done ? { told: value } : value);
     } catch (error) {
         postMessage({ failed: error.message });
     }
 }
 
 const WORKER = `${[taken, filled, answerIn, called, explained, serve].map(String).join("\n")}\nonmessage = serve;`;
+
+/* All steps at once. */
+function allOf(steps) {
+    for (let printed = ""; ;) {
+        const { done, value } = steps.next();
+        if (done) return { ...value, printed };
+        printed += value.printed;
+    }
+}
 
 const asOctets = (it) => (typeof it === "string" ? new TextEncoder().encode(it) : it);
 const numbersOf = ({ all = false, frames = true, json = false } = {}) => [all ? 1 : 0, frames ? 0 : 1, json ? 1 : 0];
@@ -115,10 +126,12 @@ class Job {
             this.refuse = (why) => end(refuse, new Error(why));
             this.worker.onerror = (event) => { event.preventDefault(); this.refuse(event.message || "the worker failed"); };
             this.worker.onmessage = ({ data: { printed, read, told, failed } }) => {
-                if (printed !== undefined) heard.printed?.(printed);
-                if (read !== undefined) heard.read?.(read);
                 if (failed !== undefined) this.refuse(failed);
                 if (told) end(done, new Told(told));
+                if (read === undefined) return;
+                heard.printed?.(printed);
+                heard.read?.(read);
+                this.worker.postMessage({}); // the next piece
             };
         });
         this.worker.postMessage(task);
@@ -155,7 +168,6 @@ export class Lagtool {
     }
 
     capture(octets, options) {
-        const pieces = [], told = explained(this.module, octets, numbersOf(options), (it) => pieces.push(it.printed));
-        return new Told({ ...told, printed: pieces.join("") });
+        return new Told(allOf(explained(this.module, octets, numbersOf(options))));
     }
 }

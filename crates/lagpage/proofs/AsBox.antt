@@ -1,5 +1,6 @@
 -- Parts and a handle that holds them own what a box at the same types owns.
-use Rattle.lagpage.proofs.Common.{[], Bx}
+use mathlib.Core.List.{[]}
+use Rattle.std_alloc.proofs.BoxSteps.Form.{Bx}
 use mir.Syntax.{impl, tnil, dnil}
 use denote.Signature.{Slot, plain}
 use Rattle.std_heap.specs.contracts.Global as Heap

@@ -1,4 +1,3 @@
-mod Common
 mod AsBox
 pub mod PieceLemmas
 pub mod UtfLemmas

@@ -1,13 +1,13 @@
 -- What a capture in pieces is after each call, by its history.
-use Rattle.std.proofs.Common.{◌≡◌, ◌∙◌, ◌++◌, ◌<◌, ◌≤◌, ℕ, Bool, true, false, List, [], Option, Some, ap, append-nil, cond, length, nat_lt, refl, subst, sym}
+use Rattle.std.proofs.Common.{◌≡◌, ◌∙◌, ◌++◌, ◌<◌, ◌≤◌, ℕ, Bool, true, false, List, [], Some, ap, append-nil, cond, length, nat_lt, refl, subst, sym}
 use Rattle.std.proofs.lemmas.Bool.{false≢true, le-ltb, lt-ltb}
 use Rattle.lagtool_capture.proofs.JobLemmas.{fault_is, free_is}
-use Rattle.lagtool_capture.proofs.ReadingLemmas.{stands_counts, stands_fed, stands_first, stands_lines, stands_refused, stands_reports, stands_written}
+use Rattle.lagtool_capture.proofs.ReadingLemmas.{stands_counts, stands_fed, stands_first, stands_lines, stands_refused, stands_reports}
+use Rattle.lagtool_capture.proofs.ReadingLemmas.{stands_written}
 use Rattle.lagtool_capture.specs.CaptureReadings.{Feeds, IsBefore, ReadingState, ended, is_read_on, summary_of}
 use Rattle.lagtool_capture.specs.Noticing.{Follows, Log}
 use Rattle.lagtool_capture.specs.Reports.{report, summary}
 use Rattle.lagtool_capture.specs.declared.settings.Settings.{Settings}
-use Rattle.lagtool_capture.specs.declared.summary.CaptureSummary.{CaptureSummary}
 use Rattle.lagpage.specs.Answers.{Tells}
 use Rattle.lagpage.specs.Pieces.{Continues, Explains, History, IsBy, Turns, ended_at, fed_with, handed, opened, printed_of, said_at, status_at}
 use Rattle.lagpage.specs.declared.pieces.Pieces.{Pieces}
@@ -98,7 +98,8 @@ waits room count p t counts short tells h by = record {
   rest = p.reading.report.to_write;
   all = printed_is h.ended h.settings h.fed h.out p.reading by.explains;
   tells = tells_by h p t by tells;
-  held = subst (λ b. IsBy (record h { out = cond b h.out (h.out ++ p.reading.report.to_write) }) p) (sym (ap (nat_lt room) (sym counts) ∙ lt-ltb room count short)) by;
+  held = subst (λ b. IsBy (record h { out = cond b h.out (h.out ++ p.reading.report.to_write) }) p)
+      (sym (ap (nat_lt room) (sym counts) ∙ lt-ltb room count short)) by;
 }
 
 -- a text that is handed out
@@ -109,5 +110,6 @@ goes_out room count p q t counts fits tells out h by = record {
   rest = p.reading.report.to_write;
   all = printed_is h.ended h.settings h.fed h.out p.reading by.explains;
   tells = tells_by h p t by tells;
-  held = subst (λ b. IsBy (record h { out = cond b h.out (h.out ++ p.reading.report.to_write) }) q) (sym (ap (nat_lt room) (sym counts) ∙ le-ltb room count fits)) (out h by);
+  held = subst (λ b. IsBy (record h { out = cond b h.out (h.out ++ p.reading.report.to_write) }) q)
+      (sym (ap (nat_lt room) (sym counts) ∙ le-ltb room count fits)) (out h by);
 }

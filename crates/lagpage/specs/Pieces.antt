@@ -1,5 +1,6 @@
 -- A capture that is explained in pieces: what was done with it, and what is told of that.
-use Rattle.std.specs.Prelude.{◌≡◌, ℕ, ◌++◌, Bool, true, false, List, [], Option, Some, None, Result, IfOk, IsTrue, is_some, length, nat_lt, if◌then◌else◌}
+use Rattle.std.specs.Prelude.{◌≡◌, ℕ, ◌++◌, Bool, true, false, List, [], Option, Some, None, Result, IfErr, IfOk, IsTrue, is_some, length}
+use Rattle.std.specs.Prelude.{nat_lt, if◌then◌else◌}
 use Rattle.std.specs.declared.alloc.AllocError.{AllocError}
 use Rattle.lagtool_capture.specs.CaptureReadings.{ReadingState, summary_of}
 use Rattle.lagtool_capture.specs.Reports.{lines, report, summary}
@@ -74,11 +75,12 @@ pub record Continues (h : History) (room : ℕ) (after : Option Pieces) (t : Tol
   pub tells : Tells (status_at h.ended (summary h.settings h.fed)) rest (said_at h.ended (summary h.settings h.fed)) t
   pub held : IsHeldBy (handed room (length t.octets.items) rest h) after
 
--- What a call does to a capture that the handle holds, whatever was done before; where memory is refused, or the handle holds none,
--- nothing is told.
+-- What a call does to a capture that the handle holds, whatever was done before. Where memory is refused, or the handle holds none,
+-- nothing is told, and it holds none from then on.
 pub record Advances (change : History → History) (before after : Option Pieces) (old new : List ℕ) (a : Answer) : Type 0 where
   pub told : Result Told AllocError
   pub answer : a ≡ answer_of (length old) told
   pub buffer : new ≡ buffer_after old told
   pub holds : IfOk told (λ t. IsTrue (is_some before))
+  pub refused : IfErr told (λ e. after ≡ None)
   pub continues : (h : History) → IsHeldBy h before → IfOk told (λ t. Continues (change h) (length old) after t)

@@ -2,7 +2,8 @@
 //! `lagtool` does. They work over memory, and do no input and no output.
 //!
 //! What the host owes, and nothing checks: a pointer has room for the octets of the length beside it; what a call may write overlaps
-//! nothing else that it is given; one thread calls; and none calls after a trap.
+//! nothing else that it is given; the octets of a handle are 0 before its first call, and only the exports write them; one thread
+//! calls; and none calls after a trap.
 //!
 //! In comments, "profile" is docs/PROFILE.md.
 #![tactic(auto)]

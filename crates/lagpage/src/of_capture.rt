@@ -1,4 +1,4 @@
-ghost use Rattle.std.specs.Prelude.{◌≡◌, ◌⊎◌, IfOk, IsTrue, is_some};
+ghost use Rattle.std.specs.Prelude.{◌≡◌, ◌⊎◌, IfErr, IfOk, IsTrue, None, is_some};
 ghost use Rattle.lagpage.specs.Answers.{done, no_memory};
 ghost use Rattle.lagpage.specs.Captures.{settings_with};
 ghost use Rattle.lagpage.specs.Pieces.{Advances, Continues, History, IsHeldBy, ended_at, fed_with, opened};
@@ -29,6 +29,7 @@ fn told_behind(
     room: usize,
 ) -> Result<Told, AllocError>
     ensures holds { IfOk result (λ t. IsTrue (is_some capture.old.held.kept)) }
+    ensures refused { IfErr result (λ e. capture.new.held.kept ≡ None) }
     ensures continues { (h : History) → IsHeldBy h capture.old.held.kept
         → IfOk result (λ t. Continues (fed_with piece.now h) room capture.new.held.kept t) }
 {
@@ -45,12 +46,9 @@ fn told_behind(
 }
 
 /// What is told at the end. `AllocError` if memory is refused, or the handle holds no capture.
-fn told_at_end(
-    alloc: Global,
-    capture: &mut LagpageCapture,
-    room: usize,
-) -> Result<Told, AllocError>
+fn told_at_end(alloc: Global, capture: &mut LagpageCapture, room: usize) -> Result<Told, AllocError>
     ensures holds { IfOk result (λ t. IsTrue (is_some capture.old.held.kept)) }
+    ensures refused { IfErr result (λ e. capture.new.held.kept ≡ None) }
     ensures continues { (h : History) → IsHeldBy h capture.old.held.kept
         → IfOk result (λ t. Continues (ended_at h) room capture.new.held.kept t) }
 {
@@ -76,10 +74,14 @@ pub extern "C" fn lagpage_open(
     no_frames: u32,
     json: u32,
 ) -> u64
-    ensures { ((result ≡ done) × IsHeldBy (opened (settings_with all no_frames json)) capture.new.held.kept) ⊎ (result ≡ no_memory) }
+    ensures { ((result ≡ done) × IsHeldBy (opened (settings_with all no_frames json)) capture.new.held.kept)
+        ⊎ ((result ≡ no_memory) × (capture.new.held.kept ≡ None)) }
 {
     drop(capture.take(alloc));
-    match Box::new(alloc, Pieces::new(alloc, settings_with(all, no_frames, json))) {
+    match Box::new(
+        alloc,
+        Pieces::new(alloc, settings_with(all, no_frames, json)),
+    ) {
         Ok(pieces) => {
             capture.put(pieces);
             DONE

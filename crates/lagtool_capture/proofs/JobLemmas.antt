@@ -2,12 +2,11 @@
 use Rattle.lagtool_capture.proofs.Common.{Bool, List, None, Option, Some, [], ap, arith, false, inl, inr, ltb-false, nat_lt, refl, subst, sym, true}
 use Rattle.lagtool_capture.proofs.Common.{true≢false, ℕ, ◌&&◌, ◌++◌, ◌∙◌, ◌≡◌, ◌⊎◌, and_cases, and_parts, Consumes, IsAtEnd, IsSettled, ReadFault}
 use Rattle.lagtool_capture.proofs.Common.{Settings, Feeds, IsBefore, ReadingState, ended, is_free, is_read_on, summary_of, Follows, Log, ReportState}
-use Rattle.lagtool_capture.proofs.Common.{Completes}
+use Rattle.lagtool_capture.proofs.Common.{Completes, Stands}
 use Rattle.std.proofs.KnownBytes.{Appends-nil, Consumes-nil, Consumes-trans}
 use Rattle.lagstreams.proofs.SinkLemmas.{takes_more}
 use Rattle.lagstreams.specs.Sinks.{SinkState, WritesWhole}
 use Rattle.lagstreams.specs.Sources.{Gives, SourceState}
-use Rattle.lagtool_capture.specs.Standing.{Stands}
 use Rattle.lagtool_capture.proofs.ReadingLemmas.{stands_counts, stands_fed, stands_first, stands_reports, stands_settled, stands_written}
 use Rattle.lagtool_capture.specs.declared.summary.CaptureSummary.{CaptureSummary}
 

@@ -5,14 +5,13 @@ use Rattle.lagtool_capture.proofs.Common.{◌≡◌, ◌≤◌, ◌⊎◌, drop-
 use Rattle.lagtool_capture.proofs.Common.{capture_from, capture_in, ending, refused_from, ends_of, ReadFault, Settings, Feeds, IsBefore, ReadingState}
 use Rattle.lagtool_capture.proofs.Common.{Takes, ended, refused_at, refused_end, refused_if_any, skipped, summary_of, sum_of, Agrees, Follows, Log}
 use Rattle.lagtool_capture.proofs.Common.{findings_in, logged_all, nothing_logged, ReportState, after_all, nothing_seen, with_ends, counts_of}
-use Rattle.lagtool_capture.proofs.Common.{found_in, report, reported, summary, Stops}
+use Rattle.lagtool_capture.proofs.Common.{found_in, lines, report, reported, summary, IsClear, Stands, Waits, next_octets, next_place, preceded}
+use Rattle.lagtool_capture.proofs.Common.{Stops}
 use Rattle.captures.specs.Steps.{end_of}
 use Rattle.std.proofs.Math.Seq.{drop-append-add, drop-length}
 use Rattle.captures.proofs.StepLemmas.{step_refused}
 use Rattle.captures.proofs.WholeLemmas.{both_behind, ends_refused, ends_waiting}
 use Rattle.lagtool_capture.proofs.PrecededLemmas.{all_preceded, ends_preceded, written_preceded}
-use Rattle.lagtool_capture.specs.Reports.{lines}
-use Rattle.lagtool_capture.specs.Standing.{IsClear, Stands, Waits, next_octets, next_place, preceded}
 use Rattle.lagtool_capture.proofs.TakingLemmas.{after_both, logged_both}
 
 abbrev Goes : List ℕ → ReadingState → List (Option Captured) → ℕ → ReadingState → Type 0

@@ -10,7 +10,7 @@ from browser import Browser
 from stored import Tests
 
 SIZE = 1_000_000_000
-MOST = 500_000_000  # octets of memory that the page may take at most
+MOST = 700_000_000  # octets of memory that the page may take at most
 DATA = 1400  # octets of a packet of data
 EACH = 20  # packets of data between two LACPDUs
 PATIENCE = 900.0  # seconds

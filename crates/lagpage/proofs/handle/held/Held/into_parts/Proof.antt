@@ -1,6 +1,9 @@
 -- `into_parts` moves two fields, and what they own goes with them: the handle holds a system.
-use Rattle.lagpage.proofs.Common.{List, [], ◌++◌, ◌∷◌, refl, subst, sym, IsTrue, None, Option, Some, is_some, B, D, box_typed, word, box_in, box_out}
-use mathlib.Core.Path.{◌≡◌}
+use mathlib.Core.List.{List, [], ◌++◌, ◌∷◌}
+use mathlib.Core.Path.{refl, subst, sym, ◌≡◌}
+use Rattle.std.proofs.Common.{IsTrue, None, Option, Some, is_some}
+use Rattle.std_alloc.proofs.BoxSteps.Form.{B, D, box_typed, word}
+use Rattle.std_alloc.proofs.BoxSteps.Steps.{box_in, box_out}
 use mathlib.Core.Bool.{false≢true}
 use seplogic.Ra.Ura.{Ura}
 use mir.Val.{Val}

@@ -1,5 +1,8 @@
 -- `none` makes a handle that owns nothing.
-use Rattle.lagpage.proofs.Common.{List, [], ◌++◌, ◌∷◌, refl, subst, sym, None, handle_tells, α}
+use mathlib.Core.List.{List, [], ◌++◌, ◌∷◌}
+use mathlib.Core.Path.{refl, subst, sym}
+use Rattle.std.proofs.Common.{None}
+use Rattle.std.proofs.alloc.Calls.{handle_tells, α}
 use lib.Dec.{lit<}
 use seplogic.Ra.Ura.{Ura}
 use mir.Syntax.{w64}

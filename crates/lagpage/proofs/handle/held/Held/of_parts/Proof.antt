@@ -1,5 +1,9 @@
 -- `of_parts` moves two fields, and what they own goes with them.
-use Rattle.lagpage.proofs.Common.{List, [], ◌++◌, ◌∷◌, refl, subst, sym, Some, B, D, box_typed, word, box_in, box_out}
+use mathlib.Core.List.{List, [], ◌++◌, ◌∷◌}
+use mathlib.Core.Path.{refl, subst, sym}
+use Rattle.std.proofs.Common.{Some}
+use Rattle.std_alloc.proofs.BoxSteps.Form.{B, D, box_typed, word}
+use Rattle.std_alloc.proofs.BoxSteps.Steps.{box_in, box_out}
 use seplogic.Ra.Ura.{Ura}
 use mir.Val.{Val}
 use base.Logic.{SProp, ent, emp, id⊢}

@@ -1,7 +1,10 @@
 -- `into_box` hands what the parts own to `from_raw`.
-use Rattle.lagpage.proofs.Common.{List, [], ◌++◌, ◌∷◌, ap, refl, subst, sym, Goes-blank, token, box_owns, B, Bx, D, P, R, args, box_ty, box_typed}
-use Rattle.lagpage.proofs.Common.{word, box_in, box_out}
-use mathlib.Core.Path.{◌≡◌}
+use mathlib.Core.List.{List, [], ◌++◌, ◌∷◌}
+use mathlib.Core.Path.{ap, refl, subst, sym, ◌≡◌}
+use Rattle.std.proofs.alloc.Calls.{Goes-blank, token}
+use Rattle.std_alloc.specs.Box.Ownership.{box_owns}
+use Rattle.std_alloc.proofs.BoxSteps.Form.{B, Bx, D, P, R, args, box_ty, box_typed, word}
+use Rattle.std_alloc.proofs.BoxSteps.Steps.{box_in, box_out}
 use lib.Dec.{T}
 use seplogic.Ra.Ura.{Ura}
 use mir.Syntax.{Fn, Body, place, copy, assign, rv_opd, seq, return}

@@ -1,7 +1,10 @@
 -- `of` takes the box apart, and the parts own what it owned.
-use Rattle.lagpage.proofs.Common.{List, [], ◌++◌, ◌∷◌, ap, refl, subst, sym, ◌∙◌, Goes-blank, handle_tells, token, box_owns, B, Bx, D, P, R, box_typed}
-use Rattle.lagpage.proofs.Common.{word, τ, box_in, box_out}
-use mathlib.Core.Path.{◌≡◌}
+use mathlib.Core.List.{List, [], ◌++◌, ◌∷◌}
+use mathlib.Core.Path.{ap, refl, subst, sym, ◌∙◌, ◌≡◌}
+use Rattle.std.proofs.alloc.Calls.{Goes-blank, handle_tells, token}
+use Rattle.std_alloc.specs.Box.Ownership.{box_owns}
+use Rattle.std_alloc.proofs.BoxSteps.Form.{B, Bx, D, P, R, box_typed, word, τ}
+use Rattle.std_alloc.proofs.BoxSteps.Steps.{box_in, box_out}
 use seplogic.Ra.Ura.{Ura}
 use mir.Syntax.{Fn, Args, Dict, a_type, dcons, dnil}
 use mir.MapTy.{inst_fn}
