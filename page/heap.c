@@ -70,5 +70,5 @@ struct tried rattle_realloc(void *at, size_t kept, size_t octets, size_t align) 
     return (struct tried){true, to};
 }
 
-/* For the page: 0 where there is no memory. It frees nothing: each call has an instance of its own. */
+/* For the page: 0 where there is no memory. It frees nothing: each job has an instance of its own. */
 void *page_alloc(size_t octets) { return take(octets); }

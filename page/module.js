@@ -1,85 +1,105 @@
-/* Calls the exports of the module. Each call has an instance of its own, so that none is used behind a trap. A job runs in a worker, so
+/* Calls the exports of the module. Each job has an instance of its own, so that none is used behind a trap. A job runs in a worker, so
  * that the page stays awake; it is stopped by ending the worker.
  *
  * The functions up to `serve` are those of the worker, too: its text is made of theirs, so they name nothing else. */
 
-/* Room for so many octets in the memory of an instance, which is dropped behind the call. */
+/* Room for so many octets in the memory of an instance, which is dropped behind the job. */
 function taken(exports, octets) {
     const at = exports.page_alloc(BigInt(Math.max(octets, 1)));
     if (!at) throw new Error("out of memory");
     return at;
 }
 
-/* Puts octets into memory; a file slice by slice, which a worker alone can. */
-function filled(exports, at, given) {
-    const SLICE = 4194304, memory = new Uint8Array(exports.memory.buffer);
-    if (!(given instanceof Blob)) return memory.set(given, Number(at));
-    const reader = new FileReaderSync();
-    for (let from = 0; from < given.size; from += SLICE) {
-        memory.set(new Uint8Array(reader.readAsArrayBuffer(given.slice(from, from + SLICE))), Number(at) + from);
-    }
-}
+/* Puts octets into memory. */
+function filled(exports, at, octets) { new Uint8Array(exports.memory.buffer).set(octets, Number(at)); }
 
-/* Calls an export with texts in memory and numbers; what it tells stands in memory. `room` is what it may take. */
-function answered(module, name, inputs, numbers, room) {
-    const ANSWER = 32; // octets of an answer: four numbers of 64 bits
-    const { exports } = new WebAssembly.Instance(module);
-    const given = inputs.flatMap((it) => {
-        const octets = it.size ?? it.length, at = taken(exports, octets);
-        filled(exports, at, it);
-        return [at, BigInt(octets)];
-    });
-    const out = taken(exports, room), answer = taken(exports, ANSWER);
-    exports[name](...given, ...numbers, out, BigInt(room), answer);
-    const buffer = exports.memory.buffer, view = new DataView(buffer, Number(answer), ANSWER);
+/* What a call answered: four numbers of 64 bits, and what it wrote at the front of `out`. */
+function answerIn(exports, answer, out) {
+    const buffer = exports.memory.buffer, view = new DataView(buffer, Number(answer), 32);
     const [outcome, status, printed, said] = [0, 8, 16, 24].map((it) => Number(view.getBigUint64(it, true)));
     if (outcome) return { outcome, room: printed + said };
     return { outcome, status, printed: new Uint8Array(buffer, Number(out), printed), said: new Uint8Array(buffer, Number(out) + printed, said) };
 }
 
-/* Asks for room for the text, and once more where that was too little: the answer says how much it takes. `tell` gets what is printed in
- * pieces of whole lines; where there is none, it is told as a whole. */
-function called(module, name, inputs, numbers, tell) {
-    const NO_ROOM = 1, PIECE = 262144, NEWLINE = 10, MOST_GUESSED = 2 ** 29, decoder = new TextDecoder();
-    const given = inputs.reduce((sum, it) => sum + (it.size ?? it.length), 0);
-    let found = { outcome: NO_ROOM, room: Math.min(65536 + 4 * given, MOST_GUESSED) };
-    while (found.outcome === NO_ROOM) found = answered(module, name, inputs, numbers, found.room);
-    if (found.outcome) throw new Error("out of memory");
-    const { status, printed } = found, said = decoder.decode(found.said);
-    if (!tell) return { status, printed: decoder.decode(printed), said };
-    for (let from = 0, to; from < printed.length; from = to) {
-        to = printed.indexOf(NEWLINE, from + PIECE) + 1 || printed.length;
-        tell({ printed: decoder.decode(printed.subarray(from, to)) });
+/* Calls an export with texts in memory. It asks for room for what is told, and once more where that was too little: the answer says how
+ * much it takes. */
+function called(module, name, inputs) {
+    const NO_ROOM = 1, decoder = new TextDecoder();
+    let found = { outcome: NO_ROOM, room: inputs.reduce((sum, it) => sum + 4 * it.length, 65536) };
+    while (found.outcome === NO_ROOM) {
+        const { exports } = new WebAssembly.Instance(module), { room } = found;
+        const given = inputs.flatMap((it) => {
+            const at = taken(exports, it.length);
+            filled(exports, at, it);
+            return [at, BigInt(it.length)];
+        });
+        const out = taken(exports, room), answer = taken(exports, 32);
+        exports[name](...given, out, BigInt(room), answer);
+        found = answerIn(exports, answer, out);
     }
-    return { status, printed: "", said };
+    if (found.outcome) throw new Error("out of memory");
+    return { status: found.status, printed: decoder.decode(found.printed), said: decoder.decode(found.said) };
 }
 
-/* What the worker does: one job, and it tells what came of it. */
-function serve({ data: { octets, name, inputs, numbers, inPieces } }) {
+/* Explains a capture, octets or a file, piece by piece: one piece, and the text of one, is in memory at a time. A file is read as a worker
+ * alone can. It yields the text of each piece, whole lines, and how many octets are read; it returns what is told. */
+function* explained(module, given, numbers, most = 1048576) {
+    const NO_ROOM = 1, decoder = new TextDecoder(), size = given.size ?? given.length;
+    const { exports } = new WebAssembly.Instance(module), reader = given.size === undefined ? null : new FileReaderSync();
+    const capture = taken(exports, 32), piece = taken(exports, most), answer = taken(exports, 32); // the handle is 0 before it is opened
+    let room = 4 * most, out = taken(exports, room);
+    const step = (name, ...words) => {
+        exports[name](capture, ...words, out, BigInt(room), answer);
+        return answerIn(exports, answer, out);
+    };
+    const told = (name, ...words) => {
+        let found = step(name, ...words);
+        if (found.outcome === NO_ROOM) {
+            out = taken(exports, room = found.room);
+            found = step(name, ...words.map((it, number) => number ? 0n : it)); // the piece is read, so an empty one follows
+        }
+        if (found.outcome) throw new Error("out of memory");
+        return found;
+    };
+    if (exports.lagpage_open(capture, ...numbers)) throw new Error("out of memory");
+    for (let from = 0; from < size; from += most) {
+        const part = given.slice(from, from + most), octets = reader ? new Uint8Array(reader.readAsArrayBuffer(part)) : part;
+        filled(exports, piece, octets);
+        yield { printed: decoder.decode(told("lagpage_feed", piece, BigInt(octets.length)).printed), read: from + octets.length };
+    }
+    const { status, printed, said } = told("lagpage_end");
+    yield { printed: decoder.decode(printed), read: size };
+    return { status, printed: "", said: decoder.decode(said) };
+}
+
+/* What the worker does: one job, and it tells what came of it; of a capture it tells each piece once it is asked for. */
+function serve({ data: { octets, name, inputs, numbers } }) {
     try {
-        const tell = inPieces ? (it) => postMessage(it) : null;
-        postMessage({ told: called(new WebAssembly.Module(octets), name, inputs, numbers, tell) });
+        if (name) return postMessage({ told: called(new WebAssembly.Module(octets), name, inputs) });
+        globalThis.steps ??= explained(new WebAssembly.Module(octets), inputs[0], numbers);
+        const { done, value } = globalThis.steps.next();
+        postMessage(done ? { told: value } : value);
     } catch (error) {
         postMessage({ failed: error.message });
     }
 }
 
-const WORKER = `${[taken, filled, answered, called, serve].map(String).join("\n")}\nonmessage = serve;`;
+const WORKER = `${[taken, filled, answerIn, called, explained, serve].map(String).join("\n")}\nonmessage = serve;`;
 
-/* The largest capture that is explained: it and its text are in memory. */
-const MOST_READ = 256000000;
+/* All steps at once. */
+function allOf(steps) {
+    for (let printed = ""; ;) {
+        const { done, value } = steps.next();
+        if (done) return { ...value, printed };
+        printed += value.printed;
+    }
+}
 
 const asOctets = (it) => (typeof it === "string" ? new TextEncoder().encode(it) : it);
 const numbersOf = ({ all = false, frames = true, json = false } = {}) => [all ? 1 : 0, frames ? 0 : 1, json ? 1 : 0];
 
-/* The export of each job, the texts that it takes, and its numbers. */
-const JOBS = {
-    capture: (octets, options) => ["lagpage_capture", [octets], numbersOf(options)],
-    replay: (script) => ["lagpage_replay", [asOctets(script)], []],
-    decode: (hex) => ["lagpage_decode", [asOctets(hex)], []],
-    respond: (mac, hex) => ["lagpage_respond", [asOctets(mac), asOctets(hex)], []],
-    vectors: () => ["lagpage_vectors", [], []],
-};
+/* The export of each job but a capture. */
+const JOBS = { replay: "lagpage_replay", decode: "lagpage_decode", respond: "lagpage_respond", vectors: "lagpage_vectors" };
 
 /* What came of a job: the exit status of lagtool, what it prints, and what it says on standard error. */
 class Told {
@@ -105,10 +125,13 @@ class Job {
             const end = (act, it) => { this.worker.terminate(); URL.revokeObjectURL(url); act(it); };
             this.refuse = (why) => end(refuse, new Error(why));
             this.worker.onerror = (event) => { event.preventDefault(); this.refuse(event.message || "the worker failed"); };
-            this.worker.onmessage = ({ data: { printed, told, failed } }) => {
-                if (printed !== undefined) heard.printed?.(printed);
+            this.worker.onmessage = ({ data: { printed, read, told, failed } }) => {
                 if (failed !== undefined) this.refuse(failed);
                 if (told) end(done, new Told(told));
+                if (read === undefined) return;
+                heard.printed?.(printed);
+                heard.read?.(read);
+                this.worker.postMessage({}); // the next piece
             };
         });
         this.worker.postMessage(task);
@@ -129,25 +152,22 @@ export class Lagtool {
     }
 
     /* At once, in this thread. */
-    now(name, ...given) {
-        return new Told(called(this.module, ...JOBS[name](...given)));
+    now(name, ...texts) {
+        return new Told(called(this.module, JOBS[name], texts.map(asOctets)));
     }
 
     /* The same in a worker. */
-    job(name, ...given) {
-        const [named, inputs, numbers] = JOBS[name](...given);
-        return new Job({ octets: this.octets, name: named, inputs, numbers });
+    job(name, ...texts) {
+        return new Job({ octets: this.octets, name: JOBS[name], inputs: texts.map(asOctets) });
     }
 
-    /* Explains a file in a worker, which holds it in memory. `heard.printed` gets the text piece by piece, whole lines each; what is told has
-     * no text of its own. Throws for a larger file than it reads. */
+    /* Explains a file of any size in a worker. `heard.printed` gets the text piece by piece, whole lines each, `heard.read` how many octets
+     * are read; what is told has no text of its own. */
     explain(file, options, heard) {
-        if (file.size > MOST_READ) throw new Error(`it is larger than ${MOST_READ / 1000000} MB`);
-        const [name, inputs, numbers] = JOBS.capture(file, options);
-        return new Job({ octets: this.octets, name, inputs, numbers, inPieces: true }, heard);
+        return new Job({ octets: this.octets, inputs: [file], numbers: numbersOf(options) }, heard);
     }
 
     capture(octets, options) {
-        return this.now("capture", octets, options);
+        return new Told(allOf(explained(this.module, octets, numbersOf(options))));
     }
 }

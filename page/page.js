@@ -60,9 +60,11 @@ function clear(name) {
     byId("name").focus();
 }
 
-/* Runs one job over a file; shows that it goes on where that takes long. */
+/* Runs one job over a file; shows how far it is where that takes long. */
 async function run(lagtool, file, options, printed) {
-    const job = now.job = lagtool.explain(file, options, { printed });
+    const far = byId("far"), job = now.job = lagtool.explain(file, options, { printed, read: (octets) => { far.value = octets; } });
+    far.max = Math.max(file.size, 1);
+    far.value = 0;
     const late = setTimeout(() => { byId("reading").hidden = false; }, 300);
     try {
         return await job.told;

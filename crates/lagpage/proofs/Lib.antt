@@ -1,2 +1,3 @@
-pub mod CaptureLemmas
+mod AsBox
+pub mod PieceLemmas
 pub mod UtfLemmas

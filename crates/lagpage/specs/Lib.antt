@@ -1,3 +1,5 @@
 pub mod Answers
 pub mod Captures
 pub mod Words
+pub mod Owned
+pub mod Pieces

@@ -5,11 +5,11 @@ use crate::told::Told;
 use std::alloc::AllocError;
 
 /// The buffer has what is told at its front.
-const DONE: u64 = 0;
+pub(crate) const DONE: u64 = 0;
 /// The buffer has no room for it, and stays as it was.
 const NO_ROOM: u64 = 1;
 /// Memory was refused; the buffer stays as it was.
-const NO_MEMORY: u64 = 2;
+pub(crate) const NO_MEMORY: u64 = 2;
 
 /// What came of a call.
 #[repr(C)]

@@ -1,13 +1,14 @@
-ghost use Rattle.std.specs.Prelude.{◌≡◌, IfOk, false, string_bytes};
-ghost use Rattle.lagpage.specs.Answers.{Answers};
-ghost use Rattle.lagpage.specs.Captures.{Explains, TellsCapture, said_of_capture, settings_with, status_of_summary};
+ghost use Rattle.std.specs.Prelude.{◌≡◌, ◌⊎◌, IfErr, IfOk, IsTrue, None, is_some};
+ghost use Rattle.lagpage.specs.Answers.{done, no_memory};
+ghost use Rattle.lagpage.specs.Captures.{settings_with};
+ghost use Rattle.lagpage.specs.Pieces.{Advances, Continues, History, IsHeldBy, ended_at, fed_with, opened};
 
-use crate::answer::{Answer, answered};
-use crate::told::{Told, make_told};
-use lagstreams::{Sink, Source};
-use lagtool_capture::{CaptureFault, CaptureSummary, ReadFault, Settings, report_capture};
+use crate::answer::{Answer, DONE, NO_MEMORY, answered};
+use crate::handle::LagpageCapture;
+use crate::pieces::Pieces;
+use crate::told::Told;
+use lagtool_capture::Settings;
 use std::alloc::{AllocError, Global};
-use std::io::{Read, Write};
 
 /// The options of a capture, each on where its number is above 0.
 fn settings_with(all: u32, no_frames: u32, json: u32) -> Settings
@@ -20,82 +21,109 @@ fn settings_with(all: u32, no_frames: u32, json: u32) -> Settings
     }
 }
 
-/// What is said of a capture that is not read on. `AllocError` if memory is refused.
-fn said_of_capture(alloc: Global, fault: Option<ReadFault>) -> Result<String, AllocError>
-    ensures { IfOk result (λ said. string_bytes said ≡ said_of_capture fault) }
-{
-    match fault {
-        Some(fault) => format!(in alloc; "cannot read: {fault}"),
-        None => Ok(String::new(alloc)),
-    }
-}
-
-/// The exit status of `lagtool capture`.
-fn status_of_summary(summary: CaptureSummary) -> u32
-    ensures { result ≡ status_of_summary summary }
-{
-    match summary.fault {
-        Some(_) => 2,
-        None if summary.findings == 0 => 0,
-        None => 1,
-    }
-}
-
-// promise: of a capture from any reader, the report on what was read is written to one sink, and what is said to another
-// contract: `explain_capture` (`Explains`)
-/// Explains a capture as `lagtool capture` does, from a source to one sink for what is printed and one for what is said; returns the
-/// exit status. Up to 4,096 octets are read at a time, and what they say is written before the next read, in memory that does not
-/// grow with the capture. `Read` if the source failed, `Write` if a sink did, `NoMemory` if memory was refused.
-fn explain_capture<R: Read, W: Write, S: Write>(
+/// What is told behind a piece more. `AllocError` if memory is refused, or the handle holds no capture.
+fn told_behind(
     alloc: Global,
-    settings: Settings,
-    source: &mut Source<R>,
-    printed: &mut Sink<W>,
-    said: &mut Sink<S>,
-) -> Result<u32, CaptureFault>
-    requires source { source.old.failed ≡ false }
-    requires printed { printed.old.failed ≡ false }
-    ensures { IfOk result (Explains R.remaining W.contents S.contents settings source.old source.new printed.old printed.new said.old said.new) }
+    capture: &mut LagpageCapture,
+    piece: &[u8],
+    room: usize,
+) -> Result<Told, AllocError>
+    ensures holds { IfOk result (λ t. IsTrue (is_some capture.old.held.kept)) }
+    ensures refused { IfErr result (λ e. capture.new.held.kept ≡ None) }
+    ensures continues { (h : History) → IsHeldBy h capture.old.held.kept
+        → IfOk result (λ t. Continues (fed_with piece.now h) room capture.new.held.kept t) }
 {
-    let summary = report_capture(alloc, settings, source, printed)?;
-    let text = said_of_capture(alloc, summary.fault)?;
-    said.put(text.as_bytes())?;
-    Ok(status_of_summary(summary))
+    match capture.take(alloc) {
+        Some(taken) => {
+            let mut pieces = taken;
+            pieces.feed(piece)?;
+            let told = pieces.hand_out(alloc, room)?;
+            capture.put(pieces);
+            Ok(told)
+        }
+        None => Err(AllocError),
+    }
 }
 
-/// What `lagtool capture` tells of a capture. `AllocError` if memory is refused: nothing else fails in memory.
-fn told_of_capture(alloc: Global, settings: Settings, capture: &[u8]) -> Result<Told, AllocError>
-    ensures { IfOk result (λ t. TellsCapture settings capture.now t) }
+/// What is told at the end. `AllocError` if memory is refused, or the handle holds no capture.
+fn told_at_end(alloc: Global, capture: &mut LagpageCapture, room: usize) -> Result<Told, AllocError>
+    ensures holds { IfOk result (λ t. IsTrue (is_some capture.old.held.kept)) }
+    ensures refused { IfErr result (λ e. capture.new.held.kept ≡ None) }
+    ensures continues { (h : History) → IsHeldBy h capture.old.held.kept
+        → IfOk result (λ t. Continues (ended_at h) room capture.new.held.kept t) }
 {
-    let mut source = Source::new(capture);
-    let mut printed = Sink::new(Vec::new(alloc));
-    let mut said = Sink::new(Vec::new(alloc));
-    match explain_capture(alloc, settings, &mut source, &mut printed, &mut said) {
-        Ok(status) => make_told(printed.into_inner(), &said.into_inner(), status),
-        Err(_) => Err(AllocError),
+    match capture.take(alloc) {
+        Some(taken) => {
+            let mut pieces = taken;
+            pieces.end(alloc)?;
+            let told = pieces.hand_out(alloc, room)?;
+            capture.put(pieces);
+            Ok(told)
+        }
+        None => Err(AllocError),
+    }
+}
+
+/// Opens a capture that comes in pieces: with `--all`, `--no-frames` and `--json` of `lagtool`, where these numbers are above 0. One that
+/// the handle held is dropped. It returns 0, or 2 if memory was refused.
+#[unsafe(no_mangle)]
+pub extern "C" fn lagpage_open(
+    alloc: Global,
+    capture: &mut LagpageCapture,
+    all: u32,
+    no_frames: u32,
+    json: u32,
+) -> u64
+    ensures { ((result ≡ done) × IsHeldBy (opened (settings_with all no_frames json)) capture.new.held.kept)
+        ⊎ ((result ≡ no_memory) × (capture.new.held.kept ≡ None)) }
+{
+    drop(capture.take(alloc));
+    match Box::new(
+        alloc,
+        Pieces::new(alloc, settings_with(all, no_frames, json)),
+    ) {
+        Ok(pieces) => {
+            capture.put(pieces);
+            DONE
+        }
+        Err(_) => NO_MEMORY,
     }
 }
 
 // promise: a call writes what is told at the front of the buffer, if that has room for all of it; else it answers 1 and how much it takes,
 //    and the buffer stays; 2 if memory was refused
-// contract: each export (`Answers`)
+// contract: each export (`Answers`, `Advances`)
 // not said: that memory is refused only if there is none; the host's part, in `lib.rt`
-// promise: what is told of a capture is the report on its octets, the status and, where it is not read on, why
-// contract: `lagpage_capture` (`TellsCapture`)
-/// Explains a capture as `lagtool capture` does: with `--all`, `--no-frames` and `--json`, where these numbers are above 0. It writes
-/// what is printed at the front of `out`, and behind it what is said on standard error.
+// promise: of a capture that comes in pieces, what is told in all is the lines of what was fed, and at the end the report on all of it, the
+//    status and, where it is not read on, why; each text is told until it is written, and once
+// contract: `lagpage_open`, `lagpage_feed`, `lagpage_end` (`Advances`, `Continues`)
+/// Explains a piece more of an open capture. It writes what is printed of all that was fed, and was not written by an earlier call, at the
+/// front of `out`; where that has no room, a later call writes it, as one with an empty piece. It answers 2 where no capture is open.
 #[unsafe(no_mangle)]
-pub extern "C" fn lagpage_capture(
+pub extern "C" fn lagpage_feed(
     alloc: Global,
-    capture: &[u8],
-    all: u32,
-    no_frames: u32,
-    json: u32,
+    capture: &mut LagpageCapture,
+    piece: &[u8],
     out: &mut [u8],
     answer: &mut Answer,
 )
-    ensures { Answers (λ t. TellsCapture (settings_with all no_frames json) capture.now t) out.old out.new answer.new }
+    ensures { Advances (fed_with piece.now) capture.old.held.kept capture.new.held.kept out.old out.new answer.new }
 {
-    let told = told_of_capture(alloc, settings_with(all, no_frames, json), capture);
+    let told = told_behind(alloc, capture, piece, out.len());
+    *answer = answered(&told, out);
+}
+
+/// Ends an open capture. It writes the rest of what is printed at the front of `out`, and behind it what is said on standard error; where
+/// that has no room, a later call writes it. It answers 2 where no capture is open.
+#[unsafe(no_mangle)]
+pub extern "C" fn lagpage_end(
+    alloc: Global,
+    capture: &mut LagpageCapture,
+    out: &mut [u8],
+    answer: &mut Answer,
+)
+    ensures { Advances ended_at capture.old.held.kept capture.new.held.kept out.old out.new answer.new }
+{
+    let told = told_at_end(alloc, capture, out.len());
     *answer = answered(&told, out);
 }

@@ -37,6 +37,7 @@ pub use Rattle.lagtool_capture.specs.Noticing.{logged_next, nothing_logged}
 pub use Rattle.lagtool_capture.specs.Reporting.{ReportState, after, after_all, after_any, after_indexed, after_what, closing_records, closing_texts}
 pub use Rattle.lagtool_capture.specs.Reporting.{counted, frame_line, is_new, lacpdu_line, last_shown, legend_line, name_number, named, nothing_seen}
 pub use Rattle.lagtool_capture.specs.Reporting.{with_end, with_ends, with_line}
-pub use Rattle.lagtool_capture.specs.Reports.{Completes, counts_of, found_in, report, reported, summary}
+pub use Rattle.lagtool_capture.specs.Reports.{Completes, counts_of, found_in, lines, report, reported, summary}
 pub use Rattle.lagtool_capture.specs.SlowFrames.{frame_in, what_of}
+pub use Rattle.lagtool_capture.specs.Standing.{IsClear, Stands, Waits, next_octets, next_place, preceded}
 pub use Rattle.lagtool_capture.specs.Taking.{StepsThrough, Stops, stopped_at}

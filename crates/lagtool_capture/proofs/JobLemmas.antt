@@ -2,12 +2,12 @@
 use Rattle.lagtool_capture.proofs.Common.{Bool, List, None, Option, Some, [], ap, arith, false, inl, inr, ltb-false, nat_lt, refl, subst, sym, true}
 use Rattle.lagtool_capture.proofs.Common.{true≢false, ℕ, ◌&&◌, ◌++◌, ◌∙◌, ◌≡◌, ◌⊎◌, and_cases, and_parts, Consumes, IsAtEnd, IsSettled, ReadFault}
 use Rattle.lagtool_capture.proofs.Common.{Settings, Feeds, IsBefore, ReadingState, ended, is_free, is_read_on, summary_of, Follows, Log, ReportState}
-use Rattle.lagtool_capture.proofs.Common.{Completes}
+use Rattle.lagtool_capture.proofs.Common.{Completes, Stands}
 use Rattle.std.proofs.KnownBytes.{Appends-nil, Consumes-nil, Consumes-trans}
 use Rattle.lagstreams.proofs.SinkLemmas.{takes_more}
 use Rattle.lagstreams.specs.Sinks.{SinkState, WritesWhole}
 use Rattle.lagstreams.specs.Sources.{Gives, SourceState}
-use Rattle.lagtool_capture.proofs.ReadingLemmas.{Stands, stands_counts, stands_fed, stands_first, stands_reports, stands_settled, stands_written}
+use Rattle.lagtool_capture.proofs.ReadingLemmas.{stands_counts, stands_fed, stands_first, stands_reports, stands_settled, stands_written}
 use Rattle.lagtool_capture.specs.declared.summary.CaptureSummary.{CaptureSummary}
 
 module _ {R W : Type 0} (remaining : R → Option (List ℕ)) (contents : W → Option (List ℕ)) (settings : Settings) where
@@ -19,11 +19,11 @@ module _ {R W : Type 0} (remaining : R → Option (List ℕ)) (contents : W → 
     pub written : WritesWhole contents old half out
     pub stands : Stands settings octets out w
 
-free_is : (o : Option ReadFault) → is_free o ≡ true → o ≡ None
+pub free_is : (o : Option ReadFault) → is_free o ≡ true → o ≡ None
 free_is None e = refl
 free_is (Some f) e = absurd (true≢false (sym e))
 
-fault_is : (o : Option ReadFault) → is_free o ≡ false → (f : ReadFault) × (o ≡ Some f)
+pub fault_is : (o : Option ReadFault) → is_free o ≡ false → (f : ReadFault) × (o ≡ Some f)
 fault_is None e = absurd (true≢false e)
 fault_is (Some f) e = (f, refl)
 

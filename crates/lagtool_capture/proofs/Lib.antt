@@ -4,8 +4,8 @@ mod EndLemmas
 mod ReportingLemmas
 mod FrameLemmas
 mod GapLemmas
-mod JobLemmas
+pub mod JobLemmas
 mod NoticingLemmas
 mod PrecededLemmas
 mod TakingLemmas
-mod ReadingLemmas
+pub mod ReadingLemmas

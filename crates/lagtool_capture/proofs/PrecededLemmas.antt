@@ -3,16 +3,12 @@ use Rattle.lagtool_capture.proofs.Common.{Bool, List, None, Option, Some, [], ap
 use Rattle.lagtool_capture.proofs.Common.{◌++◌, ◌+◌, ◌∙◌, ◌∷◌, ◌≡◌, Lacpdu, Packet, Captured, Finding, SlowFrame, What, end_of, Identity, one_more}
 use Rattle.lagtool_capture.proofs.Common.{end_index, identity_of, number_of, ReportState, after, after_all, after_any, after_what, closing_records}
 use Rattle.lagtool_capture.proofs.Common.{closing_texts, counted, frame_line, is_new, lacpdu_line, legend_line, name_number, named, with_end}
-use Rattle.lagtool_capture.proofs.Common.{with_ends, with_line, frame_in}
+use Rattle.lagtool_capture.proofs.Common.{with_ends, with_line, frame_in, preceded}
 use Rattle.lagtool_capture.specs.Reporting.{after_frame}
 use Rattle.lagtool_capture.specs.Reporting.{after_lacpdu, after_named, observed}
 use Rattle.findings.specs.declared.slow_frame.What.TheVariants as held
 use Rattle.lagtool_capture.specs.declared.line.WhatText.{WhatText}
 use Rattle.lagtool_capture.specs.declared.line.WhatText.TheVariants as what
-
--- with this text in front of what is not written yet
-abbrev pub preceded : List ℕ → ReportState → ReportState
-preceded out s = record s { to_write = out ++ s.to_write }
 
 line_preceded : (out : List ℕ) (time : Option ℕ) (e : SlowFrame) (t : WhatText) (s : ReportState)
     → with_line time e t (preceded out s) ≡ preceded out (with_line time e t s)

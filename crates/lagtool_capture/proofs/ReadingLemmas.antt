@@ -5,28 +5,14 @@ use Rattle.lagtool_capture.proofs.Common.{◌≡◌, ◌≤◌, ◌⊎◌, drop-
 use Rattle.lagtool_capture.proofs.Common.{capture_from, capture_in, ending, refused_from, ends_of, ReadFault, Settings, Feeds, IsBefore, ReadingState}
 use Rattle.lagtool_capture.proofs.Common.{Takes, ended, refused_at, refused_end, refused_if_any, skipped, summary_of, sum_of, Agrees, Follows, Log}
 use Rattle.lagtool_capture.proofs.Common.{findings_in, logged_all, nothing_logged, ReportState, after_all, nothing_seen, with_ends, counts_of}
-use Rattle.lagtool_capture.proofs.Common.{found_in, report, reported, summary, Stops}
+use Rattle.lagtool_capture.proofs.Common.{found_in, lines, report, reported, summary, IsClear, Stands, Waits, next_octets, next_place, preceded}
+use Rattle.lagtool_capture.proofs.Common.{Stops}
 use Rattle.captures.specs.Steps.{end_of}
 use Rattle.std.proofs.Math.Seq.{drop-append-add, drop-length}
 use Rattle.captures.proofs.StepLemmas.{step_refused}
 use Rattle.captures.proofs.WholeLemmas.{both_behind, ends_refused, ends_waiting}
-use Rattle.lagtool_capture.proofs.PrecededLemmas.{all_preceded, ends_preceded, preceded, written_preceded}
+use Rattle.lagtool_capture.proofs.PrecededLemmas.{all_preceded, ends_preceded, written_preceded}
 use Rattle.lagtool_capture.proofs.TakingLemmas.{after_both, logged_both}
-
--- the octets in which the next step is taken, if just these follow, and their place
-abbrev next_octets : ReadingState → List ℕ → List ℕ
-next_octets w more = drop w.skip (w.rest ++ more)
-
-abbrev next_place : ℕ → ReadingState → List ℕ → ℕ
-next_place at w more = at + min w.skip (length (w.rest ++ more))
-
--- why no step is taken in what is left
-abbrev Waits : ReadingState → Option ReadFault → Type 0
-Waits w None = Stops (next_octets w []) w.reader None
-Waits w (Some fault) = (w.skip ≡ 0) × ((f : Fault) × ((fault ≡ refused_at w.at f) × Stops w.rest w.reader (Some f)))
-
-abbrev IsClear : ReadingState → Type 0
-IsClear w = (w.skip ≡ 0) ⊎ (w.rest ≡ [])
 
 abbrev Goes : List ℕ → ReadingState → List (Option Captured) → ℕ → ReadingState → Type 0
 Goes piece old found taken new = (at steps : ℕ) (more : List ℕ) → length (next_octets old (piece ++ more)) ≤ steps
@@ -197,18 +183,6 @@ fed piece w v clear free (inl (lt, is)) = by clear
     by (inr none) = subst (Fed piece w) (sym is) (fed_past piece w none free lt)
 fed piece w v clear free (inr (le, takes)) = fed_takes piece w v clear le takes
 
--- these octets were read and this text is written: whatever follows, the reading says the rest
-pub record Stands (settings : Settings) (octets out : List ℕ) (w : ReadingState) : Type 0 where
-  pub found : List (Option Captured)
-  pub at : ℕ
-  pub at_is : w.at ≡ sum_of 0 at
-  pub seen : after_all found (nothing_seen settings) ≡ preceded out w.report
-  pub noticed : Agrees (logged_all found nothing_logged) w.report.number w.noticed
-  pub clear : IsClear w
-  pub goes : (more : List ℕ) → (left : ℕ) × (length (next_octets w more) ≤ left)
-      × (capture_in (octets ++ more) ≡ behind found (capture_from left (next_place at w more) w.reader (next_octets w more)))
-  pub waits : Waits w w.fault
-
 pub stands_first : (settings : Settings) (w : ReadingState) → IsBefore settings w → Stands settings [] [] w
 stands_first settings w h = record {
   found = [];
@@ -361,6 +335,33 @@ settled_by settings octets out w s fault (none_skipped, (f, (e, stops))) = λ mo
 pub stands_settled : (settings : Settings) (octets out : List ℕ) (w : ReadingState) (fault : ReadFault) → Stands settings octets out w
     → w.fault ≡ Some fault → IsSettled octets
 stands_settled settings octets out w fault s e = settled_by settings octets out w s fault (subst (Waits w) e s.waits)
+
+-- octets behind a fault say nothing
+pub stands_refused : (settings : Settings) (octets out piece : List ℕ) (w : ReadingState) (fault : ReadFault) → Stands settings octets out w
+    → w.fault ≡ Some fault → Stands settings (octets ++ piece) out w
+stands_refused settings octets out piece w fault s e = record {
+  found = s.found;
+  at = s.at;
+  at_is = s.at_is;
+  seen = s.seen;
+  noticed = s.noticed;
+  clear = s.clear;
+  goes = λ more.
+      let (left, enough, so) = s.goes more in
+      let settled = stands_settled settings octets out w fault s e in (
+        left,
+        enough,
+        ap capture_in (append_assoc octets piece more) ∙ settled (piece ++ more) ∙ sym (settled more) ∙ so,
+      );
+  waits = s.waits;
+}
+
+-- what is said before the end
+pub stands_lines : (settings : Settings) (octets out : List ℕ) (w : ReadingState) → Stands settings octets out w
+    → lines settings octets ≡ out ++ w.report.to_write
+stands_lines settings octets out w s =
+    let closes = closes_by settings octets out w s w.fault s.waits in
+    ap (λ xs. (after_all xs (nothing_seen settings)).to_write) closes.numbered ∙ ap (λ (e : ReportState). e.to_write) s.seen
 
 -- what is said at the end
 reported_is : (settings : Settings) (octets out : List ℕ) (w : ReadingState) (s : Stands settings octets out w)

@@ -15,4 +15,5 @@ pub mod Json
 pub mod SlowFrames
 pub mod Noticing
 pub mod CaptureReadings
+pub mod Standing
 pub mod Reports

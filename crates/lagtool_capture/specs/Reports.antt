@@ -20,6 +20,10 @@ found_in l = findings_in l (first_ends l.frames)
 abbrev pub reported : Settings → Capture → ReportState
 reported settings c = with_ends (found_in (logged_all c.numbered nothing_logged)) (after_all c.numbered (nothing_seen settings))
 
+-- what is said of the packets of a capture of just these octets, before its end
+abbrev pub lines : Settings → List ℕ → List ℕ
+lines settings b = (after_all (capture_in b).numbered (nothing_seen settings)).to_write
+
 -- the report on a capture of just these octets
 abbrev pub report : Settings → List ℕ → List ℕ
 report settings b = (reported settings (capture_in b)).to_write

@@ -287,6 +287,20 @@ impl CaptureReport {
         }
     }
 
+    /// The part of the explanation that is not written yet.
+    pub fn text(&self) -> &[u8]
+        ensures { result.now ≡ self.now.to_write }
+    {
+        self.text.as_bytes()
+    }
+
+    /// Takes that part for written.
+    pub fn clear(&mut self)
+        ensures { self.new ≡ record self.old { to_write = [] } }
+    {
+        self.text.clear();
+    }
+
     // promise: what is written is what was added, once; the words of each line are exact
     // contract: `CaptureReport::write` (`ok`, `to_write`); `Display` of each text
     /// Writes the part of the explanation that is not written yet, in one call of the sink. `WriteFailed` if the sink

@@ -29,6 +29,7 @@ pub use capture_report::CaptureReport;
 pub use fault::{CaptureFault, ReadFault};
 pub use gaps::Gaps;
 pub use job::report_capture;
+pub use reading::Reading;
 pub use settings::Settings;
 pub use slow_frames::frame_in;
 pub use summary::CaptureSummary;

@@ -19,7 +19,7 @@ use std::marker::Model;
 
 /// A capture that is being read: what is read of it and not taken yet, and what it says so far.
 #[derive(Drop)]
-pub(crate) struct Reading {
+pub struct Reading {
     reader: Reader,
     report: CaptureReport,
     noticed: Noticed,
@@ -128,6 +128,20 @@ impl Reading {
             self.fault = Some(refused_at(self.at, fault));
         }
         self.report.finish(&findings)
+    }
+
+    /// What is not written yet.
+    pub fn text(&self) -> &[u8]
+        ensures { result.now ≡ self.now.report.to_write }
+    {
+        self.report.text()
+    }
+
+    /// Takes what is not written yet for written.
+    pub fn clear(&mut self)
+        ensures { self.new ≡ record self.old { report = record self.old.report { to_write = [] } } }
+    {
+        self.report.clear();
     }
 
     /// Writes what is not written yet, in one call of the sink. `WriteFailed` if the sink failed.

@@ -4,8 +4,10 @@ from __future__ import annotations
 
 import base64
 import fcntl
+import glob
 import json
 import os
+import re
 import select
 import shutil
 import subprocess
@@ -114,9 +116,9 @@ class Browser:
             raise Missing(f"{expression[:80]}: {json.dumps(found['exceptionDetails'])[:400]}")
         return found["result"].get("value")
 
-    def wait(self, expression: str) -> Any:
+    def wait(self, expression: str, patience: float = PATIENCE) -> Any:
         """Waits until an expression is true in the page, and gives its value."""
-        until = time.monotonic() + PATIENCE
+        until = time.monotonic() + patience
         while time.monotonic() < until:
             found = self.value(expression)
             if found:
@@ -141,10 +143,10 @@ class Browser:
         node = self.call("DOM.querySelector", nodeId=root, selector="#file")["nodeId"]
         self.call("DOM.setFileInputFiles", nodeId=node, files=[os.path.abspath(path)])
 
-    def choose(self, path: str) -> dict[str, Any]:
+    def choose(self, path: str, patience: float = PATIENCE) -> dict[str, Any]:
         """Gives a capture to the page by its input, and gives what is shown then."""
         self.begin(path)
-        return self.shown()
+        return self.shown(patience)
 
     def replay(self, path: str) -> dict[str, Any]:
         """The same for a script."""
@@ -161,9 +163,22 @@ class Browser:
             self.call("Input.dispatchDragEvent", type=kind, x=x, y=y, data=data)
         return self.shown()
 
-    def shown(self) -> dict[str, Any]:
-        found: dict[str, Any] = self.wait("window.shown")
+    def shown(self, patience: float = PATIENCE) -> dict[str, Any]:
+        found: dict[str, Any] = self.wait("window.shown", patience)
         return found
+
+    def most_memory(self) -> int:
+        """The most octets that a process which shows a page had in memory so far."""
+        most = 0
+        for home in glob.glob("/proc/[0-9]*"):
+            try:
+                with open(f"{home}/cmdline", "rb") as words, open(f"{home}/status", encoding="utf-8") as status:
+                    if b"--type=renderer" in words.read() and os.getsid(int(home[6:])) == os.getsid(self.process.pid):
+                        found = re.search(r"^VmHWM:\s*(\d+) kB", status.read(), re.M)
+                        most = max(most, 1024 * int(found[1]) if found else 0)
+            except OSError:
+                continue  # it ended meanwhile
+        return most
 
     def paste(self, path: str) -> dict[str, Any]:
         """Pastes a file into the page, and gives what is shown then."""

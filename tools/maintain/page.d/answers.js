@@ -1,20 +1,13 @@
 /* Answers jobs with a module, where node runs this behind page/module.js: node FILE MODULE JOBS ANSWERS. A job is [name, texts in base64, options],
- * its answer [status, printed, said]; a capture is printed in pieces. */
+ * its answer [status, printed, said]; a capture comes in small pieces. */
 import { readFileSync, writeFileSync } from "node:fs";
 
 const [, , path, jobs, answers] = process.argv;
 const lagtool = await Lagtool.of(readFileSync(path));
 
-function answerOf([name, texts, options]) {
-    const given = texts.map((it) => new Uint8Array(Buffer.from(it, "base64")));
-    if (name !== "capture") return lagtool.now(name, ...given);
-    let printed = "";
-    const told = called(lagtool.module, ...JOBS.capture(...given, options), (it) => { printed += it.printed; });
-    return { ...told, printed };
-}
-
-const told = streamed(lagtool.module, file, numbersOf(options), (it) => { printed += it.printed ?? ""; });
-    return { ...told, printed };
+function answerOf([name, words, options]) {
+    const given = words.map((it) => new Uint8Array(Buffer.from(it, "base64")));
+    return name === "capture" ? allOf(explained(lagtool.module, given[0], numbersOf(options), 997)) : lagtool.now(name, ...given);
 }
 
 const told = JSON.parse(readFileSync(jobs)).map((it) => {
