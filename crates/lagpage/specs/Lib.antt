@@ -1,3 +1,4 @@
 pub mod Answers
 pub mod Captures
+pub mod Scripts
 pub mod Words
