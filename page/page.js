@@ -141,7 +141,7 @@ async function kindOf(file) {
 function listen(lagtool) {
     const playing = new Playing(lagtool, JSON.parse(byId("example-scripts").textContent)), payload = new Payload(lagtool), drop = byId("drop");
     const take = async (file) => {
-        const { kind, text } = lagtool.canPlay ? await kindOf(file) : { kind: "capture" };
+        const { kind, text } = await kindOf(file);
         if (kind === "capture") return show(lagtool, file.name, file);
         byId(kind === "script" ? "scripts" : "payloads").scrollIntoView();
         return (kind === "script" ? playing : payload).load(text);
@@ -170,12 +170,9 @@ function listen(lagtool) {
 
 async function start() {
     const lagtool = await Lagtool.of(octetsIn("module"));
-    const names = WebAssembly.Module.exports(lagtool.module).map((it) => it.name);
-    lagtool.canPlay = names.includes("lagpage_replay");
     listen(lagtool);
     byId("unable").hidden = true;
-    byId("ask").hidden = false;
-    byId("more").hidden = !lagtool.canPlay;
+    byId("ask").hidden = byId("more").hidden = false;
     window.lagtool = lagtool;
 }
 

@@ -72,6 +72,7 @@ export class Playing {
 
     load(text) {
         byId("scripts").open = true;
+        byId("examples").selectedIndex = Object.values(this.examples).indexOf(text);
         byId("script").value = text;
         byId("script").scrollTop = 0;
         return this.run();
@@ -141,8 +142,16 @@ export class Playing {
             it.classList.toggle("chosen", Number(it.dataset.entry) === this.step);
         }
         this.mark(this.step < this.report.entries.length ? this.entries[this.step - 1] : null, "");
-        if (!isQuiet) byId("replayed").querySelector(".chosen")?.scrollIntoView({ block: "nearest", inline: "nearest" });
+        if (!isQuiet) this.follow();
         this.tell(stand);
+    }
+
+    /* Scrolls to the entry in the diagram, and in the editor where it stands out of sight. */
+    follow() {
+        byId("replayed").querySelector(".chosen")?.scrollIntoView({ block: "nearest", inline: "nearest" });
+        const box = byId("script"), marked = byId("behind").querySelector("mark");
+        const at = marked ? marked.offsetTop - box.offsetTop : box.scrollTop, line = marked?.offsetHeight ?? 0;
+        if (at < box.scrollTop || at + 2 * line > box.scrollTop + box.clientHeight) box.scrollTop = at - box.clientHeight / 2;
     }
 
     /* The tables; the agreements are those of the script up to here, which the module runs. */

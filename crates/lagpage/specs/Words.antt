@@ -1,5 +1,5 @@
 -- What is told of a payload, of a frame that is to be answered, and of the vectors: the texts of the jobs of `lagtool`.
-use Rattle.std.specs.Prelude.{◌≡◌, ◌<◌, ◌⊎◌, ℕ, ◌==◌, ◌++◌, ◌∷◌, Bool, List, [], Ok, IsErr, codes, length, if◌then◌else◌}
+use Rattle.std.specs.Prelude.{◌≡◌, ◌<◌, ◌⊎◌, ℕ, ◌==◌, Bool, List, [], Ok, IsErr, codes, length, if◌then◌else◌}
 use Rattle.std.specs.Str.{IsUtf8}
 use Rattle.std.specs.Io.{StartsWith}
 use Rattle.hex.specs.Hex.{decode_of}
@@ -8,15 +8,8 @@ use Rattle.lagtool_jobs.specs.Explained.{character_text, count_text, digits_firs
 use Rattle.lagtool_jobs.specs.Reports.{IsAnswerToHex, IsTextOfHex}
 use Rattle.lagtool_jobs.specs.Vectors.{failures, vectors_text}
 use Rattle.lagpage.specs.Answers.{Tells}
+use Rattle.lagpage.specs.Scripts.{two_lines}
 use Rattle.lagpage.specs.declared.told.Told.{Told}
-
--- what a script is called
-abbrev pub script_name : List ℕ
-script_name = codes "script"
-
--- a line, and behind it another one
-abbrev pub two_lines : List ℕ → List ℕ → List ℕ
-two_lines first second = first ++ 10 ∷ second
 
 -- what is said of a word that is not so many hexadecimal digits as are wanted: its first other character, or how many it has
 pub record SaysNoDigits (fault name word wanted said : List ℕ) : Type 0 where

@@ -1,6 +1,6 @@
 ghost use Rattle.std.specs.Prelude.{◌≡◌, IfOk, IfSome, List, codes, string_bytes, ℕ};
 ghost use Rattle.lagtool_jobs.specs.Texts.{fault_with_file_text};
-ghost use Rattle.lagpage.specs.Words.{script_name, two_lines};
+ghost use Rattle.lagpage.specs.Scripts.{script_name, two_lines};
 
 use lagtool_jobs::{FaultText, ToolFault};
 use std::alloc::{AllocError, Global};

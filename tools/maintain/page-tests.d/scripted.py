@@ -21,6 +21,12 @@ FAULTS: list[tuple[str, str, str, list[str]]] = [
     ("events = [", "events = [[", "", ["line ", "column "]),
 ]
 
+# Whether the mark in the editor is between its upper and its lower edge.
+IN_SIGHT = """(() => {
+    const [box, mark] = ["#script", "#behind mark"].map((it) => document.querySelector(it).getBoundingClientRect());
+    return mark.top >= box.top && mark.bottom <= box.bottom;
+})()"""
+
 
 def scripts() -> list[str]:
     return sorted(it for it in os.listdir(EXAMPLES) if it.endswith(".toml"))
@@ -33,6 +39,7 @@ def of_scripts(tests: Tests, browser: Browser) -> None:
         path = os.path.join(EXAMPLES, name)
         shown = browser.replay(path)
         tests.same(f"{name}: its report", (shown["status"], shown["printed"]), (0, read(f"{path[:-5]}.txt")))
+        tests.same(f"{name}: the list names it", browser.value("document.getElementById('examples').value"), name)
         entries = [it.split(" ", 1)[1] for it in shown["printed"].splitlines() if " -> " in it]
         arrows = [it for it in entries if it.startswith(("deliver ", "repeat ")) and not it.endswith(("-> empty", "-> not control"))]
         drawn = browser.value("['.entry', '.tip'].map((it) => document.querySelectorAll(`#replayed ${it}`).length)")
@@ -75,6 +82,7 @@ def of_steps(tests: Tests, browser: Browser) -> None:
     tests.same("a system that starts again has sent nothing", rows[:2], ["CURRENT,CURRENT", "none sent,none sent"])
     tests.same("what is not played yet is pale", browser.value("document.querySelectorAll('#replayed .later').length"), 29)
     tests.same("the entry is marked in the script", browser.value("document.querySelector('#behind mark').textContent"), '"restart 2"')
+    tests.same("and stands in sight there", browser.value(IN_SIGHT), True)
     browser.value("document.getElementById('play').click(), 1")
     browser.wait("document.getElementById('entry').textContent.startsWith('32 ')")
     browser.value("document.getElementById('play').click(), 1")

@@ -1,4 +1,4 @@
-"""The answers of the module beside those of lagtool: status, what is printed and what is said, over the captures of examples/, the
+"""The answers of the module beside those of lagtool: status, what is printed and what is said, over the captures and scripts of examples/, the
 frames in them, and over what is made of these by chance."""
 
 from __future__ import annotations
@@ -68,16 +68,18 @@ def frames_in(captures: list[bytes], chance: random.Random, count: int) -> list[
 
 
 def all_jobs(seed: int, count: int) -> list[Job]:
-    """The jobs, of which so many captures and frames each are made by chance."""
+    """The jobs, of which so many captures, scripts and frames each are made by chance."""
     chance = random.Random(seed)
-    captures = read(os.path.join(EXAMPLES, "captures"), (".pcap", ".pcapng"))
+    captures, scripts = read(os.path.join(EXAMPLES, "captures"), (".pcap", ".pcapng")), read(EXAMPLES, (".toml",))
     frames = frames_in(captures, chance, count)
     captures += [changed(chance.choice(captures), chance) for _ in range(count)]
+    scripts += [changed(chance.choice(scripts), chance) for _ in range(count)]
     jobs = [Job("vectors", [], {}, [b"vectors"])]
     for octets in captures:
         for words, options in WAYS:
             told = [*(it.encode() for it in words), b"capture", b"capture"]
             jobs.append(Job("capture", [octets], options, told, "capture"))
+    jobs += [Job("replay", [octets], {}, [b"--explain", b"replay", b"script"], "script") for octets in scripts]
     for hex in [*WORDS, *(it[14:].hex().encode() for it in frames)]:
         jobs.append(Job("decode", [hex], {}, [b"--explain", b"decode", hex]))
     for mac, hex in [*((it, b"00") for it in WORDS), *((MAC, it) for it in WORDS), *((MAC, it.hex().encode()) for it in frames)]:

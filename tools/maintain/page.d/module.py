@@ -8,7 +8,7 @@ import re
 from processors import FOR_EACH_X86, compile_crate, done
 from repository import TOP, Missing, kit, want
 
-EXPORTS = [*(f"lagpage_{job}" for job in ("open", "feed", "end", "decode", "respond", "vectors")), "page_alloc"]
+EXPORTS = [*(f"lagpage_{job}" for job in ("open", "feed", "end", "decode", "replay", "respond", "vectors")), "page_alloc"]
 TARGET = "wasm64-unknown-unknown"
 LAYOUT = "e-m:e-p:64:64-p10:8:8-p20:8:8-i64:64-i128:128-n32:64-S128-ni:1:10:20"
 # How clang compiles for WebAssembly: the words that rattle itself has for that target.
