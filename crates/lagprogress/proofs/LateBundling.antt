@@ -133,10 +133,10 @@ module _ (Holds : LinkState → WorldState → Type 0) (first : ℕ) (gives : Al
 -- where one end of each healthy cable is active, and where both are
 
 one_meet : (gives : Algorithms) (old : WorldState) → IsBundle OneIsActive old → (i : ℕ) (l : LinkState) (h : IsHealthyAt i l old)
-    → OneIsActive l old → (mid : WorldState) → LateRounds gives 633 old mid → Fresh (λ s. port_at s l) (said old i l h) old mid
+    → OneIsActive l old → (mid : WorldState) → LateRounds gives 624 old mid → Fresh (λ s. port_at s l) (said old i l h) old mid
 one_meet gives old b i l h a mid r =
     let e = ends_at i l old h in
-    late_one_meets gives (λ s. port_at s l) (said old i l h) (named_at l old e b.steady) 633 old mid (starts i l old e b.steady b.cabling h) r
+    late_one_meets gives (λ s. port_at s l) (said old i l h) (named_at l old e b.steady) 624 old mid (starts i l old e b.steady b.cabling h) r
     a.0 (active_at l old e a.0 a.1) (omega arith)
 
 both_meet : (gives : Algorithms) (old : WorldState) → IsBundle BothAreActive old → (i : ℕ) (l : LinkState) (h : IsHealthyAt i l old)
@@ -150,7 +150,7 @@ both_meet gives old b i l h a mid r =
 
 pub each_link_comes_up_late : (gives : Algorithms) → EachLinkComesUp LateRounds OneIsActive late_up_if_one_is gives
 each_link_comes_up_late gives n i l old new b y enough h =
-    late_distribute OneIsActive 633 gives old b (one_meet gives old b) (one_wakes old) i l y n new (omega (arith, enough)) h
+    late_distribute OneIsActive 624 gives old b (one_meet gives old b) (one_wakes old) i l y n new (omega (arith, enough)) h
 
 pub each_active_link_comes_up_late : (gives : Algorithms) → EachLinkComesUp LateRounds BothAreActive late_up_if_both_active gives
 each_active_link_comes_up_late gives n i l old new b y enough h =
@@ -158,7 +158,7 @@ each_active_link_comes_up_late gives n i l old new b y enough h =
 
 pub each_link_agrees_late : (gives : Algorithms) → EachLinkAgrees LateRounds OneIsActive late_up_if_one_is gives
 each_link_agrees_late gives n i l old new sound b y enough h =
-    late_agree OneIsActive 633 gives old b (one_meet gives old b) (one_wakes old) sound i l y n new (omega (arith, enough)) h
+    late_agree OneIsActive 624 gives old b (one_meet gives old b) (one_wakes old) sound i l y n new (omega (arith, enough)) h
 
 pub each_active_link_agrees_late : (gives : Algorithms) → EachLinkAgrees LateRounds BothAreActive late_up_if_both_active gives
 each_active_link_agrees_late gives n i l old new sound b y enough h =

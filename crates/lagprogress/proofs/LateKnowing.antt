@@ -434,13 +434,13 @@ left_some false = omega arith
 module _ (at : Side → ℕ) (w : Side → Lacpdu) (k : Side → ℕ) (kept : Side → Bool) where
   -- The end of s has heard its partner, which is active; then it sounds, since it goes to EXPIRED if it hears nothing more.
   abbrev Waits : Side → ℕ → WorldState → Type 0
-  Waits s n j = (m : ℕ) × (1 ≤ m) × (n + m ≤ 621) × Link 1 at w (λ _. 0) One Nothing j × Stamped 1 at k kept j × Wakes at w s j
+  Waits s n j = (m : ℕ) × (1 ≤ m) × (n + m ≤ 612) × Link 1 at w (λ _. 0) One Nothing j × Stamped 1 at k kept j × Wakes at w s j
       × (((2 ≤ m) × AtIt at w s (Lasting (w (peer s)) (m - 1)) j) ⊎ (Said at w s Whoever j × Flies at s j))
 
   abbrev Slowly : Side → ℕ → WorldState → Type 0
-  Slowly s n j = Calls at w k kept (peer s) n j ⊎ (Waits s n j ⊎ (Answers at w k kept s 621 n j ⊎ FreshAt at w k kept 1 j))
+  Slowly s n j = Calls at w k kept (peer s) n j ⊎ (Waits s n j ⊎ (Answers at w k kept s 612 n j ⊎ FreshAt at w k kept 1 j))
 
-  module _ (named : (t : Side) → IsNamed (w t)) (s : Side) (active : activity (w (peer s)) ≡ true)
+  module _ (named : (t : Side) → IsNamed (w t)) (s : Side) (active : activity (w (peer s)) ≡ true) (long : short_timeout (w (peer s)) ≡ false)
       (room : gap (mode at w s) + gap (mode at w (peer s)) + 2 ≤ wait at w (peer s)) where
     awake_one : (u : Side) → (activity (w u) ≡ true) ⊎ (activity (w (peer u)) ≡ true)
     awake_one = each_side (λ u. (activity (w u) ≡ true) ⊎ (activity (w (peer u)) ≡ true)) s (inr active) (inl active)
@@ -453,17 +453,17 @@ module _ (at : Side → ℕ) (w : Side → Lacpdu) (k : Side → ℕ) (kept : Si
     begins : (n : ℕ) (j : WorldState) → n ≤ 311 → Link 1 at w (λ _. 0) s (Learnt 1 (w (peer s)) (wait at w s)) j
         → Stamped 1 at k kept j → Waits s n j
     begins n j l link stamped =
-        let z = at_rest 1 at w (λ _. 0) s (Learnt 1 (w (peer s)) (wait at w s)) (Lasting (w (peer s)) 309) j
+        let z = at_rest 1 at w (λ _. 0) s (Learnt 1 (w (peer s)) (wait at w s)) (Lasting (w (peer s)) 300) j
         (λ p rest timed a y. (let some = left_some (short_timeout (w s)) in
         let r = y.0.1 some in
-        begins_lasting (w (peer s)) p active y.0.0 rest timed (r.0, omega (arith, some, r.1)))) link in (
-          310,
+        begins_lasting (w (peer s)) p active long y.0.0 rest timed (r.0, omega (arith, some, r.1)))) link in (
+          301,
           omega arith,
           omega (arith, l),
-          forget 1 at w (λ _. 0) s One (Lasting (w (peer s)) 309) j z,
+          forget 1 at w (λ _. 0) s One (Lasting (w (peer s)) 300) j z,
           stamped,
-          lasting_wakes 309 j z,
-          inl (omega arith, of_end z s (Lasting (w (peer s)) 309) (λ p rest timed a. a.1 refl)),
+          lasting_wakes 300 j z,
+          inl (omega arith, of_end z s (Lasting (w (peer s)) 300) (λ p rest timed a. a.1 refl)),
         )
 
     slow_calls : (gives : Algorithms) (n : ℕ) (old new : WorldState) → IsLateRound gives old new → Calls at w k kept (peer s) n old
@@ -482,10 +482,10 @@ module _ (at : Side → ℕ) (w : Side → Lacpdu) (k : Side → ℕ) (kept : Si
     before m = subst (λ n. Along (Lasting (w (peer s)) n) (w s) (w (peer s)) 0 1) (omega arith)
         (lasting_passes (w s) (w (peer s)) 1 (m + 1) active (omega arith)).asked
 
-    heard : (gives : Algorithms) (n : ℕ) (old new : WorldState) → IsLateRound gives old new → n ≤ 620 → Stamped 1 at k kept old
+    heard : (gives : Algorithms) (n : ℕ) (old new : WorldState) → IsLateRound gives old new → n ≤ 611 → Stamped 1 at k kept old
         → Hears gives 1 at w k kept s (omega arith) (inr (named (peer s))) (λ _. 0) (fit_none at w k kept) (then_none at w k kept) new
         → Slowly s (n + 1) new
-    heard gives n old new h few stamped q = inr (inr (inl (hears at w k kept named s awake_one room 621 (n + 1) new (omega (arith, few)) q.0
+    heard gives n old new h few stamped q = inr (inr (inl (hears at w k kept named s awake_one room 612 (n + 1) new (omega (arith, few)) q.0
         (late_stamped gives at k kept old new h stamped) q.1 q.2)))
 
     waits : (gives : Algorithms) (n : ℕ) (old new : WorldState) → IsLateRound gives old new → Waits s n old → Slowly s (n + 1) new
@@ -519,13 +519,13 @@ module _ (at : Side → ℕ) (w : Side → Lacpdu) (k : Side → ℕ) (kept : Si
     slowly : (gives : Algorithms) (n : ℕ) (old new : WorldState) → IsLateRound gives old new → Slowly s n old → Slowly s (n + 1) new
     slowly gives n old new h (inl c) = slow_calls gives n old new h c
     slowly gives n old new h (inr (inl l)) = waits gives n old new h l
-    slowly gives n old new h (inr (inr (inl a))) = inr (inr (answers at w k kept named s awake_one room gives 621 n old new h a))
+    slowly gives n old new h (inr (inr (inl a))) = inr (inr (answers at w k kept named s awake_one room gives 612 n old new h a))
     slowly gives n old new h (inr (inr (inr f))) = inr (inr (inr (stays_late at w k kept named awake_one gives 1 old new (omega arith) h f)))
 
-    ended : (n : ℕ) (j : WorldState) → 621 + gap (mode at w (peer s)) ≤ n → Slowly s n j → FreshAt at w k kept 1 j
+    ended : (n : ℕ) (j : WorldState) → 612 + gap (mode at w (peer s)) ≤ n → Slowly s n j → FreshAt at w k kept 1 j
     ended n j l (inl c) = let m = c.1 in let o = c.2 in absurd (omega (arith, l, m, o))
     ended n j l (inr (inl c)) = let m = c.1 in let o = c.2 in absurd (omega (arith, l, m, o))
-    ended n j l (inr (inr (inl a))) = answered at w k kept named s awake_one room 621 n j l a
+    ended n j l (inr (inr (inl a))) = answered at w k kept named s awake_one room 612 n j l a
     ended n j l (inr (inr (inr f))) = f
 
 -- so many rounds
@@ -563,20 +563,21 @@ module _ (gives : Algorithms) (at : Side → ℕ) (w : Side → Lacpdu) (named :
     ]
   ]
 
-  other : (u : Side) → short_timeout (w u) ≡ true → activity (w (peer u)) ≡ true → 633 ≤ n → Fresh at w old new
-  other u short on enough =
+  other : (u : Side) → short_timeout (w u) ≡ true → activity (w (peer u)) ≡ true → short_timeout (w (peer u)) ≡ false → 624 ≤ n → Fresh at w old new
+  other u short on long enough =
       let quick : mode at w (peer u) ≡ true = subst (λ t. short_timeout (w t) ≡ true) (sym (peer_twice u)) short in
       let room = subst (λ b. gap (mode at w u) + gap b + 2 ≤ wait at w (peer u)) (sym quick) (room_late (mode at w u)) in
-      ended at w counts logs named u on room n new (subst (λ b. 621 + gap b ≤ n) (sym quick) enough)
+      ended at w counts logs named u on long room n new (subst (λ b. 612 + gap b ≤ n) (sym quick) enough)
       (along_late gives (λ m j. Slowly at w counts logs u m j) old
       (λ j r. let f = first_late gives at w old j l r in inl (called at w counts logs (peer u) on j f.0 f.1))
-      (λ m i j r c. slowly at w counts logs named u on room gives m i j r c) n new (omega (arith, enough)) h)
+      (λ m i j r c. slowly at w counts logs named u on long room gives m i j r c) n new (omega (arith, enough)) h)
 
-  pub late_one_meets : (s : Side) → activity (w s) ≡ true → 633 ≤ n → Fresh at w old new
+  pub late_one_meets : (s : Side) → activity (w s) ≡ true → 624 ≤ n → Fresh at w old new
   late_one_meets s active enough = elim (cases_Bool (short_timeout (w s))) [
     | inl short ↦ meets_short s active short (omega (arith, enough))
     | inr long ↦ elim (cases_Bool (short_timeout (w (peer s)))) [
-      | inl short ↦ other (peer s) short (subst (λ t. activity (w t) ≡ true) (sym (peer_twice s)) active) enough
+      | inl short ↦ other (peer s) short (subst (λ t. activity (w t) ≡ true) (sym (peer_twice s)) active)
+          (subst (λ t. short_timeout (w t) ≡ false) (sym (peer_twice s)) long) enough
       | inr wide ↦ (let slow : mode at w (peer s) ≡ false = subst (λ t. short_timeout (w t) ≡ false) (sym (peer_twice s)) long in
           let room : gap (mode at w s) + gap (mode at w (peer s)) + 2 ≤ wait at w (peer s) = rw (wide, slow) (omega arith) in
           came at w counts logs named s active room n new (subst (λ b. 311 + gap b ≤ n) (sym slow) (omega (arith, enough)))

@@ -52,10 +52,10 @@ abbrev pub late_known_if_both_active : ℕ
 late_known_if_both_active = 323
 
 abbrev pub late_known_if_one_is : ℕ
-late_known_if_one_is = 633
+late_known_if_one_is = 624
 
 abbrev pub late_up_if_both_active : ℕ
 late_up_if_both_active = 356
 
 abbrev pub late_up_if_one_is : ℕ
-late_up_if_one_is = 666
+late_up_if_one_is = 657

@@ -18,10 +18,10 @@ pub fn clocks_play_rounds<F: Fn(u16, usize) -> usize>()
 ghost use Rattle.lagprogress.specs.Bundle.{BothAreActive, EndsOfEachKnow, OneIsActive};
 ghost use Rattle.lagprogress.specs.LateRounds.{LateRounds, late_known_if_both_active, late_known_if_one_is};
 
-// promise: in late rounds both ends know each other after 323 | 633, and both ports are up, and agree, after 356 | 666
+// promise: in late rounds both ends know each other after 323 | 624, and both ports are up, and agree, after 356 | 657
 // contract: `ends_come_to_know_by_clocks`, `each_link_comes_up_by_clocks`, `each_link_agrees_by_clocks`
 // premises: those of the same laws by rounds of hosts
-/// The ends of each healthy cable come to know each other in late rounds: from 323 (32.3 s) on if both are active, from 633 (63.3 s) on if
+/// The ends of each healthy cable come to know each other in late rounds: from 323 (32.3 s) on if both are active, from 624 (62.4 s) on if
 /// one is, whatever was before them, as in `ends_of_each_cable_come_to_know` (6.4.12, 6.4.13).
 pub fn ends_come_to_know_by_clocks<F: Fn(u16, usize) -> usize>()
     ensures both { (one two : F) → EndsOfEachKnow LateRounds BothAreActive late_known_if_both_active (both_algorithms (F.post one) (F.post two)) }
@@ -32,7 +32,7 @@ ghost use Rattle.lagprogress.specs.Bundle.{EachLinkAgrees, EachLinkComesUp};
 ghost use Rattle.lagprogress.specs.LateRounds.{late_up_if_both_active, late_up_if_one_is};
 
 /// The links of a bundle, as in `each_link_comes_up`, come up in late rounds: after 356 (35.6 s) or more if both ends of each healthy
-/// cable are active, after 666 (66.6 s) if one is, both ends of each distribute, whatever was before them, and whatever is offered or
+/// cable are active, after 657 (65.7 s) if one is, both ends of each distribute, whatever was before them, and whatever is offered or
 /// moved in them (6.4.12 to 6.4.16; profile).
 pub fn each_link_comes_up_by_clocks<F: Fn(u16, usize) -> usize>()
     ensures both { (one two : F) → EachLinkComesUp LateRounds BothAreActive late_up_if_both_active (both_algorithms (F.post one) (F.post two)) }
@@ -40,7 +40,7 @@ pub fn each_link_comes_up_by_clocks<F: Fn(u16, usize) -> usize>()
 {}
 
 /// The links of a bundle in a sound world, as in `each_link_agrees`, agree in late rounds: after 356 (35.6 s) or more if both ends of each
-/// healthy cable are active, after 666 (66.6 s) if one is, the agreement of each is `Same`, whatever was before them, and whatever is
+/// healthy cable are active, after 657 (65.7 s) if one is, the agreement of each is `Same`, whatever was before them, and whatever is
 /// offered or moved in them (6.3.6, 6.4.12 to 6.4.16; profile).
 pub fn each_link_agrees_by_clocks<F: Fn(u16, usize) -> usize>()
     ensures both { (one two : F) → EachLinkAgrees LateRounds BothAreActive late_up_if_both_active (both_algorithms (F.post one) (F.post two)) }
