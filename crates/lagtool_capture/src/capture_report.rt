@@ -311,7 +311,7 @@ impl CaptureReport {
         ensures to_write { OnOk result (self.new ≡ record self.old { to_write = [] }) }
     {
         sink.put(self.text.as_bytes())?;
-        self.text.clear();
+        self.clear();
         Ok(())
     }
 
