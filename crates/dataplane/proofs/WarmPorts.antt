@@ -1,15 +1,9 @@
 -- The saved ports one after another, and whether one is back.
-use Rattle.dataplane.proofs.Common.{List, Some, [], arith, drop, get_or, length, refl, subst, suc, sym, take, true, zero, ℕ, ◌++◌, ◌+◌, ◌<◌, ◌∙◌, ◌∷◌, ◌≡◌, ◌≤◌}
-use Rattle.dataplane.proofs.Common.{SystemState, machines_of, same_Some}
-use Rattle.std.proofs.lemmas.List.{take_all, take_more}
-use Rattle.std.specs.List.{AllByRecursion}
+use Rattle.dataplane.proofs.Common.{List, Some, [], arith, drop, get_or, length, refl, subst, suc, sym, take, true, zero, ℕ, ◌+◌, ◌<◌, ◌∙◌, ◌∷◌, ◌≡◌}
+use Rattle.dataplane.proofs.Common.{◌≤◌, take_all, take_more, same_Some, AllByRecursion, ReadsPdu, all-append, Machines, SystemState, machines_of}
+use Rattle.dataplane.proofs.Common.{SavedPort, IsBack, IsFirstWithout, tells_nothing_new}
 use Rattle.slowpdu.specs.declared.pdu.Lacpdu.{Lacpdu}
 use Rattle.slowpdu.specs.declared.pdu.Pdu.TheVariants as pdu
-use Rattle.slowpdu.specs.Pdus.{ReadsPdu}
-use Rattle.portmachines.specs.Machines.{Machines}
-use Rattle.slowpdu.proofs.LayoutLemmas.{all-append}
-use Rattle.dataplane.specs.Resuming.{IsBack, IsFirstWithout, tells_nothing_new}
-use Rattle.dataplane.specs.declared.resuming.SavedPort.{SavedPort}
 
 module _ (P : SavedPort → Type 0) (saved : List SavedPort) (i : ℕ) (d : SavedPort) where
   -- it holds of one more

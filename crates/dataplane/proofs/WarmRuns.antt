@@ -1,15 +1,8 @@
 -- The calls of a warm start, one after another.
-use Rattle.dataplane.proofs.Common.{List, [], ap, arith, get_or, length, map, refl, replicate, subst, suc, sym, take, zero, ℕ, ◌++◌, ◌+◌, ◌<◌, ◌∙◌, ◌∷◌, ◌≡◌, ◌≤◌}
-use Rattle.dataplane.proofs.Common.{map-append, Reply, SystemState}
-use Rattle.std.proofs.lemmas.List.{take_all, take_more}
+use Rattle.dataplane.proofs.Common.{List, [], ap, arith, get_or, length, map, refl, replicate, subst, suc, sym, take, zero, ℕ, ◌++◌, ◌+◌, ◌<◌, ◌∙◌}
+use Rattle.dataplane.proofs.Common.{◌∷◌, ◌≡◌, ◌≤◌, map-append, take_all, take_more, Config, Reply, Call, Tick, Drives, IsConfigured, IsFirst}
+use Rattle.dataplane.proofs.Common.{CallPromise, SystemState, SavedPort, IsWarm, Runs, hearing, link_up}
 use Rattle.lagsystem.proofs.DriveLemmas.{drives_more}
-use Rattle.lagsystem.specs.Calls.{Call, Tick}
-use Rattle.lagsystem.specs.Drives.{Drives}
-use Rattle.lagsystem.specs.First.{IsConfigured, IsFirst}
-use Rattle.lagsystem.specs.Sound.{CallPromise}
-use Rattle.lagsystem.specs.declared.config.Config.{Config}
-use Rattle.dataplane.specs.Resuming.{IsWarm, Runs, hearing, link_up}
-use Rattle.dataplane.specs.declared.resuming.SavedPort.{SavedPort}
 
 -- one more call
 pub runs_more : (gives : ℕ → ℕ → ℕ → Type 0) (old mid new : SystemState) (calls : List Call) (call : Call) (answer : Reply)

@@ -1,25 +1,15 @@
 -- A warm start leaves every conversation free, and the next marker.
 use Rattle.dataplane.proofs.Common.{Bool, List, None, [], ap, false, length, map, replicate, subst, suc, sym, true, zero, ℕ, ◌∙◌, ◌∷◌, ◌≡◌}
-use Rattle.dataplane.proofs.Common.{Reply, SystemState, aggregator_numbered, distributing}
-use Rattle.std.specs.List.{AllByRecursion}
-use Rattle.slowpdu.proofs.LayoutLemmas.{all-append}
-use Rattle.slowpdu.specs.declared.pdu.Lacpdu.{Lacpdu}
+use Rattle.dataplane.proofs.Common.{AllByRecursion, all-append, Config, Reply, Call, OnlyPortChangesBy, ProcessesLacpdu, Receive, Set_link, SetsLink}
+use Rattle.dataplane.proofs.Common.{ThenSettles, Tick, Ticks, Drives, IsFirst, aggregator_numbered, distributing, SystemState, port_index, SavedPort}
+use Rattle.dataplane.proofs.Common.{IsUnused, IsWarm, hearing, link_up, warm_calls}
 use Rattle.distributor.proofs.TableLemmas.{first_free}
-use Rattle.distributor.specs.declared.assignment.Assignment.{Assignment}
 use Rattle.distributor.specs.declared.assignment.Assignment.TheVariants.{Free}
 use Rattle.distributor.specs.Changes.{after_release, after_tick}
-use Rattle.distributor.specs.Conversations.{Table, assignment_of, first_table}
+use Rattle.distributor.specs.Conversations.{Table, assignment_of}
 use Rattle.lagsystem.proofs.Keeps.{ports_table, settling_parts}
-use Rattle.lagsystem.proofs.Preserves.{Preserves, PreservesOnPorts, Step-preserves}
-use Rattle.lagsystem.specs.Calls.{Call, Configure, Force, Move_conversation, Offer, OnlyPortChangesBy, ProcessesLacpdu, Receive, Restart, Set_link, SetsLink}
-use Rattle.lagsystem.specs.Calls.{Step, ThenSettles, Tick, Ticks, Transmit}
-use Rattle.lagsystem.specs.declared.config.Config.{Config}
-use Rattle.lagsystem.specs.Drives.{Drives}
-use Rattle.lagsystem.specs.First.{IsConfigured, IsFirst}
+use Rattle.lagsystem.proofs.Preserves.{Preserves, Step-preserves}
 use Rattle.lagsystem.specs.Settling.{Settling, held_unless_on}
-use Rattle.lagsystem.specs.State.{port_index}
-use Rattle.dataplane.specs.Resuming.{IsUnused, IsWarm, hearing, link_up, warm_calls}
-use Rattle.dataplane.specs.declared.resuming.SavedPort.{SavedPort}
 
 -- every conversation is free, and this is the next marker
 pub record IsFree (marker : ℕ) (t : Table) : Type 0 where

@@ -1,6 +1,5 @@
-use Rattle.dataplane.proofs.Common.{[], false≢true, sym, ◌∙◌}
+use Rattle.dataplane.proofs.Common.{[], sym, ◌∙◌, false≢true, IsBack}
 use Rattle.dataplane.proofs.WarmPorts.{found, holds_of_all, holds_on}
-use Rattle.dataplane.specs.Resuming.{IsBack}
 use Rattle.dataplane.proofs.resuming.first_not_back.Goals as goal
 
 pub loop-one-init : goal.loop-one-init

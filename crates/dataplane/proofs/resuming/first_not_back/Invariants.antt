@@ -1,6 +1,4 @@
-use Rattle.dataplane.proofs.Common.{false, take, ◌≡◌}
-use Rattle.std.specs.List.{AllByRecursion}
-use Rattle.dataplane.specs.Resuming.{IsBack}
+use Rattle.dataplane.proofs.Common.{take, AllByRecursion, IsBack}
 use Rattle.dataplane.proofs.resuming.first_not_back.Given as goal
 
 abbrev pub invariant-loop-one : goal.invariant-loop-one

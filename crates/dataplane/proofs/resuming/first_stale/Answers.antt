@@ -1,7 +1,5 @@
-use Rattle.dataplane.proofs.Common.{[], false, false≢true, sym, ◌∙◌, ◌≡◌}
+use Rattle.dataplane.proofs.Common.{[], false, sym, ◌∙◌, ◌≡◌, false≢true, is_stale}
 use Rattle.dataplane.proofs.WarmPorts.{found, holds_of_all, holds_on}
-use Rattle.dataplane.specs.Resuming.{is_stale}
-use Rattle.dataplane.specs.declared.resuming.SavedPort.{SavedPort}
 use Rattle.dataplane.proofs.resuming.first_stale.Goals as goal
 
 pub loop-one-init : goal.loop-one-init

@@ -1,6 +1,4 @@
-use Rattle.dataplane.proofs.Common.{false, take, ◌≡◌}
-use Rattle.std.specs.List.{AllByRecursion}
-use Rattle.dataplane.specs.Resuming.{is_stale}
+use Rattle.dataplane.proofs.Common.{false, take, ◌≡◌, AllByRecursion, is_stale}
 use Rattle.dataplane.proofs.resuming.first_stale.Given as goal
 
 abbrev pub invariant-loop-one : goal.invariant-loop-one

@@ -1,5 +1,4 @@
-use Rattle.dataplane.proofs.Common.{map, take, ◌≡◌}
-use Rattle.dataplane.specs.Resuming.{Runs, hearing}
+use Rattle.dataplane.proofs.Common.{map, take, ◌≡◌, Runs, hearing}
 use Rattle.dataplane.proofs.resuming.hear.Given as goal
 
 abbrev pub invariant-loop-one : goal.invariant-loop-one

@@ -1,7 +1,5 @@
-use Rattle.dataplane.proofs.Common.{drop, false≢true, none-some, subst, sym, ◌∙◌}
-use Rattle.std.specs.Prelude.{IfSome}
+use Rattle.dataplane.proofs.Common.{drop, subst, sym, ◌∙◌, false≢true, none-some, IfSome, ReadsPdu}
 use Rattle.slowpdu.specs.declared.pdu.Pdu.TheVariants as pdu
-use Rattle.slowpdu.specs.Pdus.{ReadsPdu}
 use Rattle.dataplane.proofs.WarmPorts.{told_same}
 use Rattle.dataplane.proofs.resuming.is_back.Goals as goal
 

@@ -1,6 +1,5 @@
-use Rattle.dataplane.proofs.Common.{subst}
+use Rattle.dataplane.proofs.Common.{subst, ReadsPdu}
 use Rattle.slowpdu.specs.declared.pdu.Pdu.TheVariants as pdu
-use Rattle.slowpdu.specs.Pdus.{ReadsPdu}
 use Rattle.dataplane.proofs.resuming.lacpdu_in.Goals as goal
 
 pub returns-in-Ok-Lacpdu-clause-found : goal.returns-in-Ok-Lacpdu-clause-found

@@ -1,7 +1,5 @@
-use Rattle.dataplane.proofs.Common.{subst, sym}
-use Rattle.std.specs.Prelude.{IfSome}
+use Rattle.dataplane.proofs.Common.{subst, sym, IfSome, ReadsPdu}
 use Rattle.slowpdu.specs.declared.pdu.Pdu.TheVariants as pdu
-use Rattle.slowpdu.specs.Pdus.{ReadsPdu}
 use Rattle.dataplane.proofs.resuming.lacpdu_of.Goals as goal
 
 pub returns-clause-found : goal.returns-clause-found

@@ -1,9 +1,7 @@
-use Rattle.dataplane.proofs.Common.{false, map, replicate, subst, ◌∙◌, ◌≡◌}
-use Rattle.std.specs.List.{AllByRecursion}
-use Rattle.lagsystem.specs.Calls.{Tick}
+use Rattle.dataplane.proofs.Common.{false, map, replicate, subst, ◌∙◌, ◌≡◌, AllByRecursion, Tick, IsFirstWithout, IsWarm, Runs, hearing, is_stale}
+use Rattle.dataplane.proofs.Common.{link_up}
 use Rattle.dataplane.proofs.WarmRuns.{warm_joined}
 use Rattle.dataplane.proofs.WarmTables.{warm_unused}
-use Rattle.dataplane.specs.Resuming.{IsFirstWithout, IsResumed, IsWarm, Runs, hearing, is_stale, link_up}
 use Rattle.dataplane.proofs.resuming.resume.Goals as goal
 
 pub returns-in-Some-clause-refused : goal.returns-in-Some-clause-refused

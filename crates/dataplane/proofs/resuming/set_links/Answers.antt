@@ -1,9 +1,6 @@
-use Rattle.dataplane.proofs.Common.{[], get_or, refl, subst, ◌∙◌}
-use Rattle.lagsystem.specs.Sound.{CallPromise}
+use Rattle.dataplane.proofs.Common.{[], get_or, refl, subst, ◌∙◌, CallPromise, SavedPort, link_up}
 use Rattle.lagsystem.specs.declared.drive.Reply.TheVariants as reply
 use Rattle.dataplane.proofs.WarmRuns.{runs_all, runs_on}
-use Rattle.dataplane.specs.Resuming.{link_up}
-use Rattle.dataplane.specs.declared.resuming.SavedPort.{SavedPort}
 use Rattle.dataplane.proofs.resuming.set_links.Goals as goal
 
 pub loop-one-init : goal.loop-one-init

@@ -1,5 +1,4 @@
-use Rattle.dataplane.proofs.Common.{map, take, ◌≡◌}
-use Rattle.dataplane.specs.Resuming.{Runs, link_up}
+use Rattle.dataplane.proofs.Common.{map, take, ◌≡◌, Runs, link_up}
 use Rattle.dataplane.proofs.resuming.set_links.Given as goal
 
 abbrev pub invariant-loop-one : goal.invariant-loop-one

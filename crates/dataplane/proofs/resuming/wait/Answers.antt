@@ -1,9 +1,6 @@
-use Rattle.dataplane.proofs.Common.{[], arith, refl, replicate, subst, ◌∙◌, ◌≡◌}
-use Rattle.lagsystem.specs.Calls.{Tick}
-use Rattle.lagsystem.specs.Sound.{CallPromise}
+use Rattle.dataplane.proofs.Common.{[], arith, refl, replicate, subst, ◌∙◌, ◌≡◌, Tick, CallPromise, Runs}
 use Rattle.lagsystem.specs.declared.drive.Reply.TheVariants as reply
 use Rattle.dataplane.proofs.WarmRuns.{runs_again}
-use Rattle.dataplane.specs.Resuming.{Runs}
 use Rattle.dataplane.proofs.resuming.wait.Goals as goal
 
 pub loop-tick-init : goal.loop-tick-init

@@ -1,6 +1,4 @@
-use Rattle.dataplane.proofs.Common.{replicate, ◌≡◌}
-use Rattle.lagsystem.specs.Calls.{Tick}
-use Rattle.dataplane.specs.Resuming.{Runs}
+use Rattle.dataplane.proofs.Common.{replicate, ◌≡◌, Tick, Runs}
 use Rattle.dataplane.proofs.resuming.wait.Given as goal
 
 abbrev pub invariant-loop-tick : goal.invariant-loop-tick
