@@ -1,9 +1,8 @@
 -- The best aggregator so far.
 use Rattle.dataplane.proofs.Common.{Bool, List, None, Option, Some, [], ap, arith, eqb, eqb-true, false, if◌then◌else◌, inl, inr, length, option_map}
 use Rattle.dataplane.proofs.Common.{refl, subst, sym, true, ℕ, ◌+◌, ◌∙◌, ◌∷◌, ◌≡◌, ◌≢◌, ◌≤◌, ◌⊎◌, cases_Bool, eqb-false, none-some, same_Some, AggId}
-use Rattle.dataplane.proofs.Common.{aggregator_numbered, distributing, group_at, SystemState, machines_of, Rank, Carries, IsAggregator, better}
-use Rattle.dataplane.proofs.Common.{is_before, is_other, lesser, rank_by, rank_in}
-use Rattle.portmachines.specs.Machines.{Machines}
+use Rattle.dataplane.proofs.Common.{Machines, aggregator_numbered, distributing, group_at, SystemState, machines_of, Rank, Carries, IsAggregator}
+use Rattle.dataplane.proofs.Common.{better, is_before, is_other, lesser, rank_by, rank_in}
 use Rattle.dataplane.proofs.Ranks.{before_in_turn, else_before}
 
 -- a rank names its aggregator, and whether that is another one

@@ -7,29 +7,39 @@ pub use Rattle.std.proofs.Math.Seq.{drop-length, set_out, take-length}
 pub use Rattle.std.proofs.lemmas.Bool.{and_parts, cases_Bool, cases_lt, eqb-false, false≢true}
 pub use Rattle.std.proofs.lemmas.Bool.Decides.{eqb_tells, nat_tests}
 pub use Rattle.std.proofs.lemmas.Grind.{common_steps, get_or_default_zero}
-pub use Rattle.std.proofs.lemmas.List.{get_or-set_other, get_or-set_same, length-drop, length-map, length-take, map-append, map-set}
+pub use Rattle.std.proofs.lemmas.List.{get_or-set_other, get_or-set_same, length-drop, length-map, length-take, map-append, map-set, take_all}
+pub use Rattle.std.proofs.lemmas.List.{take_more}
 pub use Rattle.std.proofs.lemmas.List.Sums.{sum-map, sum_by-cons, sum_by-le-sum_by, sum_by-set}
 pub use Rattle.std.proofs.lemmas.Option.{none-some, same_Some}
-pub use Rattle.std.specs.Prelude.{Contains, is_none, option_to_list, sum, sum_by}
+pub use Rattle.std.specs.List.{AllByRecursion, position_or_len}
+pub use Rattle.std.specs.Prelude.{Contains, IfSome, is_none, option_to_list, sum, sum_by}
 pub use Rattle.circular_buffer.specs.Buffer.{Buffer, buffer}
 pub use Rattle.lagtypes.specs.declared.identifiers.AggId.{AggId}
-pub use Rattle.lagmodel.specs.Law.{IsSubsequence as IsSubsequenceOfSerials, OnItsCable, serials}
-pub use Rattle.lagmodel.specs.Move.{Act, AllAllowed, ConversationMove, ConversationMoveAllowed, Distributes, DistributorMove, DistributorMoveAllowed}
-pub use Rattle.lagmodel.specs.Move.{Flow, LawfulMoves, Port, Restart, Sends, Sends_frame, Took, act, act_of_port, acts, conversation_after}
-pub use Rattle.lagmodel.specs.Move.{distributor_act, distributor_after, flushed, view_after, view_after_all}
+pub use Rattle.slowpdu.specs.Pdus.{ReadsPdu}
+pub use Rattle.slowpdu.proofs.LayoutLemmas.{all-append}
+pub use Rattle.lagmodel.specs.Law.{IsSubsequence as IsSubsequenceOfSerials, OnItsCable}
+pub use Rattle.lagmodel.specs.Move.{Act, AllAllowed, ConversationMove, ConversationMoveAllowed, DistributorMove, Flow, LawfulMoves, Port, Restart}
+pub use Rattle.lagmodel.specs.Move.{Sends, Sends_frame, Took, act_of_port, acts, conversation_after, flushed, view_after, view_after_all}
 pub use Rattle.lagmodel.specs.View.{Conversation, DistributorFacts, Flushing, Free, ModelCall, On, SystemSetup, View, Wanted, at_conversation}
 pub use Rattle.lagmodel.specs.View.{conversation_port, first_view}
-pub use Rattle.lagmodel.specs.World.{Side, World, WorldSetup, end_at, peer}
+pub use Rattle.lagmodel.specs.World.{Side, World, WorldSetup}
+pub use Rattle.portmachines.specs.Machines.{Machines}
+pub use Rattle.lagsystem.specs.declared.config.Config.{Config}
 pub use Rattle.lagsystem.specs.declared.drive.Reply.{Reply}
 pub use Rattle.lagsystem.specs.declared.system_ports.SystemPort.{SystemPort}
-pub use Rattle.lagsystem.specs.Drives.{call_of}
+pub use Rattle.lagsystem.specs.Calls.{Call, Configure, Force, Move_conversation, Offer, OnlyPortChangesBy, ProcessesLacpdu, Receive, Set_link}
+pub use Rattle.lagsystem.specs.Calls.{SetsLink, ThenSettles, Tick, Ticks, Transmit}
+pub use Rattle.lagsystem.specs.Drives.{Drives, call_of}
+pub use Rattle.lagsystem.specs.First.{IsConfigured, IsFirst}
 pub use Rattle.lagsystem.specs.ModelView.{EffectsSeenAs, JoinedByLawfulMoves, model_setup, model_view}
 pub use Rattle.lagsystem.specs.Readers.{aggregator_numbered, conversation_count, conversation_in, distributing, group_at, number_of_conversation}
+pub use Rattle.lagsystem.specs.Sound.{CallPromise}
 pub use Rattle.lagsystem.specs.State.{SystemState, machines_of, port_index, port_numbers}
 pub use Rattle.dataplane.specs.declared.active.choosing.Rank.{Rank}
 pub use Rattle.dataplane.specs.declared.balance.moves.Carried.{Carried}
 pub use Rattle.dataplane.specs.declared.balance.moves.Move.{Move}
 pub use Rattle.dataplane.specs.declared.holding.refusal.Refusal.{Refusal}
+pub use Rattle.dataplane.specs.declared.resuming.SavedPort.{SavedPort}
 pub use Rattle.dataplane.specs.Arrivals.{at_places}
 pub use Rattle.dataplane.specs.Choice.{Carries, IsAggregator, better, group_cmp, is_before, is_other, lesser, rank_by, rank_cmp, rank_in}
 pub use Rattle.dataplane.specs.Ends.{Alike, HasMore, ShowTheSame}
@@ -41,4 +51,5 @@ pub use Rattle.dataplane.specs.OneAggregator.{FreeElsewhere, InOneAggregator, No
 pub use Rattle.dataplane.specs.QueueCalls.{Clear, DropOldest, Dropped, Gone, Next, Put, QueueCall, Sent, accepted, after, gone}
 pub use Rattle.dataplane.specs.QueueLaws.{IsSubsequence, IsWithin, after_all, all_accepted, all_dropped, all_gone, all_handed_back, all_sent}
 pub use Rattle.dataplane.specs.QueueLaws.{conversation_of, handed_back, handle_of, number_dropped}
+pub use Rattle.dataplane.specs.Resuming.{IsBack, IsFirstWithout, IsUnused, IsWarm, Runs, hearing, is_stale, link_up, tells_nothing_new, warm_calls}
 pub use Rattle.dataplane.specs.RunsOfMoves.{AllDiffer, CountsOne, IsNew, IsRunOfMoves, moved, squares}

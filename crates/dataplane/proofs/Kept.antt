@@ -2,23 +2,22 @@
 use Rattle.dataplane.proofs.Common.{Bool, Err, IfOk, List, None, Ok, Option, Result, Some, [], ap, arith, eqb, eqb-true, false, if◌then◌else◌, inl}
 use Rattle.dataplane.proofs.Common.{inr, length, nat_le, nat_lt, refl, slice_get, subst, suc, sym, true, zero, ℕ, ◌-◌, ◌<◌, ◌^◌, ◌∷◌, ◌≡◌, ◌≢◌, ◌⊎◌}
 use Rattle.dataplane.proofs.Common.{and_parts, cases_Bool, eqb-false, nat_tests, none-some, AggId, OnItsCable, Act, LawfulMoves, Sends_frame}
-use Rattle.dataplane.proofs.Common.{Conversation, Flushing, Free, ModelCall, On, SystemSetup, View, Wanted, Side, World, WorldSetup, Reply}
-use Rattle.dataplane.proofs.Common.{EffectsSeenAs, JoinedByLawfulMoves, model_setup, model_view, aggregator_numbered, conversation_count}
-use Rattle.dataplane.proofs.Common.{conversation_in, number_of_conversation, SystemState, IsAggregator, IsElsewhere, IsHeldElsewhere}
-use Rattle.dataplane.proofs.Common.{IsInOneAggregator, IsNoOffer, IsNumberElsewhere, FreeElsewhere, NoneOnItsWayElsewhere, SendsNoFrame}
+use Rattle.dataplane.proofs.Common.{Conversation, Flushing, Free, ModelCall, On, SystemSetup, View, Wanted, Side, World, WorldSetup, Reply, Call}
+use Rattle.dataplane.proofs.Common.{Configure, Force, Move_conversation, Offer, Receive, Set_link, Tick, Transmit, IsFirst, EffectsSeenAs}
+use Rattle.dataplane.proofs.Common.{JoinedByLawfulMoves, model_setup, model_view, aggregator_numbered, conversation_count, conversation_in}
+use Rattle.dataplane.proofs.Common.{number_of_conversation, CallPromise, SystemState, IsAggregator, IsElsewhere, IsHeldElsewhere, IsInOneAggregator}
+use Rattle.dataplane.proofs.Common.{IsNoOffer, IsNumberElsewhere, FreeElsewhere, NoneOnItsWayElsewhere, SendsNoFrame}
 use Rattle.lagtypes.specs.declared.identifiers.Key.{Key}
-use Rattle.lagsystem.specs.Calls.{Call, Receive, Tick, Set_link, Configure, Restart, Transmit, Offer, Move_conversation, Force}
+use Rattle.lagsystem.specs.Calls.{Restart}
 use Rattle.distributor.specs.declared.assignment.Assignment.{Assignment}
 use Rattle.lagsystem.specs.declared.drive.Reply.TheVariants as reply
 use Rattle.lagsystem.specs.declared.fault.SystemFault.{SystemFault}
 use Rattle.lagsystem.specs.declared.received.Received.TheVariants.{Disabled, Dropped, Ignored, TookLacpdu, Respond, Released, Up}
 use Rattle.lagsystem.specs.Assigning.{OffersConversation, OffersIf, frame_of_conversation}
-use Rattle.lagsystem.specs.First.{IsFirst}
 use Rattle.lagsystem.specs.Forcing.{ForcesFirst, ForcesIfHeld, ForcesIn, ForcesPort}
 use Rattle.lagsystem.specs.Offers.{GivesOrRefuses, MayBeOffered, MayBeOfferedTo, has_aggregator, is_frame_length, longest_frame}
 use Rattle.lagsystem.specs.Probing.{ProbesLawfully}
 use Rattle.lagsystem.specs.Promises.{TablePromise}
-use Rattle.lagsystem.specs.Sound.{CallPromise}
 use Rattle.lagsystem.proofs.AssigningLemmas.{framed}
 use Rattle.lagsystem.proofs.FirstView.{first_shows}
 use Rattle.dataplane.proofs.Staying as staying

@@ -1,7 +1,7 @@
+mod Common
 pub mod Arriving
 pub mod Best
 pub mod Chosen
-mod Common
 pub mod Extremes
 pub mod Kept
 pub mod LoadedPorts
@@ -18,3 +18,6 @@ pub mod Searched
 pub mod SettlingLoads
 pub mod Staying
 pub mod Sums
+pub mod WarmPorts
+pub mod WarmRuns
+pub mod WarmTables

@@ -1,6 +1,6 @@
 -- The place of a port among the numbers of the ports.
-use Rattle.dataplane.proofs.Common.{List, [], ap, cond, not, position, refl, ℕ, ◌+◌, ◌==◌, ◌∷◌, ◌≡◌, length-map, SystemPort, port_index, port_numbers}
-use Rattle.std.specs.List.{position_or_len}
+use Rattle.dataplane.proofs.Common.{List, [], ap, cond, not, position, refl, ℕ, ◌+◌, ◌==◌, ◌∷◌, ◌≡◌, length-map, position_or_len, SystemPort}
+use Rattle.dataplane.proofs.Common.{port_index, port_numbers}
 
 first_place : (n : ℕ) (xs : List SystemPort) → position_or_len (λ k. k == n) (port_numbers xs) ≡ position_or_len (λ x. x.number == n) xs
 first_place n [] = refl

@@ -3,7 +3,7 @@ use Rattle.dataplane.proofs.Common.{Bool, ap, arith, false, if◌then◌else◌,
 use Rattle.dataplane.proofs.Common.{common_steps, Rank, group_cmp, is_before, rank_cmp, HasMore}
 use Rattle.std.specs.declared.cmp.Ordering.{Ordering}
 use Rattle.std.specs.declared.cmp.Ordering.TheVariants.{Less, Equal, Greater}
-use Rattle.std.specs.Ordering.{is_lt, nat_cmp, bool_cmp, on, ordering_then, ordering_reverse}
+use Rattle.std.specs.Ordering.{is_lt, nat_cmp, bool_cmp, ordering_then, ordering_reverse}
 use Rattle.std.specs.Cmp.{IsTotalOrder, then_total, on_total, back_total, nat_cmp_total, bool_cmp_total}
 use Rattle.std.specs.Cmp.Rules.{comparing}
 use Rattle.std.proofs.lemmas.Map.Lookups.{exact_unsigned}

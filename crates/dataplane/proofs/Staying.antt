@@ -1,11 +1,10 @@
 -- What is Free stays Free where no frame is sent of it.
-use Rattle.dataplane.proofs.Common.{Bool, List, None, Option, Some, [], ap, eqb, eqb-true, false, inl, inr, refl, subst, sym, true, ℕ, ◌++◌, ◌∙◌, ◌∷◌}
-use Rattle.dataplane.proofs.Common.{◌≡◌, ◌≢◌, ◌⊎◌, cases_Bool, eqb-false, none-some, option_to_list, OnItsCable, serials, Act, AllAllowed}
-use Rattle.dataplane.proofs.Common.{ConversationMove, ConversationMoveAllowed, Distributes, DistributorMove, DistributorMoveAllowed, Flow}
-use Rattle.dataplane.proofs.Common.{LawfulMoves, Port, Restart, Sends, Sends_frame, Took, act, act_of_port, acts, conversation_after, distributor_act}
-use Rattle.dataplane.proofs.Common.{distributor_after, flushed, view_after, view_after_all, Conversation, DistributorFacts, Flushing, Free, ModelCall}
-use Rattle.dataplane.proofs.Common.{On, SystemSetup, View, Wanted, at_conversation, conversation_port, first_view, Side, World, WorldSetup, end_at}
-use Rattle.dataplane.proofs.Common.{peer, FreeElsewhere, InOneAggregator, NoneOnItsWayElsewhere, SendsNoFrame}
+use Rattle.dataplane.proofs.Common.{List, None, Option, Some, [], ap, eqb, eqb-true, false, inl, inr, refl, subst, sym, true, ℕ, ◌++◌, ◌∙◌, ◌∷◌, ◌≡◌}
+use Rattle.dataplane.proofs.Common.{◌≢◌, ◌⊎◌, cases_Bool, eqb-false, none-some, option_to_list, OnItsCable, Act, AllAllowed, ConversationMove}
+use Rattle.dataplane.proofs.Common.{ConversationMoveAllowed, DistributorMove, Flow, LawfulMoves, Port, Restart, Sends, Sends_frame, Took, act_of_port}
+use Rattle.dataplane.proofs.Common.{acts, conversation_after, flushed, view_after, view_after_all, Conversation, DistributorFacts, Flushing, Free}
+use Rattle.dataplane.proofs.Common.{ModelCall, On, SystemSetup, View, at_conversation, conversation_port, first_view, Side, World, WorldSetup}
+use Rattle.dataplane.proofs.Common.{FreeElsewhere, InOneAggregator, NoneOnItsWayElsewhere, SendsNoFrame}
 use Rattle.lagmodel.specs.Move.{Move}
 use Rattle.lagmodel.proofs.Lanes.{conversation_cases}
 

@@ -1,10 +1,9 @@
 -- What a client put, and what arrives of it (profile).
-use Rattle.std.specs.Prelude.{◌≡◌, ℕ, false, List, [], ◌∷◌, ◌++◌, length, slice_get, option_to_list}
+use Rattle.std.specs.Prelude.{◌≡◌, ℕ, List, [], ◌∷◌, ◌++◌, length, slice_get, option_to_list}
 use Rattle.dataplane.specs.Holding.{HoldingValue, queue}
 use Rattle.dataplane.specs.QueueCalls.{QueueCall}
 use Rattle.dataplane.specs.QueueLaws.{all_accepted, all_gone, all_sent, IsSubsequence}
 use Rattle.lagmodel.specs.World.{Side, World}
-use Rattle.lagmodel.specs.Law.{InOrder, CountsFromZero}
 
 module _ {X : Type 0} where
   -- the elements at these places, in the order of the places; none past the end

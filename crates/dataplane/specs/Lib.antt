@@ -8,4 +8,5 @@ pub mod Offers
 pub mod OneAggregator
 pub mod QueueCalls
 pub mod QueueLaws
+pub mod Resuming
 pub mod RunsOfMoves

@@ -2,7 +2,7 @@
 use Rattle.std.specs.Prelude.{◌≡◌, ◌≢◌, ℕ, false, List, [], ◌∷◌}
 use Rattle.lagmodel.specs.View.{Free, View}
 use Rattle.lagmodel.specs.Move.{Act, Sends, Sends_frame, Took}
-use Rattle.lagmodel.specs.World.{Side, peer, World, WorldSetup}
+use Rattle.lagmodel.specs.World.{Side, peer, World}
 use Rattle.lagmodel.specs.Law.{serials}
 
 -- each conversation number is On, Wanted or Flushing in one aggregator at most

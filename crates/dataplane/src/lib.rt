@@ -1,5 +1,5 @@
 //! What a host with a data plane needs beside a system: who answers markers, which aggregator carries, which frames wait, and
-//! which conversation moves.
+//! which conversation moves; and a warm start.
 //!
 //! In comments, numbers such as 6.5.3.3 are sections of IEEE 802.1AX-2014, and "profile" is docs/PROFILE.md.
 #![tactic(auto)]
@@ -9,6 +9,7 @@ mod answering;
 mod balance;
 mod client_order;
 mod holding;
+mod resuming;
 
 pub use active::{
     active_aggregator, aggregator_or_none, both_ends_choose_alike, each_call_keeps_one_aggregator,
@@ -20,3 +21,4 @@ pub use answering::{Answering, MarkerNote};
 pub use balance::{Carried, Move, every_run_of_moves, next_move};
 pub use client_order::{from_client_to_client, one_aggregator_at_a_time};
 pub use holding::{Holding, Refusal, Released, every_list_of_calls};
+pub use resuming::{ResumeFault, SavedPort, resume};

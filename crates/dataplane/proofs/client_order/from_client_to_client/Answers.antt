@@ -1,5 +1,4 @@
-use Rattle.dataplane.proofs.Common.{List, [], ap, arith, length, slice_index, subst, sym, ℕ, ◌++◌, ◌+◌, ◌<◌, ◌∙◌, ◌≡◌, at_places, queue}
-use Rattle.dataplane.proofs.Common.{IsSubsequence, all_accepted, all_gone, all_sent}
+use Rattle.dataplane.proofs.Common.{[], arith, slice_index, subst, ◌++◌, ◌≡◌, at_places, queue, IsSubsequence, all_accepted, all_gone, all_sent}
 use Rattle.dataplane.proofs.QueueOrder.{subsequence}
 use Rattle.dataplane.proofs.Arriving.{all_places, each_place, fewer_places, in_turn}
 use Rattle.dataplane.proofs.client_order.from_client_to_client.Goals as goal

@@ -1,4 +1,4 @@
-use Rattle.dataplane.proofs.Common.{arith, refl, sym, true, ◌+◌, ◌∙◌, ◌≤◌, false≢true, aggregator_numbered}
+use Rattle.dataplane.proofs.Common.{arith, refl, sym, ◌+◌, ◌∙◌, ◌≤◌, false≢true, aggregator_numbered}
 use Rattle.dataplane.proofs.Searched.{none_more}
 use Rattle.dataplane.proofs.active.offering.is_elsewhere.Goals as goal
 use Rattle.dataplane.proofs.active.offering.is_elsewhere.Goals.{else-other-agg-via-then-other-agg+else-is_busy, else-other-agg-via-else-other-agg}
