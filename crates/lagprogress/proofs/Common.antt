@@ -34,7 +34,9 @@ pub use Rattle.slowpdu.specs.Parties.{party_of}
 pub use Rattle.slowpdu.specs.Readings.{pdu_in}
 pub use Rattle.slowpdu.proofs.LayoutLemmas.{all-append}
 pub use Rattle.slowpdu.proofs.PduLemmas.{no_fault, one_pdu, written_pdu}
-pub use Rattle.lagmodel.specs.World.{Ends, IsCabling, One, Side, Two, WorldSetup, end_at, peer}
+pub use Rattle.lagmodel.specs.Law.{IsSubsequence, Members, same_side, serials}
+pub use Rattle.lagmodel.specs.World.{Control, Data, Ends, Happens, IsCabling, IsWorldSetup, Message, One, Side, TakenLacpdu, Two, World, WorldSetup}
+pub use Rattle.lagmodel.specs.World.{at_cable, end_at, first_world, party_at, peer, with_messages}
 pub use Rattle.lagmodel.proofs.Base.{cond_false, cond_true, value_of}
 pub use Rattle.lagmodel.proofs.Uses.{find_at}
 pub use Rattle.cables.specs.declared.item.Stamp.{Stamp}
@@ -152,9 +154,9 @@ pub use Rattle.lagprogress.specs.HostFreed.{RoundIsDraining, sent_nothing}
 pub use Rattle.lagprogress.specs.HostRounds.{AfterTick, AskingIsHostRound, Asks, AsksAfterTick, AsksIn, AtSomeWorld, Clearing, HostRounds}
 pub use Rattle.lagprogress.specs.HostRounds.{IsBetweenTicks, IsHostRound, IsPlayed, IsTickOf, LoopIsHostRound, NoneIsLeft, PlayedRounds}
 pub use Rattle.lagprogress.specs.HostRounds.{RoundIsHostRound, RoundsAreHostRounds, TickOnce}
+pub use Rattle.lagprogress.specs.Knowing.{HasRecorded, IsKnown}
 pub use Rattle.lagprogress.specs.LateRounds.{ArriveIn, AskingIsLateRound, HostRoundIsLateRound, IsArrivalAt, IsLateRound, LateRounds, OldArrive}
 pub use Rattle.lagprogress.specs.LateRounds.{late_known_if_both_active, late_known_if_one_is, late_up_if_both_active, late_up_if_one_is}
-pub use Rattle.lagprogress.specs.Knowing.{HasRecorded, IsKnown}
 pub use Rattle.lagprogress.specs.Limited.{CarriesOnAll, DownAreUnselected, EachLimitedLinkAgrees, EachReachedHasDownUnselected, EndsAgreed}
 pub use Rattle.lagprogress.specs.Limited.{IsLimitedBundle, StandsByOthers}
 pub use Rattle.lagprogress.specs.Passing.{DeliverProcessesLacpdu, EmitSendsLacpdu, EndIsUp, IsHeardOn, IsSentOn}

@@ -1,10 +1,10 @@
 -- What an LACPDU that overtakes leaves as it is: the order of data, and of markers among them.
-use Rattle.std.proofs.Common.{Bool, List, Option, Some, None, [], ap, cond, false, refl, subst, sym, true, ℕ, ◌++◌, ◌∙◌, ◌∷◌, ◌≡◌, ◌⊎◌, ◌&&◌, eqb}
-use Rattle.std.proofs.lemmas.Bool.{false≢true}
-use Rattle.lagtypes.specs.declared.party.Party.{Party}
-use Rattle.lagmodel.specs.Law.{IsSubsequence, Members, same_side, serials}
+use Rattle.lagprogress.proofs.Common.{Bool, List, None, Option, Some, [], ap, cond, eqb, false, refl, subst, sym, true, ℕ, ◌&&◌, ◌++◌, ◌∙◌, ◌∷◌, ◌≡◌}
+use Rattle.lagprogress.proofs.Common.{◌⊎◌, false≢true, Party, IsSubsequence, Members, same_side, serials, Control, Data, Happens, IsWorldSetup}
+use Rattle.lagprogress.proofs.Common.{Message, One, Side, TakenLacpdu, Two, World, WorldSetup, at_cable, end_at, first_world, party_at, peer}
+use Rattle.lagprogress.proofs.Common.{with_messages}
 use Rattle.lagmodel.specs.View.{Conversation, DistributorFacts, Flushing, Lacp, Marker, Response, SystemSetup, View, conversation_port}
-use Rattle.lagmodel.specs.World.{Control, Data, Event, Happens, IsWorldSetup, Message, One, Side, TakenLacpdu, Two, World, WorldSetup, at_cable, end_at, first_world, party_at, peer, with_messages}
+use Rattle.lagmodel.specs.World.{Event}
 use Rattle.lagmodel.proofs.Events.{happens_kept, lawful_first}
 use Rattle.lagmodel.proofs.LaneMoves.{at_cable_each}
 use Rattle.lagmodel.proofs.Lanes.{Lanes}
