@@ -1,6 +1,7 @@
 -- A warm start: a system that looks to its peers as the one before it did (profile).
 use Rattle.std.specs.Prelude.{◌≡◌, ℕ, ◌==◌, ◌&&◌, ◌||◌, not, Bool, true, false, List, ◌++◌, drop, map, replicate, nat_le, if◌then◌else◌, Some, None}
 use Rattle.std.specs.Prelude.{◌<◌, get_or, length, take}
+use Rattle.std.specs.Bool.{beq}
 use Rattle.std.specs.List.{AllByRecursion, list_any}
 use Rattle.lagtypes.specs.Same.{same_party}
 use Rattle.lagtypes.specs.States.{bits_of}
@@ -61,12 +62,17 @@ pub record IsWarm (gives : ℕ → ℕ → ℕ → Type 0) (config : Config) (sa
 abbrev pub is_in_service : StateBits → Bool
 is_in_service b = not (b.defaulted || b.expired) && (b.synchronization && (b.collecting && b.distributing))
 
--- The port distributes, and its Actor_State says so; the peer that sent this LACPDU knows it by the parameters that it has; and the
--- recorded partner is that peer, in the state that it told. So an LACPDU of the port tells the peer nothing new.
+-- both have one Activity and one Timeout (6.4.2.3)
+abbrev pub same_modes : StateBits → StateBits → Bool
+same_modes a b = beq a.activity b.activity && beq a.timeout b.timeout
+
+-- The port distributes, and its Actor_State says so; the peer that sent this LACPDU knows it by the parameters that it has, with its
+-- Activity and Timeout; and the recorded partner is that peer, in the state that it told. So an LACPDU of the port tells the peer nothing
+-- new.
 abbrev pub tells_nothing_new : Machines → Lacpdu → Bool
 tells_nothing_new p heard =
     (same_mux_state CollectingDistributing p.mux && is_in_service (bits_of (actor_state p)))
-    && (same_party (party_of heard.partner) p.party
+    && ((same_party (party_of heard.partner) p.party && same_modes (bits_of heard.partner.state) (bits_of (actor_state p)))
     && (same_party (party_of p.partner) (party_of heard.actor) && (p.partner.state.0 == heard.actor.state.0)))
 
 -- so it is of the port and the LACPDU that was saved of it
@@ -82,9 +88,13 @@ pub record IsUnused (config : Config) (s : SystemState) : Type 0 where
   pub free : (agg conv : ℕ) → assignment_of s.table agg conv ≡ Free None
   pub marker : s.table.next ≡ config.first_marker
 
+-- none of the LACPDUs is stale
+abbrev pub AreFresh : Config → List SavedPort → Type 0
+AreFresh config saved = AllByRecursion (λ x. is_stale config.ports.items x ≡ false) saved
+
 -- a warm start: no LACPDU is stale, and each port is back
 pub record IsResumed (gives : ℕ → ℕ → ℕ → Type 0) (config : Config) (saved : List SavedPort) (s : SystemState) : Type 0 where
-  pub fresh : AllByRecursion (λ x. is_stale config.ports.items x ≡ false) saved
+  pub fresh : AreFresh config saved
   pub warm : IsWarm gives config saved s
   pub back : AllByRecursion (IsBack s) saved
   pub unused : IsUnused config s
@@ -98,8 +108,9 @@ pub record IsFirstWithout (P : SavedPort → Type 0) (saved : List SavedPort) (p
   pub before : AllByRecursion P (take place saved)
   pub without : P one → ⊥
 
--- why there is no warm start: the first LACPDU that is stale; the reason of `new`; the first port that is not back
+-- why there is no warm start: the first LACPDU that is stale; and where none is, the reason of `new`; the first port that is not back
 abbrev pub MayRefuse : (ℕ → ℕ → ℕ → Type 0) → Config → List SavedPort → ResumeFault → Type 0
 MayRefuse gives config saved (Stale port) = IsFirstWithout (λ x. is_stale config.ports.items x ≡ false) saved port
-MayRefuse gives config saved (New fault) = fault ≡ fault_or_no_memory (config_refusal config)
-MayRefuse gives config saved (NotDistributing port) = (s : SystemState) × IsWarm gives config saved s × IsFirstWithout (IsBack s) saved port
+MayRefuse gives config saved (New fault) = AreFresh config saved × (fault ≡ fault_or_no_memory (config_refusal config))
+MayRefuse gives config saved (NotDistributing port) = AreFresh config saved
+    × ((s : SystemState) × IsWarm gives config saved s × IsFirstWithout (IsBack s) saved port)

@@ -9,10 +9,11 @@ ghost use Rattle.lagsystem.specs.Calls.{Call};
 ghost use Rattle.slowpdu.specs.Pdus.{ReadsPdu};
 ghost use Rattle.dataplane.specs.declared.resuming.ResumeFault.{ResumeFault};
 ghost use Rattle.dataplane.specs.Resuming.{IsBack, IsFirstWithout, IsResumed, MayRefuse, Runs, hearing, is_in_service, is_stale, link_up};
-ghost use Rattle.dataplane.specs.Resuming.{tells_nothing_new, timeout};
+ghost use Rattle.lagtypes.specs.States.{bits_of};
+ghost use Rattle.dataplane.specs.Resuming.{same_modes, tells_nothing_new, timeout};
 
 use lagsystem::{Config, PortConfig, System, SystemFault};
-use lagtypes::StateBits;
+use lagtypes::{State, StateBits};
 use portmachines::Port;
 use slowpdu::{Lacpdu, Pdu, decode};
 use std::alloc::Global;
@@ -41,7 +42,7 @@ pub enum ResumeFault {
     Stale(u16),
     /// `System::new` refuses.
     New(SystemFault),
-    /// This port does not come to distribute with the Actor of its LACPDU, or that knows it by other parameters.
+    /// This port does not come to distribute with the Actor of its LACPDU, or that knows it by other parameters, Activity or Timeout.
     NotDistributing(u16),
 }
 
@@ -142,6 +143,13 @@ fn is_in_service(bits: StateBits) -> bool
     bits.synchronization && bits.collecting && bits.distributing
 }
 
+/// Whether both have one Activity and one Timeout.
+fn same_modes(one: State, other: State) -> bool
+    ensures { result ≡ same_modes (bits_of one) (bits_of other) }
+{
+    one.is_active() == other.is_active() && one.is_short() == other.is_short()
+}
+
 /// Whether the port distributes, and tells a peer that sent this LACPDU nothing new.
 fn tells_nothing_new(port: &Port, heard: &Lacpdu) -> bool
     ensures { result ≡ tells_nothing_new port.now heard.now }
@@ -151,6 +159,9 @@ fn tells_nothing_new(port: &Port, heard: &Lacpdu) -> bool
         return false;
     }
     if !heard.partner.party().matches(&port.party()) {
+        return false;
+    }
+    if !same_modes(heard.partner.state, port.state()) {
         return false;
     }
     partner.party().matches(&heard.actor.party()) && partner.state == heard.actor.state
