@@ -78,13 +78,18 @@ void hand_up(uint32_t aggregator, const uint8_t *packet, size_t length);
 #define MOST_LINK_GROUP 0x0f
 #define BRIDGE_GROUPS (1 << 0x00 | 1 << 0x08 | 1 << 0x0d)
 
-/* hash.c: FNV-1a, of words of 32 bits; and where the headers of IP have what is hashed */
+/* hash.c: FNV-1a, of words of 32 bits; and where the headers have what is hashed. The program of the kernel has the same numbers. */
 #define HASH_START 2166136261u
 #define HASH_FACTOR 16777619
 enum {
+    SOURCE = ETH_ALEN, VLAN = 0x0fff, /* the bits of a tag that tell the VLAN */
     IPV4_OCTETS = 20, IPV4_FRAGMENT = 6, IPV4_PROTOCOL = 9, IPV4_ADDRESSES = 12,
     IPV6_OCTETS = 40, IPV6_NEXT = 6, IPV6_ADDRESSES = 8,
     FRAGMENTED = 0x3fff, /* the bits of a fragment: more of them, and its place */
+    /* VXLAN (RFC 7348), at its own port of UDP and at the usual one of Linux; and GRE (RFC 2784, 2890). */
+    UDP_TO = 2, VXLAN_PORT = 4789, VXLAN_USUAL_PORT = 8472, VXLAN_FLAGS = 8, VXLAN_IS_VALID = 0x08, VXLAN_ETHERNET = 16,
+    GRE_OCTETS = 4, GRE_TYPE = 2, GRE_SUM = 0x8000, GRE_KEY = 0x2000, GRE_SEQUENCE = 0x1000,
+    GRE_OTHER = 0x4c07, /* another version, or bits with which the header may have another form */
 };
 struct niw_number conversation_of(const uint8_t *frame, size_t length);
 

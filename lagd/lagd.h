@@ -19,6 +19,7 @@ enum {
     MISSING = 128,   /* its interface is missing */
     WITHOUT_PARTNER, /* it distributes on defaults */
     PARTNER_WANTED,  /* so it does, but partner-required is given */
+    RESTORING,       /* its carrier is back, and waits for wait-to-restore */
 };
 
 /* How the program ends. */
@@ -95,6 +96,8 @@ struct link {
     uint8_t mac[6];
     bool present; /* whether the answer of the kernel that is being read named it */
     bool up;
+    bool waits;            /* whether its carrier is there, and has to be steady for longer before it is up */
+    uint64_t steady_since; /* the milliseconds since which that is there, while it waits */
     uint32_t kernel_losses; /* how often the carrier went, as the kernel last told */
     bool unsent;            /* whether `frame` waits for room in its second, or for the kernel to take it */
     bool tried;             /* whether it was tried since the last tick */
@@ -250,6 +253,14 @@ void look_for_twins(void);
 
 /* probe.c */
 void note_response(const struct link *link, uint32_t id);
+
+/* restore.c */
+bool is_restored(struct link *link);
+void forget_carrier(struct link *link);
+bool has_waited(const struct link *link);
+
+/* revert.c */
+void pass_revert_second(void);
 
 /* changes.c */
 int open_changes(void);

@@ -115,6 +115,7 @@ void set_link(uint16_t port, bool up) {
 
 /* The interface of a port is gone, or has another name now. */
 void lose_link(struct link *link) {
+    forget_carrier(link);
     set_link(link->settings.number, false);
     close_link(link);
     (void)print_change(link);
@@ -134,6 +135,7 @@ static void pass_second(void) {
     }
     look_for_twins();
     allow_bundle_line();
+    pass_revert_second();
     watch_changes();
     notify_alive();
 }
