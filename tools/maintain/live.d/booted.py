@@ -8,6 +8,7 @@ import shutil
 import signal
 import subprocess
 import time
+from typing import Callable
 
 from checking import Skipped, check, command, within
 from daemon import SYSTEM, Daemon, Part
@@ -42,7 +43,8 @@ mount -t sysfs -o ro sysfs sys
 mount -t cgroup2 cgroup2 sys/fs/cgroup
 for place in run tmp dev; do mount -t tmpfs tmpfs "$place"; done
 for device in null zero full random urandom tty; do touch "dev/$device"; mount --bind "/dev/$device" "dev/$device"; done
-mkdir dev/pts dev/shm dev/mqueue dev/hugepages
+mkdir dev/pts dev/shm dev/mqueue dev/hugepages dev/net
+if [ -e /dev/net/tun ]; then touch dev/net/tun; mount --bind /dev/net/tun dev/net/tun; fi
 mount -t devpts -o newinstance,ptmxmode=0666 devpts dev/pts
 ln -s pts/ptmx dev/ptmx
 ln -s /proc/self/fd dev/fd
@@ -88,7 +90,7 @@ def unified() -> str:
 class Machine:
     """A systemd that runs; its commands are run in its namespaces."""
 
-    def __init__(self, part: Part) -> None:
+    def __init__(self, part: Part, more: Callable[[str], None] = lambda over: None) -> None:
         for word in ("unshare", "nsenter", "chroot"):
             if not shutil.which(word):
                 raise Skipped(f"no command {word}")
@@ -96,8 +98,10 @@ class Machine:
             raise Skipped("no systemd (Debian: systemd, dbus)")
         self.group = os.path.join(unified(), f"lag-{os.getpid()}")
         tree, over, self.log = (os.path.join(part.folder, name) for name in ("tree", "over", "booted"))
-        os.mkdir(tree)
+        os.makedirs(tree, exist_ok=True)
+        shutil.rmtree(over, ignore_errors=True)  # of another boot
         lay_out(part, over)
+        more(over)
         os.mkdir(self.group)
         words = ["sh", "-c", 'echo $$ > "$1/cgroup.procs" && shift && exec "$@"', "sh", self.group]
         words += ["ip", "netns", "exec", OURS, "unshare", *NAMESPACES, "sh", "-c", BOOT, "sh", tree, over]
