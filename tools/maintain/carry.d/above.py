@@ -3,12 +3,14 @@
 from __future__ import annotations
 
 import shutil
+import socket
+import time
 from typing import Callable
 
 from bonds import DEVICE, End, Programs, every, move_all, pair
 from checking import Failed, Skipped, check, within
 from fast_parts import check_fast
-from spaces import OURS, THEIRS, inside, ip
+from spaces import OURS, THEIRS, inside, ip, within_space
 from streams import run_stream
 
 WAYS: tuple[list[str], ...] = ([], ["--offload"], ["--fast"])
@@ -139,8 +141,10 @@ def tunnels(programs: Programs) -> None:
                 set_up(f"{name}7", f"10.0.{place}")
                 check(within(COMES, lambda: pings(f"10.0.{place}.2", 1000)), f"{name} {way}: packets go", ours.text())
                 before = [port["data"]["data_sent"] for port in ours.told()["ports"]]
-                for port in range(100):
-                    inside(OURS, "bash", "-c", f"echo x > /dev/udp/10.0.{place}.2/{20000 + port}")
+                with within_space(OURS), socket.socket(socket.AF_INET, socket.SOCK_DGRAM) as sender:
+                    for port in range(20000, 20100):
+                        sender.sendto(b"x", (f"10.0.{place}.2", port))
+                time.sleep(0.5)
                 sent = [port["data"]["data_sent"] - count for port, count in zip(ours.told()["ports"], before)]
                 check(min(sent) > 20, f"{name} {way}: of 100 datagrams to 100 ports {sent} went on the links", ours.text())
                 if shutil.which("iperf3"):
