@@ -8,7 +8,7 @@ import time
 from typing import Callable
 
 from bonds import DEVICE, End, Programs, every, move_all, pair
-from checking import Failed, Skipped, check, within
+from checking import Skipped, check, command, within
 from fast_parts import check_fast
 from spaces import OURS, THEIRS, inside, ip, within_space
 from streams import run_stream
@@ -86,7 +86,7 @@ def make_trunk(space: str, number: int) -> None:
     if made.returncode or not shutil.which("bridge"):
         raise Skipped(f"there is no bridge: {made.stderr.strip()}")
     guest = f"{space}-guest"
-    inside(space, "ip", "netns", "add", guest)
+    command("ip", "netns", "add", guest)
     ip(space, "link", "add", "tap7", "type", "veth", "peer", "name", "eth0", "netns", guest)
     for port in DEVICE, "tap7":
         ip(space, "link", "set", port, "master", "br0")
@@ -122,7 +122,7 @@ def bridges(programs: Programs) -> None:
                 check(answered(1400), f"and with one link {way}", ours.text())
         finally:
             for guest in guests:
-                inside(OURS, "ip", "netns", "del", guest)
+                command("ip", "netns", "del", guest)
 
 
 def tunnels(programs: Programs) -> None:

@@ -5,7 +5,7 @@ from __future__ import annotations
 import time
 from typing import Callable
 
-from bonds import COMES_UP, End, Event, Programs, cables, check_end, check_order, check_whole, pair, run_flows
+from bonds import COMES_UP, RATE, End, Event, Programs, cables, check_end, check_order, check_whole, pair, run_flows
 from checking import Failed, check, within
 from spaces import OURS, THEIRS, ip
 
@@ -87,8 +87,7 @@ def reverts(programs: Programs) -> None:
                 check("port 1 a0: it makes way for port 2 a1" in ours.printed(), "a line says so", ours.printed())
                 check_order(outcome, f"through a link that makes way {way}", ours.text())
                 check(outcome.gap_ms < 2000, f"no flow rests for longer than {outcome.gap_ms} ms", ours.text())
-                lost = outcome.sent - outcome.refused - outcome.received
-                check(lost == 0, f"{lost} of {outcome.sent:,} frames are lost", outcome, ours.text(), theirs.text())
+                check(outcome.lost() == 0, f"{outcome.lost()} of {outcome.sent:,} frames are lost", outcome, ours.text(), theirs.text())
                 check_end(ours, "the sending end")
                 outcome = run_flows(programs, 10, [(1, lambda: laid.tell("cut", 2)), (4, lambda: laid.tell("join", 2))])
                 check(used([True, False, False])(), "one that was away gets its place back", ours.text())
@@ -98,6 +97,27 @@ def reverts(programs: Programs) -> None:
             finally:
                 ours.stop()
                 theirs.stop()
+
+
+def reverts_there(programs: Programs) -> None:
+    """The receiving end has the limit: what is on its way to the link that makes way is lost, and nothing is overtaken."""
+    with cables(programs, (0, 20000, 5000)) as laid:
+        laid.tell("cut", 1)
+        ours = End(programs, OURS, links=3)
+        theirs = End(programs, THEIRS, names=("b0:priority=200", "b1:priority=100", "b2:priority=300"), options=["--max-links", "2", "--revert"])
+        try:
+            check(within(COMES_UP, lambda: ours.links() == theirs.links() == 2), "the first two links carry", ours.text())
+            if not within(COMES_UP, lambda: ours.carry()["markers"] == "answered"):
+                raise Failed("the peer answers markers", ours.text())
+            outcome = run_flows(programs, 9, [(1, lambda: laid.tell("join", 1))])
+            check(standing(theirs) == [False, False, True], "the third one takes the place of the highest priority", theirs.text())
+            check_order(outcome, "to an end whose link makes way", ours.text())
+            uncollected, lost = theirs.data("uncollected"), outcome.lost()
+            check(lost == uncollected < RATE // 10, f"{lost} of {outcome.sent:,} frames are lost, which were on their way there", outcome, theirs.text())
+            check_whole(outcome, ours, theirs, cables_lose=True)
+        finally:
+            ours.stop()
+            theirs.stop()
 
 
 def two_limits(programs: Programs) -> None:
@@ -119,4 +139,4 @@ def two_limits(programs: Programs) -> None:
                 end.stop()
 
 
-PARTS: dict[str, Callable[[Programs], None]] = {it.__name__: it for it in (restores, reverts, two_limits)}
+PARTS: dict[str, Callable[[Programs], None]] = {it.__name__: it for it in (restores, reverts, reverts_there, two_limits)}

@@ -189,6 +189,16 @@ def reloads(part: Part) -> None:
     check_after(FILE.replace("min-links=1", "min-links=2").replace("priority=100", "priority=200"), "read again, 1 ports changed")
     both_up(ours, theirs, "both links distribute again")
     check("min_links: 2" in ours.text(), "min-links is another one", ours.text())
+    check_after(FILE.replace("min-links=1", "wait-to-restore=3600"), "read again, 1 ports changed")
+    both_up(ours, theirs, "both links distribute once more")
+    for state in "down", "up":
+        ip(OURS, "link", "set", "a1", state)
+    waits = "the link is back, and waits for wait-to-restore"
+    check(within(ENDS, lambda: ours.port("a1")["status"] == waits) and ours.distributes("a0"), "a link that comes back waits", ours.text())
+    told = inside(OURS, ours.program, "--folder", ours.folder, "--metrics").stdout
+    check('lagd_port_status{bundle="uplink",interface="a1",port="2"} 131' in told, "so say the metrics", told)
+    check_after(FILE, "read again, 0 ports changed")
+    both_up(ours, theirs, "without wait-to-restore both links distribute again")
     check_after(FILE.replace("key=23", "key=24"), "a key that no port had at the start: a restart of this bundle is needed")
     check_after(FILE + "[Port a2]\n", "other interfaces: a restart of this bundle is needed")
     check_after(FILE.replace("32768", "1"), "another system: a restart of this bundle is needed")
