@@ -83,7 +83,7 @@ def boot_with(name: str) -> Callable[[Part], None]:
         part.unhurried()
         if not os.path.exists("/dev/net/tun"):
             raise Skipped("there is no /dev/net/tun")
-        machine = Machine(part, lay_over(Packages(CACHE, True), name))
+        machine = Machine(part, more=lay_over(Packages(CACHE, True), name))
         try:
             theirs = part.theirs(options=["--carry", "lag0"])
             within(ANSWERS, lambda: inside(THEIRS, "ip", "link", "set", "lag0", "up").returncode == 0)
