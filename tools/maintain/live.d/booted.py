@@ -138,7 +138,7 @@ class Machine:
         if self.process.poll() is None:
             self.process.kill()
             self.process.wait()
-        ended = lambda: not open(os.path.join(self.group, "cgroup.procs"), encoding="utf-8").read()
+        ended = lambda: "populated 0" in open(os.path.join(self.group, "cgroup.events"), encoding="utf-8").read()
         within(ANSWERS, ended)
         time.sleep(0.2)
         for place, _, _ in os.walk(self.group, topdown=False):
