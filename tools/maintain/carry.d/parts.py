@@ -16,6 +16,7 @@ from fast_parts import (fast, fast_away, fast_ends, fast_hash, fast_overload, fa
 from forged import PARTS as FORGED
 from member_parts import PARTS as MEMBERS
 from models import model
+from restarting import PARTS as RESTARTS
 from rows import rows
 from checking import Skipped, check, within
 from fetching import Packages
@@ -314,3 +315,4 @@ PARTS: dict[str, Callable[[Programs], None]] = {it.__name__: it for it in
      queues, segments, speed, announced)}
 PARTS.update(FORGED)
 PARTS.update(MEMBERS)
+PARTS.update(RESTARTS)

@@ -1,0 +1,266 @@
+"""A daemon that hands over to the next one, is killed, or is stopped, while frames flow: what is lost, for how long, and what its peer sees."""
+
+from __future__ import annotations
+
+import contextlib
+import fcntl
+import os
+import signal
+import socket
+import time
+from array import array
+from functools import partial
+from threading import Thread
+from typing import Callable, Iterator, Sequence
+
+from beside import print_rows, switch_ends
+from booted import BOOTS, Machine
+from bonds import COMES_BACK, COMES_UP, DEVICE, DIRECT, FLIGHT, FLOWS, RATE, End, Outcome, Programs, cables, check_order, run_flows
+from checking import Failed, Skipped, check, within
+from daemon import ENDS, SYSTEM, Part
+from openvswitch import OpenVSwitch
+from spaces import OURS, THEIRS, inside, ip
+
+ADDRESS = "192.0.2.1/24"
+# After how many seconds the unit starts a daemon that failed.
+RESTARTS = 0.2
+# How long the longest gap of a flow may be in milliseconds, where nothing is lost, on a machine that has other things to do.
+SHORT_GAP = 1000
+# What a daemon that is killed had in hand at most: what it had read and not sent.
+IN_HAND = 4 * 64
+# Above the files that a program begins with.
+HIGH = 200
+WAYS: dict[str, tuple[str, ...]] = {"plain": (), "offload": ("--offload",), "fast": ("--fast",)}
+
+
+class Manager:
+    """What a manager of services does: it keeps the files that a daemon stores, and hands them to the next one."""
+
+    def __init__(self, folder: str) -> None:
+        self.path = os.path.join(folder, "manager")
+        self.files: dict[str, int] = {}
+        self.socket = socket.socket(socket.AF_UNIX, socket.SOCK_DGRAM)
+        self.socket.bind(self.path)
+        self.reader = Thread(target=self.read, daemon=True)
+        self.reader.start()
+
+    def read(self) -> None:
+        files = array("i")
+        while True:
+            text, more, _, _ = self.socket.recvmsg(4096, socket.CMSG_SPACE(8 * files.itemsize))
+            if text == b"END":
+                return
+            files = array("i", b"".join(octets for _, kind, octets in more if kind == socket.SCM_RIGHTS))
+            told = dict(line.partition("=")[::2] for line in text.decode().splitlines())
+            name = told.get("FDNAME", "")
+            if "FDSTOREREMOVE" in told and name in self.files:
+                os.close(self.files.pop(name))
+            if "FDSTORE" in told and files:
+                self.files[name] = fcntl.fcntl(files[0], fcntl.F_DUPFD, HIGH)
+            for it in files:
+                os.close(it)
+
+    def before(self) -> list[str]:
+        """What stands before the words of a daemon, so that it gets what is kept."""
+        names = ":".join(self.files)
+        text = f"export NOTIFY_SOCKET={self.path}; "
+        if self.files:
+            text += f"export LISTEN_PID=$$ LISTEN_FDS={len(self.files)} LISTEN_FDNAMES={names}; "
+        moved = " ".join(f"{3 + place}<&{file}-" for place, file in enumerate(self.files.values()))
+        return ["bash", "-c", f'{text} exec "$@" {moved}', "bash"]
+
+    def drop(self) -> None:
+        """Keeps nothing any more, as where its unit is stopped."""
+        self.socket.sendto(b"END", self.path) if self.reader.is_alive() else None
+        self.reader.join()
+        for it in self.files.values():
+            os.close(it)
+        self.files.clear()
+        self.socket.close()
+        os.unlink(self.path)
+
+
+class Kept(End):
+    """An end whose daemon is started again; with a manager, that one keeps its files."""
+
+    def __init__(self, programs: Programs, space: str, options: Sequence[str], manager: Manager | None = None) -> None:
+        self.programs, self.options, self.manager = programs, options, manager
+        self.launch()
+
+    def launch(self) -> None:
+        before = self.manager.before() if self.manager else []
+        files = list(self.manager.files.values()) if self.manager else []
+        super().__init__(self.programs, OURS, options=self.options, before=before, files=files)
+
+    def again(self, by: signal.Signals, after: float = 0.0) -> None:
+        """Its daemon ends by a signal, and is started again."""
+        self.process.send_signal(by)
+        self.process.wait(ENDS)
+        time.sleep(after)
+        self.launch()
+
+
+@contextlib.contextmanager
+def managed(programs: Programs, options: Sequence[str], *, has_manager: bool = True) -> Iterator[tuple[Kept, End]]:
+    """Two ends whose links all carry; our daemon is started again."""
+    manager = Manager(programs.folder) if has_manager else None
+    ends: list[End] = []
+    try:
+        with cables(programs, ()):
+            ours = Kept(programs, OURS, options, manager)
+            ends += [ours, End(programs, THEIRS, options=options)]
+            ip(OURS, "address", "add", ADDRESS, "dev", DEVICE)
+            if not within(COMES_UP, lambda: all(end.links() == DIRECT and end.carry()["markers"] == "answered" for end in ends)):
+                raise Failed("two links carry", *(end.text() for end in ends))
+            yield ours, ends[1]
+    finally:
+        for end in ends:
+            end.stop()
+        if manager:
+            manager.drop()
+
+
+def device_number() -> str:
+    return inside(OURS, "cat", f"/sys/class/net/{DEVICE}/ifindex").stdout.strip()
+
+
+def seen(end: End) -> str:
+    """What an end has told of its ports and of its bundle."""
+    return "".join(line for line in end.printed().splitlines(True) if " port " in line or " bundle " in line)
+
+
+def flows_through(programs: Programs, event: Callable[[], object]) -> Outcome:
+    """What becomes of frames, with an event in the midst of them."""
+    def happen() -> None:
+        event()
+
+    run_flows(programs, 1)
+    return run_flows(programs, 5, [(1.5, happen)])
+
+
+def check_unseen(what: str, ours: Kept, theirs: End, before: tuple[str, str], outcome: Outcome) -> None:
+    """The peer saw nothing, and the device is the same one, with its address."""
+    told = ours.text(), ours.printed()[-3000:], theirs.printed()[-2000:]
+    check_order(outcome, what, *told)
+    check((seen(theirs), device_number()) == before, f"{what}: the peer saw nothing, and {DEVICE} is the same device", before, *told)
+    check(ADDRESS in inside(OURS, "ip", "address", "show", "dev", DEVICE).stdout, f"{what}: it has its address", *told)
+    check(within(COMES_BACK, lambda: ours.links() == DIRECT), f"{what}: both links carry, and its carrier is on", *told)
+
+
+def hand_over(programs: Programs, name: str) -> None:
+    """The daemon of one way hands over under a manager, twice, and is killed."""
+    with managed(programs, WAYS[name]) as (ours, theirs):
+        before = seen(theirs), device_number()
+        for turn in ("once", "twice"):
+            outcome = flows_through(programs, lambda: ours.again(signal.SIGUSR1))
+            check_unseen(f"{name}, handed over {turn}", ours, theirs, before, outcome)
+            check(outcome.lost() == 0 and outcome.gap_ms < SHORT_GAP, f"{name}, handed over {turn}: {outcome.lost()} frames are lost", outcome, ours.text())
+        outcome = flows_through(programs, lambda: ours.again(signal.SIGKILL, RESTARTS))
+        check_unseen(f"{name}, killed", ours, theirs, before, outcome)
+        check(outcome.lost() <= IN_HAND, f"{name}, killed: {outcome.lost()} frames are lost, {IN_HAND} at most", outcome, ours.text())
+
+
+def handover_plain(programs: Programs) -> None:
+    hand_over(programs, "plain")
+
+
+def handover_offload(programs: Programs) -> None:
+    hand_over(programs, "offload")
+
+
+def handover_fast(programs: Programs) -> None:
+    hand_over(programs, "fast")
+
+
+def handover_alone(programs: Programs) -> None:
+    """Without a manager the device outlives the daemon, and what comes meanwhile is lost."""
+    for name, words in WAYS.items():
+        with managed(programs, words, has_manager=False) as (ours, theirs):
+            before = seen(theirs), device_number()
+            outcome = flows_through(programs, lambda: ours.again(signal.SIGUSR1))
+            check_unseen(f"{name}, handed over without a manager", ours, theirs, before, outcome)
+            ours.ends("the daemon")
+            check(device_number() == "", f"{name}: at a stop the device goes")
+
+
+BUNDLE = f"[Bundle]\nkey=23\nsystem=32768,{SYSTEM}\ncarry={DEVICE}\nflight={FLIGHT}\n%s[Port a0]\n[Port a1]\n"
+
+
+@contextlib.contextmanager
+def unit(programs: Programs, words: str) -> Iterator[tuple[Machine, End]]:
+    """Our daemon as a unit of systemd, and its peer."""
+    folder = os.path.join(programs.folder, f"unit{len(words)}")
+    os.mkdir(folder)
+    with cables(programs, ()):
+        machine = Machine(Part(programs.daemon, folder), BUNDLE % words)
+        theirs = End(programs, THEIRS)
+        try:
+            if not within(BOOTS, lambda: machine.property("StatusText") == "up, 2 of 2 links carry" and theirs.links() == DIRECT):
+                raise Skipped(f"systemd does not run the unit here: {machine.told()[-1500:]}")
+            ip(OURS, "link", "set", DEVICE, "up")
+            yield machine, theirs
+        finally:
+            theirs.stop()
+            machine.process.send_signal(signal.SIGKILL)
+            machine.drop()
+
+
+def unit_of(programs: Programs, name: str, words: str) -> None:
+    with unit(programs, words) as (machine, theirs):
+        before = seen(theirs), device_number()
+        events = (("restarted", ("restart", "lagd@uplink"), 0), ("killed", ("kill", "--signal=SIGKILL", "lagd@uplink"), IN_HAND))
+        for what, command, most in events:
+            main = machine.main()
+            outcome = flows_through(programs, partial(machine.run, "systemctl", *command))
+            text = f"{name}, {what} under systemd"
+            check_order(outcome, text, machine.told())
+            check(outcome.lost() <= most, f"{text}: {outcome.lost()} frames are lost, {most} at most", outcome, machine.told())
+            check((seen(theirs), device_number()) == before and machine.main() != main, f"{text}: the peer saw nothing, and {DEVICE} is the same device", machine.told())
+        machine.run("systemctl", "stop", "lagd@uplink")
+        check(within(ENDS, lambda: theirs.links() == 0 and device_number() == ""), f"{name}, stopped: the peer is told, and the device goes", machine.told())
+
+
+def handover_unit(programs: Programs) -> None:
+    """The unit under systemd itself is restarted, killed and stopped."""
+    unit_of(programs, "plain", "")
+    unit_of(programs, "fast", "fast=yes\n")
+
+
+HEADINGS = ("way", "frames", "lost", "overtaken", "longest gap, ms")
+
+
+def row(name: str, outcome: Outcome) -> list[str]:
+    return [name, *(f"{count:,}" for count in (outcome.sent, outcome.lost(), outcome.overtaken, outcome.gap_ms))]
+
+
+def measure(programs: Programs, name: str, words: Sequence[str]) -> list[list[str]]:
+    """The rows of one way, by how its daemon ends."""
+    with managed(programs, words) as (ours, _):
+        events = {"handed over": lambda: ours.again(signal.SIGUSR1), f"killed, and started after {RESTARTS} s": lambda: ours.again(signal.SIGKILL, RESTARTS),
+                  "stopped and started": lambda: ours.again(signal.SIGTERM)}
+        return [row(f"lagd {name}, {what}", flows_through(programs, event)) for what, event in events.items()]
+
+
+def start_again(end: OpenVSwitch) -> None:
+    """Its switch ends, and is started again; its database runs on."""
+    switch = end.running.pop()
+    switch.terminate()
+    switch.wait(ENDS)
+    end.launch("ovs-vswitchd", f"--unixctl={end.folder}/switch.ctl", f"unix:{end.folder}/db.sock")
+    within(ENDS, lambda: inside(OURS, "ip", "link", "set", "br0", "txqueuelen", "4096", "up").returncode == 0)
+
+
+def print_restarts(programs: Programs) -> None:
+    rows = [cells for name, words in WAYS.items() for cells in measure(programs, name, words)]
+    try:
+        with switch_ends(programs, ()) as (_, ends):
+            outcome = run_flows(programs, 8, [(1.5, lambda: start_again(ends[1]))], devices=("br0", "br0"))
+            rows.append(row(f"Open vSwitch {ends[0].version()}, stopped and started, at the receiving end", outcome))
+    except Skipped as why:
+        print(f"skipped: Open vSwitch: {why}", flush=True)
+    print(f"{FLOWS} flows, {RATE:,} frames a second, two pairs of interfaces; the daemon of the sending end")
+    print_rows(HEADINGS, rows)
+    check(all(cells[2] == "0" for cells in rows if "handed over" in cells[0]), "a daemon that hands over loses no frame")
+
+
+PARTS = {it.__name__: it for it in (handover_plain, handover_offload, handover_fast, handover_alone, handover_unit)}
