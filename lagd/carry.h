@@ -111,7 +111,7 @@ void forget_tap(void);
 bool read_tap_mac(uint8_t *mac);
 bool is_tap_up(void);
 void end_tap(int index);
-void keep_tap(void);
+void keep_tap(bool keeps);
 bool tap_persists(void);
 uint32_t mtu_of_administrator(void);
 

@@ -174,8 +174,9 @@ void release_left(void) {
 /* The next daemon is to go on: answers whether it can. */
 bool leave_state(void) {
     uint64_t waiting = 0;
-    if (carries_data()) keep_tap();
+    if (carries_data()) keep_tap(true);
     has_left = save_state();
+    if (!has_left && carries_data()) keep_tap(false);
     if (!has_left) return false;
     leave_store();
     if (carries_data() && !count_all_held(&waiting)) waiting = 0;

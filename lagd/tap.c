@@ -191,10 +191,19 @@ static int index_of(const char *name) {
     return ioctl(asker, SIOCGIFINDEX, &found) == 0 ? found.ifr_ifindex : 0;
 }
 
-/* Takes the device that the last daemon left with the manager of services, whatever an administrator named it since; answers whether there is
- * one. It has all that was set of it, and the frames that wait; its carrier goes where nothing carries. */
+/* The device is the one of the last daemon: it has all that was set of it, and outlives this one no more. */
+static void go_on_with_tap(void) {
+    struct ifreq now = {0};
+    if (left.persists) (void)ioctl(tap, TUNSETPERSIST, 0);
+    less_mtu = left.mtu;
+    if (ask_tap(SIOCGIFMTU, &now)) set_mtu = most_mtu = (uint32_t)now.ifr_mtu;
+    choose_segments();
+}
+
+/* Takes the device that the last daemon left with the manager of services, whatever an administrator named it since, and the frames that
+ * wait there; answers whether there is one. Its carrier goes where nothing goes on. */
 static bool take_left(const char *name) {
-    struct ifreq device = {0}, now = {0};
+    struct ifreq device = {0};
     int fd = take_stored("tap", 0);
     if (fd < 0) return false;
     if (!is_here(fd, &device) || (left.tap == 0 ? strcmp(device.ifr_name, name) != 0 : index_of(device.ifr_name) != left.tap)) {
@@ -203,37 +212,16 @@ static bool take_left(const char *name) {
     }
     tap = fd;
     number = index_of(device.ifr_name);
-    less_mtu = left.mtu;
-    if (ask_tap(SIOCGIFMTU, &now)) set_mtu = most_mtu = (uint32_t)now.ifr_mtu;
     carrier = true;
     if (!resuming) set_carrier(false);
-    choose_segments();
+    go_on_with_tap();
     return true;
 }
 
-/* The name of the device that the last daemon made outlive itself; or the one that was given. */
-static const char *name_left(const char *name, char room[static IF_NAMESIZE]) {
-    return left.persists && if_indextoname((unsigned)left.tap, room) ? room : name;
-}
-
-/* Makes the device, without carrier, or takes one that is there and that nobody has. One that was made is gone when the daemon ends, unless
- * the next one goes on. It gets its MAC address before anything else: whoever brings it up has a link-local address of it. */
-static void make_tap(const char *name, const uint8_t *mac) {
-    char room[IF_NAMESIZE];
-    struct ifreq device = request_of(name_left(name, room)), address = {0}, queue = {0};
-    tap = open("/dev/net/tun", O_RDWR | O_NONBLOCK | O_CLOEXEC);
-    if (tap < 0) stop(REFUSED, "no TAP device", strerror(errno));
-    device.ifr_flags = IFF_TAP | IFF_NO_PI | IFF_VNET_HDR | NO_CARRIER;
-    if (ioctl(tap, TUNSETIFF, &device) < 0) stop(REFUSED, name, strerror(errno));
-    number = index_of(device.ifr_name);
-    if (number == 0) stop(REFUSED, name, strerror(errno));
-    if (left.persists && number == left.tap) {
-        (void)ioctl(tap, TUNSETPERSIST, 0);
-        less_mtu = left.mtu;
-        if (ask_tap(SIOCGIFMTU, &queue)) set_mtu = most_mtu = (uint32_t)queue.ifr_mtu;
-        choose_segments();
-        return;
-    }
+/* Sets a device up that is new to the daemon. It gets its MAC address before anything else: whoever brings it up has a link-local address
+ * of it. */
+static void set_up(const uint8_t *mac) {
+    struct ifreq address = {0}, queue = {0};
     address.ifr_hwaddr.sa_family = ARPHRD_ETHER;
     memcpy(address.ifr_hwaddr.sa_data, mac, ETH_ALEN);
     if (!ask_tap(SIOCSIFHWADDR, &address)) stop(REFUSED, "no address of the TAP device", strerror(errno));
@@ -244,6 +232,23 @@ static void make_tap(const char *name, const uint8_t *mac) {
     (void)ask_tap(SIOCSIFTXQLEN, &queue);
     settle_mtu();
     if (settings.fast) set_no_queue();
+}
+
+/* Makes the device, without carrier, or takes one that is there and that nobody has, as that of the last daemon, which may have another name
+ * now. One that was made is gone when the daemon ends, unless the next one goes on. */
+static void make_tap(const char *name, const uint8_t *mac) {
+    char room[IF_NAMESIZE];
+    struct ifreq device = request_of(left.persists && if_indextoname((unsigned)left.tap, room) ? room : name);
+    tap = open("/dev/net/tun", O_RDWR | O_NONBLOCK | O_CLOEXEC);
+    if (tap < 0) stop(REFUSED, "no TAP device", strerror(errno));
+    device.ifr_flags = IFF_TAP | IFF_NO_PI | IFF_VNET_HDR | NO_CARRIER;
+    if (ioctl(tap, TUNSETIFF, &device) < 0) stop(REFUSED, name, strerror(errno));
+    number = index_of(device.ifr_name);
+    if (number == 0) stop(REFUSED, name, strerror(errno));
+    if (left.tap == number)
+        go_on_with_tap();
+    else
+        set_up(mac);
 }
 
 /* Opens the device. */
@@ -267,11 +272,11 @@ void end_tap(int index) {
     close(fd);
 }
 
-/* The next daemon gets the device as it is: from the manager of services, or by its name. */
-void keep_tap(void) {
+/* The next daemon gets the device as it is, by its name where no manager of services keeps it; or it is to go with this one. */
+void keep_tap(bool keeps) {
     struct ifreq device = {0};
-    if (has_store() || ioctl(tap, TUNGETIFF, &device) < 0 || (device.ifr_flags & IFF_PERSIST)) return;
-    persists = ioctl(tap, TUNSETPERSIST, 1) == 0;
+    if (ioctl(tap, TUNGETIFF, &device) < 0 || persists == keeps || (keeps && (device.ifr_flags & IFF_PERSIST))) return;
+    if (ioctl(tap, TUNSETPERSIST, keeps) == 0) persists = keeps;
 }
 
 bool tap_persists(void) {
