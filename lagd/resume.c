@@ -99,24 +99,33 @@ void begin_resuming(void) {
     for (unsigned i = 0; i < left.link_count; i++) resuming = resuming || left.links[i].carried;
 }
 
+/* Tells what became of the links of the last daemon, if some are there. */
+static void tell_links(unsigned count) {
+    unsigned known = 0;
+    for (uint16_t i = 0; i < link_count; i++) known += links[i].socket >= 0 && left_of(&links[i]) != NULL;
+    if (known > 0 && left.others)
+        (void)say(LOG_WARNING | ABOUT_HANDOVER, "the state that the last daemon left is not used: it belongs to other settings");
+    else if (known > 0)
+        (void)say(LOG_NOTICE | ABOUT_HANDOVER, "%u of %u links go on where the last daemon left them", count, link_count);
+}
+
 /* Once the interfaces are taken up: the ports that distributed do so again. The others come after them, so that none takes the place of one
  * where links are limited. Answers how many ports went on. */
 unsigned resume(void) {
     bool chosen[NIW_MOST_PORTS] = {false};
     unsigned count = 0;
-    if (!resuming) return 0;
     began = boottime();
-    for (uint16_t i = 0; i < link_count; i++) count += chosen[i] = goes_on(&links[i]);
-    set_links(chosen, true);
+    for (uint16_t i = 0; resuming && i < link_count; i++) count += chosen[i] = goes_on(&links[i]);
+    if (count > 0) set_links(chosen, true);
     for (uint16_t i = 0; i < link_count; i++)
         if (chosen[i]) hear_again(&links[i]);
     if (count > 0) pass_time(chosen);
-    resuming = false;
     count = 0;
     for (uint16_t i = 0; i < link_count; i++) count += chosen[i] && distributes((uint16_t)(i + 1));
-    set_links(chosen, false);
+    if (resuming) set_links(chosen, false);
+    resuming = false;
     send_due();
-    (void)say(LOG_NOTICE | ABOUT_HANDOVER, "%u of %u links go on where the last daemon left them", count, link_count);
+    tell_links(count);
     return count;
 }
 

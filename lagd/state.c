@@ -182,8 +182,10 @@ static const char *read_state(FILE *file) {
     return strcmp(given, way()) == 0 ? NULL : OTHER_SETTINGS;
 }
 
-/* By other settings nothing goes on: what stays to be done is to put back what the last daemon changed. */
+/* By other settings nothing goes on: what stays to be done is to put back what the last daemon changed. It has a line once these interfaces
+ * are found. */
 static void keep_interfaces(void) {
+    left.others = true;
     if (left.persists) end_tap(left.tap);
     for (unsigned i = 0; i < left.link_count; i++) left.links[i].carried = false;
     memset(left.members, 0, sizeof left.members);
@@ -216,10 +218,11 @@ void recall_state(void) {
     fault = read_state(file);
     fclose(file);
     if (!fault) return;
-    if (strcmp(fault, OTHER_SETTINGS) == 0)
+    if (strcmp(fault, OTHER_SETTINGS) == 0) {
         keep_interfaces();
-    else
-        left = (struct left){0};
+        return;
+    }
+    left = (struct left){0};
     (void)say(LOG_WARNING | ABOUT_HANDOVER, "the state that the last daemon left is not used: %s", fault);
 }
 

@@ -16,6 +16,7 @@ struct left_link {
 };
 
 struct left {
+    bool others; /* whether it is of other settings, so that only the interfaces are told */
     unsigned link_count;
     struct left_link links[NIW_MOST_PORTS];
     uint32_t marker;              /* the identifier of the next one */
