@@ -18,7 +18,6 @@
 #define HEX_LENGTH "248"
 /* A marker that went after the file was written has another identifier than those from here on. */
 #define UNWRITTEN_MARKERS 65536
-#define OTHER_SETTINGS "it belongs to other settings"
 
 struct left left;
 
@@ -170,18 +169,6 @@ static bool read_rest(FILE *file) {
     return false;
 }
 
-/* Reads a state; answers NULL, or why it counts for nothing. */
-static const char *read_state(FILE *file) {
-    unsigned version;
-    char boot[64], given[WAY_ROOM];
-    if (fscanf(file, "lagd %u", &version) != 1) return "it is no state of lagd";
-    if (version != FORM_VERSION) return "it is of another version";
-    if (fscanf(file, " boot %63s way %95s", boot, given) != 2) return "it is cut off";
-    if (strcmp(boot, boot_id()) != 0) return "it is of another boot";
-    if (!read_rest(file)) return "it is cut off, or wrong";
-    return strcmp(given, way()) == 0 ? NULL : OTHER_SETTINGS;
-}
-
 /* By other settings nothing goes on: what stays to be done is to put back what the last daemon changed. It has a line once these interfaces
  * are found. */
 static void keep_interfaces(void) {
@@ -193,6 +180,19 @@ static void keep_interfaces(void) {
     left.answering = NOT_ASKED;
     left.tap = left.persists = 0;
     left.mtu = 0;
+}
+
+/* Reads a state; answers NULL, or why it counts for nothing. */
+static const char *read_state(FILE *file) {
+    unsigned version;
+    char boot[64], given[WAY_ROOM];
+    if (fscanf(file, "lagd %u", &version) != 1) return "it is no state of lagd";
+    if (version != FORM_VERSION) return "it is of another version";
+    if (fscanf(file, " boot %63s way %95s", boot, given) != 2) return "it is cut off";
+    if (strcmp(boot, boot_id()) != 0) return "it is of another boot";
+    if (!read_rest(file)) return "it is cut off, or wrong";
+    if (strcmp(given, way()) != 0) keep_interfaces();
+    return NULL;
 }
 
 /* Opens the file, if it is one of root or of this user, who alone may write it. */
@@ -218,10 +218,6 @@ void recall_state(void) {
     fault = read_state(file);
     fclose(file);
     if (!fault) return;
-    if (strcmp(fault, OTHER_SETTINGS) == 0) {
-        keep_interfaces();
-        return;
-    }
     left = (struct left){0};
     (void)say(LOG_WARNING | ABOUT_HANDOVER, "the state that the last daemon left is not used: %s", fault);
 }

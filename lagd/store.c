@@ -64,10 +64,8 @@ int take_stored(const char *kind, int number) {
 }
 
 static void drop_at(size_t place) {
-    char text[128];
     if (stored[place].fd < 0) return;
-    snprintf(text, sizeof text, "FDSTOREREMOVE=1\nFDNAME=%s", stored[place].name);
-    (void)sd_notify(0, text);
+    (void)sd_notifyf(0, "FDSTOREREMOVE=1\nFDNAME=%s", stored[place].name);
     detach_program(stored[place].fd);
     close(stored[place].fd);
     stored[place].fd = -1;
@@ -86,11 +84,7 @@ void leave_store(void) {
 /* The program ends, by whatever it is refused: nothing goes on without it, as the carrier of its device. */
 static void empty_store(void) {
     if (stays) return;
-    for (size_t i = 0; i < count; i++) {
-        char text[128];
-        snprintf(text, sizeof text, "FDSTOREREMOVE=1\nFDNAME=%s", stored[i].name);
-        (void)sd_notify(0, text);
-    }
+    for (size_t i = 0; i < count; i++) (void)sd_notifyf(0, "FDSTOREREMOVE=1\nFDNAME=%s", stored[i].name);
 }
 
 /* Takes over what the last daemon left with the manager. */
