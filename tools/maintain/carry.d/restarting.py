@@ -15,7 +15,8 @@ from typing import Callable, Iterator, Sequence
 
 from beside import print_rows, switch_ends
 from booted import BOOTS, Machine
-from bonds import COMES_BACK, COMES_UP, DEVICE, DIRECT, FLIGHT, FLOWS, RATE, End, Outcome, Programs, cables, check_order, run_flows
+from bonds import (COMES_BACK, COMES_UP, DEVICE, DIRECT, FLIGHT, FLOWS, MIDDLE, RATE, End, Outcome, Programs, ask_gro, cables, check_order, lay_direct,
+                   run_flows)
 from checking import Failed, Skipped, check, within
 from daemon import ENDS, SYSTEM, Part
 from openvswitch import OpenVSwitch
@@ -84,35 +85,37 @@ class Kept(End):
     """An end whose daemon is started again; with a manager, that one keeps its files."""
 
     def __init__(self, programs: Programs, space: str, options: Sequence[str], manager: Manager | None = None) -> None:
-        self.programs, self.options, self.manager = programs, options, manager
+        self.programs, self.at, self.options, self.manager = programs, space, options, manager
+        self.members: Sequence[str] = ()
         self.launch()
 
     def launch(self) -> None:
         before = self.manager.before() if self.manager else []
         files = list(self.manager.files.values()) if self.manager else []
-        super().__init__(self.programs, OURS, options=self.options, before=before, files=files)
+        super().__init__(self.programs, self.at, options=self.options, before=before, files=files, names=self.members)
 
-    def again(self, by: signal.Signals, after: float = 0.0) -> None:
+    def again(self, by: signal.Signals, after: float = 0.0, between: Callable[[], object] = lambda: None) -> None:
         """Its daemon ends by a signal, and is started again."""
         self.process.send_signal(by)
         self.process.wait(ENDS)
         time.sleep(after)
+        between()
         self.launch()
 
 
 @contextlib.contextmanager
-def managed(programs: Programs, options: Sequence[str], *, has_manager: bool = True) -> Iterator[tuple[Kept, End]]:
-    """Two ends whose links all carry; our daemon is started again."""
+def managed(programs: Programs, options: Sequence[str], *, space: str = OURS, has_manager: bool = True) -> Iterator[tuple[Kept, End]]:
+    """Two ends whose links all carry; the daemon of the first one is started again."""
     manager = Manager(programs.folder) if has_manager else None
     ends: list[End] = []
     try:
         with cables(programs, ()):
-            ours = Kept(programs, OURS, options, manager)
-            ends += [ours, End(programs, THEIRS, options=options)]
-            ip(OURS, "address", "add", ADDRESS, "dev", DEVICE)
+            kept = Kept(programs, space, options, manager)
+            ends += [kept, End(programs, THEIRS if space == OURS else OURS, options=options)]
+            ip(space, "address", "add", ADDRESS, "dev", DEVICE)
             if not within(COMES_UP, lambda: all(end.links() == DIRECT and end.carry()["markers"] == "answered" for end in ends)):
                 raise Failed("two links carry", *(end.text() for end in ends))
-            yield ours, ends[1]
+            yield kept, ends[1]
     finally:
         for end in ends:
             end.stop()
@@ -120,8 +123,8 @@ def managed(programs: Programs, options: Sequence[str], *, has_manager: bool = T
             manager.drop()
 
 
-def device_number() -> str:
-    return inside(OURS, "cat", f"/sys/class/net/{DEVICE}/ifindex").stdout.strip()
+def device_number(space: str = OURS) -> str:
+    return inside(space, "cat", f"/sys/class/net/{DEVICE}/ifindex").stdout.strip()
 
 
 def seen(end: End) -> str:
@@ -138,26 +141,26 @@ def flows_through(programs: Programs, event: Callable[[], object]) -> Outcome:
     return run_flows(programs, 5, [(1.5, happen)])
 
 
-def check_unseen(what: str, ours: Kept, theirs: End, before: tuple[str, str], outcome: Outcome) -> None:
+def check_unseen(what: str, kept: Kept, peer: End, before: tuple[str, str], outcome: Outcome) -> None:
     """The peer saw nothing, and the device is the same one, with its address."""
-    told = ours.text(), ours.printed()[-3000:], theirs.printed()[-2000:]
+    told = kept.text(), kept.printed()[-3000:], peer.printed()[-2000:]
     check_order(outcome, what, *told)
-    check((seen(theirs), device_number()) == before, f"{what}: the peer saw nothing, and {DEVICE} is the same device", before, *told)
-    check(ADDRESS in inside(OURS, "ip", "address", "show", "dev", DEVICE).stdout, f"{what}: it has its address", *told)
-    check(within(COMES_BACK, lambda: ours.links() == DIRECT), f"{what}: both links carry, and its carrier is on", *told)
+    check((seen(peer), device_number(kept.at)) == before, f"{what}: the peer saw nothing, and {DEVICE} is the same device", before, *told)
+    check(ADDRESS in inside(kept.at, "ip", "address", "show", "dev", DEVICE).stdout, f"{what}: it has its address", *told)
+    check(within(COMES_BACK, lambda: kept.links() == DIRECT), f"{what}: both links carry, and its carrier is on", *told)
 
 
 def hand_over(programs: Programs, name: str) -> None:
-    """The daemon of one way hands over under a manager, twice, and is killed."""
-    with managed(programs, WAYS[name]) as (ours, theirs):
-        before = seen(theirs), device_number()
-        for turn in ("once", "twice"):
-            outcome = flows_through(programs, lambda: ours.again(signal.SIGUSR1))
-            check_unseen(f"{name}, handed over {turn}", ours, theirs, before, outcome)
-            check(outcome.lost() == 0 and outcome.gap_ms < SHORT_GAP, f"{name}, handed over {turn}: {outcome.lost()} frames are lost", outcome, ours.text())
-        outcome = flows_through(programs, lambda: ours.again(signal.SIGKILL, RESTARTS))
-        check_unseen(f"{name}, killed", ours, theirs, before, outcome)
-        check(outcome.lost() <= IN_HAND, f"{name}, killed: {outcome.lost()} frames are lost, {IN_HAND} at most", outcome, ours.text())
+    """The daemon of one way hands over under a manager, and is killed: the sending end, twice, and the receiving one."""
+    for space, end, events in (OURS, "sends", ("handed over", "handed over again", "killed")), (THEIRS, "receives", ("handed over", "killed")):
+        with managed(programs, WAYS[name], space=space) as (kept, peer):
+            before = seen(peer), device_number(space)
+            for event in events:
+                signals = (signal.SIGKILL, RESTARTS) if event == "killed" else (signal.SIGUSR1, 0.0)
+                outcome = flows_through(programs, partial(kept.again, *signals))
+                what, most = f"{name}, the end that {end} is {event}", IN_HAND if event == "killed" else 0
+                check_unseen(what, kept, peer, before, outcome)
+                check(outcome.lost() <= most and outcome.gap_ms < SHORT_GAP, f"{what}: {outcome.lost()} frames are lost", outcome, kept.text())
 
 
 def handover_plain(programs: Programs) -> None:
@@ -181,6 +184,59 @@ def handover_alone(programs: Programs) -> None:
             check_unseen(f"{name}, handed over without a manager", ours, theirs, before, outcome)
             ours.ends("the daemon")
             check(device_number() == "", f"{name}: at a stop the device goes")
+
+
+def check_flows(programs: Programs, kept: Kept, peer: End, what: str) -> None:
+    """Data comes, and nothing else is told where it does not."""
+    links = len(kept.members) or DIRECT
+    check(within(COMES_UP, lambda: kept.links() == peer.links() == links), f"{what}: each link carries", kept.text(), kept.printed()[-2000:])
+    run_flows(programs, 1)
+    outcome = run_flows(programs, 2)
+    check_order(outcome, what, kept.text(), kept.printed()[-2000:])
+    check(outcome.lost() == 0, f"{what}: {outcome.lost()} frames are lost afterwards", outcome, kept.text(), peer.text())
+
+
+def has_joined(name: str) -> bool:
+    return ask_gro(OURS, name)
+
+
+def remade(name: str) -> None:
+    """An interface is deleted, with its other end, and made again."""
+    ip(OURS, "link", "del", name)
+    lay_direct(int(name[1:]))
+
+
+def change_between(programs: Programs, words: Sequence[str]) -> None:
+    """What an administrator does between both daemons: to the device, to a member, to the settings."""
+    name = " ".join(words) or "plain"
+    with managed(programs, words) as (kept, peer):
+        for what, between in (("a member made anew", lambda: remade("a1")), ("the device deleted", lambda: ip(OURS, "link", "del", DEVICE)),
+                              ("the device moved away", lambda: ip(OURS, "link", "set", DEVICE, "netns", MIDDLE))):
+            kept.again(signal.SIGUSR1, 0, between)
+            check_flows(programs, kept, peer, f"{name}, {what}")
+        kept.again(signal.SIGUSR1, 0, lambda: ip(OURS, "link", "set", DEVICE, "down", "name", "other0"))
+        ip(OURS, "link", "set", "other0", "name", DEVICE, "up")
+        check_flows(programs, kept, peer, f"{name}, the device renamed")
+        other, kept.options = kept.options, ["--offload"] if words else ["--fast"]
+        kept.again(signal.SIGUSR1)
+        check("it belongs to other settings" in kept.printed(), f"{name}, another way: a line says so", kept.printed())
+        check_flows(programs, kept, peer, f"{name}, another way")
+        kept.options, kept.members = other, ("a0",)
+        kept.again(signal.SIGUSR1)
+        kept.again(signal.SIGUSR1)
+        check(has_joined("a1") and not has_joined("a0"), f"{name}: what is a member no more gets GRO back", kept.printed())
+        within(COMES_UP, lambda: peer.links() == 1)
+        check_flows(programs, kept, peer, f"{name}, a link that was taken out")
+        kept.process.send_signal(signal.SIGUSR1)
+        kept.process.wait(ENDS)
+        peer.process.kill()
+        kept.launch()
+        check(within(4.5, lambda: kept.links() == 0), f"{name}: where the peer is gone, the carrier goes in its time", kept.text(), kept.printed())
+
+
+def handover_changes(programs: Programs) -> None:
+    change_between(programs, WAYS["plain"])
+    change_between(programs, WAYS["fast"])
 
 
 BUNDLE = f"[Bundle]\nkey=23\nsystem=32768,{SYSTEM}\ncarry={DEVICE}\nflight={FLIGHT}\n%s[Port a0]\n[Port a1]\n"
@@ -263,4 +319,4 @@ def print_restarts(programs: Programs) -> None:
     check(all(cells[2] == "0" for cells in rows if "handed over" in cells[0]), "a daemon that hands over loses no frame")
 
 
-PARTS = {it.__name__: it for it in (handover_plain, handover_offload, handover_fast, handover_alone, handover_unit)}
+PARTS = {it.__name__: it for it in (handover_plain, handover_offload, handover_fast, handover_alone, handover_changes, handover_unit)}
