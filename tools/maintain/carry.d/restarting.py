@@ -17,7 +17,7 @@ from beside import print_rows, switch_ends
 from booted import BOOTS, Machine
 from bonds import (COMES_BACK, COMES_UP, DEVICE, DIRECT, FLIGHT, FLOWS, MIDDLE, RATE, End, Outcome, Programs, ask_gro, cables, check_order, lay_direct,
                    run_flows)
-from checking import Failed, Skipped, check, within
+from checking import Failed, Skipped, check, found, within
 from daemon import ENDS, SYSTEM, Part
 from openvswitch import OpenVSwitch
 from spaces import OURS, THEIRS, inside, ip
@@ -29,6 +29,8 @@ RESTARTS = 0.2
 SHORT_GAP = 1000
 # What a daemon that is killed had in hand at most: what it had read and not sent.
 IN_HAND = 4 * 64
+# Frames a second of which no more wait than the kernel keeps for a host, 4096, while systemd starts the daemon.
+SLOW_RATE = 4000
 # Above the files that a program begins with.
 HIGH = 200
 WAYS: dict[str, tuple[str, ...]] = {"plain": (), "offload": ("--offload",), "fast": ("--fast",)}
@@ -132,13 +134,13 @@ def seen(end: End) -> str:
     return "".join(line for line in end.printed().splitlines(True) if " port " in line or " bundle " in line)
 
 
-def flows_through(programs: Programs, event: Callable[[], object]) -> Outcome:
+def flows_through(programs: Programs, event: Callable[[], object], rate: int = RATE) -> Outcome:
     """What becomes of frames, with an event in the midst of them."""
     def happen() -> None:
         event()
 
     run_flows(programs, 1)
-    return run_flows(programs, 5, [(1.5, happen)])
+    return run_flows(programs, 5, [(1.5, happen)], rate=rate)
 
 
 def check_unseen(what: str, kept: Kept, peer: End, before: tuple[str, str], outcome: Outcome) -> None:
@@ -248,6 +250,8 @@ def unit(programs: Programs, words: str) -> Iterator[tuple[Machine, End]]:
     folder = os.path.join(programs.folder, f"unit{len(words)}")
     os.mkdir(folder)
     with cables(programs, ()):
+        for name in "a0", "a1":
+            inside(OURS, "sh", "-c", f"echo 1 > /sys/class/net/{name}/queues/rx-0/rps_cpus")
         machine = Machine(Part(programs.daemon, folder), BUNDLE % words)
         theirs = End(programs, THEIRS)
         try:
@@ -267,10 +271,13 @@ def unit_of(programs: Programs, name: str, words: str) -> None:
         events = (("restarted", ("restart", "lagd@uplink"), 0), ("killed", ("kill", "--signal=SIGKILL", "lagd@uplink"), IN_HAND))
         for what, command, most in events:
             main = machine.main()
-            outcome = flows_through(programs, partial(machine.run, "systemctl", *command))
+            outcome = flows_through(programs, partial(machine.run, "systemctl", *command), SLOW_RATE)
             text = f"{name}, {what} under systemd"
             check_order(outcome, text, machine.told())
             check(outcome.lost() <= most, f"{text}: {outcome.lost()} frames are lost, {most} at most", outcome, machine.told())
+            if "fast" in words:
+                passed = found(r"conversations of the kernel: (\d+)", machine.tells("lagd", "--status"))
+                check(int(passed) >= FLOWS // 2, f"{text}: the kernel passes {passed} conversations on", machine.told())
             check((seen(theirs), device_number()) == before and machine.main() != main, f"{text}: the peer saw nothing, and {DEVICE} is the same device", machine.told())
         machine.run("systemctl", "stop", "lagd@uplink")
         check(within(ENDS, lambda: theirs.links() == 0 and device_number() == ""), f"{name}, stopped: the peer is told, and the device goes", machine.told())
