@@ -10,7 +10,7 @@ import socket
 import time
 from array import array
 from functools import partial
-from threading import Thread
+from threading import Thread, Timer
 from typing import Callable, Iterator, Sequence
 
 from beside import print_rows, switch_ends
@@ -198,35 +198,35 @@ def check_flows(programs: Programs, kept: Kept, peer: End, what: str) -> None:
     check(outcome.lost() == 0, f"{what}: {outcome.lost()} frames are lost afterwards", outcome, kept.text(), peer.text())
 
 
-def has_joined(name: str) -> bool:
-    return ask_gro(OURS, name)
+def remake() -> None:
+    """The second interface is deleted, with its other end, and made again, with GRO."""
+    ip(OURS, "link", "del", "a1")
+    lay_direct(1)
+    ask_gro(OURS, "a1", True)
 
 
-def remade(name: str) -> None:
-    """An interface is deleted, with its other end, and made again."""
-    ip(OURS, "link", "del", name)
-    lay_direct(int(name[1:]))
+def rename() -> None:
+    """The device has another name for a second."""
+    ip(OURS, "link", "set", DEVICE, "down", "name", "other0")
+    Timer(1, ip, (OURS, "link", "set", "other0", "name", DEVICE, "up")).start()
 
 
 def change_between(programs: Programs, words: Sequence[str]) -> None:
     """What an administrator does between both daemons: to the device, to a member, to the settings."""
     name = " ".join(words) or "plain"
     with managed(programs, words) as (kept, peer):
-        for what, between in (("a member made anew", lambda: remade("a1")), ("the device deleted", lambda: ip(OURS, "link", "del", DEVICE)),
-                              ("the device moved away", lambda: ip(OURS, "link", "set", DEVICE, "netns", MIDDLE))):
+        for what, between in (("a member made anew", remake), ("the device deleted", lambda: ip(OURS, "link", "del", DEVICE)),
+                              ("the device moved away", lambda: ip(OURS, "link", "set", DEVICE, "netns", MIDDLE)), ("the device renamed", rename)):
             kept.again(signal.SIGUSR1, 0, between)
             check_flows(programs, kept, peer, f"{name}, {what}")
-        kept.again(signal.SIGUSR1, 0, lambda: ip(OURS, "link", "set", DEVICE, "down", "name", "other0"))
-        ip(OURS, "link", "set", "other0", "name", DEVICE, "up")
-        check_flows(programs, kept, peer, f"{name}, the device renamed")
         other, kept.options = kept.options, ["--offload"] if words else ["--fast"]
         kept.again(signal.SIGUSR1)
-        check("it belongs to other settings" in kept.printed(), f"{name}, another way: a line says so", kept.printed())
+        said = lambda: "it belongs to other settings" in kept.printed()
+        check(within(ENDS, said), f"{name}, another way: a line says so", kept.printed())
         check_flows(programs, kept, peer, f"{name}, another way")
         kept.options, kept.members = other, ("a0",)
         kept.again(signal.SIGUSR1)
-        kept.again(signal.SIGUSR1)
-        check(has_joined("a1") and not has_joined("a0"), f"{name}: what is a member no more gets GRO back", kept.printed())
+        check(within(ENDS, lambda: ask_gro(OURS, "a1")), f"{name}: what is a member no more gets GRO back", kept.printed())
         within(COMES_UP, lambda: peer.links() == 1)
         check_flows(programs, kept, peer, f"{name}, a link that was taken out")
         kept.process.send_signal(signal.SIGUSR1)
