@@ -44,11 +44,13 @@ static const char *way(void) {
 
 static void write_link(FILE *file, const struct link *link, uint64_t since) {
     bool carried = link->view.port_status == NIW_PORT_STATUS_DISTRIBUTING && !link->view.defaulted && link->lacpdu_at != 0;
-    char mac[32];
-    fprintf(file, "link %d %s %" PRIu32 " %d %" PRIu64 " %" PRIu64 " ", link->index, mac_text(link->mac, mac), link->kernel_losses, carried,
-        link->lacpdu_at + since, link->lacpdus_at[MOST_LACPDUS - 1] + since);
-    for (size_t i = 0; i < NIW_FRAME; i++) fprintf(file, "%02x", link->lacpdu[i]);
-    fputc('\n', file);
+    char mac[32], hex[HEX_ROOM] = "";
+    for (size_t i = 0; i < NIW_FRAME; i++) {
+        hex[2 * i] = "0123456789abcdef"[link->lacpdu[i] >> 4];
+        hex[2 * i + 1] = "0123456789abcdef"[link->lacpdu[i] & 15];
+    }
+    fprintf(file, "link %d %s %" PRIu32 " %d %" PRIu64 " %" PRIu64 " %s\n", link->index, mac_text(link->mac, mac), link->kernel_losses,
+        carried, link->lacpdu_at + since, link->lacpdus_at[MOST_LACPDUS - 1] + since, hex);
 }
 
 /* Writes the interface of each conversation: the one that it leaves, while it is held. */
