@@ -200,26 +200,8 @@ static void go_on_with_tap(void) {
     choose_segments();
 }
 
-/* Takes the device that the last daemon left with the manager of services, whatever an administrator named it since, and the frames that
- * wait there; answers whether there is one. Its carrier goes where nothing goes on. */
-static bool take_left(const char *name) {
-    struct ifreq device = {0};
-    int fd = take_stored("tap", 0);
-    if (fd < 0) return false;
-    if (!is_here(fd, &device) || (left.tap == 0 ? strcmp(device.ifr_name, name) != 0 : index_of(device.ifr_name) != left.tap)) {
-        close_stored("tap", 0, fd);
-        return false;
-    }
-    tap = fd;
-    number = index_of(device.ifr_name);
-    carrier = true;
-    if (!resuming) set_carrier(false);
-    go_on_with_tap();
-    return true;
-}
-
-/* Sets a device up that is new to the daemon. It gets its MAC address before anything else: whoever brings it up has a link-local address
- * of it. */
+/* Sets up a device that is new to the daemon, or to its settings, without carrier. It gets its MAC address before anything else: whoever
+ * brings it up has a link-local address of it. */
 static void set_up(const uint8_t *mac) {
     struct ifreq address = {0}, queue = {0};
     address.ifr_hwaddr.sa_family = ARPHRD_ETHER;
@@ -232,6 +214,27 @@ static void set_up(const uint8_t *mac) {
     (void)ask_tap(SIOCSIFTXQLEN, &queue);
     settle_mtu();
     if (settings.fast) set_no_queue();
+}
+
+/* Takes the device that the last daemon left with the manager of services, whatever an administrator named it since, and the frames that
+ * wait there; answers whether there is one. Its carrier goes where nothing goes on. */
+static bool take_left(const char *name, const uint8_t *mac) {
+    struct ifreq device = {0};
+    int fd = take_stored("tap", 0);
+    if (fd < 0) return false;
+    if (!is_here(fd, &device) || (left.tap == 0 ? strcmp(device.ifr_name, name) != 0 : index_of(device.ifr_name) != left.tap)) {
+        close_stored("tap", 0, fd);
+        return false;
+    }
+    tap = fd;
+    number = index_of(device.ifr_name);
+    carrier = true;
+    if (!resuming) set_carrier(false);
+    if (left.tap == number)
+        go_on_with_tap();
+    else
+        set_up(mac);
+    return true;
 }
 
 /* Makes the device, without carrier, or takes one that is there and that nobody has, as that of the last daemon, which may have another name
@@ -255,7 +258,7 @@ static void make_tap(const char *name, const uint8_t *mac) {
 int open_tap(const char *name, const uint8_t *mac) {
     asker = socket(AF_UNIX, SOCK_DGRAM | SOCK_CLOEXEC, 0);
     if (asker < 0) stop(REFUSED, "no TAP device", strerror(errno));
-    if (!take_left(name)) make_tap(name, mac);
+    if (!take_left(name, mac)) make_tap(name, mac);
     put_stored("tap", 0, tap);
     return tap;
 }
@@ -275,7 +278,7 @@ void end_tap(int index) {
 /* The next daemon gets the device as it is, by its name where no manager of services keeps it; or it is to go with this one. */
 void keep_tap(bool keeps) {
     struct ifreq device = {0};
-    if (ioctl(tap, TUNGETIFF, &device) < 0 || persists == keeps || (keeps && (device.ifr_flags & IFF_PERSIST))) return;
+    if (persists == keeps || ioctl(tap, TUNGETIFF, &device) < 0 || (keeps && (has_store() || (device.ifr_flags & IFF_PERSIST)))) return;
     if (ioctl(tap, TUNSETPERSIST, keeps) == 0) persists = keeps;
 }
 

@@ -196,6 +196,9 @@ def check_flows(programs: Programs, kept: Kept, peer: End, what: str) -> None:
     outcome = run_flows(programs, 2)
     check_order(outcome, what, kept.text(), kept.printed()[-2000:])
     check(outcome.lost() == 0, f"{what}: {outcome.lost()} frames are lost afterwards", outcome, kept.text(), peer.text())
+    if "--fast" in kept.options:
+        passed = kept.carry()["fast_conversations"]
+        check(passed >= FLOWS // 2, f"{what}: the kernel passes {passed} conversations on", kept.text(), kept.printed()[-2000:])
 
 
 def remake() -> None:
@@ -293,7 +296,9 @@ HEADINGS = ("way", "frames", "lost", "overtaken", "longest gap, ms")
 
 
 def row(name: str, outcome: Outcome) -> list[str]:
-    return [name, *(f"{count:,}" for count in (outcome.sent, outcome.lost(), outcome.overtaken, outcome.gap_ms))]
+    """A row of the table. Where the device went, none of its frames came again."""
+    gap = f"{outcome.gap_ms:,}" if "stopped and started" not in name or "Open" in name else "to the end"
+    return [name, *(f"{count:,}" for count in (outcome.sent, outcome.lost(), outcome.overtaken)), gap]
 
 
 def measure(programs: Programs, name: str, words: Sequence[str]) -> list[list[str]]:
