@@ -4,6 +4,7 @@ from __future__ import annotations
 
 import contextlib
 import fcntl
+import glob
 import os
 import signal
 import socket
@@ -16,7 +17,7 @@ from typing import Callable, Iterator, Sequence
 from beside import print_rows, switch_ends
 from booted import BOOTS, Machine
 from bonds import (COMES_BACK, COMES_UP, DEVICE, DIRECT, FLIGHT, FLOWS, MIDDLE, RATE, End, Outcome, Programs, ask_gro, cables, check_order, lay_direct,
-                   run_flows)
+                   move_all, run_flows)
 from checking import Failed, Skipped, check, found, within
 from daemon import ENDS, SYSTEM, Part
 from openvswitch import OpenVSwitch
@@ -25,6 +26,8 @@ from spaces import OURS, THEIRS, inside, ip
 ADDRESS = "192.0.2.1/24"
 # After how many seconds the unit starts a daemon that failed.
 RESTARTS = 0.2
+# How long after a change the state has it, in seconds.
+WRITTEN = 1.2
 # How long the longest gap of a flow may be in milliseconds, where nothing is lost, on a machine that has other things to do.
 SHORT_GAP = 1000
 # What a daemon that is killed had in hand at most: what it had read and not sent.
@@ -152,6 +155,27 @@ def check_unseen(what: str, kept: Kept, peer: End, before: tuple[str, str], outc
     check(within(COMES_BACK, lambda: kept.links() == DIRECT), f"{what}: both links carry, and its carrier is on", *told)
 
 
+def places(kept: Kept) -> list[str]:
+    """The conversations, and the interface of each, as the daemon last wrote it."""
+    time.sleep(WRITTEN)
+    path = max(glob.glob(f"{kept.folder}/*.{'a' if kept.at == OURS else 'b'}0.state"), key=os.path.getmtime)
+    with open(path, encoding="utf-8") as it:
+        return sorted(line for line in it if line.startswith("on "))
+
+
+def stay(programs: Programs) -> None:
+    """Conversations that moved off the port that the library picks are where they were; no marker and no force takes them there."""
+    with managed(programs, WAYS["fast"]) as (kept, _):
+        run_flows(programs, 1)
+        picked = places(kept)
+        run_flows(programs, 2, [(1, move_all(kept))])
+        moved = places(kept)
+        kept.again(signal.SIGUSR1)
+        check(len(set(moved) - set(picked)) >= FLOWS and places(kept) == moved, f"{FLOWS} conversations that had moved stay", picked, moved, kept.text())
+        carry = kept.carry()
+        check(carry["moves"] == carry["forced"] == carry["markers_sent"] == 0, "with no marker and no move", kept.text())
+
+
 def hand_over(programs: Programs, name: str) -> None:
     """The daemon of one way hands over under a manager, and is killed: the sending end, twice, and the receiving one."""
     for space, end, events in (OURS, "sends", ("handed over", "handed over again", "killed")), (THEIRS, "receives", ("handed over", "killed")):
@@ -174,6 +198,7 @@ def handover_offload(programs: Programs) -> None:
 
 
 def handover_fast(programs: Programs) -> None:
+    stay(programs)
     hand_over(programs, "fast")
 
 
