@@ -258,10 +258,11 @@ void close_guard(const struct link *link, struct guard *guard) {
 /* An interface was a member of the last daemon, and is none of this one: it gets what it had, unless somebody else has it by now. */
 void put_back(int index, const uint8_t *mac) {
     struct link link = {.index = index};
-    struct guard guard = {.opened = take_stored("guard", index), .classifier = CLASSIFIER_ALONE};
+    struct guard guard = {.classifier = CLASSIFIER_ALONE};
     int lock = lock_interface(index);
-    memcpy(link.mac, mac, sizeof link.mac);
     if (lock < 0) return;
+    guard.opened = take_stored("guard", index);
+    memcpy(link.mac, mac, sizeof link.mac);
     recall_settings(&link, &guard.before);
     close_guard(&link, &guard);
     close_stored("lock", index, lock);
