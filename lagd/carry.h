@@ -64,6 +64,7 @@ struct carry {
 extern struct carry carry;
 
 /* carry.c */
+void go_on_in(uint16_t aggregator);
 bool ask_state(uint16_t aggregator, uint16_t number, struct niw_assignment *state) MUST_USE;
 bool ask_ports(uint16_t aggregator, uint16_t *ports) MUST_USE;
 bool is_held(const struct niw_assignment *state);
@@ -114,6 +115,10 @@ void pass_tap_tick(void);
 void forget_tap(void);
 bool read_tap_mac(uint8_t *mac);
 bool is_tap_up(void);
+void end_tap(int index);
+void keep_tap(bool keeps);
+bool tap_persists(void);
+uint32_t mtu_of_administrator(void);
 
 /* announce.c */
 void announce_soon(void);
@@ -126,6 +131,13 @@ int load_program(const struct bpf_insn *steps, size_t count);
 int refuse_program(int fault);
 const char *program_fault(void);
 int attach_program(int program, int index, bool egress);
+bool exchange_program(int attached, int program, int index);
+void *take_map(uint32_t size, uint32_t count, int map);
+void detach_program(int attached);
+
+/* store.c */
+int attach_stored(const char *kind, int program, int index, bool egress);
+void detach_stored(const char *kind, int index, int attached);
 
 /* fast_programs.c: what the kernel runs for frames, and what it shares with the daemon */
 struct row {
@@ -169,6 +181,8 @@ void pass_fast_tick(void);
 void note_read(unsigned packets, bool drained);
 void open_host(bool open);
 void follow_host_queue(const char *discipline);
+int fast_member_of(uint16_t number);
+void resume_fast(void);
 
 /* features.c: what puts received frames together, a bit for each way */
 struct joins {
@@ -186,6 +200,7 @@ struct kept {
     struct ethtool_channels queues; /* what there was; all 0 where there was one queue */
 };
 void keep_settings(const struct link *link, struct kept *kept);
+void recall_settings(const struct link *link, struct kept *kept);
 void forget_settings(const struct link *link);
 
 /* traffic.c: queueing disciplines and classifiers of members */
@@ -213,6 +228,7 @@ void open_guard(struct link *link, struct guard *guard);
 void look_at_discipline(struct link *link, struct guard *guard);
 void reopen_guard(struct link *link, struct guard *guard);
 void close_guard(const struct link *link, struct guard *guard);
+void put_back(int index, const uint8_t *mac);
 
 /* members.c */
 void start_members(void);
@@ -244,6 +260,7 @@ void free_left(void);
 void balance(void);
 
 /* probe.c */
+void go_on_answering(enum answering last);
 enum answering peer_answering(void);
 void look_at_partner(void);
 void pass_probe_tick(void);

@@ -17,6 +17,7 @@ from fast_parts import (fast, fast_away, fast_ends, fast_hash, fast_overload, fa
 from forged import PARTS as FORGED
 from member_parts import PARTS as MEMBERS
 from models import model
+from restarting import PARTS as RESTARTS
 from restoring import PARTS as RESTORING
 from rows import rows
 from checking import Skipped, check, within
@@ -318,3 +319,4 @@ PARTS.update(FORGED)
 PARTS.update(MEMBERS)
 PARTS.update(RESTORING)
 PARTS.update(ABOVE)
+PARTS.update(RESTARTS)

@@ -61,14 +61,17 @@ def put(over: str, path: str, text: str, mode: int = 0o644) -> None:
     os.chmod(place, mode)
 
 
-def lay_out(part: Part, over: str) -> None:
+def lay_out(part: Part, over: str, bundle: str) -> None:
     """What the package installs, and a bundle of two links."""
-    for file, place in ("lagd@.service", "etc/systemd/system"), ("lagd.sysusers", "usr/lib/sysusers.d/lagd.conf"):
+    files = {"lagd@.service": "etc/systemd/system/lagd@.service", "lagd.sysusers": "usr/lib/sysusers.d/lagd.conf"}
+    if "carry=" in bundle:
+        files["carry.conf"] = "etc/systemd/system/lagd@.service.d/carry.conf"
+    for file, place in files.items():
         with open(os.path.join(TOP, "lagd", file), encoding="utf-8") as it:
-            put(over, place if place.endswith(".conf") else f"{place}/{file}", it.read())
+            put(over, place, it.read())
     put(over, "etc/systemd/system/bundle.target", TARGET)
     put(over, "etc/systemd/system/lagd@.service.d/impatient.conf", IMPATIENT)
-    put(over, "etc/lagd/uplink.conf", BUNDLE)
+    put(over, "etc/lagd/uplink.conf", bundle)
     put(over, "etc/lagd/hook", HOOK, 0o755)
     put(over, "etc/machine-id", "")
     for unit in MASKED:
@@ -90,7 +93,7 @@ def unified() -> str:
 class Machine:
     """A systemd that runs; its commands are run in its namespaces."""
 
-    def __init__(self, part: Part, more: Callable[[str], None] = lambda over: None) -> None:
+    def __init__(self, part: Part, bundle: str = BUNDLE, more: Callable[[str], None] = lambda over: None) -> None:
         for word in ("unshare", "nsenter", "chroot"):
             if not shutil.which(word):
                 raise Skipped(f"no command {word}")
@@ -100,7 +103,7 @@ class Machine:
         tree, over, self.log = (os.path.join(part.folder, name) for name in ("tree", "over", "booted"))
         os.makedirs(tree, exist_ok=True)
         shutil.rmtree(over, ignore_errors=True)  # of another boot
-        lay_out(part, over)
+        lay_out(part, over, bundle)
         more(over)
         os.mkdir(self.group)
         words = ["sh", "-c", 'echo $$ > "$1/cgroup.procs" && shift && exec "$@"', "sh", self.group]
