@@ -44,7 +44,8 @@ def check_pings(what: str, net: str, longest: int, ours: End) -> None:
     """Packets of IPv4 and IPv6, short ones and those as long as the device takes."""
     for address, head in (f"{net}.2", 28), (f"2001:db8:{net.split('.')[-1]}::2", 48):
         reached = within(COMES, lambda: pings(address, count=1))
-        check(reached and pings(address) and pings(address, longest - head), f"{what}: {address} answers, up to {longest} octets", ours.text(), ours.printed())
+        whole = reached and pings(address) and pings(address, longest - head)
+        check(whole, f"{what}: {address} answers, up to {longest} octets", ours.text(), ours.printed())
 
 
 def check_stream(what: str, net: str, ours: End, way: list[str]) -> None:
@@ -111,7 +112,8 @@ def bridges(programs: Programs) -> None:
                 make_trunk(THEIRS, 2)
                 set_up("br0.20", "10.0.20")
                 answered = lambda octets: "5 received" in inside(guests[0], "ping", "-qc", "5", "-i", "0.1", "-s", str(octets), "10.0.10.2").stdout
-                check(within(COMES, lambda: answered(56)) and answered(4000), f"guests in VLAN 10 reach each other {way}", ours.text(), ours.printed())
+                reached = within(COMES, lambda: answered(56)) and answered(4000)
+                check(reached, f"guests in VLAN 10 reach each other {way}", ours.text(), ours.printed())
                 check_pings(f"the host in VLAN 20 {way}", "10.0.20", 1500, ours)
                 check_stream("through the bridge", "10.0.20", ours, way)
                 moved = every(1, 3, move_all(ours))

@@ -113,7 +113,8 @@ def reverts_there(programs: Programs) -> None:
             check(standing(theirs) == [False, False, True], "the third one takes the place of the highest priority", theirs.text())
             check_order(outcome, "to an end whose link makes way", ours.text())
             uncollected, lost = theirs.data("uncollected"), outcome.lost()
-            check(lost == uncollected < RATE // 10, f"{lost} of {outcome.sent:,} frames are lost, which were on their way there", outcome, theirs.text())
+            told = f"{lost} of {outcome.sent:,} frames are lost, which were on their way there"
+            check(lost == uncollected < RATE // 10, told, outcome, theirs.text())
             check_whole(outcome, ours, theirs, cables_lose=True)
         finally:
             ours.stop()

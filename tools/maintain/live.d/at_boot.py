@@ -73,7 +73,8 @@ def settle(machine: Machine, theirs: Daemon, what: str) -> None:
     both = lambda: machine.property("StatusText") == "up, 2 of 2 links carry" and theirs.distributes("b0", "b1")
     check(within(BOOTS + COMES_UP, both), f"{what}: both links carry", machine.told(), theirs.text())
     addressed = lambda: f"{OURS_AT}/24" in machine.tells("ip", "-br", "address", "show", "lag0")
-    check(within(ANSWERS, addressed) and within(ANSWERS, pings), f"{what}: lag0 has its address, and answers", machine.tells("ip", "address"), machine.told())
+    answers = within(ANSWERS, addressed) and within(ANSWERS, pings)
+    check(answers, f"{what}: lag0 has its address, and answers", machine.tells("ip", "address"), machine.told())
     bare = not any("scope global" in machine.tells("ip", "address", "show", name) for name in ("a0", "a1"))
     check(bare, f"{what}: the members have no addresses", machine.tells("ip", "address"))
 
