@@ -1,7 +1,9 @@
-/* Tells neighbours where this host is, once data goes another way, so that bridges learn its MAC address there: gratuitous ARP, and
- * unsolicited neighbour advertisements (RFC 4861, 7.2.6). The kernel does not do so of itself for a TAP device. */
+/* Tells neighbours where this host is, once data goes another way, so that bridges learn its MAC addresses there: gratuitous ARP, and
+ * unsolicited neighbour advertisements (RFC 4861, 7.2.6), of the TAP device and of what stands above it. The kernel does not do so of itself
+ * for such a device. */
 #define _GNU_SOURCE
 #include <errno.h>
+#include <linux/if_link.h>
 #include <linux/if_packet.h>
 #include <linux/netconf.h>
 #include <linux/rtnetlink.h>
@@ -21,37 +23,50 @@
 /* Of a neighbour advertisement with one option, and its parts. */
 enum { ADVERTISED_OCTETS = 32, HOP_LIMIT = 255, ADVERTISEMENT = 136, FROM_ROUTER = 0x80, OVERRIDES = 0x20, TARGET_LINK_ADDRESS = 2 };
 
-static int sender = -1;          /* while it is announced */
-static uint8_t mac[ETH_ALEN];    /* of the device */
-static bool is_known, is_router; /* whether the kernel told what its IPv6 is, and that it is a router */
-static unsigned announced;       /* how many frames this announcement has so far */
+/* The most interfaces above the device: VLANs, those with MAC addresses of their own, and bridges of which one of these is a port. */
+#define MOST_ABOVE 64
+/* How many of these stand one above the other at most. */
+#define MOST_LEVELS 4
+
+/* An interface whose addresses are announced. The first one is the device. */
+struct place {
+    int index;
+    int bridge; /* the one of which it is a port, or what else has it, or 0 */
+    uint8_t mac[ETH_ALEN];
+    bool is_known, is_router; /* whether the kernel told what its IPv6 is, and that it is a router */
+};
+
+static int sender = -1;         /* while it is announced */
+static struct place places[1 + MOST_ABOVE];
+static unsigned place_count;
+static unsigned announced;      /* how many frames this announcement has so far */
 static unsigned times;           /* how often it is still announced */
 static unsigned wait_ticks;      /* until it is announced next */
 
-/* Sends a frame by the device, as the host does: it comes from there with the others. One that is not taken is lost, as on a wire. */
-static void send_by_tap(const uint8_t *frame, size_t length) {
-    struct sockaddr_ll to = {.sll_family = AF_PACKET, .sll_ifindex = tap_index()};
+/* Sends a frame by an interface, as the host does: it comes from the device with the others. One that is not taken is lost, as on a wire. */
+static void send_from(const struct place *place, const uint8_t *frame, size_t length) {
+    struct sockaddr_ll to = {.sll_family = AF_PACKET, .sll_ifindex = place->index};
     if (announced++ < MOST_ANNOUNCED) (void)sendto(sender, frame, length, 0, (struct sockaddr *)&to, sizeof to);
 }
 
 /* Writes the header of Ethernet. */
-static void begin_frame(uint8_t *frame, const uint8_t *to, uint16_t type) {
+static void begin_frame(uint8_t *frame, const uint8_t *to, const struct place *from, uint16_t type) {
     memcpy(frame, to, ETH_ALEN);
-    memcpy(frame + ETH_ALEN, mac, ETH_ALEN);
+    memcpy(frame + ETH_ALEN, from->mac, ETH_ALEN);
     frame[12] = (uint8_t)(type >> 8);
     frame[13] = (uint8_t)type;
 }
 
 /* A request for an address by who has it. */
-static void announce_ipv4(const uint8_t *address) {
+static void announce_ipv4(const struct place *place, const uint8_t *address) {
     static const uint8_t all[ETH_ALEN] = {0xff, 0xff, 0xff, 0xff, 0xff, 0xff}, request[] = {0, 1, 8, 0, ETH_ALEN, 4, 0, 1};
     uint8_t frame[ETH_HLEN + ARP_OCTETS] = {0}, *at = frame + ETH_HLEN;
-    begin_frame(frame, all, ETH_P_ARP);
+    begin_frame(frame, all, place, ETH_P_ARP);
     memcpy(at, request, sizeof request);
-    memcpy(at + 8, mac, ETH_ALEN);
+    memcpy(at + 8, place->mac, ETH_ALEN);
     memcpy(at + 14, address, 4);
     memcpy(at + 24, address, 4);
-    send_by_tap(frame, sizeof frame);
+    send_from(place, frame, sizeof frame);
 }
 
 /* Adds 16 bits at a time, as the checksum of the Internet has it. */
@@ -61,56 +76,117 @@ static uint32_t add_sum(uint32_t sum, const uint8_t *octets, size_t length) {
 }
 
 /* An advertisement of an address to all nodes, which overrides what they know. */
-static void announce_ipv6(const uint8_t *address) {
+static void announce_ipv6(const struct place *place, const uint8_t *address) {
     static const uint8_t all[ETH_ALEN] = {0x33, 0x33, 0, 0, 0, 1}, all_nodes[16] = {0xff, 2, [15] = 1};
     static const uint8_t head[] = {0x60, 0, 0, 0, 0, ADVERTISED_OCTETS, IPPROTO_ICMPV6, HOP_LIMIT};
     uint8_t frame[ETH_HLEN + IPV6_OCTETS + ADVERTISED_OCTETS] = {0}, *ip = frame + ETH_HLEN, *at = ip + IPV6_OCTETS;
     uint32_t sum;
-    begin_frame(frame, all, ETH_P_IPV6);
+    begin_frame(frame, all, place, ETH_P_IPV6);
     memcpy(ip, head, sizeof head);
     memcpy(ip + IPV6_ADDRESSES, address, 16);
     memcpy(ip + IPV6_ADDRESSES + 16, all_nodes, 16);
     at[0] = ADVERTISEMENT;
-    at[4] = (uint8_t)(OVERRIDES | (is_router ? FROM_ROUTER : 0));
+    at[4] = (uint8_t)(OVERRIDES | (place->is_router ? FROM_ROUTER : 0));
     memcpy(at + 8, address, 16);
     at[24] = TARGET_LINK_ADDRESS;
     at[25] = 1; /* of 8 octets */
-    memcpy(at + 26, mac, ETH_ALEN);
+    memcpy(at + 26, place->mac, ETH_ALEN);
     sum = add_sum(ADVERTISED_OCTETS + IPPROTO_ICMPV6, ip + IPV6_ADDRESSES, 32 + ADVERTISED_OCTETS);
     sum = (sum & 0xffff) + (sum >> 16);
     sum = ~((sum & 0xffff) + (sum >> 16));
     at[2] = (uint8_t)(sum >> 8);
     at[3] = (uint8_t)sum;
-    send_by_tap(frame, sizeof frame);
+    send_from(place, frame, sizeof frame);
+}
+
+/* The value of an attribute among `length` octets, and in `octets` how many it has; or NULL. */
+static const uint8_t *find(const uint8_t *attributes, size_t length, unsigned type, size_t *octets) {
+    struct rtattr head;
+    for (size_t at = 0; at + sizeof head <= length; at += RTA_ALIGN((size_t)head.rta_len)) {
+        memcpy(&head, attributes + at, sizeof head);
+        if (head.rta_len < sizeof head || head.rta_len > length - at) break;
+        *octets = head.rta_len - sizeof head;
+        if ((head.rta_type & (unsigned)NLA_TYPE_MASK) == type) return attributes + at + sizeof head;
+    }
+    return NULL;
 }
 
 /* The value of an attribute of a message, of so many octets, behind `before` octets; or NULL. */
 static const uint8_t *attribute(const uint8_t *message, size_t length, size_t before, unsigned type, size_t octets) {
-    struct rtattr head;
-    for (size_t at = NLMSG_LENGTH(NLMSG_ALIGN(before)); at + sizeof head <= length; at += RTA_ALIGN((size_t)head.rta_len)) {
-        memcpy(&head, message + at, sizeof head);
-        if (head.rta_len < sizeof head || head.rta_len > length - at) break;
-        if (head.rta_type == type && head.rta_len == sizeof head + octets) return message + at + sizeof head;
-    }
+    size_t begin = NLMSG_LENGTH(NLMSG_ALIGN(before)), found = 0;
+    const uint8_t *value = length > begin ? find(message + begin, length - begin, type, &found) : NULL;
+    return found == octets ? value : NULL;
+}
+
+/* A number of an interface that a message of one tells, or 0. */
+static int number_of(const uint8_t *message, size_t length, unsigned type) {
+    int number = 0;
+    const uint8_t *value = attribute(message, length, sizeof(struct ifinfomsg), type, sizeof number);
+    if (value) memcpy(&number, value, sizeof number);
+    return number;
+}
+
+/* Whether an interface is of a kind that the kernel makes. */
+static bool is_kind(const uint8_t *message, size_t length, const char *kind) {
+    size_t begin = NLMSG_LENGTH(NLMSG_ALIGN(sizeof(struct ifinfomsg))), octets = 0, letters = 0;
+    const uint8_t *about = find(message + begin, length - begin, IFLA_LINKINFO, &octets);
+    const uint8_t *found = about ? find(about, octets, IFLA_INFO_KIND, &letters) : NULL;
+    return found && letters > strlen(kind) && memcmp(found, kind, strlen(kind) + 1) == 0;
+}
+
+static struct place *place_of(int index) {
+    for (unsigned i = 0; i < place_count; i++)
+        if (places[i].index == index) return &places[i];
     return NULL;
+}
+
+/* Whether an interface stands on one that is announced: what it sends goes by that. One of another namespace does not count. */
+static bool is_above(const uint8_t *message, size_t length, int index) {
+    bool on_one = is_kind(message, length, "vlan") || is_kind(message, length, "macvlan");
+    bool elsewhere = attribute(message, length, sizeof(struct ifinfomsg), IFLA_LINK_NETNSID, sizeof(int)) != NULL;
+    if (on_one) return !elsewhere && place_of(number_of(message, length, IFLA_LINK));
+    for (unsigned i = 0; i < place_count; i++)
+        if (places[i].bridge == index && is_kind(message, length, "bridge")) return true;
+    return false;
+}
+
+/* The kernel told of an interface, which may stand on those that are known. */
+static void take_place(const uint8_t *message, size_t length) {
+    struct ifinfomsg about;
+    const uint8_t *mac;
+    struct place *place;
+    if (length < NLMSG_LENGTH(sizeof about)) return;
+    memcpy(&about, message + NLMSG_HDRLEN, sizeof about);
+    mac = attribute(message, length, sizeof about, IFLA_ADDRESS, ETH_ALEN);
+    place = place_of(about.ifi_index);
+    if (!place && mac && place_count < 1 + MOST_ABOVE && is_above(message, length, about.ifi_index)) {
+        place = &places[place_count++];
+        *place = (struct place){.index = about.ifi_index};
+    }
+    if (!place) return;
+    place->bridge = number_of(message, length, IFLA_MASTER);
+    if (mac) memcpy(place->mac, mac, ETH_ALEN);
 }
 
 /* The kernel told whether an interface is one of a router: hosts forget a router whose advertisement says that it is none. */
 static void take_forwarding(const uint8_t *message, size_t length) {
     int index = 0, forwarding = 0;
+    struct place *place;
     const uint8_t *which = attribute(message, length, sizeof(struct netconfmsg), NETCONFA_IFINDEX, sizeof index);
     const uint8_t *what = attribute(message, length, sizeof(struct netconfmsg), NETCONFA_FORWARDING, sizeof forwarding);
     if (!which || !what) return;
     memcpy(&index, which, sizeof index);
     memcpy(&forwarding, what, sizeof forwarding);
-    if (index != tap_index()) return;
-    is_known = true;
-    is_router = forwarding != 0;
+    place = place_of(index);
+    if (!place) return;
+    place->is_known = true;
+    place->is_router = forwarding != 0;
 }
 
 /* The kernel told of an address. One of IPv6 that may be another host's is not announced. */
 static void take_address(const uint8_t *message, size_t length) {
     struct ifaddrmsg about;
+    const struct place *place;
     const uint8_t *address;
     size_t octets;
     if (length < NLMSG_LENGTH(sizeof about)) return;
@@ -118,9 +194,11 @@ static void take_address(const uint8_t *message, size_t length) {
     octets = about.ifa_family == AF_INET ? 4 : 16;
     address = attribute(message, length, sizeof about, IFA_LOCAL, octets);
     if (!address && about.ifa_family == AF_INET6) address = attribute(message, length, sizeof about, IFA_ADDRESS, octets);
-    if (!address || (int)about.ifa_index != tap_index()) return;
-    if (about.ifa_family == AF_INET) announce_ipv4(address);
-    if (about.ifa_family == AF_INET6 && is_known && !(about.ifa_flags & (IFA_F_TENTATIVE | IFA_F_DADFAILED))) announce_ipv6(address);
+    place = place_of((int)about.ifa_index);
+    if (!address || !place) return;
+    if (about.ifa_family == AF_INET) announce_ipv4(place, address);
+    if (about.ifa_family == AF_INET6 && place->is_known && !(about.ifa_flags & (IFA_F_TENTATIVE | IFA_F_DADFAILED)))
+        announce_ipv6(place, address);
 }
 
 /* Takes messages; answers whether more come. Else `told` has whether the kernel told all. */
@@ -134,6 +212,7 @@ static bool take_some(const uint8_t *messages, size_t length, bool *told) {
         if (*told || head.nlmsg_type == NLMSG_ERROR) return false;
         if (head.nlmsg_type == RTM_NEWNETCONF) take_forwarding(messages + at, head.nlmsg_len);
         if (head.nlmsg_type == RTM_NEWADDR) take_address(messages + at, head.nlmsg_len);
+        if (head.nlmsg_type == RTM_NEWLINK) take_place(messages + at, head.nlmsg_len);
     }
     return true;
 }
@@ -143,8 +222,8 @@ static bool ask_all(int route, uint16_t what, uint8_t family) {
     static uint8_t room[ROOM];
     struct {
         struct nlmsghdr head;
-        struct ifaddrmsg about;
-    } question = {.head = {.nlmsg_type = what, .nlmsg_flags = NLM_F_REQUEST | NLM_F_DUMP}, .about = {.ifa_family = family}};
+        struct ifinfomsg about; /* longer than what the other kinds want */
+    } question = {.head = {.nlmsg_type = what, .nlmsg_flags = NLM_F_REQUEST | NLM_F_DUMP}, .about = {.ifi_family = family}};
     bool told = false, more = true;
     question.head.nlmsg_len = sizeof question;
     if (send(route, &question, sizeof question, 0) != sizeof question) return false;
@@ -158,14 +237,27 @@ static bool ask_all(int route, uint16_t what, uint8_t family) {
     return told;
 }
 
-/* Announces the addresses of the device. Where the kernel has no IPv6, it does not tell who is a router, and has no address. */
+/* Finds the device, and what stands above it, level by level. */
+static void find_places(int route) {
+    unsigned before = 0;
+    memset(places, 0, sizeof places);
+    places[0].index = tap_index();
+    place_count = read_tap_mac(places[0].mac) ? 1 : 0;
+    for (unsigned level = 0; level < MOST_LEVELS && before != place_count; level++) {
+        before = level == 0 ? 0 : place_count; /* the first one tells the bridge of the device alone, where that has a lower number */
+        (void)ask_all(route, RTM_GETLINK, AF_UNSPEC);
+    }
+}
+
+/* Announces the addresses of the device, and of what stands above it. Where the kernel has no IPv6, it does not tell who is a router, and has
+ * no address. */
 static void announce(void) {
     int route = socket(AF_NETLINK, SOCK_RAW | SOCK_NONBLOCK | SOCK_CLOEXEC, NETLINK_ROUTE);
     bool done = false;
     sender = socket(AF_PACKET, SOCK_RAW | SOCK_NONBLOCK | SOCK_CLOEXEC, 0);
-    announced = 0;
-    is_known = false;
-    if (route >= 0 && sender >= 0 && read_tap_mac(mac)) {
+    announced = place_count = 0;
+    if (route >= 0 && sender >= 0) find_places(route);
+    if (place_count > 0) {
         (void)ask_all(route, RTM_GETNETCONF, AF_INET6);
         done = ask_all(route, RTM_GETADDR, AF_UNSPEC);
     }

@@ -23,11 +23,16 @@ static int bpf(int command, union bpf_attr *attributes) {
     return (int)syscall(SYS_bpf, command, attributes, sizeof *attributes);
 }
 
+/* Where a table of `count` values of `size` octets is in this program, or NULL, and errno. */
+static void *show_map(uint32_t size, uint32_t count, int map) {
+    size_t page = (size_t)sysconf(_SC_PAGESIZE), length = ((size_t)size * count + page - 1) / page * page;
+    void *at = map < 0 ? MAP_FAILED : mmap(NULL, length, PROT_READ | PROT_WRITE, MAP_SHARED, map, 0);
+    return at == MAP_FAILED ? NULL : at;
+}
+
 /* Makes a table of `count` values of `size` octets, which the programs and this one share; answers where it is here, or NULL, and errno. */
 void *make_map(uint32_t size, uint32_t count, int *map) {
-    size_t page = (size_t)sysconf(_SC_PAGESIZE), length = ((size_t)size * count + page - 1) / page * page;
     union bpf_attr attributes;
-    void *at;
     memset(&attributes, 0, sizeof attributes);
     attributes.map_type = BPF_MAP_TYPE_ARRAY;
     attributes.key_size = sizeof(uint32_t);
@@ -35,8 +40,26 @@ void *make_map(uint32_t size, uint32_t count, int *map) {
     attributes.max_entries = count;
     attributes.map_flags = BPF_F_MMAPABLE;
     *map = bpf(BPF_MAP_CREATE, &attributes);
-    at = *map < 0 ? MAP_FAILED : mmap(NULL, length, PROT_READ | PROT_WRITE, MAP_SHARED, *map, 0);
-    return at == MAP_FAILED ? NULL : at;
+    return show_map(size, count, *map);
+}
+
+/* What the kernel tells of a table or of what keeps a program at an interface; answers whether it does. */
+static bool ask_kernel(int fd, void *told, uint32_t size) {
+    union bpf_attr attributes;
+    memset(&attributes, 0, sizeof attributes);
+    attributes.info.bpf_fd = (uint32_t)fd;
+    attributes.info.info_len = size;
+    attributes.info.info = (uint64_t)(uintptr_t)told;
+    return bpf(BPF_OBJ_GET_INFO_BY_FD, &attributes) == 0;
+}
+
+/* Takes a table of the last daemon, if it is such a one; answers where it is here, or NULL. */
+void *take_map(uint32_t size, uint32_t count, int map) {
+    struct bpf_map_info told = {0};
+    if (!ask_kernel(map, &told, sizeof told)) return NULL;
+    if (told.type != BPF_MAP_TYPE_ARRAY || told.value_size != size || told.max_entries != count || !(told.map_flags & BPF_F_MMAPABLE))
+        return NULL;
+    return show_map(size, count, map);
 }
 
 /* Why the kernel did not take the last program that it did not take. */
@@ -93,4 +116,23 @@ int attach_program(int program, int index, bool egress) {
     attributes.link_create.target_ifindex = (uint32_t)index;
     attributes.link_create.attach_type = egress ? TCX_EGRESS : TCX_INGRESS;
     return bpf(BPF_LINK_CREATE, &attributes);
+}
+
+/* What keeps a program at an interface runs it no more, whoever else has the file. */
+void detach_program(int attached) {
+    union bpf_attr attributes;
+    memset(&attributes, 0, sizeof attributes);
+    attributes.link_detach.link_fd = (uint32_t)attached;
+    (void)bpf(BPF_LINK_DETACH, &attributes);
+}
+
+/* Puts a program in the place of the one that is kept there, between two frames; answers whether it did. */
+bool exchange_program(int attached, int program, int index) {
+    struct bpf_link_info told = {0};
+    union bpf_attr attributes;
+    memset(&attributes, 0, sizeof attributes);
+    attributes.link_update.link_fd = (uint32_t)attached;
+    attributes.link_update.new_prog_fd = (uint32_t)program;
+    return ask_kernel(attached, &told, sizeof told) && told.xdp.ifindex == (uint32_t)index /* where a link of TCX has its interface, too */
+        && bpf(BPF_LINK_UPDATE, &attributes) == 0;
 }

@@ -75,10 +75,17 @@ void look_at_bundle(void) {
     choose_aggregator(&now);
     now.state = state_of(now.carrying);
     if (told && now.state == bundle.state && now.carrying == bundle.carrying && now.aggregator == bundle.aggregator) return;
-    if (!told) bundle.changed_at = time(NULL);
+    if (bundle.changed_at == 0) bundle.changed_at = time(NULL);
     told = true;
     lines--;
     enter(&now);
+}
+
+/* The bundle is as the last daemon had it, which is no change. */
+void go_on_as(const struct bundle *last) {
+    bundle.state = last->state;
+    bundle.changed_at = last->changed_at;
+    chosen_last = last->aggregator;
 }
 
 /* The daemon ends. */

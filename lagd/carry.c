@@ -140,6 +140,7 @@ void lose_tap(void) {
     broken = true;
     end_fast();
     forget_tap();
+    drop_stored("tap", 0);
     await_no_more(tap);
     (void)say(LOG_ERR | ABOUT_CARRIER, "carry %s: the device was deleted, or moved to another namespace; the peers are told, and the "
         "daemon ends", settings.carry);
@@ -172,6 +173,13 @@ static void take_host(void) {
 /* How many frames of the peer came in an aggregator that was active. */
 static uint64_t heard(void) {
     return carry.counts[HANDED_UP] + carry.counts[HOST_UNTAKEN];
+}
+
+/* The last daemon carried in this aggregator, and the peer does, too. */
+void go_on_in(uint16_t aggregator) {
+    carry.time = heard_at = milliseconds();
+    carry.active = previous = aggregator;
+    settle_carry();
 }
 
 /* Another aggregator is active: nothing has come in it yet. */

@@ -64,6 +64,7 @@ struct carry {
 extern struct carry carry;
 
 /* carry.c */
+void go_on_in(uint16_t aggregator);
 bool ask_state(uint16_t aggregator, uint16_t number, struct niw_assignment *state) MUST_USE;
 bool ask_ports(uint16_t aggregator, uint16_t *ports) MUST_USE;
 bool is_held(const struct niw_assignment *state);
@@ -78,13 +79,18 @@ void hand_up(uint32_t aggregator, const uint8_t *packet, size_t length);
 #define MOST_LINK_GROUP 0x0f
 #define BRIDGE_GROUPS (1 << 0x00 | 1 << 0x08 | 1 << 0x0d)
 
-/* hash.c: FNV-1a, of words of 32 bits; and where the headers of IP have what is hashed */
+/* hash.c: FNV-1a, of words of 32 bits; and where the headers have what is hashed. The program of the kernel has the same numbers. */
 #define HASH_START 2166136261u
 #define HASH_FACTOR 16777619
 enum {
+    SOURCE = ETH_ALEN, VLAN = 0x0fff, /* the bits of a tag that tell the VLAN */
     IPV4_OCTETS = 20, IPV4_FRAGMENT = 6, IPV4_PROTOCOL = 9, IPV4_ADDRESSES = 12,
     IPV6_OCTETS = 40, IPV6_NEXT = 6, IPV6_ADDRESSES = 8,
     FRAGMENTED = 0x3fff, /* the bits of a fragment: more of them, and its place */
+    /* VXLAN (RFC 7348), at its own port of UDP and at the usual one of Linux; and GRE (RFC 2784, 2890). */
+    UDP_TO = 2, VXLAN_PORT = 4789, VXLAN_USUAL_PORT = 8472, VXLAN_FLAGS = 8, VXLAN_IS_VALID = 0x08, VXLAN_ETHERNET = 16,
+    GRE_OCTETS = 4, GRE_TYPE = 2, GRE_SUM = 0x8000, GRE_KEY = 0x2000, GRE_SEQUENCE = 0x1000,
+    GRE_OTHER = 0x4c07, /* another version, or bits with which the header may have another form */
 };
 struct niw_number conversation_of(const uint8_t *frame, size_t length);
 
@@ -109,6 +115,10 @@ void pass_tap_tick(void);
 void forget_tap(void);
 bool read_tap_mac(uint8_t *mac);
 bool is_tap_up(void);
+void end_tap(int index);
+void keep_tap(bool keeps);
+bool tap_persists(void);
+uint32_t mtu_of_administrator(void);
 
 /* announce.c */
 void announce_soon(void);
@@ -121,6 +131,13 @@ int load_program(const struct bpf_insn *steps, size_t count);
 int refuse_program(int fault);
 const char *program_fault(void);
 int attach_program(int program, int index, bool egress);
+bool exchange_program(int attached, int program, int index);
+void *take_map(uint32_t size, uint32_t count, int map);
+void detach_program(int attached);
+
+/* store.c */
+int attach_stored(const char *kind, int program, int index, bool egress);
+void detach_stored(const char *kind, int index, int attached);
 
 /* fast_programs.c: what the kernel runs for frames, and what it shares with the daemon */
 struct row {
@@ -164,6 +181,8 @@ void pass_fast_tick(void);
 void note_read(unsigned packets, bool drained);
 void open_host(bool open);
 void follow_host_queue(const char *discipline);
+int fast_member_of(uint16_t number);
+void resume_fast(void);
 
 /* features.c: what puts received frames together, a bit for each way */
 struct joins {
@@ -181,6 +200,7 @@ struct kept {
     struct ethtool_channels queues; /* what there was; all 0 where there was one queue */
 };
 void keep_settings(const struct link *link, struct kept *kept);
+void recall_settings(const struct link *link, struct kept *kept);
 void forget_settings(const struct link *link);
 
 /* traffic.c: queueing disciplines and classifiers of members */
@@ -208,6 +228,7 @@ void open_guard(struct link *link, struct guard *guard);
 void look_at_discipline(struct link *link, struct guard *guard);
 void reopen_guard(struct link *link, struct guard *guard);
 void close_guard(const struct link *link, struct guard *guard);
+void put_back(int index, const uint8_t *mac);
 
 /* members.c */
 void start_members(void);
@@ -239,6 +260,7 @@ void free_left(void);
 void balance(void);
 
 /* probe.c */
+void go_on_answering(enum answering last);
 enum answering peer_answering(void);
 void look_at_partner(void);
 void pass_probe_tick(void);

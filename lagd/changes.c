@@ -190,16 +190,19 @@ static bool follow_discipline(struct link *link, const struct interface *interfa
  * it went. IFF_RUNNING may be a second old, and IFF_LOWER_UP is the carrier itself. */
 static void follow(struct link *link, const struct interface *interface) {
     uint16_t port = link->settings.number;
-    bool up = (interface->flags & IFF_UP) && (interface->flags & IFF_RUNNING) && (interface->flags & IFF_LOWER_UP);
+    bool up, carrier = (interface->flags & IFF_UP) && (interface->flags & IFF_RUNNING) && (interface->flags & IFF_LOWER_UP), lost = false;
     if (interface->has_mac) memcpy(link->mac, interface->mac, sizeof link->mac);
     if (!follow_discipline(link, interface)) return;
     if (interface->mtu != 0) follow_mtu(link, interface->mtu);
     if (interface->counts_losses && interface->losses != link->kernel_losses) {
-        uint32_t lost = losses_since(link->kernel_losses, interface->losses);
+        uint32_t losses = losses_since(link->kernel_losses, interface->losses);
         link->kernel_losses = interface->losses;
-        if (lost > 0) link->counts[LOSSES] += lost - (link->up ? 1 : 0);
-        if (lost > 0) set_link(port, false);
+        lost = losses > 0;
+        if (lost) link->counts[LOSSES] += losses - (link->up ? 1 : 0);
+        if (lost) set_link(port, false);
     }
+    if (lost || !carrier) forget_carrier(link);
+    up = carrier && is_restored(link);
     if (up && !link->up) fit_queue(link, interface->name);
     if (up) take_speed(link, interface->name);
     if (up) follow_speed(link, interface->name);
@@ -319,7 +322,7 @@ void watch_carriers(bool all) {
     if (!all && !suspected) return;
     suspected = false;
     for (uint16_t i = 0; i < link_count; i++)
-        if (links[i].socket >= 0 && has_new_carrier(&links[i])) any = ask_for(links[i].index, 0) || any;
+        if (links[i].socket >= 0 && (has_new_carrier(&links[i]) || has_waited(&links[i]))) any = ask_for(links[i].index, 0) || any;
     if (any) take_changes();
 }
 

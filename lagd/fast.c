@@ -9,7 +9,7 @@
 #include <sys/syscall.h>
 #include <unistd.h>
 
-#include "carry.h"
+#include "state.h"
 
 /* How long the conversations of a link that went down wait, in milliseconds: the peer's kernel may still have frames to hand up. */
 #define DOWN_WAIT 100
@@ -47,30 +47,54 @@ static int needed(int program) {
 }
 
 /* Has a program run at the TAP device; answers what keeps it there. */
-static int keep_program(int program, bool egress) {
+static int keep_program(const char *kind, int program, bool egress) {
     int opened;
-    opened = attach_program(program, tap_at, egress);
+    opened = attach_stored(kind, program, tap_at, egress);
     need(opened >= 0, "fast: no program of an interface, which Linux has from 6.6 on");
     close(program);
     return opened;
+}
+
+/* A table that the programs share with the daemon: that of the last daemon, where that left one, or a new one. */
+static void *open_map(int number, uint32_t size, uint32_t count, int *map) {
+    void *at;
+    *map = left.tap != 0 && left.tap == tap_at ? take_stored("map", number) : -1;
+    at = *map >= 0 ? take_map(size, count, *map) : NULL;
+    if (at) return at;
+    if (*map >= 0) close_stored("map", number, *map);
+    at = make_map(size, count, map);
+    need(at != NULL, "fast: no table of the kernel");
+    put_stored("map", number, *map);
+    return at;
+}
+
+/* What the kernel did for the last daemon is no count of this one. */
+static void begin_counts(void) {
+    for (uint16_t number = 0; number < CONVERSATIONS; number++) {
+        struct fast *fast = &carry.conversations[number].fast;
+        fast->counted = __atomic_load_n(&rows[number].passed, __ATOMIC_ACQUIRE);
+        fast->overflowed = __atomic_load_n(&rows[number].overflowed, __ATOMIC_ACQUIRE);
+    }
+    memcpy(counted, entries, sizeof counted);
+    for (uint16_t i = link_count; i < NIW_MOST_PORTS; i++) __atomic_store_n(&entries[i].up_to, 0, __ATOMIC_SEQ_CST);
+    counted_overflows = __atomic_load_n(&host->overflowed, __ATOMIC_RELAXED);
+    counted_unfit = __atomic_load_n(&host->unfit, __ATOMIC_RELAXED);
 }
 
 /* Loads all that the kernel is to run, while the daemon may. */
 void start_fast(void) {
     struct fast_maps maps;
     need(wait_for_programs(), "fast: the kernel cannot wait for its programs (membarrier)");
-    rows = make_map(sizeof *rows, CONVERSATIONS, &maps.rows);
-    need(rows != NULL, "fast: no table of the kernel");
-    entries = make_map(sizeof *entries, NIW_MOST_PORTS, &maps.members);
-    need(entries != NULL, "fast: no table of the kernel");
-    host = make_map(sizeof *host, 1, &maps.host);
-    need(host != NULL, "fast: no table of the kernel");
-    memcpy(&host->mac, settings.config.mac, ETH_ALEN);
     tap_at = tap_index();
+    rows = open_map(0, sizeof *rows, CONVERSATIONS, &maps.rows);
+    entries = open_map(1, sizeof *entries, NIW_MOST_PORTS, &maps.members);
+    host = open_map(2, sizeof *host, 1, &maps.host);
+    begin_counts();
+    if (host->mac == 0) memcpy(&host->mac, settings.config.mac, ETH_ALEN);
     for (uint16_t i = 0; i < link_count; i++)
         receivers[i] = needed(load_receiver(&maps, (uint16_t)(i + 1)));
-    handover = keep_program(needed(load_handover(&maps)), false);
-    sender = keep_program(needed(load_sender(&maps)), true);
+    handover = keep_program("handover", needed(load_handover(&maps)), false);
+    sender = keep_program("sender", needed(load_sender(&maps)), true);
 }
 
 /* Nothing is passed on any more, from the first line on. */
@@ -80,15 +104,15 @@ void end_fast(void) {
     for (uint16_t number = 0; number < CONVERSATIONS; number++)
         (void)__atomic_and_fetch(&rows[number].word, ~(uint64_t)UINT32_MAX, __ATOMIC_SEQ_CST);
     for (uint16_t i = 0; i < link_count; i++) __atomic_store_n(&entries[i].up_to, 0, __ATOMIC_SEQ_CST);
-    tap_at = 0;
-    if (sender >= 0) close(sender);
-    if (handover >= 0) close(handover);
+    if (sender >= 0) detach_stored("sender", tap_at, sender);
+    if (handover >= 0) detach_stored("handover", tap_at, handover);
     sender = handover = -1;
+    tap_at = 0;
 }
 
 /* Has what comes at a member go up by the kernel, as long as the answer is open; or -1, and errno. */
 int open_fast_receiver(const struct link *link) {
-    return attach_program(receivers[link->settings.number - 1], link->index, false);
+    return attach_stored("guard", receivers[link->settings.number - 1], link->index, false);
 }
 
 static uint64_t word_of(uint16_t number) {
@@ -210,6 +234,28 @@ static bool is_on(const struct conversation *conversation, uint16_t port) {
 static bool is_resting(const struct conversation *conversation, uint16_t port) {
     (void)port;
     return !conversation->used && carry.time - conversation->last >= settings.flight;
+}
+
+/* The interface on which the kernel passes a conversation on, or 0. */
+int fast_member_of(uint16_t number) {
+    return is_fast() ? (int)(uint32_t)word_of(number) : 0;
+}
+
+/* The kernel goes on passing what stays on its port, and nothing else of what it passed on for the last daemon. */
+void resume_fast(void) {
+    bool any = false;
+    for (uint16_t number = 0; is_fast() && number < CONVERSATIONS; number++) {
+        struct conversation *conversation = &carry.conversations[number];
+        int member = fast_member_of(number);
+        if (member == 0) continue;
+        if (conversation->port != 0 && member == links[conversation->port - 1].index && may_pass(conversation, conversation->port)) {
+            conversation->fast.port = conversation->port;
+        } else {
+            (void)__atomic_and_fetch(&rows[number].word, ~(uint64_t)UINT32_MAX, __ATOMIC_SEQ_CST);
+            any = true;
+        }
+    }
+    if (any) wait_or_end();
 }
 
 /* Takes back what is not, or no longer, on the port where the kernel passes it on: before a marker goes there. */

@@ -12,7 +12,7 @@
 #include "carry.h"
 
 #ifndef MOST_STEPS
-#define MOST_STEPS 512
+#define MOST_STEPS 1024
 #endif
 /* What a program answers: the kernel goes on with the frame, or loses it. */
 #define GO_ON (-1)
@@ -25,7 +25,7 @@ enum {
     FRAME = BPF_REG_6, HASH = BPF_REG_7, PLACE = BPF_REG_8, FOUND = BPF_REG_9, STACK = BPF_REG_10,
 };
 /* Places on the stack, below its end. */
-enum { KEY = -4, PORTS = -8, TYPE = -12, ETHERNET = -28, NETWORK = -72, SEGMENTS = -80 };
+enum { KEY = -4, PORTS = -8, TYPE = -12, ETHERNET = -28, NETWORK = -72, SEGMENTS = -80, OUTER_PLACE = -84, OUTER_TYPE = -88 };
 
 struct code {
     struct bpf_insn steps[MOST_STEPS];
@@ -68,6 +68,10 @@ static void with(struct code *code, unsigned operation, unsigned to, int32_t val
 
 static void with32(struct code *code, unsigned operation, unsigned to, int32_t value) {
     step(code, (struct bpf_insn){.code = (uint8_t)(BPF_ALU | operation | BPF_K), .dst_reg = to & 15, .imm = value});
+}
+
+static void add_register(struct code *code, unsigned to, unsigned from) {
+    step(code, (struct bpf_insn){.code = BPF_ALU64 | BPF_ADD | BPF_X, .dst_reg = to & 15, .src_reg = from & 15});
 }
 
 static void add_to(struct code *code, unsigned to, int at, unsigned from) {
@@ -144,16 +148,12 @@ static void hash_words(struct code *code, int at, unsigned count) {
     }
 }
 
-/* Finds the network header, in PLACE, and its type, on the stack. A tag that the kernel keeps beside the frame is the first one. */
-static void skip_tags(struct code *code) {
-    unsigned done[2 * MOST_TAGS], count = 0, beside;
-    set(code, PLACE, ETH_HLEN);
-    load(code, BPF_H, FOUND, STACK, ETHERNET + 2 * ETH_ALEN);
-    load(code, BPF_W, ARG1, FRAME, offsetof(struct __sk_buff, vlan_present));
-    beside = jump(code, BPF_JNE, ARG1, 0);
+/* Skips VLAN tags from PLACE on, where a header of the type in FOUND stands. With `beside`, a jump, there is one less to skip. */
+static void skip_tags(struct code *code, const unsigned *beside) {
+    unsigned done[2 * MOST_TAGS], count = 0;
     for (unsigned tag = 0; tag < MOST_TAGS; tag++) {
         unsigned service, customer;
-        if (tag == 1) land(code, beside);
+        if (tag == 1 && beside) land(code, *beside);
         customer = jump(code, BPF_JEQ, FOUND, htons(ETH_P_8021Q));
         service = jump(code, BPF_JEQ, FOUND, htons(ETH_P_8021AD));
         done[count++] = jump(code, BPF_JA, 0, 0);
@@ -165,6 +165,16 @@ static void skip_tags(struct code *code) {
         load(code, BPF_H, FOUND, STACK, TYPE);
     }
     land_all(code, done, count);
+}
+
+/* Finds the network header, in PLACE, and its type, in FOUND. A tag that the kernel keeps beside the frame is the first one. */
+static void find_network(struct code *code) {
+    unsigned beside;
+    set(code, PLACE, ETH_HLEN);
+    load(code, BPF_H, FOUND, STACK, ETHERNET + 2 * ETH_ALEN);
+    load(code, BPF_W, ARG1, FRAME, offsetof(struct __sk_buff, vlan_present));
+    beside = jump(code, BPF_JNE, ARG1, 0);
+    skip_tags(code, &beside);
 }
 
 /* Loads a network header of this version, if the frame has one; answers the jumps of those that have none. */
@@ -185,42 +195,151 @@ static unsigned load_ports(struct code *code, unsigned *none) {
     none[count++] = jump(code, BPF_JNE, ARG1, IPPROTO_SCTP);
     land(code, tcp);
     land(code, udp);
-    step(code, (struct bpf_insn){.code = BPF_ALU64 | BPF_ADD | BPF_X, .dst_reg = PLACE, .src_reg = ARG2});
+    add_register(code, PLACE, ARG2);
     load_octets(code, -1, 0, PORTS, 4);
     none[count++] = jump(code, BPF_JNE, ANSWER, 0);
     set(code, FOUND, 1);
     return count;
 }
 
-/* The ports of IPv4: a fragment has none. FOUND is 1 where they are on the stack. */
-static unsigned load_ports4(struct code *code, unsigned *none) {
+/* What a packet of IPv4 carries: its protocol in ARG1, and the octets before it in ARG2. Of a fragment that is not told: the jump of that. */
+static unsigned load_protocol4(struct code *code) {
+    unsigned fragment;
     load(code, BPF_H, ARG1, STACK, NETWORK + IPV4_FRAGMENT);
     with(code, BPF_AND, ARG1, htons(FRAGMENTED));
-    none[0] = jump(code, BPF_JNE, ARG1, 0);
+    fragment = jump(code, BPF_JNE, ARG1, 0);
     load(code, BPF_B, ARG2, STACK, NETWORK);
     with(code, BPF_AND, ARG2, 15);
     with(code, BPF_LSH, ARG2, 2);
     load(code, BPF_B, ARG1, STACK, NETWORK + IPV4_PROTOCOL);
-    return 1 + load_ports(code, none + 1);
+    return fragment;
 }
 
-/* The hash of layer2+3 or layer3+4, as conversation_of has it. */
+static void load_protocol6(struct code *code) {
+    load(code, BPF_B, ARG1, STACK, NETWORK + IPV6_NEXT);
+    set(code, ARG2, IPV6_OCTETS);
+}
+
+/* Goes on to the type of an Ethernet header at PLACE and `more`, and behind its tags; answers the jump of a frame that has none. */
+static unsigned enter_ethernet(struct code *code, int more) {
+    unsigned none;
+    if (more) with(code, BPF_ADD, PLACE, more);
+    load_octets(code, -1, 2 * ETH_ALEN, TYPE, 2);
+    none = jump(code, BPF_JNE, ANSWER, 0);
+    load(code, BPF_H, FOUND, STACK, TYPE);
+    with(code, BPF_ADD, PLACE, ETH_HLEN);
+    skip_tags(code, NULL);
+    return none;
+}
+
+/* Goes on to what VXLAN carries, from a header of UDP at PLACE; answers the jumps where it is something else. */
+static unsigned enter_vxlan(struct code *code, unsigned *none) {
+    unsigned count = 0, own_port;
+    load_octets(code, -1, VXLAN_FLAGS, TYPE, 1);
+    none[count++] = jump(code, BPF_JNE, ANSWER, 0);
+    load(code, BPF_B, ARG1, STACK, TYPE);
+    with(code, BPF_AND, ARG1, VXLAN_IS_VALID);
+    none[count++] = jump(code, BPF_JEQ, ARG1, 0);
+    load_octets(code, -1, UDP_TO, TYPE, 2);
+    none[count++] = jump(code, BPF_JNE, ANSWER, 0);
+    load(code, BPF_H, ARG1, STACK, TYPE);
+    own_port = jump(code, BPF_JEQ, ARG1, htons(VXLAN_PORT));
+    none[count++] = jump(code, BPF_JNE, ARG1, htons(VXLAN_USUAL_PORT));
+    land(code, own_port);
+    none[count++] = enter_ethernet(code, VXLAN_ETHERNET);
+    return count;
+}
+
+/* Goes on to what GRE carries, from its header at PLACE; answers the jumps where it is of another kind. */
+static unsigned enter_gre(struct code *code, unsigned *none) {
+    static const int32_t words[] = {GRE_SUM, GRE_KEY, GRE_SEQUENCE};
+    unsigned count = 0, packet;
+    load_octets(code, -1, 0, PORTS, GRE_OCTETS);
+    none[count++] = jump(code, BPF_JNE, ANSWER, 0);
+    load(code, BPF_H, ARG1, STACK, PORTS);
+    step(code, (struct bpf_insn){.code = BPF_ALU | BPF_END | BPF_TO_BE, .dst_reg = ARG1, .imm = 16});
+    none[count++] = jump(code, BPF_JSET, ARG1, GRE_OTHER);
+    load(code, BPF_H, FOUND, STACK, PORTS + GRE_TYPE);
+    with(code, BPF_ADD, PLACE, GRE_OCTETS);
+    for (unsigned i = 0; i < sizeof words / sizeof *words; i++) {
+        unsigned has = jump(code, BPF_JSET, ARG1, words[i]), without = jump(code, BPF_JA, 0, 0);
+        land(code, has);
+        with(code, BPF_ADD, PLACE, 4);
+        land(code, without);
+    }
+    packet = jump(code, BPF_JNE, FOUND, htons(ETH_P_TEB));
+    none[count++] = enter_ethernet(code, 0);
+    land(code, packet);
+    return count;
+}
+
+/* Goes on to what a tunnel carries, of the protocol in ARG1, behind the octets in ARG2; answers the jumps where there is none. */
+static unsigned enter_tunnel(struct code *code, unsigned *none) {
+    unsigned ip4 = jump(code, BPF_JEQ, ARG1, IPPROTO_IPIP), ip6 = jump(code, BPF_JEQ, ARG1, IPPROTO_IPV6);
+    unsigned gre = jump(code, BPF_JEQ, ARG1, IPPROTO_GRE), inside[3], count = 0;
+    none[count++] = jump(code, BPF_JNE, ARG1, IPPROTO_UDP);
+    add_register(code, PLACE, ARG2);
+    count += enter_vxlan(code, none + count);
+    inside[0] = jump(code, BPF_JA, 0, 0);
+    land(code, gre);
+    add_register(code, PLACE, ARG2);
+    count += enter_gre(code, none + count);
+    inside[1] = jump(code, BPF_JA, 0, 0);
+    land(code, ip4);
+    add_register(code, PLACE, ARG2);
+    set(code, FOUND, htons(ETH_P_IP));
+    inside[2] = jump(code, BPF_JA, 0, 0);
+    land(code, ip6);
+    add_register(code, PLACE, ARG2);
+    set(code, FOUND, htons(ETH_P_IPV6));
+    land_all(code, inside, 3);
+    return count;
+}
+
+/* Goes on to the packet of IP in a tunnel, where PLACE and FOUND have a packet that is one, as read_inner of hash.c does. */
+static void find_inner(struct code *code) {
+    unsigned none[24], other[3], count = 0, others, carried, is4, is6;
+    store(code, BPF_W, STACK, OUTER_PLACE, PLACE);
+    store(code, BPF_W, STACK, OUTER_TYPE, FOUND);
+    others = load_network(code, ETH_P_IP, IPV4_OCTETS, 4, other);
+    none[count++] = load_protocol4(code);
+    carried = jump(code, BPF_JA, 0, 0);
+    land_all(code, other, others);
+    count += load_network(code, ETH_P_IPV6, IPV6_OCTETS, 6, none + count);
+    load_protocol6(code);
+    land(code, carried);
+    count += enter_tunnel(code, none + count);
+    others = load_network(code, ETH_P_IP, IPV4_OCTETS, 4, other);
+    is4 = jump(code, BPF_JA, 0, 0);
+    land_all(code, other, others);
+    count += load_network(code, ETH_P_IPV6, IPV6_OCTETS, 6, none + count);
+    is6 = jump(code, BPF_JA, 0, 0);
+    land_all(code, none, count);
+    load(code, BPF_W, PLACE, STACK, OUTER_PLACE);
+    load(code, BPF_W, FOUND, STACK, OUTER_TYPE);
+    land(code, is4);
+    land(code, is6);
+}
+
+/* The hash of addresses, and of ports where it has them, as add_headers of hash.c has it. */
 static void hash_headers(struct code *code) {
     unsigned other[3], none[4], count, ip4, ip6, plain, skip;
-    bool ports = settings.hash == HASH_LAYER3_4;
-    set(code, HASH, (int32_t)HASH_START);
-    skip_tags(code);
+    bool ports = settings.hash != HASH_LAYER2_3;
+    find_network(code);
+    if (settings.hash == HASH_ENCAP3_4) find_inner(code);
     count = load_network(code, ETH_P_IP, IPV4_OCTETS, 4, other);
     set(code, FOUND, 0);
     hash_words(code, NETWORK + IPV4_ADDRESSES, 2);
-    if (ports) land_all(code, none, load_ports4(code, none));
+    if (ports) {
+        none[0] = load_protocol4(code);
+        land_all(code, none, 1 + load_ports(code, none + 1));
+    }
     ip4 = jump(code, BPF_JA, 0, 0);
     land_all(code, other, count);
     count = load_network(code, ETH_P_IPV6, IPV6_OCTETS, 6, other);
     set(code, FOUND, 0);
     hash_words(code, NETWORK + IPV6_ADDRESSES, 8);
-    load(code, BPF_B, ARG1, STACK, NETWORK + IPV6_NEXT);
-    set(code, ARG2, IPV6_OCTETS);
+    load_protocol6(code);
     if (ports) land_all(code, none, load_ports(code, none));
     ip6 = jump(code, BPF_JA, 0, 0);
     land_all(code, other, count);
@@ -235,6 +354,44 @@ static void hash_headers(struct code *code) {
     skip = jump(code, BPF_JEQ, FOUND, 0);
     hash_words(code, PORTS, 1);
     land(code, skip);
+}
+
+/* The hash of the VLAN of the outer tag and of the source, as add_vlan_and_source of hash.c has it. */
+static void hash_vlan_and_source(struct code *code) {
+    unsigned beside, customer, service, none[2], both;
+    set(code, FOUND, 0);
+    load(code, BPF_W, ARG1, FRAME, offsetof(struct __sk_buff, vlan_present));
+    beside = jump(code, BPF_JNE, ARG1, 0);
+    load(code, BPF_H, ARG1, STACK, ETHERNET + 2 * ETH_ALEN);
+    customer = jump(code, BPF_JEQ, ARG1, htons(ETH_P_8021Q));
+    service = jump(code, BPF_JEQ, ARG1, htons(ETH_P_8021AD));
+    none[0] = jump(code, BPF_JA, 0, 0);
+    land(code, customer);
+    land(code, service);
+    load_octets(code, ETH_HLEN, 0, TYPE, 2);
+    none[1] = jump(code, BPF_JNE, ANSWER, 0);
+    load(code, BPF_H, FOUND, STACK, TYPE);
+    both = jump(code, BPF_JA, 0, 0);
+    land(code, beside);
+    load(code, BPF_W, FOUND, FRAME, offsetof(struct __sk_buff, vlan_tci));
+    step(code, (struct bpf_insn){.code = BPF_ALU | BPF_END | BPF_TO_BE, .dst_reg = FOUND, .imm = 16});
+    land(code, both);
+    land_all(code, none, 2);
+    with(code, BPF_AND, FOUND, htons(VLAN));
+    load(code, BPF_H, ARG1, STACK, ETHERNET + SOURCE);
+    store(code, BPF_H, STACK, PORTS, ARG1);
+    store(code, BPF_H, STACK, PORTS + 2, FOUND);
+    hash_words(code, ETHERNET + SOURCE + 2, 1);
+    hash_words(code, PORTS, 1);
+}
+
+/* The hash of a frame, as conversation_of has it. */
+static void hash_frame(struct code *code) {
+    set(code, HASH, (int32_t)(HASH_START ^ settings.hash_seed));
+    if (settings.hash == HASH_VLAN_SRCMAC)
+        hash_vlan_and_source(code);
+    else
+        hash_headers(code);
     for (int shift = 16; shift >= 8; shift -= 8) {
         step(code, (struct bpf_insn){.code = BPF_ALU | BPF_MOV | BPF_X, .dst_reg = ARG1, .src_reg = HASH});
         with32(code, BPF_RSH, ARG1, shift);
@@ -249,7 +406,7 @@ static void find_conversation(struct code *code) {
         load(code, BPF_B, ARG1, STACK, ETHERNET + 11);
         step(code, (struct bpf_insn){.code = BPF_ALU64 | BPF_XOR | BPF_X, .dst_reg = HASH, .src_reg = ARG1});
     } else {
-        hash_headers(code);
+        hash_frame(code);
     }
     with(code, BPF_AND, HASH, CONVERSATIONS - 1);
     store(code, BPF_W, STACK, KEY, HASH);

@@ -64,7 +64,10 @@ static void note_stranger(struct link *link, const struct system_id *system, con
 }
 
 /* An LACPDU of this system was taken. */
-static void note_actor(struct link *link, const struct system_id *actor, const uint8_t *source) {
+static void note_actor(struct link *link, const struct system_id *actor, const uint8_t *frame) {
+    const uint8_t *source = frame + ETH_ALEN;
+    memcpy(link->lacpdu, frame, sizeof link->lacpdu);
+    link->lacpdu_at = milliseconds();
     if (link->heard && !is_same_system(&link->actor, actor)) {
         link->counts[PARTNER_CHANGES]++;
         note_stranger(link, &link->actor, link->source);
@@ -84,7 +87,7 @@ static void hand_over(struct link *link, const struct arrival *arrival, const st
         sizeof response);
     if (!is_done(received.status, "niw_receive")) return;
     link->counts[kind_of(&received)]++;
-    if (received.what == NIW_RECEIVED_TOOK_LACPDU && actor) note_actor(link, actor, arrival->frame + 6);
+    if (received.what == NIW_RECEIVED_TOOK_LACPDU && actor) note_actor(link, actor, arrival->frame);
     if (received.what != NIW_RECEIVED_RESPOND) return;
     if (may_answer(link, arrival))
         send_frame(link, RESPONSES_SENT, response);

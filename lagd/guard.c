@@ -189,7 +189,7 @@ static void open_fast(const struct link *link, struct guard *guard) {
 /* Keeps data from the stack of an interface: by TCX, or, where the kernel has none, by a classifier. */
 static void keep_from_stack(const struct link *link, struct guard *guard) {
     uint16_t port = link->settings.number;
-    if (program >= 0) guard->opened = attach_program(program, link->index, false);
+    if (program >= 0) guard->opened = attach_stored("guard", program, link->index, false);
     if (program >= 0 && guard->opened < 0) guard->classifier = set_classifier(program, link->index);
     if (guard->classifier == CLASSIFIER_BEHIND_OTHERS)
         (void)say(LOG_WARNING | ABOUT_DATA, "port %u %s: it has a clsact already: its own network stack has what filters there accept",
@@ -208,7 +208,7 @@ static void run_programs(const struct link *link, struct guard *guard) {
 }
 
 static void stop_programs(const struct link *link, struct guard *guard) {
-    if (guard->opened >= 0) close(guard->opened);
+    if (guard->opened >= 0) detach_stored("guard", link->index, guard->opened);
     if (guard->classifier != NO_CLASSIFIER) drop_classifier(link->index);
     guard->opened = -1;
     guard->classifier = NO_CLASSIFIER;
@@ -253,4 +253,17 @@ void close_guard(const struct link *link, struct guard *guard) {
     take_fifo(link->index); /* with all its queues the kernel gives each of them what it chooses */
     if (before->steered[0] && path_of_processors(link->index, path, sizeof path)) (void)write_processors(path, before->steered);
     forget_settings(link);
+}
+
+/* An interface was a member of the last daemon, and is none of this one: it gets what it had, unless somebody else has it by now. */
+void put_back(int index, const uint8_t *mac) {
+    struct link link = {.index = index};
+    struct guard guard = {.classifier = CLASSIFIER_ALONE};
+    int lock = lock_interface(index);
+    if (lock < 0) return;
+    guard.opened = take_stored("guard", index);
+    memcpy(link.mac, mac, sizeof link.mac);
+    recall_settings(&link, &guard.before);
+    close_guard(&link, &guard);
+    close_stored("lock", index, lock);
 }

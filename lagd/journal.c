@@ -28,6 +28,7 @@ static const char *id_of(unsigned kind) {
     case ABOUT_MARKERS: return "a31e97fa3b6f4028a557b2d2e89d4829";
     case ABOUT_DATA: return "c6168aa2020d442a8bc8c32f421bd6f9";
     case ABOUT_RIGHTS: return "9e14e381d96044edbfe2c030fd7290ff";
+    case ABOUT_HANDOVER: return "5d0c2f6be7a14b0f9c3e88d1a4f7b260";
     default: return NULL;
     }
 }

@@ -18,7 +18,7 @@ static void name_file(const struct link *link, char room[static 64]) {
 }
 
 /* The number of this boot; "unknown" where it may not be read, as under the unit, whose folder does not outlive a boot. */
-static const char *boot_id(void) {
+const char *boot_id(void) {
     static char text[64];
     FILE *file = fopen("/proc/sys/kernel/random/boot_id", "re");
     if (!file || fscanf(file, "%63s", text) != 1) snprintf(text, sizeof text, "unknown");
@@ -75,6 +75,11 @@ void keep_settings(const struct link *link, struct kept *kept) {
     if (!file || fclose(file) != 0)
         (void)say(LOG_WARNING | ABOUT_DATA, "port %u %s: if this daemon is killed, nobody knows what the interface had: %s",
             link->settings.number, link->name, strerror(errno));
+}
+
+/* What an interface had before an earlier daemon changed it; zeros, where nobody knows. */
+void recall_settings(const struct link *link, struct kept *kept) {
+    if (!recall(link, kept)) *kept = (struct kept){0};
 }
 
 /* The interface has what it had before, or is gone. */

@@ -19,6 +19,7 @@ enum {
     MISSING = 128,   /* its interface is missing */
     WITHOUT_PARTNER, /* it distributes on defaults */
     PARTNER_WANTED,  /* so it does, but partner-required is given */
+    RESTORING,       /* its carrier is back, and waits for wait-to-restore */
 };
 
 /* How the program ends. */
@@ -95,6 +96,8 @@ struct link {
     uint8_t mac[6];
     bool present; /* whether the answer of the kernel that is being read named it */
     bool up;
+    bool waits;            /* whether its carrier is there, and has to be steady for longer before it is up */
+    uint64_t steady_since; /* the milliseconds since which that is there, while it waits */
     uint32_t kernel_losses; /* how often the carrier went, as the kernel last told */
     bool unsent;            /* whether `frame` waits for room in its second, or for the kernel to take it */
     bool tried;             /* whether it was tried since the last tick */
@@ -114,6 +117,8 @@ struct link {
     bool to_tell;             /* whether its peer has to be told of the end */
     uint64_t sent_before_end; /* LACPDUs, up to then */
     uint64_t lacpdus_at[MOST_LACPDUS]; /* the milliseconds at which the last ones went, the oldest first */
+    uint8_t lacpdu[NIW_FRAME];         /* the last one that was taken, */
+    uint64_t lacpdu_at;                /* and the milliseconds at which it came, or 0 */
     uint64_t counts[COUNTS];
     struct niw_view view; /* as the library last told it */
     bool changed;         /* whether there may be something to print */
@@ -184,6 +189,7 @@ enum {
     ABOUT_MARKERS = 0xb000,  /* the peer answers markers, or none */
     ABOUT_DATA = 0xc000,     /* what troubles the data of a port */
     ABOUT_RIGHTS = 0xd000,   /* the daemon keeps capabilities that it does not need */
+    ABOUT_HANDOVER = 0xe000, /* what one daemon leaves to the next one */
     KINDS = 0xf000,
 };
 _Noreturn void stop(int status, const char *what, const char *which);
@@ -251,6 +257,14 @@ void look_for_twins(void);
 /* probe.c */
 void note_response(const struct link *link, uint32_t id);
 
+/* restore.c */
+bool is_restored(struct link *link);
+void forget_carrier(struct link *link);
+bool has_waited(const struct link *link);
+
+/* revert.c */
+void pass_revert_second(void);
+
 /* changes.c */
 int open_changes(void);
 void take_changes(void);
@@ -292,6 +306,7 @@ struct facts facts_of(const struct link *link);
 bool carries(const struct link *link);
 
 /* bundle.c */
+void go_on_as(const struct bundle *last);
 void choose_aggregator(struct bundle *now);
 bool is_as_good_as_any(uint16_t aggregator);
 void look_at_bundle(void);
@@ -308,6 +323,36 @@ void reload(const char *file);
 void open_folder(const char *folder);
 int folder_file(void);
 unsigned long network_namespace(void);
+
+/* kept.c */
+const char *boot_id(void);
+
+/* store.c */
+void open_store(void);
+bool has_store(void);
+void put_stored(const char *kind, int number, int fd);
+int take_stored(const char *kind, int number);
+void drop_stored(const char *kind, int number);
+void close_stored(const char *kind, int number, int fd);
+void drop_left(void);
+void leave_store(void);
+int packet_socket(const char *kind, int of, int index, int type);
+
+/* state.c */
+uint64_t boottime(void);
+void recall_state(void);
+uint32_t first_marker_left(void);
+bool save_state(void);
+void end_state(void);
+
+/* resume.c */
+extern bool resuming; /* whether links that come up are not yet up for the library */
+extern bool has_left; /* whether the next daemon goes on from here */
+void begin_resuming(void);
+unsigned resume(void);
+void resume_data(unsigned count);
+void release_left(void);
+bool leave_state(void);
 
 /* status.c */
 /* How the answer begins to who has no place. */

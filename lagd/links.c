@@ -24,7 +24,7 @@
 static int open_socket(int index) {
     struct sockaddr_ll address = {.sll_family = AF_PACKET, .sll_protocol = htons(ETH_P_SLOW), .sll_ifindex = index};
     struct packet_mreq member = {index, PACKET_MR_MULTICAST, 6, {0x01, 0x80, 0xc2, 0x00, 0x00, 0x02}};
-    int opened = socket(AF_PACKET, SOCK_RAW | SOCK_NONBLOCK | SOCK_CLOEXEC, 0), fault; /* it takes nothing before it is bound */
+    int opened = packet_socket("lacp", index, index, SOCK_RAW), fault;
     if (opened < 0) return -1;
     (void)setsockopt(opened, SOL_SOCKET, SO_PRIORITY, &(int){TC_PRIO_CONTROL}, sizeof(int)); /* before data */
     (void)setsockopt(opened, SOL_PACKET, PACKET_IGNORE_OUTGOING, &(int){1}, sizeof(int));
@@ -105,8 +105,8 @@ bool has_new_carrier(struct link *link) {
 }
 
 static void close_files(struct link *link) {
-    if (link->socket >= 0) close(link->socket);
-    if (link->lock >= 0) close(link->lock);
+    if (link->socket >= 0) close_stored("lacp", link->index, link->socket);
+    if (link->lock >= 0) close_stored("lock", link->index, link->lock);
     if (link->carrier_file >= 0) close(link->carrier_file);
     link->socket = link->lock = link->carrier_file = -1;
 }
@@ -119,6 +119,8 @@ bool open_link(struct link *link, int index) {
     link->index = index;
     taken = link->socket >= 0 && await_input(link->socket, link->settings.number) && open_member(link);
     link->trouble = taken ? 0 : errno;
+    if (taken) put_stored("lock", index, link->lock);
+    if (taken) put_stored("lacp", index, link->socket);
     link->carrier_file = open_carrier(index);
     link->carrier_changes[0] = 0;
     link->trouble_ticks = TROUBLE_TICKS;

@@ -128,6 +128,7 @@ static bool is_end(int signals, const char *file) {
     if (read(signals, &signal, sizeof signal) != sizeof signal) return true;
     if (signal.ssi_signo == SIGUSR2) ask_moves();
     if (signal.ssi_signo == SIGUSR2) return false;
+    if (signal.ssi_signo == SIGUSR1) return !leave_state();
     if (signal.ssi_signo != SIGHUP || !file) return true;
     reload(file);
     return false;
@@ -146,7 +147,7 @@ static void serve(const struct epoll_event *events, int count, struct ready read
 }
 
 /* Waits, and serves what comes. The first signal that ends it, or a refusal of the library, makes it tell the peers; it ends when they
- * are told, or by a second signal. */
+ * are told, or by a second signal; or at once, where the next daemon goes on. */
 static void run(int signals, int clock, const char *file) {
     struct epoll_event events[MOST_EVENTS];
     bool ends = false;
@@ -158,10 +159,11 @@ static void run(int signals, int clock, const char *file) {
         if (broken) end_carry();
         if (ready.tick && ends) end_ticks++;
         if (ready.signal) ends_now = is_end(signals, ends ? NULL : file);
-        if (ends && ends_now) return;
+        if (has_left || (ends && ends_now)) return;
         if (ends || !(ends_now || broken)) continue;
         ends = true;
         notify_stopping();
+        end_state();
         tell_end();
     }
 }
@@ -176,13 +178,17 @@ static void keep_standard_files(void) {
 /* Opens what the daemon needs, and runs it. */
 static int run_daemon(const struct options *options) {
     int signals, clock;
+    unsigned resumed;
     settings = options->settings;
     signals = open_signals();
     waits = epoll_create1(EPOLL_CLOEXEC);
     if (waits < 0) stop(REFUSED, "epoll", strerror(errno));
     if (settings.system_auto) take_own_address();
-    make_system();
     open_folder(options->folder);
+    open_store();
+    recall_state();
+    make_system();
+    begin_resuming();
     open_carry();
     await_at_start(open_changes(), CHANGES);
     open_status(options->folder);
@@ -190,11 +196,15 @@ static int run_daemon(const struct options *options) {
     await_at_start(signals, SIGNALS);
     await_at_start(clock, CLOCK);
     drop_privileges();
+    resumed = resume();
     has_started = true;
+    resume_data(resumed);
+    release_left();
     tell_changes();
     settle_carry();
     notify_ready();
     run(signals, clock, options->file);
+    if (has_left) return DONE;
     end_carry();
     return end_system() ? DONE : REFUSED;
 }

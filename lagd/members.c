@@ -106,7 +106,7 @@ static bool set_ways(int fd, bool in_order) {
 static int open_data(int index, const struct guard *guard) {
     struct sockaddr_ll address = {.sll_family = AF_PACKET, .sll_protocol = htons(ETH_P_ALL), .sll_ifindex = index};
     struct packet_mreq all = {index, PACKET_MR_PROMISC, 0, {0}};
-    int fd = socket(AF_PACKET, SOCK_RAW | SOCK_NONBLOCK | SOCK_CLOEXEC, 0); /* it takes nothing before it is bound */
+    int fd = packet_socket("data", index, index, SOCK_RAW);
     if (fd < 0) return -1;
     enlarge(fd, SO_RCVBUFFORCE, SO_RCVBUF);
     enlarge(fd, SO_SNDBUFFORCE, SO_SNDBUF);
@@ -121,9 +121,9 @@ static int open_data(int index, const struct guard *guard) {
 
 /* A packet socket for the markers that the kernel hands up to the TAP device, behind the data of this port, or, with 0, for those that come
  * to a member while no data goes up; or -1, and errno. */
-static int open_markers(int index, uint16_t port) {
+static int open_markers(const struct link *link, int index, uint16_t port) {
     struct sockaddr_ll address = {.sll_family = AF_PACKET, .sll_protocol = htons(ETH_P_SLOW), .sll_ifindex = index};
-    int fd = socket(AF_PACKET, SOCK_RAW | SOCK_NONBLOCK | SOCK_CLOEXEC, 0);
+    int fd = packet_socket(port > 0 ? "markers" : "direct", link->index, index, SOCK_RAW);
     if (fd < 0) return -1;
     if ((port > 0 ? filter_marked(fd, port) : filter(fd, true)) && setsockopt(fd, SOL_PACKET, PACKET_AUXDATA, &(int){1}, sizeof(int)) == 0
         && bind(fd, (struct sockaddr *)&address, sizeof address) == 0)
@@ -142,10 +142,19 @@ void start_members(void) {
 }
 
 static void close_sockets(struct member *member) {
-    if (member->socket >= 0) close_keeping_errno(member->socket);
-    if (member->markers >= 0) close_keeping_errno(member->markers);
-    if (member->direct >= 0) close_keeping_errno(member->direct);
+    int index = links[member - members].index, fault = errno;
+    if (member->socket >= 0) close_stored("data", index, member->socket);
+    if (member->markers >= 0) close_stored("markers", index, member->markers);
+    if (member->direct >= 0) close_stored("direct", index, member->direct);
     member->socket = member->markers = member->direct = -1;
+    errno = fault;
+}
+
+/* The manager of services keeps the sockets of a member, too. */
+static void store_sockets(const struct member *member, int index) {
+    put_stored("data", index, member->socket);
+    if (member->markers >= 0) put_stored("markers", index, member->markers);
+    if (member->direct >= 0) put_stored("direct", index, member->direct);
 }
 
 /* Opens the sockets of a member; answers whether it did. */
@@ -154,15 +163,18 @@ static bool open_sockets(struct member *member, const struct link *link) {
     uint32_t tag = MEMBERS + (uint32_t)(member - members);
     member->socket = open_data(link->index, &member->guard);
     if (member->socket < 0 || !fast) return member->socket >= 0 && await_input(member->socket, tag);
-    member->markers = open_markers(tap_index(), link->settings.number);
-    member->direct = open_markers(link->index, 0);
+    member->markers = open_markers(link, tap_index(), link->settings.number);
+    member->direct = open_markers(link, link->index, 0);
     return member->markers >= 0 && member->direct >= 0 && await_input(member->markers, tag) && await_input(member->direct, tag);
 }
 
 /* Opens the sockets of a member whose programs run; answers whether it did. Else, it is no member any more, and errno tells why. */
 static bool open_or_close(struct member *member, const struct link *link) {
     int fault;
-    if (open_sockets(member, link)) return true;
+    if (open_sockets(member, link)) {
+        store_sockets(member, link->index);
+        return true;
+    }
     fault = errno;
     close_sockets(member);
     close_guard(link, &member->guard);
@@ -226,8 +238,9 @@ void close_member(struct link *link) {
     close_guard(link, &member->guard);
 }
 
-/* The program ends, by whatever it is refused: its members get what they had. */
+/* The program ends, by whatever it is refused, and no other one goes on: its members get what they had. */
 void put_back_members(void) {
+    if (has_left) return;
     for (uint16_t i = 0; i < link_count; i++) {
         if (members[i].socket < 0) continue;
         close_sockets(&members[i]);

@@ -17,7 +17,7 @@ static const char HELP_BEGINS[] =
     "\n"
     "KEY is 0 to 65535. PRIORITY,MAC is the system, as 32768,02:00:00:00:00:01; auto stands for 32768 and the address of the first\n"
     "interface. The interfaces are ports 1, 2 and on, 1 to 64 of them. One that is missing is waited for. SIGTERM, SIGINT, SIGQUIT\n"
-    "and SIGHUP tell the peers and end it; with --config SIGHUP reads the file again.\n"
+    "and SIGHUP tell the peers and end it; with --config SIGHUP reads the file again. SIGUSR1 has the next lagd go on from here.\n"
     "\n";
 
 static const char HELP_ENDS[] =

@@ -12,6 +12,7 @@ static struct niw_view views[NIW_MOST_PORTS];
 static uint8_t status_of(const struct link *link) {
     uint8_t status = link->view.port_status;
     if (link->socket < 0) return MISSING;
+    if (link->waits) return RESTORING;
     if (status != NIW_PORT_STATUS_DISTRIBUTING || !link->view.defaulted) return status;
     return settings.partner_required ? PARTNER_WANTED : WITHOUT_PARTNER;
 }

@@ -21,6 +21,13 @@ enum answering peer_answering(void) {
     return peer;
 }
 
+/* The last daemon found that out of this partner. */
+void go_on_answering(enum answering last) {
+    if (carry.active == 0 || (last != ANSWERS && last != MUTE)) return;
+    look_at_partner();
+    peer = told = last;
+}
+
 /* The peer did not answer a marker in time. */
 void suspect_partner(void) {
     if (peer == ANSWERS) peer = NOT_ASKED;

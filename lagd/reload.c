@@ -18,7 +18,7 @@ static const char *restart_for(const struct settings *wanted) {
     if (wanted->config.max_links != settings.config.max_links) return "another max-links";
     if (wanted->key_by_speed != settings.key_by_speed) return "another key-by-speed";
     if (strcmp(wanted->carry, settings.carry) != 0) return "another carry";
-    if (wanted->hash != settings.hash) return "another hash";
+    if (wanted->hash != settings.hash || wanted->hash_seed != settings.hash_seed) return "another hash or hash-seed";
     if (wanted->offload != settings.offload || wanted->fast != settings.fast) return "another offload or fast";
     for (uint16_t port = 1; port <= link_count; port++) {
         struct niw_port now = links[port - 1].settings, next = port_of(wanted, port);
@@ -69,6 +69,8 @@ static unsigned take(const struct settings *wanted) {
     settings.min_links = wanted->min_links <= link_count ? wanted->min_links : link_count;
     settings.marker_responses = wanted->marker_responses;
     settings.flight = wanted->flight;
+    settings.wait_to_restore = wanted->wait_to_restore;
+    settings.revert = wanted->revert;
     memcpy(settings.hook, wanted->hook, sizeof settings.hook);
     for (uint16_t i = 0; i < link_count; i++) links[i].changed = true;
     return changed;

@@ -12,6 +12,8 @@
 #define EACH_KEY_ONCE "each key once"
 #define A_NUMBER "a number from 0 to 65535"
 #define YES_OR_NO "yes or no"
+/* The most seconds that a link may be kept waiting. */
+#define LONGEST_WAIT 3600
 #define A_SYSTEM "PRIORITY,MAC, as 32768,02:00:00:00:00:01, whose MAC address is neither zero nor one of a group"
 
 /* A number in decimal digits alone. */
@@ -88,6 +90,14 @@ static bool take_max_links(const char *text, struct settings *settings) {
     return read_number(text, 0, NIW_MOST_PORTS, &settings->config.max_links);
 }
 
+static bool take_revert(const char *text, struct settings *settings) {
+    return read_choice(text, "yes", "no", &settings->revert);
+}
+
+static bool take_wait_to_restore(const char *text, struct settings *settings) {
+    return read_number(text, 0, LONGEST_WAIT, &settings->wait_to_restore);
+}
+
 static bool take_port_priority(const char *text, struct settings *settings) {
     return read_number(text, 0, UINT16_MAX, &settings->port_priority);
 }
@@ -127,7 +137,8 @@ static bool take_carry(const char *text, struct settings *settings) {
     return true;
 }
 
-static const char *const HASHES[] = {[HASH_LAYER2] = "layer2", [HASH_LAYER2_3] = "layer2+3", [HASH_LAYER3_4] = "layer3+4"};
+static const char *const HASHES[] = {[HASH_LAYER2] = "layer2", [HASH_LAYER2_3] = "layer2+3", [HASH_LAYER3_4] = "layer3+4",
+    [HASH_ENCAP3_4] = "encap3+4", [HASH_VLAN_SRCMAC] = "vlan+srcmac"};
 
 /* The word of a hash. */
 const char *hash_text(enum hash hash) {
@@ -141,6 +152,10 @@ static bool take_hash(const char *text, struct settings *settings) {
         return true;
     }
     return false;
+}
+
+static bool take_hash_seed(const char *text, struct settings *settings) {
+    return read_number(text, 0, UINT16_MAX, &settings->hash_seed);
 }
 
 static bool take_offload(const char *text, struct settings *settings) {
@@ -167,6 +182,9 @@ static const struct bundle_key BUNDLE_KEYS[] = {
         "the most links of an aggregator, 1 to 64; 0, as if not given: no limit"},
     {"min-links", "a number from 1 to 64", take_min_links, 'n', "N",
         "with fewer links that carry the bundle is down: 1 to 64; 1, if not given"},
+    {"revert", YES_OR_NO, take_revert, 'R', NULL, "with max-links the ports with the lowest priorities are used, not those that come first"},
+    {"wait-to-restore", "a number of seconds from 0 to 3600", take_wait_to_restore, 'W', "SECONDS",
+        "how long the carrier of a link that comes back has to be steady; 0 if not given"},
     {"partner", "any, first or " A_SYSTEM, take_partner, 'r', "any|first|PRIORITY,MAC",
         "whose LACPDUs are taken: any, if not given; first: of whom is learnt first, until the\nlink goes down"},
     {"partner-required", YES_OR_NO, take_partner_required, 'q', NULL, "a port without a partner does not carry"},
@@ -178,8 +196,9 @@ static const struct bundle_key BUNDLE_KEYS[] = {
         "is run when the bundle becomes up, degraded or down"},
     {"carry", "a name of an interface of at most 15 characters", take_carry, 'C', "NAME",
         "carries the data of a TAP device of this name, which it makes, with the MAC address of the system"},
-    {"hash", "layer2, layer2+3 or layer3+4", take_hash, 'H', "layer2|layer2+3|layer3+4",
+    {"hash", "layer2, layer2+3, layer3+4, encap3+4 or vlan+srcmac", take_hash, 'H', "layer2|layer2+3|layer3+4|encap3+4|vlan+srcmac",
         "what frames of one conversation have in common; layer2, if not given"},
+    {"hash-seed", A_NUMBER, take_hash_seed, 'S', "N", "another number spreads conversations in another way, but by layer2; 0 if not given"},
     {"flight", "a number of milliseconds from 1 to 60000", take_flight, 'F', "MILLISECONDS",
         "how long a frame can be on its way; 500 if not given"},
     {"offload", YES_OR_NO, take_offload, 'O', NULL, "passes frames of several segments, which the kernel or the card cuts"},
@@ -301,6 +320,7 @@ static const char *key_of_data(const struct settings *settings) {
     if (settings->fast) return "fast";
     if (settings->offload) return "offload";
     if (line_of(settings, "hash")) return "hash";
+    if (line_of(settings, "hash-seed")) return "hash-seed";
     return line_of(settings, "flight") ? "flight" : NULL;
 }
 
@@ -319,11 +339,13 @@ struct lack lack_of(const struct settings *settings) {
     for (uint16_t i = 0; i < settings->port_count; i++)
         if (strcmp(settings->ports[i].name, settings->carry) == 0)
             return (struct lack){"carry=NAME that is not the interface of a port", "carry"};
-    if (data && !settings->carry[0]) return (struct lack){"carry=NAME beside hash, flight, offload or fast", data};
+    if (data && !settings->carry[0]) return (struct lack){"carry=NAME beside hash, hash-seed, flight, offload or fast", data};
+    if (settings->hash_seed && settings->hash == HASH_LAYER2) return (struct lack){"another hash than layer2 beside hash-seed", "hash-seed"};
     if (settings->min_links > settings->port_count)
         return (struct lack){"min-links that is at most the number of interfaces", "min-links"};
     if (settings->config.max_links && settings->min_links > settings->config.max_links)
         return (struct lack){"min-links that is at most max-links", "min-links"};
+    if (settings->revert && !settings->config.max_links) return (struct lack){"max-links=N beside revert", "revert"};
     if (wants_itself(settings)) return (struct lack){"a partner that is not this system", "partner"};
     return (struct lack){NULL, NULL};
 }

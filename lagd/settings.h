@@ -42,6 +42,8 @@ enum hash {
     HASH_LAYER2,    /* the last octets of both MAC addresses, as the library has it */
     HASH_LAYER2_3,  /* MAC addresses, and those of IP */
     HASH_LAYER3_4,  /* addresses of IP, and the ports of TCP, UDP and SCTP */
+    HASH_ENCAP3_4,  /* those of the packet that a tunnel carries */
+    HASH_VLAN_SRCMAC, /* the VLAN, and the source */
 };
 
 /* Where a port has no value of its own. */
@@ -69,9 +71,12 @@ struct settings {
     char hook[PATH_ROOM]; /* the program that is run where the bundle changes, or empty */
     char carry[DEVICE_ROOM]; /* the TAP device whose data is carried, or empty */
     enum hash hash;          /* of that data */
+    uint16_t hash_seed;      /* by which bundles with the same hash differ; not of layer2 */
     uint16_t flight;         /* how long a frame of it can be on its way, in milliseconds */
     bool offload;            /* whether frames of several segments are passed */
     bool fast;               /* whether the kernel passes data on by itself, of several segments too */
+    bool revert;              /* whether a port that stands by takes the place of one with a higher identifier */
+    uint16_t wait_to_restore; /* for how many seconds the carrier of a link that comes back has to be steady */
     uint16_t port_count;
     struct port_settings ports[NIW_MOST_PORTS];
 };

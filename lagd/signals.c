@@ -16,13 +16,14 @@ static bool is_ignored(int signal) {
     return sigaction(signal, NULL, &action) == 0 && action.sa_handler == SIG_IGN;
 }
 
-/* Opens the signals that end the daemon, SIGHUP, and SIGUSR2 where it carries data. A log that may not grow (SIGXFSZ), a reader
+/* Opens the signals that end the daemon, SIGUSR1 too, SIGHUP, and SIGUSR2 where it carries data. A log that may not grow (SIGXFSZ), a reader
  * that is gone (SIGPIPE) and a hook that ends (SIGCHLD) do not disturb it. */
 int open_signals(void) {
     sigset_t taken;
     int fd;
     sigemptyset(&taken);
     sigaddset(&taken, SIGTERM);
+    sigaddset(&taken, SIGUSR1);
     if (settings.carry[0]) sigaddset(&taken, SIGUSR2);
     for (size_t i = 0; i < sizeof ENDS / sizeof *ENDS; i++)
         if (!is_ignored(ENDS[i])) sigaddset(&taken, ENDS[i]);
@@ -31,7 +32,6 @@ int open_signals(void) {
     sigprocmask(SIG_BLOCK, &taken, NULL);
     signal(SIGPIPE, SIG_IGN);
     signal(SIGXFSZ, SIG_IGN);
-    signal(SIGUSR1, SIG_IGN);
     if (!settings.carry[0]) signal(SIGUSR2, SIG_IGN);
     signal(SIGCHLD, SIG_IGN);
     fd = signalfd(-1, &taken, SFD_CLOEXEC);

@@ -50,7 +50,8 @@ void make_system(void) {
     struct niw_port ports[NIW_MOST_PORTS];
     uint16_t keys[NIW_MOST_PORTS];
     clock_gettime(CLOCK_MONOTONIC, &began);
-    settings.config.first_marker = random_marker();
+    settings.config.first_marker = first_marker_left();
+    if (settings.config.first_marker == 0) settings.config.first_marker = random_marker();
     link_count = settings.port_count;
     for (uint16_t i = 0; i < link_count; i++) {
         ports[i] = port_of(&settings, (uint16_t)(i + 1));
@@ -83,6 +84,7 @@ static void send_due_of(uint16_t port) {
 /* Sends what is due: after each call that may change anything, since one about a port may make a frame due on another. */
 void send_due(void) {
     uint64_t due;
+    if (resuming) return;
     if (!is_told(niw_due(&own_system), "niw_due", &due)) return;
     for (uint16_t i = 0; i < link_count; i++)
         if (due >> i & 1) send_due_of((uint16_t)(i + 1));
@@ -106,6 +108,7 @@ void set_link(uint16_t port, bool up) {
         forget_partner(link);
     }
     if (!up) lose_data(port);
+    if (resuming) return;
     if (!is_done(niw_set_link(&own_system, port, up), "niw_set_link")) return;
     look_at_carry();
     send_due();
@@ -115,6 +118,7 @@ void set_link(uint16_t port, bool up) {
 
 /* The interface of a port is gone, or has another name now. */
 void lose_link(struct link *link) {
+    forget_carrier(link);
     set_link(link->settings.number, false);
     close_link(link);
     (void)print_change(link);
@@ -134,7 +138,9 @@ static void pass_second(void) {
     }
     look_for_twins();
     allow_bundle_line();
+    pass_revert_second();
     watch_changes();
+    (void)save_state();
     notify_alive();
 }
 

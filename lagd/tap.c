@@ -11,10 +11,15 @@
 #include <string.h>
 #include <sys/ioctl.h>
 #include <sys/socket.h>
+#include <sys/stat.h>
 #include <unistd.h>
 
-#include "carry.h"
+#include "state.h"
 
+/* Of Linux 5.2, and not in older headers: the network namespace of a device. */
+#ifndef TUNGETDEVNETNS
+#define TUNGETDEVNETNS _IO('T', 227)
+#endif
 /* Of Linux 6.2, and not in older headers: datagrams of several segments. */
 #define TUN_F_USO4 0x20
 #define TUN_F_USO6 0x40
@@ -35,6 +40,7 @@ static unsigned carrier_ticks;   /* for how long it was up and had none, and was
 static uint32_t most_mtu = ETH_DATA_LEN; /* the longest payload that each member takes, and the device may */
 static uint32_t less_mtu;                /* one below that which an administrator set, or 0 */
 static uint32_t set_mtu;                 /* what was set last */
+static bool persists;                    /* whether the daemon made it outlive itself */
 static uint32_t speed;                   /* in Mb/s, as it was to be last; 0: as the kernel made the device */
 
 static struct ifreq request_of(const char *name) {
@@ -170,18 +176,34 @@ static void set_no_queue(void) {
     close(route);
 }
 
-/* Makes the device, without carrier, or takes one that is there and that nobody has. One that was made is gone when the daemon ends. It
- * gets its MAC address before anything else: whoever brings it up has a link-local address of it. */
-int open_tap(const char *name, const uint8_t *mac) {
-    struct ifreq device = request_of(name), found, address = {0}, queue = {0};
-    asker = socket(AF_UNIX, SOCK_DGRAM | SOCK_CLOEXEC, 0);
-    tap = open("/dev/net/tun", O_RDWR | O_NONBLOCK | O_CLOEXEC);
-    if (asker < 0 || tap < 0) stop(REFUSED, "no TAP device", strerror(errno));
-    device.ifr_flags = IFF_TAP | IFF_NO_PI | IFF_VNET_HDR | NO_CARRIER;
-    if (ioctl(tap, TUNSETIFF, &device) < 0) stop(REFUSED, name, strerror(errno));
-    found = request_of(device.ifr_name);
-    if (ioctl(asker, SIOCGIFINDEX, &found) < 0) stop(REFUSED, name, strerror(errno));
-    number = found.ifr_ifindex;
+/* Whether a file still has a device of this network namespace, under the name that is told. */
+static bool is_here(int fd, struct ifreq *device) {
+    int space = ioctl(fd, TUNGETDEVNETNS);
+    struct stat found;
+    bool same = space < 0 || (fstat(space, &found) == 0 && (unsigned long)found.st_ino == network_namespace());
+    if (space >= 0) close(space);
+    return same && ioctl(fd, TUNGETIFF, device) == 0 && (device->ifr_flags & IFF_TAP) && (device->ifr_flags & IFF_VNET_HDR);
+}
+
+/* The index of the device of this name, or 0. */
+static int index_of(const char *name) {
+    struct ifreq found = request_of(name);
+    return ioctl(asker, SIOCGIFINDEX, &found) == 0 ? found.ifr_ifindex : 0;
+}
+
+/* The device is the one of the last daemon: it has all that was set of it, and outlives this one no more. */
+static void go_on_with_tap(void) {
+    struct ifreq now = {0};
+    if (left.persists) (void)ioctl(tap, TUNSETPERSIST, 0);
+    less_mtu = left.mtu;
+    if (ask_tap(SIOCGIFMTU, &now)) set_mtu = most_mtu = (uint32_t)now.ifr_mtu;
+    choose_segments();
+}
+
+/* Sets up a device that is new to the daemon, or to its settings, without carrier. It gets its MAC address before anything else: whoever
+ * brings it up has a link-local address of it. */
+static void set_up(const uint8_t *mac) {
+    struct ifreq address = {0}, queue = {0};
     address.ifr_hwaddr.sa_family = ARPHRD_ETHER;
     memcpy(address.ifr_hwaddr.sa_data, mac, ETH_ALEN);
     if (!ask_tap(SIOCSIFHWADDR, &address)) stop(REFUSED, "no address of the TAP device", strerror(errno));
@@ -192,5 +214,79 @@ int open_tap(const char *name, const uint8_t *mac) {
     (void)ask_tap(SIOCSIFTXQLEN, &queue);
     settle_mtu();
     if (settings.fast) set_no_queue();
+}
+
+/* Takes the device that the last daemon left with the manager of services, whatever an administrator named it since, and the frames that
+ * wait there; answers whether there is one. Its carrier goes where nothing goes on. */
+static bool take_left(const char *name, const uint8_t *mac) {
+    struct ifreq device = {0};
+    int fd = take_stored("tap", 0);
+    if (fd < 0) return false;
+    if (!is_here(fd, &device) || (left.tap == 0 ? strcmp(device.ifr_name, name) != 0 : index_of(device.ifr_name) != left.tap)) {
+        close_stored("tap", 0, fd);
+        return false;
+    }
+    tap = fd;
+    number = index_of(device.ifr_name);
+    carrier = true;
+    if (!resuming) set_carrier(false);
+    if (left.tap == number)
+        go_on_with_tap();
+    else
+        set_up(mac);
+    return true;
+}
+
+/* Makes the device, without carrier, or takes one that is there and that nobody has, as that of the last daemon, which may have another name
+ * now. One that was made is gone when the daemon ends, unless the next one goes on. */
+static void make_tap(const char *name, const uint8_t *mac) {
+    char room[IF_NAMESIZE];
+    struct ifreq device = request_of(left.persists && if_indextoname((unsigned)left.tap, room) ? room : name);
+    tap = open("/dev/net/tun", O_RDWR | O_NONBLOCK | O_CLOEXEC);
+    if (tap < 0) stop(REFUSED, "no TAP device", strerror(errno));
+    device.ifr_flags = IFF_TAP | IFF_NO_PI | IFF_VNET_HDR | NO_CARRIER;
+    if (ioctl(tap, TUNSETIFF, &device) < 0) stop(REFUSED, name, strerror(errno));
+    number = index_of(device.ifr_name);
+    if (number == 0) stop(REFUSED, name, strerror(errno));
+    if (left.tap == number)
+        go_on_with_tap();
+    else
+        set_up(mac);
+}
+
+/* Opens the device. */
+int open_tap(const char *name, const uint8_t *mac) {
+    asker = socket(AF_UNIX, SOCK_DGRAM | SOCK_CLOEXEC, 0);
+    if (asker < 0) stop(REFUSED, "no TAP device", strerror(errno));
+    if (!take_left(name, mac)) make_tap(name, mac);
+    put_stored("tap", 0, tap);
     return tap;
+}
+
+/* The device that the last daemon made outlive itself goes. */
+void end_tap(int index) {
+    char room[IF_NAMESIZE];
+    struct ifreq device = {0};
+    int fd = if_indextoname((unsigned)index, room) ? open("/dev/net/tun", O_RDWR | O_CLOEXEC) : -1;
+    if (fd < 0) return;
+    device = request_of(room);
+    device.ifr_flags = IFF_TAP | IFF_NO_PI | IFF_VNET_HDR | NO_CARRIER;
+    if (ioctl(fd, TUNSETIFF, &device) == 0) (void)ioctl(fd, TUNSETPERSIST, 0);
+    close(fd);
+}
+
+/* The next daemon gets the device as it is, by its name where no manager of services keeps it; or it is to go with this one. */
+void keep_tap(bool keeps) {
+    struct ifreq device = {0};
+    if (persists == keeps || ioctl(tap, TUNGETIFF, &device) < 0 || (keeps && (has_store() || (device.ifr_flags & IFF_PERSIST)))) return;
+    if (ioctl(tap, TUNSETPERSIST, keeps) == 0) persists = keeps;
+}
+
+bool tap_persists(void) {
+    return persists;
+}
+
+/* A lower MTU than the members take, which an administrator set, or 0. */
+uint32_t mtu_of_administrator(void) {
+    return less_mtu;
 }

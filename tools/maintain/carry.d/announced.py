@@ -17,9 +17,11 @@ ANNOUNCED = 8
 # What tcpdump prints of each announcement.
 LINES = {"an address of IPv4": ("who-has 192.0.2.1 ", "tell 192.0.2.1,"),
          "another one": ("who-has 198.51.100.1 ", "tell 198.51.100.1,"),
+         "one above the device": ("ABOVE > ff:ff:ff:ff:ff:ff", "who-has 203.0.113.1 ", "tell 203.0.113.1,"),
+         "one of a bridge above that": ("02:00:00:00:00:99 > ff:ff:ff:ff:ff:ff", "who-has 203.0.114.1 ", "tell 203.0.114.1,"),
          "one of IPv6": ("[icmp6 sum ok]", "neighbor advertisement", "tgt is 2001:db8::1,", "Flags [FLAGS]")}
 # With that of the link; and how often each is announced, a second apart.
-ADDRESSES, TIMES = 4, 3
+ADDRESSES, TIMES = 6, 3
 HOST, ROUTER = "override", "router, override"
 
 
@@ -44,10 +46,20 @@ def seen(folder: str) -> Iterator[Callable[[], list[str]]]:
 
 
 def address(space: str) -> None:
-    """Gives our device its addresses."""
+    """Gives our device its addresses, and what stands above it."""
     inside(space, "sysctl", "-qw", f"net/ipv6/conf/{DEVICE}/disable_ipv6=0")
     for it in "192.0.2.1/24", "198.51.100.1/24", "2001:db8::1/64":
         ip(space, "address", "add", it, "dev", DEVICE, *(("nodad",) if ":" in it else ()))
+    kinds = [("vlan", "id", "10"), ("macvlan", "mode", "bridge")]  # a kernel may lack the first one
+    if all(inside(space, "ip", "link", "add", "link", DEVICE, "name", "above0", "type", *kind).returncode for kind in kinds):
+        raise Skipped("there is neither vlan nor macvlan")
+    ip(space, "address", "add", "203.0.113.1/24", "dev", "above0")
+    ip(space, "link", "add", "below", "address", "02:00:00:00:00:99", "type", "bridge")
+    ip(space, "link", "add", "link", DEVICE, "name", "above1", "type", "macvlan", "mode", "bridge")
+    ip(space, "link", "set", "above1", "master", "below")
+    ip(space, "address", "add", "203.0.114.1/24", "dev", "below")
+    for name in "above0", "above1", "below":
+        ip(space, "link", "set", name, "up")
 
 
 def announcements(lines: list[str]) -> list[str]:
@@ -56,7 +68,8 @@ def announcements(lines: list[str]) -> list[str]:
 
 def check_announced(lines: Callable[[], list[str]], what: str, flags: str) -> None:
     for of, parts in LINES.items():
-        wanted = [part.replace("FLAGS", flags) for part in parts]
+        above = inside(OURS, "cat", "/sys/class/net/above0/address").stdout.strip()
+        wanted = [part.replace("FLAGS", flags).replace("ABOVE", above) for part in parts]
         found = within(ANNOUNCED, lambda: any(all(part in line for part in wanted) for line in lines()))
         check(found, f"{what}: {of} is announced", "\n".join(lines()[-30:]))
 

@@ -14,8 +14,8 @@ from spaces import OURS, THEIRS, ip
 
 
 @contextlib.contextmanager
-def switches(programs: Programs, delays: Sequence[int] = DELAYS) -> Iterator[tuple[Cables, str, list[int]]]:
-    """The cables between two bonds whose links all carry, the name with its version, and the processes."""
+def switch_ends(programs: Programs, delays: Sequence[int] = DELAYS) -> Iterator[tuple[Cables, list[OpenVSwitch]]]:
+    """The cables between two bonds whose links all carry."""
     packages = Packages(CACHE, True)
     with cables(programs, delays) as laid:
         ends = [OpenVSwitch(packages, programs.folder, OURS, ("a0", "a1")), OpenVSwitch(packages, programs.folder)]
@@ -26,10 +26,17 @@ def switches(programs: Programs, delays: Sequence[int] = DELAYS) -> Iterator[tup
                 raise Skipped("two bonds of Open vSwitch do not come up")
             for space in OURS, THEIRS:
                 ip(space, "link", "set", "br0", "txqueuelen", "4096", "up")
-            yield laid, f"Open vSwitch {ends[0].version()}", [end.running[-1].pid for end in ends]
+            yield laid, ends
         finally:
             for end in ends:
                 end.end()
+
+
+@contextlib.contextmanager
+def switches(programs: Programs, delays: Sequence[int] = DELAYS) -> Iterator[tuple[Cables, str, list[int]]]:
+    """The cables between two such bonds, the name with its version, and the processes."""
+    with switch_ends(programs, delays) as (laid, ends):
+        yield laid, f"Open vSwitch {ends[0].version()}", [end.running[-1].pid for end in ends]
 
 
 def print_rows(headings: Sequence[str], rows: Iterable[Sequence[str]]) -> None:

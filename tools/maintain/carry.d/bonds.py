@@ -126,12 +126,12 @@ class End(Daemon):
     """A daemon that carries the data of lag0."""
 
     def __init__(self, programs: Programs, space: str, *, program: str = "", options: Sequence[str] = (), links: int = 2,
-                 before: Sequence[str] = (), names: Sequence[str] = ()) -> None:
+                 before: Sequence[str] = (), names: Sequence[str] = (), files: Sequence[int] = ()) -> None:
         ours = space == OURS
         names = names or [f"{'a' if ours else 'b'}{number}" for number in range(links)]
         given = ["--carry", DEVICE, "--flight", str(FLIGHT), *options]
         super().__init__(program or programs.daemon, programs.folder, space, SYSTEM if ours else OTHER, "23" if ours else "5", *names,
-                         options=given, before=before)
+                         options=given, before=before, files=files)
         if not within(COMES_UP, lambda: inside(space, "ip", "link", "show", DEVICE).returncode == 0):
             raise Failed(f"there is a device {DEVICE}", self.printed())
         ip(space, "link", "set", DEVICE, "up")

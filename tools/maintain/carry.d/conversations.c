@@ -1,5 +1,5 @@
-/* Prints the conversations of frames: `conversations 1` by layer2+3, `conversations 2` by layer3+4. Standard input has a frame in
- * each line, in hexadecimal digits. */
+/* Prints the conversations of frames: `conversations HASH SEED`, by the number of a hash of settings.h, 1 is layer2+3. Standard input has a
+ * frame in each line, in hexadecimal digits. */
 #include <stdio.h>
 #include <stdlib.h>
 #include <string.h>
@@ -11,8 +11,9 @@ struct niw_system own_system = NIW_EMPTY;
 
 int main(int argc, char **argv) {
     char line[4096];
-    if (argc != 2) return 2;
+    if (argc != 3) return 2;
     settings.hash = (enum hash)atoi(argv[1]);
+    settings.hash_seed = (uint16_t)atoi(argv[2]);
     while (fgets(line, sizeof line, stdin)) {
         size_t length = strcspn(line, "\n") / 2;
         uint8_t *frame = malloc(length + 1);

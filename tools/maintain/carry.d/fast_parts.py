@@ -50,12 +50,12 @@ def check_fast(end: End, count: int = 1) -> None:
 def kernel_hashes(programs: Programs) -> None:
     """The program of the kernel finds the conversation that the daemon finds."""
     text = "".join(f"{frame}\n" for row in ROWS.values() for frame in row[:2])
-    for name in ("layer2", "layer2+3", "layer3+4"):
-        told = command(programs.kernel_hash, name, str(HASHED), input=text)
+    for name, seed in (("layer2", 0), ("layer2+3", 0), ("layer3+4", 0), ("layer3+4", 40000), ("encap3+4", 7), ("vlan+srcmac", 7)):
+        told = command(programs.kernel_hash, name, str(seed), str(HASHED), input=text)
         if told.returncode == 3:
             raise Skipped("the kernel takes no program")
         check(told.returncode == 0, f"{name}: {told.stdout.strip()}, of rows and of changed ones", told.returncode, told.stdout, told.stderr)
-    told = command(programs.kernel_short, "layer3+4", "1", input=text)
+    told = command(programs.kernel_short, "layer3+4", "0", "1", input=text)
     check(told.returncode == 5, "a program with more steps than there is room for is not loaded", told.returncode, told.stderr)
 
 

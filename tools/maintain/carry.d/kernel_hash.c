@@ -1,6 +1,6 @@
 /* Whether the program of the kernel finds the conversation of a frame that the daemon finds.
  *
- *     kernel_hash HASH COUNT
+ *     kernel_hash HASH SEED COUNT
  *
  * Reads frames in hexadecimal, one a line, and has the kernel run the program of the TAP device for each of them, whole, cut, and with
  * octets changed, COUNT times in all. Prints for how many it did, and each frame that was counted for another conversation. The status is 3
@@ -88,9 +88,10 @@ static bool make_own_system(void) {
 int main(int argc, char **argv) {
     struct fast_maps maps;
     struct fast_host *host;
-    unsigned count, wrong = 0, most = argc == 3 ? (unsigned)atoi(argv[2]) : 0;
+    unsigned count, wrong = 0, most = argc == 4 ? (unsigned)atoi(argv[3]) : 0;
     int program;
-    if (argc != 3) return 2;
+    if (argc != 4) return 2;
+    settings.hash_seed = (uint16_t)atoi(argv[2]);
     for (settings.hash = HASH_LAYER2; strcmp(hash_text(settings.hash), argv[1]) != 0; settings.hash++) continue;
     rows = make_map(sizeof *rows, CONVERSATIONS, &maps.rows);
     (void)make_map(sizeof(struct fast_member), NIW_MOST_PORTS, &maps.members);

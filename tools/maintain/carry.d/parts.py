@@ -8,6 +8,7 @@ import subprocess
 import time
 from typing import Callable
 
+from above import PARTS as ABOVE
 from announced import announced
 from bonds import (CACHE, COMES_BACK, COMES_UP, DEVICE, FLOWS, RIGHTS, Cables, Carry, End, Event, Programs, ask_gro, cables, check_end,
                    check_order, check_whole, every, lay_direct, move_all, pair, run_flows)
@@ -16,6 +17,8 @@ from fast_parts import (fast, fast_away, fast_ends, fast_hash, fast_overload, fa
 from forged import PARTS as FORGED
 from member_parts import PARTS as MEMBERS
 from models import model
+from restarting import PARTS as RESTARTS
+from restoring import PARTS as RESTORING
 from rows import rows
 from checking import Skipped, check, within
 from fetching import Packages
@@ -314,3 +317,6 @@ PARTS: dict[str, Callable[[Programs], None]] = {it.__name__: it for it in
      queues, segments, speed, announced)}
 PARTS.update(FORGED)
 PARTS.update(MEMBERS)
+PARTS.update(RESTORING)
+PARTS.update(ABOVE)
+PARTS.update(RESTARTS)

@@ -28,14 +28,15 @@ def give_addresses(devices: Sequence[str]) -> None:
         command("ip", "-n", space, "address", "replace", f"{address}/24", "dev", device)
 
 
-def run_stream(seconds: float, *, devices: Sequence[str] = (DEVICE, DEVICE), streams: int = 1) -> Stream:
-    """One or several streams from our end to the other one."""
+def run_stream(seconds: float, *, devices: Sequence[str] = (DEVICE, DEVICE), streams: int = 1, to: str = "") -> Stream:
+    """One or several streams from our end to the other one; `to` is an address that this has already."""
     if not shutil.which("iperf3"):
         raise Skipped("there is no iperf3 (Debian: iperf3)")
-    give_addresses(devices)
+    if not to:
+        give_addresses(devices)
     server = subprocess.Popen(["ip", "netns", "exec", THEIRS, "iperf3", "-s", "-1"], stdout=subprocess.DEVNULL, stderr=subprocess.DEVNULL)
     try:
-        words = ["iperf3", "-c", ADDRESSES[1], "-t", str(seconds), "-P", str(streams), "-J"]
+        words = ["iperf3", "-c", to or ADDRESSES[1], "-t", str(seconds), "-P", str(streams), "-J"]
         told: list[str] = []
 
         def is_told() -> bool:

@@ -8,6 +8,7 @@ import shutil
 import signal
 import subprocess
 import time
+from typing import Callable
 
 from checking import Skipped, check, command, within
 from daemon import SYSTEM, Daemon, Part
@@ -42,7 +43,8 @@ mount -t sysfs -o ro sysfs sys
 mount -t cgroup2 cgroup2 sys/fs/cgroup
 for place in run tmp dev; do mount -t tmpfs tmpfs "$place"; done
 for device in null zero full random urandom tty; do touch "dev/$device"; mount --bind "/dev/$device" "dev/$device"; done
-mkdir dev/pts dev/shm dev/mqueue dev/hugepages
+mkdir dev/pts dev/shm dev/mqueue dev/hugepages dev/net
+touch dev/net/tun && mount --bind /dev/net/tun dev/net/tun || :
 mount -t devpts -o newinstance,ptmxmode=0666 devpts dev/pts
 ln -s pts/ptmx dev/ptmx
 ln -s /proc/self/fd dev/fd
@@ -59,14 +61,17 @@ def put(over: str, path: str, text: str, mode: int = 0o644) -> None:
     os.chmod(place, mode)
 
 
-def lay_out(part: Part, over: str) -> None:
+def lay_out(part: Part, over: str, bundle: str) -> None:
     """What the package installs, and a bundle of two links."""
-    for file, place in ("lagd@.service", "etc/systemd/system"), ("lagd.sysusers", "usr/lib/sysusers.d/lagd.conf"):
+    files = {"lagd@.service": "etc/systemd/system/lagd@.service", "lagd.sysusers": "usr/lib/sysusers.d/lagd.conf"}
+    if "carry=" in bundle:
+        files["carry.conf"] = "etc/systemd/system/lagd@.service.d/carry.conf"
+    for file, place in files.items():
         with open(os.path.join(TOP, "lagd", file), encoding="utf-8") as it:
-            put(over, place if place.endswith(".conf") else f"{place}/{file}", it.read())
+            put(over, place, it.read())
     put(over, "etc/systemd/system/bundle.target", TARGET)
     put(over, "etc/systemd/system/lagd@.service.d/impatient.conf", IMPATIENT)
-    put(over, "etc/lagd/uplink.conf", BUNDLE)
+    put(over, "etc/lagd/uplink.conf", bundle)
     put(over, "etc/lagd/hook", HOOK, 0o755)
     put(over, "etc/machine-id", "")
     for unit in MASKED:
@@ -88,7 +93,7 @@ def unified() -> str:
 class Machine:
     """A systemd that runs; its commands are run in its namespaces."""
 
-    def __init__(self, part: Part) -> None:
+    def __init__(self, part: Part, bundle: str = BUNDLE, more: Callable[[str], None] = lambda over: None) -> None:
         for word in ("unshare", "nsenter", "chroot"):
             if not shutil.which(word):
                 raise Skipped(f"no command {word}")
@@ -96,8 +101,10 @@ class Machine:
             raise Skipped("no systemd (Debian: systemd, dbus)")
         self.group = os.path.join(unified(), f"lag-{os.getpid()}")
         tree, over, self.log = (os.path.join(part.folder, name) for name in ("tree", "over", "booted"))
-        os.mkdir(tree)
-        lay_out(part, over)
+        os.makedirs(tree, exist_ok=True)
+        shutil.rmtree(over, ignore_errors=True)  # of another boot
+        lay_out(part, over, bundle)
+        more(over)
         os.mkdir(self.group)
         words = ["sh", "-c", 'echo $$ > "$1/cgroup.procs" && shift && exec "$@"', "sh", self.group]
         words += ["ip", "netns", "exec", OURS, "unshare", *NAMESPACES, "sh", "-c", BOOT, "sh", tree, over]
@@ -134,7 +141,7 @@ class Machine:
         if self.process.poll() is None:
             self.process.kill()
             self.process.wait()
-        ended = lambda: not open(os.path.join(self.group, "cgroup.procs"), encoding="utf-8").read()
+        ended = lambda: "populated 0" in open(os.path.join(self.group, "cgroup.events"), encoding="utf-8").read()
         within(ANSWERS, ended)
         time.sleep(0.2)
         for place, _, _ in os.walk(self.group, topdown=False):

@@ -11,7 +11,7 @@
 #include <sys/un.h>
 #include <unistd.h>
 
-#include "lagd.h"
+#include "state.h"
 
 int LLVMFuzzerTestOneInput(const uint8_t *octets, size_t length);
 ssize_t __real_recvmsg(int fd, struct msghdr *message, int flags);
@@ -134,6 +134,23 @@ static void fuzz_caller(const uint8_t *octets, size_t length) {
     pass_tick_of_callers();
 }
 
+/* What the last daemon left, behind the number of this boot; and a daemon that goes on from it. */
+static void fuzz_state(const uint8_t *octets, size_t length) {
+    char name[64];
+    FILE *file;
+    snprintf(name, sizeof name, "%s/%lu.%s.state", folder, network_namespace(), settings.name);
+    file = fopen(name, "we");
+    if (!file) abort();
+    fprintf(file, "lagd 1\nboot %s\n", boot_id());
+    (void)fwrite(octets, 1, length, file);
+    fclose(file);
+    left = (struct left){0};
+    recall_state();
+    (void)unlink(name);
+    begin_resuming();
+    resume_data(resume());
+}
+
 int LLVMFuzzerTestOneInput(const uint8_t *octets, size_t length) {
     static bool made;
     if (!made) {
@@ -142,11 +159,12 @@ int LLVMFuzzerTestOneInput(const uint8_t *octets, size_t length) {
     }
     made = true;
     if (length == 0) return 0;
-    switch (octets[0] % 5) {
+    switch (octets[0] % 6) {
     case 0: fuzz_file(octets + 1, length - 1); break;
     case 1: fuzz_frame(octets + 1, length - 1); break;
     case 2: fuzz_auxiliary(octets + 1, length - 1); break;
     case 3: fuzz_caller(octets + 1, length - 1); break;
+    case 4: fuzz_state(octets + 1, length - 1); break;
     default: take_messages(octets + 1, length - 1); break;
     }
     return 0;

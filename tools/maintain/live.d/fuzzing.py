@@ -1,5 +1,5 @@
-"""Fuzzes the parsers of the daemon with libFuzzer: files, frames, their auxiliary data, questions at the status socket, and messages of the
-kernel."""
+"""Fuzzes the parsers of the daemon with libFuzzer: files, frames, their auxiliary data, questions at the status socket, what the last
+daemon left, and messages of the kernel."""
 
 from __future__ import annotations
 
@@ -24,7 +24,8 @@ SEEDS = [
     b"\1" + FRAME,
     b"\2" + bytes([2, len(AUXILIARY)]) + AUXILIARY + FRAME,
     *(b"\3" + bytes([at]) + question + b"\n" for at, question in enumerate((b"text", b"json", b"metrics", b"watch", b"watch-json"))),
-    b"\4" + MESSAGE,
+    b"\4way 0,02:00:00:00:00:00/-/layer2/plain\nmarker 7\nbundle 2 1 5\ntap 3 1 0 2\non 5 1\nlink 0 00:00:00:00:00:00 0 1 5 5 " + FRAME.hex().encode() + b"\nend\n",
+    b"\5" + MESSAGE,
 ]
 
 

@@ -127,7 +127,7 @@ def called() -> set[str]:
 
 
 def build_refusing(folder: str, libraries: Sequence[str]) -> str:
-    """Builds a daemon whose library refuses a function after SIGUSR1, with ASan and UBSan; answers its path."""
+    """Builds a daemon whose library refuses a function after SIGURG, with ASan and UBSan; answers its path."""
     wraps = [f"-Wl,--wrap=lagffi_{name}" for name in refusable()]
     return build_daemon(folder, libraries, "lagd-refusing", [REFUSING], [*wraps, *SANITIZED])
 

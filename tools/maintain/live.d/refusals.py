@@ -156,7 +156,7 @@ def provoke(trial: Trial) -> None:
     sender.start()
     try:
         time.sleep(1)
-        trial.tell(signal.SIGUSR1)
+        trial.tell(signal.SIGURG)
         for seconds in steps_of(trial.refused)[0](trial):
             if trial.is_done(seconds):
                 break

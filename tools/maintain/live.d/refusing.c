@@ -1,4 +1,4 @@
-/* A library that refuses one function, named by the variable REFUSED without its lagffi_: once SIGUSR1 came, or, with REFUSED_AT_ONCE, from
+/* A library that refuses one function, named by the variable REFUSED without its lagffi_: once SIGURG came, or, with REFUSED_AT_ONCE, from
  * the start. It is linked into a daemon by a --wrap of each function that is named here. */
 #include <signal.h>
 #include <stdlib.h>
@@ -18,7 +18,7 @@ static bool is_refused(const char *name) {
         chosen = getenv("REFUSED");
         if (!chosen) chosen = "";
         if (getenv("REFUSED_AT_ONCE")) refuses = 1;
-        signal(SIGUSR1, refuse_from_now); /* the daemon ignored it before its first call */
+        signal(SIGURG, refuse_from_now);
     }
     return refuses && strcmp(name, chosen) == 0;
 }
@@ -62,6 +62,7 @@ REFUSING(struct niw_truth, distributes, (SYSTEM, uint16_t port), (handle, port))
 REFUSING(struct niw_number, load, (SYSTEM, uint16_t port), (handle, port))
 REFUSING(struct niw_number, held, (SYSTEM, uint16_t port), (handle, port))
 REFUSING(struct niw_number, conversation, (SYSTEM, const uint8_t *frame, size_t length), (handle, frame, length))
+REFUSING(struct niw_marker, next_marker, (SYSTEM), (handle))
 REFUSING(struct niw_assignment, conversation_state, (SYSTEM, uint16_t agg, uint16_t conv), (handle, agg, conv))
 REFUSING(struct niw_number, conversation_ports, (SYSTEM, uint16_t agg, uint16_t *ports, size_t port_count, bool *changed, size_t changed_count),
     (handle, agg, ports, port_count, changed, changed_count))

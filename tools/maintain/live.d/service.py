@@ -53,7 +53,8 @@ WRONG = {
     "[Bundle]\nmin-links=0\n": "2: expected a number from 1 to 64: min-links=0",
     "[Bundle]\nhook=relative\n": "2: expected a path that begins with /, ",
     "[Bundle]\ncarry=a/0\n": "2: expected a name of an interface of at most 15 characters: carry=a/0",
-    "[Bundle]\nhash=layer4\n": "2: expected layer2, layer2+3 or layer3+4: hash=layer4",
+    "[Bundle]\nhash=layer4\n": "2: expected layer2, layer2+3, layer3+4, encap3+4 or vlan+srcmac: hash=layer4",
+    "[Bundle]\nwait-to-restore=3601\n": "2: expected a number of seconds from 0 to 3600: wait-to-restore=3601",
     "[Bundle]\nflight=0\n": "2: expected a number of milliseconds from 1 to 60000: flight=0",
     "[Bundle]\noffload=on\n": "2: expected yes or no: offload=on",
     FILE.replace("[Port a0]", "carry=a0\n[Port a0]"): "8: expected carry=NAME that is not the interface of a port: carry",
@@ -75,11 +76,13 @@ CONTRADICTIONS = {
     FILE + "individual=no\nindividual=no\n": "12: expected each key once: individual=no",
     FILE + "[Bundle]\n": "11: expected one section [Bundle]: [Bundle]",
     FILE.replace("partner=first", f"partner=32768,{SYSTEM}"): "5: expected a partner that is not this system: partner",
+    FILE.replace("min-links=1", "revert=yes"): "6: expected max-links=N beside revert: revert",
+    FILE.replace("min-links=1", "carry=lag0\nhash-seed=7"): "7: expected another hash than layer2 beside hash-seed: hash-seed",
     FILE.replace("min-links=1", "hook=/nowhere/hook"): f"6: {A_HOOK}/nowhere/hook",
     FILE.replace("min-links=1", "hook=/etc/passwd"): f"6: {A_HOOK}/etc/passwd",
     FILE.replace("min-links=1", "hook=/etc"): f"6: {A_HOOK}/etc",
-    **{FILE.replace("min-links=1", f"{key}={value}"): f"6: expected carry=NAME beside hash, flight, offload or fast: {key}"
-       for key, value in (("hash", "layer2"), ("flight", "500"), ("offload", "yes"), ("fast", "yes"))},
+    **{FILE.replace("min-links=1", f"{key}={value}"): f"6: expected carry=NAME beside hash, hash-seed, flight, offload or fast: {key}"
+       for key, value in (("hash", "layer2"), ("hash-seed", "7"), ("flight", "500"), ("offload", "yes"), ("fast", "yes"))},
 }
 
 
@@ -186,6 +189,16 @@ def reloads(part: Part) -> None:
     check_after(FILE.replace("min-links=1", "min-links=2").replace("priority=100", "priority=200"), "read again, 1 ports changed")
     both_up(ours, theirs, "both links distribute again")
     check("min_links: 2" in ours.text(), "min-links is another one", ours.text())
+    check_after(FILE.replace("min-links=1", "wait-to-restore=3600"), "read again, 1 ports changed")
+    both_up(ours, theirs, "both links distribute once more")
+    for state in "down", "up":
+        ip(OURS, "link", "set", "a1", state)
+    waits = "the link is back, and waits for wait-to-restore"
+    check(within(ENDS, lambda: ours.port("a1")["status"] == waits) and ours.distributes("a0"), "a link that comes back waits", ours.text())
+    told = inside(OURS, ours.program, "--folder", ours.folder, "--metrics").stdout
+    check('lagd_port_status{bundle="uplink",interface="a1",port="2"} 131' in told, "so say the metrics", told)
+    check_after(FILE, "read again, 0 ports changed")
+    both_up(ours, theirs, "without wait-to-restore both links distribute again")
     check_after(FILE.replace("key=23", "key=24"), "a key that no port had at the start: a restart of this bundle is needed")
     check_after(FILE + "[Port a2]\n", "other interfaces: a restart of this bundle is needed")
     check_after(FILE.replace("32768", "1"), "another system: a restart of this bundle is needed")

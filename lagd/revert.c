@@ -1,0 +1,63 @@
+/* Under max-links: a port that stands by takes the place of one with a higher identifier. The library lets no port that is in use give way
+ * (IEEE 802.1AX-2014, 6.4.14 leaves that open), so that one leaves its aggregator, and comes back to stand by. */
+#define _GNU_SOURCE
+#include "lagd.h"
+
+/* Whether the identifier of a port, its priority and then its number, is below that of another one (6.3.4). */
+static bool is_below(const struct link *one, const struct link *other) {
+    const struct niw_port *first = &one->settings, *second = &other->settings;
+    return first->priority < second->priority || (first->priority == second->priority && first->number < second->number);
+}
+
+/* The port that stands by in an aggregator and takes the next place there, or NULL. */
+static struct link *next_of(uint16_t aggregator) {
+    struct link *next = NULL;
+    for (uint16_t i = 0; i < link_count; i++)
+        if (links[i].view.aggregator == aggregator && links[i].view.standby && (!next || is_below(&links[i], next))) next = &links[i];
+    return next;
+}
+
+/* The port in use that gives way first in an aggregator; NULL where one of them does not distribute: a second one may not be without data. */
+static struct link *last_of(uint16_t aggregator) {
+    struct link *last = NULL;
+    for (uint16_t i = 0; i < link_count; i++) {
+        if (links[i].view.aggregator != aggregator || links[i].view.standby) continue;
+        if (links[i].view.mux_state != NIW_MUX_COLLECTING_DISTRIBUTING) return NULL;
+        if (!last || is_below(last, &links[i])) last = &links[i];
+    }
+    return last;
+}
+
+/* Whether a port that stands by would distribute at once: its partner speaks, and has selected it. A partner with a limit of its own may
+ * have selected other links. */
+static bool is_ready(const struct link *link) {
+    uint64_t ticks;
+    return link->view.receive_state == NIW_RECEIVE_CURRENT && (link->view.partner_state & NIW_STATE_SYNCHRONIZATION)
+        && is_told(niw_wait_while(&own_system, link->settings.number), "niw_wait_while", &ticks) && ticks == 0;
+}
+
+/* A port leaves its aggregator, by a key that none has, and comes back. What is on its way there leaves it behind a marker. */
+static void give_way(struct link *last, const struct link *next) {
+    struct niw_change change = {.key = free_key(0, NULL), .priority = last->settings.priority,
+        .aggregatable = last->settings.aggregatable};
+    if (!is_done(niw_configure(&own_system, last->settings.number, &change).status, "niw_configure")) return;
+    change.key = last->settings.key;
+    if (!is_done(niw_configure(&own_system, last->settings.number, &change).status, "niw_configure")) return;
+    (void)say(LOG_NOTICE | ABOUT_PORT, "port %u %s: it makes way for port %u %s", last->settings.number, last->name,
+        next->settings.number, next->name);
+    look_at_carry();
+    send_due();
+    take_views();
+}
+
+/* A second passed. One port gives way at most. */
+void pass_revert_second(void) {
+    if (!settings.revert) return;
+    take_views();
+    for (uint16_t aggregator = 1; aggregator <= aggregator_count; aggregator++) {
+        struct link *next = next_of(aggregator), *last = next ? last_of(aggregator) : NULL;
+        if (!last || !is_below(next, last) || !is_ready(next)) continue;
+        give_way(last, next);
+        return;
+    }
+}

@@ -1,0 +1,33 @@
+/* What a daemon leaves to the next one, beside what the manager of services keeps open. */
+#ifndef LAGD_STATE_H
+#define LAGD_STATE_H
+
+#include "carry.h"
+
+/* Of a link. Times are milliseconds of CLOCK_BOOTTIME. */
+struct left_link {
+    int index;       /* of the interface */
+    uint8_t mac[6];  /* of the interface */
+    uint32_t losses; /* how often its carrier had gone */
+    bool carried;    /* whether the port distributed, and so has an LACPDU: */
+    uint64_t heard;  /* when that came */
+    uint64_t spoken; /* when the last one went */
+    uint8_t lacpdu[NIW_FRAME];
+};
+
+struct left {
+    bool others; /* whether it is of other settings, so that only the interfaces are told */
+    unsigned link_count;
+    struct left_link links[NIW_MOST_PORTS];
+    uint32_t marker;              /* the identifier of the next one */
+    struct bundle bundle;         /* its state, aggregator and time of the last change */
+    unsigned answering;           /* enum answering */
+    int tap;                      /* the index of the TAP device, or 0 */
+    int persists;                 /* whether the daemon made it outlive itself */
+    uint32_t mtu;                 /* a lower one than its members take, which an administrator set, or 0 */
+    int members[CONVERSATIONS];   /* of each conversation the interface that it was on, or 0 */
+};
+
+extern struct left left; /* what the last daemon left; all 0 where there is nothing */
+
+#endif

@@ -1,0 +1,172 @@
+/* The store of the manager of services: files that it keeps open while no daemon runs, so that the next one goes on with them. Each has the
+ * name of its kind and a number, mostly that of an interface. */
+#define _GNU_SOURCE
+#ifdef HAVE_SYSTEMD
+#include <systemd/sd-daemon.h>
+#endif
+#include <errno.h>
+#include <linux/if_packet.h>
+#include <netinet/in.h>
+#include <stdio.h>
+#include <stdlib.h>
+#include <string.h>
+#include <sys/socket.h>
+#include <unistd.h>
+
+#include "carry.h"
+
+#ifdef HAVE_SYSTEMD
+#define NAME_OF_FILE 48
+/* What the unit lets it keep. */
+#define MOST_FILES 512
+
+/* A file that the last daemon left. */
+static struct stored {
+    char name[NAME_OF_FILE];
+    int fd; /* -1: it is taken, or closed */
+} stored[MOST_FILES];
+static size_t count;
+static bool stays; /* whether the next daemon gets what is there */
+
+static void tell_store(const char *what, const char *kind, int number, int fd) {
+    char text[128];
+    snprintf(text, sizeof text, "%s=1\n%sFDNAME=%s-%d", what, fd < 0 ? "" : "FDPOLL=0\n", kind, number);
+    (void)sd_pid_notify_with_fds(0, 0, text, &fd, fd < 0 ? 0 : 1);
+}
+
+/* Whether there is a manager that may keep files. */
+bool has_store(void) {
+    const char *manager = getenv("NOTIFY_SOCKET");
+    return manager && manager[0];
+}
+
+/* The manager keeps a file, too, until drop_stored. */
+void put_stored(const char *kind, int number, int fd) {
+    if (has_store()) tell_store("FDSTORE", kind, number, fd);
+}
+
+/* The manager keeps it no more. */
+void drop_stored(const char *kind, int number) {
+    if (has_store()) tell_store("FDSTOREREMOVE", kind, number, -1);
+}
+
+/* Takes a file that the last daemon left; or -1. */
+int take_stored(const char *kind, int number) {
+    char name[NAME_OF_FILE];
+    snprintf(name, sizeof name, "%s-%d", kind, number);
+    for (size_t i = 0; i < count; i++) {
+        int fd = stored[i].fd;
+        if (fd < 0 || strcmp(stored[i].name, name) != 0) continue;
+        stored[i].fd = -1;
+        return fd;
+    }
+    return -1;
+}
+
+static void drop_at(size_t place) {
+    if (stored[place].fd < 0) return;
+    (void)sd_notifyf(0, "FDSTOREREMOVE=1\nFDNAME=%s", stored[place].name);
+    detach_program(stored[place].fd);
+    close(stored[place].fd);
+    stored[place].fd = -1;
+}
+
+/* What nobody took is kept no more. */
+void drop_left(void) {
+    for (size_t i = 0; i < count; i++) drop_at(i);
+}
+
+/* The next daemon goes on with what there is. */
+void leave_store(void) {
+    stays = true;
+}
+
+/* The program ends, by whatever it is refused: nothing goes on without it, as the carrier of its device. */
+static void empty_store(void) {
+    if (stays) return;
+    for (size_t i = 0; i < count; i++) (void)sd_notifyf(0, "FDSTOREREMOVE=1\nFDNAME=%s", stored[i].name);
+}
+
+/* Takes over what the last daemon left with the manager. */
+void open_store(void) {
+    char **names = NULL;
+    int found = sd_listen_fds_with_names(1, &names);
+    for (int i = 0; i < found; i++) {
+        int fd = SD_LISTEN_FDS_START + i;
+        if (count == MOST_FILES) close(fd);
+        if (count == MOST_FILES) continue;
+        snprintf(stored[count].name, sizeof stored[count].name, "%s", names[i]);
+        stored[count++].fd = fd;
+    }
+    for (int i = 0; i < found; i++) free(names[i]);
+    free(names);
+    if (atexit(empty_store) != 0) stop(REFUSED, "no memory", "for what is stored");
+}
+#else
+bool has_store(void) {
+    return false;
+}
+
+void put_stored(const char *kind, int number, int fd) {
+    (void)kind;
+    (void)number;
+    (void)fd;
+}
+
+void drop_stored(const char *kind, int number) {
+    (void)kind;
+    (void)number;
+}
+
+int take_stored(const char *kind, int number) {
+    (void)kind;
+    (void)number;
+    return -1;
+}
+
+void drop_left(void) {
+}
+
+void leave_store(void) {
+}
+
+void open_store(void) {
+}
+#endif
+
+/* Closes a file that the manager keeps, too. */
+void close_stored(const char *kind, int number, int fd) {
+    drop_stored(kind, number);
+    close(fd);
+}
+
+/* Whether a packet socket still has its interface. */
+static bool is_of(int fd, int index) {
+    struct sockaddr_ll address = {0};
+    socklen_t length = sizeof address;
+    return getsockname(fd, (struct sockaddr *)&address, &length) == 0 && address.sll_family == AF_PACKET && address.sll_ifindex == index;
+}
+
+/* A packet socket for an interface, stored for a link with an index: the one that the last daemon left, with what came meanwhile, or a new
+ * one, which takes nothing before it is bound; or -1, and errno. */
+int packet_socket(const char *kind, int of, int index, int type) {
+    int fd = take_stored(kind, of);
+    if (fd >= 0 && is_of(fd, index)) return fd;
+    if (fd >= 0) close_stored(kind, of, fd);
+    return socket(AF_PACKET, type | SOCK_NONBLOCK | SOCK_CLOEXEC, 0);
+}
+
+/* As attach_program, in the place of the program of the last daemon, where that left one; the manager of services keeps it, too. */
+int attach_stored(const char *kind, int program, int index, bool egress) {
+    int attached = take_stored(kind, index);
+    if (attached >= 0 && exchange_program(attached, program, index)) return attached;
+    if (attached >= 0) detach_stored(kind, index, attached);
+    attached = attach_program(program, index, egress);
+    if (attached >= 0) put_stored(kind, index, attached);
+    return attached;
+}
+
+void detach_stored(const char *kind, int index, int attached) {
+    detach_program(attached);
+    close_stored(kind, index, attached);
+}

@@ -1,0 +1,359 @@
+"""A daemon that hands over to the next one, is killed, or is stopped, while frames flow: what is lost, for how long, and what its peer sees."""
+
+from __future__ import annotations
+
+import contextlib
+import fcntl
+import glob
+import os
+import signal
+import socket
+import time
+from array import array
+from functools import partial
+from threading import Thread, Timer
+from typing import Callable, Iterator, Sequence
+
+from beside import print_rows, switch_ends
+from booted import BOOTS, Machine
+from bonds import (COMES_BACK, COMES_UP, DEVICE, DIRECT, FLIGHT, FLOWS, MIDDLE, RATE, End, Outcome, Programs, ask_gro, cables, check_order, lay_direct,
+                   move_all, run_flows)
+from checking import Failed, Skipped, check, found, within
+from daemon import ENDS, SYSTEM, Part
+from openvswitch import OpenVSwitch
+from spaces import OURS, THEIRS, inside, ip
+
+ADDRESS = "192.0.2.1/24"
+# After how many seconds the unit starts a daemon that failed.
+RESTARTS = 0.2
+# How long after a change the state has it, in seconds.
+WRITTEN = 1.2
+# How long the longest gap of a flow may be in milliseconds, where nothing is lost, on a machine that has other things to do.
+SHORT_GAP = 1000
+# What a daemon that is killed had in hand at most: what it had read and not sent.
+IN_HAND = 4 * 64
+# Frames a second of which no more wait than the kernel keeps for a host, 4096, while systemd starts the daemon.
+SLOW_RATE = 4000
+# Above the files that a program begins with.
+HIGH = 200
+WAYS: dict[str, tuple[str, ...]] = {"plain": (), "offload": ("--offload",), "fast": ("--fast",)}
+
+
+class Manager:
+    """What a manager of services does: it keeps the files that a daemon stores, and hands them to the next one."""
+
+    def __init__(self, folder: str) -> None:
+        self.path = os.path.join(folder, "manager")
+        self.files: dict[str, int] = {}
+        self.socket = socket.socket(socket.AF_UNIX, socket.SOCK_DGRAM)
+        self.socket.bind(self.path)
+        self.reader = Thread(target=self.read, daemon=True)
+        self.reader.start()
+
+    def read(self) -> None:
+        files = array("i")
+        while True:
+            text, more, _, _ = self.socket.recvmsg(4096, socket.CMSG_SPACE(8 * files.itemsize))
+            if text == b"END":
+                return
+            files = array("i", b"".join(octets for _, kind, octets in more if kind == socket.SCM_RIGHTS))
+            told = dict(line.partition("=")[::2] for line in text.decode().splitlines())
+            name = told.get("FDNAME", "")
+            if "FDSTOREREMOVE" in told and name in self.files:
+                os.close(self.files.pop(name))
+            if "FDSTORE" in told and files:
+                self.files[name] = fcntl.fcntl(files[0], fcntl.F_DUPFD, HIGH)
+            for it in files:
+                os.close(it)
+
+    def before(self) -> list[str]:
+        """What stands before the words of a daemon, so that it gets what is kept."""
+        names = ":".join(self.files)
+        text = f"export NOTIFY_SOCKET={self.path}; "
+        if self.files:
+            text += f"export LISTEN_PID=$$ LISTEN_FDS={len(self.files)} LISTEN_FDNAMES={names}; "
+        moved = " ".join(f"{3 + place}<&{file}-" for place, file in enumerate(self.files.values()))
+        return ["bash", "-c", f'{text} exec "$@" {moved}', "bash"]
+
+    def drop(self) -> None:
+        """Keeps nothing any more, as where its unit is stopped."""
+        self.socket.sendto(b"END", self.path) if self.reader.is_alive() else None
+        self.reader.join()
+        for it in self.files.values():
+            os.close(it)
+        self.files.clear()
+        self.socket.close()
+        os.unlink(self.path)
+
+
+class Kept(End):
+    """An end whose daemon is started again; with a manager, that one keeps its files."""
+
+    def __init__(self, programs: Programs, space: str, options: Sequence[str], manager: Manager | None = None) -> None:
+        self.programs, self.at, self.options, self.manager = programs, space, options, manager
+        self.members: Sequence[str] = ()
+        self.launch()
+
+    def launch(self) -> None:
+        before = self.manager.before() if self.manager else []
+        files = list(self.manager.files.values()) if self.manager else []
+        super().__init__(self.programs, self.at, options=self.options, before=before, files=files, names=self.members)
+
+    def again(self, by: signal.Signals, after: float = 0.0, between: Callable[[], object] = lambda: None) -> None:
+        """Its daemon ends by a signal, and is started again."""
+        self.process.send_signal(by)
+        self.process.wait(ENDS)
+        time.sleep(after)
+        between()
+        self.launch()
+
+
+@contextlib.contextmanager
+def managed(programs: Programs, options: Sequence[str], *, space: str = OURS, has_manager: bool = True) -> Iterator[tuple[Kept, End]]:
+    """Two ends whose links all carry; the daemon of the first one is started again."""
+    manager = Manager(programs.folder) if has_manager else None
+    ends: list[End] = []
+    try:
+        with cables(programs, ()):
+            kept = Kept(programs, space, options, manager)
+            ends += [kept, End(programs, THEIRS if space == OURS else OURS, options=options)]
+            ip(space, "address", "add", ADDRESS, "dev", DEVICE)
+            if not within(COMES_UP, lambda: all(end.links() == DIRECT and end.carry()["markers"] == "answered" for end in ends)):
+                raise Failed("two links carry", *(end.text() for end in ends))
+            yield kept, ends[1]
+    finally:
+        for end in ends:
+            end.stop()
+        if manager:
+            manager.drop()
+
+
+def device_number(space: str = OURS) -> str:
+    return inside(space, "cat", f"/sys/class/net/{DEVICE}/ifindex").stdout.strip()
+
+
+def seen(end: End) -> str:
+    """What an end has told of its ports and of its bundle."""
+    return "".join(line for line in end.printed().splitlines(True) if " port " in line or " bundle " in line)
+
+
+def flows_through(programs: Programs, event: Callable[[], object], rate: int = RATE) -> Outcome:
+    """What becomes of frames, with an event in the midst of them."""
+    def happen() -> None:
+        event()
+
+    run_flows(programs, 1)
+    return run_flows(programs, 5, [(1.5, happen)], rate=rate)
+
+
+def check_unseen(what: str, kept: Kept, peer: End, before: tuple[str, str], outcome: Outcome) -> None:
+    """The peer saw nothing, and the device is the same one, with its address."""
+    told = kept.text(), kept.printed()[-3000:], peer.printed()[-2000:]
+    check_order(outcome, what, *told)
+    check((seen(peer), device_number(kept.at)) == before, f"{what}: the peer saw nothing, and {DEVICE} is the same device", before, *told)
+    check(ADDRESS in inside(kept.at, "ip", "address", "show", "dev", DEVICE).stdout, f"{what}: it has its address", *told)
+    check(within(COMES_BACK, lambda: kept.links() == DIRECT), f"{what}: both links carry, and its carrier is on", *told)
+
+
+def places(kept: Kept) -> list[str]:
+    """The conversations, and the interface of each, as the daemon last wrote it."""
+    time.sleep(WRITTEN)
+    path = max(glob.glob(f"{kept.folder}/*.{'a' if kept.at == OURS else 'b'}0.state"), key=os.path.getmtime)
+    with open(path, encoding="utf-8") as it:
+        return sorted(line for line in it if line.startswith("on "))
+
+
+def stay(programs: Programs) -> None:
+    """Conversations that moved off the port that the library picks are where they were; no marker and no force takes them there."""
+    with managed(programs, WAYS["fast"]) as (kept, _):
+        run_flows(programs, 1)
+        picked = places(kept)
+        run_flows(programs, 2, [(1, move_all(kept))])
+        moved = places(kept)
+        kept.again(signal.SIGUSR1)
+        check(len(set(moved) - set(picked)) >= FLOWS and places(kept) == moved, f"{FLOWS} conversations that had moved stay", picked, moved, kept.text())
+        carry = kept.carry()
+        check(carry["moves"] == carry["forced"] == carry["markers_sent"] == 0, "with no marker and no move", kept.text())
+
+
+def hand_over(programs: Programs, name: str) -> None:
+    """The daemon of one way hands over under a manager, and is killed: the sending end, twice, and the receiving one."""
+    for space, end, events in (OURS, "sends", ("handed over", "handed over again", "killed")), (THEIRS, "receives", ("handed over", "killed")):
+        with managed(programs, WAYS[name], space=space) as (kept, peer):
+            before = seen(peer), device_number(space)
+            for event in events:
+                signals = (signal.SIGKILL, RESTARTS) if event == "killed" else (signal.SIGUSR1, 0.0)
+                outcome = flows_through(programs, partial(kept.again, *signals))
+                what, most = f"{name}, the end that {end} is {event}", IN_HAND if event == "killed" else 0
+                check_unseen(what, kept, peer, before, outcome)
+                check(outcome.lost() <= most and outcome.gap_ms < SHORT_GAP, f"{what}: {outcome.lost()} frames are lost", outcome, kept.text())
+
+
+def handover_plain(programs: Programs) -> None:
+    hand_over(programs, "plain")
+
+
+def handover_offload(programs: Programs) -> None:
+    hand_over(programs, "offload")
+
+
+def handover_fast(programs: Programs) -> None:
+    stay(programs)
+    hand_over(programs, "fast")
+
+
+def handover_alone(programs: Programs) -> None:
+    """Without a manager the device outlives the daemon, and what comes meanwhile is lost."""
+    for name, words in WAYS.items():
+        with managed(programs, words, has_manager=False) as (ours, theirs):
+            before = seen(theirs), device_number()
+            outcome = flows_through(programs, lambda: ours.again(signal.SIGUSR1))
+            check_unseen(f"{name}, handed over without a manager", ours, theirs, before, outcome)
+            ours.ends("the daemon")
+            check(device_number() == "", f"{name}: at a stop the device goes")
+
+
+def check_flows(programs: Programs, kept: Kept, peer: End, what: str) -> None:
+    """Data comes, and nothing else is told where it does not."""
+    links = len(kept.members) or DIRECT
+    check(within(COMES_UP, lambda: kept.links() == peer.links() == links), f"{what}: each link carries", kept.text(), kept.printed()[-2000:])
+    run_flows(programs, 1)
+    outcome = run_flows(programs, 2)
+    check_order(outcome, what, kept.text(), kept.printed()[-2000:])
+    check(outcome.lost() == 0, f"{what}: {outcome.lost()} frames are lost afterwards", outcome, kept.text(), peer.text())
+    if "--fast" in kept.options:
+        passed = kept.carry()["fast_conversations"]
+        check(passed >= FLOWS // 2, f"{what}: the kernel passes {passed} conversations on", kept.text(), kept.printed()[-2000:])
+
+
+def remake() -> None:
+    """The second interface is deleted, with its other end, and made again, with GRO."""
+    ip(OURS, "link", "del", "a1")
+    lay_direct(1)
+    ask_gro(OURS, "a1", True)
+
+
+def rename() -> None:
+    """The device has another name for a second."""
+    ip(OURS, "link", "set", DEVICE, "down", "name", "other0")
+    Timer(1, ip, (OURS, "link", "set", "other0", "name", DEVICE, "up")).start()
+
+
+def change_between(programs: Programs, words: Sequence[str]) -> None:
+    """What an administrator does between both daemons: to the device, to a member, to the settings."""
+    name = " ".join(words) or "plain"
+    with managed(programs, words) as (kept, peer):
+        for what, between in (("a member made anew", remake), ("the device deleted", lambda: ip(OURS, "link", "del", DEVICE)),
+                              ("the device moved away", lambda: ip(OURS, "link", "set", DEVICE, "netns", MIDDLE)), ("the device renamed", rename)):
+            kept.again(signal.SIGUSR1, 0, between)
+            check_flows(programs, kept, peer, f"{name}, {what}")
+        other, kept.options = kept.options, ["--offload"] if words else ["--fast"]
+        kept.again(signal.SIGUSR1)
+        said = lambda: "it belongs to other settings" in kept.printed()
+        check(within(ENDS, said), f"{name}, another way: a line says so", kept.printed())
+        check_flows(programs, kept, peer, f"{name}, another way")
+        kept.options, kept.members = other, ("a0",)
+        kept.again(signal.SIGUSR1)
+        check(within(ENDS, lambda: ask_gro(OURS, "a1")), f"{name}: what is a member no more gets GRO back", kept.printed())
+        within(COMES_UP, lambda: peer.links() == 1)
+        check_flows(programs, kept, peer, f"{name}, a link that was taken out")
+        kept.process.send_signal(signal.SIGUSR1)
+        kept.process.wait(ENDS)
+        peer.process.kill()
+        kept.launch()
+        check(within(4.5, lambda: kept.links() == 0), f"{name}: where the peer is gone, the carrier goes in its time", kept.text(), kept.printed())
+
+
+def handover_changes(programs: Programs) -> None:
+    change_between(programs, WAYS["plain"])
+    change_between(programs, WAYS["fast"])
+
+
+BUNDLE = f"[Bundle]\nkey=23\nsystem=32768,{SYSTEM}\ncarry={DEVICE}\nflight={FLIGHT}\n%s[Port a0]\n[Port a1]\n"
+
+
+@contextlib.contextmanager
+def unit(programs: Programs, words: str) -> Iterator[tuple[Machine, End]]:
+    """Our daemon as a unit of systemd, and its peer."""
+    folder = os.path.join(programs.folder, f"unit{len(words)}")
+    os.mkdir(folder)
+    with cables(programs, ()):
+        for name in "a0", "a1":
+            inside(OURS, "sh", "-c", f"echo 1 > /sys/class/net/{name}/queues/rx-0/rps_cpus")
+        machine = Machine(Part(programs.daemon, folder), BUNDLE % words)
+        theirs = End(programs, THEIRS)
+        try:
+            if not within(BOOTS, lambda: machine.property("StatusText") == "up, 2 of 2 links carry" and theirs.links() == DIRECT):
+                raise Skipped(f"systemd does not run the unit here: {machine.told()[-1500:]}")
+            ip(OURS, "link", "set", DEVICE, "up")
+            yield machine, theirs
+        finally:
+            theirs.stop()
+            machine.process.send_signal(signal.SIGKILL)
+            machine.drop()
+
+
+def unit_of(programs: Programs, name: str, words: str) -> None:
+    with unit(programs, words) as (machine, theirs):
+        before = seen(theirs), device_number()
+        events = (("restarted", ("restart", "lagd@uplink"), 0), ("killed", ("kill", "--signal=SIGKILL", "lagd@uplink"), IN_HAND))
+        for what, command, most in events:
+            main = machine.main()
+            outcome = flows_through(programs, partial(machine.run, "systemctl", *command), SLOW_RATE)
+            text = f"{name}, {what} under systemd"
+            check_order(outcome, text, machine.told())
+            check(outcome.lost() <= most, f"{text}: {outcome.lost()} frames are lost, {most} at most", outcome, machine.told())
+            if "fast" in words:
+                passed = found(r"conversations of the kernel: (\d+)", machine.tells("lagd", "--status"))
+                check(int(passed) >= FLOWS // 2, f"{text}: the kernel passes {passed} conversations on", machine.told())
+            check((seen(theirs), device_number()) == before and machine.main() != main, f"{text}: the peer saw nothing, and {DEVICE} is the same device", machine.told())
+        machine.run("systemctl", "stop", "lagd@uplink")
+        check(within(ENDS, lambda: theirs.links() == 0 and device_number() == ""), f"{name}, stopped: the peer is told, and the device goes", machine.told())
+
+
+def handover_unit(programs: Programs) -> None:
+    """The unit under systemd itself is restarted, killed and stopped."""
+    unit_of(programs, "plain", "")
+    unit_of(programs, "fast", "fast=yes\n")
+
+
+HEADINGS = ("way", "frames", "lost", "overtaken", "longest gap, ms")
+
+
+def row(name: str, outcome: Outcome) -> list[str]:
+    """A row of the table. Where the device went, none of its frames came again."""
+    gap = f"{outcome.gap_ms:,}" if "stopped and started" not in name or "Open" in name else "to the end"
+    return [name, *(f"{count:,}" for count in (outcome.sent, outcome.lost(), outcome.overtaken)), gap]
+
+
+def measure(programs: Programs, name: str, words: Sequence[str]) -> list[list[str]]:
+    """The rows of one way, by how its daemon ends."""
+    with managed(programs, words) as (ours, _):
+        events = {"handed over": lambda: ours.again(signal.SIGUSR1), f"killed, and started after {RESTARTS} s": lambda: ours.again(signal.SIGKILL, RESTARTS),
+                  "stopped and started": lambda: ours.again(signal.SIGTERM)}
+        return [row(f"lagd {name}, {what}", flows_through(programs, event)) for what, event in events.items()]
+
+
+def start_again(end: OpenVSwitch) -> None:
+    """Its switch ends, and is started again; its database runs on."""
+    switch = end.running.pop()
+    switch.terminate()
+    switch.wait(ENDS)
+    end.launch("ovs-vswitchd", f"--unixctl={end.folder}/switch.ctl", f"unix:{end.folder}/db.sock")
+    within(ENDS, lambda: inside(OURS, "ip", "link", "set", "br0", "txqueuelen", "4096", "up").returncode == 0)
+
+
+def print_restarts(programs: Programs) -> None:
+    rows = [cells for name, words in WAYS.items() for cells in measure(programs, name, words)]
+    try:
+        with switch_ends(programs, ()) as (_, ends):
+            outcome = run_flows(programs, 8, [(1.5, lambda: start_again(ends[1]))], devices=("br0", "br0"))
+            rows.append(row(f"Open vSwitch {ends[0].version()}, stopped and started, at the receiving end", outcome))
+    except Skipped as why:
+        print(f"skipped: Open vSwitch: {why}", flush=True)
+    print(f"{FLOWS} flows, {RATE:,} frames a second, two pairs of interfaces; the daemon of the sending end")
+    print_rows(HEADINGS, rows)
+    check(all(cells[2] == "0" for cells in rows if "handed over" in cells[0]), "a daemon that hands over loses no frame")
+
+
+PARTS = {it.__name__: it for it in (handover_plain, handover_offload, handover_fast, handover_alone, handover_changes, handover_unit)}

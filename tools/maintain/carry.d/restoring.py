@@ -1,0 +1,143 @@
+"""What is tried of links that come back: they wait until their carrier was steady, and those with the lowest priorities are used."""
+
+from __future__ import annotations
+
+import time
+from typing import Callable
+
+from bonds import COMES_UP, RATE, End, Event, Programs, cables, check_end, check_order, check_whole, pair, run_flows
+from checking import Failed, check, within
+from spaces import OURS, THEIRS, ip
+
+# How long a link waits in seconds, and how long LACP takes behind that.
+WAITS, LACP = 4, 4
+WAITING = "the link is back, and waits for wait-to-restore"
+STANDS_BY = "its aggregator has no room for one more link"
+# The longest gap of a flow whose last link went, in ms: LACP's two seconds, the peer's wait, and a turn of its clock.
+GAP_MS = 4500
+WAYS: tuple[list[str], ...] = ([], ["--fast"])
+
+
+def statuses(end: End) -> list[str]:
+    return [port["status"] for port in end.ports().values()]
+
+
+def look(end: End, seen: list[tuple[list[str], int]]) -> Callable[[], None]:
+    """Notes the statuses of the ports, and how much the second one has sent."""
+    return lambda: seen.append((statuses(end), end.told()["ports"][1]["data"]["data_sent"]))
+
+
+def restores(programs: Programs) -> None:
+    """A link that comes back is used once it was steady for so long, and at once where no other one carries."""
+    for way in WAYS:
+        with pair(programs, options=["--wait-to-restore", str(WAITS), *way]) as (laid, ours, theirs):
+            seen: list[tuple[list[str], int]] = []
+            events: list[Event] = [(1, lambda: laid.tell("cut", 1)), (2, lambda: laid.tell("join", 1)), (3, look(ours, seen)),
+                                   (4, lambda: laid.tell("cut", 1)), (4.5, lambda: laid.tell("join", 1)), (8, look(ours, seen))]
+            outcome = run_flows(programs, 4.5 + WAITS + LACP + 1, events)
+            waited = all(status[1] == WAITING for status, _ in seen) and seen[0][1] == seen[1][1]
+            check(waited, f"a link that flaps waits, and sends nothing {way}", seen, ours.printed())
+            check(ours.links() == theirs.links() == 2, f"it carries {WAITS} seconds after it came back for good", ours.text())
+            check(ours.told()["ports"][1]["data"]["data_sent"] > seen[1][1], "and sends", ours.text())
+            check_order(outcome, "through a wait", ours.text())
+            check_whole(outcome, ours, theirs, cables_lose=True)
+        with pair(programs, options=["--wait-to-restore", "3600", *way]) as (laid, ours, theirs):
+            last_link(programs, laid.tell, ours, theirs)
+
+
+def last_link(programs: Programs, tell: Callable[[str, int], None], ours: End, theirs: End) -> None:
+    """One link waits for long while the other one goes, comes back, and is deleted meanwhile."""
+    seen: list[tuple[list[str], int]] = []
+    events: list[Event] = [(1, lambda: tell("cut", 1)), (2, lambda: tell("join", 1)), (3.5, look(ours, seen)), (4, lambda: tell("cut", 0)),
+                           (5, lambda: tell("join", 0))]
+    outcome = run_flows(programs, 12, events)
+    check(seen[0][0][1] == WAITING, "a link waits", seen, ours.printed())
+    check(outcome.gap_ms < GAP_MS, f"the other one goes: the link that waits is used at once, and flows rest for {outcome.gap_ms} ms", ours.printed())
+    check(statuses(ours) == [WAITING, "it distributes"], "then the other one waits", ours.text())
+    check("link: waiting" in ours.text() and "1 of 2 links carry" in ours.text(), "the status says so", ours.text())
+    check_order(outcome, "through the loss of the last link", ours.text())
+    ip(OURS, "link", "del", "a0")
+    check(within(3, lambda: statuses(ours)[0] == "the interface is missing"), "it may vanish meanwhile", ours.text())
+    tell("silence", 1)
+    check(within(12, lambda: statuses(ours)[1] != "it distributes"), "the last link falls silent", ours.text())
+    tell("hear", 1)
+    check(within(COMES_UP, lambda: ours.links() == 1), "and is heard again", ours.text())
+
+
+def standing(end: End) -> list[bool]:
+    return [status == STANDS_BY for status in statuses(end)]
+
+
+def reverts(programs: Programs) -> None:
+    """With max-links the links with the lowest priorities are used, whichever came first, and a link that was away gets its place back."""
+    names = ("a0:priority=300", "a1:priority=100", "a2:priority=200")
+    for way in WAYS:
+        with cables(programs, (0, 20000, 5000)) as laid:
+            laid.tell("cut", 1)
+            ours = End(programs, OURS, names=names, options=["--max-links", "2", "--revert", *way])
+            theirs = End(programs, THEIRS, links=3, options=way)
+            try:
+                used = lambda wanted: lambda: standing(ours) == wanted and ours.links() == theirs.links() == 2
+                first = within(COMES_UP, lambda: ours.links() == 2)
+                check(first and statuses(ours)[1] == "the link is down", "the first two links carry", ours.text())
+                if not within(COMES_UP, lambda: ours.carry()["markers"] == "answered"):
+                    raise Failed("the peer answers markers", ours.text())
+                outcome = run_flows(programs, 9, [(1, lambda: laid.tell("join", 1))])
+                check(used([True, False, False])(), "the third one takes the place of the highest priority", ours.text(), theirs.text())
+                check("port 1 a0: it makes way for port 2 a1" in ours.printed(), "a line says so", ours.printed())
+                check_order(outcome, f"through a link that makes way {way}", ours.text())
+                check(outcome.gap_ms < 2000, f"no flow rests for longer than {outcome.gap_ms} ms", ours.text())
+                check(outcome.lost() == 0, f"{outcome.lost()} of {outcome.sent:,} frames are lost", outcome, ours.text(), theirs.text())
+                check_end(ours, "the sending end")
+                outcome = run_flows(programs, 10, [(1, lambda: laid.tell("cut", 2)), (4, lambda: laid.tell("join", 2))])
+                check(used([True, False, False])(), "one that was away gets its place back", ours.text())
+                check(ours.printed().count("it makes way") == 2, "the one that stood for it makes way", ours.printed())
+                check_order(outcome, "through both", ours.text())
+                check_end(ours, "the sending end")
+            finally:
+                ours.stop()
+                theirs.stop()
+
+
+def reverts_there(programs: Programs) -> None:
+    """The receiving end has the limit: what is on its way to the link that makes way is lost, and nothing is overtaken."""
+    with cables(programs, (0, 20000, 5000)) as laid:
+        laid.tell("cut", 1)
+        ours = End(programs, OURS, links=3)
+        theirs = End(programs, THEIRS, names=("b0:priority=200", "b1:priority=100", "b2:priority=300"), options=["--max-links", "2", "--revert"])
+        try:
+            check(within(COMES_UP, lambda: ours.links() == theirs.links() == 2), "the first two links carry", ours.text())
+            if not within(COMES_UP, lambda: ours.carry()["markers"] == "answered"):
+                raise Failed("the peer answers markers", ours.text())
+            outcome = run_flows(programs, 9, [(1, lambda: laid.tell("join", 1))])
+            check(standing(theirs) == [False, False, True], "the third one takes the place of the highest priority", theirs.text())
+            check_order(outcome, "to an end whose link makes way", ours.text())
+            uncollected, lost = theirs.data("uncollected"), outcome.lost()
+            told = f"{lost} of {outcome.sent:,} frames are lost, which were on their way there"
+            check(lost == uncollected < RATE // 10, told, outcome, theirs.text())
+            check_whole(outcome, ours, theirs, cables_lose=True)
+        finally:
+            ours.stop()
+            theirs.stop()
+
+
+def two_limits(programs: Programs) -> None:
+    """Both ends have a limit and want other links: no link that carries makes way for one that the peer does not use."""
+    with cables(programs, ()):
+        ends = []
+        try:
+            ends.append(End(programs, OURS, names=("a0:priority=1", "a1:priority=2"), options=["--max-links", "1", "--revert"]))
+            ends.append(End(programs, THEIRS, names=("b0:priority=2", "b1:priority=1"), options=["--max-links", "1", "--revert"]))
+            ip(OURS, "link", "set", "a1", "down")
+            check(within(COMES_UP, lambda: all(end.links() == 1 for end in ends)), "one link carries", ends[0].text())
+            ip(OURS, "link", "set", "a1", "up")
+            time.sleep(8)
+            check(all(end.links() == 1 for end in ends), "it carries still", *(end.text() for end in ends))
+            check(not any("makes way" in end.printed() for end in ends), "and makes no way", *(end.printed() for end in ends))
+            check_order(run_flows(programs, 2), "with a limit at both ends", ends[0].text())
+        finally:
+            for end in ends:
+                end.stop()
+
+
+PARTS: dict[str, Callable[[Programs], None]] = {it.__name__: it for it in (restores, reverts, reverts_there, two_limits)}

@@ -1,0 +1,169 @@
+"""A daemon that goes on where the last one was, without data: what its peer sees, and what becomes of it where it may not."""
+
+from __future__ import annotations
+
+import contextlib
+import glob
+import os
+import re
+import signal
+import time
+from typing import Callable, Iterator, Sequence
+
+from checking import Failed, check, within
+from daemon import ENDS, Daemon, Part
+from daemons import COMES_UP, GOES_DOWN, both_up
+from spaces import OURS, THEIRS, ip, make_pair
+
+# What the first line says that the next daemon prints: it went on, or why it did not.
+WENT_ON, NOT_USED = "2 of 2 links go on", "the state that the last daemon left is not used: "
+# An end with short timeouts waits so long for an LACPDU, in seconds.
+TIMEOUT = 3
+
+
+def state_file(daemon: Daemon) -> str:
+    """The file with what our daemon leaves; the newest, since namespaces of other parts may have left theirs."""
+    return max(glob.glob(f"{daemon.folder}/*.a0.state"), key=os.path.getmtime)
+
+
+def changed(path: str, change: Callable[[str], str]) -> None:
+    with open(path, encoding="utf-8") as it:
+        text = it.read()
+    with open(path, "w", encoding="utf-8") as it:
+        it.write(change(text))
+
+
+def hand_over(part: Part, ours: Daemon, between: Callable[[], None] = lambda: None, by: signal.Signals = signal.SIGUSR1,
+              names: Sequence[str] = ("a0", "a1"), options: Sequence[str] = ()) -> Daemon:
+    """The next daemon, after something that happens between both."""
+    ours.process.send_signal(by)
+    ours.process.wait(ENDS)
+    between()
+    again = part.ours(*names, options=options)
+    if not within(ENDS, lambda: "bundle" in again.printed()):
+        raise Failed("the next daemon begins", again.printed())
+    return again
+
+
+def goes_on(part: Part) -> None:
+    """By SIGUSR1, and by SIGKILL, each time with no line of the peer; twice in a row, too."""
+    ours, theirs = part.ours(), part.theirs()
+    both_up(ours, theirs, "two daemons: both links come to distribute")
+    time.sleep(1.5)
+    lines = theirs.printed()
+    for by in signal.SIGUSR1, signal.SIGUSR1, signal.SIGKILL:
+        ours = hand_over(part, ours, by=by)
+        check(WENT_ON in ours.printed() and ours.distributes("a0", "a1"), f"after {by.name} the next daemon distributes at once", ours.printed(), ours.text())
+        time.sleep(2 * TIMEOUT)
+        check(theirs.printed() == lines and ours.distributes("a0", "a1"), "and its peer has seen nothing, for twice its timeout", theirs.printed(), ours.printed())
+    partner = ours.port("a0")["partner"]
+    check(not partner["defaulted"] and partner["port"] == 1, "it knows its partner", partner)
+    ours.ends("the daemon")
+    check(not glob.glob(f"{ours.folder}/*.a0.state"), "a stop leaves no state")
+    check(within(GOES_DOWN, lambda: not (theirs.distributes("b0") or theirs.distributes("b1"))), "and tells the peer", theirs.text())
+
+
+def keeps_limit(part: Part) -> None:
+    """With a limit of links the one that carried carries, whatever its number is."""
+    limit = ["--max-links", "1"]
+    ip(THEIRS, "link", "set", "b0", "down")
+    ours, theirs = part.ours(options=limit), part.theirs()
+    check(within(COMES_UP, lambda: ours.distributes("a1")), "the second link comes up first", ours.text())
+    ip(THEIRS, "link", "set", "b0", "up")
+    waits = lambda: "another link of its aggregator" in ours.text() or ours.port("a0")["status"] not in ("it distributes", "the link is down")
+    check(within(COMES_UP, waits), "and the first one waits", ours.text())
+    time.sleep(1.5)
+    lines = len(theirs.lines("b1"))
+    ours = hand_over(part, ours, options=limit)
+    time.sleep(TIMEOUT)
+    check(ours.distributes("a1") and not ours.distributes("a0") and len(theirs.lines("b1")) == lines, "after SIGUSR1 it is so, too", ours.text(), theirs.printed())
+
+
+def gives_way(part: Part, ours: Daemon, theirs: Daemon, what: str, text: str, between: Callable[[], None]) -> Daemon:
+    """The next daemon says why it does not go on, and tells of no port as distributing that its peer does not know; then both come up."""
+    again = hand_over(part, ours, between)
+    said = again.printed()
+    check(text in said, f"{what}: a line says so", said)
+    check(text == WENT_ON or not again.distributes("a0", "a1"), f"{what}: it negotiates anew", again.text())
+    both_up(again, theirs, f"{what}: both links come up")
+    time.sleep(1.5)
+    return again
+
+
+def begins_anew(part: Part) -> None:
+    """A state that is of no use."""
+    ours, theirs = part.ours(), part.theirs()
+    both_up(ours, theirs, "two daemons: both links come to distribute")
+    time.sleep(1.5)
+    length = os.path.getsize(state_file(ours))
+    rows: list[tuple[str, str, Callable[[], None]]] = [
+        ("of another version", "of another version", lambda: changed(state_file(ours), lambda text: text.replace("lagd 1\n", "lagd 2\n"))),
+        ("of another boot", "of another boot", lambda: changed(state_file(ours), lambda text: re.sub(r"boot \S+", "boot other", text))),
+        ("of another system", "other settings", lambda: changed(state_file(ours), lambda text: re.sub(r"way \d+", "way 1", text))),
+        ("no text of lagd", "no state of lagd", lambda: changed(state_file(ours), lambda text: "\0" * 100)),
+        ("as old as the timeout", "0 of 2 links go on", lambda: time.sleep(TIMEOUT + 0.2)),
+        ("of later than now", "0 of 2 links go on", lambda: changed(state_file(ours), lambda text: re.sub(r" 1 \d+ \d+ ", " 1 99999999999 99999999999 ", text))),
+    ]
+    for cut in (0, 7, 60, length // 2, length - 5):
+        rows.append((f"cut off after {cut} octets", NOT_USED, lambda cut=cut: os.truncate(state_file(ours), cut)))  # type: ignore[misc]
+    for what, text, between in rows:
+        ours = gives_way(part, ours, theirs, f"a state that is {what}", text, between)
+
+
+@contextlib.contextmanager
+def blocked(ours: Daemon) -> Iterator[None]:
+    """No state can be written while this lasts."""
+    path = state_file(ours)
+    os.unlink(path)
+    os.makedirs(f"{path}/kept")
+    try:
+        yield
+    finally:
+        os.rmdir(f"{path}/kept")
+        os.rmdir(path)
+
+
+def things_change(part: Part) -> None:
+    """What changes between both daemons: a link, an interface, the peer, the settings; and a state that cannot be written."""
+    ours, theirs = part.ours(), part.theirs()
+    both_up(ours, theirs, "two daemons: both links come to distribute")
+    time.sleep(1.5)
+
+    def remake() -> None:
+        ip(OURS, "link", "del", "a1")
+        make_pair(1)
+
+    def flap() -> None:
+        ip(THEIRS, "link", "set", "b1", "down")
+        ip(THEIRS, "link", "set", "b1", "up")
+
+    for what, between in ("a link that went and came back", flap), ("an interface that was made anew", remake):
+        ours = gives_way(part, ours, theirs, what, "1 of 2 links go on", between)
+    theirs.process.kill()
+    theirs.process.wait()
+    peers: list[Daemon] = []
+    ours = hand_over(part, ours, lambda: peers.append(part.theirs(options=["--port-priority", "77"])))
+    theirs = peers[0]
+    both_up(ours, theirs, "a peer that was started again, with another state")
+    check(ours.port("a0")["partner"]["port_priority"] == 77, "is known as it is now", ours.text())
+    time.sleep(1.5)
+    second = part.refused("23", "32768,02:00:00:00:00:aa", "a0", "a1")
+    check(second[0] == 1 and "another lagd has" in second[1], "a second daemon beside one that runs is refused", second)
+    lines = theirs.printed()
+    time.sleep(TIMEOUT + 1)
+    check(theirs.printed() == lines, "and the peer saw nothing of it", theirs.printed())
+    ours = hand_over(part, ours, names=("a0",))
+    check("1 of 1 links go on" in ours.printed(), "a link that is no more in the settings is left", ours.printed())
+    check(within(GOES_DOWN, lambda: not theirs.distributes("b1")) and theirs.distributes("b0"), "as the peer notices in its time", theirs.text())
+    time.sleep(1.5)
+    ours = hand_over(part, ours)
+    check("1 of 2 links go on" in ours.printed(), "one that is new in them is added", ours.printed())
+    both_up(ours, theirs, "and both distribute")
+    with blocked(ours):
+        check(within(ENDS, lambda: "its state cannot be kept" in ours.printed()), "a state that cannot be written has a line", ours.printed())
+        ours.ends("then the daemon", signal.SIGUSR1)
+        check(within(GOES_DOWN, lambda: not (theirs.distributes("b0") or theirs.distributes("b1"))), "as at a stop, which the peer is told of", theirs.text())
+
+
+PARTS = {"the next daemon goes on": goes_on, "a limit of links through a restart": keeps_limit, "a state of no use": begins_anew,
+         "what changes between two daemons": things_change}
