@@ -342,6 +342,7 @@ int packet_socket(const char *kind, int of, int index, int type);
 uint64_t boottime(void);
 void recall_state(void);
 uint32_t first_marker_left(void);
+bool was_away_briefly(void);
 bool save_state(void);
 void end_state(void);
 

@@ -18,6 +18,8 @@
 #define HEX_LENGTH "248"
 /* A marker that went after the file was written has another identifier than those from here on. */
 #define UNWRITTEN_MARKERS 65536
+/* For how long frames may have waited, in milliseconds: with the second in which a state is written. */
+#define MOST_AWAY 3000
 
 struct left left;
 
@@ -67,6 +69,7 @@ static void write_state(FILE *file) {
     struct niw_marker marker = niw_next_marker(&own_system);
     uint64_t since = boottime() - milliseconds();
     fprintf(file, "lagd %u\nboot %s\nway %s\n", FORM_VERSION, boot_id(), way());
+    fprintf(file, "written %" PRIu64 "\n", boottime());
     fprintf(file, "marker %" PRIu32 "\n", is_done(marker.status, "niw_next_marker") && marker.left ? marker.id : 0);
     fprintf(file, "bundle %u %u %lld\n", bundle.state, bundle.aggregator, (long long)bundle.changed_at);
     if (carries_data())
@@ -160,6 +163,7 @@ static bool read_rest(FILE *file) {
     while (fscanf(file, "%15s", word) == 1) {
         bool read = false;
         if (strcmp(word, "end") == 0) return true;
+        if (strcmp(word, "written") == 0) read = fscanf(file, "%" SCNu64, &left.written) == 1;
         if (strcmp(word, "marker") == 0) read = fscanf(file, "%" SCNu32, &left.marker) == 1;
         if (strcmp(word, "bundle") == 0) read = read_bundle(file);
         if (strcmp(word, "tap") == 0)
@@ -222,6 +226,12 @@ void recall_state(void) {
     if (!fault) return;
     left = (struct left){0};
     (void)say(LOG_WARNING | ABOUT_HANDOVER, "the state that the last daemon left is not used: %s", fault);
+}
+
+/* Whether there was no daemon for a moment only: what waits in sockets and in the TAP device is still of use. */
+bool was_away_briefly(void) {
+    uint64_t now = boottime();
+    return left.written != 0 && left.written <= now && now - left.written < MOST_AWAY;
 }
 
 /* The identifier of the first marker: none that the last daemon sent, or 0 where that is not known. */

@@ -19,6 +19,7 @@ struct left {
     bool others; /* whether it is of other settings, so that only the interfaces are told */
     unsigned link_count;
     struct left_link links[NIW_MOST_PORTS];
+    uint64_t written;             /* when it was written, in milliseconds of CLOCK_BOOTTIME */
     uint32_t marker;              /* the identifier of the next one */
     struct bundle bundle;         /* its state, aggregator and time of the last change */
     unsigned answering;           /* enum answering */

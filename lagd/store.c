@@ -147,11 +147,11 @@ static bool is_of(int fd, int index) {
     return getsockname(fd, (struct sockaddr *)&address, &length) == 0 && address.sll_family == AF_PACKET && address.sll_ifindex == index;
 }
 
-/* A packet socket for an interface, stored for a link with an index: the one that the last daemon left, with what came meanwhile, or a new
- * one, which takes nothing before it is bound; or -1, and errno. */
+/* A packet socket for an interface, stored for a link with an index: the one that the last daemon left, with what came meanwhile unless that
+ * is old, or a new one, which takes nothing before it is bound; or -1, and errno. */
 int packet_socket(const char *kind, int of, int index, int type) {
     int fd = take_stored(kind, of);
-    if (fd >= 0 && is_of(fd, index)) return fd;
+    if (fd >= 0 && is_of(fd, index) && (type == SOCK_DGRAM || was_away_briefly())) return fd;
     if (fd >= 0) close_stored(kind, of, fd);
     return socket(AF_PACKET, type | SOCK_NONBLOCK | SOCK_CLOEXEC, 0);
 }

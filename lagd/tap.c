@@ -216,8 +216,14 @@ static void set_up(const uint8_t *mac) {
     if (settings.fast) set_no_queue();
 }
 
+/* What waits in the device is lost. */
+static void lose_waiting(void) {
+    uint8_t scrap[ETH_HLEN];
+    for (unsigned frames = 0; frames < 2 * HOST_QUEUE && read(tap, scrap, sizeof scrap) > 0; frames++) continue;
+}
+
 /* Takes the device that the last daemon left with the manager of services, whatever an administrator named it since, and the frames that
- * wait there; answers whether there is one. Its carrier goes where nothing goes on. */
+ * wait there unless they are old; answers whether there is one. Its carrier goes where nothing goes on. */
 static bool take_left(const char *name, const uint8_t *mac) {
     struct ifreq device = {0};
     int fd = take_stored("tap", 0);
@@ -230,6 +236,7 @@ static bool take_left(const char *name, const uint8_t *mac) {
     number = index_of(device.ifr_name);
     carrier = true;
     if (!resuming) set_carrier(false);
+    if (!was_away_briefly()) lose_waiting();
     if (left.tap == number)
         go_on_with_tap();
     else

@@ -186,7 +186,8 @@ def hand_over(programs: Programs, name: str) -> None:
                 outcome = flows_through(programs, partial(kept.again, *signals))
                 what, most = f"{name}, the end that {end} is {event}", IN_HAND if event == "killed" else 0
                 check_unseen(what, kept, peer, before, outcome)
-                check(outcome.lost() <= most and outcome.gap_ms < SHORT_GAP, f"{what}: {outcome.lost()} frames are lost", outcome, kept.text())
+                lost = outcome.sent - outcome.received  # also those that the kernel did not take
+                check(lost <= most and outcome.gap_ms < SHORT_GAP, f"{what}: {lost} frames are lost", outcome, kept.text())
 
 
 def handover_plain(programs: Programs) -> None:

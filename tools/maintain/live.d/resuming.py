@@ -58,8 +58,9 @@ def goes_on(part: Part) -> None:
         check(theirs.printed() == lines and ours.distributes("a0", "a1"), "and its peer has seen nothing, for twice its timeout", theirs.printed(), ours.printed())
     partner = ours.port("a0")["partner"]
     check(not partner["defaulted"] and partner["port"] == 1, "it knows its partner", partner)
+    path = state_file(ours)
     ours.ends("the daemon")
-    check(not glob.glob(f"{ours.folder}/*.a0.state"), "a stop leaves no state")
+    check(not os.path.exists(path), "a stop leaves no state")
     check(within(GOES_DOWN, lambda: not (theirs.distributes("b0") or theirs.distributes("b1"))), "and tells the peer", theirs.text())
 
 
